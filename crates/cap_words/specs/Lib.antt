@@ -1,0 +1,4 @@
+pub mod Linear
+pub mod Face
+pub mod Faces
+pub mod Text

@@ -1,0 +1,9 @@
+pub mod WordLemmas
+pub mod CutLemmas
+pub mod NumberTexts
+pub mod LineLemmas
+pub mod InstrLemmas
+pub mod FormLemmas
+pub mod StartLemmas
+pub mod AnswerLemmas
+pub mod OneText

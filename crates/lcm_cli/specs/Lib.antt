@@ -1,0 +1,10 @@
+pub mod Words
+pub mod Asked
+pub mod Cut
+pub mod Form
+pub mod Built
+pub mod Reading
+pub mod Start
+pub mod EndLine
+pub mod Answers
+pub mod Status

@@ -1,0 +1,15 @@
+-- The numbers of statuses.
+use Rattle.std.specs.Prelude.{ℕ}
+use Rattle.lcm_cli.specs.declared.status.Status.{Status}
+use Rattle.lcm_cli.specs.declared.status.Status.TheVariants.{Done, MachineFailed, StepsUsed, Usage, ReadFault, WriteFault, NoMemory, TooLong, Unbuilt}
+
+abbrev pub status_number : Status → ℕ
+status_number Done = 0
+status_number MachineFailed = 1
+status_number StepsUsed = 2
+status_number Usage = 10
+status_number ReadFault = 11
+status_number WriteFault = 12
+status_number NoMemory = 13
+status_number TooLong = 14
+status_number Unbuilt = 19

@@ -1,0 +1,476 @@
+//! The instructions of the linear capability machine: their numbers and their names.
+//!
+//! An instruction is one integer word. Its number is
+//! `op + 2^6 * r1 + 2^10 * r2 + 2^14 * r3 + 2^18 * mode + 2^19 * field`.
+//! `r1` to `r3` are the numbers of its registers. Its last operand is a register (mode 0, and the
+//! field is its number) or a signed immediate of 32 bits (mode 1, and the field is the immediate
+//! raised by 2^31). What an instruction doesn't have is 0, and every other integer is no
+//! instruction.
+#![tactic(auto)]
+
+mod text;
+
+ghost use Rattle.std.specs.Prelude.{◌≡◌, ◌≢◌, ◌≤◌, ◌<◌, ◌+◌, ◌*◌, ◌^◌, ℕ, ℤ, pos, Some, IfSome, IfNone, find, length};
+ghost use Rattle.std.specs.Str.{bytes_eq};
+ghost use Rattle.lcm_isa.specs.Numbers.{reg_number, reg_of, mode_of, field_of, operand_of, packed, number_of, all_with, table, decode_of, candidate, if_numbered, IsInstr};
+ghost use Rattle.lcm_isa.specs.Texts.{reg_name, mnemonic_of};
+
+/// One of the sixteen registers, in the order of their numbers, 0 to 15.
+///
+/// `Pc` is the program counter, `Stk` the stack capability and `Dat` the register `data`. The
+/// names of the others say how the calling convention uses them.
+#[derive(Clone, Copy, PartialEq, Eq, Debug)]
+pub enum Reg {
+    Pc,
+    Rcode,
+    Rdata,
+    Stk,
+    Dat,
+    T1,
+    T2,
+    C1,
+    C2,
+    A0,
+    A1,
+    A2,
+    A3,
+    G0,
+    G1,
+    G2,
+}
+
+/// The last operand of some instructions: a register, or a number in the instruction itself.
+#[derive(Clone, Copy, PartialEq, Eq, Debug)]
+pub enum Operand {
+    R(Reg),
+    Imm(i32),
+}
+
+/// An instruction, with its operands in the order in which a program writes them.
+///
+/// The variants stand in the order of their op numbers, 0 to 22.
+#[derive(Clone, Copy, PartialEq, Eq, Debug)]
+pub enum Instr {
+    Fail,
+    Halt,
+    Jmp(Reg),
+    Jnz(Reg, Reg),
+    Gettype(Reg, Reg),
+    Geta(Reg, Reg),
+    Getb(Reg, Reg),
+    Gete(Reg, Reg),
+    Getp(Reg, Reg),
+    Getlin(Reg, Reg),
+    Move(Reg, Operand),
+    Store(Reg, Reg),
+    Load(Reg, Reg),
+    Cca(Reg, Operand),
+    Restrict(Reg, Operand),
+    Lt(Reg, Reg, Operand),
+    Plus(Reg, Reg, Operand),
+    Minus(Reg, Reg, Operand),
+    Seta2b(Reg),
+    Xjmp(Reg, Reg),
+    Cseal(Reg, Reg),
+    Split(Reg, Reg, Reg, Operand),
+    Splice(Reg, Reg, Reg),
+}
+
+impl Reg {
+    /// The registers in the order of their numbers.
+    const ALL: [Reg; 16] = [
+        Reg::Pc,
+        Reg::Rcode,
+        Reg::Rdata,
+        Reg::Stk,
+        Reg::Dat,
+        Reg::T1,
+        Reg::T2,
+        Reg::C1,
+        Reg::C2,
+        Reg::A0,
+        Reg::A1,
+        Reg::A2,
+        Reg::A3,
+        Reg::G0,
+        Reg::G1,
+        Reg::G2,
+    ];
+
+    /// The register's name, as an assembler writes it: `pc`, `rcode` and so on. `Dat` is `data`.
+    pub fn name(self) -> &'static str
+        ensures { result.now ≡ reg_name self }
+    {
+        match self {
+            Reg::Pc => "pc",
+            Reg::Rcode => "rcode",
+            Reg::Rdata => "rdata",
+            Reg::Stk => "stk",
+            Reg::Dat => "data",
+            Reg::T1 => "t1",
+            Reg::T2 => "t2",
+            Reg::C1 => "c1",
+            Reg::C2 => "c2",
+            Reg::A0 => "a0",
+            Reg::A1 => "a1",
+            Reg::A2 => "a2",
+            Reg::A3 => "a3",
+            Reg::G0 => "g0",
+            Reg::G1 => "g1",
+            Reg::G2 => "g2",
+        }
+    }
+
+    /// The register of this name, and None exactly where no register has it.
+    pub fn named(name: &[u8]) -> Option<Reg>
+        ensures found { IfSome result (λ r. name.now ≡ reg_name r) }
+        ensures back { (r : Reg) → name.now ≡ reg_name r → result ≡ Some r }
+        ensures none { IfNone result ((r : Reg) → name.now ≢ reg_name r) }
+    {
+        Reg::first_named(&Reg::ALL, name)
+    }
+
+    /// The first of these registers that has the name.
+    fn first_named(registers: &[Reg], name: &[u8]) -> Option<Reg>
+        ensures { result ≡ find (λ r. bytes_eq (reg_name r) name.now) registers.now }
+    {
+        registers
+            .iter()
+            .copied()
+            .find(|r| r.name().as_bytes() == name)
+    }
+
+    /// The register's number, 0 to 15.
+    pub fn number(self) -> u64
+        ensures value { result ≡ reg_number self }
+        ensures below { result < 16 }
+    {
+        match self {
+            Reg::Pc => 0,
+            Reg::Rcode => 1,
+            Reg::Rdata => 2,
+            Reg::Stk => 3,
+            Reg::Dat => 4,
+            Reg::T1 => 5,
+            Reg::T2 => 6,
+            Reg::C1 => 7,
+            Reg::C2 => 8,
+            Reg::A0 => 9,
+            Reg::A1 => 10,
+            Reg::A2 => 11,
+            Reg::A3 => 12,
+            Reg::G0 => 13,
+            Reg::G1 => 14,
+            Reg::G2 => 15,
+        }
+    }
+
+    /// The register of a number, of which those above 15 count as 15.
+    fn of(number: u64) -> Reg
+        ensures { result ≡ reg_of number }
+    {
+        match number {
+            0 => Reg::Pc,
+            1 => Reg::Rcode,
+            2 => Reg::Rdata,
+            3 => Reg::Stk,
+            4 => Reg::Dat,
+            5 => Reg::T1,
+            6 => Reg::T2,
+            7 => Reg::C1,
+            8 => Reg::C2,
+            9 => Reg::A0,
+            10 => Reg::A1,
+            11 => Reg::A2,
+            12 => Reg::A3,
+            13 => Reg::G0,
+            14 => Reg::G1,
+            _ => Reg::G2,
+        }
+    }
+}
+
+impl Operand {
+    /// 0 for a register, 1 for an immediate.
+    fn mode(self) -> u64
+        ensures value { result ≡ mode_of self }
+        ensures below { result < 2 }
+    {
+        match self {
+            Operand::R(_) => 0,
+            Operand::Imm(_) => 1,
+        }
+    }
+
+    /// A register's number, or the immediate raised by 2^31.
+    fn field(self) -> u64
+        ensures value { result ≡ field_of self }
+        ensures below { result < 2 ^ 32 }
+    {
+        match self {
+            Operand::R(register) => register.number(),
+            Operand::Imm(n) => (i64::from(n) + 2_147_483_648) as u64,
+        }
+    }
+
+    /// The operand that a mode and a field spell.
+    fn of(mode: u64, field: u64) -> Operand
+        requires { field < 2 ^ 32 }
+        ensures { result ≡ operand_of mode field }
+    {
+        if mode == 0 {
+            Operand::R(Reg::of(field))
+        } else {
+            Operand::Imm((field as i64 - 2_147_483_648) as i32)
+        }
+    }
+}
+
+/// The parts of an instruction in one number.
+fn packed(op: u64, first: u64, second: u64, third: u64, mode: u64, field: u64) -> u64
+    requires op_fits { op < 64 }
+    requires first_fits { first < 16 }
+    requires second_fits { second < 16 }
+    requires third_fits { third < 16 }
+    requires mode_fits { mode < 2 }
+    requires field_fits { field < 2 ^ 32 }
+    ensures value { result ≡ packed op first second third mode field }
+    ensures below { result < 2 ^ 51 }
+{
+    let low = op + 64 * first + 1024 * second + 16_384 * third;
+    low + 262_144 * mode + 524_288 * field
+}
+
+/// The number of an instruction. It is never negative.
+///
+/// It is `op + 2^6 * r1 + 2^10 * r2 + 2^14 * r3 + 2^18 * mode + 2^19 * field`, where what the
+/// instruction doesn't have is 0.
+pub fn encode(instr: &Instr) -> i64
+    ensures { result ≡ pos (number_of instr.now) }
+{
+    number(instr) as i64
+}
+
+/// The number, of which an instruction needs 51 bits.
+#[tactic(auto, unfolding(crate::specs::Numbers::number_of))]
+fn number(instr: &Instr) -> u64
+    ensures value { result ≡ number_of instr.now }
+    ensures below { result < 2 ^ 51 }
+{
+    match *instr {
+        Instr::Fail => packed(0, 0, 0, 0, 0, 0),
+        Instr::Halt => packed(1, 0, 0, 0, 0, 0),
+        Instr::Jmp(a) => packed(2, a.number(), 0, 0, 0, 0),
+        Instr::Jnz(a, b) => packed(3, a.number(), b.number(), 0, 0, 0),
+        Instr::Gettype(a, b) => packed(4, a.number(), b.number(), 0, 0, 0),
+        Instr::Geta(a, b) => packed(5, a.number(), b.number(), 0, 0, 0),
+        Instr::Getb(a, b) => packed(6, a.number(), b.number(), 0, 0, 0),
+        Instr::Gete(a, b) => packed(7, a.number(), b.number(), 0, 0, 0),
+        Instr::Getp(a, b) => packed(8, a.number(), b.number(), 0, 0, 0),
+        Instr::Getlin(a, b) => packed(9, a.number(), b.number(), 0, 0, 0),
+        Instr::Move(a, n) => packed(10, a.number(), 0, 0, n.mode(), n.field()),
+        Instr::Store(a, b) => packed(11, a.number(), b.number(), 0, 0, 0),
+        Instr::Load(a, b) => packed(12, a.number(), b.number(), 0, 0, 0),
+        Instr::Cca(a, n) => packed(13, a.number(), 0, 0, n.mode(), n.field()),
+        Instr::Restrict(a, n) => packed(14, a.number(), 0, 0, n.mode(), n.field()),
+        Instr::Lt(a, b, n) => packed(15, a.number(), b.number(), 0, n.mode(), n.field()),
+        Instr::Plus(a, b, n) => packed(16, a.number(), b.number(), 0, n.mode(), n.field()),
+        Instr::Minus(a, b, n) => packed(17, a.number(), b.number(), 0, n.mode(), n.field()),
+        Instr::Seta2b(a) => packed(18, a.number(), 0, 0, 0, 0),
+        Instr::Xjmp(a, b) => packed(19, a.number(), b.number(), 0, 0, 0),
+        Instr::Cseal(a, b) => packed(20, a.number(), b.number(), 0, 0, 0),
+        Instr::Split(a, b, c, n) => packed(
+            21,
+            a.number(),
+            b.number(),
+            c.number(),
+            n.mode(),
+            n.field(),
+        ),
+        Instr::Splice(a, b, c) => packed(22, a.number(), b.number(), c.number(), 0, 0),
+    }
+}
+
+impl Instr {
+    /// Each instruction, with those of these operands that it has, in the order of the op numbers.
+    #[tactic(auto, unfolding(crate::specs::Numbers::all_with))]
+    pub fn all_with(a: Reg, b: Reg, c: Reg, n: Operand) -> [Instr; 23]
+        ensures { result ≡ all_with a b c n }
+    {
+        [
+            Instr::Fail,
+            Instr::Halt,
+            Instr::Jmp(a),
+            Instr::Jnz(a, b),
+            Instr::Gettype(a, b),
+            Instr::Geta(a, b),
+            Instr::Getb(a, b),
+            Instr::Gete(a, b),
+            Instr::Getp(a, b),
+            Instr::Getlin(a, b),
+            Instr::Move(a, n),
+            Instr::Store(a, b),
+            Instr::Load(a, b),
+            Instr::Cca(a, n),
+            Instr::Restrict(a, n),
+            Instr::Lt(a, b, n),
+            Instr::Plus(a, b, n),
+            Instr::Minus(a, b, n),
+            Instr::Seta2b(a),
+            Instr::Xjmp(a, b),
+            Instr::Cseal(a, b),
+            Instr::Split(a, b, c, n),
+            Instr::Splice(a, b, c),
+        ]
+    }
+}
+
+/// The instruction of an op number, where there is one, with those of these operands that it has.
+#[tactic(auto, unfolding(crate::specs::Numbers::table))]
+fn shape(op: u64, a: Reg, b: Reg, c: Reg, n: Operand) -> Option<Instr>
+    requires { op < 64 }
+    ensures { result ≡ table op a b c n }
+{
+    Instr::all_with(a, b, c, n).get(op as usize).copied()
+}
+
+/// What the parts of a number spell, if anything. Parts that it doesn't use may be other than 0.
+#[tactic(auto, unfolding(crate::specs::Numbers::candidate))]
+fn candidate(n: u64) -> Option<Instr>
+    requires { n < 2 ^ 51 }
+    ensures { result ≡ candidate n }
+{
+    let last = Operand::of(n / 262_144 % 2, n / 524_288);
+    let first = Reg::of(n / 64 % 16);
+    let second = Reg::of(n / 1024 % 16);
+    let third = Reg::of(n / 16_384 % 16);
+    shape(n % 64, first, second, third, last)
+}
+
+/// The instruction that the parts spell, where the number is its own.
+fn instr_of(n: u64) -> Option<Instr>
+    requires { n < 2 ^ 51 }
+    ensures { result ≡ if_numbered n (candidate n) }
+{
+    match candidate(n) {
+        None => None,
+        Some(instr) => {
+            if number(&instr) == n {
+                Some(instr)
+            } else {
+                None
+            }
+        }
+    }
+}
+
+/// The instruction of a number, and None exactly where no instruction has it.
+#[tactic(auto, unfolding(crate::specs::Numbers::decode_of))]
+pub fn decode(word: i64) -> Option<Instr>
+    ensures is { result ≡ decode_of word }
+    ensures found { IfSome result (λ i. IsInstr i × (word ≡ pos (number_of i))) }
+    ensures none { IfNone result ((i : Instr) → IsInstr i → word ≢ pos (number_of i)) }
+{
+    if word < 0 {
+        return None;
+    }
+    let n = word as u64;
+    if n < 2_251_799_813_685_248 {
+        instr_of(n)
+    } else {
+        None
+    }
+}
+
+impl Instr {
+    /// The instruction's first word, as an assembler writes it: `fail`, `halt`, `jmp` and so on.
+    pub fn mnemonic(&self) -> &'static str
+        ensures text { result.now ≡ mnemonic_of self.now }
+        ensures short { length result.now ≤ 8 }
+    {
+        match self {
+            Instr::Fail => "fail",
+            Instr::Halt => "halt",
+            Instr::Jmp(_) => "jmp",
+            Instr::Jnz(_, _) => "jnz",
+            Instr::Gettype(_, _) => "gettype",
+            Instr::Geta(_, _) => "geta",
+            Instr::Getb(_, _) => "getb",
+            Instr::Gete(_, _) => "gete",
+            Instr::Getp(_, _) => "getp",
+            Instr::Getlin(_, _) => "getlin",
+            Instr::Move(_, _) => "move",
+            Instr::Store(_, _) => "store",
+            Instr::Load(_, _) => "load",
+            Instr::Cca(_, _) => "cca",
+            Instr::Restrict(_, _) => "restrict",
+            Instr::Lt(_, _, _) => "lt",
+            Instr::Plus(_, _, _) => "plus",
+            Instr::Minus(_, _, _) => "minus",
+            Instr::Seta2b(_) => "seta2b",
+            Instr::Xjmp(_, _) => "xjmp",
+            Instr::Cseal(_, _) => "cseal",
+            Instr::Split(_, _, _, _) => "split",
+            Instr::Splice(_, _, _) => "splice",
+        }
+    }
+}
+
+/// The number of an instruction leads back to it, and no other number does.
+pub fn decode_is_exact()
+    ensures back { (i : Instr) → IsInstr i → decode_of (pos (number_of i)) ≡ Some i }
+    ensures only { (z : ℤ) (i : Instr) → decode_of z ≡ Some i → z ≡ pos (number_of i) }
+{}
+
+#[cfg(test)]
+mod tests {
+    use super::*;
+
+    #[test]
+    fn numbers_of_the_table(rt: HostRuntime) {
+        for (instr, number) in [
+            (Instr::Fail, 0),
+            (Instr::Halt, 1),
+            (Instr::Move(Reg::A0, Operand::Imm(5)), 1_125_899_909_726_794),
+            (
+                Instr::Cca(Reg::Stk, Operand::Imm(-1)),
+                1_125_899_906_580_685,
+            ),
+            (Instr::Xjmp(Reg::C1, Reg::C2), 8659),
+            (Instr::Store(Reg::Stk, Reg::Dat), 4299),
+            (Instr::Load(Reg::T2, Reg::T1), 5516),
+            (
+                Instr::Split(Reg::Stk, Reg::Rdata, Reg::Stk, Operand::R(Reg::T1)),
+                2_672_853,
+            ),
+        ] {
+            assert_eq!(rt; encode(&instr), number);
+            assert_eq!(rt; decode(number), Some(instr), "at {number}");
+        }
+    }
+
+    #[test]
+    fn other_numbers_are_no_instruction(rt: HostRuntime) {
+        for number in [
+            -1,
+            // op 23
+            23,
+            // `halt` with a first register
+            65,
+            // `move` in mode 1 with a field of 2^32
+            10 + 262_144 + 524_288 * 4_294_967_296,
+            // `move` in mode 0 from register 16
+            10 + 524_288 * 16,
+        ] {
+            assert_eq!(rt; decode(number), None, "at {number}");
+        }
+    }
+
+    #[test]
+    fn names_lead_back(rt: HostRuntime) {
+        assert_eq!(rt; Reg::named(b"data"), Some(Reg::Dat));
+        assert_eq!(rt; Reg::named(b"dat"), None);
+        assert_eq!(rt; Reg::Rcode.name(), "rcode");
+        assert_eq!(rt; Instr::Seta2b(Reg::Pc).mnemonic(), "seta2b");
+    }
+}

@@ -1,0 +1,9 @@
+pub mod RegLemmas
+pub mod CellLemmas
+pub mod SpanLemmas
+pub mod StateLemmas
+pub mod Plans
+pub mod RowLemmas
+pub mod RunLemmas
+pub mod Goes
+pub mod Commute

@@ -1,0 +1,21 @@
+use Rattle.std.proofs.Common.{◌≡◌, ◌≤◌, Some, sym, ap, ◌∙◌, arith, rules}
+use Rattle.lcm_machine.specs.Run.{answer}
+use Rattle.lcm_machine.proofs.RunLemmas.{plain_ended, run_ended}
+use Rattle.lcm_machine.proofs.machine.LcmState.run.Goals as goal
+
+pub returns-in-Some-clause-after : goal.returns-in-Some-clause-after
+returns-in-Some-clause-after c =
+    let before : c.loop-i._i ≤ c.args.n = omega arith in
+    let over : c.loop-i.self.end ≡ Some c.in-Some.end = search rules in
+    c.loop-i.invariant.0
+    ∙ sym (plain_ended c.args.n c.loop-i._i c.args.self.now c.in-Some.end before (ap (λ s. s.end) (sym c.loop-i.invariant.0) ∙ over))
+
+pub returns-in-Some-clause-ended : goal.returns-in-Some-clause-ended
+returns-in-Some-clause-ended c =
+    let answers : c.in-Some.end ≡ answer c.loop-i.self = search rules in
+    run_ended c.loop-i._i c.args.self.now c.loop-i.self c.in-Some.end c.loop-i.invariant.0 answers
+
+pub returns-clause-ended : goal.returns-clause-ended
+returns-clause-ended c =
+    let answers : c.unwrap_or.result ≡ answer c.loop-i.self = search rules in
+    run_ended c.loop-i._i c.args.self.now c.loop-i.self c.unwrap_or.result c.loop-i.invariant.0 answers

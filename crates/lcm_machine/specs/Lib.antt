@@ -1,0 +1,10 @@
+pub mod Maps
+pub mod Places
+pub mod Cells
+pub mod Spans
+pub mod Table
+pub mod Row
+pub mod Ends
+pub mod Run
+pub mod Runs
+pub mod Mapped

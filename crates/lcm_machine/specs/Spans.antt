@@ -1,0 +1,52 @@
+-- Which addresses get cells, and what a new machine holds.
+use Rattle.std.specs.Prelude.{ℕ, zero, suc, ◌+◌, ◌≤◌, Bool, ◌&&◌, nat_le, List, [], ◌∷◌, ◌++◌, Option, Some, None, if◌then◌else◌}
+use Rattle.std.specs.List.{list_any}
+use Rattle.cap_words.specs.declared.Word.{Word}
+use Rattle.cap_words.specs.Linear.{zero_word}
+use Rattle.lcm_machine.specs.declared.cells.Span.{Span}
+use Rattle.lcm_machine.specs.Maps.{Regs}
+
+abbrev pub in_span : ℕ → Span → Bool
+in_span a s = nat_le s.base a && nat_le a s.end
+
+abbrev pub in_spans : ℕ → List Span → Bool
+in_spans a spans = list_any (in_span a) spans
+
+-- spans of at least one address each, within the address space, ascending and disjoint, from an address on
+abbrev pub AreSpans : ℕ → List Span → Type 0
+AreSpans at [] = Unit {0}
+AreSpans at (s ∷ ss) = (at ≤ s.base) × (s.base ≤ s.end) × (s.end ≤ 1048575) × AreSpans (s.end + 1) ss
+
+-- what an address of a new memory holds: integer 0 in the spans, and no cell elsewhere
+abbrev pub slot : {W : Type 0} → (Word → W) → List Span → ℕ → Option W
+slot plain spans a = if in_spans a spans then Some (zero_word plain) else None
+
+-- those of the addresses below one
+unfoldable pub slots_upto : {W : Type 0} → (Word → W) → List Span → ℕ → List (Option W)
+slots_upto plain spans zero = []
+slots_upto plain spans (suc n) = slots_upto plain spans n ++ (slot plain spans n ∷ [])
+
+-- sixteen times the same word
+abbrev pub all_regs : {W : Type 0} → W → Regs W
+all_regs w = record {
+  pc = w;
+  rcode = w;
+  rdata = w;
+  stk = w;
+  dat = w;
+  t1 = w;
+  t2 = w;
+  c1 = w;
+  c2 = w;
+  a0 = w;
+  a1 = w;
+  a2 = w;
+  a3 = w;
+  g0 = w;
+  g1 = w;
+  g2 = w;
+}
+
+-- integer 0 in each register
+abbrev pub zero_regs : {W : Type 0} → (Word → W) → Regs W
+zero_regs plain = all_regs (zero_word plain)

@@ -1,0 +1,72 @@
+//! Effects carried out: takings before settings.
+ghost use Rattle.std.specs.Prelude.{◌≡◌};
+ghost use Rattle.lcm_machine.specs.Row.{perform, MoveFits, move_on, spend, make, go_on};
+
+use crate::Place;
+use crate::plan::{Effect, Made, Moved};
+use crate::state::State;
+use cap_words::{Held, MachineWord, Word};
+use lcm_isa::Reg;
+
+impl<W: MachineWord> State<W> {
+    /// Takes the word of one place and sets the other to it.
+    #[tactic(auto, using(crate::proofs::StateLemmas::clear_has))]
+    fn move_on(&mut self, moved: Option<Moved>)
+        requires { MoveFits self.old moved }
+        ensures { self.new ≡ move_on W.look W.plain self.old moved }
+    {
+        if let Some(m) = moved {
+            let held = self.lift(m.from);
+            self.set(m.to, held);
+        }
+    }
+
+    /// Takes a register's word and drops it.
+    fn spend(&mut self, spent: Option<Reg>)
+        ensures { self.new ≡ spend W.look W.plain self.old spent }
+    {
+        if let Some(r) = spent {
+            self.lift(Place::R(r)).give_up();
+        }
+    }
+
+    /// Sets a register to a new word.
+    fn make(&mut self, made: Option<Made>)
+        ensures { self.new ≡ make W.plain self.old made }
+    {
+        if let Some(m) = made {
+            self.set(Place::R(m.reg), Held::of(W::from_word(m.word)));
+        }
+    }
+
+    /// Sets pc to its next word.
+    fn go_on(&mut self, next: Option<Word>)
+        ensures { self.new ≡ go_on W.plain self.old next }
+    {
+        if let Some(word) = next {
+            self.set(Place::R(Reg::Pc), Held::of(W::from_word(word)));
+        }
+    }
+
+    /// Carries out an effect. A cell that it moves a word from or to has to be there.
+    #[tactic(auto, unfolding(crate::specs::Row::perform))]
+    pub(crate) fn perform(&mut self, effect: Effect)
+        requires { MoveFits self.old effect.moved }
+        ensures { self.new ≡ perform W.look W.plain self.old effect }
+    {
+        let Effect {
+            moved,
+            spent,
+            also_spent,
+            first,
+            second,
+            next,
+        } = effect;
+        self.move_on(moved);
+        self.spend(spent);
+        self.spend(also_spent);
+        self.make(first);
+        self.make(second);
+        self.go_on(next);
+    }
+}

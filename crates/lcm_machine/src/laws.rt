@@ -1,0 +1,17 @@
+//! Laws of the machine's definitions. The functions do nothing: what is said stands in their clauses.
+ghost use Rattle.lcm_machine.specs.Mapped.{RowCommutes, FetchCommutes, StepCommutes};
+
+use cap_words::MachineWord;
+
+/// The machine can't tell words apart that show the same to the table.
+///
+/// Let each word of a state be mapped to a word of another kind with the same face, and let plain
+/// words be mapped to themselves. Then an instruction, a fetch and a whole step do the same on the
+/// mapped state: they end alike, and where they go on the new state is again the mapped one. The
+/// mapped state may have further cells beside, if the address that is read has none of them. For
+/// `xjmp` its two words must also show the same content.
+pub fn row_commutes<W: MachineWord, V: MachineWord>()
+    ensures row { RowCommutes W.look W.plain V.look V.plain }
+    ensures fetch { FetchCommutes W.look V.look }
+    ensures step { StepCommutes W.look W.plain V.look V.plain }
+{}

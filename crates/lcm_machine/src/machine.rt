@@ -1,0 +1,152 @@
+//! The plain machine: registers and memory of plain words, with a count of steps and an end.
+ghost use Rattle.std.specs.Prelude.{◌≡◌, ◌≢◌, ◌+◌, ◌<◌, ◌≤◌, ◌^◌, ℕ, IfOk, IfSome, IsSome, is_some, Some, None};
+ghost use Rattle.lcm_machine.specs.Places.{reg};
+ghost use Rattle.lcm_machine.specs.Cells.{cell};
+ghost use Rattle.lcm_machine.specs.Row.{word_in, put, clear, HasPlace};
+ghost use Rattle.lcm_machine.specs.Run.{next_state, answer, plain};
+ghost use Rattle.lcm_machine.specs.Spans.{AreSpans, slot, zero_regs};
+
+use crate::cells::Span;
+use crate::state::State;
+use crate::{Place, Step};
+use cap_words::{Held, Word};
+use lcm_isa::Reg;
+use std::alloc::{AllocError, Global};
+use std::marker::Model;
+
+/// A plain machine: its registers and memory, how many steps it has made, and, once it has ended,
+/// what its last step answered.
+#[derive(Drop)]
+pub struct LcmState {
+    maps: State<Word>,
+    count: u64,
+    end: Option<Step>,
+}
+
+impl Model for LcmState {
+    ghost use Rattle.std.specs.Coded.{codes, coded_ℕ};
+    ghost use Rattle.std.specs.Ordering.{nat_cmp};
+    ghost use Rattle.std.specs.FinMap as map;
+    ghost use Rattle.cap_words.specs.contracts.Word as word;
+    ghost use Rattle.lcm_machine.specs.Run.{Run};
+
+    ghost Value = { Run };
+
+    ghost coded = { Prim.hlevel (codes, map.code {R = nat_cmp} coded_ℕ word.the_row.coded) };
+
+    ghost view = { λ s. record { maps = s.maps; count = s.count; end = s.end } };
+}
+
+impl LcmState {
+    /// A new machine: integer 0 in every register and in a cell at every address of the spans, no
+    /// other cells, no step made, and not ended.
+    ///
+    /// Each span is a range of addresses up to 1,048,575, both ends included, and they ascend and
+    /// are disjoint. `AllocError` where the memory can't be had.
+    pub fn make(alloc: Global, spans: &[Span]) -> Result<LcmState, AllocError>
+        requires { AreSpans 0 spans.now }
+        ensures cells { IfOk result (λ s. (a : ℕ) → cell s.maps.cells a ≡ slot (λ w. w) spans.now a) }
+        ensures regs { IfOk result (λ s. s.maps.regs ≡ zero_regs (λ w. w)) }
+        ensures fresh { IfOk result (λ s. (s.count ≡ 0) × (s.end ≡ None)) }
+    {
+        let maps = State::zeros(alloc, spans)?;
+        Ok(LcmState {
+            maps,
+            count: 0,
+            end: None,
+        })
+    }
+
+    /// How many steps the machine has made, the last one included.
+    pub fn count(&self) -> u64
+        ensures { result ≡ self.now.count }
+    {
+        self.count
+    }
+
+    /// The word of a register.
+    pub fn reg(&self, r: Reg) -> &Word
+        ensures { result.now ≡ reg self.now.maps.regs r }
+    {
+        self.maps.reg(r)
+    }
+
+    /// Whether the address has a cell.
+    pub fn has_cell(&self, at: u32) -> bool
+        ensures { result ≡ is_some (cell self.now.maps.cells at) }
+    {
+        self.maps.has_cell(at)
+    }
+
+    /// The word of the cell at an address, which has to have one.
+    pub fn cell(&self, at: u32) -> &Word
+        requires { IsSome (cell self.now.maps.cells at) }
+        ensures { cell self.now.maps.cells at ≡ Some result.now }
+    {
+        self.maps.cell(at)
+    }
+
+    /// One step: the machine fetches the instruction that pc names and carries it out.
+    ///
+    /// The count rises by one, also with a step that halts or fails. Such a step leaves registers
+    /// and cells as they were, and ends the machine: each later step answers that end again and
+    /// changes nothing, not even the count. The count may not pass 2^63.
+    #[tactic(auto, unfolding(crate::specs::Run::next_state))]
+    pub fn step(&mut self) -> Step
+        requires { self.old.count < 2 ^ 63 }
+        ensures after { self.new ≡ next_state self.old }
+        ensures answer { result ≡ answer self.new }
+        ensures ended { IfSome self.old.end (λ e. (result ≡ e) × (self.new ≡ self.old)) }
+        ensures stays { result ≢ Step.Went → self.new.maps ≡ self.old.maps }
+    {
+        if let Some(end) = self.end {
+            return end;
+        }
+        let step = self.maps.step();
+        self.count += 1;
+        match step {
+            Step::Went => {}
+            Step::Halted => self.end = Some(step),
+            Step::Failed(_, _) => self.end = Some(step),
+        }
+        step
+    }
+
+    /// So many steps, or up to the end where that comes first. The answer is that of the last step,
+    /// and after an end again that end.
+    ///
+    /// The count may not pass 2^63.
+    #[tactic(auto, using(crate::proofs::RunLemmas::count_next, crate::proofs::RunLemmas::plain_more))]
+    pub fn run(&mut self, n: u64) -> Step
+        requires { self.old.count + n ≤ 2 ^ 63 }
+        ensures after { self.new ≡ plain n self.old }
+        ensures answer { result ≡ answer self.new }
+        ensures ended { IfSome self.old.end (λ e. (result ≡ e) × (self.new ≡ self.old)) }
+    {
+        for _i in 0..n {
+            if let Some(end) = self.end {
+                return end;
+            }
+            let _ = self.step();
+        }
+        self.end.unwrap_or(Step::Went)
+    }
+
+    /// Takes the word of a place, which has to be there: a linear word leaves integer 0, and another
+    /// stays as a copy.
+    pub fn lift(&mut self, place: Place) -> Held<Word>
+        requires { HasPlace self.old.maps place }
+        ensures word { result ≡ word_in (λ w. w) self.old.maps place }
+        ensures left { self.new ≡ record self.old { maps = clear (λ w. w) (λ w. w) self.old.maps place } }
+    {
+        self.maps.lift(place)
+    }
+
+    /// Replaces the word of a place, which has to be there.
+    pub fn set(&mut self, place: Place, held: Held<Word>)
+        requires { HasPlace self.old.maps place }
+        ensures { self.new ≡ record self.old { maps = put self.old.maps place held } }
+    {
+        self.maps.set(place, held);
+    }
+}

@@ -1,0 +1,86 @@
+//! The sixteen registers.
+ghost use Rattle.std.specs.Prelude.{◌≡◌, ◌<◌, length, slice_index_or, slice_set};
+ghost use Rattle.lcm_machine.specs.Places.{reg, set_reg};
+ghost use Rattle.lcm_machine.specs.Spans.{zero_regs};
+ghost use Rattle.cap_words.specs.Linear.{zero_word};
+
+use cap_words::{MachineWord, Word};
+use lcm_isa::Reg;
+use std::marker::Model;
+use std::mem;
+
+/// The registers, seen as a record of sixteen words.
+#[derive(Drop)]
+pub struct Regs<W: MachineWord> {
+    words: [W; 16],
+}
+
+impl<W: MachineWord> Model for Regs<W> {
+    ghost use Rattle.std.specs.Prelude.{◌≡◌, length};
+    ghost use Rattle.cap_words.specs.Linear.{zero_word};
+    ghost use Rattle.lcm_machine.specs.Maps.{Regs as Sixteen, regs_of};
+
+    ghost Value = { Sixteen W };
+
+    ghost view = { λ b. regs_of (zero_word W.plain) b.words };
+
+    ghost invariant = { λ b. length b.words ≡ 16 };
+}
+
+/// Puts a word in a slot, and gives the word that was there.
+fn replace_at<W>(slots: &mut [W], i: usize, word: W) -> W
+    requires { i < length slots.old }
+    ensures was { result ≡ slice_index_or slots.old i result }
+    ensures now { slots.new ≡ slice_set slots.old i word }
+{
+    mem::replace(&mut slots[i], word)
+}
+
+/// Integer 0.
+fn zero<W: MachineWord>() -> W
+    ensures { result ≡ zero_word W.plain }
+{
+    W::from_word(Word::Int(0))
+}
+
+impl<W: MachineWord> Regs<W> {
+    /// All registers are integer 0.
+    pub fn zeros() -> Regs<W>
+        ensures { result ≡ zero_regs W.plain }
+    {
+        let words = [
+            zero(),
+            zero(),
+            zero(),
+            zero(),
+            zero(),
+            zero(),
+            zero(),
+            zero(),
+            zero(),
+            zero(),
+            zero(),
+            zero(),
+            zero(),
+            zero(),
+            zero(),
+            zero(),
+        ];
+        Regs { words }
+    }
+
+    /// The word of a register.
+    pub fn get(&self, r: Reg) -> &W
+        ensures { result.now ≡ reg self.now r }
+    {
+        &self.words[r.number() as usize]
+    }
+
+    /// Puts a word in a register, and gives the word that was there.
+    pub fn replace(&mut self, r: Reg, word: W) -> W
+        ensures was { result ≡ reg self.old r }
+        ensures now { self.new ≡ set_reg self.old r word }
+    {
+        replace_at(&mut self.words, r.number() as usize, word)
+    }
+}

@@ -1,0 +1,174 @@
+//! Registers and memory, over words of any kind.
+ghost use Rattle.std.specs.Prelude.{◌≡◌, ℕ, IfOk, IsSome, is_some, Some, Option};
+ghost use Rattle.cap_words.specs.Face.{FaceInOrder, OpenedInOrder};
+ghost use Rattle.lcm_machine.specs.Places.{reg};
+ghost use Rattle.lcm_machine.specs.Cells.{cell};
+ghost use Rattle.lcm_machine.specs.Spans.{AreSpans, slot, zero_regs};
+ghost use Rattle.lcm_machine.specs.Table.{operand};
+ghost use Rattle.lcm_machine.specs.Row.{word_in, put, clear, HasPlace, faces, opens, cell_faces, face_there, pc_at};
+
+use crate::Place;
+use crate::cells::{Cells, Span};
+use crate::regs::Regs;
+use cap_words::{Face, Held, MachineWord, Opened, Word};
+use lcm_isa::{Operand, Reg};
+use std::alloc::{AllocError, Global};
+use std::marker::Model;
+
+/// The registers and the memory of a machine, seen as two maps from places to words.
+#[derive(Drop)]
+pub struct State<W: MachineWord> {
+    regs: Regs<W>,
+    cells: Cells<W>,
+}
+
+impl<W: MachineWord> Model for State<W> {
+    ghost use Rattle.std.specs.Coded.{codes, coded_ℕ};
+    ghost use Rattle.std.specs.Ordering.{nat_cmp};
+    ghost use Rattle.std.specs.FinMap as map;
+    ghost use Rattle.lcm_machine.specs.Maps.{State as Maps};
+
+    ghost Value = { Maps W };
+
+    ghost coded = { Prim.hlevel (codes, map.code {R = nat_cmp} coded_ℕ W.code) };
+
+    ghost view = { λ s. record { regs = s.regs; cells = s.cells } };
+}
+
+impl<W: MachineWord> State<W> {
+    /// A new state: integer 0 in every register and in a cell at every address of the spans, and no
+    /// other cells. The spans lie within the address space, ascend and are disjoint.
+    pub fn zeros(alloc: Global, spans: &[Span]) -> Result<State<W>, AllocError>
+        requires { AreSpans 0 spans.now }
+        ensures cells { IfOk result (λ s. (a : ℕ) → cell s.cells a ≡ slot W.plain spans.now a) }
+        ensures regs { IfOk result (λ s. s.regs ≡ zero_regs W.plain) }
+    {
+        let cells = Cells::zeros(alloc, spans)?;
+        Ok(State {
+            regs: Regs::zeros(),
+            cells,
+        })
+    }
+
+    /// The word of a register.
+    pub fn reg(&self, r: Reg) -> &W
+        ensures { result.now ≡ reg self.now.regs r }
+    {
+        self.regs.get(r)
+    }
+
+    /// Whether the address has a cell.
+    pub fn has_cell(&self, at: u32) -> bool
+        ensures { result ≡ is_some (cell self.now.cells at) }
+    {
+        self.cells.has(at)
+    }
+
+    /// The word of the cell at an address, which has to have one.
+    pub fn cell(&self, at: u32) -> &W
+        requires { IsSome (cell self.now.cells at) }
+        ensures { cell self.now.cells at ≡ Some result.now }
+    {
+        self.cells.get(at)
+    }
+
+    /// The word of a place, which has to be there.
+    pub fn word(&self, place: Place) -> &W
+        requires { HasPlace self.now place }
+        ensures { result.now ≡ word_in W.plain self.now place }
+    {
+        match place {
+            Place::R(r) => self.regs.get(r),
+            Place::Cell(at) => self.cells.get(at),
+        }
+    }
+
+    /// Puts a word in a place, and gives the word that was there.
+    fn replace(&mut self, place: Place, word: W) -> W
+        requires { HasPlace self.old place }
+        ensures was { result ≡ word_in W.plain self.old place }
+        ensures now { self.new ≡ put self.old place word }
+    {
+        match place {
+            Place::R(r) => self.regs.replace(r, word),
+            Place::Cell(at) => self.cells.replace(at, word),
+        }
+    }
+
+    /// Replaces the word of a place, which has to be there.
+    pub fn set(&mut self, place: Place, held: Held<W>)
+        requires { HasPlace self.old place }
+        ensures { self.new ≡ put self.old place held }
+    {
+        let _ = self.replace(place, held.into_word());
+    }
+
+    /// Takes the word of a place, which has to be there: a linear word leaves integer 0, and another
+    /// stays as a copy.
+    #[tactic(auto, unfolding(crate::specs::Row::clear))]
+    pub fn lift(&mut self, place: Place) -> Held<W>
+        requires { HasPlace self.old place }
+        ensures word { result ≡ word_in W.plain self.old place }
+        ensures left { self.new ≡ clear W.look W.plain self.old place }
+    {
+        match self.word(place).copy_of() {
+            Some(copy) => Held::of(copy),
+            None => Held::of(self.replace(place, W::from_word(Word::Int(0)))),
+        }
+    }
+}
+
+/// What the table reads of a state.
+impl<W: MachineWord> State<W> {
+    /// What the table reads of a register's word.
+    #[tactic(auto, unfolding(crate::specs::Row::faces))]
+    pub fn face(&self, r: Reg) -> Face
+        ensures is { result ≡ faces W.look self.now r }
+        ensures in_order { FaceInOrder result }
+    {
+        self.word(Place::R(r)).face()
+    }
+
+    /// What is in a register's word, where that is sealed.
+    #[tactic(auto, unfolding(crate::specs::Row::opens))]
+    pub fn opened(&self, r: Reg) -> Option<Opened>
+        ensures is { result ≡ opens W.look self.now r }
+        ensures in_order { OpenedInOrder result }
+    {
+        self.word(Place::R(r)).opened()
+    }
+
+    /// The integer of an operand, where it has one.
+    pub fn operand(&self, n: Operand) -> Option<i64>
+        ensures { result ≡ operand (faces W.look self.now) n }
+    {
+        match n {
+            Operand::R(r) => self.face(r).int(),
+            Operand::Imm(z) => Some(i64::from(z)),
+        }
+    }
+
+    /// What the table reads of a cell's word, where an address is given and has a cell.
+    #[tactic(auto, unfolding(crate::specs::Row::cell_faces), using(crate::proofs::StateLemmas::no_cell))]
+    pub fn there(&self, at: Option<u32>) -> Option<Face>
+        ensures { result ≡ face_there (cell_faces W.look self.now) at }
+    {
+        let at = at?;
+        if self.has_cell(at) {
+            Some(self.cell(at).face())
+        } else {
+            None
+        }
+    }
+
+    /// pc's address, or -1 where pc holds no memory capability.
+    #[tactic(auto, unfolding(crate::specs::Row::pc_at))]
+    pub fn pc_at(&self) -> i64
+        ensures { result ≡ pc_at W.look self.now }
+    {
+        match self.face(Reg::Pc) {
+            Face::Memory(c) => c.addr,
+            _ => -1,
+        }
+    }
+}

@@ -1,0 +1,16 @@
+use Rattle.std.proofs.Common.{◌∙◌, arith}
+use Rattle.outside_io.proofs.Reading.{grown, ended, passed, at_length}
+use Rattle.outside_io.proofs.whole.read_whole.Goals as goal
+
+pub returns-then-count-eq0-clause-ok : goal.returns-then-count-eq0-clause-ok
+returns-then-count-eq0-clause-ok g c =
+    ended _ _ _ _ _ _ c.read.new.buf _ c.loop-whole.invariant c.if-count-eq0.true (at_length _ _ _ _ _ _ _ (c.len.ensures ∙ c.loop-whole.whole.ok.0) c.in_ok-count.ensures.ok)
+
+pub returns-then-len-count-clause-err : goal.returns-then-len-count-clause-err
+returns-then-len-count-clause-err g c =
+    passed _ _ _ _ _ _ c.read.new.buf _ c.loop-whole.invariant (at_length _ _ _ _ _ _ _ (c.len.ensures ∙ c.loop-whole.whole.ok.0) c.in_ok-count.ensures.ok) (omega arith)
+
+pub loop-whole-preserved : goal.loop-whole-preserved
+loop-whole-preserved g c =
+    rw c.in_ok-extend_from_slice.ensures.items
+    (grown _ _ _ _ _ _ _ _ c.loop-whole.invariant (at_length _ _ _ _ _ _ _ (c.len.ensures ∙ c.loop-whole.whole.ok.0) c.in_ok-count.ensures.ok) (omega (arith, c.loop-whole.whole.ok.0)))

@@ -1,0 +1,51 @@
+-- What an object of files tells of itself, and what a read and a put do to it.
+use Rattle.std.specs.Prelude.{◌≡◌, ◌≢◌, ℕ, ◌-◌, ◌<◌, ◌≤◌, List, length, take, drop, Option, Some, IsNone, IsSomeAnd, IfSome, MatchOption, ⊤}
+use Rattle.outside_io.specs.Counts.{raised, Rose}
+
+-- `contents` is, by name, the bytes of the file where there is one, and None where the object doesn't tell them;
+-- `given` is how many bytes reads gave
+pub record FilesSeen : Type 0 where
+  pub contents : Option (List ℕ → Option (List ℕ))
+  pub failed_reads : ℕ
+  pub last_failed_read : List ℕ
+  pub failed_puts : ℕ
+  pub last_failed_put : List ℕ
+  pub given : ℕ
+
+-- a file's name has 1 to 255 bytes
+abbrev pub IsFileName : List ℕ → Type 0
+IsFileName name = (0 < length name) × (length name ≤ 255)
+
+-- the first n bytes of the buffer are the file's from a place on, and there are none only at the file's end or past it
+pub record IsPart (file : List ℕ) (at n : ℕ) (buffer : List ℕ) : Type 0 where
+  pub within : n ≤ length file - at
+  pub same : take n buffer ≡ take n (drop at file)
+  pub ended : n ≡ 0 → length file ≤ at
+
+-- a read gave n bytes: those of the file, where the contents are told, and nothing but `given` changed
+pub record GivesPart (old new : FilesSeen) (name : List ℕ) (at n : ℕ) (buffer : List ℕ) : Type 0 where
+  pub fits : n ≤ length buffer
+  pub told : MatchOption old.contents ⊤ (λ held. IsSomeAnd (held name) (λ file. IsPart file at n buffer))
+  pub stays : new ≡ record old { given = raised old.given n }
+
+-- a read failed, and left all but the failed reads as it was
+pub record FailsToRead (old new : FilesSeen) (name : List ℕ) : Type 0 where
+  pub rose : Rose old.failed_reads new.failed_reads
+  pub stays : new ≡ record old { failed_reads = new.failed_reads; last_failed_read = name }
+
+-- where the contents are told they stay told, with every file but the one of that name as it was; else they stay untold
+abbrev pub KeepsOthers : FilesSeen → FilesSeen → List ℕ → Type 0
+KeepsOthers old new name =
+    MatchOption old.contents (IsNone new.contents) (λ held. IsSomeAnd new.contents (λ now. (q : List ℕ) → q ≢ name → now q ≡ held q))
+
+-- a put went: the file of that name holds these bytes, where the contents are told, and nothing else changed
+pub record Puts (old new : FilesSeen) (name bytes : List ℕ) : Type 0 where
+  pub told : IfSome new.contents (λ now. now name ≡ Some bytes)
+  pub others : KeepsOthers old new name
+  pub stays : new ≡ record old { contents = new.contents }
+
+-- a put failed: nothing is said of the file of that name, and all but it and the failed puts stays
+pub record FailsToPut (old new : FilesSeen) (name : List ℕ) : Type 0 where
+  pub rose : Rose old.failed_puts new.failed_puts
+  pub others : KeepsOthers old new name
+  pub stays : new ≡ record old { contents = new.contents; failed_puts = new.failed_puts; last_failed_put = name }

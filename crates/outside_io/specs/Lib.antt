@@ -1,0 +1,7 @@
+pub mod Counts
+pub mod FilesSeen
+pub mod SinkSeen
+pub mod FileCounts
+pub mod Host
+pub mod Whole
+pub mod Memory

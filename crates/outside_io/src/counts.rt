@@ -1,0 +1,118 @@
+//! What every object of files counts.
+ghost use Rattle.std.specs.Prelude.{◌≡◌, ◌≤◌, length};
+ghost use Rattle.outside_io.specs.FileCounts.{no_counts, with_given, with_failed_read, with_failed_put};
+
+use arrayvec::ArrayString;
+use std::marker::Model;
+
+/// Room for a file's name, in bytes.
+const NAME_ROOM: usize = 255;
+
+/// How many reads and puts failed, the names that the last of them had, and how many bytes reads
+/// gave. Each count stands still at the greatest `u64`.
+#[derive(Drop)]
+pub struct Counts {
+    failed_reads: u64,
+    last_failed_read: ArrayString<NAME_ROOM>,
+    failed_puts: u64,
+    last_failed_put: ArrayString<NAME_ROOM>,
+    given: u64,
+}
+
+impl Model for Counts {
+    ghost use Rattle.outside_io.specs.FileCounts.{FileCounts};
+
+    ghost Value = { FileCounts };
+
+    ghost view = { λ c. record {
+      failed_reads = c.failed_reads;
+      last_failed_read = c.last_failed_read.bytes;
+      failed_puts = c.failed_puts;
+      last_failed_put = c.last_failed_put.bytes;
+      given = c.given;
+    } };
+}
+
+impl Counts {
+    /// Nothing failed and nothing was given.
+    pub(crate) fn new() -> Self
+        ensures { result ≡ no_counts }
+    {
+        Counts {
+            failed_reads: 0,
+            last_failed_read: ArrayString::new(),
+            failed_puts: 0,
+            last_failed_put: ArrayString::new(),
+            given: 0,
+        }
+    }
+
+    /// How many reads failed.
+    pub fn failed_reads(&self) -> u64
+        ensures { result ≡ self.now.failed_reads }
+    {
+        self.failed_reads
+    }
+
+    /// The name in the last read that failed, empty where none did.
+    pub fn last_failed_read(&self) -> &str
+        ensures { result.now ≡ self.now.last_failed_read }
+    {
+        self.last_failed_read.as_str()
+    }
+
+    /// How many puts failed.
+    pub fn failed_puts(&self) -> u64
+        ensures { result ≡ self.now.failed_puts }
+    {
+        self.failed_puts
+    }
+
+    /// The name in the last put that failed, empty where none did.
+    pub fn last_failed_put(&self) -> &str
+        ensures { result.now ≡ self.now.last_failed_put }
+    {
+        self.last_failed_put.as_str()
+    }
+
+    /// How many bytes reads gave.
+    pub fn given(&self) -> u64
+        ensures { result ≡ self.now.given }
+    {
+        self.given
+    }
+
+    /// Counts the bytes that a read gave.
+    pub(crate) fn gave(&mut self, count: usize)
+        ensures { self.new ≡ with_given self.old count }
+    {
+        self.given = self.given.saturating_add(count as u64);
+    }
+
+    /// Counts a failed read of this name.
+    pub(crate) fn read_failed(&mut self, name: &str)
+        requires { length name.now ≤ 255 }
+        ensures { self.new ≡ with_failed_read self.old name.now }
+    {
+        self.failed_reads = self.failed_reads.saturating_add(1);
+        keep(&mut self.last_failed_read, name);
+    }
+
+    /// Counts a failed put of this name.
+    pub(crate) fn put_failed(&mut self, name: &str)
+        requires { length name.now ≤ 255 }
+        ensures { self.new ≡ with_failed_put self.old name.now }
+    {
+        self.failed_puts = self.failed_puts.saturating_add(1);
+        keep(&mut self.last_failed_put, name);
+    }
+}
+
+/// Makes `kept` hold this name.
+fn keep(kept: &mut ArrayString<NAME_ROOM>, name: &str)
+    requires { length name.now ≤ 255 }
+    ensures { kept.new.bytes ≡ name.now }
+{
+    kept.clear();
+    kept.push_str(name);
+}

@@ -1,0 +1,17 @@
+//! Files and a sink outside the program: the only way of the program to files and to its output.
+#![tactic(auto)]
+
+mod calls;
+mod counts;
+mod host;
+mod memory;
+mod outside;
+#[cfg(test)]
+mod tests;
+mod whole;
+
+pub use counts::Counts;
+pub use host::{HostFiles, HostSink};
+pub use memory::{MemFiles, MemSink};
+pub use outside::{Failed, Files, Sink};
+pub use whole::{ReadEnd, read_whole};
