@@ -4,6 +4,10 @@ pub mod SpanLemmas
 pub mod StateLemmas
 pub mod Plans
 pub mod RowLemmas
+pub mod RegionLemmas
+pub mod Hands
+pub mod HeldOnce
+pub mod CountLemmas
 pub mod RunLemmas
 pub mod Goes
 pub mod Commute

@@ -4,6 +4,8 @@ pub mod Cells
 pub mod Spans
 pub mod Table
 pub mod Row
+pub mod Regions
+pub mod Counts
 pub mod Ends
 pub mod Run
 pub mod Runs

@@ -1,4 +1,8 @@
 //! Laws of the machine's definitions. The functions do nothing: what is said stands in their clauses.
+ghost use Rattle.std.specs.Prelude.{ℕ, ◌≤◌, ◌↔◌, List};
+ghost use Rattle.lcm_machine.specs.Maps.{State};
+ghost use Rattle.lcm_machine.specs.Regions.{Region, IsLinearAt, CoveredOnce};
+ghost use Rattle.lcm_machine.specs.Counts.{cover_count};
 ghost use Rattle.lcm_machine.specs.Mapped.{RowCommutes, FetchCommutes, StepCommutes};
 
 use cap_words::MachineWord;
@@ -14,4 +18,11 @@ pub fn row_commutes<W: MachineWord, V: MachineWord>()
     ensures row { RowCommutes W.look W.plain V.look V.plain }
     ensures fetch { FetchCommutes W.look V.look }
     ensures step { StepCommutes W.look W.plain V.look V.plain }
+{}
+
+/// That no two places have capabilities over one address of a linear region is the same as that a
+/// count comes to at most 1: of the registers and cells which have, as their word or under its
+/// seal, a memory capability over the address.
+pub fn covered_once_counts<W: MachineWord>()
+    ensures { (rs : List Region) (s : State W) → CoveredOnce W.look rs s ↔ ((a : ℕ) → IsLinearAt rs a → cover_count W.look s a ≤ 1) }
 {}

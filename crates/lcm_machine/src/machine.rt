@@ -3,6 +3,7 @@ ghost use Rattle.std.specs.Prelude.{◌≡◌, ◌≢◌, ◌+◌, ◌<◌, ◌�
 ghost use Rattle.lcm_machine.specs.Places.{reg};
 ghost use Rattle.lcm_machine.specs.Cells.{cell};
 ghost use Rattle.lcm_machine.specs.Row.{word_in, put, clear, HasPlace};
+ghost use Rattle.lcm_machine.specs.Regions.{StaysHeldOnce};
 ghost use Rattle.lcm_machine.specs.Run.{next_state, answer, plain};
 ghost use Rattle.lcm_machine.specs.Spans.{AreSpans, slot, zero_regs};
 
@@ -91,6 +92,8 @@ impl LcmState {
     /// The count rises by one, also with a step that halts or fails. Such a step leaves registers
     /// and cells as they were, and ends the machine: each later step answers that end again and
     /// changes nothing, not even the count. The count may not pass 2^63.
+    ///
+    /// No linear memory comes to be held twice: [`State::step`] says in which sense.
     #[tactic(auto, unfolding(crate::specs::Run::next_state))]
     pub fn step(&mut self) -> Step
         requires { self.old.count < 2 ^ 63 }
@@ -98,6 +101,7 @@ impl LcmState {
         ensures answer { result ≡ answer self.new }
         ensures ended { IfSome self.old.end (λ e. (result ≡ e) × (self.new ≡ self.old)) }
         ensures stays { result ≢ Step.Went → self.new.maps ≡ self.old.maps }
+        ensures held_once { StaysHeldOnce (λ w. w) self.old.maps self.new.maps }
     {
         if let Some(end) = self.end {
             return end;
@@ -115,13 +119,15 @@ impl LcmState {
     /// So many steps, or up to the end where that comes first. The answer is that of the last step,
     /// and after an end again that end.
     ///
-    /// The count may not pass 2^63.
+    /// The count may not pass 2^63. No linear memory comes to be held twice by a run of any length:
+    /// [`State::step`] says in which sense.
     #[tactic(auto, using(crate::proofs::RunLemmas::count_next, crate::proofs::RunLemmas::plain_more))]
     pub fn run(&mut self, n: u64) -> Step
         requires { self.old.count + n ≤ 2 ^ 63 }
         ensures after { self.new ≡ plain n self.old }
         ensures answer { result ≡ answer self.new }
         ensures ended { IfSome self.old.end (λ e. (result ≡ e) × (self.new ≡ self.old)) }
+        ensures held_once { StaysHeldOnce (λ w. w) self.old.maps self.new.maps }
     {
         for _i in 0..n {
             if let Some(end) = self.end {

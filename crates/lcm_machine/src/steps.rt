@@ -2,6 +2,7 @@
 ghost use Rattle.std.specs.Prelude.{◌≡◌, MatchResult};
 ghost use Rattle.lcm_isa.specs.declared.Reg.TheVariants.{Pc};
 ghost use Rattle.lcm_machine.specs.Ends.{Meets};
+ghost use Rattle.lcm_machine.specs.Regions.{StaysHeldOnce};
 ghost use Rattle.lcm_machine.specs.Row.{faces, cell_faces, row, fetch, step_of, none, some};
 
 use crate::plan::Plan;
@@ -65,9 +66,15 @@ impl<W: MachineWord> State<W> {
 
     /// One step: fetches an instruction and carries it out. Where the step halts or fails, the state
     /// stays as it was.
+    ///
+    /// No linear memory comes to be held twice. Take any regions of addresses with a gap between
+    /// each two, each region linear or normal. If each memory capability of a register or a cell,
+    /// sealed or not, lies in one region and is linear exactly where that region is, and if no two
+    /// places have capabilities over one address of a linear region, then both hold after the step.
     #[tactic(auto, unfolding(crate::specs::Row::step_of))]
     pub fn step(&mut self) -> Step
-        ensures { Meets self.old (step_of W.look W.plain self.old) result self.new }
+        ensures meets { Meets self.old (step_of W.look W.plain self.old) result self.new }
+        ensures held_once { StaysHeldOnce W.look self.old self.new }
     {
         match self.fetch() {
             Err(cause) => Step::Failed(cause, self.pc_at()),
