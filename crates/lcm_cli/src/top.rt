@@ -131,8 +131,8 @@ fn answer<F: Files, S: Sink>(
 ///
 /// `run u:NAME`, with `--steps M` before the part or after it, reads the file, starts a plain
 /// machine with the program whose text it is, runs it for M steps or up to its end, and writes the
-/// end line. After such a run `kept` holds the machine as the run left it; in every other case it is
-/// as before. Any other words write `usage`.
+/// end line. Where that line was written, `kept` holds the machine as the run left it; in every other
+/// case it is as before. Any other words write `usage`.
 pub fn stk_main<F: Files, S: Sink>(
     alloc: Global,
     words: &Vec<String>,
