@@ -135,6 +135,12 @@ IsComplete c status = (asked : Asked) (bytes : List ℕ) (a : Answer) → c.aske
     → ¬ (Rose c.files.failed_reads c.files_after.failed_reads) → ¬ (Rose c.sink.faults c.sink_after.faults)
     → (status ≡ NoMemory) ⊎ GivesThis c a status
 
+-- what the top call promises: the answer that was due, the cause of its status, and that nothing else was given where nothing outside failed
+pub record Promised (c : Call) (status : Status) : Type 0 where
+  pub answers : Answers c status
+  pub causes : Caused c status
+  pub complete : IsComplete c status
+
 -- a line was written and this status answered, or the sink failed
 abbrev pub Tells : SinkSeen → SinkSeen → List ℕ → Status → Status → Type 0
 Tells old new line status result = ((result ≡ status) × Adds old line new) ⊎ ((result ≡ WriteFault) × FailsToWrite old line new)

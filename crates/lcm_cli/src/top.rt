@@ -6,7 +6,7 @@ ghost use Rattle.lcm_machine.specs.Run.{answer, plain};
 ghost use Rattle.lcm_cli.specs.Asked.{asked};
 ghost use Rattle.lcm_cli.specs.Words.{asked_in, texts};
 ghost use Rattle.lcm_cli.specs.EndLine.{end_line};
-ghost use Rattle.lcm_cli.specs.Answers.{Answer, Answers, Begins, Caused, IsAnswerTo, IsComplete, Tells, status_of};
+ghost use Rattle.lcm_cli.specs.Answers.{Answer, Answers, Begins, IsAnswerTo, Promised, Tells, status_of};
 
 use crate::end_line::end_line;
 use crate::form::built_of;
@@ -140,19 +140,9 @@ pub fn stk_main<F: Files, S: Sink>(
     out: &mut S,
     kept: &mut Option<LcmState>,
 ) -> Status
-    // The answer that the call is due: its status, with its line written and its machine kept.
-    ensures answers { Answers (record {
-      asked = asked_in (texts words.now.items);
-      files = F.seen files.old;
-      files_after = F.seen files.new;
-      sink = S.seen out.old;
-      sink_after = S.seen out.new;
-      kept = kept.old;
-      kept_after = kept.new;
-    }) result }
-
-    // The cause of each status.
-    ensures causes { Caused (record {
+    // The answer that the call is due: its status, with its line written and its machine kept. The
+    // cause of each status. A file that is there gets its answer, where nothing outside fails.
+    ensures promised { Promised (record {
       asked = asked_in (texts words.now.items);
       files = F.seen files.old;
       files_after = F.seen files.new;
@@ -170,17 +160,6 @@ pub fn stk_main<F: Files, S: Sink>(
 
     // No file is changed.
     ensures files_stay { (F.seen files.new).contents ≡ (F.seen files.old).contents }
-
-    // A file that is there gets its answer, where nothing outside fails.
-    ensures complete { IsComplete (record {
-      asked = asked_in (texts words.now.items);
-      files = F.seen files.old;
-      files_after = F.seen files.new;
-      sink = S.seen out.old;
-      sink_after = S.seen out.new;
-      kept = kept.old;
-      kept_after = kept.new;
-    }) result }
 {
     answer(alloc, words.as_slice(), files, out, kept)
 }

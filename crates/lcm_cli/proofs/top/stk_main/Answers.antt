@@ -2,8 +2,7 @@
 use Rattle.lcm_cli.proofs.AnswerLemmas.{caused, complete}
 use Rattle.lcm_cli.proofs.top.stk_main.Goals as goal
 
-pub returns-clause-causes : goal.returns-clause-causes
-returns-clause-causes g c = let a = rw c.as_slice.ensures.value at c.answer.ensures in caused _ c.answer.result a
-
-pub returns-clause-complete : goal.returns-clause-complete
-returns-clause-complete g c = let a = rw c.as_slice.ensures.value at c.answer.ensures in complete _ c.answer.result a
+pub returns-clause-promised : goal.returns-clause-promised
+returns-clause-promised g c =
+    let a = rw c.as_slice.ensures.value at c.answer.ensures in
+    record { answers = a; causes = caused _ c.answer.result a; complete = complete _ c.answer.result a }
