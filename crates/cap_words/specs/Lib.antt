@@ -2,3 +2,8 @@ pub mod Linear
 pub mod Face
 pub mod Faces
 pub mod Text
+pub mod Stretch
+pub mod Reading
+pub mod Gives
+pub mod WordBytes
+pub mod WordReading

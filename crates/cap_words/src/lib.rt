@@ -17,13 +17,24 @@ ghost use Rattle.cap_words.specs.Face.{face_of, opened_of, FaceInOrder, OpenedIn
 ghost use Rattle.cap_words.specs.Faces.{may_write, may_read, may_run, perm_number, perm_at, is_below, same_kind, int_in, memory_in, seals_in, face_linear, face_number, face_address, face_base, face_end, face_perm, seals_at, address, target_of};
 ghost use Rattle.cap_words.specs.Text.{perm_name, lin_name};
 
+mod bytes;
+#[cfg(test)]
+mod bytes_tests;
+mod items;
+mod seal_range;
 #[cfg(test)]
 mod tests;
 mod text;
 
+pub use bytes::{Cursor, FieldFault, laws, push_u16, push_u32, push_word, read_word, word_bytes};
+pub use items::Items;
+pub use seal_range::SealRange;
 use std::marker::Model;
 use std::mem;
 pub use text::word_text;
+
+/// The last of the 1,048,576 addresses, and the last of as many seals.
+pub const LAST_PLACE: u32 = 1_048_575;
 
 /// What a memory capability allows at the addresses of its range.
 #[derive(Clone, Copy, Debug, PartialEq, Eq)]

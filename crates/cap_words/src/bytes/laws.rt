@@ -1,0 +1,10 @@
+//! What holds of the spelling of words. These functions do nothing; their contracts are the laws.
+ghost use Rattle.std.specs.Prelude.{◌≡◌, ◌++◌, List, ℕ};
+ghost use Rattle.cap_words.specs.declared.Word.{Word};
+ghost use Rattle.cap_words.specs.WordBytes.{Spells};
+
+/// A word has one spelling, a spelling is of one word, and no spelling begins another, so that
+/// words can stand one after another with nothing between.
+pub fn one_spelling()
+    ensures { (v w : Word) (a b x y : List ℕ) → Spells a v → Spells b w → a ++ x ≡ b ++ y → (v ≡ w) × (a ≡ b) × (x ≡ y) }
+{}
