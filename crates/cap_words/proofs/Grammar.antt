@@ -1,5 +1,8 @@
 -- Readers that take just what a spelling has, put together from readers of its parts.
-use Rattle.std.proofs.Common.{◌≡◌, Bool, true, false, cond, ℕ, ◌+◌, ◌<◌, List, [], ◌∷◌, ◌++◌, length, get_or, Option, Some, None, Result, Ok, Err, refl, sym, ap, subst, ◌∙◌, append_assoc, arith, length-append, append-nil}
+use Rattle.std.proofs.Common.{◌≡◌, Bool, true, false, cond, ℕ, ◌+◌, ◌-◌, ◌<◌, ◌≤◌, take, inl, inr, List, [], ◌++◌, length, get_or, Result, Ok, Err, refl, sym, ap, subst, ◌∙◌, append_assoc, arith, length-append, append-nil}
+use Rattle.std.proofs.lemmas.Bool.{cases_lt}
+use Rattle.std.proofs.lemmas.List.{take-append-le}
+use Rattle.std.proofs.Math.Seq.{take-append-add}
 use Rattle.cap_words.specs.Reading.{Input, Reader, goes_on, ◌>>=◌, done, place}
 
 abbrev pub IsBytes : List ℕ → Type 0
@@ -18,11 +21,18 @@ after at text rest = record { at = at + length text; rest = rest }
 abbrev pub before : ℕ → List ℕ → List ℕ → Input
 before at text rest = record { at = at; rest = text ++ rest }
 
+-- the answer to a text of which only the first n bytes are there: the field that isn't whole is short
+pub record IsCut {F A : Type 0} (short : ℕ → F) (at n : ℕ) (answer : Result (A × Input) F) : Type 0 where
+  pub inside : ℕ
+  pub within : inside ≤ n
+  pub is : answer ≡ Err (short (at + inside))
+
 -- Of a value of which K is known the reader reads the text. What it reads has P and is spelled so,
--- and what has P and is spelled so it reads, whatever follows.
-pub record Reads {F A : Type 0} (K P : A → Type 0) (text : A → List ℕ) (r : Reader F A) : Type 0 where
+-- and what has P and is spelled so it reads, whatever follows. Where the text is cut, it is short.
+pub record Reads {F A : Type 0} (short : ℕ → F) (K P : A → Type 0) (text : A → List ℕ) (r : Reader F A) : Type 0 where
   pub takes : (i : Input) (x : A) (j : Input) → IsBytes i.rest → r i ≡ Ok (x, j) → K x × P x × Took i (text x) j
   pub again : (x : A) (at : ℕ) (rest : List ℕ) → K x → P x → r (before at (text x) rest) ≡ Ok (x, after at (text x) rest)
+  pub cut : (x : A) (at n : ℕ) → K x → P x → n < length (text x) → IsCut short at n (r (record { at = at; rest = take n (text x) }))
 
 -- the whole of a value
 abbrev pub All : {A : Type 0} → A → Type 0
@@ -48,10 +58,14 @@ took_then i j k s t p q = record {
   bytes = q.bytes;
 }
 
+-- a fault ends the reading
+pub cut_goes_on : {F A B : Type 0} {short : ℕ → F} {at n : ℕ} {answer : Result (A × Input) F} (f : A → Reader F B) → IsCut short at n answer → IsCut short at n (goes_on answer f)
+cut_goes_on f c = record { inside = c.inside; within = c.within; is = ap (λ q. goes_on q f) c.is }
+
 -- a field, and then what is left of the value
-pub reads_then : {F A B : Type 0} {K : B → Type 0} {PA : A → Type 0} {P : B → Type 0} {s : A → List ℕ} {t : B → List ℕ} (field : B → A) (r : Reader F A) (f : A → Reader F B)
-    → Reads All PA s r → ((a : A) → PA a → Reads (λ c. K c × (field c ≡ a)) P t (f a)) → Reads K (λ c. PA (field c) × P c) (λ c. s (field c) ++ t c) (r >>= f)
-reads_then {K = K} {PA = PA} {P = P} {s = s} {t = t} field r f first second = record {
+pub reads_then : {F A B : Type 0} {short : ℕ → F} {K : B → Type 0} {PA : A → Type 0} {P : B → Type 0} {s : A → List ℕ} {t : B → List ℕ} (field : B → A) (r : Reader F A) (f : A → Reader F B)
+    → Reads short All PA s r → ((a : A) → PA a → Reads short (λ c. K c × (field c ≡ a)) P t (f a)) → Reads short K (λ c. PA (field c) × P c) (λ c. s (field c) ++ t c) (r >>= f)
+reads_then {short = short} {K = K} {PA = PA} {P = P} {s = s} {t = t} field r f first second = record {
   takes = λ i c k bytes e.
       let x = goes_on_ok (r i) f (c, k) e in
       let a = first.takes i x.0.0 x.0.1 bytes x.1 in
@@ -64,10 +78,27 @@ reads_then {K = K} {PA = PA} {P = P} {s = s} {t = t} field r f first second = re
       let here : before at (s (field c) ++ t c) rest ≡ before at (s (field c)) (t c ++ rest) = ap (λ l. record { at = at; rest = l }) (append_assoc (s (field c)) (t c) rest) in
       let there : after (at + length (s (field c))) (t c) rest ≡ after at (s (field c) ++ t c) rest = ap (λ n. record { at = n; rest = rest }) (omega (arith, length-append (s (field c)) (t c))) in
       ap (λ i. goes_on (r i) f) here ∙ ap (λ q. goes_on q f) one ∙ two ∙ ap (λ j. Ok (c, j)) there;
+  cut = λ c at n known fits lt.
+      let a = s (field c) in
+      elim (cases_lt n (length a)) [
+        | inl less ↦
+            let one = cut_goes_on f (first.cut (field c) at n tt fits.0 less) in
+            subst (λ l. IsCut short at n (goes_on (r (record { at = at; rest = l })) f)) (sym (take-append-le n a (t c) (omega arith))) one
+        | inr more ↦
+            let k = n - length a in
+            let text : take n (a ++ t c) ≡ a ++ take k (t c) = ap (λ m. take m (a ++ t c)) (let m : n ≡ length a + k = omega arith in m) ∙ take-append-add a (t c) k in
+            let one = first.again (field c) at (take k (t c)) tt fits.0 in
+            let two = (second (field c) fits.0).cut c (at + length a) k (known, refl) fits.1 (omega (arith, length-append a (t c))) in
+            record {
+              inside = length a + two.inside;
+              within = omega (arith, two.within);
+              is = ap (λ l. goes_on (r (record { at = at; rest = l })) f) text ∙ ap (λ q. goes_on q f) one ∙ two.is ∙ ap (λ m. Err (short m)) (omega arith);
+            }
+      ];
 }
 
 -- all of it is known
-pub reads_done : {F A : Type 0} {K : A → Type 0} (x : A) → ((c : A) → K c → c ≡ x) → K x → Reads {F = F} K All (λ c. []) (done x)
+pub reads_done : {F A : Type 0} {short : ℕ → F} {K : A → Type 0} (x : A) → ((c : A) → K c → c ≡ x) → K x → Reads short K All (λ c. []) (done x)
 reads_done {K = K} x is known = record {
   takes = λ i c j bytes e.
       let both = ok_value x c i j e in
@@ -75,32 +106,36 @@ reads_done {K = K} x is known = record {
   again = λ c at rest k fits.
       let same = is c k in
       ap (λ j. Ok (x, j)) (ap (λ n. record { at = n; rest = rest }) (omega arith)) ∙ ap (λ y. Ok (y, after at [] rest)) (sym same);
+  cut = λ c at n k fits lt. absurd (omega arith);
 }
 
 -- the same in other words
-pub reads_as : {F A : Type 0} {K P Q : A → Type 0} {t : A → List ℕ} (r : Reader F A) → Reads K P t r → ((x : A) → K x → P x → Q x) → ((x : A) → K x → Q x → P x) → Reads K Q t r
+pub reads_as : {F A : Type 0} {short : ℕ → F} {K P Q : A → Type 0} {t : A → List ℕ} (r : Reader F A) → Reads short K P t r → ((x : A) → K x → P x → Q x) → ((x : A) → K x → Q x → P x) → Reads short K Q t r
 reads_as r h there back = record {
   takes = λ i x j bytes e. let g = h.takes i x j bytes e in (g.0, there x g.0 g.1, g.2);
   again = λ x at rest k q. h.again x at rest k (back x k q);
+  cut = λ x at n k q. h.cut x at n k (back x k q);
 }
 
 -- the same where nothing else is known
-pub reads_known : {F A : Type 0} {K P : A → Type 0} {t : A → List ℕ} {r : Reader F A} → Reads K P t r → Reads (λ x. All x × K x) P t r
+pub reads_known : {F A : Type 0} {short : ℕ → F} {K P : A → Type 0} {t : A → List ℕ} {r : Reader F A} → Reads short K P t r → Reads short (λ x. All x × K x) P t r
 reads_known h = record {
   takes = λ i x j bytes e. let g = h.takes i x j bytes e in ((tt, g.0), g.1, g.2);
   again = λ x at rest k p. h.again x at rest k.1 p;
+  cut = λ x at n k p. h.cut x at n k.1 p;
 }
 
 -- the same with another name of the text
-pub reads_text : {F A : Type 0} {K P : A → Type 0} {t u : A → List ℕ} (r : Reader F A) → ((x : A) → K x → t x ≡ u x) → Reads K P t r → Reads K P u r
-reads_text r same h = record {
+pub reads_text : {F A : Type 0} {short : ℕ → F} {K P : A → Type 0} {t u : A → List ℕ} (r : Reader F A) → ((x : A) → K x → t x ≡ u x) → Reads short K P t r → Reads short K P u r
+reads_text {short = short} r same h = record {
   takes = λ i x j bytes e. let g = h.takes i x j bytes e in (g.0, g.1, subst (λ l. Took i l j) (same x g.0) g.2);
   again = λ x at rest k p. subst (λ l. r (before at l rest) ≡ Ok (x, after at l rest)) (same x k) (h.again x at rest k p);
+  cut = λ x at n k p. subst (λ l. n < length l → IsCut short at n (r (record { at = at; rest = take n l }))) (same x k) (h.cut x at n k p);
 }
 
 -- the last field
-pub reads_last : {F A B : Type 0} {K : B → Type 0} {PA : A → Type 0} {s : A → List ℕ} (field : B → A) (r : Reader F A) (made : A → B)
-    → Reads All PA s r → ((c : B) → K c → made (field c) ≡ c) → ((a : A) → PA a → K (made a) × (field (made a) ≡ a)) → Reads K (λ c. PA (field c)) (λ c. s (field c)) (r >>= λ a. done (made a))
+pub reads_last : {F A B : Type 0} {short : ℕ → F} {K : B → Type 0} {PA : A → Type 0} {s : A → List ℕ} (field : B → A) (r : Reader F A) (made : A → B)
+    → Reads short All PA s r → ((c : B) → K c → made (field c) ≡ c) → ((a : A) → PA a → K (made a) × (field (made a) ≡ a)) → Reads short K (λ c. PA (field c)) (λ c. s (field c)) (r >>= λ a. done (made a))
 reads_last {K = K} {s = s} field r made first is known =
     reads_as (r >>= λ a. done (made a))
     (reads_text (r >>= λ a. done (made a)) (λ c k. append-nil (s (field c)))
@@ -108,19 +143,20 @@ reads_last {K = K} {s = s} field r made first is known =
     (λ c k p. p.0) (λ c k p. (p, tt))
 
 -- a reader that is told its place
-pub reads_placed : {F A : Type 0} {K P : A → Type 0} {t : A → List ℕ} (r : ℕ → Reader F A) → ((at : ℕ) → Reads K P t (r at)) → Reads K P t (place >>= r)
+pub reads_placed : {F A : Type 0} {short : ℕ → F} {K P : A → Type 0} {t : A → List ℕ} (r : ℕ → Reader F A) → ((at : ℕ) → Reads short K P t (r at)) → Reads short K P t (place >>= r)
 reads_placed r h = record {
   takes = λ i x j bytes e. (h i.at).takes i x j bytes e;
   again = λ x at rest k p. (h at).again x at rest k p;
+  cut = λ x at n k p. (h at).cut x at n k p;
 }
 
 -- a value that is one case of another type
-pub reads_case : {F A B : Type 0} {J P : A → Type 0} {K Q : B → Type 0} {s : A → List ℕ} {t : B → List ℕ} (r : Reader F A) (made : A → B)
-    → Reads J P s r
+pub reads_case : {F A B : Type 0} {short : ℕ → F} {J P : A → Type 0} {K Q : B → Type 0} {s : A → List ℕ} {t : B → List ℕ} (r : Reader F A) (made : A → B)
+    → Reads short J P s r
     → ((a : A) → J a → P a → K (made a) × Q (made a) × (t (made a) ≡ s a))
     → ((b : B) → K b → Q b → (a : A) × (made a ≡ b) × J a × P a)
-    → Reads K Q t (r >>= λ a. done (made a))
-reads_case {K = K} {Q = Q} {s = s} {t = t} r made h there back = record {
+    → Reads short K Q t (r >>= λ a. done (made a))
+reads_case {short = short} {K = K} {Q = Q} {s = s} {t = t} r made h there back = record {
   takes = λ i b j bytes e.
       let x = goes_on_ok (r i) (λ a. done (made a)) (b, j) e in
       let g = h.takes i x.0.0 x.0.1 bytes x.1 in
@@ -134,22 +170,29 @@ reads_case {K = K} {Q = Q} {s = s} {t = t} r made h there back = record {
       let read : (r >>= λ a. done (made a)) (before at (s a.0) rest) ≡ Ok (made a.0, after at (s a.0) rest) = ap (λ o. goes_on o (λ a. done (made a))) (h.again a.0 at rest a.2 a.3) in
       subst (λ c. (r >>= λ a. done (made a)) (before at (t c) rest) ≡ Ok (c, after at (t c) rest)) a.1
       (subst (λ l. (r >>= λ a. done (made a)) (before at l rest) ≡ Ok (made a.0, after at l rest)) (sym g.2) read);
+  cut = λ b at n k q.
+      let a = back b k q in
+      let g = there a.0 a.2 a.3 in
+      let one : n < length (s a.0) → IsCut short at n ((r >>= λ a. done (made a)) (record { at = at; rest = take n (s a.0) })) = λ lt. cut_goes_on (λ a. done (made a)) (h.cut a.0 at n a.2 a.3 lt) in
+      subst (λ c. n < length (t c) → IsCut short at n ((r >>= λ a. done (made a)) (record { at = at; rest = take n (t c) }))) a.1
+      (subst (λ l. n < length l → IsCut short at n ((r >>= λ a. done (made a)) (record { at = at; rest = take n l }))) (sym g.2) one);
 }
 
 -- a choice by a test
-pub reads_if : {F A : Type 0} {K P : A → Type 0} {t : A → List ℕ} (b : Bool) (r s : Reader F A) → (b ≡ true → Reads K P t r) → (b ≡ false → Reads K P t s) → Reads K P t (cond b r s)
+pub reads_if : {F A : Type 0} {short : ℕ → F} {K P : A → Type 0} {t : A → List ℕ} (b : Bool) (r s : Reader F A) → (b ≡ true → Reads short K P t r) → (b ≡ false → Reads short K P t s) → Reads short K P t (cond b r s)
 reads_if true r s h g = h refl
 reads_if false r s h g = g refl
 
 -- what nothing spells
-pub reads_none : {F A : Type 0} {K P : A → Type 0} {t : A → List ℕ} (fault : F) → ((x : A) → K x → ⊥) → Reads K P t (λ i. Err fault)
+pub reads_none : {F A : Type 0} {short : ℕ → F} {K P : A → Type 0} {t : A → List ℕ} (fault : F) → ((x : A) → K x → ⊥) → Reads short K P t (λ i. Err fault)
 reads_none fault never = record {
   takes = λ i x j bytes e. absurd cc;
   again = λ x at rest k p. absurd (never x k);
+  cut = λ x at n k p lt. absurd (never x k);
 }
 
 -- a text is of one value, and none begins another
-pub one_spelling : {F A : Type 0} {P : A → Type 0} {t : A → List ℕ} {r : Reader F A} → Reads All P t r → (x y : A) (u v : List ℕ) → P x → P y → t x ++ u ≡ t y ++ v → (x ≡ y) × (u ≡ v)
+pub one_spelling : {F A : Type 0} {short : ℕ → F} {P : A → Type 0} {t : A → List ℕ} {r : Reader F A} → Reads short All P t r → (x y : A) (u v : List ℕ) → P x → P y → t x ++ u ≡ t y ++ v → (x ≡ y) × (u ≡ v)
 one_spelling {t = t} {r = r} h x y u v p q e =
     let first = h.again x 0 u tt p in
     let second = h.again y 0 v tt q in

@@ -1,5 +1,5 @@
 -- A word is read where it is spelled, and spelled where it was read.
-use Rattle.std.proofs.Common.{◌≡◌, ℕ, zero, suc, ◌+◌, ◌^◌, ◌<◌, ◌≤◌, Bool, true, false, cond, eqb, List, [], ◌∷◌, ◌++◌, length, get_or, take, drop, ℤ, pos, Option, Some, None, Result, Ok, Err, refl, sym, ap, subst, ◌∙◌, arith, length-append}
+use Rattle.std.proofs.Common.{◌≡◌, ℕ, zero, suc, ◌+◌, ◌^◌, ◌<◌, ◌≤◌, false, cond, eqb, List, [], ◌∷◌, ◌++◌, length, take, ℤ, pos, Some, Ok, refl, sym, ap, subst, ◌∙◌, arith, length-append}
 use Rattle.std.specs.Int.{w32, w64}
 use Rattle.std.proofs.lemmas.List.{take_at}
 use Rattle.std.proofs.lemmas.Bool.{eqb-true, eqb-false}
@@ -14,15 +14,14 @@ use Rattle.cap_words.specs.declared.Sealable.{Sealable}
 use Rattle.cap_words.specs.declared.Sealable.TheVariants.{Mem as MemIn, Seal as SealIn}
 use Rattle.cap_words.specs.declared.Word.{Word}
 use Rattle.cap_words.specs.declared.Word.TheVariants.{Int, Mem, Seal, Sealed}
-use Rattle.cap_words.specs.declared.bytes.cursor.FieldFault.{FieldFault}
 use Rattle.cap_words.specs.declared.bytes.cursor.FieldFault.TheVariants.{Short, BadField}
 use Rattle.cap_words.specs.Face.{CapInOrder, SealsInOrder}
 use Rattle.cap_words.specs.Faces.{perm_number}
-use Rattle.cap_words.specs.Reading.{Input, Reader, goes_on, ◌>>=◌, done, place, byte_at, number_at, signed_at, meant, within}
+use Rattle.cap_words.specs.Reading.{Input, ◌>>=◌, byte_at, signed_at, meant}
 use Rattle.cap_words.specs.WordBytes.{number_bytes, signed_bytes, lin_number, cap_bytes, seal_bytes, content_bytes, word_bytes_of, ContentFits, WordFits, IsUnsealed, Spells}
 use Rattle.cap_words.specs.WordReading.{perm_meant, lin_meant, place_from, cap_at, seals_at, content_behind, content_at, unsealed, unsealed_behind, unsealed_at, sealed_behind, word_at}
-use Rattle.cap_words.proofs.Grammar.{IsBytes, Took, after, before, Reads, All, goes_on_ok, ok_value, reads_then, reads_done, reads_last, reads_as, reads_placed, reads_known, reads_text, reads_case, reads_if, reads_none}
-use Rattle.cap_words.proofs.Fields.{byte_reads, number_reads, signed_reads, meant_reads, within_reads, wide32}
+use Rattle.cap_words.proofs.Grammar.{IsBytes, after, Reads, All, reads_then, reads_last, reads_as, reads_placed, reads_known, reads_text, reads_case, reads_if, reads_none}
+use Rattle.cap_words.proofs.Fields.{byte_reads, signed_reads, meant_reads, within_reads, wide32}
 
 -- ---- fields of a capability
 
@@ -41,7 +40,7 @@ perm_back Rw = (omega arith, refl)
 perm_back Rx = (omega arith, refl)
 perm_back Rwx = (omega arith, refl)
 
-perm_reads : Reads All (All {A = Perm}) (λ p. perm_number p ∷ []) (meant perm_meant byte_at)
+perm_reads : Reads Short All (All {A = Perm}) (λ p. perm_number p ∷ []) (meant perm_meant byte_at)
 perm_reads = meant_reads perm_meant perm_number byte_at byte_reads (λ a p fits e. (tt, perm_there a p e)) (λ p q. perm_back p)
 
 lin_there : (a : ℕ) (l : Lin) → lin_meant a ≡ Some l → lin_number l ≡ a
@@ -53,10 +52,10 @@ lin_back : (l : Lin) → (lin_number l < 256) × (lin_meant (lin_number l) ≡ S
 lin_back Normal = (omega arith, refl)
 lin_back Linear = (omega arith, refl)
 
-lin_reads : Reads All (All {A = Lin}) (λ l. lin_number l ∷ []) (meant lin_meant byte_at)
+lin_reads : Reads Short All (All {A = Lin}) (λ l. lin_number l ∷ []) (meant lin_meant byte_at)
 lin_reads = meant_reads lin_meant lin_number byte_at byte_reads (λ a l fits e. (tt, lin_there a l e)) (λ l q. lin_back l)
 
-pub place_reads : (low : ℕ) → Reads All (λ n. (low ≤ n) × (n ≤ 1048575)) (number_bytes w32) (place_from low)
+pub place_reads : (low : ℕ) → Reads Short All (λ n. (low ≤ n) × (n ≤ 1048575)) (number_bytes w32) (place_from low)
 place_reads low = within_reads w32 (2 ^ 32) low 1048575 wide32 (omega arith)
 
 -- ---- capabilities
@@ -65,7 +64,7 @@ place_reads low = within_reads w32 (2 ^ 32) low 1048575 wide32 (omega arith)
 range_there : (base c_base c_end : ℕ) → c_base ≡ base → (base ≤ c_end) × (c_end ≤ 1048575) → (c_base ≤ c_end) × (c_end ≤ 1048575)
 range_there base c_base c_end is p = (omega (arith, is, p.0), p.1)
 
-cap_reads : Reads All (λ c. CapInOrder c × FitsSigned w64 c.addr) cap_bytes cap_at
+cap_reads : Reads Short All (λ c. CapInOrder c × FitsSigned w64 c.addr) cap_bytes cap_at
 unfolding cap_at cap_bytes
 cap_reads = reads_as cap_at
     (reads_then (λ (c : CapFields). c.perm) (meant perm_meant byte_at) _ perm_reads (λ perm p0.
@@ -79,7 +78,7 @@ cap_reads = reads_as cap_at
     (λ c k p. p.1.1.1)
     (λ c k p. (tt, (tt, ((omega arith, omega (arith, p.0.0, p.0.1)), p))))
 
-seals_reads : Reads All (λ c. SealsInOrder c × FitsSigned w64 c.cur) seal_bytes seals_at
+seals_reads : Reads Short All (λ c. SealsInOrder c × FitsSigned w64 c.cur) seal_bytes seals_at
 unfolding seals_at seal_bytes
 seals_reads = reads_as seals_at
     (reads_then {P = λ c. SealsInOrder c × FitsSigned w64 c.cur} (λ (c : SealFields). c.base) (place_from 0) _ (place_reads 0) (λ base p0.
@@ -126,7 +125,7 @@ unfolding content_tag
 no_content n not1 not2 (MemIn c) e = eqb-false _ _ not1 (sym e)
 no_content n not1 not2 (SealIn s) e = eqb-false _ _ not2 (sym e)
 
-content_behind_reads : (at tag : ℕ) → Reads (λ b. content_tag b ≡ tag) ContentFits content_text (content_behind at tag)
+content_behind_reads : (at tag : ℕ) → Reads Short (λ b. content_tag b ≡ tag) ContentFits content_text (content_behind at tag)
 unfolding content_behind content_tag content_text
 content_behind_reads at tag =
     reads_if (eqb tag 1) _ _
@@ -135,7 +134,7 @@ content_behind_reads at tag =
     (λ is. reads_case seals_at SealIn seals_reads (λ a j p. (sym (eqb-true _ _ is), p, refl)) (λ b k q. as_seal b (k ∙ eqb-true _ _ is) q))
     (λ not2. reads_none (BadField at) (no_content tag not1 not2)))
 
-content_reads : Reads All ContentFits content_bytes content_at
+content_reads : Reads Short All ContentFits content_bytes content_at
 unfolding content_at
 content_reads = reads_placed (λ at. byte_at >>= content_behind at) (λ at.
     reads_as _
@@ -192,14 +191,14 @@ unfolding word_tag word_text content_tag content_text
 bare (MemIn c) tag e fits = (e, (fits, tt), refl)
 bare (SealIn s) tag e fits = (e, (fits, tt), refl)
 
-unsealed_behind_reads : (at tag : ℕ) → Reads (λ w. word_tag w ≡ tag) (λ w. WordFits w × IsUnsealed w) word_text (unsealed_behind at tag)
+unsealed_behind_reads : (at tag : ℕ) → Reads Short (λ w. word_tag w ≡ tag) (λ w. WordFits w × IsUnsealed w) word_text (unsealed_behind at tag)
 unfolding unsealed_behind word_tag word_text
 unsealed_behind_reads at tag =
     reads_if (eqb tag 0) _ _
     (λ is. reads_case signed_at Int signed_reads (λ n j p. (sym (eqb-true _ _ is), (p, tt), refl)) (λ w k q. as_int w (k ∙ eqb-true _ _ is) q.0))
     (λ not. reads_case (content_behind at tag) unsealed (content_behind_reads at tag) (λ c j p. bare c tag j p) (λ w k q. as_content tag w k not q))
 
-pub unsealed_reads : Reads All (λ w. WordFits w × IsUnsealed w) word_bytes_of unsealed_at
+pub unsealed_reads : Reads Short All (λ w. WordFits w × IsUnsealed w) word_bytes_of unsealed_at
 unfolding unsealed_at
 unsealed_reads = reads_placed (λ at. byte_at >>= unsealed_behind at) (λ at.
     reads_as _
@@ -246,7 +245,7 @@ fits_sealed (Mem c) e p = absurd cc
 fits_sealed (Seal s) e p = absurd cc
 fits_sealed (Sealed o content) e p = ((omega arith, p.0), p.1)
 
-sealed_behind_reads : Reads (λ w. word_tag w ≡ 3) WordFits word_text sealed_behind
+sealed_behind_reads : Reads Short (λ w. word_tag w ≡ 3) WordFits word_text sealed_behind
 unfolding sealed_behind word_tag seal_of content_of
 sealed_behind_reads =
     reads_as _
@@ -263,13 +262,13 @@ is_unsealed tag (Mem c) not e = tt
 is_unsealed tag (Seal s) not e = tt
 is_unsealed tag (Sealed o content) not e = eqb-false _ _ not (sym e)
 
-pub word_reads : Reads All WordFits word_bytes_of word_at
+pub word_reads : Reads Short All WordFits word_bytes_of word_at
 unfolding word_at
 word_reads = reads_placed (λ at. byte_at >>= λ tag. cond (eqb tag 3) sealed_behind (unsealed_behind at tag)) (λ at.
     reads_as _
     (reads_text _ (λ w k. word_is w)
     (reads_then word_tag byte_at _ byte_reads (λ tag p. reads_known (reads_if (eqb tag 3) _ _
-    (λ is. subst (λ n. Reads (λ w. word_tag w ≡ n) WordFits word_text sealed_behind) (sym (eqb-true _ _ is)) sealed_behind_reads)
+    (λ is. subst (λ n. Reads Short (λ w. word_tag w ≡ n) WordFits word_text sealed_behind) (sym (eqb-true _ _ is)) sealed_behind_reads)
     (λ not. reads_as _ (unsealed_behind_reads at tag) (λ w k q. q.0) (λ w k q. (q, is_unsealed tag w not k)))))))
     (λ w k p. p.1)
     (λ w k p. (word_tag_in_byte w, p)))

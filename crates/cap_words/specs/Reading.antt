@@ -22,7 +22,7 @@ infixl 10 ◌>>=◌
 abbrev pub ◌>>=◌ : {F A B : Type 0} → Reader F A → (A → Reader F B) → Reader F B
 (r >>= f) i = goes_on (r i) f
 
--- nothing more to read
+-- the value itself, with nothing read
 abbrev pub done : {F A : Type 0} → A → Reader F A
 done x i = Ok (x, i)
 

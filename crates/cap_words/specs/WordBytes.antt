@@ -1,5 +1,5 @@
 -- The bytes of a word. Numbers are little endian, signed ones in two's complement.
-use Rattle.std.specs.Prelude.{◌≡◌, ℕ, ◌≤◌, ◌++◌, List, [], ◌∷◌, ℤ}
+use Rattle.std.specs.Prelude.{◌≡◌, ℕ, ◌≤◌, ◌++◌, List, ◌∷◌, ℤ}
 use Rattle.std.specs.Int.{Width, w32, w64, to_le_bytes, cast_unsigned}
 use Rattle.std.specs.Int.RustNames.{FitsSigned}
 use Rattle.cap_words.specs.declared.Lin.{Lin}

@@ -1,5 +1,5 @@
 -- Reading a word, with the first fault that is met.
-use Rattle.std.specs.Prelude.{ℕ, ◌==◌, [], ◌∷◌, pos, Option, slice_get, Result, Err, if◌then◌else◌}
+use Rattle.std.specs.Prelude.{ℕ, ◌==◌, [], ◌∷◌, pos, Option, slice_get, Err, if◌then◌else◌}
 use Rattle.std.specs.Int.{w32}
 use Rattle.cap_words.specs.declared.Perm.{Perm}
 use Rattle.cap_words.specs.declared.Lin.{Lin}

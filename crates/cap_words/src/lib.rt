@@ -18,12 +18,8 @@ ghost use Rattle.cap_words.specs.Faces.{may_write, may_read, may_run, perm_numbe
 ghost use Rattle.cap_words.specs.Text.{perm_name, lin_name};
 
 mod bytes;
-#[cfg(test)]
-mod bytes_tests;
 mod items;
 mod seal_range;
-#[cfg(test)]
-mod tests;
 mod text;
 
 pub use bytes::{Cursor, FieldFault, laws, push_u16, push_u32, push_word, read_word, word_bytes};

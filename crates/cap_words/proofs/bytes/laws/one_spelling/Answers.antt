@@ -1,4 +1,4 @@
-use Rattle.std.proofs.Common.{◌≡◌, ◌++◌, ◌∙◌, List, ℕ, ap, sym}
+use Rattle.std.proofs.Common.{◌≡◌, ◌++◌, ◌∙◌, ap, sym}
 use Rattle.cap_words.specs.WordBytes.{word_bytes_of}
 use Rattle.cap_words.proofs.Grammar.{one_spelling}
 use Rattle.cap_words.proofs.Words.{word_reads}

@@ -1,7 +1,4 @@
-use Rattle.std.proofs.Common.{◌≡◌, ◌∙◌, refl, ap, sym, subst, length, Ok, Some, arith}
-use Rattle.std.specs.Prelude.{Result}
-use Rattle.cap_words.specs.declared.Word.{Word}
-use Rattle.cap_words.specs.declared.bytes.cursor.FieldFault.{FieldFault}
+use Rattle.std.proofs.Common.{◌≡◌, ◌∙◌, refl, ap, sym, length, arith}
 use Rattle.cap_words.specs.Reading.{Input}
 use Rattle.cap_words.specs.WordReading.{word_at}
 use Rattle.cap_words.proofs.Grammar.{after, ok_value}

@@ -1,6 +1,9 @@
 //! What no clause says of words as bytes: that the definitions mean what they should. Every byte
 //! and every place here was worked out by hand.
-use super::*;
+use cap_words::{
+    Cap, Cursor, FieldFault, Items, Lin, Perm, SealCap, SealRange, Sealable, Word, push_u16,
+    push_u32, read_word, word_bytes, word_text,
+};
 use std::process::Abort;
 use std::test::Fail;
 

@@ -1,5 +1,5 @@
 //! What no clause says: that the definitions mean what they should.
-use super::*;
+use cap_words::{Cap, Held, Lin, Perm, SealCap, Sealable, Word, word_text};
 
 /// The texts were worked out by hand; the last is the longest that there is.
 #[test]

@@ -1,0 +1,7 @@
+//! Tests of words, apart from them: a crate with tests is proved twice.
+#![tactic(auto)]
+
+#[cfg(test)]
+mod bytes;
+#[cfg(test)]
+mod words;

@@ -1,0 +1,140 @@
+-- A component is read where it is spelled, and spelled where it was read.
+use Rattle.std.proofs.Common.{◌≡◌, ℕ, ◌+◌, ◌^◌, ◌<◌, ◌≤◌, Bool, true, false, cond, eqb, List, [], ◌∷◌, ◌++◌, length, Result, Ok, Err, refl, sym, ap, ◌∙◌, append-nil, arith, take}
+use Rattle.std.specs.Int.{w16, w32}
+use Rattle.std.specs.Str.{bytes_eq}
+use Rattle.std.proofs.lemmas.Bool.{eqb-true, eq-eqb, ne_eqb}
+use Rattle.std.proofs.lemmas.List.{nil_from_length}
+use Rattle.std.proofs.lemmas.Slice.Eq.{bytes_eq-Decides}
+use Rattle.cap_words.specs.Stretch.{Stretch}
+use Rattle.cap_words.specs.Reading.{Input, bytes_at, number_at}
+use Rattle.cap_words.proofs.Grammar.{IsBytes, Reads, All, reads_then, reads_done, reads_as, reads_text}
+use Rattle.cap_words.proofs.Fields.{number_reads, wide16, wide32}
+use Rattle.component_file.specs.declared.fault.FileFault.{FileFault}
+use Rattle.component_file.specs.declared.fault.FileFault.TheVariants.{Magic, Version, Short, BadField, Order, Trailing, NoMemory}
+use Rattle.component_file.specs.declared.component.ComponentFields.{ComponentFields}
+use Rattle.component_file.specs.Fault.{Fails}
+use Rattle.component_file.specs.Limits.{IsComponent}
+use Rattle.component_file.specs.Spelling.{u16_bytes, magic, spelling, Spells}
+use Rattle.component_file.specs.Reading.{field, name_at, address_at, stretch_at, optional_at, list_at, import_behind, export_behind, site_behind, row_behind, header_at, words_at, component_at, finished, decoded}
+use Rattle.component_file.proofs.FieldLaws.{reads_field, reads_tells, four_read, name_reads, address_reads, stretch_reads, optional_reads}
+use Rattle.component_file.proofs.ListLaws.{list_read, import_reads, export_reads, site_reads, row_reads, words_reads}
+
+-- ---- magic and version
+
+header_reads : Reads Short All (All {A = Unit {0}}) (λ _. magic ++ u16_bytes 1) header_at
+unfolding header_at
+header_reads = reads_as header_at
+    (reads_text _ (λ c k. ap (λ l. magic ++ l) (append-nil (u16_bytes 1)))
+    (reads_then (λ (c : Unit {0}). magic) (field (bytes_at 4)) _ (reads_field four_read) (λ four p0.
+    reads_tells (bytes_eq four magic) Magic _ (λ e. sym ((bytes_eq-Decides four magic).0 e)) (λ e. (bytes_eq-Decides four magic).1 (sym e))
+    (reads_then (λ (c : Unit {0}). 1) (field (number_at w16)) _ (reads_field (number_reads w16 (2 ^ 16) wide16)) (λ version p1.
+    reads_tells (eqb version 1) Version _ (λ e. sym (eqb-true _ _ e)) (λ e. eq-eqb version 1 (sym e))
+    (reads_done tt (λ c k. refl) tt))))))
+    (λ c k p. tt)
+    (λ c k p. (refl, (omega arith, tt)))
+
+-- ---- the component
+
+pub component_reads : Reads Short All IsComponent spelling component_at
+unfolding component_at spelling
+component_reads = reads_as component_at
+    (reads_then {A = Unit {0}} (λ (c : ComponentFields). tt) header_at _ header_reads (λ header p0.
+    reads_then (λ (c : ComponentFields). c.name) (field name_at) _ (reads_field name_reads) (λ name p1.
+    reads_then (λ (c : ComponentFields). c.stack_base) (field address_at) _ (reads_field address_reads) (λ stack_base p2.
+    reads_then (λ (c : ComponentFields). c.closure) (field address_at) _ (reads_field address_reads) (λ closure p3.
+    reads_then (λ (c : ComponentFields). c.seals) (field stretch_at) _ (reads_field stretch_reads) (λ seals p4.
+    reads_then {A = Stretch} (λ (c : ComponentFields). record { base = c.linear.base; count = c.linear.count }) (field stretch_at) _ (reads_field stretch_reads) (λ linear p5.
+    reads_then (λ (c : ComponentFields). c.code_base) (field address_at) _ (reads_field address_reads) (λ code_base p6.
+    reads_then (λ (c : ComponentFields). c.code) words_at _ words_reads (λ code p7.
+    reads_then (λ (c : ComponentFields). c.data_base) (field address_at) _ (reads_field address_reads) (λ data_base p8.
+    reads_then (λ (c : ComponentFields). c.data_words) words_at _ words_reads (λ data_words p9.
+    reads_then (λ (c : ComponentFields). c.imports) (list_at w16 0 1024 import_behind) _ (list_read import_behind import_reads w16 (2 ^ 16) 0 1024 wide16 (omega arith)) (λ imports p10.
+    reads_then (λ (c : ComponentFields). c.exports) (list_at w16 0 1024 export_behind) _ (list_read export_behind export_reads w16 (2 ^ 16) 0 1024 wide16 (omega arith)) (λ exports p11.
+    reads_then (λ (c : ComponentFields). c.sites) (list_at w16 0 4096 site_behind) _ (list_read site_behind site_reads w16 (2 ^ 16) 0 4096 wide16 (omega arith)) (λ sites p12.
+    reads_then (λ (c : ComponentFields). c.fail_at) (field optional_at) _ (reads_field optional_reads) (λ fail_at p13.
+    reads_then (λ (c : ComponentFields). c.literal_at) (field optional_at) _ (reads_field optional_reads) (λ literal_at p14.
+    reads_then (λ (c : ComponentFields). c.rows) (list_at w32 0 65536 row_behind) _ (list_read row_behind row_reads w32 (2 ^ 32) 0 65536 wide32 (omega arith)) (λ rows p15.
+    reads_done (record {
+      name = name;
+      stack_base = stack_base;
+      closure = closure;
+      seals = seals;
+      linear = record { base = linear.base; count = linear.count };
+      code_base = code_base;
+      code = code;
+      data_base = data_base;
+      data_words = data_words;
+      imports = imports;
+      exports = exports;
+      sites = sites;
+      fail_at = fail_at;
+      literal_at = literal_at;
+      rows = rows;
+    })
+    (λ c k. rw (← k.1, ← k.0.1, ← k.0.0.1, ← k.0.0.0.1, ← k.0.0.0.0.1, ← k.0.0.0.0.0.1, ← k.0.0.0.0.0.0.1, ← k.0.0.0.0.0.0.0.1, ← k.0.0.0.0.0.0.0.0.1, ← k.0.0.0.0.0.0.0.0.0.1, ← k.0.0.0.0.0.0.0.0.0.0.1, ← k.0.0.0.0.0.0.0.0.0.0.0.1, ← k.0.0.0.0.0.0.0.0.0.0.0.0.1, ← k.0.0.0.0.0.0.0.0.0.0.0.0.0.1, ← k.0.0.0.0.0.0.0.0.0.0.0.0.0.0.1) refl)
+    ((((((((((((((((tt, refl), refl), refl), refl), refl), refl), refl), refl), refl), refl), refl), refl), refl), refl), refl), refl))))))))))))))))))
+    (λ c k p. record { name = p.1.0; stack_base = p.1.1.0; closure = p.1.1.1.0; seals = p.1.1.1.1.0; linear = p.1.1.1.1.1.0; code_base = p.1.1.1.1.1.1.0; code = p.1.1.1.1.1.1.1.0; data_base = p.1.1.1.1.1.1.1.1.0; data_words = p.1.1.1.1.1.1.1.1.1.0; imports = (p.1.1.1.1.1.1.1.1.1.1.0.0.1, p.1.1.1.1.1.1.1.1.1.1.0.1); exports = (p.1.1.1.1.1.1.1.1.1.1.1.0.0.1, p.1.1.1.1.1.1.1.1.1.1.1.0.1); sites = (p.1.1.1.1.1.1.1.1.1.1.1.1.0.0.1, p.1.1.1.1.1.1.1.1.1.1.1.1.0.1); fail_at = p.1.1.1.1.1.1.1.1.1.1.1.1.1.0; literal_at = p.1.1.1.1.1.1.1.1.1.1.1.1.1.1.0; rows = (p.1.1.1.1.1.1.1.1.1.1.1.1.1.1.1.0.0.1, p.1.1.1.1.1.1.1.1.1.1.1.1.1.1.1.0.1) })
+    (λ c k p. (tt, (p.name, (p.stack_base, (p.closure, (p.seals, (p.linear, (p.code_base, (p.code, (p.data_base, (p.data_words, (((omega arith, p.imports.0), p.imports.1), (((omega arith, p.exports.0), p.exports.1), (((omega arith, p.sites.0), p.sites.1), (p.fail_at, (p.literal_at, (((omega arith, p.rows.0), p.rows.1), tt)))))))))))))))))
+
+-- ---- whole files
+
+ended_ok : (b : Bool) (x c : ComponentFields) (at : ℕ) → cond b (Ok x) (Err (Trailing at)) ≡ Ok c → (b ≡ true) × (x ≡ c)
+ended_ok true x c at e = (refl, cc)
+ended_ok false x c at e = absurd cc
+
+-- what was read with nothing behind it
+finished_ok : (r : Result (ComponentFields × Input) FileFault) (c : ComponentFields) → finished r ≡ Ok c → (j : Input) × (r ≡ Ok (c, j)) × (length j.rest ≡ 0)
+finished_ok (Err e) c h = absurd cc
+finished_ok (Ok x) c h = let g = ended_ok (eqb (length x.1.rest) 0) x.0 c x.1.at h in (x.1, ap (λ y. Ok (y, x.1)) g.1, eqb-true _ _ g.0)
+
+pub found_whole : (bytes : List ℕ) (c : ComponentFields) → IsBytes bytes → decoded bytes ≡ Ok c → IsComponent c × (bytes ≡ spelling c)
+unfolding decoded
+found_whole bytes c fits e =
+    let f = finished_ok (component_at (record { at = 0; rest = bytes })) c e in
+    let g = component_reads.takes (record { at = 0; rest = bytes }) c f.0 fits f.1 in
+    let nothing : f.0.rest ≡ [] = nil_from_length f.0.rest f.2 in
+    (g.1, g.2.parts ∙ ap (λ l. spelling c ++ l) nothing ∙ append-nil (spelling c))
+
+pub read_whole : (c : ComponentFields) → IsComponent c → decoded (spelling c) ≡ Ok c
+unfolding decoded
+read_whole c fits = ap (λ l. finished (component_at (record { at = 0; rest = l }))) (sym (append-nil (spelling c))) ∙ ap finished (component_reads.again c 0 [] tt fits)
+
+-- a component that was cut is short somewhere
+pub read_cut : (c : ComponentFields) (n : ℕ) → IsComponent c → n < length (spelling c) → (at : ℕ) × (at ≤ n) × (decoded (take n (spelling c)) ≡ Err (Short at))
+unfolding decoded
+read_cut c n fits lt =
+    let g = component_reads.cut c 0 n tt fits lt in
+    (0 + g.inside, omega (arith, g.within), ap finished g.is)
+
+-- what stands behind a component is too much
+pub read_past : (c : ComponentFields) (b : ℕ) (more : List ℕ) → IsComponent c → decoded (spelling c ++ b ∷ more) ≡ Err (Trailing (length (spelling c)))
+unfolding decoded
+read_past c b more fits =
+    let some : eqb (length (b ∷ more)) 0 ≡ false = ne_eqb _ _ (λ e. omega (arith, e)) in
+    let same : 0 + length (spelling c) ≡ length (spelling c) = omega arith in
+    ap finished (component_reads.again c 0 (b ∷ more) tt fits) ∙ rw some (ap (λ n. Err (Trailing n)) same)
+
+abbrev ok_of : ComponentFields → Result ComponentFields FileFault
+ok_of c = Ok c
+
+apart : (c : ComponentFields) (e : FileFault) → ok_of c ≡ Err e → ⊥
+apart c e h = absurd cc
+
+ok_is : (c d : ComponentFields) → ok_of c ≡ ok_of d → c ≡ d
+ok_is c d h = cc
+
+-- only memory keeps a component from being read
+fails_memory : (e : FileFault) (c : ComponentFields) (read : Result ComponentFields FileFault) → Fails e read → read ≡ Ok c → e ≡ NoMemory
+fails_memory NoMemory c read f h = refl
+fails_memory Magic c read f h = absurd (apart c Magic (sym h ∙ f))
+fails_memory Version c read f h = absurd (apart c Version (sym h ∙ f))
+fails_memory (Short at) c read f h = absurd (apart c (Short at) (sym h ∙ f))
+fails_memory (BadField at) c read f h = absurd (apart c (BadField at) (sym h ∙ f))
+fails_memory (Order at) c read f h = absurd (apart c (Order at) (sym h ∙ f))
+fails_memory (Trailing at) c read f h = absurd (apart c (Trailing at) (sym h ∙ f))
+
+pub only_memory : (bytes : List ℕ) (e : FileFault) (c : ComponentFields) → Fails e (decoded bytes) → Spells bytes c → e ≡ NoMemory
+only_memory bytes e c f s = fails_memory e c (decoded bytes) f (ap decoded s.1 ∙ read_whole c s.0)
+
+pub only_one : (bytes : List ℕ) (c d : ComponentFields) → decoded bytes ≡ Ok c → Spells bytes d → c ≡ d
+only_one bytes c d read s = ok_is c d (sym read ∙ ap decoded s.1 ∙ read_whole d s.0)

@@ -1,0 +1,6 @@
+pub mod Lists
+pub mod CanWrite
+pub mod FieldLaws
+pub mod ListLaws
+pub mod ComponentLaws
+pub mod Lengths

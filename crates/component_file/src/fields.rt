@@ -1,0 +1,137 @@
+//! The fields of a component file, each read from the front of bytes.
+ghost use Rattle.std.specs.Prelude.{◌≡◌, ◌≤◌, IfOk};
+ghost use Rattle.std.specs.List.{list_all};
+ghost use Rattle.cap_words.specs.Gives.{Gives, GivesAs};
+ghost use Rattle.component_file.specs.Limits.{is_digit, is_name_byte, is_name};
+ghost use Rattle.component_file.specs.Reading.{text_at, name_at, address_at, offset_at, stretch_at, flag_at, optional_at, kind_at};
+
+use crate::component::Kind;
+use cap_words::{Cursor, FieldFault, LAST_PLACE};
+
+const LAST_OFFSET: u32 = 65_535;
+
+fn is_digit(byte: u8) -> bool
+    ensures { result ≡ is_digit byte }
+{
+    matches!(byte, b'0'..=b'9')
+}
+
+fn is_name_byte(byte: &u8) -> bool
+    ensures { result ≡ is_name_byte byte.now }
+{
+    matches!(*byte, b'a'..=b'z' | b'0'..=b'9' | b'_')
+}
+
+fn are_name_bytes(text: &[u8]) -> bool
+    ensures { result ≡ list_all is_name_byte text.now }
+{
+    text.iter().all(is_name_byte)
+}
+
+/// Whether a text is a name: 1 to 31 bytes of `a` to `z`, `0` to `9` and `_`, the first no digit.
+#[tactic(auto, unfolding(crate::specs::Limits::is_name))]
+pub fn is_name(text: &[u8]) -> bool
+    ensures { result ≡ is_name text.now }
+{
+    if text.is_empty() || 31 < text.len() {
+        return false;
+    }
+    if is_digit(text[0]) {
+        return false;
+    }
+    are_name_bytes(text)
+}
+
+// A byte of length, and the bytes.
+#[tactic(auto, unfolding(crate::specs::Reading::text_at))]
+fn text<'a>(bytes: &mut Cursor<'a>) -> Result<&'a [u8], FieldFault>
+    ensures { GivesAs (λ t. t.now) result bytes.new (text_at bytes.old) }
+{
+    let at = bytes.at();
+    let Ok(len) = bytes.byte() else {
+        return Err(FieldFault::Short(at));
+    };
+    let Ok(text) = bytes.bytes(usize::from(len)) else {
+        return Err(FieldFault::Short(at));
+    };
+    Ok(text)
+}
+
+#[tactic(auto, unfolding(cap_words::specs::Reading::meant))]
+pub(crate) fn name<'a>(bytes: &mut Cursor<'a>) -> Result<&'a [u8], FieldFault>
+    ensures { GivesAs (λ t. t.now) result bytes.new (name_at bytes.old) }
+{
+    let at = bytes.at();
+    let text = text(bytes)?;
+    if is_name(text) {
+        Ok(text)
+    } else {
+        Err(FieldFault::BadField(at))
+    }
+}
+
+// An address or a seal.
+pub(crate) fn address(bytes: &mut Cursor<'_>) -> Result<u32, FieldFault>
+    ensures { Gives result bytes.new (address_at bytes.old) }
+{
+    bytes.u32_within(0, LAST_PLACE)
+}
+
+// An offset in code or data.
+pub(crate) fn offset(bytes: &mut Cursor<'_>) -> Result<u32, FieldFault>
+    ensures { Gives result bytes.new (offset_at bytes.old) }
+{
+    bytes.u32_within(0, LAST_OFFSET)
+}
+
+// A count, and then a base, which is 0 where nothing is counted. It gives the base and the count.
+#[tactic(auto, unfolding(crate::specs::Reading::stretch_at))]
+pub(crate) fn stretch(bytes: &mut Cursor<'_>) -> Result<(u32, u32), FieldFault>
+    ensures exact { GivesAs (λ s. record { base = s.0; count = s.1 }) result bytes.new (stretch_at bytes.old) }
+    ensures within { IfOk result (λ s. (s.0 ≤ 1048575) × (s.1 ≤ 65536)) }
+{
+    let count = bytes.u32_within(0, 65536)?;
+    let last = if count == 0 { 0 } else { LAST_PLACE };
+    let base = bytes.u32_within(0, last)?;
+    Ok((base, count))
+}
+
+#[tactic(auto, unfolding(cap_words::specs::Reading::meant))]
+pub(crate) fn flag(bytes: &mut Cursor<'_>) -> Result<bool, FieldFault>
+    ensures { Gives result bytes.new (flag_at bytes.old) }
+{
+    let at = bytes.at();
+    match bytes.byte()? {
+        0 => Ok(false),
+        1 => Ok(true),
+        _ => Err(FieldFault::BadField(at)),
+    }
+}
+
+// An offset that may be missing.
+#[tactic(auto, unfolding(crate::specs::Reading::optional_at))]
+pub(crate) fn optional(bytes: &mut Cursor<'_>) -> Result<Option<u32>, FieldFault>
+    ensures { Gives result bytes.new (optional_at bytes.old) }
+{
+    if flag(bytes)? {
+        Ok(Some(offset(bytes)?))
+    } else {
+        Ok(None)
+    }
+}
+
+#[tactic(auto, unfolding(crate::specs::Reading::kind_at))]
+pub(crate) fn kind(bytes: &mut Cursor<'_>) -> Result<Kind, FieldFault>
+    ensures { Gives result bytes.new (kind_at bytes.old) }
+{
+    let at = bytes.at();
+    match bytes.byte()? {
+        0 => Ok(Kind::Any),
+        1 => Ok(Kind::Int),
+        2 => Ok(Kind::DataCap),
+        3 => Ok(Kind::Stk),
+        4 => Ok(Kind::Pc(offset(bytes)?)),
+        5 => Ok(Kind::Top),
+        _ => Err(FieldFault::BadField(at)),
+    }
+}

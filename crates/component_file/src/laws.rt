@@ -1,0 +1,27 @@
+//! What holds of the spelling of components. These functions do nothing; their contracts are the laws.
+ghost use Rattle.std.specs.Prelude.{◌≡◌, ◌<◌, ◌≤◌, ◌∷◌, ◌++◌, List, ℕ, length, take, Ok, Err};
+ghost use Rattle.component_file.specs.declared.component.ComponentFields.{ComponentFields};
+ghost use Rattle.component_file.specs.declared.fault.FileFault.TheVariants.{Short, Trailing};
+ghost use Rattle.component_file.specs.Limits.{IsComponent};
+ghost use Rattle.component_file.specs.Spelling.{Spells, spelling};
+ghost use Rattle.component_file.specs.Reading.{decoded};
+
+/// A component has one spelling, a spelling is of one component, and no spelling begins another.
+pub fn one_spelling()
+    ensures { (c d : ComponentFields) (a b x y : List ℕ) → Spells a c → Spells b d → a ++ x ≡ b ++ y → (c ≡ d) × (a ≡ b) × (x ≡ y) }
+{}
+
+/// What a component is spelled is read as that component.
+pub fn spelling_is_read()
+    ensures { (c : ComponentFields) → IsComponent c → decoded (spelling c) ≡ Ok c }
+{}
+
+/// Bytes behind a component are too many, from the first of them on.
+pub fn no_more_is_read()
+    ensures { (c : ComponentFields) (byte : ℕ) (more : List ℕ) → IsComponent c → decoded (spelling c ++ byte ∷ more) ≡ Err (Trailing (length (spelling c))) }
+{}
+
+/// A component that was cut anywhere is `Short`, at a field that begins before the cut or at it.
+pub fn what_is_cut_is_short()
+    ensures { (c : ComponentFields) (n : ℕ) → IsComponent c → n < length (spelling c) → (at : ℕ) × (at ≤ n) × (decoded (take n (spelling c)) ≡ Err (Short at)) }
+{}

@@ -1,0 +1,202 @@
+//! What stands in the lists of a component file: each kind of item, as it is read.
+ghost use Rattle.std.specs.Prelude.{◌≡◌, Option, None, option_map};
+ghost use Rattle.std.specs.Int.{w16, w32};
+ghost use Rattle.std.specs.Option.{option_copied};
+ghost use Rattle.cap_words.specs.Reading.{Reader};
+ghost use Rattle.component_file.specs.declared.fault.FileFault.{FileFault};
+ghost use Rattle.component_file.specs.Fault.{GivesUnlessRefused};
+ghost use Rattle.component_file.specs.Limits.{ascends, name_lt};
+ghost use Rattle.component_file.specs.Reading.{field, name_at, word_behind, import_behind, export_behind, site_behind, row_behind, kind_at, items_at, list_at};
+
+use crate::component::{Export, Import, Kind, KindRow};
+use crate::fault::FileFault;
+use crate::fields;
+use cap_words::{Cursor, Items, Word};
+use std::alloc::Global;
+
+/// An item of a list. Some lists have an order, so an item is told the one before it.
+pub(crate) trait Listed: Drop {
+    // reading an item behind another, or the first
+    ghost read_behind: { Option Self → Reader FileFault Self };
+
+    /// The next item, behind the one before it.
+    fn read(alloc: Global, before: Option<&Self>, bytes: &mut Cursor<'_>) -> Result<Self, FileFault>
+        ensures { GivesUnlessRefused result bytes.new (read_behind (option_copied before.entry) bytes.old) };
+}
+
+// A name, in memory of its own.
+#[tactic(auto, unfolding(crate::specs::Reading::field))]
+pub(crate) fn name(alloc: Global, bytes: &mut Cursor<'_>) -> Result<Items<u8>, FileFault>
+    ensures { GivesUnlessRefused result bytes.new (field name_at bytes.old) }
+{
+    let text = fields::name(bytes)?;
+    Ok(Items::of(Vec::from_slice(alloc, text)?))
+}
+
+impl Listed for Word {
+    ghost read_behind = { word_behind };
+
+    #[tactic(auto, unfolding(crate::specs::Reading::word_behind, crate::specs::Reading::field))]
+    fn read(
+        _alloc: Global,
+        _before: Option<&Word>,
+        bytes: &mut Cursor<'_>,
+    ) -> Result<Word, FileFault> {
+        Ok(bytes.unsealed_word()?)
+    }
+}
+
+impl Listed for Import {
+    ghost read_behind = { import_behind };
+
+    #[tactic(auto, unfolding(crate::specs::Reading::import_behind, crate::specs::Reading::field))]
+    fn read(
+        alloc: Global,
+        before: Option<&Import>,
+        bytes: &mut Cursor<'_>,
+    ) -> Result<Import, FileFault> {
+        let at = bytes.at();
+        let part = name(alloc, bytes)?;
+        let name = name(alloc, bytes)?;
+        let slot = fields::offset(bytes)?;
+        if before.is_some_and(|b| slot <= b.slot) {
+            return Err(FileFault::Order(at));
+        }
+        Ok(Import { part, name, slot })
+    }
+}
+
+fn name_lt(a: &[u8], b: &[u8]) -> bool
+    ensures { result ≡ name_lt a.now b.now }
+{
+    a.cmp(b).is_lt()
+}
+
+// Whether an export of this name may stand behind the one before it.
+fn rises(before: Option<&Export>, name: &[u8]) -> bool
+    ensures { result ≡ ascends name_lt (option_map (λ b. b.name) (option_copied before.entry)) name.now }
+{
+    match before {
+        Some(export) => name_lt(export.name.as_slice(), name),
+        None => true,
+    }
+}
+
+impl Listed for Export {
+    ghost read_behind = { export_behind };
+
+    #[tactic(auto, unfolding(crate::specs::Reading::export_behind, crate::specs::Reading::field))]
+    fn read(
+        alloc: Global,
+        before: Option<&Export>,
+        bytes: &mut Cursor<'_>,
+    ) -> Result<Export, FileFault> {
+        let at = bytes.at();
+        let name = name(alloc, bytes)?;
+        if !rises(before, name.as_slice()) {
+            return Err(FileFault::Order(at));
+        }
+        let offset = fields::offset(bytes)?;
+        let shared = fields::flag(bytes)?;
+        Ok(Export {
+            name,
+            offset,
+            shared,
+        })
+    }
+}
+
+// The offset of a site.
+impl Listed for u32 {
+    ghost read_behind = { site_behind };
+
+    #[tactic(auto, unfolding(crate::specs::Reading::site_behind, crate::specs::Reading::field))]
+    fn read(
+        _alloc: Global,
+        before: Option<&u32>,
+        bytes: &mut Cursor<'_>,
+    ) -> Result<u32, FileFault> {
+        let at = bytes.at();
+        let site = fields::offset(bytes)?;
+        if before.is_some_and(|b| site <= *b) {
+            return Err(FileFault::Order(at));
+        }
+        Ok(site)
+    }
+}
+
+// The kinds of the registers 1 to 15.
+fn kinds(bytes: &mut Cursor<'_>) -> Result<[Kind; 15], FileFault>
+    ensures { GivesUnlessRefused result bytes.new (items_at (λ _. field kind_at) 15 None bytes.old) }
+{
+    let mut kinds = [Kind::Any; 15];
+    for kind in &mut kinds {
+        *kind = fields::kind(bytes)?;
+    }
+    Ok(kinds)
+}
+
+impl Listed for KindRow {
+    ghost read_behind = { row_behind };
+
+    #[tactic(auto, unfolding(crate::specs::Reading::row_behind, crate::specs::Reading::field))]
+    fn read(
+        _alloc: Global,
+        before: Option<&KindRow>,
+        bytes: &mut Cursor<'_>,
+    ) -> Result<KindRow, FileFault> {
+        let at = bytes.at();
+        let offset = fields::offset(bytes)?;
+        if before.is_some_and(|b| offset <= b.offset) {
+            return Err(FileFault::Order(at));
+        }
+        let kinds = kinds(bytes)?;
+        Ok(KindRow { offset, kinds })
+    }
+}
+
+// So many items, one after another.
+fn items<T: Listed>(
+    alloc: Global,
+    count: u32,
+    bytes: &mut Cursor<'_>,
+) -> Result<Items<T>, FileFault>
+    ensures { GivesUnlessRefused result bytes.new (items_at T.read_behind count None bytes.old) }
+{
+    let mut items = Vec::new(alloc);
+    for _ in 0..count {
+        let item = T::read(alloc, items.last(), bytes)?;
+        items.push(item)?;
+    }
+    Ok(Items::of(items))
+}
+
+/// A list with a count of 16 bits, which is at most `most`.
+#[tactic(auto, unfolding(crate::specs::Reading::list_at, crate::specs::Reading::field, cap_words::specs::Reading::meant))]
+pub(crate) fn short_list<T: Listed>(
+    alloc: Global,
+    most: u16,
+    bytes: &mut Cursor<'_>,
+) -> Result<Items<T>, FileFault>
+    ensures { GivesUnlessRefused result bytes.new (list_at w16 0 most T.read_behind bytes.old) }
+{
+    let at = bytes.at();
+    let count = bytes.u16()?;
+    if most < count {
+        return Err(FileFault::BadField(at));
+    }
+    items(alloc, u32::from(count), bytes)
+}
+
+/// A list with a count of 32 bits, which is from `least` to 65,536.
+#[tactic(auto, unfolding(crate::specs::Reading::list_at, crate::specs::Reading::field))]
+pub(crate) fn long_list<T: Listed>(
+    alloc: Global,
+    least: u32,
+    bytes: &mut Cursor<'_>,
+) -> Result<Items<T>, FileFault>
+    ensures { GivesUnlessRefused result bytes.new (list_at w32 least 65536 T.read_behind bytes.old) }
+{
+    let count = bytes.u32_within(least, 65536)?;
+    items(alloc, count, bytes)
+}

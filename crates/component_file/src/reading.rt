@@ -1,0 +1,111 @@
+//! Components from bytes.
+ghost use Rattle.std.specs.Prelude.{◌≡◌, ◌<◌, ◌^◌, ◌⊎◌, length, IfOk, Ok, Err};
+ghost use Rattle.component_file.specs.declared.fault.FileFault.TheVariants.{NoMemory};
+ghost use Rattle.component_file.specs.Spelling.{Spells};
+ghost use Rattle.component_file.specs.declared.component.ComponentFields.{ComponentFields};
+ghost use Rattle.component_file.specs.Fault.{GivesUnlessRefused, Decodes};
+ghost use Rattle.component_file.specs.Reading.{field, header_at, words_at, component_at, decoded};
+
+use crate::component::{Area, Component, ComponentFields};
+use crate::fault::FileFault;
+use crate::fields::{address, optional, stretch};
+use crate::listed::{long_list, name, short_list};
+use cap_words::{Cursor, Items, SealRange, Word};
+use std::alloc::Global;
+
+// `STKC`, and version 1 of the format.
+#[tactic(auto, unfolding(crate::specs::Reading::header_at, crate::specs::Reading::field))]
+fn header(bytes: &mut Cursor<'_>) -> Result<(), FileFault>
+    ensures { GivesUnlessRefused result bytes.new (header_at bytes.old) }
+{
+    if bytes.bytes(4)? != b"STKC".as_slice() {
+        return Err(FileFault::Magic);
+    }
+    if bytes.u16()? != 1 {
+        return Err(FileFault::Version);
+    }
+    Ok(())
+}
+
+#[tactic(auto, unfolding(crate::specs::Reading::words_at))]
+fn words(alloc: Global, bytes: &mut Cursor<'_>) -> Result<Items<Word>, FileFault>
+    ensures { GivesUnlessRefused result bytes.new (words_at bytes.old) }
+{
+    long_list(alloc, 1, bytes)
+}
+
+// Each field in its turn.
+#[tactic(auto, unfolding(crate::specs::Reading::component_at, crate::specs::Reading::field))]
+fn component(alloc: Global, bytes: &mut Cursor<'_>) -> Result<ComponentFields, FileFault>
+    ensures { GivesUnlessRefused result bytes.new (component_at bytes.old) }
+{
+    header(bytes)?;
+    let name = name(alloc, bytes)?;
+    let stack_base = address(bytes)?;
+    let closure = address(bytes)?;
+    let (base, count) = stretch(bytes)?;
+    let seals = SealRange::new(base, count);
+    let (base, count) = stretch(bytes)?;
+    let linear = Area { base, count };
+    let code_base = address(bytes)?;
+    let code = words(alloc, bytes)?;
+    let data_base = address(bytes)?;
+    let data_words = words(alloc, bytes)?;
+    let imports = short_list(alloc, 1024, bytes)?;
+    let exports = short_list(alloc, 1024, bytes)?;
+    let sites = short_list(alloc, 4096, bytes)?;
+    let fail_at = optional(bytes)?;
+    let literal_at = optional(bytes)?;
+    let rows = long_list(alloc, 0, bytes)?;
+    Ok(ComponentFields {
+        name,
+        stack_base,
+        closure,
+        seals,
+        linear,
+        code_base,
+        code,
+        data_base,
+        data_words,
+        imports,
+        exports,
+        sites,
+        fail_at,
+        literal_at,
+        rows,
+    })
+}
+
+// The component of all the bytes.
+#[tactic(auto, unfolding(crate::specs::Reading::decoded))]
+fn whole(alloc: Global, bytes: &[u8]) -> Result<ComponentFields, FileFault>
+    requires { length bytes.now < 2 ^ 32 }
+    ensures { Decodes result (decoded bytes.now) }
+{
+    let mut cursor = Cursor::of(bytes);
+    let component = component(alloc, &mut cursor)?;
+    if cursor.is_at_end() {
+        Ok(component)
+    } else {
+        Err(FileFault::Trailing(cursor.at()))
+    }
+}
+
+/// The component that the bytes spell, all of them, or their first fault from left to right. Where
+/// memory is refused, `NoMemory` stands for either. docs/FORMATS.md has the form.
+///
+/// The fields are read in their order. A field that isn't there whole is `Short` before anything is
+/// said of what it holds. The order of an item in its list is judged as soon as the field is read
+/// that orders it: the slot of an import, the name of an export, the offset of a site or a row.
+pub fn decode_component(alloc: Global, bytes: &[u8]) -> Result<Component, FileFault>
+    requires { length bytes.now < 2 ^ 32 }
+    // What is read is spelled so.
+    ensures found { IfOk result (λ c. Spells bytes.now c) }
+    // What is spelled so is read, unless memory is refused.
+    ensures only { (c : ComponentFields) → Spells bytes.now c → (result ≡ Ok c) ⊎ (result ≡ Err NoMemory) }
+    // Which fault it is.
+    ensures exact { Decodes result (decoded bytes.now) }
+{
+    let fields = whole(alloc, bytes)?;
+    Ok(Component::of(fields))
+}

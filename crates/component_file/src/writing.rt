@@ -1,0 +1,198 @@
+//! Components to bytes.
+ghost use Rattle.std.specs.Prelude.{◌≡◌, ◌<◌, ◌^◌, ◌++◌, ℕ, List, length, OnOk, IfOk};
+ghost use Rattle.std.specs.Int.{w16, w32};
+ghost use Rattle.std.specs.List.{flat_map, AllByRecursion};
+ghost use Rattle.cap_words.specs.WordBytes.{SealInSpace, word_bytes_of};
+ghost use Rattle.component_file.specs.Spelling.{u32_bytes, name_bytes, stretch_bytes, list_bytes, import_bytes, export_bytes, optional_bytes, kind_bytes, row_bytes, Spells, NamesAreShort, NameIsShort, Always};
+
+use crate::component::{Component, Export, Import, Kind, KindRow};
+use cap_words::{Word, push_u16, push_u32, push_word};
+use std::alloc::{AllocError, Global};
+
+// What has a place in a list of a file.
+trait Spelled {
+    // its bytes
+    ghost spelled: { Self → List ℕ };
+
+    // what has bytes
+    ghost can_write: { Self → Type 0 };
+
+    // Appends its bytes.
+    fn write(&self, out: &mut Vec<u8>) -> Result<(), AllocError>
+        requires { can_write self.now }
+        ensures { OnOk result (out.new.items ≡ out.old.items ++ spelled self.now) };
+}
+
+// A byte of length, and the bytes.
+fn push_name(out: &mut Vec<u8>, text: &[u8]) -> Result<(), AllocError>
+    requires { length text.now < 256 }
+    ensures { OnOk result (out.new.items ≡ out.old.items ++ name_bytes text.now) }
+{
+    out.push(text.len() as u8)?;
+    out.extend_from_slice(text)
+}
+
+// A count, and a base.
+#[tactic(auto, unfolding(crate::specs::Spelling::stretch_bytes))]
+fn push_stretch(out: &mut Vec<u8>, base: u32, count: u32) -> Result<(), AllocError>
+    ensures { OnOk result (out.new.items ≡ out.old.items ++ stretch_bytes base count) }
+{
+    push_u32(out, count)?;
+    push_u32(out, base)
+}
+
+// An offset that may be missing.
+fn push_optional(out: &mut Vec<u8>, offset: Option<u32>) -> Result<(), AllocError>
+    ensures { OnOk result (out.new.items ≡ out.old.items ++ optional_bytes offset) }
+{
+    match offset {
+        Some(offset) => {
+            out.push(1)?;
+            push_u32(out, offset)
+        }
+        None => Ok(out.push(0)?),
+    }
+}
+
+impl Spelled for Word {
+    ghost spelled = { word_bytes_of };
+
+    ghost can_write = { SealInSpace };
+
+    fn write(&self, out: &mut Vec<u8>) -> Result<(), AllocError> {
+        push_word(out, self)
+    }
+}
+
+impl Spelled for Import {
+    ghost spelled = { import_bytes };
+
+    ghost can_write = { NamesAreShort };
+
+    #[tactic(auto, unfolding(crate::specs::Spelling::import_bytes))]
+    fn write(&self, out: &mut Vec<u8>) -> Result<(), AllocError> {
+        push_name(out, self.part.as_slice())?;
+        push_name(out, self.name.as_slice())?;
+        push_u32(out, self.slot)
+    }
+}
+
+impl Spelled for Export {
+    ghost spelled = { export_bytes };
+
+    ghost can_write = { NameIsShort };
+
+    #[tactic(auto, unfolding(crate::specs::Spelling::export_bytes))]
+    fn write(&self, out: &mut Vec<u8>) -> Result<(), AllocError> {
+        push_name(out, self.name.as_slice())?;
+        push_u32(out, self.offset)?;
+        out.push(u8::from(self.shared))?;
+        Ok(())
+    }
+}
+
+// The offset of a site.
+impl Spelled for u32 {
+    ghost spelled = { u32_bytes };
+
+    ghost can_write = { Always };
+
+    fn write(&self, out: &mut Vec<u8>) -> Result<(), AllocError> {
+        push_u32(out, *self)
+    }
+}
+
+impl Spelled for Kind {
+    ghost spelled = { kind_bytes };
+
+    ghost can_write = { Always };
+
+    fn write(&self, out: &mut Vec<u8>) -> Result<(), AllocError> {
+        match self {
+            Kind::Any => out.push(0)?,
+            Kind::Int => out.push(1)?,
+            Kind::DataCap => out.push(2)?,
+            Kind::Stk => out.push(3)?,
+            Kind::Pc(offset) => {
+                out.push(4)?;
+                push_u32(out, *offset)?;
+            }
+            Kind::Top => out.push(5)?,
+        }
+        Ok(())
+    }
+}
+
+impl Spelled for KindRow {
+    ghost spelled = { row_bytes };
+
+    ghost can_write = { Always };
+
+    #[tactic(auto, unfolding(crate::specs::Spelling::row_bytes))]
+    fn write(&self, out: &mut Vec<u8>) -> Result<(), AllocError> {
+        push_u32(out, self.offset)?;
+        push_items(out, &self.kinds)
+    }
+}
+
+// The items, one after another.
+fn push_items<T: Spelled>(out: &mut Vec<u8>, items: &[T]) -> Result<(), AllocError>
+    requires { AllByRecursion T.can_write items.now }
+    ensures { OnOk result (out.new.items ≡ out.old.items ++ flat_map T.spelled items.now) }
+{
+    for item in items {
+        item.write(out)?;
+    }
+    Ok(())
+}
+
+// A count of 16 bits, and the items.
+#[tactic(auto, unfolding(crate::specs::Spelling::list_bytes))]
+fn push_short_list<T: Spelled>(out: &mut Vec<u8>, items: &[T]) -> Result<(), AllocError>
+    requires few { length items.now < 2 ^ 16 }
+    requires can_write { AllByRecursion T.can_write items.now }
+    ensures { OnOk result (out.new.items ≡ out.old.items ++ list_bytes w16 T.spelled items.now) }
+{
+    push_u16(out, items.len() as u16)?;
+    push_items(out, items)
+}
+
+// A count of 32 bits, and the items.
+#[tactic(auto, unfolding(crate::specs::Spelling::list_bytes))]
+fn push_long_list<T: Spelled>(out: &mut Vec<u8>, items: &[T]) -> Result<(), AllocError>
+    requires few { length items.now < 2 ^ 32 }
+    requires can_write { AllByRecursion T.can_write items.now }
+    ensures { OnOk result (out.new.items ≡ out.old.items ++ list_bytes w32 T.spelled items.now) }
+{
+    push_u32(out, items.len() as u32)?;
+    push_items(out, items)
+}
+
+/// The bytes of a component, which are its one spelling: docs/FORMATS.md has the form.
+#[tactic(auto, unfolding(crate::specs::Spelling::spelling))]
+pub fn encode_component(alloc: Global, c: &Component) -> Result<Vec<u8>, AllocError>
+    ensures spelled { IfOk result (λ v. Spells v.items c.now) }
+    // So it can be decoded again.
+    ensures short { IfOk result (λ v. length v.items < 2 ^ 32) }
+{
+    let fields = c.fields();
+    let mut out = Vec::new(alloc);
+    out.extend_from_slice(b"STKC")?;
+    push_u16(&mut out, 1)?;
+    push_name(&mut out, fields.name.as_slice())?;
+    push_u32(&mut out, fields.stack_base)?;
+    push_u32(&mut out, fields.closure)?;
+    push_stretch(&mut out, fields.seals.base(), fields.seals.count())?;
+    push_stretch(&mut out, fields.linear.base, fields.linear.count)?;
+    push_u32(&mut out, fields.code_base)?;
+    push_long_list(&mut out, fields.code.as_slice())?;
+    push_u32(&mut out, fields.data_base)?;
+    push_long_list(&mut out, fields.data_words.as_slice())?;
+    push_short_list(&mut out, fields.imports.as_slice())?;
+    push_short_list(&mut out, fields.exports.as_slice())?;
+    push_short_list(&mut out, fields.sites.as_slice())?;
+    push_optional(&mut out, fields.fail_at)?;
+    push_optional(&mut out, fields.literal_at)?;
+    push_long_list(&mut out, fields.rows.as_slice())?;
+    Ok(out)
+}
