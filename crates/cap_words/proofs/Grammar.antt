@@ -125,6 +125,14 @@ reads_known h = record {
   cut = λ x at n k p. h.cut x at n k.1 p;
 }
 
+-- what has to be known, as part of what is read
+pub reads_learned : {F A : Type 0} {short : ℕ → F} {K P : A → Type 0} {t : A → List ℕ} {r : Reader F A} → Reads short (λ x. All x × K x) P t r → Reads short All (λ x. K x × P x) t r
+reads_learned h = record {
+  takes = λ i x j bytes e. let g = h.takes i x j bytes e in (tt, (g.0.1, g.1), g.2);
+  again = λ x at rest k p. h.again x at rest (tt, p.0) p.1;
+  cut = λ x at n k p. h.cut x at n (tt, p.0) p.1;
+}
+
 -- the same with another name of the text
 pub reads_text : {F A : Type 0} {short : ℕ → F} {K P : A → Type 0} {t u : A → List ℕ} (r : Reader F A) → ((x : A) → K x → t x ≡ u x) → Reads short K P t r → Reads short K P u r
 reads_text {short = short} r same h = record {

@@ -7,5 +7,6 @@ abbrev pub GivesAs : {X A F : Type 0} → (X → A) → Result X F → Input →
 GivesAs view (Ok x) left read = read ≡ Ok (view x, left)
 GivesAs view (Err e) left read = read ≡ Err e
 
+-- the answer as it is, and what is left
 abbrev pub Gives : {A F : Type 0} → Result A F → Input → Result (A × Input) F → Type 0
 Gives answer left read = GivesAs (λ x. x) answer left read

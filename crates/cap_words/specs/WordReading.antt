@@ -21,7 +21,7 @@ perm_meant n = perm_at (pos n)
 abbrev pub lin_meant : ℕ → Option Lin
 lin_meant n = slice_get (Normal ∷ Linear ∷ []) n
 
--- an address or a seal from a lower bound on
+-- an address or a seal, not below a bound
 abbrev pub place_from : ℕ → Reader FieldFault ℕ
 place_from low = meant (within low 1048575) (number_at w32)
 

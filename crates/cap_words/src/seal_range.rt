@@ -6,8 +6,8 @@ use std::marker::Model;
 /// So many seals from a first one on; there may be none. A contract sees the first seal and the
 /// count.
 ///
-/// The first is one of the 1,048,576 seals, and there are at most 65,536. Each value keeps this. The
-/// range may go on past the last seal; who accepts a part refuses that.
+/// The first is one of the 1,048,576 seals, and there are at most 65,536. Each value keeps this. That
+/// the range ends within the seals is no part of it.
 #[derive(Debug, Drop)]
 pub struct SealRange {
     base: u32,

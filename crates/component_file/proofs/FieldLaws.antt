@@ -7,7 +7,7 @@ use Rattle.cap_words.specs.declared.bytes.cursor.FieldFault.{FieldFault}
 use Rattle.cap_words.specs.declared.bytes.cursor.FieldFault.TheVariants as field_faults
 use Rattle.cap_words.specs.Stretch.{Stretch}
 use Rattle.cap_words.specs.Reading.{Input, Reader, goes_on, ◌>>=◌, done, bytes_at, unless_none, meant, byte_at, number_at, within}
-use Rattle.cap_words.proofs.Grammar.{Took, took_nothing, Reads, All, reads_then, reads_last, reads_done, reads_as, reads_text, reads_placed, reads_known, reads_case, reads_if}
+use Rattle.cap_words.proofs.Grammar.{Took, took_nothing, Reads, All, reads_then, reads_last, reads_done, reads_as, reads_text, reads_placed, reads_known, reads_learned, reads_case, reads_if}
 use Rattle.cap_words.proofs.Fields.{unless_none_ok, bytes_take, bytes_again, bytes_cut, byte_reads, meant_reads, within_reads, wide32}
 use Rattle.component_file.specs.declared.fault.FileFault.{FileFault}
 use Rattle.component_file.specs.declared.fault.FileFault.TheVariants.{Short}
@@ -82,11 +82,7 @@ bytes_read n = record {
 }
 
 pub four_read : Reads field_faults.Short All (λ text. length text ≡ 4) (λ text. text) (bytes_at 4)
-four_read = record {
-  takes = λ i text j bytes e. let g = bytes_take 4 i text j bytes e in (tt, g.0, g.2);
-  again = λ text at rest k p. bytes_again 4 text at rest p;
-  cut = λ text at m k p lt. bytes_cut text at m p (omega (arith, p));
-}
+four_read = reads_as (bytes_at 4) (reads_learned (bytes_read 4)) (λ text k p. p.0) (λ text k p. (p, tt))
 
 text_reads : Reads field_faults.Short All (λ text. length text < 256) name_bytes text_at
 unfolding text_at

@@ -9,7 +9,7 @@ use Rattle.std.proofs.Math.Seq.{take-append-add}
 use Rattle.cap_words.specs.declared.Word.{Word}
 use Rattle.cap_words.specs.WordBytes.{word_bytes_of, WordFits, IsUnsealed}
 use Rattle.cap_words.specs.Reading.{Input, Reader, goes_on, ◌>>=◌, done, meant, number_at, within}
-use Rattle.cap_words.proofs.Grammar.{IsBytes, Took, took_nothing, took_then, after, before, IsCut, cut_goes_on, Reads, All, goes_on_ok, ok_value, reads_then, reads_last, reads_done, reads_as, reads_text, reads_placed}
+use Rattle.cap_words.proofs.Grammar.{IsBytes, Took, took_nothing, took_then, after, before, IsCut, cut_goes_on, Reads, All, goes_on_ok, ok_value, reads_then, reads_last, reads_done, reads_as, reads_text, reads_placed, reads_learned}
 use Rattle.cap_words.proofs.Fields.{IsWide, within_reads, wide32}
 use Rattle.cap_words.proofs.Words.{unsealed_reads}
 use Rattle.component_file.specs.declared.fault.FileFault.{FileFault}
@@ -136,11 +136,7 @@ row_reads b = reads_placed _ (λ at.
     (reads_then {P = λ (c : KindRow). IsTrue (ascends nat_lt (option_map (λ r. r.offset) b) c.offset) × ((length c.kinds ≡ 15) × Each KindFits c.kinds)} (λ (c : KindRow). c.offset) (field offset_at) _ (reads_field offset_reads) (λ offset p0.
     reads_holds (ascends nat_lt (option_map (λ r. r.offset) b) offset) (Order at) (λ (c : KindRow). ascends nat_lt (option_map (λ r. r.offset) b) c.offset) _ (λ c k. ap (ascends nat_lt (option_map (λ r. r.offset) b)) k.1)
     (reads_last (λ (c : KindRow). c.kinds) (items_at (λ _. field kind_at) 15 None) (λ kinds. record { offset = offset; kinds = kinds })
-    (record {
-      takes = λ i xs j bytes e. let g = (items_read (λ _. field kind_at) (λ _. reads_field kind_reads) 15).takes i xs j bytes e in (tt, (g.0.1, g.1), g.2);
-      again = λ xs start rest k p. (items_read (λ _. field kind_at) (λ _. reads_field kind_reads) 15).again xs start rest (tt, p.0) p.1;
-      cut = λ xs start n k p lt. (items_read (λ _. field kind_at) (λ _. reads_field kind_reads) 15).cut xs start n (tt, p.0) p.1 lt;
-    })
+    (reads_learned (items_read (λ _. field kind_at) (λ _. reads_field kind_reads) 15))
     (λ c k. rw (← k.1) refl) (λ kinds p1. ((tt, refl), refl)))))
     (λ c k p. (p.0, p.1.0, p.1.1))
     (λ c k p. (p.0, (p.1, p.2))))

@@ -16,12 +16,15 @@ abbrev pub Fails : {A : Type 0} → FileFault → Result A FileFault → Type 0
 Fails NoMemory read = Unit {0}
 Fails e read = read ≡ Err e
 
--- the answer, and what is left, are what reading gives, unless memory was refused
-abbrev pub GivesUnlessRefused : {A : Type 0} → Result A FileFault → Input → Result (A × Input) FileFault → Type 0
-GivesUnlessRefused (Ok x) left read = read ≡ Ok (x, left)
-GivesUnlessRefused (Err e) left read = Fails e read
+-- the answer, seen by view, is what reading gives, unless memory was refused
+abbrev pub AnswersAs : {A B : Type 0} → (A → B) → Result A FileFault → Result B FileFault → Type 0
+AnswersAs view (Ok x) read = read ≡ Ok (view x)
+AnswersAs view (Err e) read = Fails e read
 
--- the same where nothing is left
+-- the answer of a call on a cursor, and what it left
+abbrev pub GivesUnlessRefused : {A : Type 0} → Result A FileFault → Input → Result (A × Input) FileFault → Type 0
+GivesUnlessRefused answer left read = AnswersAs (λ x. (x, left)) answer read
+
+-- the answer to whole bytes
 abbrev pub Decodes : {A : Type 0} → Result A FileFault → Result A FileFault → Type 0
-Decodes (Ok x) read = read ≡ Ok x
-Decodes (Err e) read = Fails e read
+Decodes answer read = AnswersAs (λ x. x) answer read

@@ -35,7 +35,7 @@ abbrev pub holds : Bool → FileFault → Reader FileFault (Unit {0})
 holds true fault i = Ok (tt, i)
 holds false fault i = Err fault
 
--- a field in parts is short at its first byte
+-- a field in parts, of which each can only be short, is short at its first byte
 abbrev pub short_at : {A : Type 0} → ℕ → Result A FieldFault → Result A FieldFault
 short_at at (Ok x) = Ok x
 short_at at (Err e) = Err (field_faults.Short at)

@@ -21,6 +21,7 @@ u32_bytes n = number_bytes w32 n
 abbrev pub name_bytes : List ℕ → List ℕ
 name_bytes text = length text ∷ text
 
+-- a count, and a base
 unfoldable pub stretch_bytes : ℕ → ℕ → List ℕ
 stretch_bytes base count = u32_bytes count ++ u32_bytes base
 

@@ -11,7 +11,7 @@ pub fn one_spelling()
     ensures { (c d : ComponentFields) (a b x y : List ℕ) → Spells a c → Spells b d → a ++ x ≡ b ++ y → (c ≡ d) × (a ≡ b) × (x ≡ y) }
 {}
 
-/// What a component is spelled is read as that component.
+/// The spelling of a component is read as that component.
 pub fn spelling_is_read()
     ensures { (c : ComponentFields) → IsComponent c → decoded (spelling c) ≡ Ok c }
 {}

@@ -81,6 +81,7 @@ fn push_content(out: &mut Vec<u8>, content: &Sealable) -> Result<(), AllocError>
 pub fn push_word(out: &mut Vec<u8>, word: &Word) -> Result<(), AllocError>
     requires { SealInSpace word.now }
     ensures bytes { OnOk result (out.new.items ≡ out.old.items ++ word_bytes_of word.now) }
+    // What was appended is a spelling: every word fits, but for its seal.
     ensures fits { OnOk result (WordFits word.now) }
 {
     match word {
