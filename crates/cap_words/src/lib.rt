@@ -393,6 +393,7 @@ impl Word {
     }
 
     /// A copy of it, and `None` exactly for a linear word.
+    #[inline(always)]
     pub fn copy_of(&self) -> Option<Word>
         ensures { result ≡ copied self.now }
     {
@@ -615,6 +616,7 @@ impl MachineWord for Word {
         Word::opened(self)
     }
 
+    #[inline(always)]
     fn copy_of(&self) -> Option<Self> {
         Word::copy_of(self)
     }

@@ -8,6 +8,8 @@ use Rattle.lcm_cli.proofs.FormLemmas.{some_same, no_some}
 use Rattle.lcm_cli.proofs.OneText.{one_program}
 use Rattle.outside_io.specs.FilesSeen.{FilesSeen}
 use Rattle.outside_io.specs.Whole.{Came, OnlyGave, GivesWhole, IsTooLong}
+use Rattle.lcm_machine.specs.declared.End.{End}
+use Rattle.lcm_machine.specs.declared.cells.Span.{Span}
 use Rattle.lcm_machine.specs.declared.Step.{Step}
 use Rattle.lcm_machine.specs.declared.Step.TheVariants.{Went, Halted, Failed}
 use Rattle.lcm_machine.specs.Run.{Run, answer, plain}
@@ -70,18 +72,19 @@ due_unbuilt c a bytes text e whole same b =
 pub due_too_long : (c : Call) (a : Asked) → c.asked ≡ Some a → IsTooLong c.files a.name LONGEST c.files_after → IsDue c (refusal TooLong (codes "too long 0\n"))
 due_too_long c a e t = file a e t.quiet t.came.0 t.came.1 (too_long t.came.2 refl)
 
-run_of : Regs Word → FinMap nat_cmp Word → ℕ → Option Step → Run
-run_of regs cells count end = record { maps = record { regs = regs; cells = cells }; count = count; end = end }
+run_of : Regs Word → FinMap nat_cmp Word → List Span → ℕ → Option End → Run
+run_of regs cells spans count end = record { maps = record { regs = regs; cells = cells; spans = spans }; count = count; end = end }
 
-same_run : (s t : Run) → s.maps.regs ≡ t.maps.regs → s.maps.cells ≡ t.maps.cells → s.count ≡ t.count → s.end ≡ t.end → s ≡ t
+same_run : (s t : Run) → s.maps.regs ≡ t.maps.regs → s.maps.cells ≡ t.maps.cells → s.maps.spans ≡ t.maps.spans → s.count ≡ t.count → s.end ≡ t.end → s ≡ t
 unfolding run_of
-same_run s t a b c d =
-    ap (λ x. run_of x s.maps.cells s.count s.end) a ∙ ap (λ x. run_of t.maps.regs x s.count s.end) b ∙ ap (λ x. run_of t.maps.regs t.maps.cells x s.end) c ∙ ap (run_of t.maps.regs t.maps.cells t.count) d
+same_run s t a b l c d =
+    ap (λ x. run_of x s.maps.cells s.maps.spans s.count s.end) a ∙ ap (λ x. run_of t.maps.regs x s.maps.spans s.count s.end) b ∙ ap (λ x. run_of t.maps.regs t.maps.cells x s.count s.end) l
+    ∙ ap (λ x. run_of t.maps.regs t.maps.cells t.maps.spans x s.end) c ∙ ap (run_of t.maps.regs t.maps.cells t.maps.spans t.count) d
 
 -- a program has one start
 one_start : (p : Program) (s t : Run) → IsStart p s → IsStart p t → s ≡ t
 one_start p s t h k =
-    same_run s t (h.regs ∙ sym k.regs) (same_cells s.maps.cells t.maps.cells (λ a. h.cells a ∙ sym (k.cells a))) (h.count ∙ sym k.count) (h.end ∙ sym k.end)
+    same_run s t (h.regs ∙ sym k.regs) (same_cells s.maps.cells t.maps.cells (λ a. h.cells a ∙ sym (k.cells a))) (h.spans ∙ sym k.spans) (h.count ∙ sym k.count) (h.end ∙ sym k.end)
 
 one_ran : (steps : ℕ) (bytes : List ℕ) (p q : Program) (s t : Run) → IsProgram p → IsProgram q → bytes ≡ form_text p → bytes ≡ form_text q → IsStart p s → IsStart q t
     → run_answer (plain steps s) ≡ run_answer (plain steps t)

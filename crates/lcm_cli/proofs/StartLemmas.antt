@@ -12,12 +12,11 @@ use Rattle.lcm_machine.specs.Cells.{cell, set_cell}
 use Rattle.lcm_machine.specs.Row.{put}
 use Rattle.lcm_machine.specs.Run.{Run}
 use Rattle.lcm_machine.specs.Spans.{in_spans, slot, zero_regs}
-use Rattle.lcm_machine.specs.declared.cells.Span.{Span}
 use Rattle.std.specs.Ordering.{nat_cmp}
 use Rattle.std.specs.FinMap.{FinMap}
 use Rattle.lcm_cli.specs.Form.{Program, IsProgram}
 use Rattle.lcm_machine.proofs.CellLemmas.{cell-set_other, cell-set_same}
-use Rattle.lcm_cli.specs.Start.{in_code, code_cell, start_cell, IsMemory}
+use Rattle.lcm_cli.specs.Start.{three_spans, in_code, code_cell, start_cell, IsMemory}
 
 -- the first words of the code are laid, and all else is as before
 pub record Laid (old new : Run) (code : List Instr) (count : ℕ) : Type 0 where
@@ -56,10 +55,6 @@ laid_more old new code k i here h = record {
 pub next_there : (old new : Run) (code : List Instr) (k : ℕ) → Laid old new code k → IsSome (cell old.maps.cells (100 + k)) → IsSome (cell new.maps.cells (100 + k))
 next_there old new code k h there = let e = not_yet k in let c = h.cells (100 + k) in rw c (rw e there)
 
--- the cells of the code, of the data and of the stack
-abbrev pub three_spans : ℕ → List Span
-three_spans count = record { base = 100; end = 99 + count } ∷ record { base = 200; end = 200 } ∷ record { base = 65536; end = 69631 } ∷ []
-
 in_stack : (count a : ℕ) → 1 ≤ count → in_code count a ≡ false → a ≢ 200 → in_spans a (three_spans count) ≡ (nat_le 65536 a && nat_le a 69631)
 in_stack count a some out ne = grind (arith, nat_tests)
 
@@ -82,17 +77,18 @@ laid_cells p made laid h m l a = elim (cases_eq a 200) as (λ _. cell (set_cell 
 ]
 
 pub memory_is : (p : Program) (code : List Instr) (made laid last : Run) (w : Word) → IsProgram p → code ≡ p.code
-    → ((a : ℕ) → cell made.maps.cells a ≡ slot (λ w. w) (three_spans (length code)) a) → made.maps.regs ≡ zero_regs (λ w. w) → (made.count ≡ 0) × (made.end ≡ None)
+    → ((a : ℕ) → cell made.maps.cells a ≡ slot (λ w. w) (three_spans (length code)) a) → made.maps.regs ≡ zero_regs (λ w. w) → made.maps.spans ≡ three_spans (length code) → (made.count ≡ 0) × (made.end ≡ None)
     → ((a : ℕ) → cell laid.maps.cells a ≡ (if in_code (length code) a then code_cell code a else cell made.maps.cells a))
     → laid ≡ record made { maps = record made.maps { cells = laid.maps.cells } }
     → w ≡ Int p.datum → last ≡ record laid { maps = put laid.maps (Cell 200) w } → IsMemory p last
-memory_is p code made laid last w h same cells regs fresh laid_at rest word end =
+memory_is p code made laid last w h same cells regs spans fresh laid_at rest word end =
     let m : (a : ℕ) → cell made.maps.cells a ≡ slot (λ w. w) (three_spans (length p.code)) a = λ a. cells a ∙ ap (λ (c : List Instr). slot (λ w. w) (three_spans (length c)) a) same in
     let l : (a : ℕ) → cell laid.maps.cells a ≡ (if in_code (length p.code) a then code_cell p.code a else cell made.maps.cells a) =
     λ a. laid_at a ∙ ap (λ (c : List Instr). if in_code (length c) a then code_cell c a else cell made.maps.cells a) same in
     let at : last.maps.cells ≡ set_cell laid.maps.cells 200 (Int p.datum) = ap (λ (r : Run). r.maps.cells) end ∙ ap (λ x. set_cell laid.maps.cells 200 x) word in
     record {
       regs = ap (λ (r : Run). r.maps.regs) end ∙ ap (λ (r : Run). r.maps.regs) rest ∙ regs;
+      spans = ap (λ (r : Run). r.maps.spans) end ∙ ap (λ (r : Run). r.maps.spans) rest ∙ spans ∙ ap (λ (c : List Instr). three_spans (length c)) same;
       cells = λ a. ap (λ m. cell m a) at ∙ laid_cells p made.maps.cells laid.maps.cells h m l a;
       count = ap (λ (r : Run). r.count) end ∙ ap (λ (r : Run). r.count) rest ∙ fresh.0;
       end = ap (λ (r : Run). r.end) end ∙ ap (λ (r : Run). r.end) rest ∙ fresh.1;

@@ -1,11 +1,12 @@
 -- The machine that a program begins with: its code at 100, its integer at 200, and a stack at 65536 to 69631.
-use Rattle.std.specs.Prelude.{◌≡◌, ℕ, ◌+◌, ◌-◌, ◌==◌, ◌&&◌, nat_le, nat_lt, Bool, pos, List, length, slice_get, Option, Some, None, option_map, if◌then◌else◌}
+use Rattle.std.specs.Prelude.{◌≡◌, ℕ, ◌+◌, ◌-◌, ◌==◌, ◌&&◌, nat_le, nat_lt, Bool, pos, List, [], ◌∷◌, length, slice_get, Option, Some, None, option_map, if◌then◌else◌}
 use Rattle.cap_words.specs.declared.Word.{Word}
 use Rattle.cap_words.specs.declared.Word.TheVariants.{Int, Mem}
 use Rattle.cap_words.specs.declared.Perm.TheVariants.{Rw, Rwx}
 use Rattle.cap_words.specs.declared.Lin.TheVariants.{Normal, Linear}
 use Rattle.lcm_isa.specs.declared.Instr.{Instr}
 use Rattle.lcm_isa.specs.Numbers.{number_of}
+use Rattle.lcm_machine.specs.declared.cells.Span.{Span}
 use Rattle.lcm_machine.specs.Maps.{Regs}
 use Rattle.lcm_machine.specs.Cells.{cell}
 use Rattle.lcm_machine.specs.Spans.{zero_regs}
@@ -19,6 +20,10 @@ start_regs p = record (zero_regs (λ w. w)) {
   dat = Mem (record { perm = Rw; lin = Normal; base = 200; end = 200; addr = pos 200 });
   stk = Mem (record { perm = Rw; lin = Linear; base = 65536; end = 69631; addr = pos 69631 });
 }
+
+-- the cells of the code, of the data and of the stack
+abbrev pub three_spans : ℕ → List Span
+three_spans count = record { base = 100; end = 99 + count } ∷ record { base = 200; end = 200 } ∷ record { base = 65536; end = 69631 } ∷ []
 
 -- an address of the code, of which there are so many words
 abbrev pub in_code : ℕ → ℕ → Bool
@@ -37,6 +42,7 @@ start_cell p a =
 pub record IsMemory (p : Program) (s : Run) : Type 0 where
   pub regs : s.maps.regs ≡ zero_regs (λ w. w)
   pub cells : (a : ℕ) → cell s.maps.cells a ≡ start_cell p a
+  pub spans : s.maps.spans ≡ three_spans (length p.code)
   pub count : s.count ≡ 0
   pub end : s.end ≡ None
 
@@ -44,5 +50,6 @@ pub record IsMemory (p : Program) (s : Run) : Type 0 where
 pub record IsStart (p : Program) (s : Run) : Type 0 where
   pub regs : s.maps.regs ≡ start_regs p
   pub cells : (a : ℕ) → cell s.maps.cells a ≡ start_cell p a
+  pub spans : s.maps.spans ≡ three_spans (length p.code)
   pub count : s.count ≡ 0
   pub end : s.end ≡ None

@@ -1,13 +1,18 @@
 -- The numbers of registers, operands and instructions.
-use Rattle.std.specs.Prelude.{ℕ, ◌+◌, ◌*◌, ◌/◌, ◌%◌, ◌-◌, ◌==◌, ℤ, pos, negsuc, ◌-ℤ◌, List, [], ◌∷◌, Option, Some, None, slice_get, unwrap_or, if◌then◌else◌, nat_lt}
+use Rattle.std.specs.Prelude.{ℕ, ◌+◌, ◌*◌, ◌/◌, ◌%◌, ◌-◌, ◌==◌, ℤ, pos, negsuc, ◌-ℤ◌, List, [], ◌∷◌, Option}
+use Rattle.std.specs.Prelude.{Some, None, slice_get, unwrap_or, if◌then◌else◌, nat_lt}
 use Rattle.std.specs.Prelude.{FitsSigned}
 use Rattle.std.specs.Int.{w32}
+use Rattle.lcm_isa.specs.declared.TheConstants.{FIRST, SECOND, THIRD, MODE, FIELD}
 use Rattle.lcm_isa.specs.declared.Reg.{Reg}
-use Rattle.lcm_isa.specs.declared.Reg.TheVariants.{Pc, Rcode, Rdata, Stk, Dat, T1, T2, C1, C2, A0, A1, A2, A3, G0, G1, G2}
+use Rattle.lcm_isa.specs.declared.Reg.TheVariants.{Pc, Rcode, Rdata, Stk, Dat, T1, T2, C1, C2, A0, A1, A2, A3}
+use Rattle.lcm_isa.specs.declared.Reg.TheVariants.{G0, G1, G2}
 use Rattle.lcm_isa.specs.declared.Operand.{Operand}
 use Rattle.lcm_isa.specs.declared.Operand.TheVariants.{R, Imm}
 use Rattle.lcm_isa.specs.declared.Instr.{Instr}
-use Rattle.lcm_isa.specs.declared.Instr.TheVariants.{Fail, Halt, Jmp, Jnz, Gettype, Geta, Getb, Gete, Getp, Getlin, Move, Store, Load, Cca, Restrict, Lt, Plus, Minus, Seta2b, Xjmp, Cseal, Split, Splice}
+use Rattle.lcm_isa.specs.declared.Instr.TheVariants.{Fail, Halt, Jmp, Jnz, Gettype, Geta, Getb, Gete, Getp}
+use Rattle.lcm_isa.specs.declared.Instr.TheVariants.{Getlin, Move, Store, Load, Cca, Restrict, Lt, Plus}
+use Rattle.lcm_isa.specs.declared.Instr.TheVariants.{Minus, Seta2b, Xjmp, Cseal, Split, Splice}
 
 abbrev pub reg_number : Reg → ℕ
 reg_number Pc = 0
@@ -40,14 +45,14 @@ mode_of (R r) = 0
 mode_of (Imm n) = 1
 
 -- an immediate raised by 2^31, so that it isn't negative
-abbrev pub raised : ℤ → ℕ
-raised (pos n) = n + 2147483648
-raised (negsuc n) = 2147483647 - n
+abbrev pub biased : ℤ → ℕ
+biased (pos n) = n + 2147483648
+biased (negsuc n) = 2147483647 - n
 
--- a register's number, or the raised immediate
+-- a register's number, or the biased immediate
 abbrev pub field_of : Operand → ℕ
 field_of (R r) = reg_number r
-field_of (Imm n) = raised n
+field_of (Imm n) = biased n
 
 -- the operand that a mode and a field spell
 abbrev pub operand_of : ℕ → ℕ → Operand
@@ -56,7 +61,7 @@ operand_of mode field = if mode == 0 then R (reg_of field) else Imm (pos field -
 -- the parts in one number: op + 2^6 r1 + 2^10 r2 + 2^14 r3 + 2^18 mode + 2^19 field
 abbrev pub packed : ℕ → ℕ → ℕ → ℕ → ℕ → ℕ → ℕ
 packed op first second third mode field =
-    op + 64 * first + 1024 * second + 16384 * third + 262144 * mode + 524288 * field
+    op + FIRST * first + SECOND * second + THIRD * third + MODE * mode + FIELD * field
 
 -- an instruction's number; a part that it doesn't have is 0
 unfoldable pub number_of : Instr → ℕ
@@ -81,7 +86,8 @@ number_of (Minus r1 r2 n) = packed 17 (reg_number r1) (reg_number r2) 0 (mode_of
 number_of (Seta2b r1) = packed 18 (reg_number r1) 0 0 0 0
 number_of (Xjmp r1 r2) = packed 19 (reg_number r1) (reg_number r2) 0 0 0
 number_of (Cseal r1 r2) = packed 20 (reg_number r1) (reg_number r2) 0 0 0
-number_of (Split r1 r2 r3 n) = packed 21 (reg_number r1) (reg_number r2) (reg_number r3) (mode_of n) (field_of n)
+number_of (Split r1 r2 r3 n) =
+    packed 21 (reg_number r1) (reg_number r2) (reg_number r3) (mode_of n) (field_of n)
 number_of (Splice r1 r2 r3) = packed 22 (reg_number r1) (reg_number r2) (reg_number r3) 0 0
 
 -- the instruction of an op, with those of these operands that it has
@@ -100,8 +106,8 @@ table op a b c n = slice_get (all_with a b c n) op
 -- the instruction that the parts of a number spell; parts that it doesn't have may be other than 0 here
 unfoldable pub candidate : ℕ → Option Instr
 candidate n =
-    table (n % 64) (reg_of (n / 64 % 16)) (reg_of (n / 1024 % 16)) (reg_of (n / 16384 % 16))
-    (operand_of (n / 262144 % 2) (n / 524288))
+    table (n % FIRST) (reg_of (n / FIRST % 16)) (reg_of (n / SECOND % 16)) (reg_of (n / THIRD % 16))
+    (operand_of (n / MODE % 2) (n / FIELD))
 
 -- the instruction, where this is its number
 abbrev pub if_numbered : ℕ → Option Instr → Option Instr

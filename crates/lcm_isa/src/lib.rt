@@ -77,7 +77,7 @@ pub enum Instr {
 }
 
 impl Reg {
-    /// The registers in the order of their numbers.
+    // The registers in the order of their numbers.
     const ALL: [Reg; 16] = [
         Reg::Pc,
         Reg::Rcode,
@@ -130,7 +130,7 @@ impl Reg {
         Reg::first_named(&Reg::ALL, name)
     }
 
-    /// The first of these registers that has the name.
+    // The first of these registers that has the name.
     fn first_named(registers: &[Reg], name: &[u8]) -> Option<Reg>
         ensures { result ≡ find (λ r. bytes_eq (reg_name r) name.now) registers.now }
     {
@@ -165,7 +165,7 @@ impl Reg {
         }
     }
 
-    /// The register of a number, of which those above 15 count as 15.
+    // The register of a number, of which those above 15 count as 15.
     fn of(number: u64) -> Reg
         ensures { result ≡ reg_of number }
     {
@@ -191,7 +191,7 @@ impl Reg {
 }
 
 impl Operand {
-    /// 0 for a register, 1 for an immediate.
+    // 0 for a register, 1 for an immediate.
     fn mode(self) -> u64
         ensures value { result ≡ mode_of self }
         ensures below { result < 2 }
@@ -202,7 +202,7 @@ impl Operand {
         }
     }
 
-    /// A register's number, or the immediate raised by 2^31.
+    // A register's number, or the immediate raised by 2^31.
     fn field(self) -> u64
         ensures value { result ≡ field_of self }
         ensures below { result < 2 ^ 32 }
@@ -213,7 +213,7 @@ impl Operand {
         }
     }
 
-    /// The operand that a mode and a field spell.
+    // The operand that a mode and a field spell.
     fn of(mode: u64, field: u64) -> Operand
         requires { field < 2 ^ 32 }
         ensures { result ≡ operand_of mode field }
@@ -226,7 +226,22 @@ impl Operand {
     }
 }
 
-/// The parts of an instruction in one number.
+// The weight of the first register in an instruction's number, where the op's is 1.
+const FIRST: u64 = 64;
+
+// The weight of the second register.
+const SECOND: u64 = 1024;
+
+// The weight of the third register.
+const THIRD: u64 = 16_384;
+
+// The weight of the mode.
+const MODE: u64 = 262_144;
+
+// The weight of the field.
+const FIELD: u64 = 524_288;
+
+// The parts of an instruction in one number.
 fn packed(op: u64, first: u64, second: u64, third: u64, mode: u64, field: u64) -> u64
     requires op_fits { op < 64 }
     requires first_fits { first < 16 }
@@ -237,8 +252,8 @@ fn packed(op: u64, first: u64, second: u64, third: u64, mode: u64, field: u64) -
     ensures value { result ≡ packed op first second third mode field }
     ensures below { result < 2 ^ 51 }
 {
-    let low = op + 64 * first + 1024 * second + 16_384 * third;
-    low + 262_144 * mode + 524_288 * field
+    let low = op + FIRST * first + SECOND * second + THIRD * third;
+    low + MODE * mode + FIELD * field
 }
 
 /// The number of an instruction. It is never negative.
@@ -251,8 +266,9 @@ pub fn encode(instr: &Instr) -> i64
     number(instr) as i64
 }
 
-/// The number, of which an instruction needs 51 bits.
+// The number, of which an instruction needs 51 bits.
 #[tactic(auto, unfolding(crate::specs::Numbers::number_of))]
+#[inline(always)]
 fn number(instr: &Instr) -> u64
     ensures value { result ≡ number_of instr.now }
     ensures below { result < 2 ^ 51 }
@@ -325,29 +341,55 @@ impl Instr {
     }
 }
 
-/// The instruction of an op number, where there is one, with those of these operands that it has.
-#[tactic(auto, unfolding(crate::specs::Numbers::table))]
-fn shape(op: u64, a: Reg, b: Reg, c: Reg, n: Operand) -> Option<Instr>
-    requires { op < 64 }
-    ensures { result ≡ table op a b c n }
+// The instruction of an op number, where there is one, with those of these registers and
+// this operand that it has.
+#[tactic(auto, unfolding(crate::specs::Numbers::table, crate::specs::Numbers::all_with))]
+fn shape(op: u64, a: Reg, b: Reg, c: Reg, mode: u64, field: u64) -> Option<Instr>
+    requires { field < 2 ^ 32 }
+    ensures { result ≡ table op a b c (operand_of mode field) }
 {
-    Instr::all_with(a, b, c, n).get(op as usize).copied()
+    let instr = match op {
+        0 => Instr::Fail,
+        1 => Instr::Halt,
+        2 => Instr::Jmp(a),
+        3 => Instr::Jnz(a, b),
+        4 => Instr::Gettype(a, b),
+        5 => Instr::Geta(a, b),
+        6 => Instr::Getb(a, b),
+        7 => Instr::Gete(a, b),
+        8 => Instr::Getp(a, b),
+        9 => Instr::Getlin(a, b),
+        10 => Instr::Move(a, Operand::of(mode, field)),
+        11 => Instr::Store(a, b),
+        12 => Instr::Load(a, b),
+        13 => Instr::Cca(a, Operand::of(mode, field)),
+        14 => Instr::Restrict(a, Operand::of(mode, field)),
+        15 => Instr::Lt(a, b, Operand::of(mode, field)),
+        16 => Instr::Plus(a, b, Operand::of(mode, field)),
+        17 => Instr::Minus(a, b, Operand::of(mode, field)),
+        18 => Instr::Seta2b(a),
+        19 => Instr::Xjmp(a, b),
+        20 => Instr::Cseal(a, b),
+        21 => Instr::Split(a, b, c, Operand::of(mode, field)),
+        22 => Instr::Splice(a, b, c),
+        _ => return None,
+    };
+    Some(instr)
 }
 
-/// What the parts of a number spell, if anything. Parts that it doesn't use may be other than 0.
+// What the parts of a number spell, if anything. Parts that it doesn't use may be other than 0.
 #[tactic(auto, unfolding(crate::specs::Numbers::candidate))]
 fn candidate(n: u64) -> Option<Instr>
     requires { n < 2 ^ 51 }
     ensures { result ≡ candidate n }
 {
-    let last = Operand::of(n / 262_144 % 2, n / 524_288);
-    let first = Reg::of(n / 64 % 16);
-    let second = Reg::of(n / 1024 % 16);
-    let third = Reg::of(n / 16_384 % 16);
-    shape(n % 64, first, second, third, last)
+    let first = Reg::of(n / FIRST % 16);
+    let second = Reg::of(n / SECOND % 16);
+    let third = Reg::of(n / THIRD % 16);
+    shape(n % FIRST, first, second, third, n / MODE % 2, n / FIELD)
 }
 
-/// The instruction that the parts spell, where the number is its own.
+// The instruction that the parts spell, where the number is its own.
 fn instr_of(n: u64) -> Option<Instr>
     requires { n < 2 ^ 51 }
     ensures { result ≡ if_numbered n (candidate n) }

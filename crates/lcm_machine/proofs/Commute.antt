@@ -93,7 +93,7 @@ module _ {W V : Type 0} (look : W → Word) (look' : V → Word) (f : W → V) (
 
   -- each place of one state and of the other holds a pair
   abbrev Twin : State W → State V → Type 0
-  Twin s t = ((r : Reg) → Pair (reg s.regs r) (reg t.regs r)) × ((a : ℕ) → CellPair (cell s.cells a) (cell t.cells a) (beside a))
+  Twin s t = ((r : Reg) → Pair (reg s.regs r) (reg t.regs r)) × ((a : ℕ) → CellPair (cell s.cells a) (cell t.cells a) (beside a)) × (t.spans ≡ s.spans)
 
   cell_pair : (o : Option W) (q e : Option V) → q ≡ mapped_or f o e → ((w : W) → o ≡ Some w → face_of (look' (f w)) ≡ face_of (look w)) → CellPair o q e
   cell_pair None q e h k = h
@@ -103,6 +103,7 @@ module _ {W V : Type 0} (look : W → Word) (look' : V → Word) (f : W → V) (
   twin s t h k = (
     λ r. (h.regs r, ap (λ v. face_of (look' v)) (h.regs r) ∙ k (R r) (reg s.regs r) refl),
     λ a. cell_pair (cell s.cells a) (cell t.cells a) (beside a) (h.cells a) (k (Cell a)),
+    h.spans,
   )
 
   cell_mapped : (o : Option W) (q e : Option V) → CellPair o q e → q ≡ mapped_or f o e
@@ -124,7 +125,7 @@ module _ {W V : Type 0} (look : W → Word) (look' : V → Word) (f : W → V) (
 
   mapped : (s : State W) (t : State V) → Twin s t → IsMapped f beside s t × SameFaces look look' f s
   mapped s t h = (
-    record { regs = λ r. (h.0 r).0; cells = λ a. cell_mapped (cell s.cells a) (cell t.cells a) (beside a) (h.1 a) },
+    record { regs = λ r. (h.0 r).0; cells = λ a. cell_mapped (cell s.cells a) (cell t.cells a) (beside a) (h.1 a); spans = h.2 },
     place_face s t h,
   )
 
@@ -141,8 +142,8 @@ module _ {W V : Type 0} (look : W → Word) (look' : V → Word) (f : W → V) (
   ]
 
   put_twin : (s : State W) (t : State V) (p : Place) (w : W) (v : V) → Pair w v → Twin s t → Twin (put s p w) (put t p v)
-  put_twin s t (R r) w v k h = (put_reg s t r w v k h, h.1)
-  put_twin s t (Cell a) w v k h = (h.0, put_cell s t a w v k h)
+  put_twin s t (R r) w v k h = (put_reg s t r w v k h, h.1, h.2)
+  put_twin s t (Cell a) w v k h = (h.0, put_cell s t a w v k h, h.2)
 
   linear_pair : (w : W) (v : V) → Pair w v → is_linear (look' v) ≡ is_linear (look w)
   linear_pair w v h = is_linear-face (look' v) ∙ ap face_linear h.1 ∙ sym (is_linear-face (look w))
@@ -219,15 +220,15 @@ module _ {W V : Type 0} (look : W → Word) (look' : V → Word) (f : W → V) (
     unfolding perform
     perform_twin s t e k h = go_twin _ _ e.next (make_twin _ _ e.second (make_twin _ _ e.first (spend_twin _ _ e.also_spent (spend_twin _ _ e.spent (move_twin s t e.moved k h)))))
 
-    free_move : (at : Option ℕ) (cells : ℕ → Option Face) → IsFree beside at → (m : Option Moved) → ShapeMoved at cells m → FreeMove m
-    free_move at cells k None h = tt
-    free_move at cells k (Some m) h = elim (m.from) as (λ p. ShapePlace at cells p → FreePlace p) [ R r ↦ λ x. tt | Cell a ↦ λ x. k a x.0 ] h.0
+    free_move : (at used : Option ℕ) (cells : ℕ → Option Face) → IsFree beside at → (m : Option Moved) → ShapeMoved at used cells m → FreeMove m
+    free_move at used cells k None h = tt
+    free_move at used cells k (Some m) h = elim (m.from) as (λ p. ShapePlace at used cells p → FreePlace p) [ R r ↦ λ x. tt | Cell a ↦ λ x. k a x.0 ] h.0
 
-    outcome_twin : (s : State W) (t : State V) (p : Plan) (at : Option ℕ) (cells : ℕ → Option Face) → IsFree beside at → Gives (Shape at cells) p → Twin s t → EndsMapped look look' f beside (outcome look plain s p) (outcome look' plain' t p)
+    outcome_twin : (s : State W) (t : State V) (p : Plan) (at used : Option ℕ) (cells : ℕ → Option Face) → IsFree beside at → Gives (Shape at used cells) p → Twin s t → EndsMapped look look' f beside (outcome look plain s p) (outcome look' plain' t p)
     unfolding pc_at
-    outcome_twin s t (Fails c) at cells k g h = (refl, ap (λ fs. pc_of (fs Pc)) (sym (faces_twin s t h)))
-    outcome_twin s t Halts at cells k g h = tt
-    outcome_twin s t (Goes e) at cells k g h = mapped _ _ (perform_twin s t e (free_move at cells k e.moved (Gives-effect g)) h)
+    outcome_twin s t (Fails c) at used cells k g h = (refl, ap (λ fs. pc_of (fs Pc)) (sym (faces_twin s t h)))
+    outcome_twin s t Halts at used cells k g h = tt
+    outcome_twin s t (Goes e) at used cells k g h = mapped _ _ (perform_twin s t e (free_move at used cells k e.moved (Gives-effect g)) h)
 
     opens_same : (s : State W) (t : State V) → IsMapped f beside s t → (i : Instr) → SameContents look look' f s i → OpensSame (opens look' t) (opens look s) i
     unfolding opens
@@ -264,7 +265,7 @@ module _ {W V : Type 0} (look : W → Word) (look' : V → Word) (f : W → V) (
         ap (λ fs. plan i fs (opens look' t) (face_there (cell_faces look' t) (target i fs)) next) (faces_twin s t h)
         ∙ ap (λ c. plan i (faces look s) (opens look' t) c next) (there_twin s t (target i (faces look s)) free h)
         ∙ plan-opens i (faces look s) (opens look' t) (opens look s) _ next (opens_same s t m i same) in
-        rw one (outcome_twin s t _ (target i (faces look s)) (cell_faces look s) free (plan-Shape (faces look s) (opens look s) (cell_faces look s) next i) h)
+        rw one (outcome_twin s t _ (target i (faces look s)) _ (cell_faces look s) free (plan-Shape (faces look s) (opens look s) (cell_faces look s) next i) h)
 
     fetched_mapped : (s : State W) (t : State V) (x : Fetched) → IsMapped f beside s t → SameFaces look look' f s → ((i : Instr) (next : Word) → x ≡ some i next → SameContents look look' f s i × IsFree beside (target i (faces look s)))
         → EndsMapped look look' f beside (step_fetched look plain s x) (step_fetched look' plain' t x)

@@ -31,9 +31,10 @@ use Rattle.lcm_machine.specs.Places.{reg}
 use Rattle.lcm_machine.specs.Table.{plan, unsealed, memory_content, no_effect, made as made_at}
 use Rattle.lcm_machine.specs.Row.{word_at, word_in, put, clear, perform, faces, opens, cell_faces, face_there, plan_in, outcome, row, Outcome, went, halted, failed, Fetched, none, some, fetch, fetch_word, fetch_decoded, step_fetched, step_of}
 use Rattle.lcm_machine.specs.declared.Step.{Step}
+use Rattle.lcm_machine.specs.declared.End.{End}
 use Rattle.lcm_machine.specs.Ends.{Meets}
 use Rattle.lcm_machine.specs.Run.{Run, moved, next_by, next_state, plain as plain_run}
-use Rattle.lcm_machine.specs.Regions.{Region, AreRegions, IsLinearAt, InOneRegion, memory_of, is_over, word_over, HeldOnce, StaysHeldOnce}
+use Rattle.lcm_machine.specs.Regions.{Region, AreApart, IsLinearAt, InOneRegion, memory_of, is_over, word_over, HeldOnce, StaysHeldOnce}
 use Rattle.lcm_machine.proofs.Plans.{Gives, Gives-effect, gives_fails, gives_halts, gives_goes, Gives-ask, Gives-need, Gives-by_cap, Gives-if}
 use Rattle.lcm_machine.proofs.StateLemmas.{word_at-other}
 use Rattle.lcm_machine.proofs.RowLemmas.{step_at}
@@ -92,7 +93,7 @@ fetch_normal (Mem c) cells n next f =
 abbrev pub Within : Word → Word → Type 0
 Within x y = (d : CapFields) → memory_of x ≡ Some d → (c : CapFields) × (memory_of y ≡ Some c) × (c.base ≤ d.base) × (c.base ≤ c.end → d.base ≤ d.end) × (d.end ≤ c.end) × (lin_is d.lin ≡ lin_is c.lin)
 
-module _ {W : Type 0} (look : W → Word) (plain : Word → W) (seen : (x : Word) → look (plain x) ≡ x) (rs : List Region) (regions : AreRegions 0 rs) where
+module _ {W : Type 0} (look : W → Word) (plain : Word → W) (seen : (x : Word) → look (plain x) ≡ x) (rs : List Region) (regions : AreApart rs) where
   abbrev FitsIn : Word → Type 0
   FitsIn x = (c : CapFields) → memory_of x ≡ Some c → InOneRegion rs c
 
@@ -381,7 +382,7 @@ module _ {W : Type 0} (look : W → Word) (plain : Word → W) (seen : (x : Word
   held-step s h = held-outcome (step_of look plain s) (keeps-step s (good_of s h))
 
 module _ {W : Type 0} (look : W → Word) (plain : Word → W) (seen : (x : Word) → look (plain x) ≡ x) where
-  stays_by : (rs : List Region) (regions : AreRegions 0 rs) (s t : State W) (end : Step) (o : Outcome W) → HeldAfter look plain seen rs regions o → HeldOnce look rs s → Meets s o end t → HeldOnce look rs t
+  stays_by : (rs : List Region) (regions : AreApart rs) (s t : State W) (end : Step) (o : Outcome W) → HeldAfter look plain seen rs regions o → HeldOnce look rs s → Meets s o end t → HeldOnce look rs t
   stays_by rs regions s t end (went u) k h m = rw m.1 k
   stays_by rs regions s t end halted k h m = rw m.1 h
   stays_by rs regions s t end (failed f at) k h m = rw m.1 h
@@ -399,12 +400,12 @@ unfolding StaysHeldOnce
 unchanged_stays look s rs regions h = h
 
 -- the plain machine
-moved_stays : (rs : List Region) (regions : AreRegions 0 rs) (s : Run) (o : Outcome Word) → HeldAfter {W = Word} (λ w. w) (λ w. w) (λ x. refl) rs regions o → HeldOnce (λ w. w) rs s.maps → HeldOnce (λ w. w) rs (moved o s).maps
+moved_stays : (rs : List Region) (regions : AreApart rs) (s : Run) (o : Outcome Word) → HeldAfter {W = Word} (λ w. w) (λ w. w) (λ x. refl) rs regions o → HeldOnce (λ w. w) rs s.maps → HeldOnce (λ w. w) rs (moved o s).maps
 moved_stays rs regions s (went t) k h = k
 moved_stays rs regions s halted k h = h
 moved_stays rs regions s (failed f at) k h = h
 
-next_stays : (rs : List Region) (regions : AreRegions 0 rs) (s : Run) (e : Option Step) → HeldOnce (λ w. w) rs s.maps → HeldOnce (λ w. w) rs (next_by e s).maps
+next_stays : (rs : List Region) (regions : AreApart rs) (s : Run) (e : Option End) → HeldOnce (λ w. w) rs s.maps → HeldOnce (λ w. w) rs (next_by e s).maps
 next_stays rs regions s None h = moved_stays rs regions s (step_of (λ w. w) (λ w. w) s.maps) (held-step (λ w. w) (λ w. w) (λ x. refl) rs regions s.maps h) h
 next_stays rs regions s (Some e) h = h
 

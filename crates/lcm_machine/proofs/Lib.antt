@@ -4,6 +4,7 @@ pub mod SpanLemmas
 pub mod StateLemmas
 pub mod Plans
 pub mod RowLemmas
+pub mod TouchLemmas
 pub mod RegionLemmas
 pub mod Hands
 pub mod HeldOnce

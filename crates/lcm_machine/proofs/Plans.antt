@@ -1,6 +1,6 @@
 -- What holds of the effect of a plan, by the shape of the plan.
 use Rattle.std.proofs.Common.{◌≡◌, ℕ, Bool, true, false, refl, sym, ap, ◌∙◌}
-use Rattle.std.specs.Prelude.{Option, Some, None, if◌then◌else◌, IsSome, is_some}
+use Rattle.std.specs.Prelude.{Option, Some, None, if◌then◌else◌, IsSome, is_some, not, ◌&&◌}
 use Rattle.lcm_isa.specs.declared.Reg.{Reg}
 use Rattle.lcm_isa.specs.declared.Operand.TheVariants.{R as InReg, Imm}
 use Rattle.lcm_machine.specs.declared.FailCause.{FailCause}
@@ -18,9 +18,11 @@ use Rattle.lcm_isa.specs.declared.Instr.{Instr}
 use Rattle.lcm_isa.specs.declared.Instr.TheVariants.{Fail, Halt, Jmp, Jnz, Gettype, Geta, Getb, Gete, Getp, Getlin, Move, Store, Load, Cca, Restrict, Lt, Plus, Minus, Seta2b, Xjmp, Cseal, Split, Splice}
 use Rattle.cap_words.specs.declared.Opened.{Opened}
 use Rattle.lcm_machine.specs.declared.plan.Moved.{Moved}
-use Rattle.lcm_machine.specs.Table.{ask, need, by_cap, plan, target}
-use Rattle.cap_words.specs.Faces.{target_of, covers, address, memory_in}
+use Rattle.cap_words.specs.declared.Perm.{Perm}
+use Rattle.lcm_machine.specs.Table.{ask, need, by_cap, plan, target, is_pc}
+use Rattle.cap_words.specs.Faces.{target_of, covers, address, memory_in, may_read, may_write}
 use Rattle.lcm_machine.specs.Row.{face_there}
+use Rattle.lcm_machine.specs.Touched.{cell_used, reached}
 
 -- the plan fails, halts, or has an effect of which P holds
 pub data Gives (P : Effect → Type 0) : Plan → Type 0 where
@@ -69,20 +71,44 @@ target_there y c m cells x h =
     let e : y ≡ Memory c = memory_is y c m in
     let k = target_there_at c cells x (ap (λ z. face_there cells (target_of z)) (sym e) ∙ h) in (ap target_of e ∙ k.0, k.1)
 
--- a place that an effect moves a word from or to: a register, or the cell that the instruction addresses
-abbrev pub ShapePlace : Option ℕ → (ℕ → Option Face) → Place → Type 0
-ShapePlace t cells (R r) = Unit {0}
-ShapePlace t cells (Cell a) = (t ≡ Some a) × IsSome (cells a)
+-- and that the instruction reaches it
+reached_there : (may : Perm → Bool) (y : Face) (c : CapFields) → memory_in y ≡ Some c → may c.perm ≡ true → (cells : ℕ → Option Face) (x : Face) → face_there cells (target_of y) ≡ Some x → reached may y cells ≡ Some (address c.addr)
+reached_there may y c m allowed cells x h =
+    let e : y ≡ Memory c = memory_is y c m in
+    let k : face_there cells (target_of (Memory c)) ≡ Some x = ap (λ z. face_there cells (target_of z)) (sym e) ∙ h in
+    ap (λ z. reached may z cells) e
+    ∙ ap (λ b. if b && is_some (face_there cells (target_of (Memory c))) then target_of (Memory c) else None) allowed
+    ∙ ap (λ o. if is_some o then target_of (Memory c) else None) k
+    ∙ (target_there_at c cells x k).0
 
-abbrev pub ShapeMoved : Option ℕ → (ℕ → Option Face) → Option Moved → Type 0
-ShapeMoved t cells None = Unit {0}
-ShapeMoved t cells (Some m) = ShapePlace t cells m.from × ShapePlace t cells m.to
+-- a place that an effect moves a word from or to: a register, or the cell that the instruction addresses, and reaches
+abbrev pub ShapePlace : Option ℕ → Option ℕ → (ℕ → Option Face) → Place → Type 0
+ShapePlace t u cells (R r) = Unit {0}
+ShapePlace t u cells (Cell a) = (t ≡ Some a) × IsSome (cells a) × (u ≡ Some a)
 
-abbrev pub Shape : Option ℕ → (ℕ → Option Face) → Effect → Type 0
-Shape t cells e = ShapeMoved t cells e.moved
+abbrev pub ShapeMoved : Option ℕ → Option ℕ → (ℕ → Option Face) → Option Moved → Type 0
+ShapeMoved t u cells None = Unit {0}
+ShapeMoved t u cells (Some m) = ShapePlace t u cells m.from × ShapePlace t u cells m.to
+
+abbrev pub Shape : Option ℕ → Option ℕ → (ℕ → Option Face) → Effect → Type 0
+Shape t u cells e = ShapeMoved t u cells e.moved
+
+not_true : (b : Bool) → not b ≡ true → b ≡ false
+not_true true e = cc
+not_true false e = refl
 
 module _ (f : Reg → Face) (w : Reg → Option Opened) (cells : ℕ → Option Face) (next : Word) where
-  pub plan-Shape : (i : Instr) → Gives (Shape (target i f) cells) (plan i f w (face_there cells (target i f)) next)
+  shape_cell : (may : Perm → Bool) (y : Face) (c : CapFields) → memory_in y ≡ Some c → may c.perm ≡ true → (x : Face) → face_there cells (target_of y) ≡ Some x
+      → ShapePlace (target_of y) (reached may y cells) cells (Cell (address c.addr))
+  shape_cell may y c m allowed x h =
+      let k = target_there y c m cells x h in (k.0, k.1, reached_there may y c m allowed cells x h)
+
+  load_cell : (r : Reg) → not (is_pc r) ≡ true → (y : Face) (c : CapFields) → memory_in y ≡ Some c → may_read c.perm ≡ true → (x : Face) → face_there cells (target_of y) ≡ Some x
+      → ShapePlace (target_of y) (if is_pc r then None else reached may_read y cells) cells (Cell (address c.addr))
+  load_cell r free y c m allowed x h =
+      let k = shape_cell may_read y c m allowed x h in (k.0, k.1, ap (λ b. if b then None else reached may_read y cells) (not_true (is_pc r) free) ∙ k.2)
+
+  pub plan-Shape : (i : Instr) → Gives (Shape (target i f) (cell_used i f cells) cells) (plan i f w (face_there cells (target i f)) next)
   plan-Shape Fail = gives_fails
   plan-Shape Halt = gives_halts
   plan-Shape (Jmp r1) = gives_goes (tt, tt)
@@ -104,11 +130,11 @@ module _ (f : Reg → Face) (w : Reg → Option Opened) (cells : ℕ → Option 
   plan-Shape (Getlin r1 r2) = Gives-ask _ _ _ (λ _. gives_goes tt)
   plan-Shape (Move r1 (InReg r2)) = Gives-ask _ _ _ (λ _. gives_goes (tt, tt))
   plan-Shape (Move r1 (Imm z)) = Gives-ask _ _ _ (λ _. gives_goes tt)
-  plan-Shape (Store r1 r2) = Gives-need _ _ _ (λ c m. Gives-ask _ _ _ (λ _.
-      Gives-need _ _ _ (λ x h. gives_goes (tt, target_there (f r1) c m cells x h))))
-  plan-Shape (Load r1 r2) = Gives-ask _ _ _ (λ _. Gives-need _ _ _ (λ c m. Gives-ask _ _ _ (λ _.
+  plan-Shape (Store r1 r2) = Gives-need _ _ _ (λ c m. Gives-ask _ _ _ (λ may.
+      Gives-need _ _ _ (λ x h. gives_goes (tt, shape_cell may_write (f r1) c m may x h))))
+  plan-Shape (Load r1 r2) = Gives-ask _ _ _ (λ free. Gives-need _ _ _ (λ c m. Gives-ask _ _ _ (λ may.
       Gives-need _ _ _ (λ x h. Gives-ask _ _ _ (λ _.
-      gives_goes (target_there (f r2) c m cells x h, tt))))))
+      gives_goes (load_cell r1 free (f r2) c m may x h, tt))))))
   plan-Shape (Cca r1 n) = Gives-ask _ _ _ (λ _. Gives-by_cap (f r1) _ _
       (λ c e. Gives-need _ _ _ (λ z _. Gives-ask _ _ _ (λ _. gives_goes tt)))
       (λ c e. Gives-need _ _ _ (λ z _. Gives-ask _ _ _ (λ _. gives_goes tt))))

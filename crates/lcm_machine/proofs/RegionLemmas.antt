@@ -9,7 +9,7 @@ use Rattle.cap_words.specs.declared.Word.TheVariants.{Int, Mem, Seal, Sealed as 
 use Rattle.cap_words.specs.declared.Sealable.TheVariants.{Mem as MemIn, Seal as SealIn}
 use Rattle.cap_words.specs.Linear.{lin_is, is_linear}
 use Rattle.cap_words.specs.Faces.{covers}
-use Rattle.lcm_machine.specs.Regions.{Region, AreRegions, IsLinearAt, InOneRegion, memory_of}
+use Rattle.lcm_machine.specs.Regions.{Region, AreApart, IsLinearAt, InOneRegion, memory_of}
 
 pub contains_cases : {A : Type 0} (x : A) (xs : List A) (y : A) → Contains (x ∷ xs) y → (x ≡ y) ⊎ Contains xs y
 contains_cases x xs y (zero, lt, e) = inl e
@@ -18,30 +18,6 @@ contains_cases x xs y (suc k, lt, e) = inr (k, omega (arith, lt), e)
 pub contains_none : {A : Type 0} (y : A) → Contains [] y → ⊥
 contains_none y m = omega (arith, m.1)
 
-bounds : (at : ℕ) (rs : List Region) (r : Region) → AreRegions at rs → Contains rs r → (at ≤ r.base) × (r.base ≤ r.end)
-bounds at [] r h m = absurd (contains_none r m)
-bounds at (x ∷ rs) r h m = elim (contains_cases x rs r m) as (λ _. (at ≤ r.base) × (r.base ≤ r.end)) [
-  | inl e ↦ rw (← e) (h.0, h.1)
-  | inr n ↦ (let k = bounds (x.end + 2) rs r h.2 n in (omega (arith, h.0, h.1, k.0), k.1))
-]
-
--- two regions are one, or have a gap between them
-abbrev OneOrApart : Region → Region → Type 0
-OneOrApart r q = (r ≡ q) ⊎ ((r.end + 2 ≤ q.base) ⊎ (q.end + 2 ≤ r.base))
-
-one_or_apart : (at : ℕ) (rs : List Region) (r q : Region) → AreRegions at rs → Contains rs r → Contains rs q → OneOrApart r q
-one_or_apart at [] r q h m n = absurd (contains_none r m)
-one_or_apart at (x ∷ rs) r q h m n = elim (contains_cases x rs r m) as (λ _. OneOrApart r q) [
-  | inl e ↦ elim (contains_cases x rs q n) as (λ _. OneOrApart r q) [
-    | inl d ↦ inl (sym e ∙ d)
-    | inr d ↦ inr (inl (rw (← e) (bounds (x.end + 2) rs q h.2 d).0))
-  ]
-  | inr e ↦ elim (contains_cases x rs q n) as (λ _. OneOrApart r q) [
-    | inl d ↦ inr (inr (rw (← d) (bounds (x.end + 2) rs r h.2 e).0))
-    | inr d ↦ one_or_apart (x.end + 2) rs r q h.2 e d
-  ]
-]
-
 pub over_bounds : (c : CapFields) (a : ℕ) → IsTrue (covers c (pos a)) → (c.base ≤ a) × (a ≤ c.end)
 over_bounds c a h = let k = and_parts (nat_le c.base a) (nat_le a c.end) h in (leb-true c.base a k.0, leb-true a c.end k.1)
 
@@ -49,18 +25,18 @@ pub bounds_over : (c : CapFields) (a : ℕ) → c.base ≤ a → a ≤ c.end →
 bounds_over c a l h = let k = le-leb c.base a l in let m = le-leb a c.end h in rw (k, m) refl
 
 -- a capability that is not linear is over no address of a linear region
-pub normal_apart : (rs : List Region) (c : CapFields) (a : ℕ) → AreRegions 0 rs → InOneRegion rs c → lin_is c.lin ≡ false → IsLinearAt rs a → IsTrue (covers c (pos a)) → ⊥
+pub normal_apart : (rs : List Region) (c : CapFields) (a : ℕ) → AreApart rs → InOneRegion rs c → lin_is c.lin ≡ false → IsLinearAt rs a → IsTrue (covers c (pos a)) → ⊥
 normal_apart rs c a h m l n o =
     let k = over_bounds c a o in
-    elim (one_or_apart 0 rs m.0 n.0 h m.1 n.1) as (λ _. ⊥) [
+    elim (h m.0 n.0 m.1 n.1) as (λ _. ⊥) [
       | inl same ↦ (let e : lin_is c.lin ≡ true = m.5 ∙ ap (λ r. r.linear) same ∙ n.2 in cc)
       | inr (inl low) ↦ omega (arith, k.0, k.1, m.2, m.4, n.3, n.4, low)
       | inr (inr high) ↦ omega (arith, k.0, k.1, m.2, m.4, n.3, n.4, high)
     ]
 
 -- two capabilities over adjacent ranges lie in one region, since regions are not adjacent
-pub joined_in : (rs : List Region) (a b : CapFields) → AreRegions 0 rs → InOneRegion rs a → InOneRegion rs b → a.end + 1 ≡ b.base → InOneRegion rs (record b { base = a.base })
-joined_in rs a b h m n meet = elim (one_or_apart 0 rs m.0 n.0 h m.1 n.1) as (λ _. InOneRegion rs (record b { base = a.base })) [
+pub joined_in : (rs : List Region) (a b : CapFields) → AreApart rs → InOneRegion rs a → InOneRegion rs b → a.end + 1 ≡ b.base → InOneRegion rs (record b { base = a.base })
+joined_in rs a b h m n meet = elim (h m.0 n.0 m.1 n.1) as (λ _. InOneRegion rs (record b { base = a.base })) [
   | inl same ↦ (n.0, n.1, rw same at m.2, omega (arith, m.3, n.3, meet), n.4, n.5)
   | inr (inl low) ↦ absurd (omega (arith, m.4, n.2, meet, low))
   | inr (inr high) ↦ absurd (omega (arith, m.2, m.3, n.3, n.4, meet, high))

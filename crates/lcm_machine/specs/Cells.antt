@@ -1,7 +1,8 @@
--- Memory as a finite map from addresses to words.
-use Rattle.std.specs.Prelude.{ℕ, ◌+◌, List, [], ◌∷◌, Option, Some, None}
+-- Memory as a finite map from addresses to words, and how it is kept: a list of slots for each span.
+use Rattle.std.specs.Prelude.{◌≡◌, ℕ, ◌+◌, List, [], ◌∷◌, ◌++◌, length, Option, Some, None}
 use Rattle.std.specs.Ordering.{nat_cmp}
 use Rattle.std.specs.FinMap as map
+use Rattle.lcm_machine.specs.declared.cells.Span.{Span}
 
 -- the word of the cell at an address, if there is one
 unfoldable pub cell : {W : Type 0} → map.FinMap nat_cmp W → ℕ → Option W
@@ -11,12 +12,33 @@ cell m at = map.get m at
 unfoldable pub set_cell : {W : Type 0} → map.FinMap nat_cmp W → ℕ → W → map.FinMap nat_cmp W
 set_cell m at w = map.insert m at w
 
+-- memory without the cell at an address
+unfoldable pub drop_cell : {W : Type 0} → map.FinMap nat_cmp W → ℕ → map.FinMap nat_cmp W
+drop_cell m at = map.remove m at
+
+-- the cell at an address is set to a word, or it is out
+abbrev pub set_slot : {W : Type 0} → map.FinMap nat_cmp W → ℕ → Option W → map.FinMap nat_cmp W
+set_slot m at (Some w) = set_cell m at w
+set_slot m at None = drop_cell m at
+
 -- the slots from an address on that hold a word, each with its address
 abbrev pub numbered : {W : Type 0} → ℕ → List (Option W) → List (ℕ × W)
 numbered at [] = []
 numbered at (None ∷ m) = numbered (at + 1) m
 numbered at (Some w ∷ m) = (at, w) ∷ numbered (at + 1) m
 
--- memory as a list of slots, the first at address 0; a slot without a word is no cell
-unfoldable pub cells_of : {W : Type 0} → List (Option W) → map.FinMap nat_cmp W
-cells_of m = map.from_entries (numbered 0 m)
+-- those of each span, from its base on
+abbrev pub numbered_in : {W : Type 0} → List Span → List (List (Option W)) → List (ℕ × W)
+numbered_in [] parts = []
+numbered_in (s ∷ ss) [] = []
+numbered_in (s ∷ ss) (m ∷ ms) = numbered s.base m ++ numbered_in ss ms
+
+-- memory of a list of slots for each span; a slot without a word is no cell
+unfoldable pub cells_of : {W : Type 0} → List Span → List (List (Option W)) → map.FinMap nat_cmp W
+cells_of spans parts = map.from_entries (numbered_in spans parts)
+
+-- a list of slots for each span, with one slot for each of its addresses
+abbrev pub AreParts : {W : Type 0} → List Span → List (List (Option W)) → Type 0
+AreParts [] [] = Unit {0}
+AreParts (s ∷ ss) (m ∷ ms) = (s.base + length m ≡ s.end + 1) × AreParts ss ms
+AreParts _ _ = ⊥

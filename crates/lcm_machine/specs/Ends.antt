@@ -2,6 +2,8 @@
 use Rattle.std.specs.Prelude.{◌≡◌}
 use Rattle.lcm_machine.specs.declared.Step.{Step}
 use Rattle.lcm_machine.specs.declared.Step.TheVariants.{Went, Halted, Failed}
+use Rattle.lcm_machine.specs.declared.End.{End}
+use Rattle.lcm_machine.specs.declared.End.TheVariants.{Halted as AtHalt, Failed as AtFailure}
 use Rattle.lcm_machine.specs.Maps.{State}
 use Rattle.lcm_machine.specs.Row.{Outcome, went, halted, failed}
 
@@ -10,3 +12,8 @@ abbrev pub Meets : {W : Type 0} → State W → Outcome W → Step → State W �
 Meets old (went s) end new = (end ≡ Went) × (new ≡ s)
 Meets old halted end new = (end ≡ Halted) × (new ≡ old)
 Meets old (failed f at) end new = (end ≡ Failed f at) × (new ≡ old)
+
+-- what a step answers that ended a machine so
+abbrev pub end_answer : End → Step
+end_answer AtHalt = Halted
+end_answer (AtFailure cause at) = Failed cause at

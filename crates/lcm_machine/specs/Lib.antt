@@ -4,6 +4,7 @@ pub mod Cells
 pub mod Spans
 pub mod Table
 pub mod Row
+pub mod Touched
 pub mod Regions
 pub mod Counts
 pub mod Ends

@@ -1,5 +1,5 @@
--- Two states over words of different kinds, of which one is the other with each word mapped; and that the machine can't tell
--- them apart.
+-- Two states over words of different kinds, of which one is the other with each word mapped; and that the
+-- machine can't tell them apart.
 use Rattle.std.specs.Prelude.{◌≡◌, ℕ, Option, Some, None}
 use Rattle.cap_words.specs.declared.Word.{Word}
 use Rattle.cap_words.specs.Face.{face_of, opened_of}
@@ -13,17 +13,21 @@ use Rattle.lcm_machine.specs.Maps.{State}
 use Rattle.lcm_machine.specs.Places.{reg}
 use Rattle.lcm_machine.specs.Cells.{cell}
 use Rattle.lcm_machine.specs.Table.{target}
-use Rattle.lcm_machine.specs.Row.{word_at, faces, cell_faces, fetch, some, Outcome, went, halted, failed, row, step_of}
+use Rattle.lcm_machine.specs.Row.{word_at, faces, cell_faces, fetch, some, Outcome, went, halted, failed, row}
+use Rattle.lcm_machine.specs.Row.{step_of}
 
 -- the mapped word of a cell, and where there is no cell what lies beside
 abbrev pub mapped_or : {W V : Type 0} → (W → V) → Option W → Option V → Option V
 mapped_or f None beside = beside
 mapped_or f (Some w) beside = Some (f w)
 
--- `t` has the registers and cells of `s`, each mapped, and further cells beside where `s` has none
-pub record IsMapped {W V : Type 0} (f : W → V) (beside : ℕ → Option V) (s : State W) (t : State V) : Type 0 where
+-- `t` has the registers, cells and spans of `s`, each word mapped, and further cells beside where `s` has
+-- none
+pub record IsMapped {W V : Type 0} (f : W → V) (beside : ℕ → Option V) (s : State W) (t : State V)
+    : Type 0 where
   pub regs : (r : Reg) → reg t.regs r ≡ f (reg s.regs r)
   pub cells : (a : ℕ) → cell t.cells a ≡ mapped_or f (cell s.cells a) (beside a)
+  pub spans : t.spans ≡ s.spans
 
 -- a word that an instruction makes is mapped to that word
 abbrev pub KeepsPlain : {W V : Type 0} → (Word → W) → (Word → V) → (W → V) → Type 0
@@ -31,10 +35,13 @@ KeepsPlain plain plain' f = (x : Word) → f (plain x) ≡ plain' x
 
 -- the words of the state have the faces of those that they are mapped to
 abbrev pub SameFaces : {W V : Type 0} → (W → Word) → (V → Word) → (W → V) → State W → Type 0
-SameFaces {W} look look' f s = (p : Place) (w : W) → word_at s p ≡ Some w → face_of (look' (f w)) ≡ face_of (look w)
+SameFaces {W} look look' f s =
+    (p : Place) (w : W) → word_at s p ≡ Some w → face_of (look' (f w)) ≡ face_of (look w)
 
--- the words that an instruction opens have the same content as those that they are mapped to; `xjmp` alone opens words
-abbrev pub SameContents : {W V : Type 0} → (W → Word) → (V → Word) → (W → V) → State W → Instr → Type 0
+-- the words that an instruction opens have the same content as those that they are mapped to; `xjmp` alone
+-- opens words
+abbrev pub SameContents : {W V : Type 0} → (W → Word) → (V → Word) → (W → V)
+    → State W → Instr → Type 0
 SameContents look look' f s (Xjmp r1 r2) =
     (opened_of (look' (f (reg s.regs r1))) ≡ opened_of (look (reg s.regs r1)))
     × (opened_of (look' (f (reg s.regs r2))) ≡ opened_of (look (reg s.regs r2)))
@@ -45,14 +52,16 @@ abbrev pub IsFree : {V : Type 0} → (ℕ → Option V) → Option ℕ → Type 
 IsFree beside at = (a : ℕ) → at ≡ Some a → beside a ≡ None
 
 -- the two end alike, and where they go on the new state is again the mapped one
-abbrev pub EndsMapped : {W V : Type 0} → (W → Word) → (V → Word) → (W → V) → (ℕ → Option V) → Outcome W → Outcome V → Type 0
+abbrev pub EndsMapped : {W V : Type 0} → (W → Word) → (V → Word) → (W → V) → (ℕ → Option V)
+    → Outcome W → Outcome V → Type 0
 EndsMapped look look' f beside (went s) (went t) = IsMapped f beside s t × SameFaces look look' f s
 EndsMapped look look' f beside halted halted = Unit {0}
 EndsMapped look look' f beside (failed c at) (failed d to) = (c ≡ d) × (at ≡ to)
 EndsMapped look look' f beside _ _ = ⊥
 
 -- an instruction does the same on the mapped state
-abbrev pub RowCommutes : {W V : Type 0} → (W → Word) → (Word → W) → (V → Word) → (Word → V) → Type 0
+abbrev pub RowCommutes : {W V : Type 0} → (W → Word) → (Word → W) → (V → Word) → (Word → V)
+    → Type 0
 RowCommutes {W} {V} look plain look' plain' =
     (f : W → V) (beside : ℕ → Option V) (s : State W) (t : State V) (i : Instr) (next : Word)
     → KeepsPlain plain plain' f → IsMapped f beside s t → SameFaces look look' f s
@@ -67,7 +76,8 @@ FetchCommutes {W} {V} look look' =
     → fetch (faces look' t Pc) (cell_faces look' t) ≡ fetch (faces look s Pc) (cell_faces look s)
 
 -- a whole step does the same on the mapped state
-abbrev pub StepCommutes : {W V : Type 0} → (W → Word) → (Word → W) → (V → Word) → (Word → V) → Type 0
+abbrev pub StepCommutes : {W V : Type 0} → (W → Word) → (Word → W) → (V → Word) → (Word → V)
+    → Type 0
 StepCommutes {W} {V} look plain look' plain' =
     (f : W → V) (beside : ℕ → Option V) (s : State W) (t : State V)
     → KeepsPlain plain plain' f → IsMapped f beside s t → SameFaces look look' f s

@@ -3,6 +3,7 @@ use Rattle.std.specs.Prelude.{List}
 use Rattle.std.specs.List.{slice_index_or}
 use Rattle.std.specs.Ordering.{nat_cmp}
 use Rattle.std.specs.FinMap.{FinMap}
+use Rattle.lcm_machine.specs.declared.cells.Span.{Span}
 
 -- the sixteen registers, in the order of their numbers
 pub record Regs (W : Type 0) : Type 0 where
@@ -23,10 +24,17 @@ pub record Regs (W : Type 0) : Type 0 where
   pub g1 : W
   pub g2 : W
 
--- the registers, and the cells by their addresses; an address need not have a cell
+-- the cells by their addresses, and the spans in which an address may have one
+pub record Memory (W : Type 0) : Type 0 where
+  pub words : FinMap nat_cmp W
+  pub spans : List Span
+
+-- the registers, and memory: an address of a span has a cell, unless it is out for a while; no other address
+-- has one
 pub record State (W : Type 0) : Type 0 where
   pub regs : Regs W
   pub cells : FinMap nat_cmp W
+  pub spans : List Span
 
 -- the registers of a list in the order of their numbers, with a word for those past its end
 abbrev pub regs_of : {W : Type 0} → W → List W → Regs W

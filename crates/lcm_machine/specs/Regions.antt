@@ -1,5 +1,7 @@
--- Regions of addresses, and that no address of a linear one is held twice: for words of any kind, as the table reads them.
-use Rattle.std.specs.Prelude.{◌≡◌, ℕ, ◌+◌, ◌≤◌, Bool, true, false, IsTrue, pos, List, [], ◌∷◌, Option, Some, None}
+-- Regions of addresses, and that no address of a linear one is held twice: for words of any kind, as the
+-- table reads them.
+use Rattle.std.specs.Prelude.{◌≡◌, ◌⊎◌, ℕ, ◌+◌, ◌≤◌, Bool, true, false, IsTrue, pos, List, [], ◌∷◌, Option}
+use Rattle.std.specs.Prelude.{Some, None}
 use Rattle.std.specs.List.{Contains}
 use Rattle.cap_words.specs.declared.CapFields.{CapFields}
 use Rattle.cap_words.specs.declared.Word.{Word}
@@ -11,16 +13,18 @@ use Rattle.lcm_machine.specs.declared.Place.{Place}
 use Rattle.lcm_machine.specs.Maps.{State}
 use Rattle.lcm_machine.specs.Row.{word_at}
 
--- the addresses from base to end, both included: linear, as those of a stack, or normal, as those of code and data
+-- the addresses from base to end, both included: linear, as those of a stack, or normal, as those of code
+-- and data
 pub record Region : Type 0 where
   pub base : ℕ
   pub end : ℕ
   pub linear : Bool
 
--- regions of at least one address each, ascending from an address on, with a gap of at least one address between each two
-abbrev pub AreRegions : ℕ → List Region → Type 0
-AreRegions at [] = Unit {0}
-AreRegions at (r ∷ rs) = (at ≤ r.base) × (r.base ≤ r.end) × AreRegions (r.end + 2) rs
+-- of any two regions of a list that are not one, one ends at least one address before the other begins
+abbrev pub AreApart : List Region → Type 0
+AreApart rs =
+    (r q : Region) → Contains rs r → Contains rs q
+    → (r ≡ q) ⊎ ((r.end + 2 ≤ q.base) ⊎ (q.end + 2 ≤ r.base))
 
 -- an address of a linear region
 abbrev pub IsLinearAt : List Region → ℕ → Type 0
@@ -29,7 +33,8 @@ IsLinearAt rs a = (r : Region) × Contains rs r × (r.linear ≡ true) × (r.bas
 -- the range of a capability lies in one region, and the capability is linear exactly where that region is
 abbrev pub InOneRegion : List Region → CapFields → Type 0
 InOneRegion rs c =
-    (r : Region) × Contains rs r × (r.base ≤ c.base) × (c.base ≤ c.end) × (c.end ≤ r.end) × (lin_is c.lin ≡ r.linear)
+    (r : Region) × Contains rs r
+    × (r.base ≤ c.base) × (c.base ≤ c.end) × (c.end ≤ r.end) × (lin_is c.lin ≡ r.linear)
 
 -- the memory capability that a word is, or has under its seal
 abbrev pub memory_of : Word → Option CapFields
@@ -52,13 +57,15 @@ word_over look (Some w) a = is_over (memory_of (look w)) a
 -- each memory capability of a register or a cell lies in one region
 abbrev pub Fits : {W : Type 0} → (W → Word) → List Region → State W → Type 0
 Fits {W} look rs s =
-    (p : Place) (w : W) → word_at s p ≡ Some w → (c : CapFields) → memory_of (look w) ≡ Some c → InOneRegion rs c
+    (p : Place) (w : W) → word_at s p ≡ Some w
+    → (c : CapFields) → memory_of (look w) ≡ Some c → InOneRegion rs c
 
 -- no two places have capabilities over one address of a linear region
 abbrev pub CoveredOnce : {W : Type 0} → (W → Word) → List Region → State W → Type 0
 CoveredOnce look rs s =
     (a : ℕ) → IsLinearAt rs a
-    → (p q : Place) → IsTrue (word_over look (word_at s p) a) → IsTrue (word_over look (word_at s q) a) → p ≡ q
+    → (p q : Place) → IsTrue (word_over look (word_at s p) a)
+    → IsTrue (word_over look (word_at s q) a) → p ≡ q
 
 -- both: the regions are respected, and no linear memory is held twice
 abbrev pub HeldOnce : {W : Type 0} → (W → Word) → List Region → State W → Type 0
@@ -66,4 +73,4 @@ HeldOnce look rs s = Fits look rs s × CoveredOnce look rs s
 
 -- whatever the regions, if one state has both, then the other has too
 unfoldable pub StaysHeldOnce : {W : Type 0} → (W → Word) → State W → State W → Type 0
-StaysHeldOnce look s t = (rs : List Region) → AreRegions 0 rs → HeldOnce look rs s → HeldOnce look rs t
+StaysHeldOnce look s t = (rs : List Region) → AreApart rs → HeldOnce look rs s → HeldOnce look rs t

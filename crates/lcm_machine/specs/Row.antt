@@ -1,6 +1,7 @@
--- One instruction and one step, said once for words of any kind: `look` is the plain word that the table reads in a word, and
--- `plain` makes a word of a plain one. On the plain machine both are the identity.
-use Rattle.std.specs.Prelude.{ℕ, ℤ, pos, negsuc, ◌+ℤ◌, Option, Some, None, if◌then◌else◌, unwrap_or, not, ◌&&◌, IsSome}
+-- One instruction and one step, said once for words of any kind: `look` is the plain word that the table
+-- reads in a word, and `plain` makes a word of a plain one. On the plain machine both are the identity.
+use Rattle.std.specs.Prelude.{ℕ, ℤ, pos, negsuc, ◌+ℤ◌, Option, Some, None, if◌then◌else◌, unwrap_or, not}
+use Rattle.std.specs.Prelude.{◌&&◌, IsSome}
 use Rattle.lcm_machine.specs.declared.Place.{Place}
 use Rattle.lcm_machine.specs.declared.Place.TheVariants.{R, Cell}
 use Rattle.lcm_isa.specs.declared.Reg.{Reg}
@@ -53,7 +54,8 @@ HasPlace s (Cell a) = IsSome (cell s.cells a)
 unfoldable pub clear : {W : Type 0} → (W → Word) → (Word → W) → State W → Place → State W
 clear look plain s p = if is_linear (look (word_in plain s p)) then put s p (zero_word plain) else s
 
--- the parts of an effect: a word moved, a register's word taken and spent, a new word for a register, and pc's next word
+-- the parts of an effect: a word moved, a register's word taken and spent, a new word for a register, and
+-- pc's next word
 abbrev pub move_on : {W : Type 0} → (W → Word) → (Word → W) → State W → Option Moved → State W
 move_on look plain s None = s
 move_on look plain s (Some m) = put (clear look plain s m.from) m.to (word_in plain s m.from)

@@ -1,16 +1,20 @@
--- The plain machine over a run: its registers and cells, how many steps it has made, and whether it has ended.
-use Rattle.std.specs.Prelude.{ℕ, zero, suc, ◌+◌, Option, Some, None, unwrap_or}
+-- The plain machine over a run: its registers and cells, how many steps it has made, and how it has ended, if
+-- it has.
+use Rattle.std.specs.Prelude.{ℕ, zero, suc, ◌+◌, Option, Some, None}
 use Rattle.cap_words.specs.declared.Word.{Word}
 use Rattle.lcm_machine.specs.declared.Step.{Step}
-use Rattle.lcm_machine.specs.declared.Step.TheVariants.{Went, Halted, Failed}
+use Rattle.lcm_machine.specs.declared.Step.TheVariants.{Went}
+use Rattle.lcm_machine.specs.declared.End.{End}
+use Rattle.lcm_machine.specs.declared.End.TheVariants.{Halted, Failed}
+use Rattle.lcm_machine.specs.Ends.{end_answer}
 use Rattle.lcm_machine.specs.Maps.{State}
 use Rattle.lcm_machine.specs.Row.{Outcome, went, halted, failed, step_of}
 
--- `end` is what the last step answered, once the machine has ended
+-- `end` says how the machine ended, once it has
 pub record Run : Type 0 where
   pub maps : State Word
   pub count : ℕ
-  pub end : Option Step
+  pub end : Option End
 
 -- a step counts one, also one that ends the machine; an end leaves registers and cells
 abbrev pub moved : Outcome Word → Run → Run
@@ -19,7 +23,7 @@ moved halted s = record { maps = s.maps; count = s.count + 1; end = Some Halted 
 moved (failed cause at) s = record { maps = s.maps; count = s.count + 1; end = Some (Failed cause at) }
 
 -- an ended machine stays as it is
-abbrev pub next_by : Option Step → Run → Run
+abbrev pub next_by : Option End → Run → Run
 next_by None s = moved (step_of (λ w. w) (λ w. w) s.maps) s
 next_by (Some e) s = s
 
@@ -27,9 +31,13 @@ next_by (Some e) s = s
 unfoldable pub next_state : Run → Run
 next_state s = next_by s.end s
 
--- what the step answers that led to this state
+-- what the step answers that led to this state: that it went, or the end
+abbrev pub answer_by : Option End → Step
+answer_by None = Went
+answer_by (Some e) = end_answer e
+
 abbrev pub answer : Run → Step
-answer s = unwrap_or s.end Went
+answer s = answer_by s.end
 
 -- after n steps, or at the end if it comes before
 abbrev pub plain : ℕ → Run → Run

@@ -1,5 +1,6 @@
 -- The instruction table: what each instruction does, read off the words of the machine.
-use Rattle.std.specs.Prelude.{ℕ, ◌+◌, ◌^◌, ◌==◌, nat_lt, Bool, true, false, ◌||◌, ◌&&◌, not, ℤ, pos, negsuc, ◌+ℤ◌, ◌-ℤ◌, int_lt, Option, Some, None, if◌then◌else◌}
+use Rattle.std.specs.Prelude.{ℕ, ◌+◌, ◌^◌, ◌==◌, nat_lt, Bool, true, false, ◌||◌, ◌&&◌, not, ℤ, pos, negsuc}
+use Rattle.std.specs.Prelude.{◌+ℤ◌, ◌-ℤ◌, int_lt, Option, Some, None, if◌then◌else◌}
 use Rattle.lcm_isa.specs.declared.Reg.{Reg}
 use Rattle.lcm_isa.specs.declared.Reg.TheVariants.{Pc, Dat}
 use Rattle.lcm_isa.specs.declared.Operand.{Operand}
@@ -9,7 +10,9 @@ use Rattle.lcm_machine.specs.declared.Place.TheVariants.{R, Cell}
 use Rattle.lcm_machine.specs.declared.FailCause.{FailCause}
 use Rattle.lcm_machine.specs.declared.FailCause.TheVariants.{F4, F5, F6, F7, F8, F9, F10, F11, F12, F13, F14}
 use Rattle.lcm_isa.specs.declared.Instr.{Instr}
-use Rattle.lcm_isa.specs.declared.Instr.TheVariants.{Fail, Halt, Jmp, Jnz, Gettype, Geta, Getb, Gete, Getp, Getlin, Move, Store, Load, Cca, Restrict, Lt, Plus, Minus, Seta2b, Xjmp, Cseal, Split, Splice}
+use Rattle.lcm_isa.specs.declared.Instr.TheVariants.{Fail, Halt, Jmp, Jnz, Gettype, Geta, Getb, Gete, Getp}
+use Rattle.lcm_isa.specs.declared.Instr.TheVariants.{Getlin, Move, Store, Load, Cca, Restrict, Lt, Plus}
+use Rattle.lcm_isa.specs.declared.Instr.TheVariants.{Minus, Seta2b, Xjmp, Cseal, Split, Splice}
 use Rattle.cap_words.specs.declared.CapFields.{CapFields}
 use Rattle.cap_words.specs.declared.SealFields.{SealFields}
 use Rattle.cap_words.specs.declared.Word.{Word}
@@ -25,7 +28,9 @@ use Rattle.lcm_machine.specs.declared.plan.Plan.TheVariants.{Fails, Halts, Goes}
 use Rattle.lcm_machine.specs.declared.plan.Effect.{Effect}
 use Rattle.lcm_machine.specs.declared.plan.Made.{Made}
 use Rattle.cap_words.specs.Linear.{lin_is}
-use Rattle.cap_words.specs.Faces.{may_write, may_read, may_run, int_in, memory_in, face_number, face_linear, address, target_of, same_kind, can_split, seals_in, face_address, face_base, face_end, face_perm, perm_at, is_below, seals_at}
+use Rattle.cap_words.specs.Faces.{may_write, may_read, may_run, int_in, memory_in, face_number, face_linear}
+use Rattle.cap_words.specs.Faces.{address, target_of, same_kind, can_split, seals_in, face_address, face_base}
+use Rattle.cap_words.specs.Faces.{face_end, face_perm, perm_at, is_below, seals_at}
 
 abbrev pub is_pc : Reg → Bool
 is_pc Pc = true
@@ -108,9 +113,10 @@ jumps r = moves (R r) (R Pc) None
 abbrev pub makes : Reg → Word → Word → Plan
 makes r w next = Goes (record no_effect { first = made r w; next = Some next })
 
--- The table. `face` shows the word of each register, `opened` what is in a sealed one, which `xjmp` alone reads, `there` shows
--- the word of the cell that a load or a store goes to, where there is one, and `next` is pc's word with its address raised by
--- one. Destinations come first, then the conditions in their order, each with the cause of its failure, then the effect.
+-- The table. `face` shows the word of each register, `opened` what is in a sealed one, which `xjmp` alone
+-- reads, `there` shows the word of the cell that a load or a store goes to, where there is one, and `next` is
+-- pc's word with its address raised by one. Destinations come first, then the conditions in their order, each
+-- with the cause of its failure, then the effect.
 abbrev pub plan : Instr → (Reg → Face) → (Reg → Option Opened) → Option Face → Word → Plan
 plan Fail face opened there next = Fails F4
 plan Halt face opened there next = Halts
@@ -177,7 +183,11 @@ plan (Xjmp r1 r2) face opened there next =
     ask F10 (not (lin_is c.lin)) (
     ask F7 (may_run c.perm) (
     ask F7 (not (runs_in data_half.content)) (
-    Goes (record no_effect { spent = Some r2; first = made Pc (Mem c); second = made Dat (unsealed data_half.content) }))))))))
+    Goes (record no_effect {
+      spent = Some r2;
+      first = made Pc (Mem c);
+      second = made Dat (unsealed data_half.content);
+    }))))))))
 plan (Cseal r1 r2) face opened there next = into r1 (by_cap (face r1)
     (λ c.
     need F6 (seals_in (face r2)) (λ q.

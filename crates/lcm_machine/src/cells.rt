@@ -1,12 +1,12 @@
-//! Memory: a cell at some of the addresses 0 to 1,048,575.
-ghost use Rattle.std.specs.Prelude.{◌≡◌, ◌≤◌, ◌<◌, ℕ, IfOk, IsTrue, IsSome, is_some, Some};
-ghost use Rattle.lcm_machine.specs.Cells.{cell, set_cell, cells_of};
-ghost use Rattle.lcm_machine.specs.Spans.{in_span, in_spans, AreSpans, slot, slots_upto};
+//! Memory: a cell at some of the addresses 0 to 1,048,575, kept by spans.
+ghost use Rattle.std.specs.Prelude.{◌≡◌, ◌≤◌, ◌<◌, ◌+◌, ◌^◌, IfOk, IfSome, IfNone, IsTrue, IsSome, is_some, Some, None, option_copied, map, false, ℕ};
+ghost use Rattle.lcm_machine.specs.Cells.{cell, set_cell, drop_cell, set_slot, cells_of, AreParts};
+ghost use Rattle.lcm_machine.specs.Spans.{in_spans, AreSpans, IsNear, StandsAt, slot, zero_part};
 
-use cap_words::{MachineWord, Word};
+use crate::parts::Part;
+use cap_words::MachineWord;
 use std::alloc::{AllocError, Global};
 use std::marker::Model;
-use std::mem;
 
 /// The addresses from `base` to `end`, both included.
 #[derive(Clone, Copy)]
@@ -15,138 +15,290 @@ pub struct Span {
     pub end: u32,
 }
 
-/// The cells of a machine, seen as the map from their addresses to their words.
+/// Where the cell of an address stands: the number of its span, and its number there.
+#[derive(Clone, Copy)]
+pub struct Spot {
+    pub part: usize,
+    pub slot: usize,
+}
+
+/// A span as it is remembered: its first address, how many it has, and its number. A count of 0 says
+/// that none is remembered.
+#[derive(Clone, Copy)]
+pub struct Near {
+    pub base: u32,
+    pub count: u32,
+    pub part: usize,
+}
+
+// No span.
+const NOWHERE: Near = Near {
+    base: 0,
+    count: 0,
+    part: 0,
+};
+
+/// The cells of a machine, seen as the map from their addresses to their words, and the list of the
+/// spans that they lie in.
+///
+/// Each span has a vector of cells of its own. The span of an address is found by halving, but that
+/// of the last look-up of its kind is tried first.
 #[derive(Drop)]
 pub struct Cells<W> {
-    slots: Vec<Option<W>>,
+    spans: Vec<Span>,
+    parts: Vec<Part<W>>,
+    // The span that was last fetched from.
+    fetched: Near,
+    // The span that was last loaded from or stored to.
+    used: Near,
 }
 
 impl<W> Model for Cells<W> {
     ghost use Rattle.std.specs.Ordering.{nat_cmp};
     ghost use Rattle.std.specs.FinMap as map;
-    ghost use Rattle.std.specs.Coded.{coded_ℕ};
-    ghost use Rattle.lcm_machine.specs.Cells.{cells_of};
+    ghost use Rattle.std.specs.Coded.{codes, coded_ℕ};
+    ghost use Rattle.lcm_machine.specs.Cells.{cells_of, AreParts};
+    ghost use Rattle.lcm_machine.specs.Spans.{AreSpans, IsNear};
+    ghost use Rattle.lcm_machine.specs.Maps.{Memory};
 
-    ghost Value = { map.FinMap nat_cmp W };
+    ghost Value = { Memory W };
 
-    ghost coded = { map.code coded_ℕ W.code };
+    ghost coded = { Prim.hlevel (codes, map.code {R = nat_cmp} coded_ℕ W.code) };
 
-    ghost view = { λ c. cells_of c.slots.items };
+    ghost view = { λ c. record { words = cells_of c.spans.items c.parts.items; spans = c.spans.items } };
+
+    ghost invariant = { λ c. AreSpans 0 c.spans.items × AreParts c.spans.items c.parts.items
+        × IsNear c.spans.items c.fetched × IsNear c.spans.items c.used };
+}
+
+// The span that an address lies in, found by halving.
+#[inline(never)]
+fn search(spans: &[Span], at: u32) -> Option<Near>
+    requires { AreSpans 0 spans.now }
+    ensures near { IfSome result (IsNear spans.now) }
+    ensures here { IfSome result (λ near. (near.base ≤ at) × (at < near.base + near.count)) }
+    ensures none { IfNone result (in_spans at spans.now ≡ false) }
+{
+    let after = spans.partition_point(|span| span.base <= at);
+    if after == 0 {
+        return None;
+    }
+    let part = after - 1;
+    let span = spans[part];
+    if at > span.end {
+        return None;
+    }
+    Some(Near {
+        base: span.base,
+        count: span.end - span.base + 1,
+        part,
+    })
+}
+
+impl Near {
+    // Where an address stands, if it lies in this span. It is compared once: below the base the
+    // difference wraps, to more than any span has.
+    #[inline(always)]
+    fn spot(self, at: u32) -> Option<Spot>
+        requires { self.base + self.count ≤ 2 ^ 32 }
+        ensures here { IfSome result (λ spot.
+            (at < self.base + self.count) × (self.base + spot.slot ≡ at) × (spot.part ≡ self.part)) }
+        ensures none { IfNone result (self.base ≤ at → self.base + self.count ≤ at) }
+    {
+        let slot = at.wrapping_sub(self.base);
+        if slot < self.count {
+            Some(Spot {
+                part: self.part,
+                slot: slot as usize,
+            })
+        } else {
+            None
+        }
+    }
+}
+
+// Where an address stands. One span is tried first.
+#[inline(always)]
+#[tactic(auto, using(crate::proofs::SpanLemmas::near_fits, crate::proofs::SpanLemmas::stands_near))]
+fn spot_of(spans: &[Span], near: Near, at: u32) -> Option<Spot>
+    requires spans { AreSpans 0 spans.now }
+    requires near { IsNear spans.now near }
+    ensures here { IfSome result (λ spot. StandsAt spans.now spot at) }
+    ensures none { IfNone result (in_spans at spans.now ≡ false) }
+{
+    if let Some(spot) = near.spot(at) {
+        return Some(spot);
+    }
+    search(spans, at)?.spot(at)
 }
 
 impl<W> Cells<W> {
+    /// The spans, in the order in which they were given.
+    pub fn spans(&self) -> &[Span]
+        ensures are { result.now ≡ self.now.spans }
+        ensures in_order { AreSpans 0 result.now }
+    {
+        self.spans.as_slice()
+    }
+
+    /// The word of the cell at an address, where it has one.
+    #[inline(always)]
+    #[tactic(auto, using(crate::proofs::SpanLemmas::cell_outside, crate::proofs::SpanLemmas::cell_in_span))]
+    pub fn find(&self, at: u32) -> Option<&W>
+        ensures is { option_copied result ≡ cell self.now.words at }
+        ensures in_span { IsSome (cell self.now.words at) → IsTrue (in_spans at self.now.spans) }
+    {
+        let spot = spot_of(self.spans.as_slice(), self.used, at)?;
+        self.find_in(spot, at)
+    }
+
+    /// The same, for an instruction that is fetched.
+    #[inline(always)]
+    #[tactic(auto, using(crate::proofs::SpanLemmas::cell_outside))]
+    pub fn find_code(&self, at: u32) -> Option<&W>
+        ensures { option_copied result ≡ cell self.now.words at }
+    {
+        let spot = spot_of(self.spans.as_slice(), self.fetched, at)?;
+        self.find_in(spot, at)
+    }
+
+    /// Where an address stands, if it lies in a span. That span is remembered for the next look-up.
+    #[inline(always)]
+    #[tactic(auto, using(crate::proofs::SpanLemmas::cell_outside, crate::proofs::SpanLemmas::near_fits, crate::proofs::SpanLemmas::stands_near))]
+    pub fn seek(&mut self, at: u32) -> Option<Spot>
+        ensures here { IfSome result (λ spot. StandsAt self.old.spans spot at) }
+        ensures none { IfNone result (cell self.old.words at ≡ None) }
+        ensures same { self.new ≡ self.old }
+    {
+        if let Some(spot) = self.used.spot(at) {
+            return Some(spot);
+        }
+        self.used = search(self.spans.as_slice(), at)?;
+        self.used.spot(at)
+    }
+
+    /// The same, for an instruction that is fetched.
+    #[inline(always)]
+    #[tactic(auto, using(crate::proofs::SpanLemmas::cell_outside, crate::proofs::SpanLemmas::near_fits, crate::proofs::SpanLemmas::stands_near))]
+    pub fn seek_code(&mut self, at: u32) -> Option<Spot>
+        ensures here { IfSome result (λ spot. StandsAt self.old.spans spot at) }
+        ensures none { IfNone result (cell self.old.words at ≡ None) }
+        ensures same { self.new ≡ self.old }
+    {
+        if let Some(spot) = self.fetched.spot(at) {
+            return Some(spot);
+        }
+        self.fetched = search(self.spans.as_slice(), at)?;
+        self.fetched.spot(at)
+    }
+
+    /// The word of the cell at an address that stands there, where it has one.
+    #[inline(always)]
+    #[tactic(auto, using(crate::proofs::SpanLemmas::part_within, crate::proofs::SpanLemmas::slot_within, crate::proofs::SpanLemmas::cell_here))]
+    pub fn find_in(&self, spot: Spot, at: u32) -> Option<&W>
+        requires { StandsAt self.now.spans spot at }
+        ensures { option_copied result ≡ cell self.now.words at }
+    {
+        self.parts[spot.part].get(spot.slot)
+    }
+
     /// Whether the address has a cell.
     pub fn has(&self, at: u32) -> bool
-        ensures { result ≡ is_some (cell self.now at) }
+        ensures is { result ≡ is_some (cell self.now.words at) }
+        ensures in_span { IsTrue result → IsTrue (in_spans at self.now.spans) }
     {
-        has(self.slots.as_slice(), at as usize)
+        self.find(at).is_some()
     }
 
     /// The word of the cell at an address, which has to have one.
     pub fn get(&self, at: u32) -> &W
-        requires { IsSome (cell self.now at) }
-        ensures { cell self.now at ≡ Some result.now }
+        requires { IsSome (cell self.now.words at) }
+        ensures { cell self.now.words at ≡ Some result.now }
     {
-        word(self.slots.as_slice(), at as usize)
+        self.find(at).unwrap()
     }
 
-    /// Puts a word in the cell at an address, which has to have one, and gives the word that was there.
-    pub fn replace(&mut self, at: u32, word: W) -> W
-        requires { IsSome (cell self.old at) }
-        ensures was { cell self.old at ≡ Some result }
-        ensures now { self.new ≡ set_cell self.old at word }
+    // Sets the slot of an address, which has a cell or lies in a span, and gives what it had.
+    #[inline(always)]
+    #[tactic(auto, using(crate::proofs::SpanLemmas::cell_outside, crate::proofs::SpanLemmas::stands_in_spans, crate::proofs::SpanLemmas::part_within, crate::proofs::SpanLemmas::slot_within, crate::proofs::SpanLemmas::cell_here, crate::proofs::SpanLemmas::cells_set, crate::proofs::SpanLemmas::parts_set))]
+    fn swap_slot(&mut self, at: u32, slot: Option<W>) -> Option<W>
+        requires { cell self.old.words at ≡ None → IsTrue (in_spans at self.old.spans) }
+        ensures in_span { IsTrue (in_spans at self.old.spans) }
+        ensures was { result ≡ cell self.old.words at }
+        ensures now { self.new ≡ record self.old { words = set_slot self.old.words at slot } }
     {
-        replace(self.slots.as_mut_slice(), at as usize, word)
-    }
-}
-
-#[tactic(auto, using(crate::proofs::CellLemmas::cell_past, crate::proofs::CellLemmas::cell_at))]
-fn has<W>(slots: &[Option<W>], at: usize) -> bool
-    ensures { result ≡ is_some (cell (cells_of slots.now) at) }
-{
-    if at < slots.len() {
-        match &slots[at] {
-            Some(_) => true,
-            None => false,
-        }
-    } else {
-        false
-    }
-}
-
-#[tactic(auto, using(crate::proofs::CellLemmas::cell_within, crate::proofs::CellLemmas::cell_at))]
-fn word<W>(slots: &[Option<W>], at: usize) -> &W
-    requires { IsSome (cell (cells_of slots.now) at) }
-    ensures { cell (cells_of slots.now) at ≡ Some result.now }
-{
-    match &slots[at] {
-        Some(word) => word,
-        None => unreachable!(),
-    }
-}
-
-#[tactic(auto, using(crate::proofs::CellLemmas::cell_within, crate::proofs::CellLemmas::cell_at, crate::proofs::CellLemmas::cells_set))]
-fn replace<W>(slots: &mut [Option<W>], at: usize, word: W) -> W
-    requires { IsSome (cell (cells_of slots.old) at) }
-    ensures was { cell (cells_of slots.old) at ≡ Some result }
-    ensures now { cells_of slots.new ≡ set_cell (cells_of slots.old) at word }
-{
-    match &mut slots[at] {
-        Some(place) => mem::replace(place, word),
-        None => unreachable!(),
-    }
-}
-
-/// Whether the address is in one of the spans.
-fn covers(spans: &[Span], at: u32) -> bool
-    ensures { result ≡ in_spans at spans.now }
-{
-    spans.iter().any(|span| span.base <= at && at <= span.end)
-}
-
-/// An address above all spans, or 0 where there are none.
-fn limit(spans: &[Span]) -> u32
-    requires { AreSpans 0 spans.now }
-    ensures above { (a : ℕ) → IsTrue (in_spans a spans.now) → a < result }
-    ensures within { result ≤ 1048576 }
-{
-    if spans.is_empty() {
-        return 0;
-    }
-    let span = spans[spans.len() - 1];
-    span.end + 1
-}
-
-/// The slots of the addresses below `limit`: integer 0 in the spans, and no cell elsewhere.
-#[tactic(auto, using(crate::proofs::SpanLemmas::upto_more, crate::proofs::SpanLemmas::upto_none))]
-fn zero_slots<W: MachineWord>(
-    alloc: Global,
-    spans: &[Span],
-    limit: u32,
-) -> Result<Vec<Option<W>>, AllocError>
-    ensures { IfOk result (λ slots. slots.items ≡ slots_upto W.plain spans.now limit) }
-{
-    let mut slots = Vec::with_capacity(alloc, limit as usize)?;
-    for at in 0..limit {
-        let slot = if covers(spans, at) {
-            Some(W::from_word(Word::Int(0)))
-        } else {
-            None
+        let Some(spot) = spot_of(self.spans.as_slice(), self.used, at) else {
+            unreachable!();
         };
-        slots.push(slot)?;
+        self.parts[spot.part].swap(spot.slot, slot)
     }
-    Ok(slots)
+
+    /// Sets the word of the cell at an address, which has to have one, and gives the word that was
+    /// there.
+    #[inline(always)]
+    pub fn swap(&mut self, at: u32, word: W) -> W
+        requires { IsSome (cell self.old.words at) }
+        ensures was { cell self.old.words at ≡ Some result }
+        ensures now { self.new ≡ record self.old { words = set_cell self.old.words at word } }
+    {
+        match self.swap_slot(at, Some(word)) {
+            Some(was) => was,
+            None => unreachable!(),
+        }
+    }
+
+    /// Takes out the cell at an address, which has to have one, and gives its word.
+    pub fn remove(&mut self, at: u32) -> W
+        requires { IsSome (cell self.old.words at) }
+        ensures was { cell self.old.words at ≡ Some result }
+        ensures now { self.new ≡ record self.old { words = drop_cell self.old.words at } }
+        ensures in_span { IsTrue (in_spans at self.old.spans) }
+    {
+        match self.swap_slot(at, None) {
+            Some(was) => was,
+            None => unreachable!(),
+        }
+    }
+
+    /// Puts in a cell at an address of a span that has none.
+    pub fn insert(&mut self, at: u32, word: W)
+        requires in_span { IsTrue (in_spans at self.old.spans) }
+        requires none { cell self.old.words at ≡ None }
+        ensures { self.new ≡ record self.old { words = set_cell self.old.words at word } }
+    {
+        match self.swap_slot(at, Some(word)) {
+            Some(_) => unreachable!(),
+            None => {}
+        }
+    }
+}
+
+// The cells of each span: integer 0.
+fn zero_parts<W: MachineWord>(alloc: Global, spans: &[Span]) -> Result<Vec<Part<W>>, AllocError>
+    requires { AreSpans 0 spans.now }
+    ensures { IfOk result (λ parts. parts.items ≡ map (zero_part W.plain) spans.now) }
+{
+    let mut parts = Vec::with_capacity(alloc, spans.len())?;
+    for span in spans {
+        parts.push(Part::zeros(alloc, (span.end - span.base) as usize + 1)?)?;
+    }
+    Ok(parts)
 }
 
 impl<W: MachineWord> Cells<W> {
     /// A cell of integer 0 at each address of the spans, and no others. The spans ascend and are
     /// disjoint.
-    #[tactic(auto, using(crate::proofs::SpanLemmas::cells_upto))]
     pub fn zeros(alloc: Global, spans: &[Span]) -> Result<Cells<W>, AllocError>
         requires { AreSpans 0 spans.now }
-        ensures { IfOk result (λ cells. (a : ℕ) → cell cells a ≡ slot W.plain spans.now a) }
+        ensures cells { IfOk result (λ cells. (a : ℕ) → cell cells.words a ≡ slot W.plain spans.now a) }
+        ensures spans { IfOk result (λ cells. cells.spans ≡ spans.now) }
     {
-        let slots = zero_slots(alloc, spans, limit(spans))?;
-        Ok(Cells { slots })
+        let parts = zero_parts(alloc, spans)?;
+        Ok(Cells {
+            spans: spans.to_vec(alloc)?,
+            parts,
+            fetched: NOWHERE,
+            used: NOWHERE,
+        })
     }
 }

@@ -9,8 +9,9 @@ use cap_words::{Held, MachineWord, Word};
 use lcm_isa::Reg;
 
 impl<W: MachineWord> State<W> {
-    /// Takes the word of one place and sets the other to it.
+    // Takes the word of one place and sets the other to it.
     #[tactic(auto, using(crate::proofs::StateLemmas::clear_has))]
+    #[inline(always)]
     fn move_on(&mut self, moved: Option<Moved>)
         requires { MoveFits self.old moved }
         ensures { self.new ≡ move_on W.look W.plain self.old moved }
@@ -21,7 +22,8 @@ impl<W: MachineWord> State<W> {
         }
     }
 
-    /// Takes a register's word and drops it.
+    // Takes a register's word and drops it.
+    #[inline(always)]
     fn spend(&mut self, spent: Option<Reg>)
         ensures { self.new ≡ spend W.look W.plain self.old spent }
     {
@@ -30,7 +32,8 @@ impl<W: MachineWord> State<W> {
         }
     }
 
-    /// Sets a register to a new word.
+    // Sets a register to a new word.
+    #[inline(always)]
     fn make(&mut self, made: Option<Made>)
         ensures { self.new ≡ make W.plain self.old made }
     {
@@ -39,7 +42,8 @@ impl<W: MachineWord> State<W> {
         }
     }
 
-    /// Sets pc to its next word.
+    // Sets pc to its next word.
+    #[inline(always)]
     fn go_on(&mut self, next: Option<Word>)
         ensures { self.new ≡ go_on W.plain self.old next }
     {
@@ -48,8 +52,9 @@ impl<W: MachineWord> State<W> {
         }
     }
 
-    /// Carries out an effect. A cell that it moves a word from or to has to be there.
+    // Carries out an effect. A cell that it moves a word from or to has to be there.
     #[tactic(auto, unfolding(crate::specs::Row::perform))]
+    #[inline(always)]
     pub(crate) fn perform(&mut self, effect: Effect)
         requires { MoveFits self.old effect.moved }
         ensures { self.new ≡ perform W.look W.plain self.old effect }

@@ -24,5 +24,6 @@ pub fn row_commutes<W: MachineWord, V: MachineWord>()
 /// count comes to at most 1: of the registers and cells which have, as their word or under its
 /// seal, a memory capability over the address.
 pub fn covered_once_counts<W: MachineWord>()
-    ensures { (rs : List Region) (s : State W) → CoveredOnce W.look rs s ↔ ((a : ℕ) → IsLinearAt rs a → cover_count W.look s a ≤ 1) }
+    ensures { (rs : List Region) (s : State W)
+        → CoveredOnce W.look rs s ↔ ((a : ℕ) → IsLinearAt rs a → cover_count W.look s a ≤ 1) }
 {}

@@ -10,10 +10,14 @@
 //! [`LcmState`] is the plain machine, over plain words, with its count of steps and its end.
 #![tactic(auto)]
 
+ghost use Rattle.std.specs.Prelude.{◌≡◌};
+ghost use Rattle.lcm_machine.specs.Ends.{end_answer};
+
 pub mod cells;
 mod effects;
 pub mod laws;
 pub mod machine;
+mod parts;
 pub mod plan;
 pub mod regs;
 mod rows;
@@ -71,4 +75,24 @@ pub enum Step {
     Went,
     Halted,
     Failed(FailCause, i64),
+}
+
+/// How a machine ended. A failure says its cause and pc's address, or -1 where pc holds no memory
+/// capability.
+#[derive(Clone, Copy, PartialEq, Eq, Debug)]
+pub enum End {
+    Halted,
+    Failed(FailCause, i64),
+}
+
+impl End {
+    /// What a step answers that ended the machine so, and each step after it.
+    pub fn answer(self) -> Step
+        ensures { result ≡ end_answer self }
+    {
+        match self {
+            End::Halted => Step::Halted,
+            End::Failed(cause, at) => Step::Failed(cause, at),
+        }
+    }
 }

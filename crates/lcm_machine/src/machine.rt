@@ -1,27 +1,29 @@
 //! The plain machine: registers and memory of plain words, with a count of steps and an end.
-ghost use Rattle.std.specs.Prelude.{◌≡◌, ◌≢◌, ◌+◌, ◌<◌, ◌≤◌, ◌^◌, ℕ, IfOk, IfSome, IsSome, is_some, Some, None};
+ghost use Rattle.std.specs.Prelude.{◌≡◌, ◌≢◌, ◌+◌, ◌<◌, ◌≤◌, ◌^◌, ℕ, IfOk, IfSome, IsSome, is_some, IsTrue, Some, None};
 ghost use Rattle.lcm_machine.specs.Places.{reg};
 ghost use Rattle.lcm_machine.specs.Cells.{cell};
 ghost use Rattle.lcm_machine.specs.Row.{word_in, put, clear, HasPlace};
+ghost use Rattle.lcm_machine.specs.Touched.{KeepsUntouched, SameCells};
 ghost use Rattle.lcm_machine.specs.Regions.{StaysHeldOnce};
+ghost use Rattle.lcm_machine.specs.Ends.{end_answer};
 ghost use Rattle.lcm_machine.specs.Run.{next_state, answer, plain};
-ghost use Rattle.lcm_machine.specs.Spans.{AreSpans, slot, zero_regs};
+ghost use Rattle.lcm_machine.specs.Spans.{AreSpans, in_spans, slot, zero_regs};
 
 use crate::cells::Span;
 use crate::state::State;
-use crate::{Place, Step};
+use crate::{End, Place, Step};
 use cap_words::{Held, Word};
 use lcm_isa::Reg;
 use std::alloc::{AllocError, Global};
 use std::marker::Model;
 
 /// A plain machine: its registers and memory, how many steps it has made, and, once it has ended,
-/// what its last step answered.
+/// how.
 #[derive(Drop)]
 pub struct LcmState {
     maps: State<Word>,
     count: u64,
-    end: Option<Step>,
+    end: Option<End>,
 }
 
 impl Model for LcmState {
@@ -48,6 +50,7 @@ impl LcmState {
         requires { AreSpans 0 spans.now }
         ensures cells { IfOk result (λ s. (a : ℕ) → cell s.maps.cells a ≡ slot (λ w. w) spans.now a) }
         ensures regs { IfOk result (λ s. s.maps.regs ≡ zero_regs (λ w. w)) }
+        ensures spans { IfOk result (λ s. s.maps.spans ≡ spans.now) }
         ensures fresh { IfOk result (λ s. (s.count ≡ 0) × (s.end ≡ None)) }
     {
         let maps = State::zeros(alloc, spans)?;
@@ -65,6 +68,14 @@ impl LcmState {
         self.count
     }
 
+    /// The spans of memory, in the order in which they were given.
+    pub fn spans(&self) -> &[Span]
+        ensures are { result.now ≡ self.now.maps.spans }
+        ensures in_order { AreSpans 0 result.now }
+    {
+        self.maps.spans()
+    }
+
     /// The word of a register.
     pub fn reg(&self, r: Reg) -> &Word
         ensures { result.now ≡ reg self.now.maps.regs r }
@@ -72,9 +83,10 @@ impl LcmState {
         self.maps.reg(r)
     }
 
-    /// Whether the address has a cell.
+    /// Whether the address has a cell. Each cell lies in a span.
     pub fn has_cell(&self, at: u32) -> bool
-        ensures { result ≡ is_some (cell self.now.maps.cells at) }
+        ensures is { result ≡ is_some (cell self.now.maps.cells at) }
+        ensures in_span { IsTrue result → IsTrue (in_spans at self.now.maps.spans) }
     {
         self.maps.has_cell(at)
     }
@@ -93,25 +105,30 @@ impl LcmState {
     /// and cells as they were, and ends the machine: each later step answers that end again and
     /// changes nothing, not even the count. The count may not pass 2^63.
     ///
+    /// The spans stay, and so does which addresses have cells. A cell changes only where the step
+    /// touches it: the one that it fetches, and the one that its instruction loads from or stores to.
+    ///
     /// No linear memory comes to be held twice: [`State::step`] says in which sense.
     #[tactic(auto, unfolding(crate::specs::Run::next_state))]
     pub fn step(&mut self) -> Step
         requires { self.old.count < 2 ^ 63 }
         ensures after { self.new ≡ next_state self.old }
         ensures answer { result ≡ answer self.new }
-        ensures ended { IfSome self.old.end (λ e. (result ≡ e) × (self.new ≡ self.old)) }
+        ensures ended { IfSome self.old.end (λ e. (result ≡ end_answer e) × (self.new ≡ self.old)) }
         ensures stays { result ≢ Step.Went → self.new.maps ≡ self.old.maps }
+        ensures same_cells { SameCells self.old.maps self.new.maps }
+        ensures untouched { KeepsUntouched (λ w. w) self.old.maps self.new.maps }
         ensures held_once { StaysHeldOnce (λ w. w) self.old.maps self.new.maps }
     {
-        if let Some(end) = self.end {
-            return end;
+        if let Some(ended) = self.end {
+            return ended.answer();
         }
         let step = self.maps.step();
         self.count += 1;
         match step {
             Step::Went => {}
-            Step::Halted => self.end = Some(step),
-            Step::Failed(_, _) => self.end = Some(step),
+            Step::Halted => self.end = Some(End::Halted),
+            Step::Failed(cause, at) => self.end = Some(End::Failed(cause, at)),
         }
         step
     }
@@ -119,23 +136,34 @@ impl LcmState {
     /// So many steps, or up to the end where that comes first. The answer is that of the last step,
     /// and after an end again that end.
     ///
-    /// The count may not pass 2^63. No linear memory comes to be held twice by a run of any length:
-    /// [`State::step`] says in which sense.
+    /// The count may not pass 2^63. The spans stay, and so does which addresses have cells. No linear
+    /// memory comes to be held twice by a run of any length: [`State::step`] says in which sense.
     #[tactic(auto, using(crate::proofs::RunLemmas::count_next, crate::proofs::RunLemmas::plain_more))]
     pub fn run(&mut self, n: u64) -> Step
         requires { self.old.count + n ≤ 2 ^ 63 }
         ensures after { self.new ≡ plain n self.old }
         ensures answer { result ≡ answer self.new }
-        ensures ended { IfSome self.old.end (λ e. (result ≡ e) × (self.new ≡ self.old)) }
+        ensures ended { IfSome self.old.end (λ e. (result ≡ end_answer e) × (self.new ≡ self.old)) }
+        ensures same_cells { SameCells self.old.maps self.new.maps }
         ensures held_once { StaysHeldOnce (λ w. w) self.old.maps self.new.maps }
     {
         for _i in 0..n {
             if let Some(end) = self.end {
-                return end;
+                return end.answer();
             }
             let _ = self.step();
         }
-        self.end.unwrap_or(Step::Went)
+        self.last_answer()
+    }
+
+    // What the last step answered: how the machine ended, or that it went.
+    fn last_answer(&self) -> Step
+        ensures { result ≡ answer self.now }
+    {
+        match self.end {
+            None => Step::Went,
+            Some(end) => end.answer(),
+        }
     }
 
     /// Takes the word of a place, which has to be there: a linear word leaves integer 0, and another
@@ -148,7 +176,7 @@ impl LcmState {
         self.maps.lift(place)
     }
 
-    /// Replaces the word of a place, which has to be there.
+    /// Sets the word of a place, which has to be there. The word that was there is dropped.
     pub fn set(&mut self, place: Place, held: Held<Word>)
         requires { HasPlace self.old.maps place }
         ensures { self.new ≡ record self.old { maps = put self.old.maps place held } }

@@ -1,6 +1,6 @@
 //! What an instruction is to do, read off the words alone.
 ghost use Rattle.std.specs.Prelude.{◌≡◌};
-ghost use Rattle.lcm_machine.specs.Table.{moves, jumps, makes, goes_on, into};
+ghost use Rattle.lcm_machine.specs.Table.{moves, jumps, makes, goes_on, no_effect};
 
 use crate::{FailCause, Place};
 use cap_words::Word;
@@ -40,53 +40,60 @@ pub enum Plan {
     Goes(Effect),
 }
 
+impl Effect {
+    // No effect: what an instruction does is said beside it.
+    #[inline(always)]
+    pub(crate) fn none() -> Effect
+        ensures { result ≡ no_effect }
+    {
+        Effect {
+            moved: None,
+            spent: None,
+            also_spent: None,
+            first: None,
+            second: None,
+            next: None,
+        }
+    }
+}
+
 impl Plan {
-    /// A word is taken from one place and set in another.
+    // A word is taken from one place and set in another.
     pub(crate) fn moving(from: Place, to: Place, next: Option<Word>) -> Plan
         ensures { result ≡ moves from to next }
     {
         Plan::Goes(Effect {
             moved: Some(Moved { from, to }),
-            spent: None,
-            also_spent: None,
-            first: None,
-            second: None,
             next,
+            ..Effect::none()
         })
     }
 
-    /// A register's word is taken and becomes pc's.
+    // A register's word is taken and becomes pc's.
     pub(crate) fn jumping(r: Reg) -> Plan
         ensures { result ≡ jumps r }
     {
         Plan::moving(Place::R(r), Place::R(Reg::Pc), None)
     }
 
-    /// A register gets a new word.
+    // A register gets a new word.
     pub(crate) fn making(reg: Reg, word: Word, next: Word) -> Plan
         ensures { result ≡ makes reg word next }
     {
         Plan::Goes(Effect {
-            moved: None,
-            spent: None,
-            also_spent: None,
             first: Some(Made { reg, word }),
-            second: None,
             next: Some(next),
+            ..Effect::none()
         })
     }
 
-    /// pc goes on, and nothing else.
+    // pc goes on, and nothing else.
     pub(crate) fn going_on(next: Word) -> Plan
         ensures { result ≡ goes_on next }
     {
         Plan::Goes(Effect {
-            moved: None,
-            spent: None,
-            also_spent: None,
-            first: None,
-            second: None,
             next: Some(next),
+            ..Effect::none()
         })
     }
 }

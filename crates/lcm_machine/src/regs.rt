@@ -27,8 +27,8 @@ impl<W: MachineWord> Model for Regs<W> {
     ghost invariant = { λ b. length b.words ≡ 16 };
 }
 
-/// Puts a word in a slot, and gives the word that was there.
-fn replace_at<W>(slots: &mut [W], i: usize, word: W) -> W
+// Sets the word of a slot, and gives the word that was there.
+fn swap_at<W>(slots: &mut [W], i: usize, word: W) -> W
     requires { i < length slots.old }
     ensures was { result ≡ slice_index_or slots.old i result }
     ensures now { slots.new ≡ slice_set slots.old i word }
@@ -36,7 +36,7 @@ fn replace_at<W>(slots: &mut [W], i: usize, word: W) -> W
     mem::replace(&mut slots[i], word)
 }
 
-/// Integer 0.
+// Integer 0.
 fn zero<W: MachineWord>() -> W
     ensures { result ≡ zero_word W.plain }
 {
@@ -76,11 +76,11 @@ impl<W: MachineWord> Regs<W> {
         &self.words[r.number() as usize]
     }
 
-    /// Puts a word in a register, and gives the word that was there.
-    pub fn replace(&mut self, r: Reg, word: W) -> W
+    /// Sets the word of a register, and gives the word that was there.
+    pub fn swap(&mut self, r: Reg, word: W) -> W
         ensures was { result ≡ reg self.old r }
         ensures now { self.new ≡ set_reg self.old r word }
     {
-        replace_at(&mut self.words, r.number() as usize, word)
+        swap_at(&mut self.words, r.number() as usize, word)
     }
 }

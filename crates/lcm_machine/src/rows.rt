@@ -7,11 +7,14 @@ ghost use Rattle.lcm_isa.specs.declared.Instr.{Instr};
 ghost use Rattle.cap_words.specs.declared.Word.TheVariants.{Int};
 ghost use Rattle.lcm_machine.specs.Table.{is_pc, into, makes, bit};
 ghost use Rattle.cap_words.specs.Faces.{face_linear};
-ghost use Rattle.lcm_machine.specs.Row.{plan_in, faces};
+ghost use Rattle.lcm_machine.specs.Ends.{Meets};
+ghost use Rattle.lcm_machine.specs.Row.{plan_in, faces, row, outcome, MoveFits};
+ghost use Rattle.lcm_machine.specs.declared.plan.Effect.{Effect};
+ghost use Rattle.lcm_machine.specs.declared.plan.Plan.TheVariants.{Goes};
 
 use crate::plan::{Effect, Made, Plan};
 use crate::state::State;
-use crate::{FailCause, Place};
+use crate::{FailCause, Place, Step};
 use cap_words::{
     Cap, CapFields, Content, Face, MachineWord, Perm, SealCap, SealFields, Sealable, Word,
 };
@@ -23,7 +26,7 @@ fn is_pc(r: Reg) -> bool
     matches!(r, Reg::Pc)
 }
 
-/// `r1` gets an integer that shows something of a word.
+// `r1` gets an integer that shows something of a word.
 #[tactic(auto, unfolding(crate::specs::Table::ask))]
 fn shows(r1: Reg, shown: i64, next: Word) -> Plan
     ensures { result ≡ into r1 (makes r1 (Int shown) next) }
@@ -36,14 +39,14 @@ fn shows(r1: Reg, shown: i64, next: Word) -> Plan
 
 #[tactic(auto, unfolding(crate::specs::Row::plan_in, crate::specs::Table::ask, crate::specs::Table::need, crate::specs::Table::by_cap))]
 impl<W: MachineWord> State<W> {
-    /// 1 where a register's word is linear, and else 0.
+    // 1 where a register's word is linear, and else 0.
     fn linearity(&self, r: Reg) -> i64
         ensures { result ≡ bit (face_linear (faces W.look self.now r)) }
     {
         if self.face(r).is_linear() { 1 } else { 0 }
     }
 
-    /// As `jmp r1` where `r2` holds an integer other than 0.
+    // As `jmp r1` where `r2` holds an integer other than 0.
     fn plan_jnz(&self, r1: Reg, r2: Reg, next: Word) -> Plan
         ensures { result ≡ plan_in W.look self.now (Instr.Jnz r1 r2) next }
     {
@@ -57,7 +60,49 @@ impl<W: MachineWord> State<W> {
         }
     }
 
-    /// `r1` gets the word taken from a register, or the immediate.
+    // `r1` gets the number of the kind of `r2`'s word.
+    fn plan_gettype(&self, r1: Reg, r2: Reg, next: Word) -> Plan
+        ensures { result ≡ plan_in W.look self.now (Instr.Gettype r1 r2) next }
+    {
+        shows(r1, self.face(r2).number(), next)
+    }
+
+    // `r1` gets the address or seal of `r2`, or -1.
+    fn plan_geta(&self, r1: Reg, r2: Reg, next: Word) -> Plan
+        ensures { result ≡ plan_in W.look self.now (Instr.Geta r1 r2) next }
+    {
+        shows(r1, self.face(r2).address(), next)
+    }
+
+    // `r1` gets the base of `r2`, or -1.
+    fn plan_getb(&self, r1: Reg, r2: Reg, next: Word) -> Plan
+        ensures { result ≡ plan_in W.look self.now (Instr.Getb r1 r2) next }
+    {
+        shows(r1, self.face(r2).base(), next)
+    }
+
+    // `r1` gets the end of `r2`, or -1.
+    fn plan_gete(&self, r1: Reg, r2: Reg, next: Word) -> Plan
+        ensures { result ≡ plan_in W.look self.now (Instr.Gete r1 r2) next }
+    {
+        shows(r1, self.face(r2).end(), next)
+    }
+
+    // `r1` gets the number of `r2`'s permission, or -1.
+    fn plan_getp(&self, r1: Reg, r2: Reg, next: Word) -> Plan
+        ensures { result ≡ plan_in W.look self.now (Instr.Getp r1 r2) next }
+    {
+        shows(r1, self.face(r2).perm(), next)
+    }
+
+    // `r1` gets 1 where `r2` is linear, and else 0.
+    fn plan_getlin(&self, r1: Reg, r2: Reg, next: Word) -> Plan
+        ensures { result ≡ plan_in W.look self.now (Instr.Getlin r1 r2) next }
+    {
+        shows(r1, self.linearity(r2), next)
+    }
+
+    // `r1` gets the word taken from a register, or the immediate.
     fn plan_move(&self, r1: Reg, n: Operand, next: Word) -> Plan
         ensures { result ≡ plan_in W.look self.now (Instr.Move r1 n) next }
     {
@@ -70,9 +115,10 @@ impl<W: MachineWord> State<W> {
         }
     }
 
-    /// The word taken from `r2` goes to the cell at `r1`'s address.
-    fn plan_store(&self, r1: Reg, r2: Reg, next: Word) -> Plan
-        ensures { result ≡ plan_in W.look self.now (Instr.Store r1 r2) next }
+    // The word taken from `r2` goes to the cell at `r1`'s address.
+    fn plan_store(&mut self, r1: Reg, r2: Reg, next: Word) -> Plan
+        ensures is { result ≡ plan_in W.look self.old (Instr.Store r1 r2) next }
+        ensures same { self.new ≡ self.old }
     {
         let face = self.face(r1);
         let Some(c) = face.memory() else {
@@ -90,9 +136,10 @@ impl<W: MachineWord> State<W> {
         Plan::moving(Place::R(r2), Place::Cell(at), Some(next))
     }
 
-    /// `r1` gets the word of the cell at `r2`'s address, taken from there.
-    fn plan_load(&self, r1: Reg, r2: Reg, next: Word) -> Plan
-        ensures { result ≡ plan_in W.look self.now (Instr.Load r1 r2) next }
+    // `r1` gets the word of the cell at `r2`'s address, taken from there.
+    fn plan_load(&mut self, r1: Reg, r2: Reg, next: Word) -> Plan
+        ensures is { result ≡ plan_in W.look self.old (Instr.Load r1 r2) next }
+        ensures same { self.new ≡ self.old }
     {
         if is_pc(r1) {
             return Plan::Fails(FailCause::F5);
@@ -116,7 +163,7 @@ impl<W: MachineWord> State<W> {
         Plan::moving(Place::Cell(at), Place::R(r1), Some(next))
     }
 
-    /// The address or seal of `r1` is raised by `n`.
+    // The address or seal of `r1` is raised by `n`.
     fn plan_cca(&self, r1: Reg, n: Operand, next: Word) -> Plan
         ensures { result ≡ plan_in W.look self.now (Instr.Cca r1 n) next }
     {
@@ -146,7 +193,7 @@ impl<W: MachineWord> State<W> {
         }
     }
 
-    /// The permission of `r1` becomes that of number `n`, which may allow no more.
+    // The permission of `r1` becomes that of number `n`, which may allow no more.
     fn plan_restrict(&self, r1: Reg, n: Operand, next: Word) -> Plan
         ensures { result ≡ plan_in W.look self.now (Instr.Restrict r1 n) next }
     {
@@ -168,7 +215,7 @@ impl<W: MachineWord> State<W> {
         Plan::making(r1, Word::Mem(Cap::of(CapFields { perm, ..c })), next)
     }
 
-    /// `r1` gets 1 where `r2` is below `n`, and else 0.
+    // `r1` gets 1 where `r2` is below `n`, and else 0.
     fn plan_lt(&self, r1: Reg, r2: Reg, n: Operand, next: Word) -> Plan
         ensures { result ≡ plan_in W.look self.now (Instr.Lt r1 r2 n) next }
     {
@@ -184,7 +231,7 @@ impl<W: MachineWord> State<W> {
         Plan::making(r1, Word::Int(if x < z { 1 } else { 0 }), next)
     }
 
-    /// `r1` gets the sum of `r2` and `n`.
+    // `r1` gets the sum of `r2` and `n`.
     fn plan_plus(&self, r1: Reg, r2: Reg, n: Operand, next: Word) -> Plan
         ensures { result ≡ plan_in W.look self.now (Instr.Plus r1 r2 n) next }
     {
@@ -203,7 +250,7 @@ impl<W: MachineWord> State<W> {
         Plan::making(r1, Word::Int(sum), next)
     }
 
-    /// `r1` gets `r2` less `n`.
+    // `r1` gets `r2` less `n`.
     fn plan_minus(&self, r1: Reg, r2: Reg, n: Operand, next: Word) -> Plan
         ensures { result ≡ plan_in W.look self.now (Instr.Minus r1 r2 n) next }
     {
@@ -222,7 +269,7 @@ impl<W: MachineWord> State<W> {
         Plan::making(r1, Word::Int(difference), next)
     }
 
-    /// The address or seal of `r1` becomes its base.
+    // The address or seal of `r1` becomes its base.
     fn plan_seta2b(&self, r1: Reg, next: Word) -> Plan
         ensures { result ≡ plan_in W.look self.now (Instr.Seta2b r1) next }
     {
@@ -243,7 +290,7 @@ impl<W: MachineWord> State<W> {
     }
 
     /// Unseals both, jumps to the content of `r1`, and puts that of `r2` into `data`.
-    fn plan_xjmp(&self, r1: Reg, r2: Reg, next: Word) -> Plan
+    pub fn plan_xjmp(&self, r1: Reg, r2: Reg, next: Word) -> Plan
         ensures { result ≡ plan_in W.look self.now (Instr.Xjmp r1 r2) next }
     {
         let Some(a) = self.opened(r1) else {
@@ -274,9 +321,7 @@ impl<W: MachineWord> State<W> {
             Content::Seal(d) => Word::Seal(SealCap::of(d)),
         };
         Plan::Goes(Effect {
-            moved: None,
             spent: Some(r2),
-            also_spent: None,
             first: Some(Made {
                 reg: Reg::Pc,
                 word: Word::Mem(Cap::of(c)),
@@ -285,11 +330,11 @@ impl<W: MachineWord> State<W> {
                 reg: Reg::Dat,
                 word: content,
             }),
-            next: None,
+            ..Effect::none()
         })
     }
 
-    /// `r1` gets sealed under the current seal of `r2`.
+    // `r1` gets sealed under the current seal of `r2`.
     fn plan_cseal(&self, r1: Reg, r2: Reg, next: Word) -> Plan
         ensures { result ≡ plan_in W.look self.now (Instr.Cseal r1 r2) next }
     {
@@ -310,7 +355,7 @@ impl<W: MachineWord> State<W> {
         Plan::making(r1, Word::Sealed(seal, content), next)
     }
 
-    /// `r1` and `r2` get the two parts of `r3`, of which the first ends at `n`.
+    // `r1` and `r2` get the two parts of `r3`, of which the first ends at `n`.
     fn plan_split(&self, r1: Reg, r2: Reg, r3: Reg, n: Operand, next: Word) -> Plan
         ensures { result ≡ plan_in W.look self.now (Instr.Split r1 r2 r3 n) next }
     {
@@ -330,9 +375,7 @@ impl<W: MachineWord> State<W> {
         let low = CapFields { end: at, ..c };
         let high = CapFields { base: at + 1, ..c };
         Plan::Goes(Effect {
-            moved: None,
             spent: Some(r3),
-            also_spent: None,
             first: Some(Made {
                 reg: r1,
                 word: Word::Mem(Cap::of(low)),
@@ -342,10 +385,11 @@ impl<W: MachineWord> State<W> {
                 word: Word::Mem(Cap::of(high)),
             }),
             next: Some(next),
+            ..Effect::none()
         })
     }
 
-    /// `r1` gets the range of `r2` and `r3` together.
+    // `r1` gets the range of `r2` and `r3` together.
     fn plan_splice(&self, r1: Reg, r2: Reg, r3: Reg, next: Word) -> Plan
         ensures { result ≡ plan_in W.look self.now (Instr.Splice r1 r2 r3) next }
     {
@@ -363,49 +407,71 @@ impl<W: MachineWord> State<W> {
         }
         let both = CapFields { base: a.base, ..b };
         Plan::Goes(Effect {
-            moved: None,
             spent: Some(r2),
             also_spent: Some(r3),
             first: Some(Made {
                 reg: r1,
                 word: Word::Mem(Cap::of(both)),
             }),
-            second: None,
             next: Some(next),
+            ..Effect::none()
         })
     }
 }
 
 impl<W: MachineWord> State<W> {
-    /// What an instruction is to do, `next` being pc's word with its address raised by one.
-    #[tactic(auto, unfolding(crate::specs::Row::plan_in, crate::specs::Row::faces))]
-    pub(crate) fn plan(&self, instr: Instr, next: Word) -> Plan
-        ensures { result ≡ plan_in W.look self.now instr next }
+    // What a plan comes to: an end, which leaves the state as it was, or an effect carried out.
+    #[inline(always)]
+    fn carry_out(&mut self, plan: Plan) -> Step
+        requires { (e : Effect) → plan ≡ Goes e → MoveFits self.old e.moved }
+        ensures { Meets self.old (outcome W.look W.plain self.old plan) result self.new }
+    {
+        match plan {
+            Plan::Fails(cause) => Step::Failed(cause, self.pc_at()),
+            Plan::Halts => Step::Halted,
+            Plan::Goes(effect) => {
+                self.perform(effect);
+                Step::Went
+            }
+        }
+    }
+
+    // Carries out one instruction, `next` being pc's word with its address raised by one. Where it
+    // halts or fails the state stays as it was.
+    #[tactic(auto, unfolding(crate::specs::Row::row), using(crate::proofs::RowLemmas::plan_fits))]
+    pub(crate) fn execute(&mut self, instr: Instr, next: Word) -> Step
+        ensures { Meets self.old (row W.look W.plain instr next self.old) result self.new }
     {
         match instr {
-            Instr::Fail => Plan::Fails(FailCause::F4),
-            Instr::Halt => Plan::Halts,
-            Instr::Jmp(r1) => Plan::jumping(r1),
-            Instr::Jnz(r1, r2) => self.plan_jnz(r1, r2, next),
-            Instr::Gettype(r1, r2) => shows(r1, self.face(r2).number(), next),
-            Instr::Geta(r1, r2) => shows(r1, self.face(r2).address(), next),
-            Instr::Getb(r1, r2) => shows(r1, self.face(r2).base(), next),
-            Instr::Gete(r1, r2) => shows(r1, self.face(r2).end(), next),
-            Instr::Getp(r1, r2) => shows(r1, self.face(r2).perm(), next),
-            Instr::Getlin(r1, r2) => shows(r1, self.linearity(r2), next),
-            Instr::Move(r1, n) => self.plan_move(r1, n, next),
-            Instr::Store(r1, r2) => self.plan_store(r1, r2, next),
-            Instr::Load(r1, r2) => self.plan_load(r1, r2, next),
-            Instr::Cca(r1, n) => self.plan_cca(r1, n, next),
-            Instr::Restrict(r1, n) => self.plan_restrict(r1, n, next),
-            Instr::Lt(r1, r2, n) => self.plan_lt(r1, r2, n, next),
-            Instr::Plus(r1, r2, n) => self.plan_plus(r1, r2, n, next),
-            Instr::Minus(r1, r2, n) => self.plan_minus(r1, r2, n, next),
-            Instr::Seta2b(r1) => self.plan_seta2b(r1, next),
-            Instr::Xjmp(r1, r2) => self.plan_xjmp(r1, r2, next),
-            Instr::Cseal(r1, r2) => self.plan_cseal(r1, r2, next),
-            Instr::Split(r1, r2, r3, n) => self.plan_split(r1, r2, r3, n, next),
-            Instr::Splice(r1, r2, r3) => self.plan_splice(r1, r2, r3, next),
+            Instr::Fail => self.carry_out(Plan::Fails(FailCause::F4)),
+            Instr::Halt => self.carry_out(Plan::Halts),
+            Instr::Jmp(r1) => self.carry_out(Plan::jumping(r1)),
+            Instr::Jnz(r1, r2) => self.carry_out(self.plan_jnz(r1, r2, next)),
+            Instr::Gettype(r1, r2) => self.carry_out(self.plan_gettype(r1, r2, next)),
+            Instr::Geta(r1, r2) => self.carry_out(self.plan_geta(r1, r2, next)),
+            Instr::Getb(r1, r2) => self.carry_out(self.plan_getb(r1, r2, next)),
+            Instr::Gete(r1, r2) => self.carry_out(self.plan_gete(r1, r2, next)),
+            Instr::Getp(r1, r2) => self.carry_out(self.plan_getp(r1, r2, next)),
+            Instr::Getlin(r1, r2) => self.carry_out(self.plan_getlin(r1, r2, next)),
+            Instr::Move(r1, n) => self.carry_out(self.plan_move(r1, n, next)),
+            Instr::Store(r1, r2) => {
+                let plan = self.plan_store(r1, r2, next);
+                self.carry_out(plan)
+            }
+            Instr::Load(r1, r2) => {
+                let plan = self.plan_load(r1, r2, next);
+                self.carry_out(plan)
+            }
+            Instr::Cca(r1, n) => self.carry_out(self.plan_cca(r1, n, next)),
+            Instr::Restrict(r1, n) => self.carry_out(self.plan_restrict(r1, n, next)),
+            Instr::Lt(r1, r2, n) => self.carry_out(self.plan_lt(r1, r2, n, next)),
+            Instr::Plus(r1, r2, n) => self.carry_out(self.plan_plus(r1, r2, n, next)),
+            Instr::Minus(r1, r2, n) => self.carry_out(self.plan_minus(r1, r2, n, next)),
+            Instr::Seta2b(r1) => self.carry_out(self.plan_seta2b(r1, next)),
+            Instr::Xjmp(r1, r2) => self.carry_out(self.plan_xjmp(r1, r2, next)),
+            Instr::Cseal(r1, r2) => self.carry_out(self.plan_cseal(r1, r2, next)),
+            Instr::Split(r1, r2, r3, n) => self.carry_out(self.plan_split(r1, r2, r3, n, next)),
+            Instr::Splice(r1, r2, r3) => self.carry_out(self.plan_splice(r1, r2, r3, next)),
         }
     }
 }

@@ -1,9 +1,9 @@
 //! Registers and memory, over words of any kind.
-ghost use Rattle.std.specs.Prelude.{◌≡◌, ℕ, IfOk, IsSome, is_some, Some, Option};
+ghost use Rattle.std.specs.Prelude.{◌≡◌, ℕ, IfOk, IsSome, is_some, IsTrue, Some, None, Option};
 ghost use Rattle.cap_words.specs.Face.{FaceInOrder, OpenedInOrder};
 ghost use Rattle.lcm_machine.specs.Places.{reg};
-ghost use Rattle.lcm_machine.specs.Cells.{cell};
-ghost use Rattle.lcm_machine.specs.Spans.{AreSpans, slot, zero_regs};
+ghost use Rattle.lcm_machine.specs.Cells.{cell, set_cell, drop_cell};
+ghost use Rattle.lcm_machine.specs.Spans.{AreSpans, in_spans, slot, zero_regs};
 ghost use Rattle.lcm_machine.specs.Table.{operand};
 ghost use Rattle.lcm_machine.specs.Row.{word_in, put, clear, HasPlace, faces, opens, cell_faces, face_there, pc_at};
 
@@ -15,7 +15,8 @@ use lcm_isa::{Operand, Reg};
 use std::alloc::{AllocError, Global};
 use std::marker::Model;
 
-/// The registers and the memory of a machine, seen as two maps from places to words.
+/// The registers and the memory of a machine, seen as two maps from places to words, and the spans
+/// that memory has.
 #[derive(Drop)]
 pub struct State<W: MachineWord> {
     regs: Regs<W>,
@@ -32,7 +33,7 @@ impl<W: MachineWord> Model for State<W> {
 
     ghost coded = { Prim.hlevel (codes, map.code {R = nat_cmp} coded_ℕ W.code) };
 
-    ghost view = { λ s. record { regs = s.regs; cells = s.cells } };
+    ghost view = { λ s. record { regs = s.regs; cells = s.cells.words; spans = s.cells.spans } };
 }
 
 impl<W: MachineWord> State<W> {
@@ -42,12 +43,21 @@ impl<W: MachineWord> State<W> {
         requires { AreSpans 0 spans.now }
         ensures cells { IfOk result (λ s. (a : ℕ) → cell s.cells a ≡ slot W.plain spans.now a) }
         ensures regs { IfOk result (λ s. s.regs ≡ zero_regs W.plain) }
+        ensures spans { IfOk result (λ s. s.spans ≡ spans.now) }
     {
         let cells = Cells::zeros(alloc, spans)?;
         Ok(State {
             regs: Regs::zeros(),
             cells,
         })
+    }
+
+    /// The spans of memory, in the order in which they were given.
+    pub fn spans(&self) -> &[Span]
+        ensures are { result.now ≡ self.now.spans }
+        ensures in_order { AreSpans 0 result.now }
+    {
+        self.cells.spans()
     }
 
     /// The word of a register.
@@ -57,9 +67,10 @@ impl<W: MachineWord> State<W> {
         self.regs.get(r)
     }
 
-    /// Whether the address has a cell.
+    /// Whether the address has a cell. Each cell lies in a span.
     pub fn has_cell(&self, at: u32) -> bool
-        ensures { result ≡ is_some (cell self.now.cells at) }
+        ensures is { result ≡ is_some (cell self.now.cells at) }
+        ensures in_span { IsTrue result → IsTrue (in_spans at self.now.spans) }
     {
         self.cells.has(at)
     }
@@ -73,6 +84,7 @@ impl<W: MachineWord> State<W> {
     }
 
     /// The word of a place, which has to be there.
+    #[inline(always)]
     pub fn word(&self, place: Place) -> &W
         requires { HasPlace self.now place }
         ensures { result.now ≡ word_in W.plain self.now place }
@@ -83,29 +95,52 @@ impl<W: MachineWord> State<W> {
         }
     }
 
-    /// Puts a word in a place, and gives the word that was there.
-    fn replace(&mut self, place: Place, word: W) -> W
+    /// Takes a cell out of memory, which has to be there, and gives its word. Its address, which lies
+    /// in a span, has no cell then.
+    pub fn remove_cell(&mut self, at: u32) -> W
+        requires { IsSome (cell self.old.cells at) }
+        ensures was { cell self.old.cells at ≡ Some result }
+        ensures now { self.new ≡ record self.old { cells = drop_cell self.old.cells at } }
+        ensures in_span { IsTrue (in_spans at self.old.spans) }
+    {
+        self.cells.remove(at)
+    }
+
+    /// Puts a cell in, at an address that lies in a span and has none.
+    pub fn insert_cell(&mut self, at: u32, word: W)
+        requires in_span { IsTrue (in_spans at self.old.spans) }
+        requires none { cell self.old.cells at ≡ None }
+        ensures { self.new ≡ record self.old { cells = set_cell self.old.cells at word } }
+    {
+        self.cells.insert(at, word);
+    }
+
+    /// Sets the word of a place, which has to be there, and gives the word that was there.
+    #[inline(always)]
+    pub fn swap(&mut self, place: Place, word: W) -> W
         requires { HasPlace self.old place }
         ensures was { result ≡ word_in W.plain self.old place }
         ensures now { self.new ≡ put self.old place word }
     {
         match place {
-            Place::R(r) => self.regs.replace(r, word),
-            Place::Cell(at) => self.cells.replace(at, word),
+            Place::R(r) => self.regs.swap(r, word),
+            Place::Cell(at) => self.cells.swap(at, word),
         }
     }
 
-    /// Replaces the word of a place, which has to be there.
+    /// Sets the word of a place, which has to be there. The word that was there is dropped.
+    #[inline(always)]
     pub fn set(&mut self, place: Place, held: Held<W>)
         requires { HasPlace self.old place }
         ensures { self.new ≡ put self.old place held }
     {
-        let _ = self.replace(place, held.into_word());
+        let _ = self.swap(place, held.into_word());
     }
 
     /// Takes the word of a place, which has to be there: a linear word leaves integer 0, and another
     /// stays as a copy.
     #[tactic(auto, unfolding(crate::specs::Row::clear))]
+    #[inline(always)]
     pub fn lift(&mut self, place: Place) -> Held<W>
         requires { HasPlace self.old place }
         ensures word { result ≡ word_in W.plain self.old place }
@@ -113,7 +148,7 @@ impl<W: MachineWord> State<W> {
     {
         match self.word(place).copy_of() {
             Some(copy) => Held::of(copy),
-            None => Held::of(self.replace(place, W::from_word(Word::Int(0)))),
+            None => Held::of(self.swap(place, W::from_word(Word::Int(0)))),
         }
     }
 }
@@ -138,8 +173,8 @@ impl<W: MachineWord> State<W> {
         self.word(Place::R(r)).opened()
     }
 
-    /// The integer of an operand, where it has one.
-    pub fn operand(&self, n: Operand) -> Option<i64>
+    // The integer of an operand, where it has one.
+    pub(crate) fn operand(&self, n: Operand) -> Option<i64>
         ensures { result ≡ operand (faces W.look self.now) n }
     {
         match n {
@@ -148,17 +183,38 @@ impl<W: MachineWord> State<W> {
         }
     }
 
-    /// What the table reads of a cell's word, where an address is given and has a cell.
-    #[tactic(auto, unfolding(crate::specs::Row::cell_faces), using(crate::proofs::StateLemmas::no_cell))]
-    pub fn there(&self, at: Option<u32>) -> Option<Face>
-        ensures { result ≡ face_there (cell_faces W.look self.now) at }
+    // What the table reads of a cell's word, where an address is given and has a cell.
+    #[inline(always)]
+    #[tactic(auto, unfolding(crate::specs::Row::cell_faces))]
+    pub(crate) fn there(&mut self, at: Option<u32>) -> Option<Face>
+        ensures is { result ≡ face_there (cell_faces W.look self.old) at }
+        ensures same { self.new ≡ self.old }
     {
         let at = at?;
-        if self.has_cell(at) {
-            Some(self.cell(at).face())
-        } else {
-            None
-        }
+        let spot = self.cells.seek(at)?;
+        let word = self.cells.find_in(spot, at)?;
+        Some(word.face())
+    }
+
+    // The same, for an instruction that is fetched.
+    #[inline(always)]
+    #[tactic(auto, unfolding(crate::specs::Row::cell_faces))]
+    pub(crate) fn fetched(&mut self, at: u32) -> Option<Face>
+        ensures is { result ≡ cell_faces W.look self.old at }
+        ensures same { self.new ≡ self.old }
+    {
+        let spot = self.cells.seek_code(at)?;
+        let word = self.cells.find_in(spot, at)?;
+        Some(word.face())
+    }
+
+    // The same, with nothing remembered.
+    #[tactic(auto, unfolding(crate::specs::Row::cell_faces))]
+    pub(crate) fn code(&self, at: u32) -> Option<Face>
+        ensures { result ≡ cell_faces W.look self.now at }
+    {
+        let word = self.cells.find_code(at)?;
+        Some(word.face())
     }
 
     /// pc's address, or -1 where pc holds no memory capability.

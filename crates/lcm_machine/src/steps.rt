@@ -1,42 +1,55 @@
 //! One step, for words of any kind.
-ghost use Rattle.std.specs.Prelude.{◌≡◌, MatchResult};
+ghost use Rattle.std.specs.Prelude.{◌≡◌, ℕ, Option, IfOk, MatchResult, pos};
+ghost use Rattle.cap_words.specs.Face.{CapInOrder};
+ghost use Rattle.cap_words.specs.declared.Face.{Face};
 ghost use Rattle.lcm_isa.specs.declared.Reg.TheVariants.{Pc};
 ghost use Rattle.lcm_machine.specs.Ends.{Meets};
+ghost use Rattle.lcm_machine.specs.Touched.{KeepsUntouched, SameCells};
 ghost use Rattle.lcm_machine.specs.Regions.{StaysHeldOnce};
-ghost use Rattle.lcm_machine.specs.Row.{faces, cell_faces, row, fetch, step_of, none, some};
+ghost use Rattle.lcm_machine.specs.Row.{faces, cell_faces, fetch, fetch_word, step_of, none, some};
 
-use crate::plan::Plan;
 use crate::state::State;
 use crate::{FailCause, Step};
 use cap_words::{Cap, CapFields, Face, MachineWord, Word};
 use lcm_isa::{Instr, Reg, decode};
 
-impl<W: MachineWord> State<W> {
-    /// Carries out one instruction, `next` being pc's word with its address raised by one. Where it
-    /// halts or fails the state stays as it was.
-    #[tactic(auto, unfolding(crate::specs::Row::row), using(crate::proofs::RowLemmas::plan_fits))]
-    pub fn execute(&mut self, instr: Instr, next: Word) -> Step
-        ensures { Meets self.old (row W.look W.plain instr next self.old) result self.new }
-    {
-        match self.plan(instr, next) {
-            Plan::Fails(cause) => Step::Failed(cause, self.pc_at()),
-            Plan::Halts => Step::Halted,
-            Plan::Goes(effect) => {
-                self.perform(effect);
-                Step::Went
-            }
-        }
-    }
+// The instruction of the cell that pc's capability names, and pc's word with its address raised by
+// one: F2 where there is no cell, and F3 where it holds no instruction.
+#[inline(always)]
+fn decoded(c: CapFields, at: u32, found: Option<Face>) -> Result<(Instr, Word), FailCause>
+    requires at { c.addr ≡ pos at }
+    requires in_order { CapInOrder c }
+    ensures { MatchResult result
+        (λ p. fetch_word c found ≡ some p.0 p.1)
+        (λ f. fetch_word c found ≡ none f) }
+{
+    let Some(found) = found else {
+        return Err(FailCause::F2);
+    };
+    let Face::Number(word) = found else {
+        return Err(FailCause::F3);
+    };
+    let Some(instr) = decode(word) else {
+        return Err(FailCause::F3);
+    };
+    let next = CapFields {
+        addr: i64::from(at) + 1,
+        ..c
+    };
+    Ok((instr, Word::Mem(Cap::of(next))))
+}
 
-    /// The instruction that pc names, and pc's word with its address raised by one.
-    ///
-    /// F1 where pc isn't a normal memory capability with rx or rwx; F2 where its address is outside
-    /// its range or has no cell; F3 where the cell holds no instruction.
+impl<W: MachineWord> State<W> {
+    // pc's capability and its address, where it may run there: F1 where pc isn't a normal memory
+    // capability with rx or rwx, and F2 where its address is outside its range.
+    #[inline(always)]
     #[tactic(auto, unfolding(crate::specs::Row::fetch))]
-    pub fn fetch(&self) -> Result<(Instr, Word), FailCause>
-        ensures { MatchResult result
-            (λ p. fetch (faces W.look self.now Pc) (cell_faces W.look self.now) ≡ some p.0 p.1)
-            (λ f. fetch (faces W.look self.now Pc) (cell_faces W.look self.now) ≡ none f) }
+    fn runs_at(&self) -> Result<(CapFields, u32), FailCause>
+        ensures is { MatchResult result
+            (λ p. (cells : ℕ → Option Face) → fetch (faces W.look self.now Pc) cells ≡ fetch_word p.0 (cells p.1))
+            (λ f. (cells : ℕ → Option Face) → fetch (faces W.look self.now Pc) cells ≡ none f) }
+        ensures at { IfOk result (λ p. p.0.addr ≡ pos p.1) }
+        ensures in_order { IfOk result (λ p. CapInOrder p.0) }
     {
         let face = self.face(Reg::Pc);
         let Some(c) = face.memory() else {
@@ -48,24 +61,40 @@ impl<W: MachineWord> State<W> {
         let Some(at) = face.target() else {
             return Err(FailCause::F2);
         };
-        let Some(found) = self.there(Some(at)) else {
-            return Err(FailCause::F2);
-        };
-        let Face::Number(word) = found else {
-            return Err(FailCause::F3);
-        };
-        let Some(instr) = decode(word) else {
-            return Err(FailCause::F3);
-        };
-        let next = CapFields {
-            addr: c.addr + 1,
-            ..c
-        };
-        Ok((instr, Word::Mem(Cap::of(next))))
+        Ok((c, at))
+    }
+
+    /// The instruction that pc names, and pc's word with its address raised by one.
+    ///
+    /// F1 where pc isn't a normal memory capability with rx or rwx; F2 where its address is outside
+    /// its range or has no cell; F3 where the cell holds no instruction.
+    pub fn fetch(&self) -> Result<(Instr, Word), FailCause>
+        ensures { MatchResult result
+            (λ p. fetch (faces W.look self.now Pc) (cell_faces W.look self.now) ≡ some p.0 p.1)
+            (λ f. fetch (faces W.look self.now Pc) (cell_faces W.look self.now) ≡ none f) }
+    {
+        let (c, at) = self.runs_at()?;
+        let found = self.code(at);
+        decoded(c, at, found)
+    }
+
+    // The same, and the span is remembered.
+    #[inline(always)]
+    fn fetch_on(&mut self) -> Result<(Instr, Word), FailCause>
+        ensures is { MatchResult result
+            (λ p. fetch (faces W.look self.old Pc) (cell_faces W.look self.old) ≡ some p.0 p.1)
+            (λ f. fetch (faces W.look self.old Pc) (cell_faces W.look self.old) ≡ none f) }
+        ensures same { self.new ≡ self.old }
+    {
+        let (c, at) = self.runs_at()?;
+        let found = self.fetched(at);
+        decoded(c, at, found)
     }
 
     /// One step: fetches an instruction and carries it out. Where the step halts or fails, the state
-    /// stays as it was.
+    /// stays as it was. The spans stay, and so does which addresses have cells. A cell changes only
+    /// where the step touches it: the one that it fetches, and the one that its instruction loads from
+    /// or stores to.
     ///
     /// No linear memory comes to be held twice. Take any regions of addresses with a gap between
     /// each two, each region linear or normal. If each memory capability of a register or a cell,
@@ -74,9 +103,11 @@ impl<W: MachineWord> State<W> {
     #[tactic(auto, unfolding(crate::specs::Row::step_of))]
     pub fn step(&mut self) -> Step
         ensures meets { Meets self.old (step_of W.look W.plain self.old) result self.new }
+        ensures same_cells { SameCells self.old self.new }
+        ensures untouched { KeepsUntouched W.look self.old self.new }
         ensures held_once { StaysHeldOnce W.look self.old self.new }
     {
-        match self.fetch() {
+        match self.fetch_on() {
             Err(cause) => Step::Failed(cause, self.pc_at()),
             Ok((instr, next)) => self.execute(instr, next),
         }
