@@ -1,16 +1,18 @@
 -- The readers of numbers and of what numbers mean.
 use Rattle.std.proofs.Common.{◌≡◌, ℕ, ◌+◌, ◌^◌, ◌<◌, ◌≤◌, Bool, true, false, cond, ltb, leb, ◌&&◌, List, [], ◌∷◌, ◌++◌, length, get_or, take, drop, Option, Some, None, Ok, Err, refl, sym, ap, subst, ◌∙◌, arith, length-append, inl, inr}
-use Rattle.std.specs.Int.{Width, w16, w32, w64, byte_len, from_le_bytes, to_le_bytes, cast_signed, cast_unsigned}
+use Rattle.std.specs.Int.{w64, cast_signed, cast_unsigned}
 use Rattle.std.specs.Int.RustNames.{FitsSigned}
 use Rattle.std.proofs.lemmas.Bool.{cases_lt, ltb-false, le-ltb, lt-ltb}
 use Rattle.std.proofs.lemmas.List.{take_at, drop_at, take-append-drop, length-take, get_or-drop, get_or-take, get_or_past}
-use Rattle.std.proofs.lemmas.Nat.{le_bytes_2, le_bytes_4, le_bytes_8, from_le_bytes-to_le_bytes_2, from_le_bytes-to_le_bytes_4, from_le_bytes-to_le_bytes_8}
 use Rattle.std.proofs.lemmas.Int.{of_z-to_z, to_z-of_z}
 use Rattle.std.proofs.Math.Facts.{sfits_to_z, Fits-of_z}
 use Rattle.cap_words.specs.declared.bytes.cursor.FieldFault.{FieldFault}
 use Rattle.cap_words.specs.declared.bytes.cursor.FieldFault.TheVariants.{Short}
-use Rattle.cap_words.specs.Reading.{Input, Reader, goes_on, ◌>>=◌, done, bytes_at, unless_none, meant, byte_at, number_at, signed_at, within}
+use Rattle.cap_words.specs.Reading.{Input, Reader, goes_on, ◌>>=◌, done, next_bytes, unless_none, meant, next_byte, next_number, next_signed, within}
 use Rattle.cap_words.specs.WordBytes.{number_bytes, signed_bytes}
+use Rattle.byteorder.specs.Endian.{little_number, little_bytes}
+use Rattle.byteorder.specs.Numbers.{little_from-lt, length-bytes_low_first}
+use Rattle.cap_words.proofs.Numbers.{read_again, spelled_again}
 use Rattle.cap_words.proofs.Grammar.{IsBytes, Took, after, before, IsCut, cut_goes_on, Reads, All, goes_on_ok, ok_value, reads_placed}
 
 is_bytes_drop : (n : ℕ) (bytes : List ℕ) → IsBytes bytes → IsBytes (drop n bytes)
@@ -29,28 +31,28 @@ guard_ok false d x y j e = let both = ok_value x.0 y x.1 j e in (refl, both.0, b
 
 -- ---- bytes
 
-pub bytes_take : (n : ℕ) (i : Input) (text : List ℕ) (j : Input) → IsBytes i.rest → bytes_at n i ≡ Ok (text, j) → (length text ≡ n) × IsBytes text × Took i text j
-unfolding bytes_at
+pub bytes_take : (n : ℕ) (i : Input) (text : List ℕ) (j : Input) → IsBytes i.rest → next_bytes n i ≡ Ok (text, j) → (length text ≡ n) × IsBytes text × Took i text j
+unfolding next_bytes
 bytes_take n i text j bytes e =
     let g = guard_ok (ltb (length i.rest) n) (Short i.at) (take n i.rest, record { at = i.at + n; rest = drop n i.rest }) text j e in
     let long : n ≤ length i.rest = ltb-false _ _ g.0 in
     let len : length (take n i.rest) ≡ n = omega (arith, length-take n i.rest) in
     let took : Took i (take n i.rest) (record { at = i.at + n; rest = drop n i.rest }) = record {
       parts = sym (take-append-drop n i.rest);
-      place = omega (arith, len);
+      at = omega (arith, len);
       bytes = is_bytes_drop n i.rest bytes;
     } in
     subst (λ t. (length t ≡ n) × IsBytes t × Took i t j) g.1 (len, is_bytes_take n i.rest bytes, subst (λ k. Took i (take n i.rest) k) g.2 took)
 
-pub bytes_again : (n : ℕ) (text : List ℕ) (at : ℕ) (rest : List ℕ) → length text ≡ n → bytes_at n (before at text rest) ≡ Ok (text, after at text rest)
-unfolding bytes_at
+pub bytes_again : (n : ℕ) (text : List ℕ) (at : ℕ) (rest : List ℕ) → length text ≡ n → next_bytes n (before at text rest) ≡ Ok (text, after at text rest)
+unfolding next_bytes
 bytes_again n text at rest len =
     let long : ltb (length (text ++ rest)) n ≡ false = le-ltb _ _ (omega (arith, length-append text rest)) in
     rw (long, take_at text rest n len, drop_at text rest n len, len) refl
 
 -- where some of them aren't there
-pub bytes_cut : {n : ℕ} (text : List ℕ) (at k : ℕ) → length text ≡ n → k < n → IsCut Short at k (bytes_at n (record { at = at; rest = take k text }))
-unfolding bytes_at
+pub bytes_cut : {n : ℕ} (text : List ℕ) (at k : ℕ) → length text ≡ n → k < n → IsCut Short at k (next_bytes n (record { at = at; rest = take k text }))
+unfolding next_bytes
 bytes_cut {n = n} text at k len lt =
     let few : ltb (length (take k text)) n ≡ true = lt-ltb _ _ (omega (arith, length-take k text)) in
     record { inside = 0; within = omega arith; is = rw few (ap (λ m. Err (Short m)) (omega arith)) }
@@ -62,11 +64,11 @@ one_byte [] e = absurd (omega arith)
 one_byte (b ∷ []) e = refl
 one_byte (b ∷ c ∷ text) e = absurd (omega arith)
 
-pub byte_reads : Reads Short All (λ n. n < 256) (λ n. n ∷ []) byte_at
-unfolding byte_at
+pub byte_reads : Reads Short All (λ n. n < 256) (λ n. n ∷ []) next_byte
+unfolding next_byte
 byte_reads = record {
   takes = λ i n j bytes e.
-      let x = goes_on_ok (bytes_at 1 i) (λ text. done (get_or text 0 0)) (n, j) e in
+      let x = goes_on_ok (next_bytes 1 i) (λ text. done (get_or text 0 0)) (n, j) e in
       let t = bytes_take 1 i x.0.0 x.0.1 bytes x.1 in
       let v = ok_value (get_or x.0.0 0 0) n x.0.1 j x.2 in
       let is : x.0.0 ≡ n ∷ [] = one_byte x.0.0 t.0 ∙ ap (λ b. b ∷ []) v.0 in
@@ -77,67 +79,40 @@ byte_reads = record {
 
 -- ---- numbers
 
-pub record IsWide (w : Width) (limit : ℕ) : Type 0 where
-  pub len : (n : ℕ) → length (to_le_bytes w n) ≡ byte_len w
-  pub back : (bytes : List ℕ) → length bytes ≡ byte_len w → IsBytes bytes → to_le_bytes w (from_le_bytes w bytes) ≡ bytes
-  pub again : (n : ℕ) → n < limit → from_le_bytes w (to_le_bytes w n) ≡ n
-  pub below : (bytes : List ℕ) → IsBytes bytes → from_le_bytes w bytes < limit
-
-pub wide16 : IsWide w16 (2 ^ 16)
-wide16 = record {
-  len = λ n. refl;
-  back = λ bytes len fits. le_bytes_2 bytes _ len fits refl;
-  again = λ n lt. from_le_bytes-to_le_bytes_2 n lt;
-  below = λ bytes fits. omega (arith, fits 0, fits 1);
-}
-
-pub wide32 : IsWide w32 (2 ^ 32)
-wide32 = record {
-  len = λ n. refl;
-  back = λ bytes len fits. le_bytes_4 bytes _ len fits refl;
-  again = λ n lt. from_le_bytes-to_le_bytes_4 n lt;
-  below = λ bytes fits. omega (arith, fits 0, fits 1, fits 2, fits 3);
-}
-
-pub wide64 : IsWide w64 (2 ^ 64)
-wide64 = record {
-  len = λ n. refl;
-  back = λ bytes len fits. le_bytes_8 bytes _ len fits refl;
-  again = λ n lt. from_le_bytes-to_le_bytes_8 n lt;
-  below = λ bytes fits. omega (arith, fits 0, fits 1, fits 2, fits 3, fits 4, fits 5, fits 6, fits 7);
-}
-
-pub number_reads : (w : Width) (limit : ℕ) → IsWide w limit → Reads Short All (λ n. n < limit) (number_bytes w) (number_at w)
-unfolding number_at number_bytes
-number_reads w limit wide = record {
+pub number_reads : (len : ℕ) → Reads Short All (λ n. n < 256 ^ len) (number_bytes len) (next_number len)
+unfolding next_number number_bytes
+number_reads len = record {
   takes = λ i n j bytes e.
-      let x = goes_on_ok (bytes_at (byte_len w) i) (λ text. done (from_le_bytes w text)) (n, j) e in
-      let t = bytes_take (byte_len w) i x.0.0 x.0.1 bytes x.1 in
-      let v = ok_value (from_le_bytes w x.0.0) n x.0.1 j x.2 in
-      let is : x.0.0 ≡ to_le_bytes w n = sym (wide.back x.0.0 t.0 t.1) ∙ ap (to_le_bytes w) v.0 in
-      (tt, subst (λ b. b < limit) v.0 (wide.below x.0.0 t.1), subst (λ text. Took i text j) is (subst (λ k. Took i x.0.0 k) v.1 t.2));
+      let x = goes_on_ok (next_bytes len i) (λ text. done (little_number len text)) (n, j) e in
+      let t = bytes_take len i x.0.0 x.0.1 bytes x.1 in
+      let v = ok_value (little_number len x.0.0) n x.0.1 j x.2 in
+      let is : x.0.0 ≡ little_bytes len n = sym (spelled_again len x.0.0 t.0 t.1) ∙ ap (little_bytes len) v.0 in
+      let low : little_number len x.0.0 < 256 ^ len = little_from-lt 0 len x.0.0 t.1 in
+      (tt, subst (λ b. b < 256 ^ len) v.0 low, subst (λ text. Took i text j) is (subst (λ k. Took i x.0.0 k) v.1 t.2));
   again = λ n at rest known fits.
-      ap (λ r. goes_on r (λ text. done (from_le_bytes w text))) (bytes_again (byte_len w) (to_le_bytes w n) at rest (wide.len n))
-      ∙ ap (λ m. Ok (m, after at (to_le_bytes w n) rest)) (wide.again n fits);
-  cut = λ n at k known fits lt. cut_goes_on (λ text. done (from_le_bytes w text)) (bytes_cut (to_le_bytes w n) at k (wide.len n) (omega (arith, wide.len n)));
+      ap (λ r. goes_on r (λ text. done (little_number len text))) (bytes_again len (little_bytes len n) at rest (length-bytes_low_first 0 len n))
+      ∙ ap (λ m. Ok (m, after at (little_bytes len n) rest)) (read_again len n fits);
+  cut = λ n at k known fits lt.
+      let is : length (little_bytes len n) ≡ len = length-bytes_low_first 0 len n in
+      cut_goes_on (λ text. done (little_number len text)) (bytes_cut (little_bytes len n) at k is (omega (arith, is)));
 }
 
-pub signed_reads : Reads Short All (FitsSigned w64) signed_bytes signed_at
-unfolding signed_at signed_bytes
+pub signed_reads : Reads Short All (FitsSigned w64) signed_bytes next_signed
+unfolding next_signed signed_bytes
 signed_reads = record {
   takes = λ i z j bytes e.
-      let number = number_reads w64 (2 ^ 64) wide64 in
-      let x = goes_on_ok (number_at w64 i) (λ n. done (cast_signed w64 n)) (z, j) e in
+      let number = number_reads 8 in
+      let x = goes_on_ok (next_number 8 i) (λ n. done (cast_signed w64 n)) (z, j) e in
       let t = number.takes i x.0.0 x.0.1 bytes x.1 in
       let v = ok_value (cast_signed w64 x.0.0) z x.0.1 j x.2 in
       let is : x.0.0 ≡ cast_unsigned w64 z = sym (of_z-to_z w64 x.0.0 t.1) ∙ ap (cast_unsigned w64) v.0 in
-      (tt, subst (FitsSigned w64) v.0 (sfits_to_z (record { fits = t.1 })), subst (λ n. Took i (number_bytes w64 n) j) is (subst (λ k. Took i (number_bytes w64 x.0.0) k) v.1 t.2));
+      (tt, subst (FitsSigned w64) v.0 (sfits_to_z (record { fits = t.1 })), subst (λ n. Took i (number_bytes 8 n) j) is (subst (λ k. Took i (number_bytes 8 x.0.0) k) v.1 t.2));
   again = λ z at rest known fits.
-      let number = number_reads w64 (2 ^ 64) wide64 in
+      let number = number_reads 8 in
       let below : cast_unsigned w64 z < 2 ^ 64 = (Fits-of_z fits).fits in
       ap (λ r. goes_on r (λ n. done (cast_signed w64 n))) (number.again (cast_unsigned w64 z) at rest tt below)
-      ∙ ap (λ m. Ok (m, after at (number_bytes w64 (cast_unsigned w64 z)) rest)) (to_z-of_z w64 z fits);
-  cut = λ z at k known fits lt. cut_goes_on (λ n. done (cast_signed w64 n)) ((number_reads w64 (2 ^ 64) wide64).cut (cast_unsigned w64 z) at k tt (Fits-of_z fits).fits lt);
+      ∙ ap (λ m. Ok (m, after at (number_bytes 8 (cast_unsigned w64 z)) rest)) (to_z-of_z w64 z fits);
+  cut = λ z at k known fits lt. cut_goes_on (λ n. done (cast_signed w64 n)) ((number_reads 8).cut (cast_unsigned w64 z) at k tt (Fits-of_z fits).fits lt);
 }
 
 -- ---- what a field means
@@ -178,7 +153,7 @@ within_is low high n m e = go (leb low n) (leb n high) refl refl e
 is_within : (low high n : ℕ) → low ≤ n → n ≤ high → within low high n ≡ Some n
 is_within low high n l h = grind arith
 
-pub within_reads : (w : Width) (limit low high : ℕ) → IsWide w limit → high < limit → Reads Short All (λ n. (low ≤ n) × (n ≤ high)) (number_bytes w) (meant (within low high) (number_at w))
-within_reads w limit low high wide fits = meant_reads (within low high) (λ n. n) (number_at w) (number_reads w limit wide)
+pub within_reads : (len low high : ℕ) → high < 256 ^ len → Reads Short All (λ n. (low ≤ n) × (n ≤ high)) (number_bytes len) (meant (within low high) (next_number len))
+within_reads len low high fits = meant_reads (within low high) (λ n. n) (next_number len) (number_reads len)
     (λ a b p e. let g = within_is low high a b e in ((g.0, g.1), g.2))
     (λ b q. (omega (arith, q.1), is_within low high b q.0 q.1))

@@ -3,7 +3,7 @@ use Rattle.std.proofs.Common.{◌≡◌, Bool, true, false, cond, ℕ, ◌+◌, 
 use Rattle.std.proofs.lemmas.Bool.{cases_lt}
 use Rattle.std.proofs.lemmas.List.{take-append-le}
 use Rattle.std.proofs.Math.Seq.{take-append-add}
-use Rattle.cap_words.specs.Reading.{Input, Reader, goes_on, ◌>>=◌, done, place}
+use Rattle.cap_words.specs.Reading.{Input, Reader, goes_on, ◌>>=◌, done, here}
 
 abbrev pub IsBytes : List ℕ → Type 0
 IsBytes bytes = (i : ℕ) → get_or bytes i 0 < 256
@@ -11,7 +11,7 @@ IsBytes bytes = (i : ℕ) → get_or bytes i 0 < 256
 -- a text was taken from the front
 pub record Took (i : Input) (text : List ℕ) (j : Input) : Type 0 where
   pub parts : i.rest ≡ text ++ j.rest
-  pub place : j.at ≡ i.at + length text
+  pub at : j.at ≡ i.at + length text
   pub bytes : IsBytes j.rest
 
 -- behind a text
@@ -49,12 +49,12 @@ ok_value x y i j e =
     (ap (λ (p : _ × Input). p.0) both, ap (λ (p : _ × Input). p.1) both)
 
 pub took_nothing : (i : Input) → IsBytes i.rest → Took i [] i
-took_nothing i bytes = record { parts = refl; place = omega arith; bytes = bytes }
+took_nothing i bytes = record { parts = refl; at = omega arith; bytes = bytes }
 
 pub took_then : (i j k : Input) (s t : List ℕ) → Took i s j → Took j t k → Took i (s ++ t) k
 took_then i j k s t p q = record {
   parts = p.parts ∙ ap (λ (x : List ℕ). s ++ x) q.parts ∙ sym (append_assoc s t k.rest);
-  place = omega (arith, p.place, q.place, length-append s t);
+  at = omega (arith, p.at, q.at, length-append s t);
   bytes = q.bytes;
 }
 
@@ -75,9 +75,9 @@ reads_then {short = short} {K = K} {PA = PA} {P = P} {s = s} {t = t} field r f f
   again = λ c at rest known fits.
       let one = first.again (field c) at (t c ++ rest) tt fits.0 in
       let two = (second (field c) fits.0).again c (at + length (s (field c))) rest (known, refl) fits.1 in
-      let here : before at (s (field c) ++ t c) rest ≡ before at (s (field c)) (t c ++ rest) = ap (λ l. record { at = at; rest = l }) (append_assoc (s (field c)) (t c) rest) in
+      let near : before at (s (field c) ++ t c) rest ≡ before at (s (field c)) (t c ++ rest) = ap (λ l. record { at = at; rest = l }) (append_assoc (s (field c)) (t c) rest) in
       let there : after (at + length (s (field c))) (t c) rest ≡ after at (s (field c) ++ t c) rest = ap (λ n. record { at = n; rest = rest }) (omega (arith, length-append (s (field c)) (t c))) in
-      ap (λ i. goes_on (r i) f) here ∙ ap (λ q. goes_on q f) one ∙ two ∙ ap (λ j. Ok (c, j)) there;
+      ap (λ i. goes_on (r i) f) near ∙ ap (λ q. goes_on q f) one ∙ two ∙ ap (λ j. Ok (c, j)) there;
   cut = λ c at n known fits lt.
       let a = s (field c) in
       elim (cases_lt n (length a)) [
@@ -151,7 +151,7 @@ reads_last {K = K} {s = s} field r made first is known =
     (λ c k p. p.0) (λ c k p. (p, tt))
 
 -- a reader that is told its place
-pub reads_placed : {F A : Type 0} {short : ℕ → F} {K P : A → Type 0} {t : A → List ℕ} (r : ℕ → Reader F A) → ((at : ℕ) → Reads short K P t (r at)) → Reads short K P t (place >>= r)
+pub reads_placed : {F A : Type 0} {short : ℕ → F} {K P : A → Type 0} {t : A → List ℕ} (r : ℕ → Reader F A) → ((at : ℕ) → Reads short K P t (r at)) → Reads short K P t (here >>= r)
 reads_placed r h = record {
   takes = λ i x j bytes e. (h i.at).takes i x j bytes e;
   again = λ x at rest k p. (h at).again x at rest k p;

@@ -1,3 +1,4 @@
 pub mod Grammar
+pub mod Numbers
 pub mod Fields
 pub mod Words

@@ -1,5 +1,6 @@
 -- What instructions read of a word, and that the ranges in it are in order.
-use Rattle.std.specs.Prelude.{◌≤◌, Option, Some, None}
+use Rattle.std.specs.Prelude.{Option, Some, None}
+use Rattle.cap_words.specs.Ranges.{IsRange}
 use Rattle.cap_words.specs.declared.Lin.TheVariants.{Normal}
 use Rattle.cap_words.specs.declared.CapFields.{CapFields}
 use Rattle.cap_words.specs.declared.SealFields.{SealFields}
@@ -28,13 +29,11 @@ opened_of (Seal s) = None
 opened_of (SealedWord o (MemIn c)) = Some (record { seal = o; content = MemContent c })
 opened_of (SealedWord o (SealIn s)) = Some (record { seal = o; content = SealContent s })
 
--- a range that is not empty, and within the 1,048,576 addresses
 abbrev pub CapInOrder : CapFields → Type 0
-CapInOrder c = (c.base ≤ c.end) × (c.end ≤ 1048575)
+CapInOrder c = IsRange c.base c.end
 
--- a range that is not empty, and within the 1,048,576 seals
 abbrev pub SealsInOrder : SealFields → Type 0
-SealsInOrder c = (c.base ≤ c.end) × (c.end ≤ 1048575)
+SealsInOrder c = IsRange c.base c.end
 
 -- the range in a face is in order, where it has one; the others say the same of what they hold
 abbrev pub FaceInOrder : Face → Type 0

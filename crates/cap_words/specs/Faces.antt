@@ -1,5 +1,6 @@
 -- What a face, a permission or a range says.
-use Rattle.std.specs.Prelude.{ℕ, ◌==◌, nat_lt, nat_le, Bool, true, false, ◌&&◌, not, ℤ, pos, negsuc, [], ◌∷◌, slice_get, Option, Some, None, if◌then◌else◌}
+use Rattle.std.specs.Prelude.{ℕ, ◌==◌, nat_lt, nat_le, Bool, true, false, ◌&&◌, not, ℤ, pos, negsuc}
+use Rattle.std.specs.Prelude.{[], ◌∷◌, slice_get, Option, Some, None, if◌then◌else◌}
 use Rattle.cap_words.specs.declared.Perm.{Perm}
 use Rattle.cap_words.specs.declared.Perm.TheVariants.{No, R as ReadOnly, Rw, Rx, Rwx}
 use Rattle.cap_words.specs.declared.CapFields.{CapFields}
@@ -7,6 +8,7 @@ use Rattle.cap_words.specs.declared.SealFields.{SealFields}
 use Rattle.cap_words.specs.declared.Face.{Face}
 use Rattle.cap_words.specs.declared.Face.TheVariants.{Number, Memory, Seals, Sealed}
 use Rattle.cap_words.specs.Linear.{lin_is}
+use Rattle.cap_words.specs.Ranges.{in_range}
 
 -- how programs number the permissions
 abbrev pub perm_number : Perm → ℕ
@@ -31,10 +33,9 @@ may_run Rx = true
 may_run Rwx = true
 may_run _ = false
 
--- an address within the range, both ends included
+-- an address within the range
 abbrev pub covers : CapFields → ℤ → Bool
-covers c (pos a) = nat_le c.base a && nat_le a c.end
-covers c (negsuc a) = false
+covers c z = in_range c.base c.end z
 
 -- the integer, if the word is one
 abbrev pub int_in : Face → Option ℤ
@@ -128,7 +129,6 @@ is_below Rw q = may_write q
 is_below Rx q = may_run q
 is_below Rwx q = may_write q && may_run q
 
--- a seal within the range, both ends included
+-- a seal within the range
 abbrev pub seals_at : SealFields → ℤ → Bool
-seals_at s (pos n) = nat_le s.base n && nat_le n s.end
-seals_at s (negsuc n) = false
+seals_at s z = in_range s.base s.end z

@@ -1,3 +1,4 @@
+pub mod Ranges
 pub mod Linear
 pub mod Face
 pub mod Faces

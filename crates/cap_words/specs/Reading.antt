@@ -1,6 +1,8 @@
 -- Reading from left to right: a reader takes a field from the front, or says what is wrong with it.
-use Rattle.std.specs.Prelude.{ℕ, ◌+◌, nat_lt, nat_le, ◌&&◌, ℤ, List, length, take, drop, slice_index, Option, Some, None, Result, Ok, Err, if◌then◌else◌}
-use Rattle.std.specs.Int.{Width, w64, byte_len, from_le_bytes, cast_signed}
+use Rattle.std.specs.Prelude.{ℕ, ◌+◌, nat_lt, nat_le, ◌&&◌, ℤ, List, length, take, drop, slice_index}
+use Rattle.std.specs.Prelude.{Option, Some, None, Result, Ok, Err, if◌then◌else◌}
+use Rattle.std.specs.Int.{w64, cast_signed}
+use Rattle.byteorder.specs.Endian.{little_number}
 use Rattle.cap_words.specs.declared.bytes.cursor.FieldFault.{FieldFault}
 use Rattle.cap_words.specs.declared.bytes.cursor.FieldFault.TheVariants.{Short, BadField}
 
@@ -27,12 +29,14 @@ abbrev pub done : {F A : Type 0} → A → Reader F A
 done x i = Ok (x, i)
 
 -- the place of the next byte
-abbrev pub place : {F : Type 0} → Reader F ℕ
-place i = Ok (i.at, i)
+abbrev pub here : {F : Type 0} → Reader F ℕ
+here i = Ok (i.at, i)
 
 -- a field of n bytes is short where they aren't all there
-unfoldable pub bytes_at : ℕ → Reader FieldFault (List ℕ)
-bytes_at n i = if nat_lt (length i.rest) n then Err (Short i.at) else Ok (take n i.rest, record { at = i.at + n; rest = drop n i.rest })
+unfoldable pub next_bytes : ℕ → Reader FieldFault (List ℕ)
+next_bytes n i =
+    if nat_lt (length i.rest) n then Err (Short i.at)
+    else Ok (take n i.rest, record { at = i.at + n; rest = drop n i.rest })
 
 -- bytes that mean nothing are a bad field
 abbrev pub unless_none : {A : Type 0} → ℕ → Option A → Reader FieldFault A
@@ -42,25 +46,25 @@ unless_none at (Some x) i = Ok (x, i)
 -- a field of which only some values mean something
 unfoldable pub meant : {A B : Type 0} → (A → Option B) → Reader FieldFault A → Reader FieldFault B
 meant meaning r = do
-  at ← place
+  at ← here
   x ← r
   unless_none at (meaning x)
 
-unfoldable pub byte_at : Reader FieldFault ℕ
-byte_at = do
-  bytes ← bytes_at 1
+unfoldable pub next_byte : Reader FieldFault ℕ
+next_byte = do
+  bytes ← next_bytes 1
   done (slice_index bytes 0)
 
--- numbers are little endian
-unfoldable pub number_at : Width → Reader FieldFault ℕ
-number_at w = do
-  bytes ← bytes_at (byte_len w)
-  done (from_le_bytes w bytes)
+-- a number of so many bytes, little endian
+unfoldable pub next_number : ℕ → Reader FieldFault ℕ
+next_number len = do
+  bytes ← next_bytes len
+  done (little_number len bytes)
 
 -- two's complement, in 8 bytes
-unfoldable pub signed_at : Reader FieldFault ℤ
-signed_at = do
-  n ← number_at w64
+unfoldable pub next_signed : Reader FieldFault ℤ
+next_signed = do
+  n ← next_number 8
   done (cast_signed w64 n)
 
 -- a number from low to high

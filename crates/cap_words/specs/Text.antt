@@ -31,7 +31,9 @@ range_text base end at = decimal base ++ codes "," ++ decimal end ++ codes "," +
 
 -- cap(PERM,LIN,BASE,END,ADDR)
 unfoldable pub cap_text : CapFields → List ℕ
-cap_text c = codes "cap(" ++ perm_name c.perm ++ codes "," ++ lin_name c.lin ++ codes "," ++ range_text c.base c.end c.addr ++ codes ")"
+cap_text c =
+    codes "cap(" ++ perm_name c.perm ++ codes "," ++ lin_name c.lin ++ codes ","
+    ++ range_text c.base c.end c.addr ++ codes ")"
 
 -- seal(BASE,END,CUR)
 unfoldable pub seal_text : SealFields → List ℕ

@@ -1,6 +1,6 @@
 -- Reading a word, with the first fault that is met.
 use Rattle.std.specs.Prelude.{ℕ, ◌==◌, [], ◌∷◌, pos, Option, slice_get, Err, if◌then◌else◌}
-use Rattle.std.specs.Int.{w32}
+use Rattle.cap_words.specs.declared.TheConstants.{LAST_PLACE}
 use Rattle.cap_words.specs.declared.Perm.{Perm}
 use Rattle.cap_words.specs.declared.Lin.{Lin}
 use Rattle.cap_words.specs.declared.Lin.TheVariants.{Normal, Linear}
@@ -13,7 +13,8 @@ use Rattle.cap_words.specs.declared.Word.TheVariants.{Int, Mem, Seal, Sealed}
 use Rattle.cap_words.specs.declared.bytes.cursor.FieldFault.{FieldFault}
 use Rattle.cap_words.specs.declared.bytes.cursor.FieldFault.TheVariants.{BadField}
 use Rattle.cap_words.specs.Faces.{perm_at}
-use Rattle.cap_words.specs.Reading.{Reader, ◌>>=◌, done, place, meant, byte_at, number_at, signed_at, within}
+use Rattle.cap_words.specs.Reading.{Reader, ◌>>=◌, done, here, meant, next_byte, next_number, next_signed}
+use Rattle.cap_words.specs.Reading.{within}
 
 abbrev pub perm_meant : ℕ → Option Perm
 perm_meant n = perm_at (pos n)
@@ -22,64 +23,64 @@ abbrev pub lin_meant : ℕ → Option Lin
 lin_meant n = slice_get (Normal ∷ Linear ∷ []) n
 
 -- an address or a seal, not below a bound
-abbrev pub place_from : ℕ → Reader FieldFault ℕ
-place_from low = meant (within low 1048575) (number_at w32)
+abbrev pub next_in_space : ℕ → Reader FieldFault ℕ
+next_in_space low = meant (within low LAST_PLACE) (next_number 4)
 
-unfoldable pub cap_at : Reader FieldFault CapFields
-cap_at = do
-  perm ← meant perm_meant byte_at
-  lin ← meant lin_meant byte_at
-  base ← place_from 0
-  end ← place_from base
-  addr ← signed_at
+unfoldable pub next_cap : Reader FieldFault CapFields
+next_cap = do
+  perm ← meant perm_meant next_byte
+  lin ← meant lin_meant next_byte
+  base ← next_in_space 0
+  end ← next_in_space base
+  addr ← next_signed
   done (record { perm = perm; lin = lin; base = base; end = end; addr = addr })
 
-unfoldable pub seals_at : Reader FieldFault SealFields
-seals_at = do
-  base ← place_from 0
-  end ← place_from base
-  cur ← signed_at
+unfoldable pub next_seal_cap : Reader FieldFault SealFields
+next_seal_cap = do
+  base ← next_in_space 0
+  end ← next_in_space base
+  cur ← next_signed
   done (record { base = base; end = end; cur = cur })
 
 -- what a tag announces; `at` is the tag's place, where a tag that announces nothing is a bad field
-unfoldable pub content_behind : ℕ → ℕ → Reader FieldFault Sealable
-content_behind at tag =
-    if tag == 1 then (cap_at >>= λ c. done (MemIn c))
-    else if tag == 2 then (seals_at >>= λ s. done (SealIn s))
+unfoldable pub content_tagged : ℕ → ℕ → Reader FieldFault Sealable
+content_tagged at tag =
+    if tag == 1 then (next_cap >>= λ c. done (MemIn c))
+    else if tag == 2 then (next_seal_cap >>= λ s. done (SealIn s))
     else λ i. Err (BadField at)
 
-unfoldable pub content_at : Reader FieldFault Sealable
-content_at = do
-  at ← place
-  tag ← byte_at
-  content_behind at tag
+unfoldable pub next_content : Reader FieldFault Sealable
+next_content = do
+  at ← here
+  tag ← next_byte
+  content_tagged at tag
 
 -- a capability that isn't sealed, as a word
-abbrev pub unsealed : Sealable → Word
-unsealed (MemIn c) = Mem c
-unsealed (SealIn s) = Seal s
+abbrev pub as_word : Sealable → Word
+as_word (MemIn c) = Mem c
+as_word (SealIn s) = Seal s
 
-unfoldable pub unsealed_behind : ℕ → ℕ → Reader FieldFault Word
-unsealed_behind at tag =
-    if tag == 0 then (signed_at >>= λ n. done (Int n))
-    else content_behind at tag >>= λ c. done (unsealed c)
+unfoldable pub unsealed_tagged : ℕ → ℕ → Reader FieldFault Word
+unsealed_tagged at tag =
+    if tag == 0 then (next_signed >>= λ n. done (Int n))
+    else content_tagged at tag >>= λ c. done (as_word c)
 
 -- a word that isn't sealed
-unfoldable pub unsealed_at : Reader FieldFault Word
-unsealed_at = do
-  at ← place
-  tag ← byte_at
-  unsealed_behind at tag
+unfoldable pub next_unsealed : Reader FieldFault Word
+next_unsealed = do
+  at ← here
+  tag ← next_byte
+  unsealed_tagged at tag
 
-unfoldable pub sealed_behind : Reader FieldFault Word
-sealed_behind = do
-  seal ← place_from 0
-  content ← content_at
+unfoldable pub next_sealed : Reader FieldFault Word
+next_sealed = do
+  seal ← next_in_space 0
+  content ← next_content
   done (Sealed seal content)
 
 -- a word of any kind
-unfoldable pub word_at : Reader FieldFault Word
-word_at = do
-  at ← place
-  tag ← byte_at
-  if tag == 3 then sealed_behind else unsealed_behind at tag
+unfoldable pub next_word : Reader FieldFault Word
+next_word = do
+  at ← here
+  tag ← next_byte
+  if tag == 3 then next_sealed else unsealed_tagged at tag

@@ -13,8 +13,12 @@ ghost use Rattle.std.specs.Prelude.{◌≡◌, ◌≤◌, Option, Some, None, if
 ghost use Rattle.cap_words.specs.declared.Word.{Word};
 ghost use Rattle.cap_words.specs.declared.Word.TheVariants.{Int};
 ghost use Rattle.cap_words.specs.Linear.{lin_is, is_linear, copied, left_of};
-ghost use Rattle.cap_words.specs.Face.{face_of, opened_of, FaceInOrder, OpenedInOrder, SomeCapInOrder, SomeSealsInOrder};
-ghost use Rattle.cap_words.specs.Faces.{may_write, may_read, may_run, perm_number, perm_at, is_below, same_kind, int_in, memory_in, seals_in, face_linear, face_number, face_address, face_base, face_end, face_perm, seals_at, address, target_of};
+ghost use Rattle.cap_words.specs.Face.{face_of, opened_of, FaceInOrder, OpenedInOrder, SomeCapInOrder};
+ghost use Rattle.cap_words.specs.Face.{SomeSealsInOrder};
+ghost use Rattle.cap_words.specs.Faces.{may_write, may_read, may_run, perm_number, perm_at, is_below};
+ghost use Rattle.cap_words.specs.Faces.{same_kind, int_in, memory_in, seals_in, face_linear, face_number};
+ghost use Rattle.cap_words.specs.Faces.{face_address, face_base, face_end, face_perm, seals_at, address};
+ghost use Rattle.cap_words.specs.Faces.{target_of};
 ghost use Rattle.cap_words.specs.Text.{perm_name, lin_name};
 
 mod bytes;
@@ -31,6 +35,9 @@ pub use text::word_text;
 
 /// The last of the 1,048,576 addresses, and the last of as many seals.
 pub const LAST_PLACE: u32 = 1_048_575;
+
+/// The most addresses or seals that stand together in one stretch.
+pub const LONGEST_STRETCH: u32 = 65_536;
 
 /// What a memory capability allows at the addresses of its range.
 #[derive(Clone, Copy, Debug, PartialEq, Eq)]
@@ -183,21 +190,21 @@ impl CapFields {
 /// A memory capability: the right to use a range of addresses. A contract sees it as its fields.
 ///
 /// The range is not empty, and it ends within the 1,048,576 addresses that there are: base is at
-/// most end, and end at most 1,048,575. Each value keeps this.
+/// most end, and end at most [`LAST_PLACE`]. Each value keeps this.
 #[derive(Debug, Drop)]
 pub struct Cap {
     fields: CapFields,
 }
 
 impl Model for Cap {
-    ghost use Rattle.std.specs.Prelude.{◌≤◌};
+    ghost use Rattle.cap_words.specs.Ranges.{IsRange};
     ghost use Rattle.cap_words.specs.declared.CapFields.{CapFields};
 
     ghost Value = { CapFields };
 
     ghost view = { λ c. c.fields };
 
-    ghost invariant = { λ c. (c.fields.base ≤ c.fields.end) × (c.fields.end ≤ 1048575) };
+    ghost invariant = { λ c. IsRange c.fields.base c.fields.end };
 }
 
 impl Cap {
@@ -207,7 +214,7 @@ impl Cap {
     /// no linear capability comes to exist twice is left to the caller.
     pub fn new(perm: Perm, lin: Lin, base: u32, end: u32, addr: i64) -> Cap
         requires in_order { base ≤ end }
-        requires in_space { end ≤ 1048575 }
+        requires in_space { end ≤ LAST_PLACE }
         ensures { result ≡ record { perm = perm; lin = lin; base = base; end = end; addr = addr } }
     {
         Cap::of(CapFields {
@@ -222,7 +229,7 @@ impl Cap {
     /// The capability that a description describes, made as [`Cap::new`] makes it.
     pub fn of(fields: CapFields) -> Cap
         requires in_order { fields.base ≤ fields.end }
-        requires in_space { fields.end ≤ 1048575 }
+        requires in_space { fields.end ≤ LAST_PLACE }
         ensures { result ≡ fields }
     {
         Cap { fields }
@@ -232,7 +239,7 @@ impl Cap {
     pub fn fields(&self) -> CapFields
         ensures same { result ≡ self.now }
         ensures in_order { result.base ≤ result.end }
-        ensures in_space { result.end ≤ 1048575 }
+        ensures in_space { result.end ≤ LAST_PLACE }
     {
         self.fields
     }
@@ -252,7 +259,7 @@ pub struct SealFields {
 impl SealFields {
     /// The seal that it seals with: the current one where that is in the range, else `None`.
     pub fn current(&self) -> Option<u32>
-        requires { self.now.end ≤ 1048575 }
+        requires { self.now.end ≤ LAST_PLACE }
         ensures { result ≡ (if seals_at self.now self.now.cur then Some (address self.now.cur) else None) }
     {
         if i64::from(self.base) <= self.cur && self.cur <= i64::from(self.end) {
@@ -267,21 +274,21 @@ impl SealFields {
 /// A contract sees it as its fields. It is never linear.
 ///
 /// The range is not empty, and it ends within the 1,048,576 seals that there are: base is at most
-/// end, and end at most 1,048,575. Each value keeps this.
+/// end, and end at most [`LAST_PLACE`]. Each value keeps this.
 #[derive(Debug, Drop)]
 pub struct SealCap {
     fields: SealFields,
 }
 
 impl Model for SealCap {
-    ghost use Rattle.std.specs.Prelude.{◌≤◌};
+    ghost use Rattle.cap_words.specs.Ranges.{IsRange};
     ghost use Rattle.cap_words.specs.declared.SealFields.{SealFields};
 
     ghost Value = { SealFields };
 
     ghost view = { λ c. c.fields };
 
-    ghost invariant = { λ c. (c.fields.base ≤ c.fields.end) × (c.fields.end ≤ 1048575) };
+    ghost invariant = { λ c. IsRange c.fields.base c.fields.end };
 }
 
 impl SealCap {
@@ -290,7 +297,7 @@ impl SealCap {
     /// This makes a right out of numbers, so it is for the machine and not for its programs.
     pub fn new(base: u32, end: u32, cur: i64) -> SealCap
         requires in_order { base ≤ end }
-        requires in_space { end ≤ 1048575 }
+        requires in_space { end ≤ LAST_PLACE }
         ensures { result ≡ record { base = base; end = end; cur = cur } }
     {
         SealCap::of(SealFields { base, end, cur })
@@ -299,7 +306,7 @@ impl SealCap {
     /// The seal capability that a description describes, made as [`SealCap::new`] makes it.
     pub fn of(fields: SealFields) -> SealCap
         requires in_order { fields.base ≤ fields.end }
-        requires in_space { fields.end ≤ 1048575 }
+        requires in_space { fields.end ≤ LAST_PLACE }
         ensures { result ≡ fields }
     {
         SealCap { fields }
@@ -309,7 +316,7 @@ impl SealCap {
     pub fn fields(&self) -> SealFields
         ensures same { result ≡ self.now }
         ensures in_order { result.base ≤ result.end }
-        ensures in_space { result.end ≤ 1048575 }
+        ensures in_space { result.end ≤ LAST_PLACE }
     {
         self.fields
     }
@@ -686,7 +693,7 @@ impl<W: Drop> Held<W> {
 }
 
 impl<W: MachineWord> Held<W> {
-    /// Takes the word of a place: a linear one leaves integer 0, since it exists once, and
+    /// Lifts the word out of a place: a linear one leaves integer 0, since it exists once, and
     /// another stays in its place and is copied.
     pub fn lift(place: &mut W) -> Held<W>
         ensures word { result ≡ place.old }

@@ -1,13 +1,14 @@
 //! Ranges of seals.
 ghost use Rattle.std.specs.Prelude.{◌≡◌, ◌≤◌};
 
+use crate::{LAST_PLACE, LONGEST_STRETCH};
 use std::marker::Model;
 
 /// So many seals from a first one on; there may be none. A contract sees the first seal and the
 /// count.
 ///
-/// The first is one of the 1,048,576 seals, and there are at most 65,536. Each value keeps this. That
-/// the range ends within the seals is no part of it.
+/// The first is at most [`LAST_PLACE`], and there are at most [`LONGEST_STRETCH`]. Each value keeps
+/// this. That the range ends within the seals is no part of it.
 #[derive(Debug, Drop)]
 pub struct SealRange {
     base: u32,
@@ -17,19 +18,20 @@ pub struct SealRange {
 impl Model for SealRange {
     ghost use Rattle.std.specs.Prelude.{◌≤◌};
     ghost use Rattle.cap_words.specs.Stretch.{Stretch};
+    ghost use Rattle.cap_words.specs.declared.TheConstants.{LAST_PLACE, LONGEST_STRETCH};
 
     ghost Value = { Stretch };
 
     ghost view = { λ r. record { base = r.base; count = r.count } };
 
-    ghost invariant = { λ r. (r.base ≤ 1048575) × (r.count ≤ 65536) };
+    ghost invariant = { λ r. (r.base ≤ LAST_PLACE) × (r.count ≤ LONGEST_STRETCH) };
 }
 
 impl SealRange {
     /// The `count` seals from `base` on.
     pub fn new(base: u32, count: u32) -> SealRange
-        requires in_space { base ≤ 1048575 }
-        requires few { count ≤ 65536 }
+        requires in_space { base ≤ LAST_PLACE }
+        requires few { count ≤ LONGEST_STRETCH }
         ensures { result ≡ record { base = base; count = count } }
     {
         SealRange { base, count }
@@ -38,7 +40,7 @@ impl SealRange {
     /// The first seal.
     pub fn base(&self) -> u32
         ensures same { result ≡ self.now.base }
-        ensures in_space { result ≤ 1048575 }
+        ensures in_space { result ≤ LAST_PLACE }
     {
         self.base
     }
@@ -46,7 +48,7 @@ impl SealRange {
     /// How many seals there are.
     pub fn count(&self) -> u32
         ensures same { result ≡ self.now.count }
-        ensures few { result ≤ 65536 }
+        ensures few { result ≤ LONGEST_STRETCH }
     {
         self.count
     }

@@ -5,9 +5,10 @@
 ghost use Rattle.std.specs.Prelude.{◌≡◌, ◌+◌, ◌≤◌, ◌++◌, length, decimal, IsAscii};
 ghost use Rattle.std.specs.Fmt.{signed_decimal};
 ghost use Rattle.arrayvec.specs.ArrayString.{array_string_len};
-ghost use Rattle.cap_words.specs.Text.{range_text, cap_text, seal_text, sealable_text, sealed_text, word_text_of};
+ghost use Rattle.cap_words.specs.Text.{range_text, cap_text, seal_text, sealable_text, sealed_text};
+ghost use Rattle.cap_words.specs.Text.{word_text_of};
 
-use crate::{CapFields, SealFields, Sealable, Word};
+use crate::{CapFields, LAST_PLACE, SealFields, Sealable, Word};
 use arrayvec::ArrayString;
 use itoa::Buffer;
 
@@ -59,7 +60,7 @@ fn push_signed(text: &mut ArrayString<128>, number: i64)
 #[tactic(auto, unfolding(crate::specs::Text::range_text))]
 fn push_range(text: &mut ArrayString<128>, base: u32, end: u32, at: i64)
     requires in_order { base ≤ end }
-    requires in_space { end ≤ 1048575 }
+    requires in_space { end ≤ LAST_PLACE }
     requires room { array_string_len text.old + 42 ≤ 128 }
     ensures text { text.new.bytes ≡ text.old.bytes ++ range_text base end at }
     ensures len { array_string_len text.new ≤ array_string_len text.old + 36 }
@@ -76,7 +77,7 @@ fn push_range(text: &mut ArrayString<128>, base: u32, end: u32, at: i64)
 #[tactic(auto, unfolding(crate::specs::Text::cap_text))]
 fn push_cap(text: &mut ArrayString<128>, cap: CapFields)
     requires in_order { cap.base ≤ cap.end }
-    requires in_space { cap.end ≤ 1048575 }
+    requires in_space { cap.end ≤ LAST_PLACE }
     requires room { array_string_len text.old + 55 ≤ 128 }
     ensures text { text.new.bytes ≡ text.old.bytes ++ cap_text cap }
     ensures len { array_string_len text.new ≤ array_string_len text.old + 49 }
@@ -95,7 +96,7 @@ fn push_cap(text: &mut ArrayString<128>, cap: CapFields)
 #[tactic(auto, unfolding(crate::specs::Text::seal_text))]
 fn push_seal(text: &mut ArrayString<128>, cap: SealFields)
     requires in_order { cap.base ≤ cap.end }
-    requires in_space { cap.end ≤ 1048575 }
+    requires in_space { cap.end ≤ LAST_PLACE }
     requires room { array_string_len text.old + 48 ≤ 128 }
     ensures text { text.new.bytes ≡ text.old.bytes ++ seal_text cap }
     ensures len { array_string_len text.new ≤ array_string_len text.old + 42 }

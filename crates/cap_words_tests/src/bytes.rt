@@ -2,12 +2,12 @@
 //! and every place here was worked out by hand.
 use cap_words::{
     Cap, Cursor, FieldFault, Items, Lin, Perm, SealCap, SealRange, Sealable, Word, push_u16,
-    push_u32, read_word, word_bytes, word_text,
+    push_u32, push_word, read_word, word_bytes, word_text,
 };
 use std::process::Abort;
 use std::test::Fail;
 
-/// Words of each shape, with each permission, both linearities and the limits, and their bytes.
+// Words of each shape, with each permission, both linearities and the limits, and their bytes.
 fn spelled() -> [(Word, &'static [u8]); 16] {
     [
         (Word::Int(5), &[0, 5, 0, 0, 0, 0, 0, 0, 0]),
@@ -258,6 +258,11 @@ fn the_parts_are_read_and_written(rt: HostRuntime) -> Result<(), Fail> {
     push_u32(&mut out, 0x0304_0506)?;
     assert_eq!(rt; out.as_slice(), [2, 1, 6, 5, 4, 3].as_slice());
 
+    let mut words = Vec::from_slice(rt.alloc(), &[9])?;
+    push_word(&mut words, &Word::Int(-2))?;
+    let bytes = [9, 0, 254, 255, 255, 255, 255, 255, 255, 255];
+    assert_eq!(rt; words.as_slice(), bytes.as_slice());
+
     let mut cursor = Cursor::of(&[7, 2, 1, 8, 9]);
     assert_eq!(rt; cursor.at(), 0);
     assert_eq!(rt; cursor.bytes(1), Ok([7].as_slice()));
@@ -276,5 +281,23 @@ fn the_parts_are_read_and_written(rt: HostRuntime) -> Result<(), Fail> {
     let range = SealRange::new(1048575, 65536);
     assert_eq!(rt; range.base(), 1048575);
     assert_eq!(rt; range.count(), 65536);
+    Ok(())
+}
+
+#[test]
+fn each_fault_of_a_field_has_its_text(rt: HostRuntime) -> Result<(), Fail> {
+    let faults = [
+        (
+            FieldFault::Short(5),
+            "the bytes end within the field at byte 5",
+        ),
+        (
+            FieldFault::BadField(70),
+            "the field at byte 70 is not valid",
+        ),
+    ];
+    for (fault, text) in faults {
+        assert_eq!(rt; format!(in rt.alloc(); "{fault}")?.as_str(), text);
+    }
     Ok(())
 }

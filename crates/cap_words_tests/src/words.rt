@@ -1,7 +1,7 @@
 //! What no clause says: that the definitions mean what they should.
 use cap_words::{Cap, Held, Lin, Perm, SealCap, Sealable, Word, word_text};
 
-/// The texts were worked out by hand; the last is the longest that there is.
+// The texts were worked out by hand; the last is the longest that there is.
 #[test]
 fn each_word_has_its_text(rt: HostRuntime) {
     let words = [
@@ -46,7 +46,7 @@ fn each_word_has_its_text(rt: HostRuntime) {
     }
 }
 
-/// Each shape of a word, and whether it is linear.
+// Each shape of a word, and whether it is linear.
 fn shapes() -> [(Word, bool); 7] {
     [
         (Word::Int(5), false),

@@ -5,6 +5,7 @@ use Rattle.std.specs.List.{AllByRecursion}
 use Rattle.cap_words.specs.declared.Word.{Word}
 use Rattle.cap_words.specs.declared.Word.TheVariants.{Int, Mem, Seal, Sealed}
 use Rattle.cap_words.specs.WordBytes.{WordFits, IsUnsealed, SealInSpace}
+use Rattle.component_file.specs.declared.TheConstants.{LONGEST_NAME}
 use Rattle.component_file.specs.declared.component.Import.{Import}
 use Rattle.component_file.specs.declared.component.Export.{Export}
 use Rattle.component_file.specs.Limits.{is_name, Chain, Each, ImportFits, ExportFits}
@@ -18,7 +19,7 @@ both_are false b h = absurd cc
 pub name_is_short : (text : List ℕ) → IsTrue (is_name text) → length text < 256
 unfolding is_name
 name_is_short text h =
-    let short = both_are (leb 1 (length text)) (leb (length text) 31) (both_are _ _ (both_are _ _ h).0).0 in
+    let short = both_are (leb 1 (length text)) (leb (length text) LONGEST_NAME) (both_are _ _ (both_are _ _ h).0).0 in
     grind (arith, short.1)
 
 pub chain_all : {A : Type 0} {P : Option A → A → Type 0} {Q : A → Type 0} → ((b : Option A) (x : A) → P b x → Q x) → (b : Option A) (xs : List A) → Chain P b xs → AllByRecursion Q xs

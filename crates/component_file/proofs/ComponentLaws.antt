@@ -1,59 +1,59 @@
 -- A component is read where it is spelled, and spelled where it was read.
 use Rattle.std.proofs.Common.{◌≡◌, ℕ, ◌+◌, ◌^◌, ◌<◌, ◌≤◌, Bool, true, false, cond, eqb, List, [], ◌∷◌, ◌++◌, length, Result, Ok, Err, refl, sym, ap, ◌∙◌, append-nil, arith, take}
-use Rattle.std.specs.Int.{w16, w32}
 use Rattle.std.specs.Str.{bytes_eq}
 use Rattle.std.proofs.lemmas.Bool.{eqb-true, eq-eqb, ne_eqb}
 use Rattle.std.proofs.lemmas.List.{nil_from_length}
 use Rattle.std.proofs.lemmas.Slice.Eq.{bytes_eq-Decides}
 use Rattle.cap_words.specs.Stretch.{Stretch}
-use Rattle.cap_words.specs.Reading.{Input, bytes_at, number_at}
+use Rattle.cap_words.specs.Reading.{Input, next_bytes, next_number}
 use Rattle.cap_words.proofs.Grammar.{IsBytes, Reads, All, reads_then, reads_done, reads_as, reads_text}
-use Rattle.cap_words.proofs.Fields.{number_reads, wide16, wide32}
+use Rattle.cap_words.proofs.Fields.{number_reads}
+use Rattle.component_file.specs.declared.TheConstants.{MOST_IMPORTS, MOST_EXPORTS, MOST_SITES, MOST_ROWS, VERSION}
 use Rattle.component_file.specs.declared.fault.FileFault.{FileFault}
 use Rattle.component_file.specs.declared.fault.FileFault.TheVariants.{Magic, Version, Short, BadField, Order, Trailing, NoMemory}
 use Rattle.component_file.specs.declared.component.ComponentFields.{ComponentFields}
 use Rattle.component_file.specs.Fault.{Fails}
 use Rattle.component_file.specs.Limits.{IsComponent}
 use Rattle.component_file.specs.Spelling.{u16_bytes, magic, spelling, Spells}
-use Rattle.component_file.specs.Reading.{field, name_at, address_at, stretch_at, optional_at, list_at, import_behind, export_behind, site_behind, row_behind, header_at, words_at, component_at, finished, decoded}
+use Rattle.component_file.specs.Reading.{field, next_name, next_address, next_stretch, next_optional, next_list, next_import, next_export, next_site, next_row, next_header, next_words, next_component, finished, decoded}
 use Rattle.component_file.proofs.FieldLaws.{reads_field, reads_tells, four_read, name_reads, address_reads, stretch_reads, optional_reads}
 use Rattle.component_file.proofs.ListLaws.{list_read, import_reads, export_reads, site_reads, row_reads, words_reads}
 
 -- ---- magic and version
 
-header_reads : Reads Short All (All {A = Unit {0}}) (λ _. magic ++ u16_bytes 1) header_at
-unfolding header_at
-header_reads = reads_as header_at
-    (reads_text _ (λ c k. ap (λ l. magic ++ l) (append-nil (u16_bytes 1)))
-    (reads_then (λ (c : Unit {0}). magic) (field (bytes_at 4)) _ (reads_field four_read) (λ four p0.
+header_reads : Reads Short All (All {A = Unit {0}}) (λ _. magic ++ u16_bytes VERSION) next_header
+unfolding next_header
+header_reads = reads_as next_header
+    (reads_text _ (λ c k. ap (λ l. magic ++ l) (append-nil (u16_bytes VERSION)))
+    (reads_then (λ (c : Unit {0}). magic) (field (next_bytes 4)) _ (reads_field four_read) (λ four p0.
     reads_tells (bytes_eq four magic) Magic _ (λ e. sym ((bytes_eq-Decides four magic).0 e)) (λ e. (bytes_eq-Decides four magic).1 (sym e))
-    (reads_then (λ (c : Unit {0}). 1) (field (number_at w16)) _ (reads_field (number_reads w16 (2 ^ 16) wide16)) (λ version p1.
-    reads_tells (eqb version 1) Version _ (λ e. sym (eqb-true _ _ e)) (λ e. eq-eqb version 1 (sym e))
+    (reads_then (λ (c : Unit {0}). VERSION) (field (next_number 2)) _ (reads_field (number_reads 2)) (λ version p1.
+    reads_tells (eqb version VERSION) Version _ (λ e. sym (eqb-true _ _ e)) (λ e. eq-eqb version VERSION (sym e))
     (reads_done tt (λ c k. refl) tt))))))
     (λ c k p. tt)
     (λ c k p. (refl, (omega arith, tt)))
 
 -- ---- the component
 
-pub component_reads : Reads Short All IsComponent spelling component_at
-unfolding component_at spelling
-component_reads = reads_as component_at
-    (reads_then {A = Unit {0}} (λ (c : ComponentFields). tt) header_at _ header_reads (λ header p0.
-    reads_then (λ (c : ComponentFields). c.name) (field name_at) _ (reads_field name_reads) (λ name p1.
-    reads_then (λ (c : ComponentFields). c.stack_base) (field address_at) _ (reads_field address_reads) (λ stack_base p2.
-    reads_then (λ (c : ComponentFields). c.closure) (field address_at) _ (reads_field address_reads) (λ closure p3.
-    reads_then (λ (c : ComponentFields). c.seals) (field stretch_at) _ (reads_field stretch_reads) (λ seals p4.
-    reads_then {A = Stretch} (λ (c : ComponentFields). record { base = c.linear.base; count = c.linear.count }) (field stretch_at) _ (reads_field stretch_reads) (λ linear p5.
-    reads_then (λ (c : ComponentFields). c.code_base) (field address_at) _ (reads_field address_reads) (λ code_base p6.
-    reads_then (λ (c : ComponentFields). c.code) words_at _ words_reads (λ code p7.
-    reads_then (λ (c : ComponentFields). c.data_base) (field address_at) _ (reads_field address_reads) (λ data_base p8.
-    reads_then (λ (c : ComponentFields). c.data_words) words_at _ words_reads (λ data_words p9.
-    reads_then (λ (c : ComponentFields). c.imports) (list_at w16 0 1024 import_behind) _ (list_read import_behind import_reads w16 (2 ^ 16) 0 1024 wide16 (omega arith)) (λ imports p10.
-    reads_then (λ (c : ComponentFields). c.exports) (list_at w16 0 1024 export_behind) _ (list_read export_behind export_reads w16 (2 ^ 16) 0 1024 wide16 (omega arith)) (λ exports p11.
-    reads_then (λ (c : ComponentFields). c.sites) (list_at w16 0 4096 site_behind) _ (list_read site_behind site_reads w16 (2 ^ 16) 0 4096 wide16 (omega arith)) (λ sites p12.
-    reads_then (λ (c : ComponentFields). c.fail_at) (field optional_at) _ (reads_field optional_reads) (λ fail_at p13.
-    reads_then (λ (c : ComponentFields). c.literal_at) (field optional_at) _ (reads_field optional_reads) (λ literal_at p14.
-    reads_then (λ (c : ComponentFields). c.rows) (list_at w32 0 65536 row_behind) _ (list_read row_behind row_reads w32 (2 ^ 32) 0 65536 wide32 (omega arith)) (λ rows p15.
+pub component_reads : Reads Short All IsComponent spelling next_component
+unfolding next_component spelling
+component_reads = reads_as next_component
+    (reads_then {A = Unit {0}} (λ (c : ComponentFields). tt) next_header _ header_reads (λ header p0.
+    reads_then (λ (c : ComponentFields). c.name) (field next_name) _ (reads_field name_reads) (λ name p1.
+    reads_then (λ (c : ComponentFields). c.stack_base) (field next_address) _ (reads_field address_reads) (λ stack_base p2.
+    reads_then (λ (c : ComponentFields). c.closure) (field next_address) _ (reads_field address_reads) (λ closure p3.
+    reads_then (λ (c : ComponentFields). c.seals) (field next_stretch) _ (reads_field stretch_reads) (λ seals p4.
+    reads_then {A = Stretch} (λ (c : ComponentFields). record { base = c.linear.base; count = c.linear.count }) (field next_stretch) _ (reads_field stretch_reads) (λ linear p5.
+    reads_then (λ (c : ComponentFields). c.code_base) (field next_address) _ (reads_field address_reads) (λ code_base p6.
+    reads_then (λ (c : ComponentFields). c.code) next_words _ words_reads (λ code p7.
+    reads_then (λ (c : ComponentFields). c.data_base) (field next_address) _ (reads_field address_reads) (λ data_base p8.
+    reads_then (λ (c : ComponentFields). c.data_words) next_words _ words_reads (λ data_words p9.
+    reads_then (λ (c : ComponentFields). c.imports) (next_list 2 0 MOST_IMPORTS next_import) _ (list_read next_import import_reads 2 0 MOST_IMPORTS (omega arith)) (λ imports p10.
+    reads_then (λ (c : ComponentFields). c.exports) (next_list 2 0 MOST_EXPORTS next_export) _ (list_read next_export export_reads 2 0 MOST_EXPORTS (omega arith)) (λ exports p11.
+    reads_then (λ (c : ComponentFields). c.sites) (next_list 2 0 MOST_SITES next_site) _ (list_read next_site site_reads 2 0 MOST_SITES (omega arith)) (λ sites p12.
+    reads_then (λ (c : ComponentFields). c.fail_at) (field next_optional) _ (reads_field optional_reads) (λ fail_at p13.
+    reads_then (λ (c : ComponentFields). c.literal_at) (field next_optional) _ (reads_field optional_reads) (λ literal_at p14.
+    reads_then (λ (c : ComponentFields). c.rows) (next_list 4 0 MOST_ROWS next_row) _ (list_read next_row row_reads 4 0 MOST_ROWS (omega arith)) (λ rows p15.
     reads_done (record {
       name = name;
       stack_base = stack_base;
@@ -90,14 +90,14 @@ finished_ok (Ok x) c h = let g = ended_ok (eqb (length x.1.rest) 0) x.0 c x.1.at
 pub found_whole : (bytes : List ℕ) (c : ComponentFields) → IsBytes bytes → decoded bytes ≡ Ok c → IsComponent c × (bytes ≡ spelling c)
 unfolding decoded
 found_whole bytes c fits e =
-    let f = finished_ok (component_at (record { at = 0; rest = bytes })) c e in
+    let f = finished_ok (next_component (record { at = 0; rest = bytes })) c e in
     let g = component_reads.takes (record { at = 0; rest = bytes }) c f.0 fits f.1 in
     let nothing : f.0.rest ≡ [] = nil_from_length f.0.rest f.2 in
     (g.1, g.2.parts ∙ ap (λ l. spelling c ++ l) nothing ∙ append-nil (spelling c))
 
 pub read_whole : (c : ComponentFields) → IsComponent c → decoded (spelling c) ≡ Ok c
 unfolding decoded
-read_whole c fits = ap (λ l. finished (component_at (record { at = 0; rest = l }))) (sym (append-nil (spelling c))) ∙ ap finished (component_reads.again c 0 [] tt fits)
+read_whole c fits = ap (λ l. finished (next_component (record { at = 0; rest = l }))) (sym (append-nil (spelling c))) ∙ ap finished (component_reads.again c 0 [] tt fits)
 
 -- a component that was cut is short somewhere
 pub read_cut : (c : ComponentFields) (n : ℕ) → IsComponent c → n < length (spelling c) → (at : ℕ) × (at ≤ n) × (decoded (take n (spelling c)) ≡ Err (Short at))

@@ -1,10 +1,10 @@
 -- A component's spelling is so short that it can be decoded.
 use Rattle.std.proofs.Common.{◌≡◌, ℕ, ◌+◌, ◌*◌, ◌^◌, ◌<◌, ◌≤◌, List, [], ◌∷◌, ◌++◌, length, Option, Some, None, refl, arith, length-append}
-use Rattle.std.specs.Int.{w16, w32}
 use Rattle.std.specs.List.{flat_map}
 use Rattle.cap_words.specs.declared.Word.{Word}
 use Rattle.cap_words.specs.declared.Word.TheVariants.{Int as IntWord, Mem, Seal, Sealed}
 use Rattle.cap_words.specs.WordBytes.{number_bytes, signed_bytes, cap_bytes, seal_bytes, word_bytes_of, WordFits, IsUnsealed}
+use Rattle.component_file.specs.declared.TheConstants.{MOST_WORDS, MOST_IMPORTS, MOST_EXPORTS, MOST_SITES, MOST_ROWS, VERSION}
 use Rattle.component_file.specs.declared.component.Kind.{Kind}
 use Rattle.component_file.specs.declared.component.Kind.TheVariants.{Any, Int, DataCap, Stk, Pc, Top}
 use Rattle.component_file.specs.declared.component.Import.{Import}
@@ -15,11 +15,11 @@ use Rattle.component_file.specs.Limits.{Chain, Each, ImportFits, ExportFits, Sit
 use Rattle.component_file.specs.Spelling.{u32_bytes, name_bytes, stretch_bytes, list_bytes, import_bytes, export_bytes, flag_byte, optional_bytes, kind_bytes, row_bytes, spelling}
 use Rattle.component_file.proofs.CanWrite.{name_is_short}
 
-u16_length : (n : ℕ) → length (number_bytes w16 n) ≡ 2
+u16_length : (n : ℕ) → length (number_bytes 2 n) ≡ 2
 unfolding number_bytes
 u16_length n = refl
 
-u32_length : (n : ℕ) → length (number_bytes w32 n) ≡ 4
+u32_length : (n : ℕ) → length (number_bytes 4 n) ≡ 4
 unfolding number_bytes
 u32_length n = refl
 
@@ -66,27 +66,27 @@ optional_length : (o : Option ℕ) → length (optional_bytes o) ≤ 5
 optional_length None = omega arith
 optional_length (Some n) = omega (arith, u32_length n)
 
-short_list_length : {A : Type 0} (t : A → List ℕ) (xs : List A) → length (list_bytes w16 t xs) ≡ 2 + length (flat_map t xs)
+short_list_length : {A : Type 0} (t : A → List ℕ) (xs : List A) → length (list_bytes 2 t xs) ≡ 2 + length (flat_map t xs)
 unfolding list_bytes
-short_list_length t xs = omega (arith, length-append (number_bytes w16 (length xs)) (flat_map t xs), u16_length (length xs))
+short_list_length t xs = omega (arith, length-append (number_bytes 2 (length xs)) (flat_map t xs), u16_length (length xs))
 
-long_list_length : {A : Type 0} (t : A → List ℕ) (xs : List A) → length (list_bytes w32 t xs) ≡ 4 + length (flat_map t xs)
+long_list_length : {A : Type 0} (t : A → List ℕ) (xs : List A) → length (list_bytes 4 t xs) ≡ 4 + length (flat_map t xs)
 unfolding list_bytes
-long_list_length t xs = omega (arith, length-append (number_bytes w32 (length xs)) (flat_map t xs), u32_length (length xs))
+long_list_length t xs = omega (arith, length-append (number_bytes 4 (length xs)) (flat_map t xs), u32_length (length xs))
 
-words_length : (words : List Word) → length words ≤ 65536 → Each (λ w. WordFits w × IsUnsealed w) words → length (list_bytes w32 word_bytes_of words) < 2 ^ 24
+words_length : (words : List Word) → length words ≤ MOST_WORDS → Each (λ w. WordFits w × IsUnsealed w) words → length (list_bytes 4 word_bytes_of words) < 2 ^ 24
 words_length words few each = omega (arith, long_list_length word_bytes_of words, items_length {P = λ _ w. WordFits w × IsUnsealed w} word_bytes_of 24 (λ b w p. word_length w p.1) None words each)
 
-imports_length : (imports : List Import) → length imports ≤ 1024 → Chain ImportFits None imports → length (list_bytes w16 import_bytes imports) < 2 ^ 24
+imports_length : (imports : List Import) → length imports ≤ MOST_IMPORTS → Chain ImportFits None imports → length (list_bytes 2 import_bytes imports) < 2 ^ 24
 imports_length imports few each = omega (arith, short_list_length import_bytes imports, items_length {P = ImportFits} import_bytes 600 import_length None imports each)
 
-exports_length : (exports : List Export) → length exports ≤ 1024 → Chain ExportFits None exports → length (list_bytes w16 export_bytes exports) < 2 ^ 24
+exports_length : (exports : List Export) → length exports ≤ MOST_EXPORTS → Chain ExportFits None exports → length (list_bytes 2 export_bytes exports) < 2 ^ 24
 exports_length exports few each = omega (arith, short_list_length export_bytes exports, items_length {P = ExportFits} export_bytes 600 export_length None exports each)
 
-sites_length : (sites : List ℕ) → length sites ≤ 4096 → Chain SiteFits None sites → length (list_bytes w16 u32_bytes sites) < 2 ^ 24
+sites_length : (sites : List ℕ) → length sites ≤ MOST_SITES → Chain SiteFits None sites → length (list_bytes 2 u32_bytes sites) < 2 ^ 24
 sites_length sites few each = omega (arith, short_list_length u32_bytes sites, items_length {P = SiteFits} u32_bytes 4 (λ b s p. omega (arith, u32_length s)) None sites each)
 
-rows_length : (rows : List KindRow) → length rows ≤ 65536 → Chain RowFits None rows → length (list_bytes w32 row_bytes rows) < 2 ^ 24
+rows_length : (rows : List KindRow) → length rows ≤ MOST_ROWS → Chain RowFits None rows → length (list_bytes 4 row_bytes rows) < 2 ^ 24
 rows_length rows few each = omega (arith, long_list_length row_bytes rows, items_length {P = RowFits} row_bytes 79 row_length None rows each)
 
 pub spelling_length : (c : ComponentFields) → IsComponent c → length (spelling c) < 2 ^ 32
@@ -94,7 +94,7 @@ unfolding spelling
 spelling_length c fits =
     simp length-append (omega (
       arith,
-      u16_length 1,
+      u16_length VERSION,
       name_is_short c.name fits.name,
       u32_length c.stack_base,
       u32_length c.closure,

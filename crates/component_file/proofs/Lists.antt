@@ -8,7 +8,7 @@ use Rattle.cap_words.specs.Reading.{Input, Reader, goes_on, done}
 use Rattle.component_file.specs.declared.fault.FileFault.{FileFault}
 use Rattle.component_file.specs.declared.fault.FileFault.TheVariants.{Magic, Version, Short, BadField, Order, Trailing, NoMemory}
 use Rattle.component_file.specs.Fault.{in_file, Fails, GivesUnlessRefused}
-use Rattle.component_file.specs.Reading.{as_file, field, items_at}
+use Rattle.component_file.specs.Reading.{as_file, field, next_items}
 
 -- what is read behind items that were read already
 abbrev pub with_front : {A : Type 0} → List A → Result (List A × Input) FileFault → Result (List A × Input) FileFault
@@ -37,17 +37,17 @@ begins (Err e) = refl
 
 module _ {A : Type 0} (item : Option A → Reader FileFault A) where
   pub read_one : (front : List A) (before : Option A) (count i : ℕ) (bytes after : Input) (x : A) (total : Result (List A × Input) FileFault) → i < count → item before bytes ≡ Ok (x, after)
-      → with_front front (items_at item (count - i) before bytes) ≡ total → with_front (front ++ x ∷ []) (items_at item (count - (i + 1)) (newest (front ++ x ∷ [])) after) ≡ total
-  unfolding items_at
+      → with_front front (next_items item (count - i) before bytes) ≡ total → with_front (front ++ x ∷ []) (next_items item (count - (i + 1)) (newest (front ++ x ∷ [])) after) ≡ total
+  unfolding next_items
   read_one front before count i bytes after x total lt read so_far =
       let k : count - i ≡ suc (count - (i + 1)) = omega arith in
-      let one : with_front front (items_at item (count - i) before bytes) ≡ with_front (front ++ x ∷ []) (items_at item (count - (i + 1)) (Some x) after) = rw (k, read) (regroup front x (items_at item (count - (i + 1)) (Some x) after)) in
+      let one : with_front front (next_items item (count - i) before bytes) ≡ with_front (front ++ x ∷ []) (next_items item (count - (i + 1)) (Some x) after) = rw (k, read) (regroup front x (next_items item (count - (i + 1)) (Some x) after)) in
       rw newest_push (sym one ∙ so_far)
 
   -- a fault of an item is that of the list
   pub read_none : (e : FileFault) (front : List A) (before : Option A) (count i : ℕ) (bytes left : Input) (total : Result (List A × Input) FileFault) → i < count → GivesUnlessRefused (Err e) left (item before bytes)
-      → with_front front (items_at item (count - i) before bytes) ≡ total → Fails e total
-  unfolding items_at
+      → with_front front (next_items item (count - i) before bytes) ≡ total → Fails e total
+  unfolding next_items
   read_none e front before count i bytes left total lt failed so_far =
       let k : count - i ≡ suc (count - (i + 1)) = omega arith in
       let one : item before bytes ≡ Err e → total ≡ Err e = λ h. sym so_far ∙ (rw (k, h) refl) in
@@ -62,16 +62,16 @@ module _ {A : Type 0} (item : Option A → Reader FileFault A) where
       by_cases (Order at) total one failed = one failed
       by_cases (Trailing at) total one failed = one failed
 
-  pub read_all : (front : List A) (before : Option A) (count i : ℕ) (bytes : Input) (total : Result (List A × Input) FileFault) → count ≤ i → with_front front (items_at item (count - i) before bytes) ≡ total → total ≡ Ok (front, bytes)
-  unfolding items_at
+  pub read_all : (front : List A) (before : Option A) (count i : ℕ) (bytes : Input) (total : Result (List A × Input) FileFault) → count ≤ i → with_front front (next_items item (count - i) before bytes) ≡ total → total ≡ Ok (front, bytes)
+  unfolding next_items
   read_all front before count i bytes total le so_far =
       let k : count - i ≡ 0 = omega arith in
-      let one : with_front front (items_at item (count - i) before bytes) ≡ Ok (front, bytes) = rw k (ap (λ (l : List A). Ok (l, bytes)) (append-nil front)) in
+      let one : with_front front (next_items item (count - i) before bytes) ≡ Ok (front, bytes) = rw k (ap (λ (l : List A). Ok (l, bytes)) (append-nil front)) in
       sym so_far ∙ one
 
 -- where the item before makes no difference
-pub any_before : {A : Type 0} (r : Reader FileFault A) (n : ℕ) (before : Option A) (i : Input) → items_at (λ _. r) n before i ≡ items_at (λ _. r) n None i
-unfolding items_at
+pub any_before : {A : Type 0} (r : Reader FileFault A) (n : ℕ) (before : Option A) (i : Input) → next_items (λ _. r) n before i ≡ next_items (λ _. r) n None i
+unfolding next_items
 any_before r zero before i = refl
 any_before r (suc n) before i = refl
 
@@ -87,12 +87,12 @@ field_read r i j x h = ap as_file h
 
 -- a list of so many places that is filled one place after another
 pub read_place : {A : Type 0} (r : Reader FileFault A) (items : List A) (count i : ℕ) (bytes after : Input) (x : A) (total : Result (List A × Input) FileFault) → i < count → i < length items → r bytes ≡ Ok (x, after)
-    → with_front (take i items) (items_at (λ _. r) (count - i) None bytes) ≡ total → with_front (take (i + 1) (set items i x)) (items_at (λ _. r) (count - (i + 1)) None after) ≡ total
+    → with_front (take i items) (next_items (λ _. r) (count - i) None bytes) ≡ total → with_front (take (i + 1) (set items i x)) (next_items (λ _. r) (count - (i + 1)) None after) ≡ total
 read_place r items count i bytes after x total lt long read so_far =
     let one = read_one (λ _. r) (take i items) None count i bytes after x total lt read so_far in
     rw (take_more_set items i x long, ← any_before r (count - (i + 1)) (newest (take i items ++ x ∷ [])) after) one
 
 pub read_places : {A : Type 0} (r : Reader FileFault A) (items : List A) (count i : ℕ) (bytes : Input) (total : Result (List A × Input) FileFault) → count ≤ i → length items ≡ count
-    → with_front (take i items) (items_at (λ _. r) (count - i) None bytes) ≡ total → total ≡ Ok (items, bytes)
+    → with_front (take i items) (next_items (λ _. r) (count - i) None bytes) ≡ total → total ≡ Ok (items, bytes)
 read_places r items count i bytes total le len so_far =
     read_all (λ _. r) (take i items) None count i bytes total le so_far ∙ ap (λ l. Ok (l, bytes)) (take_all i items (omega (arith, len)))

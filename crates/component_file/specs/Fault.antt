@@ -1,15 +1,34 @@
 -- The faults of a file.
-use Rattle.std.specs.Prelude.{◌≡◌, Result, Ok, Err}
+use Rattle.std.specs.Prelude.{◌≡◌, ℕ, Result, Ok, Err}
 use Rattle.cap_words.specs.declared.bytes.cursor.FieldFault.{FieldFault}
 use Rattle.cap_words.specs.declared.bytes.cursor.FieldFault.TheVariants as field
 use Rattle.cap_words.specs.Reading.{Input}
 use Rattle.component_file.specs.declared.fault.FileFault.{FileFault}
-use Rattle.component_file.specs.declared.fault.FileFault.TheVariants.{Short, BadField, NoMemory}
+use Rattle.component_file.specs.declared.fault.FileFault.TheVariants.{Magic, Version, Short, BadField}
+use Rattle.component_file.specs.declared.fault.FileFault.TheVariants.{Order, Trailing, NoMemory}
 
 -- the fault of a field, as the file's
 abbrev pub in_file : FieldFault → FileFault
 in_file (field.Short at) = Short at
 in_file (field.BadField at) = BadField at
+
+-- the faults by number
+abbrev pub fault_number : FileFault → ℕ
+fault_number Magic = 1
+fault_number Version = 2
+fault_number (Short at) = 3
+fault_number (BadField at) = 4
+fault_number (Order at) = 5
+fault_number (Trailing at) = 6
+fault_number NoMemory = 7
+
+-- the place that a fault tells, and 0 where it tells none
+abbrev pub fault_place : FileFault → ℕ
+fault_place (Short at) = at
+fault_place (BadField at) = at
+fault_place (Order at) = at
+fault_place (Trailing at) = at
+fault_place _ = 0
 
 -- the fault is what reading gives, unless memory was refused
 abbrev pub Fails : {A : Type 0} → FileFault → Result A FileFault → Type 0
@@ -22,7 +41,8 @@ AnswersAs view (Ok x) read = read ≡ Ok (view x)
 AnswersAs view (Err e) read = Fails e read
 
 -- the answer of a call on a cursor, and what it left
-abbrev pub GivesUnlessRefused : {A : Type 0} → Result A FileFault → Input → Result (A × Input) FileFault → Type 0
+abbrev pub GivesUnlessRefused : {A : Type 0}
+    → Result A FileFault → Input → Result (A × Input) FileFault → Type 0
 GivesUnlessRefused answer left read = AnswersAs (λ x. (x, left)) answer read
 
 -- the answer to whole bytes

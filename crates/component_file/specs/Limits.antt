@@ -1,10 +1,15 @@
 -- What a component is: the limits of its numbers, and the order of its lists.
-use Rattle.std.specs.Prelude.{◌≡◌, ℕ, ◌≤◌, ◌==◌, nat_le, nat_lt, Bool, true, ◌&&◌, ◌||◌, not, IsTrue, List, [], ◌∷◌, length, slice_index, Option, Some, None, option_map, IfSome, if◌then◌else◌}
+use Rattle.std.specs.Prelude.{◌≡◌, ℕ, ◌≤◌, ◌==◌, nat_le, nat_lt, Bool, true, ◌&&◌, ◌||◌, not, IsTrue}
+use Rattle.std.specs.Prelude.{List, [], ◌∷◌, length, slice_index, Option, Some, None, option_map, IfSome}
+use Rattle.std.specs.Prelude.{if◌then◌else◌}
 use Rattle.std.specs.List.{list_all}
 use Rattle.std.specs.Ordering.{is_lt, nat_cmp}
 use Rattle.std.specs.Cmp.Lexicographic.{slice_cmp}
+use Rattle.cap_words.specs.declared.TheConstants.{LAST_PLACE, LONGEST_STRETCH}
 use Rattle.cap_words.specs.declared.Word.{Word}
 use Rattle.cap_words.specs.WordBytes.{WordFits, IsUnsealed}
+use Rattle.component_file.specs.declared.TheConstants.{LONGEST_NAME, LAST_OFFSET, MOST_WORDS}
+use Rattle.component_file.specs.declared.TheConstants.{MOST_IMPORTS, MOST_EXPORTS, MOST_SITES, MOST_ROWS}
 use Rattle.component_file.specs.declared.component.Kind.{Kind}
 use Rattle.component_file.specs.declared.component.Kind.TheVariants.{Pc}
 use Rattle.component_file.specs.declared.component.Import.{Import}
@@ -21,9 +26,11 @@ is_digit b = nat_le 48 b && nat_le b 57
 abbrev pub is_name_byte : ℕ → Bool
 is_name_byte b = (nat_le 97 b && nat_le b 122) || is_digit b || (b == 95)
 
--- 1 to 31 such bytes, the first of them no digit
+-- a number of such bytes within bounds, the first of them no digit
 unfoldable pub is_name : List ℕ → Bool
-is_name text = nat_le 1 (length text) && nat_le (length text) 31 && not (is_digit (slice_index text 0)) && list_all is_name_byte text
+is_name text =
+    nat_le 1 (length text) && nat_le (length text) LONGEST_NAME
+    && not (is_digit (slice_index text 0)) && list_all is_name_byte text
 
 -- ---- lists
 
@@ -45,48 +52,55 @@ abbrev pub Each : {A : Type 0} → (A → Type 0) → List A → Type 0
 Each P items = Chain (λ _. P) None items
 
 abbrev pub ImportFits : Option Import → Import → Type 0
-ImportFits before i = IsTrue (is_name i.part) × IsTrue (is_name i.name) × (i.slot ≤ 65535) × IsTrue (ascends nat_lt (option_map (λ b. b.slot) before) i.slot)
+ImportFits before i =
+    IsTrue (is_name i.part) × IsTrue (is_name i.name)
+    × (i.slot ≤ LAST_OFFSET) × IsTrue (ascends nat_lt (option_map (λ b. b.slot) before) i.slot)
 
 abbrev pub ExportFits : Option Export → Export → Type 0
-ExportFits before e = IsTrue (is_name e.name) × IsTrue (ascends name_lt (option_map (λ b. b.name) before) e.name) × (e.offset ≤ 65535)
+ExportFits before e =
+    IsTrue (is_name e.name) × IsTrue (ascends name_lt (option_map (λ b. b.name) before) e.name)
+    × (e.offset ≤ LAST_OFFSET)
 
 abbrev pub SiteFits : Option ℕ → ℕ → Type 0
-SiteFits before site = (site ≤ 65535) × IsTrue (ascends nat_lt before site)
+SiteFits before site = (site ≤ LAST_OFFSET) × IsTrue (ascends nat_lt before site)
 
 abbrev pub KindFits : Kind → Type 0
-KindFits (Pc offset) = offset ≤ 65535
+KindFits (Pc offset) = offset ≤ LAST_OFFSET
 KindFits _ = Unit {0}
 
 -- the kinds of the registers 1 to 15
 abbrev pub RowFits : Option KindRow → KindRow → Type 0
-RowFits before r = (r.offset ≤ 65535) × IsTrue (ascends nat_lt (option_map (λ b. b.offset) before) r.offset) × ((length r.kinds ≡ 15) × Each KindFits r.kinds)
+RowFits before r =
+    (r.offset ≤ LAST_OFFSET) × IsTrue (ascends nat_lt (option_map (λ b. b.offset) before) r.offset)
+    × ((length r.kinds ≡ 15) × Each KindFits r.kinds)
 
 -- ---- the component
 
 -- where there is nothing, its base is 0
 abbrev pub last_base : ℕ → ℕ
-last_base count = if count == 0 then 0 else 1048575
+last_base count = if count == 0 then 0 else LAST_PLACE
 
 abbrev pub StretchFits : ℕ → ℕ → Type 0
-StretchFits base count = (count ≤ 65536) × (base ≤ last_base count)
+StretchFits base count = (count ≤ LONGEST_STRETCH) × (base ≤ last_base count)
 
--- 1 to 65,536 words, none sealed
+-- words of code or data: at least one, and none sealed
 abbrev pub WordsFit : List Word → Type 0
-WordsFit words = ((1 ≤ length words) × (length words ≤ 65536)) × Each (λ w. WordFits w × IsUnsealed w) words
+WordsFit words =
+    ((1 ≤ length words) × (length words ≤ MOST_WORDS)) × Each (λ w. WordFits w × IsUnsealed w) words
 
 pub record IsComponent (c : ComponentFields) : Type 0 where
   pub name : IsTrue (is_name c.name)
-  pub stack_base : c.stack_base ≤ 1048575
-  pub closure : c.closure ≤ 1048575
+  pub stack_base : c.stack_base ≤ LAST_PLACE
+  pub closure : c.closure ≤ LAST_PLACE
   pub seals : StretchFits c.seals.base c.seals.count
   pub linear : StretchFits c.linear.base c.linear.count
-  pub code_base : c.code_base ≤ 1048575
+  pub code_base : c.code_base ≤ LAST_PLACE
   pub code : WordsFit c.code
-  pub data_base : c.data_base ≤ 1048575
+  pub data_base : c.data_base ≤ LAST_PLACE
   pub data_words : WordsFit c.data_words
-  pub imports : (length c.imports ≤ 1024) × Chain ImportFits None c.imports
-  pub exports : (length c.exports ≤ 1024) × Chain ExportFits None c.exports
-  pub sites : (length c.sites ≤ 4096) × Chain SiteFits None c.sites
-  pub fail_at : IfSome c.fail_at (λ o. o ≤ 65535)
-  pub literal_at : IfSome c.literal_at (λ o. o ≤ 65535)
-  pub rows : (length c.rows ≤ 65536) × Chain RowFits None c.rows
+  pub imports : (length c.imports ≤ MOST_IMPORTS) × Chain ImportFits None c.imports
+  pub exports : (length c.exports ≤ MOST_EXPORTS) × Chain ExportFits None c.exports
+  pub sites : (length c.sites ≤ MOST_SITES) × Chain SiteFits None c.sites
+  pub fail_at : IfSome c.fail_at (λ o. o ≤ LAST_OFFSET)
+  pub literal_at : IfSome c.literal_at (λ o. o ≤ LAST_OFFSET)
+  pub rows : (length c.rows ≤ MOST_ROWS) × Chain RowFits None c.rows

@@ -1,13 +1,17 @@
 -- Reading a component field after field, with the first fault that is met.
-use Rattle.std.specs.Prelude.{ℕ, zero, suc, ◌==◌, nat_lt, Bool, true, false, List, [], ◌∷◌, length, slice_get, Option, Some, None, option_map, Result, Ok, Err, if◌then◌else◌}
-use Rattle.std.specs.Int.{Width, w16, w32}
+use Rattle.std.specs.Prelude.{ℕ, zero, suc, ◌==◌, nat_lt, Bool, true, false, List, [], ◌∷◌, length, slice_get}
+use Rattle.std.specs.Prelude.{Option, Some, None, option_map, Result, Ok, Err, if◌then◌else◌}
 use Rattle.std.specs.Str.{bytes_eq}
+use Rattle.cap_words.specs.declared.TheConstants.{LONGEST_STRETCH}
 use Rattle.cap_words.specs.declared.Word.{Word}
 use Rattle.cap_words.specs.declared.bytes.cursor.FieldFault.{FieldFault}
 use Rattle.cap_words.specs.declared.bytes.cursor.FieldFault.TheVariants as field_faults
 use Rattle.cap_words.specs.Stretch.{Stretch}
-use Rattle.cap_words.specs.Reading.{Input, Reader, ◌>>=◌, done, place, bytes_at, unless_none, meant, byte_at, number_at, within}
-use Rattle.cap_words.specs.WordReading.{unsealed_at}
+use Rattle.cap_words.specs.Reading.{Input, Reader, ◌>>=◌, done, here, unless_none, meant, within}
+use Rattle.cap_words.specs.Reading.{next_bytes, next_byte, next_number}
+use Rattle.cap_words.specs.WordReading.{next_in_space, next_unsealed}
+use Rattle.component_file.specs.declared.TheConstants.{LAST_OFFSET, MOST_WORDS, VERSION}
+use Rattle.component_file.specs.declared.TheConstants.{MOST_IMPORTS, MOST_EXPORTS, MOST_SITES, MOST_ROWS}
 use Rattle.component_file.specs.declared.fault.FileFault.{FileFault}
 use Rattle.component_file.specs.declared.fault.FileFault.TheVariants.{Magic, Version, Order, Trailing}
 use Rattle.component_file.specs.declared.component.Kind.{Kind}
@@ -40,40 +44,40 @@ abbrev pub short_at : {A : Type 0} → ℕ → Result A FieldFault → Result A 
 short_at at (Ok x) = Ok x
 short_at at (Err e) = Err (field_faults.Short at)
 
-unfoldable pub text_at : Reader FieldFault (List ℕ)
-text_at i = short_at i.at ((byte_at >>= bytes_at) i)
+unfoldable pub next_text : Reader FieldFault (List ℕ)
+next_text i = short_at i.at ((next_byte >>= next_bytes) i)
 
 abbrev pub name_meant : List ℕ → Option (List ℕ)
 name_meant text = if is_name text then Some text else None
 
-abbrev pub name_at : Reader FieldFault (List ℕ)
-name_at = meant name_meant text_at
+abbrev pub next_name : Reader FieldFault (List ℕ)
+next_name = meant name_meant next_text
 
 -- an address, or a seal
-abbrev pub address_at : Reader FieldFault ℕ
-address_at = meant (within 0 1048575) (number_at w32)
+abbrev pub next_address : Reader FieldFault ℕ
+next_address = next_in_space 0
 
 -- an offset in code or data
-abbrev pub offset_at : Reader FieldFault ℕ
-offset_at = meant (within 0 65535) (number_at w32)
+abbrev pub next_offset : Reader FieldFault ℕ
+next_offset = meant (within 0 LAST_OFFSET) (next_number 4)
 
 -- a count, and the base, which is 0 where nothing is counted
-unfoldable pub stretch_at : Reader FieldFault Stretch
-stretch_at = do
-  count ← meant (within 0 65536) (number_at w32)
-  base ← meant (within 0 (last_base count)) (number_at w32)
+unfoldable pub next_stretch : Reader FieldFault Stretch
+next_stretch = do
+  count ← meant (within 0 LONGEST_STRETCH) (next_number 4)
+  base ← meant (within 0 (last_base count)) (next_number 4)
   done (record { base = base; count = count })
 
 abbrev pub flag_meant : ℕ → Option Bool
 flag_meant n = slice_get (false ∷ true ∷ []) n
 
-abbrev pub flag_at : Reader FieldFault Bool
-flag_at = meant flag_meant byte_at
+abbrev pub next_flag : Reader FieldFault Bool
+next_flag = meant flag_meant next_byte
 
-unfoldable pub optional_at : Reader FieldFault (Option ℕ)
-optional_at = do
-  given ← flag_at
-  if given then (offset_at >>= λ n. done (Some n)) else done None
+unfoldable pub next_optional : Reader FieldFault (Option ℕ)
+next_optional = do
+  given ← next_flag
+  if given then (next_offset >>= λ n. done (Some n)) else done None
 
 -- every kind but Pc is its tag
 abbrev pub plain_kind : ℕ → Option Kind
@@ -81,99 +85,101 @@ plain_kind tag =
     if tag == 0 then Some Any else if tag == 1 then Some Int else if tag == 2 then Some DataCap
     else if tag == 3 then Some Stk else if tag == 5 then Some Top else None
 
-unfoldable pub kind_at : Reader FieldFault Kind
-kind_at = do
-  at ← place
-  tag ← byte_at
-  if tag == 4 then (offset_at >>= λ offset. done (Pc offset)) else unless_none at (plain_kind tag)
+unfoldable pub next_kind : Reader FieldFault Kind
+next_kind = do
+  at ← here
+  tag ← next_byte
+  if tag == 4 then (next_offset >>= λ offset. done (Pc offset)) else unless_none at (plain_kind tag)
 
 -- ---- lists
 
 -- so many items one after another, each told the one before it
-unfoldable pub items_at : {A : Type 0} → (Option A → Reader FileFault A) → ℕ → Option A → Reader FileFault (List A)
-items_at item zero before = done []
-items_at item (suc n) before = do
+unfoldable pub next_items : {A : Type 0}
+    → (Option A → Reader FileFault A) → ℕ → Option A → Reader FileFault (List A)
+next_items item zero before = done []
+next_items item (suc n) before = do
   first ← item before
-  others ← items_at item n (Some first)
+  others ← next_items item n (Some first)
   done (first ∷ others)
 
--- a count from low to high, and that many items
-unfoldable pub list_at : {A : Type 0} → Width → ℕ → ℕ → (Option A → Reader FileFault A) → Reader FileFault (List A)
-list_at w low high item = do
-  count ← field (meant (within low high) (number_at w))
-  items_at item count None
+-- a count from low to high, a number of len bytes, and that many items
+unfoldable pub next_list : {A : Type 0}
+    → ℕ → ℕ → ℕ → (Option A → Reader FileFault A) → Reader FileFault (List A)
+next_list len low high item = do
+  count ← field (meant (within low high) (next_number len))
+  next_items item count None
 
-unfoldable pub word_behind : Option Word → Reader FileFault Word
-word_behind before = field unsealed_at
+unfoldable pub next_part_word : Option Word → Reader FileFault Word
+next_part_word before = field next_unsealed
 
 -- slots ascend
-unfoldable pub import_behind : Option Import → Reader FileFault Import
-import_behind before = do
-  at ← place
-  part ← field name_at
-  name ← field name_at
-  slot ← field offset_at
+unfoldable pub next_import : Option Import → Reader FileFault Import
+next_import before = do
+  at ← here
+  part ← field next_name
+  name ← field next_name
+  slot ← field next_offset
   _ ← holds (ascends nat_lt (option_map (λ b. b.slot) before) slot) (Order at)
   done (record { part = part; name = name; slot = slot })
 
 -- names ascend
-unfoldable pub export_behind : Option Export → Reader FileFault Export
-export_behind before = do
-  at ← place
-  name ← field name_at
+unfoldable pub next_export : Option Export → Reader FileFault Export
+next_export before = do
+  at ← here
+  name ← field next_name
   _ ← holds (ascends name_lt (option_map (λ b. b.name) before) name) (Order at)
-  offset ← field offset_at
-  shared ← field flag_at
+  offset ← field next_offset
+  shared ← field next_flag
   done (record { name = name; offset = offset; shared = shared })
 
 -- sites ascend
-unfoldable pub site_behind : Option ℕ → Reader FileFault ℕ
-site_behind before = do
-  at ← place
-  site ← field offset_at
+unfoldable pub next_site : Option ℕ → Reader FileFault ℕ
+next_site before = do
+  at ← here
+  site ← field next_offset
   _ ← holds (ascends nat_lt before site) (Order at)
   done site
 
 -- offsets ascend
-unfoldable pub row_behind : Option KindRow → Reader FileFault KindRow
-row_behind before = do
-  at ← place
-  offset ← field offset_at
+unfoldable pub next_row : Option KindRow → Reader FileFault KindRow
+next_row before = do
+  at ← here
+  offset ← field next_offset
   _ ← holds (ascends nat_lt (option_map (λ b. b.offset) before) offset) (Order at)
-  kinds ← items_at (λ _. field kind_at) 15 None
+  kinds ← next_items (λ _. field next_kind) 15 None
   done (record { offset = offset; kinds = kinds })
 
 -- ---- the component
 
-unfoldable pub header_at : Reader FileFault (Unit {0})
-header_at = do
-  four ← field (bytes_at 4)
+unfoldable pub next_header : Reader FileFault (Unit {0})
+next_header = do
+  four ← field (next_bytes 4)
   _ ← holds (bytes_eq four magic) Magic
-  version ← field (number_at w16)
-  _ ← holds (version == 1) Version
+  version ← field (next_number 2)
+  _ ← holds (version == VERSION) Version
   done tt
 
-unfoldable pub words_at : Reader FileFault (List Word)
-words_at = list_at w32 1 65536 word_behind
+unfoldable pub next_words : Reader FileFault (List Word)
+next_words = next_list 4 1 MOST_WORDS next_part_word
 
-unfoldable pub component_at : Reader FileFault ComponentFields
-component_at = do
-  _ ← header_at
-  name ← field name_at
-  stack_base ← field address_at
-  closure ← field address_at
-  seals ← field stretch_at
-  linear ← field stretch_at
-  code_base ← field address_at
-  code ← words_at
-  data_base ← field address_at
-  data_words ← words_at
-  imports ← list_at w16 0 1024 import_behind
-  exports ← list_at w16 0 1024 export_behind
-  sites ← list_at w16 0 4096 site_behind
-  fail_at ← field optional_at
-  literal_at ← field optional_at
-  rows ← list_at w32 0 65536 row_behind
+unfoldable pub next_component : Reader FileFault ComponentFields
+next_component = do
+  _ ← next_header
+  name ← field next_name
+  stack_base ← field next_address
+  closure ← field next_address
+  seals ← field next_stretch
+  linear ← field next_stretch
+  code_base ← field next_address
+  code ← next_words
+  data_base ← field next_address
+  data_words ← next_words
+  imports ← next_list 2 0 MOST_IMPORTS next_import
+  exports ← next_list 2 0 MOST_EXPORTS next_export
+  sites ← next_list 2 0 MOST_SITES next_site
+  fail_at ← field next_optional
+  literal_at ← field next_optional
+  rows ← next_list 4 0 MOST_ROWS next_row
   done (record {
     name = name;
     stack_base = stack_base;
@@ -199,4 +205,4 @@ finished (Err e) = Err e
 
 -- the component that the bytes spell, or their first fault
 unfoldable pub decoded : List ℕ → Result ComponentFields FileFault
-decoded bytes = finished (component_at (record { at = 0; rest = bytes }))
+decoded bytes = finished (next_component (record { at = 0; rest = bytes }))

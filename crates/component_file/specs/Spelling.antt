@@ -1,8 +1,9 @@
 -- The bytes of a component, field after field. Numbers are little endian.
-use Rattle.std.specs.Prelude.{◌≡◌, ℕ, ◌<◌, ◌++◌, Bool, true, false, List, [], ◌∷◌, length, Option, Some, None}
-use Rattle.std.specs.Int.{Width, w16, w32}
+use Rattle.std.specs.Prelude.{◌≡◌, ℕ, ◌<◌, ◌++◌, Bool, true, false, List, [], ◌∷◌, length, codes, Option}
+use Rattle.std.specs.Prelude.{Some, None}
 use Rattle.std.specs.List.{flat_map, concat}
 use Rattle.cap_words.specs.WordBytes.{number_bytes, word_bytes_of}
+use Rattle.component_file.specs.declared.TheConstants.{VERSION}
 use Rattle.component_file.specs.Limits.{IsComponent}
 use Rattle.component_file.specs.declared.component.Kind.{Kind}
 use Rattle.component_file.specs.declared.component.Kind.TheVariants.{Any, Int, DataCap, Stk, Pc, Top}
@@ -12,10 +13,10 @@ use Rattle.component_file.specs.declared.component.KindRow.{KindRow}
 use Rattle.component_file.specs.declared.component.ComponentFields.{ComponentFields}
 
 abbrev pub u16_bytes : ℕ → List ℕ
-u16_bytes n = number_bytes w16 n
+u16_bytes n = number_bytes 2 n
 
 abbrev pub u32_bytes : ℕ → List ℕ
-u32_bytes n = number_bytes w32 n
+u32_bytes n = number_bytes 4 n
 
 -- a byte of length, and the bytes
 abbrev pub name_bytes : List ℕ → List ℕ
@@ -25,9 +26,9 @@ name_bytes text = length text ∷ text
 unfoldable pub stretch_bytes : ℕ → ℕ → List ℕ
 stretch_bytes base count = u32_bytes count ++ u32_bytes base
 
--- a count, and that many items
-unfoldable pub list_bytes : {A : Type 0} → Width → (A → List ℕ) → List A → List ℕ
-list_bytes w item items = number_bytes w (length items) ++ flat_map item items
+-- a count, a number of len bytes, and that many items
+unfoldable pub list_bytes : {A : Type 0} → ℕ → (A → List ℕ) → List A → List ℕ
+list_bytes len item items = number_bytes len (length items) ++ flat_map item items
 
 unfoldable pub import_bytes : Import → List ℕ
 import_bytes i = name_bytes i.part ++ (name_bytes i.name ++ u32_bytes i.slot)
@@ -54,22 +55,21 @@ kind_bytes Top = 5 ∷ []
 unfoldable pub row_bytes : KindRow → List ℕ
 row_bytes r = u32_bytes r.offset ++ flat_map kind_bytes r.kinds
 
--- STKC
 abbrev pub magic : List ℕ
-magic = 83 ∷ 84 ∷ 75 ∷ 67 ∷ []
+magic = codes "STKC"
 
 unfoldable pub spelling : ComponentFields → List ℕ
 spelling c = concat (
-    magic ∷ u16_bytes 1
+    magic ∷ u16_bytes VERSION
     ∷ name_bytes c.name ∷ u32_bytes c.stack_base ∷ u32_bytes c.closure
     ∷ stretch_bytes c.seals.base c.seals.count ∷ stretch_bytes c.linear.base c.linear.count
-    ∷ u32_bytes c.code_base ∷ list_bytes w32 word_bytes_of c.code
-    ∷ u32_bytes c.data_base ∷ list_bytes w32 word_bytes_of c.data_words
-    ∷ list_bytes w16 import_bytes c.imports
-    ∷ list_bytes w16 export_bytes c.exports
-    ∷ list_bytes w16 u32_bytes c.sites
+    ∷ u32_bytes c.code_base ∷ list_bytes 4 word_bytes_of c.code
+    ∷ u32_bytes c.data_base ∷ list_bytes 4 word_bytes_of c.data_words
+    ∷ list_bytes 2 import_bytes c.imports
+    ∷ list_bytes 2 export_bytes c.exports
+    ∷ list_bytes 2 u32_bytes c.sites
     ∷ optional_bytes c.fail_at ∷ optional_bytes c.literal_at
-    ∷ list_bytes w32 row_bytes c.rows
+    ∷ list_bytes 4 row_bytes c.rows
     ∷ [])
 
 -- the bytes are the spelling of the component

@@ -1,10 +1,12 @@
 //! Why a component file can't be read.
 ghost use Rattle.std.specs.Prelude.{◌≡◌};
 ghost use Rattle.component_file.specs.declared.fault.FileFault.TheVariants.{NoMemory};
-ghost use Rattle.component_file.specs.Fault.{in_file};
+ghost use Rattle.component_file.specs.Fault.{in_file, fault_number, fault_place};
 
 use cap_words::FieldFault;
 use std::alloc::{AllocError, AllocFailed};
+use std::error::Error;
+use std::fmt;
 
 /// Why bytes were not read as a component: the first fault from left to right, or that memory was
 /// refused. A place is that of a byte, counted from 0.
@@ -26,6 +28,53 @@ pub enum FileFault {
     /// Memory was refused.
     NoMemory,
 }
+
+impl FileFault {
+    /// Its number: 1 for `Magic`, 2 `Version`, 3 `Short`, 4 `BadField`, 5 `Order`, 6 `Trailing`,
+    /// 7 `NoMemory`.
+    pub fn number(self) -> u8
+        ensures { result ≡ fault_number self }
+    {
+        match self {
+            FileFault::Magic => 1,
+            FileFault::Version => 2,
+            FileFault::Short(_) => 3,
+            FileFault::BadField(_) => 4,
+            FileFault::Order(_) => 5,
+            FileFault::Trailing(_) => 6,
+            FileFault::NoMemory => 7,
+        }
+    }
+
+    /// The place of its byte, and 0 where it tells none.
+    pub fn place(self) -> u32
+        ensures { result ≡ fault_place self }
+    {
+        match self {
+            FileFault::Short(at)
+            | FileFault::BadField(at)
+            | FileFault::Order(at)
+            | FileFault::Trailing(at) => at,
+            FileFault::Magic | FileFault::Version | FileFault::NoMemory => 0,
+        }
+    }
+}
+
+impl fmt::Display for FileFault {
+    fn fmt<W: fmt::Write>(&self, f: &mut fmt::Formatter<W>) -> fmt::Result {
+        match self {
+            FileFault::Magic => write!(f, "the file does not begin with STKC"),
+            FileFault::Version => write!(f, "the version is not 1"),
+            FileFault::Short(at) => write!(f, "the file ends within the field at byte {at}"),
+            FileFault::BadField(at) => write!(f, "the field at byte {at} is not valid"),
+            FileFault::Order(at) => write!(f, "the item at byte {at} is out of order"),
+            FileFault::Trailing(at) => write!(f, "the component ends before byte {at}"),
+            FileFault::NoMemory => write!(f, "out of memory"),
+        }
+    }
+}
+
+impl Error for FileFault {}
 
 impl From<FieldFault> for FileFault {
     ghost from_gives = { λ f e. e ≡ in_file f };

@@ -3,12 +3,12 @@ ghost use Rattle.std.specs.Prelude.{◌≡◌, ◌≤◌, IfOk};
 ghost use Rattle.std.specs.List.{list_all};
 ghost use Rattle.cap_words.specs.Gives.{Gives, GivesAs};
 ghost use Rattle.component_file.specs.Limits.{is_digit, is_name_byte, is_name};
-ghost use Rattle.component_file.specs.Reading.{text_at, name_at, address_at, offset_at, stretch_at, flag_at, optional_at, kind_at};
+ghost use Rattle.component_file.specs.Reading.{next_text, next_name, next_address, next_offset};
+ghost use Rattle.component_file.specs.Reading.{next_stretch, next_flag, next_optional, next_kind};
 
 use crate::component::Kind;
-use cap_words::{Cursor, FieldFault, LAST_PLACE};
-
-const LAST_OFFSET: u32 = 65_535;
+use crate::{LAST_OFFSET, LONGEST_NAME};
+use cap_words::{Cursor, FieldFault, LAST_PLACE, LONGEST_STRETCH};
 
 fn is_digit(byte: u8) -> bool
     ensures { result ≡ is_digit byte }
@@ -28,12 +28,13 @@ fn are_name_bytes(text: &[u8]) -> bool
     text.iter().all(is_name_byte)
 }
 
-/// Whether a text is a name: 1 to 31 bytes of `a` to `z`, `0` to `9` and `_`, the first no digit.
+/// Whether a text is a name: 1 to [`LONGEST_NAME`] bytes of `a` to `z`, `0` to `9` and `_`, the
+/// first no digit.
 #[tactic(auto, unfolding(crate::specs::Limits::is_name))]
 pub fn is_name(text: &[u8]) -> bool
     ensures { result ≡ is_name text.now }
 {
-    if text.is_empty() || 31 < text.len() {
+    if text.is_empty() || LONGEST_NAME < text.len() {
         return false;
     }
     if is_digit(text[0]) {
@@ -43,9 +44,9 @@ pub fn is_name(text: &[u8]) -> bool
 }
 
 // A byte of length, and the bytes.
-#[tactic(auto, unfolding(crate::specs::Reading::text_at))]
+#[tactic(auto, unfolding(crate::specs::Reading::next_text))]
 fn text<'a>(bytes: &mut Cursor<'a>) -> Result<&'a [u8], FieldFault>
-    ensures { GivesAs (λ t. t.now) result bytes.new (text_at bytes.old) }
+    ensures { GivesAs (λ t. t.now) result bytes.new (next_text bytes.old) }
 {
     let at = bytes.at();
     let Ok(len) = bytes.byte() else {
@@ -59,7 +60,7 @@ fn text<'a>(bytes: &mut Cursor<'a>) -> Result<&'a [u8], FieldFault>
 
 #[tactic(auto, unfolding(cap_words::specs::Reading::meant))]
 pub(crate) fn name<'a>(bytes: &mut Cursor<'a>) -> Result<&'a [u8], FieldFault>
-    ensures { GivesAs (λ t. t.now) result bytes.new (name_at bytes.old) }
+    ensures { GivesAs (λ t. t.now) result bytes.new (next_name bytes.old) }
 {
     let at = bytes.at();
     let text = text(bytes)?;
@@ -72,25 +73,26 @@ pub(crate) fn name<'a>(bytes: &mut Cursor<'a>) -> Result<&'a [u8], FieldFault>
 
 // An address or a seal.
 pub(crate) fn address(bytes: &mut Cursor<'_>) -> Result<u32, FieldFault>
-    ensures { Gives result bytes.new (address_at bytes.old) }
+    ensures { Gives result bytes.new (next_address bytes.old) }
 {
     bytes.u32_within(0, LAST_PLACE)
 }
 
 // An offset in code or data.
 pub(crate) fn offset(bytes: &mut Cursor<'_>) -> Result<u32, FieldFault>
-    ensures { Gives result bytes.new (offset_at bytes.old) }
+    ensures { Gives result bytes.new (next_offset bytes.old) }
 {
     bytes.u32_within(0, LAST_OFFSET)
 }
 
 // A count, and then a base, which is 0 where nothing is counted. It gives the base and the count.
-#[tactic(auto, unfolding(crate::specs::Reading::stretch_at))]
+#[tactic(auto, unfolding(crate::specs::Reading::next_stretch))]
 pub(crate) fn stretch(bytes: &mut Cursor<'_>) -> Result<(u32, u32), FieldFault>
-    ensures exact { GivesAs (λ s. record { base = s.0; count = s.1 }) result bytes.new (stretch_at bytes.old) }
-    ensures within { IfOk result (λ s. (s.0 ≤ 1048575) × (s.1 ≤ 65536)) }
+    ensures exact {
+        GivesAs (λ s. record { base = s.0; count = s.1 }) result bytes.new (next_stretch bytes.old) }
+    ensures within { IfOk result (λ s. (s.0 ≤ LAST_PLACE) × (s.1 ≤ LONGEST_STRETCH)) }
 {
-    let count = bytes.u32_within(0, 65536)?;
+    let count = bytes.u32_within(0, LONGEST_STRETCH)?;
     let last = if count == 0 { 0 } else { LAST_PLACE };
     let base = bytes.u32_within(0, last)?;
     Ok((base, count))
@@ -98,7 +100,7 @@ pub(crate) fn stretch(bytes: &mut Cursor<'_>) -> Result<(u32, u32), FieldFault>
 
 #[tactic(auto, unfolding(cap_words::specs::Reading::meant))]
 pub(crate) fn flag(bytes: &mut Cursor<'_>) -> Result<bool, FieldFault>
-    ensures { Gives result bytes.new (flag_at bytes.old) }
+    ensures { Gives result bytes.new (next_flag bytes.old) }
 {
     let at = bytes.at();
     match bytes.byte()? {
@@ -109,9 +111,9 @@ pub(crate) fn flag(bytes: &mut Cursor<'_>) -> Result<bool, FieldFault>
 }
 
 // An offset that may be missing.
-#[tactic(auto, unfolding(crate::specs::Reading::optional_at))]
+#[tactic(auto, unfolding(crate::specs::Reading::next_optional))]
 pub(crate) fn optional(bytes: &mut Cursor<'_>) -> Result<Option<u32>, FieldFault>
-    ensures { Gives result bytes.new (optional_at bytes.old) }
+    ensures { Gives result bytes.new (next_optional bytes.old) }
 {
     if flag(bytes)? {
         Ok(Some(offset(bytes)?))
@@ -120,9 +122,9 @@ pub(crate) fn optional(bytes: &mut Cursor<'_>) -> Result<Option<u32>, FieldFault
     }
 }
 
-#[tactic(auto, unfolding(crate::specs::Reading::kind_at))]
+#[tactic(auto, unfolding(crate::specs::Reading::next_kind))]
 pub(crate) fn kind(bytes: &mut Cursor<'_>) -> Result<Kind, FieldFault>
-    ensures { Gives result bytes.new (kind_at bytes.old) }
+    ensures { Gives result bytes.new (next_kind bytes.old) }
 {
     let at = bytes.at();
     match bytes.byte()? {

@@ -8,7 +8,8 @@ ghost use Rattle.component_file.specs.Reading.{decoded};
 
 /// A component has one spelling, a spelling is of one component, and no spelling begins another.
 pub fn one_spelling()
-    ensures { (c d : ComponentFields) (a b x y : List ℕ) → Spells a c → Spells b d → a ++ x ≡ b ++ y → (c ≡ d) × (a ≡ b) × (x ≡ y) }
+    ensures { (c d : ComponentFields) (a b x y : List ℕ) →
+        Spells a c → Spells b d → a ++ x ≡ b ++ y → (c ≡ d) × (a ≡ b) × (x ≡ y) }
 {}
 
 /// The spelling of a component is read as that component.
@@ -18,10 +19,12 @@ pub fn spelling_is_read()
 
 /// Bytes behind a component are too many, from the first of them on.
 pub fn no_more_is_read()
-    ensures { (c : ComponentFields) (byte : ℕ) (more : List ℕ) → IsComponent c → decoded (spelling c ++ byte ∷ more) ≡ Err (Trailing (length (spelling c))) }
+    ensures { (c : ComponentFields) (byte : ℕ) (more : List ℕ) →
+        IsComponent c → decoded (spelling c ++ byte ∷ more) ≡ Err (Trailing (length (spelling c))) }
 {}
 
 /// A component that was cut anywhere is `Short`, at a field that begins before the cut or at it.
 pub fn what_is_cut_is_short()
-    ensures { (c : ComponentFields) (n : ℕ) → IsComponent c → n < length (spelling c) → (at : ℕ) × (at ≤ n) × (decoded (take n (spelling c)) ≡ Err (Short at)) }
+    ensures { (c : ComponentFields) (n : ℕ) → IsComponent c → n < length (spelling c) →
+        (at : ℕ) × (at ≤ n) × (decoded (take n (spelling c)) ≡ Err (Short at)) }
 {}

@@ -14,3 +14,27 @@ pub use fault::FileFault;
 pub use fields::is_name;
 pub use reading::decode_component;
 pub use writing::encode_component;
+
+/// The most bytes of a name.
+pub const LONGEST_NAME: usize = 31;
+
+/// The last offset in code or data.
+pub const LAST_OFFSET: u32 = 65_535;
+
+/// The most words of code, and the most words of data.
+pub const MOST_WORDS: u32 = 65_536;
+
+/// The most imports of a component.
+pub const MOST_IMPORTS: u16 = 1_024;
+
+/// The most exports of a component.
+pub const MOST_EXPORTS: u16 = 1_024;
+
+/// The most sites of a component.
+pub const MOST_SITES: u16 = 4_096;
+
+/// The most rows of kinds of a component.
+pub const MOST_ROWS: u32 = 65_536;
+
+// The version of the form.
+const VERSION: u16 = 1;

@@ -1,12 +1,12 @@
 //! What stands in the lists of a component file: each kind of item, as it is read.
 ghost use Rattle.std.specs.Prelude.{◌≡◌, Option, None, option_map};
-ghost use Rattle.std.specs.Int.{w16, w32};
 ghost use Rattle.std.specs.Option.{option_copied};
 ghost use Rattle.cap_words.specs.Reading.{Reader};
 ghost use Rattle.component_file.specs.declared.fault.FileFault.{FileFault};
 ghost use Rattle.component_file.specs.Fault.{GivesUnlessRefused};
 ghost use Rattle.component_file.specs.Limits.{ascends, name_lt};
-ghost use Rattle.component_file.specs.Reading.{field, name_at, word_behind, import_behind, export_behind, site_behind, row_behind, kind_at, items_at, list_at};
+ghost use Rattle.component_file.specs.Reading.{field, next_name, next_part_word, next_import, next_export};
+ghost use Rattle.component_file.specs.Reading.{next_site, next_row, next_kind, next_items, next_list};
 
 use crate::component::{Export, Import, Kind, KindRow};
 use crate::fault::FileFault;
@@ -14,29 +14,29 @@ use crate::fields;
 use cap_words::{Cursor, Items, Word};
 use std::alloc::Global;
 
-/// An item of a list. Some lists have an order, so an item is told the one before it.
+// An item of a list. Some lists have an order, so an item is told the one before it.
 pub(crate) trait Listed: Drop {
     // reading an item behind another, or the first
-    ghost read_behind: { Option Self → Reader FileFault Self };
+    ghost next_item: { Option Self → Reader FileFault Self };
 
-    /// The next item, behind the one before it.
+    // The next item, behind the one before it.
     fn read(alloc: Global, before: Option<&Self>, bytes: &mut Cursor<'_>) -> Result<Self, FileFault>
-        ensures { GivesUnlessRefused result bytes.new (read_behind (option_copied before.entry) bytes.old) };
+        ensures { GivesUnlessRefused result bytes.new (next_item (option_copied before.entry) bytes.old) };
 }
 
 // A name, in memory of its own.
 #[tactic(auto, unfolding(crate::specs::Reading::field))]
 pub(crate) fn name(alloc: Global, bytes: &mut Cursor<'_>) -> Result<Items<u8>, FileFault>
-    ensures { GivesUnlessRefused result bytes.new (field name_at bytes.old) }
+    ensures { GivesUnlessRefused result bytes.new (field next_name bytes.old) }
 {
     let text = fields::name(bytes)?;
     Ok(Items::of(Vec::from_slice(alloc, text)?))
 }
 
 impl Listed for Word {
-    ghost read_behind = { word_behind };
+    ghost next_item = { next_part_word };
 
-    #[tactic(auto, unfolding(crate::specs::Reading::word_behind, crate::specs::Reading::field))]
+    #[tactic(auto, unfolding(crate::specs::Reading::next_part_word, crate::specs::Reading::field))]
     fn read(
         _alloc: Global,
         _before: Option<&Word>,
@@ -47,9 +47,9 @@ impl Listed for Word {
 }
 
 impl Listed for Import {
-    ghost read_behind = { import_behind };
+    ghost next_item = { next_import };
 
-    #[tactic(auto, unfolding(crate::specs::Reading::import_behind, crate::specs::Reading::field))]
+    #[tactic(auto, unfolding(crate::specs::Reading::next_import, crate::specs::Reading::field))]
     fn read(
         alloc: Global,
         before: Option<&Import>,
@@ -83,9 +83,9 @@ fn rises(before: Option<&Export>, name: &[u8]) -> bool
 }
 
 impl Listed for Export {
-    ghost read_behind = { export_behind };
+    ghost next_item = { next_export };
 
-    #[tactic(auto, unfolding(crate::specs::Reading::export_behind, crate::specs::Reading::field))]
+    #[tactic(auto, unfolding(crate::specs::Reading::next_export, crate::specs::Reading::field))]
     fn read(
         alloc: Global,
         before: Option<&Export>,
@@ -108,9 +108,9 @@ impl Listed for Export {
 
 // The offset of a site.
 impl Listed for u32 {
-    ghost read_behind = { site_behind };
+    ghost next_item = { next_site };
 
-    #[tactic(auto, unfolding(crate::specs::Reading::site_behind, crate::specs::Reading::field))]
+    #[tactic(auto, unfolding(crate::specs::Reading::next_site, crate::specs::Reading::field))]
     fn read(
         _alloc: Global,
         before: Option<&u32>,
@@ -127,7 +127,7 @@ impl Listed for u32 {
 
 // The kinds of the registers 1 to 15.
 fn kinds(bytes: &mut Cursor<'_>) -> Result<[Kind; 15], FileFault>
-    ensures { GivesUnlessRefused result bytes.new (items_at (λ _. field kind_at) 15 None bytes.old) }
+    ensures { GivesUnlessRefused result bytes.new (next_items (λ _. field next_kind) 15 None bytes.old) }
 {
     let mut kinds = [Kind::Any; 15];
     for kind in &mut kinds {
@@ -137,9 +137,9 @@ fn kinds(bytes: &mut Cursor<'_>) -> Result<[Kind; 15], FileFault>
 }
 
 impl Listed for KindRow {
-    ghost read_behind = { row_behind };
+    ghost next_item = { next_row };
 
-    #[tactic(auto, unfolding(crate::specs::Reading::row_behind, crate::specs::Reading::field))]
+    #[tactic(auto, unfolding(crate::specs::Reading::next_row, crate::specs::Reading::field))]
     fn read(
         _alloc: Global,
         before: Option<&KindRow>,
@@ -161,7 +161,7 @@ fn items<T: Listed>(
     count: u32,
     bytes: &mut Cursor<'_>,
 ) -> Result<Items<T>, FileFault>
-    ensures { GivesUnlessRefused result bytes.new (items_at T.read_behind count None bytes.old) }
+    ensures { GivesUnlessRefused result bytes.new (next_items T.next_item count None bytes.old) }
 {
     let mut items = Vec::new(alloc);
     for _ in 0..count {
@@ -171,14 +171,21 @@ fn items<T: Listed>(
     Ok(Items::of(items))
 }
 
-/// A list with a count of 16 bits, which is at most `most`.
-#[tactic(auto, unfolding(crate::specs::Reading::list_at, crate::specs::Reading::field, cap_words::specs::Reading::meant))]
+// A list with a count of 16 bits, which is at most `most`.
+#[tactic(
+    auto,
+    unfolding(
+        crate::specs::Reading::next_list,
+        crate::specs::Reading::field,
+        cap_words::specs::Reading::meant
+    )
+)]
 pub(crate) fn short_list<T: Listed>(
     alloc: Global,
     most: u16,
     bytes: &mut Cursor<'_>,
 ) -> Result<Items<T>, FileFault>
-    ensures { GivesUnlessRefused result bytes.new (list_at w16 0 most T.read_behind bytes.old) }
+    ensures { GivesUnlessRefused result bytes.new (next_list 2 0 most T.next_item bytes.old) }
 {
     let at = bytes.at();
     let count = bytes.u16()?;
@@ -188,15 +195,16 @@ pub(crate) fn short_list<T: Listed>(
     items(alloc, u32::from(count), bytes)
 }
 
-/// A list with a count of 32 bits, which is from `least` to 65,536.
-#[tactic(auto, unfolding(crate::specs::Reading::list_at, crate::specs::Reading::field))]
+// A list with a count of 32 bits, which is from `least` to `most`.
+#[tactic(auto, unfolding(crate::specs::Reading::next_list, crate::specs::Reading::field))]
 pub(crate) fn long_list<T: Listed>(
     alloc: Global,
     least: u32,
+    most: u32,
     bytes: &mut Cursor<'_>,
 ) -> Result<Items<T>, FileFault>
-    ensures { GivesUnlessRefused result bytes.new (list_at w32 least 65536 T.read_behind bytes.old) }
+    ensures { GivesUnlessRefused result bytes.new (next_list 4 least most T.next_item bytes.old) }
 {
-    let count = bytes.u32_within(least, 65536)?;
+    let count = bytes.u32_within(least, most)?;
     items(alloc, count, bytes)
 }

@@ -4,40 +4,41 @@ ghost use Rattle.component_file.specs.declared.fault.FileFault.TheVariants.{NoMe
 ghost use Rattle.component_file.specs.Spelling.{Spells};
 ghost use Rattle.component_file.specs.declared.component.ComponentFields.{ComponentFields};
 ghost use Rattle.component_file.specs.Fault.{GivesUnlessRefused, Decodes};
-ghost use Rattle.component_file.specs.Reading.{field, header_at, words_at, component_at, decoded};
+ghost use Rattle.component_file.specs.Reading.{field, next_header, next_words, next_component, decoded};
 
 use crate::component::{Area, Component, ComponentFields};
 use crate::fault::FileFault;
 use crate::fields::{address, optional, stretch};
 use crate::listed::{long_list, name, short_list};
+use crate::{MOST_EXPORTS, MOST_IMPORTS, MOST_ROWS, MOST_SITES, MOST_WORDS, VERSION};
 use cap_words::{Cursor, Items, SealRange, Word};
 use std::alloc::Global;
 
 // `STKC`, and version 1 of the format.
-#[tactic(auto, unfolding(crate::specs::Reading::header_at, crate::specs::Reading::field))]
+#[tactic(auto, unfolding(crate::specs::Reading::next_header, crate::specs::Reading::field))]
 fn header(bytes: &mut Cursor<'_>) -> Result<(), FileFault>
-    ensures { GivesUnlessRefused result bytes.new (header_at bytes.old) }
+    ensures { GivesUnlessRefused result bytes.new (next_header bytes.old) }
 {
     if bytes.bytes(4)? != b"STKC".as_slice() {
         return Err(FileFault::Magic);
     }
-    if bytes.u16()? != 1 {
+    if bytes.u16()? != VERSION {
         return Err(FileFault::Version);
     }
     Ok(())
 }
 
-#[tactic(auto, unfolding(crate::specs::Reading::words_at))]
+#[tactic(auto, unfolding(crate::specs::Reading::next_words))]
 fn words(alloc: Global, bytes: &mut Cursor<'_>) -> Result<Items<Word>, FileFault>
-    ensures { GivesUnlessRefused result bytes.new (words_at bytes.old) }
+    ensures { GivesUnlessRefused result bytes.new (next_words bytes.old) }
 {
-    long_list(alloc, 1, bytes)
+    long_list(alloc, 1, MOST_WORDS, bytes)
 }
 
 // Each field in its turn.
-#[tactic(auto, unfolding(crate::specs::Reading::component_at, crate::specs::Reading::field))]
+#[tactic(auto, unfolding(crate::specs::Reading::next_component, crate::specs::Reading::field))]
 fn component(alloc: Global, bytes: &mut Cursor<'_>) -> Result<ComponentFields, FileFault>
-    ensures { GivesUnlessRefused result bytes.new (component_at bytes.old) }
+    ensures { GivesUnlessRefused result bytes.new (next_component bytes.old) }
 {
     header(bytes)?;
     let name = name(alloc, bytes)?;
@@ -51,12 +52,12 @@ fn component(alloc: Global, bytes: &mut Cursor<'_>) -> Result<ComponentFields, F
     let code = words(alloc, bytes)?;
     let data_base = address(bytes)?;
     let data_words = words(alloc, bytes)?;
-    let imports = short_list(alloc, 1024, bytes)?;
-    let exports = short_list(alloc, 1024, bytes)?;
-    let sites = short_list(alloc, 4096, bytes)?;
+    let imports = short_list(alloc, MOST_IMPORTS, bytes)?;
+    let exports = short_list(alloc, MOST_EXPORTS, bytes)?;
+    let sites = short_list(alloc, MOST_SITES, bytes)?;
     let fail_at = optional(bytes)?;
     let literal_at = optional(bytes)?;
-    let rows = long_list(alloc, 0, bytes)?;
+    let rows = long_list(alloc, 0, MOST_ROWS, bytes)?;
     Ok(ComponentFields {
         name,
         stack_base,

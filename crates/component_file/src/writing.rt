@@ -1,10 +1,12 @@
 //! Components to bytes.
 ghost use Rattle.std.specs.Prelude.{◌≡◌, ◌<◌, ◌^◌, ◌++◌, ℕ, List, length, OnOk, IfOk};
-ghost use Rattle.std.specs.Int.{w16, w32};
 ghost use Rattle.std.specs.List.{flat_map, AllByRecursion};
 ghost use Rattle.cap_words.specs.WordBytes.{SealInSpace, word_bytes_of};
-ghost use Rattle.component_file.specs.Spelling.{u32_bytes, name_bytes, stretch_bytes, list_bytes, import_bytes, export_bytes, optional_bytes, kind_bytes, row_bytes, Spells, NamesAreShort, NameIsShort, Always};
+ghost use Rattle.component_file.specs.Spelling.{u32_bytes, name_bytes, stretch_bytes, list_bytes};
+ghost use Rattle.component_file.specs.Spelling.{import_bytes, export_bytes, optional_bytes, kind_bytes};
+ghost use Rattle.component_file.specs.Spelling.{row_bytes, Spells, NamesAreShort, NameIsShort, Always};
 
+use crate::VERSION;
 use crate::component::{Component, Export, Import, Kind, KindRow};
 use cap_words::{Word, push_u16, push_u32, push_word};
 use std::alloc::{AllocError, Global};
@@ -151,7 +153,7 @@ fn push_items<T: Spelled>(out: &mut Vec<u8>, items: &[T]) -> Result<(), AllocErr
 fn push_short_list<T: Spelled>(out: &mut Vec<u8>, items: &[T]) -> Result<(), AllocError>
     requires few { length items.now < 2 ^ 16 }
     requires can_write { AllByRecursion T.can_write items.now }
-    ensures { OnOk result (out.new.items ≡ out.old.items ++ list_bytes w16 T.spelled items.now) }
+    ensures { OnOk result (out.new.items ≡ out.old.items ++ list_bytes 2 T.spelled items.now) }
 {
     push_u16(out, items.len() as u16)?;
     push_items(out, items)
@@ -162,7 +164,7 @@ fn push_short_list<T: Spelled>(out: &mut Vec<u8>, items: &[T]) -> Result<(), All
 fn push_long_list<T: Spelled>(out: &mut Vec<u8>, items: &[T]) -> Result<(), AllocError>
     requires few { length items.now < 2 ^ 32 }
     requires can_write { AllByRecursion T.can_write items.now }
-    ensures { OnOk result (out.new.items ≡ out.old.items ++ list_bytes w32 T.spelled items.now) }
+    ensures { OnOk result (out.new.items ≡ out.old.items ++ list_bytes 4 T.spelled items.now) }
 {
     push_u32(out, items.len() as u32)?;
     push_items(out, items)
@@ -178,7 +180,7 @@ pub fn encode_component(alloc: Global, c: &Component) -> Result<Vec<u8>, AllocEr
     let fields = c.fields();
     let mut out = Vec::new(alloc);
     out.extend_from_slice(b"STKC")?;
-    push_u16(&mut out, 1)?;
+    push_u16(&mut out, VERSION)?;
     push_name(&mut out, fields.name.as_slice())?;
     push_u32(&mut out, fields.stack_base)?;
     push_u32(&mut out, fields.closure)?;

@@ -1,7 +1,7 @@
 //! What no clause says: that the form which the clauses describe is the one that docs/FORMATS.md
 //! describes. Each place and each value was worked out by hand.
 use cap_words::{CapFields, Face, Items, Lin, Perm, SealFields, SealRange, Word};
-use component_file::FileFault::{BadField, Magic, Order, Short, Trailing, Version};
+use component_file::FileFault::{BadField, Magic, NoMemory, Order, Short, Trailing, Version};
 use component_file::Kind::{Any, DataCap, Int, Pc, Stk, Top};
 use component_file::{
     Area, Component, ComponentFields, Export, FileFault, Import, Kind, KindRow, decode_component,
@@ -11,7 +11,7 @@ use std::alloc::{AllocError, Global};
 use std::process::Abort;
 use std::test::Fail;
 
-/// A component of one code word and one data word, with one export.
+// A component of one code word and one data word, with one export.
 const ONE: &[u8; 90] = b"STKC\x01\0\
 \x03one\
 \0\0\x01\0\
@@ -30,13 +30,13 @@ const ONE: &[u8; 90] = b"STKC\x01\0\
 \0\
 \0\0\0\0";
 
-/// Where each field of `ONE` begins.
+// Where each field of `ONE` begins.
 const ONE_STARTS: [usize; 26] = [
     0, 4, 6, 10, 14, 18, 22, 26, 30, 34, 38, 42, 43, 51, 55, 59, 60, 68, 70, 72, 77, 81, 82, 84,
     85, 86,
 ];
 
-/// A component with something of everything.
+// A component with something of everything.
 const FULL: &[u8; 262] = b"STKC\x01\0\
 \x04full\
 \0\x10\0\0\
@@ -66,7 +66,7 @@ const FULL: &[u8; 262] = b"STKC\x01\0\
 \0\0\0\0\0\x01\x02\x03\x04\x02\0\0\0\x05\0\0\0\0\0\0\0\0\x05\
 \x02\0\0\0\x01\x01\x01\x01\x01\x01\x01\x01\x01\x01\x01\x01\x01\x01\x04\xff\xff\0\0";
 
-/// Where each field of `FULL` begins.
+// Where each field of `FULL` begins.
 const FULL_STARTS: [usize; 93] = [
     0, 4, 6, 11, 15, 19, 23, 27, 31, 35, 39, 43, 44, 52, 53, 54, 55, 59, 63, 71, 72, 76, 80, 88,
     92, 96, 97, 98, 99, 103, 107, 115, 116, 120, 124, 132, 133, 141, 143, 147, 152, 156, 160, 166,
@@ -75,7 +75,7 @@ const FULL_STARTS: [usize; 93] = [
     248, 249, 250, 251, 252, 253, 254, 255, 256, 257, 258,
 ];
 
-/// The fault of the bytes, or `None` where they are a component: then they are its bytes.
+// The fault of the bytes, or `None` where they are a component: then they are its bytes.
 fn fault_of(rt: &impl Abort, alloc: Global, bytes: &[u8]) -> Result<Option<FileFault>, FileFault> {
     assert!(rt; bytes.len() < 1000);
     match decode_component(alloc, bytes) {
@@ -89,7 +89,7 @@ fn fault_of(rt: &impl Abort, alloc: Global, bytes: &[u8]) -> Result<Option<FileF
     }
 }
 
-/// The bytes of `base`, with others in the place of those from `at` on. They may go past its end.
+// The bytes of `base`, with others in the place of those from `at` on. They may go past its end.
 fn replaced(
     rt: &impl Abort,
     alloc: Global,
@@ -132,7 +132,7 @@ fn are_exports(rt: &impl Abort, exports: &[Export], wanted: &[(&[u8], u32, bool)
     }
 }
 
-/// What the fields of a component should be.
+// What the fields of a component should be.
 #[derive(Drop)]
 struct Wanted {
     name: &'static [u8],
@@ -309,7 +309,7 @@ fn an_example_is_the_component_that_it_spells(rt: HostRuntime) -> Result<(), Fai
     Ok(())
 }
 
-/// The component that `ONE` spells, built of its fields.
+// The component that `ONE` spells, built of its fields.
 #[tactic(auto, unfolding(component_file::specs::Limits::is_name))]
 fn one(alloc: Global) -> Result<Component, AllocError> {
     let main = Export {
@@ -343,7 +343,7 @@ fn what_is_built_of_fields_has_the_bytes_of_the_example(rt: HostRuntime) -> Resu
     Ok(())
 }
 
-/// A field that is cut is short at its first byte.
+// A field that is cut is short at its first byte.
 #[test]
 fn each_cut_of_an_example_is_short(rt: HostRuntime) -> Result<(), Fail> {
     let examples = [
@@ -366,7 +366,7 @@ fn each_cut_of_an_example_is_short(rt: HostRuntime) -> Result<(), Fail> {
     Ok(())
 }
 
-/// The counts were worked out by hand: the two low bytes of numbers, and integers.
+// The counts were worked out by hand: the two low bytes of numbers, and integers.
 #[test]
 fn a_byte_complemented_is_another_component_or_none(rt: HostRuntime) -> Result<(), Fail> {
     for (base, wanted) in [(ONE.as_slice(), 30_u32), (FULL.as_slice(), 92)] {
@@ -382,10 +382,10 @@ fn a_byte_complemented_is_another_component_or_none(rt: HostRuntime) -> Result<(
     Ok(())
 }
 
-/// Bytes in the place of some of an example's, and what is wrong then, if anything.
+// Bytes in the place of some of an example's, and what is wrong then, if anything.
 type Case<'a> = (usize, &'a [u8], Option<FileFault>);
 
-/// Each with the fault that `ONE` then has.
+// Each with the fault that `ONE` then has.
 const ONE_CASES: [Case<'static>; 61] = [
     // The magic and the version.
     (0, b"R", Some(Magic)),
@@ -470,7 +470,7 @@ const ONE_CASES: [Case<'static>; 61] = [
     (90, b"\x01\x02\x03", Some(Trailing(90))),
 ];
 
-/// Each with the fault that `FULL` then has.
+// Each with the fault that `FULL` then has.
 const FULL_CASES: [Case<'static>; 95] = [
     // The base of seals and of a linear area that are there.
     (23, b"\xff\xff\x0f\0", None),
@@ -631,7 +631,7 @@ fn have_the_faults(
     Ok(())
 }
 
-/// Where a limit is kept and the bytes are still no component, the fault stands behind it.
+// Where a limit is kept and the bytes are still no component, the fault stands behind it.
 #[test]
 fn the_first_fault_is_found_in_its_place(rt: HostRuntime) -> Result<(), Fail> {
     have_the_faults(&rt, rt.alloc(), ONE, &ONE_CASES)?;
@@ -666,4 +666,23 @@ fn a_name_has_1_to_31_bytes_of_its_kind(rt: HostRuntime) {
     for (name, wanted) in names {
         assert_eq!(rt; is_name(name), wanted, "{name:?}");
     }
+}
+
+#[test]
+fn each_fault_has_its_number_its_place_and_its_text(rt: HostRuntime) -> Result<(), Fail> {
+    let faults = [
+        (Magic, 1, 0, "the file does not begin with STKC"),
+        (Version, 2, 0, "the version is not 1"),
+        (Short(7), 3, 7, "the file ends within the field at byte 7"),
+        (BadField(8), 4, 8, "the field at byte 8 is not valid"),
+        (Order(9), 5, 9, "the item at byte 9 is out of order"),
+        (Trailing(90), 6, 90, "the component ends before byte 90"),
+        (NoMemory, 7, 0, "out of memory"),
+    ];
+    for (fault, number, place, text) in faults {
+        assert_eq!(rt; fault.number(), number);
+        assert_eq!(rt; fault.place(), place);
+        assert_eq!(rt; format!(in rt.alloc(); "{fault}")?.as_str(), text);
+    }
+    Ok(())
 }

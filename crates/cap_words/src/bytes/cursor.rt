@@ -1,9 +1,11 @@
 //! Reading numbers from the front of bytes.
 ghost use Rattle.std.specs.Prelude.{◌≡◌, ◌<◌, ◌≤◌, ◌^◌, ◌==◌, length, IfOk};
-ghost use Rattle.std.specs.Int.{w16, w32};
-ghost use Rattle.cap_words.specs.Reading.{bytes_at, byte_at, number_at, signed_at, within, meant};
+ghost use Rattle.cap_words.specs.Reading.{next_bytes, next_byte, next_number, next_signed, within, meant};
 ghost use Rattle.cap_words.specs.Gives.{Gives, GivesAs};
 
+use byteorder::{ByteOrder, LittleEndian};
+use std::error::Error;
+use std::fmt;
 use std::marker::Model;
 
 /// Why a field can't be read, with the place of its first byte.
@@ -14,6 +16,17 @@ pub enum FieldFault {
     /// It says nothing: a number outside its limits, an unknown tag, a bad name.
     BadField(u32),
 }
+
+impl fmt::Display for FieldFault {
+    fn fmt<W: fmt::Write>(&self, f: &mut fmt::Formatter<W>) -> fmt::Result {
+        match self {
+            FieldFault::Short(at) => write!(f, "the bytes end within the field at byte {at}"),
+            FieldFault::BadField(at) => write!(f, "the field at byte {at} is not valid"),
+        }
+    }
+}
+
+impl Error for FieldFault {}
 
 /// Bytes that are read from left to right. A contract sees the place of the next byte, and the
 /// bytes from there on.
@@ -61,9 +74,9 @@ impl<'a> Cursor<'a> {
     }
 
     /// The next `len` bytes.
-    #[tactic(auto, unfolding(crate::specs::Reading::bytes_at))]
+    #[tactic(auto, unfolding(crate::specs::Reading::next_bytes))]
     pub fn bytes(&mut self, len: usize) -> Result<&'a [u8], FieldFault>
-        ensures { GivesAs (λ b. b.now) result self.new (bytes_at len self.old) }
+        ensures { GivesAs (λ b. b.now) result self.new (next_bytes len self.old) }
     {
         if self.rest.len() < len {
             return Err(FieldFault::Short(self.at));
@@ -75,45 +88,45 @@ impl<'a> Cursor<'a> {
     }
 
     /// The next byte.
-    #[tactic(auto, unfolding(crate::specs::Reading::byte_at, crate::specs::Reading::bytes_at))]
+    #[tactic(auto, unfolding(crate::specs::Reading::next_byte, crate::specs::Reading::next_bytes))]
     pub fn byte(&mut self) -> Result<u8, FieldFault>
-        ensures { Gives result self.new (byte_at self.old) }
+        ensures { Gives result self.new (next_byte self.old) }
     {
         let bytes = self.bytes(1)?;
         Ok(bytes[0])
     }
 
     /// The next number of 16 bits.
-    #[tactic(auto, unfolding(crate::specs::Reading::number_at, crate::specs::Reading::bytes_at))]
+    #[tactic(auto, unfolding(crate::specs::Reading::next_number, crate::specs::Reading::next_bytes))]
     pub fn u16(&mut self) -> Result<u16, FieldFault>
-        ensures { Gives result self.new (number_at w16 self.old) }
+        ensures { Gives result self.new (next_number 2 self.old) }
     {
         let bytes = self.bytes(2)?;
-        Ok(u16::from_le_bytes([bytes[0], bytes[1]]))
+        Ok(LittleEndian::read_u16(bytes))
     }
 
     /// The next number of 32 bits.
-    #[tactic(auto, unfolding(crate::specs::Reading::number_at, crate::specs::Reading::bytes_at))]
+    #[tactic(auto, unfolding(crate::specs::Reading::next_number, crate::specs::Reading::next_bytes))]
     pub fn u32(&mut self) -> Result<u32, FieldFault>
-        ensures { Gives result self.new (number_at w32 self.old) }
+        ensures { Gives result self.new (next_number 4 self.old) }
     {
         let bytes = self.bytes(4)?;
-        Ok(u32::from_le_bytes([bytes[0], bytes[1], bytes[2], bytes[3]]))
+        Ok(LittleEndian::read_u32(bytes))
     }
 
     /// The next number of 64 bits with a sign, in two's complement.
-    #[tactic(auto, unfolding(crate::specs::Reading::signed_at, crate::specs::Reading::number_at, crate::specs::Reading::bytes_at))]
+    #[tactic(auto, unfolding(crate::specs::Reading::next_signed, crate::specs::Reading::next_number, crate::specs::Reading::next_bytes))]
     pub fn i64(&mut self) -> Result<i64, FieldFault>
-        ensures { Gives result self.new (signed_at self.old) }
+        ensures { Gives result self.new (next_signed self.old) }
     {
-        let b = self.bytes(8)?;
-        Ok(i64::from_le_bytes([b[0], b[1], b[2], b[3], b[4], b[5], b[6], b[7]]))
+        let bytes = self.bytes(8)?;
+        Ok(LittleEndian::read_i64(bytes))
     }
 
     /// The next number of 32 bits, which must be from `low` to `high`.
     #[tactic(auto, unfolding(crate::specs::Reading::meant))]
     pub fn u32_within(&mut self, low: u32, high: u32) -> Result<u32, FieldFault>
-        ensures exact { Gives result self.new (meant (within low high) (number_at w32) self.old) }
+        ensures exact { Gives result self.new (meant (within low high) (next_number 4) self.old) }
         ensures within { IfOk result (λ n. (low ≤ n) × (n ≤ high)) }
     {
         let at = self.at;

@@ -6,5 +6,6 @@ ghost use Rattle.cap_words.specs.WordBytes.{Spells};
 /// A word has one spelling, a spelling is of one word, and no spelling begins another, so that
 /// words can stand one after another with nothing between.
 pub fn one_spelling()
-    ensures { (v w : Word) (a b x y : List ℕ) → Spells a v → Spells b w → a ++ x ≡ b ++ y → (v ≡ w) × (a ≡ b) × (x ≡ y) }
+    ensures { (v w : Word) (a b x y : List ℕ) →
+        Spells a v → Spells b w → a ++ x ≡ b ++ y → (v ≡ w) × (a ≡ b) × (x ≡ y) }
 {}

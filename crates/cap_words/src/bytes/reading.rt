@@ -1,9 +1,11 @@
 //! Words from bytes.
 ghost use Rattle.std.specs.Prelude.{◌≡◌, ◌≤◌, ◌<◌, ◌^◌, ◌++◌, List, ℕ, length, take, IfSome, Some};
-ghost use Rattle.cap_words.specs.Reading.{byte_at, meant};
+ghost use Rattle.cap_words.specs.Reading.{next_byte, meant};
 ghost use Rattle.cap_words.specs.Gives.{Gives};
 ghost use Rattle.cap_words.specs.WordBytes.{Spells};
-ghost use Rattle.cap_words.specs.WordReading.{perm_meant, lin_meant, cap_at, seals_at, content_behind, content_at, unsealed_behind, unsealed_at, sealed_behind, word_at};
+ghost use Rattle.cap_words.specs.WordReading.{perm_meant, lin_meant, next_cap, next_seal_cap};
+ghost use Rattle.cap_words.specs.WordReading.{content_tagged, next_content, unsealed_tagged};
+ghost use Rattle.cap_words.specs.WordReading.{next_unsealed, next_sealed, next_word};
 ghost use Rattle.cap_words.specs.declared.Word.{Word};
 
 use super::{Cursor, FieldFault};
@@ -11,7 +13,7 @@ use crate::{Cap, CapFields, LAST_PLACE, Lin, Perm, SealCap, SealFields, Sealable
 
 #[tactic(auto, unfolding(crate::specs::Reading::meant))]
 fn perm(bytes: &mut Cursor<'_>) -> Result<Perm, FieldFault>
-    ensures { Gives result bytes.new (meant perm_meant byte_at bytes.old) }
+    ensures { Gives result bytes.new (meant perm_meant next_byte bytes.old) }
 {
     let at = bytes.at();
     Perm::of(i64::from(bytes.byte()?)).ok_or(FieldFault::BadField(at))
@@ -19,7 +21,7 @@ fn perm(bytes: &mut Cursor<'_>) -> Result<Perm, FieldFault>
 
 #[tactic(auto, unfolding(crate::specs::Reading::meant))]
 fn lin(bytes: &mut Cursor<'_>) -> Result<Lin, FieldFault>
-    ensures { Gives result bytes.new (meant lin_meant byte_at bytes.old) }
+    ensures { Gives result bytes.new (meant lin_meant next_byte bytes.old) }
 {
     let at = bytes.at();
     match bytes.byte()? {
@@ -29,9 +31,9 @@ fn lin(bytes: &mut Cursor<'_>) -> Result<Lin, FieldFault>
     }
 }
 
-#[tactic(auto, unfolding(crate::specs::WordReading::cap_at))]
+#[tactic(auto, unfolding(crate::specs::WordReading::next_cap))]
 fn cap(bytes: &mut Cursor<'_>) -> Result<Cap, FieldFault>
-    ensures { Gives result bytes.new (cap_at bytes.old) }
+    ensures { Gives result bytes.new (next_cap bytes.old) }
 {
     let perm = perm(bytes)?;
     let lin = lin(bytes)?;
@@ -47,9 +49,9 @@ fn cap(bytes: &mut Cursor<'_>) -> Result<Cap, FieldFault>
     }))
 }
 
-#[tactic(auto, unfolding(crate::specs::WordReading::seals_at))]
+#[tactic(auto, unfolding(crate::specs::WordReading::next_seal_cap))]
 fn seal_cap(bytes: &mut Cursor<'_>) -> Result<SealCap, FieldFault>
-    ensures { Gives result bytes.new (seals_at bytes.old) }
+    ensures { Gives result bytes.new (next_seal_cap bytes.old) }
 {
     let base = bytes.u32_within(0, LAST_PLACE)?;
     let end = bytes.u32_within(base, LAST_PLACE)?;
@@ -58,9 +60,9 @@ fn seal_cap(bytes: &mut Cursor<'_>) -> Result<SealCap, FieldFault>
 }
 
 // What the tag that was read at `at` announces: a capability.
-#[tactic(auto, unfolding(crate::specs::WordReading::content_behind))]
-fn content_behind(bytes: &mut Cursor<'_>, at: u32, tag: u8) -> Result<Sealable, FieldFault>
-    ensures { Gives result bytes.new (content_behind at tag bytes.old) }
+#[tactic(auto, unfolding(crate::specs::WordReading::content_tagged))]
+fn content_tagged(bytes: &mut Cursor<'_>, at: u32, tag: u8) -> Result<Sealable, FieldFault>
+    ensures { Gives result bytes.new (content_tagged at tag bytes.old) }
 {
     match tag {
         1 => Ok(Sealable::Mem(cap(bytes)?)),
@@ -70,51 +72,51 @@ fn content_behind(bytes: &mut Cursor<'_>, at: u32, tag: u8) -> Result<Sealable, 
 }
 
 // What the tag that was read at `at` announces: an integer or a capability.
-#[tactic(auto, unfolding(crate::specs::WordReading::unsealed_behind))]
-fn unsealed_behind(bytes: &mut Cursor<'_>, at: u32, tag: u8) -> Result<Word, FieldFault>
-    ensures { Gives result bytes.new (unsealed_behind at tag bytes.old) }
+#[tactic(auto, unfolding(crate::specs::WordReading::unsealed_tagged))]
+fn unsealed_tagged(bytes: &mut Cursor<'_>, at: u32, tag: u8) -> Result<Word, FieldFault>
+    ensures { Gives result bytes.new (unsealed_tagged at tag bytes.old) }
 {
     if tag == 0 {
         return Ok(Word::Int(bytes.i64()?));
     }
-    match content_behind(bytes, at, tag)? {
+    match content_tagged(bytes, at, tag)? {
         Sealable::Mem(cap) => Ok(Word::Mem(cap)),
         Sealable::Seal(cap) => Ok(Word::Seal(cap)),
     }
 }
 
 // A seal, and what is under it.
-#[tactic(auto, unfolding(crate::specs::WordReading::sealed_behind, crate::specs::WordReading::content_at))]
-fn sealed_behind(bytes: &mut Cursor<'_>) -> Result<Word, FieldFault>
-    ensures { Gives result bytes.new (sealed_behind bytes.old) }
+#[tactic(auto, unfolding(crate::specs::WordReading::next_sealed, crate::specs::WordReading::next_content))]
+fn sealed(bytes: &mut Cursor<'_>) -> Result<Word, FieldFault>
+    ensures { Gives result bytes.new (next_sealed bytes.old) }
 {
     let seal = bytes.u32_within(0, LAST_PLACE)?;
     let at = bytes.at();
     let tag = bytes.byte()?;
-    Ok(Word::Sealed(seal, content_behind(bytes, at, tag)?))
+    Ok(Word::Sealed(seal, content_tagged(bytes, at, tag)?))
 }
 
 impl<'a> Cursor<'a> {
     /// The next word, which may be of any kind.
-    #[tactic(auto, unfolding(crate::specs::WordReading::word_at))]
+    #[tactic(auto, unfolding(crate::specs::WordReading::next_word))]
     pub fn word(&mut self) -> Result<Word, FieldFault>
-        ensures { Gives result self.new (word_at self.old) }
+        ensures { Gives result self.new (next_word self.old) }
     {
         let at = self.at();
         match self.byte()? {
-            3 => sealed_behind(self),
-            tag => unsealed_behind(self, at, tag),
+            3 => sealed(self),
+            tag => unsealed_tagged(self, at, tag),
         }
     }
 
     /// The next word, which may not be sealed: else its tag is a bad field.
-    #[tactic(auto, unfolding(crate::specs::WordReading::unsealed_at))]
+    #[tactic(auto, unfolding(crate::specs::WordReading::next_unsealed))]
     pub fn unsealed_word(&mut self) -> Result<Word, FieldFault>
-        ensures { Gives result self.new (unsealed_at self.old) }
+        ensures { Gives result self.new (next_unsealed self.old) }
     {
         let at = self.at();
         let tag = self.byte()?;
-        unsealed_behind(self, at, tag)
+        unsealed_tagged(self, at, tag)
     }
 }
 
@@ -125,7 +127,8 @@ pub fn read_word(bytes: &[u8]) -> Option<(Word, usize)>
     // What is read is spelled so.
     ensures found { IfSome result (λ r. (r.1 ≤ length bytes.now) × Spells (take r.1 bytes.now) r.0) }
     // What is spelled so is read, whatever follows it.
-    ensures only { (w : Word) (front rest : List ℕ) → Spells front w → bytes.now ≡ front ++ rest → result ≡ Some (w, length front) }
+    ensures only { (w : Word) (front rest : List ℕ) →
+        Spells front w → bytes.now ≡ front ++ rest → result ≡ Some (w, length front) }
 {
     let mut cursor = Cursor::of(bytes);
     match cursor.word() {

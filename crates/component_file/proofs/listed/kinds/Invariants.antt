@@ -1,9 +1,9 @@
 use Rattle.std.proofs.Common.{◌≡◌, ◌-◌, take, length, None}
-use Rattle.component_file.specs.Reading.{items_at, field, kind_at}
+use Rattle.component_file.specs.Reading.{next_items, field, next_kind}
 use Rattle.component_file.proofs.Lists.{with_front}
 use Rattle.component_file.proofs.listed.kinds.Given as goal
 
 abbrev pub invariant-loop-kind : goal.invariant-loop-kind
 invariant-loop-kind l =
     (length l.kind-items ≡ 15)
-    × (with_front (take l.kind-index l.kind-items) (items_at (λ _. field kind_at) (15 - l.kind-index) None l.bytes) ≡ items_at (λ _. field kind_at) 15 None l.fn.bytes)
+    × (with_front (take l.kind-index l.kind-items) (next_items (λ _. field next_kind) (15 - l.kind-index) None l.bytes) ≡ next_items (λ _. field next_kind) 15 None l.fn.bytes)
