@@ -55,19 +55,16 @@ told_status Went = tt
 told_status Halted = tt
 told_status (Failed cause at) = tt
 
-only_gave : (old new : FilesSeen) (n : ℕ) → new ≡ record old { given = n } → OnlyGave old new
-only_gave old new n e = e ∙ ap (λ k. record old { given = k }) (sym (ap (λ (f : FilesSeen). f.given) e))
-
 -- the file came, and its text begins a run
 pub due_run : (c : Call) (a : Asked) (bytes text : List ℕ) (s : Run) → c.asked ≡ Some a → GivesWhole c.files a.name LONGEST bytes c.files_after → text ≡ bytes → Begins text (Some s)
     → IsDue c (run_answer (plain a.steps s))
 due_run c a bytes text s e whole same b =
-    file a e (only_gave c.files c.files_after _ whole.quiet) bytes whole.came (ran whole.fits b.0 b.1 (sym same ∙ b.2) s b.3 refl)
+    file a e whole.quiet bytes whole.came (ran whole.fits b.0 b.1 (sym same ∙ b.2) s b.3 refl)
 
 pub due_unbuilt : (c : Call) (a : Asked) (bytes text : List ℕ) → c.asked ≡ Some a → GivesWhole c.files a.name LONGEST bytes c.files_after → text ≡ bytes → Begins text None
     → IsDue c (refusal Unbuilt (codes "unbuilt\n"))
 due_unbuilt c a bytes text e whole same b =
-    file a e (only_gave c.files c.files_after _ whole.quiet) bytes whole.came (unbuilt whole.fits (λ p h t. b p h (same ∙ t)) refl)
+    file a e whole.quiet bytes whole.came (unbuilt whole.fits (λ p h t. b p h (same ∙ t)) refl)
 
 pub due_too_long : (c : Call) (a : Asked) → c.asked ≡ Some a → IsTooLong c.files a.name LONGEST c.files_after → IsDue c (refusal TooLong (codes "too long 0\n"))
 due_too_long c a e t = file a e t.quiet t.came.0 t.came.1 (too_long t.came.2 refl)

@@ -62,7 +62,7 @@ pub data IsDue (c : Call) (a : Answer) : Type 0 where
   -- the words are no command
   no_command : c.asked ≡ None → c.files_after ≡ c.files → a ≡ refusal Usage (codes "usage\n") → IsDue c a
   -- the file could not be read
-  no_file : (asked : Asked) → c.asked ≡ Some asked → Faults c.files asked.name c.files_after → a ≡ refusal ReadFault (codes "read fault\n") → IsDue c a
+  no_file : (asked : Asked) → c.asked ≡ Some asked → Faults c.files asked.name LONGEST c.files_after → a ≡ refusal ReadFault (codes "read fault\n") → IsDue c a
   -- the file came
   file : (asked : Asked) → c.asked ≡ Some asked → OnlyGave c.files c.files_after → (bytes : List ℕ) → Came c.files asked.name bytes c.files_after → IsAnswerTo asked.steps bytes a → IsDue c a
 
@@ -113,7 +113,7 @@ Caused c Done = RunIs c (λ step. step ≡ Halted)
 Caused c MachineFailed = RunIs c (λ step. (cause : FailCause) × (at : ℤ) × (step ≡ Failed cause at))
 Caused c StepsUsed = RunIs c (λ step. step ≡ Went)
 Caused c Usage = c.asked ≡ None
-Caused c ReadFault = (asked : Asked) × (c.asked ≡ Some asked) × Faults c.files asked.name c.files_after
+Caused c ReadFault = (asked : Asked) × (c.asked ≡ Some asked) × Faults c.files asked.name LONGEST c.files_after
 Caused c WriteFault = Rose c.sink.faults c.sink_after.faults
 Caused c NoMemory = IsSome c.asked
 Caused c TooLong = FileIs c (λ asked bytes. LONGEST < length bytes)

@@ -11,8 +11,8 @@ use std::alloc::{AllocError, Global};
 use std::process::Abort;
 use std::test::Fail;
 
-/// A word as its parts, to compare. A capability is its permission's number, whether it is linear,
-/// its range and its address.
+// A word as its parts, to compare. A capability is its permission's number, whether it is linear,
+// its range and its address.
 #[derive(Clone, Copy, PartialEq, Eq, Debug)]
 enum Parts {
     Int(i64),
@@ -89,7 +89,7 @@ fn parts_of(word: &Word) -> Parts {
     }
 }
 
-/// Sets a place, where it is there and the parts are those of a word.
+// Sets a place, where it is there and the parts are those of a word.
 fn put(machine: &mut LcmState, place: Place, parts: Parts) {
     if let Place::Cell(at) = place {
         if !machine.has_cell(at) {
@@ -101,7 +101,7 @@ fn put(machine: &mut LcmState, place: Place, parts: Parts) {
     }
 }
 
-/// The parts of the word at a place, where that is there.
+// The parts of the word at a place, where that is there.
 fn at(machine: &LcmState, place: Place) -> Option<Parts> {
     match place {
         Place::R(r) => Some(parts_of(machine.reg(r))),
@@ -115,12 +115,12 @@ fn at(machine: &LcmState, place: Place) -> Option<Parts> {
     }
 }
 
-/// What the machine of each row holds, beside its instruction.
+// What the machine of each row holds, beside its instruction.
 const START: [(Place, Parts); 18] = [
     (Place::Cell(105), Mem(2, true, 400, 401, 400)),
     (Place::Cell(106), Int(42)),
     (Place::Cell(107), Mem(2, true, 500, 501, 500)),
-    (Place::R(Pc), Mem(3, false, 100, 110, 100)),
+    PC_AT_START,
     (Place::R(Rcode), Mem(2, false, 105, 109, 104)),
     (Place::R(Stk), Mem(2, true, 105, 109, 105)),
     (Place::R(Dat), Mem(2, false, 105, 109, 106)),
@@ -137,7 +137,7 @@ const START: [(Place, Parts); 18] = [
     (Place::R(G2), SealedSeal(6, 1, 2, 1)),
 ];
 
-/// Cells 100 to 110, with this instruction in cell 100, and a word for most registers.
+// Cells 100 to 110, with this instruction in cell 100, and a word for most registers.
 fn start(alloc: Global, instr: Instr) -> Result<LcmState, AllocError> {
     let mut machine = LcmState::make(
         alloc,
@@ -153,17 +153,33 @@ fn start(alloc: Global, instr: Instr) -> Result<LcmState, AllocError> {
     Ok(machine)
 }
 
-/// pc's word after a step that is no jump.
+// pc's word at the start.
+const PC_AT_START: (Place, Parts) = (Place::R(Pc), Mem(3, false, 100, 110, 100));
+
+// pc's word after a step that is no jump.
 const NEXT: (Place, Parts) = (Place::R(Pc), Mem(3, false, 100, 110, 101));
 
-/// The instruction goes, and two places then hold these words.
+// The instruction goes, and two places then hold these words.
 fn goes(
     rt: &impl Abort,
     alloc: Global,
     instr: Instr,
     after: [(Place, Parts); 2],
 ) -> Result<(), AllocError> {
+    goes_with(rt, alloc, PC_AT_START, instr, after)
+}
+
+// The same, where a place holds another word than at the start.
+fn goes_with(
+    rt: &impl Abort,
+    alloc: Global,
+    set: (Place, Parts),
+    instr: Instr,
+    after: [(Place, Parts); 2],
+) -> Result<(), AllocError> {
+    let (place, parts) = set;
     let mut machine = start(alloc, instr)?;
+    put(&mut machine, place, parts);
     assert_eq!(rt; machine.count(), 0);
     assert_eq!(rt; machine.step(), Step::Went, "{instr:?}");
     assert_eq!(rt; machine.count(), 1);
@@ -258,7 +274,7 @@ fn moves_stores_and_loads_go(rt: HostRuntime) -> Result<(), Fail> {
     Ok(())
 }
 
-const NUMBERS: [(Instr, (Place, Parts), (Place, Parts)); 15] = [
+const NUMBERS: [(Instr, (Place, Parts), (Place, Parts)); 17] = [
     (
         Instr::Cca(Dat, Imm(2)),
         NEXT,
@@ -306,6 +322,16 @@ const NUMBERS: [(Instr, (Place, Parts), (Place, Parts)); 15] = [
         (Place::R(Stk), Int(0)),
     ),
     (
+        Instr::Split(T1, T1, Stk, Imm(106)),
+        (Place::R(T1), Mem(2, true, 107, 109, 105)),
+        (Place::R(Stk), Int(0)),
+    ),
+    (
+        Instr::Split(Stk, Stk, Stk, Imm(106)),
+        NEXT,
+        (Place::R(Stk), Mem(2, true, 107, 109, 105)),
+    ),
+    (
         Instr::Splice(T1, Stk, G0),
         (Place::R(T1), Mem(2, true, 105, 120, 115)),
         (Place::R(G0), Int(0)),
@@ -320,9 +346,64 @@ fn numbers_and_capabilities_go(rt: HostRuntime) -> Result<(), Fail> {
     Ok(())
 }
 
-/// The instruction fails by this cause at address 100.
+// A linear capability and a normal one, each under a seal.
+const LINEAR: Parts = SealedMem(5, 2, true, 200, 300, 250);
+
+const NORMAL: Parts = SealedMem(5, 3, false, 100, 110, 103);
+
+// What goes where a word is another than at the start: loads of sealed words, and jumps whose data
+// half is a capability of seals.
+const WITH_A_WORD: [((Place, Parts), Instr, (Place, Parts), (Place, Parts)); 4] = [
+    (
+        (Place::Cell(106), LINEAR),
+        Instr::Load(T1, Dat),
+        (Place::R(T1), LINEAR),
+        (Place::Cell(106), Int(0)),
+    ),
+    (
+        (Place::Cell(107), NORMAL),
+        Instr::Load(T1, A1),
+        (Place::R(T1), NORMAL),
+        (Place::Cell(107), NORMAL),
+    ),
+    (
+        (Place::R(T1), SealedMem(6, 3, false, 100, 110, 103)),
+        Instr::Xjmp(T1, G2),
+        (Place::R(Pc), Mem(3, false, 100, 110, 103)),
+        (Place::R(Dat), Seal(1, 2, 1)),
+    ),
+    (
+        (Place::R(T1), SealedMem(6, 4, false, 100, 110, 103)),
+        Instr::Xjmp(T1, G2),
+        (Place::R(Pc), Mem(4, false, 100, 110, 103)),
+        (Place::R(G2), SealedSeal(6, 1, 2, 1)),
+    ),
+];
+
+#[test]
+fn sealed_words_go(rt: HostRuntime) -> Result<(), Fail> {
+    for (set, instr, first, second) in WITH_A_WORD {
+        goes_with(&rt, rt.alloc(), set, instr, [first, second])?;
+    }
+    Ok(())
+}
+
+// The instruction fails by this cause at address 100.
 fn fails(rt: &impl Abort, alloc: Global, instr: Instr, cause: FailCause) -> Result<(), AllocError> {
+    fails_with(rt, alloc, PC_AT_START, instr, cause)
+}
+
+// The same, where a place holds another word than at the start.
+fn fails_with(
+    rt: &impl Abort,
+    alloc: Global,
+    set: (Place, Parts),
+    instr: Instr,
+    cause: FailCause,
+) -> Result<(), AllocError> {
+    let (place, parts) = set;
     let mut machine = start(alloc, instr)?;
+    put(&mut machine, place, parts);
     assert_eq!(rt; machine.count(), 0);
     assert_eq!(rt; machine.step(), Step::Failed(cause, 100), "{instr:?}");
     assert_eq!(rt; machine.count(), 1);
@@ -393,7 +474,7 @@ fn words_of_the_wrong_kind_fail(rt: HostRuntime) -> Result<(), Fail> {
     Ok(())
 }
 
-const OTHER_CAUSES: [(Instr, FailCause); 24] = [
+const OTHER_CAUSES: [(Instr, FailCause); 26] = [
     (Instr::Fail, FailCause::F4),
     (Instr::Store(A1, T1), FailCause::F7),
     (Instr::Load(T1, A2), FailCause::F7),
@@ -406,6 +487,7 @@ const OTHER_CAUSES: [(Instr, FailCause); 24] = [
     (Instr::Load(T1, Rcode), FailCause::F8),
     (Instr::Load(T1, G0), FailCause::F8),
     (Instr::Cca(Dat, R(T2)), FailCause::F9),
+    (Instr::Cca(A0, R(T2)), FailCause::F9),
     (Instr::Plus(T1, T2, Imm(1)), FailCause::F9),
     (Instr::Minus(T1, T2, Imm(-1)), FailCause::F9),
     (Instr::Load(T1, A1), FailCause::F10),
@@ -413,6 +495,7 @@ const OTHER_CAUSES: [(Instr, FailCause); 24] = [
     (Instr::Xjmp(C2, C1), FailCause::F10),
     (Instr::Cseal(Dat, G1), FailCause::F11),
     (Instr::Xjmp(C1, G2), FailCause::F12),
+    (Instr::Xjmp(G2, C2), FailCause::F12),
     (Instr::Split(T1, T2, Stk, Imm(109)), FailCause::F13),
     (Instr::Split(T1, T2, Stk, Imm(104)), FailCause::F13),
     (Instr::Splice(T1, Stk, Stk), FailCause::F14),
@@ -424,6 +507,45 @@ const OTHER_CAUSES: [(Instr, FailCause); 24] = [
 fn other_causes_fail(rt: HostRuntime) -> Result<(), Fail> {
     for (instr, cause) in OTHER_CAUSES {
         fails(&rt, rt.alloc(), instr, cause)?;
+    }
+    Ok(())
+}
+
+// What fails where a word is another than at the start: a code half that may not run, halves that
+// meet and differ in their permission alone, a sealed linear word under a capability that may not
+// write, and the permission before the address.
+const FAILS_WITH_A_WORD: [((Place, Parts), Instr, FailCause); 5] = [
+    (
+        (Place::R(T1), SealedMem(5, 2, false, 105, 109, 106)),
+        Instr::Xjmp(T1, C2),
+        FailCause::F7,
+    ),
+    (
+        (Place::R(T1), Mem(1, true, 110, 120, 115)),
+        Instr::Splice(T2, Stk, T1),
+        FailCause::F14,
+    ),
+    (
+        (Place::Cell(107), LINEAR),
+        Instr::Load(T1, A1),
+        FailCause::F10,
+    ),
+    (
+        (Place::R(T1), Mem(1, false, 105, 109, 104)),
+        Instr::Store(T1, T2),
+        FailCause::F7,
+    ),
+    (
+        (Place::R(T1), Mem(0, false, 105, 109, 104)),
+        Instr::Load(T2, T1),
+        FailCause::F7,
+    ),
+];
+
+#[test]
+fn what_a_word_does_not_let_do_fails(rt: HostRuntime) -> Result<(), Fail> {
+    for (set, instr, cause) in FAILS_WITH_A_WORD {
+        fails_with(&rt, rt.alloc(), set, instr, cause)?;
     }
     Ok(())
 }
@@ -498,6 +620,43 @@ fn a_linear_word_leaves_its_place(rt: HostRuntime) -> Result<(), Fail> {
         assert_eq!(rt; parts_of(held.word()), lifted, "{place:?}");
         held.give_up();
         assert_eq!(rt; at(&machine, place), Some(left), "{place:?}");
+    }
+    Ok(())
+}
+
+#[test]
+fn a_new_machine_has_the_cells_of_its_spans(rt: HostRuntime) -> Result<(), Fail> {
+    let machine = LcmState::make(
+        rt.alloc(),
+        &[
+            Span {
+                base: 100,
+                end: 104,
+            },
+            Span {
+                base: 105,
+                end: 109,
+            },
+            Span {
+                base: 200,
+                end: 200,
+            },
+        ],
+    )?;
+    for (address, want) in [
+        (0, None),
+        (99, None),
+        (100, Some(Int(0))),
+        (104, Some(Int(0))),
+        (105, Some(Int(0))),
+        (109, Some(Int(0))),
+        (110, None),
+        (199, None),
+        (200, Some(Int(0))),
+        (201, None),
+        (1_048_575, None),
+    ] {
+        assert_eq!(rt; at(&machine, Place::Cell(address)), want, "{address}");
     }
     Ok(())
 }

@@ -1,10 +1,12 @@
 -- Files and a sink in memory, as contracts see them.
-use Rattle.std.specs.Prelude.{◌≡◌, ℕ, ◌-◌, List, [], ◌++◌, Option, Some, None, IsSomeAnd, length, min, map, string_bytes}
+use Rattle.std.specs.Prelude.{◌≡◌, ℕ, ◌-◌, List, [], ◌++◌, length, min, map, string_bytes}
+use Rattle.std.specs.Prelude.{Option, Some, None, IsSomeAnd}
 use Rattle.std.specs.Ordering.{nat_cmp}
 use Rattle.std.specs.Cmp.Lexicographic.{slice_cmp}
 use Rattle.std.specs.FinMap as finite
 use Rattle.outside_io.specs.Counts.{raised}
-use Rattle.outside_io.specs.FileCounts.{FileCounts, no_counts, with_given, with_failed_read, with_failed_put, seen_with}
+use Rattle.outside_io.specs.FileCounts.{FileCounts, no_counts, seen_with}
+use Rattle.outside_io.specs.FileCounts.{with_given, with_failed_read, with_failed_put}
 use Rattle.outside_io.specs.FilesSeen.{FilesSeen}
 use Rattle.outside_io.specs.SinkSeen.{SinkSeen}
 use Rattle.std.specs.declared.alloc.Global.{Global}

@@ -1,21 +1,21 @@
 //! What every object of files counts.
 ghost use Rattle.std.specs.Prelude.{◌≡◌, ◌≤◌, length};
+ghost use Rattle.outside_io.specs.Counts.{Rose};
 ghost use Rattle.outside_io.specs.FileCounts.{no_counts, with_given, with_failed_read, with_failed_put};
 
+use crate::outside::LONGEST_NAME;
 use arrayvec::ArrayString;
 use std::marker::Model;
 
-/// Room for a file's name, in bytes.
-const NAME_ROOM: usize = 255;
-
-/// How many reads and puts failed, the names that the last of them had, and how many bytes reads
-/// gave. Each count stands still at the greatest `u64`.
+/// How many reads there were, how many reads and puts failed, the names that the last of them had,
+/// and how many bytes reads gave. Each count stands still at the greatest `u64`.
 #[derive(Drop)]
 pub struct Counts {
+    reads: u64,
     failed_reads: u64,
-    last_failed_read: ArrayString<NAME_ROOM>,
+    last_failed_read: ArrayString<LONGEST_NAME>,
     failed_puts: u64,
-    last_failed_put: ArrayString<NAME_ROOM>,
+    last_failed_put: ArrayString<LONGEST_NAME>,
     given: u64,
 }
 
@@ -25,6 +25,7 @@ impl Model for Counts {
     ghost Value = { FileCounts };
 
     ghost view = { λ c. record {
+      reads = c.reads;
       failed_reads = c.failed_reads;
       last_failed_read = c.last_failed_read.bytes;
       failed_puts = c.failed_puts;
@@ -34,17 +35,25 @@ impl Model for Counts {
 }
 
 impl Counts {
-    /// Nothing failed and nothing was given.
+    /// Nothing was read, nothing failed and nothing was given.
     pub(crate) fn new() -> Self
         ensures { result ≡ no_counts }
     {
         Counts {
+            reads: 0,
             failed_reads: 0,
             last_failed_read: ArrayString::new(),
             failed_puts: 0,
             last_failed_put: ArrayString::new(),
             given: 0,
         }
+    }
+
+    /// How many reads there were, those that failed too.
+    pub fn reads(&self) -> u64
+        ensures { result ≡ self.now.reads }
+    {
+        self.reads
     }
 
     /// How many reads failed.
@@ -82,35 +91,39 @@ impl Counts {
         self.given
     }
 
-    /// Counts the bytes that a read gave.
+    /// Counts a read that gave so many bytes.
     pub(crate) fn gave(&mut self, count: usize)
         ensures { self.new ≡ with_given self.old count }
     {
+        self.reads = self.reads.saturating_add(1);
         self.given = self.given.saturating_add(count as u64);
     }
 
     /// Counts a failed read of this name.
     pub(crate) fn read_failed(&mut self, name: &str)
-        requires { length name.now ≤ 255 }
-        ensures { self.new ≡ with_failed_read self.old name.now }
+        requires { length name.now ≤ LONGEST_NAME }
+        ensures is { self.new ≡ with_failed_read self.old name.now }
+        ensures rose { Rose self.old.failed_reads self.new.failed_reads }
     {
+        self.reads = self.reads.saturating_add(1);
         self.failed_reads = self.failed_reads.saturating_add(1);
         keep(&mut self.last_failed_read, name);
     }
 
     /// Counts a failed put of this name.
     pub(crate) fn put_failed(&mut self, name: &str)
-        requires { length name.now ≤ 255 }
-        ensures { self.new ≡ with_failed_put self.old name.now }
+        requires { length name.now ≤ LONGEST_NAME }
+        ensures is { self.new ≡ with_failed_put self.old name.now }
+        ensures rose { Rose self.old.failed_puts self.new.failed_puts }
     {
         self.failed_puts = self.failed_puts.saturating_add(1);
         keep(&mut self.last_failed_put, name);
     }
 }
 
-/// Makes `kept` hold this name.
-fn keep(kept: &mut ArrayString<NAME_ROOM>, name: &str)
-    requires { length name.now ≤ 255 }
+// Makes `kept` hold this name.
+fn keep(kept: &mut ArrayString<LONGEST_NAME>, name: &str)
+    requires { length name.now ≤ LONGEST_NAME }
     ensures { kept.new.bytes ≡ name.now }
 {
     kept.clear();

@@ -39,7 +39,7 @@ impl<R: rt::Files> HostFiles<R> {
         }
     }
 
-    /// What failed, and how many bytes reads gave.
+    /// How many reads there were, what they gave, and what failed.
     pub fn counts(&self) -> &Counts
         ensures { result.now ≡ self.now }
     {
@@ -47,7 +47,7 @@ impl<R: rt::Files> HostFiles<R> {
     }
 }
 
-/// Opens the file, goes to the byte `at`, and reads once.
+// Opens the file, goes to the byte `at`, and reads once.
 fn read_at<R: rt::Files>(rt: &R, name: &str, at: u64, buf: &mut [u8]) -> io::Result<usize>
     ensures { IfOk result (λ n. n ≤ length buf.new) }
 {
@@ -133,7 +133,7 @@ impl<R: Print> HostSink<R> {
     }
 }
 
-/// Writes all of the piece, and flushes.
+// Writes all of the piece, and flushes.
 fn write_whole<R: Print>(rt: &R, piece: &[u8]) -> io::Result<()> {
     let mut output = io::writer(rt);
     output.write_all(piece)?;

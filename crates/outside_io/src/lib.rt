@@ -6,12 +6,10 @@ mod counts;
 mod host;
 mod memory;
 mod outside;
-#[cfg(test)]
-mod tests;
 mod whole;
 
 pub use counts::Counts;
 pub use host::{HostFiles, HostSink};
 pub use memory::{MemFiles, MemSink};
-pub use outside::{Failed, Files, Sink};
+pub use outside::{Failed, Files, LONGEST_NAME, Sink};
 pub use whole::{ReadEnd, read_whole};

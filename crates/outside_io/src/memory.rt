@@ -1,8 +1,11 @@
 //! Files and a sink in memory, which tell all that they hold.
-ghost use Rattle.std.specs.Prelude.{◌≡◌, ◌⊎◌, ◌↔◌, ◌-◌, ◌<◌, length, min, take, drop, IfOk, IsErr, OnOk, OnErr, IsNone, IsOkAnd, MatchResult};
+ghost use Rattle.std.specs.Prelude.{◌≡◌, ◌⊎◌, ◌↔◌, ◌-◌, ◌<◌, length, min, take, drop};
+ghost use Rattle.std.specs.Prelude.{IfOk, IsErr, OnOk, OnErr, IsNone, IsOkAnd, MatchResult};
 ghost use Rattle.outside_io.specs.FilesSeen.{IsFileName, GivesPart, FailsToRead, Puts, FailsToPut};
 ghost use Rattle.outside_io.specs.SinkSeen.{Adds, FailsToWrite};
-ghost use Rattle.outside_io.specs.Memory.{with_failing, NextFails, no_files, file_named, with_file, after_read, after_failed_read, after_put, after_failed_put, GivesAll, seen_of_files};
+ghost use Rattle.outside_io.specs.Memory.{with_failing, NextFails, no_files, file_named, with_file};
+ghost use Rattle.outside_io.specs.Memory.{after_read, after_failed_read, after_put, after_failed_put};
+ghost use Rattle.outside_io.specs.Memory.{GivesAll, seen_of_files};
 ghost use Rattle.outside_io.specs.Memory.{no_bytes, after_write, after_failed_write, seen_of_bytes};
 
 use crate::calls::Calls;
@@ -50,7 +53,7 @@ impl MemFiles {
     }
 
     /// Adds the file of this name, or replaces it. It is no call, so it is not counted. The name
-    /// may be any text, and one of 1 to 255 bytes can be read. An error changes nothing.
+    /// may be any text, and one of 1 to `LONGEST_NAME` bytes can be read. An error changes nothing.
     pub fn add(&mut self, name: &str, bytes: &[u8]) -> Result<(), AllocError>
         ensures ok { OnOk result (self.new ≡ with_file self.old name.now bytes.now) }
         ensures err { OnErr result (self.new ≡ self.old) }
@@ -69,7 +72,7 @@ impl MemFiles {
         self.calls.fail_at(call);
     }
 
-    /// What failed, and how many bytes reads gave.
+    /// How many reads there were, what they gave, and what failed.
     pub fn counts(&self) -> &Counts
         ensures { result.now ≡ self.now.counts }
     {
@@ -77,7 +80,7 @@ impl MemFiles {
     }
 }
 
-/// Copies the bytes of the file from `at` on to the front of `buf`, as many as fit.
+// Copies the bytes of the file from `at` on to the front of `buf`, as many as fit.
 fn copy_part(file: &[u8], at: u64, buf: &mut [u8]) -> usize
     ensures count { result ≡ min (length buf.new) (length file.now - at) }
     ensures bytes { take result buf.new ≡ take result (drop at file.now) }

@@ -18,17 +18,21 @@ impl fmt::Display for Failed {
 
 impl Error for Failed {}
 
-/// Files by name. A name is text of 1 to 255 bytes.
+/// The longest name of a file, in bytes.
+pub const LONGEST_NAME: usize = 255;
+
+/// Files by name. A name is text of 1 to [`LONGEST_NAME`] bytes.
 pub trait Files {
-    /// What the object tells of its files: their contents or nothing of them, how many bytes its
-    /// reads gave, how many reads and puts failed, and the names that the last of them had.
+    /// What the object tells of its files: their contents or nothing of them, how many reads there
+    /// were and how many bytes they gave, how many reads and puts failed, and the names that the
+    /// last of them had.
     /// Each count stands still at the greatest number of 64 bits.
     ghost seen: { Self → FilesSeen };
 
     /// Reads bytes of the file of this name, from the byte `at` on, to the front of `buf`, and
     /// returns how many it read: where contents are told, at least one, unless the file ends at
-    /// `at` or before it. An error counts as a failed read of this name, and leaves in `buf` what
-    /// it will.
+    /// `at` or before it. Each read is counted, and an error also as a failed read of this name. An
+    /// error leaves in `buf` what it will.
     fn read(&mut self, name: &str, at: u64, buf: &mut [u8]) -> Result<usize, Failed>
         requires name { IsFileName name.now }
         requires room { 0 < length buf.old }

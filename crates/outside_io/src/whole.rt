@@ -9,7 +9,7 @@ use std::alloc::{AllocError, AllocFailed, Global};
 use std::error::Error;
 use std::fmt;
 
-/// How many bytes of a file one read asks for.
+// How many bytes of a file one read asks for.
 const PIECE: usize = 16384;
 
 /// Why a whole file did not come.
@@ -64,6 +64,8 @@ impl<T: Drop> From<AllocFailed<T>> for ReadEnd {
 ///
 /// It reads from the first byte on until a read gives none, and stops with `TooLong` as soon as
 /// more bytes than `limit` came. `Fault` says that a read failed, which the files have counted.
+/// Each read but the last gives a byte or more, so there are at most `limit + 1` of them, and one
+/// more than the bytes at most where the whole file came.
 pub fn read_whole<F: Files>(
     alloc: Global,
     files: &mut F,
