@@ -109,6 +109,7 @@ next_list len low high item = do
   count ← field (meant (within low high) (next_number len))
   next_items item count None
 
+-- a word of the code or the data
 unfoldable pub next_part_word : Option Word → Reader FileFault Word
 next_part_word before = field next_unsealed
 

@@ -172,14 +172,7 @@ fn items<T: Listed>(
 }
 
 // A list with a count of 16 bits, which is at most `most`.
-#[tactic(
-    auto,
-    unfolding(
-        crate::specs::Reading::next_list,
-        crate::specs::Reading::field,
-        cap_words::specs::Reading::meant
-    )
-)]
+#[tactic(auto, unfolding(crate::specs::Reading::next_list, crate::specs::Reading::field, cap_words::specs::Reading::meant))]
 pub(crate) fn short_list<T: Listed>(
     alloc: Global,
     most: u16,

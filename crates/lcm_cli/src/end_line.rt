@@ -32,7 +32,7 @@ fn cause_text(cause: FailCause) -> &'static str
     }
 }
 
-/// Appends pc's address, or `-` where pc holds no memory capability.
+// Appends pc's address, or `-` where pc holds no memory capability.
 fn push_pc(line: &mut ArrayString<160>, pc: &Word)
     requires { array_string_len line.old ≤ 60 }
     ensures bytes { line.new.bytes ≡ line.old.bytes ++ pc_text pc.now }
@@ -47,7 +47,7 @@ fn push_pc(line: &mut ArrayString<160>, pc: &Word)
     }
 }
 
-/// Appends how many steps were made, and ends the line.
+// Appends how many steps were made, and ends the line.
 fn push_steps(line: &mut ArrayString<160>, state: &LcmState)
     requires { array_string_len line.old ≤ 110 }
     ensures { line.new.bytes ≡ line.old.bytes ++ steps_text state.now }

@@ -23,7 +23,7 @@ pub struct Built {
     pub datum: i64,
 }
 
-/// The instruction of the first line, and what follows that line.
+// The instruction of the first line, and what follows that line.
 fn instr_line(text: &[u8]) -> Option<(Instr, &[u8])>
     ensures found { IfSome result (λ p. IsInstr p.0 × (text.now ≡ instr_line p.0 ++ p.1.now)) }
     ensures back { (i : _) (more : List ℕ) → IsInstr i → text.now ≡ instr_line i ++ more → IsSomeAnd result (λ p. (p.0 ≡ i) × (p.1.now ≡ more)) }
@@ -37,7 +37,7 @@ fn instr_line(text: &[u8]) -> Option<(Instr, &[u8])>
     }
 }
 
-/// The instructions of the first lines, up to 64, and what follows them.
+// The instructions of the first lines, up to 64, and what follows them.
 fn code_of(alloc: Global, text: &[u8]) -> Result<(Vec<Instr>, &[u8]), AllocError>
     ensures { IfOk result (λ p. ReadsCode text.now p.0.items p.1.now) }
 {
@@ -59,7 +59,7 @@ fn is_export(text: &[u8]) -> bool
     text == b".export main 0 shared\n".as_slice()
 }
 
-/// The integer of the data, where just the data and the export are left.
+// The integer of the data, where just the data and the export are left.
 fn datum_of(text: &[u8]) -> Option<i64>
     ensures found { IfSome result (λ n. FitsSigned w64 n × (text.now ≡ data_text n)) }
     ensures back { (n : ℤ) → FitsSigned w64 n → text.now ≡ data_text n → result ≡ Some n }

@@ -31,7 +31,7 @@ pub fn integer(text: &[u8]) -> Option<i64>
     }
 }
 
-/// The immediate that these bytes are the one decimal text of.
+// The immediate that these bytes are the one decimal text of.
 fn immediate(text: &[u8]) -> Option<i32>
     ensures found { IfSome result (λ z. FitsSigned w64 z × (text.now ≡ signed_decimal z)) }
     ensures back { (z : ℤ) → FitsSigned w32 z → text.now ≡ signed_decimal z → result ≡ Some z }
@@ -40,7 +40,7 @@ fn immediate(text: &[u8]) -> Option<i32>
     i32::try_from(number).ok()
 }
 
-/// The operand that has this text, or else some other one.
+// The operand that has this text, or else some other one.
 fn operand(text: &[u8]) -> Operand
     ensures fits { IsOperand result }
     ensures back { (o : Operand) → IsOperand o → text.now ≡ operand_text o → result ≡ o }
@@ -51,21 +51,21 @@ fn operand(text: &[u8]) -> Operand
     }
 }
 
-/// The register that has this name, or else some other one.
+// The register that has this name, or else some other one.
 fn register(name: &[u8]) -> Reg
     ensures { (r : Reg) → name.now ≡ reg_name r → result ≡ r }
 {
     Reg::named(name).unwrap_or(Reg::Pc)
 }
 
-/// The first of these instructions that has this text.
+// The first of these instructions that has this text.
 fn first_spelled(instrs: &[Instr], line: &[u8]) -> Option<Instr>
     ensures { result ≡ find (λ i. bytes_eq (instr_text i) line.now) instrs.now }
 {
     instrs.iter().copied().find(|i| i.text().as_bytes() == line)
 }
 
-/// The last of three fields that isn't empty, or the first.
+// The last of three fields that isn't empty, or the first.
 fn last_of<'a>(first: &'a [u8], second: &'a [u8], third: &'a [u8]) -> &'a [u8]
     ensures { result.now ≡ last_of first.now second.now third.now }
 {

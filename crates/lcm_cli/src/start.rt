@@ -39,7 +39,7 @@ fn held_instr(instr: &Instr) -> Held
     held_int(encode(instr))
 }
 
-/// Puts the instructions' numbers into the cells from 100 on.
+// Puts the instructions' numbers into the cells from 100 on.
 fn lay(state: &mut LcmState, code: &[Instr])
     requires few { length code.now ≤ 64 }
     requires room { (a : ℕ) → 100 ≤ a → a < 100 + length code.now → IsSome (cell state.old.maps.cells a) }
@@ -51,7 +51,7 @@ fn lay(state: &mut LcmState, code: &[Instr])
     }
 }
 
-/// A machine with the program's cells, and integer 0 in every register.
+// A machine with the program's cells, and integer 0 in every register.
 fn memory(alloc: Global, built: &Built) -> Result<LcmState, AllocError>
     requires { IsProgram (program built.now) }
     ensures { IfOk result (IsMemory (program built.now)) }

@@ -27,14 +27,14 @@ fn expected(
     })
 }
 
-/// The text of the built form with these instruction lines and this integer.
+// The text of the built form with these instruction lines and this integer.
 fn file(alloc: Global, code: &str, datum: &str) -> Result<String, AllocError> {
     format!(in alloc;
         ".name one\n.stack 65536\n.closure 1\n.code 100\n{code}.data 200\n.int {datum}\n.export main 0 shared\n"
     )
 }
 
-/// Calls the program with the words of a line, which are parted by blanks.
+// Calls the program with the words of a line, which are parted by blanks.
 fn call(alloc: Global, line: &str, files: &mut MemFiles, out: &mut MemSink) -> Result<Told, Fail> {
     let mut words = Vec::new(alloc);
     for word in line.split_whitespace() {
@@ -49,7 +49,7 @@ fn call(alloc: Global, line: &str, files: &mut MemFiles, out: &mut MemSink) -> R
     })
 }
 
-/// Calls the program on one file `one.asm`.
+// Calls the program on one file `one.asm`.
 fn run(alloc: Global, line: &str, text: &[u8]) -> Result<Told, Fail> {
     let mut files = MemFiles::new(alloc)?;
     files.add("one.asm", text)?;

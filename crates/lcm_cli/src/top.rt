@@ -20,7 +20,7 @@ use std::alloc::{AllocError, Global};
 /// The longest file that is read, in bytes.
 const LONGEST: u32 = 4_194_304;
 
-/// Writes a line, and answers the status, or WriteFault where the sink fails.
+// Writes a line, and answers the status, or WriteFault where the sink fails.
 fn tell<S: Sink>(out: &mut S, line: &str, status: Status) -> Status
     requires { 0 < length line.now }
     ensures { Tells (S.seen out.old) (S.seen out.new) line.now status result }
@@ -31,7 +31,7 @@ fn tell<S: Sink>(out: &mut S, line: &str, status: Status) -> Status
     }
 }
 
-/// The machine at the start of the program whose text this is. None where the text isn't of the built form.
+// The machine at the start of the program whose text this is. None where the text isn't of the built form.
 fn begin(alloc: Global, text: &[u8]) -> Result<Option<LcmState>, AllocError>
     ensures { IfOk result (Begins text.now) }
 {
@@ -51,7 +51,7 @@ fn status_of(step: Step) -> Status
     }
 }
 
-/// Runs the machine and writes the end line. The machine is kept where that line was written.
+// Runs the machine and writes the end line. The machine is kept where that line was written.
 fn finish<S: Sink>(
     mut machine: LcmState,
     steps: u64,
@@ -71,7 +71,7 @@ fn finish<S: Sink>(
     status
 }
 
-/// Reads the command's file, and runs the program whose text it is.
+// Reads the command's file, and runs the program whose text it is.
 fn run<F: Files, S: Sink>(
     alloc: Global,
     command: Command<'_>,

@@ -14,7 +14,7 @@ pub struct Command<'a> {
     pub steps: u64,
 }
 
-/// Decimal digits alone that spell 1 to 1,000,000,000.
+// Decimal digits alone that spell 1 to 1,000,000,000.
 #[tactic(auto, unfolding(crate::specs::Words::steps_in))]
 fn steps(word: &str) -> Option<u64>
     ensures is { result ≡ steps_in word.now }
@@ -37,7 +37,7 @@ fn is_file_name(name: &str) -> bool
     1 <= name.len() && name.len() <= 255 && !name.starts_with("-")
 }
 
-/// The file that `u:NAME` names, where NAME ends in `.asm`.
+// The file that `u:NAME` names, where NAME ends in `.asm`.
 #[tactic(auto, unfolding(crate::specs::Words::part_in))]
 fn part(word: &str) -> Option<&str>
     ensures is { option_map (λ n. n.now) result ≡ part_in word.now }

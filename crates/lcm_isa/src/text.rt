@@ -64,7 +64,7 @@ impl Instr {
     }
 }
 
-/// Appends a blank and the operand, or nothing where there is none.
+// Appends a blank and the operand, or nothing where there is none.
 fn push_operand(text: &mut ArrayString<64>, operand: Option<Operand>)
     requires { array_string_len text.old + 12 ≤ 64 }
     ensures bytes { text.new.bytes ≡ text.old.bytes ++ after_blank operand }

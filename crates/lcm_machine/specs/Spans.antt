@@ -2,6 +2,7 @@
 use Rattle.std.specs.Prelude.{◌≡◌, ◌⊎◌, ℕ, ◌+◌, ◌-◌, ◌≤◌, Bool, ◌&&◌, nat_le, List, [], ◌∷◌, replicate}
 use Rattle.std.specs.Prelude.{slice_get, Option, Some, None, IsSomeAnd, if◌then◌else◌}
 use Rattle.std.specs.List.{list_any}
+use Rattle.cap_words.specs.declared.TheConstants.{LAST_PLACE}
 use Rattle.cap_words.specs.declared.Word.{Word}
 use Rattle.cap_words.specs.Linear.{zero_word}
 use Rattle.lcm_machine.specs.declared.cells.Span.{Span}
@@ -19,7 +20,7 @@ in_spans a spans = list_any (in_span a) spans
 abbrev pub AreSpans : ℕ → List Span → Type 0
 AreSpans at [] = Unit {0}
 AreSpans at (s ∷ ss) =
-    (at ≤ s.base) × (s.base ≤ s.end) × (s.end ≤ 1048575) × AreSpans (s.end + 1) ss
+    (at ≤ s.base) × (s.base ≤ s.end) × (s.end ≤ LAST_PLACE) × AreSpans (s.end + 1) ss
 
 -- what an address of a new memory holds: integer 0 in the spans, and no cell elsewhere
 abbrev pub slot : {W : Type 0} → (Word → W) → List Span → ℕ → Option W

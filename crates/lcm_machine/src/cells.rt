@@ -248,10 +248,12 @@ impl<W> Cells<W> {
     }
 
     /// Takes out the cell at an address, which has to have one, and gives its word.
+    #[tactic(auto, using(crate::proofs::CellLemmas::cell_dropped))]
     pub fn remove(&mut self, at: u32) -> W
         requires { IsSome (cell self.old.words at) }
         ensures was { cell self.old.words at ≡ Some result }
         ensures now { self.new ≡ record self.old { words = drop_cell self.old.words at } }
+        ensures gone { cell self.new.words at ≡ None }
         ensures in_span { IsTrue (in_spans at self.old.spans) }
     {
         match self.swap_slot(at, None) {

@@ -52,10 +52,11 @@ impl<W: MachineWord> State<W> {
         }
     }
 
-    // Carries out an effect. A cell that it moves a word from or to has to be there.
+    /// Carries out an effect: takings before settings, settings from left to right. A cell that it moves
+    /// a word from or to has to be there.
     #[tactic(auto, unfolding(crate::specs::Row::perform))]
     #[inline(always)]
-    pub(crate) fn perform(&mut self, effect: Effect)
+    pub fn perform(&mut self, effect: Effect)
         requires { MoveFits self.old effect.moved }
         ensures { self.new ≡ perform W.look W.plain self.old effect }
     {

@@ -101,6 +101,7 @@ impl<W: MachineWord> State<W> {
         requires { IsSome (cell self.old.cells at) }
         ensures was { cell self.old.cells at ≡ Some result }
         ensures now { self.new ≡ record self.old { cells = drop_cell self.old.cells at } }
+        ensures gone { cell self.new.cells at ≡ None }
         ensures in_span { IsTrue (in_spans at self.old.spans) }
     {
         self.cells.remove(at)

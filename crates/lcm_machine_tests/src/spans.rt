@@ -1,5 +1,6 @@
 //! Memory by spans: the ends of the address space, gaps, and spans side by side.
 use cap_words::{Held, Word};
+use lcm_machine::state::State;
 use lcm_machine::{LcmState, Place, Span};
 use std::test::Fail;
 
@@ -49,14 +50,49 @@ fn cells_stand_where_the_spans_are(rt: HostRuntime) -> Result<(), Fail> {
     Ok(())
 }
 
+/// Sets the cell at an address to an integer, where it has one.
+fn set(machine: &mut LcmState, at: u32, number: i64) {
+    if machine.has_cell(at) {
+        machine.set(Place::Cell(at), Held::of(Word::Int(number)));
+    }
+}
+
+/// The integer in the cell at an address.
+fn number(machine: &LcmState, at: u32) -> Option<i64> {
+    if machine.has_cell(at) {
+        machine.cell(at).face().int()
+    } else {
+        None
+    }
+}
+
 #[test]
 fn each_span_has_cells_of_its_own(rt: HostRuntime) -> Result<(), Fail> {
     let (spans, _) = MEMORIES[0];
     let mut machine = LcmState::make(rt.alloc(), &spans)?;
-    if machine.has_cell(0) && machine.has_cell(1_048_575) {
-        machine.set(Place::Cell(1_048_575), Held::of(Word::Int(7)));
-        assert_eq!(rt; machine.cell(0).face().int(), Some(0));
-        assert_eq!(rt; machine.cell(1_048_575).face().int(), Some(7));
+    set(&mut machine, 1_048_575, 7);
+    assert_eq!(rt; number(&machine, 0), Some(0));
+    assert_eq!(rt; number(&machine, 1_048_575), Some(7));
+    Ok(())
+}
+
+/// Takes a cell out of memory and puts it in again: whether the address had none meanwhile.
+fn out_and_in(state: &mut State<Word>, at: u32) -> bool {
+    if !state.has_cell(at) {
+        return false;
     }
+    let word = state.remove_cell(at);
+    let gone = !state.has_cell(at);
+    state.insert_cell(at, word);
+    gone
+}
+
+#[test]
+fn a_cell_goes_out_of_memory_and_comes_back(rt: HostRuntime) -> Result<(), Fail> {
+    let (spans, _) = MEMORIES[1];
+    let mut state = State::<Word>::zeros(rt.alloc(), &spans)?;
+    assert_eq!(rt; out_and_in(&mut state, 13), false);
+    assert_eq!(rt; out_and_in(&mut state, 14), true);
+    assert_eq!(rt; state.has_cell(14), true);
     Ok(())
 }

@@ -1,5 +1,5 @@
 //! Words to bytes.
-ghost use Rattle.std.specs.Prelude.{◌≡◌, ◌≤◌, ◌+◌, ◌++◌, length, OnOk, OnErr, IfOk};
+ghost use Rattle.std.specs.Prelude.{◌≡◌, ◌≤◌, ◌+◌, ◌++◌, OnOk, OnErr, IfOk};
 ghost use Rattle.arrayvec.specs.ArrayVec.{array_vec_len};
 ghost use Rattle.cap_words.specs.WordBytes.{number_bytes, signed_bytes, lin_number, cap_bytes, seal_bytes};
 ghost use Rattle.cap_words.specs.WordBytes.{content_bytes, ContentFits, word_bytes_of, WordFits};

@@ -1,0 +1,13 @@
+pub mod FirstIn
+pub mod RuleLemmas
+pub mod Found
+pub mod RegionFacts
+pub mod Laid
+pub mod PartWords
+pub mod LaySteps
+pub mod SortedSpans
+pub mod StartHeld
+pub mod StartIs
+pub mod ListedOwners
+pub mod PartKept
+pub mod LinksKept

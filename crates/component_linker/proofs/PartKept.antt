@@ -1,0 +1,160 @@
+-- What the rules C say of a part, as the start rests on it.
+use Rattle.std.proofs.Common.{◌≡◌, ℕ, zero, suc, ◌+◌, ◌-◌, ◌<◌, ◌≤◌, ◌⊎◌, inl, inr, Bool, true, false, not, List, [], ◌∷◌, ◌++◌, length, Option, Some, None, Ok, refl, sym, ap, subst, ◌∙◌, arith, map}
+use Rattle.std.specs.Prelude.{slice_get, slice_index, slice_index_or, nat_le, nat_lt, ◌==◌, ◌&&◌, ◌||◌, is_some, option_map, if◌then◌else◌}
+use Rattle.std.proofs.lemmas.Bool.Decides.{nat_tests}
+use Rattle.std.proofs.lemmas.Option.{slice_get_within, get_or_from_slice_get, slice_get-map}
+use Rattle.cap_words.specs.declared.Word.TheVariants.{Mem}
+use Rattle.cap_words.specs.declared.CapFields.{CapFields}
+use Rattle.cap_words.specs.Linear.{lin_is}
+use Rattle.cap_words.specs.Faces.{may_run}
+use Rattle.component_file.specs.declared.component.ComponentFields.{ComponentFields}
+use Rattle.component_file.specs.declared.component.Import.{Import}
+use Rattle.component_file.specs.Limits.{IsComponent, last_base}
+use Rattle.component_check.specs.Places.{Test, BrokenAt, first_below}
+use Rattle.component_check.specs.Verdict.{rule}
+use Rattle.component_check.specs.Areas.{is_past_end, code_area, data_area, has_all}
+use Rattle.component_check.specs.Rules.{c1, c4, c7, c8, slot, slot_is_bad, words, holds_of, is_foreign, is_own, linear_at, linear_in, meet, meets_before, rules_c}
+use Rattle.component_check.proofs.First.{first_below_is, IsFirstIn}
+use Rattle.component_linker.specs.Parts.{PartSeen, IsPart, rules_of}
+use Rattle.component_linker.specs.Linked.{Kept, IsOwn, HasRange}
+
+-- a rule of a part is broken nowhere
+kept : (p : PartSeen) → IsPart p → (n i : ℕ) (t : Test ℕ) → rule (rules_of p) n ≡ Some t → i < t.count → t.broken i ≡ false
+kept p h n i t is lt = by_test (t.broken i) refl
+  where
+    by_test : (b : Bool) → t.broken i ≡ b → t.broken i ≡ false
+    by_test true e = absurd (h.rules n i t is (lt, e))
+    by_test false e = e
+
+-- ---- areas
+
+ends : (base count : ℕ) → is_past_end base count ≡ false → 1 ≤ count → base + count ≤ 1048576
+ends base count e some = grind (arith, nat_tests)
+
+pub code_ends : (p : PartSeen) → IsPart p → p.component.code_base + length p.component.code ≤ 1048576
+unfolding c1
+code_ends p h = ends p.component.code_base (length p.component.code) (kept p h 1 0 (c1 p.component) refl (omega arith)) h.limits.code.0.0
+
+pub data_ends : (p : PartSeen) → IsPart p → p.component.data_base + length p.component.data_words ≤ 1048576
+unfolding c1
+data_ends p h = ends p.component.data_base (length p.component.data_words) (kept p h 1 1 (c1 p.component) refl (omega arith)) h.limits.data_words.0.0
+
+pub linear_ends : (p : PartSeen) → IsPart p → p.component.linear.base + p.component.linear.count ≤ 1048576
+unfolding c1
+linear_ends p h = by_count p.component.linear.count refl
+  where
+    by_count : (n : ℕ) → p.component.linear.count ≡ n → p.component.linear.base + p.component.linear.count ≤ 1048576
+    by_count zero e =
+        let P : ℕ → Type 0 = λ n. p.component.linear.base ≤ last_base n in
+        let base : p.component.linear.base ≤ 0 = subst P e h.limits.linear.1 in
+        omega (arith, e, base)
+    by_count (suc n) e = ends p.component.linear.base p.component.linear.count (kept p h 1 2 (c1 p.component) refl (omega arith)) (omega (arith, e))
+
+-- ---- slots
+
+slot_of : (c : ComponentFields) (k : ℕ) (i : Import) → slice_get c.imports k ≡ Some i → slot c k ≡ i.slot
+slot_of c k i e = get_or_from_slice_get (map (λ x. x.slot) c.imports) k i.slot 0 (slice_get-map (λ x. x.slot) c.imports k ∙ ap (option_map (λ x. x.slot)) e)
+
+slot_fits : (p : PartSeen) → IsPart p → (k : ℕ) (i : Import) → slice_get p.component.imports k ≡ Some i → slot_is_bad p.component k ≡ false
+unfolding c4
+slot_fits p h k i e = kept p h 4 k (c4 p.component) refl (slice_get_within p.component.imports k i e)
+
+in_data : (n s : ℕ) (b : Bool) → (nat_le n (s + 1) || b) ≡ false → s + 1 < n
+in_data n s b e = by_test (nat_le n (s + 1)) refl
+  where
+    by_test : (t : Bool) → nat_le n (s + 1) ≡ t → s + 1 < n
+    by_test true f = let g : true ≡ false = sym (ap (λ t. t || b) f) ∙ e in cc
+    by_test false f = grind (arith, nat_tests)
+
+pub slots_in : (p : PartSeen) → IsPart p → (k : ℕ) (i : Import) → slice_get p.component.imports k ≡ Some i → i.slot + 1 < length p.component.data_words
+slots_in p h k i e =
+    let P : ℕ → Type 0 = λ s. s + 1 < length p.component.data_words in
+    subst P (slot_of p.component k i e) (in_data (length p.component.data_words) (slot p.component k) _ (slot_fits p h k i e))
+
+behind : (n s r k : ℕ) → (nat_le n (s + 1) || (nat_lt 0 (k + 1) && nat_lt s (r + 2))) ≡ false → r + 2 ≤ s
+behind n s r k e = grind (arith, nat_tests)
+
+pub slots_apart : (p : PartSeen) → IsPart p → (k : ℕ) (i j : Import) → slice_get p.component.imports k ≡ Some i → slice_get p.component.imports (k + 1) ≡ Some j → i.slot + 2 ≤ j.slot
+slots_apart p h k i j e f =
+    let before : slot p.component (k + 1 - 1) ≡ i.slot = ap (slot p.component) (let n : k + 1 - 1 ≡ k = omega arith in n) ∙ slot_of p.component k i e in
+    let fits = slot_fits p h (k + 1) j f in
+    let le = behind (length p.component.data_words) (slot p.component (k + 1)) (slot p.component (k + 1 - 1)) k fits in
+    omega (arith, le, before, slot_of p.component (k + 1) j f)
+
+-- ---- capabilities
+
+range_in : (base count : ℕ) (m : CapFields) → has_all (record { base = base; count = count }) m.base m.end ≡ true → HasRange base count m
+range_in base count m e = (grind (arith, nat_tests), grind (arith, nat_tests))
+
+-- both hold, or one of them does
+both : (a b : Bool) → (a && b) ≡ true → b ≡ true
+both true b e = e
+both false b e = absurd cc
+
+either : (a b : Bool) → (a || b) ≡ true → (a ≡ true) ⊎ (b ≡ true)
+either true b e = inl refl
+either false b e = inr e
+
+-- C7, as the start rests on it
+own_range : (c : ComponentFields) (m : CapFields) → is_own c m ≡ true → IsOwn c m
+own_range c m e = by_lin (lin_is m.lin) refl
+  where
+    normal : (a b : Bool) → lin_is m.lin ≡ false → (a ≡ true → HasRange c.code_base (length c.code) m) → (b ≡ true → HasRange c.data_base (length c.data_words) m)
+        → (a ≡ true) ⊎ (b ≡ true) → IsOwn c m
+    normal a b lin in_code in_words h = elim h as (λ _. IsOwn c m) [ inl x ↦ inl (lin, in_code x) | inr x ↦ inr (inl (lin, in_words x)) ]
+
+    by_lin : (b : Bool) → lin_is m.lin ≡ b → IsOwn c m
+    by_lin true lin =
+        let own : (not (may_run m.perm) && has_all c.linear m.base m.end) ≡ true = sym (ap (λ b. if b then (not (may_run m.perm) && has_all c.linear m.base m.end) else (has_all (code_area c) m.base m.end || (not (may_run m.perm) && has_all (data_area c) m.base m.end))) lin) ∙ e in
+        inr (inr (lin, range_in c.linear.base c.linear.count m (both _ _ own)))
+    by_lin false lin =
+        let own : (has_all (code_area c) m.base m.end || (not (may_run m.perm) && has_all (data_area c) m.base m.end)) ≡ true = sym (ap (λ b. if b then (not (may_run m.perm) && has_all c.linear m.base m.end) else (has_all (code_area c) m.base m.end || (not (may_run m.perm) && has_all (data_area c) m.base m.end))) lin) ∙ e in
+        normal _ _ lin (range_in c.code_base (length c.code) m) (λ x. range_in c.data_base (length c.data_words) m (both _ _ x)) (either _ _ own)
+
+pub owns : (p : PartSeen) → IsPart p → (k : ℕ) (m : CapFields) → slice_get (words p.component) k ≡ Some (Mem m) → IsOwn p.component m
+unfolding c7
+owns p h k m e =
+    let fine : holds_of (is_foreign p.component) (slice_get (words p.component) k) ≡ false = kept p h 7 k (c7 p.component) refl (slice_get_within (words p.component) k (Mem m) e) in
+    let own : not (is_own p.component m) ≡ false = sym (ap (holds_of (is_foreign p.component)) e) ∙ fine in
+    own_range p.component m (not_not (is_own p.component m) own)
+  where
+    not_not : (b : Bool) → not b ≡ false → b ≡ true
+    not_not true e = refl
+    not_not false e = absurd cc
+
+-- C8, as the start rests on it
+meets_none : (test : ℕ → Bool) (n : ℕ) → is_some (first_below test n) ≡ false → (i : ℕ) → i < n → test i ≡ false
+meets_none test n e = by_first (first_below test n) refl (first_below_is test n)
+  where
+    by_first : (o : Option ℕ) → first_below test n ≡ o → IsFirstIn test n o → (i : ℕ) → i < n → test i ≡ false
+    by_first None is h = h
+    by_first (Some i) is h = let f : true ≡ false = sym (ap is_some is) ∙ e in absurd cc
+
+linear_of : (c : ComponentFields) (k : ℕ) (m : CapFields) → slice_get (words c) k ≡ Some (Mem m) → lin_is m.lin ≡ true → linear_at c k ≡ Some m
+linear_of c k m e lin = ap linear_in e ∙ rw lin refl
+
+pub once : (p : PartSeen) → IsPart p → (k n : ℕ) (m l : CapFields) → k < n → slice_get (words p.component) k ≡ Some (Mem m) → slice_get (words p.component) n ≡ Some (Mem l)
+    → lin_is m.lin ≡ true → lin_is l.lin ≡ true → (m.end < l.base) ⊎ (l.end < m.base)
+unfolding c8
+once p h k n m l lt e f m_lin l_lin =
+    let c = p.component in
+    let none : meets_before c n ≡ false = kept p h 8 n (c8 c) refl (slice_get_within (words c) n (Mem l) f) in
+    let apart : meet (linear_at c k) (linear_at c n) ≡ false = meets_none (λ i. meet (linear_at c i) (linear_at c n)) n none k lt in
+    let both : meet (Some m) (Some l) ≡ false = sym (ap (λ o. meet o (linear_at c n)) (linear_of c k m e m_lin) ∙ ap (meet (Some m)) (linear_of c n l f l_lin)) ∙ apart in
+    lie_apart m l both
+  where
+    lie_apart : (a b : CapFields) → (nat_le a.base b.end && nat_le b.base a.end) ≡ false → (a.end < b.base) ⊎ (b.end < a.base)
+    lie_apart a b e = grind (arith, nat_tests)
+
+pub is_kept : (p : PartSeen) → IsPart p → Kept p
+is_kept p h = record {
+  limits = h.limits;
+  code_end = code_ends p h;
+  data_end = data_ends p h;
+  linear_end = linear_ends p h;
+  slots_in = slots_in p h;
+  slots_apart = slots_apart p h;
+  own = owns p h;
+  once = once p h;
+  sites_in = h.sites;
+}

@@ -1,0 +1,8 @@
+use Rattle.std.proofs.Common.{rules}
+use Rattle.component_linker.specs.Links.{l5}
+use Rattle.component_linker.proofs.FirstIn.{first_in_is}
+use Rattle.component_linker.proofs.imports.l5.Goals as goal
+
+pub returns : goal.returns
+unfolding l5
+returns c = first_in_is (l5 c.args.parts.now) c.first_in.ensures (search rules) (λ p o lt h. search rules)

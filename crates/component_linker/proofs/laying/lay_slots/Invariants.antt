@@ -1,0 +1,8 @@
+-- The halves of the imports so far are laid.
+use Rattle.component_linker.specs.Start.{from}
+use Rattle.component_linker.specs.Laying.{Lays}
+use Rattle.component_linker.proofs.PartWords.{slots_upto}
+use Rattle.component_linker.proofs.laying.lay_slots.Given as goal
+
+abbrev pub invariant-loop-import : goal.invariant-loop-import
+invariant-loop-import l = Lays (from l.part.component.data_base (slots_upto l.parts l.part.component.imports l.import-index)) l.fn.state l.state

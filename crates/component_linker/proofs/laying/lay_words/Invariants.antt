@@ -1,0 +1,10 @@
+-- The words so far are laid.
+use Rattle.std.proofs.Common.{◌≡◌}
+use Rattle.std.specs.Prelude.{slice_get}
+use Rattle.component_linker.specs.Start.{from}
+use Rattle.component_linker.specs.Laying.{Lays}
+use Rattle.component_linker.proofs.Laid.{upto}
+use Rattle.component_linker.proofs.laying.lay_words.Given as goal
+
+abbrev pub invariant-loop-index : goal.invariant-loop-index
+invariant-loop-index l = Lays (from l.base (upto l.index (slice_get l.words))) l.fn.state l.state

@@ -1,0 +1,15 @@
+use Rattle.std.proofs.Common.{List, ℕ, subst}
+use Rattle.component_linker.specs.Parts.{PartSeen}
+use Rattle.component_linker.specs.Answer.{LinksTo}
+use Rattle.component_linker.proofs.linking.link.Goals as goal
+
+pub returns : goal.returns
+returns c =
+    let s = c.in_ok-start_of.field-0 in
+    let P : List PartSeen → Type 0 = λ parts. LinksTo parts c.args.stack s in
+    subst P c.of-placed.ensures (record {
+      rules = c.in_ok-check_links.ensures.first;
+      starts = c.in_ok-start_of.ensures.starts;
+      regions = c.start_of.ensures.regions;
+      held_once = c.in_ok-start_of.ensures.held_once;
+    })

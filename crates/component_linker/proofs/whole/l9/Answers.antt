@@ -1,0 +1,8 @@
+use Rattle.std.proofs.Common.{rules}
+use Rattle.component_linker.specs.Links.{l9}
+use Rattle.component_linker.proofs.FirstIn.{first_in_is}
+use Rattle.component_linker.proofs.whole.l9.Goals as goal
+
+pub returns : goal.returns
+unfolding l9
+returns c = first_in_is (l9 c.args.parts.now) c.first_in.ensures (search rules) (λ p o lt h. search rules)

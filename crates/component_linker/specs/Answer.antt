@@ -1,0 +1,24 @@
+-- What linking answers.
+use Rattle.std.specs.Prelude.{ℕ, List, Result, Ok, Err}
+use Rattle.lcm_machine.specs.Regions.{AreApart, HeldOnce}
+use Rattle.component_linker.specs.declared.fault.LinkFault.{LinkFault}
+use Rattle.component_linker.specs.declared.fault.LinkFault.TheVariants.{Rule, NoMemory}
+use Rattle.component_linker.specs.Parts.{PartSeen, placed}
+use Rattle.component_linker.specs.Regions.{regions_of}
+use Rattle.component_linker.specs.Pairs.{IsFirstIn, NoneIsBroken}
+use Rattle.component_linker.specs.Links.{rules_l, rule_at}
+use Rattle.component_linker.specs.Started.{StartSeen, Starts}
+
+-- of parts as they stand: no rule L is broken, and this is their start. Its regions lie apart, and no address of
+-- a linear one is held twice
+pub record LinksTo (parts : List PartSeen) (size : ℕ) (s : StartSeen) : Type 0 where
+  pub rules : NoneIsBroken (rules_l parts size)
+  pub starts : Starts parts size s
+  pub regions : AreApart (regions_of parts size)
+  pub held_once : HeldOnce (λ w. w) (regions_of parts size) s.state.maps
+
+-- the start; or the first rule that is broken; or, with no rule broken, that memory was refused
+abbrev pub Answers : List PartSeen → ℕ → Result StartSeen LinkFault → Type 0
+Answers parts size (Ok s) = LinksTo (placed parts size) size s
+Answers parts size (Err (Rule at)) = IsFirstIn rule_at (rules_l (placed parts size) size) at
+Answers parts size (Err NoMemory) = NoneIsBroken (rules_l (placed parts size) size)

@@ -1,0 +1,13 @@
+pub mod Parts
+pub mod Regions
+pub mod Start
+pub mod Pairs
+pub mod Links
+pub mod Linked
+pub mod Laying
+pub mod Owners
+pub mod Listing
+pub mod Started
+pub mod Lending
+pub mod Answer
+pub mod FaultText

@@ -1,0 +1,59 @@
+-- The sites of a start, and who owns which code.
+use Rattle.std.specs.Prelude.{◌≡◌, ◌↔◌, ℕ, ◌+◌, ◌-◌, ◌<◌, true, List, map, length, slice_get, Some}
+use Rattle.std.specs.List.{AllPairs, Contains}
+use Rattle.lcm_machine.specs.declared.cells.Span.{Span}
+use Rattle.lcm_machine.specs.Run.{Run}
+use Rattle.component_file.specs.declared.component.ComponentFields.{ComponentFields}
+use Rattle.component_file.specs.declared.component.Export.{Export}
+use Rattle.component_linker.specs.declared.owners.Site.{Site}
+use Rattle.component_linker.specs.declared.owners.Owner.{Owner}
+use Rattle.component_linker.specs.declared.owners.Entry.{Entry}
+use Rattle.component_linker.specs.Parts.{PartSeen}
+use Rattle.component_linker.specs.Regions.{addresses}
+
+-- ---- sites
+
+-- a site of a trusted part: its seal is the part's first seal plus its index
+pub record IsSite (parts : List PartSeen) (s : Site) : Type 0 where
+  pub of : PartSeen
+  pub of_is : slice_get parts s.part ≡ Some of
+  pub trusted : of.trusted ≡ true
+  pub offset : ℕ
+  pub offset_is : slice_get of.component.sites s.index ≡ Some offset
+  pub seal : s.seal ≡ of.component.seals.base + s.index
+  pub at : s.at ≡ of.component.code_base + offset
+
+-- each of them, in ascending address
+pub record AreSites (parts : List PartSeen) (sites : List Site) : Type 0 where
+  pub ascend : AllPairs (λ s t. s.at < t.at) sites
+  pub all : (s : Site) → Contains sites s ↔ IsSite parts s
+
+-- ---- owners
+
+abbrev pub entry_of : ComponentFields → Export → Entry
+entry_of c e = record { name = e.name; at = c.code_base + e.offset }
+
+-- who a part is, in its place among the parts
+unfoldable pub owner_of : ℕ → PartSeen → Owner
+owner_of index p =
+    let c = p.component in
+    record {
+      part = index;
+      name = c.name;
+      trusted = p.trusted;
+      code = addresses c.code_base (length c.code);
+      data_span = addresses c.data_base (length c.data_words);
+      closure = c.closure;
+      entries = map (entry_of c) c.exports;
+    }
+
+-- the owner of a part
+pub record IsOwner (parts : List PartSeen) (o : Owner) : Type 0 where
+  pub of : PartSeen
+  pub of_is : slice_get parts o.part ≡ Some of
+  pub is : o ≡ owner_of o.part of
+
+-- each of them, in ascending address of their code
+pub record AreOwners (parts : List PartSeen) (owners : List Owner) : Type 0 where
+  pub ascend : AllPairs (λ o q. o.code.base < q.code.base) owners
+  pub all : (o : Owner) → Contains owners o ↔ IsOwner parts o

@@ -1,0 +1,28 @@
+//! The linker: parts that were accepted, the rules that they keep together, and the machine that they start.
+#![tactic(auto)]
+
+mod fault;
+mod grant;
+mod imports;
+mod laying;
+mod linking;
+mod machine;
+mod memory;
+mod names;
+mod owners;
+mod pairs;
+mod part;
+mod parts;
+mod placed;
+mod regions;
+mod started;
+mod whole;
+
+pub use fault::{LinkFault, RuleAt};
+pub use linking::link;
+pub use owners::{Entry, Owner, Site};
+pub use part::{Part, accept};
+pub use started::Start;
+
+/// The most parts that are linked together.
+pub const MOST_PARTS: usize = 16;

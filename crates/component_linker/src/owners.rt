@@ -1,0 +1,158 @@
+//! The sites of a start, and who owns which code.
+ghost use Rattle.std.specs.Prelude.{◌≡◌, ◌≤◌, ◌<◌, ◌+◌, length, map, slice_get, Some, IfOk, OnOk, IfSome};
+ghost use Rattle.component_linker.specs.Linked.{Kept, AreClosed, AreSeparate};
+ghost use Rattle.component_linker.specs.Regions.{addresses};
+ghost use Rattle.component_linker.specs.Owners.{entry_of, owner_of, AreSites, AreOwners};
+ghost use Rattle.component_linker.specs.Listing.{SitesUpto, OwnersUpto};
+
+use crate::MOST_PARTS;
+use crate::placed::{Placed, PlacedParts};
+use cap_words::{Items, LAST_PLACE};
+use lcm_machine::Span;
+use std::alloc::{AllocError, Global};
+
+/// A call of trusted code to elsewhere, as its part declares it.
+#[derive(Clone, Copy, Debug, PartialEq, Eq)]
+pub struct Site {
+    /// The part, by its place among the parts.
+    pub part: u32,
+    /// Which of the part's sites it is.
+    pub index: u32,
+    /// Its seal: the part's first seal plus the index.
+    pub seal: u32,
+    /// The address of the call's first word.
+    pub at: u32,
+}
+
+/// An entry of a part that others may call, under its name.
+#[derive(Debug, Drop)]
+pub struct Entry {
+    /// The name.
+    pub name: Items<u8>,
+    /// The address of its first word.
+    pub at: u32,
+}
+
+/// Who a part is and where it stands.
+#[derive(Drop)]
+pub struct Owner {
+    /// The part, by its place among the parts.
+    pub part: u32,
+    /// Its name.
+    pub name: Items<u8>,
+    /// Whether it is trusted.
+    pub trusted: bool,
+    /// The addresses of its code.
+    pub code: Span,
+    /// The addresses of its data.
+    pub data_span: Span,
+    /// The seal of its entries.
+    pub closure: u32,
+    /// Its entries, shared or not, in the order of their names.
+    pub entries: Items<Entry>,
+}
+
+// The sites of one part more, where it is trusted.
+fn push_sites(sites: &mut Vec<Site>, parts: &PlacedParts<'_>, number: u32) -> Result<(), AllocError>
+    requires in_parts { number < length parts.now }
+    requires closed { AreClosed parts.now }
+    requires separate { AreSeparate parts.now }
+    requires before { SitesUpto parts.now number 0 sites.old.items }
+    ensures { OnOk result (SitesUpto parts.now (number + 1) 0 sites.new.items) }
+{
+    let part = parts.part(number as usize);
+    if !part.trusted() {
+        return Ok(());
+    }
+    let first = part.seals().base();
+    let base = part.code_base();
+    for (index, offset) in part.sites().iter().enumerate() {
+        sites.push(Site {
+            part: number,
+            index: index as u32,
+            seal: first + index as u32,
+            at: base + *offset,
+        })?;
+    }
+    Ok(())
+}
+
+/// The sites of all trusted parts, in ascending address.
+pub(crate) fn sites(alloc: Global, parts: &PlacedParts<'_>) -> Result<Items<Site>, AllocError>
+    requires few { length parts.now ≤ MOST_PARTS }
+    requires closed { AreClosed parts.now }
+    requires separate { AreSeparate parts.now }
+    ensures { IfOk result (AreSites parts.now) }
+{
+    let mut sites = Vec::new(alloc);
+    for number in 0..parts.len() as u32 {
+        push_sites(&mut sites, parts, number)?;
+    }
+    sites.sort_by_key(|site| site.at)?;
+    Ok(Items::of(sites))
+}
+
+// So many addresses from a first one on.
+fn span_of(base: u32, count: usize) -> Span
+    requires some { 1 ≤ count }
+    requires fits { base + count ≤ LAST_PLACE + 1 }
+    ensures { result ≡ addresses base count }
+{
+    let end = base + count as u32 - 1;
+    Span { base, end }
+}
+
+fn copy_name(alloc: Global, name: &[u8]) -> Result<Items<u8>, AllocError>
+    ensures { IfOk result (λ n. n ≡ name.now) }
+{
+    Ok(Items::of(Vec::from_slice(alloc, name)?))
+}
+
+// The entries of a part, one for each export.
+fn entries_of(alloc: Global, part: &Placed<'_>) -> Result<Items<Entry>, AllocError>
+    requires { Kept part.now }
+    ensures { let c = part.now.component in IfOk result (λ entries. entries ≡ map (entry_of c) c.exports) }
+{
+    let base = part.code_base();
+    let mut entries = Vec::new(alloc);
+    for export in part.exports() {
+        entries.push(Entry {
+            name: copy_name(alloc, export.name.as_slice())?,
+            at: base + export.offset,
+        })?;
+    }
+    Ok(Items::of(entries))
+}
+
+// Who a part is, by its place among the parts.
+fn named(alloc: Global, part: &Placed<'_>, number: u32) -> Result<Owner, AllocError>
+    requires { Kept part.now }
+    ensures { IfOk result (λ o. o ≡ owner_of number part.now) }
+{
+    Ok(Owner {
+        part: number,
+        name: copy_name(alloc, part.name())?,
+        trusted: part.trusted(),
+        code: span_of(part.code_base(), part.code().len()),
+        data_span: span_of(part.data_base(), part.data_words().len()),
+        closure: part.closure(),
+        entries: entries_of(alloc, part)?,
+    })
+}
+
+/// The owners, one for each part, in ascending address of their code.
+pub(crate) fn owners(alloc: Global, parts: &PlacedParts<'_>) -> Result<Items<Owner>, AllocError>
+    requires few { length parts.now ≤ MOST_PARTS }
+    requires closed { AreClosed parts.now }
+    requires separate { AreSeparate parts.now }
+    ensures { IfOk result (AreOwners parts.now) }
+{
+    let mut owners = Vec::new(alloc);
+    for number in 0..parts.len() as u32 {
+        let part = parts.part(number as usize);
+        let owner = named(alloc, &part, number)?;
+        owners.push(owner)?;
+    }
+    owners.sort_by_key(|owner| owner.code.base)?;
+    Ok(Items::of(owners))
+}

@@ -1,0 +1,71 @@
+//! Rule L1: regions don't overlap, nor touch.
+ghost use Rattle.std.specs.Prelude.{◌≡◌, ◌<◌, ◌≤◌, ℕ, take, length, slice_index_or, None};
+ghost use Rattle.std.specs.List.{list_any};
+ghost use Rattle.component_check.specs.Places.{first_place};
+ghost use Rattle.component_linker.specs.Regions.{stack_span};
+ghost use Rattle.component_linker.specs.Pairs.{first_in};
+ghost use Rattle.component_linker.specs.Links.{near, near_part, near_before, l1};
+
+use crate::pairs::{PartPlace, first_in, once};
+use crate::placed::PlacedParts;
+use component_check::first_place;
+use lcm_machine::Span;
+
+// Whether no address is between two spans, or they share one.
+fn near(a: Option<Span>, b: Option<Span>) -> bool
+    ensures { result ≡ near a b }
+{
+    let Some(a) = a else {
+        return false;
+    };
+    let Some(b) = b else {
+        return false;
+    };
+    a.base as u64 <= b.end as u64 + 1 && b.base as u64 <= a.end as u64 + 1
+}
+
+fn near_any(spans: &[Option<Span>], s: Option<Span>) -> bool
+    ensures { result ≡ list_any (near s) spans.now }
+{
+    spans.iter().any(|t| near(s, *t))
+}
+
+// Whether a span is near one of the first parts or one of its own part's.
+fn near_before(parts: &PlacedParts, count: usize, own: &[Option<Span>], s: Option<Span>) -> bool
+    requires { count ≤ length parts.now }
+    ensures { result ≡ near_before (take count parts.now) own.now s }
+{
+    for i in 0..count {
+        if near_any(&parts.part(i).spans(), s) {
+            return true;
+        }
+    }
+    near_any(own, s)
+}
+
+// Whether the span of an index is near one of the first parts or one before it in its own part.
+fn breaks(parts: &PlacedParts, count: usize, spans: &[Option<Span>], k: usize) -> bool
+    requires in_parts { count ≤ length parts.now }
+    requires in_part { k < length spans.now }
+    ensures { result ≡ near_before (take count parts.now) (take k spans.now) (slice_index_or spans.now k None) }
+{
+    near_before(parts, count, &spans[..k], spans[k])
+}
+
+fn l1_within(parts: &PlacedParts, stack: u32, i: usize) -> Option<u32>
+    requires { i ≤ length parts.now }
+    ensures { result ≡ first_place ((l1 parts.now stack).within i) }
+{
+    if i == parts.len() {
+        return once(near_before(parts, i, &[], parts.stack_span(stack)), 0);
+    }
+    let spans = parts.part(i).spans();
+    first_place(3, |k| breaks(parts, i, &spans, k))
+}
+
+/// The earliest region that is near one before it.
+pub(crate) fn l1(parts: &PlacedParts, stack: u32) -> Option<PartPlace>
+    ensures { result ≡ first_in (l1 parts.now stack) }
+{
+    first_in(parts.len() + 1, |i| l1_within(parts, stack, i))
+}

@@ -1,0 +1,117 @@
+//! The start of a program: what the linker makes of its parts.
+ghost use Rattle.std.specs.Prelude.{◌≡◌, IfOk};
+ghost use Rattle.lcm_machine.specs.Regions.{AreApart, HeldOnce};
+ghost use Rattle.component_linker.specs.Regions.{regions_of};
+ghost use Rattle.component_linker.specs.Linked.{Linked};
+ghost use Rattle.component_linker.specs.Started.{Starts};
+
+use crate::machine::machine;
+use crate::memory::stack_of;
+use crate::owners::{Owner, Site, owners, sites};
+use crate::placed::PlacedParts;
+use cap_words::Items;
+use lcm_machine::{LcmState, Span};
+use std::alloc::{AllocError, Global};
+use std::marker::Model;
+
+/// A start: a machine, the sites of its trusted parts, who owns which code, and where its stack is.
+/// A contract sees the four.
+#[derive(Drop)]
+pub struct Start {
+    state: LcmState,
+    sites: Items<Site>,
+    owners: Items<Owner>,
+    stack: Span,
+}
+
+impl Model for Start {
+    ghost use Rattle.std.specs.Coded.{codes};
+    ghost use Rattle.lcm_machine.specs.contracts.machine.LcmState as machine_contracts;
+    ghost use Rattle.component_linker.specs.Started.{StartSeen};
+
+    ghost Value = { StartSeen };
+
+    ghost coded = { Prim.hlevel (codes, machine_contracts.the_row.coded) };
+
+    ghost view = { λ s. record { state = s.state; sites = s.sites; owners = s.owners; stack = s.stack } };
+}
+
+impl Start {
+    ghost use Rattle.std.specs.Borrow.{sem};
+    ghost use Rattle.component_linker.specs.Lending.{LendsState};
+
+    /// The machine, to read.
+    pub fn state(&self) -> &LcmState
+        ensures { result.now ≡ self.now.state }
+    {
+        &self.state
+    }
+
+    /// The machine, to change. Nothing else of the start changes with it.
+    pub fn state_mut(&mut self) -> &mut LcmState
+        ensures* writes_back { sem 𝓛 (LendsState self.entry result) }
+        ensures value { result.now ≡ self.old.state }
+    {
+        &mut self.state
+    }
+
+    /// The machine itself. It takes no memory.
+    pub fn into_state(self) -> LcmState
+        ensures { result ≡ self.state }
+    {
+        let Start {
+            state,
+            sites: _,
+            owners: _,
+            stack: _,
+        } = self;
+        state
+    }
+
+    /// The sites of the trusted parts, in ascending address.
+    pub fn sites(&self) -> &[Site]
+        ensures { result.now ≡ self.now.sites }
+    {
+        self.sites.as_slice()
+    }
+
+    /// The owners, one for each part, in ascending address of their code.
+    pub fn owners(&self) -> &[Owner]
+        ensures { result.now ≡ self.now.owners }
+    {
+        self.owners.as_slice()
+    }
+
+    /// The addresses of the stack.
+    pub fn stack(&self) -> Span
+        ensures { result ≡ self.now.stack }
+    {
+        self.stack
+    }
+}
+
+/// The start of parts that are linked, with a stack of this size. Memory may be refused.
+///
+/// Each memory capability in its machine, sealed or not, lies in one region, and is linear exactly
+/// where that region is; and no two places have capabilities over one address of a linear region.
+/// What [`LcmState::run`] ensures carries both on: so it is in every state that runs reach.
+pub(crate) fn start_of(
+    alloc: Global,
+    parts: &PlacedParts<'_>,
+    size: u32,
+) -> Result<Start, AllocError>
+    requires { Linked parts.now size }
+    ensures starts { IfOk result (Starts parts.now size) }
+    ensures regions { AreApart (regions_of parts.now size) }
+    ensures held_once { IfOk result (λ s. HeldOnce (λ w. w) (regions_of parts.now size) s.state.maps) }
+{
+    let state = machine(alloc, parts, size)?;
+    let sites = sites(alloc, parts)?;
+    let owners = owners(alloc, parts)?;
+    Ok(Start {
+        state,
+        sites,
+        owners,
+        stack: stack_of(parts, size),
+    })
+}

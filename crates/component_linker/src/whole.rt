@@ -1,0 +1,111 @@
+//! Rules L6, L8 and L9, of all parts together: one `main`, a stack that fits, and not too many.
+ghost use Rattle.std.specs.Prelude.{◌≡◌, ◌<◌, ◌≤◌, ℕ, length, slice_get, take, ◌&&◌, sum_by};
+ghost use Rattle.std.specs.List.{list_any};
+ghost use Rattle.component_check.specs.Places.{first_place};
+ghost use Rattle.component_linker.specs.Start.{is_main};
+ghost use Rattle.component_linker.specs.Regions.{is_stack_size};
+ghost use Rattle.component_linker.specs.Pairs.{first_in, passes};
+ghost use Rattle.component_linker.specs.Links.{has_main, sites_upto, trusted_sites, l6, l8, l9};
+
+use crate::MOST_PARTS;
+use crate::names::is_main;
+use crate::pairs::{PartPlace, first_in, once};
+use crate::placed::{Placed, PlacedParts, is_stack_size};
+use cap_words::LAST_PLACE;
+use component_check::first_place;
+use component_file::{Export, MOST_SITES};
+
+fn has_main(part: &Placed) -> bool
+    ensures { result ≡ list_any is_main part.now.component.exports }
+{
+    part.exports().iter().any(|e| is_main(e))
+}
+
+fn main_before(parts: &PlacedParts, count: usize) -> bool
+    requires { count ≤ length parts.now }
+    ensures { result ≡ list_any has_main (take count parts.now) }
+{
+    for i in 0..count {
+        if has_main(&parts.part(i)) {
+            return true;
+        }
+    }
+    false
+}
+
+fn is_second_main(exports: &[Export], k: usize, earlier: bool) -> bool
+    requires { k < length exports.now }
+    ensures { result ≡ passes (λ e. is_main e && earlier) (slice_get exports.now k) }
+{
+    is_main(&exports[k]) && earlier
+}
+
+fn l6_within(parts: &PlacedParts, i: usize) -> Option<u32>
+    requires { i ≤ length parts.now }
+    ensures { result ≡ first_place ((l6 parts.now).within i) }
+{
+    let earlier = main_before(parts, i);
+    if i == parts.len() {
+        return once(!earlier, 0);
+    }
+    let exports = parts.part(i).exports();
+    first_place(exports.len(), |k| is_second_main(exports, k, earlier))
+}
+
+/// The second part that shares an export main, and which export that is; or the number of parts,
+/// where none does.
+pub(crate) fn l6(parts: &PlacedParts) -> Option<PartPlace>
+    ensures { result ≡ first_in (l6 parts.now) }
+{
+    first_in(parts.len() + 1, |i| l6_within(parts, i))
+}
+
+fn l8_within(parts: &PlacedParts, stack: u32, i: usize) -> Option<u32>
+    requires { i ≤ length parts.now }
+    ensures { result ≡ first_place ((l8 parts.now stack).within i) }
+{
+    if i < parts.len() {
+        return None;
+    }
+    let fits = is_stack_size(stack) && parts.stack_base() + stack <= LAST_PLACE + 1;
+    once(!fits, stack)
+}
+
+/// The number of parts, and the stack's size, where that doesn't fit.
+pub(crate) fn l8(parts: &PlacedParts, stack: u32) -> Option<PartPlace>
+    ensures { result ≡ first_in (l8 parts.now stack) }
+{
+    first_in(parts.len() + 1, |i| l8_within(parts, stack, i))
+}
+
+// The sites of the trusted ones of the first parts.
+fn sites_of_first(parts: &PlacedParts, count: usize) -> u32
+    requires in_parts { count ≤ length parts.now }
+    requires few { count ≤ MOST_PARTS }
+    ensures is { result ≡ sum_by trusted_sites (take count parts.now) }
+{
+    let mut sum = 0u32;
+    for i in 0..count {
+        sum += parts.part(i).trusted_sites() as u32;
+    }
+    sum
+}
+
+fn l9_within(parts: &PlacedParts, i: usize) -> Option<u32>
+    requires { i < length parts.now }
+    ensures { result ≡ first_place ((l9 parts.now).within i) }
+{
+    if parts.len() > MOST_PARTS {
+        return once(i == MOST_PARTS, parts.len() as u32);
+    }
+    let sites = sites_of_first(parts, i + 1);
+    once(u32::from(MOST_SITES) < sites, sites)
+}
+
+/// Part 16 and the number of parts, where there are too many; or the part with which trusted parts
+/// have too many sites, and how many they have up to it.
+pub(crate) fn l9(parts: &PlacedParts) -> Option<PartPlace>
+    ensures { result ≡ first_in (l9 parts.now) }
+{
+    first_in(parts.len(), |i| l9_within(parts, i))
+}

@@ -1,0 +1,11 @@
+//! Tests of the linker, apart from it: a crate with tests is proved twice.
+#![tactic(auto)]
+
+#[cfg(test)]
+mod cases;
+#[cfg(test)]
+mod draft;
+#[cfg(test)]
+mod rules;
+#[cfg(test)]
+mod start;
