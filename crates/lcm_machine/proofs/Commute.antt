@@ -19,8 +19,7 @@ use Rattle.lcm_isa.specs.declared.Instr.TheVariants.{Fail, Halt, Jmp, Jnz, Getty
 use Rattle.lcm_machine.specs.declared.Place.{Place}
 use Rattle.lcm_machine.specs.declared.Place.TheVariants.{R, Cell}
 use Rattle.lcm_machine.specs.declared.FailCause.TheVariants.{F1}
-use Rattle.lcm_machine.specs.declared.plan.Plan.{Plan}
-use Rattle.lcm_machine.specs.declared.plan.Plan.TheVariants.{Fails, Halts, Goes}
+use Rattle.lcm_machine.specs.Plan.{Plan, Fails, Halts, Goes}
 use Rattle.lcm_machine.specs.declared.plan.Effect.{Effect}
 use Rattle.lcm_machine.specs.declared.plan.Made.{Made}
 use Rattle.lcm_machine.specs.declared.plan.Moved.{Moved}

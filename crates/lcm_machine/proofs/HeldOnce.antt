@@ -23,8 +23,7 @@ use Rattle.cap_words.specs.Faces.{can_split, same_kind, memory_in, address, may_
 use Rattle.lcm_machine.specs.declared.Place.{Place}
 use Rattle.lcm_machine.specs.declared.Place.TheVariants.{R, Cell}
 use Rattle.lcm_machine.specs.declared.FailCause.TheVariants.{F1}
-use Rattle.lcm_machine.specs.declared.plan.Plan.{Plan}
-use Rattle.lcm_machine.specs.declared.plan.Plan.TheVariants.{Fails, Halts, Goes}
+use Rattle.lcm_machine.specs.Plan.{Plan, Fails, Halts, Goes}
 use Rattle.lcm_machine.specs.declared.plan.Effect.{Effect}
 use Rattle.lcm_machine.specs.Maps.{State}
 use Rattle.lcm_machine.specs.Places.{reg}

@@ -2,6 +2,7 @@ pub mod Maps
 pub mod Places
 pub mod Cells
 pub mod Spans
+pub mod Plan
 pub mod Table
 pub mod Row
 pub mod Touched

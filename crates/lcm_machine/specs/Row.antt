@@ -1,7 +1,7 @@
 -- One instruction and one step, said once for words of any kind: `look` is the plain word that the table
 -- reads in a word, and `plain` makes a word of a plain one. On the plain machine both are the identity.
 use Rattle.std.specs.Prelude.{ℕ, ℤ, pos, negsuc, ◌+ℤ◌, Option, Some, None, if◌then◌else◌, unwrap_or, not}
-use Rattle.std.specs.Prelude.{◌&&◌, IsSome}
+use Rattle.std.specs.Prelude.{◌&&◌, IsSome, Result, Ok, Err}
 use Rattle.lcm_machine.specs.declared.Place.{Place}
 use Rattle.lcm_machine.specs.declared.Place.TheVariants.{R, Cell}
 use Rattle.lcm_isa.specs.declared.Reg.{Reg}
@@ -15,8 +15,7 @@ use Rattle.cap_words.specs.declared.Word.TheVariants.{Mem}
 use Rattle.cap_words.specs.declared.Face.{Face}
 use Rattle.cap_words.specs.declared.Opened.{Opened}
 use Rattle.cap_words.specs.declared.Face.TheVariants.{Number, Memory, Seals, Sealed}
-use Rattle.lcm_machine.specs.declared.plan.Plan.{Plan}
-use Rattle.lcm_machine.specs.declared.plan.Plan.TheVariants.{Fails, Halts, Goes}
+use Rattle.lcm_machine.specs.Plan.{Plan, Fails, Halts, Goes}
 use Rattle.lcm_machine.specs.declared.plan.Effect.{Effect}
 use Rattle.lcm_machine.specs.declared.plan.Made.{Made}
 use Rattle.lcm_machine.specs.declared.plan.Moved.{Moved}
@@ -104,6 +103,11 @@ face_there cells (Some a) = cells a
 unfoldable pub plan_in : {W : Type 0} → (W → Word) → State W → Instr → Word → Plan
 plan_in look s i next =
     plan i (faces look s) (opens look s) (face_there (cell_faces look s) (target i (faces look s))) next
+
+-- the plan that a row's answer is: an effect to carry out, or the cause of a failure
+abbrev pub planned : Result Effect FailCause → Plan
+planned (Ok e) = Goes e
+planned (Err f) = Fails f
 
 -- the places of a move are there
 abbrev pub MoveFits : {W : Type 0} → State W → Option Moved → Type 0

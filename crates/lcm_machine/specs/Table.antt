@@ -23,8 +23,7 @@ use Rattle.cap_words.specs.declared.Content.TheVariants.{Mem as MemC, Seal as Se
 use Rattle.cap_words.specs.declared.Sealable.TheVariants.{Mem as MemIn, Seal as SealIn}
 use Rattle.cap_words.specs.declared.Face.{Face}
 use Rattle.cap_words.specs.declared.Face.TheVariants.{Memory, Seals}
-use Rattle.lcm_machine.specs.declared.plan.Plan.{Plan}
-use Rattle.lcm_machine.specs.declared.plan.Plan.TheVariants.{Fails, Halts, Goes}
+use Rattle.lcm_machine.specs.Plan.{Plan, Fails, Halts, Goes}
 use Rattle.lcm_machine.specs.declared.plan.Effect.{Effect}
 use Rattle.lcm_machine.specs.declared.plan.Made.{Made}
 use Rattle.cap_words.specs.Linear.{lin_is}

@@ -1,5 +1,6 @@
-//! What an instruction is to do, read off the words alone.
+//! Effects: what an instruction is to do, where it doesn't fail or halt.
 ghost use Rattle.std.specs.Prelude.{◌≡◌};
+ghost use Rattle.lcm_machine.specs.Plan.{Goes};
 ghost use Rattle.lcm_machine.specs.Table.{moves, jumps, makes, goes_on, no_effect};
 
 use crate::{FailCause, Place};
@@ -32,14 +33,6 @@ pub struct Effect {
     pub next: Option<Word>,
 }
 
-/// What an instruction comes to in a state.
-#[derive(Drop)]
-pub enum Plan {
-    Fails(FailCause),
-    Halts,
-    Goes(Effect),
-}
-
 impl Effect {
     // No effect: what an instruction does is said beside it.
     #[inline(always)]
@@ -55,45 +48,43 @@ impl Effect {
             next: None,
         }
     }
-}
 
-impl Plan {
     // A word is taken from one place and set in another.
-    pub(crate) fn moving(from: Place, to: Place, next: Option<Word>) -> Plan
-        ensures { result ≡ moves from to next }
+    pub(crate) fn moving(from: Place, to: Place, next: Option<Word>) -> Effect
+        ensures { Goes result ≡ moves from to next }
     {
-        Plan::Goes(Effect {
+        Effect {
             moved: Some(Moved { from, to }),
             next,
             ..Effect::none()
-        })
+        }
     }
 
     // A register's word is taken and becomes pc's.
-    pub(crate) fn jumping(r: Reg) -> Plan
-        ensures { result ≡ jumps r }
+    pub(crate) fn jumping(r: Reg) -> Effect
+        ensures { Goes result ≡ jumps r }
     {
-        Plan::moving(Place::R(r), Place::R(Reg::Pc), None)
+        Effect::moving(Place::R(r), Place::R(Reg::Pc), None)
     }
 
     // A register gets a new word.
-    pub(crate) fn making(reg: Reg, word: Word, next: Word) -> Plan
-        ensures { result ≡ makes reg word next }
+    pub(crate) fn making(reg: Reg, word: Word, next: Word) -> Effect
+        ensures { Goes result ≡ makes reg word next }
     {
-        Plan::Goes(Effect {
+        Effect {
             first: Some(Made { reg, word }),
             next: Some(next),
             ..Effect::none()
-        })
+        }
     }
 
     // pc goes on, and nothing else.
-    pub(crate) fn going_on(next: Word) -> Plan
-        ensures { result ≡ goes_on next }
+    pub(crate) fn going_on(next: Word) -> Effect
+        ensures { Goes result ≡ goes_on next }
     {
-        Plan::Goes(Effect {
+        Effect {
             next: Some(next),
             ..Effect::none()
-        })
+        }
     }
 }

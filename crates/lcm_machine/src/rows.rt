@@ -1,18 +1,21 @@
 //! The rows of the instruction table: what each instruction is to do in a state.
 //!
-//! A row makes its tests in the order of the table, and each is an early return with the cause of
-//! the failure.
-ghost use Rattle.std.specs.Prelude.{◌≡◌};
+//! A row makes its tests in the order of the table. It answers the effect to carry out, or the cause
+//! of the first test that fails.
+ghost use Rattle.std.specs.Prelude.{◌≡◌, MatchResult, IfOk, true, false};
+ghost use Rattle.std.specs.Option.{ok_or};
 ghost use Rattle.lcm_isa.specs.declared.Instr.{Instr};
 ghost use Rattle.cap_words.specs.declared.Word.TheVariants.{Int};
-ghost use Rattle.lcm_machine.specs.Table.{is_pc, into, makes, bit};
-ghost use Rattle.cap_words.specs.Faces.{face_linear};
+ghost use Rattle.cap_words.specs.Face.{CapInOrder};
+ghost use Rattle.lcm_machine.specs.Table.{is_pc, into, makes, bit, operand};
+ghost use Rattle.cap_words.specs.Faces.{face_linear, int_in, memory_in};
 ghost use Rattle.lcm_machine.specs.Ends.{Meets};
-ghost use Rattle.lcm_machine.specs.Row.{plan_in, faces, row, outcome, MoveFits};
+ghost use Rattle.lcm_machine.specs.Row.{plan_in, planned, faces, row, outcome, MoveFits};
 ghost use Rattle.lcm_machine.specs.declared.plan.Effect.{Effect};
-ghost use Rattle.lcm_machine.specs.declared.plan.Plan.TheVariants.{Goes};
+ghost use Rattle.lcm_machine.specs.declared.FailCause.TheVariants.{F5, F6};
+ghost use Rattle.lcm_machine.specs.Plan.{Goes};
 
-use crate::plan::{Effect, Made, Plan};
+use crate::plan::{Effect, Made};
 use crate::state::State;
 use crate::{FailCause, Place, Step};
 use cap_words::{
@@ -20,25 +23,61 @@ use cap_words::{
 };
 use lcm_isa::{Instr, Operand, Reg};
 
-fn is_pc(r: Reg) -> bool
-    ensures { result ≡ is_pc r }
+// A condition, with the cause of the failure where it doesn't hold.
+#[inline(always)]
+fn ask(holds: bool, cause: FailCause) -> Result<(), FailCause>
+    ensures { MatchResult result (λ _. holds ≡ true) (λ f. (holds ≡ false) × (f ≡ cause)) }
 {
-    matches!(r, Reg::Pc)
+    if holds { Ok(()) } else { Err(cause) }
+}
+
+// A register that is a destination may not be pc: F5.
+#[inline(always)]
+fn into(r: Reg) -> Result<(), FailCause>
+    ensures { MatchResult result (λ _. is_pc r ≡ false) (λ f. (is_pc r ≡ true) × (f ≡ F5)) }
+{
+    ask(!matches!(r, Reg::Pc), FailCause::F5)
 }
 
 // `r1` gets an integer that shows something of a word.
 #[tactic(auto, unfolding(crate::specs::Table::ask))]
-fn shows(r1: Reg, shown: i64, next: Word) -> Plan
-    ensures { result ≡ into r1 (makes r1 (Int shown) next) }
+fn shows(r1: Reg, shown: i64, next: Word) -> Result<Effect, FailCause>
+    ensures { planned result ≡ into r1 (makes r1 (Int shown) next) }
 {
-    if is_pc(r1) {
-        return Plan::Fails(FailCause::F5);
-    }
-    Plan::making(r1, Word::Int(shown), next)
+    into(r1)?;
+    Ok(Effect::making(r1, Word::Int(shown), next))
 }
 
 #[tactic(auto, unfolding(crate::specs::Row::plan_in, crate::specs::Table::ask, crate::specs::Table::need, crate::specs::Table::by_cap))]
 impl<W: MachineWord> State<W> {
+    // The integer of a register: F6 where it holds another word.
+    #[inline(always)]
+    fn int(&self, r: Reg) -> Result<i64, FailCause>
+        ensures { result ≡ ok_or (int_in (faces W.look self.now r)) F6 }
+    {
+        self.face(r).int().ok_or(FailCause::F6)
+    }
+
+    // The memory capability of a register: F6 where it holds another word.
+    #[inline(always)]
+    fn memory(&self, r: Reg) -> Result<CapFields, FailCause>
+        ensures is { result ≡ ok_or (memory_in (faces W.look self.now r)) F6 }
+        ensures in_order { IfOk result (λ c. CapInOrder c) }
+    {
+        self.face(r).memory().ok_or(FailCause::F6)
+    }
+
+    // The integer of an operand: F6 where its register holds another word.
+    #[inline(always)]
+    fn operand(&self, n: Operand) -> Result<i64, FailCause>
+        ensures { result ≡ ok_or (operand (faces W.look self.now) n) F6 }
+    {
+        match n {
+            Operand::R(r) => self.int(r),
+            Operand::Imm(z) => Ok(i64::from(z)),
+        }
+    }
+
     // 1 where a register's word is linear, and else 0.
     fn linearity(&self, r: Reg) -> i64
         ensures { result ≡ bit (face_linear (faces W.look self.now r)) }
@@ -47,280 +86,205 @@ impl<W: MachineWord> State<W> {
     }
 
     // As `jmp r1` where `r2` holds an integer other than 0.
-    fn plan_jnz(&self, r1: Reg, r2: Reg, next: Word) -> Plan
-        ensures { result ≡ plan_in W.look self.now (Instr.Jnz r1 r2) next }
+    fn plan_jnz(&self, r1: Reg, r2: Reg, next: Word) -> Result<Effect, FailCause>
+        ensures { planned result ≡ plan_in W.look self.now (Instr.Jnz r1 r2) next }
     {
-        let Some(z) = self.face(r2).int() else {
-            return Plan::Fails(FailCause::F6);
-        };
+        let z = self.int(r2)?;
         if z == 0 {
-            Plan::going_on(next)
+            Ok(Effect::going_on(next))
         } else {
-            Plan::jumping(r1)
+            Ok(Effect::jumping(r1))
         }
     }
 
     // `r1` gets the number of the kind of `r2`'s word.
-    fn plan_gettype(&self, r1: Reg, r2: Reg, next: Word) -> Plan
-        ensures { result ≡ plan_in W.look self.now (Instr.Gettype r1 r2) next }
+    fn plan_gettype(&self, r1: Reg, r2: Reg, next: Word) -> Result<Effect, FailCause>
+        ensures { planned result ≡ plan_in W.look self.now (Instr.Gettype r1 r2) next }
     {
         shows(r1, self.face(r2).number(), next)
     }
 
     // `r1` gets the address or seal of `r2`, or -1.
-    fn plan_geta(&self, r1: Reg, r2: Reg, next: Word) -> Plan
-        ensures { result ≡ plan_in W.look self.now (Instr.Geta r1 r2) next }
+    fn plan_geta(&self, r1: Reg, r2: Reg, next: Word) -> Result<Effect, FailCause>
+        ensures { planned result ≡ plan_in W.look self.now (Instr.Geta r1 r2) next }
     {
         shows(r1, self.face(r2).address(), next)
     }
 
     // `r1` gets the base of `r2`, or -1.
-    fn plan_getb(&self, r1: Reg, r2: Reg, next: Word) -> Plan
-        ensures { result ≡ plan_in W.look self.now (Instr.Getb r1 r2) next }
+    fn plan_getb(&self, r1: Reg, r2: Reg, next: Word) -> Result<Effect, FailCause>
+        ensures { planned result ≡ plan_in W.look self.now (Instr.Getb r1 r2) next }
     {
         shows(r1, self.face(r2).base(), next)
     }
 
     // `r1` gets the end of `r2`, or -1.
-    fn plan_gete(&self, r1: Reg, r2: Reg, next: Word) -> Plan
-        ensures { result ≡ plan_in W.look self.now (Instr.Gete r1 r2) next }
+    fn plan_gete(&self, r1: Reg, r2: Reg, next: Word) -> Result<Effect, FailCause>
+        ensures { planned result ≡ plan_in W.look self.now (Instr.Gete r1 r2) next }
     {
         shows(r1, self.face(r2).end(), next)
     }
 
     // `r1` gets the number of `r2`'s permission, or -1.
-    fn plan_getp(&self, r1: Reg, r2: Reg, next: Word) -> Plan
-        ensures { result ≡ plan_in W.look self.now (Instr.Getp r1 r2) next }
+    fn plan_getp(&self, r1: Reg, r2: Reg, next: Word) -> Result<Effect, FailCause>
+        ensures { planned result ≡ plan_in W.look self.now (Instr.Getp r1 r2) next }
     {
         shows(r1, self.face(r2).perm(), next)
     }
 
     // `r1` gets 1 where `r2` is linear, and else 0.
-    fn plan_getlin(&self, r1: Reg, r2: Reg, next: Word) -> Plan
-        ensures { result ≡ plan_in W.look self.now (Instr.Getlin r1 r2) next }
+    fn plan_getlin(&self, r1: Reg, r2: Reg, next: Word) -> Result<Effect, FailCause>
+        ensures { planned result ≡ plan_in W.look self.now (Instr.Getlin r1 r2) next }
     {
         shows(r1, self.linearity(r2), next)
     }
 
     // `r1` gets the word taken from a register, or the immediate.
-    fn plan_move(&self, r1: Reg, n: Operand, next: Word) -> Plan
-        ensures { result ≡ plan_in W.look self.now (Instr.Move r1 n) next }
+    fn plan_move(&self, r1: Reg, n: Operand, next: Word) -> Result<Effect, FailCause>
+        ensures { planned result ≡ plan_in W.look self.now (Instr.Move r1 n) next }
     {
-        if is_pc(r1) {
-            return Plan::Fails(FailCause::F5);
-        }
+        into(r1)?;
         match n {
-            Operand::R(r2) => Plan::moving(Place::R(r2), Place::R(r1), Some(next)),
-            Operand::Imm(z) => Plan::making(r1, Word::Int(i64::from(z)), next),
+            Operand::R(r2) => Ok(Effect::moving(Place::R(r2), Place::R(r1), Some(next))),
+            Operand::Imm(z) => Ok(Effect::making(r1, Word::Int(i64::from(z)), next)),
         }
     }
 
     // The word taken from `r2` goes to the cell at `r1`'s address.
-    fn plan_store(&mut self, r1: Reg, r2: Reg, next: Word) -> Plan
-        ensures is { result ≡ plan_in W.look self.old (Instr.Store r1 r2) next }
+    fn plan_store(&mut self, r1: Reg, r2: Reg, next: Word) -> Result<Effect, FailCause>
+        ensures is { planned result ≡ plan_in W.look self.old (Instr.Store r1 r2) next }
         ensures same { self.new ≡ self.old }
     {
         let face = self.face(r1);
-        let Some(c) = face.memory() else {
-            return Plan::Fails(FailCause::F6);
-        };
-        if !c.perm.may_write() {
-            return Plan::Fails(FailCause::F7);
-        }
-        let Some(at) = face.target() else {
-            return Plan::Fails(FailCause::F8);
-        };
-        if self.there(Some(at)).is_none() {
-            return Plan::Fails(FailCause::F8);
-        }
-        Plan::moving(Place::R(r2), Place::Cell(at), Some(next))
+        let c = face.memory().ok_or(FailCause::F6)?;
+        ask(c.perm.may_write(), FailCause::F7)?;
+        let at = face.target().ok_or(FailCause::F8)?;
+        ask(self.there(Some(at)).is_some(), FailCause::F8)?;
+        Ok(Effect::moving(Place::R(r2), Place::Cell(at), Some(next)))
     }
 
     // `r1` gets the word of the cell at `r2`'s address, taken from there.
-    fn plan_load(&mut self, r1: Reg, r2: Reg, next: Word) -> Plan
-        ensures is { result ≡ plan_in W.look self.old (Instr.Load r1 r2) next }
+    fn plan_load(&mut self, r1: Reg, r2: Reg, next: Word) -> Result<Effect, FailCause>
+        ensures is { planned result ≡ plan_in W.look self.old (Instr.Load r1 r2) next }
         ensures same { self.new ≡ self.old }
     {
-        if is_pc(r1) {
-            return Plan::Fails(FailCause::F5);
-        }
+        into(r1)?;
         let face = self.face(r2);
-        let Some(c) = face.memory() else {
-            return Plan::Fails(FailCause::F6);
-        };
-        if !c.perm.may_read() {
-            return Plan::Fails(FailCause::F7);
-        }
-        let Some(at) = face.target() else {
-            return Plan::Fails(FailCause::F8);
-        };
-        let Some(found) = self.there(Some(at)) else {
-            return Plan::Fails(FailCause::F8);
-        };
-        if found.is_linear() && !c.perm.may_write() {
-            return Plan::Fails(FailCause::F10);
-        }
-        Plan::moving(Place::Cell(at), Place::R(r1), Some(next))
+        let c = face.memory().ok_or(FailCause::F6)?;
+        ask(c.perm.may_read(), FailCause::F7)?;
+        let at = face.target().ok_or(FailCause::F8)?;
+        let found = self.there(Some(at)).ok_or(FailCause::F8)?;
+        ask(!found.is_linear() || c.perm.may_write(), FailCause::F10)?;
+        Ok(Effect::moving(Place::Cell(at), Place::R(r1), Some(next)))
     }
 
     // The address or seal of `r1` is raised by `n`.
-    fn plan_cca(&self, r1: Reg, n: Operand, next: Word) -> Plan
-        ensures { result ≡ plan_in W.look self.now (Instr.Cca r1 n) next }
+    fn plan_cca(&self, r1: Reg, n: Operand, next: Word) -> Result<Effect, FailCause>
+        ensures { planned result ≡ plan_in W.look self.now (Instr.Cca r1 n) next }
     {
-        if is_pc(r1) {
-            return Plan::Fails(FailCause::F5);
-        }
+        into(r1)?;
         match self.face(r1) {
             Face::Memory(c) => {
-                let Some(z) = self.operand(n) else {
-                    return Plan::Fails(FailCause::F6);
-                };
-                let Some(addr) = c.addr.checked_add(z) else {
-                    return Plan::Fails(FailCause::F9);
-                };
-                Plan::making(r1, Word::Mem(Cap::of(CapFields { addr, ..c })), next)
+                let z = self.operand(n)?;
+                let addr = c.addr.checked_add(z).ok_or(FailCause::F9)?;
+                Ok(Effect::making(r1, Word::Mem(Cap::of(CapFields { addr, ..c })), next))
             }
             Face::Seals(c) => {
-                let Some(z) = self.operand(n) else {
-                    return Plan::Fails(FailCause::F6);
-                };
-                let Some(cur) = c.cur.checked_add(z) else {
-                    return Plan::Fails(FailCause::F9);
-                };
-                Plan::making(r1, Word::Seal(SealCap::of(SealFields { cur, ..c })), next)
+                let z = self.operand(n)?;
+                let cur = c.cur.checked_add(z).ok_or(FailCause::F9)?;
+                Ok(Effect::making(r1, Word::Seal(SealCap::of(SealFields { cur, ..c })), next))
             }
-            _ => Plan::Fails(FailCause::F6),
+            _ => Err(FailCause::F6),
         }
     }
 
     // The permission of `r1` becomes that of number `n`, which may allow no more.
-    fn plan_restrict(&self, r1: Reg, n: Operand, next: Word) -> Plan
-        ensures { result ≡ plan_in W.look self.now (Instr.Restrict r1 n) next }
+    fn plan_restrict(&self, r1: Reg, n: Operand, next: Word) -> Result<Effect, FailCause>
+        ensures { planned result ≡ plan_in W.look self.now (Instr.Restrict r1 n) next }
     {
-        if is_pc(r1) {
-            return Plan::Fails(FailCause::F5);
-        }
-        let Some(c) = self.face(r1).memory() else {
-            return Plan::Fails(FailCause::F6);
-        };
-        let Some(z) = self.operand(n) else {
-            return Plan::Fails(FailCause::F6);
-        };
-        let Some(perm) = Perm::of(z) else {
-            return Plan::Fails(FailCause::F7);
-        };
-        if !perm.is_below(c.perm) {
-            return Plan::Fails(FailCause::F7);
-        }
-        Plan::making(r1, Word::Mem(Cap::of(CapFields { perm, ..c })), next)
+        into(r1)?;
+        let c = self.memory(r1)?;
+        let z = self.operand(n)?;
+        let perm = Perm::of(z).ok_or(FailCause::F7)?;
+        ask(perm.is_below(c.perm), FailCause::F7)?;
+        Ok(Effect::making(r1, Word::Mem(Cap::of(CapFields { perm, ..c })), next))
     }
 
     // `r1` gets 1 where `r2` is below `n`, and else 0.
-    fn plan_lt(&self, r1: Reg, r2: Reg, n: Operand, next: Word) -> Plan
-        ensures { result ≡ plan_in W.look self.now (Instr.Lt r1 r2 n) next }
+    fn plan_lt(&self, r1: Reg, r2: Reg, n: Operand, next: Word) -> Result<Effect, FailCause>
+        ensures { planned result ≡ plan_in W.look self.now (Instr.Lt r1 r2 n) next }
     {
-        if is_pc(r1) {
-            return Plan::Fails(FailCause::F5);
-        }
-        let Some(x) = self.face(r2).int() else {
-            return Plan::Fails(FailCause::F6);
-        };
-        let Some(z) = self.operand(n) else {
-            return Plan::Fails(FailCause::F6);
-        };
-        Plan::making(r1, Word::Int(if x < z { 1 } else { 0 }), next)
+        into(r1)?;
+        let x = self.int(r2)?;
+        let z = self.operand(n)?;
+        Ok(Effect::making(r1, Word::Int(if x < z { 1 } else { 0 }), next))
     }
 
     // `r1` gets the sum of `r2` and `n`.
-    fn plan_plus(&self, r1: Reg, r2: Reg, n: Operand, next: Word) -> Plan
-        ensures { result ≡ plan_in W.look self.now (Instr.Plus r1 r2 n) next }
+    fn plan_plus(&self, r1: Reg, r2: Reg, n: Operand, next: Word) -> Result<Effect, FailCause>
+        ensures { planned result ≡ plan_in W.look self.now (Instr.Plus r1 r2 n) next }
     {
-        if is_pc(r1) {
-            return Plan::Fails(FailCause::F5);
-        }
-        let Some(x) = self.face(r2).int() else {
-            return Plan::Fails(FailCause::F6);
-        };
-        let Some(z) = self.operand(n) else {
-            return Plan::Fails(FailCause::F6);
-        };
-        let Some(sum) = x.checked_add(z) else {
-            return Plan::Fails(FailCause::F9);
-        };
-        Plan::making(r1, Word::Int(sum), next)
+        into(r1)?;
+        let x = self.int(r2)?;
+        let z = self.operand(n)?;
+        let sum = x.checked_add(z).ok_or(FailCause::F9)?;
+        Ok(Effect::making(r1, Word::Int(sum), next))
     }
 
     // `r1` gets `r2` less `n`.
-    fn plan_minus(&self, r1: Reg, r2: Reg, n: Operand, next: Word) -> Plan
-        ensures { result ≡ plan_in W.look self.now (Instr.Minus r1 r2 n) next }
+    fn plan_minus(&self, r1: Reg, r2: Reg, n: Operand, next: Word) -> Result<Effect, FailCause>
+        ensures { planned result ≡ plan_in W.look self.now (Instr.Minus r1 r2 n) next }
     {
-        if is_pc(r1) {
-            return Plan::Fails(FailCause::F5);
-        }
-        let Some(x) = self.face(r2).int() else {
-            return Plan::Fails(FailCause::F6);
-        };
-        let Some(z) = self.operand(n) else {
-            return Plan::Fails(FailCause::F6);
-        };
-        let Some(difference) = x.checked_sub(z) else {
-            return Plan::Fails(FailCause::F9);
-        };
-        Plan::making(r1, Word::Int(difference), next)
+        into(r1)?;
+        let x = self.int(r2)?;
+        let z = self.operand(n)?;
+        let difference = x.checked_sub(z).ok_or(FailCause::F9)?;
+        Ok(Effect::making(r1, Word::Int(difference), next))
     }
 
     // The address or seal of `r1` becomes its base.
-    fn plan_seta2b(&self, r1: Reg, next: Word) -> Plan
-        ensures { result ≡ plan_in W.look self.now (Instr.Seta2b r1) next }
+    fn plan_seta2b(&self, r1: Reg, next: Word) -> Result<Effect, FailCause>
+        ensures { planned result ≡ plan_in W.look self.now (Instr.Seta2b r1) next }
     {
-        if is_pc(r1) {
-            return Plan::Fails(FailCause::F5);
-        }
+        into(r1)?;
         match self.face(r1) {
             Face::Memory(c) => {
                 let addr = i64::from(c.base);
-                Plan::making(r1, Word::Mem(Cap::of(CapFields { addr, ..c })), next)
+                Ok(Effect::making(r1, Word::Mem(Cap::of(CapFields { addr, ..c })), next))
             }
             Face::Seals(c) => {
                 let cur = i64::from(c.base);
-                Plan::making(r1, Word::Seal(SealCap::of(SealFields { cur, ..c })), next)
+                Ok(Effect::making(r1, Word::Seal(SealCap::of(SealFields { cur, ..c })), next))
             }
-            _ => Plan::Fails(FailCause::F6),
+            _ => Err(FailCause::F6),
         }
     }
 
-    /// Unseals both, jumps to the content of `r1`, and puts that of `r2` into `data`.
-    pub fn plan_xjmp(&self, r1: Reg, r2: Reg, next: Word) -> Plan
-        ensures { result ≡ plan_in W.look self.now (Instr.Xjmp r1 r2) next }
+    /// The effect of an `xjmp`, `next` being pc's word with its address raised by one: it unseals
+    /// both, jumps to the content of `r1`, and puts that of `r2` into `data`.
+    ///
+    /// The causes of its failure, in their order: F6 where a word isn't sealed; F12 where the two
+    /// are sealed under two seals; F6 where the content of `r1` isn't a memory capability; F10 where
+    /// that is linear; F7 where it may not run; and F7 where the content of `r2` may.
+    pub fn plan_xjmp(&self, r1: Reg, r2: Reg, next: Word) -> Result<Effect, FailCause>
+        ensures { planned result ≡ plan_in W.look self.now (Instr.Xjmp r1 r2) next }
     {
-        let Some(a) = self.opened(r1) else {
-            return Plan::Fails(FailCause::F6);
+        let code = self.opened(r1).ok_or(FailCause::F6)?;
+        let data = self.opened(r2).ok_or(FailCause::F6)?;
+        ask(code.seal == data.seal, FailCause::F12)?;
+        let Content::Mem(c) = code.content else {
+            return Err(FailCause::F6);
         };
-        let Some(b) = self.opened(r2) else {
-            return Plan::Fails(FailCause::F6);
-        };
-        if a.seal != b.seal {
-            return Plan::Fails(FailCause::F12);
-        }
-        let Content::Mem(c) = a.content else {
-            return Plan::Fails(FailCause::F6);
-        };
-        if c.lin.is_linear() {
-            return Plan::Fails(FailCause::F10);
-        }
-        if !c.perm.may_run() {
-            return Plan::Fails(FailCause::F7);
-        }
-        let content = match b.content {
+        ask(!c.lin.is_linear(), FailCause::F10)?;
+        ask(c.perm.may_run(), FailCause::F7)?;
+        let word = match data.content {
             Content::Mem(d) => {
-                if d.perm.may_run() {
-                    return Plan::Fails(FailCause::F7);
-                }
+                ask(!d.perm.may_run(), FailCause::F7)?;
                 Word::Mem(Cap::of(d))
             }
             Content::Seal(d) => Word::Seal(SealCap::of(d)),
         };
-        Plan::Goes(Effect {
+        Ok(Effect {
             spent: Some(r2),
             first: Some(Made {
                 reg: Reg::Pc,
@@ -328,53 +292,48 @@ impl<W: MachineWord> State<W> {
             }),
             second: Some(Made {
                 reg: Reg::Dat,
-                word: content,
+                word,
             }),
             ..Effect::none()
         })
     }
 
     // `r1` gets sealed under the current seal of `r2`.
-    fn plan_cseal(&self, r1: Reg, r2: Reg, next: Word) -> Plan
-        ensures { result ≡ plan_in W.look self.now (Instr.Cseal r1 r2) next }
+    fn plan_cseal(&self, r1: Reg, r2: Reg, next: Word) -> Result<Effect, FailCause>
+        ensures { planned result ≡ plan_in W.look self.now (Instr.Cseal r1 r2) next }
     {
-        if is_pc(r1) {
-            return Plan::Fails(FailCause::F5);
-        }
+        into(r1)?;
         let content = match self.face(r1) {
             Face::Memory(c) => Sealable::Mem(Cap::of(c)),
             Face::Seals(c) => Sealable::Seal(SealCap::of(c)),
-            _ => return Plan::Fails(FailCause::F6),
+            _ => return Err(FailCause::F6),
         };
-        let Some(q) = self.face(r2).seals() else {
-            return Plan::Fails(FailCause::F6);
-        };
-        let Some(seal) = q.current() else {
-            return Plan::Fails(FailCause::F11);
-        };
-        Plan::making(r1, Word::Sealed(seal, content), next)
+        let q = self.face(r2).seals().ok_or(FailCause::F6)?;
+        let seal = q.current().ok_or(FailCause::F11)?;
+        Ok(Effect::making(r1, Word::Sealed(seal, content), next))
     }
 
     // `r1` and `r2` get the two parts of `r3`, of which the first ends at `n`.
-    fn plan_split(&self, r1: Reg, r2: Reg, r3: Reg, n: Operand, next: Word) -> Plan
-        ensures { result ≡ plan_in W.look self.now (Instr.Split r1 r2 r3 n) next }
+    fn plan_split(
+        &self,
+        r1: Reg,
+        r2: Reg,
+        r3: Reg,
+        n: Operand,
+        next: Word,
+    ) -> Result<Effect, FailCause>
+        ensures { planned result ≡ plan_in W.look self.now (Instr.Split r1 r2 r3 n) next }
     {
-        if is_pc(r1) || is_pc(r2) {
-            return Plan::Fails(FailCause::F5);
-        }
-        let Some(c) = self.face(r3).memory() else {
-            return Plan::Fails(FailCause::F6);
-        };
-        let Some(z) = self.operand(n) else {
-            return Plan::Fails(FailCause::F6);
-        };
-        if z < i64::from(c.base) || z >= i64::from(c.end) {
-            return Plan::Fails(FailCause::F13);
-        }
+        into(r1)?;
+        into(r2)?;
+        let c = self.memory(r3)?;
+        let z = self.operand(n)?;
+        let inside = i64::from(c.base) <= z && z < i64::from(c.end);
+        ask(inside, FailCause::F13)?;
         let at = z as u32;
         let low = CapFields { end: at, ..c };
         let high = CapFields { base: at + 1, ..c };
-        Plan::Goes(Effect {
+        Ok(Effect {
             spent: Some(r3),
             first: Some(Made {
                 reg: r1,
@@ -390,23 +349,16 @@ impl<W: MachineWord> State<W> {
     }
 
     // `r1` gets the range of `r2` and `r3` together.
-    fn plan_splice(&self, r1: Reg, r2: Reg, r3: Reg, next: Word) -> Plan
-        ensures { result ≡ plan_in W.look self.now (Instr.Splice r1 r2 r3) next }
+    fn plan_splice(&self, r1: Reg, r2: Reg, r3: Reg, next: Word) -> Result<Effect, FailCause>
+        ensures { planned result ≡ plan_in W.look self.now (Instr.Splice r1 r2 r3) next }
     {
-        if is_pc(r1) {
-            return Plan::Fails(FailCause::F5);
-        }
-        let Some(a) = self.face(r2).memory() else {
-            return Plan::Fails(FailCause::F6);
-        };
-        let Some(b) = self.face(r3).memory() else {
-            return Plan::Fails(FailCause::F6);
-        };
-        if !a.same_kind(&b) || u64::from(a.end) + 1 != u64::from(b.base) {
-            return Plan::Fails(FailCause::F14);
-        }
+        into(r1)?;
+        let a = self.memory(r2)?;
+        let b = self.memory(r3)?;
+        let adjacent = u64::from(a.end) + 1 == u64::from(b.base);
+        ask(a.same_kind(&b) && adjacent, FailCause::F14)?;
         let both = CapFields { base: a.base, ..b };
-        Plan::Goes(Effect {
+        Ok(Effect {
             spent: Some(r2),
             also_spent: Some(r3),
             first: Some(Made {
@@ -420,19 +372,18 @@ impl<W: MachineWord> State<W> {
 }
 
 impl<W: MachineWord> State<W> {
-    // What a plan comes to: an end, which leaves the state as it was, or an effect carried out.
+    // Carries out a row's effect. A failure leaves the state as it was.
     #[inline(always)]
-    fn carry_out(&mut self, plan: Plan) -> Step
-        requires { (e : Effect) → plan ≡ Goes e → MoveFits self.old e.moved }
-        ensures { Meets self.old (outcome W.look W.plain self.old plan) result self.new }
+    fn carry_out(&mut self, answer: Result<Effect, FailCause>) -> Step
+        requires { (e : Effect) → planned answer ≡ Goes e → MoveFits self.old e.moved }
+        ensures { Meets self.old (outcome W.look W.plain self.old (planned answer)) result self.new }
     {
-        match plan {
-            Plan::Fails(cause) => Step::Failed(cause, self.pc_at()),
-            Plan::Halts => Step::Halted,
-            Plan::Goes(effect) => {
+        match answer {
+            Ok(effect) => {
                 self.perform(effect);
                 Step::Went
             }
+            Err(cause) => Step::Failed(cause, self.pc_at()),
         }
     }
 
@@ -443,9 +394,9 @@ impl<W: MachineWord> State<W> {
         ensures { Meets self.old (row W.look W.plain instr next self.old) result self.new }
     {
         match instr {
-            Instr::Fail => self.carry_out(Plan::Fails(FailCause::F4)),
-            Instr::Halt => self.carry_out(Plan::Halts),
-            Instr::Jmp(r1) => self.carry_out(Plan::jumping(r1)),
+            Instr::Fail => self.carry_out(Err(FailCause::F4)),
+            Instr::Halt => Step::Halted,
+            Instr::Jmp(r1) => self.carry_out(Ok(Effect::jumping(r1))),
             Instr::Jnz(r1, r2) => self.carry_out(self.plan_jnz(r1, r2, next)),
             Instr::Gettype(r1, r2) => self.carry_out(self.plan_gettype(r1, r2, next)),
             Instr::Geta(r1, r2) => self.carry_out(self.plan_geta(r1, r2, next)),

@@ -4,14 +4,13 @@ ghost use Rattle.cap_words.specs.Face.{FaceInOrder, OpenedInOrder};
 ghost use Rattle.lcm_machine.specs.Places.{reg};
 ghost use Rattle.lcm_machine.specs.Cells.{cell, set_cell, drop_cell};
 ghost use Rattle.lcm_machine.specs.Spans.{AreSpans, in_spans, slot, zero_regs};
-ghost use Rattle.lcm_machine.specs.Table.{operand};
 ghost use Rattle.lcm_machine.specs.Row.{word_in, put, clear, HasPlace, faces, opens, cell_faces, face_there, pc_at};
 
 use crate::Place;
 use crate::cells::{Cells, Span};
 use crate::regs::Regs;
 use cap_words::{Face, Held, MachineWord, Opened, Word};
-use lcm_isa::{Operand, Reg};
+use lcm_isa::Reg;
 use std::alloc::{AllocError, Global};
 use std::marker::Model;
 
@@ -172,16 +171,6 @@ impl<W: MachineWord> State<W> {
         ensures in_order { OpenedInOrder result }
     {
         self.word(Place::R(r)).opened()
-    }
-
-    // The integer of an operand, where it has one.
-    pub(crate) fn operand(&self, n: Operand) -> Option<i64>
-        ensures { result ≡ operand (faces W.look self.now) n }
-    {
-        match n {
-            Operand::R(r) => self.face(r).int(),
-            Operand::Imm(z) => Some(i64::from(z)),
-        }
     }
 
     // What the table reads of a cell's word, where an address is given and has a cell.
