@@ -13,7 +13,7 @@ use Rattle.component_file.specs.declared.component.ComponentFields.{ComponentFie
 use Rattle.component_check.specs.Areas.{code_area, data_area, has_all}
 use Rattle.component_check.specs.Places.{or_here, first_below, first_place}
 use Rattle.component_check.specs.Rules.{words, holds_of, is_foreign, c7, linear_in, linear_at, meet, meets_before}
-use Rattle.component_check.specs.Marks.{is_marked, covers, is_taken, Taken, IsInArea}
+use Rattle.component_check.specs.Marks.{is_marked, has_address, is_taken, Taken, IsInArea}
 use Rattle.component_check.proofs.First.{IsFirstIn, first_below_is}
 
 -- ---- whether there is one below
@@ -58,18 +58,18 @@ one_more None n false = refl
 
 -- ---- capabilities that meet
 
-over_one : (a : Option CapFields) (m : CapFields) (x : ℕ) → covers a x ≡ true → m.base ≤ x → x ≤ m.end → meet a (Some m) ≡ true
+over_one : (a : Option CapFields) (m : CapFields) (x : ℕ) → has_address a x ≡ true → m.base ≤ x → x ≤ m.end → meet a (Some m) ≡ true
 over_one None m x e low high = cc
 over_one (Some a) m x e low high = grind (arith, nat_tests)
 
 abbrev Shared : CapFields → CapFields → ℕ → Type 0
-Shared a m x = (covers (Some a) x ≡ true) × (m.base ≤ x) × (x ≤ m.end)
+Shared a m x = (has_address (Some a) x ≡ true) × (m.base ≤ x) × (x ≤ m.end)
 
 shared : (a m : CapFields) → meet (Some a) (Some m) ≡ true → a.base ≤ a.end → m.base ≤ m.end → Shared a m (max a.base m.base)
 shared a m e a_in m_in = (grind (arith, nat_tests), omega arith, grind (arith, nat_tests))
 
 -- where they meet, an address is shared
-meeting : (a : Option CapFields) (m : CapFields) → meet a (Some m) ≡ true → SomeCapInOrder a → m.base ≤ m.end → (x : ℕ) × (covers a x ≡ true) × (m.base ≤ x) × (x ≤ m.end)
+meeting : (a : Option CapFields) (m : CapFields) → meet a (Some m) ≡ true → SomeCapInOrder a → m.base ≤ m.end → (x : ℕ) × (has_address a x ≡ true) × (m.base ≤ x) × (x ≤ m.end)
 meeting None m e a_in m_in = cc
 meeting (Some a) m e a_in m_in = let s = shared a m e a_in.0 m_in in (max a.base m.base, s.0, s.1, s.2)
 
@@ -91,7 +91,7 @@ marked_meets c bits j m h here area any =
     let order : m.base ≤ m.end = area.1 in
     let high : m.end < c.linear.base + 65536 = area.2 in
     let at : is_taken c j (c.linear.base + (m.base - c.linear.base + k.0)) ≡ true = sym (h.marks (m.base - c.linear.base + k.0) (omega arith)) ∙ k.2 in
-    let i = one_below (λ i. covers (linear_at c i) (c.linear.base + (m.base - c.linear.base + k.0))) j at in
+    let i = one_below (λ i. has_address (linear_at c i) (c.linear.base + (m.base - c.linear.base + k.0))) j at in
     some_below (λ i. meet (linear_at c i) (linear_at c j)) j i.0 i.1 (rw here (over_one (linear_at c i.0) m (c.linear.base + (m.base - c.linear.base + k.0)) i.2 (omega arith) (omega arith)))
 
 -- none is marked: they don't
@@ -109,8 +109,8 @@ unmarked_apart c bits j m h here area none = no_below (λ i. meet (linear_at c i
         let in_range : m.base - c.linear.base + (x.0 - m.base) ≡ x.0 - c.linear.base = omega arith in
         let unmarked = none_below (λ i. is_marked bits (m.base - c.linear.base + i)) (m.end + 1 - c.linear.base - (m.base - c.linear.base)) none (x.0 - m.base) (omega arith) in
         let free : is_taken c j (c.linear.base + (x.0 - c.linear.base)) ≡ false = sym (h.marks (x.0 - c.linear.base) (omega arith)) ∙ (sym (ap (is_marked bits) in_range) ∙ unmarked) in
-        let clear : covers (linear_at c i) (c.linear.base + (x.0 - c.linear.base)) ≡ false = none_below (λ i. covers (linear_at c i) (c.linear.base + (x.0 - c.linear.base))) j free i lt in
-        let f : false ≡ true = sym clear ∙ (ap (covers (linear_at c i)) at ∙ x.1) in
+        let clear : has_address (linear_at c i) (c.linear.base + (x.0 - c.linear.base)) ≡ false = none_below (λ i. has_address (linear_at c i) (c.linear.base + (x.0 - c.linear.base))) j free i lt in
+        let f : false ≡ true = sym clear ∙ (ap (has_address (linear_at c i)) at ∙ x.1) in
         cc
 
 in_order_more : (c : ComponentFields) (j : ℕ) → ((i : ℕ) → i < j → SomeCapInOrder (linear_at c i)) → SomeCapInOrder (linear_at c j) → (i : ℕ) → i < j + 1 → SomeCapInOrder (linear_at c i)
@@ -119,8 +119,8 @@ in_order_more c j h here i lt = elim (cases_eq i j) as (λ _. SomeCapInOrder (li
   | inr ne ↦ h i (omega arith)
 ]
 
-more_taken : (c : ComponentFields) (j address : ℕ) → is_taken c (j + 1) address ≡ (covers (linear_at c j) address || is_taken c j address)
-more_taken c j address = rw (add-one j) (one_more (first_below (λ i. covers (linear_at c i) address) j) j (covers (linear_at c j) address))
+more_taken : (c : ComponentFields) (j address : ℕ) → is_taken c (j + 1) address ≡ (has_address (linear_at c j) address || is_taken c j address)
+more_taken c j address = rw (add-one j) (one_more (first_below (λ i. has_address (linear_at c i) address) j) j (has_address (linear_at c j) address))
 
 same_test : (base k : ℕ) (m : CapFields) → base ≤ m.base → m.base ≤ m.end → (nat_le m.base (base + k) && nat_le (base + k) m.end) ≡ (nat_le (m.base - base) k && nat_lt k (m.end + 1 - base))
 same_test base k m low order = grind (arith, nat_tests)
@@ -132,14 +132,14 @@ taken_more c old new j m h here area order marked = record { marks = marks; in_o
     marks : (k : ℕ) → k < 65536 → is_marked new k ≡ is_taken c (j + 1) (c.linear.base + k)
     marks k lt =
         marked k lt ∙ (
-        ap (λ b. b || is_marked old k) (sym (same_test c.linear.base k m area.0 area.1) ∙ sym (ap (λ o. covers o (c.linear.base + k)) here))
-        ∙ (ap (λ b. covers (linear_at c j) (c.linear.base + k) || b) (h.marks k lt) ∙ sym (more_taken c j (c.linear.base + k)))
+        ap (λ b. b || is_marked old k) (sym (same_test c.linear.base k m area.0 area.1) ∙ sym (ap (λ o. has_address o (c.linear.base + k)) here))
+        ∙ (ap (λ b. has_address (linear_at c j) (c.linear.base + k) || b) (h.marks k lt) ∙ sym (more_taken c j (c.linear.base + k)))
         )
 
 -- where there is no linear capability, nothing changes
 pub none_here : (c : ComponentFields) (bits : List ℕ) (j : ℕ) → Taken c bits j → linear_at c j ≡ None → Taken c bits (j + 1)
 none_here c bits j h here = record {
-  marks = λ k lt. h.marks k lt ∙ (sym (ap (λ o. covers o (c.linear.base + k) || is_taken c j (c.linear.base + k)) here) ∙ sym (more_taken c j (c.linear.base + k)));
+  marks = λ k lt. h.marks k lt ∙ (sym (ap (λ o. has_address o (c.linear.base + k) || is_taken c j (c.linear.base + k)) here) ∙ sym (more_taken c j (c.linear.base + k)));
   in_order = in_order_more c j h.in_order (rw here tt);
 }
 

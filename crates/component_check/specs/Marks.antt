@@ -21,13 +21,13 @@ abbrev pub MarkedToo : List ℕ → List ℕ → (ℕ → Bool) → Type 0
 MarkedToo old new test = (k : ℕ) → k < LONGEST_STRETCH → is_marked new k ≡ (test k || is_marked old k)
 
 -- the address is one of the capability's
-abbrev pub covers : Option CapFields → ℕ → Bool
-covers (Some m) address = nat_le m.base address && nat_le address m.end
-covers None address = false
+abbrev pub has_address : Option CapFields → ℕ → Bool
+has_address (Some m) address = nat_le m.base address && nat_le address m.end
+has_address None address = false
 
 -- one of the linear capabilities before index j is over the address
 abbrev pub is_taken : ComponentFields → ℕ → ℕ → Bool
-is_taken c j address = is_some (first_below (λ i. covers (linear_at c i) address) j)
+is_taken c j address = is_some (first_below (λ i. has_address (linear_at c i) address) j)
 
 -- marked are the addresses of the linear capabilities before index j, counted from the linear area's first
 pub record Taken (c : ComponentFields) (bits : List ℕ) (j : ℕ) : Type 0 where

@@ -37,27 +37,27 @@ c3 c = each_of (seals_are_bad c ∷ [])
 
 -- ---- slots and exports
 
-abbrev pub slot : ComponentFields → ℕ → ℕ
-slot c i = slice_index (map (λ x. x.slot) c.imports) i
+abbrev pub slot_of : ComponentFields → ℕ → ℕ
+slot_of c i = slice_index (map (λ x. x.slot) c.imports) i
 
 -- its two words are not both in the data, or it is less than 2 above the one before
 abbrev pub slot_is_bad : ComponentFields → ℕ → Bool
 slot_is_bad c i =
-    nat_le (length c.data_words) (slot c i + 1)
-    || (nat_lt 0 i && nat_lt (slot c i) (slot c (i - 1) + 2))
+    nat_le (length c.data_words) (slot_of c i + 1)
+    || (nat_lt 0 i && nat_lt (slot_of c i) (slot_of c (i - 1) + 2))
 
 unfoldable pub c4 : ComponentFields → Test ℕ
 c4 c = plainly (length c.imports) (slot_is_bad c)
 
-abbrev pub is_zero : Option Word → Bool
-is_zero (Some (Int n)) = int_eq n (pos 0)
-is_zero (Some _) = false
-is_zero None = false
+abbrev pub is_zero_word : Option Word → Bool
+is_zero_word (Some (Int n)) = int_eq n (pos 0)
+is_zero_word (Some _) = false
+is_zero_word None = false
 
 abbrev pub slot_is_free : ComponentFields → ℕ → Bool
 slot_is_free c i =
-    is_zero (slice_get c.data_words (slot c i))
-    && is_zero (slice_get c.data_words (slot c i + 1))
+    is_zero_word (slice_get c.data_words (slot_of c i))
+    && is_zero_word (slice_get c.data_words (slot_of c i + 1))
 
 unfoldable pub c5 : ComponentFields → Test ℕ
 c5 c = plainly (length c.imports) (λ i. not (slot_is_free c i))
@@ -167,7 +167,7 @@ has_sites c = nat_lt 0 (length c.sites)
 unfoldable pub c12 : ComponentFields → Test ℕ
 c12 c = each_of (
     nat_lt 0 c.linear.count
-    ∷ not (is_zero (code_at c c.fail_at))
+    ∷ not (is_zero_word (code_at c c.fail_at))
     ∷ nat_lt c.seals.count (length c.sites)
     ∷ (has_sites c && not (is_over_seals c (code_at c c.literal_at)))
     ∷ (not (has_sites c) && is_some c.literal_at) ∷ [])

@@ -2,7 +2,7 @@
 ghost use Rattle.std.specs.Prelude.{◌≡◌, ◌<◌, ◌^◌, length, slice_get};
 ghost use Rattle.component_file.specs.Limits.{IsComponent};
 ghost use Rattle.component_check.specs.Places.{first_place};
-ghost use Rattle.component_check.specs.Rules.{c4, c5, c6, slot_is_bad, slot_is_free, export_offset, is_zero};
+ghost use Rattle.component_check.specs.Rules.{c4, c5, c6, slot_is_bad, slot_is_free, export_offset, is_zero_word};
 
 use crate::places::first_place;
 use cap_words::Word;
@@ -29,8 +29,8 @@ pub(crate) fn c4(c: &ComponentFields) -> Option<u32>
 }
 
 /// Whether integer 0 stands at this offset.
-pub(crate) fn is_zero(words: &[Word], offset: usize) -> bool
-    ensures { result ≡ is_zero (slice_get words.now offset) }
+pub(crate) fn is_zero_word(words: &[Word], offset: usize) -> bool
+    ensures { result ≡ is_zero_word (slice_get words.now offset) }
 {
     match words.get(offset) {
         Some(Word::Int(n)) => *n == 0,
@@ -44,10 +44,10 @@ fn slot_is_free(c: &ComponentFields, i: usize) -> bool
 {
     let slot = c.imports.as_slice()[i].slot as usize;
     let words = c.data_words.as_slice();
-    if !is_zero(words, slot) {
+    if !is_zero_word(words, slot) {
         return false;
     }
-    is_zero(words, slot + 1)
+    is_zero_word(words, slot + 1)
 }
 
 #[tactic(auto, unfolding(crate::specs::Rules::c5))]

@@ -3,10 +3,10 @@ ghost use Rattle.std.specs.Prelude.{◌≡◌, ◌<◌, ◌+◌, ◌^◌, length
 ghost use Rattle.std.specs.Option.{option_copied};
 ghost use Rattle.component_file.specs.Limits.{IsComponent};
 ghost use Rattle.component_check.specs.Places.{first_place, first_of};
-ghost use Rattle.component_check.specs.Rules.{c10, c11, c12, holds_of, is_no_int, is_at, is_zero, code_at, is_over_seals};
+ghost use Rattle.component_check.specs.Rules.{c10, c11, c12, holds_of, is_no_int, is_at, is_zero_word, code_at, is_over_seals};
 
 use crate::places::{each_of, first_place};
-use crate::slots::is_zero;
+use crate::slots::is_zero_word;
 use cap_words::Word;
 use component_file::ComponentFields;
 
@@ -77,10 +77,10 @@ fn code_at(c: &ComponentFields, offset: Option<u32>) -> Option<&Word>
 }
 
 fn has_fail(c: &ComponentFields) -> bool
-    ensures { result ≡ is_zero (code_at c.now c.now.fail_at) }
+    ensures { result ≡ is_zero_word (code_at c.now c.now.fail_at) }
 {
     match c.fail_at {
-        Some(offset) => is_zero(c.code.as_slice(), offset as usize),
+        Some(offset) => is_zero_word(c.code.as_slice(), offset as usize),
         None => false,
     }
 }

@@ -6,7 +6,7 @@ use Rattle.component_check.specs.Places.{Test, BrokenAt, first_of, first_place}
 use Rattle.component_check.specs.Verdict.{rule, IsBefore, IsFirst, IsFirstBroken, check_from}
 use Rattle.component_check.proofs.First.{IsFirstIn as IsFirstIndex, first_below_is, first_by, first_broken}
 use Rattle.component_linker.specs.declared.pairs.PartPlace.{PartPlace}
-use Rattle.component_linker.specs.Pairs.{PairTest, BrokenIn, numbered, IsBeforeIn, IsFirstIn, IsFirstBrokenIn, by_part, first_in, InFoundBy, FirstInBy}
+use Rattle.component_linker.specs.Pairs.{PairTest, BrokenIn, rule_of, IsBeforeIn, IsFirstIn, IsFirstBrokenIn, by_part, first_in, InFoundBy, FirstInBy}
 
 -- ---- one rule
 
@@ -53,14 +53,14 @@ first_place_of t p b = by_first (first_of (t.within p)) refl (first_below_is (t.
     by_first (Some i) e first =
         (i, (b.0, (first.0, first.1)), place_in t p ((t.within p).place i) (ap (option_map (t.within p).place) (sym e)), λ j lt c. (let f : false ≡ true = sym (first.2 j lt) ∙ c.1.1 in cc))
 
-numbered_by : (rules : List PairTest) (n : ℕ) → rule (map by_part rules) n ≡ option_map by_part (numbered rules n)
+numbered_by : (rules : List PairTest) (n : ℕ) → rule (map by_part rules) n ≡ option_map by_part (rule_of rules n)
 numbered_by rules zero = refl
 numbered_by rules (suc n) = slice_get-map by_part rules n
 
-numbered_of : (rules : List PairTest) (n : ℕ) (u : Test PartPlace) → rule (map by_part rules) n ≡ Some u → (t : PairTest) × (numbered rules n ≡ Some t) × (by_part t ≡ u)
-numbered_of rules n u e = by_cases (numbered rules n) refl
+numbered_of : (rules : List PairTest) (n : ℕ) (u : Test PartPlace) → rule (map by_part rules) n ≡ Some u → (t : PairTest) × (rule_of rules n ≡ Some t) × (by_part t ≡ u)
+numbered_of rules n u e = by_cases (rule_of rules n) refl
   where
-    by_cases : (o : Option PairTest) → numbered rules n ≡ o → (t : PairTest) × (numbered rules n ≡ Some t) × (by_part t ≡ u)
+    by_cases : (o : Option PairTest) → rule_of rules n ≡ o → (t : PairTest) × (rule_of rules n ≡ Some t) × (by_part t ≡ u)
     by_cases None is = let f : None ≡ Some u = sym (numbered_by rules n ∙ ap (option_map by_part) is) ∙ e in cc
     by_cases (Some t) is =
         let same : Some (by_part t) ≡ Some u = sym (numbered_by rules n ∙ ap (option_map by_part) is) ∙ e in
@@ -70,7 +70,7 @@ numbered_of rules n u e = by_cases (numbered rules n) refl
 pub with_place : {E : Type 0} (told : ℕ → PartPlace → E) (rules : List PairTest) (report : E) → IsFirst told (map by_part rules) report → IsFirstIn told rules report
 with_place told rules report h = placed (numbered_of rules h.number h.test h.is)
   where
-    placed : (t : PairTest) × (numbered rules h.number ≡ Some t) × (by_part t ≡ h.test) → IsFirstIn told rules report
+    placed : (t : PairTest) × (rule_of rules h.number ≡ Some t) × (by_part t ≡ h.test) → IsFirstIn told rules report
     placed (t, is, same) = at_index (first_place_of t h.index (subst (λ u. BrokenAt u h.index) (sym same) h.broken))
       where
         at_index : (i : ℕ) × BrokenIn t h.index i × ((by_part t).place h.index ≡ record { part = h.index; place = (t.within h.index).place i }) × ((j : ℕ) → j < i → BrokenIn t h.index j → ⊥) → IsFirstIn told rules report
@@ -85,16 +85,16 @@ with_place told rules report h = placed (numbered_of rules h.number h.test h.is)
           first = before;
         }
           where
-            over_parts : (n p j : ℕ) (u : PairTest) → numbered rules n ≡ Some u → IsBefore n p h.number h.index → BrokenIn u p j → ⊥
+            over_parts : (n p j : ℕ) (u : PairTest) → rule_of rules n ≡ Some u → IsBefore n p h.number h.index → BrokenIn u p j → ⊥
             over_parts n p j u e lt b = h.first n p (by_part u) (numbered_by rules n ∙ ap (option_map by_part) e) lt (breaks_part u p j b)
 
-            in_part : (n p j : ℕ) (u : PairTest) → numbered rules n ≡ Some u → n ≡ h.number → p ≡ h.index → j < i → BrokenIn u p j → ⊥
+            in_part : (n p j : ℕ) (u : PairTest) → rule_of rules n ≡ Some u → n ≡ h.number → p ≡ h.index → j < i → BrokenIn u p j → ⊥
             in_part n p j u e same_rule same_part lt b =
-                let both : Some u ≡ Some t = sym e ∙ ap (numbered rules) same_rule ∙ is in
+                let both : Some u ≡ Some t = sym e ∙ ap (rule_of rules) same_rule ∙ is in
                 let one : u ≡ t = cc in
                 none j lt (subst (λ v. BrokenIn v h.index j) one (subst (λ q. BrokenIn u q j) same_part b))
 
-            before : (n p j : ℕ) (u : PairTest) → numbered rules n ≡ Some u → IsBeforeIn n p j h.number h.index i → BrokenIn u p j → ⊥
+            before : (n p j : ℕ) (u : PairTest) → rule_of rules n ≡ Some u → IsBeforeIn n p j h.number h.index i → BrokenIn u p j → ⊥
             before n p j u e lt b = elim lt as (λ _. ⊥) [
               | inl l ↦ over_parts n p j u e (inl l) b
               | inr l ↦ elim l.1 as (λ _. ⊥) [

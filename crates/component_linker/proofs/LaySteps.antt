@@ -1,19 +1,18 @@
 -- The steps in which the words of parts are laid.
-use Rattle.std.proofs.Common.{◌≡◌, ℕ, ◌+◌, ◌-◌, ◌<◌, ◌≤◌, Bool, List, [], ◌∷◌, length, get_or, Option, Some, None, refl, sym, ap, subst, ◌∙◌, arith, pos}
+use Rattle.std.proofs.Common.{◌≡◌, ℕ, ◌+◌, ◌-◌, ◌<◌, ◌≤◌, List, length, get_or, Option, Some, None, refl, sym, ap, subst, ◌∙◌, arith, pos}
 use Rattle.std.specs.Prelude.{slice_get, IsSome}
 use Rattle.std.specs.Option.{option_or}
 use Rattle.std.proofs.lemmas.Option.{slice_get-get_or}
 use Rattle.cap_words.specs.declared.Word.{Word}
 use Rattle.cap_words.specs.declared.Word.TheVariants.{Int}
 use Rattle.component_file.specs.declared.component.Import.{Import}
-use Rattle.lcm_machine.specs.Cells.{cell}
 use Rattle.lcm_machine.specs.Run.{Run}
 use Rattle.component_linker.specs.Parts.{PartSeen}
 use Rattle.component_linker.specs.Start.{first_given, Exported, imported, code_half, data_half, slot_word, data_word, from, part_word}
 use Rattle.component_linker.specs.Linked.{Kept, AreClosed, AreSeparate}
 use Rattle.component_linker.specs.Laying.{Lays, single}
 use Rattle.component_linker.proofs.Found.{imported_of, option_or_assoc}
-use Rattle.component_linker.proofs.Laid.{lays_none, lays_as, lays_then, still_there}
+use Rattle.component_linker.proofs.Laid.{lays_as, lays_then}
 use Rattle.component_linker.proofs.PartWords.{from_yes, slots_upto, slots_more, slots_all, part_words, parts_upto, parts_more, parts_all}
 
 pub item_at : {X : Type 0} (xs ys : List X) (k : ℕ) (x : X) → ys ≡ xs → k < length ys → x ≡ get_or ys k x → slice_get xs k ≡ Some x

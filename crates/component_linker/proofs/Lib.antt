@@ -1,6 +1,7 @@
 pub mod FirstIn
 pub mod RuleLemmas
 pub mod Found
+pub mod Halved
 pub mod RegionFacts
 pub mod Laid
 pub mod PartWords
@@ -11,3 +12,4 @@ pub mod StartIs
 pub mod ListedOwners
 pub mod PartKept
 pub mod LinksKept
+pub mod SealsKept

@@ -1,6 +1,6 @@
 -- What the rules L say of parts, as the start rests on it.
 use Rattle.std.proofs.Common.{◌≡◌, ℕ, zero, suc, ◌+◌, ◌-◌, ◌<◌, ◌≤◌, ◌⊎◌, inl, inr, Bool, true, false, not, List, [], ◌∷◌, ◌++◌, length, get_or, take, length-append, Option, Some, None, refl, sym, ap, subst, ◌∙◌, arith}
-use Rattle.std.specs.Prelude.{slice_get, slice_index_or, nat_le, nat_lt, ◌==◌, ◌&&◌, ◌||◌, is_some, is_none, IsSome, IsTrue, find, option_map, if◌then◌else◌}
+use Rattle.std.specs.Prelude.{slice_get, slice_index_or, nat_le, nat_lt, ◌==◌, ◌&&◌, ◌||◌, is_some, is_none, IsSome, find, option_map, if◌then◌else◌}
 use Rattle.std.specs.Option.{option_or}
 use Rattle.std.specs.List.{list_any, AllPairs, Contains, flat_map}
 use Rattle.std.proofs.lemmas.Bool.Decides.{nat_tests}
@@ -8,16 +8,15 @@ use Rattle.std.proofs.lemmas.Option.{slice_get_within, slice_get_past, get_or_fr
 use Rattle.std.proofs.lemmas.List.{get_or_append_left, get_or-append-add, get_or_default}
 use Rattle.std.proofs.lemmas.List.Elements.{Contains-append_cases}
 use Rattle.component_file.specs.declared.component.Import.{Import}
-use Rattle.component_file.specs.declared.component.Export.{Export}
 use Rattle.component_check.specs.Places.{Test, BrokenAt, plainly}
 use Rattle.lcm_machine.specs.declared.cells.Span.{Span}
 use Rattle.lcm_machine.specs.Regions.{Region}
 use Rattle.component_linker.specs.Parts.{PartSeen, IsPart}
 use Rattle.component_linker.specs.Regions.{Apart, part_regions, regions_of, region, stack_span, is_stack_size, code_span, data_span, linear_span}
 use Rattle.component_linker.specs.Start.{imported, is_main, main_of, stack_base_of, export_that, first_given, Exported}
-use Rattle.component_linker.specs.Pairs.{PairTest, NoneIsBroken, BrokenIn, numbered, within_or, each_of, once, passes, never}
+use Rattle.component_linker.specs.Pairs.{NoneIsBroken, within_or, at_each, once, passes, never}
 use Rattle.component_linker.specs.Links.{rules_l, l1, l4, l6, l8, l9, has_main, are_few, sites_upto, near, near_part, near_before, part_spans}
-use Rattle.component_linker.specs.Linked.{Linked, AreClosed}
+use Rattle.component_linker.specs.Linked.{Linked}
 use Rattle.component_linker.proofs.RuleLemmas.{inside, slice_get-take}
 use Rattle.component_linker.proofs.RegionFacts.{of_part}
 use Rattle.component_linker.proofs.PartKept.{is_kept}
@@ -33,7 +32,7 @@ not_broken t i h lt = by_test (t.broken i) refl
     by_test false e = e
 
 -- the same, for the test of a part
-in_part : (parts : List PartSeen) (test : ℕ → PartSeen → Test ℕ) (all : Test ℕ) (k : ℕ) (p : PartSeen) (i : ℕ) → slice_get parts k ≡ Some p → (BrokenAt (within_or test all k (slice_get parts k)) i → ⊥) → i < (test k p).count → (test k p).broken i ≡ false
+pub in_part : (parts : List PartSeen) (test : ℕ → PartSeen → Test ℕ) (all : Test ℕ) (k : ℕ) (p : PartSeen) (i : ℕ) → slice_get parts k ≡ Some p → (BrokenAt (within_or test all k (slice_get parts k)) i → ⊥) → i < (test k p).count → (test k p).broken i ≡ false
 in_part parts test all k p i is h lt =
     not_broken (test k p) i (λ b. h (subst (λ o. BrokenAt (within_or test all k o) i) (sym is) b)) lt
 
@@ -88,7 +87,7 @@ pub imports_found : (parts : List PartSeen) (size : ℕ) → NoneIsBroken (rules
 unfolding l4
 imports_found parts size h k n p i is im =
     let none : passes (λ x. is_none (imported parts x)) (slice_get p.component.imports n) ≡ false
-    = in_part parts (λ j q. each_of q.component.imports (λ x. is_none (imported parts x))) never k p n is (λ b. h 4 k n (l4 parts) refl (slice_get_within parts k p is, b)) (slice_get_within p.component.imports n i im) in
+    = in_part parts (λ j q. at_each q.component.imports (λ x. is_none (imported parts x))) never k p n is (λ b. h 4 k n (l4 parts) refl (slice_get_within parts k p is, b)) (slice_get_within p.component.imports n i im) in
     not_not _ (sym (ap (passes (λ x. is_none (imported parts x))) im) ∙ none)
 
 -- ---- L6
@@ -124,7 +123,7 @@ given_by_one (p ∷ ps) e = by_test (has_main p) refl (given_by_one ps)
 pub main_there : (parts : List PartSeen) (size : ℕ) → NoneIsBroken (rules_l parts size) → IsSome (main_of parts)
 unfolding l6
 main_there parts size h =
-    given_by_one parts (not_not _ (behind parts (λ i p. each_of p.component.exports (λ e. is_main e && list_any has_main (take i parts))) (once (not (list_any has_main parts)) 0) 0
+    given_by_one parts (not_not _ (behind parts (λ i p. at_each p.component.exports (λ e. is_main e && list_any has_main (take i parts))) (once (not (list_any has_main parts)) 0) 0
     (λ b. h 6 (length parts) 0 (l6 parts) refl (omega arith, b)) (omega arith)))
 
 -- ---- L1

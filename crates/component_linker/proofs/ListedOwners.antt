@@ -1,9 +1,9 @@
 -- Sites and owners as they are listed, one after another, and put in order.
-use Rattle.std.proofs.Common.{◌≡◌, ◌≢◌, ◌⊎◌, ℕ, zero, suc, ◌+◌, ◌<◌, ◌≤◌, Bool, true, false, List, [], ◌∷◌, ◌++◌, length, get_or, eqb, Option, Some, None, refl, sym, ap, subst, ◌∙◌, arith, inl, inr, ltb-true, eq-eqb}
-use Rattle.std.specs.Prelude.{slice_get, IsTrue, ◌↔◌}
+use Rattle.std.proofs.Common.{◌≡◌, ◌≢◌, ℕ, zero, suc, ◌+◌, ◌<◌, ◌≤◌, Bool, false, List, [], ◌∷◌, ◌++◌, length, get_or, eqb, Option, Some, None, refl, sym, ap, subst, ◌∙◌, arith, inl, inr, ltb-true, eq-eqb}
+use Rattle.std.specs.Prelude.{slice_get}
 use Rattle.std.specs.List.{AllPairs, Contains, IsDistinct}
 use Rattle.std.specs.List.Sorted.{IsPermutation, IsNonDecreasingBy}
-use Rattle.std.proofs.lemmas.Bool.{cases_eq, cases_lt, ne_eqb, false≢true}
+use Rattle.std.proofs.lemmas.Bool.{cases_eq, ne_eqb, false≢true}
 use Rattle.std.proofs.lemmas.Option.{slice_get_within}
 use Rattle.std.proofs.lemmas.List.Elements.{Contains-get_or, Contains-append_left, Contains-push, Contains-push_cases}
 use Rattle.std.proofs.lemmas.List.Quantifiers.{all_pairs_push}
@@ -15,9 +15,9 @@ use Rattle.component_linker.specs.declared.owners.Site.{Site}
 use Rattle.component_linker.specs.declared.owners.Owner.{Owner}
 use Rattle.component_linker.specs.Parts.{PartSeen}
 use Rattle.component_linker.specs.Start.{part_word}
-use Rattle.component_linker.specs.Linked.{Kept, AreClosed, AreSeparate}
+use Rattle.component_linker.specs.Linked.{AreClosed, AreSeparate}
 use Rattle.component_linker.specs.Owners.{IsSite, AreSites, owner_of, IsOwner, AreOwners}
-use Rattle.component_linker.specs.Listing.{IsBefore, SitesUpto, OwnersUpto}
+use Rattle.component_linker.specs.Listing.{ComesBefore, SitesUpto, OwnersUpto}
 use Rattle.component_linker.proofs.LaySteps.{with_some, code_there}
 
 -- ---- in order
@@ -78,7 +78,7 @@ site_in parts s a closed h is =
     let at = h.at in
     (omega (arith, at, is), omega (arith, at, is, lt))
 
-sites_differ : (parts : List PartSeen) (i j : ℕ) (s t : Site) → AreClosed parts → AreSeparate parts → IsSite parts s → IsSite parts t → t.part ≡ i → t.index ≡ j → IsBefore i j s → s.at ≢ t.at
+sites_differ : (parts : List PartSeen) (i j : ℕ) (s t : Site) → AreClosed parts → AreSeparate parts → IsSite parts s → IsSite parts t → t.part ≡ i → t.index ≡ j → ComesBefore i j s → s.at ≢ t.at
 sites_differ parts i j s t closed separate h g part_is index_is (inl lt) same =
     let a = site_in parts s t.at closed h same in
     let b = site_in parts t t.at closed g refl in
@@ -122,23 +122,23 @@ sites_none parts = record {
   differ = λ i j d lt in'. absurd (omega (arith, in'));
 }
 
-before_next : (i j : ℕ) (s : Site) → IsBefore i j s → IsBefore i (j + 1) s
+before_next : (i j : ℕ) (s : Site) → ComesBefore i j s → ComesBefore i (j + 1) s
 before_next i j s (inl lt) = inl lt
 before_next i j s (inr e) = let lt = e.1 in inr (e.0, omega (arith, lt))
 
 pub next_site : (parts : List PartSeen) (i j : ℕ) (xs : List Site) (y : Site) → AreClosed parts → AreSeparate parts → SitesUpto parts i j xs → IsSite parts y → y.part ≡ i → y.index ≡ j → SitesUpto parts i (j + 1) (xs ++ y ∷ [])
 next_site parts i j xs y closed separate upto this part_is index_is = record {
   all = λ s. (
-    λ m. elim (Contains-push_cases xs y s m) as (λ _. IsSite parts s × IsBefore i (j + 1) s) [
+    λ m. elim (Contains-push_cases xs y s m) as (λ _. IsSite parts s × ComesBefore i (j + 1) s) [
       | inl old ↦ (let h = (upto.all s).0 old in (h.0, before_next i j s h.1))
-      | inr e ↦ subst (λ x. IsSite parts x × IsBefore i (j + 1) x) e (this, inr (part_is, omega (arith, index_is)))
+      | inr e ↦ subst (λ x. IsSite parts x × ComesBefore i (j + 1) x) e (this, inr (part_is, omega (arith, index_is)))
     ],
     λ h. back s h.0 h.1,
   );
   differ = all_pairs_push (λ s t. s.at ≢ t.at) xs y upto.differ (λ k d lt. let h = (upto.all (get_or xs k d)).0 (Contains-get_or xs k d lt) in sites_differ parts i j (get_or xs k d) y closed separate h.0 this part_is index_is h.1);
 }
   where
-    back : (s : Site) → IsSite parts s → IsBefore i (j + 1) s → Contains (xs ++ y ∷ []) s
+    back : (s : Site) → IsSite parts s → ComesBefore i (j + 1) s → Contains (xs ++ y ∷ []) s
     back s h (inl lt) = Contains-append_left xs (y ∷ []) s ((upto.all s).1 (h, inl lt))
     back s h (inr (eq, lt)) = elim (cases_eq s.index j) as (λ _. Contains (xs ++ y ∷ []) s) [
       | inl same ↦ subst (Contains (xs ++ y ∷ [])) (one_site parts y s this h (part_is ∙ sym eq) (index_is ∙ sym same)) (Contains-push xs y)
@@ -149,11 +149,11 @@ next_site parts i j xs y closed separate upto this part_is index_is = record {
 next_part : (parts : List PartSeen) (i j : ℕ) (xs : List Site) → SitesUpto parts i j xs → ((s : Site) → IsSite parts s → s.part ≡ i → s.index < j) → SitesUpto parts (i + 1) 0 xs
 next_part parts i j xs upto done = record { all = λ s. (λ m. (let h = (upto.all s).0 m in (h.0, forth s h.1)), λ h. back s h.0 h.1); differ = upto.differ }
   where
-    forth : (s : Site) → IsBefore i j s → IsBefore (i + 1) 0 s
+    forth : (s : Site) → ComesBefore i j s → ComesBefore (i + 1) 0 s
     forth s (inl lt) = inl (omega (arith, lt))
     forth s (inr e) = let eq = e.0 in inl (omega (arith, eq))
 
-    back : (s : Site) → IsSite parts s → IsBefore (i + 1) 0 s → Contains xs s
+    back : (s : Site) → IsSite parts s → ComesBefore (i + 1) 0 s → Contains xs s
     back s h (inr e) = let lt = e.1 in absurd (omega (arith, lt))
     back s h (inl lt) = elim (cases_eq s.part i) as (λ _. Contains xs s) [ inl same ↦ (upto.all s).1 (h, inr (same, done s h same)) | inr ne ↦ (upto.all s).1 (h, inl (omega (arith, lt, ne))) ]
 

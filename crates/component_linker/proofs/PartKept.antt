@@ -1,6 +1,6 @@
 -- What the rules C say of a part, as the start rests on it.
-use Rattle.std.proofs.Common.{◌≡◌, ℕ, zero, suc, ◌+◌, ◌-◌, ◌<◌, ◌≤◌, ◌⊎◌, inl, inr, Bool, true, false, not, List, [], ◌∷◌, ◌++◌, length, Option, Some, None, Ok, refl, sym, ap, subst, ◌∙◌, arith, map}
-use Rattle.std.specs.Prelude.{slice_get, slice_index, slice_index_or, nat_le, nat_lt, ◌==◌, ◌&&◌, ◌||◌, is_some, option_map, if◌then◌else◌}
+use Rattle.std.proofs.Common.{◌≡◌, ℕ, zero, suc, ◌+◌, ◌-◌, ◌<◌, ◌≤◌, ◌⊎◌, inl, inr, Bool, true, false, not, length, Option, Some, None, refl, sym, ap, subst, ◌∙◌, arith, map}
+use Rattle.std.specs.Prelude.{slice_get, nat_le, nat_lt, ◌&&◌, ◌||◌, is_some, option_map, if◌then◌else◌}
 use Rattle.std.proofs.lemmas.Bool.Decides.{nat_tests}
 use Rattle.std.proofs.lemmas.Option.{slice_get_within, get_or_from_slice_get, slice_get-map}
 use Rattle.cap_words.specs.declared.Word.TheVariants.{Mem}
@@ -9,11 +9,12 @@ use Rattle.cap_words.specs.Linear.{lin_is}
 use Rattle.cap_words.specs.Faces.{may_run}
 use Rattle.component_file.specs.declared.component.ComponentFields.{ComponentFields}
 use Rattle.component_file.specs.declared.component.Import.{Import}
-use Rattle.component_file.specs.Limits.{IsComponent, last_base}
-use Rattle.component_check.specs.Places.{Test, BrokenAt, first_below}
+use Rattle.component_file.specs.Limits.{last_base}
+use Rattle.component_check.specs.Places.{Test, first_below}
 use Rattle.component_check.specs.Verdict.{rule}
 use Rattle.component_check.specs.Areas.{is_past_end, code_area, data_area, has_all}
-use Rattle.component_check.specs.Rules.{c1, c4, c7, c8, slot, slot_is_bad, words, holds_of, is_foreign, is_own, linear_at, linear_in, meet, meets_before, rules_c}
+use Rattle.seal_space.specs.Seals.{has_seal}
+use Rattle.component_check.specs.Rules.{c1, c3, c4, c7, c8, c12, slot_of, slot_is_bad, words, holds_of, is_foreign, is_own, linear_at, linear_in, meet, meets_before, rules_c}
 use Rattle.component_check.proofs.First.{first_below_is, IsFirstIn}
 use Rattle.component_linker.specs.Parts.{PartSeen, IsPart, rules_of}
 use Rattle.component_linker.specs.Linked.{Kept, IsOwn, HasRange}
@@ -52,8 +53,8 @@ linear_ends p h = by_count p.component.linear.count refl
 
 -- ---- slots
 
-slot_of : (c : ComponentFields) (k : ℕ) (i : Import) → slice_get c.imports k ≡ Some i → slot c k ≡ i.slot
-slot_of c k i e = get_or_from_slice_get (map (λ x. x.slot) c.imports) k i.slot 0 (slice_get-map (λ x. x.slot) c.imports k ∙ ap (option_map (λ x. x.slot)) e)
+slot_is : (c : ComponentFields) (k : ℕ) (i : Import) → slice_get c.imports k ≡ Some i → slot_of c k ≡ i.slot
+slot_is c k i e = get_or_from_slice_get (map (λ x. x.slot) c.imports) k i.slot 0 (slice_get-map (λ x. x.slot) c.imports k ∙ ap (option_map (λ x. x.slot)) e)
 
 slot_fits : (p : PartSeen) → IsPart p → (k : ℕ) (i : Import) → slice_get p.component.imports k ≡ Some i → slot_is_bad p.component k ≡ false
 unfolding c4
@@ -69,17 +70,17 @@ in_data n s b e = by_test (nat_le n (s + 1)) refl
 pub slots_in : (p : PartSeen) → IsPart p → (k : ℕ) (i : Import) → slice_get p.component.imports k ≡ Some i → i.slot + 1 < length p.component.data_words
 slots_in p h k i e =
     let P : ℕ → Type 0 = λ s. s + 1 < length p.component.data_words in
-    subst P (slot_of p.component k i e) (in_data (length p.component.data_words) (slot p.component k) _ (slot_fits p h k i e))
+    subst P (slot_is p.component k i e) (in_data (length p.component.data_words) (slot_of p.component k) _ (slot_fits p h k i e))
 
 behind : (n s r k : ℕ) → (nat_le n (s + 1) || (nat_lt 0 (k + 1) && nat_lt s (r + 2))) ≡ false → r + 2 ≤ s
 behind n s r k e = grind (arith, nat_tests)
 
 pub slots_apart : (p : PartSeen) → IsPart p → (k : ℕ) (i j : Import) → slice_get p.component.imports k ≡ Some i → slice_get p.component.imports (k + 1) ≡ Some j → i.slot + 2 ≤ j.slot
 slots_apart p h k i j e f =
-    let before : slot p.component (k + 1 - 1) ≡ i.slot = ap (slot p.component) (let n : k + 1 - 1 ≡ k = omega arith in n) ∙ slot_of p.component k i e in
+    let before : slot_of p.component (k + 1 - 1) ≡ i.slot = ap (slot_of p.component) (let n : k + 1 - 1 ≡ k = omega arith in n) ∙ slot_is p.component k i e in
     let fits = slot_fits p h (k + 1) j f in
-    let le = behind (length p.component.data_words) (slot p.component (k + 1)) (slot p.component (k + 1 - 1)) k fits in
-    omega (arith, le, before, slot_of p.component (k + 1) j f)
+    let le = behind (length p.component.data_words) (slot_of p.component (k + 1)) (slot_of p.component (k + 1 - 1)) k fits in
+    omega (arith, le, before, slot_is p.component (k + 1) j f)
 
 -- ---- capabilities
 
@@ -145,6 +146,25 @@ once p h k n m l lt e f m_lin l_lin =
   where
     lie_apart : (a b : CapFields) → (nat_le a.base b.end && nat_le b.base a.end) ≡ false → (a.end < b.base) ⊎ (b.end < a.base)
     lie_apart a b e = grind (arith, nat_tests)
+
+-- ---- seals
+
+-- C3: the closure seal is none of the return seals
+pub closure_apart : (p : PartSeen) → IsPart p → has_seal p.component.seals p.component.closure ≡ false
+unfolding c3
+closure_apart p h = second (is_past_end p.component.seals.base p.component.seals.count) (has_seal p.component.seals p.component.closure) (kept p h 3 0 (c3 p.component) refl (omega arith))
+  where
+    second : (a b : Bool) → (a || b) ≡ false → b ≡ false
+    second true b e = absurd cc
+    second false b e = e
+
+-- C12: a trusted part has a seal for each of its sites
+pub few_sites : (p : PartSeen) → IsPart p → p.trusted ≡ true → length p.component.sites ≤ p.component.seals.count
+unfolding c12
+few_sites p h trusted =
+    let twelfth : rule (rules_of p) 12 ≡ Some (c12 p.component) = ap (λ b. rule (rules_c p.component b) 12) trusted in
+    let fine : nat_lt p.component.seals.count (length p.component.sites) ≡ false = kept p h 12 2 (c12 p.component) twelfth (omega arith) in
+    grind (arith, nat_tests)
 
 pub is_kept : (p : PartSeen) → IsPart p → Kept p
 is_kept p h = record {

@@ -1,20 +1,19 @@
 -- The words that parts have at addresses: slots don't share a word, and parts no address.
-use Rattle.std.proofs.Common.{◌≡◌, ◌≢◌, ◌⊎◌, ℕ, zero, suc, ◌+◌, ◌-◌, ◌<◌, ◌≤◌, Bool, true, false, List, [], ◌∷◌, ◌++◌, length, take, get_or, Option, Some, None, refl, sym, ap, subst, ◌∙◌, arith, inl, inr, le-leb, leb-true, eq-eqb}
-use Rattle.std.specs.Prelude.{slice_get, IsSome, nat_le, nat_lt, ◌==◌, option_map, if◌then◌else◌}
+use Rattle.std.proofs.Common.{◌≡◌, ◌≢◌, ◌⊎◌, ℕ, zero, suc, ◌+◌, ◌-◌, ◌<◌, ◌≤◌, true, false, List, [], ◌∷◌, length, take, get_or, Option, Some, None, refl, sym, ap, ◌∙◌, arith, inl, inr, le-leb, leb-true, eq-eqb}
+use Rattle.std.specs.Prelude.{slice_get, nat_le, ◌==◌, if◌then◌else◌}
 use Rattle.std.specs.List.{Contains, AllPairs}
 use Rattle.std.specs.Option.{option_or}
 use Rattle.std.proofs.lemmas.Bool.{cases_eq, cases_lt, cases_Bool, ne_eqb}
 use Rattle.std.proofs.lemmas.List.{take_all}
-use Rattle.std.proofs.lemmas.Option.{slice_get-get_or, slice_get_within, get_or_from_slice_get}
+use Rattle.std.proofs.lemmas.Option.{slice_get-get_or, slice_get_within}
 use Rattle.cap_words.specs.declared.Word.{Word}
-use Rattle.component_file.specs.declared.component.ComponentFields.{ComponentFields}
 use Rattle.component_file.specs.declared.component.Import.{Import}
 use Rattle.lcm_machine.specs.Regions.{Region}
 use Rattle.component_linker.specs.Parts.{PartSeen}
 use Rattle.component_linker.specs.Regions.{Apart, part_regions, regions_of}
 use Rattle.component_linker.specs.Start.{first_given, Exported, imported, code_half, data_half, slot_word, data_word, from, part_word}
 use Rattle.component_linker.specs.Linked.{Kept, AreClosed, AreSeparate}
-use Rattle.component_linker.proofs.Found.{Given, given, first_given-append, option_or_comm, option_or_assoc, option_or-none, taken_at}
+use Rattle.component_linker.proofs.Found.{given, first_given-append, option_or_comm, option_or-none, taken_at}
 use Rattle.component_linker.proofs.RegionFacts.{apart_parts, code_in, data_in, whole}
 use Rattle.component_linker.specs.Laying.{single}
 

@@ -1,7 +1,7 @@
 -- Regions that lie apart: those of two parts, and of a part and the stack.
-use Rattle.std.proofs.Common.{◌≡◌, ◌≢◌, ◌⊎◌, ℕ, zero, suc, ◌+◌, ◌-◌, ◌<◌, ◌≤◌, Bool, true, false, List, [], ◌∷◌, ◌++◌, length, get_or, Option, Some, None, refl, sym, ap, subst, ◌∙◌, arith, inl, inr, append_assoc, length-append, le-leb, leb-true, eq-eqb}
-use Rattle.std.specs.Prelude.{slice_get, IsTrue, nat_le, ◌==◌, ◌&&◌, ◌||◌}
-use Rattle.std.specs.List.{Contains, AllPairs, flat_map, list_any}
+use Rattle.std.proofs.Common.{◌≡◌, ◌≢◌, ◌⊎◌, ℕ, zero, suc, ◌+◌, ◌-◌, ◌<◌, ◌≤◌, Bool, true, false, List, [], ◌∷◌, ◌++◌, length, get_or, Some, refl, sym, ap, subst, ◌∙◌, arith, inl, inr, append_assoc, length-append, le-leb, leb-true, eq-eqb}
+use Rattle.std.specs.Prelude.{slice_get, IsTrue, nat_le, ◌==◌, ◌||◌}
+use Rattle.std.specs.List.{Contains, AllPairs, flat_map}
 use Rattle.std.proofs.lemmas.List.{get_or_append_left, get_or-append-add, get_or_default}
 use Rattle.std.proofs.lemmas.Bool.{cases_order, cases_eq, ne_eqb, and_parts}
 use Rattle.std.proofs.lemmas.List.Elements.{Contains-append_left, Contains-append_right, Contains-append_cases}

@@ -6,7 +6,7 @@ use Rattle.std.proofs.lemmas.Option.{slice_get_past, slice_get_within, get_or_fr
 use Rattle.std.proofs.lemmas.List.Sums.{sum_by_more}
 use Rattle.component_check.specs.Places.{Test, first_place, FirstBy}
 use Rattle.component_check.proofs.First.{plain_first}
-use Rattle.component_linker.specs.Pairs.{passes, each_of, within_or, never}
+use Rattle.component_linker.specs.Pairs.{passes, at_each, within_or, never}
 
 -- ---- lists
 
@@ -47,11 +47,11 @@ told_nowhere all parts i lt = let p = inside parts i lt in told_in (λ i p. neve
 -- ---- of items
 
 pub each_item : {A : Type 0} (xs : List A) (f : A → Bool) {Says : ℕ → Bool → Type 0} {n : ℕ} {o : Option ℕ} → FirstBy Says n o → n ≡ length xs
-    → ((j : ℕ) (b : Bool) → j < n → Says j b → b ≡ passes f (slice_get xs j)) → o ≡ first_place (each_of xs f)
+    → ((j : ℕ) (b : Bool) → j < n → Says j b → b ≡ passes f (slice_get xs j)) → o ≡ first_place (at_each xs f)
 each_item xs f h e k = plain_first (length xs) (λ j. passes f (slice_get xs j)) h e k
 
 pub each_before : {A : Type 0} (xs : List A) (f : A → Bool) {Says : ℕ → Bool → Type 0} {n : ℕ} {o : Option ℕ} → FirstBy Says n o → n ≤ length xs
-    → ((j : ℕ) (b : Bool) → j < n → Says j b → b ≡ passes f (slice_get xs j)) → o ≡ first_place (each_of (take n xs) f)
+    → ((j : ℕ) (b : Bool) → j < n → Says j b → b ≡ passes f (slice_get xs j)) → o ≡ first_place (at_each (take n xs) f)
 each_before xs f {Says} {n} h le k =
     plain_first (length (take n xs)) (λ j. passes f (slice_get (take n xs) j)) h (taken n xs le) (λ j b lt s. k j b lt s ∙ ap (passes f) (sym (slice_get-take xs n j lt)))
 

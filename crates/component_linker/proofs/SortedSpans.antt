@@ -1,5 +1,5 @@
 -- The spans of regions that lie apart, in ascending order, are spans as a machine is made of.
-use Rattle.std.proofs.Common.{◌≡◌, ◌⊎◌, ℕ, zero, suc, ◌+◌, ◌<◌, ◌≤◌, Bool, true, false, List, [], ◌∷◌, ◌++◌, length, map, take, get_or, Some, None, refl, pos, sym, ap, subst, ◌∙◌, arith, inl, inr, le-leb}
+use Rattle.std.proofs.Common.{◌≡◌, ℕ, zero, suc, ◌+◌, ◌<◌, ◌≤◌, Bool, true, false, List, [], ◌∷◌, ◌++◌, length, map, take, get_or, Some, None, refl, pos, sym, ap, subst, ◌∙◌, arith, inl, inr, le-leb}
 use Rattle.std.specs.Prelude.{nat_le, ◌&&◌, ◌||◌, slice_get, if◌then◌else◌}
 use Rattle.std.specs.Option.{option_or}
 use Rattle.std.specs.List.{All, AllPairs, Contains, IsDistinct, flat_map, list_any}

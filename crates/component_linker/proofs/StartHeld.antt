@@ -1,20 +1,18 @@
 -- The capabilities of a start: where they stand, that each lies in one region, and that no linear address is held twice.
-use Rattle.std.proofs.Common.{◌≡◌, ◌≢◌, ◌⊎◌, ℕ, zero, suc, ◌+◌, ◌-◌, ◌<◌, ◌≤◌, Bool, true, false, List, [], ◌∷◌, ◌++◌, length, Option, Some, None, refl, sym, ap, subst, ◌∙◌, arith, inl, inr, pos, ltb-true, lt-ltb}
+use Rattle.std.proofs.Common.{◌≡◌, ◌⊎◌, ℕ, zero, suc, ◌+◌, ◌-◌, ◌<◌, ◌≤◌, Bool, true, false, List, [], ◌∷◌, ◌++◌, length, Option, Some, None, refl, sym, ap, subst, ◌∙◌, arith, inl, inr, pos, lt-ltb}
 use Rattle.std.specs.Prelude.{slice_get, IsTrue, nat_lt, ◌==◌, option_map, if◌then◌else◌}
-use Rattle.std.specs.List.{Contains, AllPairs}
+use Rattle.std.specs.List.{Contains}
 use Rattle.std.specs.Option.{option_or}
 use Rattle.std.proofs.lemmas.Bool.{cases_order, false≢true}
 use Rattle.std.proofs.lemmas.Bool.Decides.{nat_tests}
 use Rattle.std.proofs.lemmas.Option.{slice_get_within}
 use Rattle.cap_words.specs.declared.Word.{Word}
 use Rattle.cap_words.specs.declared.Word.TheVariants.{Int, Mem, Seal, Sealed}
-use Rattle.cap_words.specs.declared.Sealable.TheVariants.{Mem as MemIn, Seal as SealIn}
 use Rattle.cap_words.specs.declared.CapFields.{CapFields}
-use Rattle.cap_words.specs.Faces.{covers}
 use Rattle.cap_words.specs.Linear.{lin_is}
 use Rattle.cap_words.specs.WordBytes.{WordFits, IsUnsealed}
 use Rattle.component_file.specs.declared.component.Import.{Import}
-use Rattle.component_file.specs.Limits.{Chain, Each}
+use Rattle.component_file.specs.Limits.{Chain}
 use Rattle.lcm_isa.specs.declared.Reg.{Reg}
 use Rattle.lcm_isa.specs.declared.Reg.TheVariants.{Pc, Rcode, Rdata, Stk, Dat, T1, T2, C1, C2, A0, A1, A2, A3, G0, G1, G2}
 use Rattle.lcm_machine.specs.declared.Place.{Place}
@@ -23,13 +21,13 @@ use Rattle.lcm_machine.specs.Maps.{Regs, State}
 use Rattle.lcm_machine.specs.Places.{reg}
 use Rattle.lcm_machine.specs.Cells.{cell}
 use Rattle.lcm_machine.specs.Row.{word_at}
-use Rattle.lcm_machine.specs.Regions.{Region, AreApart, IsLinearAt, InOneRegion, memory_of, is_over, word_over, Fits, CoveredOnce, HeldOnce}
+use Rattle.lcm_machine.specs.Regions.{Region, IsLinearAt, InOneRegion, memory_of, is_over, word_over, Fits, CoveredOnce, HeldOnce}
 use Rattle.lcm_machine.proofs.RegionLemmas.{normal_apart, over_bounds}
 use Rattle.component_linker.specs.Parts.{PartSeen}
-use Rattle.component_linker.specs.Regions.{Apart, part_regions, regions_of, region, stack_span, in_regions, is_stack_size}
+use Rattle.component_linker.specs.Regions.{Apart, part_regions, regions_of, region, stack_span, in_regions}
 use Rattle.component_linker.specs.Start.{first_given, Exported, imported, main_of, code_of, data_of, code_half, data_half, stack_of, slot_word, data_word, from, part_word, start_cell, start_regs, stack_base_of}
 use Rattle.component_linker.specs.Linked.{HasRange, IsOwn, Kept, AreClosed, Linked}
-use Rattle.component_linker.proofs.Found.{Given, given, imported_of, main_there}
+use Rattle.component_linker.proofs.Found.{given, imported_of, main_there}
 use Rattle.component_linker.proofs.RegionFacts.{whole, code_in, data_in, linear_in, stack_in, part_region_of, stack_region_of, apart_parts, apart_stack, apart_all, size_bounds}
 use Rattle.component_linker.proofs.PartWords.{from_inv}
 

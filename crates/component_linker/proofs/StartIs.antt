@@ -1,23 +1,18 @@
 -- The machine of a start, once its registers are set.
-use Rattle.std.proofs.Common.{◌≡◌, ℕ, ◌+◌, ◌-◌, List, Some, None, refl, sym, ap, subst, ◌∙◌}
-use Rattle.std.specs.Prelude.{slice_get}
+use Rattle.std.proofs.Common.{◌≡◌, ℕ, ◌+◌, ◌-◌, List, Some, None, ap, ◌∙◌}
 use Rattle.cap_words.specs.declared.Word.{Word}
-use Rattle.cap_words.specs.declared.Word.TheVariants.{Mem}
-use Rattle.lcm_isa.specs.declared.Reg.TheVariants.{Pc, Dat, Stk}
-use Rattle.lcm_machine.specs.declared.Place.TheVariants.{R}
 use Rattle.lcm_machine.specs.declared.cells.Span.{Span}
 use Rattle.lcm_machine.specs.Cells.{cell}
 use Rattle.lcm_machine.specs.Maps.{Regs, State}
-use Rattle.lcm_machine.specs.Row.{put}
 use Rattle.lcm_machine.specs.Spans.{zero_regs}
 use Rattle.lcm_machine.specs.Run.{Run}
 use Rattle.lcm_machine.specs.Regions.{HeldOnce}
 use Rattle.component_linker.specs.Parts.{PartSeen}
 use Rattle.component_linker.specs.Regions.{regions_of}
-use Rattle.component_linker.specs.Start.{Exported, main_of, code_of, data_of, stack_cap, start_cell, start_regs, stack_base_of, registered, IsStart}
+use Rattle.component_linker.specs.Start.{Exported, main_of, start_cell, start_regs, stack_base_of, registered, IsStart}
 use Rattle.component_linker.specs.Linked.{Kept, AreClosed, Linked}
 use Rattle.component_linker.proofs.Found.{main_there}
-use Rattle.component_linker.proofs.StartHeld.{StartMaps, held_once}
+use Rattle.component_linker.proofs.StartHeld.{held_once}
 
 pub main_kept : (parts : List PartSeen) (main : Exported) → AreClosed parts → main_of parts ≡ Some main → Kept main.part
 main_kept parts main closed is = let k = main_there parts main is in closed.kept k.0 main.part k.1

@@ -7,13 +7,16 @@ use Rattle.component_linker.specs.Parts.{PartSeen, placed}
 use Rattle.component_linker.specs.Regions.{regions_of}
 use Rattle.component_linker.specs.Pairs.{IsFirstIn, NoneIsBroken}
 use Rattle.component_linker.specs.Links.{rules_l, rule_at}
+use Rattle.component_linker.specs.SealsApart.{PartsApart, SitesApart}
 use Rattle.component_linker.specs.Started.{StartSeen, Starts}
 
--- of parts as they stand: no rule L is broken, and this is their start. Its regions lie apart, and no address of
--- a linear one is held twice
+-- of parts as they stand: no rule L is broken, and this is their start. Its regions lie apart, and no
+-- address of a linear one is held twice
 pub record LinksTo (parts : List PartSeen) (size : ℕ) (s : StartSeen) : Type 0 where
   pub rules : NoneIsBroken (rules_l parts size)
   pub starts : Starts parts size s
+  pub parts_apart : PartsApart parts
+  pub sites_apart : SitesApart parts s.sites
   pub regions : AreApart (regions_of parts size)
   pub held_once : HeldOnce (λ w. w) (regions_of parts size) s.state.maps
 

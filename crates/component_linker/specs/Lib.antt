@@ -8,6 +8,7 @@ pub mod Laying
 pub mod Owners
 pub mod Listing
 pub mod Started
+pub mod SealsApart
 pub mod Lending
 pub mod Answer
 pub mod FaultText

@@ -13,7 +13,7 @@ use Rattle.component_linker.specs.declared.fault.RuleAt.{RuleAt}
 use Rattle.component_linker.specs.Parts.{PartSeen}
 use Rattle.component_linker.specs.Regions.{code_span, data_span, linear_span, stack_span, is_stack_size}
 use Rattle.component_linker.specs.Start.{Exported, same_name, imported, is_main, stack_base_of}
-use Rattle.component_linker.specs.Pairs.{PairTest, never, once, each_of, each_part, each_part_then}
+use Rattle.component_linker.specs.Pairs.{PairTest, never, once, at_each, each_part, each_part_then}
 
 -- ---- L1: regions don't overlap, nor touch
 
@@ -36,7 +36,7 @@ near_before parts own s = list_any (near_part s) parts || list_any (near s) own
 
 unfoldable pub l1 : List PartSeen → ℕ → PairTest
 l1 parts size = each_part_then parts
-    (λ i p. plainly 3 (λ k. near_before (take i parts) (take k (part_spans p)) (slice_index_or (part_spans p) k None)))
+    (λ i p. let own = part_spans p in plainly 3 (λ k. near_before (take i parts) (take k own) (slice_index_or own k None)))
     (once (near_before parts [] (stack_span parts size)) 0)
 
 -- ---- L2: no seal is a closure seal or a return seal of two parts
@@ -45,20 +45,21 @@ abbrev pub share_seals : PartSeen → PartSeen → Bool
 share_seals p q =
     let c = p.component in
     let d = q.component in
-    (c.closure == d.closure) || has_seal c.seals d.closure || has_seal d.seals c.closure || not (are_disjoint c.seals d.seals)
+    (c.closure == d.closure) || has_seal c.seals d.closure || has_seal d.seals c.closure
+    || not (are_disjoint c.seals d.seals)
 
 unfoldable pub l2 : List PartSeen → PairTest
-l2 parts = each_part parts (λ i p. each_of (take i parts) (share_seals p))
+l2 parts = each_part parts (λ i p. at_each (take i parts) (share_seals p))
 
 -- ---- L3: no two parts have one name
 
 unfoldable pub l3 : List PartSeen → PairTest
-l3 parts = each_part parts (λ i p. each_of (take i parts) (λ q. same_name p.component.name q.component.name))
+l3 parts = each_part parts (λ i p. at_each (take i parts) (λ q. same_name p.component.name q.component.name))
 
 -- ---- L4: what an import names is there
 
 unfoldable pub l4 : List PartSeen → PairTest
-l4 parts = each_part parts (λ i p. each_of p.component.imports (λ x. is_none (imported parts x)))
+l4 parts = each_part parts (λ i p. at_each p.component.imports (λ x. is_none (imported parts x)))
 
 -- ---- L5: and may be imported: it is shared, or the importing part's own
 
@@ -67,7 +68,7 @@ is_private p None = false
 is_private p (Some x) = not (x.export.shared || same_name x.part.component.name p.component.name)
 
 unfoldable pub l5 : List PartSeen → PairTest
-l5 parts = each_part parts (λ i p. each_of p.component.imports (λ x. is_private p (imported parts x)))
+l5 parts = each_part parts (λ i p. at_each p.component.imports (λ x. is_private p (imported parts x)))
 
 -- ---- L6: exactly one part has a shared export main
 
@@ -76,13 +77,13 @@ has_main p = list_any is_main p.component.exports
 
 unfoldable pub l6 : List PartSeen → PairTest
 l6 parts = each_part_then parts
-    (λ i p. each_of p.component.exports (λ e. is_main e && list_any has_main (take i parts)))
+    (λ i p. at_each p.component.exports (λ e. is_main e && list_any has_main (take i parts)))
     (once (not (list_any has_main parts)) 0)
 
 -- ---- L7: the stack bases are equal
 
 unfoldable pub l7 : List PartSeen → PairTest
-l7 parts = each_part parts (λ i p. once (not (p.component.stack_base == stack_base_of parts)) p.component.stack_base)
+l7 parts = each_part parts (λ i p. let base = p.component.stack_base in once (not (base == stack_base_of parts)) base)
 
 -- ---- L8: the stack has 2 to 65,536 words, and ends at or below 1,048,575
 
@@ -111,7 +112,8 @@ l9 parts = each_part parts (λ i p. once
 
 abbrev pub rules_l : List PartSeen → ℕ → List PairTest
 rules_l parts size =
-    l1 parts size ∷ l2 parts ∷ l3 parts ∷ l4 parts ∷ l5 parts ∷ l6 parts ∷ l7 parts ∷ l8 parts size ∷ l9 parts ∷ []
+    l1 parts size ∷ l2 parts ∷ l3 parts ∷ l4 parts ∷ l5 parts ∷ l6 parts ∷ l7 parts ∷ l8 parts size
+    ∷ l9 parts ∷ []
 
 -- rule number n is broken at a place in a part
 abbrev pub rule_at : ℕ → PartPlace → RuleAt

@@ -7,11 +7,11 @@ use Rattle.component_linker.specs.Parts.{PartSeen}
 use Rattle.component_linker.specs.Owners.{IsSite, IsOwner}
 
 -- those of the parts before one, and the first of its own
-abbrev pub IsBefore : ℕ → ℕ → Site → Type 0
-IsBefore i j s = (s.part < i) ⊎ ((s.part ≡ i) × (s.index < j))
+abbrev pub ComesBefore : ℕ → ℕ → Site → Type 0
+ComesBefore i j s = (s.part < i) ⊎ ((s.part ≡ i) × (s.index < j))
 
 pub record SitesUpto (parts : List PartSeen) (i j : ℕ) (sites : List Site) : Type 0 where
-  pub all : (s : Site) → Contains sites s ↔ (IsSite parts s × IsBefore i j s)
+  pub all : (s : Site) → Contains sites s ↔ (IsSite parts s × ComesBefore i j s)
   pub differ : AllPairs (λ s t. s.at ≢ t.at) sites
 
 pub record OwnersUpto (parts : List PartSeen) (i : ℕ) (owners : List Owner) : Type 0 where

@@ -1,8 +1,6 @@
 -- The sites of a start, and who owns which code.
-use Rattle.std.specs.Prelude.{◌≡◌, ◌↔◌, ℕ, ◌+◌, ◌-◌, ◌<◌, true, List, map, length, slice_get, Some}
+use Rattle.std.specs.Prelude.{◌≡◌, ◌↔◌, ℕ, ◌+◌, ◌<◌, true, List, map, length, slice_get, Some}
 use Rattle.std.specs.List.{AllPairs, Contains}
-use Rattle.lcm_machine.specs.declared.cells.Span.{Span}
-use Rattle.lcm_machine.specs.Run.{Run}
 use Rattle.component_file.specs.declared.component.ComponentFields.{ComponentFields}
 use Rattle.component_file.specs.declared.component.Export.{Export}
 use Rattle.component_linker.specs.declared.owners.Site.{Site}

@@ -15,28 +15,30 @@ abbrev pub BrokenIn : PairTest → ℕ → ℕ → Type 0
 BrokenIn t part index = (part < t.parts) × BrokenAt (t.within part) index
 
 -- rule number n of a list, counted from 1
-abbrev pub numbered : List PairTest → ℕ → Option PairTest
-numbered rules zero = None
-numbered rules (suc n) = slice_get rules n
+abbrev pub rule_of : List PairTest → ℕ → Option PairTest
+rule_of rules zero = None
+rule_of rules (suc n) = slice_get rules n
 
 -- an earlier rule, or the same in an earlier part, or in the same part at a smaller index
 abbrev pub IsBeforeIn : ℕ → ℕ → ℕ → ℕ → ℕ → ℕ → Type 0
 IsBeforeIn n p i m q j = (n < m) ⊎ ((n ≡ m) × IsBefore p i q j)
 
 -- what is reported: a rule is broken there, and no rule before it, nor it itself before
-pub record IsFirstIn {E : Type 0} (told : ℕ → PartPlace → E) (rules : List PairTest) (report : E) : Type 0 where
+pub record IsFirstIn {E : Type 0} (told : ℕ → PartPlace → E) (rules : List PairTest) (report : E) :
+    Type 0 where
   pub number : ℕ
   pub test : PairTest
-  pub is : numbered rules number ≡ Some test
+  pub is : rule_of rules number ≡ Some test
   pub part : ℕ
   pub index : ℕ
   pub reported : report ≡ told number (record { part = part; place = (test.within part).place index })
   pub broken : BrokenIn test part index
-  pub first : (n p i : ℕ) (t : PairTest) → numbered rules n ≡ Some t → IsBeforeIn n p i number part index → BrokenIn t p i → ⊥
+  pub first : (n p i : ℕ) (t : PairTest) → rule_of rules n ≡ Some t → IsBeforeIn n p i number part index
+      → BrokenIn t p i → ⊥
 
 -- no rule is broken in any part at any place
 abbrev pub NoneIsBroken : List PairTest → Type 0
-NoneIsBroken rules = (n p i : ℕ) (t : PairTest) → numbered rules n ≡ Some t → BrokenIn t p i → ⊥
+NoneIsBroken rules = (n p i : ℕ) (t : PairTest) → rule_of rules n ≡ Some t → BrokenIn t p i → ⊥
 
 -- what a checker answers: that no rule is broken, or the first that is
 abbrev pub IsFirstBrokenIn : {E : Type 0} → (ℕ → PartPlace → E) → List PairTest → Result (Unit {0}) E → Type 0
@@ -58,7 +60,8 @@ first_in t = first_place (by_part t)
 -- what a search over the parts finds, where Says p o is that o is the answer in part p
 abbrev pub InFoundBy : (ℕ → Option ℕ → Type 0) → ℕ → Option PartPlace → Type 0
 InFoundBy Says count None = (p : ℕ) → p < count → Says p None
-InFoundBy Says count (Some at) = (at.part < count) × Says at.part (Some at.place) × ((p : ℕ) → p < at.part → Says p None)
+InFoundBy Says count (Some at) =
+    (at.part < count) × Says at.part (Some at.place) × ((p : ℕ) → p < at.part → Says p None)
 
 pub record FirstInBy (Says : ℕ → Option ℕ → Type 0) (count : ℕ) (found_at : Option PartPlace) : Type 0 where
   pub found : InFoundBy Says count found_at
@@ -78,8 +81,8 @@ abbrev pub passes : {A : Type 0} → (A → Bool) → Option A → Bool
 passes test None = false
 passes test (Some x) = test x
 
-abbrev pub each_of : {A : Type 0} → List A → (A → Bool) → Test ℕ
-each_of items broken = plainly (length items) (λ i. passes broken (slice_get items i))
+abbrev pub at_each : {A : Type 0} → List A → (A → Bool) → Test ℕ
+at_each items broken = plainly (length items) (λ i. passes broken (slice_get items i))
 
 -- within a part what is said of its index and of it, and behind the last part what is said of all
 abbrev pub within_or : {A : Type 0} → (ℕ → A → Test ℕ) → Test ℕ → ℕ → Option A → Test ℕ
@@ -87,7 +90,9 @@ within_or test all p None = all
 within_or test all p (Some x) = test p x
 
 abbrev pub each_part : {A : Type 0} → List A → (ℕ → A → Test ℕ) → PairTest
-each_part parts test = record { parts = length parts; within = λ p. within_or test never p (slice_get parts p) }
+each_part parts test =
+    record { parts = length parts; within = λ p. within_or test never p (slice_get parts p) }
 
 abbrev pub each_part_then : {A : Type 0} → List A → (ℕ → A → Test ℕ) → Test ℕ → PairTest
-each_part_then parts test all = record { parts = length parts + 1; within = λ p. within_or test all p (slice_get parts p) }
+each_part_then parts test all =
+    record { parts = length parts + 1; within = λ p. within_or test all p (slice_get parts p) }

@@ -23,7 +23,8 @@ pub record IsPart (p : PartSeen) : Type 0 where
   pub limits : IsComponent p.component
   pub rules : IsFirstBroken (broken_at C) (rules_of p) (Ok tt)
   -- a trusted part's sites lie within its code, which is for the rules of its flow to see to
-  pub sites : p.trusted ≡ true → (k o : ℕ) → slice_get p.component.sites k ≡ Some o → o < length p.component.code
+  pub sites : p.trusted ≡ true → (k o : ℕ) → slice_get p.component.sites k ≡ Some o
+      → o < length p.component.code
 
 -- the answer is the part, exactly where it breaks no rule, or the first rule that it breaks
 abbrev pub Accepts : PartSeen → Result PartSeen Broken → Type 0

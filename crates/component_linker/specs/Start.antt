@@ -1,5 +1,6 @@
 -- What parts start with: the word of each register and of each address.
-use Rattle.std.specs.Prelude.{◌≡◌, ℕ, ◌+◌, ◌-◌, ◌==◌, nat_le, nat_eq, ◌&&◌, Bool, pos, List, [], ◌∷◌, length, find, slice_get, Option, Some, None, option_map, option_and_then, if◌then◌else◌, codes}
+use Rattle.std.specs.Prelude.{◌≡◌, ℕ, ◌+◌, ◌-◌, ◌==◌, nat_le, nat_eq, ◌&&◌, Bool, pos, List, [], ◌∷◌, length, find, slice_get, Option, Some, None, option_map, option_and_then, if◌then◌else◌, codes, IsTrue}
+use Rattle.std.specs.List.{AllPairs}
 use Rattle.std.specs.Option.{option_or}
 use Rattle.std.specs.Cmp.Lexicographic.{pointwise}
 use Rattle.cap_words.specs.declared.Word.{Word}
@@ -11,6 +12,7 @@ use Rattle.cap_words.specs.declared.CapFields.{CapFields}
 use Rattle.component_file.specs.declared.component.ComponentFields.{ComponentFields}
 use Rattle.component_file.specs.declared.component.Import.{Import}
 use Rattle.component_file.specs.declared.component.Export.{Export}
+use Rattle.component_file.specs.Limits.{name_lt}
 use Rattle.lcm_machine.specs.declared.cells.Span.{Span}
 use Rattle.lcm_isa.specs.declared.Reg.TheVariants.{Pc, Dat, Stk}
 use Rattle.lcm_machine.specs.declared.Place.TheVariants.{R}
@@ -43,6 +45,10 @@ exported_by p e = record { part = p; export = e }
 -- the first export of a part that passes a test
 abbrev pub export_that : (Export → Bool) → PartSeen → Option Exported
 export_that test p = option_map (exported_by p) (find test p.component.exports)
+
+-- each export's name is below those after it
+abbrev pub Ascend : List Export → Type 0
+Ascend exports = AllPairs (λ a b. IsTrue (name_lt a.name b.name)) exports
 
 abbrev pub part_named : List PartSeen → List ℕ → Option PartSeen
 part_named parts name = find (λ p. same_name p.component.name name) parts

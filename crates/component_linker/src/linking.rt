@@ -1,9 +1,11 @@
 //! Linking.
-ghost use Rattle.std.specs.Prelude.{◌≡◌, ◌<◌, ◌^◌, length, map, Ok, OnOk};
+ghost use Rattle.std.specs.Prelude.{◌≡◌, ◌<◌, ◌^◌, ℕ, length, map, slice_get, Some, Ok, OnOk};
 ghost use Rattle.component_check.specs.Verdict.{check_from, kept_or};
 ghost use Rattle.component_linker.specs.Pairs.{by_part, IsFirstBrokenIn};
 ghost use Rattle.component_linker.specs.Links.{rules_l, rule_at};
+ghost use Rattle.component_linker.specs.Parts.{PartSeen, IsPart};
 ghost use Rattle.component_linker.specs.Linked.{Linked};
+ghost use Rattle.component_linker.specs.SealsApart.{PartsApart};
 ghost use Rattle.component_linker.specs.Answer.{Answers};
 
 use crate::fault::{LinkFault, RuleAt};
@@ -54,6 +56,8 @@ fn try_rules(parts: &PlacedParts, stack: u32) -> Result<(), RuleAt>
 fn check_links(parts: &PlacedParts, stack: u32) -> Result<(), RuleAt>
     ensures first { IsFirstBrokenIn rule_at (rules_l parts.now stack) result }
     ensures linked { OnOk result (Linked parts.now stack) }
+    ensures apart { OnOk result (PartsApart parts.now) }
+    ensures kept { (k : ℕ) (p : PartSeen) → slice_get parts.now k ≡ Some p → IsPart p }
 {
     parts.are_kept();
     try_rules(parts, stack)
@@ -66,8 +70,9 @@ fn check_links(parts: &PlacedParts, stack: u32) -> Result<(), RuleAt>
 /// one shared export `main`, unsealed; stk is the linear capability over the whole stack, at its
 /// end; all others are integer 0. docs/RULES.md has the rules that are asked for first, L1 to L9.
 ///
-/// No address of a linear area or of the stack is held twice at the start, and what
-/// [`lcm_machine::LcmState::run`] ensures keeps it so in every state that runs reach.
+/// No seal is of two parts, and none is of two sites. No address of a linear area or of the stack is
+/// held twice at the start, and what [`lcm_machine::LcmState::run`] ensures keeps it so in every
+/// state that runs reach.
 ///
 /// # Errors
 ///

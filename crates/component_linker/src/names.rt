@@ -1,7 +1,7 @@
 //! Who is meant by names.
 ghost use Rattle.std.specs.Prelude.{◌≡◌, ◌<◌, option_map, find};
 ghost use Rattle.std.specs.Option.{option_copied};
-ghost use Rattle.component_linker.specs.Start.{same_name, exported_by, part_named, imported, is_main, main_of};
+ghost use Rattle.component_linker.specs.Start.{same_name, Ascend, exported_by, part_named, imported, is_main, main_of};
 
 use crate::placed::{Placed, PlacedParts};
 use component_file::{Export, Import};
@@ -40,11 +40,15 @@ pub(crate) fn part_named<'a>(parts: &PlacedParts<'a>, name: &[u8]) -> Option<Pla
     None
 }
 
-/// The first export of a name.
-pub(crate) fn export_named<'a>(exports: &'a [Export], name: &[u8]) -> Option<&'a Export>
+// The export of a name. Exports stand in the order of their names, so it is found by halving.
+fn export_named<'a>(exports: &'a [Export], name: &[u8]) -> Option<&'a Export>
+    requires { Ascend exports.now }
     ensures { option_copied result ≡ find (λ e. same_name e.name name.now) exports.now }
 {
-    exports.iter().find(|export| export.name.as_slice() == name)
+    match exports.binary_search_by(|export| export.name.as_slice().cmp(name)) {
+        Ok(place) => Some(&exports[place]),
+        Err(_) => None,
+    }
 }
 
 // The export of a part, where it is one.

@@ -2,7 +2,7 @@
 ghost use Rattle.std.specs.Prelude.{◌≡◌, ◌+◌, ◌<◌, ◌≤◌, ◌^◌, ℕ, length, slice_get, Some};
 ghost use Rattle.component_linker.specs.Parts.{PartSeen, IsPart, placed};
 ghost use Rattle.component_linker.specs.Regions.{span_of, is_stack_size, stack_span};
-ghost use Rattle.component_linker.specs.Start.{stack_base_of};
+ghost use Rattle.component_linker.specs.Start.{Ascend, stack_base_of};
 ghost use Rattle.component_linker.specs.Links.{part_spans, trusted_sites};
 
 use crate::part::Part;
@@ -284,6 +284,7 @@ impl<'a> Placed<'a> {
     /// What it lets others call.
     pub(crate) fn exports(&self) -> &'a [Export]
         ensures is { result.now ≡ self.now.component.exports }
+        ensures ascend { Ascend result.now }
         ensures few { length result.now ≤ MOST_EXPORTS }
     {
         self.fields.exports.as_slice()

@@ -1,6 +1,6 @@
 use Rattle.std.proofs.Common.{rules}
 use Rattle.component_linker.specs.Start.{imported}
-use Rattle.component_linker.specs.Pairs.{never, each_of}
+use Rattle.component_linker.specs.Pairs.{never, at_each}
 use Rattle.component_linker.specs.Links.{l5, is_private}
 use Rattle.component_linker.proofs.RuleLemmas.{told_in, each_item}
 use Rattle.component_linker.proofs.imports.l5_within.Goals as goal
@@ -10,5 +10,5 @@ unfolding l5
 returns c =
     let parts = c.args.parts.now in
     let part = c.part-part.result in
-    told_in (λ i p. each_of p.component.imports (λ x. is_private p (imported parts x))) never parts c.args.i part c.part-part.ensures
+    told_in (λ i p. at_each p.component.imports (λ x. is_private p (imported parts x))) never parts c.args.i part c.part-part.ensures
     (each_item part.component.imports (λ x. is_private part (imported parts x)) c.first_place.ensures.first (search rules) (λ j b lt h. search rules))

@@ -1,5 +1,5 @@
 -- Data, slots and code are there, and laid over one another they are the part's words.
-use Rattle.std.proofs.Common.{◌≡◌, ◌+◌, ◌<◌, ◌≤◌, ℕ, length, sym, ap, subst, ◌∙◌, arith}
+use Rattle.std.proofs.Common.{length, ap, arith}
 use Rattle.std.specs.Prelude.{IsSome, slice_get}
 use Rattle.lcm_machine.specs.Cells.{cell}
 use Rattle.component_linker.specs.Start.{from, first_given, slot_word, part_word}

@@ -1,5 +1,5 @@
 -- A turn lays one part more.
-use Rattle.std.proofs.Common.{◌≡◌, ◌∙◌, length, arith}
+use Rattle.std.proofs.Common.{◌≡◌, ◌∙◌, arith}
 use Rattle.component_linker.proofs.Laid.{still_there}
 use Rattle.component_linker.proofs.PartWords.{parts_upto}
 use Rattle.component_linker.proofs.LaySteps.{parts_laid, parts_end}

@@ -1,5 +1,5 @@
 -- Each import names an entry of a part; its two words come behind those of the imports before.
-use Rattle.std.proofs.Common.{◌≡◌, ◌+◌, ◌<◌, ◌≤◌, length, sym, ap, subst, ◌∙◌, arith}
+use Rattle.std.proofs.Common.{◌≡◌, ◌+◌, length, sym, ap, ◌∙◌, arith}
 use Rattle.component_linker.specs.Start.{from}
 use Rattle.component_linker.proofs.Laid.{still_there}
 use Rattle.component_linker.proofs.PartWords.{slots_upto}

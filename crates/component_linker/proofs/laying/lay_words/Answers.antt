@@ -1,10 +1,10 @@
 -- A turn lays one word more.
-use Rattle.std.proofs.Common.{◌≡◌, ◌≤◌, ◌+◌, length, ap, ◌∙◌, sym, subst, arith}
+use Rattle.std.proofs.Common.{◌≡◌, ◌+◌, length, ap, ◌∙◌, sym, arith}
 use Rattle.std.specs.Prelude.{slice_get, None, Some}
 use Rattle.std.specs.Option.{option_or}
 use Rattle.lcm_machine.specs.declared.Place.TheVariants.{Cell}
 use Rattle.lcm_machine.specs.Row.{put}
-use Rattle.component_linker.specs.Laying.{Lays, single}
+use Rattle.component_linker.specs.Laying.{single}
 use Rattle.component_linker.specs.Start.{from}
 use Rattle.component_linker.proofs.Laid.{lays_none, lays_as, lays_then, lays_put, still_there, upto, upto_none, upto_more, upto_all}
 use Rattle.component_linker.proofs.laying.lay_words.Goals as goal

@@ -1,5 +1,4 @@
 -- The words so far are laid.
-use Rattle.std.proofs.Common.{◌≡◌}
 use Rattle.std.specs.Prelude.{slice_get}
 use Rattle.component_linker.specs.Start.{from}
 use Rattle.component_linker.specs.Laying.{Lays}

@@ -1,6 +1,7 @@
-use Rattle.std.proofs.Common.{List, ℕ, subst}
+use Rattle.std.proofs.Common.{List, subst}
 use Rattle.component_linker.specs.Parts.{PartSeen}
 use Rattle.component_linker.specs.Answer.{LinksTo}
+use Rattle.component_linker.proofs.SealsKept.{sites_apart}
 use Rattle.component_linker.proofs.linking.link.Goals as goal
 
 pub returns : goal.returns
@@ -10,6 +11,8 @@ returns c =
     subst P c.of-placed.ensures (record {
       rules = c.in_ok-check_links.ensures.first;
       starts = c.in_ok-start_of.ensures.starts;
+      parts_apart = c.in_ok-check_links.ensures.apart;
+      sites_apart = sites_apart _ s.sites c.in_ok-check_links.ensures.kept c.in_ok-check_links.ensures.apart c.in_ok-start_of.ensures.starts.sites;
       regions = c.start_of.ensures.regions;
       held_once = c.in_ok-start_of.ensures.held_once;
     })

@@ -1,9 +1,7 @@
 -- The machine is made of the regions' spans, and the words of the parts come over its zeros.
-use Rattle.std.proofs.Common.{◌≡◌, subst, sym, ap, refl, ◌∙◌, Some, None, pos}
+use Rattle.std.proofs.Common.{subst, sym, ap, refl, ◌∙◌, Some, None, pos}
 use Rattle.std.specs.Prelude.{IsSome, if◌then◌else◌}
-use Rattle.std.specs.List.Sorted.{IsPermutation, IsNonDecreasingBy}
 use Rattle.cap_words.specs.declared.Word.TheVariants.{Int}
-use Rattle.lcm_machine.specs.declared.cells.Span.{Span}
 use Rattle.lcm_machine.specs.Spans.{in_spans}
 use Rattle.component_linker.specs.Regions.{regions_of, in_regions}
 use Rattle.component_linker.proofs.PartWords.{separate}

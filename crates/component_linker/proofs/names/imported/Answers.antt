@@ -1,4 +1,4 @@
-use Rattle.std.proofs.Common.{sym, ap, ◌∙◌, subst, Some}
+use Rattle.std.proofs.Common.{sym, ap, ◌∙◌}
 use Rattle.std.specs.Prelude.{find}
 use Rattle.std.specs.Option.{option_copied}
 use Rattle.component_linker.specs.Start.{same_name, part_named}

@@ -1,5 +1,5 @@
 -- A part is asked for a shared main.
-use Rattle.std.proofs.Common.{sym, ap, ◌∙◌}
+use Rattle.std.proofs.Common.{◌∙◌}
 use Rattle.std.specs.Option.{option_copied}
 use Rattle.component_linker.specs.Start.{is_main, export_that}
 use Rattle.component_linker.proofs.Found.{exported_is, given_first, none_given}

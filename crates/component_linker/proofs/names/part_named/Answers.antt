@@ -1,5 +1,5 @@
 -- A part is asked for its name.
-use Rattle.std.proofs.Common.{◌≡◌, true, false, sym, ap, ◌∙◌}
+use Rattle.std.proofs.Common.{sym, ap, ◌∙◌}
 use Rattle.component_linker.specs.Start.{same_name}
 use Rattle.component_linker.proofs.Found.{found_here, not_here}
 use Rattle.component_linker.proofs.names.part_named.Goals as goal

@@ -1,5 +1,5 @@
 -- The name is none of the parts before.
-use Rattle.std.proofs.Common.{◌≡◌, find, drop}
+use Rattle.std.proofs.Common.{◌≡◌, drop}
 use Rattle.component_linker.specs.Start.{part_named}
 use Rattle.component_linker.proofs.names.part_named.Given as goal
 

@@ -1,10 +1,9 @@
 -- A site is listed behind those before it; where the part has no more, or isn't trusted, its sites are all listed.
-use Rattle.std.proofs.Common.{◌≡◌, ◌+◌, ◌<◌, ◌≤◌, true, get_or, length, refl, sym, ap, ◌∙◌, arith, None}
+use Rattle.std.proofs.Common.{◌+◌, get_or, length, refl, sym, ap, ◌∙◌, arith, None}
 use Rattle.std.specs.Prelude.{slice_get}
 use Rattle.std.proofs.lemmas.Option.{slice_get-get_or}
 use Rattle.component_linker.specs.declared.owners.Site.{Site}
 use Rattle.component_linker.specs.Owners.{IsSite}
-use Rattle.component_linker.specs.Listing.{SitesUpto}
 use Rattle.component_linker.proofs.ListedOwners.{next_site, untrusted_done, sites_done, site_fits}
 use Rattle.component_linker.proofs.owners.push_sites.Goals as goal
 

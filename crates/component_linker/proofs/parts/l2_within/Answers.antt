@@ -1,6 +1,6 @@
 use Rattle.std.proofs.Common.{rules}
 use Rattle.std.specs.Prelude.{take}
-use Rattle.component_linker.specs.Pairs.{never, each_of}
+use Rattle.component_linker.specs.Pairs.{never, at_each}
 use Rattle.component_linker.specs.Links.{share_seals, l2}
 use Rattle.component_linker.proofs.RuleLemmas.{told_in, each_before}
 use Rattle.component_linker.proofs.parts.l2_within.Goals as goal
@@ -10,5 +10,5 @@ unfolding l2
 returns c =
     let parts = c.args.parts.now in
     let part = c.part-part.result in
-    told_in (λ i p. each_of (take i parts) (share_seals p)) never parts c.args.i part c.part-part.ensures
+    told_in (λ i p. at_each (take i parts) (share_seals p)) never parts c.args.i part c.part-part.ensures
     (each_before parts (share_seals part) c.first_place.ensures.first (search rules) (λ j b lt h. search rules))

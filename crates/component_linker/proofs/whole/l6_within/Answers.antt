@@ -3,14 +3,14 @@ use Rattle.std.specs.Prelude.{◌&&◌, take}
 use Rattle.std.specs.List.{list_any}
 use Rattle.component_check.specs.Places.{Test, first_place}
 use Rattle.component_linker.specs.Start.{is_main}
-use Rattle.component_linker.specs.Pairs.{once, each_of}
+use Rattle.component_linker.specs.Pairs.{once, at_each}
 use Rattle.component_linker.specs.Parts.{PartSeen}
 use Rattle.component_linker.specs.Links.{l6, has_main}
 use Rattle.component_linker.proofs.RuleLemmas.{told_in, told_behind, each_item, take_whole}
 use Rattle.component_linker.proofs.whole.l6_within.Goals as goal
 
 abbrev second : List PartSeen → ℕ → PartSeen → Test ℕ
-second parts i p = each_of p.component.exports (λ e. is_main e && list_any has_main (take i parts))
+second parts i p = at_each p.component.exports (λ e. is_main e && list_any has_main (take i parts))
 
 pub returns-then-i-len : goal.returns-then-i-len
 unfolding l6
