@@ -1,0 +1,7 @@
+mod Digits
+mod Lines
+mod Pieces
+mod Cuts
+mod Texts
+mod Places
+mod Faults

@@ -1,0 +1,16 @@
+//! What holds of the tokens and faults of texts. These functions do nothing; their contracts are the
+//! laws.
+ghost use Rattle.std.specs.Prelude.{◌≡◌, ◌↔◌, List, ℕ, Ok, Err};
+ghost use Rattle.text_scan.specs.declared.token.Token.{Token};
+ghost use Rattle.text_scan.specs.declared.fault.ScanFault.{ScanFault};
+ghost use Rattle.text_scan.specs.Tokens.{scanned};
+ghost use Rattle.text_scan.specs.Grammar.{HasTokens, HasFault};
+
+/// A text is read as the tokens that it has by the grammar, or else as the fault that it has. So each
+/// text has one list of tokens or one fault, and no text has both.
+pub fn reading_keeps_the_grammar()
+    ensures tokens { (text : List ℕ) (tokens : List Token) →
+        HasTokens text tokens ↔ (scanned text ≡ Ok tokens) }
+    ensures fault { (text : List ℕ) (fault : ScanFault) →
+        HasFault text fault ↔ (scanned text ≡ Err fault) }
+{}
