@@ -20,7 +20,7 @@ use Rattle.lcm_machine.specs.Cells.{cell}
 use Rattle.lcm_machine.specs.Run.{Run}
 use Rattle.lcm_machine.specs.Spans.{AreSpans, in_span, in_spans, slot}
 use Rattle.component_linker.specs.Parts.{PartSeen}
-use Rattle.component_linker.specs.Regions.{Apart, part_regions, regions_of, region, region_span, stack_span, in_region, in_regions}
+use Rattle.component_linker.specs.Regions.{AreSpansOf, Apart, part_regions, regions_of, region, region_span, stack_span, in_region, in_regions}
 use Rattle.component_linker.specs.Start.{first_given, part_word, start_cell}
 use Rattle.component_linker.specs.Linked.{Linked, AreClosed}
 use Rattle.component_linker.proofs.RegionFacts.{IsWithin, all_within, part_region_of, in_regions_is}
@@ -114,6 +114,13 @@ are_spans parts size stack ss linked is moved up =
     let moved' : IsPermutation xs ss = subst (λ l. IsPermutation l ss) (spans_are parts size stack is) moved in
     ordered ss up (IsDistinct-IsPermutation near near_flips xs ss moved' (distinct (regions_of parts size) linked.apart))
     (All-permutation Fits xs ss moved' (fits_all (regions_of parts size) (λ r m. all_within parts size r linked m)))
+
+pub are_spans_of : (parts : List PartSeen) (size : ℕ) (stack : Span) (ss : List Span) → stack_span parts size ≡ Some stack
+    → IsPermutation (map region_span (flat_map part_regions parts) ++ stack ∷ []) ss → IsNonDecreasingBy (λ s. s.base) ss → AreSpansOf parts size ss
+are_spans_of parts size stack ss is moved up = record {
+  same = subst (λ l. IsPermutation l ss) (spans_are parts size stack is) moved;
+  ascend = up;
+}
 
 pub in_spans_is : (parts : List PartSeen) (size : ℕ) (stack : Span) (ss : List Span) → stack_span parts size ≡ Some stack
     → IsPermutation (map region_span (flat_map part_regions parts) ++ stack ∷ []) ss → (a : ℕ) → in_spans a ss ≡ in_regions a (regions_of parts size)

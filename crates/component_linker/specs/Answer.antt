@@ -10,8 +10,8 @@ use Rattle.component_linker.specs.Links.{rules_l, rule_at}
 use Rattle.component_linker.specs.SealsApart.{PartsApart, SitesApart}
 use Rattle.component_linker.specs.Started.{StartSeen, Starts}
 
--- of parts as they stand: no rule L is broken, and this is their start. Its regions lie apart, and no
--- address of a linear one is held twice
+-- of parts as they stand: no rule L is broken, and this is their start. No seal is of two parts or of two
+-- sites, regions lie apart, and no address of a linear one is held twice
 pub record LinksTo (parts : List PartSeen) (size : ℕ) (s : StartSeen) : Type 0 where
   pub rules : NoneIsBroken (rules_l parts size)
   pub starts : Starts parts size s

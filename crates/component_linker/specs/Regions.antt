@@ -1,6 +1,7 @@
 -- The regions of memory that parts and the stack take.
 use Rattle.std.specs.Prelude.{◌⊎◌, ℕ, ◌+◌, ◌-◌, ◌≤◌, ◌==◌, ◌&&◌, nat_le, Bool, true, false, List, [], ◌∷◌, ◌++◌, length, map, Option, Some, None, if◌then◌else◌}
 use Rattle.std.specs.List.{flat_map, list_any}
+use Rattle.std.specs.List.Sorted.{IsPermutation, IsNonDecreasingBy}
 use Rattle.cap_words.specs.declared.TheConstants.{LONGEST_STRETCH}
 use Rattle.lcm_machine.specs.declared.cells.Span.{Span}
 use Rattle.lcm_machine.specs.Regions.{Region}
@@ -65,3 +66,8 @@ region_span r = record { base = r.base; end = r.end }
 -- those of the regions of parts, and a stack's
 abbrev pub spans_with : List PartSeen → Span → List Span
 spans_with parts stack = map region_span (flat_map part_regions parts) ++ stack ∷ []
+
+-- these are the spans of all regions, ascending
+pub record AreSpansOf (parts : List PartSeen) (size : ℕ) (spans : List Span) : Type 0 where
+  pub same : IsPermutation (map region_span (regions_of parts size)) spans
+  pub ascend : IsNonDecreasingBy (λ s. s.base) spans

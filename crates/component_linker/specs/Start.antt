@@ -22,7 +22,7 @@ use Rattle.lcm_machine.specs.Cells.{cell}
 use Rattle.lcm_machine.specs.Spans.{zero_regs}
 use Rattle.lcm_machine.specs.Run.{Run}
 use Rattle.component_linker.specs.Parts.{PartSeen}
-use Rattle.component_linker.specs.Regions.{addresses, regions_of, in_regions}
+use Rattle.component_linker.specs.Regions.{addresses, regions_of, in_regions, AreSpansOf}
 
 -- what f gives of the first item of which it gives something
 abbrev pub first_given : {X Y : Type 0} → (X → Option Y) → List X → Option Y
@@ -163,5 +163,6 @@ pub record IsStart (parts : List PartSeen) (size : ℕ) (s : Run) : Type 0 where
   pub main_is : main_of parts ≡ Some main
   pub regs : s.maps.regs ≡ start_regs parts size main
   pub cells : (a : ℕ) → cell s.maps.cells a ≡ start_cell parts size a
+  pub spans : AreSpansOf parts size s.maps.spans
   pub count : s.count ≡ 0
   pub end : s.end ≡ None

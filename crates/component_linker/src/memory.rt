@@ -4,7 +4,7 @@ ghost use Rattle.std.specs.List.Sorted.{IsPermutation, IsNonDecreasingBy};
 ghost use Rattle.std.specs.Option.{option_to_list};
 ghost use Rattle.lcm_machine.specs.Cells.{cell};
 ghost use Rattle.lcm_machine.specs.Spans.{zero_regs};
-ghost use Rattle.component_linker.specs.Regions.{addresses, part_regions, region_span, spans_with, stack_span};
+ghost use Rattle.component_linker.specs.Regions.{addresses, part_regions, region_span, spans_with, stack_span, AreSpansOf};
 ghost use Rattle.component_linker.specs.Linked.{Linked};
 ghost use Rattle.component_linker.specs.Start.{start_cell, stack_base_of};
 
@@ -77,6 +77,7 @@ pub(crate) fn memory(
 ) -> Result<LcmState, AllocError>
     requires { Linked parts.now size }
     ensures cells { IfOk result (λ s. (a : ℕ) → cell s.maps.cells a ≡ start_cell parts.now size a) }
+    ensures spans { IfOk result (λ s. AreSpansOf parts.now size s.maps.spans) }
     ensures regs { IfOk result (λ s. s.maps.regs ≡ zero_regs (λ w. w)) }
     ensures fresh { IfOk result (λ s. (s.count ≡ 0) × (s.end ≡ None)) }
 {

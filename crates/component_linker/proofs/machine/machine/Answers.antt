@@ -17,7 +17,7 @@ returns-in_err-state-clause-regions c = apart_all (regions_of c.args.parts.now c
 pub returns-clause-start : goal.returns-clause-start
 returns-clause-start c =
     started c.args.parts.now c.args.size c.in-Some.main c.in_ok-state.state c.set_registers.new.state c.stack_of.result (sym c.main_of.ensures ∙ c.in-Some.is)
-    c.in_ok-state.ensures.cells c.in_ok-state.ensures.regs c.in_ok-state.ensures.fresh c.stack_of.ensures.ends
+    c.in_ok-state.ensures.cells c.in_ok-state.ensures.regs c.in_ok-state.ensures.spans c.in_ok-state.ensures.fresh c.stack_of.ensures.ends
     (c.set_registers.ensures ∙ ap (λ (s : Span). record c.in_ok-state.state { maps = registered c.in_ok-state.state.maps c.in-Some.main s }) (ap (λ (g : StackGrant). g.stack) c.of-grant.ensures))
 
 pub returns-clause-regions : goal.returns-clause-regions

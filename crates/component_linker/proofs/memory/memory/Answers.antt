@@ -1,11 +1,13 @@
 -- The machine is made of the regions' spans, and the words of the parts come over its zeros.
-use Rattle.std.proofs.Common.{subst, sym, ap, refl, ◌∙◌, Some, None, pos}
+use Rattle.std.proofs.Common.{List, subst, sym, ap, refl, ◌∙◌, Some, None, pos}
 use Rattle.std.specs.Prelude.{IsSome, if◌then◌else◌}
 use Rattle.cap_words.specs.declared.Word.TheVariants.{Int}
+use Rattle.lcm_machine.specs.declared.cells.Span.{Span}
 use Rattle.lcm_machine.specs.Spans.{in_spans}
-use Rattle.component_linker.specs.Regions.{regions_of, in_regions}
+use Rattle.lcm_machine.specs.Run.{Run}
+use Rattle.component_linker.specs.Regions.{regions_of, in_regions, AreSpansOf}
 use Rattle.component_linker.proofs.PartWords.{separate}
-use Rattle.component_linker.proofs.SortedSpans.{are_spans, in_spans_is, room, is_slot, cells_are}
+use Rattle.component_linker.proofs.SortedSpans.{are_spans, are_spans_of, in_spans_is, room, is_slot, cells_are}
 use Rattle.component_linker.proofs.memory.memory.Goals as goal
 
 pub make-requires : goal.make-requires
@@ -28,3 +30,9 @@ pub returns-clause-cells : goal.returns-clause-cells
 returns-clause-cells c a =
     let e = in_spans_is c.args.parts.now c.args.size c.stack_of.result c.in_ok-spans.spans.items c.stack_of.ensures.is c.in_ok-spans.ensures.same a in
     cells_are c.args.parts.now c.args.size a c.deref.result.now c.in_ok-state.state c.lay_parts.new.state (ap (λ ss. in_spans a ss) c.deref.ensures.value ∙ e) (c.in_ok-state.ensures.cells a) (c.lay_parts.ensures.cells a)
+
+pub returns-clause-spans : goal.returns-clause-spans
+returns-clause-spans c =
+    let P : List Span → Type 0 = λ ss. AreSpansOf c.args.parts.now c.args.size ss in
+    subst P (sym (ap (λ (r : Run). r.maps.spans) c.lay_parts.ensures.rest ∙ c.in_ok-state.ensures.spans ∙ c.deref.ensures.value))
+    (are_spans_of c.args.parts.now c.args.size c.stack_of.result c.in_ok-spans.spans.items c.stack_of.ensures.is c.in_ok-spans.ensures.same c.in_ok-spans.ensures.ascend)
