@@ -1,0 +1,132 @@
+-- The actions, each with its parts and options. An option that an action doesn't name is refused.
+use Rattle.std.specs.Prelude.{ℕ, List, [], ◌∷◌, Bool, true, false, ◌&&◌, ◌||◌, codes, Option, Some}
+use Rattle.std.specs.Prelude.{None, is_some, option_map, if◌then◌else◌}
+use Rattle.std.specs.List.{list_all, list_any}
+use Rattle.std.specs.Str.{bytes_eq}
+use Rattle.command_words.specs.Texts.{Text}
+use Rattle.command_words.specs.Line.{Taken, rows, taken_of}
+use Rattle.command_words.specs.Name.{file_of}
+use Rattle.command_words.specs.Number.{steps_in, size_in, seed_in}
+use Rattle.command_words.specs.Part.{◌>>=◌, some_parts_in, one_part_in, one_image_in}
+use Rattle.command_words.specs.declared.part.Mark.{Mark}
+use Rattle.command_words.specs.declared.part.Mark.TheVariants.{Trusted, Untrusted}
+use Rattle.command_words.specs.declared.part.Ending.{Ending}
+use Rattle.command_words.specs.declared.part.Ending.TheVariants.{Source, Assembler, Component}
+use Rattle.command_words.specs.declared.part.PartWord.{PartWord}
+use Rattle.command_words.specs.declared.command.Linked.{Linked}
+use Rattle.command_words.specs.declared.command.Linked.TheVariants.{Parts, Image}
+use Rattle.command_words.specs.declared.command.Command.{Command}
+use Rattle.command_words.specs.declared.command.Command.TheVariants.{Run, Trace, Assemble, Compile}
+use Rattle.command_words.specs.declared.command.Command.TheVariants.{Disassemble, Check, Link, Mean}
+use Rattle.command_words.specs.declared.command.Command.TheVariants.{Generate}
+use Rattle.command_words.specs.declared.action.Action.{Action}
+use Rattle.command_words.specs.declared.action.Action.TheVariants as action
+
+unfoldable pub action_in : Text → Option Action
+action_in word =
+    if bytes_eq word (codes "run") then Some action.Run
+    else (if bytes_eq word (codes "trace") then Some action.Trace
+    else (if bytes_eq word (codes "asm") then Some action.Assemble
+    else (if bytes_eq word (codes "compile") then Some action.Compile
+    else (if bytes_eq word (codes "dis") then Some action.Disassemble
+    else (if bytes_eq word (codes "check") then Some action.Check
+    else (if bytes_eq word (codes "link") then Some action.Link
+    else (if bytes_eq word (codes "mean") then Some action.Mean
+    else (if bytes_eq word (codes "generate") then Some action.Generate else None))))))))
+
+-- one of these options is used
+abbrev pub any_used : List (Option Text) → Bool
+any_used = list_any is_some
+
+abbrev pub is_source : Ending → Bool
+is_source Source = true
+is_source Assembler = false
+is_source Component = false
+
+abbrev pub is_assembler : Ending → Bool
+is_assembler Source = false
+is_assembler Assembler = true
+is_assembler Component = false
+
+abbrev pub is_trusted : Mark → Bool
+is_trusted Trusted = true
+is_trusted Untrusted = false
+
+abbrev pub image_or_parts : Option Text → Option (List Text) → Option Text → Option Linked
+image_or_parts (Some name) words stack = if is_some stack then None else Some (Image name)
+image_or_parts None words stack = do
+  size ← size_in stack
+  parts ← some_parts_in words
+  Some (Parts parts size)
+
+-- one image word and no size of a stack, or part words
+unfoldable pub linked_in : Option (List Text) → Option Text → Option Linked
+linked_in words stack = image_or_parts (one_image_in words) words stack
+
+-- what `run` and `trace` ask for
+unfoldable pub run_in : Taken → Option (Linked × ℕ)
+run_in t = if any_used (t.out ∷ t.feed ∷ t.seed ∷ []) then None else do
+  steps ← steps_in t.steps
+  what ← linked_in t.parts t.stack
+  Some (what, steps)
+
+unfoldable pub assemble_in : Taken → Option Command
+assemble_in t = if any_used (t.stack ∷ t.steps ∷ t.feed ∷ t.seed ∷ []) then None else do
+  part ← one_part_in t.parts
+  out ← file_of t.out
+  if is_assembler part.ending then Some (Assemble part out) else None
+
+unfoldable pub compile_in : Taken → Option Command
+compile_in t = if any_used (t.stack ∷ t.steps ∷ t.feed ∷ t.seed ∷ []) then None else do
+  part ← one_part_in t.parts
+  out ← file_of t.out
+  if is_source part.ending then Some (Compile part out) else None
+
+-- what `dis` and `check` ask for
+unfoldable pub part_alone_in : Taken → Option PartWord
+part_alone_in t =
+    if any_used (t.stack ∷ t.steps ∷ t.out ∷ t.feed ∷ t.seed ∷ []) then None else one_part_in t.parts
+
+unfoldable pub link_in : Taken → Option Command
+link_in t = if any_used (t.steps ∷ t.feed ∷ t.seed ∷ []) then None else do
+  size ← size_in t.stack
+  out ← file_of t.out
+  parts ← some_parts_in t.parts
+  Some (Link parts size out)
+
+-- `t:NAME.prc`
+abbrev pub is_module : PartWord → Bool
+is_module p = is_trusted p.mark && is_source p.ending
+
+unfoldable pub mean_in : Taken → Option Command
+mean_in t = if any_used (t.out ∷ t.seed ∷ []) then None else do
+  size ← size_in t.stack
+  fuel ← steps_in t.steps
+  feed ← file_of t.feed
+  modules ← some_parts_in t.parts
+  if list_all is_module modules then Some (Mean modules size fuel feed) else None
+
+unfoldable pub generate_in : Taken → Option Command
+generate_in t =
+    if is_some t.parts || any_used (t.stack ∷ t.steps ∷ t.out ∷ t.feed ∷ []) then None
+    else option_map Generate (seed_in t.seed)
+
+-- what an action asks for
+abbrev pub asked_of : Action → Taken → Option Command
+asked_of action.Run t = option_map (λ p. Run p.0 p.1) (run_in t)
+asked_of action.Trace t = option_map (λ p. Trace p.0 p.1) (run_in t)
+asked_of action.Assemble t = assemble_in t
+asked_of action.Compile t = compile_in t
+asked_of action.Disassemble t = option_map Disassemble (part_alone_in t)
+asked_of action.Check t = option_map Check (part_alone_in t)
+asked_of action.Link t = link_in t
+asked_of action.Mean t = mean_in t
+asked_of action.Generate t = generate_in t
+
+-- what the words ask for; none where the command line doesn't take them, or they break a rule of their action
+abbrev pub asked_in : List Text → Option Command
+asked_in words = do
+  found ← rows words
+  word ← (taken_of found).action
+  action ← action_in word
+  asked_of action (taken_of found)

@@ -1,0 +1,47 @@
+-- The bounds that each command keeps.
+use Rattle.std.specs.Prelude.{ℕ, ◌≤◌, List, length, IsTrue}
+use Rattle.std.specs.List.{All}
+use Rattle.command_words.specs.Texts.{Text}
+use Rattle.command_words.specs.Name.{is_file_name}
+use Rattle.command_words.specs.declared.TheConstants.{MOST_PARTS, MOST_STEPS, GREATEST_STACK, GREATEST_SEED}
+use Rattle.command_words.specs.declared.part.PartWord.{PartWord}
+use Rattle.command_words.specs.declared.command.Linked.{Linked}
+use Rattle.command_words.specs.declared.command.Linked.TheVariants.{Parts, Image}
+use Rattle.command_words.specs.declared.command.Command.{Command}
+use Rattle.command_words.specs.declared.command.Command.TheVariants.{Run, Trace, Assemble, Compile}
+use Rattle.command_words.specs.declared.command.Command.TheVariants.{Disassemble, Check, Link, Mean}
+use Rattle.command_words.specs.declared.command.Command.TheVariants.{Generate}
+
+-- 1 to 255 bytes, of which the first isn't `-`
+abbrev pub FitsName : Text → Type 0
+FitsName name = IsTrue (is_file_name name)
+
+abbrev pub FitsPart : PartWord → Type 0
+FitsPart p = FitsName p.name
+
+-- 1 to 16 of them
+pub record FitsParts (parts : List PartWord) : Type 0 where
+  pub some : 1 ≤ length parts
+  pub few : length parts ≤ MOST_PARTS
+  pub each : All FitsPart parts
+
+abbrev pub FitsSteps : ℕ → Type 0
+FitsSteps n = (1 ≤ n) × (n ≤ MOST_STEPS)
+
+abbrev pub FitsStack : ℕ → Type 0
+FitsStack size = size ≤ GREATEST_STACK
+
+abbrev pub FitsLinked : Linked → Type 0
+FitsLinked (Parts parts size) = FitsParts parts × FitsStack size
+FitsLinked (Image name) = FitsName name
+
+abbrev pub Fits : Command → Type 0
+Fits (Run what steps) = FitsLinked what × FitsSteps steps
+Fits (Trace what steps) = FitsLinked what × FitsSteps steps
+Fits (Assemble part out) = FitsPart part × FitsName out
+Fits (Compile part out) = FitsPart part × FitsName out
+Fits (Disassemble part) = FitsPart part
+Fits (Check part) = FitsPart part
+Fits (Link parts size out) = FitsParts parts × FitsStack size × FitsName out
+Fits (Mean modules size fuel feed) = FitsParts modules × FitsStack size × FitsSteps fuel × FitsName feed
+Fits (Generate seed) = seed ≤ GREATEST_SEED

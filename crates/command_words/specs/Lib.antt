@@ -1,0 +1,9 @@
+pub mod Texts
+pub mod FaultText
+pub mod Line
+pub mod Name
+pub mod Number
+pub mod Part
+pub mod Views
+pub mod Action
+pub mod Fits

@@ -1,0 +1,282 @@
+//! The actions, each with its parts and options.
+ghost use Rattle.std.specs.Prelude.{◌≡◌, IfOk, None, is_some};
+ghost use Rattle.std.specs.List.{list_all, list_any};
+ghost use Rattle.command_words.specs.Texts.{Text, texts, text_of, all_texts};
+ghost use Rattle.command_words.specs.Views.{taken_in};
+ghost use Rattle.command_words.specs.Action.{action_in, linked_in, run_in, assemble_in, compile_in};
+ghost use Rattle.command_words.specs.Action.{part_alone_in, link_in, is_module, mean_in, generate_in};
+ghost use Rattle.command_words.specs.Action.{asked_of, asked_in};
+ghost use Rattle.command_words.specs.Fits.{Fits};
+
+use crate::command::{Command, Linked};
+use crate::fault::WordsFault;
+use crate::line::{Taken, matches, taken_of};
+use crate::name::file_of;
+use crate::number::{Steps, seed_of, size_of, steps_of};
+use crate::part::{Ending, Mark, PartWord, one_image, one_part, some_parts};
+use std::alloc::{AllocError, Global};
+
+// The first word.
+#[derive(Clone, Copy)]
+enum Action {
+    Run,
+    Trace,
+    Assemble,
+    Compile,
+    Disassemble,
+    Check,
+    Link,
+    Mean,
+    Generate,
+}
+
+#[tactic(auto, unfolding(crate::specs::Action::action_in))]
+fn action_named(word: &str) -> Option<Action>
+    ensures { result ≡ action_in word.now }
+{
+    match word {
+        "run" => Some(Action::Run),
+        "trace" => Some(Action::Trace),
+        "asm" => Some(Action::Assemble),
+        "compile" => Some(Action::Compile),
+        "dis" => Some(Action::Disassemble),
+        "check" => Some(Action::Check),
+        "link" => Some(Action::Link),
+        "mean" => Some(Action::Mean),
+        "generate" => Some(Action::Generate),
+        _ => None,
+    }
+}
+
+fn is_used(option: &Option<&str>) -> bool
+    ensures { result ≡ is_some (text_of option.now) }
+{
+    option.is_some()
+}
+
+fn any_used(options: &[Option<&str>]) -> bool
+    ensures { result ≡ list_any (λ option. is_some (text_of option)) options.now }
+{
+    options.iter().any(is_used)
+}
+
+// One image word and no size of a stack, or part words.
+#[tactic(auto, unfolding(crate::specs::Action::linked_in))]
+fn linked<'a>(
+    alloc: Global,
+    words: Option<&[&'a str]>,
+    stack: Option<&str>,
+) -> Result<Option<Linked<'a>>, AllocError>
+    ensures { IfOk result (λ r. r ≡ linked_in (all_texts words.entry) (text_of stack.entry)) }
+{
+    if let Some(name) = one_image(words) {
+        if stack.is_some() {
+            return Ok(None);
+        }
+        return Ok(Some(Linked::Image(name)));
+    }
+    let Some(size) = size_of(stack) else {
+        return Ok(None);
+    };
+    match some_parts(alloc, words)? {
+        Some(parts) => Ok(Some(Linked::Parts(parts, size))),
+        None => Ok(None),
+    }
+}
+
+// What `run` and `trace` ask for.
+#[tactic(auto, unfolding(crate::specs::Action::run_in))]
+fn run<'a>(alloc: Global, taken: &Taken<'_, 'a>) -> Result<Option<(Linked<'a>, Steps)>, AllocError>
+    ensures { IfOk result (λ r. r ≡ run_in (taken_in taken.now)) }
+{
+    if any_used(&[taken.out, taken.feed, taken.seed]) {
+        return Ok(None);
+    }
+    let Some(steps) = steps_of(taken.steps) else {
+        return Ok(None);
+    };
+    match linked(alloc, taken.parts, taken.stack)? {
+        Some(what) => Ok(Some((what, steps))),
+        None => Ok(None),
+    }
+}
+
+#[tactic(auto, unfolding(crate::specs::Action::assemble_in))]
+fn assemble<'a>(taken: &Taken<'_, 'a>) -> Option<Command<'a>>
+    ensures { result ≡ assemble_in (taken_in taken.now) }
+{
+    if any_used(&[taken.stack, taken.steps, taken.feed, taken.seed]) {
+        return None;
+    }
+    let part = one_part(taken.parts)?;
+    let out = file_of(taken.out)?;
+    if part.ending == Ending::Assembler {
+        Some(Command::Assemble(part, out))
+    } else {
+        None
+    }
+}
+
+#[tactic(auto, unfolding(crate::specs::Action::compile_in))]
+fn compile<'a>(taken: &Taken<'_, 'a>) -> Option<Command<'a>>
+    ensures { result ≡ compile_in (taken_in taken.now) }
+{
+    if any_used(&[taken.stack, taken.steps, taken.feed, taken.seed]) {
+        return None;
+    }
+    let part = one_part(taken.parts)?;
+    let out = file_of(taken.out)?;
+    if part.ending == Ending::Source {
+        Some(Command::Compile(part, out))
+    } else {
+        None
+    }
+}
+
+// What `dis` and `check` ask for.
+#[tactic(auto, unfolding(crate::specs::Action::part_alone_in))]
+fn part_alone<'a>(taken: &Taken<'_, 'a>) -> Option<PartWord<'a>>
+    ensures { result ≡ part_alone_in (taken_in taken.now) }
+{
+    if any_used(&[taken.stack, taken.steps, taken.out, taken.feed, taken.seed]) {
+        return None;
+    }
+    one_part(taken.parts)
+}
+
+#[tactic(auto, unfolding(crate::specs::Action::link_in))]
+fn link<'a>(alloc: Global, taken: &Taken<'_, 'a>) -> Result<Option<Command<'a>>, AllocError>
+    ensures { IfOk result (λ r. r ≡ link_in (taken_in taken.now)) }
+{
+    if any_used(&[taken.steps, taken.feed, taken.seed]) {
+        return Ok(None);
+    }
+    let Some(size) = size_of(taken.stack) else {
+        return Ok(None);
+    };
+    let Some(out) = file_of(taken.out) else {
+        return Ok(None);
+    };
+    match some_parts(alloc, taken.parts)? {
+        Some(parts) => Ok(Some(Command::Link(parts, size, out))),
+        None => Ok(None),
+    }
+}
+
+fn is_module(part: &PartWord<'_>) -> bool
+    ensures { result ≡ is_module part.now }
+{
+    part.mark == Mark::Trusted && part.ending == Ending::Source
+}
+
+fn are_modules(parts: &[PartWord<'_>]) -> bool
+    ensures { result ≡ list_all is_module parts.now }
+{
+    parts.iter().all(is_module)
+}
+
+#[tactic(auto, unfolding(crate::specs::Action::mean_in))]
+fn mean<'a>(alloc: Global, taken: &Taken<'_, 'a>) -> Result<Option<Command<'a>>, AllocError>
+    ensures { IfOk result (λ r. r ≡ mean_in (taken_in taken.now)) }
+{
+    if any_used(&[taken.out, taken.seed]) {
+        return Ok(None);
+    }
+    let Some(size) = size_of(taken.stack) else {
+        return Ok(None);
+    };
+    let Some(fuel) = steps_of(taken.steps) else {
+        return Ok(None);
+    };
+    let Some(feed) = file_of(taken.feed) else {
+        return Ok(None);
+    };
+    match some_parts(alloc, taken.parts)? {
+        Some(modules) => {
+            if are_modules(modules.as_slice()) {
+                Ok(Some(Command::Mean(modules, size, fuel, feed)))
+            } else {
+                Ok(None)
+            }
+        }
+        None => Ok(None),
+    }
+}
+
+#[tactic(auto, unfolding(crate::specs::Action::generate_in))]
+fn generate<'a>(taken: &Taken<'_, 'a>) -> Option<Command<'a>>
+    ensures { result ≡ generate_in (taken_in taken.now) }
+{
+    if taken.parts.is_some() || any_used(&[taken.stack, taken.steps, taken.out, taken.feed]) {
+        return None;
+    }
+    let seed = seed_of(taken.seed)?;
+    Some(Command::Generate(seed))
+}
+
+// The action with its parts and options.
+fn asked_of<'a>(
+    alloc: Global,
+    action: Action,
+    taken: &Taken<'_, 'a>,
+) -> Result<Option<Command<'a>>, AllocError>
+    ensures { IfOk result (λ r. r ≡ asked_of action (taken_in taken.now)) }
+{
+    match action {
+        Action::Run => match run(alloc, taken)? {
+            Some((what, steps)) => Ok(Some(Command::Run(what, steps))),
+            None => Ok(None),
+        },
+        Action::Trace => match run(alloc, taken)? {
+            Some((what, steps)) => Ok(Some(Command::Trace(what, steps))),
+            None => Ok(None),
+        },
+        Action::Assemble => Ok(assemble(taken)),
+        Action::Compile => Ok(compile(taken)),
+        Action::Disassemble => match part_alone(taken) {
+            Some(part) => Ok(Some(Command::Disassemble(part))),
+            None => Ok(None),
+        },
+        Action::Check => match part_alone(taken) {
+            Some(part) => Ok(Some(Command::Check(part))),
+            None => Ok(None),
+        },
+        Action::Link => link(alloc, taken),
+        Action::Mean => mean(alloc, taken),
+        Action::Generate => Ok(generate(taken)),
+    }
+}
+
+// What the words ask for.
+fn asked<'a>(alloc: Global, words: &'a [String]) -> Result<Option<Command<'a>>, AllocError>
+    ensures { IfOk result (λ r. r ≡ asked_in (texts words.now)) }
+{
+    let Some(matches) = matches(alloc, words)? else {
+        return Ok(None);
+    };
+    let taken = taken_of(&matches);
+    let Some(word) = taken.action else {
+        return Ok(None);
+    };
+    let Some(action) = action_named(word) else {
+        return Ok(None);
+    };
+    asked_of(alloc, action, &taken)
+}
+
+/// What the words ask for, which are those after the program's own name.
+///
+/// Usage comes exactly where they ask for nothing and memory wasn't refused first: the command line
+/// doesn't take them, or they break a rule of its action. NoMemory may come for any words.
+pub fn command_of<'a>(alloc: Global, words: &'a [String]) -> Result<Command<'a>, WordsFault>
+    ensures asked { IfOk result (λ c. asked_in (texts words.now) ≡ Some c) }
+    ensures usage { result ≡ Err WordsFault.Usage → asked_in (texts words.now) ≡ None }
+
+    // Names, numbers and counts are within their bounds.
+    ensures fits { IfOk result Fits }
+{
+    match asked(alloc, words)? {
+        Some(command) => Ok(command),
+        None => Err(WordsFault::Usage),
+    }
+}

@@ -1,0 +1,310 @@
+//! Lines of words, parted by blanks, and what each asks for: that the definitions which the clauses
+//! cite mean what they should. Each was worked out by hand.
+use command_words::{Command, Ending, Linked, Mark, PartWord, PartWords, WordsFault, command_of};
+use std::alloc::{AllocError, Global};
+use std::test::Fail;
+
+fn part_text(alloc: Global, part: &PartWord<'_>) -> Result<String, AllocError> {
+    let mark = match part.mark {
+        Mark::Trusted => "t",
+        Mark::Untrusted => "u",
+    };
+    let ending = match part.ending {
+        Ending::Source => "source",
+        Ending::Assembler => "asm",
+        Ending::Component => "component",
+    };
+    format!(in alloc; "{mark}-{ending}({})", part.name.as_str())
+}
+
+fn parts_text(alloc: Global, parts: &PartWords<'_>) -> Result<String, AllocError> {
+    let mut text = String::new(alloc);
+    for part in parts.as_slice() {
+        text.push_str(part_text(alloc, part)?.as_str())?;
+    }
+    Ok(text)
+}
+
+fn linked_text(alloc: Global, what: &Linked<'_>) -> Result<String, AllocError> {
+    match what {
+        Linked::Parts(parts, size) => format!(in alloc; "{} {size}", parts_text(alloc, parts)?),
+        Linked::Image(name) => format!(in alloc; "image({})", name.as_str()),
+    }
+}
+
+fn command_text(alloc: Global, command: &Command<'_>) -> Result<String, AllocError> {
+    match command {
+        Command::Run(what, steps) => {
+            format!(in alloc; "run {} {}", linked_text(alloc, what)?, steps.number())
+        }
+        Command::Trace(what, steps) => {
+            format!(in alloc; "trace {} {}", linked_text(alloc, what)?, steps.number())
+        }
+        Command::Assemble(part, out) => {
+            format!(in alloc; "asm {} {}", part_text(alloc, part)?, out.as_str())
+        }
+        Command::Compile(part, out) => {
+            format!(in alloc; "compile {} {}", part_text(alloc, part)?, out.as_str())
+        }
+        Command::Disassemble(part) => format!(in alloc; "dis {}", part_text(alloc, part)?),
+        Command::Check(part) => format!(in alloc; "check {}", part_text(alloc, part)?),
+        Command::Link(parts, size, out) => {
+            format!(in alloc;
+                "link {} {size} {}",
+                parts_text(alloc, parts)?,
+                out.as_str()
+            )
+        }
+        Command::Mean(modules, size, fuel, feed) => {
+            let modules = parts_text(alloc, modules)?;
+            format!(in alloc; "mean {modules} {size} {} {}", fuel.number(), feed.as_str())
+        }
+        Command::Generate(seed) => format!(in alloc; "generate {}", seed.number()),
+    }
+}
+
+// What the line asks for, and `usage` where it asks for nothing.
+fn told(alloc: Global, line: &str) -> Result<String, AllocError> {
+    let mut words = Vec::new(alloc);
+    if !line.is_empty() {
+        for word in line.split(' ') {
+            words.push(String::from_str(alloc, word)?)?;
+        }
+    }
+    match command_of(alloc, words.as_slice()) {
+        Ok(command) => command_text(alloc, &command),
+        Err(WordsFault::Usage) => String::from_str(alloc, "usage"),
+        Err(WordsFault::NoMemory) => Err(AllocError),
+    }
+}
+
+fn is_command(alloc: Global, line: &str) -> Result<bool, AllocError> {
+    Ok(told(alloc, line)?.as_str() != "usage")
+}
+
+static ACTIONS: [(&str, &str); 22] = [
+    ("run u:one.asm", "run u-asm(one.asm) 4096 1000000"),
+    ("run one.img", "run image(one.img) 1000000"),
+    (
+        "trace t:a.prc u:b.stc t:c.asm",
+        "trace t-source(a.prc)u-component(b.stc)t-asm(c.asm) 4096 1000000",
+    ),
+    ("trace one.img", "trace image(one.img) 1000000"),
+    ("asm u:one.asm --out one.stc", "asm u-asm(one.asm) one.stc"),
+    ("asm u:one.asm", "usage"),
+    ("asm u:one.prc --out one.stc", "usage"),
+    (
+        "compile t:one.prc --out one.stc",
+        "compile t-source(one.prc) one.stc",
+    ),
+    ("compile t:one.prc", "usage"),
+    ("compile t:one.asm --out one.stc", "usage"),
+    ("dis u:one.stc", "dis u-component(one.stc)"),
+    ("check t:one.prc", "check t-source(one.prc)"),
+    (
+        "link u:one.asm --out one.img",
+        "link u-asm(one.asm) 4096 one.img",
+    ),
+    ("link u:one.asm", "usage"),
+    ("link one.img --out two.img", "usage"),
+    (
+        "mean t:one.prc --feed f",
+        "mean t-source(one.prc) 4096 1000000 f",
+    ),
+    ("mean t:one.prc", "usage"),
+    ("mean t:one.prc u:two.prc --feed f", "usage"),
+    ("mean t:one.asm --feed f", "usage"),
+    ("generate --seed 1", "generate 1"),
+    ("generate", "usage"),
+    ("fly u:one.asm", "usage"),
+];
+
+static OPTIONS: [(&str, &str); 27] = [
+    // Anywhere, in either form, and each once.
+    ("run --steps 10 u:one.asm", "run u-asm(one.asm) 4096 10"),
+    ("run u:one.asm --steps=10", "run u-asm(one.asm) 4096 10"),
+    ("--steps 10 run u:one.asm", "run u-asm(one.asm) 4096 10"),
+    (
+        "run t:a.prc --stack 64 u:b.stc --steps=7",
+        "run t-source(a.prc)u-component(b.stc) 64 7",
+    ),
+    ("run --steps 5 --steps 5 u:one.asm", "usage"),
+    ("run --steps=5 u:one.asm --steps 6", "usage"),
+    ("asm --out=x --out y u:one.asm", "usage"),
+    // With a value each.
+    ("run u:one.asm --steps", "usage"),
+    ("run --steps u:one.asm", "usage"),
+    ("run --stack --steps 5 u:one.asm", "usage"),
+    ("asm u:one.asm --out", "usage"),
+    ("asm u:one.asm --out=", "usage"),
+    ("asm u:one.asm --out ", "usage"),
+    ("asm u:one.asm --out==x", "asm u-asm(one.asm) =x"),
+    // By their whole names.
+    ("run --ste 10 u:one.asm", "usage"),
+    ("run -s 10 u:one.asm", "usage"),
+    ("run --Steps 10 u:one.asm", "usage"),
+    ("run --loud u:one.asm", "usage"),
+    // A request for help is no command.
+    ("--help", "usage"),
+    ("run --help", "usage"),
+    ("-h", "usage"),
+    ("run u:one.asm -h", "usage"),
+    ("help", "usage"),
+    ("run --version u:one.asm", "usage"),
+    // What follows `--` is no option.
+    ("run --steps 10 -- u:one.asm", "run u-asm(one.asm) 4096 10"),
+    ("run u:one.asm -- --steps 10", "usage"),
+    ("run -- -- u:one.asm", "usage"),
+];
+
+static NUMBERS: [(&str, &str); 22] = [
+    ("run --stack 0 u:one.asm", "run u-asm(one.asm) 0 1000000"),
+    (
+        "run --stack=0064 u:one.asm",
+        "run u-asm(one.asm) 64 1000000",
+    ),
+    (
+        "run --stack 4294967295 u:one.asm",
+        "run u-asm(one.asm) 4294967295 1000000",
+    ),
+    ("run --stack 4294967296 u:one.asm", "usage"),
+    ("run --stack= u:one.asm", "usage"),
+    ("run --stack  u:one.asm", "usage"),
+    ("run --stack -1 u:one.asm", "usage"),
+    ("run --stack=-1 u:one.asm", "usage"),
+    ("run --stack=+5 u:one.asm", "usage"),
+    ("run --stack 5x u:one.asm", "usage"),
+    ("run --stack 0x5 u:one.asm", "usage"),
+    ("run --steps 0 u:one.asm", "usage"),
+    ("run --steps 1 u:one.asm", "run u-asm(one.asm) 4096 1"),
+    (
+        "run --steps 1000000000 u:one.asm",
+        "run u-asm(one.asm) 4096 1000000000",
+    ),
+    ("run --steps 1000000001 u:one.asm", "usage"),
+    ("run --steps 18446744073709551617 u:one.asm", "usage"),
+    (
+        "run --steps 00000000000000000000000000000001 u:one.asm",
+        "run u-asm(one.asm) 4096 1",
+    ),
+    ("generate --seed 0", "generate 0"),
+    ("generate --seed 2147483647", "generate 2147483647"),
+    ("generate --seed 2147483648", "usage"),
+    (
+        "mean t:one.prc --feed f --stack 5 --steps 6",
+        "mean t-source(one.prc) 5 6 f",
+    ),
+    ("mean t:one.prc --feed f --steps 0", "usage"),
+];
+
+static NAMES: [(&str, &str); 20] = [
+    ("check u:.asm", "check u-asm(.asm)"),
+    ("check u:a.prc.asm", "check u-asm(a.prc.asm)"),
+    ("check t:t:a.asm", "check t-asm(t:a.asm)"),
+    ("check u:", "usage"),
+    ("check u:asm", "usage"),
+    ("check u:one", "usage"),
+    ("check u:one.tok", "usage"),
+    ("check u:one.ASM", "usage"),
+    ("check U:one.asm", "usage"),
+    ("check one.asm", "usage"),
+    ("check u:-one.asm", "usage"),
+    ("check -- -one.asm", "usage"),
+    ("check u:one.img", "usage"),
+    ("check one.img", "usage"),
+    ("run u:one.img", "usage"),
+    ("run t:one.img", "usage"),
+    ("run .img", "run image(.img) 1000000"),
+    ("run -- -one.img", "usage"),
+    ("link u:one.asm --out -one.img", "usage"),
+    ("link u:one.asm --out=-one.img", "usage"),
+];
+
+#[test]
+fn each_line_asks_for_its_command(rt: HostRuntime) -> Result<(), Fail> {
+    assert_eq!(rt; told(rt.alloc(), "")?.as_str(), "usage");
+    for (line, expected) in ACTIONS.iter().chain(&OPTIONS).chain(&NUMBERS).chain(&NAMES) {
+        assert_eq!(rt; told(rt.alloc(), *line)?.as_str(), *expected, "{line}");
+    }
+    Ok(())
+}
+
+// A command, and which options may be added to it.
+static ADDED: [(&str, &[&str]); 11] = [
+    ("run u:a.asm", &["--stack", "--steps"]),
+    ("run a.img", &["--steps"]),
+    ("trace u:a.asm", &["--stack", "--steps"]),
+    ("trace a.img", &["--steps"]),
+    ("asm u:a.asm --out x", &[]),
+    ("compile t:a.prc --out x", &[]),
+    ("dis u:a.asm", &[]),
+    ("check u:a.asm", &[]),
+    ("link u:a.asm --out x", &["--stack"]),
+    ("mean t:a.prc --feed x", &["--stack", "--steps"]),
+    ("generate --seed 7", &[]),
+];
+
+#[test]
+fn options_that_an_action_does_not_name_are_usage(rt: HostRuntime) -> Result<(), Fail> {
+    let alloc = rt.alloc();
+    for (line, may_be_added) in &ADDED {
+        assert!(rt; is_command(alloc, *line)?, "{line}");
+        for option in &["--stack", "--steps", "--out", "--feed", "--seed"] {
+            let longer = format!(in alloc; "{line} {option}=7")?;
+            let is_taken = is_command(alloc, longer.as_str())?;
+            assert_eq!(rt; is_taken, may_be_added.contains(option), "{longer}");
+        }
+    }
+    Ok(())
+}
+
+// An action with its options, a part word, and the least and the most of them.
+static COUNTS: [(&str, &str, usize, usize); 9] = [
+    ("run", "u:a.asm", 1, 16),
+    ("trace", "u:a.asm", 1, 16),
+    ("asm --out x", "u:a.asm", 1, 1),
+    ("compile --out x", "t:a.prc", 1, 1),
+    ("dis", "u:a.asm", 1, 1),
+    ("check", "u:a.asm", 1, 1),
+    ("link --out x", "u:a.asm", 1, 16),
+    ("mean --feed x", "t:a.prc", 1, 16),
+    ("generate --seed 7", "u:a.asm", 0, 0),
+];
+
+#[test]
+fn so_many_parts_may_stand(rt: HostRuntime) -> Result<(), Fail> {
+    let alloc = rt.alloc();
+    for (action, part, least, most) in &COUNTS {
+        let mut line = String::from_str(alloc, *action)?;
+        for count in 0..18usize {
+            let is_taken = is_command(alloc, line.as_str())?;
+            assert_eq!(rt; is_taken, *least <= count && count <= *most, "{line}");
+            line.push_str(" ")?;
+            line.push_str(*part)?;
+        }
+    }
+    Ok(())
+}
+
+#[test]
+fn names_have_up_to_255_bytes(rt: HostRuntime) -> Result<(), Fail> {
+    let alloc = rt.alloc();
+    // 251 bytes.
+    let mut name = String::from_str(alloc, "é")?;
+    for _ in 0..249u32 {
+        name.push_str("a")?;
+    }
+    for (line, expected) in [
+        (format!(in alloc; "check u:{name}.asm")?, true),
+        (format!(in alloc; "check u:{name}b.asm")?, false),
+        (format!(in alloc; "run {name}.img")?, true),
+        (format!(in alloc; "run {name}b.img")?, false),
+        (format!(in alloc; "link u:a.asm --out {name}.img")?, true),
+        (format!(in alloc; "link u:a.asm --out {name}b.img")?, false),
+        (format!(in alloc; "mean t:a.prc --feed {name}.txt")?, true),
+        (format!(in alloc; "mean t:a.prc --feed {name}b.txt")?, false),
+    ] {
+        assert_eq!(rt; is_command(alloc, line.as_str())?, expected, "{line}");
+    }
+    Ok(())
+}
