@@ -1,0 +1,11 @@
+mod Ascending
+mod Listing
+mod Entries
+mod Verdicts
+pub mod Walks
+pub mod Placed
+mod Rowed
+pub mod LocalFacts
+pub mod Fitting
+pub mod Kept
+pub mod Steps

@@ -1,0 +1,13 @@
+use Rattle.std.proofs.Common.{◌-◌, ◌≤◌}
+use Rattle.flow_check.specs.declared.walking.Walk.TheVariants.{Before}
+use Rattle.flow_check.specs.Walk.{Comes}
+use Rattle.flow_check.proofs.rows.row_of.Given as goal
+
+abbrev pub invariant-loop-at : goal.invariant-loop-at
+invariant-loop-at l = record {
+  comes : Comes l.c (Before l.at l.current);
+  short : l.at ≤ l.offset;
+}
+
+abbrev pub decreases-loop-at : goal.decreases-loop-at
+decreases-loop-at l = l.offset - l.at

@@ -1,0 +1,33 @@
+-- What is answered of the flow of a component's code.
+use Rattle.std.specs.Prelude.{◌≡◌, ℕ, ◌⊎◌, Result, Ok, Err}
+use Rattle.component_file.specs.declared.component.ComponentFields.{ComponentFields}
+use Rattle.component_check.specs.declared.rule.Broken.{Broken}
+use Rattle.component_check.specs.declared.rule.Group.TheVariants.{K}
+use Rattle.component_check.specs.RuleText.{broken_at}
+use Rattle.component_check.specs.Verdict.{NoneBroken, IsFirst}
+use Rattle.flow_check.specs.declared.walking.Walk.TheVariants.{Ended as ended, Broken as broken}
+use Rattle.flow_check.specs.Lists.{lists}
+use Rattle.flow_check.specs.Walk.{Comes}
+
+-- no rule of the flow is broken: the lists keep theirs, and the walk comes to its end
+pub record IsKept (c : ComponentFields) : Type 0 where
+  pub placed : NoneBroken (lists c)
+  pub walked : Comes c ended
+
+-- the lists keep their rules, and the walk breaks one there
+pub record BreaksOff (c : ComponentFields) (b : Broken) : Type 0 where
+  pub placed : NoneBroken (lists c)
+  pub number : ℕ
+  pub place : ℕ
+  pub comes : Comes c (broken number place)
+  pub reported : b ≡ broken_at K number place
+
+-- that no rule is broken, or the first that is: the lists come before the walk
+abbrev pub IsFirstOfFlow : ComponentFields → Result (Unit {0}) Broken → Type 0
+IsFirstOfFlow c (Ok u) = IsKept c
+IsFirstOfFlow c (Err b) = IsFirst (broken_at K) (lists c) b ⊎ BreaksOff c b
+
+-- what the walk comes to
+abbrev pub WalksTo : ComponentFields → Result (Unit {0}) Broken → Type 0
+WalksTo c (Ok u) = Comes c ended
+WalksTo c (Err b) = (number : ℕ) × (place : ℕ) × Comes c (broken number place) × (b ≡ broken_at K number place)

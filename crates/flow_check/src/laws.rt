@@ -1,0 +1,53 @@
+//! What holds at each offset of code whose flow is kept, one step at a time. These functions do
+//! nothing; their contracts are the laws.
+ghost use Rattle.std.specs.Prelude.{◌≡◌, ℕ, ◌+◌, ◌<◌, ◌≤◌, true, false, length, slice_get, Some};
+ghost use Rattle.component_file.specs.declared.component.ComponentFields.{ComponentFields};
+ghost use Rattle.component_file.specs.Limits.{IsComponent};
+ghost use Rattle.call_sequence.specs.declared.TheConstants.{SITE_WORDS, ENTRY_WORDS};
+ghost use Rattle.call_sequence.specs.Standing.{is_site, is_entry};
+ghost use Rattle.flow_check.specs.Kinds.{Row, clean_row};
+ghost use Rattle.flow_check.specs.Places.{begins_entry, begins_site, is_inside};
+ghost use Rattle.flow_check.specs.Walk.{RowAt, site_ready};
+ghost use Rattle.flow_check.specs.Verdict.{IsKept};
+ghost use Rattle.flow_check.specs.Local.{Leads, Judged};
+
+/// A word that has a row, and at which neither an entry nor a site begins, is an instruction whose
+/// kinds fit the row. The row after it is below the row at the next word, and where it may jump
+/// to, other than to the `fail`, there is a row that the one before it is below.
+pub fn words_flow()
+    ensures { (c : ComponentFields) → IsComponent c → IsKept c → (o : ℕ) (r : Row)
+        → begins_entry c o ≡ false → begins_site c o ≡ false → RowAt c o r → Judged c o r }
+{}
+
+/// Where a site has a row, this is ready for the call. Behind a site stands the row after it, or
+/// one that this is below.
+pub fn sites_flow()
+    ensures { (c : ComponentFields) → IsComponent c → IsKept c → (o : ℕ) (r : Row)
+        → begins_site c o ≡ true → RowAt c o r → (site_ready r ≡ true) × Leads c (o + SITE_WORDS) clean_row }
+{}
+
+/// Behind an entry stands the row after it, or one that this is below.
+pub fn entries_flow()
+    ensures { (c : ComponentFields) → IsComponent c → IsKept c → (o : ℕ)
+        → begins_entry c o ≡ true → Leads c (o + ENTRY_WORDS) clean_row }
+{}
+
+/// An offset has one row at most, and none inside a site or an entry, past its first word.
+pub fn rows_are_placed()
+    ensures one { (c : ComponentFields) (o : ℕ) (r q : Row) → RowAt c o r → RowAt c o q → r ≡ q }
+    ensures outside { (c : ComponentFields) → IsComponent c → IsKept c → (o : ℕ) (r : Row)
+        → RowAt c o r → is_inside c o ≡ false }
+{}
+
+/// The words of a call and of a return stand at each site, and those of an entry at each export. Both
+/// lie within the code.
+pub fn sequences_stand()
+    ensures sites_within { (c : ComponentFields) → IsKept c → (i o : ℕ)
+        → slice_get c.sites i ≡ Some o → o + SITE_WORDS ≤ length c.code }
+    ensures entries_within { (c : ComponentFields) → IsComponent c → IsKept c → (o : ℕ)
+        → begins_entry c o ≡ true → o + ENTRY_WORDS ≤ length c.code }
+    ensures sites { (c : ComponentFields) → IsComponent c → IsKept c → (i : ℕ)
+        → i < length c.sites → is_site c i ≡ true }
+    ensures entries { (c : ComponentFields) → IsComponent c → IsKept c → (o : ℕ)
+        → begins_entry c o ≡ true → is_entry c o ≡ true }
+{}
