@@ -1,0 +1,58 @@
+-- The order of items.
+use Rattle.std.specs.Prelude.{ℕ, ◌+◌, ◌==◌, nat_lt, nat_le, Bool, true, false, ◌&&◌, ◌||◌, if◌then◌else◌}
+use Rattle.std.specs.Prelude.{Option, Some, None}
+use Rattle.asm_labels.specs.declared.labels.Section.{Section}
+use Rattle.asm_labels.specs.declared.labels.Section.TheVariants as section
+use Rattle.asm_fields.specs.declared.directives.Item.{Item}
+use Rattle.asm_fields.specs.declared.directives.Item.TheVariants.{Name, Stack, Closure, Seals, Linear}
+use Rattle.asm_fields.specs.declared.directives.Item.TheVariants.{Code, Data, Import, Export, Site, Fail}
+use Rattle.asm_fields.specs.declared.directives.Item.TheVariants.{Literal, Row}
+
+-- items stand in this order
+abbrev pub rank : Item → ℕ
+rank Name = 1
+rank Stack = 2
+rank Closure = 3
+rank Seals = 4
+rank Linear = 5
+rank Code = 6
+rank Data = 7
+rank Import = 8
+rank Export = 9
+rank Site = 10
+rank Fail = 11
+rank Literal = 12
+rank Row = 13
+
+-- the others stand once at most
+abbrev pub repeats : Item → Bool
+repeats Import = true
+repeats Export = true
+repeats Site = true
+repeats Row = true
+repeats _ = false
+
+-- the rank of the last item that came; nothing has come yet: 0
+abbrev pub rank_of : Option Item → ℕ
+rank_of None = 0
+rank_of (Some item) = rank item
+
+-- how far one may go from an item of a rank: name, stack, closure, code and data must not be left out
+abbrev pub furthest : ℕ → ℕ
+furthest r = if nat_lt r 3 then r + 1 else if nat_lt r 6 then 6 else if r == 6 then 7 else 13
+
+-- the item may stand next where those that came end with the last
+abbrev pub may_follow : Option Item → Item → Bool
+may_follow last item =
+    (nat_lt (rank_of last) (rank item) || ((rank item == rank_of last) && repeats item))
+    && nat_le (rank item) (furthest (rank_of last))
+
+-- the items that came go up to the data at least
+abbrev pub reaches_data : Option Item → Bool
+reaches_data last = nat_le (rank Data) (rank_of last)
+
+-- the section in which the words behind an item stand
+abbrev pub section_of : Option Item → Option Section
+section_of (Some Code) = Some section.Code
+section_of (Some Data) = Some section.Data
+section_of _ = None

@@ -1,0 +1,7 @@
+pub mod Fault
+pub mod Fields
+pub mod Names
+pub mod Directives
+pub mod Words
+pub mod Instrs
+pub mod Operands

@@ -1,0 +1,16 @@
+use Rattle.std.proofs.Common.{◌≡◌, ◌≤◌, ℕ, length, map}
+use Rattle.std.specs.Prelude.{reverse}
+use Rattle.asm_labels.specs.References.{AreReady, resolved}
+use Rattle.asm_labels.proofs.Resolved.{referring}
+use Rattle.asm_labels.proofs.references.References.resolve.Given as goal
+
+abbrev pub decreases-loop-reference : goal.decreases-loop-reference
+decreases-loop-reference l = length l.list.items
+
+abbrev pub invariant-loop-reference : goal.invariant-loop-reference
+invariant-loop-reference l = record {
+  few : length l.code.items ≤ 65536;
+  low : ℕ;
+  ready : AreReady low l.code.items (reverse (map referring l.list.items));
+  so_far : resolved l.labels (reverse (map referring l.list.items)) l.code.items ≡ resolved l.labels l.fn.self l.fn.code.items;
+}

@@ -1,0 +1,8 @@
+//! Assembler texts to components.
+#![tactic(auto)]
+
+pub mod laws;
+mod passes;
+
+pub use asm_fields::AsmFault;
+pub use passes::assemble;

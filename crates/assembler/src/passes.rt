@@ -1,0 +1,70 @@
+//! The passes over a text.
+ghost use Rattle.std.specs.Prelude.{◌≡◌, ◌≤◌, ◌<◌, ◌^◌, length};
+ghost use Rattle.component_file.specs.declared.TheConstants.{MOST_WORDS};
+ghost use Rattle.asm_labels.specs.References.{AreReady};
+ghost use Rattle.asm_fields.specs.Fault.{AnswersAs};
+ghost use Rattle.assembler.specs.Assembled.{finished, assembled};
+
+use asm_draft::{Draft, Parts, draft_of};
+use asm_fields::AsmFault;
+use cap_words::Items;
+use component_file::{Component, ComponentFields};
+use std::alloc::Global;
+use text_scan::scan;
+
+// What a draft says, once each reference has its label and no item is out of order. It takes no memory.
+#[tactic(auto, unfolding(crate::specs::Assembled::finished))]
+fn finished(draft: Draft<'_>) -> Result<ComponentFields, AsmFault>
+    requires ready { AreReady 0 draft.code draft.references }
+    requires few { length draft.code ≤ MOST_WORDS }
+    ensures { result ≡ finished draft.entry }
+{
+    let Parts {
+        header,
+        labels,
+        references,
+        mut code,
+        data_words,
+        tables,
+    } = draft.into_parts();
+    if let Err(missing) = references.resolve(&labels, &mut code) {
+        return Err(AsmFault::LabelMissing(missing.at));
+    }
+    if let Some(at) = tables.out_of_order {
+        return Err(AsmFault::Section(at));
+    }
+    Ok(ComponentFields {
+        name: header.name,
+        stack_base: header.stack_base,
+        closure: header.closure,
+        seals: header.seals,
+        linear: header.linear,
+        code_base: header.code_base,
+        code: Items::of(code),
+        data_base: header.data_base,
+        data_words: Items::of(data_words),
+        imports: Items::of(tables.imports),
+        exports: Items::of(tables.exports),
+        sites: Items::of(tables.sites),
+        fail_at: tables.fail_at,
+        literal_at: tables.literal_at,
+        rows: Items::of(tables.rows),
+    })
+}
+
+/// The component that a text spells, or its first fault. docs/ASSEMBLER.md has the form of texts.
+///
+/// A text is read in four passes: its tokens; its lines; references to labels that aren't there; items
+/// of a table that are out of order. The first pass that finds a fault tells its first one. `NoMemory`
+/// may come for any text.
+#[tactic(auto, unfolding(crate::specs::Assembled::assembled))]
+pub fn assemble(alloc: Global, text: &[u8]) -> Result<Component, AsmFault>
+    requires { length text.now < 2 ^ 32 }
+    // Which component, or which fault.
+    ensures { AnswersAs (λ c. c) result (assembled text.now) }
+{
+    let tokens = scan(alloc, text)?;
+    let draft = draft_of(alloc, text, tokens.as_slice())?;
+    let fields = finished(draft)?;
+    Ok(Component::of(fields))
+}
