@@ -13,3 +13,5 @@ pub mod ListedOwners
 pub mod PartKept
 pub mod LinksKept
 pub mod SealsKept
+pub mod CodeStands
+pub mod Accepted

@@ -12,10 +12,10 @@ use Rattle.component_check.specs.Places.{Test, BrokenAt, plainly}
 use Rattle.lcm_machine.specs.declared.cells.Span.{Span}
 use Rattle.lcm_machine.specs.Regions.{Region}
 use Rattle.component_linker.specs.Parts.{PartSeen, IsPart}
-use Rattle.component_linker.specs.Regions.{Apart, part_regions, regions_of, region, stack_span, is_stack_size, code_span, data_span, linear_span}
+use Rattle.component_linker.specs.Regions.{Apart, part_regions, regions_of, region, stack_span, is_stack_size, addresses, span_of, code_span, data_span, linear_span}
 use Rattle.component_linker.specs.Start.{imported, is_main, main_of, stack_base_of, export_that, first_given, Exported}
 use Rattle.component_linker.specs.Pairs.{NoneIsBroken, within_or, at_each, once, passes, never}
-use Rattle.component_linker.specs.Links.{rules_l, l1, l4, l6, l8, l9, has_main, are_few, sites_upto, near, near_part, near_before, part_spans}
+use Rattle.component_linker.specs.Links.{rules_l, l1, l4, l6, l7, l8, l9, has_main, are_few, sites_upto, near, near_part, near_before, part_spans}
 use Rattle.component_linker.specs.Linked.{Linked}
 use Rattle.component_linker.proofs.RuleLemmas.{inside, slice_get-take}
 use Rattle.component_linker.proofs.RegionFacts.{of_part}
@@ -80,6 +80,28 @@ pub stack_fits : (parts : List PartSeen) (size : ℕ) → NoneIsBroken (rules_l 
 unfolding l8
 stack_fits parts size h =
     not_not _ (behind parts (λ i p. never) (once (not (is_stack_size size && nat_le (stack_base_of parts + size) 1048576)) size) 0 (λ b. h 8 (length parts) 0 (l8 parts size) refl (omega arith, b)) (omega arith))
+
+-- ---- L7
+
+pub stack_bases : (parts : List PartSeen) (size : ℕ) → NoneIsBroken (rules_l parts size) → (k : ℕ) (p : PartSeen) → slice_get parts k ≡ Some p → p.component.stack_base ≡ stack_base_of parts
+unfolding l7
+stack_bases parts size h k p is =
+    let same : (p.component.stack_base == stack_base_of parts) ≡ true
+    = not_not _ (in_part parts (λ i q. once (not (q.component.stack_base == stack_base_of parts)) q.component.stack_base) never k p 0 is (λ b. h 7 k 0 (l7 parts) refl (slice_get_within parts k p is, b)) (omega arith)) in
+    grind (arith, nat_tests)
+
+-- where the stack's span is, it begins there
+pub stack_begins : (parts : List PartSeen) (size : ℕ) (stack : Span) → stack_span parts size ≡ Some stack → stack_base_of parts ≡ stack.base
+stack_begins [] size stack e = absurd cc
+stack_begins (p ∷ ps) size stack e = by_size (is_stack_size size) e
+  where
+    by_count : (b : Bool) → (if b then None else Some (addresses p.component.stack_base size)) ≡ Some stack → p.component.stack_base ≡ stack.base
+    by_count true f = absurd cc
+    by_count false f = let g : addresses p.component.stack_base size ≡ stack = cc in ap (λ (s : Span). s.base) g
+
+    by_size : (b : Bool) → (if b then span_of p.component.stack_base size else None) ≡ Some stack → p.component.stack_base ≡ stack.base
+    by_size true f = by_count (size == 0) f
+    by_size false f = absurd cc
 
 -- ---- L4
 

@@ -1,6 +1,6 @@
 -- What the rules C say of a part, as the start rests on it.
-use Rattle.std.proofs.Common.{◌≡◌, ℕ, zero, suc, ◌+◌, ◌-◌, ◌<◌, ◌≤◌, ◌⊎◌, inl, inr, Bool, true, false, not, length, Option, Some, None, refl, sym, ap, subst, ◌∙◌, arith, map}
-use Rattle.std.specs.Prelude.{slice_get, nat_le, nat_lt, ◌&&◌, ◌||◌, is_some, option_map, if◌then◌else◌}
+use Rattle.std.proofs.Common.{◌≡◌, ℕ, zero, suc, ◌+◌, ◌-◌, ◌<◌, ◌≤◌, ◌⊎◌, inl, inr, Bool, true, false, not, List, length, Option, Some, None, refl, sym, ap, subst, ◌∙◌, arith, map}
+use Rattle.std.specs.Prelude.{slice_get, slice_index, nat_le, nat_lt, ◌&&◌, ◌||◌, is_some, option_map, if◌then◌else◌}
 use Rattle.std.proofs.lemmas.Bool.Decides.{nat_tests}
 use Rattle.std.proofs.lemmas.Option.{slice_get_within, get_or_from_slice_get, slice_get-map}
 use Rattle.cap_words.specs.declared.Word.TheVariants.{Mem}
@@ -11,21 +11,26 @@ use Rattle.component_file.specs.declared.component.ComponentFields.{ComponentFie
 use Rattle.component_file.specs.declared.component.Import.{Import}
 use Rattle.component_file.specs.Limits.{last_base}
 use Rattle.component_check.specs.Places.{Test, first_below}
-use Rattle.component_check.specs.Verdict.{rule}
+use Rattle.component_check.specs.Verdict.{rule, NoneBroken}
 use Rattle.component_check.specs.Areas.{is_past_end, code_area, data_area, has_all}
 use Rattle.seal_space.specs.Seals.{has_seal}
 use Rattle.component_check.specs.Rules.{c1, c3, c4, c7, c8, c12, slot_of, slot_is_bad, words, holds_of, is_foreign, is_own, linear_at, linear_in, meet, meets_before, rules_c}
 use Rattle.component_check.proofs.First.{first_below_is, IsFirstIn}
+use Rattle.flow_check.specs.Lists.{k1, site_is_bad, lists}
 use Rattle.component_linker.specs.Parts.{PartSeen, IsPart, rules_of}
 use Rattle.component_linker.specs.Linked.{Kept, IsOwn, HasRange}
 
--- a rule of a part is broken nowhere
-kept : (p : PartSeen) → IsPart p → (n i : ℕ) (t : Test ℕ) → rule (rules_of p) n ≡ Some t → i < t.count → t.broken i ≡ false
-kept p h n i t is lt = by_test (t.broken i) refl
+-- a rule of some is broken nowhere
+nowhere : (rules : List (Test ℕ)) → NoneBroken rules → (n i : ℕ) (t : Test ℕ) → rule rules n ≡ Some t → i < t.count → t.broken i ≡ false
+nowhere rules h n i t is lt = by_test (t.broken i) refl
   where
     by_test : (b : Bool) → t.broken i ≡ b → t.broken i ≡ false
-    by_test true e = absurd (h.rules n i t is (lt, e))
+    by_test true e = absurd (h n i t is (lt, e))
     by_test false e = e
+
+-- a rule C of a part
+pub kept : (p : PartSeen) → IsPart p → (n i : ℕ) (t : Test ℕ) → rule (rules_of p) n ≡ Some t → i < t.count → t.broken i ≡ false
+kept p h = nowhere (rules_of p) h.rules
 
 -- ---- areas
 
@@ -159,12 +164,33 @@ closure_apart p h = second (is_past_end p.component.seals.base p.component.seals
     second false b e = e
 
 -- C12: a trusted part has a seal for each of its sites
+pub twelfth : (p : PartSeen) → p.trusted ≡ true → rule (rules_of p) 12 ≡ Some (c12 p.component)
+twelfth p trusted = ap (λ b. rule (rules_c p.component b) 12) trusted
+
 pub few_sites : (p : PartSeen) → IsPart p → p.trusted ≡ true → length p.component.sites ≤ p.component.seals.count
 unfolding c12
 few_sites p h trusted =
-    let twelfth : rule (rules_of p) 12 ≡ Some (c12 p.component) = ap (λ b. rule (rules_c p.component b) 12) trusted in
-    let fine : nat_lt p.component.seals.count (length p.component.sites) ≡ false = kept p h 12 2 (c12 p.component) twelfth (omega arith) in
+    let fine : nat_lt p.component.seals.count (length p.component.sites) ≡ false = kept p h 12 2 (c12 p.component) (twelfth p trusted) (omega arith) in
     grind (arith, nat_tests)
+
+-- ---- sites
+
+-- K1: they lie within the code
+pub sites_in : (p : PartSeen) → IsPart p → p.trusted ≡ true → (k o : ℕ) → slice_get p.component.sites k ≡ Some o → o < length p.component.code
+unfolding k1
+sites_in p h trusted k o e =
+    let fits : site_is_bad p.component k ≡ false = nowhere (lists p.component) (h.flow trusted).placed 1 k (k1 p.component) refl (slice_get_within p.component.sites k o e) in
+    let at : slice_index p.component.sites k ≡ o = get_or_from_slice_get p.component.sites k o 0 e in
+    let P : ℕ → Type 0 = λ s. s + 26 ≤ length p.component.code in
+    let room = subst P at (has_room (length p.component.code) (slice_index p.component.sites k) _ fits) in
+    omega (arith, room)
+  where
+    has_room : (n s : ℕ) (b : Bool) → (nat_lt n (s + 26) || b) ≡ false → s + 26 ≤ n
+    has_room n s b e = by_test (nat_lt n (s + 26)) refl
+      where
+        by_test : (t : Bool) → nat_lt n (s + 26) ≡ t → s + 26 ≤ n
+        by_test true f = let g : true ≡ false = sym (ap (λ t. t || b) f) ∙ e in cc
+        by_test false f = grind (arith, nat_tests)
 
 pub is_kept : (p : PartSeen) → IsPart p → Kept p
 is_kept p h = record {
@@ -176,5 +202,5 @@ is_kept p h = record {
   slots_apart = slots_apart p h;
   own = owns p h;
   once = once p h;
-  sites_in = h.sites;
+  sites_in = sites_in p h;
 }

@@ -1,5 +1,5 @@
 -- What the rules C and L say of seals: none is of two parts, and none is of two sites.
-use Rattle.std.proofs.Common.{◌≡◌, ℕ, ◌+◌, ◌<◌, ◌≤◌, ◌⊎◌, inl, inr, Bool, true, false, not, List, length, take, Some, refl, sym, ap, subst, ◌∙◌, arith}
+use Rattle.std.proofs.Common.{◌≡◌, ℕ, ◌+◌, ◌<◌, ◌≤◌, ◌⊎◌, inl, inr, Bool, true, false, not, List, length, take, Some, refl, sym, ap, subst, ◌∙◌, arith, eq-eqb}
 use Rattle.std.specs.Prelude.{slice_get, ◌==◌, ◌||◌, IsTrue}
 use Rattle.std.proofs.lemmas.Bool.{cases_eq}
 use Rattle.std.proofs.lemmas.Bool.Decides.{nat_tests}
@@ -59,6 +59,10 @@ same_site s t part index seal at = λ i. record { part = part i; index = index i
 of_range : (r : Stretch) (k seal : ℕ) → seal ≡ r.base + k → k < r.count → has_seal r seal ≡ true
 of_range r k seal e lt = grind (arith, nat_tests)
 
+of_first : (a b : Bool) → a ≡ true → (a || b) ≡ true
+of_first true b e = refl
+of_first false b e = absurd cc
+
 of_either : (a b : Bool) → b ≡ true → (a || b) ≡ true
 of_either true b e = refl
 of_either false b e = e
@@ -73,11 +77,37 @@ pub sites_apart : (parts : List PartSeen) (sites : List Site) → ((k : ℕ) (p 
 sites_apart parts sites kept apart are = record {
   own = λ s in_s. let is = (are.all s).0 in_s in (is.of, is.of_is, own_seal parts kept s is);
   once = λ s t in_s in_t e. one s t ((are.all s).0 in_s) ((are.all t).0 in_t) e;
+  no_closure = λ s in_s k p at e. closed s ((are.all s).0 in_s) k p at e;
+  no_untrusted = λ s in_s k p at untrusted. foreign s ((are.all s).0 in_s) k p at untrusted;
 }
   where
+    seal_of : (s : Site) (is : IsSite parts s) → IsTrue (is_seal_of is.of s.seal)
+    seal_of s is = of_either (is.of.component.closure == s.seal) (has_seal is.of.component.seals s.seal) (own_seal parts kept s is)
+
+    -- who has a site's seal is its part
+    one_part : (s : Site) (is : IsSite parts s) (k : ℕ) (p : PartSeen) → slice_get parts k ≡ Some p → IsTrue (is_seal_of p s.seal) → is.of ≡ p
+    one_part s is k p at has =
+        let part : s.part ≡ k = apart.between s.part k s.seal is.of p is.of_is at (seal_of s is) has in
+        let f : Some is.of ≡ Some p = sym is.of_is ∙ ap (slice_get parts) part ∙ at in
+        cc
+
+    closed : (s : Site) (is : IsSite parts s) (k : ℕ) (p : PartSeen) → slice_get parts k ≡ Some p → s.seal ≡ p.component.closure → ⊥
+    closed s is k p at e =
+        let has : IsTrue (is_seal_of p s.seal) = of_first (p.component.closure == s.seal) (has_seal p.component.seals s.seal) (eq-eqb p.component.closure s.seal (sym e)) in
+        let same = one_part s is k p at has in
+        let own : has_seal p.component.seals p.component.closure ≡ true = subst (λ o. has_seal p.component.seals o ≡ true) e (subst (λ q. has_seal q.component.seals s.seal ≡ true) same (own_seal parts kept s is)) in
+        let none : false ≡ true = sym (apart.within k p at) ∙ own in
+        cc
+
+    foreign : (s : Site) (is : IsSite parts s) (k : ℕ) (p : PartSeen) → slice_get parts k ≡ Some p → p.trusted ≡ false → is_seal_of p s.seal ≡ false
+    foreign s is k p at untrusted = by_test (is_seal_of p s.seal) refl
+      where
+        by_test : (b : Bool) → is_seal_of p s.seal ≡ b → is_seal_of p s.seal ≡ false
+        by_test false e = e
+        by_test true e = let same = one_part s is k p at e in let f : true ≡ false = sym is.trusted ∙ ap (λ q. q.trusted) same ∙ untrusted in cc
+
     one : (s t : Site) → IsSite parts s → IsSite parts t → s.seal ≡ t.seal → s ≡ t
     one s t is it e =
-        let seal_of : (r : Site) (ir : IsSite parts r) → IsTrue (is_seal_of ir.of r.seal) = λ r ir. of_either (ir.of.component.closure == r.seal) (has_seal ir.of.component.seals r.seal) (own_seal parts kept r ir) in
         let part : s.part ≡ t.part = apart.between s.part t.part s.seal is.of it.of is.of_is it.of_is (seal_of s is) (subst (λ o. IsTrue (is_seal_of it.of o)) (sym e) (seal_of t it)) in
         let of : is.of ≡ it.of = let f : Some is.of ≡ Some it.of = sym is.of_is ∙ ap (slice_get parts) part ∙ it.of_is in cc in
         let base : is.of.component.seals.base ≡ it.of.component.seals.base = ap (λ p. p.component.seals.base) of in

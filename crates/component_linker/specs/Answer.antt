@@ -1,5 +1,5 @@
 -- What linking answers.
-use Rattle.std.specs.Prelude.{ℕ, List, Result, Ok, Err}
+use Rattle.std.specs.Prelude.{◌≡◌, ℕ, List, slice_get, Some, Result, Ok, Err}
 use Rattle.lcm_machine.specs.Regions.{AreApart, HeldOnce}
 use Rattle.component_linker.specs.declared.fault.LinkFault.{LinkFault}
 use Rattle.component_linker.specs.declared.fault.LinkFault.TheVariants.{Rule, NoMemory}
@@ -8,10 +8,12 @@ use Rattle.component_linker.specs.Regions.{regions_of}
 use Rattle.component_linker.specs.Pairs.{IsFirstIn, NoneIsBroken}
 use Rattle.component_linker.specs.Links.{rules_l, rule_at}
 use Rattle.component_linker.specs.SealsApart.{PartsApart, SitesApart}
+use Rattle.component_linker.specs.TrustedCode.{CodeInCells, TrustedInCells}
 use Rattle.component_linker.specs.Started.{StartSeen, Starts}
 
 -- of parts as they stand: no rule L is broken, and this is their start. No seal is of two parts or of two
--- sites, regions lie apart, and no address of a linear one is held twice
+-- sites, regions lie apart, and no address of a linear one is held twice; all have the start's stack, and their
+-- code stands in the cells, that of trusted ones with its sequences
 pub record LinksTo (parts : List PartSeen) (size : ℕ) (s : StartSeen) : Type 0 where
   pub rules : NoneIsBroken (rules_l parts size)
   pub starts : Starts parts size s
@@ -19,6 +21,9 @@ pub record LinksTo (parts : List PartSeen) (size : ℕ) (s : StartSeen) : Type 0
   pub sites_apart : SitesApart parts s.sites
   pub regions : AreApart (regions_of parts size)
   pub held_once : HeldOnce (λ w. w) (regions_of parts size) s.state.maps
+  pub stack_base : (k : ℕ) (p : PartSeen) → slice_get parts k ≡ Some p → p.component.stack_base ≡ s.stack.base
+  pub code : CodeInCells parts s.state.maps
+  pub trusted : TrustedInCells parts s.state.maps
 
 -- the start; or the first rule that is broken; or, with no rule broken, that memory was refused
 abbrev pub Answers : List PartSeen → ℕ → Result StartSeen LinkFault → Type 0

@@ -1,4 +1,5 @@
 pub mod Parts
+pub mod Accepted
 pub mod Regions
 pub mod Start
 pub mod Pairs
@@ -9,6 +10,7 @@ pub mod Owners
 pub mod Listing
 pub mod Started
 pub mod SealsApart
+pub mod TrustedCode
 pub mod Lending
 pub mod Answer
 pub mod FaultText

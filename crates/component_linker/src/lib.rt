@@ -4,6 +4,7 @@
 mod fault;
 mod grant;
 mod imports;
+pub mod laws;
 mod laying;
 mod linking;
 mod machine;

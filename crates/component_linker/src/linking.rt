@@ -1,11 +1,14 @@
 //! Linking.
-ghost use Rattle.std.specs.Prelude.{◌≡◌, ◌<◌, ◌^◌, ℕ, length, map, slice_get, Some, Ok, OnOk};
+ghost use Rattle.std.specs.Prelude.{◌≡◌, ◌<◌, ◌^◌, ℕ, List, length, map, slice_get, Some, Ok, OnOk};
 ghost use Rattle.component_check.specs.Verdict.{check_from, kept_or};
 ghost use Rattle.component_linker.specs.Pairs.{by_part, IsFirstBrokenIn};
 ghost use Rattle.component_linker.specs.Links.{rules_l, rule_at};
+ghost use Rattle.lcm_machine.specs.Run.{Run};
 ghost use Rattle.component_linker.specs.Parts.{PartSeen, IsPart};
 ghost use Rattle.component_linker.specs.Linked.{Linked};
 ghost use Rattle.component_linker.specs.SealsApart.{PartsApart};
+ghost use Rattle.component_linker.specs.Start.{IsStart};
+ghost use Rattle.component_linker.specs.TrustedCode.{TrustedInCells};
 ghost use Rattle.component_linker.specs.Answer.{Answers};
 
 use crate::fault::{LinkFault, RuleAt};
@@ -17,7 +20,9 @@ use crate::placed::PlacedParts;
 use crate::regions::l1;
 use crate::started::{Start, start_of};
 use crate::whole::{l6, l8, l9};
+use call_sequence::laws::sequences_stand_word_by_word;
 use component_check::{Group, Rule};
+use flow_check::laws::sequences_stand;
 use std::alloc::Global;
 
 // Goes on where a rule has no broken place.
@@ -63,6 +68,16 @@ fn check_links(parts: &PlacedParts, stack: u32) -> Result<(), RuleAt>
     try_rules(parts, stack)
 }
 
+// What stands in the code of trusted parts at a start. This does nothing; its contract is the law.
+fn trusted_code_stands()
+    ensures { (parts : List PartSeen) (size : ℕ) (s : Run)
+        → ((k : ℕ) (p : PartSeen) → slice_get parts k ≡ Some p → IsPart p)
+        → Linked parts size → IsStart parts size s → TrustedInCells parts s.maps }
+{
+    sequences_stand();
+    sequences_stand_word_by_word();
+}
+
 /// The start of parts that are linked with a stack of this many words.
 ///
 /// Their code and data stand at their bases, with the two halves of what an import names in its
@@ -72,7 +87,8 @@ fn check_links(parts: &PlacedParts, stack: u32) -> Result<(), RuleAt>
 ///
 /// No seal is of two parts, and none is of two sites. No address of a linear area or of the stack is
 /// held twice at the start, and what [`lcm_machine::LcmState::run`] ensures keeps it so in every
-/// state that runs reach.
+/// state that runs reach. In the code of trusted parts stand, word by word, the call and the return
+/// of each site and the entry of each export, and the seal capability that calls load.
 ///
 /// # Errors
 ///
@@ -84,5 +100,6 @@ pub fn link(alloc: Global, parts: &[Part], stack: u32) -> Result<Start, LinkFaul
 {
     let placed = PlacedParts::of(parts, stack);
     check_links(&placed, stack)?;
+    trusted_code_stands();
     Ok(start_of(alloc, &placed, stack)?)
 }

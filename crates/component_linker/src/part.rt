@@ -1,14 +1,17 @@
 //! A part: a component that keeps its rules, and whether it is trusted.
-ghost use Rattle.std.specs.Prelude.{◌≡◌, false};
-ghost use Rattle.component_linker.specs.Parts.{IsPart, Accepts};
+ghost use Rattle.std.specs.Prelude.{◌≡◌};
+ghost use Rattle.component_linker.specs.Parts.{IsPart, TriesFlow, Accepts};
+ghost use Rattle.component_linker.specs.Accepted.{accepted};
 
 use component_check::{Broken, check};
 use component_file::Component;
+use flow_check::check_flow;
 use std::marker::Model;
 
 /// A component that keeps its rules, and whether it is trusted. A contract sees the two.
 ///
-/// Each part keeps the rules C1 to C9, and where it is trusted C10 to C12, of docs/RULES.md.
+/// Each part keeps the rules C1 to C9 of docs/RULES.md, and where it is trusted C10 to C12 and the
+/// rules of the flow of its code, K1 to K10.
 #[derive(Debug, Drop)]
 pub struct Part {
     component: Component,
@@ -25,17 +28,25 @@ impl Model for Part {
     ghost invariant = { λ p. IsPart (record { component = p.component; trusted = p.trusted }) };
 }
 
-/// The part of a component that keeps its rules, C1 to C12; else the first rule that it breaks, and
-/// the first place at which it breaks it. It takes no memory. A component that is refused is
-/// dropped.
-///
-/// Trusted components aren't accepted yet: their code has rules besides, the rules K, which nothing
-/// checks so far.
+// The rules K, which are asked of a trusted component.
+fn check_trusted(c: &Component, trusted: bool) -> Result<(), Broken>
+    ensures { TriesFlow (record { component = c.now; trusted = trusted }) result }
+{
+    if !trusted {
+        return Ok(());
+    }
+    check_flow(c)
+}
+
+/// The part of a component that keeps its rules: C1 to C9, and of a trusted one C10 to C12 and then
+/// K1 to K10. Else the first rule that it breaks, in this order, and the first place at which it
+/// breaks it. It takes no memory. A component that is refused is dropped.
 pub fn accept(c: Component, trusted: bool) -> Result<Part, Broken>
-    requires { trusted ≡ false }
-    ensures { Accepts (record { component = c; trusted = trusted }) result }
+    ensures first { Accepts (record { component = c; trusted = trusted }) result }
+    ensures is { result ≡ accepted (record { component = c; trusted = trusted }) }
 {
     check(&c, trusted)?;
+    check_trusted(&c, trusted)?;
     Ok(Part {
         component: c,
         trusted,

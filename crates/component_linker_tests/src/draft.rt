@@ -29,21 +29,21 @@ pub(crate) struct Draft {
     pub(crate) exports: [ExportDraft; 2],
 }
 
-fn push_number(bytes: &mut Vec<u8>, number: u32) -> Result<(), AllocError> {
+pub(crate) fn push_number(bytes: &mut Vec<u8>, number: u32) -> Result<(), AllocError> {
     bytes.extend_from_slice(&number.to_le_bytes())
 }
 
-fn push_name(bytes: &mut Vec<u8>, name: &str) -> Result<(), AllocError> {
+pub(crate) fn push_name(bytes: &mut Vec<u8>, name: &str) -> Result<(), AllocError> {
     bytes.push((name.len() % 256) as u8)?;
     bytes.extend_from_slice(name.as_bytes())
 }
 
-fn push_area(bytes: &mut Vec<u8>, area: Area) -> Result<(), AllocError> {
+pub(crate) fn push_area(bytes: &mut Vec<u8>, area: Area) -> Result<(), AllocError> {
     push_number(bytes, area.count)?;
     push_number(bytes, area.base)
 }
 
-fn push_integer(bytes: &mut Vec<u8>, number: i64) -> Result<(), AllocError> {
+pub(crate) fn push_integer(bytes: &mut Vec<u8>, number: i64) -> Result<(), AllocError> {
     bytes.push(0)?;
     bytes.extend_from_slice(&number.to_le_bytes())
 }
@@ -82,7 +82,10 @@ fn push_data(bytes: &mut Vec<u8>, draft: &Draft) -> Result<(), AllocError> {
     Ok(())
 }
 
-fn push_imports(bytes: &mut Vec<u8>, imports: [ImportDraft; 2]) -> Result<(), AllocError> {
+pub(crate) fn push_imports(
+    bytes: &mut Vec<u8>,
+    imports: [ImportDraft; 2],
+) -> Result<(), AllocError> {
     let count = u8::from(imports[0].is_some()).saturating_add(u8::from(imports[1].is_some()));
     bytes.extend_from_slice(&[count, 0])?;
     for import in imports {
@@ -95,7 +98,10 @@ fn push_imports(bytes: &mut Vec<u8>, imports: [ImportDraft; 2]) -> Result<(), Al
     Ok(())
 }
 
-fn push_exports(bytes: &mut Vec<u8>, exports: [ExportDraft; 2]) -> Result<(), AllocError> {
+pub(crate) fn push_exports(
+    bytes: &mut Vec<u8>,
+    exports: [ExportDraft; 2],
+) -> Result<(), AllocError> {
     let count = u8::from(exports[0].is_some()).saturating_add(u8::from(exports[1].is_some()));
     bytes.extend_from_slice(&[count, 0])?;
     for export in exports {

@@ -9,3 +9,5 @@ mod draft;
 mod rules;
 #[cfg(test)]
 mod start;
+#[cfg(test)]
+mod trusted;

@@ -11,7 +11,12 @@ use std::process::Abort;
 use std::test::Fail;
 
 // The number of the first rule that the parts break, its part and its place.
-fn broken_by(rt: &impl Abort, alloc: Global, parts: &[Part], stack: u32) -> Option<(u8, u32, u32)> {
+pub(crate) fn broken_by(
+    rt: &impl Abort,
+    alloc: Global,
+    parts: &[Part],
+    stack: u32,
+) -> Option<(u8, u32, u32)> {
     assert!(rt; parts.len() < 100);
     match link(alloc, parts, stack) {
         Ok(_) => None,
@@ -23,50 +28,43 @@ fn broken_by(rt: &impl Abort, alloc: Global, parts: &[Part], stack: u32) -> Opti
     }
 }
 
-fn break_first(rt: &impl Abort, alloc: Global, cases: &[Case]) -> Result<(), FileFault> {
-    for (changes, stack, wanted) in cases {
-        let mut parts = Vec::new(alloc);
-        for (draft, change) in [ONE, LIB, AUX].into_iter().zip(*changes) {
-            let mut changed = draft;
-            changed.make(change);
-            parts.push(part_of(rt, alloc, &changed)?)?;
-        }
-        assert_eq!(rt;
-            broken_by(rt, alloc, &parts, *stack),
-            *wanted,
-            "{changes:?} {stack}"
-        );
+fn judge(
+    rt: &impl Abort,
+    alloc: Global,
+    drafts: &[Draft],
+    stack: u32,
+    wanted: Option<(u8, u32, u32)>,
+) -> Result<(), FileFault> {
+    let mut parts = Vec::new(alloc);
+    for draft in drafts {
+        parts.push(part_of(rt, alloc, draft)?)?;
     }
+    assert_eq!(rt;
+        broken_by(rt, alloc, &parts, stack),
+        wanted,
+        "{drafts:?} {stack}"
+    );
     Ok(())
 }
 
 #[test]
-fn regions_are_judged(rt: HostRuntime) -> Result<(), Fail> {
-    break_first(&rt, rt.alloc(), &REGION_CASES)?;
-    Ok(())
-}
-
-#[test]
-fn regions_beside_the_stack_are_judged(rt: HostRuntime) -> Result<(), Fail> {
-    break_first(&rt, rt.alloc(), &STACK_REGION_CASES)?;
-    Ok(())
-}
-
-#[test]
-fn pairs_are_judged(rt: HostRuntime) -> Result<(), Fail> {
-    break_first(&rt, rt.alloc(), &PAIR_CASES)?;
-    Ok(())
-}
-
-#[test]
-fn imports_are_judged(rt: HostRuntime) -> Result<(), Fail> {
-    break_first(&rt, rt.alloc(), &IMPORT_CASES)?;
-    Ok(())
-}
-
-#[test]
-fn the_whole_is_judged(rt: HostRuntime) -> Result<(), Fail> {
-    break_first(&rt, rt.alloc(), &WHOLE_CASES)?;
+fn lists_of_parts_are_judged(rt: HostRuntime) -> Result<(), Fail> {
+    let tables: [&[Case]; 5] = [
+        &REGION_CASES,
+        &STACK_REGION_CASES,
+        &PAIR_CASES,
+        &IMPORT_CASES,
+        &WHOLE_CASES,
+    ];
+    for cases in tables {
+        for (changes, stack, wanted) in cases {
+            let mut drafts = [ONE, LIB, AUX];
+            for (draft, change) in drafts.iter_mut().zip(*changes) {
+                draft.make(change);
+            }
+            judge(&rt, rt.alloc(), &drafts, *stack, *wanted)?;
+        }
+    }
     Ok(())
 }
 
@@ -96,11 +94,10 @@ const TWO: Draft = Draft {
 };
 
 #[test]
-fn one_part_and_no_part(rt: HostRuntime) -> Result<(), Fail> {
-    let mut parts = Vec::new(rt.alloc());
-    assert_eq!(&rt; broken_by(&rt, rt.alloc(), &parts, 64), Some((6, 0, 0)));
-    assert_eq!(&rt; broken_by(&rt, rt.alloc(), &parts, 1), Some((6, 0, 0)));
-    parts.push(part_of(&rt, rt.alloc(), &ALONE)?)?;
+fn no_part_and_one_and_two(rt: HostRuntime) -> Result<(), Fail> {
+    let alloc = rt.alloc();
+    judge(&rt, alloc, &[], 64, Some((6, 0, 0)))?;
+    judge(&rt, alloc, &[], 1, Some((6, 0, 0)))?;
     let sizes = [
         (1, Some((8, 1, 1))),
         (2, None),
@@ -108,39 +105,27 @@ fn one_part_and_no_part(rt: HostRuntime) -> Result<(), Fail> {
         (65_537, Some((8, 1, 65_537))),
     ];
     for (stack, wanted) in sizes {
-        assert_eq!(&rt; broken_by(&rt, rt.alloc(), &parts, stack), wanted);
+        judge(&rt, alloc, &[ALONE], stack, wanted)?;
     }
-    Ok(())
-}
-
-#[test]
-fn a_linear_area_right_behind_the_stack(rt: HostRuntime) -> Result<(), Fail> {
+    // A linear area right behind the stack.
     for (base, wanted) in [(65_600, Some((1, 1, 0))), (65_601, None)] {
         let mut draft = ALONE;
         draft.make(Change::LinearArea(base, 16));
         draft.holds_linear = true;
-        let mut parts = Vec::new(rt.alloc());
-        parts.push(part_of(&rt, rt.alloc(), &draft)?)?;
-        assert_eq!(&rt; broken_by(&rt, rt.alloc(), &parts, 64), wanted);
+        judge(&rt, alloc, &[draft], 64, wanted)?;
     }
-    Ok(())
-}
-
-#[test]
-fn a_part_beside_another(rt: HostRuntime) -> Result<(), Fail> {
-    let cases = [
+    let seconds = [
         (1, 102, Some((2, 1, 0))),
         (2, 101, Some((1, 1, 0))),
         (2, 102, None),
     ];
-    for (closure, code_base, wanted) in cases {
-        let mut draft = TWO;
-        draft.make(Change::Closure(closure));
-        draft.make(Change::CodeBase(code_base));
-        let mut parts = Vec::new(rt.alloc());
-        parts.push(part_of(&rt, rt.alloc(), &ALONE)?)?;
-        parts.push(part_of(&rt, rt.alloc(), &draft)?)?;
-        assert_eq!(&rt; broken_by(&rt, rt.alloc(), &parts, 64), wanted);
+    for (closure, code_base, wanted) in seconds {
+        let second = Draft {
+            closure,
+            code_base,
+            ..TWO
+        };
+        judge(&rt, alloc, &[ALONE, second], 64, wanted)?;
     }
     Ok(())
 }

@@ -1,10 +1,29 @@
-use Rattle.std.proofs.Common.{◌≡◌, ◌∙◌, true, false, sym, subst}
+use Rattle.std.proofs.Common.{rules, ◌≡◌, ◌∙◌, inl, inr, Ok, Err, refl, subst}
 use Rattle.component_file.specs.Limits.{IsComponent}
+use Rattle.component_linker.specs.Parts.{PartSeen}
+use Rattle.component_linker.proofs.Accepted.{accepts_is}
 use Rattle.component_linker.proofs.part.accept.Goals as goal
 
 pub invariant_of-result : goal.invariant_of-result
 invariant_of-result c = record {
   limits = subst IsComponent c.c.view_is c.c.invariant;
   rules = c.in_ok-check.ensures;
-  sites = λ trusted k o is. let f : false ≡ true = sym c.requires ∙ trusted in cc;
+  flow = c.in_ok-check_trusted.ensures;
 }
+
+pub returns-in_err-check-clause-is : goal.returns-in_err-check-clause-is
+returns-in_err-check-clause-is c =
+    let p : PartSeen = record { component = c.args.c; trusted = c.args.trusted } in
+    let e : c.from_residual.result ≡ Err c.in_err-check.field-0.0 = search rules in
+    e ∙ accepts_is p (Err c.in_err-check.field-0.0) (inl c.in_err-check.ensures)
+
+pub returns-in_err-check_trusted-clause-is : goal.returns-in_err-check_trusted-clause-is
+returns-in_err-check_trusted-clause-is c =
+    let p : PartSeen = record { component = c.args.c; trusted = c.args.trusted } in
+    let e : c.from_residual-in_err-check_trusted.result ≡ Err c.in_err-check_trusted.field-0.0 = search rules in
+    e ∙ accepts_is p (Err c.in_err-check_trusted.field-0.0) (inr (c.in_ok-check.ensures, c.in_err-check_trusted.ensures))
+
+pub returns-clause-is : goal.returns-clause-is
+returns-clause-is c =
+    let p : PartSeen = record { component = c.args.c; trusted = c.args.trusted } in
+    accepts_is p (Ok p) (refl, c.in_ok-check.ensures, c.in_ok-check_trusted.ensures)
