@@ -1,151 +1,137 @@
--- What the program answers: the causes of every status.
-use Rattle.std.specs.Prelude.{◌≡◌, ◌≢◌, ℕ, ℤ, ◌<◌, ◌≤◌, ◌⊎◌, List, length, codes, Option, Some, None, IsSome, IsSomeAnd}
+-- What a call of the program answers.
+use Rattle.std.specs.Prelude.{◌≡◌, ◌⊎◌, ℕ, ◌<◌, ◌≤◌, List, length, codes, Option, Some, None, Result, Ok, Err}
 use Rattle.outside_io.specs.Counts.{Rose}
 use Rattle.outside_io.specs.FilesSeen.{FilesSeen}
 use Rattle.outside_io.specs.SinkSeen.{SinkSeen, Adds, FailsToWrite}
-use Rattle.outside_io.specs.Whole.{Came, OnlyGave, Faults}
-use Rattle.lcm_machine.specs.declared.FailCause.{FailCause}
+use Rattle.outside_io.specs.Whole.{OnlyGave}
 use Rattle.lcm_machine.specs.declared.Step.{Step}
 use Rattle.lcm_machine.specs.declared.Step.TheVariants.{Went, Halted, Failed}
-use Rattle.lcm_machine.specs.Run.{Run, answer, plain}
+use Rattle.lcm_machine.specs.Run.{Run as Machine, answer as last_step, plain}
+use Rattle.component_linker.specs.Start.{IsStart}
+use Rattle.lcm_cli.specs.declared.TheConstants.{LONGEST_FILE}
 use Rattle.lcm_cli.specs.declared.status.Status.{Status}
-use Rattle.lcm_cli.specs.declared.status.Status.TheVariants.{Done, MachineFailed, StepsUsed, Usage, ReadFault, WriteFault, NoMemory, TooLong, Unbuilt}
-use Rattle.lcm_cli.specs.Words.{Asked}
-use Rattle.lcm_cli.specs.Form.{Program, IsProgram, form_text}
-use Rattle.lcm_cli.specs.Start.{IsStart}
+use Rattle.lcm_cli.specs.declared.status.Status.TheVariants.{Done, MachineFailed, StepsUsed}
+use Rattle.lcm_cli.specs.declared.status.Status.TheVariants.{WriteFault, NoMemory}
+use Rattle.lcm_cli.specs.declared.refusal.Refusal.{Refusal}
+use Rattle.lcm_cli.specs.declared.refusal.Refusal.TheVariants.{TooLong}
+use Rattle.lcm_cli.specs.declared.job.Job.{Job}
+use Rattle.lcm_cli.specs.declared.job.Job.TheVariants as job
 use Rattle.lcm_cli.specs.EndLine.{end_line}
+use Rattle.lcm_cli.specs.Refusals.{refusal_text, refusal_status}
+use Rattle.lcm_cli.specs.Plans.{Plan, Reads, Ends, Made, Comes}
+use Rattle.lcm_cli.specs.Commands.{Task, Run, Say}
 
--- a status, the line that is written with it, and the machine that is handed over, where a run was made
+-- a status, the text that is written, and the machine that is handed over, where there is one
 pub record Answer : Type 0 where
   pub status : Status
-  pub line : List ℕ
-  pub machine : Option Run
+  pub text : List ℕ
+  pub machine : Option Machine
 
-abbrev pub refusal : Status → List ℕ → Answer
-refusal status line = record { status = status; line = line; machine = None }
+abbrev pub writes : Status → List ℕ → Answer
+writes status text = record { status = status; text = text; machine = None }
 
--- the status of a run, by what it came to
-abbrev pub status_of : Step → Status
-status_of Went = StepsUsed
-status_of Halted = Done
-status_of (Failed cause at) = MachineFailed
+abbrev pub refused : Refusal → Answer
+refused why = writes (refusal_status why) (refusal_text why)
 
--- the answer of a run that was made
-abbrev pub run_answer : Run → Answer
-run_answer r = record { status = status_of (answer r); line = end_line r; machine = Some r }
+-- the status of a run, by what its last step answered
+abbrev pub step_status : Step → Status
+step_status Went = StepsUsed
+step_status Halted = Done
+step_status (Failed cause at) = MachineFailed
 
--- the longest file that is read
-abbrev pub LONGEST : ℕ
-LONGEST = 4194304
+-- of a machine as a run left it
+abbrev pub ran : Machine → Answer
+ran m = record (writes (step_status (last_step m)) (end_line m)) { machine = Some m }
 
--- the answer to a file of these bytes, run for so many steps
-pub data IsAnswerTo (steps : ℕ) (bytes : List ℕ) (a : Answer) : Type 0 where
-  -- the file is too long
-  too_long : LONGEST < length bytes → a ≡ refusal TooLong (codes "too long 0\n") → IsAnswerTo steps bytes a
-  -- the file isn't of the built form
-  unbuilt : length bytes ≤ LONGEST → ((p : Program) → IsProgram p → bytes ≢ form_text p) → a ≡ refusal Unbuilt (codes "unbuilt\n") → IsAnswerTo steps bytes a
-  -- the file is a program's text, and the machine runs from the program's start
-  ran : length bytes ≤ LONGEST → (p : Program) → IsProgram p → bytes ≡ form_text p → (s : Run) → IsStart p s → a ≡ run_answer (plain steps s) → IsAnswerTo steps bytes a
+abbrev pub said : Answer
+said = writes Done (codes "ok\n")
 
--- a call of the program: what its words ask for, and what the files, the sink and the place for a machine hold before and after
-pub record Call : Type 0 where
-  pub asked : Option Asked
+-- the answer to what came of a plan: that of the plain run of a start of the parts, `ok`, or the refusal's
+abbrev pub IsAnswerOf : Result Task Refusal → Answer → Type 0
+IsAnswerOf (Ok (Run parts size steps)) a =
+    (start : Machine) × IsStart parts size start × (a ≡ ran (plain steps start))
+IsAnswerOf (Ok Say) a = a ≡ said
+IsAnswerOf (Err why) a = a ≡ refused why
+
+-- ---- calls
+
+-- what is outside of a call: what the files and the sink tell, and what the place for a machine holds
+pub record Outside : Type 0 where
   pub files : FilesSeen
-  pub files_after : FilesSeen
   pub sink : SinkSeen
-  pub sink_after : SinkSeen
-  pub kept : Option Run
-  pub kept_after : Option Run
+  pub kept : Option Machine
 
--- the answer that a call is due
-pub data IsDue (c : Call) (a : Answer) : Type 0 where
-  -- the words are no command
-  no_command : c.asked ≡ None → c.files_after ≡ c.files → a ≡ refusal Usage (codes "usage\n") → IsDue c a
-  -- the file could not be read
-  no_file : (asked : Asked) → c.asked ≡ Some asked → Faults c.files asked.name LONGEST c.files_after → a ≡ refusal ReadFault (codes "read fault\n") → IsDue c a
-  -- the file came
-  file : (asked : Asked) → c.asked ≡ Some asked → OnlyGave c.files c.files_after → (bytes : List ℕ) → Came c.files asked.name bytes c.files_after → IsAnswerTo asked.steps bytes a → IsDue c a
+abbrev pub outside : FilesSeen → SinkSeen → Option Machine → Outside
+outside files sink kept = record { files = files; sink = sink; kept = kept }
 
--- the place for a machine after an answer
-abbrev pub kept_with : Option Run → Option Run → Option Run
+abbrev pub kept_with : Option Machine → Option Machine → Option Machine
 kept_with None old = old
-kept_with (Some r) old = Some r
+kept_with (Some m) old = Some m
 
--- an answer was given whole
-pub record Gives (c : Call) (status : Status) : Type 0 where
-  pub answer : Answer
-  pub due : IsDue c answer
-  pub status_is : status ≡ answer.status
-  pub written : Adds c.sink answer.line c.sink_after
-  pub kept_is : c.kept_after ≡ kept_with answer.machine c.kept
-
--- the sink failed at the line that was due; some front of the line stands, and no machine is handed over
-pub record FailsToGive (c : Call) : Type 0 where
-  pub answer : Answer
-  pub due : IsDue c answer
-  pub written : FailsToWrite c.sink answer.line c.sink_after
-  pub kept_is : c.kept_after ≡ c.kept
-
--- memory was refused, with nothing written and no machine handed over
-pub record GivesNothing (c : Call) : Type 0 where
-  pub command : IsSome c.asked
-  pub quiet : OnlyGave c.files c.files_after
-  pub unwritten : c.sink_after ≡ c.sink
-  pub kept_is : c.kept_after ≡ c.kept
-
--- what each status says of the call
-abbrev pub Answers : Call → Status → Type 0
-Answers c WriteFault = FailsToGive c
-Answers c NoMemory = GivesNothing c
-Answers c status = Gives c status
-
--- the file of the words came, and these bytes are it
-abbrev pub FileIs : Call → (Asked → List ℕ → Type 0) → Type 0
-FileIs c P = (asked : Asked) × (c.asked ≡ Some asked) × (bytes : List ℕ) × Came c.files asked.name bytes c.files_after × P asked bytes
-
--- the file is a program's text, and the run of its start came to this
-abbrev pub RunIs : Call → (Step → Type 0) → Type 0
-RunIs c P = FileIs c (λ asked bytes. (p : Program) × IsProgram p × (bytes ≡ form_text p) × (s : Run) × IsStart p s × P (answer (plain asked.steps s)))
-
--- the causes: what holds of a call wherever it ends with a status
-abbrev pub Caused : Call → Status → Type 0
-Caused c Done = RunIs c (λ step. step ≡ Halted)
-Caused c MachineFailed = RunIs c (λ step. (cause : FailCause) × (at : ℤ) × (step ≡ Failed cause at))
-Caused c StepsUsed = RunIs c (λ step. step ≡ Went)
-Caused c Usage = c.asked ≡ None
-Caused c ReadFault = (asked : Asked) × (c.asked ≡ Some asked) × Faults c.files asked.name LONGEST c.files_after
-Caused c WriteFault = Rose c.sink.faults c.sink_after.faults
-Caused c NoMemory = IsSome c.asked
-Caused c TooLong = FileIs c (λ asked bytes. LONGEST < length bytes)
-Caused c Unbuilt = FileIs c (λ asked bytes. (p : Program) → IsProgram p → bytes ≢ form_text p)
-
--- this answer was given, whole
-pub record GivesThis (c : Call) (a : Answer) (status : Status) : Type 0 where
+-- an answer is given whole: its text written, its machine handed over
+pub record GivesWhole (old : Outside) (a : Answer) (status : Status) (new : Outside) : Type 0 where
   pub status_is : status ≡ a.status
-  pub written : Adds c.sink a.line c.sink_after
-  pub kept_is : c.kept_after ≡ kept_with a.machine c.kept
+  pub written : Adds old.sink a.text new.sink
+  pub kept_is : new.kept ≡ kept_with a.machine old.kept
 
--- the files tell that under this name they hold these bytes
-abbrev pub Holds : FilesSeen → List ℕ → List ℕ → Type 0
-Holds files name bytes = IsSomeAnd files.contents (λ held. held name ≡ Some bytes)
+-- or the sink failed at its text, and no machine is handed over
+pub data Gives (old : Outside) (a : Answer) (status : Status) (new : Outside) : Type 0 where
+  whole : GivesWhole old a status new → Gives old a status new
+  unwritten : FailsToWrite old.sink a.text new.sink → new.kept ≡ old.kept → status ≡ WriteFault
+      → Gives old a status new
 
--- where the words are a command, its file is there and no count of faults rises, the answer to the file's bytes is given, or memory is refused
-abbrev pub IsComplete : Call → Status → Type 0
-IsComplete c status = (asked : Asked) (bytes : List ℕ) (a : Answer) → c.asked ≡ Some asked → Holds c.files asked.name bytes → IsAnswerTo asked.steps bytes a
-    → ¬ (Rose c.files.failed_reads c.files_after.failed_reads) → ¬ (Rose c.sink.faults c.sink_after.faults)
-    → (status ≡ NoMemory) ⊎ GivesThis c a status
+-- memory was refused, with nothing written and nothing handed over
+pub record GivesNothing (old : Outside) (status : Status) (new : Outside) : Type 0 where
+  pub status_is : status ≡ NoMemory
+  pub quiet : OnlyGave old.files new.files
+  pub unwritten : new.sink ≡ old.sink
+  pub kept_is : new.kept ≡ old.kept
 
--- what the top call promises: the answer that was due, the cause of its status, and that nothing else was given where nothing outside failed
-pub record Promised (c : Call) (status : Status) : Type 0 where
-  pub answers : Answers c status
-  pub causes : Caused c status
-  pub complete : IsComplete c status
+-- the answer to what came of the plan is given, or nothing is
+pub data Answers (plan : Plan Task) (old : Outside) (status : Status) (new : Outside) : Type 0 where
+  answer : (due : Result Task Refusal) (a : Answer) → Comes plan old.files due new.files → IsAnswerOf due a
+      → Gives old a status new → Answers plan old status new
+  nothing : GivesNothing old status new → Answers plan old status new
 
--- a line was written and this status answered, or the sink failed
-abbrev pub Tells : SinkSeen → SinkSeen → List ℕ → Status → Status → Type 0
-Tells old new line status result = ((result ≡ status) × Adds old line new) ⊎ ((result ≡ WriteFault) × FailsToWrite old line new)
+-- ---- where the files tell what they hold
 
--- what the text of a file begins: the start of its program, or nothing
-abbrev pub Begins : List ℕ → Option Run → Type 0
-Begins text None = (p : Program) → IsProgram p → text ≢ form_text p
-Begins text (Some s) = (p : Program) × IsProgram p × (text ≡ form_text p) × IsStart p s
+-- what comes of a plan over files of these bytes
+abbrev pub Settles : {A : Type 0} → (List ℕ → Option (List ℕ)) → Plan A → Result A Refusal → Type 0
+Settles held (Made x) due = due ≡ Ok x
+Settles held (Ends why) due = due ≡ Err why
+Settles held (Reads name place next) due =
+    (bytes : List ℕ) × (held name ≡ Some bytes)
+    × (((length bytes ≤ LONGEST_FILE) × Settles held (next bytes) due)
+    ⊎ ((LONGEST_FILE < length bytes) × (due ≡ Err (TooLong place))))
+
+-- what is written, answered and handed over, by the plan and the bytes of the files
+abbrev pub IsWritten : (List ℕ → Option (List ℕ)) → Plan Task → Answer → Type 0
+IsWritten held plan a = (due : Result Task Refusal) × Settles held plan due × IsAnswerOf due a
+
+-- no count of faults rises in the call
+pub record IsQuiet (old new : Outside) : Type 0 where
+  pub reads : ¬ (Rose old.files.failed_reads new.files.failed_reads)
+  pub writes : ¬ (Rose old.sink.faults new.sink.faults)
+
+-- over files that tell, where no count rises, the answer to their bytes is given whole, or memory is refused
+abbrev pub IsComplete : Plan Task → Outside → Status → Outside → Type 0
+IsComplete plan old status new =
+    (held : List ℕ → Option (List ℕ)) → old.files.contents ≡ Some held → IsQuiet old new
+    → (status ≡ NoMemory) ⊎ ((a : Answer) × IsWritten held plan a × GivesWhole old a status new)
+
+-- ---- bodies
+
+-- a text was written and this status answered, or the sink failed
+abbrev pub Tells : SinkSeen → List ℕ → Status → Status → SinkSeen → Type 0
+Tells old text status result new =
+    ((result ≡ status) × Adds old text new) ⊎ ((result ≡ WriteFault) × FailsToWrite old text new)
+
+-- the answer of a job
+abbrev pub job_answer : Job → Answer
+job_answer (job.Run start steps) = ran (plain steps start.state)
+job_answer job.Say = said
+
+-- the machine of a job made no step yet
+abbrev pub IsReady : Job → Type 0
+IsReady (job.Run start steps) = start.state.count ≡ 0
+IsReady job.Say = Unit {0}

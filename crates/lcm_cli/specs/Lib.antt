@@ -1,10 +1,9 @@
-pub mod Words
-pub mod Asked
-pub mod Cut
-pub mod Form
-pub mod Built
-pub mod Reading
-pub mod Start
 pub mod EndLine
-pub mod Answers
 pub mod Status
+pub mod Refusals
+pub mod Plans
+pub mod Parts
+pub mod Commands
+pub mod Jobs
+pub mod Answers
+pub mod Causes

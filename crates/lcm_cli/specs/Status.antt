@@ -1,7 +1,9 @@
 -- The numbers of statuses.
 use Rattle.std.specs.Prelude.{ℕ}
 use Rattle.lcm_cli.specs.declared.status.Status.{Status}
-use Rattle.lcm_cli.specs.declared.status.Status.TheVariants.{Done, MachineFailed, StepsUsed, Usage, ReadFault, WriteFault, NoMemory, TooLong, Unbuilt}
+use Rattle.lcm_cli.specs.declared.status.Status.TheVariants.{Done, MachineFailed, StepsUsed, Usage, ReadFault}
+use Rattle.lcm_cli.specs.declared.status.Status.TheVariants.{WriteFault, NoMemory, TooLong, AsmRefused}
+use Rattle.lcm_cli.specs.declared.status.Status.TheVariants.{SourceRefused, FileRefused, RuleBroken}
 
 abbrev pub status_number : Status → ℕ
 status_number Done = 0
@@ -12,4 +14,7 @@ status_number ReadFault = 11
 status_number WriteFault = 12
 status_number NoMemory = 13
 status_number TooLong = 14
-status_number Unbuilt = 19
+status_number AsmRefused = 15
+status_number SourceRefused = 16
+status_number FileRefused = 17
+status_number RuleBroken = 18

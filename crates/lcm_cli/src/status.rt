@@ -5,28 +5,34 @@ ghost use Rattle.lcm_cli.specs.Status.{status_number};
 /// What a call of the program came to. The number is the process's exit status.
 #[derive(Clone, Copy, PartialEq, Eq, Debug)]
 pub enum Status {
-    /// The machine halted.
+    /// The machine halted, or what was to be said was written.
     Done,
     /// The machine failed.
     MachineFailed,
     /// The machine neither halted nor failed within its steps.
     StepsUsed,
-    /// The words are no command.
+    /// The words are no command, or ask for something that isn't built.
     Usage,
-    /// The file could not be read.
+    /// A file could not be read.
     ReadFault,
     /// The line could not be written.
     WriteFault,
     /// Memory was refused.
     NoMemory,
-    /// The file has more than 4,194,304 bytes.
+    /// A file has more than [`LONGEST_FILE`](crate::LONGEST_FILE) bytes.
     TooLong,
-    /// The file isn't of the built form.
-    Unbuilt,
+    /// An assembler text spells no component.
+    AsmRefused,
+    /// A source is refused. No command that is built answers it.
+    SourceRefused,
+    /// The bytes of a file are no component.
+    FileRefused,
+    /// A rule of a part, or of the parts together, is broken.
+    RuleBroken,
 }
 
 impl Status {
-    /// The exit status: 0 to 2 after a run, 10 to 14 and 19 else.
+    /// The exit status: 0 to 2 after a run, 0 also for what was written, 10 to 18 else.
     pub fn number(self) -> u8
         ensures { result ≡ status_number self }
     {
@@ -39,7 +45,10 @@ impl Status {
             Status::WriteFault => 12,
             Status::NoMemory => 13,
             Status::TooLong => 14,
-            Status::Unbuilt => 19,
+            Status::AsmRefused => 15,
+            Status::SourceRefused => 16,
+            Status::FileRefused => 17,
+            Status::RuleBroken => 18,
         }
     }
 }

@@ -1,48 +1,41 @@
-//! The top call: all that the program does.
-ghost use Rattle.std.specs.Prelude.{◌≡◌, ◌≢◌, ◌+◌, ◌<◌, ◌≤◌, ◌^◌, ◌⊎◌, ℕ, List, Some, None, length, IfOk, codes};
-ghost use Rattle.outside_io.specs.FilesSeen.{IsFileName};
-ghost use Rattle.outside_io.specs.SinkSeen.{Adds, FailsToWrite};
-ghost use Rattle.lcm_machine.specs.Run.{answer, plain};
-ghost use Rattle.lcm_cli.specs.Asked.{asked};
-ghost use Rattle.lcm_cli.specs.Words.{asked_in, texts};
-ghost use Rattle.lcm_cli.specs.EndLine.{end_line};
-ghost use Rattle.lcm_cli.specs.Answers.{Answer, Answers, Begins, IsAnswerTo, Promised, Tells, status_of};
+//! The top call.
+ghost use Rattle.std.specs.Prelude.{◌≡◌, ◌⊎◌, ◌<◌, ℕ, List, Some, false, length};
+ghost use Rattle.command_words.specs.declared.command.Command.TheVariants as command;
+ghost use Rattle.command_words.specs.declared.command.Linked.TheVariants as what;
+ghost use Rattle.command_words.specs.declared.part.PartWord.{PartWord};
+ghost use Rattle.command_words.specs.Action.{asked_in};
+ghost use Rattle.command_words.specs.Texts.{texts};
+ghost use Rattle.lcm_cli.specs.declared.job.Job.TheVariants as job;
+ghost use Rattle.lcm_cli.specs.Commands.{plan_in, is_command};
+ghost use Rattle.lcm_cli.specs.Jobs.{FollowsTask};
+ghost use Rattle.lcm_cli.specs.Answers.{Answers, Gives, Tells, outside, step_status, refused};
+ghost use Rattle.lcm_cli.specs.Answers.{job_answer, IsReady};
+ghost use Rattle.lcm_cli.specs.Causes.{Promised, IsRunStatus, RunGiven};
 
 use crate::end_line::end_line;
-use crate::form::built_of;
-use crate::start::start;
+use crate::job::{Job, job_of};
+use crate::refusal::{Refusal, Stop};
+use crate::refusal_line::{refusal_line, refusal_status};
 use crate::status::Status;
-use crate::words::{Command, command_of};
+use command_words::{Steps, WordsFault, command_of};
+use component_linker::Start;
 use lcm_machine::{LcmState, Step};
-use outside_io::{Files, ReadEnd, Sink, read_whole};
-use std::alloc::{AllocError, Global};
+use outside_io::{Files, Sink};
+use std::alloc::Global;
 
-/// The longest file that is read, in bytes.
-const LONGEST: u32 = 4_194_304;
-
-// Writes a line, and answers the status, or WriteFault where the sink fails.
-fn tell<S: Sink>(out: &mut S, line: &str, status: Status) -> Status
-    requires { 0 < length line.now }
-    ensures { Tells (S.seen out.old) (S.seen out.new) line.now status result }
+// Writes a text, and answers the status, or WriteFault where the sink fails.
+fn tell<S: Sink>(out: &mut S, text: &str, status: Status) -> Status
+    requires { 0 < length text.now }
+    ensures { Tells (S.seen out.old) text.now status result (S.seen out.new) }
 {
-    match out.write(line.as_bytes()) {
+    match out.write(text.as_bytes()) {
         Ok(()) => status,
         Err(_) => Status::WriteFault,
     }
 }
 
-// The machine at the start of the program whose text this is. None where the text isn't of the built form.
-fn begin(alloc: Global, text: &[u8]) -> Result<Option<LcmState>, AllocError>
-    ensures { IfOk result (Begins text.now) }
-{
-    match built_of(alloc, text)? {
-        Some(built) => Ok(Some(start(alloc, &built)?)),
-        None => Ok(None),
-    }
-}
-
-fn status_of(step: Step) -> Status
-    ensures { result ≡ status_of step }
+fn step_status(step: Step) -> Status
+    ensures { result ≡ step_status step }
 {
     match step {
         Step::Went => Status::StepsUsed,
@@ -51,56 +44,53 @@ fn status_of(step: Step) -> Status
     }
 }
 
-// Runs the machine and writes the end line. The machine is kept where that line was written.
-fn finish<S: Sink>(
-    mut machine: LcmState,
-    steps: u64,
-    out: &mut S,
-    kept: &mut Option<LcmState>,
-) -> Status
-    requires { machine.count + steps ≤ 2 ^ 63 }
-    ensures line { Tells (S.seen out.old) (S.seen out.new) (end_line (plain steps machine)) (status_of (answer (plain steps machine))) result }
-    ensures kept { (result ≡ Status.WriteFault → kept.new ≡ kept.old) × (result ≢ Status.WriteFault → kept.new ≡ Some (plain steps machine)) }
+// Runs, writes the end line, and hands the machine over where that line was written.
+fn give_run<S: Sink>(start: Start, steps: Steps, out: &mut S, kept: &mut Option<LcmState>) -> Status
+    requires { start.state.count ≡ 0 }
+    ensures { (before after : _) → Gives (outside before (S.seen out.old) kept.old)
+        (job_answer (job.Run start steps)) result (outside after (S.seen out.new) kept.new) }
 {
-    let step = machine.run(steps);
+    let mut machine = start.into_state();
+    let step = machine.run(steps.number());
     let line = end_line(&machine, step);
-    let status = tell(out, line.as_str(), status_of(step));
-    if status != Status::WriteFault {
-        *kept = Some(machine);
+    match out.write(line.as_str().as_bytes()) {
+        Ok(()) => {
+            *kept = Some(machine);
+            step_status(step)
+        }
+        Err(_) => Status::WriteFault,
     }
-    status
 }
 
-// Reads the command's file, and runs the program whose text it is.
-fn run<F: Files, S: Sink>(
-    alloc: Global,
-    command: Command<'_>,
-    files: &mut F,
-    out: &mut S,
-    kept: &mut Option<LcmState>,
-) -> Status
-    requires name { IsFileName command.name.now }
-    requires steps { command.steps ≤ 1000000000 }
-    ensures { Answers (record {
-      asked = Some (asked command.entry);
-      files = F.seen files.old;
-      files_after = F.seen files.new;
-      sink = S.seen out.old;
-      sink_after = S.seen out.new;
-      kept = kept.old;
-      kept_after = kept.new;
-    }) result }
+// Does what is left to do, and tells of it.
+fn give<S: Sink>(job: Job, out: &mut S, kept: &mut Option<LcmState>) -> Status
+    requires { IsReady job }
+    ensures { (before after : _) → Gives (outside before (S.seen out.old) kept.old) (job_answer job)
+        result (outside after (S.seen out.new) kept.new) }
 {
-    let text = match read_whole(alloc, files, command.name, LONGEST) {
-        Ok(text) => text,
-        Err(ReadEnd::Fault) => return tell(out, "read fault\n", Status::ReadFault),
-        Err(ReadEnd::TooLong) => return tell(out, "too long 0\n", Status::TooLong),
-        Err(ReadEnd::NoMemory) => return Status::NoMemory,
-    };
-    match begin(alloc, text.as_slice()) {
-        Ok(Some(machine)) => finish(machine, command.steps, out, kept),
-        Ok(None) => tell(out, "unbuilt\n", Status::Unbuilt),
-        Err(AllocError) => Status::NoMemory,
+    match job {
+        Job::Run(start, steps) => give_run(start, steps, out, kept),
+        Job::Say => tell(out, "ok\n", Status::Done),
+    }
+}
+
+// Tells of a refusal.
+fn refuse<S: Sink>(why: Refusal, out: &mut S) -> Status
+    ensures { (before after : _) (kept : _) → Gives (outside before (S.seen out.old) kept) (refused why)
+        result (outside after (S.seen out.new) kept) }
+{
+    tell(out, refusal_line(why).as_str(), refusal_status(why))
+}
+
+// Reads what the words ask for.
+fn job_in<F: Files>(alloc: Global, words: &[String], files: &mut F) -> Result<Job, Stop>
+    ensures { FollowsTask (plan_in (asked_in (texts words.now))) (F.seen files.old) result
+        (F.seen files.new) }
+{
+    match command_of(alloc, words) {
+        Ok(command) => job_of(alloc, files, &command),
+        Err(WordsFault::Usage) => Err(Stop::Refused(Refusal::Usage)),
+        Err(WordsFault::NoMemory) => Err(Stop::NoMemory),
     }
 }
 
@@ -111,28 +101,25 @@ fn answer<F: Files, S: Sink>(
     out: &mut S,
     kept: &mut Option<LcmState>,
 ) -> Status
-    ensures { Answers (record {
-      asked = asked_in (texts words.now);
-      files = F.seen files.old;
-      files_after = F.seen files.new;
-      sink = S.seen out.old;
-      sink_after = S.seen out.new;
-      kept = kept.old;
-      kept_after = kept.new;
-    }) result }
+    ensures { Answers (plan_in (asked_in (texts words.now)))
+        (outside (F.seen files.old) (S.seen out.old) kept.old)
+        result (outside (F.seen files.new) (S.seen out.new) kept.new) }
 {
-    match command_of(words) {
-        Some(command) => run(alloc, command, files, out, kept),
-        None => tell(out, "usage\n", Status::Usage),
+    match job_in(alloc, words, files) {
+        Ok(job) => give(job, out, kept),
+        Err(Stop::Refused(why)) => refuse(why, out),
+        Err(Stop::NoMemory) => Status::NoMemory,
     }
 }
 
 /// All that the program does, with the words after its own name.
 ///
-/// `run u:NAME`, with `--steps M` before the part or after it, reads the file, starts a plain
-/// machine with the program whose text it is, runs it for M steps or up to its end, and writes the
-/// end line. Where that line was written, `kept` holds the machine as the run left it; in every other
-/// case it is as before. Any other words write `usage`.
+/// `run`, with 1 to 16 parts `u:NAME` of names that end in `.stc` or `.asm`, reads the parts in
+/// their order, each with its form and its own rules, links them with a stack of `--stack` words,
+/// runs the machine that they start for `--steps` steps or up to its end, and writes the end line.
+/// Where that line was written, `kept` holds the machine as the run left it; in every other case it
+/// is as before. `check u:NAME` reads the part in the same way and writes `ok`. Any other words
+/// write `usage`.
 pub fn stk_main<F: Files, S: Sink>(
     alloc: Global,
     words: &Vec<String>,
@@ -140,31 +127,25 @@ pub fn stk_main<F: Files, S: Sink>(
     out: &mut S,
     kept: &mut Option<LcmState>,
 ) -> Status
-    // The answer that the call is due: its status, with its line written and its machine kept. The
-    // cause of each status. A file that is there gets its answer, where nothing outside fails.
-    ensures promised { Promised (record {
-      asked = asked_in (texts words.now.items);
-      files = F.seen files.old;
-      files_after = F.seen files.new;
-      sink = S.seen out.old;
-      sink_after = S.seen out.new;
-      kept = kept.old;
-      kept_after = kept.new;
-    }) result }
+    // The answer that the call is due, with its text written and its machine handed over; the cause
+    // of its status; and where the files tell what they hold and nothing fails, that answer alone.
+    ensures promised { Promised (asked_in (texts words.now.items))
+        (outside (F.seen files.old) (S.seen out.old) kept.old)
+        result (outside (F.seen files.new) (S.seen out.new) kept.new) }
 
-    // Words that are no command are refused, unless the sink fails.
-    ensures usage { asked_in (texts words.now.items) ≡ None → (result ≡ Status.Usage) ⊎ (result ≡ Status.WriteFault) }
+    // What a run writes, answers and hands over.
+    ensures ran { (parts : List PartWord) (size steps : ℕ)
+        → asked_in (texts words.now.items) ≡ Some (command.Run (what.Parts parts size) steps)
+        → IsRunStatus result → RunGiven parts size steps
+        (outside (F.seen files.old) (S.seen out.old) kept.old)
+        result (outside (F.seen files.new) (S.seen out.new) kept.new) }
 
-    // Memory is refused only with nothing written.
-    ensures no_memory { result ≡ Status.NoMemory → (S.seen out.new ≡ S.seen out.old) × (kept.new ≡ kept.old) }
+    // Words that are no command that is built are refused, unless the sink fails or memory is refused.
+    ensures usage { is_command (asked_in (texts words.now.items)) ≡ false
+        → (result ≡ Status.Usage) ⊎ ((result ≡ Status.WriteFault) ⊎ (result ≡ Status.NoMemory)) }
 
     // No file is changed.
     ensures files_stay { (F.seen files.new).contents ≡ (F.seen files.old).contents }
 {
     answer(alloc, words.as_slice(), files, out, kept)
 }
-
-/// The steps and the bytes of the file determine the answer.
-pub fn one_answer()
-    ensures { (steps : ℕ) (bytes : List ℕ) (a b : Answer) → IsAnswerTo steps bytes a → IsAnswerTo steps bytes b → a ≡ b }
-{}

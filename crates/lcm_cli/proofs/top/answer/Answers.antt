@@ -1,10 +1,14 @@
--- Words that are no command are refused.
-use Rattle.std.proofs.Common.{refl, sym}
-use Rattle.std.specs.Prelude.{codes}
-use Rattle.lcm_cli.specs.declared.status.Status.TheVariants.{Usage}
-use Rattle.lcm_cli.specs.Answers.{refusal, no_command}
-use Rattle.lcm_cli.proofs.AnswerLemmas.{told}
+use Rattle.std.proofs.Common.{refl}
+use Rattle.std.specs.Prelude.{Err}
+use Rattle.lcm_cli.specs.Answers.{answer, nothing}
+use Rattle.lcm_cli.proofs.Given.{ready, answered}
 use Rattle.lcm_cli.proofs.top.answer.Goals as goal
 
-pub returns-in-None : goal.returns-in-None
-returns-in-None g c = told _ (refusal Usage (codes "usage\n")) c.tell.result tt (no_command (sym c.in-None.ensures.is) refl refl) c.tell.ensures (λ _. refl, λ _. refl)
+pub give-requires : goal.give-requires
+give-requires g c = ready _ _ _ c.in-Ok.job c.in-Ok.ensures
+
+pub returns-in-Ok : goal.returns-in-Ok
+returns-in-Ok g c = answered _ _ c.in-Ok.job _ _ c.in-Ok.ensures (c.give.ensures _ _)
+
+pub returns-in-Err-Refused : goal.returns-in-Err-Refused
+returns-in-Err-Refused g c = answer (Err c.in-Err-Refused.why) _ (rw c.in-Err-Refused.field-0-is at c.in-Err-Refused.ensures) refl (c.refuse.ensures _ _ _)

@@ -1,8 +1,17 @@
--- The cause of the answer that was given, and that no other answer is due to a file that is there.
-use Rattle.lcm_cli.proofs.AnswerLemmas.{caused, complete}
+-- All of it follows from the answer that was given.
+use Rattle.command_words.specs.Action.{asked_in}
+use Rattle.command_words.specs.Texts.{texts}
+use Rattle.lcm_cli.proofs.Caused.{promised, usage, files_stay, runs}
 use Rattle.lcm_cli.proofs.top.stk_main.Goals as goal
 
 pub returns-clause-promised : goal.returns-clause-promised
-returns-clause-promised g c =
-    let a = rw c.as_slice.ensures.value at c.answer.ensures in
-    record { answers = a; causes = caused _ c.answer.result a; complete = complete _ c.answer.result a }
+returns-clause-promised g c = promised (asked_in (texts c.args.words.now.items)) _ _ _ (rw c.as_slice.ensures.value at c.answer.ensures)
+
+pub returns-clause-ran : goal.returns-clause-ran
+returns-clause-ran g c = runs (asked_in (texts c.args.words.now.items)) _ _ _ (rw c.as_slice.ensures.value at c.answer.ensures)
+
+pub returns-clause-usage : goal.returns-clause-usage
+returns-clause-usage g c = usage (asked_in (texts c.args.words.now.items)) _ _ _ (rw c.as_slice.ensures.value at c.answer.ensures)
+
+pub returns-clause-files_stay : goal.returns-clause-files_stay
+returns-clause-files_stay g c = files_stay (asked_in (texts c.args.words.now.items)) _ _ _ (rw c.as_slice.ensures.value at c.answer.ensures)

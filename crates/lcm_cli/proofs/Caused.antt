@@ -1,0 +1,295 @@
+-- The cause of every status.
+use Rattle.std.proofs.Common.{◌≡◌, ◌≢◌, ℕ, ◌⊎◌, ◌+◌, List, [], ◌∷◌, Option, Some, None, refl, sym, ap, subst, ◌∙◌, inl, inr, true, false}
+use Rattle.std.specs.Prelude.{Result, Ok, Err, Bool, ◌&&◌, not, ℤ, if◌then◌else◌}
+use Rattle.std.specs.List.{list_all}
+use Rattle.outside_io.specs.Counts.{Rose}
+use Rattle.outside_io.specs.FilesSeen.{FilesSeen}
+use Rattle.outside_io.specs.SinkSeen.{Adds}
+use Rattle.outside_io.specs.Whole.{OnlyGave}
+use Rattle.command_words.specs.declared.part.Ending.{Ending}
+use Rattle.command_words.specs.declared.part.Ending.TheVariants.{Source, Assembler, Component}
+use Rattle.command_words.specs.declared.part.PartWord.{PartWord}
+use Rattle.command_words.specs.declared.command.Linked.{Linked}
+use Rattle.command_words.specs.declared.command.Linked.TheVariants.{Parts, Image}
+use Rattle.command_words.specs.declared.command.Command.{Command}
+use Rattle.command_words.specs.declared.command.Command.TheVariants as command
+use Rattle.asm_fields.specs.declared.fault.AsmFault.{AsmFault}
+use Rattle.assembler.specs.Assembled.{assembled}
+use Rattle.component_file.specs.declared.fault.FileFault.{FileFault}
+use Rattle.component_file.specs.declared.component.ComponentFields.{ComponentFields}
+use Rattle.component_file.specs.Reading.{decoded}
+use Rattle.component_linker.specs.declared.fault.RuleAt.{RuleAt}
+use Rattle.component_linker.specs.Parts.{PartSeen}
+use Rattle.component_linker.specs.Start.{IsStart}
+use Rattle.lcm_machine.specs.declared.FailCause.{FailCause}
+use Rattle.lcm_machine.specs.declared.Step.{Step}
+use Rattle.lcm_machine.specs.declared.Step.TheVariants.{Went, Halted, Failed}
+use Rattle.lcm_machine.specs.Run.{Run as Machine, answer as last_step, plain}
+use Rattle.lcm_cli.specs.declared.refusal.Refusal.{Refusal}
+use Rattle.lcm_cli.specs.declared.refusal.Refusal.TheVariants as refusal
+use Rattle.lcm_cli.specs.declared.status.Status.{Status}
+use Rattle.lcm_cli.specs.declared.status.Status.TheVariants as status
+use Rattle.lcm_cli.specs.Refusals.{refusal_text, refusal_status}
+use Rattle.lcm_cli.specs.Plans.{Plan, Reads, Ends, Made, unless, whole as came_whole, too_long, unread, Comes}
+use Rattle.component_linker.specs.Accepted.{accepted}
+use Rattle.lcm_cli.specs.Parts.{is_trusted, broken_in, linked, form_by, component_at, part_at, each_at}
+use Rattle.lcm_cli.specs.Commands.{Task, Run, Say, is_source, is_built_form, is_built_part, is_built, run_plan, check_plan, built_plan, plan_of, plan_in, is_command}
+use Rattle.lcm_cli.specs.Answers.{Answer, Outside, step_status, ran, said, refused, IsAnswerOf, GivesWhole, whole, unwritten, Answers, answer, nothing}
+use Rattle.lcm_cli.specs.Causes.{IsTurn, IsUnread, IsLong, IsUndecoded, IsUnassembled, Breaks, Runs, Says, Wrote, Causes, IsRunStatus, RunGiven, Promised}
+use Rattle.lcm_cli.proofs.BuiltParts.{and_left, and_right, no_source}
+use Rattle.lcm_cli.proofs.Settled.{complete}
+use Rattle.lcm_cli.proofs.Reasons.{Reasoned, comes_split, same_err, ended_unless, links_reasoned, checks_reasoned, links_break, checks_break, links_made}
+
+-- ---- words that are a command that is built have its plan, and all others are refused at once
+
+pub planned : (c : Command) → is_built c ≡ true → plan_in (Some c) ≡ built_plan c
+planned c e = rw e refl
+
+pub unplanned : (asked : Option Command) → is_command asked ≡ false → plan_in asked ≡ Ends refusal.Usage
+unplanned None e = refl
+unplanned (Some c) e = rw e refl
+
+-- ---- a command that is built is no usage
+
+abbrev Never : {A : Type 0} → Plan A → Type 0
+Never p = (old new : FilesSeen) → Comes p old (Err refusal.Usage) new → ⊥
+
+no_usage_form : (ending : Ending) (place : ℕ) (name : List ℕ) → is_source ending ≡ false → Never (let p : Plan _ = Reads name place (form_by ending place) in p)
+no_usage_form Source place name f = λ old new h. absurd (cc)
+no_usage_form Assembler place name f = by
+  where
+    by : Never (let p : Plan _ = Reads name place (form_by Assembler place) in p)
+    by old new (came_whole bytes mid w h) = let e = (ended_unless (refusal.Assembly place) (assembled bytes) mid new refusal.Usage h).2 in cc
+    by old new (too_long t e) = cc
+    by old new (unread t e) = cc
+no_usage_form Component place name f = by
+  where
+    by : Never (let p : Plan _ = Reads name place (form_by Component place) in p)
+    by old new (came_whole bytes mid w h) = let e = (ended_unless (refusal.File place) (decoded bytes) mid new refusal.Usage h).2 in cc
+    by old new (too_long t e) = cc
+    by old new (unread t e) = cc
+
+no_usage_component : (place : ℕ) (w : PartWord) → is_source w.ending ≡ false → Never (component_at place w)
+unfolding component_at
+no_usage_component place w f = no_usage_form w.ending place w.name f
+
+back_usage : {A B : Type 0} (p : Plan A) (old new : FilesSeen) (why : Refusal) → Comes p old (Err why) new → (let r : Result B Refusal = Err refusal.Usage in r) ≡ Err why → Comes p old (Err refusal.Usage) new
+back_usage p old new why c d = let e : why ≡ refusal.Usage = same_err refusal.Usage why d in subst (λ w. Comes p old (Err w) new) e c
+
+no_usage_part : (place : ℕ) (w : PartWord) → is_built_form w ≡ true → Never (part_at place w)
+unfolding part_at
+no_usage_part place w f old new h = elim (comes_split (component_at place w) _ old new (Err refusal.Usage) h) as (λ _. ⊥) [
+  | inl s ↦ (let e = (ended_unless (broken_in place) (accepted (record { component = s.0; trusted = is_trusted w.mark })) s.1 new refusal.Usage s.3).2 in cc)
+  | inr s ↦ no_usage_component place w (no_source w f) old new (back_usage (component_at place w) old new s.0 s.1 s.2)
+]
+
+no_usage_each : (place : ℕ) (ws : List PartWord) → list_all is_built_part ws ≡ true → Never (each_at part_at place ws)
+no_usage_each place [] f old new h = absurd (let e = h.0 in cc)
+no_usage_each place (w ∷ ws) f old new h = elim (comes_split (part_at place w) _ old new (Err refusal.Usage) h) as (λ _. ⊥) [
+  | inl s ↦ elim (comes_split (each_at part_at (place + 1) ws) _ s.1 new (Err refusal.Usage) s.3) as (λ _. ⊥) [
+    | inl t ↦ absurd (let e = t.3.0 in cc)
+    | inr t ↦ no_usage_each (place + 1) ws (and_right (is_built_part w) (list_all is_built_part ws) f) s.1 new (back_usage (each_at part_at (place + 1) ws) s.1 new t.0 t.1 t.2)
+  ]
+  | inr s ↦ no_usage_part place w (and_right (not (is_trusted w.mark)) (is_built_form w) (and_left (is_built_part w) (list_all is_built_part ws) f)) old new (back_usage (part_at place w) old new s.0 s.1 s.2)
+]
+
+no_usage_links : (words : List PartWord) (size steps : ℕ) → list_all is_built_part words ≡ true → Never (run_plan words size steps)
+unfolding run_plan
+no_usage_links words size steps f old new h = elim (comes_split (each_at part_at 0 words) _ old new (Err refusal.Usage) h) as (λ _. ⊥) [
+  | inl s ↦ elim (comes_split (unless refusal.Rule (linked s.0 size)) _ s.1 new (Err refusal.Usage) s.3) as (λ _. ⊥) [
+    | inl t ↦ absurd (let e = t.3.0 in cc)
+    | inr t ↦ (let e = (ended_unless refusal.Rule (linked s.0 size) s.1 new refusal.Usage (back_usage (unless refusal.Rule (linked s.0 size)) s.1 new t.0 t.1 t.2)).2 in cc)
+  ]
+  | inr s ↦ no_usage_each 0 words f old new (back_usage (each_at part_at 0 words) old new s.0 s.1 s.2)
+]
+
+no_usage_checks : (word : PartWord) → is_built_form word ≡ true → Never (check_plan word)
+unfolding check_plan
+no_usage_checks word f old new h = elim (comes_split (part_at 0 word) _ old new (Err refusal.Usage) h) as (λ _. ⊥) [
+  | inl s ↦ absurd (let e = s.3.0 in cc)
+  | inr s ↦ no_usage_part 0 word f old new (back_usage (part_at 0 word) old new s.0 s.1 s.2)
+]
+
+-- ---- why the words' plan ends
+
+abbrev WhyIs : Option Command → Plan Task → FilesSeen → Refusal → FilesSeen → Type 0
+WhyIs asked plan old refusal.Usage new = is_command asked ≡ false
+WhyIs asked plan old refusal.ReadFault new = IsUnread plan old new
+WhyIs asked plan old (refusal.TooLong place) new = IsLong plan old place new
+WhyIs asked plan old (refusal.Assembly place f) new = IsUnassembled plan old place f new
+WhyIs asked plan old (refusal.File place f) new = IsUndecoded plan old place f new
+WhyIs asked plan old (refusal.Rule r) new = Breaks asked old r new
+
+why_from : (asked : Option Command) (plan : Plan Task) (old new : FilesSeen) (why : Refusal) → Reasoned plan → Never plan → ((r : RuleAt) → Comes plan old (Err (refusal.Rule r)) new → Breaks asked old r new)
+    → Comes plan old (Err why) new → WhyIs asked plan old why new
+why_from asked plan old new refusal.Usage k n b h = absurd (n old new h)
+why_from asked plan old new refusal.ReadFault k n b h = k.gives old new refusal.ReadFault h
+why_from asked plan old new (refusal.TooLong place) k n b h = k.gives old new (refusal.TooLong place) h
+why_from asked plan old new (refusal.Assembly place f) k n b h = k.gives old new (refusal.Assembly place f) h
+why_from asked plan old new (refusal.File place f) k n b h = k.gives old new (refusal.File place f) h
+why_from asked plan old new (refusal.Rule r) k n b h = b r h
+
+why_built : (c : Command) (old new : FilesSeen) (why : Refusal) → is_built c ≡ true → Comes (built_plan c) old (Err why) new → WhyIs (Some c) (built_plan c) old why new
+why_built (command.Run (Parts words size) steps) old new why e h =
+    why_from (Some (command.Run (Parts words size) steps)) (run_plan words size steps) old new why (links_reasoned words size steps) (no_usage_links words size steps e) (links_break words size steps old new) h
+why_built (command.Check word) old new why e h =
+    why_from (Some (command.Check word)) (check_plan word) old new why (checks_reasoned word) (no_usage_checks word e) (checks_break word old new) h
+why_built (command.Run (Image name) steps) old new why e h = absurd (cc)
+why_built (command.Trace what steps) old new why e h = absurd (cc)
+why_built (command.Assemble word out) old new why e h = absurd (cc)
+why_built (command.Compile word out) old new why e h = absurd (cc)
+why_built (command.Disassemble word) old new why e h = absurd (cc)
+why_built (command.Link words size out) old new why e h = absurd (cc)
+why_built (command.Mean words size fuel feed) old new why e h = absurd (cc)
+why_built (command.Generate seed) old new why e h = absurd (cc)
+
+why_usage : (asked : Option Command) (old new : FilesSeen) (why : Refusal) → is_command asked ≡ false → Comes (let p : Plan Task = Ends refusal.Usage in p) old (Err why) new → WhyIs asked (plan_in asked) old why new
+why_usage asked old new why f h = let e = same_err {A = Task} refusal.Usage why (sym h.0) in subst (λ w. WhyIs asked (plan_in asked) old w new) (sym e) f
+
+why_is : (asked : Option Command) (b : Bool) → is_command asked ≡ b → (old new : FilesSeen) (why : Refusal) → Comes (plan_in asked) old (Err why) new → WhyIs asked (plan_in asked) old why new
+why_is asked false f old new why h = why_usage asked old new why f (subst (λ p. Comes p old (Err why) new) (unplanned asked f) h)
+why_is None true f old new why h = absurd (cc)
+why_is (Some c) true f old new why h =
+    let p = planned c f in
+    subst (λ q. WhyIs (Some c) q old why new) (sym p) (why_built c old new why f (subst (λ q. Comes q old (Err why) new) p h))
+
+-- ---- a read that failed
+
+turn_reads : {A : Type 0} (p : Plan A) (old seen : FilesSeen) (name : List ℕ) (place : ℕ) → IsTurn p old name place seen → seen.failed_reads ≡ old.failed_reads
+turn_reads (Made x) old seen name place h = absurd h
+turn_reads (Ends why) old seen name place h = absurd h
+turn_reads (Reads n k next) old seen name place (inl h) = ap (λ (s : FilesSeen). s.failed_reads) h.2
+turn_reads (Reads n k next) old seen name place (inr h) = turn_reads (next h.0) h.1 seen name place h.3 ∙ ap (λ (s : FilesSeen). s.failed_reads) h.2.quiet
+
+unread_rose : {A : Type 0} (p : Plan A) (old new : FilesSeen) → IsUnread p old new → Rose old.failed_reads new.failed_reads
+unread_rose p old new h = subst (λ n. Rose n new.failed_reads) (turn_reads p old h.2 h.0 h.1 h.3) h.4.rose
+
+-- ---- the cause of what is due
+
+abbrev Caused : Option Command → Outside → Outside → Status → Type 0
+Caused asked old new status.Done = Runs asked old.files new.files (λ step. step ≡ Halted) ⊎ Says asked old.files new.files
+Caused asked old new status.MachineFailed = Runs asked old.files new.files (λ step. (cause : FailCause) × (at : ℤ) × (step ≡ Failed cause at))
+Caused asked old new status.StepsUsed = Runs asked old.files new.files (λ step. step ≡ Went)
+Caused asked old new status.Usage = is_command asked ≡ false
+Caused asked old new status.ReadFault = Rose old.files.failed_reads new.files.failed_reads × IsUnread (plan_in asked) old.files new.files
+Caused asked old new status.WriteFault = Rose old.sink.faults new.sink.faults
+Caused asked old new status.NoMemory = OnlyGave old.files new.files × (new.sink ≡ old.sink) × (new.kept ≡ old.kept)
+Caused asked old new status.TooLong = (place : ℕ) × Wrote (refusal.TooLong place) old new × IsLong (plan_in asked) old.files place new.files
+Caused asked old new status.AsmRefused = (place : ℕ) × (f : AsmFault) × Wrote (refusal.Assembly place f) old new × IsUnassembled (plan_in asked) old.files place f new.files
+Caused asked old new status.SourceRefused = ⊥
+Caused asked old new status.FileRefused = (place : ℕ) × (f : FileFault) × Wrote (refusal.File place f) old new × IsUndecoded (plan_in asked) old.files place f new.files
+Caused asked old new status.RuleBroken = (r : RuleAt) × Wrote (refusal.Rule r) old new × Breaks asked old.files r new.files
+
+run_caused : (asked : Option Command) (old new : Outside) (parts : List PartSeen) (size steps : ℕ) → Comes (plan_in asked) old.files (Ok (Run parts size steps)) new.files → (start : Machine) → IsStart parts size start
+    → (step : Step) → last_step (plain steps start) ≡ step → Caused asked old new (step_status step)
+run_caused asked old new parts size steps c start s Went e = (parts, size, steps, c, start, s, e)
+run_caused asked old new parts size steps c start s Halted e = inl (parts, size, steps, c, start, s, e)
+run_caused asked old new parts size steps c start s (Failed cause at) e = (parts, size, steps, c, start, s, (cause, at, e))
+
+err_caused : (asked : Option Command) (old new : Outside) (why : Refusal) → WhyIs asked (plan_in asked) old.files why new.files → Wrote why old new → Caused asked old new (refusal_status why)
+err_caused asked old new refusal.Usage h w = h
+err_caused asked old new refusal.ReadFault h w = (unread_rose (plan_in asked) old.files new.files h, h)
+err_caused asked old new (refusal.TooLong place) h w = (place, w, h)
+err_caused asked old new (refusal.Assembly place f) h w = (place, f, w, h)
+err_caused asked old new (refusal.File place f) h w = (place, f, w, h)
+err_caused asked old new (refusal.Rule r) h w = (r, w, h)
+
+due_caused : (asked : Option Command) (old new : Outside) (due : Result Task Refusal) (a : Answer) → Comes (plan_in asked) old.files due new.files → IsAnswerOf due a → Adds old.sink a.text new.sink → Caused asked old new a.status
+due_caused asked old new (Ok (Run parts size steps)) a c x w =
+    subst (λ (b : Answer). Caused asked old new b.status) (sym x.2) (run_caused asked old new parts size steps c x.0 x.1 (last_step (plain steps x.0)) refl)
+due_caused asked old new (Ok Say) a c x w = subst (λ (b : Answer). Caused asked old new b.status) (sym x) (inr c)
+due_caused asked old new (Err why) a c x w =
+    subst (λ (b : Answer). Caused asked old new b.status) (sym x)
+    (err_caused asked old new why (why_is asked (is_command asked) refl old.files new.files why c) (subst (λ (b : Answer). Adds old.sink b.text new.sink) x w))
+
+caused : (asked : Option Command) (old : Outside) (ended : Status) (new : Outside) → Answers (plan_in asked) old ended new → Caused asked old new ended
+caused asked old ended new (nothing n) = subst (Caused asked old new) (sym n.status_is) (n.quiet, n.unwritten, n.kept_is)
+caused asked old ended new (answer due a c x (whole g)) = subst (Caused asked old new) (sym g.status_is) (due_caused asked old new due a c x g.written)
+caused asked old ended new (answer due a c x (unwritten f k s)) = subst (Caused asked old new) (sym s) f.rose
+
+causes : (asked : Option Command) (old : Outside) (ended : Status) (new : Outside) → Caused asked old new ended → Causes asked old ended new
+causes asked old ended new c = record {
+  done = λ e. subst (Caused asked old new) e c;
+  machine_failed = λ e. subst (Caused asked old new) e c;
+  steps_used = λ e. subst (Caused asked old new) e c;
+  usage = λ e. subst (Caused asked old new) e c;
+  read_fault = λ e. subst (Caused asked old new) e c;
+  write_fault = λ e. subst (Caused asked old new) e c;
+  no_memory = λ e. subst (Caused asked old new) e c;
+  too_long = λ e. subst (Caused asked old new) e c;
+  asm_refused = λ e. subst (Caused asked old new) e c;
+  file_refused = λ e. subst (Caused asked old new) e c;
+  rule_broken = λ e. subst (Caused asked old new) e c;
+  no_source = λ e. subst (Caused asked old new) e c;
+}
+
+pub promised : (asked : Option Command) (old : Outside) (ended : Status) (new : Outside) → Answers (plan_in asked) old ended new → Promised asked old ended new
+promised asked old ended new a = record { answers = a; causes = causes asked old ended new (caused asked old ended new a); complete = complete (plan_in asked) old ended new a }
+
+-- ---- words that are no command
+
+due_usage : (asked : Option Command) (old new : FilesSeen) (due : Result Task Refusal) → is_command asked ≡ false → Comes (plan_in asked) old due new → due ≡ Err refusal.Usage
+due_usage asked old new due f c = (subst (λ p. Comes p old due new) (unplanned asked f) c).0
+
+pub usage : (asked : Option Command) (old : Outside) (ended : Status) (new : Outside) → Answers (plan_in asked) old ended new → is_command asked ≡ false
+    → (ended ≡ status.Usage) ⊎ ((ended ≡ status.WriteFault) ⊎ (ended ≡ status.NoMemory))
+usage asked old ended new (nothing n) f = inr (inr n.status_is)
+usage asked old ended new (answer due a c x (unwritten w k s)) f = inr (inl s)
+usage asked old ended new (answer due a c x (whole g)) f =
+    let is : a ≡ refused refusal.Usage = subst (λ d. IsAnswerOf d a) (due_usage asked old.files new.files due f c) x in
+    inl (g.status_is ∙ ap (λ (b : Answer). b.status) is)
+
+-- ---- files stay
+
+comes_contents : {A : Type 0} (p : Plan A) (old new : FilesSeen) (due : Result A Refusal) → Comes p old due new → new.contents ≡ old.contents
+comes_contents (Made x) old new due h = ap (λ (s : FilesSeen). s.contents) h.1
+comes_contents (Ends why) old new due h = ap (λ (s : FilesSeen). s.contents) h.1
+comes_contents (Reads name place next) old new due (came_whole bytes mid w h) = comes_contents (next bytes) mid new due h ∙ ap (λ (s : FilesSeen). s.contents) w.quiet
+comes_contents (Reads name place next) old new due (too_long t e) = ap (λ (s : FilesSeen). s.contents) t.quiet
+comes_contents (Reads name place next) old new due (unread f e) = ap (λ (s : FilesSeen). s.contents) f.stays
+
+pub files_stay : (asked : Option Command) (old : Outside) (ended : Status) (new : Outside) → Answers (plan_in asked) old ended new → new.files.contents ≡ old.files.contents
+files_stay asked old ended new (nothing n) = ap (λ (s : FilesSeen). s.contents) n.quiet
+files_stay asked old ended new (answer due a c x g) = comes_contents (plan_in asked) old.files new.files due c
+
+-- ---- what a run writes
+
+no_run : (why : Refusal) → IsRunStatus (refusal_status why) → ⊥
+no_run refusal.Usage h = h
+no_run refusal.ReadFault h = h
+no_run (refusal.TooLong place) h = h
+no_run (refusal.Assembly place f) h = h
+no_run (refusal.File place f) h = h
+no_run (refusal.Rule r) h = h
+
+same_run : (p q : List PartSeen) (n m k l : ℕ) → Run p n k ≡ Run q m l → (p ≡ q) × (n ≡ m) × (k ≡ l)
+same_run p q n m k l e = (cc, cc, cc)
+
+given_run : (words : List PartWord) (size steps : ℕ) (old : Outside) (ended : Status) (new : Outside) (due : Result Task Refusal) (a : Answer) → Comes (run_plan words size steps) old.files due new.files → IsAnswerOf due a
+    → GivesWhole old a ended new → IsRunStatus ended → RunGiven words size steps old ended new
+given_run words size steps old ended new (Err why) a c x g r =
+    absurd (no_run why (subst IsRunStatus (g.status_is ∙ ap (λ (b : Answer). b.status) x) r))
+given_run words size steps old ended new (Ok Say) a c x g r =
+    absurd (let e = (links_made words size steps old.files new.files Say c).3 in cc)
+given_run words size steps old ended new (Ok (Run parts n k)) a c x g r =
+    let m = links_made words size steps old.files new.files (Run parts n k) c in
+    let s = same_run parts m.0 n size k steps m.3 in
+    let start : IsStart m.0 size x.0 = subst (λ z. IsStart m.0 z x.0) s.1 (subst (λ ps. IsStart ps n x.0) s.0 x.1) in
+    let is : a ≡ ran (plain steps x.0) = x.2 ∙ ap (λ z. ran (plain z x.0)) s.2 in
+    let h : GivesWhole old (ran (plain steps x.0)) ended new = subst (λ b. GivesWhole old b ended new) is g in
+    record { parts = m.0; came = m.1; keep = m.2; start = x.0; starts = start; status_is = h.status_is; written = h.written; kept_is = h.kept_is }
+
+runs_by : (words : List PartWord) (size steps : ℕ) (b : Bool) → list_all is_built_part words ≡ b → (old : Outside) (ended : Status) (new : Outside) (due : Result Task Refusal) (a : Answer)
+    → Comes (plan_in (Some (command.Run (Parts words size) steps))) old.files due new.files → IsAnswerOf due a → GivesWhole old a ended new → IsRunStatus ended → RunGiven words size steps old ended new
+runs_by words size steps true f old ended new due a c x g r =
+    given_run words size steps old ended new due a (subst (λ p. Comes p old.files due new.files) (planned (command.Run (Parts words size) steps) f) c) x g r
+runs_by words size steps false f old ended new due a c x g r =
+    let is : a ≡ refused refusal.Usage = subst (λ d. IsAnswerOf d a) (due_usage (Some (command.Run (Parts words size) steps)) old.files new.files due f c) x in
+    absurd (no_run refusal.Usage (subst IsRunStatus (g.status_is ∙ ap (λ (b : Answer). b.status) is) r))
+
+pub runs : (asked : Option Command) (old : Outside) (ended : Status) (new : Outside) → Answers (plan_in asked) old ended new → (words : List PartWord) (size steps : ℕ) → asked ≡ Some (command.Run (Parts words size) steps)
+    → IsRunStatus ended → RunGiven words size steps old ended new
+runs asked old ended new (nothing n) words size steps e r = absurd (subst IsRunStatus n.status_is r)
+runs asked old ended new (answer due a c x (unwritten f k s)) words size steps e r = absurd (subst IsRunStatus s r)
+runs asked old ended new (answer due a c x (whole g)) words size steps e r =
+    runs_by words size steps (list_all is_built_part words) refl old ended new due a (subst (λ z. Comes (plan_in z) old.files due new.files) e c) x g r

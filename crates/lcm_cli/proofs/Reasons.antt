@@ -1,0 +1,267 @@
+-- Why plans end.
+use Rattle.std.proofs.Common.{◌≡◌, ◌≢◌, ℕ, ◌+◌, ◌⊎◌, List, [], ◌∷◌, refl, sym, ap, subst, ◌∙◌, inl, inr}
+use Rattle.std.specs.Prelude.{Result, Ok, Err, ⊤}
+use Rattle.outside_io.specs.FilesSeen.{FilesSeen}
+use Rattle.outside_io.specs.Whole.{GivesWhole}
+use Rattle.command_words.specs.declared.part.Ending.{Ending}
+use Rattle.command_words.specs.declared.part.Ending.TheVariants.{Source, Assembler, Component}
+use Rattle.command_words.specs.declared.part.PartWord.{PartWord}
+use Rattle.component_file.specs.declared.component.ComponentFields.{ComponentFields}
+use Rattle.component_file.specs.Reading.{decoded}
+use Rattle.assembler.specs.Assembled.{assembled}
+use Rattle.component_linker.specs.declared.fault.RuleAt.{RuleAt}
+use Rattle.component_linker.specs.Parts.{PartSeen}
+use Rattle.lcm_cli.specs.declared.TheConstants.{LONGEST_FILE}
+use Rattle.lcm_cli.specs.declared.refusal.Refusal.{Refusal}
+use Rattle.lcm_cli.specs.declared.refusal.Refusal.TheVariants as refusal
+use Rattle.lcm_cli.specs.Plans.{Plan, Reads, Ends, Made, ◌>>=◌, unless, whole, too_long, unread, Comes}
+use Rattle.component_linker.specs.Accepted.{accepted}
+use Rattle.lcm_cli.specs.Parts.{is_trusted, broken_in, linked, form_by, component_at, part_at, each_at}
+use Rattle.lcm_cli.specs.Commands.{Task, Run, Say, run_plan, check_plan}
+use Rattle.lcm_cli.specs.Causes.{IsTurn, IsUnread, IsLong, Holds, IsUndecoded, IsUnassembled, PartBreaks, SomeBreaks, AllBreak}
+
+-- what comes of two plans that are joined
+abbrev pub Split : {A B : Type 0} → Plan A → (A → Plan B) → FilesSeen → Result B Refusal → FilesSeen → Type 0
+Split {A} p f old due new = ((x : A) × (mid : FilesSeen) × Comes p old (Ok x) mid × Comes (f x) mid due new) ⊎ ((why : Refusal) × Comes p old (Err why) new × (due ≡ Err why))
+
+pub comes_split : {A B : Type 0} (p : Plan A) (f : A → Plan B) (old new : FilesSeen) (due : Result B Refusal) → Comes (p >>= f) old due new → Split p f old due new
+comes_split (Made x) f old new due h = inl (x, old, (refl, refl), h)
+comes_split (Ends why) f old new due h = inr (why, (refl, h.1), h.0)
+comes_split (Reads name place next) f old new due (whole bytes mid w h) =
+    elim (comes_split (next bytes) f mid new due h) as (λ _. Split (Reads name place next) f old due new) [
+      | inl s ↦ inl (s.0, s.1, whole bytes mid w s.2, s.3)
+      | inr s ↦ inr (s.0, whole bytes mid w s.1, s.2)
+    ]
+comes_split (Reads name place next) f old new due (too_long t e) = inr (refusal.TooLong place, too_long t refl, e)
+comes_split (Reads name place next) f old new due (unread t e) = inr (refusal.ReadFault, unread t refl, e)
+
+-- ---- the turns of files
+
+turn_first : {A B : Type 0} (p : Plan A) (f : A → Plan B) (old seen : FilesSeen) (name : List ℕ) (place : ℕ) → IsTurn p old name place seen → IsTurn (p >>= f) old name place seen
+turn_first (Made x) f old seen name place h = absurd h
+turn_first (Ends why) f old seen name place h = absurd h
+turn_first (Reads n k next) f old seen name place (inl h) = inl h
+turn_first (Reads n k next) f old seen name place (inr h) = inr (h.0, h.1, h.2, turn_first (next h.0) f h.1 seen name place h.3)
+
+turn_next : {A B : Type 0} (p : Plan A) (f : A → Plan B) (old mid seen : FilesSeen) (x : A) (name : List ℕ) (place : ℕ) → Comes p old (Ok x) mid → IsTurn (f x) mid name place seen → IsTurn (p >>= f) old name place seen
+turn_next (Made y) f old mid seen x name place h g = turn_at f x y old mid seen name place (same_ok x y h.0) h.1 g
+  where
+    same_ok : {A : Type 0} (x y : A) → (let r : Result A Refusal = Ok x in r) ≡ Ok y → x ≡ y
+    same_ok x y e = cc
+
+    turn_at : {A B : Type 0} (f : A → Plan B) (x y : A) (old mid seen : FilesSeen) (name : List ℕ) (place : ℕ) → x ≡ y → mid ≡ old → IsTurn (f x) mid name place seen → IsTurn (f y) old name place seen
+    turn_at f x y old mid seen name place e h g = rw (← e, ← h) g
+turn_next (Ends why) f old mid seen x name place h g = absurd (let e = h.0 in cc)
+turn_next (Reads n k next) f old mid seen x name place (whole bytes m w h) g = inr (bytes, m, w, turn_next (next bytes) f m mid seen x name place h g)
+turn_next (Reads n k next) f old mid seen x name place (too_long t e) g = absurd (cc)
+turn_next (Reads n k next) f old mid seen x name place (unread t e) g = absurd (cc)
+
+-- ---- why a plan ends, where a file alone says it
+
+abbrev pub FileReason : {A : Type 0} → Plan A → FilesSeen → Refusal → FilesSeen → Type 0
+FileReason plan old refusal.Usage new = ⊤
+FileReason plan old refusal.ReadFault new = IsUnread plan old new
+FileReason plan old (refusal.TooLong place) new = IsLong plan old place new
+FileReason plan old (refusal.Assembly place f) new = IsUnassembled plan old place f new
+FileReason plan old (refusal.File place f) new = IsUndecoded plan old place f new
+FileReason plan old (refusal.Rule r) new = ⊤
+
+reason_first : {A B : Type 0} (p : Plan A) (f : A → Plan B) (old new : FilesSeen) (why : Refusal) → FileReason p old why new → FileReason (p >>= f) old why new
+reason_first p f old new refusal.Usage h = tt
+reason_first p f old new refusal.ReadFault h = (h.0, h.1, h.2, turn_first p f old h.2 h.0 h.1 h.3, h.4)
+reason_first p f old new (refusal.TooLong place) h = (h.0, h.1, turn_first p f old h.1 h.0 place h.2, h.3)
+reason_first p f old new (refusal.Assembly place x) h = (h.0, h.1, turn_first p f old h.1 h.0 place h.2, h.3, h.4, h.5)
+reason_first p f old new (refusal.File place x) h = (h.0, h.1, turn_first p f old h.1 h.0 place h.2, h.3, h.4, h.5)
+reason_first p f old new (refusal.Rule r) h = tt
+
+reason_next : {A B : Type 0} (p : Plan A) (f : A → Plan B) (old mid new : FilesSeen) (x : A) (why : Refusal) → Comes p old (Ok x) mid → FileReason (f x) mid why new → FileReason (p >>= f) old why new
+reason_next p f old mid new x refusal.Usage c h = tt
+reason_next p f old mid new x refusal.ReadFault c h = (h.0, h.1, h.2, turn_next p f old mid h.2 x h.0 h.1 c h.3, h.4)
+reason_next p f old mid new x (refusal.TooLong place) c h = (h.0, h.1, turn_next p f old mid h.1 x h.0 place c h.2, h.3)
+reason_next p f old mid new x (refusal.Assembly place y) c h = (h.0, h.1, turn_next p f old mid h.1 x h.0 place c h.2, h.3, h.4, h.5)
+reason_next p f old mid new x (refusal.File place y) c h = (h.0, h.1, turn_next p f old mid h.1 x h.0 place c h.2, h.3, h.4, h.5)
+reason_next p f old mid new x (refusal.Rule r) c h = tt
+
+-- wherever a plan ends the call, it has a reason
+pub record Reasoned {A : Type 0} (plan : Plan A) : Type 0 where
+  pub gives : (old new : FilesSeen) (why : Refusal) → Comes plan old (Err why) new → FileReason plan old why new
+
+pub same_err : {A : Type 0} (x y : Refusal) → (let r : Result A Refusal = Err x in r) ≡ Err y → y ≡ x
+same_err x y e = cc
+
+reasoned_bind : {A B : Type 0} (p : Plan A) (f : A → Plan B) → Reasoned p → ((x : A) → Reasoned (f x)) → Reasoned (p >>= f)
+reasoned_bind p f a b = record {
+  gives = λ old new why h. elim (comes_split p f old new (Err why) h) as (λ _. FileReason (p >>= f) old why new) [
+    | inl s ↦ reason_next p f old s.1 new s.0 why s.2 ((b s.0).gives s.1 new why s.3)
+    | inr s ↦ reason_first p f old new why (let e = same_err why s.0 s.2 in rw (← e) ((a.gives old new s.0 s.1)))
+  ];
+}
+
+reasoned_made : {A : Type 0} (x : A) → Reasoned (Made x)
+reasoned_made x = record { gives = λ old new why h. absurd (let e = h.0 in cc) }
+
+reasoned_usage : {A : Type 0} → Reasoned (let p : Plan A = Ends refusal.Usage in p)
+reasoned_usage {A} = record { gives = λ old new why h. (let e = same_err {A = A} refusal.Usage why (sym h.0) in rw e tt) }
+
+-- what a layer below gave, where the call ended
+pub ended_unless : {A F : Type 0} (told : F → Refusal) (r : Result A F) (old new : FilesSeen) (why : Refusal) → Comes (unless told r) old (Err why) new → (f : F) × (r ≡ Err f) × (why ≡ told f) × (new ≡ old)
+ended_unless told (Ok x) old new why h = absurd (let e = h.0 in cc)
+ended_unless {A} told (Err f) old new why h = (f, refl, same_err {A = A} (told f) why (sym h.0), h.1)
+
+-- its own rules and those of the link are no reason of a file
+reasoned_rule : {A F : Type 0} (told : F → Refusal) (r : Result A F) → ((f : F) (old new : FilesSeen) → FileReason (unless told r) old (told f) new) → Reasoned (unless told r)
+reasoned_rule told r k = record { gives = λ old new why h. let e = ended_unless told r old new why h in let s = e.2 in rw s (k e.0 old new) }
+
+-- a file is read, and then its bytes alone say how the plan goes on: it ends since the file is too long or unread, or by its bytes
+abbrev ByBytes : {A : Type 0} → List ℕ → ℕ → (List ℕ → Plan A) → Type 0
+ByBytes {A} name place next = (old mid new : FilesSeen) (bytes : List ℕ) (why : Refusal) → GivesWhole old name LONGEST_FILE bytes mid → Comes (next bytes) mid (Err why) new
+    → FileReason (let p : Plan A = Reads name place next in p) old why new
+
+reads_reasoned : {A : Type 0} (name : List ℕ) (place : ℕ) (next : List ℕ → Plan A) → ByBytes name place next → Reasoned (let p : Plan A = Reads name place next in p)
+reads_reasoned {A} name place next k = record { gives = by }
+  where
+    by : (old new : FilesSeen) (why : Refusal) → Comes (let p : Plan A = Reads name place next in p) old (Err why) new → FileReason (let p : Plan A = Reads name place next in p) old why new
+    by old new why (whole bytes mid w h) = k old mid new bytes why w h
+    by old new why (too_long t e) = let s = same_err {A = A} (refusal.TooLong place) why (sym e) in rw s (name, old, inl (refl, refl, refl), t)
+    by old new why (unread t e) = let s = same_err {A = A} refusal.ReadFault why (sym e) in rw s (name, place, old, inl (refl, refl, refl), t)
+
+usage_by : (name : List ℕ) (place : ℕ) → ByBytes name place (form_by Source place)
+usage_by name place old mid new bytes why w h = let e = same_err {A = ComponentFields} refusal.Usage why (sym h.0) in rw e tt
+
+text_by : (name : List ℕ) (place : ℕ) → ByBytes name place (form_by Assembler place)
+text_by name place old mid new bytes why w h =
+    let e = ended_unless (refusal.Assembly place) (assembled bytes) mid new why h in
+    let P : Refusal → FilesSeen → Type 0 = λ v z. FileReason (Reads name place (form_by Assembler place)) old v z in
+    subst (P why) (sym e.3) (subst (λ v. P v mid) (sym e.2) (name, old, inl (refl, refl, refl), bytes, w, e.1))
+
+file_by : (name : List ℕ) (place : ℕ) → ByBytes name place (form_by Component place)
+file_by name place old mid new bytes why w h =
+    let e = ended_unless (refusal.File place) (decoded bytes) mid new why h in
+    let P : Refusal → FilesSeen → Type 0 = λ v z. FileReason (Reads name place (form_by Component place)) old v z in
+    subst (P why) (sym e.3) (subst (λ v. P v mid) (sym e.2) (name, old, inl (refl, refl, refl), bytes, w, e.1))
+
+form_by_bytes : (ending : Ending) (name : List ℕ) (place : ℕ) → ByBytes name place (form_by ending place)
+form_by_bytes Source name place = usage_by name place
+form_by_bytes Assembler name place = text_by name place
+form_by_bytes Component name place = file_by name place
+
+component_reasoned : (place : ℕ) (w : PartWord) → Reasoned (component_at place w)
+unfolding component_at
+component_reasoned place w = reads_reasoned w.name place (form_by w.ending place) (form_by_bytes w.ending w.name place)
+
+pub part_reasoned : (place : ℕ) (w : PartWord) → Reasoned (part_at place w)
+unfolding part_at
+part_reasoned place w = reasoned_bind (component_at place w) _ (component_reasoned place w) (λ c. reasoned_rule (broken_in place) (accepted (record { component = c; trusted = is_trusted w.mark })) (λ f old new. tt))
+
+each_reasoned : {A : Type 0} (item : ℕ → PartWord → Plan A) → ((place : ℕ) (w : PartWord) → Reasoned (item place w)) → (place : ℕ) (ws : List PartWord) → Reasoned (each_at item place ws)
+each_reasoned item h place [] = reasoned_made []
+each_reasoned item h place (w ∷ ws) = reasoned_bind (item place w) _ (h place w) (λ x. reasoned_bind (each_at item (place + 1) ws) _ (each_reasoned item h (place + 1) ws) (λ xs. reasoned_made (x ∷ xs)))
+
+pub links_reasoned : (words : List PartWord) (size steps : ℕ) → Reasoned (run_plan words size steps)
+unfolding run_plan
+links_reasoned words size steps =
+    reasoned_bind (each_at part_at 0 words) _ (each_reasoned part_at part_reasoned 0 words) (λ parts. reasoned_bind (unless refusal.Rule (linked parts size)) _ (reasoned_rule refusal.Rule (linked parts size) (λ f old new. tt)) (λ u. reasoned_made _))
+
+pub checks_reasoned : (word : PartWord) → Reasoned (check_plan word)
+unfolding check_plan
+checks_reasoned word = reasoned_bind (part_at 0 word) _ (part_reasoned 0 word) (λ p. reasoned_made Say)
+
+-- ---- rules
+
+-- a plan never ends so
+abbrev Never : {A : Type 0} → Plan A → Refusal → Type 0
+Never p why = (old new : FilesSeen) → Comes p old (Err why) new → ⊥
+
+no_rule_form : (ending : Ending) (place : ℕ) (name : List ℕ) (r : RuleAt) → Never (let p : Plan _ = Reads name place (form_by ending place) in p) (refusal.Rule r)
+no_rule_form Source place name r old new (whole bytes mid w h) = let e = same_err {A = ComponentFields} refusal.Usage (refusal.Rule r) (sym h.0) in cc
+no_rule_form Source place name r old new (too_long t e) = cc
+no_rule_form Source place name r old new (unread t e) = cc
+no_rule_form Assembler place name r old new (whole bytes mid w h) = let e = (ended_unless (refusal.Assembly place) (assembled bytes) mid new (refusal.Rule r) h).2 in cc
+no_rule_form Assembler place name r old new (too_long t e) = cc
+no_rule_form Assembler place name r old new (unread t e) = cc
+no_rule_form Component place name r old new (whole bytes mid w h) = let e = (ended_unless (refusal.File place) (decoded bytes) mid new (refusal.Rule r) h).2 in cc
+no_rule_form Component place name r old new (too_long t e) = cc
+no_rule_form Component place name r old new (unread t e) = cc
+
+no_rule : (place : ℕ) (w : PartWord) (r : RuleAt) → Never (component_at place w) (refusal.Rule r)
+unfolding component_at
+no_rule place w r = no_rule_form w.ending place w.name r
+
+not_made : {A : Type 0} (x : A) (why : Refusal) → Never (Made x) why
+not_made x why old new h = absurd (let e = h.0 in cc)
+
+same_rule : (r s : RuleAt) → refusal.Rule r ≡ refusal.Rule s → r ≡ s
+same_rule r s e = cc
+
+pub part_breaks : (place : ℕ) (w : PartWord) (old new : FilesSeen) (r : RuleAt) → Comes (part_at place w) old (Err (refusal.Rule r)) new → PartBreaks old place w r new
+unfolding part_at
+part_breaks place w old new r h = elim (comes_split (component_at place w) _ old new (Err (refusal.Rule r)) h) as (λ _. PartBreaks old place w r new) [
+  | inl s ↦ (
+      let e = ended_unless (broken_in place) (accepted (record { component = s.0; trusted = is_trusted w.mark })) s.1 new (refusal.Rule r) s.3 in
+      let q = e.3 in
+      (s.0, rw q s.2, e.0, e.1, same_rule r _ e.2)
+      )
+  | inr s ↦ absurd (no_rule place w r old new (let e = same_err (refusal.Rule r) s.0 s.2 in rw (← e) s.1))
+]
+
+pub each_breaks : (place : ℕ) (ws : List PartWord) (old new : FilesSeen) (r : RuleAt) → Comes (each_at part_at place ws) old (Err (refusal.Rule r)) new → SomeBreaks old place ws r new
+each_breaks place [] old new r h = not_made [] (refusal.Rule r) old new h
+each_breaks place (w ∷ ws) old new r h = elim (comes_split (part_at place w) _ old new (Err (refusal.Rule r)) h) as (λ _. SomeBreaks old place (w ∷ ws) r new) [
+  | inl s ↦ inr (
+    s.0,
+    s.1,
+    s.2,
+    elim (comes_split (each_at part_at (place + 1) ws) _ s.1 new (Err (refusal.Rule r)) s.3) as (λ _. SomeBreaks s.1 (place + 1) ws r new) [
+      | inl t ↦ absurd (not_made _ (refusal.Rule r) t.1 new t.3)
+      | inr t ↦ each_breaks (place + 1) ws s.1 new r (let e = same_err (refusal.Rule r) t.0 t.2 in rw (← e) t.1)
+    ],
+  )
+  | inr s ↦ inl (part_breaks place w old new r (let e = same_err (refusal.Rule r) s.0 s.2 in rw (← e) s.1))
+]
+
+err_same : {A : Type 0} {x y : RuleAt} → x ≡ y → (let q : Result A RuleAt = Err x in q) ≡ Err y
+err_same e = cc
+
+pub links_break : (words : List PartWord) (size steps : ℕ) (old new : FilesSeen) (r : RuleAt) → Comes (run_plan words size steps) old (Err (refusal.Rule r)) new → SomeBreaks old 0 words r new ⊎ AllBreak old words size r new
+unfolding run_plan
+links_break words size steps old new r h = elim (comes_split (each_at part_at 0 words) _ old new (Err (refusal.Rule r)) h) as (λ _. SomeBreaks old 0 words r new ⊎ AllBreak old words size r new) [
+  | inl s ↦ inr (elim (comes_split (unless refusal.Rule (linked s.0 size)) _ s.1 new (Err (refusal.Rule r)) s.3) as (λ _. AllBreak old words size r new) [
+    | inl t ↦ absurd (not_made _ (refusal.Rule r) t.1 new t.3)
+    | inr t ↦ (
+        let e = ended_unless refusal.Rule (linked s.0 size) s.1 new t.0 t.1 in
+        let q = e.3 in
+        let k = same_rule e.0 r (sym e.2 ∙ same_err {A = Task} (refusal.Rule r) t.0 t.2) in
+        (s.0, rw q s.2, e.1 ∙ err_same k)
+        )
+  ])
+  | inr s ↦ inl (each_breaks 0 words old new r (let e = same_err (refusal.Rule r) s.0 s.2 in rw (← e) s.1))
+]
+
+pub checks_break : (word : PartWord) (old new : FilesSeen) (r : RuleAt) → Comes (check_plan word) old (Err (refusal.Rule r)) new → PartBreaks old 0 word r new
+unfolding check_plan
+checks_break word old new r h = elim (comes_split (part_at 0 word) _ old new (Err (refusal.Rule r)) h) as (λ _. PartBreaks old 0 word r new) [
+  | inl s ↦ absurd (not_made _ (refusal.Rule r) s.1 new s.3)
+  | inr s ↦ part_breaks 0 word old new r (let e = same_err (refusal.Rule r) s.0 s.2 in rw (← e) s.1)
+]
+
+-- ---- runs
+
+same_task : (x y : Task) → (let r : Result Task Refusal = Ok x in r) ≡ Ok y → x ≡ y
+same_task x y e = cc
+
+-- the parts came and keep the rules, where a task was made
+pub links_made : (words : List PartWord) (size steps : ℕ) (old new : FilesSeen) (task : Task) → Comes (run_plan words size steps) old (Ok task) new
+    → (parts : List PartSeen) × Comes (each_at part_at 0 words) old (Ok parts) new × (linked parts size ≡ Ok tt) × (task ≡ Run parts size steps)
+unfolding run_plan
+links_made words size steps old new task h = elim (comes_split (each_at part_at 0 words) _ old new (Ok task) h) as (λ _. Goal) [
+  | inl s ↦ made s.0 (linked s.0 size) refl s.1 s.2 s.3
+  | inr s ↦ absurd (let e = s.2 in cc)
+]
+  where
+    Goal : Type 0
+    Goal = (parts : List PartSeen) × Comes (each_at part_at 0 words) old (Ok parts) new × (linked parts size ≡ Ok tt) × (task ≡ Run parts size steps)
+
+    made : (parts : List PartSeen) (r : Result (Unit {0}) RuleAt) → linked parts size ≡ r → (mid : FilesSeen) → Comes (each_at part_at 0 words) old (Ok parts) mid → Comes (unless refusal.Rule r >>= (λ _. Made (Run parts size steps))) mid (Ok task) new
+        → (parts : List PartSeen) × Comes (each_at part_at 0 words) old (Ok parts) new × (linked parts size ≡ Ok tt) × (task ≡ Run parts size steps)
+    made parts (Ok u) e mid c h = (let q = h.1 in (parts, rw q c, e, same_task task _ h.0))
+    made parts (Err b) e mid c h = absurd (let q = h.0 in cc)

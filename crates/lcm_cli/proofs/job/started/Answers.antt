@@ -1,0 +1,17 @@
+use Rattle.std.proofs.Common.{sym, subst, ◌≡◌}
+use Rattle.std.specs.Prelude.{Ok, Err}
+use Rattle.lcm_cli.specs.declared.refusal.Refusal.TheVariants.{Rule}
+use Rattle.lcm_cli.specs.Parts.{linked}
+use Rattle.lcm_cli.proofs.Follow.{unless_made, unless_ended}
+use Rattle.lcm_cli.proofs.FirstOf.{linked_none, linked_broken}
+use Rattle.lcm_cli.proofs.job.started.Goals as goal
+
+pub returns-in-Ok-clause-rules : goal.returns-in-Ok-clause-rules
+returns-in-Ok-clause-rules c =
+    unless_made Rule (linked c.args.parts.now c.args.size) tt
+    (sym (subst (λ ps. linked ps c.args.size ≡ Ok tt) c.as_slice.ensures (linked_none c.as_slice.result.now c.args.size c.in-Ok.ensures.rules)))
+
+pub returns-in-Err-Rule-clause-rules : goal.returns-in-Err-Rule-clause-rules
+returns-in-Err-Rule-clause-rules c =
+    unless_ended Rule (linked c.args.parts.now c.args.size) c.in-Err-Rule.broken
+    (sym (subst (λ ps. linked ps c.args.size ≡ Err c.in-Err-Rule.broken) c.as_slice.ensures (linked_broken c.as_slice.result.now c.args.size _ c.in-Err-Rule.broken c.in-Err-Rule.field-0-is c.in-Err-Rule.ensures)))

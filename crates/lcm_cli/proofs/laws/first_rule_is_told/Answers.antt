@@ -1,0 +1,5 @@
+use Rattle.lcm_cli.proofs.FirstOf.{linked_is}
+use Rattle.lcm_cli.proofs.laws.first_rule_is_told.Goals as goal
+
+pub returns : goal.returns
+returns c = linked_is

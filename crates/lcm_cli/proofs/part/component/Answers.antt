@@ -1,0 +1,9 @@
+use Rattle.lcm_cli.specs.Plans.{file}
+use Rattle.lcm_cli.specs.Parts.{form_by, component_at}
+use Rattle.lcm_cli.proofs.Follow.{follows_meets}
+use Rattle.lcm_cli.proofs.part.component.Goals as goal
+
+pub returns : goal.returns
+unfolding component_at
+returns g c =
+    follows_meets (file c.args.word.now.name c.args.place) (form_by c.args.word.now.ending c.args.place) _ _ c.in_ok-bytes.bytes c.form.result c.in_ok-bytes.ensures.came (rw c.as_slice.ensures at c.form.ensures)

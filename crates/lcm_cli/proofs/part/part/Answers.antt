@@ -1,0 +1,12 @@
+use Rattle.std.proofs.Common.{subst}
+use Rattle.component_linker.specs.Accepted.{accepted}
+use Rattle.lcm_cli.specs.Plans.{unless, Meets}
+use Rattle.lcm_cli.specs.Parts.{is_trusted, broken_in, component_at, part_at}
+use Rattle.lcm_cli.proofs.Follow.{follows_meets}
+use Rattle.lcm_cli.proofs.part.part.Goals as goal
+
+pub returns : goal.returns
+unfolding part_at
+returns g c =
+    follows_meets (component_at c.args.place c.args.word.now) (λ x. unless (broken_in c.args.place) (accepted (record { component = x; trusted = is_trusted c.args.word.now.mark }))) _ _ c.in_ok-component.component c.accepted.result c.in_ok-component.ensures
+    (subst (λ b. Meets (unless (broken_in c.args.place) (accepted (record { component = c.in_ok-component.component; trusted = b }))) c.accepted.result) c.is_trusted.ensures c.accepted.ensures)

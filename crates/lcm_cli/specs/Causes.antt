@@ -1,0 +1,174 @@
+-- The causes: what holds of a call wherever it ends with a status.
+use Rattle.std.specs.Prelude.{◌≡◌, ◌⊎◌, ℕ, ◌+◌, ℤ, false, List, [], ◌∷◌, Option, Some, None, Result, Ok, Err}
+use Rattle.outside_io.specs.Counts.{Rose}
+use Rattle.outside_io.specs.FilesSeen.{FilesSeen}
+use Rattle.outside_io.specs.SinkSeen.{Adds}
+use Rattle.outside_io.specs.Whole.{GivesWhole as ComesWhole, IsTooLong, Faults, OnlyGave}
+use Rattle.command_words.specs.declared.part.PartWord.{PartWord}
+use Rattle.command_words.specs.declared.command.Linked.TheVariants.{Parts}
+use Rattle.command_words.specs.declared.command.Command.{Command}
+use Rattle.command_words.specs.declared.command.Command.TheVariants as command
+use Rattle.asm_fields.specs.declared.fault.AsmFault.{AsmFault}
+use Rattle.assembler.specs.Assembled.{assembled}
+use Rattle.component_file.specs.declared.fault.FileFault.{FileFault}
+use Rattle.component_file.specs.declared.component.ComponentFields.{ComponentFields}
+use Rattle.component_file.specs.Reading.{decoded}
+use Rattle.component_check.specs.declared.rule.Broken.{Broken}
+use Rattle.component_linker.specs.declared.fault.RuleAt.{RuleAt}
+use Rattle.component_linker.specs.Parts.{PartSeen}
+use Rattle.component_linker.specs.Start.{IsStart}
+use Rattle.lcm_machine.specs.declared.FailCause.{FailCause}
+use Rattle.lcm_machine.specs.declared.Step.{Step}
+use Rattle.lcm_machine.specs.declared.Step.TheVariants.{Went, Halted, Failed}
+use Rattle.lcm_machine.specs.Run.{Run as Machine, answer as last_step, plain}
+use Rattle.lcm_cli.specs.declared.TheConstants.{LONGEST_FILE}
+use Rattle.lcm_cli.specs.declared.refusal.Refusal.{Refusal}
+use Rattle.lcm_cli.specs.declared.refusal.Refusal.TheVariants as refusal
+use Rattle.lcm_cli.specs.declared.status.Status.{Status}
+use Rattle.lcm_cli.specs.declared.status.Status.TheVariants.{Done, MachineFailed, StepsUsed, Usage, ReadFault}
+use Rattle.lcm_cli.specs.declared.status.Status.TheVariants.{WriteFault, NoMemory, TooLong, AsmRefused}
+use Rattle.lcm_cli.specs.declared.status.Status.TheVariants.{SourceRefused, FileRefused, RuleBroken}
+use Rattle.lcm_cli.specs.EndLine.{end_line}
+use Rattle.lcm_cli.specs.Refusals.{refusal_text}
+use Rattle.lcm_cli.specs.Plans.{Plan, Reads, Ends, Made, Comes}
+use Rattle.component_linker.specs.Accepted.{accepted}
+use Rattle.lcm_cli.specs.Parts.{is_trusted, broken_in, linked, component_at, part_at, each_at}
+use Rattle.lcm_cli.specs.Commands.{Task, Run, Say, is_command, plan_in}
+use Rattle.lcm_cli.specs.Answers.{Outside, Answers, IsComplete, step_status, kept_with}
+
+-- ---- files
+
+-- the turn of a file came, each before it having come whole; `seen` is what the files tell then
+abbrev pub IsTurn : {A : Type 0} → Plan A → FilesSeen → List ℕ → ℕ → FilesSeen → Type 0
+IsTurn (Made x) old name place seen = ⊥
+IsTurn (Ends why) old name place seen = ⊥
+IsTurn (Reads n p next) old name place seen =
+    ((n ≡ name) × (p ≡ place) × (seen ≡ old))
+    ⊎ ((bytes : List ℕ) × (mid : FilesSeen) × ComesWhole old n LONGEST_FILE bytes mid
+    × IsTurn (next bytes) mid name place seen)
+
+-- a read failed of a file whose turn it was, and it is the last failed one
+abbrev pub IsUnread : {A : Type 0} → Plan A → FilesSeen → FilesSeen → Type 0
+IsUnread plan old new =
+    (name : List ℕ) × (place : ℕ) × (seen : FilesSeen) × IsTurn plan old name place seen
+    × Faults seen name LONGEST_FILE new
+
+-- the file of this place, whose turn it was, is too long
+abbrev pub IsLong : {A : Type 0} → Plan A → FilesSeen → ℕ → FilesSeen → Type 0
+IsLong plan old place new =
+    (name : List ℕ) × (seen : FilesSeen) × IsTurn plan old name place seen
+    × IsTooLong seen name LONGEST_FILE new
+
+-- the file of this place came last, whole, and its bytes are such
+abbrev pub Holds : {A : Type 0} → Plan A → FilesSeen → ℕ → FilesSeen → (List ℕ → Type 0) → Type 0
+Holds plan old place new P =
+    (name : List ℕ) × (seen : FilesSeen) × IsTurn plan old name place seen
+    × (bytes : List ℕ) × ComesWhole seen name LONGEST_FILE bytes new × P bytes
+
+-- the bytes of the file of this place spell no component, with this first fault
+abbrev pub IsUndecoded : {A : Type 0} → Plan A → FilesSeen → ℕ → FileFault → FilesSeen → Type 0
+IsUndecoded plan old place f new = Holds plan old place new (λ bytes. decoded bytes ≡ Err f)
+
+-- the text in the file of this place spells no component, with this first fault
+abbrev pub IsUnassembled : {A : Type 0} → Plan A → FilesSeen → ℕ → AsmFault → FilesSeen → Type 0
+IsUnassembled plan old place f new = Holds plan old place new (λ text. assembled text ≡ Err f)
+
+-- ---- rules
+
+-- the word's part breaks a rule by itself
+abbrev pub PartBreaks : FilesSeen → ℕ → PartWord → RuleAt → FilesSeen → Type 0
+PartBreaks old place word r new =
+    (c : ComponentFields) × Comes (component_at place word) old (Ok c) new
+    × (b : Broken) × (accepted (record { component = c; trusted = is_trusted word.mark }) ≡ Err b)
+    × (r ≡ record { rule = b.rule; part = place; place = b.place })
+
+-- the first words made parts, and the next one's part breaks a rule by itself
+abbrev pub SomeBreaks : FilesSeen → ℕ → List PartWord → RuleAt → FilesSeen → Type 0
+SomeBreaks old place [] r new = ⊥
+SomeBreaks old place (word ∷ words) r new =
+    PartBreaks old place word r new
+    ⊎ ((p : PartSeen) × (mid : FilesSeen) × Comes (part_at place word) old (Ok p) mid
+    × SomeBreaks mid (place + 1) words r new)
+
+-- all words made parts, which together break a rule
+abbrev pub AllBreak : FilesSeen → List PartWord → ℕ → RuleAt → FilesSeen → Type 0
+AllBreak old words size r new =
+    (parts : List PartSeen) × Comes (each_at part_at 0 words) old (Ok parts) new × (linked parts size ≡ Err r)
+
+-- a rule that the command asks for is broken
+abbrev pub Breaks : Option Command → FilesSeen → RuleAt → FilesSeen → Type 0
+Breaks (Some (command.Run (Parts words size) steps)) old r new =
+    SomeBreaks old 0 words r new ⊎ AllBreak old words size r new
+Breaks (Some (command.Check word)) old r new = PartBreaks old 0 word r new
+Breaks _ old r new = ⊥
+
+-- ---- runs
+
+-- the parts of the words came, and the plain run of their start came to this
+abbrev pub Runs : Option Command → FilesSeen → FilesSeen → (Step → Type 0) → Type 0
+Runs asked old new P =
+    (parts : List PartSeen) × (size : ℕ) × (steps : ℕ)
+    × Comes (plan_in asked) old (Ok (Run parts size steps)) new
+    × (start : Machine) × IsStart parts size start × P (last_step (plain steps start))
+
+abbrev pub Says : Option Command → FilesSeen → FilesSeen → Type 0
+Says asked old new = Comes (plan_in asked) old (Ok Say) new
+
+-- the refusal's line was written
+abbrev pub Wrote : Refusal → Outside → Outside → Type 0
+Wrote why old new = Adds old.sink (refusal_text why) new.sink
+
+-- ---- the causes, a law for each status
+
+pub record Causes (asked : Option Command) (old : Outside) (status : Status) (new : Outside) : Type 0 where
+  -- the run halted, or `ok` was to be written
+  pub done : status ≡ Done
+      → Runs asked old.files new.files (λ step. step ≡ Halted) ⊎ Says asked old.files new.files
+  pub machine_failed : status ≡ MachineFailed → Runs asked old.files new.files
+      (λ step. (cause : FailCause) × (at : ℤ) × (step ≡ Failed cause at))
+  pub steps_used : status ≡ StepsUsed → Runs asked old.files new.files (λ step. step ≡ Went)
+  pub usage : status ≡ Usage → is_command asked ≡ false
+  pub read_fault : status ≡ ReadFault
+      → Rose old.files.failed_reads new.files.failed_reads × IsUnread (plan_in asked) old.files new.files
+  pub write_fault : status ≡ WriteFault → Rose old.sink.faults new.sink.faults
+  pub no_memory : status ≡ NoMemory
+      → OnlyGave old.files new.files × (new.sink ≡ old.sink) × (new.kept ≡ old.kept)
+  pub too_long : status ≡ TooLong → (place : ℕ) × Wrote (refusal.TooLong place) old new
+      × IsLong (plan_in asked) old.files place new.files
+  pub asm_refused : status ≡ AsmRefused → (place : ℕ) × (f : AsmFault)
+      × Wrote (refusal.Assembly place f) old new × IsUnassembled (plan_in asked) old.files place f new.files
+  pub file_refused : status ≡ FileRefused → (place : ℕ) × (f : FileFault)
+      × Wrote (refusal.File place f) old new × IsUndecoded (plan_in asked) old.files place f new.files
+  pub rule_broken : status ≡ RuleBroken → (r : RuleAt) × Wrote (refusal.Rule r) old new
+      × Breaks asked old.files r new.files
+  -- no command that is built has a source
+  pub no_source : status ≡ SourceRefused → ⊥
+
+-- ---- what is promised
+
+-- the statuses of a run that was made
+abbrev pub IsRunStatus : Status → Type 0
+IsRunStatus Done = Unit {0}
+IsRunStatus MachineFailed = Unit {0}
+IsRunStatus StepsUsed = Unit {0}
+IsRunStatus _ = ⊥
+
+-- the words made parts that keep the rules, and the plain run of their start gave the end line, the status
+-- and the machine
+pub record RunGiven (words : List PartWord) (size steps : ℕ) (old : Outside) (status : Status) (new : Outside)
+    : Type 0 where
+  pub parts : List PartSeen
+  pub came : Comes (each_at part_at 0 words) old.files (Ok parts) new.files
+  pub keep : linked parts size ≡ Ok tt
+  pub start : Machine
+  pub starts : IsStart parts size start
+  pub status_is : status ≡ step_status (last_step (plain steps start))
+  pub written : Adds old.sink (end_line (plain steps start)) new.sink
+  pub kept_is : new.kept ≡ Some (plain steps start)
+
+-- what the top call promises: the answer that was due, the cause of its status, and that no other answer is
+-- given where nothing outside fails
+pub record Promised (asked : Option Command) (old : Outside) (status : Status) (new : Outside) : Type 0 where
+  pub answers : Answers (plan_in asked) old status new
+  pub causes : Causes asked old status new
+  pub complete : IsComplete (plan_in asked) old status new

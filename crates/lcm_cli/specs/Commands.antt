@@ -1,0 +1,70 @@
+-- What each command does: its files in the order of refusals, and then its task.
+use Rattle.std.specs.Prelude.{ℕ, Bool, true, false, ◌&&◌, not, List, Option, Some, None, if◌then◌else◌}
+use Rattle.std.specs.List.{list_all}
+use Rattle.command_words.specs.declared.part.Ending.{Ending}
+use Rattle.command_words.specs.declared.part.Ending.TheVariants.{Source}
+use Rattle.command_words.specs.declared.part.PartWord.{PartWord}
+use Rattle.command_words.specs.declared.command.Linked.{Linked}
+use Rattle.command_words.specs.declared.command.Linked.TheVariants.{Parts, Image}
+use Rattle.command_words.specs.declared.command.Command.{Command}
+use Rattle.command_words.specs.declared.command.Command.TheVariants as command
+use Rattle.component_linker.specs.Parts.{PartSeen}
+use Rattle.lcm_cli.specs.declared.refusal.Refusal.TheVariants as refusal
+use Rattle.lcm_cli.specs.Plans.{Plan, Ends, Made, ◌>>=◌, unless}
+use Rattle.lcm_cli.specs.Parts.{is_trusted, linked, part_at, each_at}
+
+-- what is left to do once the files came: to run the start of parts with a stack of a size, or to write `ok`
+pub data Task : Type 0 where
+  Run : (parts : List PartSeen) (size steps : ℕ) → Task
+  Say : Task
+
+-- ---- what is built: `run` of untrusted parts, and `check`; of no sources
+
+abbrev pub is_source : Ending → Bool
+is_source Source = true
+is_source _ = false
+
+abbrev pub is_built_form : PartWord → Bool
+is_built_form word = not (is_source word.ending)
+
+abbrev pub is_built_part : PartWord → Bool
+is_built_part word = not (is_trusted word.mark) && is_built_form word
+
+abbrev pub is_built_linked : Linked → Bool
+is_built_linked (Parts words size) = list_all is_built_part words
+is_built_linked (Image name) = false
+
+abbrev pub is_built : Command → Bool
+is_built (command.Run what steps) = is_built_linked what
+is_built (command.Check word) = is_built_form word
+is_built _ = false
+
+-- the parts, the rules L, and then the run
+unfoldable pub run_plan : List PartWord → ℕ → ℕ → Plan Task
+run_plan words size steps = do
+  parts ← each_at part_at 0 words
+  _ ← unless refusal.Rule (linked parts size)
+  Made (Run parts size steps)
+
+unfoldable pub check_plan : PartWord → Plan Task
+check_plan word = do
+  _ ← part_at 0 word
+  Made Say
+
+abbrev pub built_plan : Command → Plan Task
+built_plan (command.Run (Parts words size) steps) = run_plan words size steps
+built_plan (command.Check word) = check_plan word
+built_plan _ = Ends refusal.Usage
+
+-- ---- what words ask for: what isn't built is refused as what is no command
+
+abbrev pub plan_of : Command → Plan Task
+plan_of c = if is_built c then built_plan c else Ends refusal.Usage
+
+abbrev pub plan_in : Option Command → Plan Task
+plan_in None = Ends refusal.Usage
+plan_in (Some c) = plan_of c
+
+abbrev pub is_command : Option Command → Bool
+is_command None = false
+is_command (Some c) = is_built c

@@ -1,0 +1,25 @@
+-- A job of the code, beside the task of the plan.
+use Rattle.std.specs.Prelude.{◌≡◌, ℕ, Result, Ok, Err}
+use Rattle.outside_io.specs.FilesSeen.{FilesSeen}
+use Rattle.component_linker.specs.Start.{IsStart}
+use Rattle.lcm_cli.specs.declared.job.Job.{Job}
+use Rattle.lcm_cli.specs.declared.job.Job.TheVariants as job
+use Rattle.lcm_cli.specs.declared.refusal.Stop.{Stop}
+use Rattle.lcm_cli.specs.Plans.{Plan, Comes, Follows}
+use Rattle.lcm_cli.specs.Commands.{Task, Run, Say}
+
+-- the job runs from the start of the task's parts
+abbrev pub Does : Task → Job → Type 0
+Does (Run parts size steps) (job.Run start n) = IsStart parts size start.state × (n ≡ steps)
+Does Say job.Say = Unit {0}
+Does _ _ = ⊥
+
+-- a body's job does what came of the plan
+abbrev pub FollowsTask : Plan Task → FilesSeen → Result Job Stop → FilesSeen → Type 0
+FollowsTask plan old (Ok job) new = (task : Task) × Comes plan old (Ok task) new × Does task job
+FollowsTask plan old (Err stop) new = Follows plan old (Err stop) new
+
+-- an answer without what was made
+abbrev pub without : {A : Type 0} → Result A Stop → Result (Unit {0}) Stop
+without (Ok x) = Ok tt
+without (Err stop) = Err stop

@@ -1,0 +1,63 @@
+-- The parts of part words: read, length, form, rules C, and K where it is trusted; and then the rules L of all of
+-- them.
+use Rattle.std.specs.Prelude.{ℕ, ◌+◌, Bool, true, false, List, [], ◌∷◌, map, Result, Ok, Err}
+use Rattle.assembler.specs.Assembled.{assembled}
+use Rattle.command_words.specs.declared.part.Mark.{Mark}
+use Rattle.command_words.specs.declared.part.Mark.TheVariants.{Trusted, Untrusted}
+use Rattle.command_words.specs.declared.part.Ending.{Ending}
+use Rattle.command_words.specs.declared.part.Ending.TheVariants.{Source, Assembler, Component}
+use Rattle.command_words.specs.declared.part.PartWord.{PartWord}
+use Rattle.component_file.specs.declared.component.ComponentFields.{ComponentFields}
+use Rattle.component_file.specs.Reading.{decoded}
+use Rattle.component_check.specs.declared.rule.Broken.{Broken}
+use Rattle.component_check.specs.Verdict.{check_from}
+use Rattle.component_linker.specs.declared.fault.RuleAt.{RuleAt}
+use Rattle.component_linker.specs.Pairs.{by_part}
+use Rattle.component_linker.specs.Links.{rules_l, rule_at}
+use Rattle.component_linker.specs.Accepted.{accepted}
+use Rattle.component_linker.specs.Parts.{PartSeen}
+use Rattle.lcm_cli.specs.declared.refusal.Refusal.{Refusal}
+use Rattle.lcm_cli.specs.declared.refusal.Refusal.TheVariants as refusal
+use Rattle.lcm_cli.specs.Plans.{Plan, Ends, Made, ◌>>=◌, file, unless}
+
+-- ---- rules
+
+-- a rule that a part breaks by itself
+abbrev pub broken_in : ℕ → Broken → Refusal
+broken_in place b = refusal.Rule (record { rule = b.rule; part = place; place = b.place })
+
+-- the first of the rules L that parts break together, where they break one
+unfoldable pub linked : List PartSeen → ℕ → Result (Unit {0}) RuleAt
+linked parts size = check_from rule_at 1 (map by_part (rules_l parts size))
+
+-- ---- parts
+
+abbrev pub is_trusted : Mark → Bool
+is_trusted Trusted = true
+is_trusted Untrusted = false
+
+-- the component that bytes are in their form; no command that is built has a source
+abbrev pub form_by : Ending → ℕ → List ℕ → Plan ComponentFields
+form_by Source place text = Ends refusal.Usage
+form_by Assembler place text = unless (refusal.Assembly place) (assembled text)
+form_by Component place bytes = unless (refusal.File place) (decoded bytes)
+
+-- read, length, form
+unfoldable pub component_at : ℕ → PartWord → Plan ComponentFields
+component_at place word = do
+  bytes ← file word.name place
+  form_by word.ending place bytes
+
+-- and its own rules
+unfoldable pub part_at : ℕ → PartWord → Plan PartSeen
+part_at place word = do
+  c ← component_at place word
+  unless (broken_in place) (accepted (record { component = c; trusted = is_trusted word.mark }))
+
+-- each word's part in its order, the first of them at a place
+abbrev pub each_at : {A : Type 0} → (ℕ → PartWord → Plan A) → ℕ → List PartWord → Plan (List A)
+each_at item place [] = Made []
+each_at item place (word ∷ words) = do
+  first ← item place word
+  others ← each_at item (place + 1) words
+  Made (first ∷ others)

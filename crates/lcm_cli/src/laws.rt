@@ -1,0 +1,22 @@
+//! What holds of the answers of the top call. These functions do nothing; their contracts are the laws.
+ghost use Rattle.std.specs.Prelude.{◌≡◌, ℕ, List, Option};
+ghost use Rattle.command_words.specs.declared.command.Command.{Command};
+ghost use Rattle.component_linker.specs.Parts.{PartSeen};
+ghost use Rattle.component_linker.specs.Pairs.{IsFirstBrokenIn};
+ghost use Rattle.component_linker.specs.Links.{rules_l, rule_at};
+ghost use Rattle.lcm_cli.specs.Parts.{linked};
+ghost use Rattle.lcm_cli.specs.Commands.{plan_in};
+ghost use Rattle.lcm_cli.specs.Answers.{Answer, IsWritten};
+
+/// Parts together are refused for the first of the rules of linking that they break, in the first part and
+/// at the first place there, and for nothing else.
+pub fn first_rule_is_told()
+    ensures { (parts : List PartSeen) (size : ℕ)
+        → IsFirstBrokenIn rule_at (rules_l parts size) (linked parts size) }
+{}
+
+/// The words and the bytes of the files determine the answer.
+pub fn one_answer()
+    ensures { (asked : Option Command) (held : List ℕ → Option (List ℕ)) (a b : Answer)
+        → IsWritten held (plan_in asked) a → IsWritten held (plan_in asked) b → a ≡ b }
+{}

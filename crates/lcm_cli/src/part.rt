@@ -1,0 +1,123 @@
+//! The parts of the words: each read, in its form, and by its own rules.
+ghost use Rattle.std.specs.Prelude.{◌≡◌, ◌<◌, ◌≤◌, ◌^◌, IfOk, length};
+ghost use Rattle.component_file.specs.Reading.{decoded};
+ghost use Rattle.command_words.specs.declared.TheConstants.{MOST_PARTS};
+ghost use Rattle.assembler.specs.Assembled.{assembled};
+ghost use Rattle.lcm_cli.specs.Plans.{Follows, Meets, unless};
+ghost use Rattle.component_linker.specs.Accepted.{accepted};
+ghost use Rattle.lcm_cli.specs.Parts.{is_trusted, broken_in, form_by, component_at, part_at, each_at};
+
+use crate::read::read;
+use crate::refusal::{Refusal, Stop};
+use assembler::{AsmFault, assemble};
+use cap_words::Items;
+use command_words::{Ending, Mark, PartWord};
+use component_file::{Component, FileFault, decode_component};
+use component_linker::{Part, RuleAt, accept};
+use outside_io::Files;
+use std::alloc::Global;
+
+// The component that the bytes of a file spell.
+fn decoded(alloc: Global, place: u32, bytes: &[u8]) -> Result<Component, Stop>
+    requires { length bytes.now < 2 ^ 32 }
+    ensures { Meets (unless (Refusal.File place) (decoded bytes.now)) result }
+{
+    match decode_component(alloc, bytes) {
+        Ok(component) => Ok(component),
+        Err(FileFault::NoMemory) => Err(Stop::NoMemory),
+        Err(fault) => Err(Stop::Refused(Refusal::File(place, fault))),
+    }
+}
+
+// The component that an assembler text spells.
+fn assembled(alloc: Global, place: u32, text: &[u8]) -> Result<Component, Stop>
+    requires { length text.now < 2 ^ 32 }
+    ensures { Meets (unless (Refusal.Assembly place) (assembled text.now)) result }
+{
+    match assemble(alloc, text) {
+        Ok(component) => Ok(component),
+        Err(AsmFault::NoMemory) => Err(Stop::NoMemory),
+        Err(fault) => Err(Stop::Refused(Refusal::Assembly(place, fault))),
+    }
+}
+
+// The component that the bytes of a part are in their form. No command that is built has a source.
+fn form(alloc: Global, ending: Ending, place: u32, bytes: &[u8]) -> Result<Component, Stop>
+    requires { length bytes.now < 2 ^ 32 }
+    ensures { Meets (form_by ending place bytes.now) result }
+{
+    match ending {
+        Ending::Source => Err(Stop::Refused(Refusal::Usage)),
+        Ending::Assembler => assembled(alloc, place, bytes),
+        Ending::Component => decoded(alloc, place, bytes),
+    }
+}
+
+// The component of a part word.
+#[tactic(auto, using(crate::proofs::Follow::follows_end), unfolding(crate::specs::Parts::component_at))]
+fn component<F: Files>(
+    alloc: Global,
+    files: &mut F,
+    place: u32,
+    word: &PartWord<'_>,
+) -> Result<Component, Stop>
+    ensures { Follows (component_at place word.now) (F.seen files.old) result (F.seen files.new) }
+{
+    let bytes = read(alloc, files, &word.name, place)?;
+    form(alloc, word.ending, place, bytes.as_slice())
+}
+
+fn is_trusted(mark: Mark) -> bool
+    ensures { result ≡ is_trusted mark }
+{
+    mark == Mark::Trusted
+}
+
+// The part of a component that keeps its own rules.
+fn accepted(component: Component, place: u32, trusted: bool) -> Result<Part, Stop>
+    ensures { Meets (unless (broken_in place) (accepted (record { component = component; trusted = trusted })))
+        result }
+{
+    match accept(component, trusted) {
+        Ok(part) => Ok(part),
+        Err(broken) => Err(Stop::Refused(Refusal::Rule(RuleAt {
+            rule: broken.rule,
+            part: place,
+            place: broken.place,
+        }))),
+    }
+}
+
+/// The part of a part word.
+#[tactic(auto, using(crate::proofs::Follow::follows_end), unfolding(crate::specs::Parts::part_at))]
+pub(crate) fn part<F: Files>(
+    alloc: Global,
+    files: &mut F,
+    place: u32,
+    word: &PartWord<'_>,
+) -> Result<Part, Stop>
+    ensures { Follows (part_at place word.now) (F.seen files.old) result (F.seen files.new) }
+{
+    let component = component(alloc, files, place, word)?;
+    accepted(component, place, is_trusted(word.mark))
+}
+
+/// The parts of part words, one after another.
+pub(crate) fn parts<F: Files>(
+    alloc: Global,
+    files: &mut F,
+    words: &[PartWord<'_>],
+) -> Result<Items<Part>, Stop>
+    requires few { length words.now ≤ MOST_PARTS }
+    ensures are { Follows (each_at part_at 0 words.now) (F.seen files.old) result (F.seen files.new) }
+    ensures count { IfOk result (λ parts. length parts ≡ length words.now) }
+{
+    let mut parts = Vec::new(alloc);
+    let mut place = 0;
+    for word in words {
+        let part = part(alloc, files, place, word)?;
+        parts.push(part)?;
+        place += 1;
+    }
+    Ok(Items::of(parts))
+}

@@ -1,0 +1,28 @@
+//! Reading the files of the words.
+ghost use Rattle.std.specs.Prelude.{◌≤◌, length, IfOk};
+ghost use Rattle.lcm_cli.specs.Plans.{file, Follows};
+
+use crate::LONGEST_FILE;
+use crate::refusal::{Refusal, Stop};
+use cap_words::Items;
+use command_words::FileName;
+use outside_io::{Files, ReadEnd, read_whole};
+use std::alloc::Global;
+
+/// The bytes of a file whose turn it is. `place` is the index of its part.
+pub(crate) fn read<F: Files>(
+    alloc: Global,
+    files: &mut F,
+    name: &FileName<'_>,
+    place: u32,
+) -> Result<Items<u8>, Stop>
+    ensures came { Follows (file name.now place) (F.seen files.old) result (F.seen files.new) }
+    ensures short { IfOk result (λ bytes. length bytes ≤ LONGEST_FILE) }
+{
+    match read_whole(alloc, files, name.as_str(), LONGEST_FILE) {
+        Ok(bytes) => Ok(Items::of(bytes)),
+        Err(ReadEnd::Fault) => Err(Stop::Refused(Refusal::ReadFault)),
+        Err(ReadEnd::TooLong) => Err(Stop::Refused(Refusal::TooLong(place))),
+        Err(ReadEnd::NoMemory) => Err(Stop::NoMemory),
+    }
+}

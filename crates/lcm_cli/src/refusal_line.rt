@@ -1,0 +1,111 @@
+//! The line and the status of each refusal.
+ghost use Rattle.std.specs.Prelude.{◌≡◌, ◌+◌, ◌≤◌, ◌<◌, ◌++◌, [], decimal};
+ghost use Rattle.arrayvec.specs.ArrayString.{array_string_len};
+ghost use Rattle.lcm_cli.specs.Refusals.{asm_number_text, assembly_text, file_text, rule_line, refusal_text, refusal_status};
+
+use crate::refusal::Refusal;
+use crate::status::Status;
+use arrayvec::ArrayString;
+use assembler::AsmFault;
+use component_file::FileFault;
+use component_linker::RuleAt;
+use itoa::Buffer;
+
+fn push_number(line: &mut ArrayString<64>, number: u32)
+    requires { array_string_len line.old ≤ 50 }
+    ensures bytes { line.new.bytes ≡ line.old.bytes ++ decimal number }
+    ensures len { array_string_len line.new ≤ array_string_len line.old + 10 }
+{
+    let mut digits = Buffer::new();
+    line.push_str(digits.format(number));
+}
+
+// Appends the number of a fault of an assembler text, of a fault of its tokens behind an `s`.
+fn push_asm_number(line: &mut ArrayString<64>, fault: AsmFault)
+    requires { array_string_len line.old ≤ 40 }
+    ensures bytes { line.new.bytes ≡ line.old.bytes ++ asm_number_text fault }
+    ensures len { array_string_len line.new ≤ array_string_len line.old + 11 }
+{
+    match fault {
+        AsmFault::Scan(fault) => {
+            line.push_str("s");
+            push_number(line, u32::from(fault.number()));
+        }
+        other => push_number(line, u32::from(other.number())),
+    }
+}
+
+fn push_file(line: &mut ArrayString<64>, part: u32, fault: FileFault)
+    requires { line.old.bytes ≡ [] }
+    ensures { line.new.bytes ≡ file_text part fault }
+{
+    line.push_str("file ");
+    push_number(line, part);
+    line.push_str(" ");
+    push_number(line, u32::from(fault.number()));
+    line.push_str(" ");
+    push_number(line, fault.place());
+    line.push_str("\n");
+}
+
+fn push_assembly(line: &mut ArrayString<64>, part: u32, fault: AsmFault)
+    requires { line.old.bytes ≡ [] }
+    ensures { line.new.bytes ≡ assembly_text part fault }
+{
+    line.push_str("asm ");
+    push_number(line, part);
+    line.push_str(" ");
+    push_asm_number(line, fault);
+    line.push_str(" ");
+    push_number(line, fault.place());
+    line.push_str("\n");
+}
+
+#[tactic(auto, unfolding(component_linker::specs::FaultText::rule_at_text))]
+fn push_rule(line: &mut ArrayString<64>, broken: RuleAt)
+    requires { line.old.bytes ≡ [] }
+    ensures { line.new.bytes ≡ rule_line broken }
+{
+    line.push_str("rule ");
+    push_number(line, broken.part);
+    line.push_str(" ");
+    line.push_str(broken.rule.text().as_str());
+    line.push_str(" ");
+    push_number(line, broken.place);
+    line.push_str("\n");
+}
+
+/// The line that a refusal writes.
+pub(crate) fn refusal_line(why: Refusal) -> ArrayString<64>
+    ensures text { result.bytes ≡ refusal_text why }
+    ensures some { 0 < array_string_len result }
+{
+    let mut line = ArrayString::new();
+    match why {
+        Refusal::Usage => line.push_str("usage\n"),
+        Refusal::ReadFault => line.push_str("read fault\n"),
+        Refusal::TooLong(place) => {
+            line.push_str("too long ");
+            push_number(&mut line, place);
+            line.push_str("\n");
+        }
+        Refusal::Assembly(part, fault) => push_assembly(&mut line, part, fault),
+        Refusal::File(part, fault) => push_file(&mut line, part, fault),
+        Refusal::Rule(broken) => push_rule(&mut line, broken),
+    }
+    line
+}
+
+/// The status of a refusal.
+pub(crate) fn refusal_status(why: Refusal) -> Status
+    ensures { result ≡ refusal_status why }
+{
+    match why {
+        Refusal::Usage => Status::Usage,
+        Refusal::ReadFault => Status::ReadFault,
+        Refusal::TooLong(_) => Status::TooLong,
+        Refusal::Assembly(_, _) => Status::AsmRefused,
+        Refusal::File(_, _) => Status::FileRefused,
+        Refusal::Rule(_) => Status::RuleBroken,
+    }
+}

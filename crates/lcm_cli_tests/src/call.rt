@@ -1,0 +1,155 @@
+//! Calls of the program, and the files that they read.
+use lcm_cli::{Status, stk_main};
+use lcm_machine::LcmState;
+use outside_io::{MemFiles, MemSink};
+use std::alloc::{AllocError, Global};
+use std::test::Fail;
+
+/// What a call came to: its status, what it wrote, and the count of the machine that it kept.
+#[derive(Drop, PartialEq, Eq, Debug)]
+pub(crate) struct Told {
+    status: Status,
+    text: String,
+    count: Option<u64>,
+}
+
+pub(crate) fn expected(
+    alloc: Global,
+    status: Status,
+    text: &str,
+    count: Option<u64>,
+) -> Result<Told, AllocError> {
+    Ok(Told {
+        status,
+        text: String::from_str(alloc, text)?,
+        count,
+    })
+}
+
+/// Calls the program with the words of a line, which are parted by blanks.
+pub(crate) fn call(
+    alloc: Global,
+    line: &str,
+    files: &mut MemFiles,
+    out: &mut MemSink,
+) -> Result<Told, Fail> {
+    let mut words = Vec::new(alloc);
+    for word in line.split_whitespace() {
+        words.push(String::from_str(alloc, word)?)?;
+    }
+    let mut kept: Option<LcmState> = None;
+    let status = stk_main(alloc, &words, files, out, &mut kept);
+    Ok(Told {
+        status,
+        text: String::from_utf8_lossy(alloc, out.bytes())?,
+        count: kept.as_ref().map(|machine| machine.count()),
+    })
+}
+
+/// Calls the program over these files and an empty sink.
+pub(crate) fn run(alloc: Global, line: &str, files: &mut MemFiles) -> Result<Told, Fail> {
+    let mut out = MemSink::new(alloc)?;
+    call(alloc, line, files, &mut out)
+}
+
+/// The text of the part `one` with these lines of code and this integer.
+pub(crate) fn text(alloc: Global, code: &str, datum: &str) -> Result<String, AllocError> {
+    format!(in alloc;
+        ".name one\n.stack 65536\n.closure 1\n.code 100\n{code}.data 200\n.int {datum}\n\
+         .export main 0 shared\n"
+    )
+}
+
+/// A part of one instruction, `halt`, and one data word, 0.
+#[derive(Clone, Copy)]
+pub(crate) struct Small {
+    pub(crate) name: &'static str,
+    pub(crate) closure: u32,
+    pub(crate) code_base: u32,
+    pub(crate) data_base: u32,
+    /// Whether it has the one shared export, `main`.
+    pub(crate) has_main: bool,
+}
+
+/// The part `one`: closure seal 1, code at 100 and data at 200.
+pub(crate) const ONE: Small = Small {
+    name: "one",
+    closure: 1,
+    code_base: 100,
+    data_base: 200,
+    has_main: true,
+};
+
+/// The part `two`, which has no export.
+pub(crate) const TWO: Small = Small {
+    name: "two",
+    closure: 2,
+    code_base: 102,
+    data_base: 300,
+    has_main: false,
+};
+
+fn push_number(bytes: &mut Vec<u8>, number: u32) -> Result<(), AllocError> {
+    bytes.extend_from_slice(&number.to_le_bytes())
+}
+
+// A base, and one word, an integer.
+fn push_word(bytes: &mut Vec<u8>, base: u32, word: i64) -> Result<(), AllocError> {
+    push_number(bytes, base)?;
+    push_number(bytes, 1)?;
+    bytes.push(0)?;
+    bytes.extend_from_slice(&word.to_le_bytes())
+}
+
+/// The bytes of a part's component file, by the table of docs/FORMATS.md. The stack begins at 65536,
+/// and there are no seals, no linear area, no imports, no sites and no rows.
+pub(crate) fn component(alloc: Global, part: &Small) -> Result<Vec<u8>, AllocError> {
+    let mut bytes = Vec::from_slice(alloc, b"STKC\x01\0")?;
+    bytes.push((part.name.len() % 256) as u8)?;
+    bytes.extend_from_slice(part.name.as_bytes())?;
+    push_number(&mut bytes, 65_536)?;
+    push_number(&mut bytes, part.closure)?;
+    bytes.extend_from_slice(&[0; 16])?;
+    push_word(&mut bytes, part.code_base, 1)?;
+    push_word(&mut bytes, part.data_base, 0)?;
+    if part.has_main {
+        bytes.extend_from_slice(b"\0\0\x01\0\x04main\0\0\0\0\x01")?;
+    } else {
+        bytes.extend_from_slice(b"\0\0\0\0")?;
+    }
+    bytes.extend_from_slice(&[0; 8])?;
+    Ok(bytes)
+}
+
+/// The files that most calls are made over: `one.asm` and `one.stc`; `two.stc`, which stands well
+/// beside them, and three that differ from it in one number; `near.stc`, whose data touches its
+/// code; `bad.asm`, which begins with an instruction; and `empty.stc` of no bytes.
+pub(crate) fn files(alloc: Global) -> Result<MemFiles, Fail> {
+    let mut files = MemFiles::new(alloc)?;
+    files.add("one.asm", text(alloc, "halt\n", "0")?.as_bytes())?;
+    files.add("bad.asm", b"halt\n")?;
+    files.add("empty.stc", b"")?;
+    for (name, part) in [
+        ("one.stc", ONE),
+        ("two.stc", TWO),
+        ("closure.stc", Small { closure: 1, ..TWO }),
+        (
+            "base.stc",
+            Small {
+                code_base: 101,
+                ..TWO
+            },
+        ),
+        ("name.stc", Small { name: "one", ..TWO }),
+        (
+            "near.stc",
+            Small {
+                data_base: 103,
+                ..TWO
+            },
+        ),
+    ] {
+        files.add(name, component(alloc, &part)?.as_slice())?;
+    }
+    Ok(files)
+}

@@ -1,0 +1,17 @@
+//! Tests of the top call: whole calls over files and a sink in memory.
+#![tactic(auto)]
+
+#[cfg(test)]
+mod call;
+#[cfg(test)]
+mod faults;
+#[cfg(test)]
+mod parts;
+#[cfg(test)]
+mod runs;
+#[cfg(test)]
+mod texts;
+#[cfg(test)]
+mod trusted;
+#[cfg(test)]
+mod words;
