@@ -1,0 +1,5 @@
+//! A test of regions, apart from them: a crate with tests is proved twice.
+#![tactic(auto)]
+
+#[cfg(test)]
+mod tests;

@@ -1,0 +1,12 @@
+mod CellLemmas
+mod TakeLemmas
+mod GiveLemmas
+mod FrameLemmas
+mod RoomLemmas
+mod OutLemmas
+mod JumpLemmas
+mod CallLemmas
+mod FitsLemmas
+mod HeadLemmas
+mod CopyLemmas
+mod StepLemmas

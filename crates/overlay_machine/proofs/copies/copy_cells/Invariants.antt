@@ -1,0 +1,10 @@
+-- The spans before are copied.
+use Rattle.std.proofs.Common.{◌≡◌}
+use Rattle.overlay_machine.specs.Copies.{AreCopied}
+use Rattle.overlay_machine.proofs.copies.copy_cells.Given as goal
+
+abbrev pub invariant-loop-span : goal.invariant-loop-span
+invariant-loop-span l =
+    AreCopied l.fn.state.maps l.span-index l.maps.cells
+    × (l.maps.regs ≡ l.fn.maps.regs)
+    × (l.maps.spans ≡ l.fn.maps.spans)

@@ -1,0 +1,6 @@
+-- The entries before are copied.
+use Rattle.std.proofs.Common.{◌≡◌, take}
+use Rattle.overlay_machine.proofs.copies.copy_entries.Given as goal
+
+abbrev pub invariant-loop-entry : goal.invariant-loop-entry
+invariant-loop-entry l = l.copies.items ≡ take l.entry-index l.entries

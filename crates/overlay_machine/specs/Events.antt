@@ -1,0 +1,166 @@
+-- What is told of a step that went: what is noted of the state before it, and the event after it.
+use Rattle.std.specs.Prelude.{ℕ, ◌==◌, ◌&&◌, Bool, true, false, pos, List, [], ◌∷◌, Option, Some, None}
+use Rattle.std.specs.Prelude.{is_some, if◌then◌else◌, find, option_map, option_and_then}
+use Rattle.cap_words.specs.declared.Word.{Word}
+use Rattle.cap_words.specs.declared.Word.TheVariants.{Int}
+use Rattle.cap_words.specs.declared.Content.{Content}
+use Rattle.cap_words.specs.declared.Content.TheVariants.{Mem, Seal}
+use Rattle.cap_words.specs.declared.Opened.{Opened}
+use Rattle.cap_words.specs.declared.Face.{Face}
+use Rattle.cap_words.specs.declared.Face.TheVariants.{Memory}
+use Rattle.cap_words.specs.Face.{face_of, opened_of}
+use Rattle.cap_words.specs.Faces.{target_of}
+use Rattle.lcm_isa.specs.declared.Reg.{Reg}
+use Rattle.lcm_isa.specs.declared.Reg.TheVariants.{Pc, Rcode, Rdata, C1}
+use Rattle.lcm_isa.specs.declared.Instr.TheVariants.{Xjmp}
+use Rattle.lcm_machine.specs.Plan.{Plan, Goes}
+use Rattle.lcm_machine.specs.Table.{plan}
+use Rattle.lcm_machine.specs.Maps.{State}
+use Rattle.lcm_machine.specs.Places.{reg}
+use Rattle.lcm_machine.specs.Row.{faces, opens, cell_faces, Fetched, some, fetch}
+use Rattle.component_linker.specs.declared.owners.Owner.{Owner}
+use Rattle.overlay_machine.specs.declared.words.OWord.{OWord}
+use Rattle.overlay_machine.specs.declared.cases.Case.{Case}
+use Rattle.overlay_machine.specs.declared.cases.Case.TheVariants.{Call, Entry, Back as BackCase, Other}
+use Rattle.overlay_machine.specs.declared.layout.Layout.{Layout}
+use Rattle.overlay_machine.specs.declared.frames.Frame.{Frame}
+use Rattle.overlay_machine.specs.declared.events.Back.{Back}
+use Rattle.overlay_machine.specs.declared.events.Back.TheVariants.{Out, Bad, Hop, Pair}
+use Rattle.overlay_machine.specs.declared.events.Event.{Event}
+use Rattle.overlay_machine.specs.declared.events.Event.TheVariants.{Called, Returned, Entered, Left}
+use Rattle.overlay_machine.specs.declared.notes.Note.{Note}
+use Rattle.overlay_machine.specs.declared.notes.Note.TheVariants.{Nothing, Calls, Returns, Jumps}
+use Rattle.overlay_machine.specs.Layout.{trusted_owner, number_of}
+use Rattle.overlay_machine.specs.Words.{look}
+use Rattle.overlay_machine.specs.State.{OpenFrame, OState}
+use Rattle.overlay_machine.specs.Step.{case_of}
+use Rattle.overlay_machine.specs.Flat.{flat}
+
+-- ---- what an `xjmp` reaches
+
+-- the first entry of a part, by name, at which pc stands
+abbrev pub entry_number : Owner → Face → Option ℕ
+entry_number o pc = option_and_then (λ a. number_of (λ e. e.at == a) o.entries) (target_of pc)
+
+-- the trusted part of a closure seal
+abbrev pub closure_owner : Layout → ℕ → Option Owner
+closure_owner l seal = find (λ o. o.trusted && (o.closure == seal)) l.owners
+
+-- the site of a return seal
+abbrev pub site_of_seal : Layout → ℕ → Option ℕ
+site_of_seal l seal = number_of (λ s. s.seal == seal) l.sites
+
+-- ---- what an `xjmp rcode rdata` of two words would do
+
+abbrev pub content_base : Content → ℕ
+content_base (Mem c) = c.base
+content_base (Seal s) = s.base
+
+abbrev pub hop_to : Owner → Option ℕ → Back
+hop_to o None = Out
+hop_to o (Some k) = Hop o.part k
+
+abbrev pub hop_by : Owner → Content → Back
+hop_by o (Mem c) = hop_to o (entry_number o (Memory c))
+hop_by o (Seal s) = Out
+
+abbrev pub hop_in : Option Owner → Content → Back
+hop_in None code = Out
+hop_in (Some o) code = hop_by o code
+
+-- under a site's return seal, under the closure seal of a trusted part, or under any other
+abbrev pub back_under : Layout → Option ℕ → Opened → Opened → Back
+back_under l (Some i) code half = Pair i (content_base half.content)
+back_under l None code half = hop_in (closure_owner l code.seal) code.content
+
+-- the two words, as those of rcode and of any other register
+abbrev pub of_two : Word → Word → Reg → Word
+of_two w v Rcode = w
+of_two w v _ = v
+
+-- what the table says of it
+abbrev pub jump_plan : Word → Word → Plan
+jump_plan w v =
+    plan (Xjmp Rcode Rdata) (λ r. face_of (of_two w v r)) (λ r. opened_of (of_two w v r)) None (Int (pos 0))
+
+abbrev pub goes_on : Plan → Bool
+goes_on (Goes e) = true
+goes_on _ = false
+
+abbrev pub back_if : Bool → Layout → Option Opened → Option Opened → Back
+back_if b l (Some code) (Some half) = if b then back_under l (site_of_seal l code.seal) code half else Bad
+back_if b l _ _ = Bad
+
+abbrev pub back_of : Layout → Word → Word → Back
+back_of l w v = back_if (goes_on (jump_plan w v)) l (opened_of w) (opened_of v)
+
+-- ---- what is noted before a step
+
+-- a call, unless its `xjmp` is under a return seal
+abbrev pub note_call : Option ℕ → Note
+note_call None = Calls
+note_call (Some i) = Nothing
+
+-- the site of the return seal that an `xjmp` opens, where it is one
+abbrev pub site_opened : Layout → Option Opened → Option ℕ
+site_opened l None = None
+site_opened l (Some code) = site_of_seal l code.seal
+
+abbrev pub owner_now : Layout → OState → Option Owner
+owner_now l o = trusted_owner l (faces look o.maps Pc)
+
+abbrev pub head_of : OpenFrame → Frame
+head_of f = record { call = f.call; site = f.site; base = f.base; end = f.end }
+
+-- a return ends the newest call
+abbrev pub note_return : Bool → List OpenFrame → Note
+note_return trusted [] = Nothing
+note_return trusted (f ∷ fs) = Returns trusted (head_of f)
+
+-- the seal that an `xjmp` opens
+abbrev pub jump_seal : State OWord → Fetched → Option ℕ
+jump_seal s (some (Xjmp r1 r2) next) = option_map (λ k. k.seal) (opens look s r1)
+jump_seal s _ = None
+
+-- an `xjmp` outside a call, by the trusted part in which it stands, if one
+abbrev pub note_jump : Option ℕ → Option ℕ → Note
+note_jump from None = Nothing
+note_jump from (Some seal) = Jumps from seal
+
+abbrev pub note_by : Layout → OState → Case → Note
+note_by l o (Call i) = note_call (site_opened l (opens look o.maps C1))
+note_by l o (Entry a) = Nothing
+note_by l o (BackCase r1 r2) = note_return (is_some (owner_now l o)) o.frames
+note_by l o Other =
+    note_jump (option_map (λ p. p.part) (owner_now l o))
+    (jump_seal o.maps (fetch (faces look o.maps Pc) (cell_faces look o.maps)))
+
+-- ---- the event after it
+
+-- a call has made the newest frame; whether it went to trusted code
+abbrev pub called : Bool → List OpenFrame → Option Event
+called trusted [] = None
+called trusted (f ∷ fs) = Some (Called trusted f.site f.base f.end)
+
+abbrev pub shown : Layout → OState → Reg → Word
+shown l o r = flat l o.frames (reg o.maps.regs r)
+
+abbrev pub entered : Layout → OState → Owner → Option Event
+entered l o p =
+    option_map (λ k. Entered p.part k (back_of l (shown l o Rcode) (shown l o Rdata)))
+    (entry_number p (faces look o.maps Pc))
+
+-- untrusted code went to a trusted part under its closure seal, or trusted code to untrusted code
+abbrev pub jumped : Layout → OState → Option ℕ → ℕ → Option Event
+jumped l o None seal = option_and_then (entered l o) (closure_owner l seal)
+jumped l o (Some part) seal = if is_some (owner_now l o) then None else Some (Left part)
+
+abbrev pub event_after : Layout → Note → OState → Option Event
+event_after l Nothing o = None
+event_after l Calls o = called (is_some (owner_now l o)) o.frames
+event_after l (Returns trusted f) o = Some (Returned trusted f.site f.base f.end)
+event_after l (Jumps from seal) o = jumped l o from seal
+
+-- the event of a step from one state to another
+unfoldable pub step_event : Layout → OState → OState → Option Event
+step_event l o q = event_after l (note_by l o (case_of l o.maps)) q

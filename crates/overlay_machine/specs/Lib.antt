@@ -1,0 +1,11 @@
+pub mod Words
+pub mod Layout
+pub mod State
+pub mod Step
+pub mod Cases
+pub mod Flat
+pub mod Moves
+pub mod Machine
+pub mod Events
+pub mod Seen
+pub mod Copies

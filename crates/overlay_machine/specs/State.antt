@@ -1,0 +1,71 @@
+-- The overlay's state: registers and cells, the frames of open calls, and cells that leave memory and come
+-- back.
+use Rattle.std.specs.Prelude.{ℕ, zero, suc, ◌+◌, ◌-◌, ◌==◌, nat_lt, nat_le, Bool, true, ◌&&◌, not}
+use Rattle.std.specs.Prelude.{List, [], ◌∷◌, Option, None, if◌then◌else◌, slice_get, unwrap_or, is_some, find, length}
+use Rattle.std.specs.Option.{option_or}
+use Rattle.std.specs.Ordering.{nat_cmp}
+use Rattle.std.specs.FinMap as map
+use Rattle.cap_words.specs.Linear.{zero_word}
+use Rattle.lcm_machine.specs.Maps.{State}
+use Rattle.lcm_machine.specs.Cells.{cell, set_cell}
+use Rattle.overlay_machine.specs.declared.words.OWord.{OWord}
+use Rattle.overlay_machine.specs.declared.words.OWord.TheVariants.{Plain}
+
+-- the frame of an open call: the words of the cells from base to end, which are not in memory
+pub record OpenFrame : Type 0 where
+  pub call : ℕ
+  pub site : ℕ
+  pub base : ℕ
+  pub end : ℕ
+  pub words : List OWord
+
+-- registers and cells, the frames, newest first, and how many calls were made. A call is open while its frame
+-- is in the list.
+pub record OState : Type 0 where
+  pub maps : State OWord
+  pub frames : List OpenFrame
+  pub calls : ℕ
+
+abbrev pub Cells : Type 0
+Cells = map.FinMap nat_cmp OWord
+
+-- whether n addresses from one on have cells
+unfoldable pub all_there : Cells → ℕ → ℕ → Bool
+all_there m a zero = true
+all_there m a (suc n) = is_some (cell m a) && all_there m (a + 1) n
+
+-- the words of n cells from an address on
+unfoldable pub words_from : Cells → ℕ → ℕ → List OWord
+words_from m a zero = []
+words_from m a (suc n) = unwrap_or (cell m a) (zero_word Plain) ∷ words_from m (a + 1) n
+
+-- memory without the cells from an address to an end
+unfoldable pub without : Cells → ℕ → ℕ → Cells
+without m a e = map.retain_keys m (λ q. not (nat_le a q && nat_le q e))
+
+-- words put into the cells from an address on
+unfoldable pub put_back : Cells → ℕ → List OWord → Cells
+put_back m a [] = m
+put_back m a (w ∷ ws) = put_back (set_cell m a w) (a + 1) ws
+
+-- the word that a frame has at an address
+unfoldable pub word_of : OpenFrame → ℕ → Option OWord
+word_of f a = if nat_lt a f.base then None else slice_get f.words (a - f.base)
+
+-- the word that lies in a frame at an address
+abbrev pub framed : List OpenFrame → ℕ → Option OWord
+framed [] a = None
+framed (f ∷ fs) a = option_or (word_of f a) (framed fs a)
+
+-- the frame of a call, while it is open
+unfoldable pub frame_of : List OpenFrame → ℕ → Option OpenFrame
+frame_of fs k = find (λ f. f.call == k) fs
+
+-- how many words the newest frame has, 0 without one, and each of them
+abbrev pub newest_size : List OpenFrame → ℕ
+newest_size [] = 0
+newest_size (f ∷ fs) = length f.words
+
+abbrev pub newest_word : List OpenFrame → ℕ → Option OWord
+newest_word [] i = None
+newest_word (f ∷ fs) i = slice_get f.words i

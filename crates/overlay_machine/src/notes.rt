@@ -1,0 +1,290 @@
+//! What is noted of the state before a step, and the event after it.
+ghost use Rattle.std.specs.Prelude.{◌≡◌, ◌==◌, ◌&&◌, is_some, option_map, position, find};
+ghost use Rattle.std.specs.Option.{option_copied};
+ghost use Rattle.cap_words.specs.Face.{FaceInOrder, ContentInOrder};
+ghost use Rattle.lcm_isa.specs.declared.Reg.TheVariants.{Pc, C1};
+ghost use Rattle.lcm_machine.specs.Row.{faces, opens, cell_faces, fetch};
+ghost use Rattle.overlay_machine.specs.Words.{look};
+ghost use Rattle.overlay_machine.specs.Layout.{number_of};
+ghost use Rattle.overlay_machine.specs.Machine.{Fits, overlay_of, frames_of};
+ghost use Rattle.overlay_machine.specs.Events.{entry_number, closure_owner, site_of_seal, content_base};
+ghost use Rattle.overlay_machine.specs.Events.{hop_by, back_under, jump_plan, goes_on, back_of, owner_now};
+ghost use Rattle.overlay_machine.specs.Events.{note_call, site_opened, jump_seal, note_by, called, entered};
+ghost use Rattle.overlay_machine.specs.Events.{jumped, event_after};
+
+use crate::cases::Case;
+use crate::events::{Back, Event};
+use crate::frames::Frame;
+use crate::layout::{Layout, numbered};
+use crate::machine::Machine;
+use crate::words::OWord;
+use cap_words::{Content, Face, Opened, Word};
+use component_linker::{Entry, Owner, Site};
+use lcm_isa::{Instr, Reg};
+use lcm_machine::Place;
+use lcm_machine::state::State;
+
+/// What is noted of a state before a step.
+#[derive(Clone, Copy)]
+pub enum Note {
+    /// Nothing is told of the step.
+    Nothing,
+    /// It is a call, and its `xjmp` is under no return seal.
+    Calls,
+    /// It is a return to a call with this frame, by trusted code or not.
+    Returns { trusted: bool, frame: Frame },
+    /// It is an `xjmp` outside a call, in the code of a trusted part or of none, and opens this seal.
+    Jumps { from: Option<u32>, seal: u32 },
+}
+
+fn entry_place(entries: &[Entry], at: u32) -> Option<usize>
+    ensures { result ≡ position (λ e. e.at == at) entries.now }
+{
+    entries.iter().position(|entry| entry.at == at)
+}
+
+// The first entry of a part, by name, at an address.
+fn entry_at(owner: &Owner, at: u32) -> Option<u32>
+    ensures { result ≡ number_of (λ e. e.at == at) owner.now.entries }
+{
+    numbered(entry_place(owner.entries.as_slice(), at)?)
+}
+
+// The first entry of a part, by name, at which pc stands.
+fn entry_number(owner: &Owner, pc: Face) -> Option<u32>
+    requires { FaceInOrder pc }
+    ensures { result ≡ entry_number owner.now pc }
+{
+    let at = pc.target()?;
+    entry_at(owner, at)
+}
+
+fn owner_closed(owners: &[Owner], seal: u32) -> Option<&Owner>
+    ensures { option_copied result ≡ find (λ o. o.trusted && (o.closure == seal)) owners.now }
+{
+    owners
+        .iter()
+        .find(|owner| owner.trusted && owner.closure == seal)
+}
+
+// The trusted part of a closure seal.
+fn closure_owner(layout: &Layout, seal: u32) -> Option<&Owner>
+    ensures { option_copied result ≡ closure_owner layout.now seal }
+{
+    owner_closed(layout.owners.as_slice(), seal)
+}
+
+fn seal_place(sites: &[Site], seal: u32) -> Option<usize>
+    ensures { result ≡ position (λ s. s.seal == seal) sites.now }
+{
+    sites.iter().position(|site| site.seal == seal)
+}
+
+// The site of a return seal.
+fn site_of_seal(layout: &Layout, seal: u32) -> Option<u32>
+    ensures { result ≡ site_of_seal layout.now seal }
+{
+    numbered(seal_place(layout.sites.as_slice(), seal)?)
+}
+
+fn content_base(content: Content) -> u32
+    ensures { result ≡ content_base content }
+{
+    match content {
+        Content::Mem(c) => c.base,
+        Content::Seal(s) => s.base,
+    }
+}
+
+// The entry of a part that code leads to.
+fn hop_by(owner: &Owner, code: Content) -> Back
+    requires { ContentInOrder code }
+    ensures { result ≡ hop_by owner.now code }
+{
+    let Content::Mem(c) = code else {
+        return Back::Out;
+    };
+    match entry_number(owner, Face::Memory(c)) {
+        Some(entry) => Back::Hop(owner.part, entry),
+        None => Back::Out,
+    }
+}
+
+// Where an `xjmp` of two halves goes, by their seal.
+fn back_under(layout: &Layout, code: Opened, half: Opened) -> Back
+    requires { ContentInOrder code.content }
+    ensures { result ≡ back_under layout.now (site_of_seal layout.now code.seal) code half }
+{
+    if let Some(site) = site_of_seal(layout, code.seal) {
+        return Back::Pair(site, content_base(half.content));
+    }
+    match closure_owner(layout, code.seal) {
+        Some(owner) => hop_by(owner, code.content),
+        None => Back::Out,
+    }
+}
+
+// Whether the table lets an `xjmp rcode rdata` of two words go. It is asked in a state of registers.
+#[tactic(auto, unfolding(lcm_machine::specs::Row::plan_in, lcm_machine::specs::Row::opens, lcm_machine::specs::Table::need, lcm_machine::specs::Table::ask))]
+fn jump_goes(regs: &mut State<Word>, code: Word, half: Word) -> bool
+    ensures { result ≡ goes_on (jump_plan code half) }
+{
+    let _ = regs.swap(Place::R(Reg::Rcode), code);
+    let _ = regs.swap(Place::R(Reg::Rdata), half);
+    regs.plan_xjmp(Reg::Rcode, Reg::Rdata, Word::Int(0)).is_ok()
+}
+
+// What an `xjmp rcode rdata` of two words would do.
+fn back_of(regs: &mut State<Word>, layout: &Layout, code: Word, half: Word) -> Back
+    ensures { result ≡ back_of layout.now code half }
+{
+    let opened = (code.opened(), half.opened());
+    let goes = jump_goes(regs, code, half);
+    let (Some(code), Some(half)) = opened else {
+        return Back::Bad;
+    };
+    if goes {
+        back_under(layout, code, half)
+    } else {
+        Back::Bad
+    }
+}
+
+// The seal that an `xjmp` opens, where pc names one.
+fn jump_seal(maps: &State<OWord>) -> Option<u32>
+    ensures { result ≡ jump_seal maps.now (fetch (faces look maps.now Pc) (cell_faces look maps.now)) }
+{
+    let Ok((Instr::Xjmp(r1, _), _)) = maps.fetch() else {
+        return None;
+    };
+    match maps.opened(r1) {
+        Some(opened) => Some(opened.seal),
+        None => None,
+    }
+}
+
+impl Machine {
+    // The trusted part whose code pc runs.
+    fn owner_now<'a>(&self, layout: &'a Layout) -> Option<&'a Owner>
+        ensures { option_copied result ≡ owner_now layout.now (overlay_of self.now) }
+    {
+        layout.trusted_owner(self.maps.face(Reg::Pc))
+    }
+
+    // A call, unless its `xjmp` is under a return seal.
+    fn note_call(&self, layout: &Layout) -> Note
+        ensures { result ≡ note_call (site_opened layout.now (opens look self.now.maps C1)) }
+    {
+        match self.maps.opened(Reg::C1) {
+            None => Note::Calls,
+            Some(code) => {
+                match site_of_seal(layout, code.seal) {
+                    None => Note::Calls,
+                    Some(_) => Note::Nothing,
+                }
+            }
+        }
+    }
+
+    // An `xjmp` outside a call.
+    fn note_jump(&self, layout: &Layout) -> Note
+        ensures { result ≡ note_by layout.now (overlay_of self.now) Case.Other }
+    {
+        let Some(seal) = jump_seal(&self.maps) else {
+            return Note::Nothing;
+        };
+        let from = match self.owner_now(layout) {
+            Some(owner) => Some(owner.part),
+            None => None,
+        };
+        Note::Jumps { from, seal }
+    }
+
+    /// What is noted before a step of this case.
+    pub(crate) fn note(&self, layout: &Layout, case: Case) -> Note
+        ensures { result ≡ note_by layout.now (overlay_of self.now) case }
+    {
+        match case {
+            Case::Call(_) => self.note_call(layout),
+            Case::Entry(_) => Note::Nothing,
+            Case::Back(_, _) => {
+                let trusted = self.owner_now(layout).is_some();
+                match self.newest() {
+                    Some(frame) => Note::Returns { trusted, frame },
+                    None => Note::Nothing,
+                }
+            }
+            Case::Other => self.note_jump(layout),
+        }
+    }
+
+    // The newest frame was made by a call.
+    fn called(&self, trusted: bool) -> Option<Event>
+        ensures { result ≡ called trusted (frames_of self.now.frames.frames) }
+    {
+        let frame = self.newest()?;
+        Some(Event::Called {
+            trusted,
+            site: frame.site,
+            base: frame.base,
+            end: frame.end,
+        })
+    }
+
+    // Code went to an entry of this part.
+    fn entered(&self, regs: &mut State<Word>, layout: &Layout, owner: &Owner) -> Option<Event>
+        requires { Fits layout.now self.now }
+        ensures { result ≡ entered layout.now (overlay_of self.now) owner.now }
+    {
+        let entry = entry_number(owner, self.maps.face(Reg::Pc))?;
+        let code = self.flat(layout, self.maps.reg(Reg::Rcode));
+        let half = self.flat(layout, self.maps.reg(Reg::Rdata));
+        Some(Event::Entered {
+            part: owner.part,
+            entry,
+            back: back_of(regs, layout, code, half),
+        })
+    }
+
+    // An `xjmp` outside a call went.
+    fn jumped(
+        &self,
+        regs: &mut State<Word>,
+        layout: &Layout,
+        from: Option<u32>,
+        seal: u32,
+    ) -> Option<Event>
+        requires { Fits layout.now self.now }
+        ensures { result ≡ jumped layout.now (overlay_of self.now) from seal }
+    {
+        let Some(part) = from else {
+            let owner = closure_owner(layout, seal)?;
+            return self.entered(regs, layout, owner);
+        };
+        if self.owner_now(layout).is_some() {
+            None
+        } else {
+            Some(Event::Left { part })
+        }
+    }
+
+    /// The event after a step of which this was noted. The registers are those to ask the table in.
+    pub(crate) fn event(&self, regs: &mut State<Word>, layout: &Layout, note: Note) -> Option<Event>
+        requires { Fits layout.now self.now }
+        ensures { result ≡ event_after layout.now note (overlay_of self.now) }
+    {
+        match note {
+            Note::Nothing => None,
+            Note::Calls => self.called(self.owner_now(layout).is_some()),
+            Note::Returns { trusted, frame } => {
+                Some(Event::Returned {
+                    trusted,
+                    site: frame.site,
+                    base: frame.base,
+                    end: frame.end,
+                })
+            }
+            Note::Jumps { from, seal } => self.jumped(regs, layout, from, seal),
+        }
+    }
+}

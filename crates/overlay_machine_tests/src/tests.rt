@@ -1,0 +1,182 @@
+//! The overlay machine over starts without trusted parts, where each step is a row of the table. The
+//! ends and the words were worked out by hand.
+use cap_words::word_text;
+use component_file::{FileFault, decode_component};
+use component_linker::{Start, accept, link};
+use lcm_isa::Instr::{Getlin, Halt, Load, Move, Plus, Split, Store, Xjmp};
+use lcm_isa::Operand::{Imm, R};
+use lcm_isa::{Instr, Reg, encode};
+use overlay_machine::{OStep, Overlay};
+use std::alloc::{AllocError, Global};
+use std::process::Abort;
+use std::test::Fail;
+
+/// The code of a part, its one data word, the size of the stack, how the part ends, how many steps go
+/// before, and then the text of a0.
+type Program = (&'static [Instr], i64, u32, OStep, u64, &'static str);
+
+const PROGRAMS: &[Program] = &[
+    (&[Halt], 0, 2, OStep::Halted, 0, "0"),
+    // A sum that has more than 64 bits.
+    (
+        &[
+            Load(Reg::A0, Reg::Dat),
+            Plus(Reg::A0, Reg::A0, Imm(1)),
+            Halt,
+        ],
+        9_223_372_036_854_775_807,
+        64,
+        OStep::Failed,
+        1,
+        "9223372036854775807",
+    ),
+    // A linear word that is moved leaves 0, but not where it is moved to its own place.
+    (
+        &[
+            Move(Reg::Stk, R(Reg::Stk)),
+            Move(Reg::G0, R(Reg::Stk)),
+            Getlin(Reg::G1, Reg::G0),
+            Getlin(Reg::G2, Reg::Stk),
+            Plus(Reg::A0, Reg::G1, R(Reg::G2)),
+            Halt,
+        ],
+        0,
+        64,
+        OStep::Halted,
+        5,
+        "1",
+    ),
+    // A split at the stack's end, and one before it.
+    (
+        &[Split(Reg::Stk, Reg::G0, Reg::Stk, Imm(65_539)), Halt],
+        0,
+        4,
+        OStep::Failed,
+        0,
+        "0",
+    ),
+    (
+        &[
+            Split(Reg::Stk, Reg::G0, Reg::Stk, Imm(65_538)),
+            Move(Reg::A0, R(Reg::G0)),
+            Halt,
+        ],
+        0,
+        4,
+        OStep::Halted,
+        2,
+        "cap(rw,lin,65539,65539,65539)",
+    ),
+    // A word that is stored is in its cell.
+    (
+        &[
+            Plus(Reg::G0, Reg::G0, Imm(7)),
+            Store(Reg::Dat, Reg::G0),
+            Load(Reg::A0, Reg::Dat),
+            Halt,
+        ],
+        0,
+        64,
+        OStep::Halted,
+        3,
+        "7",
+    ),
+    // Integers aren't sealed.
+    (
+        &[Xjmp(Reg::Rcode, Reg::Rdata)],
+        0,
+        64,
+        OStep::Failed,
+        0,
+        "0",
+    ),
+];
+
+fn push_number(bytes: &mut Vec<u8>, number: u32) -> Result<(), AllocError> {
+    bytes.extend_from_slice(&number.to_le_bytes())
+}
+
+fn push_integer(bytes: &mut Vec<u8>, number: i64) -> Result<(), AllocError> {
+    bytes.push(0)?;
+    bytes.extend_from_slice(&number.to_le_bytes())
+}
+
+// The bytes of a component with code from 100 on, one word of data at 200, and the export main, by the
+// table of docs/FORMATS.md.
+fn bytes_of(alloc: Global, code: &[Instr], data_word: i64) -> Result<Vec<u8>, AllocError> {
+    let mut bytes = Vec::from_slice(alloc, b"STKC\x01\0\x03one")?;
+    for number in [65_536, 1, 0, 0, 0, 0, 100] {
+        push_number(&mut bytes, number)?;
+    }
+    push_number(&mut bytes, (code.len() % 256) as u32)?;
+    for instr in code {
+        push_integer(&mut bytes, encode(instr))?;
+    }
+    push_number(&mut bytes, 200)?;
+    push_number(&mut bytes, 1)?;
+    push_integer(&mut bytes, data_word)?;
+    bytes.extend_from_slice(b"\0\0\x01\0\x04main\0\0\0\0\x01")?;
+    bytes.extend_from_slice(b"\0\0\0\0\0\0\0\0")?;
+    Ok(bytes)
+}
+
+// The start of that part alone.
+fn start_of(rt: &impl Abort, alloc: Global, program: &Program) -> Result<Start, FileFault> {
+    let bytes = bytes_of(alloc, program.0, program.1)?;
+    assert!(rt; bytes.len() < 10_000);
+    let Ok(part) = accept(decode_component(alloc, &bytes)?, false) else {
+        panic!(rt; "not accepted");
+    };
+    let mut parts = Vec::new(alloc);
+    parts.push(part)?;
+    match link(alloc, &parts, program.2) {
+        Ok(start) => Ok(start),
+        Err(fault) => panic!(rt; "{fault}"),
+    }
+}
+
+// The words of some registers, and of the data's cell, are those of the plain machine.
+fn same_words(rt: &impl Abort, overlay: &Overlay, start: &Start) {
+    for r in [Reg::Pc, Reg::Stk, Reg::Dat, Reg::A0, Reg::G0] {
+        let flat = overlay.flat_text(overlay.reg(r));
+        assert_eq!(rt; flat.as_str(), word_text(start.state().reg(r)).as_str());
+    }
+    assert!(rt; overlay.has_cell(200) && start.state().has_cell(200));
+    let flat = overlay.flat_text(overlay.cell(200));
+    assert_eq!(rt; flat.as_str(), word_text(start.state().cell(200)).as_str());
+    assert!(rt; !overlay.has_cell(99));
+    assert_eq!(rt; overlay.frame_size(), 0);
+}
+
+// One step, which weighs 1. Both machines make it.
+fn step(rt: &impl Abort, overlay: &mut Overlay, start: &mut Start) -> OStep {
+    assert!(rt; overlay.weight() < 100 && start.state().count() < 100);
+    assert_eq!(rt; overlay.next_weight(), 1);
+    let _ = start.state_mut().step();
+    overlay.step()
+}
+
+fn runs(rt: &impl Abort, alloc: Global, program: &Program) -> Result<(), FileFault> {
+    let (_, _, _, end, weight, a0) = *program;
+    let mut start = start_of(rt, alloc, program)?;
+    let mut overlay = Overlay::of_start(alloc, &start)?;
+    same_words(rt, &overlay, &start);
+    for _ in 0..weight {
+        assert_eq!(rt; step(rt, &mut overlay, &mut start), OStep::Went(None));
+        same_words(rt, &overlay, &start);
+    }
+    assert_eq!(rt; step(rt, &mut overlay, &mut start), end);
+    assert_eq!(rt; step(rt, &mut overlay, &mut start), end);
+    same_words(rt, &overlay, &start);
+    assert_eq!(rt; overlay.weight(), weight);
+    assert_eq!(rt; overlay.flat_text(overlay.reg(Reg::A0)).as_str(), a0);
+    Ok(())
+}
+
+#[test]
+fn programs_end(rt: HostRuntime) -> Result<(), Fail> {
+    for program in PROGRAMS {
+        runs(&rt, rt.alloc(), program)?;
+    }
+    Ok(())
+}
