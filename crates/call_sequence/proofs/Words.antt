@@ -65,6 +65,7 @@ site_code c index e = by_offsets c.fail_at c.literal_at refl refl (not_true (is_
           call = stands c.code at (call_code literal at index) n.0;
           back = stands c.code (at + CALL_WORDS) (return_code fail (at + CALL_WORDS) c.stack_base) n.1;
         }
+
     by_offsets : (f l : Option ℕ) → c.fail_at ≡ f → c.literal_at ≡ l → is_some (site_difference c index) ≡ false → SiteStands c index
     by_offsets None l e m d = cc (rw e at d)
     by_offsets (Some fail) None e m d = cc (rw (e, m) at d)
