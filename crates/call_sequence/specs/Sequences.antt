@@ -3,8 +3,8 @@ use Rattle.std.specs.Prelude.{ℕ, ◌+◌, ℤ, pos, negsuc, ◌-ℤ◌, List, 
 use Rattle.lcm_isa.specs.declared.Reg.TheVariants.{Pc, Rcode, Rdata, Stk, Dat, T1, T2, C1, C2}
 use Rattle.lcm_isa.specs.declared.Operand.TheVariants.{R, Imm}
 use Rattle.lcm_isa.specs.declared.Instr.{Instr}
-use Rattle.lcm_isa.specs.declared.Instr.TheVariants.{Jnz, Gettype, Geta, Getb, Gete, Getp, Getlin, Move, Store}
-use Rattle.lcm_isa.specs.declared.Instr.TheVariants.{Load, Cca, Minus, Seta2b, Xjmp, Cseal, Split, Splice}
+use Rattle.lcm_isa.specs.declared.Instr.TheVariants.{Jnz, Gettype, Geta, Getb, Gete, Getp, Getlin, Move}
+use Rattle.lcm_isa.specs.declared.Instr.TheVariants.{Store, Load, Cca, Minus, Seta2b, Xjmp, Cseal, Split, Splice}
 use Rattle.lcm_isa.specs.Numbers.{number_of}
 
 -- what has to be added to an offset to come to another

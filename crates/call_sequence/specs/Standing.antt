@@ -1,5 +1,6 @@
 -- Whether sequences stand in a component's code.
-use Rattle.std.specs.Prelude.{◌≡◌, ℕ, ◌+◌, nat_le, ℤ, pos, List, [], ◌∷◌, length, slice_index, slice_get, Bool, false, not, ◌&&◌}
+use Rattle.std.specs.Prelude.{◌≡◌, ℕ, ◌+◌, nat_le, ℤ, pos, List, [], ◌∷◌, length, slice_index, slice_get}
+use Rattle.std.specs.Prelude.{Bool, false, not, ◌&&◌}
 use Rattle.std.specs.Prelude.{Option, Some, None, is_some, if◌then◌else◌}
 use Rattle.std.specs.Option.{option_or}
 use Rattle.std.specs.Ordering.{int_eq}
@@ -60,7 +61,8 @@ is_entry c at = by_fail c.fail_at
 -- these instructions stand as words from an offset on
 abbrev pub CodeStands : List Word → ℕ → List Instr → Type 0
 CodeStands words at code =
-    (k : ℕ) (i : Instr) → slice_get code k ≡ Some i → slice_get words (at + k) ≡ Some (Int (pos (number_of i)))
+    (k : ℕ) (i : Instr) → slice_get code k ≡ Some i
+    → slice_get words (at + k) ≡ Some (Int (pos (number_of i)))
 
 -- a call and a return stand at a site
 pub record SiteStands (c : ComponentFields) (index : ℕ) : Type 0 where
@@ -68,7 +70,8 @@ pub record SiteStands (c : ComponentFields) (index : ℕ) : Type 0 where
   pub literal : ℕ
   pub fail_is : c.fail_at ≡ Some fail
   pub literal_is : c.literal_at ≡ Some literal
-  pub call : CodeStands c.code (slice_index c.sites index) (call_code literal (slice_index c.sites index) index)
+  pub call : CodeStands c.code (slice_index c.sites index)
+      (call_code literal (slice_index c.sites index) index)
   pub back : CodeStands c.code (slice_index c.sites index + CALL_WORDS)
       (return_code fail (slice_index c.sites index + CALL_WORDS) c.stack_base)
 

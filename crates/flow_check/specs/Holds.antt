@@ -39,17 +39,20 @@ code_at part o = code_cap part.code_base part.code_last (part.code_base + o)
 abbrev pub Up : (ℕ → Type 0) → Ranges → ℕ → Type 0
 Up Has part end = (part.stack_base ≤ end) × ((a : ℕ) → part.stack_base ≤ a → a ≤ end → Has a)
 
--- `Safe` says of a word that untrusted code may hold it, and `Has` of an address that it has a cell of the stack in memory
+-- what a kind says of a word. `Safe` says of a word that untrusted code may hold it, and `Has` of an
+-- address that it has a cell of the stack in memory
 abbrev pub HasKind : {W : Type 0} → (W → Word) → (W → Type 0) → (ℕ → Type 0) → Ranges → Kind → W → Type 0
 HasKind look Safe Has part kind.Any w = Safe w
 HasKind look Safe Has part kind.Int w = (z : ℤ) × (look w ≡ Int z)
 HasKind look Safe Has part kind.DataCap w = (at : ℤ) × (look w ≡ Mem (data_cap part at))
-HasKind look Safe Has part kind.Stk w = (end : ℕ) × (at : ℤ) × (look w ≡ Mem (stack_cap part end at)) × Up Has part end
+HasKind look Safe Has part kind.Stk w =
+    (end : ℕ) × (at : ℤ) × (look w ≡ Mem (stack_cap part end at)) × Up Has part end
 HasKind look Safe Has part (kind.Pc o) w = look w ≡ Mem (code_at part o)
 HasKind look Safe Has part kind.Top w = Unit {0}
 
 -- the registers but pc have the kinds of a row
-pub record Fits {W : Type 0} (look : W → Word) (Safe : W → Type 0) (Has : ℕ → Type 0) (part : Ranges) (row : Row) (rs : Regs W) : Type 0 where
+pub record Fits {W : Type 0} (look : W → Word) (Safe : W → Type 0) (Has : ℕ → Type 0)
+    (part : Ranges) (row : Row) (rs : Regs W) : Type 0 where
   pub long : length row ≡ 15
   pub each : (r : Reg) → is_pc r ≡ false → HasKind look Safe Has part (kind_of row r) (reg rs r)
 

@@ -30,4 +30,5 @@ IsFirstOfFlow c (Err b) = IsFirst (broken_at K) (lists c) b ⊎ BreaksOff c b
 -- what the walk comes to
 abbrev pub WalksTo : ComponentFields → Result (Unit {0}) Broken → Type 0
 WalksTo c (Ok u) = Comes c ended
-WalksTo c (Err b) = (number : ℕ) × (place : ℕ) × Comes c (broken number place) × (b ≡ broken_at K number place)
+WalksTo c (Err b) =
+    (number : ℕ) × (place : ℕ) × Comes c (broken number place) × (b ≡ broken_at K number place)

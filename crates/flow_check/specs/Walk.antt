@@ -19,7 +19,8 @@ use Rattle.flow_check.specs.Kinds.{Row, kind_of, below_any, row_below, entry_row
 use Rattle.flow_check.specs.declared.judging.Flow.{Flow}
 use Rattle.flow_check.specs.declared.judging.Flow.TheVariants.{Breaks as breaks, Flows as flows}
 use Rattle.flow_check.specs.declared.walking.Walk.{Walk}
-use Rattle.flow_check.specs.declared.walking.Walk.TheVariants.{Before as before, Ended as ended, Broken as broken}
+use Rattle.flow_check.specs.declared.walking.Walk.TheVariants.{Before as before, Ended as ended}
+use Rattle.flow_check.specs.declared.walking.Walk.TheVariants.{Broken as broken}
 use Rattle.flow_check.specs.Flow.{flow, is_stk}
 use Rattle.flow_check.specs.Places.{begins_entry, begins_site, declared}
 

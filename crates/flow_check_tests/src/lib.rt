@@ -9,6 +9,8 @@ mod list_cases;
 #[cfg(test)]
 mod rows;
 #[cfg(test)]
+mod sequence_cases;
+#[cfg(test)]
 mod tests;
 #[cfg(test)]
 mod walk_cases;

@@ -1,11 +1,10 @@
 //! What no clause says: that the rules and the sequences which the clauses describe are those of
 //! docs/RULES.md.
-ghost use Rattle.flow_check.specs.Verdict.{IsFirstOfFlow};
-
 use crate::draft::{Draft, component_of};
 use crate::list_cases::{CALLER, Case, LIST_CASES};
 use crate::rows::{CLEAN, ENTRY};
-use crate::walk_cases::{FLOW_CASES, SEQUENCE_CASES, WORD_CASES, Walked};
+use crate::sequence_cases::SEQUENCE_CASES;
+use crate::walk_cases::{FLOW_CASES, WORD_CASES, Walked};
 use call_sequence::{call_words, entry_words, is_entry, is_site, return_words};
 use component_check::{Broken, Group, check};
 use component_file::FileFault;
