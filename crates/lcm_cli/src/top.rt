@@ -118,8 +118,8 @@ fn answer<F: Files, S: Sink>(
 /// their order, each with its form and its own rules, links them with a stack of `--stack` words,
 /// runs the machine that they start for `--steps` steps or up to its end, and writes the end line.
 /// Where that line was written, `kept` holds the machine as the run left it; in every other case it
-/// is as before. `check u:NAME` reads the part in the same way and writes `ok`. Any other words
-/// write `usage`.
+/// is as before. `check` reads one part in the same way, `u:NAME` or, by the rules of trusted parts,
+/// `t:NAME`, and writes `ok`. Any other words write `usage`.
 pub fn stk_main<F: Files, S: Sink>(
     alloc: Global,
     words: &Vec<String>,
