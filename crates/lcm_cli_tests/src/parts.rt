@@ -106,7 +106,7 @@ fn sixteen_parts_are_run_and_seventeen_are_no_command(rt: HostRuntime) -> Result
     let mut files = MemFiles::new(alloc)?;
     let mut line = String::from_str(alloc, "run")?;
     for (i, name) in NAMES.iter().enumerate() {
-        let at = i as u32;
+        let at = (i % 32) as u32;
         let part = Small {
             name,
             closure: 1 + at,
