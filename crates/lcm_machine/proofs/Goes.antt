@@ -224,7 +224,7 @@ module _ {W : Type 0} (look : W → Word) (plain : Word → W) where
   left s r = elim (is_linear (look (reg s.regs r))) as (λ b. (if b then put s (R r) (zero_word plain) else s) ≡ put s (R r) (if b then zero_word plain else reg s.regs r)) [ true ↦ refl | false ↦ ap (λ rs. record s { regs = rs }) (sym (set_reg-reg s.regs r)) ]
 
   -- the instruction at pc
-  fetch_at : (s : State W) (base last at : ℕ) (i : Instr) → look s.regs.pc ≡ Mem (code_cap base last at) → base ≤ at → at ≤ last → look_face look (cell s.cells at) ≡ Some (Number (pos (number_of i))) → IsInstr i
+  pub fetch_at : (s : State W) (base last at : ℕ) (i : Instr) → look s.regs.pc ≡ Mem (code_cap base last at) → base ≤ at → at ≤ last → look_face look (cell s.cells at) ≡ Some (Number (pos (number_of i))) → IsInstr i
       → fetch (faces look s Pc) (cell_faces look s) ≡ some i (Mem (code_cap base last (at + 1)))
   unfolding cell_faces
   fetch_at s base last at i e low high h ok = rw (shows s Pc (Mem (code_cap base last at)) e, le-leb base at low, le-leb at last high, h, decode_of-number_of i ok)

@@ -11,4 +11,7 @@ pub mod HeldOnce
 pub mod CountLemmas
 pub mod RunLemmas
 pub mod Goes
+pub mod StepRows
+pub mod Refusals
+pub mod XjmpFails
 pub mod Commute

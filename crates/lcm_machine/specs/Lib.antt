@@ -11,4 +11,5 @@ pub mod Counts
 pub mod Ends
 pub mod Run
 pub mod Runs
+pub mod Refusals
 pub mod Mapped
