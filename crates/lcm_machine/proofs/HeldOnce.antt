@@ -1,5 +1,5 @@
 -- Each instruction, and each step, keeps that no linear memory is held twice: a short composition of what hands do.
-use Rattle.std.proofs.Common.{◌≡◌, ◌≢◌, ◌⊎◌, inl, inr, ℕ, zero, suc, ◌+◌, ◌<◌, ◌≤◌, ℤ, pos, negsuc, Bool, true, false, not, ◌&&◌, List, [], ◌∷◌, refl, sym, ap, ◌∙◌, arith}
+use Rattle.std.proofs.Common.{◌≡◌, ◌≢◌, ◌⊎◌, inl, inr, ℕ, zero, suc, ◌+◌, ◌<◌, ◌≤◌, ℤ, pos, negsuc, Bool, true, false, not, ◌&&◌, List, [], ◌∷◌, refl, sym, ap, subst, ◌∙◌, arith}
 use Rattle.std.specs.Prelude.{Option, Some, None, IsTrue, if◌then◌else◌, nat_lt, nat_le, ◌+ℤ◌, ◌-ℤ◌}
 use Rattle.std.proofs.lemmas.Bool.{cases_Bool, not-true, eqb-true, leb-true, ltb-true, and_parts, cases_lt}
 use Rattle.lcm_isa.specs.declared.Reg.{Reg}
@@ -31,21 +31,15 @@ use Rattle.lcm_machine.specs.Table.{plan, unsealed, memory_content, no_effect, m
 use Rattle.lcm_machine.specs.Row.{word_at, word_in, put, clear, perform, faces, opens, cell_faces, face_there, plan_in, outcome, row, Outcome, went, halted, failed, Fetched, none, some, fetch, fetch_word, fetch_decoded, step_fetched, step_of}
 use Rattle.lcm_machine.specs.declared.Step.{Step}
 use Rattle.lcm_machine.specs.declared.End.{End}
-use Rattle.lcm_machine.specs.Ends.{Meets}
+use Rattle.lcm_machine.specs.Ends.{Meets, After}
+use Rattle.lcm_machine.specs.Runs.{and_then, run_of}
 use Rattle.lcm_machine.specs.Run.{Run, moved, next_by, next_state, plain as plain_run}
 use Rattle.lcm_machine.specs.Regions.{Region, AreApart, IsLinearAt, InOneRegion, memory_of, is_over, word_over, HeldOnce, StaysHeldOnce}
 use Rattle.lcm_machine.proofs.Plans.{Gives, Gives-effect, gives_fails, gives_halts, gives_goes, Gives-ask, Gives-need, Gives-by_cap, Gives-if}
 use Rattle.lcm_machine.proofs.StateLemmas.{word_at-other}
-use Rattle.lcm_machine.proofs.RowLemmas.{step_at}
+use Rattle.lcm_machine.proofs.RowLemmas.{step_at, look_memory, fetch_normal}
 use Rattle.lcm_machine.proofs.RegionLemmas.{over_bounds, bounds_over, normal_apart, joined_in, linear_of}
 use Rattle.lcm_machine.proofs.Hands.{Inv, Disjoint, OwnsAt, shrink, made, split_hand, splice_hands, put_hand, replace_word, take_hand}
-
-look_memory : (x : Word) (c : CapFields) → memory_in (face_of x) ≡ Some c → x ≡ Mem c
-look_memory (Int n) c e = cc
-look_memory (Mem b) c e = cc
-look_memory (Seal s) c e = cc
-look_memory (SealedWord o (MemIn b)) c e = cc
-look_memory (SealedWord o (SealIn s)) c e = cc
 
 content_is : (x : Content) (c : CapFields) → memory_content x ≡ Some c → unsealed x ≡ Mem c
 content_is (MemC b) c e = cc
@@ -64,29 +58,6 @@ split_bounds c (negsuc n) e = cc
 
 some_same : {A : Type 0} (a b : A) → Some a ≡ Some b → a ≡ b
 some_same a b h = cc
-
-decoded_next : (c : CapFields) (m : Option Instr) (n : Instr) (next : Word) → fetch_decoded c m ≡ some n next → next ≡ Mem (record c { addr = c.addr +ℤ pos 1 })
-decoded_next c None n next e = cc
-decoded_next c (Some m) n next e = cc
-
-fetched_next : (c : CapFields) (o : Option Face) (n : Instr) (next : Word) → fetch_word c o ≡ some n next → next ≡ Mem (record c { addr = c.addr +ℤ pos 1 })
-fetched_next c None n next e = cc
-fetched_next c (Some (Number z)) n next e = decoded_next c (decode_of z) n next e
-fetched_next c (Some (Memory b)) n next e = cc
-fetched_next c (Some (Seals b)) n next e = cc
-fetched_next c (Some (Sealed b)) n next e = cc
-
--- what a fetch that finds an instruction says of pc's word
-fetch_normal : (x : Word) (cells : ℕ → Option Face) (n : Instr) (next : Word) → fetch (face_of x) cells ≡ some n next → (c : CapFields) × (x ≡ Mem c) × (lin_is c.lin ≡ false) × (next ≡ Mem (record c { addr = c.addr +ℤ pos 1 }))
-fetch_normal (Int z) cells n next e = cc
-fetch_normal (Seal z) cells n next e = cc
-fetch_normal (SealedWord o (MemIn z)) cells n next e = cc
-fetch_normal (SealedWord o (SealIn z)) cells n next e = cc
-fetch_normal (Mem c) cells n next f =
-    elim (cases_Bool (not (lin_is c.lin) && may_run c.perm)) as (λ _. (if not (lin_is c.lin) && may_run c.perm then fetch_word c (face_there cells (target_of (Memory c))) else none F1) ≡ some n next → (d : CapFields) × (Mem c ≡ Mem d) × (lin_is d.lin ≡ false) × (next ≡ Mem (record d { addr = d.addr +ℤ pos 1 }))) [
-      | inl t ↦ λ e. (c, refl, not-true _ (and_parts _ (may_run c.perm) t).0, fetched_next c _ n next (rw t at e))
-      | inr t ↦ λ e. let k : none F1 ≡ some n next = rw t at e in cc
-    ] f
 
 -- each capability of the one lies within that of the other, and is as linear
 abbrev pub Within : Word → Word → Type 0
@@ -322,9 +293,7 @@ module _ {W : Type 0} (look : W → Word) (plain : Word → W) (seen : (x : Word
 
   -- an outcome keeps the invariant
   abbrev KeepsOutcome : Outcome W → Type 0
-  KeepsOutcome (went t) = Good t []
-  KeepsOutcome halted = Unit {0}
-  KeepsOutcome (failed f at) = Unit {0}
+  KeepsOutcome = After (λ t. Good t [])
 
   keeps-outcome : (s : State W) (p : Plan) → Gives (λ e. Good (perform look plain s e) []) p → KeepsOutcome (outcome look plain s p)
   keeps-outcome s (Fails f) h = tt
@@ -368,9 +337,7 @@ module _ {W : Type 0} (look : W → Word) (plain : Word → W) (seen : (x : Word
 
   -- what a step ends in
   abbrev pub HeldAfter : Outcome W → Type 0
-  HeldAfter (went t) = HeldOnce look rs t
-  HeldAfter halted = Unit {0}
-  HeldAfter (failed f at) = Unit {0}
+  HeldAfter = After (HeldOnce look rs)
 
   held-outcome : (o : Outcome W) → KeepsOutcome o → HeldAfter o
   held-outcome (went t) k = held_of t k
@@ -393,6 +360,17 @@ module _ {W : Type 0} (look : W → Word) (plain : Word → W) (seen : (x : Word
 
   pub row_stays : (s t : State W) (n : Instr) (next : Word) (end : Step) → fetch (faces look s Pc) (cell_faces look s) ≡ some n next → Meets s (row look plain n next s) end t → StaysHeldOnce look s t
   row_stays s t n next end f m = step_stays s t end (rw (step_at look plain s n next f) m)
+
+  -- whatever a run goes to
+  pub run_stays : (n : ℕ) (s t : State W) → run_of look plain n s ≡ went t → StaysHeldOnce look s t
+  unfolding run_of StaysHeldOnce
+  run_stays zero s t e rs regions h = let same : s ≡ t = cc in subst (HeldOnce look rs) same h
+  run_stays (suc n) s t e rs regions h = by_step (step_of look plain s) (held-step look plain seen rs regions s h) e (λ u g f. run_stays n u t f rs regions g)
+    where
+      by_step : (o : Outcome W) → HeldAfter look plain seen rs regions o → and_then o (run_of look plain n) ≡ went t → ((u : State W) → HeldOnce look rs u → run_of look plain n u ≡ went t → HeldOnce look rs t) → HeldOnce look rs t
+      by_step (went u) g f more = more u g f
+      by_step halted g f more = cc
+      by_step (failed c at) g f more = cc
 
 pub unchanged_stays : {W : Type 0} (look : W → Word) (s : State W) → StaysHeldOnce look s s
 unfolding StaysHeldOnce

@@ -5,6 +5,8 @@ pub mod StateLemmas
 pub mod Plans
 pub mod RowLemmas
 pub mod TouchLemmas
+pub mod WordsKept
+pub mod Quiet
 pub mod RegionLemmas
 pub mod Hands
 pub mod HeldOnce

@@ -1,13 +1,17 @@
--- A step counts at most one, and an ended machine stays as it is.
-use Rattle.std.proofs.Common.{◌≡◌, ℕ, zero, suc, ◌+◌, ◌≤◌, Option, Some, None, refl, sym, ap, ◌∙◌, arith, add-one, inl, inr}
+-- A step counts at most one, an ended machine stays as it is, and a run is where its instructions lead.
+use Rattle.std.proofs.Common.{◌≡◌, ℕ, zero, suc, ◌+◌, ◌≤◌, Option, Some, None, refl, sym, ap, subst, ◌∙◌, arith, add-one, inl, inr}
 use Rattle.std.specs.Prelude.{IfSome}
 use Rattle.std.proofs.lemmas.Bool.{cases_lt}
 use Rattle.cap_words.specs.declared.Word.{Word}
 use Rattle.lcm_machine.specs.declared.Step.{Step}
 use Rattle.lcm_machine.specs.declared.End.{End}
+use Rattle.lcm_machine.specs.declared.End.TheVariants.{Halted, Failed}
 use Rattle.lcm_machine.specs.Ends.{end_answer}
 use Rattle.lcm_machine.specs.Row.{Outcome, went, halted, failed, step_of}
-use Rattle.lcm_machine.specs.Run.{Run, moved, next_by, next_state, answer, answer_by, plain}
+use Rattle.lcm_machine.specs.Maps.{State}
+use Rattle.lcm_machine.specs.Run.{Run, moved, next_by, next_state, answer, answer_by, plain, fresh, EndsAs}
+use Rattle.lcm_machine.specs.Runs.{and_then, run_of}
+use Rattle.lcm_machine.proofs.Goes.{run_of-add}
 
 count_moved : (r : Outcome Word) (s : Run) → (moved r s).count ≤ s.count + 1
 count_moved (went t) s = omega arith
@@ -47,3 +51,39 @@ ended_at n s t r (Some e) h k a =
 -- an ended machine answers its end, and a run leaves it as it is
 pub run_ended : (n : ℕ) (s t : Run) (r : Step) → t ≡ plain n s → r ≡ answer t → IfSome s.end (λ e. (r ≡ end_answer e) × (t ≡ s))
 run_ended n s t r k a = ended_at n s t r s.end refl k a
+
+-- ---- where the instructions lead
+
+-- one step more
+moved_ends : (n : ℕ) (t : State Word) (o : Outcome Word) → EndsAs (suc n) o (moved o (record { maps = t; count = n; end = None }))
+moved_ends n t (went u) = let e : n + 1 ≡ suc n = omega arith in ap (λ k. record { maps = u; count = k; end = None }) e
+moved_ends n t halted = refl
+moved_ends n t (failed c at) = refl
+
+went_next : (n : ℕ) (t : State Word) (r : Run) → r ≡ record { maps = t; count = n; end = None } → EndsAs (suc n) (step_of (λ w. w) (λ w. w) t) (next_state r)
+unfolding next_state
+went_next n t r e = rw e (moved_ends n t (step_of (λ w. w) (λ w. w) t))
+
+ended_next : (r : Run) (e : End) → r.end ≡ Some e → (next_state r).end ≡ Some e
+ended_next r e h = ap (λ x. x.end) (next_state-ended r e h) ∙ h
+
+one_then : (o : Outcome Word) → and_then o (run_of (λ w. w) (λ w. w) 0) ≡ o
+unfolding run_of
+one_then (went t) = refl
+one_then halted = refl
+one_then (failed c at) = refl
+
+ends_next : (n : ℕ) (o : Outcome Word) (r : Run) → EndsAs n o r → EndsAs (suc n) (and_then o (run_of (λ w. w) (λ w. w) 1)) (next_state r)
+unfolding run_of
+ends_next n (went t) r h = subst (λ o. EndsAs (suc n) o (next_state r)) (sym (one_then (step_of (λ w. w) (λ w. w) t))) (went_next n t r h)
+ends_next n halted r h = ended_next r Halted h
+ends_next n (failed c at) r h = ended_next r (Failed c at) h
+
+-- the machine with its count and end is where its instructions lead
+pub plain_ends : (n : ℕ) (s : State Word) → EndsAs n (run_of (λ w. w) (λ w. w) n s) (plain n (fresh s))
+unfolding run_of
+plain_ends zero s = refl
+plain_ends (suc n) s =
+    let e : n + 1 ≡ suc n = omega arith in
+    let q : run_of (λ w. w) (λ w. w) (suc n) s ≡ and_then (run_of (λ w. w) (λ w. w) n s) (run_of (λ w. w) (λ w. w) 1) = ap (λ k. run_of (λ w. w) (λ w. w) k s) (sym e) ∙ run_of-add (λ w. w) (λ w. w) n 1 s in
+    rw q (ends_next n (run_of (λ w. w) (λ w. w) n s) (plain n (fresh s)) (plain_ends n s))

@@ -1,15 +1,19 @@
 -- What a step leaves of memory: the cells that it doesn't touch, and which addresses have cells.
-use Rattle.std.proofs.Common.{◌≡◌, ◌≢◌, ℕ, zero, suc, true, false, refl, sym, ap, ◌∙◌, inl, inr}
-use Rattle.std.specs.Prelude.{Option, Some, None, if◌then◌else◌, IsSome, is_some}
+use Rattle.std.proofs.Common.{◌≡◌, ◌≢◌, ◌⊎◌, ℕ, zero, suc, true, false, refl, sym, ap, subst, ◌∙◌, inl, inr}
+use Rattle.std.specs.Prelude.{Option, Some, None, Bool, ◌&&◌, if◌then◌else◌, IsSome, is_some}
 use Rattle.std.specs.Ordering.{nat_cmp}
 use Rattle.std.specs.FinMap.{FinMap}
 use Rattle.std.proofs.lemmas.Bool.{cases_eq}
 use Rattle.cap_words.specs.declared.Word.{Word}
 use Rattle.cap_words.specs.declared.Face.{Face}
-use Rattle.cap_words.specs.Linear.{is_linear, zero_word}
+use Rattle.cap_words.specs.declared.Face.TheVariants.{Number, Memory, Seals, Sealed}
+use Rattle.cap_words.specs.declared.Perm.{Perm}
+use Rattle.cap_words.specs.Faces.{may_run, may_read, may_write, target_of}
+use Rattle.cap_words.specs.Linear.{lin_is, is_linear, zero_word}
 use Rattle.lcm_isa.specs.declared.Reg.{Reg}
 use Rattle.lcm_isa.specs.declared.Reg.TheVariants.{Pc}
 use Rattle.lcm_isa.specs.declared.Instr.{Instr}
+use Rattle.lcm_isa.specs.declared.Instr.TheVariants.{Store, Load}
 use Rattle.lcm_machine.specs.declared.Step.{Step}
 use Rattle.lcm_machine.specs.declared.End.{End}
 use Rattle.lcm_machine.specs.declared.Place.{Place}
@@ -20,26 +24,52 @@ use Rattle.lcm_machine.specs.declared.plan.Moved.{Moved}
 use Rattle.lcm_machine.specs.declared.plan.Made.{Made}
 use Rattle.lcm_machine.specs.Maps.{State}
 use Rattle.lcm_machine.specs.Cells.{cell, set_cell}
-use Rattle.lcm_machine.specs.Table.{target}
-use Rattle.lcm_machine.specs.Row.{word_in, put, clear, perform, move_on, spend, make, go_on, HasPlace, MoveFits, faces, opens, cell_faces, plan_in, Outcome, went, halted, failed, outcome, row, Fetched, none, some, fetch, step_fetched, step_of}
-use Rattle.lcm_machine.specs.Ends.{Meets}
-use Rattle.lcm_machine.specs.Touched.{cell_used, used_by, KeepsUntouched, SameCells}
+use Rattle.lcm_machine.specs.Table.{target, is_pc}
+use Rattle.lcm_machine.specs.Row.{word_in, put, clear, perform, move_on, spend, make, go_on, HasPlace, MoveFits, faces, opens, cell_faces, face_there, plan_in, Outcome, went, halted, failed, outcome, row, Fetched, none, some, fetch, step_fetched, step_of}
+use Rattle.lcm_machine.specs.Ends.{Meets, After}
+use Rattle.lcm_machine.specs.Touched.{reached, cell_fetched, cell_used, used_by, Touches, KeepsUntouched, SameCells}
 use Rattle.lcm_machine.specs.Run.{Run, moved, next_by, next_state, plain as plain_run}
 use Rattle.lcm_machine.proofs.CellLemmas.{cell-set_other, cell-set_same}
 use Rattle.lcm_machine.proofs.StateLemmas.{word_at-other, clear_has}
 use Rattle.lcm_machine.proofs.Plans.{Gives-effect, ShapePlace, ShapeMoved, plan-Shape}
 use Rattle.lcm_machine.proofs.RowLemmas.{plan_fits, step_at}
 
--- a property of the state that an outcome goes to
-abbrev pub After : {W : Type 0} → (State W → Type 0) → Outcome W → Type 0
-After P (went t) = P t
-After P halted = Unit {0}
-After P (failed f at) = Unit {0}
-
 pub after_meets : {W : Type 0} (P : State W → Type 0) (s t : State W) (end : Step) (o : Outcome W) → After P o → P s → Meets s o end t → P t
 after_meets P s t end (went u) k h m = rw m.1 k
 after_meets P s t end halted k h m = rw m.1 h
 after_meets P s t end (failed f at) k h m = rw m.1 h
+
+-- ---- what a touched address is
+
+reached_is : (may : Perm → Bool) (x : Face) (cells : ℕ → Option Face) (a : ℕ) → reached may x cells ≡ Some a → target_of x ≡ Some a
+reached_is may (Memory c) cells a e =
+    elim (may c.perm && is_some (face_there cells (target_of (Memory c)))) as (λ b. (if b then target_of (Memory c) else None) ≡ Some a → target_of (Memory c) ≡ Some a) [ true ↦ λ h. h | false ↦ λ h. cc ] e
+reached_is may (Number c) cells a e = cc
+reached_is may (Seals c) cells a e = cc
+reached_is may (Sealed c) cells a e = cc
+
+-- pc names the cell that is fetched, and an instruction the cell that it uses
+pub fetched_target : (x : Face) (cells : ℕ → Option Face) (a : ℕ) → cell_fetched x cells ≡ Some a → target_of x ≡ Some a
+fetched_target (Memory c) cells a e =
+    elim (lin_is c.lin) as (λ b. (if b then None else reached may_run (Memory c) cells) ≡ Some a → target_of (Memory c) ≡ Some a) [ true ↦ λ h. cc | false ↦ reached_is may_run (Memory c) cells a ] e
+fetched_target (Number c) cells a e = cc
+fetched_target (Seals c) cells a e = cc
+fetched_target (Sealed c) cells a e = cc
+
+pub used_target : (i : Instr) (face : Reg → Face) (cells : ℕ → Option Face) (a : ℕ) → cell_used i face cells ≡ Some a → target i face ≡ Some a
+used_target (Store r1 r2) face cells a e = reached_is may_write (face r1) cells a e
+used_target (Load r1 r2) face cells a e =
+    elim (is_pc r1) as (λ b. (if b then None else reached may_read (face r2) cells) ≡ Some a → target_of (face r2) ≡ Some a) [ true ↦ λ h. cc | false ↦ reached_is may_read (face r2) cells a ] e
+used_target _ face cells a e = cc
+
+used_some : (f : Fetched) (face : Reg → Face) (cells : ℕ → Option Face) (a : ℕ) → used_by f face cells ≡ Some a → (i : Instr) × (next : Word) × (f ≡ some i next) × (target i face ≡ Some a)
+used_some (none c) face cells a e = cc
+used_some (some i next) face cells a e = (i, next, refl, used_target i face cells a e)
+
+-- an address that a step touches is one that pc names, or the instruction that it names
+pub touched_by : {W : Type 0} (look : W → Word) (s : State W) (a : ℕ) → Touches look s a → (target_of (faces look s Pc) ≡ Some a) ⊎ ((i : Instr) × (next : Word) × (fetch (faces look s Pc) (cell_faces look s) ≡ some i next) × (target i (faces look s) ≡ Some a))
+touched_by look s a (inl h) = inl (fetched_target (faces look s Pc) (cell_faces look s) a h)
+touched_by look s a (inr h) = inr (used_some (fetch (faces look s Pc) (cell_faces look s)) (faces look s) (cell_faces look s) a h)
 
 module _ {W : Type 0} (look : W → Word) (plain : Word → W) (s : State W) where
   -- what each effect of a step's plan leaves
@@ -63,9 +93,25 @@ module _ {W : Type 0} (look : W → Word) (plain : Word → W) (s : State W) whe
   pub step_leaves : (P : State W → Type 0) → Leaves P → P s → (t : State W) (end : Step) → Meets s (step_of look plain s) end t → P t
   step_leaves P k h t end m = after_meets P s t end (step_of look plain s) (after_step P k) h m
 
+-- an outcome that goes, and what then holds
+pub after_went : {W : Type 0} (P : State W → Type 0) (o : Outcome W) (t : State W) → After P o → o ≡ went t → P t
+after_went P (went u) t h e = let same : u ≡ t = cc in subst P same h
+after_went P halted t h e = cc
+after_went P (failed f at) t h e = cc
+
+-- what is said of the state that an outcome goes to
+pub after_each : {W : Type 0} (P : State W → Type 0) (o : Outcome W) → ((t : State W) → o ≡ went t → P t) → After P o
+after_each P (went t) k = k t refl
+after_each P halted k = tt
+after_each P (failed f at) k = tt
+
 pub same_as_is : {W : Type 0} (s : State W) → SameCells s s
 unfolding SameCells
 same_as_is s = (refl, λ q. refl)
+
+pub there_same : {W : Type 0} (s t : State W) → SameCells s t → (q : ℕ) → is_some (cell t.cells q) ≡ is_some (cell s.cells q)
+unfolding SameCells
+there_same s t h q = h.1 q
 
 pub untouched_as_is : {W : Type 0} (look : W → Word) (s : State W) → KeepsUntouched look s s
 unfolding KeepsUntouched
@@ -206,6 +252,30 @@ module _ {W : Type 0} (look : W → Word) (plain : Word → W) where
 
   pub row_untouched : (s t : State W) (i : Instr) (next : Word) (end : Step) → fetch (faces look s Pc) (cell_faces look s) ≡ some i next → Meets s (row look plain i next s) end t → KeepsUntouched look s t
   row_untouched s t i next end f m = step_untouched s t end (meets_step s t i next end f m)
+
+  -- a row that goes, fetched or not
+  after_row : (P : State W → Type 0) (s : State W) (i : Instr) (next : Word) → ((e : Effect) → plan_in look s i next ≡ Goes e → P (perform look plain s e)) → After P (row look plain i next s)
+  unfolding row
+  after_row P s i next k = after_plan look plain s P (plan_in look s i next) k
+
+  pub row_cells : (s t : State W) (i : Instr) (next : Word) → row look plain i next s ≡ went t → SameCells s t
+  row_cells s t i next e = after_went (SameCells s) _ t (after_row (SameCells s) s i next (λ x g. perform_same s x (plan_fits look plain s i next x g))) e
+
+  -- it changes no cell but that which its instruction addresses
+  pub row_others : (s t : State W) (i : Instr) (next : Word) → row look plain i next s ≡ went t → (q : ℕ) → (target i (faces look s) ≡ Some q → ⊥) → cell t.cells q ≡ cell s.cells q
+  row_others s t i next e q spare =
+      after_went (λ (u : State W). cell u.cells q ≡ cell s.cells q) _ t
+      (after_row (λ (u : State W). cell u.cells q ≡ cell s.cells q) s i next (λ x g. perform_other s x q (plan_spares s i next x q g (λ h. spare (used_target i (faces look s) (cell_faces look s) q h)))))
+      e
+
+  -- a step that goes fetched an instruction, whose row goes there
+  pub fetched_row : (s t : State W) → step_of look plain s ≡ went t → (i : Instr) × (next : Word) × (fetch (faces look s Pc) (cell_faces look s) ≡ some i next) × (row look plain i next s ≡ went t)
+  unfolding step_of
+  fetched_row s t e = by_fetch (fetch (faces look s Pc) (cell_faces look s)) refl e
+    where
+      by_fetch : (f : Fetched) → fetch (faces look s Pc) (cell_faces look s) ≡ f → step_fetched look plain s f ≡ went t → (i : Instr) × (next : Word) × (fetch (faces look s Pc) (cell_faces look s) ≡ some i next) × (row look plain i next s ≡ went t)
+      by_fetch (none c) m h = cc
+      by_fetch (some i next) m h = (i, next, m, h)
 
 -- the plain machine
 moved_same : (s : Run) (o : Outcome Word) → After (SameCells s.maps) o → SameCells s.maps (moved o s).maps

@@ -13,6 +13,12 @@ Meets old (went s) end new = (end ≡ Went) × (new ≡ s)
 Meets old halted end new = (end ≡ Halted) × (new ≡ old)
 Meets old (failed f at) end new = (end ≡ Failed f at) × (new ≡ old)
 
+-- a property of the state that an outcome goes to
+abbrev pub After : {W : Type 0} → (State W → Type 0) → Outcome W → Type 0
+After P (went t) = P t
+After P halted = Unit {0}
+After P (failed f at) = Unit {0}
+
 -- what a step answers that ended a machine so
 abbrev pub end_answer : End → Step
 end_answer AtHalt = Halted

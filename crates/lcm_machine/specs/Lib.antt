@@ -9,6 +9,7 @@ pub mod Touched
 pub mod Regions
 pub mod Counts
 pub mod Ends
+pub mod Closed
 pub mod Run
 pub mod Runs
 pub mod Refusals

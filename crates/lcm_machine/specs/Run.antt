@@ -1,6 +1,6 @@
 -- The plain machine over a run: its registers and cells, how many steps it has made, and how it has ended, if
 -- it has.
-use Rattle.std.specs.Prelude.{ℕ, zero, suc, ◌+◌, Option, Some, None}
+use Rattle.std.specs.Prelude.{◌≡◌, ℕ, zero, suc, ◌+◌, Option, Some, None}
 use Rattle.cap_words.specs.declared.Word.{Word}
 use Rattle.lcm_machine.specs.declared.Step.{Step}
 use Rattle.lcm_machine.specs.declared.Step.TheVariants.{Went}
@@ -43,3 +43,13 @@ answer s = answer_by s.end
 abbrev pub plain : ℕ → Run → Run
 plain zero s = s
 plain (suc n) s = next_state (plain n s)
+
+-- a machine that has made no step
+abbrev pub fresh : State Word → Run
+fresh s = record { maps = s; count = 0; end = None }
+
+-- a machine that has made n steps is where an outcome leads, or has ended as it says
+abbrev pub EndsAs : ℕ → Outcome Word → Run → Type 0
+EndsAs n (went t) r = r ≡ record { maps = t; count = n; end = None }
+EndsAs n halted r = r.end ≡ Some Halted
+EndsAs n (failed cause at) r = r.end ≡ Some (Failed cause at)

@@ -1,5 +1,5 @@
 -- The addresses that one step touches, and what a step leaves of memory.
-use Rattle.std.specs.Prelude.{◌≡◌, ◌⊎◌, ℕ, Bool, ◌&&◌, Option, Some, None, is_some, if◌then◌else◌}
+use Rattle.std.specs.Prelude.{◌≡◌, ◌⊎◌, ℕ, zero, suc, Bool, ◌&&◌, Option, Some, None, is_some, if◌then◌else◌}
 use Rattle.cap_words.specs.declared.Perm.{Perm}
 use Rattle.cap_words.specs.declared.Word.{Word}
 use Rattle.cap_words.specs.declared.Face.{Face}
@@ -11,9 +11,11 @@ use Rattle.lcm_isa.specs.declared.Instr.TheVariants.{Load, Store}
 use Rattle.lcm_isa.specs.declared.Reg.{Reg}
 use Rattle.lcm_isa.specs.declared.Reg.TheVariants.{Pc}
 use Rattle.lcm_machine.specs.Maps.{State}
-use Rattle.lcm_machine.specs.Cells.{cell}
+use Rattle.lcm_machine.specs.Cells.{cell, drop_cell}
 use Rattle.lcm_machine.specs.Table.{is_pc}
-use Rattle.lcm_machine.specs.Row.{faces, cell_faces, face_there, Fetched, none, some, fetch}
+use Rattle.lcm_machine.specs.Row.{faces, cell_faces, face_there, Fetched, none, some, fetch, went, step_of}
+use Rattle.lcm_machine.specs.Runs.{run_of}
+use Rattle.lcm_machine.specs.Ends.{After}
 
 -- the address of the cell that a word leads to: that of a memory capability whose permission allows it, and
 -- whose address is in its range and has a cell
@@ -44,6 +46,18 @@ abbrev pub Touches : {W : Type 0} → (W → Word) → State W → ℕ → Type 
 Touches look s a =
     (cell_fetched (faces look s Pc) (cell_faces look s) ≡ Some a)
     ⊎ (used_by (fetch (faces look s Pc) (cell_faces look s)) (faces look s) (cell_faces look s) ≡ Some a)
+
+-- none of so many steps touches an address, as far as they go
+abbrev pub Untouched : {W : Type 0} → (W → Word) → (Word → W) → ℕ → ℕ → State W → Type 0
+Untouched look plain a zero s = Unit {0}
+Untouched look plain a (suc n) s =
+    ¬ (Touches look s a) × After (Untouched look plain a n) (step_of look plain s)
+
+-- a run that goes without a cell doesn't touch it where it is there
+abbrev pub RunsAreQuiet : {W : Type 0} → (W → Word) → (Word → W) → Type 0
+RunsAreQuiet {W} look plain =
+    (a n : ℕ) (s t : State W) → run_of look plain n (record s { cells = drop_cell s.cells a }) ≡ went t
+    → Untouched look plain a n s
 
 -- each cell that a step from the one state doesn't touch is in the other as it was
 unfoldable pub KeepsUntouched : {W : Type 0} → (W → Word) → State W → State W → Type 0

@@ -3,6 +3,8 @@ ghost use Rattle.std.specs.Prelude.{ℕ, ◌≤◌, ◌↔◌, List};
 ghost use Rattle.lcm_machine.specs.Maps.{State};
 ghost use Rattle.lcm_machine.specs.Regions.{Region, IsLinearAt, CoveredOnce};
 ghost use Rattle.lcm_machine.specs.Counts.{cover_count};
+ghost use Rattle.lcm_machine.specs.Closed.{StepsKeepClosed};
+ghost use Rattle.lcm_machine.specs.Touched.{RunsAreQuiet};
 ghost use Rattle.lcm_machine.specs.Mapped.{RowCommutes, FetchCommutes, StepCommutes};
 
 use cap_words::MachineWord;
@@ -26,4 +28,19 @@ pub fn row_commutes<W: MachineWord, V: MachineWord>()
 pub fn covered_once_counts<W: MachineWord>()
     ensures { (rs : List Region) (s : State W)
         → CoveredOnce W.look rs s ↔ ((a : ℕ) → IsLinearAt rs a → cover_count W.look s a ≤ 1) }
+{}
+
+/// A property of words that no instruction breaks holds of all words from step to step.
+///
+/// The property is closed: integers have it, and so has each word that an instruction makes of words
+/// with it. Cells may be set apart, of which nothing is said. The step's instruction doesn't use
+/// such a cell, and if it is an `xjmp`, then what it opens has the property.
+pub fn steps_keep_closed<W: MachineWord>()
+    ensures { StepsKeepClosed W.look W.plain }
+{}
+
+/// A run that goes on without a cell doesn't touch it where it is there: no step of it fetches from
+/// it, loads from it or stores to it.
+pub fn runs_are_quiet<W: MachineWord>()
+    ensures { RunsAreQuiet W.look W.plain }
 {}
