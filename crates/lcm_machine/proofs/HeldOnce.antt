@@ -1,34 +1,31 @@
 -- Each instruction, and each step, keeps that no linear memory is held twice: a short composition of what hands do.
-use Rattle.std.proofs.Common.{◌≡◌, ◌≢◌, ◌⊎◌, inl, inr, ℕ, zero, suc, ◌+◌, ◌<◌, ◌≤◌, ℤ, pos, negsuc, Bool, true, false, not, ◌&&◌, List, [], ◌∷◌, refl, sym, ap, subst, ◌∙◌, arith}
+use Rattle.std.proofs.Common.{◌≡◌, ◌≢◌, ◌⊎◌, inl, inr, ℕ, zero, suc, ◌+◌, ◌<◌, ◌≤◌, ℤ, pos, negsuc, Bool, true, false, not, List, [], ◌∷◌, refl, sym, ap, subst, ◌∙◌, arith}
 use Rattle.std.specs.Prelude.{Option, Some, None, IsTrue, if◌then◌else◌, nat_lt, nat_le, ◌+ℤ◌, ◌-ℤ◌}
-use Rattle.std.proofs.lemmas.Bool.{cases_Bool, not-true, eqb-true, leb-true, ltb-true, and_parts, cases_lt}
+use Rattle.std.proofs.lemmas.Bool.{not-true, eqb-true, leb-true, ltb-true, and_parts, cases_lt}
 use Rattle.lcm_isa.specs.declared.Reg.{Reg}
 use Rattle.lcm_isa.specs.declared.Reg.TheVariants.{Pc, Dat}
 use Rattle.lcm_isa.specs.declared.Operand.TheVariants.{R as InReg, Imm}
 use Rattle.lcm_isa.specs.declared.Instr.{Instr}
 use Rattle.lcm_isa.specs.declared.Instr.TheVariants.{Fail, Halt, Jmp, Jnz, Gettype, Geta, Getb, Gete, Getp, Getlin, Move, Store, Load, Cca, Restrict, Lt, Plus, Minus, Seta2b, Xjmp, Cseal, Split, Splice}
-use Rattle.lcm_isa.specs.Numbers.{decode_of}
 use Rattle.cap_words.specs.declared.CapFields.{CapFields}
 use Rattle.cap_words.specs.declared.Word.{Word}
 use Rattle.cap_words.specs.declared.Word.TheVariants.{Int, Mem, Seal, Sealed as SealedWord}
 use Rattle.cap_words.specs.declared.Sealable.TheVariants.{Mem as MemIn, Seal as SealIn}
 use Rattle.cap_words.specs.declared.Face.{Face}
-use Rattle.cap_words.specs.declared.Face.TheVariants.{Number, Memory, Seals, Sealed}
 use Rattle.cap_words.specs.declared.Opened.{Opened}
 use Rattle.cap_words.specs.declared.Content.{Content}
 use Rattle.cap_words.specs.declared.Content.TheVariants.{Mem as MemC, Seal as SealC}
 use Rattle.cap_words.specs.Linear.{lin_is, is_linear, zero_word}
-use Rattle.cap_words.specs.Face.{face_of, opened_of}
-use Rattle.cap_words.specs.Faces.{can_split, same_kind, memory_in, address, may_run, target_of, covers}
+use Rattle.cap_words.specs.Face.{opened_of}
+use Rattle.cap_words.specs.Faces.{can_split, same_kind, memory_in, address, covers}
 use Rattle.lcm_machine.specs.declared.Place.{Place}
 use Rattle.lcm_machine.specs.declared.Place.TheVariants.{R, Cell}
-use Rattle.lcm_machine.specs.declared.FailCause.TheVariants.{F1}
 use Rattle.lcm_machine.specs.Plan.{Plan, Fails, Halts, Goes}
 use Rattle.lcm_machine.specs.declared.plan.Effect.{Effect}
 use Rattle.lcm_machine.specs.Maps.{State}
 use Rattle.lcm_machine.specs.Places.{reg}
 use Rattle.lcm_machine.specs.Table.{plan, unsealed, memory_content, no_effect, made as made_at}
-use Rattle.lcm_machine.specs.Row.{word_at, word_in, put, clear, perform, faces, opens, cell_faces, face_there, plan_in, outcome, row, Outcome, went, halted, failed, Fetched, none, some, fetch, fetch_word, fetch_decoded, step_fetched, step_of}
+use Rattle.lcm_machine.specs.Row.{word_at, word_in, put, clear, perform, faces, opens, cell_faces, plan_in, outcome, row, Outcome, went, halted, failed, Fetched, none, some, fetch, step_fetched, step_of}
 use Rattle.lcm_machine.specs.declared.Step.{Step}
 use Rattle.lcm_machine.specs.declared.End.{End}
 use Rattle.lcm_machine.specs.Ends.{Meets, After}

@@ -1,10 +1,12 @@
 pub mod RegLemmas
 pub mod CellLemmas
+pub mod Stretches
 pub mod SpanLemmas
 pub mod StateLemmas
 pub mod Plans
 pub mod RowLemmas
 pub mod TouchLemmas
+pub mod JumpLemmas
 pub mod WordsKept
 pub mod Quiet
 pub mod RegionLemmas

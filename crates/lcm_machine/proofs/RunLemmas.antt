@@ -1,5 +1,5 @@
 -- A step counts at most one, an ended machine stays as it is, and a run is where its instructions lead.
-use Rattle.std.proofs.Common.{◌≡◌, ℕ, zero, suc, ◌+◌, ◌≤◌, Option, Some, None, refl, sym, ap, subst, ◌∙◌, arith, add-one, inl, inr}
+use Rattle.std.proofs.Common.{◌≡◌, ℕ, zero, suc, ◌+◌, ◌≤◌, Option, Some, None, refl, sym, ap, ◌∙◌, arith, add-one, inl, inr}
 use Rattle.std.specs.Prelude.{IfSome}
 use Rattle.std.proofs.lemmas.Bool.{cases_lt}
 use Rattle.cap_words.specs.declared.Word.{Word}
@@ -12,6 +12,7 @@ use Rattle.lcm_machine.specs.Maps.{State}
 use Rattle.lcm_machine.specs.Run.{Run, moved, next_by, next_state, answer, answer_by, plain, fresh, EndsAs}
 use Rattle.lcm_machine.specs.Runs.{and_then, run_of}
 use Rattle.lcm_machine.proofs.Goes.{run_of-add}
+use Rattle.lcm_machine.proofs.StepRows.{run_one}
 
 count_moved : (r : Outcome Word) (s : Run) → (moved r s).count ≤ s.count + 1
 count_moved (went t) s = omega arith
@@ -67,15 +68,8 @@ went_next n t r e = rw e (moved_ends n t (step_of (λ w. w) (λ w. w) t))
 ended_next : (r : Run) (e : End) → r.end ≡ Some e → (next_state r).end ≡ Some e
 ended_next r e h = ap (λ x. x.end) (next_state-ended r e h) ∙ h
 
-one_then : (o : Outcome Word) → and_then o (run_of (λ w. w) (λ w. w) 0) ≡ o
-unfolding run_of
-one_then (went t) = refl
-one_then halted = refl
-one_then (failed c at) = refl
-
 ends_next : (n : ℕ) (o : Outcome Word) (r : Run) → EndsAs n o r → EndsAs (suc n) (and_then o (run_of (λ w. w) (λ w. w) 1)) (next_state r)
-unfolding run_of
-ends_next n (went t) r h = subst (λ o. EndsAs (suc n) o (next_state r)) (sym (one_then (step_of (λ w. w) (λ w. w) t))) (went_next n t r h)
+ends_next n (went t) r h = rw (run_one (λ w. w) (λ w. w) t) (went_next n t r h)
 ends_next n halted r h = ended_next r Halted h
 ends_next n (failed c at) r h = ended_next r (Failed c at) h
 

@@ -1,5 +1,5 @@
 -- One step of code that stands in memory is a row, and one step of a run is a step.
-use Rattle.std.proofs.Common.{◌≡◌, ℕ, ◌+◌, ◌≤◌, pos, Some, refl, ◌∙◌}
+use Rattle.std.proofs.Common.{◌≡◌, ℕ, ◌+◌, ◌≤◌, pos, Some, refl}
 use Rattle.cap_words.specs.declared.Word.{Word}
 use Rattle.cap_words.specs.declared.Word.TheVariants.{Mem}
 use Rattle.cap_words.specs.declared.Face.TheVariants.{Number}

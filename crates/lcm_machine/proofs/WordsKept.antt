@@ -1,12 +1,11 @@
 -- A closed property of all words is kept by every instruction, by `xjmp` where what it opens has it.
 use Rattle.std.proofs.Common.{◌≡◌, inl, inr, ℕ, pos, true, false, refl, sym, ap, ◌∙◌}
-use Rattle.std.specs.Prelude.{Option, Some, None, Bool, IsTrue, if◌then◌else◌, unwrap_or}
+use Rattle.std.specs.Prelude.{Option, Some, None, IsTrue, if◌then◌else◌, unwrap_or}
 use Rattle.std.proofs.lemmas.Bool.{and_parts, eqb-true, cases_eq}
 use Rattle.cap_words.specs.declared.Word.{Word}
 use Rattle.cap_words.specs.declared.Word.TheVariants.{Mem, Seal}
 use Rattle.cap_words.specs.declared.CapFields.{CapFields}
 use Rattle.cap_words.specs.declared.SealFields.{SealFields}
-use Rattle.cap_words.specs.declared.Opened.{Opened}
 use Rattle.cap_words.specs.declared.Face.{Face}
 use Rattle.cap_words.specs.Face.{face_of}
 use Rattle.cap_words.specs.Faces.{memory_in, seals_in, same_kind}
@@ -25,7 +24,7 @@ use Rattle.lcm_machine.specs.declared.plan.Made.{Made}
 use Rattle.lcm_machine.specs.Maps.{State}
 use Rattle.lcm_machine.specs.Places.{reg, set_reg}
 use Rattle.lcm_machine.specs.Cells.{cell, set_cell}
-use Rattle.lcm_machine.specs.Table.{plan, target, memory_content, unsealed}
+use Rattle.lcm_machine.specs.Table.{plan, target}
 use Rattle.lcm_machine.specs.Row.{word_in, put, clear, move_on, spend, make, go_on, perform, faces, cell_faces, opens, plan_in, outcome, row, fetch, Fetched, none, some, step_fetched, step_of}
 use Rattle.lcm_machine.proofs.Plans.{Shape, ShapeMoved, ShapePlace, plan-Shape, Gives, Gives-effect, gives_fails, gives_halts, gives_goes, Gives-ask, Gives-need, Gives-by_cap, Gives-if}
 use Rattle.lcm_machine.proofs.RegLemmas.{cases_reg, reg-set_same, reg-set_other}

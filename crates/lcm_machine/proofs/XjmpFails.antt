@@ -1,12 +1,10 @@
 -- Where `xjmp` fails.
-use Rattle.std.proofs.Common.{◌≡◌, ◌≢◌, ◌⊎◌, inl, inr, ℕ, true, false, Some, None, refl, ap, sym, ◌∙◌, eq-eqb, ne_eqb}
+use Rattle.std.proofs.Common.{◌≡◌, inl, inr, ℕ, true, false, Some, None, refl, ap, eq-eqb, ne_eqb}
 use Rattle.std.specs.Prelude.{Option, Bool, ◌==◌}
-use Rattle.std.proofs.lemmas.Bool.{cases_eq}
 use Rattle.cap_words.specs.declared.Word.{Word}
 use Rattle.cap_words.specs.declared.Word.TheVariants.{Int, Mem, Seal, Sealed}
 use Rattle.cap_words.specs.declared.Sealable.TheVariants.{Mem as MemIn, Seal as SealIn}
-use Rattle.cap_words.specs.declared.Content.{Content}
-use Rattle.cap_words.specs.declared.Content.TheVariants.{Mem as MemC, Seal as SealC}
+use Rattle.cap_words.specs.declared.Content.TheVariants.{Mem as MemC}
 use Rattle.cap_words.specs.declared.CapFields.{CapFields}
 use Rattle.cap_words.specs.declared.Opened.{Opened}
 use Rattle.cap_words.specs.Face.{opened_of}

@@ -1,6 +1,5 @@
 use Rattle.std.proofs.Common.{◌≡◌, rules, map, inl, refl}
-use Rattle.lcm_machine.specs.Spans.{zero_part, slot}
-use Rattle.lcm_machine.specs.Cells.{cell, cells_of}
+use Rattle.lcm_machine.specs.Spans.{zero_part}
 use Rattle.lcm_machine.proofs.SpanLemmas.{zeros_are_parts, zero_cells}
 use Rattle.lcm_machine.proofs.cells.Cells.zeros.Goals as goal
 
