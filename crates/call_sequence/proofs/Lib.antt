@@ -1,1 +1,5 @@
 mod Words
+mod LawLemmas
+pub mod CallLaws
+pub mod ReturnLaws
+pub mod EntryLaws

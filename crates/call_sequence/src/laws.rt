@@ -1,10 +1,41 @@
-//! What stands where a sequence stands. This function does nothing; its contract is the law.
+//! What stands where a sequence stands, and what sequences do. These functions do nothing; their
+//! contracts are the laws.
 ghost use Rattle.std.specs.Prelude.{◌≡◌, ℕ, true};
 ghost use Rattle.component_file.specs.declared.component.ComponentFields.{ComponentFields};
 ghost use Rattle.call_sequence.specs.Standing.{is_site, is_entry, SiteStands, EntryStands};
+ghost use Rattle.call_sequence.specs.SequenceRuns.{CallRuns, CallJumps, CallAtBaseFails, CallOutsideFails};
+ghost use Rattle.call_sequence.specs.SequenceRuns.{ReturnRuns, ReturnApartFails, ReturnOffBaseFails};
+ghost use Rattle.call_sequence.specs.SequenceRuns.{EntryRuns, EntryFails};
+
+use cap_words::MachineWord;
 
 /// Where `is_site` and `is_entry` answer true, each word is its instruction's number.
 pub fn sequences_stand_word_by_word()
     ensures sites { (c : ComponentFields) (index : ℕ) → is_site c index ≡ true → SiteStands c index }
     ensures entries { (c : ComponentFields) (at : ℕ) → is_entry c at ≡ true → EntryStands c at }
+{}
+
+/// What a call's words do: `data` is stored where stk stands, the stack is split behind that, the
+/// two halves of the return are sealed, and the last word is an `xjmp`. With stk at its base or
+/// outside its range they fail.
+pub fn calls_run<W: MachineWord>()
+    ensures above { CallRuns W.look W.plain }
+    ensures jumps { CallJumps W.look W.plain }
+    ensures at_base { CallAtBaseFails W.look W.plain }
+    ensures outside { CallOutsideFails W.look W.plain }
+{}
+
+/// What a return's words do: stk and `data` are joined, and `data` is read back from their first
+/// cell. Where they can't be joined, or what is joined doesn't begin at the stack's base, they fail.
+pub fn returns_run<W: MachineWord>()
+    ensures joint { ReturnRuns W.look W.plain }
+    ensures apart { ReturnApartFails W.look W.plain }
+    ensures off_base { ReturnOffBaseFails W.look W.plain }
+{}
+
+/// What an entry's words do: stk is set to its end, where it is a linear capability with rw that
+/// begins at the stack's base, and else they fail.
+pub fn entries_run<W: MachineWord>()
+    ensures stack { EntryRuns W.look W.plain }
+    ensures others { EntryFails W.look W.plain }
 {}

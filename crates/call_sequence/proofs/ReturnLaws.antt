@@ -1,0 +1,100 @@
+-- What the words of a return do, for words of any kind.
+use Rattle.std.proofs.Common.{◌≡◌, ◌≢◌, ℕ, ◌+◌, ◌≤◌, pos, ℤ, ◌+ℤ◌, ◌-ℤ◌, true, false, [], ◌∷◌, Some, refl, ap, sym, ◌∙◌, arith, rules, FitsSigned, w32}
+use Rattle.std.proofs.lemmas.Int.{ints}
+use Rattle.std.specs.Ordering.{nat_cmp}
+use Rattle.std.specs.FinMap.{FinMap}
+use Rattle.cap_words.specs.declared.Word.{Word}
+use Rattle.cap_words.specs.declared.Word.TheVariants.{Int, Mem}
+use Rattle.cap_words.specs.Linear.{is_linear, zero_word}
+use Rattle.cap_words.specs.Face.{face_of}
+use Rattle.cap_words.specs.Faces.{face_linear}
+use Rattle.lcm_isa.specs.declared.Reg.TheVariants.{Stk, Dat}
+use Rattle.lcm_isa.specs.declared.Instr.TheVariants.{Splice, Fail}
+use Rattle.lcm_machine.specs.declared.FailCause.TheVariants.{F4}
+use Rattle.lcm_machine.specs.Cells.{cell, set_cell}
+use Rattle.lcm_machine.specs.Row.{went, faces}
+use Rattle.lcm_machine.specs.Runs.{Stands, code_cap}
+use Rattle.lcm_machine.proofs.Commute.{is_linear-face}
+use Rattle.lcm_machine.proofs.Goes.{go, ran, stop, stays, leaves, fail_fails, move_goes, set_goes, store_goes, load_goes, cca_goes, getb_goes, minus_goes, splice_goes, jnz_goes, jnz_jumps}
+use Rattle.lcm_machine.proofs.Refusals.{splice_fails, stops}
+use Rattle.call_sequence.specs.Sequences.{return_code, distance}
+use Rattle.call_sequence.specs.SequenceRuns.{stack_cap, Outside, HasReturn, ReturnRuns, ReturnApartFails, ReturnOffBaseFails}
+use Rattle.call_sequence.proofs.LawLemmas.{fits_small, small_operand, near_operand, leads, not_zero, fits_less, Stands-outside}
+
+module _ {W : Type 0} (look : W → Word) (plain : Word → W) where
+  pub return_apart : ReturnApartFails look plain
+  unfolding return_code faces
+  return_apart s base last at sb h hpc cannot =
+      let ai = h.at_is in
+      let en = h.ends in
+      stops look plain s base last at (Splice Stk Stk Dat) hpc (omega (arith, ai)) (omega (arith, en)) (h.code.0, tt) tt (splice_fails look plain Stk Stk Dat _ s _ _ refl refl refl cannot)
+
+module _ {W : Type 0} (look : W → Word) (plain : Word → W) (seen : (x : Word) → look (plain x) ≡ x) where
+  pub return_runs : ReturnRuns look plain
+  unfolding return_code
+  return_runs s base last at sb low b end to w h hpc hstk hdat joint sl le small out there lin =
+      let code = h.code in
+      let n : ℤ = distance (h.offset + 3) h.fail in
+      let fail = base + h.fail in
+      let ai = h.at_is in
+      let en = h.ends in
+      let sm = h.small in
+      let fh : fail ≤ last = h.fails.1 in
+      let fl : base ≤ fail = omega arith in
+      let sf : fail ≤ 1048575 = omega (arith, fh, sm) in
+      let fn : FitsSigned w32 n = near_operand (h.offset + 3) h.fail (omega (arith, ai, en, sm)) (omega (arith, sf)) in
+      let to_fail : pos (at + 1 + 1 + 1) +ℤ n ≡ pos fail = leads (at + 1 + 1 + 1) base (h.offset + 3) h.fail (omega (arith, ai)) in
+      let same : pos sb -ℤ pos sb ≡ pos 0 = omega (arith, ints) in
+      let m' : FinMap nat_cmp W = set_cell s.cells b (zero_word plain) in
+      let c : Stands look m' at (return_code h.fail h.offset sb) = Stands-outside look s.cells b _ base last at (return_code h.fail h.offset sb) out (omega (arith, ai)) (omega (arith, en)) code in
+      let ends : at + 1 + 1 + 1 + 1 + 1 + 1 + 1 + 1 + 1 + 1 ≡ at + 10 = omega arith in
+      go look plain _ _ _ base last (at) _ hpc (omega (arith, ai)) (omega (arith, en)) code.0 tt (splice_goes look plain _ _ _ _ _ _ _ (record (stack_cap sb low 0) { addr = to }) (stack_cap b end b) refl hstk hdat refl joint (leaves look plain _ _ (ap is_linear hstk)) (leaves look plain _ _ (ap is_linear hdat)))
+      ∙ go look plain _ _ _ base last (at + 1) _ (seen _) (omega (arith, ai)) (omega (arith, en)) code.1.0 tt (getb_goes look plain _ _ _ _ (Mem (stack_cap sb end b)) refl (seen _))
+      ∙ go look plain _ _ _ base last (at + 1 + 1) _ (seen _) (omega (arith, ai)) (omega (arith, en)) code.1.1.0 (small_operand sb (omega (arith, sl, le, small))) (minus_goes look plain _ _ _ _ _ (pos sb) (pos sb) (pos 0) refl (seen _) refl same refl)
+      ∙ go look plain _ _ _ base last (at + 1 + 1 + 1) _ (seen _) (omega (arith, ai)) (omega (arith, en)) code.1.1.1.0 tt (move_goes look plain _ _ _ _ _ refl (stays look plain _ _ (ap is_linear (seen _))))
+      ∙ go look plain _ _ _ base last (at + 1 + 1 + 1 + 1) _ (seen _) (omega (arith, ai)) (omega (arith, en)) code.1.1.1.1.0 fn (cca_goes look plain _ _ _ _ (code_cap base last (at + 1 + 1 + 1)) n (pos fail) refl (seen _) refl to_fail (fits_small fail sf))
+      ∙ go look plain _ _ _ base last (at + 1 + 1 + 1 + 1 + 1) _ (seen _) (omega (arith, ai)) (omega (arith, en)) code.1.1.1.1.1.0 tt (jnz_goes look plain _ _ _ _ (pos 0) (seen _) refl)
+      ∙ go look plain _ _ _ base last (at + 1 + 1 + 1 + 1 + 1 + 1) _ (seen _) (omega (arith, ai)) (omega (arith, en)) code.1.1.1.1.1.1.0 tt (load_goes look plain _ _ _ _ (stack_cap sb end b) b w _ refl (seen _) refl refl sl le there refl lin (sym (is_linear-face (look w)) ∙ lin))
+      ∙ go look plain _ _ _ base last (at + 1 + 1 + 1 + 1 + 1 + 1 + 1) _ (seen _) (omega (arith, ai)) (omega (arith, en)) code.1.1.1.1.1.1.1.0 (search rules) (set_goes look plain _ _ _ _ refl)
+      ∙ go look plain _ _ _ base last (at + 1 + 1 + 1 + 1 + 1 + 1 + 1 + 1) _ (seen _) (omega (arith, ai)) (omega (arith, en)) code.1.1.1.1.1.1.1.1.0 tt (store_goes look plain _ _ _ _ _ (stack_cap sb end b) b w (seen _) refl refl sl le there (stays look plain _ _ (ap is_linear (seen _))))
+      ∙ go look plain _ _ _ base last (at + 1 + 1 + 1 + 1 + 1 + 1 + 1 + 1 + 1) _ (seen _) (omega (arith, ai)) (omega (arith, en)) c.1.1.1.1.1.1.1.1.1.0 (search rules) (set_goes look plain _ _ _ _ refl)
+      ∙ ran look plain _ ∙ ap (λ k. went (record s { regs = record s.regs { pc = plain (Mem (code_cap base last k)); stk = plain (Mem (stack_cap sb end b)); dat = w; t1 = zero_word plain; t2 = zero_word plain }; cells = m' })) ends
+
+  pub return_off_base : ReturnOffBaseFails look plain
+  unfolding return_code
+  return_off_base s base last at sb low high h hpc hstk hdat ll lh same joint s1 s2 ne =
+      let code = h.code in
+      let n : ℤ = distance (h.offset + 3) h.fail in
+      let fail = base + h.fail in
+      let ai = h.at_is in
+      let en = h.ends in
+      let sm = h.small in
+      let fh : fail ≤ last = h.fails.1 in
+      let fl : base ≤ fail = omega arith in
+      let sf : fail ≤ 1048575 = omega (arith, fh, sm) in
+      let fn : FitsSigned w32 n = near_operand (h.offset + 3) h.fail (omega (arith, ai, en, sm)) (omega (arith, sf)) in
+      let to_fail : pos (at + 1 + 1 + 1) +ℤ n ≡ pos fail = leads (at + 1 + 1 + 1) base (h.offset + 3) h.fail (omega (arith, ai)) in
+      go look plain _ _ _ base last (at) _ hpc (omega (arith, ai)) (omega (arith, en)) code.0 tt (splice_goes look plain _ _ _ _ _ _ _ low high refl hstk hdat same joint (leaves look plain _ _ (ap is_linear hstk ∙ ll)) (leaves look plain _ _ (ap is_linear hdat ∙ lh)))
+      ∙ go look plain _ _ _ base last (at + 1) _ (seen _) (omega (arith, ai)) (omega (arith, en)) code.1.0 tt (getb_goes look plain _ _ _ _ (Mem (record high { base = low.base })) refl (seen _))
+      ∙ go look plain _ _ _ base last (at + 1 + 1) _ (seen _) (omega (arith, ai)) (omega (arith, en)) code.1.1.0 (small_operand sb s2) (minus_goes look plain _ _ _ _ _ (pos low.base) (pos sb) (pos low.base -ℤ pos sb) refl (seen _) refl refl (fits_less low.base sb s1 s2))
+      ∙ go look plain _ _ _ base last (at + 1 + 1 + 1) _ (seen _) (omega (arith, ai)) (omega (arith, en)) code.1.1.1.0 tt (move_goes look plain _ _ _ _ _ refl (stays look plain _ _ (ap is_linear (seen _))))
+      ∙ go look plain _ _ _ base last (at + 1 + 1 + 1 + 1) _ (seen _) (omega (arith, ai)) (omega (arith, en)) code.1.1.1.1.0 fn (cca_goes look plain _ _ _ _ (code_cap base last (at + 1 + 1 + 1)) n (pos fail) refl (seen _) refl to_fail (fits_small fail sf))
+      ∙ go look plain _ _ _ base last (at + 1 + 1 + 1 + 1 + 1) _ (seen _) (omega (arith, ai)) (omega (arith, en)) code.1.1.1.1.1.0 tt (jnz_jumps look plain _ _ _ _ _ (pos low.base -ℤ pos sb) (seen _) (not_zero low.base sb ne) (stays look plain _ _ (ap is_linear (seen _))))
+      ∙ stop look plain _ _ base last fail Fail F4 (seen _) fl fh h.fails.0.0 tt (fail_fails look plain _ _)
+
+-- a return stands as before where a cell outside its code is set
+pub HasReturn-set : {W : Type 0} (look : W → Word) (m : FinMap nat_cmp W) (base last at sb a : ℕ) (w : W) → Outside a base last → HasReturn look m base last at sb → HasReturn look (set_cell m a w) base last at sb
+unfolding return_code
+HasReturn-set look m base last at sb a w out h =
+    let ai = h.at_is in
+    let en = h.ends in
+    let fi = h.fails.1 in
+    record {
+      offset = h.offset;
+      fail = h.fail;
+      at_is = h.at_is;
+      code = Stands-outside look m a w base last at (return_code h.fail h.offset sb) out (omega (arith, ai)) (omega (arith, en)) h.code;
+      ends = h.ends;
+      small = h.small;
+      fails = (Stands-outside look m a w base last (base + h.fail) (Fail ∷ []) out (omega arith) (omega (arith, fi)) h.fails.0, h.fails.1);
+    }
