@@ -10,3 +10,16 @@ mod FitsLemmas
 mod HeadLemmas
 mod CopyLemmas
 mod StepLemmas
+pub mod FlatLemmas
+mod FrameWords
+mod PairsOpened
+mod OwnStack
+mod CallFlat
+mod CallAgrees
+mod WholeCall
+mod ReturnFlat
+mod ReturnAgrees
+mod EntryAgrees
+mod OtherAgrees
+pub mod OneStep
+mod Instance

@@ -55,7 +55,7 @@ out-called m fs f h t o = (
   out-fewer m (without m f.head.base f.head.end) fs (fewer-without m f.head.base f.head.end) o,
 )
 
-put_back-other : (m : Cells) (a : ℕ) (ws : List OWord) (q : ℕ) → (q < a) ⊎ (a + length ws ≤ q) → cell (put_back m a ws) q ≡ cell m q
+pub put_back-other : (m : Cells) (a : ℕ) (ws : List OWord) (q : ℕ) → (q < a) ⊎ (a + length ws ≤ q) → cell (put_back m a ws) q ≡ cell m q
 unfolding put_back
 put_back-other m a [] q h = refl
 put_back-other m a (w ∷ ws) q (inl h) = put_back-other (set_cell m a w) (a + 1) ws q (inl (omega (arith, h))) ∙ cell-set_other m a q w (let ne : q ≢ a = omega (arith, h) in ne)

@@ -1,14 +1,12 @@
 -- The plain state that an overlay state stands for.
 use Rattle.std.specs.Prelude.{ℕ, ◌+◌, pos, List, Option, Some, None}
-use Rattle.cap_words.specs.declared.CapFields.{CapFields}
-use Rattle.cap_words.specs.declared.Lin.TheVariants.{Linear}
-use Rattle.cap_words.specs.declared.Perm.TheVariants.{Rw}
 use Rattle.cap_words.specs.declared.Word.{Word}
 use Rattle.cap_words.specs.declared.Word.TheVariants.{Int, Sealed}
 use Rattle.cap_words.specs.declared.Sealable.TheVariants.{Mem}
 use Rattle.lcm_machine.specs.Maps.{State}
 use Rattle.lcm_machine.specs.Runs.{code_cap}
 use Rattle.lcm_machine.specs.Mapped.{mapped_or, IsMapped}
+use Rattle.call_sequence.specs.SequenceRuns.{stack_cap}
 use Rattle.overlay_machine.specs.declared.TheConstants.{CALL_WORDS}
 use Rattle.overlay_machine.specs.declared.words.OWord.{OWord}
 use Rattle.overlay_machine.specs.declared.words.OWord.TheVariants.{Plain, RetCode, RetData}
@@ -16,10 +14,6 @@ use Rattle.overlay_machine.specs.declared.layout.Layout.{Layout}
 use Rattle.overlay_machine.specs.declared.layout.SiteCode.{SiteCode}
 use Rattle.overlay_machine.specs.Layout.{site_code}
 use Rattle.overlay_machine.specs.State.{OpenFrame, OState, framed, frame_of}
-
--- a linear capability over stack cells
-abbrev pub stack_cap : ℕ → ℕ → ℕ → CapFields
-stack_cap base end at = record { perm = Rw; lin = Linear; base = base; end = end; addr = pos at }
 
 -- under the seal of a site, its part's code at the word behind the call's
 abbrev pub flat_code : Option SiteCode → Word

@@ -4,6 +4,7 @@ pub mod State
 pub mod Step
 pub mod Cases
 pub mod Flat
+pub mod Agree
 pub mod Moves
 pub mod Machine
 pub mod Events

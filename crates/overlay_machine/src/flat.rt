@@ -1,9 +1,10 @@
 //! The plain words that overlay words stand for.
 ghost use Rattle.std.specs.Prelude.{◌≡◌, option_map, Some};
 ghost use Rattle.cap_words.specs.Ranges.{IsRange};
+ghost use Rattle.call_sequence.specs.SequenceRuns.{stack_cap};
 ghost use Rattle.overlay_machine.specs.State.{frame_of};
 ghost use Rattle.overlay_machine.specs.Machine.{Fits, frames_of};
-ghost use Rattle.overlay_machine.specs.Flat.{flat, flat_code, flat_data, stack_cap};
+ghost use Rattle.overlay_machine.specs.Flat.{flat, flat_code, flat_data};
 ghost use Rattle.overlay_machine.specs.Events.{head_of};
 
 use crate::CALL_WORDS;

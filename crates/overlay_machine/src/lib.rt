@@ -12,6 +12,7 @@ mod copies;
 mod events;
 mod flat;
 mod frames;
+pub mod laws;
 mod layout;
 mod machine;
 mod notes;
