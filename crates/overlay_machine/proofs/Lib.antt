@@ -23,3 +23,4 @@ mod EntryAgrees
 mod OtherAgrees
 pub mod OneStep
 mod Instance
+pub mod invariant

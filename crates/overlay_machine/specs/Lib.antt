@@ -10,3 +10,8 @@ pub mod Machine
 pub mod Events
 pub mod Seen
 pub mod Copies
+pub mod Link
+pub mod Safe
+pub mod Linked
+pub mod Invariant
+pub mod Keeping

@@ -7,6 +7,7 @@ ghost use Rattle.overlay_machine.specs.State.{newest_size, newest_word};
 ghost use Rattle.overlay_machine.specs.Step.{weight_of};
 ghost use Rattle.overlay_machine.specs.Flat.{flat};
 ghost use Rattle.overlay_machine.specs.Seen.{next_overlay, answer_of, end_answer, IsOverlayOf};
+ghost use Rattle.overlay_machine.specs.Keeping.{StepKeeps};
 
 use crate::cases::{next_case, weight};
 use crate::copies::{layout_of, maps_of};
@@ -121,8 +122,24 @@ impl Overlay {
     ///
     /// Where it halts or fails, state and weight stay as they were, and the machine has ended: each
     /// later step answers that end again and changes nothing. The weight may not pass 2^63.
-    #[tactic(auto, unfolding(crate::specs::Seen::next_overlay, crate::specs::Seen::answer_of, crate::specs::Step::overlay_step, crate::specs::Step::weight_of, crate::specs::Events::step_event))]
+    ///
+    /// Where the invariant holds of the overlay and a plain state, for any accepted parts and a size of
+    /// stack, the plain machine does the same within as many instructions as the step weighs: it goes on
+    /// to a state of which the invariant holds with the new overlay, it halts at once with the same
+    /// word in a0, or it fails. docs/OVERLAY.md tells the invariant.
     pub fn step(&mut self) -> OStep
+        requires { self.old.weight < 2 ^ 63 }
+        ensures after { self.new ≡ next_overlay self.old }
+        ensures answer { result ≡ answer_of self.old }
+        ensures ended { IfSome self.old.end (λ e. (result ≡ end_answer e) × (self.new ≡ self.old)) }
+        ensures keeps { StepKeeps self.old result self.new }
+    {
+        self.advance()
+    }
+
+    // The step itself.
+    #[tactic(auto, unfolding(crate::specs::Seen::next_overlay, crate::specs::Seen::answer_of, crate::specs::Step::overlay_step, crate::specs::Step::weight_of, crate::specs::Events::step_event))]
+    fn advance(&mut self) -> OStep
         requires { self.old.weight < 2 ^ 63 }
         ensures after { self.new ≡ next_overlay self.old }
         ensures answer { result ≡ answer_of self.old }

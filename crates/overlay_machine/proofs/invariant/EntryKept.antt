@@ -1,0 +1,175 @@
+-- The invariant is kept by an entry.
+use Rattle.std.proofs.Common.{◌≡◌, ◌≢◌, ◌⊎◌, inl, inr, ℕ, zero, suc, ◌+◌, ◌<◌, ◌≤◌, ℤ, pos, Bool, true, false, List, [], ◌∷◌, length, Option, Some, None, refl, sym, ap, ◌∙◌, subst, arith, eqb-true}
+use Rattle.std.specs.Prelude.{◌==◌, ◌&&◌, if◌then◌else◌}
+use Rattle.std.proofs.lemmas.Bool.{and_parts}
+use Rattle.cap_words.specs.declared.Word.{Word}
+use Rattle.cap_words.specs.declared.Word.TheVariants.{Int, Mem}
+use Rattle.cap_words.specs.declared.CapFields.{CapFields}
+use Rattle.cap_words.specs.declared.Perm.{Perm}
+use Rattle.cap_words.specs.declared.Perm.TheVariants.{No, R as ReadOnly, Rw, Rx, Rwx}
+use Rattle.cap_words.specs.declared.Lin.{Lin}
+use Rattle.cap_words.specs.declared.Lin.TheVariants.{Normal, Linear}
+use Rattle.cap_words.specs.Face.{face_of}
+use Rattle.cap_words.specs.Faces.{memory_in, perm_number}
+use Rattle.cap_words.specs.Linear.{zero_word, lin_is}
+use Rattle.lcm_isa.specs.declared.Reg.{Reg}
+use Rattle.lcm_isa.specs.declared.Reg.TheVariants.{Pc, Rcode, Rdata, Stk, Dat, T1, T2, C1, C2, A0, A1, A2, A3, G0, G1, G2}
+use Rattle.lcm_machine.specs.Maps.{Regs, State}
+use Rattle.lcm_machine.specs.Places.{reg}
+use Rattle.lcm_machine.specs.Table.{is_pc}
+use Rattle.lcm_machine.specs.Row.{faces, Fetched}
+use Rattle.lcm_machine.proofs.RowLemmas.{look_memory}
+use Rattle.flow_check.specs.Kinds.{Row, kind_of, clean_row, entry_row}
+use Rattle.flow_check.specs.Holds.{data_cap, stack_cap, code_at, Up, PcAt, HasKind}
+use Rattle.flow_check.specs.Places.{begins_entry}
+use Rattle.flow_check.proofs.LocalFacts.{entry_flows}
+use Rattle.component_linker.specs.Parts.{PartSeen}
+use Rattle.overlay_machine.specs.declared.words.OWord.{OWord}
+use Rattle.overlay_machine.specs.declared.words.OWord.TheVariants.{Plain}
+use Rattle.overlay_machine.specs.declared.layout.Layout.{Layout}
+use Rattle.overlay_machine.specs.declared.cases.Case.{Case}
+use Rattle.overlay_machine.specs.declared.cases.Case.TheVariants.{Call, Entry, Back, Other}
+use Rattle.overlay_machine.specs.Words.{look}
+use Rattle.overlay_machine.specs.State.{OpenFrame, OState}
+use Rattle.overlay_machine.specs.Step.{case_fetched, Ending, goes, fails, need, if_own, own_stack, entry_step, is_own_stack}
+use Rattle.overlay_machine.specs.Link.{Link, IsTrusted, ranges_of, IsStackCell}
+use Rattle.overlay_machine.specs.Linked.{Linked}
+use Rattle.overlay_machine.specs.Safe.{IsSafeCap, IsSafe}
+use Rattle.overlay_machine.specs.Invariant.{StandsAt, PcPart, at_row, Invariant}
+use Rattle.overlay_machine.proofs.invariant.Facts.{mem_safe, in_stack}
+use Rattle.overlay_machine.proofs.invariant.View.{View, at_entry, in_part, out}
+use Rattle.overlay_machine.proofs.invariant.Ready.{fetched_case, entry_kind}
+use Rattle.overlay_machine.proofs.invariant.Standing.{Stand}
+use Rattle.overlay_machine.proofs.invariant.Clean.{clean_fits, stands_clean}
+
+perm_rw : (p : Perm) → (perm_number p == 2) ≡ true → p ≡ Rw
+perm_rw No e = cc
+perm_rw ReadOnly e = cc
+perm_rw Rw e = refl
+perm_rw Rx e = cc
+perm_rw Rwx e = cc
+
+lin_linear : (x : Lin) → lin_is x ≡ true → x ≡ Linear
+lin_linear Normal e = cc
+lin_linear Linear e = refl
+
+of_parts : (c : CapFields) (b : ℕ) → c.perm ≡ Rw → c.lin ≡ Linear → c.base ≡ b → c ≡ record { perm = Rw; lin = Linear; base = b; end = c.end; addr = c.addr }
+of_parts c b p l q = ap (λ x. record c { perm = x }) p ∙ ap (λ x. record c { perm = Rw; lin = x }) l ∙ ap (λ x. record c { perm = Rw; lin = Linear; base = x }) q
+
+own_parts : (l : Layout) (x : Option CapFields) (c : CapFields) → if_own l x ≡ Some c → (x ≡ Some c) × (is_own_stack l c ≡ true)
+own_parts l None c e = cc
+own_parts l (Some d) c e = by_own (is_own_stack l d) refl e
+  where
+    by_own : (b : Bool) → is_own_stack l d ≡ b → (if b then Some d else None) ≡ Some c → (Some d ≡ Some c) × (is_own_stack l c ≡ true)
+    by_own true m h = (h, (let q : d ≡ c = cc in subst (λ x. is_own_stack l x ≡ true) q m))
+    by_own false m h = cc
+
+-- the capability of an own stack
+pub own_is : (l : Layout) (s : State OWord) (c : CapFields) → own_stack l s ≡ Some c → (look s.regs.stk ≡ Mem c) × (c ≡ record { perm = Rw; lin = Linear; base = l.stack.base; end = c.end; addr = c.addr })
+unfolding own_stack faces
+own_is l s c e =
+    let f = own_parts l (memory_in (face_of (look s.regs.stk))) c e in
+    let p = and_parts (lin_is c.lin && (perm_number c.perm == 2)) (c.base == l.stack.base) f.1 in
+    let q = and_parts (lin_is c.lin) (perm_number c.perm == 2) p.0 in
+    (look_memory (look s.regs.stk) c f.0, of_parts c l.stack.base (perm_rw c.perm q.1) (lin_linear c.lin q.0) (eqb-true c.base l.stack.base p.1))
+
+pub need_goes : {A : Type 0} (x : Option A) (k : A → Ending) (q : OState) → need x k ≡ goes q → (a : A) × (x ≡ Some a) × (k a ≡ goes q)
+unfolding need
+need_goes None k q h = cc
+need_goes (Some a) k q h = (a, refl, h)
+
+-- the case of a fetched instruction is neither a call nor an entry
+abbrev pub is_sequence : Case → Bool
+is_sequence (Call i) = true
+is_sequence (Entry a) = true
+is_sequence (Back r1 r2) = false
+is_sequence Other = false
+
+pub never_sequence : (s : State OWord) (f : Fetched) (c : Case) → c ≡ case_fetched s f → is_sequence c ≡ true → ⊥
+never_sequence s f c e t = elim (fetched_case s f c e) as (λ _. ⊥) [
+  | inl h ↦ (let bad : true ≡ false = sym t ∙ ap is_sequence h in cc)
+  | inr h ↦ (let bad : true ≡ false = sym t ∙ ap is_sequence h.3 in cc)
+]
+
+pub never_entry : (s : State OWord) (f : Fetched) (a : ℕ) → Entry a ≡ case_fetched s f → ⊥
+never_entry s f a e = never_sequence s f (Entry a) e refl
+
+pub never_call : (s : State OWord) (f : Fetched) (i : ℕ) → Call i ≡ case_fetched s f → ⊥
+never_call s f i e = never_sequence s f (Call i) e refl
+
+module _ (g : Link) (linked : Linked g) (fs : List OpenFrame) where
+  -- a safe own stack reaches over stack cells in memory
+  pub own_up : (p : PartSeen) → IsTrusted g p → (c : CapFields) → IsSafeCap g fs c → c.base ≡ g.layout.stack.base → Up (IsStackCell g fs) (ranges_of p) c.end
+  own_up p ip c h b =
+      let sb = linked.stack_bases p ip in
+      let top = in_stack g linked fs c h b in
+      let order = h.order in
+      ((omega (arith, sb, b, order)), (λ a low high. ((omega (arith, sb, low)), (omega (arith, top, high)), h.free a (omega (arith, sb, b, low)) high)))
+
+module _ (g : Link) (linked : Linked g) (o : OState) (t : State Word) (inv : Invariant g o t) where
+  abbrev fs : List OpenFrame
+  fs = o.frames
+
+  -- the registers after an entry at an address
+  abbrev pub after : ℕ → CapFields → CapFields → Regs OWord
+  after a p c = record o.maps.regs {
+    pc = Plain (Mem (record p { addr = pos (a + 20) }));
+    stk = Plain (Mem (record c { addr = pos c.end }));
+    t1 = zero_word Plain;
+    t2 = zero_word Plain;
+  }
+
+  pub entered : (q : OState) (a : ℕ) (p : CapFields) → look o.maps.regs.pc ≡ Mem p → entry_step g.layout a o ≡ goes q → (c : CapFields) × (own_stack g.layout o.maps ≡ Some c) × (q ≡ record o { maps = record o.maps { regs = after a p c } })
+  unfolding entry_step faces
+  entered q a p h e =
+      let x = need_goes (memory_in (face_of (look o.maps.regs.pc))) _ q e in
+      let y = need_goes (own_stack g.layout o.maps) _ q x.2 in
+      let same : x.0 ≡ p = (let k : Some x.0 ≡ Some p = sym x.1 ∙ ap (λ w. memory_in (face_of w)) h in cc) in
+      let r : goes (record o { maps = record o.maps { regs = after a x.0 y.0 } }) ≡ goes q = y.2 in
+      let z : q ≡ record o { maps = record o.maps { regs = after a x.0 y.0 } } = cc in
+      (y.0, y.1, z ∙ ap (λ d. record o { maps = record o.maps { regs = after a d y.0 } }) same)
+
+  kept_at : (q : OState) (p : PartSeen) (off a : ℕ) (ip : IsTrusted g p) → a ≡ p.component.code_base + off → begins_entry p.component off ≡ true → (at : StandsAt g fs p off o.maps.regs) → at.there ≡ entry_row → entry_step g.layout a o ≡ goes q → Stand g q
+  unfolding kind_of
+  kept_at q p off a ip ea en at er e =
+      let k = entered q a (code_at (ranges_of p) off) at.at_pc e in
+      let c = k.0 in
+      let own = own_is g.layout o.maps c k.1 in
+      let any : (d : Reg) → is_pc d ≡ false → HasKind look (IsSafe g fs) (IsStackCell g fs) (ranges_of p) (kind_of entry_row d) (reg o.maps.regs d) = (λ d n. subst (λ r. HasKind look (IsSafe g fs) (IsStackCell g fs) (ranges_of p) (kind_of r d) (reg o.maps.regs d)) er (at.fits.each d n)) in
+      let cap : IsSafeCap g fs c = mem_safe g fs o.maps.regs.stk c own.0 (any Stk refl) in
+      let base : c.base ≡ g.layout.stack.base = ap (λ x. x.base) own.1 in
+      let cap' : IsSafeCap g fs (record c { addr = pos c.end }) = record { area = cap.area; runs = cap.runs; usable = cap.usable; low = cap.low; order = cap.order; high = cap.high; lin = cap.lin; may = cap.may; free = cap.free } in
+      let safe : (d : Reg) → is_pc d ≡ false → d ≢ Dat → IsSafe g fs (reg (after a (code_at (ranges_of p) off) c) d) = each c cap' any in
+      let sb = linked.stack_bases p ip in
+      let stk : Mem (record c { addr = pos c.end }) ≡ Mem (stack_cap (ranges_of p) c.end (pos c.end)) = ap (λ x. Mem (record x { addr = pos c.end })) own.1 ∙ ap (λ b. Mem (record { perm = Rw; lin = Linear; base = b; end = c.end; addr = pos c.end })) (sym sb) in
+      let far : a + 20 ≡ p.component.code_base + (off + 20) = omega (arith, ea) in
+      let fits = clean_fits g linked fs p ip (after a (code_at (ranges_of p) off) c) c.end (pos c.end) (any Dat refl).0 stk (own_up g linked fs p ip c cap base) (any Dat refl).1 refl refl safe in
+      let part = linked.parts p ip.0 in
+      subst (λ x. Stand g x) (sym k.2) (record {
+        pc = at_row p (off + 20) ip (stands_clean g linked fs p ip (after a (code_at (ranges_of p) off) c) (off + 20) (entry_flows p.component part.limits (part.flow ip.1) off en)
+          (ap (λ y. Mem (record (code_at (ranges_of p) 0) { addr = pos y })) far) fits);
+        stack = inv.stack; code = inv.code; cells = inv.cells; frames = inv.frames; frames_fit = inv.frames_fit;
+      })
+    where
+      each : (c : CapFields) → IsSafeCap g fs (record c { addr = pos c.end }) → ((d : Reg) → is_pc d ≡ false → HasKind look (IsSafe g fs) (IsStackCell g fs) (ranges_of p) (kind_of entry_row d) (reg o.maps.regs d)) → (d : Reg) → is_pc d ≡ false → d ≢ Dat → IsSafe g fs (reg (after a (code_at (ranges_of p) off) c) d)
+      each c h any Pc n ne = cc
+      each c h any Dat n ne = absurd (ne refl)
+      each c h any Stk n ne = h
+      each c h any T1 n ne = tt
+      each c h any T2 n ne = tt
+      each c h any Rcode n ne = any Rcode refl
+      each c h any Rdata n ne = any Rdata refl
+      each c h any C1 n ne = any C1 refl
+      each c h any C2 n ne = any C2 refl
+      each c h any A0 n ne = any A0 refl
+      each c h any A1 n ne = any A1 refl
+      each c h any A2 n ne = any A2 refl
+      each c h any A3 n ne = any A3 refl
+      each c h any G0 n ne = any G0 refl
+      each c h any G1 n ne = any G1 refl
+      each c h any G2 n ne = any G2 refl
+
+  pub entry_kept : (a : ℕ) (q : OState) → View g fs o.maps (Entry a) → entry_step g.layout a o ≡ goes q → Stand g q
+  entry_kept a q (at_entry p off ip ea en at) e = kept_at q p off a ip ea en at (entry_kind p off at.there en at.row) e
+  entry_kept a q (in_part p off ip ne ns at ec) e = absurd (never_entry o.maps _ a ec)
+  entry_kept a q (out h ec) e = absurd (never_entry o.maps _ a ec)
