@@ -86,10 +86,10 @@ stands_in cells base words each at (i ∷ is) h =
 -- ---- C12
 
 -- the offset of `fail`
-record FailAt (c : ComponentFields) : Type 0 where
-  offset : ℕ
-  is : c.fail_at ≡ Some offset
-  word : slice_get c.code offset ≡ Some (Int (pos 0))
+pub record FailAt (c : ComponentFields) : Type 0 where
+  pub offset : ℕ
+  pub is : c.fail_at ≡ Some offset
+  pub word : slice_get c.code offset ≡ Some (Int (pos 0))
 
 not_not : (b : Bool) → not b ≡ false → b ≡ true
 not_not true e = refl
@@ -102,7 +102,7 @@ zero_is (Some (Seal m)) e = absurd cc
 zero_is (Some (Sealed m x)) e = absurd cc
 zero_is None e = absurd cc
 
-fail_of : (p : PartSeen) → IsPart p → p.trusted ≡ true → FailAt p.component
+pub fail_of : (p : PartSeen) → IsPart p → p.trusted ≡ true → FailAt p.component
 unfolding c12
 fail_of p h trusted = by_offset p.component.fail_at refl (not_not _ (kept p h 12 1 (c12 p.component) (twelfth p trusted) (omega arith)))
   where
@@ -111,10 +111,10 @@ fail_of p h trusted = by_offset p.component.fail_at refl (not_not _ (kept p h 12
     by_offset (Some o) e z = record { offset = o; is = e; word = zero_is (slice_get p.component.code o) (sym (ap (λ o. is_zero_word (code_at p.component o)) e) ∙ z) }
 
 -- the offset of the literal
-record LiteralAt (c : ComponentFields) : Type 0 where
-  offset : ℕ
-  is : c.literal_at ≡ Some offset
-  word : slice_get c.code offset ≡ Some (Seal (all_seals c))
+pub record LiteralAt (c : ComponentFields) : Type 0 where
+  pub offset : ℕ
+  pub is : c.literal_at ≡ Some offset
+  pub word : slice_get c.code offset ≡ Some (Seal (all_seals c))
 
 same_seals : (a b : SealFields) → a.base ≡ b.base → a.end ≡ b.end → a.cur ≡ b.cur → a ≡ b
 same_seals a b base end cur = λ i. record { base = base i; end = end i; cur = cur i }
@@ -138,7 +138,7 @@ over_seals c (Some (Mem m)) e = absurd cc
 over_seals c (Some (Sealed m x)) e = absurd cc
 over_seals c None e = absurd cc
 
-literal_of : (p : PartSeen) → IsPart p → p.trusted ≡ true → 0 < length p.component.sites → LiteralAt p.component
+pub literal_of : (p : PartSeen) → IsPart p → p.trusted ≡ true → 0 < length p.component.sites → LiteralAt p.component
 unfolding c12
 literal_of p h trusted some =
     let fine : (has_sites p.component && not (is_over_seals p.component (code_at p.component p.component.literal_at))) ≡ false = kept p h 12 3 (c12 p.component) (twelfth p trusted) (omega arith) in

@@ -52,7 +52,7 @@ found p xs x h = sym (find_at p xs) ∙ h
 
 -- ---- what names mean is there
 
-map_inv : {A B : Type 0} (f : A → B) (o : Option A) (y : B) → option_map f o ≡ Some y → (x : A) × (o ≡ Some x) × (f x ≡ y)
+pub map_inv : {A B : Type 0} (f : A → B) (o : Option A) (y : B) → option_map f o ≡ Some y → (x : A) × (o ≡ Some x) × (f x ≡ y)
 map_inv f None y h = absurd cc
 map_inv f (Some x) y h = (x, refl, cc)
 

@@ -8,6 +8,9 @@ pub mod PartWords
 pub mod LaySteps
 pub mod SortedSpans
 pub mod StartHeld
+pub mod StartWords
+pub mod OwnWords
+pub mod StartCells
 pub mod StartIs
 pub mod ListedOwners
 pub mod PartKept
@@ -15,3 +18,4 @@ pub mod LinksKept
 pub mod SealsKept
 pub mod CodeStands
 pub mod Accepted
+pub mod ExampleParts

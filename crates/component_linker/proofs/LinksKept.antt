@@ -237,7 +237,7 @@ alone parts size h k i p s at is lt =
     let here : slice_index_or (part_spans p) i None ≡ s = get_or_from_slice_get (part_spans p) i s None is in
     or_none _ _ (sym (ap (near_before (take k parts) (take i (part_spans p))) here) ∙ none)
 
-apart_within : (parts : List PartSeen) (size : ℕ) → NoneIsBroken (rules_l parts size) → (k : ℕ) (p : PartSeen) → slice_get parts k ≡ Some p → AllPairs Apart (part_regions p)
+pub apart_within : (parts : List PartSeen) (size : ℕ) → NoneIsBroken (rules_l parts size) → (k : ℕ) (p : PartSeen) → slice_get parts k ≡ Some p → AllPairs Apart (part_regions p)
 apart_within parts size h k p at =
     let first = none_at (near (data_span p)) (code_span p ∷ []) 0 (code_span p) (alone parts size h k 1 p (data_span p) at refl (omega arith)).1 refl in
     let others = (alone parts size h k 2 p (linear_span p) at refl (omega arith)).1 in

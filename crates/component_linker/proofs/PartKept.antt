@@ -12,9 +12,9 @@ use Rattle.component_file.specs.declared.component.Import.{Import}
 use Rattle.component_file.specs.Limits.{last_base}
 use Rattle.component_check.specs.Places.{Test, first_below}
 use Rattle.component_check.specs.Verdict.{rule, NoneBroken}
-use Rattle.component_check.specs.Areas.{is_past_end, code_area, data_area, has_all}
+use Rattle.component_check.specs.Areas.{is_past_end, are_near, code_area, data_area, has_all}
 use Rattle.seal_space.specs.Seals.{has_seal}
-use Rattle.component_check.specs.Rules.{c1, c3, c4, c7, c8, c12, slot_of, slot_is_bad, words, holds_of, is_foreign, is_own, linear_at, linear_in, meet, meets_before, rules_c}
+use Rattle.component_check.specs.Rules.{c1, c2, c3, c4, c7, c8, c12, slot_of, slot_is_bad, words, holds_of, is_foreign, is_own, linear_at, linear_in, meet, meets_before, rules_c}
 use Rattle.component_check.proofs.First.{first_below_is, IsFirstIn}
 use Rattle.flow_check.specs.Lists.{k1, site_is_bad, lists}
 use Rattle.component_linker.specs.Parts.{PartSeen, IsPart, rules_of}
@@ -56,6 +56,15 @@ linear_ends p h = by_count p.component.linear.count refl
         omega (arith, e, base)
     by_count (suc n) e = ends p.component.linear.base p.component.linear.count (kept p h 1 2 (c1 p.component) refl (omega arith)) (omega (arith, e))
 
+-- C2: code and data lie apart
+pub code_no_data : (p : PartSeen) → IsPart p → p.component.code_base ≡ p.component.data_base → ⊥
+unfolding c2
+code_no_data p h =
+    meet p.component.code_base (length p.component.code) p.component.data_base (length p.component.data_words) (kept p h 2 0 (c2 p.component) refl (omega arith)) h.limits.code.0.0 h.limits.data_words.0.0
+  where
+    meet : (a n b m : ℕ) → are_near (record { base = a; count = n }) (record { base = b; count = m }) ≡ false → 1 ≤ n → 1 ≤ m → a ≡ b → ⊥
+    meet a n b m e some many same = grind (arith, nat_tests)
+
 -- ---- slots
 
 slot_is : (c : ComponentFields) (k : ℕ) (i : Import) → slice_get c.imports k ≡ Some i → slot_of c k ≡ i.slot
@@ -89,7 +98,7 @@ slots_apart p h k i j e f =
 
 -- ---- capabilities
 
-range_in : (base count : ℕ) (m : CapFields) → has_all (record { base = base; count = count }) m.base m.end ≡ true → HasRange base count m
+pub range_in : (base count : ℕ) (m : CapFields) → has_all (record { base = base; count = count }) m.base m.end ≡ true → HasRange base count m
 range_in base count m e = (grind (arith, nat_tests), grind (arith, nat_tests))
 
 -- both hold, or one of them does
@@ -162,6 +171,25 @@ closure_apart p h = second (is_past_end p.component.seals.base p.component.seals
     second : (a b : Bool) → (a || b) ≡ false → b ≡ false
     second true b e = absurd cc
     second false b e = e
+
+-- C3: and these are seals that there are
+pub seals_end : (p : PartSeen) → IsPart p → p.component.seals.base + p.component.seals.count ≤ 1048576
+unfolding c3
+seals_end p h = by_count p.component.seals.count refl
+  where
+    first : (a b : Bool) → (a || b) ≡ false → a ≡ false
+    first true b e = absurd cc
+    first false b e = refl
+
+    by_count : (n : ℕ) → p.component.seals.count ≡ n → p.component.seals.base + p.component.seals.count ≤ 1048576
+    by_count zero e =
+        let P : ℕ → Type 0 = λ n. p.component.seals.base ≤ last_base n in
+        let base : p.component.seals.base ≤ 0 = subst P e h.limits.seals.1 in
+        omega (arith, e, base)
+    by_count (suc n) e =
+        ends p.component.seals.base p.component.seals.count
+        (first (is_past_end p.component.seals.base p.component.seals.count) (has_seal p.component.seals p.component.closure) (kept p h 3 0 (c3 p.component) refl (omega arith)))
+        (omega (arith, e))
 
 -- C12: a trusted part has a seal for each of its sites
 pub twelfth : (p : PartSeen) → p.trusted ≡ true → rule (rules_of p) 12 ≡ Some (c12 p.component)

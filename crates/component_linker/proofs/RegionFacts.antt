@@ -87,7 +87,7 @@ apart_all rs h r q m n =
 abbrev pub whole : ℕ → ℕ → Bool → Region
 whole base count linear = record { base = base; end = base + count - 1; linear = linear }
 
-in_stretch : (base count : ℕ) (linear : Bool) → 1 ≤ count → Contains (region linear (span_of base count)) (whole base count linear)
+pub in_stretch : (base count : ℕ) (linear : Bool) → 1 ≤ count → Contains (region linear (span_of base count)) (whole base count linear)
 in_stretch base count linear h =
     let ne : count ≢ 0 = omega (arith, h) in
     let e : (count == 0) ≡ false = ne_eqb count 0 ne in

@@ -53,7 +53,7 @@ parts_apart parts size kept h = record {
 
 -- ---- sites
 
-same_site : (s t : Site) → s.part ≡ t.part → s.index ≡ t.index → s.seal ≡ t.seal → s.at ≡ t.at → s ≡ t
+pub same_site : (s t : Site) → s.part ≡ t.part → s.index ≡ t.index → s.seal ≡ t.seal → s.at ≡ t.at → s ≡ t
 same_site s t part index seal at = λ i. record { part = part i; index = index i; seal = seal i; at = at i }
 
 of_range : (r : Stretch) (k seal : ℕ) → seal ≡ r.base + k → k < r.count → has_seal r seal ≡ true

@@ -86,7 +86,7 @@ distinct rs pairs = IsDistinct-from_apart near (map region_span rs) (λ i j d lt
     let h = far (get_or rs i D) (get_or rs j D) (pairs i j D lt (omega (arith, in', length-map rs region_span))) in
     subst (λ x. near x (get_or (map region_span rs) j d) ≡ false) (sym a) (subst (λ y. near (region_span (get_or rs i D)) y ≡ false) (sym b) h))
 
-any_region : (a : ℕ) (rs : List Region) → list_any (in_span a) (map region_span rs) ≡ in_regions a rs
+pub any_region : (a : ℕ) (rs : List Region) → list_any (in_span a) (map region_span rs) ≡ in_regions a rs
 any_region a [] = refl
 any_region a (r ∷ rs) = ap (λ b. in_region a r || b) (any_region a rs)
 

@@ -40,12 +40,12 @@ words_of p = p.component.code ++ p.component.data_words
 abbrev pub address_of : PartSeen → ℕ → ℕ
 address_of p i = if nat_lt i (length p.component.code) then p.component.code_base + i else p.component.data_base + (i - length p.component.code)
 
-get_left : (xs ys : List Word) (k : ℕ) (w : Word) → slice_get xs k ≡ Some w → slice_get (xs ++ ys) k ≡ Some w
+pub get_left : (xs ys : List Word) (k : ℕ) (w : Word) → slice_get xs k ≡ Some w → slice_get (xs ++ ys) k ≡ Some w
 get_left [] ys k w h = absurd cc
 get_left (x ∷ xs) ys zero w h = h
 get_left (x ∷ xs) ys (suc k) w h = get_left xs ys k w h
 
-get_right : (xs ys : List Word) (k : ℕ) (w : Word) → slice_get ys k ≡ Some w → slice_get (xs ++ ys) (length xs + k) ≡ Some w
+pub get_right : (xs ys : List Word) (k : ℕ) (w : Word) → slice_get ys k ≡ Some w → slice_get (xs ++ ys) (length xs + k) ≡ Some w
 get_right [] ys k w h = let e : 0 + k ≡ k = omega arith in rw e h
 get_right (x ∷ xs) ys k w h = let e : suc (length xs) + k ≡ suc (length xs + k) = omega arith in rw e (get_right xs ys k w h)
 
@@ -60,7 +60,7 @@ each_at [] b k w h at = absurd cc
 each_at (x ∷ xs) b zero w h at = let e : x ≡ w = cc in subst (λ y. WordFits y × IsUnsealed y) e h.0
 each_at (x ∷ xs) b (suc k) w h at = each_at xs (Some x) k w h.1 at
 
-word_fits : (p : PartSeen) (k : ℕ) (w : Word) → Kept p → slice_get (words_of p) k ≡ Some w → WordFits w × IsUnsealed w
+pub word_fits : (p : PartSeen) (k : ℕ) (w : Word) → Kept p → slice_get (words_of p) k ≡ Some w → WordFits w × IsUnsealed w
 word_fits p k w kept at = elim (get_cases p.component.code p.component.data_words k w at) as (λ _. WordFits w × IsUnsealed w) [
   | inl a ↦ each_at p.component.code None k w kept.limits.code.1 a
   | inr b ↦ each_at p.component.data_words None (k - length p.component.code) w kept.limits.data_words.1 b
@@ -210,7 +210,7 @@ data_cap_in parts size k p kept at =
     let some = kept.limits.data_words.0.0 in
     in_part parts size k p (whole p.component.data_base (length p.component.data_words) false) (data_of p) at (data_in p some) (omega arith) (omega (arith, some)) (omega arith) refl
 
-stack_there : (parts : List PartSeen) (size k : ℕ) (p : PartSeen) → Linked parts size → slice_get parts k ≡ Some p → Contains (region true (stack_span parts size)) (whole (stack_base_of parts) size true)
+pub stack_there : (parts : List PartSeen) (size k : ℕ) (p : PartSeen) → Linked parts size → slice_get parts k ≡ Some p → Contains (region true (stack_span parts size)) (whole (stack_base_of parts) size true)
 stack_there parts size k p linked at = stack_in parts size k p at linked.size_fits (size_bounds size linked.size_fits).0
 
 stack_cap_in : (parts : List PartSeen) (size k : ℕ) (p : PartSeen) → Linked parts size → slice_get parts k ≡ Some p → InOneRegion (regions_of parts size) (stack_of (stack_base_of parts) size)
