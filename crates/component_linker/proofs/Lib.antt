@@ -19,3 +19,4 @@ pub mod SealsKept
 pub mod CodeStands
 pub mod Accepted
 pub mod ExampleParts
+pub mod ExampleLink
