@@ -22,5 +22,6 @@ mod ReturnAgrees
 mod EntryAgrees
 mod OtherAgrees
 pub mod OneStep
+pub mod RunsAgree
 mod Instance
 pub mod invariant

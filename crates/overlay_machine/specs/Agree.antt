@@ -47,12 +47,16 @@ FramesLook l fs = (a : ℕ) (w : OWord) → framed fs a ≡ Some w → face_of (
 abbrev pub Looks : Layout → OState → Type 0
 Looks l o = SameFaces look (λ w. w) (flat l o.frames) o.maps × FramesLook l o.frames
 
--- both go on, to states of which the plain one is the other flattened, both halt, or both fail
+-- both go on, to an overlay and a plain state that have a property together, both halt, or both fail
+abbrev pub EndAlike : (OState → State Word → Type 0) → Ending → Outcome Word → Type 0
+EndAlike Good (goes o) (went t) = Good o t
+EndAlike Good halts halted = Unit {0}
+EndAlike Good fails (failed cause at) = Unit {0}
+EndAlike Good _ _ = ⊥
+
+-- the same, where the plain state is the overlay flattened, and each pair is met
 abbrev pub Agrees : Layout → Ending → Outcome Word → Type 0
-Agrees l (goes o) (went t) = IsFlat l o t × Looks l o
-Agrees l halts halted = Unit {0}
-Agrees l fails (failed cause at) = Unit {0}
-Agrees l _ _ = ⊥
+Agrees l e r = EndAlike (λ o t. IsFlat l o t × Looks l o) e r
 
 -- ---- code that stands
 

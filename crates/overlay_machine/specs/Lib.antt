@@ -5,6 +5,7 @@ pub mod Step
 pub mod Cases
 pub mod Flat
 pub mod Agree
+pub mod Runs
 pub mod Moves
 pub mod Machine
 pub mod Events

@@ -1,4 +1,8 @@
 //! What holds of the overlay's definitions. These functions do nothing; their contracts are the laws.
+ghost use Rattle.std.specs.Prelude.{◌≡◌};
+ghost use Rattle.overlay_machine.specs.declared.layout.Layout.{Layout};
+ghost use Rattle.overlay_machine.specs.State.{OState};
+ghost use Rattle.overlay_machine.specs.Step.{halts, overlay_step, weight_of};
 ghost use Rattle.overlay_machine.specs.Agree.{OneStep, AreMet};
 ghost use Rattle.overlay_machine.specs.Invariant.{StepsKeep};
 
@@ -7,9 +11,11 @@ ghost use Rattle.overlay_machine.specs.Invariant.{StepsKeep};
 /// Let an overlay be ready for its next step, let a plain state be the overlay flattened, and let each
 /// half of a call's pair be of a site or of an open call. Then after the instructions for which the
 /// step stands, both went on and the plain state is the new overlay flattened, both halted, or both
-/// failed: whatever the step is, and whatever words it finds.
+/// failed: whatever the step is, and whatever words it finds. A step that halts stands for one
+/// instruction.
 pub fn one_step_is_its_weight()
-    ensures { OneStep }
+    ensures agrees { OneStep }
+    ensures halts { (l : Layout) (o : OState) → overlay_step l o ≡ halts → weight_of l o ≡ 1 }
 {}
 
 /// Of some overlay all that a step needs is there, and its next step is a call.
