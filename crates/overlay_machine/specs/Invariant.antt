@@ -8,7 +8,7 @@ use Rattle.lcm_machine.specs.declared.Place.{Place}
 use Rattle.lcm_machine.specs.Maps.{Regs, State}
 use Rattle.lcm_machine.specs.Places.{reg}
 use Rattle.lcm_machine.specs.Cells.{cell}
-use Rattle.lcm_machine.specs.Row.{word_at, Outcome, went, halted, failed}
+use Rattle.lcm_machine.specs.Row.{word_at, Outcome}
 use Rattle.lcm_machine.specs.Regions.{HeldOnce}
 use Rattle.lcm_machine.specs.Runs.{run_of}
 use Rattle.component_linker.specs.Parts.{PartSeen}
@@ -22,8 +22,9 @@ use Rattle.overlay_machine.specs.declared.layout.SiteCode.{SiteCode}
 use Rattle.overlay_machine.specs.Words.{look}
 use Rattle.overlay_machine.specs.Layout.{site_code}
 use Rattle.overlay_machine.specs.State.{OpenFrame, OState, Cells, word_of, framed}
-use Rattle.overlay_machine.specs.Step.{Ending, goes, halts, fails, overlay_step, weight_of}
+use Rattle.overlay_machine.specs.Step.{Ending, overlay_step, weight_of}
 use Rattle.overlay_machine.specs.Flat.{IsFlat}
+use Rattle.overlay_machine.specs.Agree.{EndAlike}
 use Rattle.overlay_machine.specs.Link.{Link, IsTrusted, ranges_of, regions, IsStackCell, IsOpenAt, CodeIn}
 use Rattle.overlay_machine.specs.Safe.{IsSafe, IsMet}
 use Rattle.overlay_machine.specs.Linked.{SiteOf, Linked}
@@ -107,10 +108,7 @@ pub record Invariant (g : Link) (o : OState) (t : State Word) : Type 0 where
 -- an overlay step and the plain instructions that it stands for: both go on, to states of which the invariant
 -- holds again, both halt, or both fail
 abbrev pub KeepsAgreeing : Link → Ending → Outcome Word → Type 0
-KeepsAgreeing g (goes q) (went u) = Invariant g q u
-KeepsAgreeing g halts halted = Unit {0}
-KeepsAgreeing g fails (failed cause at) = Unit {0}
-KeepsAgreeing g _ _ = ⊥
+KeepsAgreeing g e r = EndAlike (Invariant g) e r
 
 -- a step keeps the invariant of linked parts, whatever the step and whatever untrusted code there is
 abbrev pub StepsKeep : Type 0

@@ -1,10 +1,16 @@
 //! What holds of the overlay's definitions. These functions do nothing; their contracts are the laws.
-ghost use Rattle.std.specs.Prelude.{◌≡◌};
+ghost use Rattle.std.specs.Prelude.{◌≡◌, ℕ};
+ghost use Rattle.cap_words.specs.declared.Word.{Word};
+ghost use Rattle.lcm_machine.specs.Maps.{State};
+ghost use Rattle.lcm_machine.specs.Row.{went};
 ghost use Rattle.overlay_machine.specs.declared.layout.Layout.{Layout};
 ghost use Rattle.overlay_machine.specs.State.{OState};
 ghost use Rattle.overlay_machine.specs.Step.{halts, overlay_step, weight_of};
 ghost use Rattle.overlay_machine.specs.Agree.{OneStep, AreMet};
-ghost use Rattle.overlay_machine.specs.Invariant.{StepsKeep};
+ghost use Rattle.overlay_machine.specs.Runs.{Reached, plain_run, RunsAgree};
+ghost use Rattle.overlay_machine.specs.Link.{Link};
+ghost use Rattle.overlay_machine.specs.Linked.{Linked};
+ghost use Rattle.overlay_machine.specs.Invariant.{Invariant, StepsKeep};
 
 /// One step of the overlay is as many plain instructions as it weighs.
 ///
@@ -31,4 +37,18 @@ pub fn a_call_may_come()
 /// code is among the parts. docs/OVERLAY.md tells the invariant part by part.
 pub fn steps_keep_the_invariant()
     ensures { StepsKeep }
+{}
+
+/// The run of an overlay and the plain run agree, where the invariant of linked parts holds of the
+/// states that they begin in.
+///
+/// At each matched point the plain state is the overlay flattened, and the invariant holds again. The
+/// one halts exactly where the other does. Where the one fails the other does, the plain run within
+/// the weight of the overlay's step. A plain run that goes stands at a matched point, or less than the
+/// weight of the next step behind it.
+pub fn linked_runs_agree()
+    ensures runs { (g : Link) (o : OState) (t : State Word) → Linked g → Invariant g o t
+        → RunsAgree g.layout o t }
+    ensures kept { (g : Link) (o p : OState) (t : State Word) (j : ℕ) → Linked g → Invariant g o t
+        → Reached g.layout o j p → (u : State Word) × (plain_run j t ≡ went u) × Invariant g p u }
 {}

@@ -211,7 +211,7 @@ module _ (g : Link) (linked : Linked g) (o : OState) (t : State Word) (inv : Inv
   s = at_call i x.site c o
 
   below : (below_any (kind_of at.there C1) ≡ true) × (below_any (kind_of at.there C2) ≡ true) × (below_any (kind_of at.there A0) ≡ true) × (below_any (kind_of at.there A1) ≡ true) × (below_any (kind_of at.there A2) ≡ true)
-    × (below_any (kind_of at.there A3) ≡ true) × (below_any (kind_of at.there G0) ≡ true) × (below_any (kind_of at.there G1) ≡ true) × (below_any (kind_of at.there G2) ≡ true)
+      × (below_any (kind_of at.there A3) ≡ true) × (below_any (kind_of at.there G0) ≡ true) × (below_any (kind_of at.there G1) ≡ true) × (below_any (kind_of at.there G2) ≡ true)
   below = passed_at _ _ _ _ _ _ _ _ _ (passes_on g linked o t inv i p index u ip eu st at)
 
   passed : (d : Reg) → R d ≢ R Stk → below_any (kind_of at.there d) ≡ true → HasKind look (IsSafe g fs) (IsStackCell g fs) (ranges_of p) (kind_of at.there d) (reg o.maps.regs d) → IsSafe g (F ∷ fs) (reg o.maps.regs d)
@@ -274,7 +274,7 @@ module _ (g : Link) (linked : Linked g) (o : OState) (t : State Word) (inv : Inv
   code_out r n ir lt = elim (where_in (r.component.code_base + n) A c.end) as (λ _. (r.component.code_base + n < A) ⊎ (c.end < r.component.code_base + n)) [
     | inl out ↦ out
     | inr inn ↦ absurd (closed g linked r ir (r.component.code_base + n) (omega arith) (in_code g linked r n ir lt)
-      (open_stack_at g linked (r.component.code_base + n) (let a = x.above in let b = inn.0 in omega (arith, a, b)) (let a = top in let b = inn.1 in omega (arith, a, b))))
+        (open_stack_at g linked (r.component.code_base + n) (let a = x.above in let b = inn.0 in omega (arith, a, b)) (let a = top in let b = inn.1 in omega (arith, a, b))))
   ]
 
   cells_after : (a : ℕ) (w : OWord) → IsOpenAt g a → cell x.maps.cells a ≡ Some w → IsSafe g (F ∷ fs) w
@@ -301,6 +301,7 @@ module _ (g : Link) (linked : Linked g) (o : OState) (t : State Word) (inv : Inv
           let ab = x.above in let tp = top in
           let kw : cell m a ≡ Some w = k ∙ ap Some (sym q) in
           pushed_at (Cell a) w kw (λ y. cc) (inv.cells a w (open_stack_at g linked a (omega (arith, ab, lt)) (omega (arith, tp, high))) kw)
+
       at_index : (j : ℕ) → A + suc j ≡ a → a ≤ c.end → IsSafe g (F ∷ fs) w
       at_index j ej high =
           let d : a - A ≡ suc j = omega (arith, ej) in
@@ -317,11 +318,20 @@ module _ (g : Link) (linked : Linked g) (o : OState) (t : State Word) (inv : Inv
   old_fits h k =
       let f = inv.frames_fit h k in
       record {
-        part = f.part; trusted = f.trusted; code = f.code; code_is = f.code_is; index = f.index; site = f.site; there = f.there; row = f.row; to = f.to; first = f.first;
+        part = f.part;
+        trusted = f.trusted;
+        code = f.code;
+        code_is = f.code_is;
+        index = f.index;
+        site = f.site;
+        there = f.there;
+        row = f.row;
+        to = f.to;
+        first = f.first;
         others = λ a w lt e. (let fa = framed_at g.layout m o.calls fs h a w inv.frames k e in
-          let sd = lies_of g.layout m o.calls fs h inv.frames k in
-          let r = word_in_frame g.layout m h a w sd e in
-          pushed w (f.others a w lt e) (all_known.frames a w fa) (off_frame a w (sd.gone a r.0 r.1) fa));
+            let sd = lies_of g.layout m o.calls fs h inv.frames k in
+            let r = word_in_frame g.layout m h a w sd e in
+            pushed w (f.others a w lt e) (all_known.frames a w fa) (off_frame a w (sd.gone a r.0 r.1) fa));
       }
 
   pub call_kept : Stand g q

@@ -49,6 +49,9 @@ module _ (g : Link) (linked : Linked g) (fs : List OpenFrame) (p : PartSeen) (ip
 
   pub stands_clean : (rs : Regs OWord) (o : ℕ) → Leads p.component o clean_row → PcAt look (ranges_of p) o rs → Fits look (IsSafe g fs) (IsStackCell g fs) (ranges_of p) clean_row rs → StandsAt g fs p o rs
   stands_clean rs o l h f = record {
-    there = l.there; inside = l.inside; at_pc = h; row = l.row;
+    there = l.there;
+    inside = l.inside;
+    at_pc = h;
+    row = l.row;
     fits = row_fits look (IsSafe g fs) (IsStackCell g fs) (ranges_of p) (safe_int g fs) (safe_stk g linked fs p ip) clean_row l.there rs l.below f;
   }

@@ -72,10 +72,19 @@ unfolding perform clear
 crossed_effect s r1 r2 code half c e1 e2 q m run nc =
     let b = is_linear (look (reg s.regs r2)) in
     record {
-      code = code; half = half; cap = c; opens_code = e1; opens_half = e2; one_seal = q; memory = m; runs = run; no_code = nc;
-      pc = refl; dat = refl;
+      code = code;
+      half = half;
+      cap = c;
+      opens_code = e1;
+      opens_half = e2;
+      one_seal = q;
+      memory = m;
+      runs = run;
+      no_code = nc;
+      pc = refl;
+      dat = refl;
       others = λ d np nd. (let x : State OWord = if b then put s (R r2) (zero_word Plain) else s in
-        rw (reg-set_other (set_reg x.regs Pc (Plain (Mem c))) Dat d (Plain (unsealed half.content)) nd, reg-set_other x.regs Pc d (Plain (Mem c)) np) (cleared s r2 b d));
+          rw (reg-set_other (set_reg x.regs Pc (Plain (Mem c))) Dat d (Plain (unsealed half.content)) nd, reg-set_other x.regs Pc d (Plain (Mem c)) np) (cleared s r2 b d));
       cells = cleared_cells s r2 b;
     }
 
@@ -88,7 +97,7 @@ pub xjmp_crossed : (s s' : State OWord) (r1 r2 : Reg) (next : Word) → row look
 unfolding row plan_in opens
 xjmp_crossed s s' r1 r2 next e = crossed_plan s s' r1 r2 _
     (Gives-need _ _ _ (λ code e1. Gives-need _ _ _ (λ half e2. Gives-ask _ _ _ (λ q. Gives-need _ _ _ (λ c m. Gives-ask _ _ _ (λ _. Gives-ask _ _ _ (λ run. Gives-ask _ _ _ (λ nc.
-      gives_goes (crossed_effect s r1 r2 code half c e1 e2 (eqb-true code.seal half.seal q) m run nc)))))))))
+    gives_goes (crossed_effect s r1 r2 code half c e1 e2 (eqb-true code.seal half.seal q) m run nc)))))))))
     e
 
 -- ---- halves
@@ -175,6 +184,7 @@ module _ (g : Link) (linked : Linked g) (fs : List OpenFrame) where
     where
       nk : n ≡ k
       nk = seal_is n a code e1 ∙ q ∙ sym (seal_is k b half e2)
+
       by_safe : IsSafe g fs (Plain (Sealed n a)) → IsSafe g fs (Plain (Sealed k b)) → Leads_to c (unsealed half.content)
       by_safe (inl h) (inl j) = to_safe (code_safe n a code c e1 m h.1) (half_safe k b half e2 j.1)
       by_safe (inl h) (inr j) = absurd (closed_half k b j (subst (λ y. IsOpenSeal g y) nk h.0))

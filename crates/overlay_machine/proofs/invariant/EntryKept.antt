@@ -147,8 +147,12 @@ module _ (g : Link) (linked : Linked g) (o : OState) (t : State Word) (inv : Inv
       let part = linked.parts p ip.0 in
       subst (λ x. Stand g x) (sym k.2) (record {
         pc = at_row p (off + 20) ip (stands_clean g linked fs p ip (after a (code_at (ranges_of p) off) c) (off + 20) (entry_flows p.component part.limits (part.flow ip.1) off en)
-          (ap (λ y. Mem (record (code_at (ranges_of p) 0) { addr = pos y })) far) fits);
-        stack = inv.stack; code = inv.code; cells = inv.cells; frames = inv.frames; frames_fit = inv.frames_fit;
+            (ap (λ y. Mem (record (code_at (ranges_of p) 0) { addr = pos y })) far) fits);
+        stack = inv.stack;
+        code = inv.code;
+        cells = inv.cells;
+        frames = inv.frames;
+        frames_fit = inv.frames_fit;
       })
     where
       each : (c : CapFields) → IsSafeCap g fs (record c { addr = pos c.end }) → ((d : Reg) → is_pc d ≡ false → HasKind look (IsSafe g fs) (IsStackCell g fs) (ranges_of p) (kind_of entry_row d) (reg o.maps.regs d)) → (d : Reg) → is_pc d ≡ false → d ≢ Dat → IsSafe g fs (reg (after a (code_at (ranges_of p) off) c) d)

@@ -71,9 +71,9 @@ word_in_frame l m f a w s e = elim (cases_lt a f.base) as (λ _. (f.base ≤ a) 
   | inl lt ↦ (let none = word_of-below f a lt in let bad : None ≡ Some w = sym none ∙ e in cc)
   | inr ge ↦ elim (cases_lt f.end a) as (λ _. (f.base ≤ a) × (a ≤ f.end)) [
     | inl gt ↦ (let long = s.words in
-      let past : length f.words ≤ a - f.base = (let o = s.order in omega (arith, long, gt, o)) in
-      let none : word_of f a ≡ None = word_of-within f a ge ∙ slice_get_past f.words (a - f.base) past in
-      let bad : None ≡ Some w = sym none ∙ e in cc)
+        let past : length f.words ≤ a - f.base = (let o = s.order in omega (arith, long, gt, o)) in
+        let none : word_of f a ≡ None = word_of-within f a ge ∙ slice_get_past f.words (a - f.base) past in
+        let bad : None ≡ Some w = sym none ∙ e in cc)
     | inr le ↦ (ge, le)
   ]
 ]
@@ -124,11 +124,11 @@ unframed l m n fs a h never = by_word (framed fs a) refl
 pub frames_same : (l : Layout) (m m' : Cells) (n : ℕ) (fs : List OpenFrame) → ((q : ℕ) → cell m q ≡ None → cell m' q ≡ None) → FramesLie l m n fs → FramesLie l m' n fs
 frames_same l m m' n [] h k = tt
 frames_same l m m' n (f ∷ fs) h k = (
-    record { above = (k.0).above; order = (k.0).order; within = (k.0).within; words = (k.0).words; gone = λ a low high. h a ((k.0).gone a low high) },
-    k.1,
-    k.2,
-    frames_same l m m' f.call fs h k.3,
-  )
+  record { above = (k.0).above; order = (k.0).order; within = (k.0).within; words = (k.0).words; gone = λ a low high. h a ((k.0).gone a low high) },
+  k.1,
+  k.2,
+  frames_same l m m' f.call fs h k.3,
+)
 
 -- no older frame has an address of the newest
 pub frames_apart : (l : Layout) (m : Cells) (n : ℕ) (f : OpenFrame) (fs : List OpenFrame) (a : ℕ) (w : OWord) → FramesLie l m n (f ∷ fs) → framed fs a ≡ Some w → word_of f a ≡ None

@@ -64,9 +64,9 @@ call_keeps l i a e o there low high top k = (
     lies (f ∷ fs) k = elim (cases_lt e f.base) as (λ _. e < f.base) [
       | inl lt ↦ lt
       | inr ge ↦ (let b : l.stack.base < f.base = (k.0).above in
-        let none = (k.0).gone f.base (omega arith) (k.0).order in
-        let some : is_some (cell o.maps.cells f.base) ≡ true = there f.base (omega (arith, b)) ge in
-        let bad : is_some {T = OWord} None ≡ true = sym (ap is_some none) ∙ some in cc)
+          let none = (k.0).gone f.base (omega arith) (k.0).order in
+          let some : is_some (cell o.maps.cells f.base) ≡ true = there f.base (omega (arith, b)) ge in
+          let bad : is_some {T = OWord} None ≡ true = sym (ap is_some none) ∙ some in cc)
     ]
 
 -- a return

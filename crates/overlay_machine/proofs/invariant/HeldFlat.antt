@@ -53,7 +53,7 @@ module _ (rs : List Region) (l : Layout) (o : OState) (t : State Word) (m : IsFl
       let fits = held.0 (R C2) (reg t.regs C2) refl d (ap memory_of (m.regs C2) ∙ e) in
       let order = fits.3 in
       let same : R Stk ≡ R C2 = one_holder (R Stk) (R C2) (reg t.regs Stk) (reg t.regs C2) c d d.base refl (ap memory_of (m.regs Stk ∙ flat-mem l o.frames o.maps.regs.stk c es)) refl (ap memory_of (m.regs C2) ∙ e)
-          (omega (arith, low, eb)) (omega (arith, high, ee)) (omega arith) order low (omega (arith, high, le)) in
+      (omega (arith, low, eb)) (omega (arith, high, ee)) (omega arith) order low (omega (arith, high, le)) in
       cc
 
   module _ (n : ℕ) (f : OpenFrame) (s : SiteCode) (ef : frame_of o.frames n ≡ Some f) (es : site_code l f.site ≡ Some s) (low : l.stack.base ≤ f.base) (order : f.base ≤ f.end) (high : f.end ≤ l.stack.end) where
@@ -66,7 +66,7 @@ module _ (rs : List Region) (l : Layout) (o : OState) (t : State Word) (m : IsFl
     other_word p q (RetCode i) ep eq ne = tt
     other_word p q (RetData j) ep eq ne = λ same.
         ne (one_holder q p _ _ (stack_cap f.base f.end f.base) (stack_cap f.base f.end f.base) f.base
-          (eq ∙ ap (λ x. Some (flat l o.frames (RetData x))) same) half_is ep half_is (omega arith) order (omega arith) order low (omega (arith, order, high)))
+        (eq ∙ ap (λ x. Some (flat l o.frames (RetData x))) same) half_is ep half_is (omega arith) order (omega arith) order low (omega (arith, order, high)))
 
     -- the RetData of an open call stands in one place
     pub one_place : (r : Reg) → reg o.maps.regs r ≡ RetData n → (p : Place) (w : OWord) → word_at o.maps p ≡ Some w → p ≢ R r → IsOther n w

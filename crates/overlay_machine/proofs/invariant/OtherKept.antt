@@ -93,10 +93,10 @@ module _ (g : Link) (linked : Linked g) where
       let a = plain_is (reg s.regs r1) p1 in
       let b = plain_is (reg s.regs r2) p2 in
       crossed_pc g linked fs s'.regs x.cap (unsealed x.half.content)
-        (leads_to g linked fs a.0 b.0 x.code x.half x.cap (subst (λ w. IsSafe g fs w) a.1 s1) (subst (λ w. IsSafe g fs w) b.1 s2)
-          (sym (ap (λ w. opened_of (look w)) a.1) ∙ x.opens_code) (sym (ap (λ w. opened_of (look w)) b.1) ∙ x.opens_half) x.one_seal x.memory x.runs x.no_code)
-        x.pc x.dat
-        (λ d np nd. elim (x.others d np nd) as (λ _. IsSafe g fs (reg s'.regs d)) [ inl e ↦ subst (λ w. IsSafe g fs w) (sym e) (shown d np nd) | inr e ↦ subst (λ w. IsSafe g fs w) (sym e) tt ])
+      (leads_to g linked fs a.0 b.0 x.code x.half x.cap (subst (λ w. IsSafe g fs w) a.1 s1) (subst (λ w. IsSafe g fs w) b.1 s2)
+      (sym (ap (λ w. opened_of (look w)) a.1) ∙ x.opens_code) (sym (ap (λ w. opened_of (look w)) b.1) ∙ x.opens_half) x.one_seal x.memory x.runs x.no_code)
+      x.pc x.dat
+      (λ d np nd. elim (x.others d np nd) as (λ _. IsSafe g fs (reg s'.regs d)) [ inl e ↦ subst (λ w. IsSafe g fs w) (sym e) (shown d np nd) | inr e ↦ subst (λ w. IsSafe g fs w) (sym e) tt ])
 
   module _ (o : OState) (t : State Word) (inv : Invariant g o t) where
     abbrev fs : List OpenFrame
@@ -154,18 +154,18 @@ module _ (g : Link) (linked : Linked g) where
           → row look Plain n next o.maps ≡ went s' → Other ≡ case_fetched o.maps (some n next) → RowKept s'
       untrusted s' n next f e c = elim (is_xjmp n) as (λ _. RowKept s') [
         | inl x ↦ (let ex : row look Plain (Xjmp x.0 x.1) next o.maps ≡ went s' = sym (ap (λ i. row look Plain i next o.maps) x.2) ∙ e in
-          let cr = xjmp_crossed o.maps s' x.0 x.1 next ex in
-          let pl = plain_both o.maps x.0 x.1 next (sym (c ∙ ap (λ i. case_fetched o.maps (some i next)) x.2)) in
-          record {
-            pc = cross_safe fs o.maps s' x.0 x.1 pl.0 pl.1 (safe x.0) (safe x.1) (λ d np nd. safe d) cr;
-            others = others_of s' (there_same o.maps s' (row_cells look Plain o.maps s' n next e)) (same_row s' n next e) (λ a w op h. inv.cells a w op (sym (ap (λ y. cell y a) cr.cells) ∙ h));
-          })
+            let cr = xjmp_crossed o.maps s' x.0 x.1 next ex in
+            let pl = plain_both o.maps x.0 x.1 next (sym (c ∙ ap (λ i. case_fetched o.maps (some i next)) x.2)) in
+            record {
+              pc = cross_safe fs o.maps s' x.0 x.1 pl.0 pl.1 (safe x.0) (safe x.1) (λ d np nd. safe d) cr;
+              others = others_of s' (there_same o.maps s' (row_cells look Plain o.maps s' n next e)) (same_row s' n next e) (λ a w op h. inv.cells a w op (sym (ap (λ y. cell y a) cr.cells) ∙ h));
+            })
         | inr never ↦ (let ns = next_safe n next f in
-          let k = after_went (AllAre (IsSafe g fs) (IsOpenAt g)) _ s' (row_keeps look Plain (IsSafe g fs) (IsOpenAt g) (safe_closed g linked fs) o.maps all next ns n (opens_none n never) (target_open n)) e in
-          record {
-            pc = outside k.0;
-            others = others_of s' (there_same o.maps s' (row_cells look Plain o.maps s' n next e)) (same_row s' n next e) k.1;
-          })
+            let k = after_went (AllAre (IsSafe g fs) (IsOpenAt g)) _ s' (row_keeps look Plain (IsSafe g fs) (IsOpenAt g) (safe_closed g linked fs) o.maps all next ns n (opens_none n never) (target_open n)) e in
+            record {
+              pc = outside k.0;
+              others = others_of s' (there_same o.maps s' (row_cells look Plain o.maps s' n next e)) (same_row s' n next e) k.1;
+            })
       ]
 
     -- ---- trusted code outside sequences
@@ -179,9 +179,9 @@ module _ (g : Link) (linked : Linked g) where
         let a = plain_is (reg o.maps.regs r1) pl.0 in
         let b = plain_is (reg o.maps.regs r2) pl.1 in
         crossed_pc g linked fs s'.regs x (unsealed half.content)
-          (leads_to g linked fs a.0 b.0 code half x (subst (λ w. IsSafe g fs w) a.1 s1) (subst (λ w. IsSafe g fs w) b.1 s2)
-            (sym (ap (λ w. opened_of (look w)) a.1) ∙ e1) (sym (ap (λ w. opened_of (look w)) b.1) ∙ e2) (eqb-true code.seal half.seal same) mc run nc)
-          pc dat (λ d np nd. others d (pc_false d np) nd)
+        (leads_to g linked fs a.0 b.0 code half x (subst (λ w. IsSafe g fs w) a.1 s1) (subst (λ w. IsSafe g fs w) b.1 s2)
+        (sym (ap (λ w. opened_of (look w)) a.1) ∙ e1) (sym (ap (λ w. opened_of (look w)) b.1) ∙ e2) (eqb-true code.seal half.seal same) mc run nc)
+        pc dat (λ d np nd. others d (pc_false d np) nd)
 
     fails_not : (next : Word) (s' : State OWord) → fetch (faces look o.maps Pc) (cell_faces look o.maps) ≡ some Fail next → step_of look Plain o.maps ≡ went s' → ⊥
     unfolding step_of row plan_in

@@ -69,7 +69,16 @@ module _ (g : Link) (f : OpenFrame) (fs : List OpenFrame) where
 
   pub fits_popped : (h : OpenFrame) → ((a : ℕ) (w : OWord) → word_of h a ≡ Some w → IsOther f.call w) → FrameFits g (f ∷ fs) h → FrameFits g fs h
   fits_popped h others k = record {
-    part = k.part; trusted = k.trusted; code = k.code; code_is = k.code_is; index = k.index; site = k.site; there = k.there; row = k.row; to = k.to; first = k.first;
+    part = k.part;
+    trusted = k.trusted;
+    code = k.code;
+    code_is = k.code_is;
+    index = k.index;
+    site = k.site;
+    there = k.there;
+    row = k.row;
+    to = k.to;
+    first = k.first;
     others = λ a w lt e. popped w (k.others a w lt e) (others a w e);
   }
 

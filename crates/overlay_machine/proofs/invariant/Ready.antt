@@ -114,6 +114,7 @@ module _ (g : Link) (linked : Linked g) where
     where
       by_half : (k : IsTrustedHalf g (Sealed n c)) → n ≡ s.seal → ⊥
       by_half k e = linked.return_other i s k.0.part q k.1 (sym (half_seal g linked fs k.0 n c k.3) ∙ e)
+
       by_safe : IsSafe g fs (Plain (Sealed n c)) → n ≡ s.seal → ⊥
       by_safe (inl k) e = linked.return_closed i s q (subst (λ y. IsOpenSeal g y) e k.0)
       by_safe (inr k) e = by_half k e
@@ -330,14 +331,15 @@ module _ (g : Link) (linked : Linked g) where
       where
         cap : IsSafeCap g fs c
         cap = mem_safe g fs o.maps.regs.stk c es safe
+
         by_frames : (xs : List OpenFrame) → fs ≡ xs → frame_of xs n ≡ Some f → FramesLie g.layout o.maps.cells o.calls xs → (gs : List OpenFrame) × (fs ≡ f ∷ gs) × (n ≡ f.call)
         by_frames [] e h fr = absurd (frame_none n f h)
         by_frames (x ∷ xs) e h fr = elim (frame_of-cons x xs n f h) as (λ _. (gs : List OpenFrame) × (fs ≡ f ∷ gs) × (n ≡ f.call)) [
           | inl q ↦ (xs, e ∙ ap (λ y. y ∷ xs) q.1, sym q.0 ∙ ap (λ y. y.call) q.1)
           | inr q ↦ (let below = below_all g.layout o.maps.cells o.calls x xs f fr (frame_in xs n f q.1).0 in
-            let s = fr.0 in let ab = s.above in let od = s.order in
-            let nothing : framed fs x.base ≡ None = cap.free x.base (omega (arith, ab, eb)) (omega (arith, below, ee, od)) in
-            absurd (framed_in g.layout o.maps.cells o.calls (x ∷ xs) x x.base fr (contains_first x xs) (omega arith) od (sym (ap (λ y. framed y x.base) e) ∙ nothing)))
+              let s = fr.0 in let ab = s.above in let od = s.order in
+              let nothing : framed fs x.base ≡ None = cap.free x.base (omega (arith, ab, eb)) (omega (arith, below, ee, od)) in
+              absurd (framed_in g.layout o.maps.cells o.calls (x ∷ xs) x x.base fr (contains_first x xs) (omega arith) od (sym (ap (λ y. framed y x.base) e) ∙ nothing)))
         ]
 
     pub back_ready : (r1 r2 : Reg) (next : Word) → fetch (faces look o.maps Pc) (cell_faces look o.maps) ≡ some (Xjmp r1 r2) next
@@ -370,6 +372,7 @@ module _ (g : Link) (linked : Linked g) where
             let s = lies_of g.layout o.maps.cells o.calls fs c.0 inv.frames k in
             let f = inv.frames_fit c.0 k in
             (c.0, f.code, c.1, f.code_is, (let a = s.above in omega (arith, a)), s.order, s.within)
+
         gone : (a : ℕ) (w : OWord) → framed fs a ≡ Some w → cell o.maps.cells a ≡ None
         gone a w ew =
             let b = framed_by fs a w ew in

@@ -74,7 +74,10 @@ return_goes l r1 r2 o q (RetCode i) (RetData k) (f ∷ fs) e1 e2 ef h =
     let d = ask_goes _ _ q c.2 in
     let ei : i ≡ f.site = eqb-true i f.site ab.1 in
     record {
-      site = b.0; cap = c.0; frame = f; older = fs;
+      site = b.0;
+      cap = c.0;
+      frame = f;
+      older = fs;
       code_is = e1 ∙ ap RetCode ei;
       data_is = e2 ∙ ap RetData (eqb-true k f.call ab.0);
       frames_are = ef;
@@ -164,11 +167,17 @@ module _ (g : Link) (linked : Linked g) (o : OState) (t : State Word) (inv : Inv
       let ab = lies.above in
       let od = lies.order in
       let top = lies.within in
-      let j = x.joins in
-      (omega (arith, sb, ab, od), (λ a low high. (omega (arith, sb, low), omega (arith, high, top), elim (cases_lt a F.base) as (λ _. framed gs a ≡ None) [
-        | inl lt ↦ none_rest F gs a (cap_safe.free a (let b = base_is in omega (arith, sb, b, low)) (omega (arith, lt, j)))
-        | inr ge ↦ older_free a ge high
-      ])))
+      let j = x.joins in (
+        omega (arith, sb, ab, od),
+        (λ a low high. (
+          omega (arith, sb, low),
+          omega (arith, high, top),
+          elim (cases_lt a F.base) as (λ _. framed gs a ≡ None) [
+            | inl lt ↦ none_rest F gs a (cap_safe.free a (let b = base_is in omega (arith, sb, b, low)) (omega (arith, lt, j)))
+            | inr ge ↦ older_free a ge high
+          ],
+        )),
+      )
 
   abbrev zeroed : Regs OWord
   zeroed = set_reg o.maps.regs r2 (zero_word Plain)
@@ -189,7 +198,7 @@ module _ (g : Link) (linked : Linked g) (o : OState) (t : State Word) (inv : Inv
   zeroed_safe d p ne = elim (cases_reg d r2) as (λ _. IsSafe g gs (reg zeroed d)) [
     | inl e ↦ subst (λ w. IsSafe g gs w) (sym (ap (reg zeroed) e ∙ reg-set_same o.maps.regs r2 (zero_word Plain))) tt
     | inr nq ↦ subst (λ w. IsSafe g gs w) (sym (reg-set_other o.maps.regs r2 d (zero_word Plain) nq))
-      (popped g F gs (reg o.maps.regs d) (here _ (shown d p ne)) (rd.one_place F.call (R d) (reg o.maps.regs d) x.data_is refl (λ e. nq (reg_of_place d r2 e))))
+        (popped g F gs (reg o.maps.regs d) (here _ (shown d p ne)) (rd.one_place F.call (R d) (reg o.maps.regs d) x.data_is refl (λ e. nq (reg_of_place d r2 e))))
   ]
     where
       reg_of_place : (a b : Reg) → R a ≡ R b → a ≡ b
@@ -239,7 +248,7 @@ module _ (g : Link) (linked : Linked g) (o : OState) (t : State Word) (inv : Inv
       let ei : x.site.end ≡ (ranges_of fit.part).code_last = ap (λ y. y.end) (sym same_site) ∙ st.end_is in
       let far : x.site.at + 26 ≡ (ranges_of fit.part).code_base + (off + 26) = (let a = st.at_is in let b = ap (λ y. y.at) same_site in omega (arith, a, b)) in
       stands_clean g linked gs fit.part fit.trusted after (off + 26) leads (ap Mem (code_cap_is _ _ _ _ _ _ bi ei far))
-        (clean_fits g linked gs fit.part fit.trusted after F.end (pos F.base) fit.to stk_is up (ap look first_is) refl refl safe_after)
+      (clean_fits g linked gs fit.part fit.trusted after F.end (pos F.base) fit.to stk_is up (ap look first_is) refl refl safe_after)
 
   -- ---- cells
 
@@ -270,10 +279,11 @@ module _ (g : Link) (linked : Linked g) (o : OState) (t : State Word) (inv : Inv
           let v = has_word g.layout m F a lies low high in
           let d : a - F.base ≡ suc i = omega (arith, e) in
           let at : slice_get (rest_words F.words) i ≡ Some v.0 = sym (word_of-within F a low ∙ ap (slice_get F.words) d ∙ ap (λ ys. slice_get ys (suc i)) words_are) ∙ v.1 in
-          let inside : suc i < length ws = (let l = long in omega (arith, l, e, high)) in
-          (v.0,
+          let inside : suc i < length ws = (let l = long in omega (arith, l, e, high)) in (
+            v.0,
             subst (λ y. cell back_cells y ≡ Some v.0) e (put_back-in m F.base ws (suc i) inside ∙ at),
-            popped g F gs v.0 (fit.others a v.0 lt v.1) (other_in a v.0 (framed_at g.layout m o.calls (F ∷ gs) F a v.0 k (contains_first F gs) v.1)))
+            popped g F gs v.0 (fit.others a v.0 lt v.1) (other_in a v.0 (framed_at g.layout m o.calls (F ∷ gs) F a v.0 k (contains_first F gs) v.1)),
+          )
 
   frame_out : (a : ℕ) → (a < F.base) ⊎ (F.end < a) → word_of F a ≡ None
   frame_out a out = by_word (word_of F a) refl
@@ -299,7 +309,7 @@ module _ (g : Link) (linked : Linked g) (o : OState) (t : State Word) (inv : Inv
   code_out p n ip lt = elim (where_in (p.component.code_base + n) F.base F.end) as (λ _. (p.component.code_base + n < F.base) ⊎ (F.end < p.component.code_base + n)) [
     | inl out ↦ out
     | inr inn ↦ absurd (closed g linked p ip (p.component.code_base + n) (omega arith) (in_code g linked p n ip lt)
-      (open_stack_at g linked (p.component.code_base + n) (let a = lies.above in let b = inn.0 in omega (arith, a, b)) (let a = lies.within in let b = inn.1 in omega (arith, a, b))))
+        (open_stack_at g linked (p.component.code_base + n) (let a = lies.above in let b = inn.0 in omega (arith, a, b)) (let a = lies.within in let b = inn.1 in omega (arith, a, b))))
   ]
 
   cells_after : (a : ℕ) (w : OWord) → IsOpenAt g a → cell back_cells a ≡ Some w → IsSafe g gs w
@@ -316,5 +326,5 @@ module _ (g : Link) (linked : Linked g) (o : OState) (t : State Word) (inv : Inv
     cells = cells_after;
     frames = frames_up g.layout back_cells F.call o.calls gs (let c = k.1 in omega (arith, c)) (return_keeps g.layout m o.calls F gs ws long k);
     frames_fit = λ h c. fits_popped g F gs h (λ a w e. other_in a w (framed_at g.layout m o.calls (F ∷ gs) h a w k (contains_rest F h gs c) e))
-      (subst (λ y. FrameFits g y h) x.frames_are (inv.frames_fit h (in_all h (contains_rest F h gs c))));
+        (subst (λ y. FrameFits g y h) x.frames_are (inv.frames_fit h (in_all h (contains_rest F h gs c))));
   })

@@ -25,6 +25,7 @@ target_bounds (Memory c) a e = let b = by_cover (covers c c.addr) refl e in (c, 
     by_addr : (z : ℤ) → covers c z ≡ true → (c.base ≤ address z) × (address z ≤ c.end)
     by_addr (pos n) h = let k = and_parts (nat_le c.base n) (nat_le n c.end) h in (leb-true c.base n k.0, leb-true n c.end k.1)
     by_addr (negsuc n) h = cc
+
     by_cover : (b : Bool) → covers c c.addr ≡ b → (if b then Some (address c.addr) else None) ≡ Some a → (c.base ≤ a) × (a ≤ c.end)
     by_cover true m h = let q : address c.addr ≡ a = cc in rw q at (by_addr c.addr m)
     by_cover false m h = cc

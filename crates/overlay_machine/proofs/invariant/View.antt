@@ -51,7 +51,7 @@ pub data View (g : Link) (fs : List OpenFrame) (s : State OWord) : Case → Type
   at_site : {i : ℕ} (p : PartSeen) (index : ℕ) (u : SiteCode) → IsTrusted g p → site_code g.layout i ≡ Some u → (st : SiteOf p index u) → StandsAt g fs p st.offset s.regs → View g fs s (Call i)
   at_entry : {a : ℕ} (p : PartSeen) (o : ℕ) → IsTrusted g p → a ≡ p.component.code_base + o → begins_entry p.component o ≡ true → StandsAt g fs p o s.regs → View g fs s (Entry a)
   in_part : {c : Case} (p : PartSeen) (o : ℕ) → IsTrusted g p → begins_entry p.component o ≡ false → begins_site p.component o ≡ false → StandsAt g fs p o s.regs
-    → c ≡ case_fetched s (fetch (faces look s Pc) (cell_faces look s)) → View g fs s c
+      → c ≡ case_fetched s (fetch (faces look s Pc) (cell_faces look s)) → View g fs s c
   failing : (next : Word) (p : PartSeen) (o : ℕ) → IsTrusted g p → o < length p.component.code → PcAt look (ranges_of p) o s.regs → fetch (faces look s Pc) (cell_faces look s) ≡ some Fail next → View g fs s Other
   out : {c : Case} → ((r : Reg) → IsSafe g fs (reg s.regs r)) → c ≡ case_fetched s (fetch (faces look s Pc) (cell_faces look s)) → View g fs s c
 
@@ -104,9 +104,11 @@ module _ (g : Link) (linked : Linked g) where
         by_owner c (Some x) e q =
             let k = linked.owners c x q in
             absurd (not_trusted g linked fs k.0 c k.1 (mem_safe g fs s.regs.pc c e h) (ap (λ x. x.base) k.2) (ap (λ x. x.end) k.2))
+
         by_sealed : (o : ℕ) (c : Sealable) → trusted_at g.layout (face_of (Sealed o c)) ≡ None
         by_sealed o (MemIn m) = refl
         by_sealed o (SealIn m) = refl
+
         by_look : (x : Word) → look s.regs.pc ≡ x → trusted_at g.layout (face_of x) ≡ None
         by_look (Int z) e = refl
         by_look (Mem c) e = by_owner c (find (runs_in c) g.layout.owners) e refl
@@ -120,9 +122,11 @@ module _ (g : Link) (linked : Linked g) where
         let lt = (linked.fails p o ip f).0 in
         let w = stands p s.cells (code p ip) (p.component.code_base + o) o refl (Fail ∷ []) (linked.fails p o ip f).1 in
         let low : p.component.code_base ≤ p.component.code_base + o = omega arith in
-        let high : p.component.code_base + o ≤ (ranges_of p).code_last = in_code g linked p o ip lt in
-        (Mem (record (code_at (ranges_of p) o) { addr = pos (p.component.code_base + o) +ℤ pos 1 }), rw h (fetch_some (Memory (code_at (ranges_of p) o)) (cell_faces look s) (code_at (ranges_of p) o) (p.component.code_base + o) (pos (number_of Fail)) Fail refl refl refl
-          (rw (le-leb p.component.code_base (p.component.code_base + o) low, le-leb (p.component.code_base + o) (ranges_of p).code_last high) refl) w.0 (decode_of-number_of Fail tt)))
+        let high : p.component.code_base + o ≤ (ranges_of p).code_last = in_code g linked p o ip lt in (
+          Mem (record (code_at (ranges_of p) o) { addr = pos (p.component.code_base + o) +ℤ pos 1 }),
+          rw h (fetch_some (Memory (code_at (ranges_of p) o)) (cell_faces look s) (code_at (ranges_of p) o) (p.component.code_base + o) (pos (number_of Fail)) Fail refl refl refl
+              (rw (le-leb p.component.code_base (p.component.code_base + o) low, le-leb (p.component.code_base + o) (ranges_of p).code_last high) refl) w.0 (decode_of-number_of Fail tt)),
+        )
 
     fail_no_site : (p : PartSeen) (o index : ℕ) (u : SiteCode) → IsTrusted g p → p.component.fail_at ≡ Some o → (st : SiteOf p index u) → st.offset ≡ o → ⊥
     unfolding call_code
