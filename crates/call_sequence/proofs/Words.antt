@@ -1,8 +1,7 @@
 -- What doesn't differ from some code is that code, word by word.
-use Rattle.std.proofs.Common.{◌≡◌, ℕ, zero, suc, ◌+◌, Bool, true, false, List, [], ◌∷◌, Option, Some, None, refl, sym, ap, ◌∙◌, arith, cond}
+use Rattle.std.proofs.Common.{◌≡◌, ℕ, zero, suc, ◌+◌, Bool, true, false, List, [], ◌∷◌, Option, Some, None, refl, ap, arith}
 use Rattle.std.specs.Prelude.{ℤ, pos, slice_get, slice_index, nat_le, not, is_some, ◌&&◌, if◌then◌else◌, length}
 use Rattle.std.specs.Option.{option_or}
-use Rattle.std.specs.Ordering.{int_eq}
 use Rattle.std.proofs.lemmas.Bool.Decides.{Decides-int_eq}
 use Rattle.cap_words.specs.declared.Word.{Word}
 use Rattle.cap_words.specs.declared.Word.TheVariants.{Int, Mem, Seal, Sealed}
@@ -10,8 +9,8 @@ use Rattle.lcm_isa.specs.declared.Instr.{Instr}
 use Rattle.lcm_isa.specs.Numbers.{number_of}
 use Rattle.component_file.specs.declared.component.ComponentFields.{ComponentFields}
 use Rattle.call_sequence.specs.declared.TheConstants.{CALL_WORDS, SITE_WORDS, ENTRY_WORDS}
-use Rattle.call_sequence.specs.Sequences.{call_code, return_code, entry_code, numbers}
-use Rattle.call_sequence.specs.Standing.{is_int, difference, code_difference, sequence_difference, site_difference, is_site, is_entry, CodeStands, SiteStands, EntryStands}
+use Rattle.call_sequence.specs.Sequences.{call_code, return_code, entry_code}
+use Rattle.call_sequence.specs.Standing.{is_int, code_difference, sequence_difference, site_difference, is_site, is_entry, CodeStands, SiteStands, EntryStands}
 
 int_is : (o : Option Word) (z : ℤ) → is_int o z ≡ true → o ≡ Some (Int z)
 int_is None z e = cc

@@ -1,5 +1,5 @@
 //! Whether sequences stand in a component's code.
-ghost use Rattle.std.specs.Prelude.{◌≡◌, ◌<◌, ◌≤◌, ◌+◌, ◌^◌, length, IsSome, slice_index, slice_get};
+ghost use Rattle.std.specs.Prelude.{◌≡◌, ◌<◌, ◌≤◌, ◌+◌, ◌^◌, length, slice_index, slice_get};
 ghost use Rattle.component_file.specs.Limits.{IsComponent};
 ghost use Rattle.call_sequence.specs.Standing.{is_int, difference, sequence_difference, site_difference, is_site, is_entry};
 
@@ -69,15 +69,12 @@ pub fn site_difference(c: &Component, index: u32) -> Option<u32>
 }
 
 /// Whether the words of a call and of a return stand at a site, the call as that of the site's
-/// index. It takes no memory.
+/// index. They never do where the `fail` or the literal has no offset. It takes no memory.
 ///
-/// The site of that index must be there, and so must be the offsets of the `fail` and of the
-/// literal.
+/// The site of that index must be there.
 #[tactic(auto, unfolding(crate::specs::Standing::is_site))]
 pub fn is_site(c: &Component, index: u32) -> bool
     requires index_fits { index < length c.now.sites }
-    requires fail_given { IsSome c.now.fail_at }
-    requires literal_given { IsSome c.now.literal_at }
     ensures { result ≡ is_site c.now index }
 {
     let fields = c.fields();

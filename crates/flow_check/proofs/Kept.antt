@@ -1,19 +1,19 @@
 -- An instruction that goes leaves registers that fit the row after it.
-use Rattle.std.proofs.Common.{◌≡◌, ◌≢◌, ℕ, zero, suc, ◌+◌, ◌<◌, ◌≤◌, ◌⊎◌, inl, inr, Bool, true, false, List, [], ◌∷◌, length, get_or, Option, Some, None, refl, sym, ap, ◌∙◌, subst, arith, ℤ, pos, negsuc, ◌+ℤ◌, ◌-ℤ◌}
-use Rattle.std.specs.Prelude.{if◌then◌else◌, unwrap_or, ◌&&◌, ◌||◌, not, nat_le, int_lt, ◌==◌}
+use Rattle.std.proofs.Common.{◌≡◌, ◌≢◌, ℕ, zero, suc, ◌+◌, ◌<◌, ◌≤◌, ◌⊎◌, inl, inr, Bool, true, false, List, [], ◌∷◌, length, get_or, Option, Some, None, refl, sym, ap, ◌∙◌, subst, arith, ℤ, pos, negsuc, ◌+ℤ◌}
+use Rattle.std.specs.Prelude.{if◌then◌else◌, unwrap_or, not, nat_le, ◌==◌}
 use Rattle.std.specs.Ordering.{nat_cmp}
 use Rattle.std.specs.FinMap.{FinMap}
 use Rattle.std.proofs.lemmas.Bool.{cases_eq, leb-true}
 use Rattle.cap_words.specs.declared.Word.{Word}
-use Rattle.cap_words.specs.declared.Word.TheVariants.{Int, Mem, Seal}
+use Rattle.cap_words.specs.declared.Word.TheVariants.{Int, Mem}
 use Rattle.cap_words.specs.declared.CapFields.{CapFields}
 use Rattle.cap_words.specs.declared.SealFields.{SealFields}
 use Rattle.cap_words.specs.declared.Opened.{Opened}
 use Rattle.cap_words.specs.declared.Face.{Face}
-use Rattle.cap_words.specs.declared.Face.TheVariants.{Number, Memory, Seals, Sealed}
+use Rattle.cap_words.specs.declared.Face.TheVariants.{Memory, Seals}
 use Rattle.cap_words.specs.Linear.{is_linear, zero_word}
 use Rattle.cap_words.specs.Face.{face_of, opened_of}
-use Rattle.cap_words.specs.Faces.{covers, address, target_of, memory_in, may_write, may_read, may_run, int_in, face_linear, face_number, face_address, face_base, face_end, face_perm}
+use Rattle.cap_words.specs.Faces.{covers, address, target_of, may_run}
 use Rattle.component_file.specs.declared.component.Kind.{Kind}
 use Rattle.component_file.specs.declared.component.Kind.TheVariants as kind
 use Rattle.lcm_isa.specs.declared.Reg.{Reg}
@@ -22,28 +22,26 @@ use Rattle.lcm_isa.specs.declared.Operand.{Operand}
 use Rattle.lcm_isa.specs.declared.Operand.TheVariants.{R as InReg, Imm}
 use Rattle.lcm_isa.specs.declared.Instr.{Instr}
 use Rattle.lcm_isa.specs.declared.Instr.TheVariants.{Fail, Halt, Jmp, Jnz, Gettype, Geta, Getb, Gete, Getp, Getlin, Move, Store, Load, Cca, Restrict, Lt, Plus, Minus, Seta2b, Xjmp, Cseal, Split, Splice}
-use Rattle.lcm_machine.specs.declared.Place.{Place}
 use Rattle.lcm_machine.specs.declared.Place.TheVariants.{R, Cell}
-use Rattle.lcm_machine.specs.declared.FailCause.TheVariants.{F5, F6, F7, F8, F9, F10}
-use Rattle.lcm_machine.specs.Plan.{Plan, Fails, Halts, Goes}
+use Rattle.lcm_machine.specs.Plan.{Plan, Goes}
 use Rattle.lcm_machine.specs.declared.plan.Effect.{Effect}
 use Rattle.lcm_machine.specs.Maps.{Regs, State}
 use Rattle.lcm_machine.specs.Places.{reg, set_reg}
 use Rattle.lcm_machine.specs.Cells.{cell, set_cell}
 use Rattle.lcm_machine.specs.Table.{is_pc, is_zero, bit, operand, fits_64, plan, target, makes, moves, jumps, goes_on, memory_content, unsealed, runs_in, no_effect, made}
 use Rattle.lcm_machine.specs.Table as table
-use Rattle.lcm_machine.specs.Row.{word_in, put, clear, perform, opens, faces, cell_faces, look_face, face_there, plan_in}
+use Rattle.lcm_machine.specs.Row.{word_in, put, clear, perform, opens, faces, cell_faces, face_there, plan_in}
 use Rattle.lcm_machine.proofs.RegLemmas.{cases_reg, reg-set_same, reg-set_other}
 use Rattle.lcm_machine.proofs.CellLemmas.{cell-set_other, cell-set_same}
 use Rattle.lcm_machine.proofs.Plans.{Gives, gives_fails, gives_halts, gives_goes, Gives-ask, Gives-need, Gives-by_cap, Gives-if, memory_is}
-use Rattle.flow_check.specs.Kinds.{Row, kind_of, set_kind, below_any, kind_below, row_below}
+use Rattle.flow_check.specs.Kinds.{Row, kind_of, set_kind, below_any}
 use Rattle.flow_check.specs.declared.judging.Flow.{Flow}
-use Rattle.flow_check.specs.declared.judging.Flow.TheVariants.{Breaks as breaks, Flows as flows}
-use Rattle.flow_check.specs.Flow.{flow, ask, source, is_top, is_area, seen, seen_operand, on, into, gets, taken, take_from, led, in_code, led_to, by_target, cca_of, handed, shows_nothing}
+use Rattle.flow_check.specs.declared.judging.Flow.TheVariants.{Flows as flows}
+use Rattle.flow_check.specs.Flow.{flow, ask, source, is_area, on, into, taken, take_from, led, in_code, led_to, by_target, cca_of, handed, shows_nothing}
 use Rattle.std.specs.List.{list_all}
 use Rattle.std.proofs.Math.IntN.{+ℤ_assoc}
 use Rattle.flow_check.specs.Holds.{Ranges, data_cap, stack_cap, code_at, Up, HasKind, Fits, PcAt, SafeCells, SameOthers}
-use Rattle.flow_check.proofs.Fitting.{fits_new, fits_kept, fits_set, fits_keep, fits_pc, is_safe, and_left, and_right}
+use Rattle.flow_check.proofs.Fitting.{fits_new, fits_set, fits_keep, fits_pc, is_safe, and_left, and_right}
 
 -- ---- what a flow that isn't broken says
 

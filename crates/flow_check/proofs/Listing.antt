@@ -1,8 +1,8 @@
 -- The rules of the lists: what they say of each item.
-use Rattle.std.proofs.Common.{◌≡◌, ℕ, zero, suc, ◌+◌, ◌-◌, ◌<◌, ◌≤◌, ◌⊎◌, inl, inr, Bool, true, false, List, [], ◌∷◌, length, get_or, Option, Some, None, refl, sym, ap, ◌∙◌, arith}
-use Rattle.std.specs.Prelude.{nat_lt, ◌&&◌, ◌||◌, option_map, unwrap_or, is_some}
+use Rattle.std.proofs.Common.{◌≡◌, ℕ, ◌+◌, ◌<◌, ◌≤◌, Bool, true, false, length, Option, Some, None, refl, ap, ◌∙◌}
+use Rattle.std.specs.Prelude.{nat_lt, ◌||◌, option_map, unwrap_or, is_some}
 use Rattle.component_file.specs.declared.component.ComponentFields.{ComponentFields}
-use Rattle.component_check.specs.Places.{Test, first_below, first_of, first_place}
+use Rattle.component_check.specs.Places.{Test, first_of, first_place}
 use Rattle.component_check.proofs.First.{IsFirstIn, first_below_is}
 use Rattle.call_sequence.specs.declared.TheConstants.{SITE_WORDS}
 use Rattle.call_sequence.specs.Standing.{site_difference}

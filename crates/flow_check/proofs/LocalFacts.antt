@@ -1,11 +1,11 @@
 -- What holds at each offset of code whose flow is kept.
-use Rattle.std.proofs.Common.{◌≡◌, ℕ, ◌+◌, ◌<◌, ◌≤◌, ◌⊎◌, inl, inr, true, false, length, Option, Some, None, refl, sym, ap, ◌∙◌, arith}
+use Rattle.std.proofs.Common.{◌≡◌, ℕ, ◌+◌, ◌<◌, ◌≤◌, inl, inr, true, false, length, Option, Some, None, refl, arith}
 use Rattle.std.specs.Option.{option_or}
 use Rattle.component_file.specs.declared.component.ComponentFields.{ComponentFields}
 use Rattle.component_file.specs.Limits.{IsComponent}
 use Rattle.call_sequence.specs.declared.TheConstants.{SITE_WORDS, ENTRY_WORDS}
-use Rattle.flow_check.specs.Kinds.{Row, entry_row, clean_row}
-use Rattle.flow_check.specs.Places.{begins_entry, begins_site, is_inside, declared}
+use Rattle.flow_check.specs.Kinds.{Row, clean_row}
+use Rattle.flow_check.specs.Places.{begins_entry, begins_site, declared}
 use Rattle.flow_check.specs.declared.walking.Walk.TheVariants.{Before as before}
 use Rattle.flow_check.specs.Walk.{Comes, RowAt, site_ready}
 use Rattle.flow_check.specs.Verdict.{IsKept}

@@ -1,7 +1,7 @@
 -- What the rules of the lists say of the code's offsets.
 use Rattle.std.proofs.Common.{◌≡◌, ℕ, zero, suc, ◌+◌, ◌-◌, ◌<◌, ◌≤◌, ◌⊎◌, inl, inr, Bool, true, false, List, [], ◌∷◌, length, get_or, Option, Some, None, refl, sym, ap, ◌∙◌, arith, le-leb}
 use Rattle.std.specs.Prelude.{◌==◌, nat_le, nat_lt, slice_get, not, ◌&&◌, ◌||◌, cond, map, is_some, option_map}
-use Rattle.std.specs.List.{list_any, find}
+use Rattle.std.specs.List.{find}
 use Rattle.std.proofs.lemmas.Bool.{eqb-true}
 use Rattle.std.proofs.lemmas.Bool.Decides.{nat_tests}
 use Rattle.std.proofs.lemmas.Option.{slice_get_within, get_or_from_slice_get}
@@ -11,7 +11,7 @@ use Rattle.component_file.specs.declared.component.Export.{Export}
 use Rattle.component_file.specs.declared.component.KindRow.{KindRow}
 use Rattle.component_file.specs.declared.component.ComponentFields.{ComponentFields}
 use Rattle.component_file.specs.Limits.{IsComponent}
-use Rattle.component_check.specs.Places.{Test, BrokenAt}
+use Rattle.component_check.specs.Places.{Test}
 use Rattle.component_check.specs.Verdict.{rule, NoneBroken}
 use Rattle.call_sequence.specs.declared.TheConstants.{SITE_WORDS, ENTRY_WORDS}
 use Rattle.call_sequence.specs.Standing.{site_difference, is_entry, is_site}

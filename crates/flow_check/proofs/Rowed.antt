@@ -1,16 +1,15 @@
 -- What the row at an offset is, once the walk has come there or over it.
-use Rattle.std.proofs.Common.{◌≡◌, ℕ, ◌<◌, ◌⊎◌, inl, inr, Bool, true, false, Option, Some, None, refl, sym, ap, ◌∙◌}
-use Rattle.std.specs.Prelude.{◌||◌, IfSome, IfNone}
+use Rattle.std.proofs.Common.{◌≡◌, ℕ, inl, inr, true, false, Option, Some, None, refl, sym, ap, ◌∙◌}
+use Rattle.std.specs.Prelude.{IfSome, IfNone}
 use Rattle.std.specs.Option.{option_or}
 use Rattle.component_file.specs.declared.component.ComponentFields.{ComponentFields}
 use Rattle.component_file.specs.Limits.{IsComponent}
 use Rattle.flow_check.specs.Kinds.{Row}
-use Rattle.flow_check.specs.Places.{begins_entry, begins_site, is_inside, declared}
-use Rattle.flow_check.specs.declared.walking.Walk.{Walk}
-use Rattle.flow_check.specs.declared.walking.Walk.TheVariants.{Before as before, Ended as ended, Broken as broken}
-use Rattle.flow_check.specs.Walk.{Comes, RowAt, next, next_from}
+use Rattle.flow_check.specs.Places.{begins_entry, is_inside, declared}
+use Rattle.flow_check.specs.declared.walking.Walk.TheVariants.{Before as before}
+use Rattle.flow_check.specs.Walk.{Comes, RowAt}
 use Rattle.flow_check.specs.Verdict.{IsKept}
-use Rattle.flow_check.proofs.Walks.{ListsKept, one_current, passed_over, none_behind, not_broken, no_row_inside}
+use Rattle.flow_check.proofs.Walks.{one_current, no_row_inside}
 use Rattle.flow_check.proofs.Placed.{not_true, placed_lists, inside_is}
 
 module _ (c : ComponentFields) where

@@ -1,13 +1,10 @@
 -- A step of trusted code outside its sequences: where it goes, registers fit the row there.
-use Rattle.std.proofs.Common.{◌≡◌, ◌≢◌, ℕ, zero, suc, ◌+◌, ◌<◌, ◌≤◌, ◌⊎◌, inl, inr, Bool, true, false, List, [], ◌∷◌, length, Option, Some, None, refl, sym, ap, ◌∙◌, subst, arith, ℤ, pos, negsuc, ◌+ℤ◌, le-leb}
-use Rattle.std.specs.Prelude.{slice_get, nat_le, ◌&&◌, if◌then◌else◌}
+use Rattle.std.proofs.Common.{◌≡◌, ◌≢◌, ℕ, zero, suc, ◌+◌, ◌<◌, ◌≤◌, ◌⊎◌, inl, inr, false, List, [], ◌∷◌, length, Option, Some, None, refl, sym, ap, ◌∙◌, subst, arith, ℤ, pos, ◌+ℤ◌, le-leb}
+use Rattle.std.specs.Prelude.{slice_get}
 use Rattle.cap_words.specs.declared.Word.{Word}
 use Rattle.cap_words.specs.declared.Word.TheVariants.{Int, Mem, Seal, Sealed}
-use Rattle.cap_words.specs.declared.CapFields.{CapFields}
-use Rattle.cap_words.specs.declared.Face.{Face}
 use Rattle.cap_words.specs.declared.Face.TheVariants.{Number, Memory}
 use Rattle.cap_words.specs.Face.{face_of}
-use Rattle.cap_words.specs.Faces.{target_of}
 use Rattle.component_file.specs.declared.component.ComponentFields.{ComponentFields}
 use Rattle.lcm_isa.specs.declared.Instr.{Instr}
 use Rattle.lcm_isa.specs.declared.Reg.{Reg}
@@ -16,22 +13,20 @@ use Rattle.lcm_isa.specs.declared.Instr.TheVariants.{Xjmp}
 use Rattle.lcm_machine.specs.Table.{is_pc, target}
 use Rattle.lcm_isa.specs.Numbers.{decode_of}
 use Rattle.lcm_machine.specs.Plan.{Plan, Fails, Halts, Goes}
-use Rattle.lcm_machine.specs.declared.plan.Effect.{Effect}
-use Rattle.lcm_machine.specs.Maps.{Regs, State}
+use Rattle.lcm_machine.specs.Maps.{State}
 use Rattle.lcm_machine.specs.Places.{reg}
 use Rattle.lcm_machine.specs.Cells.{cell}
-use Rattle.lcm_machine.specs.Row.{perform, faces, cell_faces, look_face, face_there, plan_in, outcome, row, fetch, some, step_of, went, halted, failed, Outcome}
-use Rattle.lcm_machine.proofs.Plans.{Gives, gives_fails, gives_halts, gives_goes, Gives-effect}
+use Rattle.lcm_machine.specs.Row.{perform, faces, cell_faces, look_face, outcome, row, fetch, some, step_of, went}
+use Rattle.lcm_machine.proofs.Plans.{Gives, Gives-effect}
 use Rattle.lcm_machine.proofs.RowLemmas.{fetch_some, step_at}
-use Rattle.flow_check.specs.Kinds.{Row, row_below}
-use Rattle.flow_check.specs.declared.judging.Flow.TheVariants.{Flows as flows}
+use Rattle.flow_check.specs.Kinds.{Row}
 use Rattle.flow_check.specs.Flow.{flow}
 use Rattle.component_file.specs.Limits.{IsComponent}
 use Rattle.flow_check.specs.Verdict.{IsKept}
 use Rattle.flow_check.specs.Places.{begins_entry, begins_site}
 use Rattle.flow_check.specs.Walk.{instr_in, instr_at, RowAt}
-use Rattle.flow_check.specs.Local.{Leads, Judged}
-use Rattle.flow_check.specs.Holds.{Ranges, stack_cap, code_at, Up, HasKind, Fits, PcAt, SafeCells, SameOthers}
+use Rattle.flow_check.specs.Local.{Leads}
+use Rattle.flow_check.specs.Holds.{Ranges, stack_cap, code_at, Up, Fits, PcAt, SafeCells, SameOthers}
 use Rattle.flow_check.proofs.Fitting.{row_fits}
 use Rattle.flow_check.proofs.LocalFacts.{word_flows}
 use Rattle.flow_check.proofs.Kept.{Lands, lands_on, lands_at, crosses, Kept, kept, xjmp_shows, target_in}

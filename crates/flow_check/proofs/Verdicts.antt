@@ -1,5 +1,5 @@
 -- The lists and the walk together.
-use Rattle.std.proofs.Common.{◌≡◌, ◌∙◌, ℕ, inl, inr, Result, Ok, Err, refl, sym, subst}
+use Rattle.std.proofs.Common.{◌≡◌, inl, inr, Result, Ok, Err, sym, subst}
 use Rattle.component_file.specs.declared.component.ComponentFields.{ComponentFields}
 use Rattle.component_check.specs.declared.rule.Broken.{Broken}
 use Rattle.component_check.specs.declared.rule.Group.TheVariants.{K}

@@ -1,5 +1,5 @@
 -- What the walk says of each word, where no rule is broken.
-use Rattle.std.proofs.Common.{◌≡◌, ◌≢◌, ℕ, zero, suc, ◌+◌, ◌-◌, ◌<◌, ◌≤◌, ◌⊎◌, inl, inr, Bool, true, false, List, [], ◌∷◌, length, Option, Some, None, refl, sym, ap, ◌∙◌, arith, subst, lt-ltb, eq-eqb}
+use Rattle.std.proofs.Common.{◌≡◌, ℕ, zero, suc, ◌+◌, ◌-◌, ◌<◌, ◌≤◌, ◌⊎◌, inl, inr, Bool, true, false, [], ◌∷◌, length, Option, Some, None, refl, sym, ap, ◌∙◌, arith, subst, lt-ltb, eq-eqb}
 use borrow.Author.Tests.{ltb-true, eqb-true}
 use Rattle.std.specs.Prelude.{if◌then◌else◌, nat_lt, ◌&&◌, ◌||◌}
 use Rattle.std.proofs.lemmas.Bool.{cases_eq}
@@ -7,7 +7,7 @@ use Rattle.component_file.specs.declared.component.ComponentFields.{ComponentFie
 use Rattle.component_file.specs.declared.component.Kind.{Kind}
 use Rattle.component_file.specs.declared.component.Kind.TheVariants as kind
 use Rattle.lcm_isa.specs.declared.Instr.{Instr}
-use Rattle.flow_check.specs.Kinds.{Row, kind_below, row_below, below_any, entry_row, clean_row}
+use Rattle.flow_check.specs.Kinds.{Row, kind_below, row_below, entry_row, clean_row}
 use Rattle.flow_check.specs.declared.judging.Flow.{Flow}
 use Rattle.flow_check.specs.declared.judging.Flow.TheVariants.{Breaks as breaks, Flows as flows}
 use Rattle.flow_check.specs.Flow.{flow}

@@ -1,4 +1,4 @@
-use Rattle.std.proofs.Common.{◌≡◌, ◌∙◌, ◌+◌, ◌≤◌, sym, ap, length, subst, arith}
+use Rattle.std.proofs.Common.{◌≡◌, ◌∙◌, ◌+◌, sym, ap, length, subst, arith}
 use Rattle.component_file.specs.Limits.{IsComponent}
 use Rattle.flow_check.proofs.Entries.{LeastOf, least_same, least_more, k3_is}
 use Rattle.flow_check.proofs.lists.k3.Goals as goal

@@ -1,8 +1,7 @@
-use Rattle.std.proofs.Common.{◌≡◌, ◌≤◌, ◌∙◌, refl, suc, sym, ap, subst, arith, rules, true, false}
-use Rattle.component_file.specs.declared.component.ComponentFields.{ComponentFields}
+use Rattle.std.proofs.Common.{◌≡◌, ◌∙◌, refl, suc, sym, ap, subst, arith}
 use Rattle.flow_check.specs.declared.walking.Walk.TheVariants.{Before, Ended, Broken}
 use Rattle.std.specs.Option.{option_or}
-use Rattle.flow_check.specs.Places.{begins_entry, declared}
+use Rattle.flow_check.specs.Places.{declared}
 use Rattle.flow_check.specs.Walk.{Comes, next, next_from}
 use Rattle.flow_check.proofs.Walks.{rises, passed_over, none_behind}
 use Rattle.flow_check.proofs.Rowed.{no_row, row_is, row_none, each_outside, entry_outside}
