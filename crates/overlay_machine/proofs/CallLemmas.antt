@@ -10,8 +10,7 @@ use Rattle.lcm_isa.specs.declared.Reg.TheVariants.{C1, C2, Stk, Pc}
 use Rattle.lcm_isa.specs.declared.Instr.TheVariants.{Xjmp}
 use Rattle.lcm_machine.specs.declared.FailCause.{FailCause}
 use Rattle.lcm_machine.specs.declared.plan.Effect.{Effect}
-use Rattle.lcm_machine.specs.Plan.{Plan}
-use Rattle.lcm_machine.specs.Plan.{Goes, Fails}
+use Rattle.lcm_machine.specs.Plan.{Plan, Goes, Fails}
 use Rattle.lcm_machine.specs.Maps.{State}
 use Rattle.lcm_machine.specs.Row.{row, outcome, plan_in, opens, faces}
 use Rattle.overlay_machine.specs.declared.layout.Layout.{Layout}
@@ -20,7 +19,8 @@ use Rattle.overlay_machine.specs.declared.words.OWord.TheVariants.{Plain}
 use Rattle.overlay_machine.specs.declared.layout.SiteCode.{SiteCode}
 use Rattle.overlay_machine.specs.Words.{look, is_plain}
 use Rattle.overlay_machine.specs.Layout.{site_code}
-use Rattle.overlay_machine.specs.State.{OState, all_there}
+use Rattle.overlay_machine.specs.State.{OState}
+use Rattle.lcm_machine.specs.Cells.{all_there}
 use Rattle.overlay_machine.specs.Step.{goes, fails, ask, need, with_frames, own_stack, if_own, is_own_stack, call_step, at_call, new_frame, entry_step}
 use Rattle.overlay_machine.specs.declared.machine.Machine.{Machine}
 use Rattle.overlay_machine.specs.declared.machine.Outcome.TheVariants.{Went, Failed}

@@ -18,15 +18,17 @@ use Rattle.overlay_machine.specs.declared.layout.SiteCode.{SiteCode}
 use Rattle.overlay_machine.specs.declared.frames.Frame.{Frame}
 use Rattle.overlay_machine.specs.declared.machine.Machine.{Machine}
 use Rattle.overlay_machine.specs.Words.{look}
-use Rattle.overlay_machine.specs.State.{Cells, words_from, all_there, without, put_back}
+use Rattle.overlay_machine.specs.State.{Cells}
+use Rattle.lcm_machine.specs.Cells.{words_from, all_there, without, put_back}
 use Rattle.overlay_machine.specs.Step.{rest_words}
 use Rattle.overlay_machine.specs.Moves.{newest_items, IsNewest, opened}
-use Rattle.overlay_machine.specs.Machine.{Fits, AreWhole, AreOut, Fall, here, IsJump, called, returned, jumping}
+use Rattle.overlay_machine.specs.Machine.{Fits, AreWhole, AreOut, Fall, here, called, returned, jumping}
+use Rattle.lcm_machine.specs.Plan.{IsJump}
 use Rattle.overlay_machine.proofs.RoomLemmas.{here-without, here-put_back, here-same, here-most}
-use Rattle.overlay_machine.proofs.JumpLemmas.{jump-cells}
+use Rattle.lcm_machine.proofs.JumpLemmas.{jump-cells}
 use Rattle.overlay_machine.proofs.OutLemmas.{out-same, out-called, out-returned}
 
-length-words : (m : Cells) (a n : ℕ) → length (words_from m a n) ≡ n
+length-words : (m : Cells) (a n : ℕ) → length (words_from Plain m a n) ≡ n
 unfolding words_from
 length-words m a zero = refl
 length-words m a (suc n) = ap suc (length-words m (a + 1) n)
@@ -48,7 +50,7 @@ pub fits-called : (l : Layout) (m : Machine) (i : ℕ) (s : SiteCode) (c : CapFi
     → c.end ≤ l.stack.end → c.end ≤ 1048575 → ((q : ℕ) → at ≤ q → q ≤ c.end → IsTrue (in_spans q m.maps.spans))
     → IsTrue (all_there m.maps.cells at (c.end + 1 - at)) → IsJump C2 e → Fits l (called m i s c at e)
 fits-called l m i s c at e f a b d last spanned t j =
-    let q = jump-cells (jumping m i s c at) e j in
+    let q = jump-cells look Plain (jumping m i s c at) C2 e j in
     let h = here-without m.maps.cells at c.end (l.stack.base + 1) (l.stack.end - l.stack.base) (omega (arith, a)) b (omega (arith, a, b, d)) t in
     let k = f.kept in
     let same : here (perform look Plain (jumping m i s c at) e).cells (l.stack.base + 1) (l.stack.end - l.stack.base) ≡ here (without m.maps.cells at c.end) (l.stack.base + 1) (l.stack.end - l.stack.base)

@@ -3,15 +3,16 @@ use Rattle.std.proofs.Common.{◌≡◌, ◌≤◌, ℕ, suc, ◌+◌, ◌-◌, 
 use Rattle.std.proofs.lemmas.List.{length-append}
 use Rattle.cap_words.specs.Linear.{zero_word}
 use Rattle.lcm_machine.specs.Maps.{State}
-use Rattle.lcm_machine.specs.Cells.{cell, set_cell, drop_cell}
+use Rattle.lcm_machine.specs.Cells.{cell, set_cell, drop_cell, put_back, all_there, words_from, without}
 use Rattle.frame_region.specs.Frames.{FrameSeen, RegionSeen, with_item}
 use Rattle.overlay_machine.specs.declared.words.OWord.{OWord}
 use Rattle.overlay_machine.specs.declared.words.OWord.TheVariants.{Plain}
-use Rattle.overlay_machine.specs.State.{Cells, put_back, all_there, words_from, without}
+use Rattle.overlay_machine.specs.State.{Cells}
 use Rattle.overlay_machine.specs.Step.{first_word, rest_words}
 use Rattle.overlay_machine.specs.declared.frames.Frame.{Frame}
 use Rattle.overlay_machine.specs.Moves.{newest_items, set_items, with_items, dropped, left_by, opened, given, IsNewest}
-use Rattle.overlay_machine.proofs.CellLemmas.{there-first, dropped-first, dropped-without, all_there-drop, words_from-drop}
+use Rattle.overlay_machine.proofs.CellLemmas.{dropped-first, dropped-without}
+use Rattle.lcm_machine.proofs.Stretches.{there-first, all_there-drop, words_from-drop}
 
 pub first-there : (m : Cells) (a e : ℕ) → a ≤ e → IsTrue (all_there m a (e + 1 - a)) → IsSome (cell m a)
 first-there m a e h t = let k : e + 1 - a ≡ suc (e - a) = omega (arith, h) in (there-first m a (e - a) (subst (λ n. IsTrue (all_there m a n)) k t)).0
@@ -37,18 +38,18 @@ pub opened-frames : (old : State OWord) (sw tk : State OWord) (region f1 f2 f3 :
     → sw ≡ record old { regs = record old.regs { dat = zero_word Plain } } → tk ≡ record sw { cells = drop_cell sw.cells f.base } → first ≡ old.regs.dat
     → f1 ≡ record region { frames = record { head = f; size = f.end + 1 - f.base; items = [] } ∷ region.frames }
     → f2 ≡ record f1 { frames = with_item f1.frames first }
-    → f3 ≡ record f2 { frames = with_items f2.frames (words_from tk.cells (f.base + 1) (f.end - f.base)) }
+    → f3 ≡ record f2 { frames = with_items f2.frames (words_from Plain tk.cells (f.base + 1) (f.end - f.base)) }
     → f3 ≡ record region { frames = opened old f ∷ region.frames }
 opened-frames old sw tk region f1 f2 f3 f first s t d a b c =
     let m : tk.cells ≡ drop_cell old.cells f.base = ap (λ x. x.cells) t ∙ ap (λ x. drop_cell x.cells f.base) s in
-    let ws : words_from tk.cells (f.base + 1) (f.end - f.base) ≡ words_from old.cells (f.base + 1) (f.end - f.base)
-    = ap (λ x. words_from x (f.base + 1) (f.end - f.base)) m ∙ words_from-drop old.cells f.base (f.base + 1) (f.end - f.base) (omega arith) in
+    let ws : words_from Plain tk.cells (f.base + 1) (f.end - f.base) ≡ words_from Plain old.cells (f.base + 1) (f.end - f.base)
+    = ap (λ x. words_from Plain x (f.base + 1) (f.end - f.base)) m ∙ words_from-drop Plain old.cells f.base (f.base + 1) (f.end - f.base) (omega arith) in
     let b1 : f2 ≡ record region { frames = record { head = f; size = f.end + 1 - f.base; items = first ∷ [] } ∷ region.frames }
     = b ∙ (let over : RegionSeen Frame OWord → RegionSeen Frame OWord = λ x. record x { frames = with_item x.frames first } in ap over a) in
-    let c1 : f3 ≡ record region { frames = record { head = f; size = f.end + 1 - f.base; items = first ∷ words_from tk.cells (f.base + 1) (f.end - f.base) } ∷ region.frames }
-    = c ∙ (let over : RegionSeen Frame OWord → RegionSeen Frame OWord = λ x. record x { frames = with_items x.frames (words_from tk.cells (f.base + 1) (f.end - f.base)) } in ap over b1) in
+    let c1 : f3 ≡ record region { frames = record { head = f; size = f.end + 1 - f.base; items = first ∷ words_from Plain tk.cells (f.base + 1) (f.end - f.base) } ∷ region.frames }
+    = c ∙ (let over : RegionSeen Frame OWord → RegionSeen Frame OWord = λ x. record x { frames = with_items x.frames (words_from Plain tk.cells (f.base + 1) (f.end - f.base)) } in ap over b1) in
     c1 ∙ (let over : OWord → List OWord → RegionSeen Frame OWord = λ w. λ x. record region { frames = record { head = f; size = f.end + 1 - f.base; items = w ∷ x } ∷ region.frames } in
-    ap (λ w. over w (words_from tk.cells (f.base + 1) (f.end - f.base))) d ∙ ap (over old.regs.dat) ws)
+    ap (λ w. over w (words_from Plain tk.cells (f.base + 1) (f.end - f.base))) d ∙ ap (over old.regs.dat) ws)
 
 -- the word that is popped last is the first one
 popped-word : (fs gs : List (FrameSeen Frame OWord)) (w v : OWord) (h : Frame) → IsNewest fs h → set_items fs (v ∷ []) ≡ with_item gs w → w ≡ v

@@ -3,11 +3,11 @@ use Rattle.std.proofs.Common.{◌≡◌, ◌≢◌, ◌≤◌, ◌<◌, ℕ, zer
 use Rattle.std.proofs.lemmas.List.{length-append}
 use Rattle.std.proofs.lemmas.Bool.{cases_eq}
 use Rattle.lcm_machine.specs.Maps.{State}
-use Rattle.lcm_machine.specs.Cells.{cell, set_cell}
+use Rattle.lcm_machine.specs.Cells.{cell, set_cell, put_back}
 use Rattle.lcm_machine.proofs.CellLemmas.{cell-set_other, cell-set_same, same_cells}
 use Rattle.frame_region.specs.Frames.{FrameSeen, RegionSeen, with_item, HasNewestItem}
 use Rattle.overlay_machine.specs.declared.words.OWord.{OWord}
-use Rattle.overlay_machine.specs.State.{Cells, put_back}
+use Rattle.overlay_machine.specs.State.{Cells}
 use Rattle.overlay_machine.specs.Step.{first_word, rest_words}
 use Rattle.overlay_machine.specs.declared.frames.Frame.{Frame}
 use Rattle.overlay_machine.specs.Moves.{newest_items, set_items, Giving}

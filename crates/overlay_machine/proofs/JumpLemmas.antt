@@ -8,7 +8,7 @@ use Rattle.lcm_isa.specs.declared.Reg.TheVariants.{C1, C2}
 use Rattle.lcm_isa.specs.declared.Instr.TheVariants.{Xjmp}
 use Rattle.lcm_machine.specs.declared.Place.TheVariants.{R}
 use Rattle.lcm_machine.specs.declared.plan.Effect.{Effect}
-use Rattle.lcm_machine.specs.Plan.{Goes}
+use Rattle.lcm_machine.specs.Plan.{Goes, IsJump, is_jump}
 use Rattle.lcm_machine.specs.Maps.{State}
 use Rattle.lcm_machine.specs.Row.{perform, clear, plan_in, put, MoveFits}
 use Rattle.lcm_machine.proofs.Plans.{Gives, gives_goes, Gives-need, Gives-ask, Gives-effect}
@@ -20,7 +20,7 @@ use Rattle.overlay_machine.specs.Words.{look}
 use Rattle.overlay_machine.specs.declared.frames.Frame.{Frame}
 use Rattle.overlay_machine.specs.declared.machine.Machine.{Machine}
 use Rattle.overlay_machine.specs.Moves.{left_by, opened}
-use Rattle.overlay_machine.specs.Machine.{IsJump, is_jump, at_jump, jumping, called}
+use Rattle.overlay_machine.specs.Machine.{at_jump, jumping, called}
 
 -- the effect doesn't read data
 jump-dat : (s : State OWord) (x : OWord) (e : Effect) → IsJump C2 e → perform look Plain (record s { regs = record s.regs { dat = x } }) e ≡ perform look Plain s e
@@ -31,19 +31,6 @@ jump-dat s x e (is_jump v w) = elim (is_linear (look s.regs.c2)) as (λ b. perfo
     perform_with b v w t =
         let taken : State OWord = if b then put t (R C2) (zero_word Plain) else t in
         record taken { regs = record taken.regs { pc = Plain v; dat = Plain w } }
-
--- nor does it touch memory
-pub jump-cells : (s : State OWord) (e : Effect) → IsJump C2 e → perform look Plain s e ≡ record s { regs = (perform look Plain s e).regs }
-unfolding perform clear
-jump-cells s e (is_jump v w) = elim (is_linear (look s.regs.c2)) as (λ b. perform_with b v w s ≡ record s { regs = (perform_with b v w s).regs }) [ true ↦ refl | false ↦ refl ]
-  where
-    perform_with : Bool → Word → Word → State OWord → State OWord
-    perform_with b v w t =
-        let taken : State OWord = if b then put t (R C2) (zero_word Plain) else t in
-        record taken { regs = record taken.regs { pc = Plain v; dat = Plain w } }
-
-pub jump-fits : (s : State OWord) (e : Effect) → IsJump C2 e → MoveFits s e.moved
-jump-fits s e (is_jump v w) = tt
 
 pub made-call : (m : Machine) (i : ℕ) (s : SiteCode) (c : CapFields) (at : ℕ) (e : Effect) (maps1 maps2 maps3 : State OWord) (region : RegionSeen Frame OWord)
     → IsJump C2 e
@@ -58,10 +45,3 @@ made-call m i s c at e maps1 maps2 maps3 region j a b d f =
     let d1 : maps3 ≡ perform look Plain (jumping m i s c at) e = d ∙ ap (λ x. perform look Plain x e) b1 ∙ jump-dat (jumping m i s c at) (zero_word Plain) e j in
     let whole : State OWord → RegionSeen Frame OWord → Machine = λ x. λ y. record { maps = x; frames = y; calls = m.calls + 1 } in
     ap (λ x. whole x region) d1 ∙ ap (whole (perform look Plain (jumping m i s c at) e)) f
-
--- the plan of the jump, if it goes
-pub plan-jump : (s : State OWord) (next : Word) (e : Effect) → plan_in look s (Xjmp C1 C2) next ≡ Goes e → IsJump C2 e
-unfolding plan_in
-plan-jump s next e h = Gives-effect (subst (Gives (IsJump C2)) h (Gives-need _ _ _ (λ a e1. Gives-need _ _ _ (λ b e2.
-    Gives-ask _ _ _ (λ _. Gives-need _ _ _ (λ c e. Gives-ask _ _ _ (λ _. Gives-ask _ _ _ (λ _.
-    Gives-ask _ _ _ (λ _. gives_goes (is_jump _ _))))))))))

@@ -1,14 +1,14 @@
 -- The cells of frames stay out of memory.
 use Rattle.std.proofs.Common.{◌≡◌, ◌≢◌, ◌⊎◌, ◌≤◌, ◌<◌, ℕ, zero, suc, ◌+◌, ◌-◌, true, false, List, [], ◌∷◌, length, refl, sym, ap, subst, ◌∙◌, arith, Option, Some, None, IsSome, is_some, IsTrue, inl, inr}
 use Rattle.std.proofs.lemmas.Bool.{cases_lt, cases_eq}
-use Rattle.lcm_machine.specs.Cells.{cell, set_cell}
+use Rattle.lcm_machine.specs.Cells.{cell, set_cell, put_back, all_there, without}
 use Rattle.lcm_machine.proofs.CellLemmas.{cell-set_other}
 use Rattle.frame_region.specs.Frames.{FrameSeen, newest_head, older}
 use Rattle.overlay_machine.specs.declared.words.OWord.{OWord}
-use Rattle.overlay_machine.specs.State.{Cells, put_back, all_there, without}
+use Rattle.overlay_machine.specs.State.{Cells}
 use Rattle.overlay_machine.specs.declared.frames.Frame.{Frame}
 use Rattle.overlay_machine.specs.Machine.{AreOut, IsFree}
-use Rattle.overlay_machine.proofs.CellLemmas.{there-first, cell-without_in, cell-without_out}
+use Rattle.lcm_machine.proofs.Stretches.{there-first, cell-without_in, cell-without_out}
 
 -- the frames stay out where no cell comes in
 pub out-fewer : (m m' : Cells) (fs : List (FrameSeen Frame OWord)) → ((q : ℕ) → cell m q ≡ None → cell m' q ≡ None) → AreOut m fs → AreOut m' fs

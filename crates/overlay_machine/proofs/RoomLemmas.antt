@@ -2,13 +2,14 @@
 use Rattle.std.proofs.Common.{◌≡◌, ◌≢◌, ◌≤◌, ◌<◌, ℕ, zero, suc, ◌+◌, ◌-◌, List, [], ◌∷◌, length, refl, sym, ap, subst, ◌∙◌, arith, Option, Some, None, IsSome, is_some, IsTrue, inl, inr}
 use Rattle.std.specs.Prelude.{if◌then◌else◌}
 use Rattle.std.proofs.lemmas.Bool.{cases_eq}
-use Rattle.lcm_machine.specs.Cells.{cell, set_cell, drop_cell}
+use Rattle.lcm_machine.specs.Cells.{cell, set_cell, drop_cell, put_back, all_there, without}
 use Rattle.lcm_machine.proofs.CellLemmas.{cell-set_other, cell-set_same, cell-drop_other, cell_dropped}
 use Rattle.overlay_machine.specs.declared.words.OWord.{OWord}
-use Rattle.overlay_machine.specs.State.{Cells, put_back, all_there, without}
+use Rattle.overlay_machine.specs.State.{Cells}
 use Rattle.overlay_machine.specs.Moves.{dropped}
 use Rattle.overlay_machine.specs.Machine.{here}
-use Rattle.overlay_machine.proofs.CellLemmas.{there-first, dropped-first, dropped-none, dropped-without, all_there-drop}
+use Rattle.overlay_machine.proofs.CellLemmas.{dropped-first, dropped-none, dropped-without}
+use Rattle.lcm_machine.proofs.Stretches.{there-first, all_there-drop}
 
 abbrev one_if : Option OWord → ℕ
 one_if o = if is_some o then 1 else 0

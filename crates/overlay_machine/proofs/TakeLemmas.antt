@@ -2,13 +2,14 @@
 use Rattle.std.proofs.Common.{◌≡◌, ◌<◌, ℕ, zero, suc, ◌+◌, ◌-◌, List, [], ◌∷◌, refl, sym, ap, subst, ◌∙◌, arith, Some, IsSome, IsTrue}
 use Rattle.std.proofs.lemmas.List.{append-nil, length-append, append_assoc}
 use Rattle.lcm_machine.specs.Maps.{State}
-use Rattle.lcm_machine.specs.Cells.{cell, drop_cell}
+use Rattle.lcm_machine.specs.Cells.{cell, drop_cell, all_there, words_from}
 use Rattle.frame_region.specs.Frames.{FrameSeen, RegionSeen, with_item, IsNewestOpen}
+use Rattle.overlay_machine.specs.declared.words.OWord.TheVariants.{Plain}
 use Rattle.overlay_machine.specs.declared.words.OWord.{OWord}
-use Rattle.overlay_machine.specs.State.{all_there, words_from}
 use Rattle.overlay_machine.specs.declared.frames.Frame.{Frame}
 use Rattle.overlay_machine.specs.Moves.{with_items, HasRoom, dropped, Taking}
-use Rattle.overlay_machine.proofs.CellLemmas.{there-first, words-first, dropped-first, dropped-none, words-none, all_there-drop, words_from-drop}
+use Rattle.overlay_machine.proofs.CellLemmas.{dropped-first, dropped-none}
+use Rattle.lcm_machine.proofs.Stretches.{there-first, words-first, words-none, all_there-drop, words_from-drop}
 
 pub taking-start : (maps : State OWord) (region : RegionSeen Frame OWord) (from n : ℕ) → IsTrue (all_there maps.cells from n) → HasRoom region.frames n → Taking maps region from n maps region from n
 taking-start maps region from n t r = record { place = refl; there = t; room = r; cells = refl; others = refl; words = refl; region_cells = refl }
@@ -41,9 +42,9 @@ taking-suc maps maps' region region' from n at k w t e = record {
   room = room-item region'.frames k w t.room;
   cells = sym (dropped-first maps'.cells at k) ∙ t.cells;
   others = t.others;
-  words = items-item region'.frames w (words_from (drop_cell maps'.cells at) (at + 1) k)
-      ∙ ap (λ ws. with_items region'.frames (w ∷ ws)) (words_from-drop maps'.cells at (at + 1) k (omega arith))
-      ∙ ap (with_items region'.frames) (sym (words-first maps'.cells at k w e)) ∙ t.words;
+  words = items-item region'.frames w (words_from Plain (drop_cell maps'.cells at) (at + 1) k)
+      ∙ ap (λ ws. with_items region'.frames (w ∷ ws)) (words_from-drop Plain maps'.cells at (at + 1) k (omega arith))
+      ∙ ap (with_items region'.frames) (sym (words-first Plain maps'.cells at k w e)) ∙ t.words;
   region_cells = t.region_cells;
 }
 
@@ -60,12 +61,12 @@ items-none [] = refl
 items-none (f ∷ fs) = ap (λ is. record f { items = is } ∷ fs) (append-nil f.items)
 
 pub taking-end : (maps maps' : State OWord) (region region' : RegionSeen Frame OWord) (from n at left : ℕ) → Taking maps region from n maps' region' at left → left ≡ 0
-    → (maps' ≡ record maps { cells = dropped maps.cells from n }) × (region' ≡ record region { frames = with_items region.frames (words_from maps.cells from n) })
+    → (maps' ≡ record maps { cells = dropped maps.cells from n }) × (region' ≡ record region { frames = with_items region.frames (words_from Plain maps.cells from n) })
 taking-end maps maps' region region' from n at left t z =
     let t0 : Taking maps region from n maps' region' at 0 = subst (λ k. Taking maps region from n maps' region' at k) z t in
     let c = sym (dropped-none maps'.cells at) ∙ t0.cells in
     let o : record maps' { cells = maps.cells } ≡ maps = t0.others in
-    let ws = sym (items-none region'.frames) ∙ ap (with_items region'.frames) (sym (words-none maps'.cells at)) ∙ t0.words in (
+    let ws = sym (items-none region'.frames) ∙ ap (with_items region'.frames) (sym (words-none Plain maps'.cells at)) ∙ t0.words in (
       ap (λ m. record maps' { cells = m }) c ∙ (let over : State OWord → State OWord = λ s. record s { cells = dropped maps.cells from n } in ap over o),
-      ap (λ fs. record region' { frames = fs }) ws ∙ (let made : ℕ → RegionSeen Frame OWord = λ k. record { frames = with_items region.frames (words_from maps.cells from n); cells = k } in ap made t0.region_cells),
+      ap (λ fs. record region' { frames = fs }) ws ∙ (let made : ℕ → RegionSeen Frame OWord = λ k. record { frames = with_items region.frames (words_from Plain maps.cells from n); cells = k } in ap made t0.region_cells),
     )

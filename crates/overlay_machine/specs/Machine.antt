@@ -12,7 +12,7 @@ use Rattle.lcm_machine.specs.declared.cells.Span.{Span}
 use Rattle.lcm_machine.specs.declared.Place.TheVariants.{R}
 use Rattle.lcm_machine.specs.declared.plan.Effect.{Effect}
 use Rattle.lcm_machine.specs.Maps.{State, Regs}
-use Rattle.lcm_machine.specs.Cells.{cell}
+use Rattle.lcm_machine.specs.Cells.{cell, without}
 use Rattle.lcm_machine.specs.Spans.{in_spans}
 use Rattle.lcm_machine.specs.Runs.{code_cap}
 use Rattle.lcm_machine.specs.Row.{perform, put}
@@ -27,7 +27,7 @@ use Rattle.overlay_machine.specs.declared.machine.Machine.{Machine}
 use Rattle.overlay_machine.specs.declared.machine.Outcome.{Outcome}
 use Rattle.overlay_machine.specs.declared.machine.Outcome.TheVariants.{Went, Halted, Failed}
 use Rattle.overlay_machine.specs.Words.{look}
-use Rattle.overlay_machine.specs.State.{OpenFrame, OState, Cells, without}
+use Rattle.overlay_machine.specs.State.{OpenFrame, OState, Cells}
 use Rattle.overlay_machine.specs.Step.{Ending, goes, halts, fails}
 use Rattle.overlay_machine.specs.Moves.{opened, given, newest_items}
 
@@ -94,17 +94,6 @@ pub record Fits (l : Layout) (m : Machine) : Type 0 where
   pub calls : Fall m.calls m.frames.frames
 
 -- ---- a call
-
--- the effect of an `xjmp` that goes
-pub data IsJump (r : Reg) : Effect → Type 0 where
-  is_jump : (v w : Word) → IsJump r (record {
-    moved = None;
-    spent = Some r;
-    also_spent = None;
-    first = Some (record { reg = Pc; word = v });
-    second = Some (record { reg = Dat; word = w });
-    next = None;
-  })
 
 -- the registers before the call's `xjmp`
 abbrev pub at_jump : Regs OWord → ℕ → ℕ → SiteCode → CapFields → ℕ → Regs OWord

@@ -3,12 +3,12 @@ use Rattle.std.specs.Prelude.{◌≡◌, ◌≤◌, ◌<◌, ℕ, zero, suc, ◌
 use Rattle.std.specs.Prelude.{None, IsTrue}
 use Rattle.cap_words.specs.Linear.{zero_word}
 use Rattle.lcm_machine.specs.Maps.{State}
-use Rattle.lcm_machine.specs.Cells.{cell, drop_cell}
+use Rattle.lcm_machine.specs.Cells.{cell, drop_cell, all_there, words_from, without, put_back}
 use Rattle.frame_region.specs.Frames.{FrameSeen, RegionSeen}
 use Rattle.overlay_machine.specs.declared.words.OWord.{OWord}
 use Rattle.overlay_machine.specs.declared.words.OWord.TheVariants.{Plain}
 use Rattle.overlay_machine.specs.declared.frames.Frame.{Frame}
-use Rattle.overlay_machine.specs.State.{Cells, all_there, words_from, without, put_back}
+use Rattle.overlay_machine.specs.State.{Cells}
 use Rattle.overlay_machine.specs.Step.{first_word, rest_words}
 
 -- the newest frame with further items
@@ -44,8 +44,8 @@ pub record Taking (maps : State OWord) (region : RegionSeen Frame OWord) (from n
   pub room : HasRoom region'.frames left
   pub cells : dropped maps'.cells at left ≡ dropped maps.cells from n
   pub others : record maps' { cells = maps.cells } ≡ maps
-  pub words : with_items region'.frames (words_from maps'.cells at left)
-      ≡ with_items region.frames (words_from maps.cells from n)
+  pub words : with_items region'.frames (words_from Plain maps'.cells at left)
+      ≡ with_items region.frames (words_from Plain maps.cells from n)
   pub region_cells : region'.cells ≡ region.cells
 
 -- what is left to give gives what there was to give
@@ -75,7 +75,7 @@ abbrev pub opened : State OWord → Frame → FrameSeen Frame OWord
 opened s f = record {
   head = f;
   size = f.end + 1 - f.base;
-  items = s.regs.dat ∷ words_from s.cells (f.base + 1) (f.end - f.base);
+  items = s.regs.dat ∷ words_from Plain s.cells (f.base + 1) (f.end - f.base);
 }
 
 -- the registers and cells when a frame of these words was closed

@@ -1,15 +1,11 @@
--- The overlay's state: registers and cells, the frames of open calls, and cells that leave memory and come
--- back.
-use Rattle.std.specs.Prelude.{ℕ, zero, suc, ◌+◌, ◌-◌, ◌==◌, nat_lt, nat_le, Bool, true, ◌&&◌, not}
-use Rattle.std.specs.Prelude.{List, [], ◌∷◌, Option, None, if◌then◌else◌, slice_get, unwrap_or, is_some, find, length}
+-- The overlay's state: registers and cells, and the frames of open calls.
+use Rattle.std.specs.Prelude.{ℕ, ◌-◌, ◌==◌, nat_lt, List, [], ◌∷◌, Option, None, if◌then◌else◌, slice_get}
+use Rattle.std.specs.Prelude.{find, length}
 use Rattle.std.specs.Option.{option_or}
 use Rattle.std.specs.Ordering.{nat_cmp}
 use Rattle.std.specs.FinMap as map
-use Rattle.cap_words.specs.Linear.{zero_word}
 use Rattle.lcm_machine.specs.Maps.{State}
-use Rattle.lcm_machine.specs.Cells.{cell, set_cell}
 use Rattle.overlay_machine.specs.declared.words.OWord.{OWord}
-use Rattle.overlay_machine.specs.declared.words.OWord.TheVariants.{Plain}
 
 -- the frame of an open call: the words of the cells from base to end, which are not in memory
 pub record OpenFrame : Type 0 where
@@ -28,25 +24,6 @@ pub record OState : Type 0 where
 
 abbrev pub Cells : Type 0
 Cells = map.FinMap nat_cmp OWord
-
--- whether n addresses from one on have cells
-unfoldable pub all_there : Cells → ℕ → ℕ → Bool
-all_there m a zero = true
-all_there m a (suc n) = is_some (cell m a) && all_there m (a + 1) n
-
--- the words of n cells from an address on
-unfoldable pub words_from : Cells → ℕ → ℕ → List OWord
-words_from m a zero = []
-words_from m a (suc n) = unwrap_or (cell m a) (zero_word Plain) ∷ words_from m (a + 1) n
-
--- memory without the cells from an address to an end
-unfoldable pub without : Cells → ℕ → ℕ → Cells
-without m a e = map.retain_keys m (λ q. not (nat_le a q && nat_le q e))
-
--- words put into the cells from an address on
-unfoldable pub put_back : Cells → ℕ → List OWord → Cells
-put_back m a [] = m
-put_back m a (w ∷ ws) = put_back (set_cell m a w) (a + 1) ws
 
 -- the word that a frame has at an address
 unfoldable pub word_of : OpenFrame → ℕ → Option OWord

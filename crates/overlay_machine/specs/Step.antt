@@ -12,8 +12,7 @@ use Rattle.lcm_machine.specs.declared.Place.TheVariants.{R}
 use Rattle.lcm_machine.specs.Maps.{State}
 use Rattle.lcm_machine.specs.Places.{reg}
 use Rattle.lcm_machine.specs.Runs.{code_cap}
-use Rattle.lcm_machine.specs.Row.{put, faces, cell_faces, row, Fetched, some, fetch, step_of}
-use Rattle.lcm_machine.specs.Row.{Outcome, went, halted, failed}
+use Rattle.lcm_machine.specs.Row.{put, faces, cell_faces, row, Fetched, some, fetch, step_of, Outcome, went, halted, failed}
 use Rattle.overlay_machine.specs.declared.TheConstants.{CALL_WORDS, RETURN_WORDS, ENTRY_WORDS}
 use Rattle.overlay_machine.specs.declared.words.OWord.{OWord}
 use Rattle.overlay_machine.specs.declared.words.OWord.TheVariants.{Plain, RetCode, RetData}
@@ -23,7 +22,8 @@ use Rattle.overlay_machine.specs.declared.layout.Layout.{Layout}
 use Rattle.overlay_machine.specs.declared.layout.SiteCode.{SiteCode}
 use Rattle.overlay_machine.specs.Layout.{trusted_at, site_at, is_entry, site_code}
 use Rattle.overlay_machine.specs.Words.{look, is_plain, is_ret_code}
-use Rattle.overlay_machine.specs.State.{OpenFrame, OState, all_there, words_from, without, put_back}
+use Rattle.overlay_machine.specs.State.{OpenFrame, OState}
+use Rattle.lcm_machine.specs.Cells.{all_there, words_from, without, put_back}
 
 -- ---- what a step is
 
@@ -91,7 +91,7 @@ new_frame i a e o = record {
   site = i;
   base = a;
   end = e;
-  words = reg o.maps.regs Dat ∷ words_from o.maps.cells (a + 1) (e - a);
+  words = reg o.maps.regs Dat ∷ words_from Plain o.maps.cells (a + 1) (e - a);
 }
 
 -- the state at the call's `xjmp`, its last word

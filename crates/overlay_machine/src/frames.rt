@@ -1,10 +1,9 @@
 //! The cells of a frame leave memory and come back, one by one.
 ghost use Rattle.std.specs.Prelude.{◌≡◌, ◌≤◌, ◌<◌, ◌+◌, ◌-◌, ◌∷◌, [], ℕ, IsTrue, None, length};
 ghost use Rattle.cap_words.specs.declared.TheConstants.{LAST_PLACE};
-ghost use Rattle.lcm_machine.specs.Cells.{cell};
+ghost use Rattle.lcm_machine.specs.Cells.{cell, all_there, words_from, put_back};
 ghost use Rattle.lcm_machine.specs.Spans.{in_spans};
 ghost use Rattle.frame_region.specs.Frames.{sizes, IsNewestFull, older};
-ghost use Rattle.overlay_machine.specs.State.{all_there, words_from, put_back};
 ghost use Rattle.overlay_machine.specs.Step.{first_word, rest_words};
 ghost use Rattle.overlay_machine.specs.Moves.{with_items, HasRoom, newest_items, set_items, dropped};
 ghost use Rattle.overlay_machine.specs.Moves.{IsNewest, given, left_by, opened};
@@ -51,7 +50,7 @@ fn take_cells(maps: &mut State<OWord>, frames: &mut Region<Frame, OWord>, from: 
     requires room { HasRoom frames.old.frames n }
     ensures maps { maps.new ≡ record maps.old { cells = dropped maps.old.cells from n } }
     ensures frames { frames.new ≡ record frames.old {
-      frames = with_items frames.old.frames (words_from maps.old.cells from n);
+      frames = with_items frames.old.frames (words_from OWord.Plain maps.old.cells from n);
     } }
 {
     let mut at = from;

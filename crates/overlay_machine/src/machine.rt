@@ -5,15 +5,15 @@ ghost use Rattle.cap_words.specs.Face.{CapInOrder};
 ghost use Rattle.cap_words.specs.Ranges.{IsRange};
 ghost use Rattle.cap_words.specs.Faces.{covers, address};
 ghost use Rattle.lcm_machine.specs.Places.{set_reg};
-ghost use Rattle.lcm_machine.specs.Cells.{cell};
+ghost use Rattle.lcm_machine.specs.Cells.{cell, all_there};
 ghost use Rattle.lcm_machine.specs.Spans.{in_spans};
 ghost use Rattle.lcm_machine.specs.Runs.{code_cap};
 ghost use Rattle.lcm_machine.specs.Touched.{SameCells};
 ghost use Rattle.frame_region.specs.Frames.{sizes, IsNewestFull, newest_head};
-ghost use Rattle.overlay_machine.specs.State.{all_there};
 ghost use Rattle.overlay_machine.specs.Step.{call_step, entry_step, return_step, other_step, step_by};
 ghost use Rattle.overlay_machine.specs.Moves.{IsNewest};
-ghost use Rattle.overlay_machine.specs.Machine.{overlay_of, Fits, Ends, IsJump, called, returned};
+ghost use Rattle.overlay_machine.specs.Machine.{overlay_of, Fits, Ends, called, returned};
+ghost use Rattle.lcm_machine.specs.Plan.{IsJump};
 ghost use Rattle.overlay_machine.specs.Machine.{at_jump, at_return, at_entry};
 
 use crate::cases::{Case, own_stack};

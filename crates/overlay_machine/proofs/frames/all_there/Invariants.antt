@@ -1,6 +1,6 @@
 use Rattle.std.proofs.Common.{◌≡◌, ◌≤◌, ◌<◌, ◌+◌, ℕ, IsTrue}
 use Rattle.lcm_machine.specs.Spans.{in_spans}
-use Rattle.overlay_machine.specs.State.{all_there}
+use Rattle.lcm_machine.specs.Cells.{all_there}
 use Rattle.overlay_machine.proofs.frames.all_there.Given as goal
 
 abbrev pub invariant-loop-left : goal.invariant-loop-left

@@ -1,6 +1,5 @@
 use Rattle.std.proofs.Common.{◌+◌, ◌-◌, sym, ap, subst, ◌∙◌, rules, IsTrue, IsSome}
-use Rattle.lcm_machine.specs.Cells.{cell, drop_cell}
-use Rattle.overlay_machine.specs.State.{all_there}
+use Rattle.lcm_machine.specs.Cells.{cell, drop_cell, all_there}
 use Rattle.overlay_machine.proofs.FrameLemmas.{first-there, rest-there, opened-maps, opened-frames}
 use Rattle.overlay_machine.proofs.frames.open_frame.Goals as goal
 

@@ -1,11 +1,13 @@
 use Rattle.std.proofs.Common.{arith, ◌≤◌, ◌<◌, ◌+◌, ◌-◌, sym, ap, subst, ◌∙◌, rules, IsTrue, ℕ}
 use Rattle.lcm_machine.specs.Row.{planned}
 use Rattle.lcm_machine.specs.Spans.{in_spans}
-use Rattle.overlay_machine.specs.State.{all_there}
+use Rattle.lcm_machine.specs.Cells.{all_there}
 use Rattle.overlay_machine.specs.Machine.{Fits}
 use Rattle.overlay_machine.proofs.CallLemmas.{own-base, base-is, call-goes, call-fails}
 use Rattle.overlay_machine.proofs.FitsLemmas.{fits-room, fits-called}
-use Rattle.overlay_machine.proofs.JumpLemmas.{plan-jump}
+use Rattle.lcm_isa.specs.declared.Reg.TheVariants.{C1, C2}
+use Rattle.lcm_machine.proofs.JumpLemmas.{plan-jump}
+use Rattle.overlay_machine.specs.Words.{look}
 use Rattle.overlay_machine.proofs.machine.Machine.call.Goals as goal
 
 pub make_call-requires-clause-stack : goal.make_call-requires-clause-stack
@@ -25,7 +27,7 @@ make_call-requires-clause-room c =
     fits-room c.args.layout.now c.args.self.now c.in-Some-frame_base.at c.in-Some-own_stack.c.end c.requires.fits b.above b.below h t
 
 pub make_call-requires-clause-effect : goal.make_call-requires-clause-effect
-make_call-requires-clause-effect c = plan-jump c.args.self.now.maps _ c.in-Ok.effect (sym c.plan_xjmp.ensures ∙ ap planned c.in-Ok.is)
+make_call-requires-clause-effect c = plan-jump look c.args.self.now.maps C1 C2 _ c.in-Ok.effect (sym c.plan_xjmp.ensures ∙ ap planned c.in-Ok.is)
 
 pub returns-in-Err-clause-ends : goal.returns-in-Err-clause-ends
 returns-in-Err-clause-ends c =
@@ -64,4 +66,4 @@ returns-in-Ok-clause-fits c =
     let v = b.below in
     subst (Fits c.args.layout.now) (sym c.make_call.ensures)
     (fits-called c.args.layout.now c.args.self.now c.args.site c.in-Some.code c.in-Some-own_stack.c c.in-Some-frame_base.at c.in-Ok.effect c.requires.fits b.above b.below h w
-    (λ q lo hi. s q lo (omega (arith, lo, hi, v))) t (plan-jump c.args.self.now.maps _ c.in-Ok.effect (sym c.plan_xjmp.ensures ∙ ap planned c.in-Ok.is)))
+    (λ q lo hi. s q lo (omega (arith, lo, hi, v))) t (plan-jump look c.args.self.now.maps C1 C2 _ c.in-Ok.effect (sym c.plan_xjmp.ensures ∙ ap planned c.in-Ok.is)))
