@@ -9,7 +9,7 @@ use Rattle.lcm_isa.specs.declared.Reg.TheVariants.{Pc, Stk, Dat, C1, C2}
 use Rattle.lcm_isa.specs.declared.Instr.TheVariants.{Xjmp}
 use Rattle.lcm_machine.specs.declared.Place.TheVariants.{R}
 use Rattle.lcm_machine.specs.Maps.{State}
-use Rattle.lcm_machine.specs.Cells.{cell}
+use Rattle.lcm_machine.specs.Cells.{cell, all_there}
 use Rattle.lcm_machine.specs.Row.{faces, row, plan_in}
 use Rattle.lcm_machine.specs.Runs.{run_of, code_cap}
 use Rattle.lcm_machine.proofs.Commute.{row_mapped, is_linear-face}
@@ -20,7 +20,7 @@ use Rattle.overlay_machine.specs.declared.layout.SiteCode.{SiteCode}
 use Rattle.overlay_machine.specs.declared.words.OWord.{OWord}
 use Rattle.overlay_machine.specs.declared.words.OWord.TheVariants.{Plain}
 use Rattle.overlay_machine.specs.Words.{look, is_plain}
-use Rattle.overlay_machine.specs.State.{OState, all_there}
+use Rattle.overlay_machine.specs.State.{OState}
 use Rattle.overlay_machine.specs.Step.{new_frame, at_call, call_step, need, ask, with_frames, own_stack}
 use Rattle.overlay_machine.specs.Flat.{flat, beside, IsFlat}
 use Rattle.overlay_machine.specs.Agree.{Agrees, Looks, HasSite, AtSite}

@@ -1,6 +1,6 @@
 -- The plain state before a call's `xjmp` is the flattening of the overlay's.
-use Rattle.std.proofs.Common.{◌≡◌, ◌≢◌, ◌⊎◌, inl, inr, ℕ, suc, ◌+◌, ◌-◌, ◌<◌, ◌≤◌, pos, List, [], ◌∷◌, Some, None, IsSome, refl, ap, sym, ◌∙◌, arith}
-use Rattle.std.specs.Prelude.{slice_get, unwrap_or, Option}
+use Rattle.std.proofs.Common.{◌≡◌, ◌≢◌, ◌⊎◌, inl, inr, ℕ, suc, ◌+◌, ◌-◌, ◌<◌, ◌≤◌, pos, ◌∷◌, Some, None, IsSome, refl, ap, sym, ◌∙◌, arith}
+use Rattle.std.specs.Prelude.{slice_get, unwrap_or}
 use Rattle.std.specs.Option.{option_or}
 use Rattle.std.proofs.lemmas.Bool.{cases_lt, cases_eq}
 use Rattle.cap_words.specs.declared.Word.{Word}
@@ -26,11 +26,11 @@ use Rattle.overlay_machine.specs.declared.words.OWord.{OWord}
 use Rattle.overlay_machine.specs.declared.words.OWord.TheVariants.{Plain, RetCode, RetData}
 use Rattle.overlay_machine.specs.Words.{look}
 use Rattle.overlay_machine.specs.Layout.{site_code}
-use Rattle.overlay_machine.specs.State.{OpenFrame, OState, without, word_of, framed}
+use Rattle.overlay_machine.specs.State.{OpenFrame, OState, word_of, framed}
 use Rattle.overlay_machine.specs.Step.{new_frame, at_call}
 use Rattle.overlay_machine.specs.Flat.{flat, flat_code, flat_data, flat_range, beside, IsFlat}
 use Rattle.overlay_machine.specs.Agree.{FramesLook, Looks, AllKnown}
-use Rattle.overlay_machine.proofs.CellLemmas.{cell-without_in, cell-without_out}
+use Rattle.lcm_machine.proofs.Stretches.{cell-without_in, cell-without_out}
 use Rattle.overlay_machine.proofs.FrameWords.{words_from-at, words_from-past, word_of-below, word_of-within, frame_of-newest, flat-other, known-other, mapped-same, some_of}
 
 module _ (l : Layout) (i : ℕ) (o : OState) (t : State Word) (sc : SiteCode) (se b : ℕ)

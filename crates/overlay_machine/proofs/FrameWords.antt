@@ -1,20 +1,19 @@
 -- The words of frames, the frame of a call, and words put back.
-use Rattle.std.proofs.Common.{◌≡◌, ◌≢◌, ◌⊎◌, inl, inr, ℕ, zero, suc, ◌+◌, ◌-◌, ◌<◌, ◌≤◌, true, List, [], ◌∷◌, length, Some, None, IsSome, is_some, refl, ap, sym, ◌∙◌, arith, lt-ltb, le-ltb, ne_eqb, eq-eqb}
+use Rattle.std.proofs.Common.{◌≡◌, ◌≢◌, inl, ℕ, zero, suc, ◌+◌, ◌-◌, ◌<◌, ◌≤◌, true, List, [], ◌∷◌, length, Some, None, IsSome, is_some, refl, ap, sym, ◌∙◌, arith, lt-ltb, le-ltb, ne_eqb, eq-eqb}
 use Rattle.std.specs.Prelude.{slice_get, unwrap_or, Option}
-use Rattle.cap_words.specs.declared.Word.{Word}
 use Rattle.cap_words.specs.Linear.{zero_word}
-use Rattle.lcm_machine.specs.Cells.{cell, set_cell}
+use Rattle.lcm_machine.specs.Cells.{cell, set_cell, all_there, words_from, put_back}
 use Rattle.lcm_machine.specs.Mapped.{mapped_or}
 use Rattle.lcm_machine.proofs.CellLemmas.{cell-set_same}
 use Rattle.overlay_machine.specs.declared.layout.Layout.{Layout}
 use Rattle.overlay_machine.specs.declared.words.OWord.{OWord}
 use Rattle.overlay_machine.specs.declared.words.OWord.TheVariants.{Plain, RetCode, RetData}
-use Rattle.overlay_machine.specs.State.{OpenFrame, Cells, all_there, words_from, put_back, word_of, frame_of}
+use Rattle.overlay_machine.specs.State.{OpenFrame, Cells, word_of, frame_of}
 use Rattle.overlay_machine.specs.Flat.{flat, flat_data}
 use Rattle.overlay_machine.specs.Agree.{IsKnown, IsOther}
 use Rattle.overlay_machine.proofs.OutLemmas.{put_back-other}
 
-pub words_from-at : (m : Cells) (a n j : ℕ) → j < n → slice_get (words_from m a n) j ≡ Some (unwrap_or (cell m (a + j)) (zero_word Plain))
+pub words_from-at : (m : Cells) (a n j : ℕ) → j < n → slice_get (words_from Plain m a n) j ≡ Some (unwrap_or (cell m (a + j)) (zero_word Plain))
 unfolding words_from
 words_from-at m a zero j h = absurd (omega arith)
 words_from-at m a (suc n) zero h = let e : a ≡ a + 0 = omega arith in ap (λ k. Some (unwrap_or (cell m k) (zero_word Plain))) e
@@ -22,7 +21,7 @@ words_from-at m a (suc n) (suc j) h =
     let e : a + 1 + j ≡ a + suc j = omega arith in
     words_from-at m (a + 1) n j (omega arith) ∙ ap (λ k. Some (unwrap_or (cell m k) (zero_word Plain))) e
 
-pub words_from-past : (m : Cells) (a n j : ℕ) → n ≤ j → slice_get (words_from m a n) j ≡ None
+pub words_from-past : (m : Cells) (a n j : ℕ) → n ≤ j → slice_get (words_from Plain m a n) j ≡ None
 unfolding words_from
 words_from-past m a zero j h = refl
 words_from-past m a (suc n) zero h = absurd (omega arith)

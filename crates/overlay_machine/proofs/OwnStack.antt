@@ -21,6 +21,7 @@ use Rattle.overlay_machine.specs.declared.words.OWord.{OWord}
 use Rattle.overlay_machine.specs.Words.{look}
 use Rattle.overlay_machine.specs.State.{OpenFrame}
 use Rattle.overlay_machine.specs.Step.{is_own_stack, if_own, own_stack}
+use Rattle.overlay_machine.proofs.FlatLemmas.{mem_of_face}
 
 -- the stack's kind read backwards
 perm_is : (p : Perm) → (perm_number p == 2) ≡ true → p ≡ Rw
@@ -71,3 +72,15 @@ own_joins l c g own e h =
 pub own_from : (l : Layout) (s : State OWord) (c : CapFields) → look s.regs.stk ≡ Mem c → lin_is c.lin ≡ true → (perm_number c.perm == 2) ≡ true → c.base ≡ l.stack.base → own_stack l s ≡ Some c
 unfolding own_stack faces
 own_from l s c e lin perm base = rw (e, lin, perm, eq-eqb c.base l.stack.base base) refl
+
+-- its capability
+pub own_is : (l : Layout) (s : State OWord) (c : CapFields) → own_stack l s ≡ Some c
+    → (look s.regs.stk ≡ Mem c) × (c ≡ record (stack_cap l.stack.base c.end 0) { addr = c.addr })
+unfolding own_stack faces
+own_is l s c e =
+    let f = face_of_own l (face_of (look s.regs.stk)) c e in
+    let p = own_parts l c f.1 in
+    (mem_of_face (look s.regs.stk) c f.0, whole c l.stack.base (perm_is c.perm p.1) (lin_of c.lin p.0) p.2)
+  where
+    whole : (c : CapFields) (b : ℕ) → c.perm ≡ Rw → c.lin ≡ Linear → c.base ≡ b → c ≡ record (stack_cap b c.end 0) { addr = c.addr }
+    whole c b p l q = ap (λ x. record c { perm = x }) p ∙ ap (λ x. record c { perm = Rw; lin = x }) l ∙ ap (λ x. record c { perm = Rw; lin = Linear; base = x }) q

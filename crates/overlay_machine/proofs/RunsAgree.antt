@@ -11,7 +11,7 @@ use Rattle.lcm_machine.specs.Plan.{Plan, Fails, Halts, Goes}
 use Rattle.lcm_machine.specs.Maps.{State}
 use Rattle.lcm_machine.specs.Places.{reg}
 use Rattle.lcm_machine.specs.Table.{ask as plan_ask, need as plan_need}
-use Rattle.lcm_machine.specs.Row.{Outcome, went, halted, failed, step_of, row, outcome, plan_in, opens}
+use Rattle.lcm_machine.specs.Row.{Outcome, went, halted, failed, step_of, row, outcome, plan_in}
 use Rattle.lcm_machine.specs.Runs.{and_then, run_of}
 use Rattle.lcm_machine.proofs.Goes.{run_of-add, run_then}
 use Rattle.lcm_machine.proofs.StepRows.{run_one}
@@ -21,9 +21,8 @@ use Rattle.overlay_machine.specs.declared.words.OWord.TheVariants.{Plain, RetCod
 use Rattle.overlay_machine.specs.declared.cases.Case.{Case}
 use Rattle.overlay_machine.specs.declared.cases.Case.TheVariants.{Call, Entry, Back, Other}
 use Rattle.overlay_machine.specs.Words.{look, is_ret_code}
-use Rattle.overlay_machine.specs.Layout.{site_code}
 use Rattle.overlay_machine.specs.State.{OpenFrame, OState}
-use Rattle.overlay_machine.specs.Step.{Ending, goes, halts, fails, ask, need, with_frames, own_stack, call_step, entry_step, return_by, return_step, case_of, step_by, weight_by, overlay_step, weight_of}
+use Rattle.overlay_machine.specs.Step.{Ending, goes, halts, fails, ask, need, with_frames, call_step, entry_step, return_by, return_step, case_of, step_by, weight_by, overlay_step, weight_of}
 use Rattle.overlay_machine.specs.Flat.{IsFlat}
 use Rattle.overlay_machine.specs.Agree.{EndAlike, Agrees}
 use Rattle.overlay_machine.specs.Runs.{Reached, begins, goes_on, plain_run, HaltsBehind, FailsBehind, RunsAgree, Simulates, Carries}

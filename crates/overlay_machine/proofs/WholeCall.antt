@@ -1,5 +1,5 @@
 -- A call and all its failures: one overlay step against as many plain ones as it weighs.
-use Rattle.std.proofs.Common.{◌≡◌, ◌≢◌, ◌⊎◌, inl, inr, ℕ, ◌+◌, ◌-◌, ◌<◌, ◌≤◌, ℤ, pos, negsuc, Bool, true, false, Some, None, refl, ap, sym, ◌∙◌, arith, le-leb, lt-ltb, le-ltb, ne_eqb}
+use Rattle.std.proofs.Common.{◌≡◌, ◌≢◌, inl, inr, ℕ, ◌+◌, ◌-◌, ◌≤◌, ℤ, pos, negsuc, Bool, true, false, Some, None, refl, ap, sym, ◌∙◌, arith, le-leb, lt-ltb, le-ltb, ne_eqb}
 use Rattle.std.specs.Prelude.{Option, nat_le, ◌&&◌, int_lt, ◌==◌, if◌then◌else◌}
 use Rattle.std.proofs.lemmas.Bool.{cases_lt, cases_eq, lt-leb, and_right, and_left}
 use Rattle.cap_words.specs.declared.Word.{Word}
@@ -17,7 +17,7 @@ use Rattle.lcm_isa.specs.declared.Instr.TheVariants.{Xjmp}
 use Rattle.lcm_machine.specs.declared.Place.TheVariants.{R}
 use Rattle.lcm_machine.specs.Maps.{State}
 use Rattle.lcm_machine.specs.Table.{runs_in, unsealed}
-use Rattle.lcm_machine.specs.Cells.{cell}
+use Rattle.lcm_machine.specs.Cells.{cell, all_there}
 use Rattle.lcm_machine.specs.Row.{put, row, went}
 use Rattle.lcm_machine.specs.Runs.{run_of, code_cap}
 use Rattle.lcm_machine.specs.Refusals.{HasFailed, CannotJoin, Refuses}
@@ -34,13 +34,13 @@ use Rattle.overlay_machine.specs.declared.words.OWord.TheVariants.{Plain, RetCod
 use Rattle.overlay_machine.specs.declared.cases.Case.TheVariants.{Call}
 use Rattle.overlay_machine.specs.Words.{is_plain, is_ret_code}
 use Rattle.overlay_machine.specs.Layout.{site_code}
-use Rattle.overlay_machine.specs.State.{OState, all_there, frame_of}
+use Rattle.overlay_machine.specs.State.{OState, frame_of}
 use Rattle.overlay_machine.specs.Step.{fails, call_step, need, ask, weight_by}
 use Rattle.overlay_machine.specs.Flat.{flat, IsFlat}
 use Rattle.overlay_machine.specs.Agree.{Agrees, Looks, AtSite}
 use Rattle.overlay_machine.proofs.FlatLemmas.{flat-mem, cell-flat, HasCall-flat, HasReturn-flat, both_fail}
 use Rattle.overlay_machine.proofs.FrameWords.{all_there-from, some_of}
-use Rattle.overlay_machine.proofs.PairsOpened.{OneSite, DataOpened, code_site, data_site, data_refuses, foreign_refuses, opened-code, opened-data}
+use Rattle.overlay_machine.proofs.PairsOpened.{OneSite, code_site, data_site, data_refuses, foreign_refuses, opened-code, opened-data}
 use Rattle.overlay_machine.proofs.CallAgrees.{its_site, owns, dat_normal, t15, plain_row, call_agrees}
 
 abbrev id : Word → Word

@@ -18,5 +18,7 @@ pub mod EntryKept
 pub mod ReturnKept
 pub mod CallKept
 pub mod Kept
-pub mod Halting
 pub mod StepKept
+pub mod SequencesLacking
+pub mod StepQuiet
+pub mod FramePrivate

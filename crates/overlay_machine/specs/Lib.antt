@@ -16,3 +16,4 @@ pub mod Safe
 pub mod Linked
 pub mod Invariant
 pub mod Keeping
+pub mod Privacy

@@ -6,9 +6,8 @@ use Rattle.lcm_machine.specs.Regions.{Region}
 use Rattle.lcm_machine.specs.Cells.{cell}
 use Rattle.call_sequence.specs.SequenceRuns.{Outside}
 use Rattle.component_linker.specs.Parts.{PartSeen}
-use Rattle.component_linker.specs.Regions.{code_span, data_span, linear_span, stack_span, region, regions_of}
+use Rattle.component_linker.specs.Regions.{code_span, data_span, linear_span, region, regions_of}
 use Rattle.flow_check.specs.Holds.{Ranges}
-use Rattle.overlay_machine.specs.declared.words.OWord.{OWord}
 use Rattle.overlay_machine.specs.declared.words.OWord.TheVariants.{Plain}
 use Rattle.overlay_machine.specs.declared.layout.Layout.{Layout}
 use Rattle.overlay_machine.specs.State.{OpenFrame, Cells, framed}

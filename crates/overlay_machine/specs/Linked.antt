@@ -1,5 +1,5 @@
 -- What linked parts have, as far as a step of the overlay rests on it.
-use Rattle.std.specs.Prelude.{◌≡◌, ◌≢◌, ℕ, ◌+◌, ◌≤◌, ◌<◌, Bool, true, false, is_some, ℤ, pos, [], ◌∷◌, find, length, slice_get, Some, None}
+use Rattle.std.specs.Prelude.{◌≡◌, ◌≢◌, ℕ, ◌+◌, ◌≤◌, ◌<◌, Bool, true, false, is_some, ℤ, [], ◌∷◌, find, length, slice_get, Some, None}
 use Rattle.std.specs.List.{Contains}
 use Rattle.cap_words.specs.declared.TheConstants.{LAST_PLACE}
 use Rattle.cap_words.specs.declared.CapFields.{CapFields}

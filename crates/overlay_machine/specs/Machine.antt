@@ -3,11 +3,9 @@ use Rattle.std.specs.Prelude.{◌≡◌, ◌≤◌, ◌<◌, ◌⊎◌, ℕ, zer
 use Rattle.std.specs.Prelude.{if◌then◌else◌, Bool, is_some, IsTrue, pos, Option, Some, None}
 use Rattle.cap_words.specs.declared.TheConstants.{LAST_PLACE}
 use Rattle.cap_words.specs.declared.CapFields.{CapFields}
-use Rattle.cap_words.specs.declared.Word.{Word}
 use Rattle.cap_words.specs.declared.Word.TheVariants.{Mem}
 use Rattle.cap_words.specs.Linear.{zero_word}
 use Rattle.lcm_isa.specs.declared.Reg.{Reg}
-use Rattle.lcm_isa.specs.declared.Reg.TheVariants.{Pc, Dat}
 use Rattle.lcm_machine.specs.declared.cells.Span.{Span}
 use Rattle.lcm_machine.specs.declared.Place.TheVariants.{R}
 use Rattle.lcm_machine.specs.declared.plan.Effect.{Effect}

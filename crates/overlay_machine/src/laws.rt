@@ -11,6 +11,7 @@ ghost use Rattle.overlay_machine.specs.Runs.{Reached, plain_run, RunsAgree};
 ghost use Rattle.overlay_machine.specs.Link.{Link};
 ghost use Rattle.overlay_machine.specs.Linked.{Linked};
 ghost use Rattle.overlay_machine.specs.Invariant.{Invariant, StepsKeep};
+ghost use Rattle.overlay_machine.specs.Privacy.{AllFramesArePrivate};
 
 /// One step of the overlay is as many plain instructions as it weighs.
 ///
@@ -51,4 +52,14 @@ pub fn linked_runs_agree()
         → RunsAgree g.layout o t }
     ensures kept { (g : Link) (o p : OState) (t : State Word) (j : ℕ) → Linked g → Invariant g o t
         → Reached g.layout o j p → (u : State Word) × (plain_run j t ≡ went u) × Invariant g p u }
+{}
+
+/// The frame of an open call is private.
+///
+/// From an overlay of linked parts with the invariant at which a call is open, and as long as it is
+/// open, no instruction of the plain machine fetches from an address of its frame, loads from it or
+/// stores to it. Neither does an `xjmp` of a return word that comes next, so the first to touch the
+/// frame again is the return sequence behind the call.
+pub fn frames_are_private()
+    ensures { AllFramesArePrivate }
 {}

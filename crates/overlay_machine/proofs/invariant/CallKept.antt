@@ -1,6 +1,6 @@
 -- The invariant is kept by a call that goes on.
-use Rattle.std.proofs.Common.{◌≡◌, ◌≢◌, ◌⊎◌, inl, inr, ℕ, zero, suc, ◌+◌, ◌-◌, ◌<◌, ◌≤◌, ℤ, pos, negsuc, Bool, true, false, List, [], ◌∷◌, length, Option, Some, None, refl, sym, ap, ◌∙◌, subst, arith, is_some, IsSome, leb-true, ltb-true}
-use Rattle.std.specs.Prelude.{◌&&◌, int_lt, nat_le, nat_lt, slice_get, unwrap_or}
+use Rattle.std.proofs.Common.{◌≡◌, ◌≢◌, ◌⊎◌, inl, inr, ℕ, suc, ◌+◌, ◌-◌, ◌<◌, ◌≤◌, ℤ, pos, negsuc, Bool, true, false, List, ◌∷◌, length, Option, Some, None, refl, sym, ap, ◌∙◌, subst, arith, is_some, IsSome, leb-true, ltb-true}
+use Rattle.std.specs.Prelude.{◌&&◌, int_lt, nat_le, slice_get, unwrap_or}
 use Rattle.std.specs.Option.{option_or}
 use Rattle.std.specs.List.{Contains}
 use Rattle.std.proofs.lemmas.Bool.{and_parts}
@@ -17,15 +17,14 @@ use Rattle.lcm_isa.specs.declared.Reg.TheVariants.{Pc, Rcode, Rdata, Stk, Dat, T
 use Rattle.lcm_isa.specs.declared.Instr.TheVariants.{Xjmp}
 use Rattle.lcm_machine.specs.declared.Place.{Place}
 use Rattle.lcm_machine.specs.declared.Place.TheVariants.{R, Cell}
-use Rattle.lcm_machine.specs.Maps.{Regs, State}
+use Rattle.lcm_machine.specs.Maps.{State}
 use Rattle.lcm_machine.specs.Places.{reg}
-use Rattle.lcm_machine.specs.Cells.{cell}
+use Rattle.lcm_machine.specs.Cells.{cell, without}
 use Rattle.lcm_machine.specs.Regions.{memory_of}
 use Rattle.lcm_machine.specs.Row.{word_at, row, went}
 use Rattle.lcm_machine.proofs.RegionLemmas.{contains_cases}
 use Rattle.flow_check.specs.Kinds.{kind_of, below_any}
 use Rattle.flow_check.specs.Holds.{data_cap, HasKind}
-use Rattle.flow_check.specs.Walk.{passes}
 use Rattle.flow_check.proofs.Fitting.{is_safe}
 use Rattle.component_linker.specs.Parts.{PartSeen}
 use Rattle.overlay_machine.specs.declared.words.OWord.{OWord}
@@ -34,7 +33,7 @@ use Rattle.overlay_machine.specs.declared.layout.Layout.{Layout}
 use Rattle.overlay_machine.specs.declared.layout.SiteCode.{SiteCode}
 use Rattle.overlay_machine.specs.Words.{look, is_plain}
 use Rattle.overlay_machine.specs.Layout.{site_code}
-use Rattle.overlay_machine.specs.State.{OpenFrame, OState, Cells, framed, frame_of, word_of, all_there, words_from, without}
+use Rattle.overlay_machine.specs.State.{OpenFrame, OState, Cells, framed, word_of}
 use Rattle.overlay_machine.specs.Flat.{flat}
 use Rattle.overlay_machine.specs.Step.{goes, own_stack, new_frame, at_call, call_step}
 use Rattle.overlay_machine.specs.Agree.{IsKnown, AllKnown}
@@ -42,13 +41,14 @@ use Rattle.overlay_machine.specs.Link.{Link, IsTrusted, ranges_of, regions, IsSt
 use Rattle.overlay_machine.specs.Linked.{Linked, SiteOf}
 use Rattle.overlay_machine.specs.Safe.{IsSafeCap, IsSafe}
 use Rattle.overlay_machine.specs.Invariant.{StandsAt, PcPart, FrameLies, FramesLie, FrameFits, Invariant}
-use Rattle.overlay_machine.proofs.CellLemmas.{cell-without_in, cell-without_out}
+use Rattle.lcm_machine.proofs.Stretches.{cell-without_in, cell-without_out}
 use Rattle.overlay_machine.proofs.FlatLemmas.{flat-mem}
 use Rattle.overlay_machine.proofs.FrameWords.{words_from-at, word_of-within, frame_of-later, frame_of-newest}
 use Rattle.overlay_machine.proofs.invariant.Facts.{there_is, safe_int, safe_stk, mem_safe, in_code, closed, open_stack_at, in_stack}
 use Rattle.overlay_machine.proofs.invariant.HeldFlat.{one_holder, place_flat, framed_flat}
 use Rattle.overlay_machine.proofs.invariant.Ready.{own_dat, dat_is, stk_is, passes_on, linear, known}
-use Rattle.overlay_machine.proofs.invariant.EntryKept.{own_is, need_goes}
+use Rattle.overlay_machine.proofs.OwnStack.{own_is}
+use Rattle.overlay_machine.proofs.invariant.EntryKept.{need_goes}
 use Rattle.overlay_machine.proofs.invariant.OtherKept.{went_other, cross_safe}
 use Rattle.overlay_machine.proofs.invariant.Standing.{Stand}
 use Rattle.overlay_machine.proofs.invariant.ReturnKept.{ask_goes, where_in}

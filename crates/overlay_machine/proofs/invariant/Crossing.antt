@@ -1,6 +1,6 @@
 -- An `xjmp` of safe words goes onto safe code with safe data, or onto an entry of a trusted part with its data
 -- capability.
-use Rattle.std.proofs.Common.{◌≡◌, ◌≢◌, ◌⊎◌, inl, inr, ℕ, zero, suc, ◌+◌, ◌<◌, ◌≤◌, ℤ, pos, Bool, true, false, List, [], ◌∷◌, length, Option, Some, None, refl, sym, ap, ◌∙◌, subst, arith, eqb-true, eq-eqb}
+use Rattle.std.proofs.Common.{◌≡◌, ◌≢◌, ◌⊎◌, inl, inr, ℕ, zero, suc, ℤ, pos, Bool, true, false, List, [], ◌∷◌, Some, None, refl, sym, ap, ◌∙◌, subst, arith, eqb-true, eq-eqb}
 use Rattle.std.specs.Prelude.{not, ◌==◌, ◌||◌, if◌then◌else◌}
 use Rattle.std.specs.List.{Contains, list_any}
 use Rattle.cap_words.specs.declared.Word.{Word}
@@ -29,7 +29,7 @@ use Rattle.flow_check.specs.Kinds.{kind_of, entry_row}
 use Rattle.flow_check.specs.Holds.{data_cap, code_at, HasKind}
 use Rattle.flow_check.specs.Places.{begins_entry}
 use Rattle.component_linker.specs.Parts.{PartSeen}
-use Rattle.component_linker.specs.Start.{Exported, code_of, code_half, data_half}
+use Rattle.component_linker.specs.Start.{Exported, code_of}
 use Rattle.overlay_machine.specs.declared.words.OWord.{OWord}
 use Rattle.overlay_machine.specs.declared.words.OWord.TheVariants.{Plain}
 use Rattle.overlay_machine.specs.Words.{look}
@@ -37,7 +37,7 @@ use Rattle.overlay_machine.specs.State.{OpenFrame}
 use Rattle.overlay_machine.specs.Link.{Link, IsTrusted, ranges_of, IsStackCell}
 use Rattle.overlay_machine.specs.Linked.{Linked}
 use Rattle.overlay_machine.specs.Safe.{IsSafeIn, IsOpenSeal, IsHalf, IsTrustedHalf, IsSafe}
-use Rattle.overlay_machine.specs.Invariant.{StandsAt, PcPart, at_row, outside}
+use Rattle.overlay_machine.specs.Invariant.{PcPart, at_row, outside}
 
 -- what an `xjmp` that goes has done
 pub record Crossed (r1 r2 : Reg) (s s' : State OWord) : Type 0 where

@@ -1,77 +1,41 @@
 -- The invariant is kept by an entry.
-use Rattle.std.proofs.Common.{◌≡◌, ◌≢◌, ◌⊎◌, inl, inr, ℕ, zero, suc, ◌+◌, ◌<◌, ◌≤◌, ℤ, pos, Bool, true, false, List, [], ◌∷◌, length, Option, Some, None, refl, sym, ap, ◌∙◌, subst, arith, eqb-true}
-use Rattle.std.specs.Prelude.{◌==◌, ◌&&◌, if◌then◌else◌}
-use Rattle.std.proofs.lemmas.Bool.{and_parts}
+use Rattle.std.proofs.Common.{◌≡◌, ◌≢◌, inl, inr, ℕ, ◌+◌, pos, Bool, true, false, List, Option, Some, None, refl, sym, ap, ◌∙◌, subst, arith}
 use Rattle.cap_words.specs.declared.Word.{Word}
-use Rattle.cap_words.specs.declared.Word.TheVariants.{Int, Mem}
+use Rattle.cap_words.specs.declared.Word.TheVariants.{Mem}
 use Rattle.cap_words.specs.declared.CapFields.{CapFields}
-use Rattle.cap_words.specs.declared.Perm.{Perm}
-use Rattle.cap_words.specs.declared.Perm.TheVariants.{No, R as ReadOnly, Rw, Rx, Rwx}
-use Rattle.cap_words.specs.declared.Lin.{Lin}
-use Rattle.cap_words.specs.declared.Lin.TheVariants.{Normal, Linear}
+use Rattle.cap_words.specs.declared.Perm.TheVariants.{Rw}
+use Rattle.cap_words.specs.declared.Lin.TheVariants.{Linear}
 use Rattle.cap_words.specs.Face.{face_of}
-use Rattle.cap_words.specs.Faces.{memory_in, perm_number}
-use Rattle.cap_words.specs.Linear.{zero_word, lin_is}
+use Rattle.cap_words.specs.Faces.{memory_in}
+use Rattle.cap_words.specs.Linear.{zero_word}
 use Rattle.lcm_isa.specs.declared.Reg.{Reg}
 use Rattle.lcm_isa.specs.declared.Reg.TheVariants.{Pc, Rcode, Rdata, Stk, Dat, T1, T2, C1, C2, A0, A1, A2, A3, G0, G1, G2}
 use Rattle.lcm_machine.specs.Maps.{Regs, State}
 use Rattle.lcm_machine.specs.Places.{reg}
 use Rattle.lcm_machine.specs.Table.{is_pc}
 use Rattle.lcm_machine.specs.Row.{faces, Fetched}
-use Rattle.lcm_machine.proofs.RowLemmas.{look_memory}
-use Rattle.flow_check.specs.Kinds.{Row, kind_of, clean_row, entry_row}
-use Rattle.flow_check.specs.Holds.{data_cap, stack_cap, code_at, Up, PcAt, HasKind}
+use Rattle.flow_check.specs.Kinds.{kind_of, entry_row}
+use Rattle.flow_check.specs.Holds.{stack_cap, code_at, Up, HasKind}
 use Rattle.flow_check.specs.Places.{begins_entry}
 use Rattle.flow_check.proofs.LocalFacts.{entry_flows}
 use Rattle.component_linker.specs.Parts.{PartSeen}
 use Rattle.overlay_machine.specs.declared.words.OWord.{OWord}
 use Rattle.overlay_machine.specs.declared.words.OWord.TheVariants.{Plain}
-use Rattle.overlay_machine.specs.declared.layout.Layout.{Layout}
 use Rattle.overlay_machine.specs.declared.cases.Case.{Case}
 use Rattle.overlay_machine.specs.declared.cases.Case.TheVariants.{Call, Entry, Back, Other}
 use Rattle.overlay_machine.specs.Words.{look}
 use Rattle.overlay_machine.specs.State.{OpenFrame, OState}
-use Rattle.overlay_machine.specs.Step.{case_fetched, Ending, goes, fails, need, if_own, own_stack, entry_step, is_own_stack}
+use Rattle.overlay_machine.specs.Step.{case_fetched, Ending, goes, need, own_stack, entry_step}
 use Rattle.overlay_machine.specs.Link.{Link, IsTrusted, ranges_of, IsStackCell}
 use Rattle.overlay_machine.specs.Linked.{Linked}
 use Rattle.overlay_machine.specs.Safe.{IsSafeCap, IsSafe}
-use Rattle.overlay_machine.specs.Invariant.{StandsAt, PcPart, at_row, Invariant}
+use Rattle.overlay_machine.specs.Invariant.{StandsAt, at_row, Invariant}
+use Rattle.overlay_machine.proofs.OwnStack.{own_is}
 use Rattle.overlay_machine.proofs.invariant.Facts.{mem_safe, in_stack}
 use Rattle.overlay_machine.proofs.invariant.View.{View, at_entry, in_part, out}
 use Rattle.overlay_machine.proofs.invariant.Ready.{fetched_case, entry_kind}
 use Rattle.overlay_machine.proofs.invariant.Standing.{Stand}
 use Rattle.overlay_machine.proofs.invariant.Clean.{clean_fits, stands_clean}
-
-perm_rw : (p : Perm) → (perm_number p == 2) ≡ true → p ≡ Rw
-perm_rw No e = cc
-perm_rw ReadOnly e = cc
-perm_rw Rw e = refl
-perm_rw Rx e = cc
-perm_rw Rwx e = cc
-
-lin_linear : (x : Lin) → lin_is x ≡ true → x ≡ Linear
-lin_linear Normal e = cc
-lin_linear Linear e = refl
-
-of_parts : (c : CapFields) (b : ℕ) → c.perm ≡ Rw → c.lin ≡ Linear → c.base ≡ b → c ≡ record { perm = Rw; lin = Linear; base = b; end = c.end; addr = c.addr }
-of_parts c b p l q = ap (λ x. record c { perm = x }) p ∙ ap (λ x. record c { perm = Rw; lin = x }) l ∙ ap (λ x. record c { perm = Rw; lin = Linear; base = x }) q
-
-own_parts : (l : Layout) (x : Option CapFields) (c : CapFields) → if_own l x ≡ Some c → (x ≡ Some c) × (is_own_stack l c ≡ true)
-own_parts l None c e = cc
-own_parts l (Some d) c e = by_own (is_own_stack l d) refl e
-  where
-    by_own : (b : Bool) → is_own_stack l d ≡ b → (if b then Some d else None) ≡ Some c → (Some d ≡ Some c) × (is_own_stack l c ≡ true)
-    by_own true m h = (h, (let q : d ≡ c = cc in subst (λ x. is_own_stack l x ≡ true) q m))
-    by_own false m h = cc
-
--- the capability of an own stack
-pub own_is : (l : Layout) (s : State OWord) (c : CapFields) → own_stack l s ≡ Some c → (look s.regs.stk ≡ Mem c) × (c ≡ record { perm = Rw; lin = Linear; base = l.stack.base; end = c.end; addr = c.addr })
-unfolding own_stack faces
-own_is l s c e =
-    let f = own_parts l (memory_in (face_of (look s.regs.stk))) c e in
-    let p = and_parts (lin_is c.lin && (perm_number c.perm == 2)) (c.base == l.stack.base) f.1 in
-    let q = and_parts (lin_is c.lin) (perm_number c.perm == 2) p.0 in
-    (look_memory (look s.regs.stk) c f.0, of_parts c l.stack.base (perm_rw c.perm q.1) (lin_linear c.lin q.0) (eqb-true c.base l.stack.base p.1))
 
 pub need_goes : {A : Type 0} (x : Option A) (k : A → Ending) (q : OState) → need x k ≡ goes q → (a : A) × (x ≡ Some a) × (k a ≡ goes q)
 unfolding need

@@ -1,27 +1,25 @@
 -- What linked parts say of addresses, of safe words and of trusted pcs.
-use Rattle.std.proofs.Common.{◌≡◌, ◌≢◌, ◌⊎◌, inl, inr, ℕ, zero, suc, ◌+◌, ◌-◌, ◌<◌, ◌≤◌, ℤ, pos, Bool, true, false, List, [], ◌∷◌, length, Option, Some, None, refl, sym, ap, ◌∙◌, subst, arith}
+use Rattle.std.proofs.Common.{◌≡◌, ◌≢◌, inl, inr, ℕ, zero, suc, ◌+◌, ◌<◌, ◌≤◌, ℤ, pos, false, List, [], ◌∷◌, length, Some, refl, sym, ap, ◌∙◌, arith}
 use Rattle.std.specs.Prelude.{slice_get}
 use Rattle.std.specs.List.{Contains}
-use Rattle.cap_words.specs.declared.Word.{Word}
-use Rattle.cap_words.specs.declared.Word.TheVariants.{Int, Mem, Seal, Sealed}
+use Rattle.cap_words.specs.declared.Word.TheVariants.{Int, Mem, Seal}
 use Rattle.cap_words.specs.declared.CapFields.{CapFields}
 use Rattle.cap_words.specs.declared.SealFields.{SealFields}
 use Rattle.cap_words.specs.declared.TheConstants.{LAST_PLACE}
 use Rattle.lcm_isa.specs.declared.Instr.{Instr}
 use Rattle.lcm_isa.specs.Numbers.{number_of}
 use Rattle.lcm_machine.specs.Regions.{Region}
-use Rattle.lcm_machine.specs.Cells.{cell}
 use Rattle.lcm_machine.specs.Row.{look_face}
 use Rattle.lcm_machine.specs.Runs.{Stands}
 use Rattle.call_sequence.specs.SequenceRuns.{Outside}
 use Rattle.call_sequence.specs.Standing.{CodeStands}
-use Rattle.flow_check.specs.Holds.{Ranges, stack_cap, Up}
+use Rattle.flow_check.specs.Holds.{stack_cap, Up}
 use Rattle.component_linker.specs.Parts.{PartSeen}
 use Rattle.overlay_machine.specs.declared.words.OWord.{OWord}
 use Rattle.overlay_machine.specs.declared.words.OWord.TheVariants.{Plain, RetCode, RetData}
 use Rattle.overlay_machine.specs.Words.{look}
-use Rattle.overlay_machine.specs.State.{OpenFrame, Cells, framed}
-use Rattle.overlay_machine.specs.Link.{Link, IsTrusted, IsUsable, the_stack, regions, ranges_of, code_region, data_region, stack_region, IsOpenAt, IsStackCell, CodeIn}
+use Rattle.overlay_machine.specs.State.{OpenFrame, Cells}
+use Rattle.overlay_machine.specs.Link.{Link, IsTrusted, the_stack, regions, ranges_of, code_region, data_region, stack_region, IsOpenAt, IsStackCell, CodeIn}
 use Rattle.overlay_machine.specs.Safe.{IsSafeCap, AreSafeSeals, IsSafe}
 use Rattle.overlay_machine.specs.Linked.{Linked}
 

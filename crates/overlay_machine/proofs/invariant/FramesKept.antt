@@ -1,17 +1,17 @@
 -- A call and a return keep the frames in order.
-use Rattle.std.proofs.Common.{◌≡◌, ◌≢◌, ◌⊎◌, inl, inr, ℕ, zero, suc, ◌+◌, ◌-◌, ◌<◌, ◌≤◌, Bool, true, false, List, [], ◌∷◌, length, Option, Some, None, IsSome, is_some, refl, ap, sym, ◌∙◌, arith}
+use Rattle.std.proofs.Common.{◌≡◌, inl, inr, ℕ, zero, suc, ◌+◌, ◌-◌, ◌<◌, ◌≤◌, true, List, [], ◌∷◌, length, None, IsSome, is_some, refl, ap, sym, ◌∙◌, arith}
 use Rattle.std.proofs.lemmas.Bool.{cases_lt}
-use Rattle.lcm_isa.specs.declared.Reg.TheVariants.{Dat}
-use Rattle.lcm_machine.specs.Cells.{cell}
+use Rattle.lcm_machine.specs.Cells.{cell, words_from, without, put_back}
+use Rattle.overlay_machine.specs.declared.words.OWord.TheVariants.{Plain}
 use Rattle.overlay_machine.specs.declared.words.OWord.{OWord}
 use Rattle.overlay_machine.specs.declared.layout.Layout.{Layout}
-use Rattle.overlay_machine.specs.State.{OpenFrame, OState, Cells, words_from, without, put_back}
+use Rattle.overlay_machine.specs.State.{OpenFrame, OState, Cells}
 use Rattle.overlay_machine.specs.Step.{new_frame}
 use Rattle.overlay_machine.specs.Invariant.{FrameLies, LiesBelow, FramesLie}
-use Rattle.overlay_machine.proofs.CellLemmas.{cell-without_in, cell-without_out}
+use Rattle.lcm_machine.proofs.Stretches.{cell-without_in, cell-without_out}
 use Rattle.overlay_machine.proofs.OutLemmas.{put_back-other}
 
-length-words_from : (m : Cells) (a n : ℕ) → length (words_from m a n) ≡ n
+length-words_from : (m : Cells) (a n : ℕ) → length (words_from Plain m a n) ≡ n
 unfolding words_from
 length-words_from m a zero = refl
 length-words_from m a (suc n) = ap suc (length-words_from m (a + 1) n)

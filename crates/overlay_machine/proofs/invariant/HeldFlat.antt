@@ -1,10 +1,9 @@
 -- That no linear memory is held twice in the plain state, where RetData and the words of frames count, gives what
 -- steps need.
-use Rattle.std.proofs.Common.{◌≡◌, ◌≢◌, ℕ, ◌+◌, ◌≤◌, pos, Bool, true, false, List, [], ◌∷◌, refl, sym, ap, ◌∙◌, arith}
-use Rattle.std.specs.Prelude.{Option, Some, None, IsTrue}
+use Rattle.std.proofs.Common.{◌≡◌, ◌≢◌, ℕ, ◌≤◌, List, refl, ap, ◌∙◌, arith}
+use Rattle.std.specs.Prelude.{Some, None}
 use Rattle.cap_words.specs.declared.Word.{Word}
-use Rattle.cap_words.specs.declared.Word.TheVariants.{Int, Mem, Seal, Sealed}
-use Rattle.cap_words.specs.declared.Sealable.TheVariants.{Mem as MemIn}
+use Rattle.cap_words.specs.declared.Word.TheVariants.{Mem}
 use Rattle.cap_words.specs.declared.CapFields.{CapFields}
 use Rattle.lcm_isa.specs.declared.Reg.{Reg}
 use Rattle.lcm_isa.specs.declared.Reg.TheVariants.{Stk, C2}
@@ -15,7 +14,7 @@ use Rattle.lcm_machine.specs.Places.{reg}
 use Rattle.lcm_machine.specs.Cells.{cell}
 use Rattle.lcm_machine.specs.Row.{word_at}
 use Rattle.lcm_machine.specs.Mapped.{mapped_or}
-use Rattle.lcm_machine.specs.Regions.{Region, IsLinearAt, memory_of, is_over, word_over, HeldOnce}
+use Rattle.lcm_machine.specs.Regions.{Region, IsLinearAt, memory_of, HeldOnce}
 use Rattle.lcm_machine.proofs.RegionLemmas.{bounds_over}
 use Rattle.overlay_machine.specs.declared.words.OWord.{OWord}
 use Rattle.overlay_machine.specs.declared.words.OWord.TheVariants.{Plain, RetCode, RetData}

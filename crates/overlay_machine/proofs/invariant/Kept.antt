@@ -1,8 +1,8 @@
 -- The invariant is kept by every step that goes, and a step is as many plain ones as it weighs.
-use Rattle.std.proofs.Common.{◌≡◌, ◌≢◌, ℕ, Bool, true, false, List, refl, sym, ap, ◌∙◌, inl, inr, Some}
+use Rattle.std.proofs.Common.{◌≡◌, ◌≢◌, ℕ, false, refl, inl, inr}
 use Rattle.cap_words.specs.declared.Word.{Word}
 use Rattle.lcm_isa.specs.declared.Reg.{Reg}
-use Rattle.lcm_isa.specs.declared.Reg.TheVariants.{Pc, Dat}
+use Rattle.lcm_isa.specs.declared.Reg.TheVariants.{Dat}
 use Rattle.lcm_machine.specs.Maps.{State}
 use Rattle.lcm_machine.specs.Places.{reg}
 use Rattle.lcm_machine.specs.Table.{is_pc}
@@ -10,11 +10,9 @@ use Rattle.lcm_machine.specs.Row.{Outcome, went, halted, failed}
 use Rattle.lcm_machine.specs.Runs.{run_of}
 use Rattle.lcm_machine.specs.Regions.{StaysHeldOnce}
 use Rattle.lcm_machine.proofs.HeldOnce.{run_stays}
-use Rattle.component_linker.specs.Parts.{PartSeen}
-use Rattle.overlay_machine.specs.declared.words.OWord.{OWord}
 use Rattle.overlay_machine.specs.declared.cases.Case.{Case}
 use Rattle.overlay_machine.specs.declared.cases.Case.TheVariants.{Call, Entry, Back, Other}
-use Rattle.overlay_machine.specs.State.{OpenFrame, OState}
+use Rattle.overlay_machine.specs.State.{OState}
 use Rattle.overlay_machine.specs.Step.{Ending, goes, halts, fails, case_of, step_by, overlay_step, weight_of}
 use Rattle.overlay_machine.specs.Agree.{Agrees, ReadyFor}
 use Rattle.overlay_machine.specs.Link.{Link, regions}
@@ -22,7 +20,7 @@ use Rattle.overlay_machine.specs.Linked.{Linked}
 use Rattle.overlay_machine.specs.Safe.{IsSafe}
 use Rattle.overlay_machine.specs.Invariant.{Invariant, KeepsAgreeing}
 use Rattle.overlay_machine.proofs.OneStep.{one_step}
-use Rattle.overlay_machine.proofs.invariant.View.{View, at_site, at_entry, in_part, failing, out, view}
+use Rattle.overlay_machine.proofs.invariant.View.{View, at_site, in_part, out, view}
 use Rattle.overlay_machine.proofs.invariant.Glue.{glue_shows}
 use Rattle.overlay_machine.proofs.invariant.Ready.{ready, looks, fetched_case}
 use Rattle.overlay_machine.proofs.invariant.Standing.{Stand, whole}

@@ -1,49 +1,37 @@
 -- The invariant is kept by each step that is a row of the table: of untrusted code, and of trusted code outside
 -- sequences.
-use Rattle.std.proofs.Common.{◌≡◌, ◌≢◌, ◌⊎◌, inl, inr, ℕ, zero, suc, ◌+◌, ◌<◌, ◌≤◌, ℤ, pos, ◌+ℤ◌, Bool, true, false, List, [], ◌∷◌, length, Option, Some, None, refl, sym, ap, ◌∙◌, subst, arith, is_some, IsSome, eqb-true, leb-true}
-use Rattle.std.specs.Prelude.{slice_get, ◌&&◌, nat_le, if◌then◌else◌}
-use Rattle.std.proofs.lemmas.Bool.{cases_Bool, and_parts}
-use Rattle.std.specs.List.{Contains}
+use Rattle.std.proofs.Common.{◌≡◌, ◌≢◌, ◌⊎◌, inl, inr, ℕ, ◌+◌, pos, ◌+ℤ◌, true, false, List, Option, Some, None, refl, sym, ap, ◌∙◌, subst, arith, is_some, IsSome, eqb-true}
 use Rattle.cap_words.specs.declared.Word.{Word}
-use Rattle.cap_words.specs.declared.Word.TheVariants.{Int, Mem, Seal, Sealed}
-use Rattle.cap_words.specs.declared.Sealable.TheVariants.{Mem as MemIn, Seal as SealIn}
-use Rattle.cap_words.specs.declared.CapFields.{CapFields}
-use Rattle.cap_words.specs.declared.Opened.{Opened}
-use Rattle.cap_words.specs.declared.Face.{Face}
-use Rattle.cap_words.specs.declared.Face.TheVariants.{Memory, Number, Seals, Sealed as SealedFace}
 use Rattle.cap_words.specs.Face.{face_of, opened_of}
-use Rattle.cap_words.specs.Faces.{covers, address, target_of}
-use Rattle.cap_words.specs.Linear.{zero_word}
 use Rattle.lcm_isa.specs.declared.Reg.{Reg}
 use Rattle.lcm_isa.specs.declared.Reg.TheVariants.{Pc, Dat}
 use Rattle.lcm_isa.specs.declared.Instr.{Instr}
-use Rattle.lcm_isa.specs.declared.Instr.TheVariants.{Xjmp, Fail, Store, Load}
-use Rattle.lcm_machine.specs.Maps.{Regs, State}
+use Rattle.lcm_isa.specs.declared.Instr.TheVariants.{Xjmp, Fail}
+use Rattle.lcm_machine.specs.Maps.{State}
 use Rattle.lcm_machine.specs.Places.{reg}
 use Rattle.lcm_machine.specs.Cells.{cell}
 use Rattle.lcm_machine.specs.Table.{is_pc, target, unsealed}
-use Rattle.lcm_machine.specs.Row.{faces, cell_faces, fetch, Fetched, none, some, row, step_of, step_fetched, Outcome, went, halted, failed, plan_in, outcome}
-use Rattle.lcm_machine.specs.Ends.{After}
+use Rattle.lcm_machine.specs.Row.{faces, cell_faces, fetch, some, row, step_of, step_fetched, Outcome, went, halted, failed, plan_in}
 use Rattle.lcm_machine.specs.Closed.{AllAre, OpensTo}
 use Rattle.lcm_machine.proofs.RowLemmas.{fetch_normal}
 use Rattle.lcm_machine.proofs.TouchLemmas.{after_went, there_same, row_cells, row_others, fetched_row}
 use Rattle.lcm_machine.proofs.WordsKept.{row_keeps}
-use Rattle.flow_check.specs.Places.{begins_entry, begins_site}
 use Rattle.flow_check.proofs.Steps.{to_row, to_fail, out as goes_out}
 use Rattle.flow_check.proofs.Kept.{crosses}
 use Rattle.component_linker.specs.Parts.{PartSeen}
 use Rattle.overlay_machine.specs.declared.words.OWord.{OWord}
 use Rattle.overlay_machine.specs.declared.words.OWord.TheVariants.{Plain, RetCode, RetData}
-use Rattle.overlay_machine.specs.declared.cases.Case.{Case}
-use Rattle.overlay_machine.specs.declared.cases.Case.TheVariants.{Other, Back}
+use Rattle.overlay_machine.specs.declared.cases.Case.TheVariants.{Other}
 use Rattle.overlay_machine.specs.Words.{look, is_plain}
-use Rattle.overlay_machine.specs.State.{OpenFrame, OState, Cells, framed}
-use Rattle.overlay_machine.specs.Step.{Ending, goes, halts, fails, case_fetched, with_frames, other_step}
-use Rattle.overlay_machine.specs.Link.{Link, IsTrusted, ranges_of, IsStackCell, IsOpenAt, CodeIn}
+use Rattle.overlay_machine.specs.State.{OpenFrame, OState, Cells}
+use Rattle.overlay_machine.specs.Step.{goes, case_fetched, with_frames, other_step}
+use Rattle.overlay_machine.specs.Link.{Link, IsTrusted, IsStackCell, IsOpenAt, CodeIn}
 use Rattle.overlay_machine.specs.Linked.{Linked}
 use Rattle.overlay_machine.specs.Safe.{IsSafe}
-use Rattle.overlay_machine.specs.Invariant.{StandsAt, PcPart, at_fail, at_row, outside, FramesLie, FrameFits, Invariant}
-use Rattle.overlay_machine.proofs.invariant.Targets.{target_bounds, target_reg, memory_face}
+use Rattle.overlay_machine.specs.Invariant.{PcPart, at_fail, at_row, outside, FramesLie, Invariant}
+use Rattle.overlay_machine.proofs.FlatLemmas.{mem_of_face}
+use Rattle.overlay_machine.proofs.OtherAgrees.{plain_both}
+use Rattle.overlay_machine.proofs.invariant.Targets.{target_bounds, target_reg}
 use Rattle.overlay_machine.proofs.invariant.Facts.{there_is, in_code, closed, open_safe, mem_safe}
 use Rattle.overlay_machine.proofs.invariant.FrameFacts.{frames_same}
 use Rattle.overlay_machine.proofs.invariant.SafeClosed.{safe_closed}
@@ -77,13 +65,6 @@ pub went_other : (fs : List OpenFrame) (n : ℕ) (r : Outcome OWord) (q : OState
 went_other fs n (went s) q e = (s, refl, cc)
 went_other fs n halted q e = cc
 went_other fs n (failed c at) q e = cc
-
--- an `xjmp` that is no return has two plain words
-pub plain_both : (s : State OWord) (r1 r2 : Reg) (next : Word) → case_fetched s (some (Xjmp r1 r2) next) ≡ Other → (is_plain (reg s.regs r1) ≡ true) × (is_plain (reg s.regs r2) ≡ true)
-plain_both s r1 r2 next e = elim (cases_Bool (is_plain (reg s.regs r1) && is_plain (reg s.regs r2))) as (λ _. (is_plain (reg s.regs r1) ≡ true) × (is_plain (reg s.regs r2) ≡ true)) [
-  | inl t ↦ and_parts _ _ t
-  | inr t ↦ (let k : Back r1 r2 ≡ Other = rw t at e in cc)
-]
 
 module _ (g : Link) (linked : Linked g) where
   -- an `xjmp` of plain safe words by which all other registers are safe
@@ -134,7 +115,7 @@ module _ (g : Link) (linked : Linked g) where
       target_open n a e =
           let r = target_reg n (faces look o.maps) a e in
           let b = target_bounds (face_of (look (reg o.maps.regs r.0))) a r.1 in
-          open_safe g linked fs b.0 a (mem_safe g fs (reg o.maps.regs r.0) b.0 (memory_face (look (reg o.maps.regs r.0)) b.0 b.1) (safe r.0)) b.2 b.3
+          open_safe g linked fs b.0 a (mem_safe g fs (reg o.maps.regs r.0) b.0 (mem_of_face (look (reg o.maps.regs r.0)) b.0 b.1) (safe r.0)) b.2 b.3
 
       next_safe : (n : Instr) (next : Word) → fetch (faces look o.maps Pc) (cell_faces look o.maps) ≡ some n next → IsSafe g fs (Plain next)
       unfolding faces

@@ -1,8 +1,7 @@
 -- When the newest frame goes, all words but its RetData stay safe.
-use Rattle.std.proofs.Common.{◌≡◌, ◌≢◌, ◌⊎◌, inl, inr, ℕ, zero, suc, ◌+◌, ◌-◌, ◌<◌, ◌≤◌, Bool, true, false, List, [], ◌∷◌, length, Option, Some, None, refl, sym, ap, ◌∙◌, subst, arith}
+use Rattle.std.proofs.Common.{◌≡◌, inl, inr, ℕ, zero, suc, ◌<◌, ◌≤◌, List, [], ◌∷◌, Option, Some, None, refl, sym, ap, ◌∙◌, arith}
 use Rattle.std.specs.Option.{option_or}
 use Rattle.std.specs.List.{Contains}
-use Rattle.cap_words.specs.declared.Word.{Word}
 use Rattle.cap_words.specs.declared.Word.TheVariants.{Int, Mem, Seal, Sealed}
 use Rattle.cap_words.specs.declared.Sealable.TheVariants.{Mem as MemIn, Seal as SealIn}
 use Rattle.cap_words.specs.declared.CapFields.{CapFields}
@@ -14,7 +13,7 @@ use Rattle.overlay_machine.specs.Agree.{IsOther}
 use Rattle.overlay_machine.specs.Link.{Link}
 use Rattle.overlay_machine.specs.Safe.{IsSafeCap, IsSafe, IsMet}
 use Rattle.overlay_machine.specs.Invariant.{FrameLies, FramesLie, FrameFits}
-use Rattle.overlay_machine.proofs.invariant.FrameFacts.{frame_of-cons, lies_of, word_in_frame, contains_first, contains_rest, below_all}
+use Rattle.overlay_machine.proofs.invariant.FrameFacts.{frame_of-cons, lies_of, word_in_frame, below_all}
 
 pub none_rest : (f : OpenFrame) (fs : List OpenFrame) (a : ℕ) → framed (f ∷ fs) a ≡ None → framed fs a ≡ None
 none_rest f fs a e = by_word (word_of f a) e

@@ -1,70 +1,60 @@
 -- The invariant makes the next step ready, whatever its kind.
-use Rattle.std.proofs.Common.{◌≡◌, ◌≢◌, ◌⊎◌, inl, inr, ℕ, zero, suc, ◌+◌, ◌-◌, ◌<◌, ◌≤◌, ℤ, pos, negsuc, ◌+ℤ◌, Bool, true, false, List, [], ◌∷◌, length, Option, Some, None, refl, sym, ap, ◌∙◌, subst, arith, is_some, IsSome}
+use Rattle.std.proofs.Common.{◌≡◌, ◌≢◌, ◌⊎◌, inl, inr, ℕ, ◌+◌, ◌-◌, ◌≤◌, ℤ, Bool, true, false, List, [], ◌∷◌, length, Option, Some, None, refl, sym, ap, ◌∙◌, subst, arith}
 use Rattle.std.specs.Prelude.{slice_get, slice_index, if◌then◌else◌, ◌&&◌}
 use Rattle.std.specs.List.{Contains}
 use Rattle.std.proofs.lemmas.Option.{get_or_from_slice_get}
-use Rattle.cap_words.specs.declared.TheConstants.{LAST_PLACE}
 use Rattle.cap_words.specs.declared.Word.{Word}
 use Rattle.cap_words.specs.declared.Word.TheVariants.{Int, Mem, Seal, Sealed}
-use Rattle.cap_words.specs.declared.Sealable.{Sealable}
 use Rattle.cap_words.specs.declared.Sealable.TheVariants.{Mem as MemIn, Seal as SealIn}
 use Rattle.cap_words.specs.declared.CapFields.{CapFields}
-use Rattle.cap_words.specs.declared.SealFields.{SealFields}
-use Rattle.cap_words.specs.declared.Opened.{Opened}
-use Rattle.cap_words.specs.declared.Face.{Face}
 use Rattle.cap_words.specs.declared.Face.TheVariants.{Memory}
-use Rattle.cap_words.specs.Linear.{is_linear}
-use Rattle.cap_words.specs.Face.{face_of, opened_of, FaceInOrder}
+use Rattle.cap_words.specs.Face.{face_of, FaceInOrder}
 use Rattle.cap_words.specs.Faces.{target_of}
 use Rattle.component_file.specs.declared.component.Kind.{Kind}
 use Rattle.component_file.specs.declared.component.Kind.TheVariants as kind
 use Rattle.lcm_isa.specs.declared.Reg.{Reg}
-use Rattle.lcm_isa.specs.declared.Reg.TheVariants.{Pc, Dat, Stk, C1, C2}
-use Rattle.lcm_isa.specs.declared.Instr.{Instr}
+use Rattle.lcm_isa.specs.declared.Reg.TheVariants.{Pc, Dat, Stk, C1}
 use Rattle.lcm_isa.specs.declared.Instr.TheVariants.{Xjmp, Fail}
-use Rattle.lcm_machine.specs.declared.Place.{Place}
-use Rattle.lcm_machine.specs.declared.Place.TheVariants.{R, Cell}
-use Rattle.lcm_machine.specs.Maps.{Regs, State}
+use Rattle.lcm_machine.specs.declared.Place.TheVariants.{R}
+use Rattle.lcm_machine.specs.Maps.{State}
 use Rattle.lcm_machine.specs.Places.{reg}
 use Rattle.lcm_machine.specs.Cells.{cell}
 use Rattle.lcm_machine.specs.Table.{is_pc, target}
 use Rattle.lcm_machine.specs.Regions.{IsLinearAt}
-use Rattle.lcm_machine.specs.Row.{word_at, faces, cell_faces, fetch, Fetched, none, some}
-use Rattle.lcm_machine.specs.Runs.{code_cap}
+use Rattle.lcm_machine.specs.Row.{faces, cell_faces, fetch, Fetched, none, some}
 use Rattle.call_sequence.specs.Sequences.{call_code, return_code, entry_code}
 use Rattle.call_sequence.specs.Standing.{CodeStands}
-use Rattle.call_sequence.specs.SequenceRuns.{stack_cap, HasCall, HasReturn, HasEntry, FailsAt}
+use Rattle.call_sequence.specs.SequenceRuns.{stack_cap, FailsAt}
 use Rattle.flow_check.specs.Kinds.{Row, kind_of, below_any, entry_row}
 use Rattle.flow_check.specs.Flow.{is_stk}
-use Rattle.flow_check.specs.Holds.{Ranges, data_cap, code_at, PcAt, HasKind, Up}
-use Rattle.flow_check.specs.Places.{begins_entry, begins_site}
+use Rattle.flow_check.specs.Holds.{data_cap, code_at, PcAt, HasKind, Up}
+use Rattle.flow_check.specs.Places.{begins_entry}
 use Rattle.flow_check.specs.Walk.{is_data, passes, site_ready, RowAt}
 use Rattle.flow_check.proofs.Fitting.{is_safe, and_left, and_right}
 use Rattle.flow_check.proofs.LocalFacts.{site_flows}
 use Rattle.component_linker.specs.Parts.{PartSeen}
-use Rattle.component_linker.specs.Start.{Exported}
 use Rattle.component_linker.specs.TrustedCode.{all_seals}
 use Rattle.overlay_machine.specs.declared.words.OWord.{OWord}
 use Rattle.overlay_machine.specs.declared.words.OWord.TheVariants.{Plain, RetCode, RetData}
-use Rattle.overlay_machine.specs.declared.layout.Layout.{Layout}
 use Rattle.overlay_machine.specs.declared.layout.SiteCode.{SiteCode}
 use Rattle.overlay_machine.specs.declared.cases.Case.{Case}
 use Rattle.overlay_machine.specs.declared.cases.Case.TheVariants.{Call, Entry, Back, Other}
 use Rattle.overlay_machine.specs.Words.{look, is_plain}
 use Rattle.overlay_machine.specs.Layout.{site_code}
-use Rattle.overlay_machine.specs.State.{OpenFrame, OState, Cells, framed, frame_of, word_of}
-use Rattle.overlay_machine.specs.Step.{case_fetched, case_of, first_word, rest_words}
-use Rattle.overlay_machine.specs.Flat.{flat, flat_code, flat_data, flat_range, IsFlat}
-use Rattle.overlay_machine.specs.Agree.{Looks, HasSite, SitesStand, IsForeign, IsKnown, AllKnown, AtSite, AtEntry, AtReturn, FrameSound, FramesFree, IsOther, ReadyFor}
-use Rattle.overlay_machine.specs.Link.{Link, IsTrusted, ranges_of, code_region, data_region, stack_region, regions, IsStackCell, IsOpenAt, CodeIn}
-use Rattle.overlay_machine.specs.Linked.{Linked, SiteOf, EntryOf}
+use Rattle.overlay_machine.specs.State.{OpenFrame, OState, Cells, framed, frame_of}
+use Rattle.overlay_machine.specs.Step.{case_fetched, case_of, rest_words}
+use Rattle.overlay_machine.specs.Flat.{flat, flat_code, flat_data, flat_range}
+use Rattle.overlay_machine.specs.Agree.{Looks, HasSite, SitesStand, IsForeign, IsKnown, AllKnown, AtSite, AtEntry, AtReturn, FrameSound, ReadyFor}
+use Rattle.overlay_machine.specs.Link.{Link, IsTrusted, ranges_of, data_region, stack_region, regions, IsStackCell, CodeIn}
+use Rattle.overlay_machine.specs.Linked.{Linked, SiteOf}
 use Rattle.overlay_machine.specs.Safe.{IsSafeCap, IsSafe, IsMet, IsTrustedHalf, IsOpenSeal}
-use Rattle.overlay_machine.specs.Invariant.{StandsAt, PcPart, FrameLies, FramesLie, FrameFits, Invariant}
+use Rattle.overlay_machine.specs.Invariant.{StandsAt, FramesLie, Invariant}
 use Rattle.overlay_machine.proofs.invariant.Facts.{there_is, in_code, length_is, stands, safe_int, safe_stk, mem_safe, code_small, stack_small, stack_order, stack_apart, same_region, stack_there}
 use Rattle.overlay_machine.proofs.invariant.View.{View, at_site, at_entry, in_part, failing, out, view}
 use Rattle.overlay_machine.proofs.invariant.Glue.{glue_shows, glue_area}
 use Rattle.overlay_machine.proofs.invariant.Crossing.{half_seal, seal_is}
-use Rattle.overlay_machine.proofs.invariant.Targets.{target_bounds, target_reg, memory_face}
+use Rattle.overlay_machine.proofs.FlatLemmas.{mem_of_face}
+use Rattle.overlay_machine.proofs.invariant.Targets.{target_bounds, target_reg}
 use Rattle.overlay_machine.proofs.invariant.FrameFacts.{frame_known, lies_of, framed_in, framed_by, word_in_frame, unframed, frames_apart, frame_in, frame_none, frame_of-cons, contains_first, below_all}
 use Rattle.overlay_machine.proofs.FrameWords.{word_of-within}
 use Rattle.overlay_machine.proofs.invariant.HeldFlat.{pair_apart, one_place, in_no_frame}
@@ -302,7 +292,7 @@ module _ (g : Link) (linked : Linked g) where
     safe_free : (w : OWord) (a : ℕ) → IsSafe g fs w → target_of (face_of (look w)) ≡ Some a → framed fs a ≡ None
     safe_free w a h e =
         let b = target_bounds (face_of (look w)) a e in
-        let c = mem_safe g fs w b.0 (memory_face (look w) b.0 b.1) h in
+        let c = mem_safe g fs w b.0 (mem_of_face (look w) b.0 b.1) h in
         c.free a b.2 b.3
 
     -- a frame is sound for a return

@@ -1,11 +1,11 @@
 -- The invariant is kept by a return that succeeds.
-use Rattle.std.proofs.Common.{◌≡◌, ◌≢◌, ◌⊎◌, inl, inr, ℕ, zero, suc, ◌+◌, ◌-◌, ◌<◌, ◌≤◌, ℤ, pos, Bool, true, false, List, [], ◌∷◌, length, Option, Some, None, refl, sym, ap, ◌∙◌, subst, arith, is_some, IsSome, eqb-true}
-use Rattle.std.specs.Prelude.{◌==◌, ◌&&◌, if◌then◌else◌, slice_get}
+use Rattle.std.proofs.Common.{◌≡◌, ◌≢◌, ◌⊎◌, inl, inr, ℕ, suc, ◌+◌, ◌-◌, ◌<◌, ◌≤◌, pos, Bool, true, false, List, [], ◌∷◌, length, Option, Some, None, refl, sym, ap, ◌∙◌, subst, arith, is_some, IsSome, eqb-true}
+use Rattle.std.specs.Prelude.{◌==◌, slice_get}
 use Rattle.std.specs.Option.{option_or}
 use Rattle.std.specs.List.{Contains}
 use Rattle.std.proofs.lemmas.Bool.{cases_lt, and_parts}
 use Rattle.cap_words.specs.declared.Word.{Word}
-use Rattle.cap_words.specs.declared.Word.TheVariants.{Int, Mem}
+use Rattle.cap_words.specs.declared.Word.TheVariants.{Mem}
 use Rattle.cap_words.specs.declared.CapFields.{CapFields}
 use Rattle.cap_words.specs.declared.Perm.TheVariants.{Rw}
 use Rattle.cap_words.specs.declared.Lin.TheVariants.{Linear}
@@ -15,7 +15,7 @@ use Rattle.lcm_isa.specs.declared.Reg.TheVariants.{Pc, Rcode, Rdata, Stk, Dat, T
 use Rattle.lcm_machine.specs.declared.Place.TheVariants.{R, Cell}
 use Rattle.lcm_machine.specs.Maps.{Regs, State}
 use Rattle.lcm_machine.specs.Places.{reg, set_reg}
-use Rattle.lcm_machine.specs.Cells.{cell}
+use Rattle.lcm_machine.specs.Cells.{cell, put_back}
 use Rattle.lcm_machine.specs.Table.{is_pc}
 use Rattle.lcm_machine.specs.Row.{put}
 use Rattle.lcm_machine.specs.Runs.{code_cap}
@@ -29,21 +29,22 @@ use Rattle.overlay_machine.specs.declared.layout.Layout.{Layout}
 use Rattle.overlay_machine.specs.declared.layout.SiteCode.{SiteCode}
 use Rattle.overlay_machine.specs.Words.{look}
 use Rattle.overlay_machine.specs.Layout.{site_code}
-use Rattle.overlay_machine.specs.State.{OpenFrame, OState, Cells, framed, frame_of, word_of, put_back}
-use Rattle.overlay_machine.specs.Step.{Ending, goes, fails, ask, need, own_stack, return_by, return_step, resumed, first_word, rest_words}
+use Rattle.overlay_machine.specs.State.{OpenFrame, OState, Cells, framed, word_of}
+use Rattle.overlay_machine.specs.Step.{Ending, goes, ask, own_stack, return_by, return_step, resumed, first_word, rest_words}
 use Rattle.overlay_machine.specs.Agree.{IsOther, AtReturn}
 use Rattle.overlay_machine.specs.Link.{Link, IsTrusted, ranges_of, IsStackCell, IsOpenAt}
-use Rattle.overlay_machine.specs.Linked.{Linked, SiteOf}
+use Rattle.overlay_machine.specs.Linked.{Linked}
 use Rattle.overlay_machine.specs.Safe.{IsSafeCap, IsSafe}
-use Rattle.overlay_machine.specs.Invariant.{StandsAt, PcPart, at_row, FrameLies, FramesLie, FrameFits, Invariant}
+use Rattle.overlay_machine.specs.Invariant.{StandsAt, at_row, FrameLies, FramesLie, FrameFits, Invariant}
 use Rattle.overlay_machine.proofs.OutLemmas.{put_back-other}
 use Rattle.overlay_machine.proofs.FrameWords.{put_back-in, word_of-within}
-use Rattle.overlay_machine.proofs.invariant.Facts.{there_is, mem_safe, in_stack, in_code, closed, open_stack_at, stk_cap_safe}
+use Rattle.overlay_machine.proofs.invariant.Facts.{there_is, mem_safe, in_code, closed, open_stack_at, stk_cap_safe}
 use Rattle.overlay_machine.proofs.invariant.Clean.{clean_fits, stands_clean}
-use Rattle.overlay_machine.proofs.invariant.EntryKept.{own_is, need_goes}
+use Rattle.overlay_machine.proofs.OwnStack.{own_is}
+use Rattle.overlay_machine.proofs.invariant.EntryKept.{need_goes}
 use Rattle.overlay_machine.proofs.invariant.Standing.{Stand}
 use Rattle.overlay_machine.proofs.invariant.FramesKept.{return_keeps}
-use Rattle.overlay_machine.proofs.invariant.FrameFacts.{lies_of, word_in_frame, has_word, contains_first, contains_rest, frames_apart}
+use Rattle.overlay_machine.proofs.invariant.FrameFacts.{word_in_frame, has_word, contains_first, contains_rest, frames_apart}
 use Rattle.overlay_machine.proofs.invariant.Popped.{popped, fits_popped, frames_up, framed_at, none_rest}
 
 -- what a return that goes on was

@@ -1,26 +1,22 @@
 -- Safe words are closed under what instructions make of words.
-use Rattle.std.proofs.Common.{◌≡◌, ◌≢◌, ◌⊎◌, inl, inr, ℕ, zero, suc, ◌+◌, ◌<◌, ◌≤◌, ℤ, pos, negsuc, Bool, true, false, List, refl, sym, ap, ◌∙◌, arith, leb-true, ltb-true, le-leb, lt-ltb}
-use Rattle.std.specs.Prelude.{Option, Some, None, ◌&&◌, ◌||◌, ◌==◌, nat_le, nat_lt, IsTrue}
-use Rattle.std.specs.List.{Contains}
-use Rattle.std.proofs.lemmas.Bool.{and_parts, cases_lt, cases_Bool}
-use Rattle.cap_words.specs.declared.Word.TheVariants.{Int, Mem, Seal, Sealed}
+use Rattle.std.proofs.Common.{◌≡◌, inl, inr, ℕ, ◌+◌, ◌<◌, ◌≤◌, ℤ, pos, negsuc, Bool, true, false, List, refl, ap, arith, leb-true, ltb-true, le-leb, lt-ltb}
+use Rattle.std.specs.Prelude.{None, ◌||◌, ◌==◌, nat_le, nat_lt, IsTrue}
+use Rattle.std.proofs.lemmas.Bool.{and_parts, cases_lt}
 use Rattle.cap_words.specs.declared.CapFields.{CapFields}
 use Rattle.cap_words.specs.declared.SealFields.{SealFields}
 use Rattle.cap_words.specs.declared.Perm.{Perm}
 use Rattle.cap_words.specs.declared.Perm.TheVariants.{No, R as ReadOnly, Rw, Rx, Rwx}
-use Rattle.cap_words.specs.Faces.{may_run, may_write, is_below, can_split, same_kind, seals_at, address}
-use Rattle.lcm_machine.specs.Regions.{Region}
+use Rattle.cap_words.specs.Faces.{may_run, may_write, is_below, can_split, seals_at, address}
 use Rattle.lcm_machine.specs.Closed.{Closed}
 use Rattle.component_linker.specs.Parts.{PartSeen}
 use Rattle.component_linker.specs.SealsApart.{is_seal_of}
-use Rattle.overlay_machine.specs.declared.words.OWord.{OWord}
-use Rattle.overlay_machine.specs.declared.words.OWord.TheVariants.{Plain, RetCode, RetData}
+use Rattle.overlay_machine.specs.declared.words.OWord.TheVariants.{Plain}
 use Rattle.overlay_machine.specs.Words.{look}
 use Rattle.overlay_machine.specs.State.{OpenFrame, framed}
-use Rattle.overlay_machine.specs.Link.{Link, IsUntrusted, regions}
+use Rattle.overlay_machine.specs.Link.{Link}
 use Rattle.overlay_machine.specs.Linked.{Linked}
 use Rattle.overlay_machine.specs.Safe.{IsSafeCap, AreSafeSeals, IsOpenSeal, IsSafe}
-use Rattle.overlay_machine.proofs.invariant.Facts.{mem_safe, seals_safe, same_region}
+use Rattle.overlay_machine.proofs.invariant.Facts.{mem_safe, seals_safe}
 
 below_runs : (p q : Perm) → is_below p q ≡ true → may_run p ≡ true → may_run q ≡ true
 below_runs No q h e = cc

@@ -15,12 +15,12 @@ use Rattle.overlay_machine.specs.Link.{Link}
 use Rattle.overlay_machine.specs.Invariant.{Invariant, KeepsAgreeing}
 use Rattle.overlay_machine.specs.Keeping.{link_of, HoldsFor, KeepsBy, StepKeeps}
 use Rattle.overlay_machine.proofs.invariant.Kept.{kept}
-use Rattle.overlay_machine.proofs.invariant.Halting.{halts_at_once}
+use Rattle.overlay_machine.proofs.RunsAgree.{halts_alone}
 
 module _ (parts : List PartSeen) (size : ℕ) (o : OverlaySeen) (t : State Word) (h : HoldsFor parts size o t) where
   by_ending : (e : Ending) (r : Outcome Word) → overlay_step o.layout o.state ≡ e → KeepsAgreeing (link_of parts size o) e r → KeepsBy parts size o t (ending_answer o e) (moved e o) r
   by_ending (goes q) (went u) e k = record { linked = h.linked; holds = k }
-  by_ending halts halted e k = (halts_at_once o.layout o.state e, h.holds.flat.regs A0)
+  by_ending halts halted e k = (halts_alone o.layout o.state e, h.holds.flat.regs A0)
   by_ending fails (failed c at) e k = tt
   by_ending (goes q) halted e k = absurd k
   by_ending (goes q) (failed c at) e k = absurd k

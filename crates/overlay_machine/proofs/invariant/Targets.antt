@@ -1,14 +1,10 @@
 -- Where words lead to, by their faces.
-use Rattle.std.proofs.Common.{◌≡◌, ℕ, ◌≤◌, ℤ, pos, negsuc, Bool, true, false, Some, None, refl, ap, arith, leb-true}
-use Rattle.std.specs.Prelude.{◌&&◌, nat_le, if◌then◌else◌}
+use Rattle.std.proofs.Common.{◌≡◌, ℕ, ◌≤◌, ℤ, pos, negsuc, Bool, true, false, Some, None, refl, leb-true}
+use Rattle.std.specs.Prelude.{nat_le, if◌then◌else◌}
 use Rattle.std.proofs.lemmas.Bool.{and_parts}
-use Rattle.cap_words.specs.declared.Word.{Word}
-use Rattle.cap_words.specs.declared.Word.TheVariants.{Int, Mem, Seal, Sealed}
-use Rattle.cap_words.specs.declared.Sealable.TheVariants.{Mem as MemIn, Seal as SealIn}
 use Rattle.cap_words.specs.declared.CapFields.{CapFields}
 use Rattle.cap_words.specs.declared.Face.{Face}
 use Rattle.cap_words.specs.declared.Face.TheVariants.{Memory, Number, Seals, Sealed as SealedFace}
-use Rattle.cap_words.specs.Face.{face_of}
 use Rattle.cap_words.specs.Faces.{covers, address, target_of}
 use Rattle.lcm_isa.specs.declared.Reg.{Reg}
 use Rattle.lcm_isa.specs.declared.Instr.{Instr}
@@ -29,13 +25,6 @@ target_bounds (Memory c) a e = let b = by_cover (covers c c.addr) refl e in (c, 
     by_cover : (b : Bool) → covers c c.addr ≡ b → (if b then Some (address c.addr) else None) ≡ Some a → (c.base ≤ a) × (a ≤ c.end)
     by_cover true m h = let q : address c.addr ≡ a = cc in rw q at (by_addr c.addr m)
     by_cover false m h = cc
-
-pub memory_face : (w : Word) (c : CapFields) → face_of w ≡ Memory c → w ≡ Mem c
-memory_face (Mem x) c e = cc
-memory_face (Int x) c e = cc
-memory_face (Seal x) c e = cc
-memory_face (Sealed o (MemIn x)) c e = cc
-memory_face (Sealed o (SealIn x)) c e = cc
 
 -- a load or a store names a register
 pub target_reg : (i : Instr) (f : Reg → Face) (a : ℕ) → target i f ≡ Some a → (r : Reg) × (target_of (f r) ≡ Some a)

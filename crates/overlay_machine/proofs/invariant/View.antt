@@ -1,15 +1,13 @@
 -- Which kind of step comes, from where pc is.
-use Rattle.std.proofs.Common.{◌≡◌, ◌≢◌, ℕ, zero, suc, ◌+◌, ◌<◌, ◌≤◌, ℤ, pos, Bool, true, false, List, [], ◌∷◌, length, Option, Some, None, refl, sym, ap, ◌∙◌, subst, arith, le-leb}
+use Rattle.std.proofs.Common.{◌≡◌, ℕ, ◌+◌, ◌<◌, ◌≤◌, pos, Bool, true, false, List, [], ◌∷◌, length, Option, Some, None, refl, sym, ap, ◌∙◌, subst, arith, le-leb}
 use Rattle.std.specs.Prelude.{slice_get, slice_index, if◌then◌else◌, is_some, find, ◌+ℤ◌}
 use Rattle.std.proofs.lemmas.Option.{get_or_from_slice_get}
-use Rattle.std.specs.List.{Contains}
 use Rattle.cap_words.specs.declared.Word.{Word}
 use Rattle.cap_words.specs.declared.Word.TheVariants.{Int, Mem, Seal, Sealed}
 use Rattle.cap_words.specs.declared.Sealable.{Sealable}
 use Rattle.cap_words.specs.declared.Sealable.TheVariants.{Mem as MemIn, Seal as SealIn}
 use Rattle.cap_words.specs.declared.CapFields.{CapFields}
-use Rattle.cap_words.specs.declared.Face.{Face}
-use Rattle.cap_words.specs.declared.Face.TheVariants.{Number, Memory, Seals, Sealed as SealedFace}
+use Rattle.cap_words.specs.declared.Face.TheVariants.{Memory}
 use Rattle.cap_words.specs.Face.{face_of}
 use Rattle.cap_words.specs.Faces.{target_of}
 use Rattle.lcm_isa.specs.declared.Reg.{Reg}
@@ -19,32 +17,29 @@ use Rattle.lcm_isa.specs.declared.Instr.TheVariants.{Fail, Store, Move}
 use Rattle.lcm_isa.specs.declared.Operand.TheVariants.{R as InReg}
 use Rattle.lcm_isa.specs.Numbers.{number_of, decode_of, IsInstr}
 use Rattle.lcm_isa.proofs.NumberLemmas.{decode_of-number_of}
-use Rattle.lcm_machine.specs.Maps.{Regs, State}
+use Rattle.lcm_machine.specs.Maps.{State}
 use Rattle.lcm_machine.specs.Places.{reg}
-use Rattle.lcm_machine.specs.Row.{faces, cell_faces, fetch, Fetched, none, some}
-use Rattle.lcm_machine.specs.Runs.{code_cap}
+use Rattle.lcm_machine.specs.Row.{faces, cell_faces, fetch, Fetched, some}
 use Rattle.lcm_machine.proofs.RowLemmas.{fetch_some}
-use Rattle.call_sequence.specs.Sequences.{call_code, return_code, entry_code}
+use Rattle.call_sequence.specs.Sequences.{call_code, entry_code}
 use Rattle.call_sequence.specs.Standing.{CodeStands}
 use Rattle.flow_check.specs.Holds.{code_at, PcAt}
 use Rattle.flow_check.specs.Places.{begins_entry, begins_site}
 use Rattle.component_linker.specs.declared.owners.Owner.{Owner}
 use Rattle.component_linker.specs.Parts.{PartSeen}
 use Rattle.overlay_machine.specs.declared.words.OWord.{OWord}
-use Rattle.overlay_machine.specs.declared.words.OWord.TheVariants.{Plain, RetCode, RetData}
-use Rattle.overlay_machine.specs.declared.layout.Layout.{Layout}
 use Rattle.overlay_machine.specs.declared.layout.SiteCode.{SiteCode}
 use Rattle.overlay_machine.specs.declared.cases.Case.{Case}
-use Rattle.overlay_machine.specs.declared.cases.Case.TheVariants.{Call, Entry, Back, Other}
+use Rattle.overlay_machine.specs.declared.cases.Case.TheVariants.{Call, Entry, Other}
 use Rattle.overlay_machine.specs.Words.{look}
-use Rattle.overlay_machine.specs.Layout.{runs_in, trusted_owner, trusted_at, site_at, site_code, is_entry}
+use Rattle.overlay_machine.specs.Layout.{runs_in, trusted_at, site_at, site_code, is_entry}
 use Rattle.overlay_machine.specs.State.{OpenFrame}
-use Rattle.overlay_machine.specs.Step.{case_at, case_trusted, case_fetched, case_of}
+use Rattle.overlay_machine.specs.Step.{case_at, case_fetched, case_of}
 use Rattle.overlay_machine.specs.Link.{Link, IsTrusted, ranges_of, CodeIn}
-use Rattle.overlay_machine.specs.Linked.{Linked, SiteOf, EntryOf, any_pc}
+use Rattle.overlay_machine.specs.Linked.{Linked, SiteOf}
 use Rattle.overlay_machine.specs.Safe.{IsSafe}
 use Rattle.overlay_machine.specs.Invariant.{StandsAt, PcPart, at_fail, at_row, outside}
-use Rattle.overlay_machine.proofs.invariant.Facts.{there_is, in_code, one_part, mem_safe, not_trusted, stands}
+use Rattle.overlay_machine.proofs.invariant.Facts.{in_code, one_part, mem_safe, not_trusted, stands}
 
 -- what is known before a step, by its kind
 pub data View (g : Link) (fs : List OpenFrame) (s : State OWord) : Case → Type 0 where
