@@ -1,1 +1,3 @@
 mod RegNames
+pub mod Again
+pub mod Printed

@@ -5,3 +5,4 @@ mod Cuts
 mod Texts
 mod Places
 mod Faults
+pub mod Printed
