@@ -1,3 +1,4 @@
 mod FaultLemmas
 mod KindLemmas
 mod LineLemmas
+pub mod Again

@@ -174,6 +174,9 @@ whole_end y f two = record { read = end_read y f two }
 pub whole_of : {A : Type 0} (fs : List Form) (x : A) (r : Reader A) → Again fs x r → Whole fs x r
 whole_of fs x r one = record { read = λ ls end h. ap (λ l. r (left l end)) (sym (append-nil ls)) ∙ one.read ls [] end h }
 
+pub whole_last : {A B : Type 0} (fs : List Form) (x : A) (r : Reader A) (f : A → B) → Whole fs x r → Whole fs (f x) (r >>= λ a. done (f a))
+whole_last fs x r f one = record { read = λ ls end h. ap (λ q. goes_on q (λ a. done (f a))) (one.read ls end h) }
+
 -- a value, and the end of its line
 pub whole_line : {A : Type 0} (fs : List Form) (x : A) (r : Reader A) → Again fs x r → Whole fs x (r >>= λ v. end_at >>= λ _. done v)
 whole_line fs x r one = subst (λ l. Whole l x (r >>= λ v. end_at >>= λ _. done v)) (append-nil fs)
