@@ -30,14 +30,14 @@ use Rattle.asm_fields.specs.Directives.{directive_name, directive_named}
 use Rattle.asm_fields.specs.Names.{kind_name, kind_named, ownership}
 use Rattle.asm_fields.specs.Words.{word_line}
 use Rattle.asm_fields.specs.Instrs.{Plain, row_named, shape_of, operands_at}
-use Rattle.asm_fields.specs.Operands.{Number, offset_at, kind_at, kind_behind}
+use Rattle.asm_fields.specs.Operands.{address_at, stretch_at, Number, offset_at, kind_at, kind_behind}
 use Rattle.asm_fields.specs.Operands.{Plain as PlainKind, Pc as PcKind}
 use Rattle.asm_fields.proofs.Again.{Alike, Again, Whole, left, again_then, again_last, again_done, again_some, again_holds, again_placed, again_sign, again_name_or, again_name, again_proper, again_meant, whole_then, whole_placed, whole_last, whole_line}
 use Rattle.asm_fields.proofs.Printed.{operand_forms, last_of, instr_again, instr_forms, address_again, stretch_again, offset_again, shared_at_again}
 use Rattle.asm_draft.specs.Order.{section_of}
 use Rattle.asm_draft.specs.Tables.{Tables, with_import, with_export, with_site, with_row}
 use Rattle.asm_draft.specs.Draft.{Draft, has_word_room, with_word, with_instr, with_header, with_tables}
-use Rattle.asm_draft.specs.Operands.{offset_in, kind_in, kind_found, kinds_in, import_in, export_in, site_in, fail_in, literal_in, row_in, operands_in}
+use Rattle.asm_draft.specs.Operands.{offset_in, kind_in, kind_found, kinds_in, import_in, export_in, site_in, fail_in, literal_in, row_in, operands_in, seals_of}
 use Rattle.asm_draft.specs.Lines.{is_code, instr_in, word_in, may_stand, item_in, directive_from, directed, directive_in, behind_label, line_in}
 
 -- ---- what a line begins with
@@ -260,6 +260,27 @@ row_again at r d t offset many kinds is =
 
 -- ---- the header
 
+-- BASE COUNT
+abbrev pub stretch_forms : ℕ → ℕ → List Form
+stretch_forms base count = integer_forms (pos base) ++ (integer_forms (pos count) ++ [])
+
 pub name_again : (at : ℕ) (name : List ℕ) (d : Draft) → is_name name ≡ true → Again (name_form name ∷ []) (with_header (record d.header { name = name }) d) (operands_in at item.Name d)
 name_again at name d h = again_last (name_form name ∷ []) name proper_name_at (λ name. with_header (record d.header { name = name }) d) (again_proper name h)
 
+pub stack_again : (at n : ℕ) (d : Draft) → n ≤ 1048575 → Again (offset_forms n) (with_header (record d.header { stack_base = n }) d) (operands_in at item.Stack d)
+stack_again at n d h = again_last (offset_forms n) n address_at (λ n. with_header (record d.header { stack_base = n }) d) (address_again n h)
+
+pub closure_again : (at n : ℕ) (d : Draft) → n ≤ 1048575 → Again (offset_forms n) (with_header (record d.header { closure = n }) d) (operands_in at item.Closure d)
+closure_again at n d h = again_last (offset_forms n) n address_at (λ n. with_header (record d.header { closure = n }) d) (address_again n h)
+
+pub code_base_again : (at n : ℕ) (d : Draft) → n ≤ 1048575 → Again (offset_forms n) (with_header (record d.header { code_base = n }) d) (operands_in at item.Code d)
+code_base_again at n d h = again_last (offset_forms n) n address_at (λ n. with_header (record d.header { code_base = n }) d) (address_again n h)
+
+pub data_base_again : (at n : ℕ) (d : Draft) → n ≤ 1048575 → Again (offset_forms n) (with_header (record d.header { data_base = n }) d) (operands_in at item.Data d)
+data_base_again at n d h = again_last (offset_forms n) n address_at (λ n. with_header (record d.header { data_base = n }) d) (address_again n h)
+
+pub seals_again : (at base count : ℕ) (d : Draft) → base ≤ 1048575 → 1 ≤ count → count ≤ 65536 → Again (stretch_forms base count) (with_header (record d.header { seals = record { base = base; count = count } }) d) (operands_in at item.Seals d)
+seals_again at base count d h i j = again_last (stretch_forms base count) (record { base = base; count = count }) stretch_at (λ a. with_header (record d.header { seals = seals_of a }) d) (stretch_again base count h i j)
+
+pub linear_again : (at base count : ℕ) (d : Draft) → base ≤ 1048575 → 1 ≤ count → count ≤ 65536 → Again (stretch_forms base count) (with_header (record d.header { linear = record { base = base; count = count } }) d) (operands_in at item.Linear d)
+linear_again at base count d h i j = again_last (stretch_forms base count) (record { base = base; count = count }) stretch_at (λ a. with_header (record d.header { linear = a }) d) (stretch_again base count h i j)

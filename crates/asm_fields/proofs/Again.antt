@@ -43,10 +43,12 @@ parts (f ∷ fs) gs (l ∷ ls) h =
     record { first = l ∷ p.first; second = p.second; both = ap (λ m. l ∷ m) p.both; one = (h.0, h.1, p.one); two = p.two }
 
 pub again_then : {A B : Type 0} (fs gs : List Form) (x : A) (y : B) (r : Reader A) (f : A → Reader B) → Again fs x r → Again gs y (f x) → Again (fs ++ gs) y (r >>= f)
-again_then fs gs x y r f one two = record { read = λ ls rest end h.
-    let p = parts fs gs ls h in
-    let split : at_front ls rest end ≡ at_front p.first (p.second ++ rest) end = ap (λ m. record { rest = m; end = end }) (ap (λ m. m ++ rest) p.both ∙ append_assoc p.first p.second rest) in
-    ap (λ i. goes_on (r i) f) split ∙ ap (λ q. goes_on q f) (one.read p.first (p.second ++ rest) end p.one) ∙ two.read p.second rest end p.two }
+again_then fs gs x y r f one two = record {
+  read = λ ls rest end h.
+      let p = parts fs gs ls h in
+      let split : at_front ls rest end ≡ at_front p.first (p.second ++ rest) end = ap (λ m. record { rest = m; end = end }) (ap (λ m. m ++ rest) p.both ∙ append_assoc p.first p.second rest) in
+      ap (λ i. goes_on (r i) f) split ∙ ap (λ q. goes_on q f) (one.read p.first (p.second ++ rest) end p.one) ∙ two.read p.second rest end p.two;
+}
 
 -- a reader that is told its place
 pub again_placed : {A : Type 0} (fs : List Form) (x : A) (f : ℕ → Reader A) → ((at : ℕ) → Again fs x (f at)) → Again fs x (place >>= f)
@@ -156,9 +158,11 @@ pub record Whole {A : Type 0} (fs : List Form) (x : A) (r : Reader A) : Type 0 w
   pub read : (ls : List Lexeme) (end : ℕ) → Alike fs ls → r (left ls end) ≡ Ok (x, left [] end)
 
 pub whole_then : {A B : Type 0} (fs gs : List Form) (x : A) (y : B) (r : Reader A) (f : A → Reader B) → Again fs x r → Whole gs y (f x) → Whole (fs ++ gs) y (r >>= f)
-whole_then fs gs x y r f one two = record { read = λ ls end h.
-    let p = parts fs gs ls h in
-    ap (λ l. goes_on (r (left l end)) f) p.both ∙ ap (λ q. goes_on q f) (one.read p.first p.second end p.one) ∙ two.read p.second end p.two }
+whole_then fs gs x y r f one two = record {
+  read = λ ls end h.
+      let p = parts fs gs ls h in
+      ap (λ l. goes_on (r (left l end)) f) p.both ∙ ap (λ q. goes_on q f) (one.read p.first p.second end p.one) ∙ two.read p.second end p.two;
+}
 
 pub whole_placed : {A : Type 0} (fs : List Form) (x : A) (f : ℕ → Reader A) → ((at : ℕ) → Whole fs x (f at)) → Whole fs x (place >>= f)
 whole_placed fs x f h = record { read = λ ls end alike. (h _).read ls end alike }

@@ -36,6 +36,10 @@ use Rattle.component_file.specs.declared.component.Kind.TheVariants as kind
 use Rattle.asm_fields.specs.declared.fault.AsmFault.TheVariants as fault
 use Rattle.asm_fields.specs.declared.directives.WordKind.{WordKind}
 use Rattle.asm_fields.specs.declared.directives.WordKind.TheVariants as word_kind
+use Rattle.asm_fields.specs.declared.directives.Item.TheVariants as item
+use Rattle.asm_fields.specs.declared.directives.Directive.{Directive}
+use Rattle.asm_fields.specs.declared.directives.Directive.TheVariants as directive
+use Rattle.asm_fields.specs.Directives.{directive_name}
 use Rattle.asm_fields.specs.Fields.{natural_at, Lexeme, Reader, goes_on, ◌>>=◌, done, place, is_sign, is_name_token, end_at, unless_none, sign_at, proper_name_from, at_sign, percent}
 use Rattle.asm_fields.specs.Names.{named, perm_named, lin_named, reg_named, ownership, shared_named, kind_name, kind_named}
 use Rattle.asm_fields.specs.Words.{i64_at, cap_at, seals_at, word_behind, word_line}
@@ -142,6 +146,14 @@ pub shared_field : (x : Bool) → IsField 6 (ownership x) (name_form (ownership 
 shared_field true = a_name 6 _ (lit< tt) refl refl (lit≤ tt)
 shared_field false = a_name 6 _ (lit< tt) refl refl (lit≤ tt)
 
+pub kind_field : (x : Kind) → IsField 4 (kind_name x) (name_form (kind_name x) ∷ [])
+kind_field kind.Any = a_name 4 _ (lit< tt) refl refl (lit≤ tt)
+kind_field kind.Int = a_name 4 _ (lit< tt) refl refl (lit≤ tt)
+kind_field kind.DataCap = a_name 4 _ (lit< tt) refl refl (lit≤ tt)
+kind_field kind.Stk = a_name 4 _ (lit< tt) refl refl (lit≤ tt)
+kind_field (kind.Pc offset) = a_name 4 _ (lit< tt) refl refl (lit≤ tt)
+kind_field kind.Top = a_name 4 _ (lit< tt) refl refl (lit≤ tt)
+
 perm_again : (x : Perm) → perm_named (perm_name x) ≡ Some x
 perm_again No = refl
 perm_again ReadOnly = refl
@@ -174,6 +186,29 @@ reg_again G2 = refl
 shared_again : (x : Bool) → shared_named (ownership x) ≡ Some x
 shared_again true = refl
 shared_again false = refl
+
+-- ---- directives
+
+a_directive : (name : List ℕ) → 0 < length name → is_name_start (first_of name) ≡ true → list_all is_name_byte name ≡ true → length name ≤ 7 → IsField 8 (46 ∷ name) (sign_form 46 ∷ name_form name ∷ [])
+a_directive name a b c d = directive_field 7 name (record { some = a; start = b; bytes = c }) d
+
+pub directive_is_field : (d : Directive) → IsField 8 (46 ∷ directive_name d) (sign_form 46 ∷ name_form (directive_name d) ∷ [])
+directive_is_field (directive.Of item.Name) = a_directive _ (lit< tt) refl refl (lit≤ tt)
+directive_is_field (directive.Of item.Stack) = a_directive _ (lit< tt) refl refl (lit≤ tt)
+directive_is_field (directive.Of item.Closure) = a_directive _ (lit< tt) refl refl (lit≤ tt)
+directive_is_field (directive.Of item.Seals) = a_directive _ (lit< tt) refl refl (lit≤ tt)
+directive_is_field (directive.Of item.Linear) = a_directive _ (lit< tt) refl refl (lit≤ tt)
+directive_is_field (directive.Of item.Code) = a_directive _ (lit< tt) refl refl (lit≤ tt)
+directive_is_field (directive.Of item.Data) = a_directive _ (lit< tt) refl refl (lit≤ tt)
+directive_is_field (directive.Of item.Import) = a_directive _ (lit< tt) refl refl (lit≤ tt)
+directive_is_field (directive.Of item.Export) = a_directive _ (lit< tt) refl refl (lit≤ tt)
+directive_is_field (directive.Of item.Site) = a_directive _ (lit< tt) refl refl (lit≤ tt)
+directive_is_field (directive.Of item.Fail) = a_directive _ (lit< tt) refl refl (lit≤ tt)
+directive_is_field (directive.Of item.Literal) = a_directive _ (lit< tt) refl refl (lit≤ tt)
+directive_is_field (directive.Of item.Row) = a_directive _ (lit< tt) refl refl (lit≤ tt)
+directive_is_field (directive.Word word_kind.Int) = a_directive _ (lit< tt) refl refl (lit≤ tt)
+directive_is_field (directive.Word word_kind.Cap) = a_directive _ (lit< tt) refl refl (lit≤ tt)
+directive_is_field (directive.Word word_kind.Seal) = a_directive _ (lit< tt) refl refl (lit≤ tt)
 
 -- ---- numbers
 
@@ -481,4 +516,4 @@ text_joined i = joined (mnemonic_of i) (operands_of i)
 pub instr_printed : (i : Instr) → IsInstr i → IsPrinted 56 (instr_text i) (instr_forms i)
 instr_printed i h =
     let p = printed 8 ((1 + 11) * length (operands_of i)) _ _ _ _ (mnemonic_field i) (rest_all 11 operand_text operand_forms (operands_of i) (operands_are_fields (operands_of i) (operands_fit i h))) in
-    subst (λ t. IsPrinted 56 t (instr_forms i)) (sym (text_joined i)) (record { short = omega (arith, p.short, few i); in_line = p.in_line; shown = p.shown })
+    subst (λ t. IsPrinted 56 t (instr_forms i)) (sym (text_joined i)) (record { short = omega (arith, p.short, few i); in_line = p.in_line; tokens = p.tokens; shown = p.shown })

@@ -1,0 +1,4 @@
+mod Leads
+mod Lines
+mod TableLines
+mod Whole

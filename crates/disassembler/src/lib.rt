@@ -1,6 +1,7 @@
 //! Components to assembler texts.
 #![tactic(auto)]
 
+pub mod laws;
 mod line;
 mod tables;
 mod text;

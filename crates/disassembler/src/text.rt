@@ -1,5 +1,6 @@
 //! The text of a component.
-ghost use Rattle.std.specs.Prelude.{◌≡◌, ◌++◌, ◌∷◌, [], ◌<◌, ◌^◌, length, OnOk, IfOk};
+ghost use Rattle.std.specs.Prelude.{◌≡◌, ◌++◌, ◌∷◌, [], ◌<◌, ◌^◌, length, Ok, OnOk, IfOk};
+ghost use Rattle.assembler.specs.Assembled.{assembled};
 ghost use Rattle.asm_fields.specs.declared.directives.Item.TheVariants.{Name};
 ghost use Rattle.disassembler.specs.Disassembled.{item_line, disassembled};
 
@@ -27,7 +28,11 @@ fn push_name(text: &mut Vec<u8>, name: &[u8]) -> Result<(), AllocError>
 /// labels and no comments. `.seals` and `.linear` stand only where they count anything.
 #[tactic(auto, unfolding(crate::specs::Disassembled::disassembled))]
 pub fn disassemble(alloc: Global, c: &Component) -> Result<Vec<u8>, AllocError>
-    ensures { IfOk result (λ text. text.items ≡ disassembled c.now) }
+    ensures text { IfOk result (λ text. text.items ≡ disassembled c.now) }
+    // What it spells is the component.
+    ensures again { IfOk result (λ text. assembled text.items ≡ Ok c.now) }
+    // It is so short that it can be assembled.
+    ensures short { IfOk result (λ text. length text.items < 2 ^ 32) }
 {
     let fields = c.fields();
     let mut text = Vec::new(alloc);

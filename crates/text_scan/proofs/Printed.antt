@@ -1,5 +1,5 @@
 -- What printed pieces of a line are read as.
-use Rattle.std.proofs.Common.{◌≡◌, ℕ, zero, suc, ◌+◌, ◌-◌, ◌<◌, ◌≤◌, ◌^◌, Bool, true, false, cond, List, [], ◌∷◌, ◌++◌, map, length, take, drop, get_or, Some, None, Ok, refl, sym, ap, ◌∙◌, append-nil, append_assoc, arith, length-append, lit≤, ◌*◌, subst}
+use Rattle.std.proofs.Common.{◌≡◌, ℕ, zero, suc, ◌+◌, ◌-◌, ◌<◌, ◌≤◌, ◌^◌, Bool, true, false, cond, List, [], ◌∷◌, ◌++◌, map, length, take, drop, get_or, Some, None, Ok, refl, sym, ap, ◌∙◌, append-nil, append_assoc, arith, length-append, lit≤, ◌*◌, subst, ◌≢◌}
 use Rattle.std.specs.Prelude.{ℤ, pos, negsuc, ◌==◌, nat_le, nat_lt, slice_range}
 use Rattle.std.specs.List.{list_all, prefix_len, take_while, All, AllByRecursion, flat_map}
 use Rattle.std.specs.Fmt.{decimal, signed_decimal}
@@ -14,7 +14,7 @@ use Rattle.std.proofs.lemmas.Bool.Decides.{nat_tests}
 use Rattle.std.proofs.lemmas.Fmt.{digits_decimal, digits_value-decimal, decimal_nonempty}
 use Rattle.std.proofs.lemmas.Str.Parse.{IsNumeralModel, numerals_by_value, tells_all_ascii_digits}
 use Rattle.text_scan.specs.declared.token.TokenKind.{TokenKind}
-use Rattle.text_scan.specs.declared.token.TokenKind.TheVariants.{Name, Number, Sign}
+use Rattle.text_scan.specs.declared.token.TokenKind.TheVariants.{Name, Number, Sign, NewLine}
 use Rattle.text_scan.specs.declared.token.Token.{Token}
 use Rattle.text_scan.specs.declared.piece.Piece.{Piece}
 use Rattle.text_scan.specs.Bytes.{is_newline, is_digit, is_name_start, is_name_byte, is_blank, is_sign}
@@ -212,16 +212,26 @@ IsLineByte b = is_newline b ≡ false
 abbrev pub IsInLine : List ℕ → Type 0
 IsInLine text = All IsLineByte text
 
+-- no newline stands among the tokens
+abbrev pub AreInLine : List Form → Type 0
+AreInLine forms = AllByRecursion (λ f. f.kind ≢ NewLine) forms
+
+in_line_both : (fs gs : List Form) → AreInLine fs → AreInLine gs → AreInLine (fs ++ gs)
+in_line_both [] gs one others = others
+in_line_both (f ∷ fs) gs one others = (one.0, in_line_both fs gs one.1 others)
+
 -- a field of at most so many bytes: it is read as these tokens, where what follows it in its line doesn't begin with a name's byte
 pub record IsField (most : ℕ) (text : List ℕ) (forms : List Form) : Type 0 where
   pub short : length text ≤ most
   pub in_line : IsInLine text
+  pub tokens : AreInLine forms
   pub shown : (rest : List ℕ) (fs : List Form) → is_name_byte (first_of rest) ≡ false → Shows rest fs → Shows (text ++ rest) (forms ++ fs)
 
 -- what stands behind a field up to the line's end
 pub record IsRest (most : ℕ) (text : List ℕ) (forms : List Form) : Type 0 where
   pub short : length text ≤ most
   pub in_line : IsInLine text
+  pub tokens : AreInLine forms
   pub stops : is_name_byte (first_of text) ≡ false
   pub shown : Shows text forms
 
@@ -229,6 +239,7 @@ pub record IsRest (most : ℕ) (text : List ℕ) (forms : List Form) : Type 0 wh
 pub record IsPrinted (most : ℕ) (text : List ℕ) (forms : List Form) : Type 0 where
   pub short : length text ≤ most
   pub in_line : IsInLine text
+  pub tokens : AreInLine forms
   pub shown : Shows text forms
 
 abbrev pub name_form : List ℕ → Form
@@ -238,15 +249,16 @@ abbrev pub sign_form : ℕ → Form
 sign_form sign = record { kind = Sign sign; text = sign ∷ [] }
 
 pub widened : (n m : ℕ) (text : List ℕ) (forms : List Form) → n ≤ m → IsField n text forms → IsField m text forms
-widened n m text forms le one = record { short = omega (arith, one.short); in_line = one.in_line; shown = one.shown }
+widened n m text forms le one = record { short = omega (arith, one.short); in_line = one.in_line; tokens = one.tokens; shown = one.shown }
 
 pub rest_none : IsRest 0 [] []
-rest_none = record { short = lit≤ tt; in_line = All-nil IsLineByte; stops = refl; shown = shows_nothing }
+rest_none = record { short = lit≤ tt; in_line = All-nil IsLineByte; tokens = tt; stops = refl; shown = shows_nothing }
 
 pub rest_more : (n m : ℕ) (a b : List ℕ) (fs gs : List Form) → IsField n a fs → IsRest m b gs → IsRest (1 + n + m) (32 ∷ (a ++ b)) (fs ++ gs)
 rest_more n m a b fs gs one others = record {
   short = omega (arith, length-append a b, one.short, others.short);
   in_line = All-cons IsLineByte 32 (a ++ b) refl (All-append IsLineByte a b one.in_line others.in_line);
+  tokens = in_line_both fs gs one.tokens others.tokens;
   stops = refl;
   shown = shows_blank (a ++ b) (fs ++ gs) (one.shown b gs others.stops others.shown);
 }
@@ -263,6 +275,7 @@ pub printed : (n m : ℕ) (a b : List ℕ) (fs gs : List Form) → IsField n a f
 printed n m a b fs gs one others = record {
   short = omega (arith, length-append a b, one.short, others.short);
   in_line = All-append IsLineByte a b one.in_line others.in_line;
+  tokens = in_line_both fs gs one.tokens others.tokens;
   shown = one.shown b gs others.stops others.shown;
 }
 
@@ -285,6 +298,7 @@ pub name_field : (most : ℕ) (name : List ℕ) → IsName name → length name 
 name_field most name is short = record {
   short = short;
   in_line = names_in_line name is.bytes;
+  tokens = (λ h. (cc), tt);
   shown = λ rest fs stops others. shows_name name rest fs is stops others;
 }
 
@@ -293,6 +307,7 @@ pub directive_field : (most : ℕ) (name : List ℕ) → IsName name → length 
 directive_field most name is short = record {
   short = omega arith;
   in_line = All-cons IsLineByte 46 name refl (names_in_line name is.bytes);
+  tokens = (λ h. (cc), (λ h. (cc), tt));
   shown = λ rest fs stops others. shows_dot (name ++ rest) (name_form name ∷ fs) (shows_name name rest fs is stops others);
 }
 
@@ -303,6 +318,7 @@ pub number_field : (most n : ℕ) → n ≤ 9223372036854775808 → length (deci
 number_field most n le short = record {
   short = short;
   in_line = decimal_in_line n le;
+  tokens = (λ h. (cc), tt);
   shown = λ rest fs stops others. shows_number n rest fs le (no_digit (first_of rest) stops) others;
 }
 
@@ -310,9 +326,14 @@ integer_in_line : (z : ℤ) → InNumbers z → IsInLine (signed_decimal z)
 integer_in_line (pos n) h = decimal_in_line n h
 integer_in_line (negsuc n) h = All-cons IsLineByte 45 (decimal (suc n)) refl (decimal_in_line (suc n) h)
 
+integers_in_line : (z : ℤ) → AreInLine (integer_forms z)
+integers_in_line (pos n) = (λ h. (cc), tt)
+integers_in_line (negsuc n) = (λ h. (cc), (λ h. (cc), tt))
+
 pub integer_field : (most : ℕ) (z : ℤ) → InNumbers z → length (signed_decimal z) ≤ most → IsField most (signed_decimal z) (integer_forms z)
 integer_field most z h short = record {
   short = short;
   in_line = integer_in_line z h;
+  tokens = integers_in_line z;
   shown = λ rest fs stops others. shows_integer z rest fs h (no_digit (first_of rest) stops) others;
 }
