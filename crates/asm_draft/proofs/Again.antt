@@ -1,6 +1,6 @@
 -- Printed lines are read again.
-use Rattle.std.proofs.Common.{◌≡◌, ℕ, suc, ◌≤◌, Bool, true, false, List, [], ◌∷◌, ◌++◌, drop, length, Option, Some, None, Ok, refl, sym, ap, ◌∙◌, subst}
-use Rattle.std.specs.Prelude.{ℤ, pos, negsuc, ◌&&◌, codes}
+use Rattle.std.proofs.Common.{◌≡◌, ℕ, ◌≤◌, true, false, List, [], ◌∷◌, ◌++◌, drop, length, Option, Some, None, refl, sym, ap, ◌∙◌, subst}
+use Rattle.std.specs.Prelude.{pos, negsuc, ◌&&◌, codes}
 use Rattle.std.specs.List.{flat_map, AllByRecursion}
 use Rattle.text_scan.specs.declared.token.TokenKind.{TokenKind}
 use Rattle.text_scan.proofs.Printed.{Form, name_form, sign_form, integer_forms}
@@ -18,21 +18,21 @@ use Rattle.component_file.specs.declared.component.KindRow.{KindRow}
 use Rattle.component_file.specs.Limits.{is_name, KindFits}
 use Rattle.asm_labels.specs.declared.labels.Section.{Section as SectionOf}
 use Rattle.asm_labels.specs.declared.labels.Section.TheVariants.{Code, Data}
-use Rattle.asm_fields.specs.declared.fault.AsmFault.TheVariants.{Unknown, Operand as OperandFault, Section}
+use Rattle.asm_fields.specs.declared.fault.AsmFault.TheVariants.{Unknown, Section}
 use Rattle.asm_fields.specs.declared.directives.Item.{Item}
 use Rattle.asm_fields.specs.declared.directives.Item.TheVariants as item
 use Rattle.asm_fields.specs.declared.directives.WordKind.{WordKind}
 use Rattle.asm_fields.specs.declared.directives.WordKind.TheVariants as word_kind
 use Rattle.asm_fields.specs.declared.directives.Directive.{Directive}
 use Rattle.asm_fields.specs.declared.directives.Directive.TheVariants as directive
-use Rattle.asm_fields.specs.Fields.{Lexeme, Input, Reader, ◌>>=◌, done, place, unless_none, holds, kind_next, is_name_token, is_sign, is_labelled, name_or, name_at, proper_name_at, sign_at, dot, colon, end_at}
+use Rattle.asm_fields.specs.Fields.{Lexeme, ◌>>=◌, done, unless_none, holds, kind_next, is_name_token, is_sign, is_labelled, name_or, name_at, proper_name_at, colon}
 use Rattle.asm_fields.specs.Directives.{directive_name, directive_named}
 use Rattle.asm_fields.specs.Names.{kind_name, kind_named, ownership}
 use Rattle.asm_fields.specs.Words.{word_line}
 use Rattle.asm_fields.specs.Instrs.{Plain, row_named, shape_of, operands_at}
 use Rattle.asm_fields.specs.Operands.{address_at, stretch_at, Number, offset_at, kind_at, kind_behind}
 use Rattle.asm_fields.specs.Operands.{Plain as PlainKind, Pc as PcKind}
-use Rattle.asm_fields.proofs.Again.{Alike, Again, Whole, left, again_then, again_last, again_done, again_some, again_holds, again_placed, again_sign, again_name_or, again_name, again_proper, again_meant, whole_then, whole_placed, whole_last, whole_line}
+use Rattle.asm_fields.proofs.Again.{Alike, Again, Whole, left, again_then, again_last, again_done, again_some, again_holds, again_sign, again_name_or, again_name, again_proper, again_meant, whole_then, whole_placed, whole_last, whole_line}
 use Rattle.asm_fields.proofs.Printed.{operand_forms, last_of, instr_again, instr_forms, address_again, stretch_again, offset_again, shared_at_again}
 use Rattle.asm_draft.specs.Order.{section_of}
 use Rattle.asm_draft.specs.Tables.{Tables, with_import, with_export, with_site, with_row}

@@ -2,9 +2,9 @@
 use Rattle.std.proofs.Common.{◌≡◌, ℕ, suc, Bool, true, false, List, [], ◌∷◌, ◌++◌, map, Some, Option, Ok, refl, sym, ap, ◌∙◌, append_assoc, append-nil, eq-eqb, subst}
 use Rattle.std.specs.Prelude.{ℤ, pos, negsuc, nat_abs, int_le, ◌==◌, ◌&&◌}
 use Rattle.std.specs.Fmt.{decimal}
-use Rattle.text_scan.specs.declared.token.TokenKind.TheVariants.{Name, Number, Sign}
+use Rattle.text_scan.specs.declared.token.TokenKind.TheVariants.{Number, Sign}
 use Rattle.text_scan.specs.declared.token.Token.{Token}
-use Rattle.text_scan.proofs.Printed.{Form, form_in, name_form, sign_form, integer_forms}
+use Rattle.text_scan.proofs.Printed.{Form, form_in, name_form, integer_forms}
 use Rattle.component_file.specs.Limits.{is_name}
 use Rattle.asm_fields.specs.declared.fault.AsmFault.{AsmFault}
 use Rattle.asm_fields.specs.declared.fault.AsmFault.TheVariants.{Operand, Range}

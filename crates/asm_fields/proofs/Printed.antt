@@ -1,5 +1,5 @@
 -- Words, instructions and operands that were printed are read again.
-use Rattle.std.proofs.Common.{◌≡◌, ℕ, suc, ◌+◌, ◌*◌, ◌<◌, ◌≤◌, Bool, true, false, List, [], ◌∷◌, ◌++◌, map, length, Some, Option, Ok, refl, sym, ap, ◌∙◌, subst, append-nil, append_assoc, arith, lit<, lit≤, le-leb, rules, length-append}
+use Rattle.std.proofs.Common.{◌≡◌, ℕ, suc, ◌+◌, ◌*◌, ◌<◌, ◌≤◌, Bool, true, false, List, [], ◌∷◌, ◌++◌, map, length, Some, Ok, refl, sym, ap, ◌∙◌, subst, append-nil, arith, lit<, lit≤, le-leb, rules}
 use Rattle.std.specs.Prelude.{ℤ, pos, negsuc, nat_le, FitsSigned, if◌then◌else◌, not, ◌&&◌}
 use Rattle.std.specs.Int.{w32, w64}
 use Rattle.std.specs.List.{list_all, flat_map, join_with_byte, AllByRecursion}
@@ -10,14 +10,13 @@ use Rattle.std.proofs.lemmas.Fmt.{length-decimal-le}
 use Rattle.text_scan.specs.Bytes.{is_name_start, is_name_byte}
 use Rattle.text_scan.specs.Tokens.{first_of}
 use Rattle.text_scan.specs.Grammar.{IsName}
-use Rattle.text_scan.proofs.Printed.{Form, InNumbers, name_form, sign_form, integer_forms, IsField, IsRest, IsPrinted, widened, rest_none, rest_more, rest_all, printed, name_field, directive_field, number_field, integer_field}
+use Rattle.text_scan.proofs.Printed.{Form, InNumbers, name_form, sign_form, integer_forms, IsField, IsPrinted, widened, rest_all, printed, name_field, directive_field, number_field, integer_field}
 use Rattle.cap_words.specs.declared.Perm.{Perm}
 use Rattle.cap_words.specs.declared.Perm.TheVariants.{No, R as ReadOnly, Rw, Rx, Rwx}
 use Rattle.cap_words.specs.declared.Lin.{Lin}
 use Rattle.cap_words.specs.declared.Lin.TheVariants.{Normal, Linear}
 use Rattle.cap_words.specs.declared.CapFields.{CapFields}
 use Rattle.cap_words.specs.declared.SealFields.{SealFields}
-use Rattle.cap_words.specs.declared.Word.{Word}
 use Rattle.cap_words.specs.declared.Word.TheVariants as word
 use Rattle.cap_words.specs.Text.{perm_name, lin_name}
 use Rattle.cap_words.specs.Face.{CapInOrder}
@@ -28,24 +27,22 @@ use Rattle.lcm_isa.specs.declared.Operand.TheVariants.{R, Imm}
 use Rattle.lcm_isa.specs.declared.Instr.{Instr}
 use Rattle.lcm_isa.specs.declared.Instr.TheVariants.{Fail, Halt, Jmp, Jnz, Gettype, Geta, Getb, Gete, Getp, Getlin, Move, Store, Load, Cca, Restrict, Lt, Plus, Minus, Seta2b, Xjmp, Cseal, Split, Splice}
 use Rattle.lcm_isa.specs.Numbers.{IsInstr, IsOperand, all_with}
-use Rattle.lcm_isa.specs.Texts.{reg_name, mnemonic_of, operand_text, operand_texts, operands_of, instr_text}
+use Rattle.lcm_isa.specs.Texts.{reg_name, mnemonic_of, operand_text, operands_of, instr_text}
 use Rattle.lcm_isa.proofs.TextLemmas.{few}
 use Rattle.component_file.specs.Limits.{is_name, is_name_byte as is_file_name_byte, is_digit as is_file_digit}
 use Rattle.component_file.specs.declared.component.Kind.{Kind}
 use Rattle.component_file.specs.declared.component.Kind.TheVariants as kind
 use Rattle.asm_fields.specs.declared.fault.AsmFault.TheVariants as fault
-use Rattle.asm_fields.specs.declared.directives.WordKind.{WordKind}
 use Rattle.asm_fields.specs.declared.directives.WordKind.TheVariants as word_kind
 use Rattle.asm_fields.specs.declared.directives.Item.TheVariants as item
 use Rattle.asm_fields.specs.declared.directives.Directive.{Directive}
 use Rattle.asm_fields.specs.declared.directives.Directive.TheVariants as directive
 use Rattle.asm_fields.specs.Directives.{directive_name}
-use Rattle.asm_fields.specs.Fields.{natural_at, Lexeme, Reader, goes_on, ◌>>=◌, done, place, is_sign, is_name_token, end_at, unless_none, sign_at, proper_name_from, at_sign, percent}
-use Rattle.asm_fields.specs.Names.{named, perm_named, lin_named, reg_named, ownership, shared_named, kind_name, kind_named}
+use Rattle.asm_fields.specs.Fields.{natural_at, Lexeme, ◌>>=◌, done, is_sign, is_name_token, sign_at, proper_name_from, percent}
+use Rattle.asm_fields.specs.Names.{named, perm_named, lin_named, reg_named, ownership, shared_named, kind_name}
 use Rattle.asm_fields.specs.Words.{i64_at, cap_at, seals_at, word_behind, word_line}
-use Rattle.asm_fields.specs.Instrs.{i32_at, Last, Plain, Code, Data, reg_at, plain_at, last_at, last_if, reg_if, shape_of, row_named, operands_at}
-use Rattle.asm_fields.specs.Operands.{address_at, stretch_at, Number, offset_at, label_at, shared_at, kind_at, kind_behind}
-use Rattle.asm_fields.specs.Operands.{Plain as PlainKind, Pc as PcKind}
+use Rattle.asm_fields.specs.Instrs.{i32_at, Plain, Code, Data, reg_at, plain_at, last_at, last_if, reg_if, shape_of, row_named, operands_at}
+use Rattle.asm_fields.specs.Operands.{address_at, stretch_at, Number, offset_at, shared_at}
 use Rattle.asm_fields.proofs.Again.{Alike, Again, Whole, Within, at_front, left, again_then, again_last, again_done, again_some, again_placed, again_meant, again_no_sign, again_integer, again_natural, whole_then, whole_end, whole_of, whole_line}
 
 -- ---- names

@@ -1,19 +1,17 @@
 -- Printed lines, from their bytes to the draft that they make.
-use Rattle.std.proofs.Common.{◌≡◌, ◌≢◌, ℕ, zero, suc, ◌+◌, ◌*◌, ◌<◌, ◌≤◌, Bool, true, false, List, [], ◌∷◌, ◌++◌, map, length, drop, Result, Some, Ok, Err, refl, sym, ap, ◌∙◌, subst, append_assoc, append-nil, arith, le-leb, length-append, lit≤}
-use Rattle.std.specs.Prelude.{◌==◌, nat_le}
-use Rattle.std.specs.List.{slice_split, flat_map, AllByRecursion}
+use Rattle.std.proofs.Common.{◌≡◌, ◌≢◌, ℕ, ◌+◌, ◌*◌, ◌<◌, ◌≤◌, false, List, [], ◌∷◌, ◌++◌, map, length, drop, Ok, refl, sym, ap, ◌∙◌, subst, append_assoc, append-nil, arith, le-leb, length-append, lit≤}
+use Rattle.std.specs.Prelude.{◌==◌}
+use Rattle.std.specs.List.{slice_split, flat_map}
 use Rattle.std.proofs.lemmas.Bool.Decides.{nat_tests}
 use Rattle.std.proofs.lemmas.List.{map-append, drop-drop}
 use Rattle.std.proofs.lemmas.List.Splits.{slice_split_at, length-slice_split}
 use Rattle.text_scan.specs.declared.token.TokenKind.{TokenKind}
 use Rattle.text_scan.specs.declared.token.TokenKind.TheVariants.{Name, Number, Sign, Equal, NewLine}
 use Rattle.text_scan.specs.declared.token.Token.{Token}
-use Rattle.text_scan.specs.declared.fault.ScanFault.{ScanFault}
 use Rattle.text_scan.specs.Bytes.{is_newline}
-use Rattle.text_scan.specs.Tokens.{◌>>=◌, line_from, line_tokens, newline_at, lines_from}
-use Rattle.text_scan.proofs.Printed.{Form, form_in, IsField, IsRest, IsPrinted, AreInLine, printed}
-use Rattle.asm_fields.specs.declared.fault.AsmFault.{AsmFault}
-use Rattle.asm_fields.specs.Fields.{Lexeme, Input, seen}
+use Rattle.text_scan.specs.Tokens.{line_from, line_tokens, newline_at, lines_from}
+use Rattle.text_scan.proofs.Printed.{Form, IsField, IsRest, IsPrinted, AreInLine, printed}
+use Rattle.asm_fields.specs.Fields.{Lexeme, seen}
 use Rattle.asm_fields.proofs.Again.{Alike, Whole, left, alike_seen}
 use Rattle.asm_draft.specs.Draft.{Draft}
 use Rattle.asm_draft.specs.Lines.{line_in}

@@ -1,49 +1,37 @@
 -- Each line of a component's text, and the draft that it makes.
-use Rattle.std.proofs.Common.{◌≡◌, ℕ, zero, suc, ◌+◌, ◌*◌, ◌<◌, ◌≤◌, Bool, true, false, cond, List, [], ◌∷◌, ◌++◌, map, length, Option, Some, None, Ok, refl, sym, ap, ◌∙◌, subst, append-nil, append_assoc, arith, length-append, lit≤}
-use Rattle.std.specs.Prelude.{ℤ, pos, negsuc, ◌==◌, nat_lt, nat_le, not, ◌&&◌, ◌||◌, decimal, option_map, FitsSigned, IfSome}
+use Rattle.std.proofs.Common.{◌≡◌, ℕ, ◌+◌, ◌<◌, ◌≤◌, Bool, true, false, List, [], ◌∷◌, ◌++◌, length, Option, Some, None, refl, sym, subst, append-nil, arith, lit≤}
+use Rattle.std.specs.Prelude.{ℤ, pos, ◌==◌, nat_lt, nat_le, not, ◌&&◌, ◌||◌, decimal, FitsSigned}
 use Rattle.std.specs.Int.{w64}
 use Rattle.std.specs.Fmt.{signed_decimal}
-use Rattle.std.specs.List.{flat_map, AllByRecursion}
 use Rattle.std.proofs.lemmas.Bool.Decides.{nat_tests}
-use Rattle.text_scan.proofs.Printed.{Form, name_form, sign_form, integer_forms, IsField, IsRest, IsPrinted, rest_none, rest_more}
-use Rattle.cap_words.specs.Stretch.{Stretch}
+use Rattle.text_scan.proofs.Printed.{Form, name_form, sign_form, integer_forms, IsField, IsRest, rest_none, rest_more}
 use Rattle.cap_words.specs.Text.{perm_name, lin_name}
 use Rattle.cap_words.specs.declared.Word.{Word}
 use Rattle.cap_words.specs.declared.Word.TheVariants.{Int, Mem, Seal, Sealed}
 use Rattle.cap_words.specs.WordBytes.{WordFits, IsUnsealed}
 use Rattle.lcm_isa.specs.declared.Instr.{Instr}
-use Rattle.lcm_isa.specs.Numbers.{number_of, decode_of, IsInstr}
+use Rattle.lcm_isa.specs.Numbers.{decode_of}
 use Rattle.lcm_isa.proofs.NumberLemmas.{number_of-decode_of, decode_of-fits}
-use Rattle.component_file.specs.declared.component.Area.{Area}
-use Rattle.component_file.specs.declared.component.Kind.{Kind}
-use Rattle.component_file.specs.declared.component.Kind.TheVariants as kind
-use Rattle.component_file.specs.declared.component.Import.{Import}
-use Rattle.component_file.specs.declared.component.Export.{Export}
-use Rattle.component_file.specs.declared.component.KindRow.{KindRow}
-use Rattle.component_file.specs.Limits.{Chain, Each, ImportFits, ExportFits, SiteFits, RowFits, KindFits, StretchFits, last_base}
 use Rattle.asm_labels.specs.declared.labels.Section.{Section}
 use Rattle.asm_labels.specs.declared.labels.Section.TheVariants as section
 use Rattle.asm_fields.specs.declared.directives.Item.{Item}
 use Rattle.asm_fields.specs.declared.directives.Item.TheVariants as item
 use Rattle.asm_fields.specs.declared.directives.WordKind.{WordKind}
 use Rattle.asm_fields.specs.declared.directives.WordKind.TheVariants as word_kind
-use Rattle.asm_fields.specs.declared.directives.Directive.{Directive}
 use Rattle.asm_fields.specs.declared.directives.Directive.TheVariants as directive
 use Rattle.asm_fields.specs.Directives.{directive_name}
-use Rattle.asm_fields.specs.Names.{kind_name, ownership}
 use Rattle.asm_fields.specs.Words.{word_line as word_reader}
 use Rattle.asm_fields.proofs.Again.{Again, Whole}
-use Rattle.asm_fields.proofs.Printed.{directive_is_field, proper_field, perm_field, lin_field, shared_field, kind_field, place_field, offset_field, i64_field, cap_forms, seals_forms, int_again, cap_again, seals_again, operand_forms, last_of, instr_forms, instr_printed}
+use Rattle.asm_fields.proofs.Printed.{directive_is_field, perm_field, lin_field, place_field, i64_field, cap_forms, seals_forms, int_again, cap_again, seals_again, instr_forms, instr_printed}
 use Rattle.asm_draft.specs.declared.header.Header.{Header}
 use Rattle.asm_draft.specs.Order.{rank, rank_of, repeats, furthest, may_follow, section_of}
-use Rattle.asm_draft.specs.Tables.{Tables, last_of as last_item, with_import, with_export, with_site, with_row}
-use Rattle.asm_draft.specs.Draft.{Draft, has_word_room, with_word, with_instr, with_header, with_tables, may_end, may_end_in}
+use Rattle.asm_draft.specs.Tables.{Tables}
+use Rattle.asm_draft.specs.Draft.{Draft, has_word_room, with_word, may_end, may_end_in}
 use Rattle.asm_draft.specs.Operands.{operands_in}
-use Rattle.asm_draft.specs.Lines.{may_stand, line_in}
-use Rattle.asm_draft.proofs.Again.{directive_forms, instr_line_again, word_line_again, item_line_again, offset_forms, stretch_forms, import_forms, export_forms, kind_forms, row_forms}
-use Rattle.asm_draft.proofs.Again.{import_again, export_again, site_again, fail_again, literal_again, row_again, name_again, stack_again, closure_again, seals_again as seals_item_again, linear_again, code_base_again, data_base_again}
-use Rattle.disassembler.specs.Disassembled.{newline, behind_blank, item_line, word_line, code_line, integer_line, stretch_line, optional_line, import_line, export_line, site_line, kind_fields, row_line}
-use Rattle.disassembler.proofs.Leads.{Leads, leads_none, leads_line, leads_fields}
+use Rattle.asm_draft.specs.Lines.{may_stand}
+use Rattle.asm_draft.proofs.Again.{instr_line_again, word_line_again, item_line_again, offset_forms}
+use Rattle.disassembler.specs.Disassembled.{newline, item_line, word_line, code_line, integer_line}
+use Rattle.disassembler.proofs.Leads.{Leads, leads_line, leads_fields}
 
 -- what lines without labels have made
 abbrev pub so_far : Option Item → Header → List Word → List Word → Tables → Draft

@@ -1,31 +1,29 @@
 -- The lines of tables, and the drafts that they make.
-use Rattle.std.proofs.Common.{◌≡◌, ℕ, zero, suc, ◌+◌, ◌*◌, ◌<◌, ◌≤◌, Bool, true, false, List, [], ◌∷◌, ◌++◌, length, Option, Some, None, refl, sym, ap, ◌∙◌, subst, append-nil, append_assoc, arith, length-append, lit≤, lit<}
-use Rattle.std.specs.Prelude.{ℤ, pos, nat_lt, not, ◌&&◌, decimal, option_map, IfSome}
+use Rattle.std.proofs.Common.{◌≡◌, ℕ, ◌+◌, ◌*◌, ◌<◌, ◌≤◌, Bool, true, false, List, [], ◌∷◌, ◌++◌, length, Option, Some, None, refl, sym, ap, ◌∙◌, subst, append-nil, arith, length-append, lit≤}
+use Rattle.std.specs.Prelude.{pos, nat_lt, decimal, IfSome}
 use Rattle.std.specs.List.{flat_map, AllByRecursion}
 use Rattle.std.proofs.lemmas.Bool.Decides.{nat_tests}
-use Rattle.text_scan.proofs.Printed.{Form, name_form, integer_forms, IsField, IsRest, rest_none, rest_more}
+use Rattle.text_scan.proofs.Printed.{Form, name_form, integer_forms, IsRest, rest_none, rest_more}
 use Rattle.cap_words.specs.declared.Word.{Word}
 use Rattle.component_file.specs.declared.component.Kind.{Kind}
 use Rattle.component_file.specs.declared.component.Kind.TheVariants as kind
 use Rattle.component_file.specs.declared.component.Import.{Import}
 use Rattle.component_file.specs.declared.component.Export.{Export}
 use Rattle.component_file.specs.declared.component.KindRow.{KindRow}
-use Rattle.component_file.specs.Limits.{ascends, name_lt, Chain, Each, ImportFits, ExportFits, SiteFits, RowFits, KindFits}
+use Rattle.component_file.specs.Limits.{Chain, ImportFits, ExportFits, SiteFits, RowFits, KindFits}
 use Rattle.asm_fields.specs.declared.directives.Item.{Item}
 use Rattle.asm_fields.specs.declared.directives.Item.TheVariants as item
 use Rattle.asm_fields.specs.Names.{kind_name, ownership}
-use Rattle.asm_fields.proofs.Again.{Again}
 use Rattle.asm_fields.proofs.Printed.{proper_field, shared_field, kind_field, offset_field}
 use Rattle.asm_draft.specs.declared.header.Header.{Header}
 use Rattle.asm_draft.specs.Order.{rank, rank_of, may_follow}
-use Rattle.asm_draft.specs.Tables.{Tables, last_of as last_item, first_out_of_order, with_import, with_export, with_site, with_row, has_room}
-use Rattle.asm_draft.specs.Draft.{Draft, with_tables, may_end}
-use Rattle.asm_draft.specs.Operands.{operands_in}
+use Rattle.asm_draft.specs.Tables.{Tables, last_of as last_item, first_out_of_order, has_room}
+use Rattle.asm_draft.specs.Draft.{may_end}
 use Rattle.asm_draft.specs.Lines.{may_stand}
 use Rattle.asm_draft.proofs.Again.{offset_forms, import_forms, export_forms, kind_forms, row_forms}
 use Rattle.asm_draft.proofs.Again.{import_again, export_again, site_again, fail_again, literal_again, row_again}
 use Rattle.assembler.proofs.Chains.{item_in_chain}
-use Rattle.disassembler.specs.Disassembled.{behind_blank, item_line, optional_line, import_line, export_line, site_line, kind_fields, row_line}
+use Rattle.disassembler.specs.Disassembled.{behind_blank, optional_line, import_line, export_line, site_line, kind_fields, row_line}
 use Rattle.disassembler.proofs.Leads.{Leads, leads_optional, leads_all}
 use Rattle.disassembler.proofs.Lines.{so_far, one_operand, leads_item, ends, last_in, last_behind, follows, in_tables, all_three}
 

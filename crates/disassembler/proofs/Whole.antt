@@ -1,21 +1,19 @@
 -- What is written from a component is read as that component.
-use Rattle.std.proofs.Common.{◌≡◌, ℕ, zero, suc, ◌+◌, ◌*◌, ◌^◌, ◌<◌, ◌≤◌, Bool, true, false, cond, List, [], ◌∷◌, ◌++◌, map, length, drop, Option, Some, None, Result, Ok, Err, refl, sym, ap, ◌∙◌, subst, append-nil, arith, lit≤, lit<}
-use Rattle.std.specs.Prelude.{pos, ◌==◌, nat_lt, nat_le, not, ◌&&◌, decimal, IfSome}
-use Rattle.std.specs.List.{flat_map, slice_split}
+use Rattle.std.proofs.Common.{◌≡◌, ℕ, zero, suc, ◌+◌, ◌^◌, ◌<◌, ◌≤◌, true, false, cond, List, [], ◌∷◌, ◌++◌, map, length, Option, Some, None, Ok, refl, sym, ap, ◌∙◌, subst, append-nil, arith, lit≤, lit<}
+use Rattle.std.specs.Prelude.{pos, ◌==◌, nat_lt, nat_le, not, ◌&&◌, decimal}
+use Rattle.std.specs.List.{flat_map}
 use Rattle.std.proofs.lemmas.Bool.{le-leb}
 use Rattle.std.proofs.lemmas.Bool.Decides.{nat_tests}
-use Rattle.text_scan.specs.Bytes.{is_newline}
-use Rattle.text_scan.specs.Tokens.{scanned, lines_from}
+use Rattle.text_scan.specs.Tokens.{scanned}
 use Rattle.text_scan.proofs.Printed.{name_form, integer_forms, rest_more}
 use Rattle.cap_words.specs.Stretch.{Stretch}
 use Rattle.cap_words.specs.declared.Word.{Word}
 use Rattle.cap_words.specs.WordBytes.{WordFits, IsUnsealed}
 use Rattle.component_file.specs.declared.component.Area.{Area}
 use Rattle.component_file.specs.declared.component.ComponentFields.{ComponentFields}
-use Rattle.component_file.specs.Limits.{is_name, Chain, WordsFit, StretchFits, last_base, IsComponent}
+use Rattle.component_file.specs.Limits.{is_name, Chain, WordsFit, StretchFits, IsComponent}
 use Rattle.asm_labels.specs.declared.labels.Section.TheVariants as section
 use Rattle.asm_labels.specs.References.{resolved}
-use Rattle.asm_fields.specs.declared.fault.AsmFault.{AsmFault}
 use Rattle.asm_fields.specs.declared.directives.Item.{Item}
 use Rattle.asm_fields.specs.declared.directives.Item.TheVariants as item
 use Rattle.asm_fields.specs.Fields.{seen}
@@ -29,7 +27,8 @@ use Rattle.asm_draft.specs.Operands.{operands_in}
 use Rattle.asm_draft.specs.Lines.{may_stand}
 use Rattle.asm_draft.specs.Whole.{drafted, lines_of, ended, ended_all, draft_of_text}
 use Rattle.asm_draft.proofs.Again.{stretch_forms, name_again, stack_again, closure_again, seals_again, linear_again, code_base_again, data_base_again}
-use Rattle.assembler.specs.Assembled.{finished, component_of, assembled}
+use Rattle.assembler.specs.Assembled.{finished, assembled}
+use Rattle.assembler.proofs.Words.{IsPartWord}
 use Rattle.assembler.proofs.Chains.{item_in_chain}
 use Rattle.disassembler.specs.Disassembled.{item_line, stretch_line, code_line, word_line, disassembled}
 use Rattle.disassembler.proofs.Leads.{Goes, Leads, leads_none, leads_optional, leads_then, leads_all, goes_nowhere}
@@ -108,16 +107,10 @@ code_stands h seals (suc n) = refl
 
 -- ---- code and data
 
-IsPart : Word → Type 0
-IsPart w = WordFits w × IsUnsealed w
-
-abbrev part : Word → Type 0
-part w = WordFits w × IsUnsealed w
-
 words_lead : (t : Word → List ℕ) (D : List Word → Draft) (ws : List Word) → WordsFit ws → ((w : Word) (before : List Word) → WordFits w → IsUnsealed w → nat_lt (length before) 65536 ≡ true → Leads 1 (t w) (D before) (D (before ++ w ∷ [])))
     → Leads (length ws) (flat_map t ws) (D []) (D ws)
 words_lead t D ws fit step = leads_all t D ws (λ before w after is.
-    let each : part w = item_in_chain (λ _. part) before w after (subst (Chain (λ _. part) None) is fit.1) in
+    let each : IsPartWord w = item_in_chain (λ _. IsPartWord) before w after (subst (Chain (λ _. IsPartWord) None) is fit.1) in
     step w before each.0 each.1 (fewer 65536 ws before w after fit.0.1 is))
 
 -- ---- the tables' order

@@ -19,6 +19,7 @@ use Rattle.asm_fields.specs.declared.directives.Item.TheVariants as item
 use Rattle.asm_fields.specs.declared.directives.WordKind.TheVariants as kind
 use Rattle.asm_fields.specs.declared.directives.Directive.{Directive}
 use Rattle.asm_fields.specs.declared.directives.Directive.TheVariants as directive
+use Rattle.asm_fields.specs.Fields.{dot}
 use Rattle.asm_fields.specs.Directives.{directive_name}
 use Rattle.asm_fields.specs.Names.{kind_name, ownership}
 
@@ -33,7 +34,7 @@ behind_blank operand = 32 ∷ operand
 
 -- a directive, its operands, and a newline
 abbrev pub directive_line : Directive → List (List ℕ) → List ℕ
-directive_line d operands = 46 ∷ directive_name d ++ (flat_map behind_blank operands ++ newline)
+directive_line d operands = dot ∷ directive_name d ++ (flat_map behind_blank operands ++ newline)
 
 abbrev pub item_line : Item → List (List ℕ) → List ℕ
 item_line i operands = directive_line (directive.Of i) operands

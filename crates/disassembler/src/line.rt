@@ -1,6 +1,7 @@
 //! The pieces of a line: a directive, operands, the newline.
 ghost use Rattle.std.specs.Prelude.{◌≡◌, ◌++◌, ◌∷◌, decimal, OnOk};
 ghost use Rattle.std.specs.Fmt.{signed_decimal};
+ghost use Rattle.asm_fields.specs.Fields.{dot};
 ghost use Rattle.asm_fields.specs.Directives.{directive_name};
 ghost use Rattle.disassembler.specs.Disassembled.{newline, behind_blank};
 
@@ -10,7 +11,7 @@ use std::alloc::AllocError;
 
 /// Begins a line with a directive.
 pub(crate) fn begin(text: &mut Vec<u8>, directive: Directive) -> Result<(), AllocError>
-    ensures { OnOk result (text.new.items ≡ text.old.items ++ 46 ∷ directive_name directive) }
+    ensures { OnOk result (text.new.items ≡ text.old.items ++ dot ∷ directive_name directive) }
 {
     text.push(b'.')?;
     text.extend_from_slice(directive.name().as_bytes())
@@ -18,7 +19,7 @@ pub(crate) fn begin(text: &mut Vec<u8>, directive: Directive) -> Result<(), Allo
 
 /// Begins a line with the directive of an item.
 pub(crate) fn begin_item(text: &mut Vec<u8>, item: Item) -> Result<(), AllocError>
-    ensures { OnOk result (text.new.items ≡ text.old.items ++ 46 ∷ directive_name (Directive.Of item)) }
+    ensures { OnOk result (text.new.items ≡ text.old.items ++ dot ∷ directive_name (Directive.Of item)) }
 {
     begin(text, Directive::Of(item))
 }

@@ -1,6 +1,6 @@
 -- What printed pieces of a line are read as.
-use Rattle.std.proofs.Common.{◌≡◌, ℕ, zero, suc, ◌+◌, ◌-◌, ◌<◌, ◌≤◌, ◌^◌, Bool, true, false, cond, List, [], ◌∷◌, ◌++◌, map, length, take, drop, get_or, Some, None, Ok, refl, sym, ap, ◌∙◌, append-nil, append_assoc, arith, length-append, lit≤, ◌*◌, subst, ◌≢◌}
-use Rattle.std.specs.Prelude.{ℤ, pos, negsuc, ◌==◌, nat_le, nat_lt, slice_range}
+use Rattle.std.proofs.Common.{◌≡◌, ℕ, suc, ◌+◌, ◌-◌, ◌<◌, ◌≤◌, Bool, true, false, List, [], ◌∷◌, ◌++◌, map, length, take, drop, Some, None, Ok, refl, sym, ap, ◌∙◌, append_assoc, arith, length-append, lit≤, ◌*◌, subst, ◌≢◌}
+use Rattle.std.specs.Prelude.{ℤ, pos, negsuc, ◌==◌, nat_le, slice_range}
 use Rattle.std.specs.List.{list_all, prefix_len, take_while, All, AllByRecursion, flat_map}
 use Rattle.std.specs.Fmt.{decimal, signed_decimal}
 use Rattle.std.specs.Str.{all_ascii_digits}
@@ -9,7 +9,7 @@ use Rattle.std.specs.Char.{is_ascii_digit}
 use Rattle.std.proofs.lemmas.List.{drop-drop}
 use Rattle.std.proofs.lemmas.List.Elements.{All-nil, All-cons, All-append}
 use Rattle.std.proofs.lemmas.List.Sums.{AllPass-from_list_all}
-use Rattle.std.proofs.lemmas.Bool.{and_parts, or_parts, leb-true, eqb-true, le-leb}
+use Rattle.std.proofs.lemmas.Bool.{and_parts, or_parts, le-leb}
 use Rattle.std.proofs.lemmas.Bool.Decides.{nat_tests}
 use Rattle.std.proofs.lemmas.Fmt.{digits_decimal, digits_value-decimal, decimal_nonempty}
 use Rattle.std.proofs.lemmas.Str.Parse.{IsNumeralModel, numerals_by_value, tells_all_ascii_digits}
