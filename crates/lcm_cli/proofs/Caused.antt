@@ -1,15 +1,14 @@
 -- The cause of every status.
 use Rattle.std.proofs.Common.{◌≡◌, ◌≢◌, ℕ, ◌⊎◌, ◌+◌, List, [], ◌∷◌, Option, Some, None, refl, sym, ap, subst, ◌∙◌, inl, inr, true, false}
-use Rattle.std.specs.Prelude.{Result, Ok, Err, Bool, ◌&&◌, not, ℤ, if◌then◌else◌}
+use Rattle.std.specs.Prelude.{Result, Ok, Err, Bool, not, ℤ, IsNone, IsSomeAnd, MatchOption}
 use Rattle.std.specs.List.{list_all}
 use Rattle.outside_io.specs.Counts.{Rose}
-use Rattle.outside_io.specs.FilesSeen.{FilesSeen}
+use Rattle.outside_io.specs.FilesSeen.{FilesSeen, Puts, KeepsOthers}
 use Rattle.outside_io.specs.SinkSeen.{Adds}
 use Rattle.outside_io.specs.Whole.{OnlyGave}
 use Rattle.command_words.specs.declared.part.Ending.{Ending}
 use Rattle.command_words.specs.declared.part.Ending.TheVariants.{Source, Assembler, Component}
 use Rattle.command_words.specs.declared.part.PartWord.{PartWord}
-use Rattle.command_words.specs.declared.command.Linked.{Linked}
 use Rattle.command_words.specs.declared.command.Linked.TheVariants.{Parts, Image}
 use Rattle.command_words.specs.declared.command.Command.{Command}
 use Rattle.command_words.specs.declared.command.Command.TheVariants as command
@@ -18,6 +17,8 @@ use Rattle.assembler.specs.Assembled.{assembled}
 use Rattle.component_file.specs.declared.fault.FileFault.{FileFault}
 use Rattle.component_file.specs.declared.component.ComponentFields.{ComponentFields}
 use Rattle.component_file.specs.Reading.{decoded}
+use Rattle.component_file.specs.Spelling.{spelling}
+use Rattle.disassembler.specs.Disassembled.{disassembled}
 use Rattle.component_linker.specs.declared.fault.RuleAt.{RuleAt}
 use Rattle.component_linker.specs.Parts.{PartSeen}
 use Rattle.component_linker.specs.Start.{IsStart}
@@ -29,16 +30,16 @@ use Rattle.lcm_cli.specs.declared.refusal.Refusal.{Refusal}
 use Rattle.lcm_cli.specs.declared.refusal.Refusal.TheVariants as refusal
 use Rattle.lcm_cli.specs.declared.status.Status.{Status}
 use Rattle.lcm_cli.specs.declared.status.Status.TheVariants as status
-use Rattle.lcm_cli.specs.Refusals.{refusal_text, refusal_status}
+use Rattle.lcm_cli.specs.Refusals.{refusal_status}
 use Rattle.lcm_cli.specs.Plans.{Plan, Reads, Ends, Made, unless, whole as came_whole, too_long, unread, Comes}
 use Rattle.component_linker.specs.Accepted.{accepted}
 use Rattle.lcm_cli.specs.Parts.{is_trusted, broken_in, linked, form_by, component_at, part_at, each_at}
-use Rattle.lcm_cli.specs.Commands.{Task, Run, Say, is_source, is_built_form, is_built_part, is_built, run_plan, check_plan, built_plan, plan_of, plan_in, is_command}
-use Rattle.lcm_cli.specs.Answers.{Answer, Outside, step_status, ran, said, refused, IsAnswerOf, GivesWhole, whole, unwritten, Answers, answer, nothing}
-use Rattle.lcm_cli.specs.Causes.{IsTurn, IsUnread, IsLong, IsUndecoded, IsUnassembled, Breaks, Runs, Says, Wrote, Causes, IsRunStatus, RunGiven, Promised}
+use Rattle.lcm_cli.specs.Commands.{Task, Run, Put, Show, Say, is_source, is_built_form, is_built_part, is_built, run_plan, assemble_plan, disassemble_plan, check_plan, built_plan, plan_in, is_command}
+use Rattle.lcm_cli.specs.Answers.{Answer, NewFile, Outside, with_files, step_status, writes, ran, said, refused, IsAnswerOf, IsPut, GivesWhole, whole, unput, unwritten, Answers, answer, nothing}
+use Rattle.lcm_cli.specs.Causes.{IsTurn, IsUnread, IsLong, IsUndecoded, IsUnassembled, Breaks, Runs, Assembles, Shows, Says, out_of, Wrote, Causes, Stay, OthersStay, StayAt, PutsWhole, IsRunStatus, RunGiven, Promised}
 use Rattle.lcm_cli.proofs.BuiltParts.{and_left, and_right, no_source}
-use Rattle.lcm_cli.proofs.Settled.{complete}
-use Rattle.lcm_cli.proofs.Reasons.{Reasoned, comes_split, same_err, ended_unless, links_reasoned, checks_reasoned, links_break, checks_break, links_made}
+use Rattle.lcm_cli.proofs.Settled.{complete, puts_rose}
+use Rattle.lcm_cli.proofs.Reasons.{Reasoned, comes_split, same_err, ended_unless, links_reasoned, assembles_reasoned, shows_reasoned, checks_reasoned, links_break, checks_break, assembles_never, shows_never, assembles_no_rule, shows_no_rule, links_made, assembles_made, shows_made, checks_made}
 
 -- ---- words that are a command that is built have its plan, and all others are refused at once
 
@@ -110,6 +111,12 @@ no_usage_checks word f old new h = elim (comes_split (part_at 0 word) _ old new 
   | inr s ↦ no_usage_part 0 word f old new (back_usage (part_at 0 word) old new s.0 s.1 s.2)
 ]
 
+no_usage_assembles : (word : PartWord) (out : List ℕ) → is_built_form word ≡ true → Never (assemble_plan word out)
+no_usage_assembles word out f = assembles_never word out refusal.Usage (no_usage_component 0 word (no_source word f))
+
+no_usage_shows : (word : PartWord) → is_built_form word ≡ true → Never (disassemble_plan word)
+no_usage_shows word f = shows_never word refusal.Usage (no_usage_component 0 word (no_source word f))
+
 -- ---- why the words' plan ends
 
 abbrev WhyIs : Option Command → Plan Task → FilesSeen → Refusal → FilesSeen → Type 0
@@ -136,9 +143,11 @@ why_built (command.Check word) old new why e h =
     why_from (Some (command.Check word)) (check_plan word) old new why (checks_reasoned word) (no_usage_checks word e) (checks_break word old new) h
 why_built (command.Run (Image name) steps) old new why e h = absurd (cc)
 why_built (command.Trace what steps) old new why e h = absurd (cc)
-why_built (command.Assemble word out) old new why e h = absurd (cc)
+why_built (command.Assemble word out) old new why e h =
+    why_from (Some (command.Assemble word out)) (assemble_plan word out) old new why (assembles_reasoned word out) (no_usage_assembles word out e) (λ r c. absurd (assembles_no_rule word out r old new c)) h
 why_built (command.Compile word out) old new why e h = absurd (cc)
-why_built (command.Disassemble word) old new why e h = absurd (cc)
+why_built (command.Disassemble word) old new why e h =
+    why_from (Some (command.Disassemble word)) (disassemble_plan word) old new why (shows_reasoned word) (no_usage_shows word e) (λ r c. absurd (shows_no_rule word r old new c)) h
 why_built (command.Link words size out) old new why e h = absurd (cc)
 why_built (command.Mean words size fuel feed) old new why e h = absurd (cc)
 why_built (command.Generate seed) old new why e h = absurd (cc)
@@ -167,12 +176,12 @@ unread_rose p old new h = subst (λ n. Rose n new.failed_reads) (turn_reads p ol
 -- ---- the cause of what is due
 
 abbrev Caused : Option Command → Outside → Outside → Status → Type 0
-Caused asked old new status.Done = Runs asked old.files new.files (λ step. step ≡ Halted) ⊎ Says asked old.files new.files
+Caused asked old new status.Done = Runs asked old.files new.files (λ step. step ≡ Halted) ⊎ (Assembles asked old.files new.files ⊎ (Shows asked old.files new.files ⊎ Says asked old.files new.files))
 Caused asked old new status.MachineFailed = Runs asked old.files new.files (λ step. (cause : FailCause) × (at : ℤ) × (step ≡ Failed cause at))
 Caused asked old new status.StepsUsed = Runs asked old.files new.files (λ step. step ≡ Went)
 Caused asked old new status.Usage = is_command asked ≡ false
 Caused asked old new status.ReadFault = Rose old.files.failed_reads new.files.failed_reads × IsUnread (plan_in asked) old.files new.files
-Caused asked old new status.WriteFault = Rose old.sink.faults new.sink.faults
+Caused asked old new status.WriteFault = Rose old.sink.faults new.sink.faults ⊎ (Rose old.files.failed_puts new.files.failed_puts × (out_of asked ≡ Some new.files.last_failed_put))
 Caused asked old new status.NoMemory = OnlyGave old.files new.files × (new.sink ≡ old.sink) × (new.kept ≡ old.kept)
 Caused asked old new status.TooLong = (place : ℕ) × Wrote (refusal.TooLong place) old new × IsLong (plan_in asked) old.files place new.files
 Caused asked old new status.AsmRefused = (place : ℕ) × (f : AsmFault) × Wrote (refusal.Assembly place f) old new × IsUnassembled (plan_in asked) old.files place f new.files
@@ -194,18 +203,78 @@ err_caused asked old new (refusal.Assembly place f) h w = (place, f, w, h)
 err_caused asked old new (refusal.File place f) h w = (place, f, w, h)
 err_caused asked old new (refusal.Rule r) h w = (r, w, h)
 
-due_caused : (asked : Option Command) (old new : Outside) (due : Result Task Refusal) (a : Answer) → Comes (plan_in asked) old.files due new.files → IsAnswerOf due a → Adds old.sink a.text new.sink → Caused asked old new a.status
-due_caused asked old new (Ok (Run parts size steps)) a c x w =
-    subst (λ (b : Answer). Caused asked old new b.status) (sym x.2) (run_caused asked old new parts size steps c x.0 x.1 (last_step (plain steps x.0)) refl)
-due_caused asked old new (Ok Say) a c x w = subst (λ (b : Answer). Caused asked old new b.status) (sym x) (inr c)
-due_caused asked old new (Err why) a c x w =
+-- what is told at the end, where no file was put
+unput_seen : (seen new : FilesSeen) (a b : Answer) → a ≡ b → b.file ≡ None → IsPut seen a.file new → new ≡ seen
+unput_seen seen new a b e n p = subst (λ f. IsPut seen f new) (ap (λ (x : Answer). x.file) e ∙ n) p
+
+due_caused : (asked : Option Command) (old new : Outside) (seen : FilesSeen) (due : Result Task Refusal) (a : Answer) → Comes (plan_in asked) old.files due seen → IsAnswerOf due a → IsPut seen a.file new.files → Adds old.sink a.text new.sink
+    → Caused asked old new a.status
+due_caused asked old new seen (Ok (Run parts size steps)) a c x p w =
+    let n : new.files ≡ seen = unput_seen seen new.files a (ran (plain steps x.0)) x.2 refl p in
+    subst (λ (b : Answer). Caused asked old new b.status) (sym x.2) (run_caused asked old new parts size steps (rw n c) x.0 x.1 (last_step (plain steps x.0)) refl)
+due_caused asked old new seen (Ok (Put name d)) a c x p w =
+    subst (λ (b : Answer). Caused asked old new b.status) (sym x) (inr (inl (name, d, seen, c, subst (λ (b : Answer). IsPut seen b.file new.files) x p)))
+due_caused asked old new seen (Ok (Show d)) a c x p w =
+    let n : new.files ≡ seen = unput_seen seen new.files a (writes status.Done (disassembled d)) x refl p in
+    subst (λ (b : Answer). Caused asked old new b.status) (sym x) (inr (inr (inl (d, rw n c))))
+due_caused asked old new seen (Ok Say) a c x p w =
+    let n : new.files ≡ seen = unput_seen seen new.files a said x refl p in
+    subst (λ (b : Answer). Caused asked old new b.status) (sym x) (inr (inr (inr (rw n c))))
+due_caused asked old new seen (Err why) a c x p w =
+    let n : new.files ≡ seen = unput_seen seen new.files a (refused why) x refl p in
     subst (λ (b : Answer). Caused asked old new b.status) (sym x)
-    (err_caused asked old new why (why_is asked (is_command asked) refl old.files new.files why c) (subst (λ (b : Answer). Adds old.sink b.text new.sink) x w))
+    (err_caused asked old new why (why_is asked (is_command asked) refl old.files new.files why (rw n c)) (subst (λ (b : Answer). Adds old.sink b.text new.sink) x w))
+
+-- ---- the file that is put
+
+name_same : (name out : List ℕ) (c d : ComponentFields) → Put name c ≡ Put out d → name ≡ out
+name_same name out c d e = cc
+
+put_built : (c : Command) (old seen : FilesSeen) (name : List ℕ) (d : ComponentFields) → is_built c ≡ true → Comes (built_plan c) old (Ok (Put name d)) seen → out_of (Some c) ≡ Some name
+put_built (command.Run (Parts words size) steps) old seen name d e h = absurd (let m = (links_made words size steps old seen (Put name d) h).3 in cc)
+put_built (command.Assemble word out) old seen name d e h = let m = assembles_made word out old seen (Put name d) h in ap (λ n. Some n) (sym (name_same name out d m.0 m.2))
+put_built (command.Disassemble word) old seen name d e h = absurd (let m = (shows_made word old seen (Put name d) h).2 in cc)
+put_built (command.Check word) old seen name d e h = absurd (let m = checks_made word old seen (Put name d) h in cc)
+put_built (command.Run (Image name) steps) old seen out d e h = absurd (cc)
+put_built (command.Trace what steps) old seen name d e h = absurd (cc)
+put_built (command.Compile word out) old seen name d e h = absurd (cc)
+put_built (command.Link words size out) old seen name d e h = absurd (cc)
+put_built (command.Mean words size fuel feed) old seen name d e h = absurd (cc)
+put_built (command.Generate seed) old seen name d e h = absurd (cc)
+
+no_ok : {A : Type 0} (x : A) (why : Refusal) → (let r : Result A Refusal = Ok x in r) ≡ Err why → ⊥
+no_ok x why e = cc
+
+put_in : (asked : Option Command) (b : Bool) → is_command asked ≡ b → (old seen : FilesSeen) (name : List ℕ) (d : ComponentFields) → Comes (plan_in asked) old (Ok (Put name d)) seen → out_of asked ≡ Some name
+put_in asked false f old seen name d h = absurd (no_ok (Put name d) refusal.Usage (subst (λ p. Comes p old (Ok (Put name d)) seen) (unplanned asked f) h).0)
+put_in None true f old seen name d h = absurd (cc)
+put_in (Some c) true f old seen name d h = put_built c old seen name d f (subst (λ p. Comes p old (Ok (Put name d)) seen) (planned c f) h)
+
+some_same : (f g : NewFile) → Some f ≡ Some g → f ≡ g
+some_same f g e = cc
+
+-- an answer with a file is that of a component, and the file is that of `--out`
+put_of : (asked : Option Command) (due : Result Task Refusal) (a : Answer) (f : NewFile) (old seen : FilesSeen) → Comes (plan_in asked) old due seen → IsAnswerOf due a → a.file ≡ Some f
+    → (d : ComponentFields) × Comes (plan_in asked) old (Ok (Put f.name d)) seen × (f.bytes ≡ spelling d) × (out_of asked ≡ Some f.name)
+put_of asked (Ok (Run parts size steps)) a f old seen c x e = absurd (let k = ap (λ (b : Answer). b.file) x.2 in cc)
+put_of asked (Ok (Put name d)) a f old seen c x e =
+    let k : f ≡ record { name = name; bytes = spelling d } = some_same f (record { name = name; bytes = spelling d }) (sym e ∙ ap (λ (b : Answer). b.file) x) in
+    let n : f.name ≡ name = ap (λ (g : NewFile). g.name) k in
+    (d, subst (λ m. Comes (plan_in asked) old (Ok (Put m d)) seen) (sym n) c, ap (λ (g : NewFile). g.bytes) k, put_in asked (is_command asked) refl old seen name d c ∙ ap (λ m. Some m) (sym n))
+put_of asked (Ok (Show d)) a f old seen c x e = absurd (let k = ap (λ (b : Answer). b.file) x in cc)
+put_of asked (Ok Say) a f old seen c x e = absurd (let k = ap (λ (b : Answer). b.file) x in cc)
+put_of asked (Err why) a f old seen c x e = absurd (let k = ap (λ (b : Answer). b.file) x in cc)
+
+-- ---- each cause
 
 caused : (asked : Option Command) (old : Outside) (ended : Status) (new : Outside) → Answers (plan_in asked) old ended new → Caused asked old new ended
 caused asked old ended new (nothing n) = subst (Caused asked old new) (sym n.status_is) (n.quiet, n.unwritten, n.kept_is)
-caused asked old ended new (answer due a c x (whole g)) = subst (Caused asked old new) (sym g.status_is) (due_caused asked old new due a c x g.written)
-caused asked old ended new (answer due a c x (unwritten f k s)) = subst (Caused asked old new) (sym s) f.rose
+caused asked old ended new (answer due a seen c x (whole g)) = subst (Caused asked old new) (sym g.status_is) (due_caused asked old new seen due a c x g.put g.written)
+caused asked old ended new (answer due a seen c x (unput f i w u k s)) = subst (Caused asked old new) (sym s) (inr (
+  puts_rose (plan_in asked) old.files seen due new.files.failed_puts c w.rose,
+  (put_of asked due a f old.files seen c x i).3 ∙ ap (λ n. Some n) (sym (ap (λ (s : FilesSeen). s.last_failed_put) w.stays)),
+))
+caused asked old ended new (answer due a seen c x (unwritten p f k s)) = subst (Caused asked old new) (sym s) (inl f.rose)
 
 causes : (asked : Option Command) (old : Outside) (ended : Status) (new : Outside) → Caused asked old new ended → Causes asked old ended new
 causes asked old ended new c = record {
@@ -234,9 +303,10 @@ due_usage asked old new due f c = (subst (λ p. Comes p old due new) (unplanned 
 pub usage : (asked : Option Command) (old : Outside) (ended : Status) (new : Outside) → Answers (plan_in asked) old ended new → is_command asked ≡ false
     → (ended ≡ status.Usage) ⊎ ((ended ≡ status.WriteFault) ⊎ (ended ≡ status.NoMemory))
 usage asked old ended new (nothing n) f = inr (inr n.status_is)
-usage asked old ended new (answer due a c x (unwritten w k s)) f = inr (inl s)
-usage asked old ended new (answer due a c x (whole g)) f =
-    let is : a ≡ refused refusal.Usage = subst (λ d. IsAnswerOf d a) (due_usage asked old.files new.files due f c) x in
+usage asked old ended new (answer due a seen c x (unput g i w u k s)) f = inr (inl s)
+usage asked old ended new (answer due a seen c x (unwritten p w k s)) f = inr (inl s)
+usage asked old ended new (answer due a seen c x (whole g)) f =
+    let is : a ≡ refused refusal.Usage = subst (λ d. IsAnswerOf d a) (due_usage asked old.files seen due f c) x in
     inl (g.status_is ∙ ap (λ (b : Answer). b.status) is)
 
 -- ---- files stay
@@ -248,9 +318,80 @@ comes_contents (Reads name place next) old new due (came_whole bytes mid w h) = 
 comes_contents (Reads name place next) old new due (too_long t e) = ap (λ (s : FilesSeen). s.contents) t.quiet
 comes_contents (Reads name place next) old new due (unread f e) = ap (λ (s : FilesSeen). s.contents) f.stays
 
-pub files_stay : (asked : Option Command) (old : Outside) (ended : Status) (new : Outside) → Answers (plan_in asked) old ended new → new.files.contents ≡ old.files.contents
-files_stay asked old ended new (nothing n) = ap (λ (s : FilesSeen). s.contents) n.quiet
-files_stay asked old ended new (answer due a c x g) = comes_contents (plan_in asked) old.files new.files due c
+keeps_from : (old seen new : FilesSeen) (out : List ℕ) → seen.contents ≡ old.contents → KeepsOthers seen new out → KeepsOthers old new out
+keeps_from old seen new out e k =
+    let P : _ → Type 0 = λ o. MatchOption o (IsNone new.contents) (λ held. IsSomeAnd new.contents (λ now. (q : List ℕ) → q ≢ out → now q ≡ held q)) in subst P e k
+
+-- what became of the files of an answer
+put_stays : (asked : Option Command) (due : Result Task Refusal) (a : Answer) (old seen new : FilesSeen) (file : Option NewFile) → Comes (plan_in asked) old due seen → IsAnswerOf due a → a.file ≡ file → IsPut seen file new
+    → Stay old new ⊎ ((out : List ℕ) × (out_of asked ≡ Some out) × KeepsOthers old new out × Assembles asked old new)
+put_stays asked due a old seen new None c x e p = inl (ap (λ (s : FilesSeen). s.contents) p ∙ comes_contents (plan_in asked) old seen due c)
+put_stays asked due a old seen new (Some f) c x e p =
+    let m = put_of asked due a f old seen c x e in
+    inr (f.name, m.3, keeps_from old seen new f.name (comes_contents (plan_in asked) old seen due c) p.others, (f.name, m.0, seen, m.1, subst (λ b. Puts seen new f.name b) m.2 p))
+
+others : (asked : Option Command) (old new : FilesSeen) → Stay old new ⊎ ((out : List ℕ) × (out_of asked ≡ Some out) × KeepsOthers old new out × Assembles asked old new) → OthersStay asked old new
+others asked old new (inl s) = inl s
+others asked old new (inr s) = inr (s.0, s.1, s.2)
+
+put_or_stay : (asked : Option Command) (old new : FilesSeen) → Stay old new ⊎ ((out : List ℕ) × (out_of asked ≡ Some out) × KeepsOthers old new out × Assembles asked old new) → Stay old new ⊎ Assembles asked old new
+put_or_stay asked old new (inl s) = inl s
+put_or_stay asked old new (inr s) = inr s.3
+
+-- a status other than Done puts no file
+abbrev PutsNone : Status → Answer → Type 0
+PutsNone status.Done a = Unit {0}
+PutsNone _ a = a.file ≡ None
+
+step_none : (step : Step) (a : Answer) → a.file ≡ None → PutsNone (step_status step) a
+step_none Went a e = e
+step_none Halted a e = tt
+step_none (Failed cause at) a e = e
+
+why_none : (why : Refusal) (a : Answer) → a.file ≡ None → PutsNone (refusal_status why) a
+why_none refusal.Usage a e = e
+why_none refusal.ReadFault a e = e
+why_none (refusal.TooLong place) a e = e
+why_none (refusal.Assembly place f) a e = e
+why_none (refusal.File place f) a e = e
+why_none (refusal.Rule r) a e = e
+
+puts_none : (due : Result Task Refusal) (a : Answer) → IsAnswerOf due a → PutsNone a.status a
+puts_none (Ok (Run parts size steps)) a x = subst (λ (b : Answer). PutsNone b.status b) (sym x.2) (step_none (last_step (plain steps x.0)) (ran (plain steps x.0)) refl)
+puts_none (Ok (Put name d)) a x = subst (λ (b : Answer). PutsNone b.status b) (sym x) tt
+puts_none (Ok (Show d)) a x = subst (λ (b : Answer). PutsNone b.status b) (sym x) tt
+puts_none (Ok Say) a x = subst (λ (b : Answer). PutsNone b.status b) (sym x) tt
+puts_none (Err why) a x = subst (λ (b : Answer). PutsNone b.status b) (sym x) (why_none why (refused why) refl)
+
+stay_by : (asked : Option Command) (a : Answer) (old new : FilesSeen) (ended : Status) → PutsNone ended a → OthersStay asked old new → (a.file ≡ None → Stay old new) → StayAt asked old ended new
+stay_by asked a old new status.Done n o k = o
+stay_by asked a old new status.WriteFault n o k = o
+stay_by asked a old new status.MachineFailed n o k = k n
+stay_by asked a old new status.StepsUsed n o k = k n
+stay_by asked a old new status.Usage n o k = k n
+stay_by asked a old new status.ReadFault n o k = k n
+stay_by asked a old new status.NoMemory n o k = k n
+stay_by asked a old new status.TooLong n o k = k n
+stay_by asked a old new status.AsmRefused n o k = k n
+stay_by asked a old new status.SourceRefused n o k = k n
+stay_by asked a old new status.FileRefused n o k = k n
+stay_by asked a old new status.RuleBroken n o k = k n
+
+pub files_stay : (asked : Option Command) (old : Outside) (ended : Status) (new : Outside) → Answers (plan_in asked) old ended new → StayAt asked old.files ended new.files
+files_stay asked old ended new (nothing n) = subst (λ s. StayAt asked old.files s new.files) (sym n.status_is) (ap (λ (s : FilesSeen). s.contents) n.quiet)
+files_stay asked old ended new (answer due a seen c x (whole g)) = subst (λ s. StayAt asked old.files s new.files) (sym g.status_is)
+    (stay_by asked a old.files new.files a.status (puts_none due a x) (others asked old.files new.files (put_stays asked due a old.files seen new.files a.file c x refl g.put))
+    (λ e. ap (λ (s : FilesSeen). s.contents) (let p : IsPut seen None new.files = subst (λ f. IsPut seen f new.files) e g.put in p) ∙ comes_contents (plan_in asked) old.files seen due c))
+files_stay asked old ended new (answer due a seen c x (unput f i w u k s)) = subst (λ s. StayAt asked old.files s new.files) (sym s)
+    (inr (f.name, (put_of asked due a f old.files seen c x i).3, keeps_from old.files seen new.files f.name (comes_contents (plan_in asked) old.files seen due c) w.others))
+files_stay asked old ended new (answer due a seen c x (unwritten p w k s)) = subst (λ s. StayAt asked old.files s new.files) (sym s)
+    (others asked old.files new.files (put_stays asked due a old.files seen new.files a.file c x refl p))
+
+pub put_whole : (asked : Option Command) (old : Outside) (ended : Status) (new : Outside) → Answers (plan_in asked) old ended new → PutsWhole asked old.files new.files
+put_whole asked old ended new (nothing n) q = inl (ap (λ (s : FilesSeen). s.contents) n.quiet)
+put_whole asked old ended new (answer due a seen c x (whole g)) q = put_or_stay asked old.files new.files (put_stays asked due a old.files seen new.files a.file c x refl g.put)
+put_whole asked old ended new (answer due a seen c x (unput f i w u k s)) q = absurd (q (puts_rose (plan_in asked) old.files seen due new.files.failed_puts c w.rose))
+put_whole asked old ended new (answer due a seen c x (unwritten p w k s)) q = put_or_stay asked old.files new.files (put_stays asked due a old.files seen new.files a.file c x refl p)
 
 -- ---- what a run writes
 
@@ -265,31 +406,37 @@ no_run (refusal.Rule r) h = h
 same_run : (p q : List PartSeen) (n m k l : ℕ) → Run p n k ≡ Run q m l → (p ≡ q) × (n ≡ m) × (k ≡ l)
 same_run p q n m k l e = (cc, cc, cc)
 
-given_run : (words : List PartWord) (size steps : ℕ) (old : Outside) (ended : Status) (new : Outside) (due : Result Task Refusal) (a : Answer) → Comes (run_plan words size steps) old.files due new.files → IsAnswerOf due a
-    → GivesWhole old a ended new → IsRunStatus ended → RunGiven words size steps old ended new
-given_run words size steps old ended new (Err why) a c x g r =
+given_run : (words : List PartWord) (size steps : ℕ) (old : Outside) (seen : FilesSeen) (ended : Status) (new : Outside) (due : Result Task Refusal) (a : Answer) → Comes (run_plan words size steps) old.files due seen → IsAnswerOf due a
+    → GivesWhole (with_files old seen) a ended new → IsRunStatus ended → RunGiven words size steps old ended new
+given_run words size steps old seen ended new (Err why) a c x g r =
     absurd (no_run why (subst IsRunStatus (g.status_is ∙ ap (λ (b : Answer). b.status) x) r))
-given_run words size steps old ended new (Ok Say) a c x g r =
-    absurd (let e = (links_made words size steps old.files new.files Say c).3 in cc)
-given_run words size steps old ended new (Ok (Run parts n k)) a c x g r =
-    let m = links_made words size steps old.files new.files (Run parts n k) c in
+given_run words size steps old seen ended new (Ok (Put name d)) a c x g r =
+    absurd (let e = (links_made words size steps old.files seen (Put name d) c).3 in cc)
+given_run words size steps old seen ended new (Ok (Show d)) a c x g r =
+    absurd (let e = (links_made words size steps old.files seen (Show d) c).3 in cc)
+given_run words size steps old seen ended new (Ok Say) a c x g r =
+    absurd (let e = (links_made words size steps old.files seen Say c).3 in cc)
+given_run words size steps old seen ended new (Ok (Run parts n k)) a c x g r =
+    let m = links_made words size steps old.files seen (Run parts n k) c in
     let s = same_run parts m.0 n size k steps m.3 in
     let start : IsStart m.0 size x.0 = subst (λ z. IsStart m.0 z x.0) s.1 (subst (λ ps. IsStart ps n x.0) s.0 x.1) in
     let is : a ≡ ran (plain steps x.0) = x.2 ∙ ap (λ z. ran (plain z x.0)) s.2 in
-    let h : GivesWhole old (ran (plain steps x.0)) ended new = subst (λ b. GivesWhole old b ended new) is g in
-    record { parts = m.0; came = m.1; keep = m.2; start = x.0; starts = start; status_is = h.status_is; written = h.written; kept_is = h.kept_is }
+    let h : GivesWhole (with_files old seen) (ran (plain steps x.0)) ended new = subst (λ b. GivesWhole (with_files old seen) b ended new) is g in
+    let p : new.files ≡ seen = h.put in
+    record { parts = m.0; came = (rw p m.1); keep = m.2; start = x.0; starts = start; status_is = h.status_is; written = h.written; kept_is = h.kept_is }
 
-runs_by : (words : List PartWord) (size steps : ℕ) (b : Bool) → list_all is_built_part words ≡ b → (old : Outside) (ended : Status) (new : Outside) (due : Result Task Refusal) (a : Answer)
-    → Comes (plan_in (Some (command.Run (Parts words size) steps))) old.files due new.files → IsAnswerOf due a → GivesWhole old a ended new → IsRunStatus ended → RunGiven words size steps old ended new
-runs_by words size steps true f old ended new due a c x g r =
-    given_run words size steps old ended new due a (subst (λ p. Comes p old.files due new.files) (planned (command.Run (Parts words size) steps) f) c) x g r
-runs_by words size steps false f old ended new due a c x g r =
-    let is : a ≡ refused refusal.Usage = subst (λ d. IsAnswerOf d a) (due_usage (Some (command.Run (Parts words size) steps)) old.files new.files due f c) x in
+runs_by : (words : List PartWord) (size steps : ℕ) (b : Bool) → list_all is_built_part words ≡ b → (old : Outside) (seen : FilesSeen) (ended : Status) (new : Outside) (due : Result Task Refusal) (a : Answer)
+    → Comes (plan_in (Some (command.Run (Parts words size) steps))) old.files due seen → IsAnswerOf due a → GivesWhole (with_files old seen) a ended new → IsRunStatus ended → RunGiven words size steps old ended new
+runs_by words size steps true f old seen ended new due a c x g r =
+    given_run words size steps old seen ended new due a (subst (λ p. Comes p old.files due seen) (planned (command.Run (Parts words size) steps) f) c) x g r
+runs_by words size steps false f old seen ended new due a c x g r =
+    let is : a ≡ refused refusal.Usage = subst (λ d. IsAnswerOf d a) (due_usage (Some (command.Run (Parts words size) steps)) old.files seen due f c) x in
     absurd (no_run refusal.Usage (subst IsRunStatus (g.status_is ∙ ap (λ (b : Answer). b.status) is) r))
 
 pub runs : (asked : Option Command) (old : Outside) (ended : Status) (new : Outside) → Answers (plan_in asked) old ended new → (words : List PartWord) (size steps : ℕ) → asked ≡ Some (command.Run (Parts words size) steps)
     → IsRunStatus ended → RunGiven words size steps old ended new
 runs asked old ended new (nothing n) words size steps e r = absurd (subst IsRunStatus n.status_is r)
-runs asked old ended new (answer due a c x (unwritten f k s)) words size steps e r = absurd (subst IsRunStatus s r)
-runs asked old ended new (answer due a c x (whole g)) words size steps e r =
-    runs_by words size steps (list_all is_built_part words) refl old ended new due a (subst (λ z. Comes (plan_in z) old.files due new.files) e c) x g r
+runs asked old ended new (answer due a seen c x (unput f i w u k s)) words size steps e r = absurd (subst IsRunStatus s r)
+runs asked old ended new (answer due a seen c x (unwritten p f k s)) words size steps e r = absurd (subst IsRunStatus s r)
+runs asked old ended new (answer due a seen c x (whole g)) words size steps e r =
+    runs_by words size steps (list_all is_built_part words) refl old seen ended new due a (subst (λ z. Comes (plan_in z) old.files due seen) e c) x g r

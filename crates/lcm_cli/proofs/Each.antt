@@ -1,5 +1,5 @@
 -- A loop over the words of parts.
-use Rattle.std.proofs.Common.{◌≡◌, ℕ, ◌+◌, ◌<◌, ◌≤◌, List, [], ◌∷◌, ◌++◌, length, get_or, refl, sym, ap, subst, ◌∙◌, drop, append_assoc, drop-cons, add-one, arith, append-nil}
+use Rattle.std.proofs.Common.{◌≡◌, ℕ, ◌+◌, ◌<◌, List, [], ◌∷◌, ◌++◌, length, get_or, refl, sym, ap, ◌∙◌, drop, append_assoc, drop-cons, add-one, arith, append-nil}
 use Rattle.std.specs.Prelude.{Result, Ok, Err}
 use Rattle.std.proofs.lemmas.List.{drop_all}
 use Rattle.outside_io.specs.FilesSeen.{FilesSeen}
@@ -10,7 +10,7 @@ use Rattle.lcm_cli.specs.declared.refusal.Stop.TheVariants.{Refused, NoMemory}
 use Rattle.command_words.specs.declared.part.PartWord.{PartWord}
 use Rattle.lcm_cli.specs.Plans.{Plan, Made, ◌>>=◌, Comes, Follows}
 use Rattle.lcm_cli.specs.Parts.{each_at}
-use Rattle.lcm_cli.proofs.Follow.{comes_bind, comes_end, comes_left, comes_as, comes_map, comes_quiet, comes_same, only_same, only_again}
+use Rattle.lcm_cli.proofs.Follow.{comes_bind, comes_end, comes_left, comes_as, comes_map, comes_quiet, only_same, only_again}
 
 -- the words before the k-th made these, and what comes of the others comes of all
 pub record SoFar {A : Type 0} (item : ℕ → PartWord → Plan A) (words : List PartWord) (old : FilesSeen) (k : ℕ) (made : List A) (now : FilesSeen) : Type 0 where

@@ -1,20 +1,15 @@
 -- There is one first broken rule.
-use Rattle.std.proofs.Common.{◌≡◌, ℕ, zero, suc, ◌<◌, ◌⊎◌, inl, inr, List, Option, Some, None, refl, sym, ap, subst, ◌∙◌, arith, map}
+use Rattle.std.proofs.Common.{◌≡◌, ℕ, ◌<◌, ◌⊎◌, inl, inr, List, Some, refl, sym, ap, subst, ◌∙◌, arith, map}
 use Rattle.std.specs.Prelude.{Result, Ok, Err}
-use Rattle.component_check.specs.declared.rule.Broken.{Broken}
-use Rattle.component_check.specs.declared.rule.Group.TheVariants.{C}
-use Rattle.component_check.specs.RuleText.{broken_at}
-use Rattle.component_check.specs.Places.{Test, BrokenAt}
-use Rattle.component_check.specs.Verdict.{rule, IsBefore, IsFirst, IsFirstBroken, check_from}
-use Rattle.component_check.proofs.First.{first_broken}
+use Rattle.component_check.specs.Verdict.{check_from}
 use Rattle.component_linker.specs.declared.fault.RuleAt.{RuleAt}
 use Rattle.component_linker.specs.declared.fault.LinkFault.{LinkFault}
 use Rattle.component_linker.specs.declared.fault.LinkFault.TheVariants.{Rule}
 use Rattle.component_linker.specs.Answer.{Answers}
 use Rattle.component_linker.specs.declared.pairs.PartPlace.{PartPlace}
-use Rattle.component_linker.specs.Pairs.{PairTest, BrokenIn, rule_of, IsBeforeIn, IsFirstIn, IsFirstBrokenIn, NoneIsBroken, by_part}
+use Rattle.component_linker.specs.Pairs.{PairTest, rule_of, IsFirstIn, IsFirstBrokenIn, NoneIsBroken, by_part}
 use Rattle.component_linker.specs.Links.{rules_l, rule_at}
-use Rattle.component_linker.specs.Parts.{PartSeen, Accepts, rules_of}
+use Rattle.component_linker.specs.Parts.{PartSeen}
 use Rattle.component_linker.proofs.FirstIn.{first_broken_in}
 use Rattle.lcm_cli.specs.Parts.{linked}
 

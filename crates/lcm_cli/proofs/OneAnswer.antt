@@ -2,20 +2,19 @@
 use Rattle.std.proofs.Common.{◌≡◌, ℕ, ◌<◌, ◌≤◌, ◌⊎◌, List, length, Option, Some, None, refl, sym, ap, subst, ◌∙◌, arith, inl, inr, true, false}
 use Rattle.std.specs.Prelude.{Result, Ok, Err, Bool}
 use Rattle.command_words.specs.declared.part.PartWord.{PartWord}
-use Rattle.command_words.specs.declared.command.Linked.{Linked}
 use Rattle.command_words.specs.declared.command.Linked.TheVariants.{Parts, Image}
 use Rattle.command_words.specs.declared.command.Command.{Command}
 use Rattle.command_words.specs.declared.command.Command.TheVariants as command
 use Rattle.component_linker.specs.declared.fault.RuleAt.{RuleAt}
 use Rattle.component_linker.specs.Parts.{PartSeen}
-use Rattle.component_linker.specs.Start.{IsStart}
 use Rattle.lcm_machine.specs.Run.{Run as Machine, plain}
 use Rattle.lcm_cli.specs.declared.TheConstants.{LONGEST_FILE}
 use Rattle.lcm_cli.specs.declared.refusal.Refusal.{Refusal}
 use Rattle.lcm_cli.specs.declared.refusal.Refusal.TheVariants as refusal
 use Rattle.lcm_cli.specs.Plans.{Plan, Reads, Ends, Made, ◌>>=◌, unless}
-use Rattle.lcm_cli.specs.Parts.{linked, part_at, each_at}
-use Rattle.lcm_cli.specs.Commands.{Task, Run, Say, is_built, run_plan, check_plan, built_plan, plan_in, is_command}
+use Rattle.component_file.specs.declared.component.ComponentFields.{ComponentFields}
+use Rattle.lcm_cli.specs.Parts.{linked, component_at, part_at, each_at}
+use Rattle.lcm_cli.specs.Commands.{Task, Run, Put, Show, Say, is_built, run_plan, assemble_plan, disassemble_plan, check_plan, built_plan, plan_in, is_command}
 use Rattle.lcm_cli.specs.Answers.{Answer, IsAnswerOf, ran, Settles, IsWritten}
 use Rattle.lcm_cli.proofs.Caused.{planned, unplanned}
 use Rattle.lcm_cli.proofs.OneStart.{one_start}
@@ -85,14 +84,28 @@ checks_settle held word parts n k h = elim (settles_split held (part_at 0 word) 
   | inr s ↦ no_err (Run parts n k) s.0 s.1
 ]
 
+component_settles : (held : List ℕ → Option (List ℕ)) (word : PartWord) (f : ComponentFields → Task) (parts : List PartSeen) (n k : ℕ) → ((c : ComponentFields) → Run parts n k ≡ f c → ⊥) → Settles held (component_at 0 word >>= (λ c. Made (f c))) (Ok (Run parts n k)) → ⊥
+component_settles held word f parts n k differ h = elim (settles_split held (component_at 0 word) (λ c. Made (f c)) (Ok (Run parts n k)) h) as (λ _. ⊥) [
+  | inl s ↦ differ s.0 (same_task (Run parts n k) (f s.0) s.1)
+  | inr s ↦ no_err (Run parts n k) s.0 s.1
+]
+
+assembles_settle : (held : List ℕ → Option (List ℕ)) (word : PartWord) (out : List ℕ) (parts : List PartSeen) (n k : ℕ) → Settles held (assemble_plan word out) (Ok (Run parts n k)) → ⊥
+unfolding assemble_plan
+assembles_settle held word out parts n k h = component_settles held word (Put out) parts n k (λ c e. cc) h
+
+shows_settle : (held : List ℕ → Option (List ℕ)) (word : PartWord) (parts : List PartSeen) (n k : ℕ) → Settles held (disassemble_plan word) (Ok (Run parts n k)) → ⊥
+unfolding disassemble_plan
+shows_settle held word parts n k h = component_settles held word Show parts n k (λ c e. cc) h
+
 built_settles : (held : List ℕ → Option (List ℕ)) (c : Command) (parts : List PartSeen) (n k : ℕ) → is_built c ≡ true → Settles held (built_plan c) (Ok (Run parts n k)) → linked parts n ≡ Ok tt
 built_settles held (command.Run (Parts words size) steps) parts n k e h = links_settle held words size steps parts n k h
 built_settles held (command.Check word) parts n k e h = absurd (checks_settle held word parts n k h)
 built_settles held (command.Run (Image name) steps) parts n k e h = absurd (cc)
 built_settles held (command.Trace what steps) parts n k e h = absurd (cc)
-built_settles held (command.Assemble word out) parts n k e h = absurd (cc)
+built_settles held (command.Assemble word out) parts n k e h = absurd (assembles_settle held word out parts n k h)
 built_settles held (command.Compile word out) parts n k e h = absurd (cc)
-built_settles held (command.Disassemble word) parts n k e h = absurd (cc)
+built_settles held (command.Disassemble word) parts n k e h = absurd (shows_settle held word parts n k h)
 built_settles held (command.Link words size out) parts n k e h = absurd (cc)
 built_settles held (command.Mean words size fuel feed) parts n k e h = absurd (cc)
 built_settles held (command.Generate seed) parts n k e h = absurd (cc)
@@ -106,6 +119,8 @@ run_settles held (Some c) true f parts n k h = built_settles held c parts n k f 
 
 one_of : (held : List ℕ → Option (List ℕ)) (asked : Option Command) (due : Result Task Refusal) (a b : Answer) → Settles held (plan_in asked) due → IsAnswerOf due a → IsAnswerOf due b → a ≡ b
 one_of held asked (Err why) a b s h k = h ∙ sym k
+one_of held asked (Ok (Put name c)) a b s h k = h ∙ sym k
+one_of held asked (Ok (Show c)) a b s h k = h ∙ sym k
 one_of held asked (Ok Say) a b s h k = h ∙ sym k
 one_of held asked (Ok (Run parts size steps)) a b s h k =
     let l = run_settles held asked (is_command asked) refl parts size steps s in

@@ -1,5 +1,5 @@
 -- Why plans end.
-use Rattle.std.proofs.Common.{◌≡◌, ◌≢◌, ℕ, ◌+◌, ◌⊎◌, List, [], ◌∷◌, refl, sym, ap, subst, ◌∙◌, inl, inr}
+use Rattle.std.proofs.Common.{◌≡◌, ℕ, ◌+◌, ◌⊎◌, List, [], ◌∷◌, refl, sym, subst, ◌∙◌, inl, inr}
 use Rattle.std.specs.Prelude.{Result, Ok, Err, ⊤}
 use Rattle.outside_io.specs.FilesSeen.{FilesSeen}
 use Rattle.outside_io.specs.Whole.{GivesWhole}
@@ -17,8 +17,8 @@ use Rattle.lcm_cli.specs.declared.refusal.Refusal.TheVariants as refusal
 use Rattle.lcm_cli.specs.Plans.{Plan, Reads, Ends, Made, ◌>>=◌, unless, whole, too_long, unread, Comes}
 use Rattle.component_linker.specs.Accepted.{accepted}
 use Rattle.lcm_cli.specs.Parts.{is_trusted, broken_in, linked, form_by, component_at, part_at, each_at}
-use Rattle.lcm_cli.specs.Commands.{Task, Run, Say, run_plan, check_plan}
-use Rattle.lcm_cli.specs.Causes.{IsTurn, IsUnread, IsLong, Holds, IsUndecoded, IsUnassembled, PartBreaks, SomeBreaks, AllBreak}
+use Rattle.lcm_cli.specs.Commands.{Task, Run, Put, Show, Say, run_plan, assemble_plan, disassemble_plan, check_plan}
+use Rattle.lcm_cli.specs.Causes.{IsTurn, IsUnread, IsLong, IsUndecoded, IsUnassembled, PartBreaks, SomeBreaks, AllBreak}
 
 -- what comes of two plans that are joined
 abbrev pub Split : {A B : Type 0} → Plan A → (A → Plan B) → FilesSeen → Result B Refusal → FilesSeen → Type 0
@@ -166,10 +166,18 @@ pub checks_reasoned : (word : PartWord) → Reasoned (check_plan word)
 unfolding check_plan
 checks_reasoned word = reasoned_bind (part_at 0 word) _ (part_reasoned 0 word) (λ p. reasoned_made Say)
 
+pub assembles_reasoned : (word : PartWord) (out : List ℕ) → Reasoned (assemble_plan word out)
+unfolding assemble_plan
+assembles_reasoned word out = reasoned_bind (component_at 0 word) _ (component_reasoned 0 word) (λ c. reasoned_made (Put out c))
+
+pub shows_reasoned : (word : PartWord) → Reasoned (disassemble_plan word)
+unfolding disassemble_plan
+shows_reasoned word = reasoned_bind (component_at 0 word) _ (component_reasoned 0 word) (λ c. reasoned_made (Show c))
+
 -- ---- rules
 
 -- a plan never ends so
-abbrev Never : {A : Type 0} → Plan A → Refusal → Type 0
+abbrev pub Never : {A : Type 0} → Plan A → Refusal → Type 0
 Never p why = (old new : FilesSeen) → Comes p old (Err why) new → ⊥
 
 no_rule_form : (ending : Ending) (place : ℕ) (name : List ℕ) (r : RuleAt) → Never (let p : Plan _ = Reads name place (form_by ending place) in p) (refusal.Rule r)
@@ -244,7 +252,31 @@ checks_break word old new r h = elim (comes_split (part_at 0 word) _ old new (Er
   | inr s ↦ part_breaks 0 word old new r (let e = same_err (refusal.Rule r) s.0 s.2 in rw (← e) s.1)
 ]
 
--- ---- runs
+-- a task that is made of the component alone
+abbrev OfComponent : PartWord → (ComponentFields → Task) → Plan Task
+OfComponent word f = component_at 0 word >>= (λ c. Made (f c))
+
+never_of : (word : PartWord) (f : ComponentFields → Task) (why : Refusal) → Never (component_at 0 word) why → Never (OfComponent word f) why
+never_of word f why n old new h = elim (comes_split (component_at 0 word) (λ c. Made (f c)) old new (Err why) h) as (λ _. ⊥) [
+  | inl s ↦ not_made (f s.0) why s.1 new s.3
+  | inr s ↦ n old new (let e = same_err why s.0 s.2 in rw (← e) s.1)
+]
+
+pub assembles_never : (word : PartWord) (out : List ℕ) (why : Refusal) → Never (component_at 0 word) why → Never (assemble_plan word out) why
+unfolding assemble_plan
+assembles_never word out why n = never_of word (Put out) why n
+
+pub shows_never : (word : PartWord) (why : Refusal) → Never (component_at 0 word) why → Never (disassemble_plan word) why
+unfolding disassemble_plan
+shows_never word why n = never_of word Show why n
+
+pub assembles_no_rule : (word : PartWord) (out : List ℕ) (r : RuleAt) → Never (assemble_plan word out) (refusal.Rule r)
+assembles_no_rule word out r = assembles_never word out (refusal.Rule r) (no_rule 0 word r)
+
+pub shows_no_rule : (word : PartWord) (r : RuleAt) → Never (disassemble_plan word) (refusal.Rule r)
+shows_no_rule word r = shows_never word (refusal.Rule r) (no_rule 0 word r)
+
+-- ---- tasks
 
 same_task : (x y : Task) → (let r : Result Task Refusal = Ok x in r) ≡ Ok y → x ≡ y
 same_task x y e = cc
@@ -265,3 +297,25 @@ links_made words size steps old new task h = elim (comes_split (each_at part_at 
         → (parts : List PartSeen) × Comes (each_at part_at 0 words) old (Ok parts) new × (linked parts size ≡ Ok tt) × (task ≡ Run parts size steps)
     made parts (Ok u) e mid c h = (let q = h.1 in (parts, rw q c, e, same_task task _ h.0))
     made parts (Err b) e mid c h = absurd (let q = h.0 in cc)
+
+-- the task of a component
+made_of : (word : PartWord) (f : ComponentFields → Task) (old new : FilesSeen) (task : Task) → Comes (OfComponent word f) old (Ok task) new → (c : ComponentFields) × Comes (component_at 0 word) old (Ok c) new × (task ≡ f c)
+made_of word f old new task h = elim (comes_split (component_at 0 word) (λ c. Made (f c)) old new (Ok task) h) as (λ _. (c : ComponentFields) × Comes (component_at 0 word) old (Ok c) new × (task ≡ f c)) [
+  | inl s ↦ (let q = s.3.1 in (s.0, rw q s.2, same_task task (f s.0) s.3.0))
+  | inr s ↦ absurd (let e = s.2 in cc)
+]
+
+pub assembles_made : (word : PartWord) (out : List ℕ) (old new : FilesSeen) (task : Task) → Comes (assemble_plan word out) old (Ok task) new → (c : ComponentFields) × Comes (component_at 0 word) old (Ok c) new × (task ≡ Put out c)
+unfolding assemble_plan
+assembles_made word out old new task h = made_of word (Put out) old new task h
+
+pub shows_made : (word : PartWord) (old new : FilesSeen) (task : Task) → Comes (disassemble_plan word) old (Ok task) new → (c : ComponentFields) × Comes (component_at 0 word) old (Ok c) new × (task ≡ Show c)
+unfolding disassemble_plan
+shows_made word old new task h = made_of word Show old new task h
+
+pub checks_made : (word : PartWord) (old new : FilesSeen) (task : Task) → Comes (check_plan word) old (Ok task) new → task ≡ Say
+unfolding check_plan
+checks_made word old new task h = elim (comes_split (part_at 0 word) _ old new (Ok task) h) as (λ _. task ≡ Say) [
+  | inl s ↦ same_task task Say s.3.0
+  | inr s ↦ absurd (let e = s.2 in cc)
+]

@@ -1,13 +1,15 @@
 -- What a call of the program answers.
 use Rattle.std.specs.Prelude.{◌≡◌, ◌⊎◌, ℕ, ◌<◌, ◌≤◌, List, length, codes, Option, Some, None, Result, Ok, Err}
 use Rattle.outside_io.specs.Counts.{Rose}
-use Rattle.outside_io.specs.FilesSeen.{FilesSeen}
+use Rattle.outside_io.specs.FilesSeen.{FilesSeen, Puts, FailsToPut}
 use Rattle.outside_io.specs.SinkSeen.{SinkSeen, Adds, FailsToWrite}
 use Rattle.outside_io.specs.Whole.{OnlyGave}
 use Rattle.lcm_machine.specs.declared.Step.{Step}
 use Rattle.lcm_machine.specs.declared.Step.TheVariants.{Went, Halted, Failed}
 use Rattle.lcm_machine.specs.Run.{Run as Machine, answer as last_step, plain}
+use Rattle.component_file.specs.Spelling.{spelling}
 use Rattle.component_linker.specs.Start.{IsStart}
+use Rattle.disassembler.specs.Disassembled.{disassembled}
 use Rattle.lcm_cli.specs.declared.TheConstants.{LONGEST_FILE}
 use Rattle.lcm_cli.specs.declared.status.Status.{Status}
 use Rattle.lcm_cli.specs.declared.status.Status.TheVariants.{Done, MachineFailed, StepsUsed}
@@ -19,16 +21,23 @@ use Rattle.lcm_cli.specs.declared.job.Job.TheVariants as job
 use Rattle.lcm_cli.specs.EndLine.{end_line}
 use Rattle.lcm_cli.specs.Refusals.{refusal_text, refusal_status}
 use Rattle.lcm_cli.specs.Plans.{Plan, Reads, Ends, Made, Comes}
-use Rattle.lcm_cli.specs.Commands.{Task, Run, Say}
+use Rattle.lcm_cli.specs.Commands.{Task, Run, Put, Show, Say}
 
--- a status, the text that is written, and the machine that is handed over, where there is one
+-- a file that is put, by its name and its bytes
+pub record NewFile : Type 0 where
+  pub name : List ℕ
+  pub bytes : List ℕ
+
+-- a status, the text that is written, and the file that is put before and the machine that is handed over,
+-- where there are such
 pub record Answer : Type 0 where
   pub status : Status
   pub text : List ℕ
+  pub file : Option NewFile
   pub machine : Option Machine
 
 abbrev pub writes : Status → List ℕ → Answer
-writes status text = record { status = status; text = text; machine = None }
+writes status text = record { status = status; text = text; file = None; machine = None }
 
 abbrev pub refused : Refusal → Answer
 refused why = writes (refusal_status why) (refusal_text why)
@@ -46,10 +55,16 @@ ran m = record (writes (step_status (last_step m)) (end_line m)) { machine = Som
 abbrev pub said : Answer
 said = writes Done (codes "ok\n")
 
--- the answer to what came of a plan: that of the plain run of a start of the parts, `ok`, or the refusal's
+abbrev pub puts : List ℕ → List ℕ → Answer
+puts name bytes = record said { file = Some (record { name = name; bytes = bytes }) }
+
+-- the answer to what came of a plan: that of the plain run of a start of the parts, the component's file or
+-- its text, `ok`, or the refusal's
 abbrev pub IsAnswerOf : Result Task Refusal → Answer → Type 0
 IsAnswerOf (Ok (Run parts size steps)) a =
     (start : Machine) × IsStart parts size start × (a ≡ ran (plain steps start))
+IsAnswerOf (Ok (Put name c)) a = a ≡ puts name (spelling c)
+IsAnswerOf (Ok (Show c)) a = a ≡ writes Done (disassembled c)
 IsAnswerOf (Ok Say) a = a ≡ said
 IsAnswerOf (Err why) a = a ≡ refused why
 
@@ -68,29 +83,42 @@ abbrev pub kept_with : Option Machine → Option Machine → Option Machine
 kept_with None old = old
 kept_with (Some m) old = Some m
 
--- an answer is given whole: its text written, its machine handed over
+-- the file was put, where there is one, and nothing else changed
+abbrev pub IsPut : FilesSeen → Option NewFile → FilesSeen → Type 0
+IsPut old None new = new ≡ old
+IsPut old (Some file) new = Puts old new file.name file.bytes
+
+-- an answer is given whole: its file put, its text written, its machine handed over
 pub record GivesWhole (old : Outside) (a : Answer) (status : Status) (new : Outside) : Type 0 where
   pub status_is : status ≡ a.status
+  pub put : IsPut old.files a.file new.files
   pub written : Adds old.sink a.text new.sink
   pub kept_is : new.kept ≡ kept_with a.machine old.kept
 
--- or the sink failed at its text, and no machine is handed over
+-- or its file could not be put, and nothing was written; or the sink failed at its text. Then no machine is
+-- handed over
 pub data Gives (old : Outside) (a : Answer) (status : Status) (new : Outside) : Type 0 where
   whole : GivesWhole old a status new → Gives old a status new
-  unwritten : FailsToWrite old.sink a.text new.sink → new.kept ≡ old.kept → status ≡ WriteFault
-      → Gives old a status new
+  unput : (file : NewFile) → a.file ≡ Some file → FailsToPut old.files new.files file.name
+      → new.sink ≡ old.sink → new.kept ≡ old.kept → status ≡ WriteFault → Gives old a status new
+  unwritten : IsPut old.files a.file new.files → FailsToWrite old.sink a.text new.sink → new.kept ≡ old.kept
+      → status ≡ WriteFault → Gives old a status new
 
--- memory was refused, with nothing written and nothing handed over
+-- memory was refused, with nothing put, nothing written and nothing handed over
 pub record GivesNothing (old : Outside) (status : Status) (new : Outside) : Type 0 where
   pub status_is : status ≡ NoMemory
   pub quiet : OnlyGave old.files new.files
   pub unwritten : new.sink ≡ old.sink
   pub kept_is : new.kept ≡ old.kept
 
--- the answer to what came of the plan is given, or nothing is
+-- what is outside once the files tell this
+abbrev pub with_files : Outside → FilesSeen → Outside
+with_files old seen = record old { files = seen }
+
+-- the answer to what came of the plan is given, or nothing is; `seen` is what the files tell once they were read
 pub data Answers (plan : Plan Task) (old : Outside) (status : Status) (new : Outside) : Type 0 where
-  answer : (due : Result Task Refusal) (a : Answer) → Comes plan old.files due new.files → IsAnswerOf due a
-      → Gives old a status new → Answers plan old status new
+  answer : (due : Result Task Refusal) (a : Answer) (seen : FilesSeen) → Comes plan old.files due seen
+      → IsAnswerOf due a → Gives (with_files old seen) a status new → Answers plan old status new
   nothing : GivesNothing old status new → Answers plan old status new
 
 -- ---- where the files tell what they hold
@@ -104,20 +132,22 @@ Settles held (Reads name place next) due =
     × (((length bytes ≤ LONGEST_FILE) × Settles held (next bytes) due)
     ⊎ ((LONGEST_FILE < length bytes) × (due ≡ Err (TooLong place))))
 
--- what is written, answered and handed over, by the plan and the bytes of the files
+-- what is put, written, answered and handed over, by the plan and the bytes of the files
 abbrev pub IsWritten : (List ℕ → Option (List ℕ)) → Plan Task → Answer → Type 0
 IsWritten held plan a = (due : Result Task Refusal) × Settles held plan due × IsAnswerOf due a
 
 -- no count of faults rises in the call
 pub record IsQuiet (old new : Outside) : Type 0 where
   pub reads : ¬ (Rose old.files.failed_reads new.files.failed_reads)
+  pub puts : ¬ (Rose old.files.failed_puts new.files.failed_puts)
   pub writes : ¬ (Rose old.sink.faults new.sink.faults)
 
 -- over files that tell, where no count rises, the answer to their bytes is given whole, or memory is refused
 abbrev pub IsComplete : Plan Task → Outside → Status → Outside → Type 0
 IsComplete plan old status new =
     (held : List ℕ → Option (List ℕ)) → old.files.contents ≡ Some held → IsQuiet old new
-    → (status ≡ NoMemory) ⊎ ((a : Answer) × IsWritten held plan a × GivesWhole old a status new)
+    → (status ≡ NoMemory) ⊎ ((a : Answer) × (seen : FilesSeen) × IsWritten held plan a × OnlyGave old.files seen
+    × GivesWhole (with_files old seen) a status new)
 
 -- ---- bodies
 
@@ -129,9 +159,11 @@ Tells old text status result new =
 -- the answer of a job
 abbrev pub job_answer : Job → Answer
 job_answer (job.Run start steps) = ran (plain steps start.state)
+job_answer (job.Put out bytes) = puts out bytes
+job_answer (job.Show text) = writes Done text
 job_answer job.Say = said
 
 -- the machine of a job made no step yet
 abbrev pub IsReady : Job → Type 0
 IsReady (job.Run start steps) = start.state.count ≡ 0
-IsReady job.Say = Unit {0}
+IsReady _ = Unit {0}

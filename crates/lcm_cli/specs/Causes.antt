@@ -1,7 +1,7 @@
 -- The causes: what holds of a call wherever it ends with a status.
-use Rattle.std.specs.Prelude.{◌≡◌, ◌⊎◌, ℕ, ◌+◌, ℤ, false, List, [], ◌∷◌, Option, Some, None, Result, Ok, Err}
+use Rattle.std.specs.Prelude.{◌≡◌, ◌⊎◌, ℕ, ◌+◌, ℤ, false, List, [], ◌∷◌, Option, Some, None, Ok, Err}
 use Rattle.outside_io.specs.Counts.{Rose}
-use Rattle.outside_io.specs.FilesSeen.{FilesSeen}
+use Rattle.outside_io.specs.FilesSeen.{FilesSeen, Puts, KeepsOthers}
 use Rattle.outside_io.specs.SinkSeen.{Adds}
 use Rattle.outside_io.specs.Whole.{GivesWhole as ComesWhole, IsTooLong, Faults, OnlyGave}
 use Rattle.command_words.specs.declared.part.PartWord.{PartWord}
@@ -13,6 +13,7 @@ use Rattle.assembler.specs.Assembled.{assembled}
 use Rattle.component_file.specs.declared.fault.FileFault.{FileFault}
 use Rattle.component_file.specs.declared.component.ComponentFields.{ComponentFields}
 use Rattle.component_file.specs.Reading.{decoded}
+use Rattle.component_file.specs.Spelling.{spelling}
 use Rattle.component_check.specs.declared.rule.Broken.{Broken}
 use Rattle.component_linker.specs.declared.fault.RuleAt.{RuleAt}
 use Rattle.component_linker.specs.Parts.{PartSeen}
@@ -32,9 +33,9 @@ use Rattle.lcm_cli.specs.EndLine.{end_line}
 use Rattle.lcm_cli.specs.Refusals.{refusal_text}
 use Rattle.lcm_cli.specs.Plans.{Plan, Reads, Ends, Made, Comes}
 use Rattle.component_linker.specs.Accepted.{accepted}
-use Rattle.lcm_cli.specs.Parts.{is_trusted, broken_in, linked, component_at, part_at, each_at}
-use Rattle.lcm_cli.specs.Commands.{Task, Run, Say, is_command, plan_in}
-use Rattle.lcm_cli.specs.Answers.{Outside, Answers, IsComplete, step_status, kept_with}
+use Rattle.lcm_cli.specs.Parts.{is_trusted, linked, component_at, part_at, each_at}
+use Rattle.lcm_cli.specs.Commands.{Run, Put, Show, Say, is_command, plan_in}
+use Rattle.lcm_cli.specs.Answers.{Outside, Answers, IsComplete, step_status}
 
 -- ---- files
 
@@ -111,8 +112,26 @@ Runs asked old new P =
     × Comes (plan_in asked) old (Ok (Run parts size steps)) new
     × (start : Machine) × IsStart parts size start × P (last_step (plain steps start))
 
+-- `ok` was to be written, and nothing else to be done
 abbrev pub Says : Option Command → FilesSeen → FilesSeen → Type 0
 Says asked old new = Comes (plan_in asked) old (Ok Say) new
+
+-- ---- components
+
+-- the word's component came, and its file was put under the name of `--out`
+abbrev pub Assembles : Option Command → FilesSeen → FilesSeen → Type 0
+Assembles asked old new =
+    (name : List ℕ) × (c : ComponentFields) × (seen : FilesSeen)
+    × Comes (plan_in asked) old (Ok (Put name c)) seen × Puts seen new name (spelling c)
+
+-- the word's component came, and its text was to be written
+abbrev pub Shows : Option Command → FilesSeen → FilesSeen → Type 0
+Shows asked old new = (c : ComponentFields) × Comes (plan_in asked) old (Ok (Show c)) new
+
+-- the name of `--out`
+abbrev pub out_of : Option Command → Option (List ℕ)
+out_of (Some (command.Assemble word out)) = Some out
+out_of _ = None
 
 -- the refusal's line was written
 abbrev pub Wrote : Refusal → Outside → Outside → Type 0
@@ -121,16 +140,18 @@ Wrote why old new = Adds old.sink (refusal_text why) new.sink
 -- ---- the causes, a law for each status
 
 pub record Causes (asked : Option Command) (old : Outside) (status : Status) (new : Outside) : Type 0 where
-  -- the run halted, or `ok` was to be written
-  pub done : status ≡ Done
-      → Runs asked old.files new.files (λ step. step ≡ Halted) ⊎ Says asked old.files new.files
+  -- the run halted, the component's file was put, its text or `ok` was to be written
+  pub done : status ≡ Done → Runs asked old.files new.files (λ step. step ≡ Halted)
+      ⊎ (Assembles asked old.files new.files ⊎ (Shows asked old.files new.files ⊎ Says asked old.files new.files))
   pub machine_failed : status ≡ MachineFailed → Runs asked old.files new.files
       (λ step. (cause : FailCause) × (at : ℤ) × (step ≡ Failed cause at))
   pub steps_used : status ≡ StepsUsed → Runs asked old.files new.files (λ step. step ≡ Went)
   pub usage : status ≡ Usage → is_command asked ≡ false
   pub read_fault : status ≡ ReadFault
       → Rose old.files.failed_reads new.files.failed_reads × IsUnread (plan_in asked) old.files new.files
+  -- a write failed, or the put of the file of `--out`
   pub write_fault : status ≡ WriteFault → Rose old.sink.faults new.sink.faults
+      ⊎ (Rose old.files.failed_puts new.files.failed_puts × (out_of asked ≡ Some new.files.last_failed_put))
   pub no_memory : status ≡ NoMemory
       → OnlyGave old.files new.files × (new.sink ≡ old.sink) × (new.kept ≡ old.kept)
   pub too_long : status ≡ TooLong → (place : ℕ) × Wrote (refusal.TooLong place) old new
@@ -143,6 +164,26 @@ pub record Causes (asked : Option Command) (old : Outside) (status : Status) (ne
       × Breaks asked old.files r new.files
   -- no command that is built has a source
   pub no_source : status ≡ SourceRefused → ⊥
+
+-- ---- files that stay
+
+abbrev pub Stay : FilesSeen → FilesSeen → Type 0
+Stay old new = new.contents ≡ old.contents
+
+-- all but the file of `--out`, where there is one
+abbrev pub OthersStay : Option Command → FilesSeen → FilesSeen → Type 0
+OthersStay asked old new = Stay old new ⊎ ((out : List ℕ) × (out_of asked ≡ Some out) × KeepsOthers old new out)
+
+-- a file is put where the status is Done or WriteFault, and nowhere else
+abbrev pub StayAt : Option Command → FilesSeen → Status → FilesSeen → Type 0
+StayAt asked old Done new = OthersStay asked old new
+StayAt asked old WriteFault new = OthersStay asked old new
+StayAt asked old status new = Stay old new
+
+-- where no put failed, all files stay, or that of `--out` has the bytes of the component
+abbrev pub PutsWhole : Option Command → FilesSeen → FilesSeen → Type 0
+PutsWhole asked old new =
+    ¬ (Rose old.failed_puts new.failed_puts) → Stay old new ⊎ Assembles asked old new
 
 -- ---- what is promised
 

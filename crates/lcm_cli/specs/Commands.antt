@@ -8,17 +8,21 @@ use Rattle.command_words.specs.declared.command.Linked.{Linked}
 use Rattle.command_words.specs.declared.command.Linked.TheVariants.{Parts, Image}
 use Rattle.command_words.specs.declared.command.Command.{Command}
 use Rattle.command_words.specs.declared.command.Command.TheVariants as command
+use Rattle.component_file.specs.declared.component.ComponentFields.{ComponentFields}
 use Rattle.component_linker.specs.Parts.{PartSeen}
 use Rattle.lcm_cli.specs.declared.refusal.Refusal.TheVariants as refusal
 use Rattle.lcm_cli.specs.Plans.{Plan, Ends, Made, ◌>>=◌, unless}
-use Rattle.lcm_cli.specs.Parts.{is_trusted, linked, part_at, each_at}
+use Rattle.lcm_cli.specs.Parts.{is_trusted, linked, component_at, part_at, each_at}
 
--- what is left to do once the files came: to run the start of parts with a stack of a size, or to write `ok`
+-- what is left to do once the files came: to run the start of parts with a stack of a size; to put the file of
+-- a component under a name, and then to write `ok`; to write the text of a component; or to write `ok`
 pub data Task : Type 0 where
   Run : (parts : List PartSeen) (size steps : ℕ) → Task
+  Put : (name : List ℕ) (component : ComponentFields) → Task
+  Show : (component : ComponentFields) → Task
   Say : Task
 
--- ---- what is built: `run` of untrusted parts, and `check`; of no sources
+-- ---- what is built: `run` of untrusted parts, `asm`, `dis` and `check`; of no sources
 
 abbrev pub is_source : Ending → Bool
 is_source Source = true
@@ -36,6 +40,8 @@ is_built_linked (Image name) = false
 
 abbrev pub is_built : Command → Bool
 is_built (command.Run what steps) = is_built_linked what
+is_built (command.Assemble word out) = is_built_form word
+is_built (command.Disassemble word) = is_built_form word
 is_built (command.Check word) = is_built_form word
 is_built _ = false
 
@@ -46,6 +52,18 @@ run_plan words size steps = do
   _ ← unless refusal.Rule (linked parts size)
   Made (Run parts size steps)
 
+-- the component, whose file is put under this name; no rule is asked
+unfoldable pub assemble_plan : PartWord → List ℕ → Plan Task
+assemble_plan word out = do
+  c ← component_at 0 word
+  Made (Put out c)
+
+-- the component, which is shown; no rule is asked
+unfoldable pub disassemble_plan : PartWord → Plan Task
+disassemble_plan word = do
+  c ← component_at 0 word
+  Made (Show c)
+
 unfoldable pub check_plan : PartWord → Plan Task
 check_plan word = do
   _ ← part_at 0 word
@@ -53,6 +71,8 @@ check_plan word = do
 
 abbrev pub built_plan : Command → Plan Task
 built_plan (command.Run (Parts words size) steps) = run_plan words size steps
+built_plan (command.Assemble word out) = assemble_plan word out
+built_plan (command.Disassemble word) = disassemble_plan word
 built_plan (command.Check word) = check_plan word
 built_plan _ = Ends refusal.Usage
 

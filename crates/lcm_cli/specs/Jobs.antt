@@ -1,16 +1,20 @@
 -- A job of the code, beside the task of the plan.
-use Rattle.std.specs.Prelude.{◌≡◌, ℕ, Result, Ok, Err}
+use Rattle.std.specs.Prelude.{◌≡◌, Result, Ok, Err}
 use Rattle.outside_io.specs.FilesSeen.{FilesSeen}
+use Rattle.component_file.specs.Spelling.{spelling}
 use Rattle.component_linker.specs.Start.{IsStart}
+use Rattle.disassembler.specs.Disassembled.{disassembled}
 use Rattle.lcm_cli.specs.declared.job.Job.{Job}
 use Rattle.lcm_cli.specs.declared.job.Job.TheVariants as job
 use Rattle.lcm_cli.specs.declared.refusal.Stop.{Stop}
 use Rattle.lcm_cli.specs.Plans.{Plan, Comes, Follows}
-use Rattle.lcm_cli.specs.Commands.{Task, Run, Say}
+use Rattle.lcm_cli.specs.Commands.{Task, Run, Put, Show, Say}
 
--- the job runs from the start of the task's parts
+-- the job runs from the start of the task's parts, and has the bytes of its component
 abbrev pub Does : Task → Job → Type 0
 Does (Run parts size steps) (job.Run start n) = IsStart parts size start.state × (n ≡ steps)
+Does (Put name c) (job.Put out bytes) = (out ≡ name) × (bytes ≡ spelling c)
+Does (Show c) (job.Show text) = text ≡ disassembled c
 Does Say job.Say = Unit {0}
 Does _ _ = ⊥
 

@@ -1,6 +1,6 @@
 -- The parts of part words: read, length, form, rules C, and K where it is trusted; and then the rules L of all of
 -- them.
-use Rattle.std.specs.Prelude.{ℕ, ◌+◌, Bool, true, false, List, [], ◌∷◌, map, Result, Ok, Err}
+use Rattle.std.specs.Prelude.{ℕ, ◌+◌, Bool, true, false, List, [], ◌∷◌, map, Result}
 use Rattle.assembler.specs.Assembled.{assembled}
 use Rattle.command_words.specs.declared.part.Mark.{Mark}
 use Rattle.command_words.specs.declared.part.Mark.TheVariants.{Trusted, Untrusted}

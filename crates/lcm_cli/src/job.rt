@@ -1,6 +1,8 @@
 //! What is left to do once the files of a command came.
 ghost use Rattle.std.specs.Prelude.{◌≡◌, ◌<◌, ◌≤◌, ◌^◌, IsTrue, IfOk, length};
 ghost use Rattle.std.specs.List.{list_all};
+ghost use Rattle.component_file.specs.Spelling.{spelling};
+ghost use Rattle.disassembler.specs.Disassembled.{disassembled};
 ghost use Rattle.command_words.specs.declared.TheConstants.{MOST_PARTS};
 ghost use Rattle.command_words.specs.declared.command.Command.TheVariants as command;
 ghost use Rattle.component_linker.specs.Start.{IsStart};
@@ -8,22 +10,29 @@ ghost use Rattle.lcm_cli.specs.declared.refusal.Refusal.TheVariants.{Rule};
 ghost use Rattle.lcm_cli.specs.Plans.{Meets, unless};
 ghost use Rattle.lcm_cli.specs.Parts.{linked};
 ghost use Rattle.lcm_cli.specs.Commands.{is_built_form, is_built_part, is_built_linked, is_built};
-ghost use Rattle.lcm_cli.specs.Commands.{run_plan, check_plan, built_plan, plan_of};
+ghost use Rattle.lcm_cli.specs.Commands.{run_plan, assemble_plan, disassemble_plan, check_plan};
+ghost use Rattle.lcm_cli.specs.Commands.{built_plan, plan_of};
 ghost use Rattle.lcm_cli.specs.Jobs.{without, FollowsTask};
 
-use crate::part::{part, parts};
+use crate::part::{component, part, parts};
 use crate::refusal::{Refusal, Stop};
 use cap_words::Items;
-use command_words::{Command, Ending, Linked, Mark, PartWord, Steps};
+use command_words::{Command, Ending, FileName, Linked, Mark, PartWord, Steps};
+use component_file::encode_component;
 use component_linker::{LinkFault, Part, Start, link};
+use disassembler::disassemble;
 use outside_io::Files;
 use std::alloc::Global;
 
 /// What is left to do.
 #[derive(Drop)]
-pub(crate) enum Job {
+pub(crate) enum Job<'a> {
     /// To run from this start for so many steps, and to write how the run ended.
     Run(Start, Steps),
+    /// To put these bytes into the file of this name, and then to write `ok`.
+    Put(FileName<'a>, Items<u8>),
+    /// To write this text.
+    Show(Items<u8>),
     /// To write `ok`.
     Say,
 }
@@ -43,13 +52,13 @@ fn started(alloc: Global, parts: &Items<Part>, size: u32) -> Result<Start, Stop>
 
 // Reads the parts that are to run, and links them.
 #[tactic(auto, using(crate::proofs::Follow::follows_end), unfolding(crate::specs::Commands::run_plan))]
-fn run<F: Files>(
+fn run<'a, F: Files>(
     alloc: Global,
     files: &mut F,
-    words: &[PartWord<'_>],
+    words: &[PartWord<'a>],
     size: u32,
     steps: Steps,
-) -> Result<Job, Stop>
+) -> Result<Job<'a>, Stop>
     requires few { length words.now ≤ MOST_PARTS }
     ensures { FollowsTask (run_plan words.now size steps) (F.seen files.old) result (F.seen files.new) }
 {
@@ -58,9 +67,34 @@ fn run<F: Files>(
     Ok(Job::Run(start, steps))
 }
 
+// Reads the part whose component's file is to be put.
+#[tactic(auto, using(crate::proofs::Follow::follows_end), unfolding(crate::specs::Commands::assemble_plan))]
+fn assemble<'a, F: Files>(
+    alloc: Global,
+    files: &mut F,
+    word: &PartWord<'a>,
+    out: FileName<'a>,
+) -> Result<Job<'a>, Stop>
+    ensures { FollowsTask (assemble_plan word.now out.entry) (F.seen files.old) result (F.seen files.new) }
+{
+    let component = component(alloc, files, 0, word)?;
+    let bytes = encode_component(alloc, &component)?;
+    Ok(Job::Put(out, Items::of(bytes)))
+}
+
+// Reads the part that is to be shown.
+#[tactic(auto, using(crate::proofs::Follow::follows_end), unfolding(crate::specs::Commands::disassemble_plan))]
+fn show<'a, F: Files>(alloc: Global, files: &mut F, word: &PartWord<'a>) -> Result<Job<'a>, Stop>
+    ensures { FollowsTask (disassemble_plan word.now) (F.seen files.old) result (F.seen files.new) }
+{
+    let component = component(alloc, files, 0, word)?;
+    let text = disassemble(alloc, &component)?;
+    Ok(Job::Show(Items::of(text)))
+}
+
 // Reads the part that is to be checked.
 #[tactic(auto, using(crate::proofs::Follow::follows_end), unfolding(crate::specs::Commands::check_plan))]
-fn check<F: Files>(alloc: Global, files: &mut F, word: &PartWord<'_>) -> Result<Job, Stop>
+fn check<'a, F: Files>(alloc: Global, files: &mut F, word: &PartWord<'a>) -> Result<Job<'a>, Stop>
     ensures { FollowsTask (check_plan word.now) (F.seen files.old) result (F.seen files.new) }
 {
     part(alloc, files, 0, word)?;
@@ -100,47 +134,55 @@ fn is_built(command: &Command<'_>) -> bool
 {
     match command {
         Command::Run(what, _) => is_built_linked(what),
+        Command::Assemble(word, _) => is_built_form(word),
+        Command::Disassemble(word) => is_built_form(word),
         Command::Check(word) => is_built_form(word),
         _ => false,
     }
 }
 
 // Reads what is to be linked and run.
-fn run_linked<F: Files>(
+fn run_linked<'a, F: Files>(
     alloc: Global,
     files: &mut F,
-    what: &Linked<'_>,
+    what: Linked<'a>,
     steps: Steps,
-) -> Result<Job, Stop>
-    ensures { FollowsTask (built_plan (command.Run what.now steps)) (F.seen files.old) result
+) -> Result<Job<'a>, Stop>
+    ensures { FollowsTask (built_plan (command.Run what.entry steps)) (F.seen files.old) result
         (F.seen files.new) }
 {
     match what {
-        Linked::Parts(words, size) => run(alloc, files, words.as_slice(), *size, steps),
+        Linked::Parts(words, size) => run(alloc, files, words.as_slice(), size, steps),
         Linked::Image(_) => Err(Stop::Refused(Refusal::Usage)),
     }
 }
 
 // Reads the files of a command that is built.
-fn built_job<F: Files>(alloc: Global, files: &mut F, command: &Command<'_>) -> Result<Job, Stop>
-    ensures { FollowsTask (built_plan command.now) (F.seen files.old) result (F.seen files.new) }
+fn built_job<'a, F: Files>(
+    alloc: Global,
+    files: &mut F,
+    command: Command<'a>,
+) -> Result<Job<'a>, Stop>
+    ensures { FollowsTask (built_plan command.entry) (F.seen files.old) result (F.seen files.new) }
 {
     match command {
-        Command::Run(what, steps) => run_linked(alloc, files, what, *steps),
-        Command::Check(word) => check(alloc, files, word),
+        Command::Run(what, steps) => run_linked(alloc, files, what, steps),
+        Command::Assemble(word, out) => assemble(alloc, files, &word, out),
+        Command::Disassemble(word) => show(alloc, files, &word),
+        Command::Check(word) => check(alloc, files, &word),
         _ => Err(Stop::Refused(Refusal::Usage)),
     }
 }
 
 /// Reads the files of a command in their order, and answers what is left to do.
-pub(crate) fn job_of<F: Files>(
+pub(crate) fn job_of<'a, F: Files>(
     alloc: Global,
     files: &mut F,
-    command: &Command<'_>,
-) -> Result<Job, Stop>
-    ensures { FollowsTask (plan_of command.now) (F.seen files.old) result (F.seen files.new) }
+    command: Command<'a>,
+) -> Result<Job<'a>, Stop>
+    ensures { FollowsTask (plan_of command.entry) (F.seen files.old) result (F.seen files.new) }
 {
-    if is_built(command) {
+    if is_built(&command) {
         built_job(alloc, files, command)
     } else {
         Err(Stop::Refused(Refusal::Usage))

@@ -4,6 +4,7 @@
 mod end_line;
 mod job;
 pub mod laws;
+mod lines;
 mod part;
 mod read;
 mod refusal;

@@ -53,9 +53,9 @@ fn form(alloc: Global, ending: Ending, place: u32, bytes: &[u8]) -> Result<Compo
     }
 }
 
-// The component of a part word.
+/// The component of a part word.
 #[tactic(auto, using(crate::proofs::Follow::follows_end), unfolding(crate::specs::Parts::component_at))]
-fn component<F: Files>(
+pub(crate) fn component<F: Files>(
     alloc: Global,
     files: &mut F,
     place: u32,

@@ -10,14 +10,16 @@ ghost use Rattle.lcm_cli.specs.Commands.{plan_in, is_command};
 ghost use Rattle.lcm_cli.specs.Jobs.{FollowsTask};
 ghost use Rattle.lcm_cli.specs.Answers.{Answers, Gives, Tells, outside, step_status, refused};
 ghost use Rattle.lcm_cli.specs.Answers.{job_answer, IsReady};
-ghost use Rattle.lcm_cli.specs.Causes.{Promised, IsRunStatus, RunGiven};
+ghost use Rattle.lcm_cli.specs.Causes.{Promised, IsRunStatus, RunGiven, StayAt, PutsWhole};
 
 use crate::end_line::end_line;
 use crate::job::{Job, job_of};
+use crate::lines::write_lines;
 use crate::refusal::{Refusal, Stop};
 use crate::refusal_line::{refusal_line, refusal_status};
 use crate::status::Status;
-use command_words::{Steps, WordsFault, command_of};
+use cap_words::Items;
+use command_words::{FileName, Steps, WordsFault, command_of};
 use component_linker::Start;
 use lcm_machine::{LcmState, Step};
 use outside_io::{Files, Sink};
@@ -47,8 +49,8 @@ fn step_status(step: Step) -> Status
 // Runs, writes the end line, and hands the machine over where that line was written.
 fn give_run<S: Sink>(start: Start, steps: Steps, out: &mut S, kept: &mut Option<LcmState>) -> Status
     requires { start.state.count ≡ 0 }
-    ensures { (before after : _) → Gives (outside before (S.seen out.old) kept.old)
-        (job_answer (job.Run start steps)) result (outside after (S.seen out.new) kept.new) }
+    ensures { (files : _) → Gives (outside files (S.seen out.old) kept.old)
+        (job_answer (job.Run start steps)) result (outside files (S.seen out.new) kept.new) }
 {
     let mut machine = start.into_state();
     let step = machine.run(steps.number());
@@ -62,33 +64,67 @@ fn give_run<S: Sink>(start: Start, steps: Steps, out: &mut S, kept: &mut Option<
     }
 }
 
+// Puts the file, and then writes `ok`.
+fn give_file<F: Files, S: Sink>(
+    name: &FileName<'_>,
+    bytes: &Items<u8>,
+    files: &mut F,
+    out: &mut S,
+) -> Status
+    ensures { (kept : _) → Gives (outside (F.seen files.old) (S.seen out.old) kept)
+        (job_answer (job.Put name.now bytes.now)) result
+        (outside (F.seen files.new) (S.seen out.new) kept) }
+{
+    match files.put(name.as_str(), bytes.as_slice()) {
+        Ok(()) => tell(out, "ok\n", Status::Done),
+        Err(_) => Status::WriteFault,
+    }
+}
+
+// Writes a text line by line, and answers Done, or WriteFault where the sink fails.
+fn give_text<S: Sink>(text: &Items<u8>, out: &mut S) -> Status
+    ensures { Tells (S.seen out.old) text.now Status.Done result (S.seen out.new) }
+{
+    match write_lines(out, text.as_slice()) {
+        Ok(()) => Status::Done,
+        Err(_) => Status::WriteFault,
+    }
+}
+
 // Does what is left to do, and tells of it.
-fn give<S: Sink>(job: Job, out: &mut S, kept: &mut Option<LcmState>) -> Status
+fn give<F: Files, S: Sink>(
+    job: Job<'_>,
+    files: &mut F,
+    out: &mut S,
+    kept: &mut Option<LcmState>,
+) -> Status
     requires { IsReady job }
-    ensures { (before after : _) → Gives (outside before (S.seen out.old) kept.old) (job_answer job)
-        result (outside after (S.seen out.new) kept.new) }
+    ensures { Gives (outside (F.seen files.old) (S.seen out.old) kept.old) (job_answer job.entry)
+        result (outside (F.seen files.new) (S.seen out.new) kept.new) }
 {
     match job {
         Job::Run(start, steps) => give_run(start, steps, out, kept),
+        Job::Put(name, bytes) => give_file(&name, &bytes, files, out),
+        Job::Show(text) => give_text(&text, out),
         Job::Say => tell(out, "ok\n", Status::Done),
     }
 }
 
 // Tells of a refusal.
 fn refuse<S: Sink>(why: Refusal, out: &mut S) -> Status
-    ensures { (before after : _) (kept : _) → Gives (outside before (S.seen out.old) kept) (refused why)
-        result (outside after (S.seen out.new) kept) }
+    ensures { (files : _) (kept : _) → Gives (outside files (S.seen out.old) kept) (refused why)
+        result (outside files (S.seen out.new) kept) }
 {
     tell(out, refusal_line(why).as_str(), refusal_status(why))
 }
 
 // Reads what the words ask for.
-fn job_in<F: Files>(alloc: Global, words: &[String], files: &mut F) -> Result<Job, Stop>
+fn job_in<'a, F: Files>(alloc: Global, words: &'a [String], files: &mut F) -> Result<Job<'a>, Stop>
     ensures { FollowsTask (plan_in (asked_in (texts words.now))) (F.seen files.old) result
         (F.seen files.new) }
 {
     match command_of(alloc, words) {
-        Ok(command) => job_of(alloc, files, &command),
+        Ok(command) => job_of(alloc, files, command),
         Err(WordsFault::Usage) => Err(Stop::Refused(Refusal::Usage)),
         Err(WordsFault::NoMemory) => Err(Stop::NoMemory),
     }
@@ -106,7 +142,7 @@ fn answer<F: Files, S: Sink>(
         result (outside (F.seen files.new) (S.seen out.new) kept.new) }
 {
     match job_in(alloc, words, files) {
-        Ok(job) => give(job, out, kept),
+        Ok(job) => give(job, files, out, kept),
         Err(Stop::Refused(why)) => refuse(why, out),
         Err(Stop::NoMemory) => Status::NoMemory,
     }
@@ -119,7 +155,9 @@ fn answer<F: Files, S: Sink>(
 /// runs the machine that they start for `--steps` steps or up to its end, and writes the end line.
 /// Where that line was written, `kept` holds the machine as the run left it; in every other case it
 /// is as before. `check` reads one part in the same way, `u:NAME` or, by the rules of trusted parts,
-/// `t:NAME`, and writes `ok`. Any other words write `usage`.
+/// `t:NAME`, and writes `ok`. `asm` reads one part, of either mark and a name in `.asm`, asks no rules,
+/// puts its component's file under the name of `--out`, and then writes `ok`. `dis` reads one part of
+/// either mark, asks no rules, and writes its text. Any other words write `usage`.
 pub fn stk_main<F: Files, S: Sink>(
     alloc: Global,
     words: &Vec<String>,
@@ -127,8 +165,9 @@ pub fn stk_main<F: Files, S: Sink>(
     out: &mut S,
     kept: &mut Option<LcmState>,
 ) -> Status
-    // The answer that the call is due, with its text written and its machine handed over; the cause
-    // of its status; and where the files tell what they hold and nothing fails, that answer alone.
+    // The answer that the call is due, with its file put, its text written and its machine handed over;
+    // the cause of its status; and where the files tell what they hold and nothing fails, that answer
+    // alone.
     ensures promised { Promised (asked_in (texts words.now.items))
         (outside (F.seen files.old) (S.seen out.old) kept.old)
         result (outside (F.seen files.new) (S.seen out.new) kept.new) }
@@ -144,8 +183,11 @@ pub fn stk_main<F: Files, S: Sink>(
     ensures usage { is_command (asked_in (texts words.now.items)) ≡ false
         → (result ≡ Status.Usage) ⊎ ((result ≡ Status.WriteFault) ⊎ (result ≡ Status.NoMemory)) }
 
-    // No file is changed.
-    ensures files_stay { (F.seen files.new).contents ≡ (F.seen files.old).contents }
+    // No file is changed but that of `--out`, and that one only where the status is Done or WriteFault.
+    ensures files_stay { StayAt (asked_in (texts words.now.items)) (F.seen files.old) result (F.seen files.new) }
+
+    // Where no put failed, the file of `--out` is as before or has the bytes of the component.
+    ensures put_whole { PutsWhole (asked_in (texts words.now.items)) (F.seen files.old) (F.seen files.new) }
 {
     answer(alloc, words.as_slice(), files, out, kept)
 }

@@ -1,4 +1,4 @@
-use Rattle.std.proofs.Common.{refl, ap, ◌≡◌, ◌+◌, ◌∙◌, arith, length}
+use Rattle.std.proofs.Common.{refl, ap, ◌+◌, ◌∙◌, arith}
 use Rattle.std.proofs.lemmas.Result.{err_from_is_err_and}
 use Rattle.std.proofs.lemmas.List.{length-append}
 use Rattle.lcm_cli.specs.Parts.{part_at}

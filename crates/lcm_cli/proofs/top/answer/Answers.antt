@@ -1,6 +1,6 @@
 use Rattle.std.proofs.Common.{refl}
 use Rattle.std.specs.Prelude.{Err}
-use Rattle.lcm_cli.specs.Answers.{answer, nothing}
+use Rattle.lcm_cli.specs.Answers.{answer}
 use Rattle.lcm_cli.proofs.Given.{ready, answered}
 use Rattle.lcm_cli.proofs.top.answer.Goals as goal
 
@@ -8,7 +8,7 @@ pub give-requires : goal.give-requires
 give-requires g c = ready _ _ _ c.in-Ok.job c.in-Ok.ensures
 
 pub returns-in-Ok : goal.returns-in-Ok
-returns-in-Ok g c = answered _ _ c.in-Ok.job _ _ c.in-Ok.ensures (c.give.ensures _ _)
+returns-in-Ok g c = answered _ _ c.in-Ok.job _ _ _ c.in-Ok.ensures c.give.ensures
 
 pub returns-in-Err-Refused : goal.returns-in-Err-Refused
-returns-in-Err-Refused g c = answer (Err c.in-Err-Refused.why) _ (rw c.in-Err-Refused.field-0-is at c.in-Err-Refused.ensures) refl (c.refuse.ensures _ _ _)
+returns-in-Err-Refused g c = answer (Err c.in-Err-Refused.why) _ _ (rw c.in-Err-Refused.field-0-is at c.in-Err-Refused.ensures) refl (c.refuse.ensures _ _)

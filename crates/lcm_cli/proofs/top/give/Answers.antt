@@ -1,4 +1,7 @@
 use Rattle.lcm_cli.proofs.top.give.Goals as goal
 
 pub returns-in-Run : goal.returns-in-Run
-returns-in-Run g c = λ before after. rw c.in-Run.is (c.give_run.ensures before after)
+returns-in-Run g c = rw c.in-Run.is (c.give_run.ensures _)
+
+pub returns-in-Put : goal.returns-in-Put
+returns-in-Put g c = rw c.in-Put.is (c.give_file.ensures _)

@@ -1,7 +1,7 @@
 -- All of it follows from the answer that was given.
 use Rattle.command_words.specs.Action.{asked_in}
 use Rattle.command_words.specs.Texts.{texts}
-use Rattle.lcm_cli.proofs.Caused.{promised, usage, files_stay, runs}
+use Rattle.lcm_cli.proofs.Caused.{promised, usage, files_stay, put_whole, runs}
 use Rattle.lcm_cli.proofs.top.stk_main.Goals as goal
 
 pub returns-clause-promised : goal.returns-clause-promised
@@ -15,3 +15,6 @@ returns-clause-usage g c = usage (asked_in (texts c.args.words.now.items)) _ _ _
 
 pub returns-clause-files_stay : goal.returns-clause-files_stay
 returns-clause-files_stay g c = files_stay (asked_in (texts c.args.words.now.items)) _ _ _ (rw c.as_slice.ensures.value at c.answer.ensures)
+
+pub returns-clause-put_whole : goal.returns-clause-put_whole
+returns-clause-put_whole g c = put_whole (asked_in (texts c.args.words.now.items)) _ _ _ (rw c.as_slice.ensures.value at c.answer.ensures)

@@ -1,0 +1,20 @@
+use Rattle.std.proofs.Common.{refl, ◌∙◌}
+use Rattle.std.proofs.lemmas.Result.{err_from_is_err_and}
+use Rattle.lcm_cli.specs.Parts.{component_at}
+use Rattle.lcm_cli.specs.Commands.{Put, assemble_plan}
+use Rattle.lcm_cli.proofs.Follow.{comes_made, comes_quiet}
+use Rattle.lcm_cli.proofs.job.assemble.Goals as goal
+
+pub returns-in_err-bytes : goal.returns-in_err-bytes
+unfolding assemble_plan
+returns-in_err-bytes g c =
+    let p = err_from_is_err_and c.from_residual-in_err-bytes.result c.from_residual-in_err-bytes.ensures.1 in
+    rw (p.1, p.2) (comes_quiet (component_at 0 c.args.word.now) _ _ c.in_ok-component.component c.in_ok-component.ensures)
+
+pub returns : goal.returns
+unfolding assemble_plan
+returns g c = (
+  Put c.args.out c.in_ok-component.component,
+  comes_made (component_at 0 c.args.word.now) (Put c.args.out) _ _ c.in_ok-component.component c.in_ok-component.ensures,
+  (refl, c.of.ensures ∙ c.in_ok-bytes.ensures.spelled.1),
+)

@@ -1,0 +1,6 @@
+use Rattle.std.proofs.Common.{refl}
+use Rattle.lcm_cli.specs.Answers.{unput}
+use Rattle.lcm_cli.proofs.top.give_file.Goals as goal
+
+pub returns-in-Err : goal.returns-in-Err
+returns-in-Err g c = λ kept. unput _ refl (rw c.as_str.ensures.same at c.in-Err.ensures.err) refl refl refl
