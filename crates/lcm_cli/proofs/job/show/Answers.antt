@@ -16,5 +16,5 @@ unfolding disassemble_plan
 returns g c = (
   Show c.in_ok-component.component,
   comes_made (component_at 0 c.args.word.now) Show _ _ c.in_ok-component.component c.in_ok-component.ensures,
-  c.of.ensures ∙ c.in_ok-text.ensures,
+  c.of.ensures ∙ c.in_ok-text.ensures.text,
 )
