@@ -25,3 +25,4 @@ pub mod OneStep
 pub mod RunsAgree
 mod Instance
 pub mod invariant
+pub mod starts

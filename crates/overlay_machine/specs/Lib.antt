@@ -17,3 +17,4 @@ pub mod Linked
 pub mod Invariant
 pub mod Keeping
 pub mod Privacy
+pub mod Starting

@@ -12,6 +12,10 @@ ghost use Rattle.overlay_machine.specs.Link.{Link};
 ghost use Rattle.overlay_machine.specs.Linked.{Linked};
 ghost use Rattle.overlay_machine.specs.Invariant.{Invariant, StepsKeep};
 ghost use Rattle.overlay_machine.specs.Privacy.{AllFramesArePrivate};
+ghost use Rattle.overlay_machine.specs.Starting.{StartsBegin, StartThere};
+
+use call_sequence::laws::sequences_stand_word_by_word;
+use flow_check::laws::sequences_stand;
 
 /// One step of the overlay is as many plain instructions as it weighs.
 ///
@@ -63,3 +67,24 @@ pub fn linked_runs_agree()
 pub fn frames_are_private()
     ensures { AllFramesArePrivate }
 {}
+
+/// The overlay of each linked start begins with the invariant.
+///
+/// Let an overlay be that of a start, and let the start be one that `link` makes of some accepted parts
+/// with some size of stack. Then the parts are linked in the overlay's layout, and the invariant holds
+/// of the overlay and of the start's own registers and cells.
+pub fn starts_begin()
+    ensures { StartsBegin }
+{
+    sequences_stand();
+    sequences_stand_word_by_word();
+}
+
+/// There are such parts, with a start and its overlay: one trusted, with a site and an entry, and one
+/// that isn't.
+pub fn a_linked_start_may_come()
+    ensures { StartThere }
+{
+    sequences_stand();
+    sequences_stand_word_by_word();
+}

@@ -8,10 +8,12 @@ ghost use Rattle.overlay_machine.specs.Step.{weight_of};
 ghost use Rattle.overlay_machine.specs.Flat.{flat};
 ghost use Rattle.overlay_machine.specs.Seen.{next_overlay, answer_of, end_answer, IsOverlayOf};
 ghost use Rattle.overlay_machine.specs.Keeping.{StepKeeps};
+ghost use Rattle.overlay_machine.specs.Starting.{Begins};
 
 use crate::cases::{next_case, weight};
 use crate::copies::{layout_of, maps_of};
 use crate::events::Event;
+use crate::laws::starts_begin;
 use crate::layout::{Layout, stack_cells};
 use crate::machine::{Machine, Outcome};
 use crate::words::OWord;
@@ -98,9 +100,14 @@ impl Model for Overlay {
 impl Overlay {
     /// The overlay machine of a start: its registers and memory, and no frames, with room for as many
     /// words of frames as the stack has. `AllocError` where the memory can't be had.
+    ///
+    /// Where the start is one that `link` makes of accepted parts, the invariant holds of the overlay
+    /// and of the start's own registers and cells. docs/OVERLAY.md tells the invariant.
     pub fn of_start(alloc: Global, start: &Start) -> Result<Overlay, AllocError>
-        ensures { IfOk result (IsOverlayOf start.now) }
+        ensures is { IfOk result (IsOverlayOf start.now) }
+        ensures begins { IfOk result (Begins start.now) }
     {
+        starts_begin();
         let layout = layout_of(alloc, start)?;
         let maps = maps_of(alloc, start.state())?;
         let frames = Region::reserve(alloc, stack_cells(layout.stack))?;

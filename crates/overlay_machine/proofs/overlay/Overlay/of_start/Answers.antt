@@ -16,8 +16,8 @@ invariant_of-result c =
       calls = omega arith;
     }
 
-pub returns : goal.returns
-returns c =
+pub returns-clause-is : goal.returns-clause-is
+returns-clause-is c =
     let e = c.state.ensures in
     record {
       sites = c.in_ok-layout.ensures.sites;
@@ -31,3 +31,6 @@ returns c =
       weight = refl;
       end = refl;
     }
+
+pub returns-clause-begins : goal.returns-clause-begins
+returns-clause-begins c = c.starts_begin.ensures _ _ (returns-clause-is c)

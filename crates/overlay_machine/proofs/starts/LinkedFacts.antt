@@ -1,0 +1,220 @@
+-- What `link` and the rules of accepted parts give: the parts are linked, as the invariant needs them.
+use Rattle.std.proofs.Common.{◌≡◌, ◌≢◌, ◌⊎◌, inl, inr, ℕ, ◌+◌, ◌<◌, ◌≤◌, Bool, true, false, List, [], ◌++◌, length, Option, Some, None, refl, sym, ap, subst, ◌∙◌, arith, eq-eqb}
+use Rattle.std.specs.Prelude.{slice_get, is_some, find, ◌==◌, ◌||◌, ℤ, IsTrue}
+use Rattle.std.specs.List.{Contains}
+use Rattle.std.proofs.lemmas.List.Elements.{Contains-append_left, Contains-append_right}
+use Rattle.cap_words.specs.declared.CapFields.{CapFields}
+use Rattle.component_file.specs.declared.component.Export.{Export}
+use Rattle.lcm_machine.specs.declared.cells.Span.{Span}
+use Rattle.lcm_machine.specs.Regions.{Region}
+use Rattle.component_linker.specs.declared.owners.Site.{Site}
+use Rattle.component_linker.specs.declared.owners.Owner.{Owner}
+use Rattle.component_linker.specs.Parts.{PartSeen, IsPart}
+use Rattle.component_linker.specs.Regions.{part_regions, region, regions_of, code_span, data_span, linear_span, stack_span}
+use Rattle.component_linker.specs.SealsApart.{is_seal_of}
+use Rattle.component_linker.specs.Owners.{IsSite, AreSites, AreOwners}
+use Rattle.component_linker.specs.Started.{StartSeen}
+use Rattle.component_linker.specs.Answer.{LinksTo}
+use Rattle.component_linker.specs.Linked as making
+use Rattle.component_linker.proofs.LinksKept.{are_linked}
+use Rattle.component_linker.proofs.CodeStands.{SitesStand, EntriesStand}
+use Rattle.component_linker.proofs.PartKept.{seals_end}
+use Rattle.component_linker.proofs.RegionFacts.{part_region_of, stack_region_of, all_within}
+use Rattle.overlay_machine.specs.declared.layout.Layout.{Layout}
+use Rattle.overlay_machine.specs.declared.layout.SiteCode.{SiteCode}
+use Rattle.overlay_machine.specs.Layout.{runs_in, trusted_owner, site_at, site_code, is_entry}
+use Rattle.overlay_machine.specs.Link.{Link, IsTrusted, IsUntrusted, IsUsable, own_code, own_data, own_linear, the_stack, regions, ranges_of, code_region, data_region, stack_region}
+use Rattle.overlay_machine.specs.Safe.{IsOpenSeal}
+use Rattle.overlay_machine.specs.Linked.{any_pc, SiteOf, EntryOf, Linked}
+use Rattle.overlay_machine.proofs.starts.ListFacts.{index_of, listed_at, one_at, first_is}
+use Rattle.overlay_machine.proofs.starts.PartFacts.{SiteIn, site_in, entry_in, export_within, fail_stands}
+use Rattle.overlay_machine.proofs.starts.RegionsApart.{one_owner, no_owner, code_there, data_is_there, data_no_code}
+use Rattle.overlay_machine.proofs.starts.LayoutFacts.{NumberedSite, site_code_of, one_part, first_in_code, InCode, trusted_is, trusted_found, entry_found, site_of, site_has_code, site_found, one_place, no_site_at}
+
+-- ---- seals
+
+-- a closure seal is a seal of its part
+own_closure : (p : PartSeen) → IsTrue (is_seal_of p p.component.closure)
+own_closure p = let t = eq-eqb p.component.closure p.component.closure refl in rw t refl
+
+no_bool : (b : Bool) → b ≡ false → b ≡ true → ⊥
+no_bool b f t = let e : false ≡ true = sym f ∙ t in cc
+
+-- ---- regions
+
+in_code : (p : PartSeen) (r : Region) → Contains (region false (code_span p)) r → Contains (part_regions p) r
+in_code p r m = Contains-append_left (region false (code_span p) ++ region false (data_span p)) (region true (linear_span p)) r (Contains-append_left (region false (code_span p)) (region false (data_span p)) r m)
+
+in_data : (p : PartSeen) (r : Region) → Contains (region false (data_span p)) r → Contains (part_regions p) r
+in_data p r m = Contains-append_left (region false (code_span p) ++ region false (data_span p)) (region true (linear_span p)) r (Contains-append_right (region false (code_span p)) (region false (data_span p)) r m)
+
+in_area : (p : PartSeen) (r : Region) → Contains (region true (linear_span p)) r → Contains (part_regions p) r
+in_area p r m = Contains-append_right (region false (code_span p) ++ region false (data_span p)) (region true (linear_span p)) r m
+
+-- ---- all of it
+
+module _ (site_words : SitesStand) (entry_words : EntriesStand) (parts : List PartSeen) (size : ℕ) (s : StartSeen) (l : Layout) (each : (k : ℕ) (p : PartSeen) → slice_get parts k ≡ Some p → IsPart p) (link : LinksTo parts size s)
+    (sites : l.sites ≡ s.sites) (owners : l.owners ≡ s.owners) (stack : l.stack ≡ s.stack) where
+  abbrev g : Link
+  g = record { parts = parts; size = size; layout = l }
+
+  made : making.Linked parts size
+  made = are_linked parts size each link.rules
+
+  site_list : AreSites parts l.sites
+  site_list = subst (AreSites parts) (sym sites) link.starts.sites
+
+  owner_list : AreOwners parts l.owners
+  owner_list = subst (AreOwners parts) (sym owners) link.starts.owners
+
+  stack_is : stack_span parts size ≡ Some l.stack
+  stack_is = link.starts.stack ∙ ap Some (sym stack)
+
+  stack_listed : Contains (region true (stack_span parts size)) (stack_region l)
+  stack_listed = subst (λ o. Contains (region true o) (stack_region l)) (sym stack_is) (first_is (stack_region l) [])
+
+  -- ---- regions
+
+  usable_there : (r : Region) (runs : Bool) → IsUsable g r runs → Contains (regions_of parts size) r
+  usable_there r runs (own_code p q u m) = let k = index_of parts p u.0 in part_region_of parts size k.0 p r k.1 (in_code p r m)
+  usable_there r runs (own_data p q u m) = let k = index_of parts p u.0 in part_region_of parts size k.0 p r k.1 (in_data p r m)
+  usable_there r runs (own_linear p q u m) = let k = index_of parts p u.0 in part_region_of parts size k.0 p r k.1 (in_area p r m)
+  usable_there r runs the_stack = stack_region_of parts size (stack_region l) stack_listed
+
+  -- an untrusted part's region isn't the code of a trusted one
+  no_trusted : (p q : PartSeen) (r : Region) → IsTrusted g p → IsUntrusted g q → Contains (part_regions q) r → r ≢ code_region p
+  no_trusted p q r t u m e =
+      let k = index_of parts p t.0 in
+      let n = index_of parts q u.0 in
+      let same = one_owner parts size made n.0 k.0 q p r (code_region p) n.1 k.1 m (code_there parts size made k.0 p k.1) (ap (λ (x : Region). x.base) e) in
+      let part : q ≡ p = one_at parts n.0 k.0 q p n.1 k.1 same in
+      no_bool q.trusted u.1 (ap (λ (x : PartSeen). x.trusted) part ∙ t.1)
+
+  closed : (r : Region) (runs : Bool) (p : PartSeen) → IsUsable g r runs → IsTrusted g p → r ≢ code_region p
+  closed r runs p (own_code q x u m) t = no_trusted p q r t u (in_code q r m)
+  closed r runs p (own_data q x u m) t = no_trusted p q r t u (in_data q r m)
+  closed r runs p (own_linear q x u m) t = no_trusted p q r t u (in_area q r m)
+  closed r runs p the_stack t = λ e.
+      (let k = index_of parts p t.0 in no_owner parts size made k.0 p (code_region p) (stack_region l) k.1 (code_there parts size made k.0 p k.1) stack_listed (sym (ap (λ (x : Region). x.base) e)))
+
+  one_code_is : (p q : PartSeen) → IsTrusted g p → IsTrusted g q → code_region p ≡ code_region q → p ≡ q
+  one_code_is p q t u e =
+      let k = index_of parts p t.0 in
+      let n = index_of parts q u.0 in
+      one_at parts k.0 n.0 p q k.1 n.1 (one_owner parts size made k.0 n.0 p q (code_region p) (code_region q) k.1 n.1 (code_there parts size made k.0 p k.1) (code_there parts size made n.0 q n.1) (ap (λ (x : Region). x.base) e))
+
+  -- ---- seals
+
+  -- two parts with a common seal are one
+  one_of_seal : (p q : PartSeen) (n : ℕ) → Contains parts p → Contains parts q → IsTrue (is_seal_of p n) → IsTrue (is_seal_of q n) → p ≡ q
+  one_of_seal p q n in_p in_q has_p has_q =
+      let i = index_of parts p in_p in
+      let j = index_of parts q in_q in
+      one_at parts i.0 j.0 p q i.1 j.1 (link.parts_apart.between i.0 j.0 n p q i.1 j.1 has_p has_q)
+
+  closed_closure : (p : PartSeen) → IsTrusted g p → IsOpenSeal g p.component.closure → ⊥
+  closed_closure p t (q, u, has) =
+      let part : q ≡ p = one_of_seal q p p.component.closure u.0 t.0 has (own_closure p) in
+      no_bool q.trusted u.1 (ap (λ (x : PartSeen). x.trusted) part ∙ t.1)
+
+  -- the site of a number is one of the start's
+  start_site : (j : ℕ) (c : SiteCode) (n : NumberedSite parts l j c) → Contains s.sites n.site
+  start_site j c n = subst (λ xs. Contains xs n.site) sites (listed_at l.sites j n.site n.at)
+
+  seal_of : (j : ℕ) (c : SiteCode) (n : NumberedSite parts l j c) → c.seal ≡ n.site.seal
+  seal_of j c n = ap (λ (x : SiteCode). x.seal) n.code_is
+
+  numbered : (j : ℕ) (c : SiteCode) → site_code l j ≡ Some c → NumberedSite parts l j c
+  numbered j c e = site_of parts size l made owner_list site_list j c e
+
+  closed_return : (j : ℕ) (c : SiteCode) → site_code l j ≡ Some c → IsOpenSeal g c.seal → ⊥
+  closed_return j c e (q, u, has) =
+      let n = numbered j c e in
+      let k = index_of parts q u.0 in
+      let none = link.sites_apart.no_untrusted n.site (start_site j c n) k.0 q k.1 u.1 in
+      no_bool (is_seal_of q n.site.seal) none (subst (λ x. IsTrue (is_seal_of q x)) (seal_of j c n) has)
+
+  other_return : (j : ℕ) (c : SiteCode) (p : PartSeen) → site_code l j ≡ Some c → IsTrusted g p → p.component.closure ≢ c.seal
+  other_return j c p e t same =
+      let n = numbered j c e in
+      let k = index_of parts p t.0 in
+      link.sites_apart.no_closure n.site (start_site j c n) k.0 p k.1 (sym (same ∙ seal_of j c n))
+
+  one_seal_is : (i j : ℕ) (c d : SiteCode) → site_code l i ≡ Some c → site_code l j ≡ Some d → c.seal ≡ d.seal → i ≡ j
+  one_seal_is i j c d e f same =
+      let n = numbered i c e in
+      let m = numbered j d f in
+      let one = link.sites_apart.once n.site m.site (start_site i c n) (start_site j d m) (sym (seal_of i c n) ∙ same ∙ seal_of j d m) in
+      one_place parts size l made owner_list site_list i j n.site m.site n.at m.at (ap (λ (x : Site). x.at) one)
+
+  -- ---- sites and entries
+
+  site_is : (j : ℕ) (c : SiteCode) → site_code l j ≡ Some c → (p : PartSeen) × (index : ℕ) × IsTrusted g p × SiteOf p index c
+  site_is j c e =
+      let n = numbered j c e in
+      let is = n.is in
+      let part = each n.site.part is.of is.of_is in
+      let site = site_in is.of part is.trusted site_words n.site.index is.offset is.offset_is in
+      let seal : c.seal ≡ is.of.component.seals.base + n.site.index = seal_of j c n ∙ is.seal in
+      let small = site.small in (
+        is.of,
+        n.site.index,
+        (listed_at parts n.site.part is.of is.of_is, is.trusted),
+        record {
+          offset = is.offset;
+          offset_is = is.offset_is;
+          base_is = ap (λ (x : SiteCode). x.base) n.code_is;
+          end_is = ap (λ (x : SiteCode). x.end) n.code_is;
+          at_is = ap (λ (x : SiteCode). x.at) n.code_is ∙ is.at;
+          seal_is = seal;
+          seal_in = site.in_seals;
+          seal_small = omega (arith, seal, small);
+          site = site.site;
+          no_entry = site.no_entry;
+          inside = site.inside;
+          stands = site.stands;
+          seals_are = site.seals_are;
+        },
+      )
+
+  found_site : (j a : ℕ) → site_at l a ≡ Some j → (c : SiteCode) × (site_code l j ≡ Some c) × (c.at ≡ a)
+  found_site j a e =
+      let f = site_found parts size l made owner_list site_list j a e in
+      let is = (site_list.all f.0).0 (listed_at l.sites j f.0 f.1) in
+      (site_code_of f.0 is.of, site_has_code parts size l made owner_list site_list j f.0 is f.1, f.2)
+
+  exports_within : (k : ℕ) (p : PartSeen) → slice_get parts k ≡ Some p → p.trusted ≡ true → (e : Export) → Contains p.component.exports e → e.offset < length p.component.code
+  exports_within k p at trusted e m = export_within p (each k p at) trusted e m
+
+  part_of : (p : PartSeen) → Contains parts p → IsPart p
+  part_of p m = let k = index_of parts p m in each k.0 p k.1
+
+  pub linked : Linked (record { parts = parts; size = size; layout = l })
+  linked = record {
+    parts = part_of;
+    apart = link.regions;
+    seals_small = λ p m. seals_end p (part_of p m);
+    filled = λ r m. (all_within parts size r made m).0;
+    small = λ r m. (all_within parts size r made m).1;
+    stack = stack_is;
+    stack_bases = λ p t. (let k = index_of parts p t.0 in link.stack_base k.0 p k.1 ∙ ap (λ (x : Span). x.base) (sym stack));
+    usable = usable_there;
+    code_closed = closed;
+    code = λ p t. (let k = index_of parts p t.0 in part_region_of parts size k.0 p (code_region p) k.1 (code_there parts size made k.0 p k.1));
+    data_there = λ p t. (let k = index_of parts p t.0 in part_region_of parts size k.0 p (data_region p) k.1 (data_is_there parts size made k.0 p k.1));
+    data_not_code = λ p q t u. (let k = index_of parts p t.0 in let n = index_of parts q u.0 in data_no_code parts size made k.0 n.0 p q (part_of p t.0) k.1 n.1);
+    one_code = one_code_is;
+    one_closure = λ p q t u e. one_of_seal p q p.component.closure t.0 u.0 (own_closure p) (subst (λ n. IsTrue (is_seal_of q n)) (sym e) (own_closure q));
+    closure_closed = closed_closure;
+    return_closed = closed_return;
+    return_other = other_return;
+    one_seal = one_seal_is;
+    owners = λ c o e. (let t = trusted_is parts size l made owner_list c o e in (t.0, (listed_at parts o.part t.0 t.1, t.2), t.3));
+    owned = λ p z t. (let k = index_of parts p t.0 in ap is_some (trusted_found parts size l made owner_list k.0 p z k.1 t.1));
+    sites = site_is;
+    site_found = found_site;
+    no_site = λ p o t lt e. (let k = index_of parts p t.0 in no_site_at parts size l made owner_list site_list k.0 o p k.1 t.1 e);
+    entry_found = λ p o t lt. (let k = index_of parts p t.0 in entry_found parts size l made owner_list exports_within k.0 o p k.1 t.1 lt);
+    entries = λ p o t begins. entry_in p (part_of p t.0) t.1 entry_words o begins;
+    fails = λ p f t e. fail_stands p (part_of p t.0) t.1 f e;
+  }
