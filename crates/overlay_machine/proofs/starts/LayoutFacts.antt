@@ -1,8 +1,8 @@
 -- The sites and the owners of a start, as an overlay finds them.
-use Rattle.std.proofs.Common.{◌≡◌, ◌⊎◌, inl, inr, ℕ, zero, suc, ◌+◌, ◌-◌, ◌<◌, ◌≤◌, Bool, true, false, not, List, [], ◌∷◌, length, get_or, map, Option, Some, None, refl, sym, ap, subst, ◌∙◌, arith, eq-eqb, le-leb, lt-ltb}
+use Rattle.std.proofs.Common.{◌≡◌, inl, inr, ℕ, zero, suc, ◌+◌, ◌-◌, ◌<◌, ◌≤◌, Bool, true, false, not, List, [], ◌∷◌, length, get_or, map, Option, Some, None, refl, sym, ap, subst, ◌∙◌, arith, eq-eqb, le-leb, lt-ltb}
 use borrow.Author.Tests.{eqb-true}
-use Rattle.std.specs.Prelude.{slice_get, find, position, ◌==◌, ◌&&◌, nat_le, nat_lt, ◌^◌, option_and_then, ℤ, if◌then◌else◌}
-use Rattle.std.specs.List.{Contains, AllPairs, list_any}
+use Rattle.std.specs.Prelude.{slice_get, position, ◌==◌, ◌&&◌, nat_lt, ◌^◌, option_and_then, ℤ, if◌then◌else◌}
+use Rattle.std.specs.List.{Contains, list_any}
 use Rattle.std.proofs.lemmas.Bool.{cases_order}
 use Rattle.std.proofs.lemmas.Option.{slice_get_within, get_or_from_slice_get}
 use Rattle.cap_words.specs.declared.CapFields.{CapFields}
@@ -20,15 +20,14 @@ use Rattle.component_linker.specs.declared.owners.Site.{Site}
 use Rattle.component_linker.specs.declared.owners.Owner.{Owner}
 use Rattle.component_linker.specs.declared.owners.Entry.{Entry}
 use Rattle.component_linker.specs.Parts.{PartSeen}
-use Rattle.component_linker.specs.Regions.{Apart, addresses}
-use Rattle.component_linker.specs.Owners.{IsSite, AreSites, IsOwner, AreOwners, owner_of, entry_of}
-use Rattle.component_linker.specs.Linked.{Linked, Kept}
+use Rattle.component_linker.specs.Owners.{IsSite, AreSites, AreOwners, owner_of, entry_of}
+use Rattle.component_linker.specs.Linked.{Linked}
 use Rattle.component_linker.proofs.RegionFacts.{apart_parts, code_in, whole}
 use Rattle.overlay_machine.specs.declared.layout.Layout.{Layout}
 use Rattle.overlay_machine.specs.declared.layout.SiteCode.{SiteCode}
-use Rattle.overlay_machine.specs.Layout.{runs_in, trusted_owner, number_of, numbered, site_at, is_entry, is_code, with_code, code_in as code_among, site_code}
+use Rattle.overlay_machine.specs.Layout.{runs_in, trusted_owner, numbered, site_at, is_entry, with_code, code_in as code_among, site_code}
 use Rattle.overlay_machine.specs.Linked.{any_pc}
-use Rattle.overlay_machine.proofs.starts.ListFacts.{first_is, later_is, listed_at, index_of, one_at, found_is, is_found, only_found, any_is, any_of, position_is, is_placed, place_below}
+use Rattle.overlay_machine.proofs.starts.ListFacts.{first_is, later_is, listed_at, index_of, one_at, found_is, only_found, any_is, any_of, position_is, is_placed, place_below}
 
 -- ---- parts by their code
 

@@ -1,18 +1,16 @@
 -- What `link` and the rules of accepted parts give: the parts are linked, as the invariant needs them.
-use Rattle.std.proofs.Common.{◌≡◌, ◌≢◌, ◌⊎◌, inl, inr, ℕ, ◌+◌, ◌<◌, ◌≤◌, Bool, true, false, List, [], ◌++◌, length, Option, Some, None, refl, sym, ap, subst, ◌∙◌, arith, eq-eqb}
-use Rattle.std.specs.Prelude.{slice_get, is_some, find, ◌==◌, ◌||◌, ℤ, IsTrue}
+use Rattle.std.proofs.Common.{◌≡◌, ◌≢◌, ℕ, ◌+◌, ◌<◌, Bool, true, false, List, [], ◌++◌, length, Some, refl, sym, ap, subst, ◌∙◌, arith, eq-eqb}
+use Rattle.std.specs.Prelude.{slice_get, is_some, IsTrue}
 use Rattle.std.specs.List.{Contains}
 use Rattle.std.proofs.lemmas.List.Elements.{Contains-append_left, Contains-append_right}
-use Rattle.cap_words.specs.declared.CapFields.{CapFields}
 use Rattle.component_file.specs.declared.component.Export.{Export}
 use Rattle.lcm_machine.specs.declared.cells.Span.{Span}
 use Rattle.lcm_machine.specs.Regions.{Region}
 use Rattle.component_linker.specs.declared.owners.Site.{Site}
-use Rattle.component_linker.specs.declared.owners.Owner.{Owner}
 use Rattle.component_linker.specs.Parts.{PartSeen, IsPart}
 use Rattle.component_linker.specs.Regions.{part_regions, region, regions_of, code_span, data_span, linear_span, stack_span}
 use Rattle.component_linker.specs.SealsApart.{is_seal_of}
-use Rattle.component_linker.specs.Owners.{IsSite, AreSites, AreOwners}
+use Rattle.component_linker.specs.Owners.{AreSites, AreOwners}
 use Rattle.component_linker.specs.Started.{StartSeen}
 use Rattle.component_linker.specs.Answer.{LinksTo}
 use Rattle.component_linker.specs.Linked as making
@@ -22,14 +20,14 @@ use Rattle.component_linker.proofs.PartKept.{seals_end}
 use Rattle.component_linker.proofs.RegionFacts.{part_region_of, stack_region_of, all_within}
 use Rattle.overlay_machine.specs.declared.layout.Layout.{Layout}
 use Rattle.overlay_machine.specs.declared.layout.SiteCode.{SiteCode}
-use Rattle.overlay_machine.specs.Layout.{runs_in, trusted_owner, site_at, site_code, is_entry}
-use Rattle.overlay_machine.specs.Link.{Link, IsTrusted, IsUntrusted, IsUsable, own_code, own_data, own_linear, the_stack, regions, ranges_of, code_region, data_region, stack_region}
+use Rattle.overlay_machine.specs.Layout.{site_at, site_code}
+use Rattle.overlay_machine.specs.Link.{Link, IsTrusted, IsUntrusted, IsUsable, own_code, own_data, own_linear, the_stack, code_region, data_region, stack_region}
 use Rattle.overlay_machine.specs.Safe.{IsOpenSeal}
-use Rattle.overlay_machine.specs.Linked.{any_pc, SiteOf, EntryOf, Linked}
+use Rattle.overlay_machine.specs.Linked.{SiteOf, Linked}
 use Rattle.overlay_machine.proofs.starts.ListFacts.{index_of, listed_at, one_at, first_is}
-use Rattle.overlay_machine.proofs.starts.PartFacts.{SiteIn, site_in, entry_in, export_within, fail_stands}
+use Rattle.overlay_machine.proofs.starts.PartFacts.{site_in, entry_in, export_within, fail_stands}
 use Rattle.overlay_machine.proofs.starts.RegionsApart.{one_owner, no_owner, code_there, data_is_there, data_no_code}
-use Rattle.overlay_machine.proofs.starts.LayoutFacts.{NumberedSite, site_code_of, one_part, first_in_code, InCode, trusted_is, trusted_found, entry_found, site_of, site_has_code, site_found, one_place, no_site_at}
+use Rattle.overlay_machine.proofs.starts.LayoutFacts.{NumberedSite, site_code_of, trusted_is, trusted_found, entry_found, site_of, site_has_code, site_found, one_place, no_site_at}
 
 -- ---- seals
 

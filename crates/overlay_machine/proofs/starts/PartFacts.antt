@@ -1,17 +1,15 @@
 -- What the rules C and K say of one trusted part, in the form in which a link is said.
-use Rattle.std.proofs.Common.{◌≡◌, ℕ, zero, suc, ◌+◌, ◌<◌, ◌≤◌, true, false, List, [], ◌∷◌, length, Some, refl, sym, ap, ◌∙◌, arith, eq-eqb}
-use borrow.Author.Tests.{eqb-true}
-use Rattle.std.specs.Prelude.{slice_get, slice_index, ◌==◌, pos}
-use Rattle.std.specs.List.{Contains, list_any}
-use Rattle.std.proofs.lemmas.Option.{slice_get_within, get_or_from_slice_get}
+use Rattle.std.proofs.Common.{◌≡◌, ℕ, zero, suc, ◌+◌, ◌<◌, ◌≤◌, true, false, [], ◌∷◌, length, Some, refl, sym, ap, ◌∙◌, arith, eq-eqb}
+use Rattle.std.specs.Prelude.{slice_get, ◌==◌, pos}
+use Rattle.std.specs.List.{Contains}
+use Rattle.std.proofs.lemmas.Option.{slice_get_within}
 use Rattle.cap_words.specs.declared.Word.TheVariants.{Int, Seal}
 use Rattle.lcm_isa.specs.declared.Instr.{Instr}
 use Rattle.lcm_isa.specs.declared.Instr.TheVariants.{Fail}
 use Rattle.lcm_isa.specs.Numbers.{number_of}
-use Rattle.component_file.specs.declared.component.ComponentFields.{ComponentFields}
 use Rattle.component_file.specs.declared.component.Export.{Export}
-use Rattle.call_sequence.specs.declared.TheConstants.{SITE_WORDS, ENTRY_WORDS}
-use Rattle.call_sequence.specs.Standing.{CodeStands, SiteStands, EntryStands}
+use Rattle.call_sequence.specs.declared.TheConstants.{SITE_WORDS}
+use Rattle.call_sequence.specs.Standing.{CodeStands, SiteStands}
 use Rattle.flow_check.specs.Places.{begins_entry, begins_site}
 use Rattle.flow_check.proofs.Walks.{ListsKept}
 use Rattle.flow_check.proofs.Placed.{entry_within, placed_lists}
@@ -19,8 +17,6 @@ use Rattle.component_linker.specs.Parts.{PartSeen, IsPart}
 use Rattle.component_linker.specs.TrustedCode.{all_seals}
 use Rattle.component_linker.proofs.CodeStands.{SitesStand, EntriesStand, fail_of, literal_of}
 use Rattle.component_linker.proofs.PartKept.{seals_end, few_sites}
-use Rattle.overlay_machine.specs.declared.layout.SiteCode.{SiteCode}
-use Rattle.overlay_machine.specs.Link.{ranges_of}
 use Rattle.overlay_machine.specs.Linked.{EntryOf}
 use Rattle.overlay_machine.proofs.starts.ListFacts.{listed_at, any_is}
 

@@ -1,5 +1,5 @@
 -- The instance of linked parts has a start with an overlay: what is said of linked starts is said of something.
-use Rattle.std.proofs.Common.{◌≡◌, ℕ, ◌<◌, ◌≤◌, Bool, true, false, List, [], Option, Some, None, refl, sym, ap, ◌∙◌, inl, inr, arith}
+use Rattle.std.proofs.Common.{◌≡◌, ℕ, ◌≤◌, Bool, true, false, [], None, refl, sym, ap, ◌∙◌, inl, inr, arith}
 use Rattle.std.specs.Prelude.{option_map, if◌then◌else◌}
 use Rattle.std.proofs.lemmas.Bool.{cases_lt}
 use Rattle.cap_words.specs.declared.Word.{Word}
@@ -13,7 +13,6 @@ use Rattle.component_linker.specs.Start.{start_cell}
 use Rattle.component_linker.proofs.CodeStands.{SitesStand, EntriesStand}
 use Rattle.component_linker.proofs.ExampleParts.{caller, other, pair, each}
 use Rattle.component_linker.proofs.ExampleLink.{filled, filled_below, filled_past, start, links}
-use Rattle.overlay_machine.specs.declared.words.OWord.{OWord}
 use Rattle.overlay_machine.specs.declared.words.OWord.TheVariants.{Plain}
 use Rattle.overlay_machine.specs.Copies.{plain_regs}
 use Rattle.overlay_machine.specs.Seen.{OverlaySeen, IsOverlayOf, start_word}

@@ -1,30 +1,27 @@
 -- The invariant holds of the overlay of a linked start, with the start's own registers and cells.
-use Rattle.std.proofs.Common.{◌≡◌, ◌⊎◌, inl, inr, ℕ, ◌+◌, ◌-◌, ◌<◌, ◌≤◌, Bool, true, false, pos, List, [], length, Option, Some, None, refl, sym, ap, subst, ◌∙◌, arith}
-use Rattle.std.specs.Prelude.{slice_get, option_map, IsSome, IsTrue, if◌then◌else◌}
+use Rattle.std.proofs.Common.{◌≡◌, inl, ℕ, ◌+◌, ◌≤◌, Bool, true, false, pos, List, [], Option, Some, None, refl, sym, ap, subst, ◌∙◌, arith}
+use Rattle.std.specs.Prelude.{slice_get, option_map, IsSome, if◌then◌else◌}
 use Rattle.std.specs.List.{Contains}
 use Rattle.cap_words.specs.declared.Word.{Word}
-use Rattle.cap_words.specs.declared.Word.TheVariants.{Int, Mem}
-use Rattle.cap_words.specs.declared.Perm.{Perm}
+use Rattle.cap_words.specs.declared.Word.TheVariants.{Mem}
 use Rattle.cap_words.specs.declared.Perm.TheVariants.{Rx, Rwx}
-use Rattle.cap_words.specs.declared.CapFields.{CapFields}
 use Rattle.lcm_isa.specs.declared.Reg.{Reg}
 use Rattle.lcm_isa.specs.declared.Reg.TheVariants.{Pc, Rcode, Rdata, Stk, Dat, T1, T2, C1, C2, A0, A1, A2, A3, G0, G1, G2}
 use Rattle.lcm_machine.specs.declared.Place.{Place}
 use Rattle.lcm_machine.specs.declared.Place.TheVariants.{R, Cell}
-use Rattle.lcm_machine.specs.declared.cells.Span.{Span}
-use Rattle.lcm_machine.specs.Maps.{Regs, State}
+use Rattle.lcm_machine.specs.Maps.{Regs}
 use Rattle.lcm_machine.specs.Places.{reg}
 use Rattle.lcm_machine.specs.Cells.{cell}
 use Rattle.lcm_machine.specs.Spans.{in_spans}
 use Rattle.lcm_machine.specs.Row.{word_at}
 use Rattle.lcm_machine.specs.Regions.{Region}
 use Rattle.lcm_machine.specs.Table.{is_pc}
-use Rattle.lcm_machine.specs.Mapped.{mapped_or, IsMapped}
+use Rattle.lcm_machine.specs.Mapped.{mapped_or}
 use Rattle.flow_check.specs.Kinds.{kind_of, entry_row}
-use Rattle.flow_check.specs.Holds.{HasKind, Fits, PcAt, code_at}
+use Rattle.flow_check.specs.Holds.{HasKind, code_at}
 use Rattle.component_linker.specs.Parts.{PartSeen, IsPart}
-use Rattle.component_linker.specs.Regions.{regions_of, in_regions, region, stack_span}
-use Rattle.component_linker.specs.Start.{Exported, code_of, data_of, stack_cap, stack_of, stack_base_of, start_cell, start_regs}
+use Rattle.component_linker.specs.Regions.{regions_of, region, stack_span}
+use Rattle.component_linker.specs.Start.{code_of, stack_cap, stack_of, stack_base_of, start_cell, start_regs}
 use Rattle.component_linker.specs.Started.{StartSeen}
 use Rattle.component_linker.specs.Answer.{LinksTo}
 use Rattle.component_linker.specs.Linked as making
@@ -37,13 +34,13 @@ use Rattle.overlay_machine.specs.declared.words.OWord.{OWord}
 use Rattle.overlay_machine.specs.declared.words.OWord.TheVariants.{Plain}
 use Rattle.overlay_machine.specs.declared.layout.Layout.{Layout}
 use Rattle.overlay_machine.specs.Words.{look}
-use Rattle.overlay_machine.specs.State.{OpenFrame, OState, framed}
+use Rattle.overlay_machine.specs.State.{OpenFrame, framed}
 use Rattle.overlay_machine.specs.Flat.{flat, beside, IsFlat}
-use Rattle.overlay_machine.specs.Seen.{OverlaySeen, IsOverlayOf, start_word}
+use Rattle.overlay_machine.specs.Seen.{OverlaySeen, IsOverlayOf}
 use Rattle.overlay_machine.specs.Link.{Link, IsTrusted, IsUntrusted, ranges_of, IsOpenAt, IsStackCell, CodeIn, stack_region}
 use Rattle.overlay_machine.specs.Safe.{IsSafe, IsMet}
 use Rattle.overlay_machine.specs.Linked.{Linked}
-use Rattle.overlay_machine.specs.Invariant.{StandsAt, PcPart, at_row, outside, FramesLie, FrameFits, Invariant}
+use Rattle.overlay_machine.specs.Invariant.{PcPart, at_row, outside, FramesLie, Invariant}
 use Rattle.overlay_machine.specs.Starting.{StartsBegin}
 use Rattle.overlay_machine.proofs.starts.ListFacts.{listed_at, index_of, first_is}
 use Rattle.overlay_machine.proofs.starts.PartFacts.{export_begins, export_within}

@@ -1,27 +1,21 @@
 -- The words of a start are safe: those of open cells, both halves of each export, and the stack's capability.
-use Rattle.std.proofs.Common.{◌≡◌, ◌⊎◌, inl, inr, ℕ, ◌+◌, ◌-◌, ◌<◌, ◌≤◌, Bool, true, false, pos, List, [], length, Some, None, refl, sym, ap, subst, ◌∙◌, arith, eq-eqb}
-use Rattle.std.specs.Prelude.{slice_get, ◌==◌, ◌||◌, IsTrue, if◌then◌else◌}
+use Rattle.std.proofs.Common.{◌≡◌, inl, inr, ℕ, ◌+◌, ◌≤◌, Bool, true, false, [], length, Some, refl, sym, subst, ◌∙◌, arith, eq-eqb}
+use Rattle.std.specs.Prelude.{slice_get}
 use Rattle.std.specs.List.{Contains}
 use Rattle.std.proofs.lemmas.Option.{slice_get_within}
 use Rattle.cap_words.specs.declared.Word.{Word}
 use Rattle.cap_words.specs.declared.Word.TheVariants.{Int, Mem, Seal, Sealed}
-use Rattle.cap_words.specs.declared.Sealable.TheVariants.{Mem as MemIn}
 use Rattle.cap_words.specs.declared.CapFields.{CapFields}
-use Rattle.cap_words.specs.declared.SealFields.{SealFields}
-use Rattle.cap_words.specs.declared.Perm.TheVariants.{Rx, Rwx}
 use Rattle.cap_words.specs.Faces.{may_run}
-use Rattle.lcm_machine.specs.Regions.{Region}
 use Rattle.component_linker.specs.Parts.{PartSeen, IsPart}
-use Rattle.component_linker.specs.Regions.{region, span_of, linear_span}
-use Rattle.component_linker.specs.SealsApart.{is_seal_of}
 use Rattle.component_linker.specs.Start.{Exported, code_of, data_of, code_half, data_half, stack_cap, start_cell}
 use Rattle.component_linker.proofs.RegionFacts.{whole, in_stretch}
 use Rattle.component_linker.proofs.OwnWords.{OwnCap, over_code, over_data, over_linear, OwnWord, own_code as own_code_word, own_data as own_data_word, data_number}
 use Rattle.component_linker.proofs.StartWords.{IsExport, CellIs, of_code, of_data, of_slot, of_none, cell_is}
 use Rattle.overlay_machine.specs.declared.words.OWord.TheVariants.{Plain}
-use Rattle.overlay_machine.specs.Link.{Link, IsTrusted, IsUntrusted, IsUsable, own_code, own_data, own_linear, the_stack, IsOpenAt, code_region, data_region, stack_region}
-use Rattle.overlay_machine.specs.Safe.{IsSafeCap, AreSafeSeals, IsOpenSeal, IsSafeWord, IsSafe}
-use Rattle.overlay_machine.proofs.starts.ListFacts.{listed_at, index_of}
+use Rattle.overlay_machine.specs.Link.{Link, IsUntrusted, IsUsable, own_code, own_data, own_linear, the_stack, IsOpenAt, code_region, data_region, stack_region}
+use Rattle.overlay_machine.specs.Safe.{IsSafeCap, IsOpenSeal, IsSafeWord, IsSafe}
+use Rattle.overlay_machine.proofs.starts.ListFacts.{listed_at}
 
 module _ (g : Link) (parts : (p : PartSeen) → Contains g.parts p → IsPart p) where
   -- ---- capabilities over areas of an untrusted part
