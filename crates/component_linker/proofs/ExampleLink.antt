@@ -1,6 +1,6 @@
 -- A start of the instance, so that what is said of linked parts and their start is said of something.
-use Rattle.std.proofs.Common.{◌≡◌, ℕ, zero, suc, ◌+◌, ◌<◌, ◌≤◌, inl, inr, pos, Bool, true, false, List, [], ◌∷◌, ◌++◌, length, map, Option, Some, None, refl, sym, ap, ◌∙◌, arith, subst}
-use Rattle.std.specs.Prelude.{slice_get, nat_le, ◌||◌, codes}
+use Rattle.std.proofs.Common.{◌≡◌, ℕ, zero, suc, ◌+◌, ◌<◌, ◌≤◌, inl, inr, Bool, true, false, List, [], ◌∷◌, map, Option, Some, None, refl, sym, ap, ◌∙◌, arith, subst}
+use Rattle.std.specs.Prelude.{slice_get, nat_le, ◌||◌}
 use Rattle.std.specs.Ordering.{nat_cmp}
 use Rattle.std.specs.FinMap as maps
 use Rattle.std.specs.List.{Contains, AllPairs}
@@ -13,7 +13,6 @@ use Rattle.cap_words.specs.declared.Word.{Word}
 use Rattle.lcm_machine.specs.declared.cells.Span.{Span}
 use Rattle.lcm_machine.specs.Cells.{cell, set_slot}
 use Rattle.lcm_machine.specs.Regions.{Region}
-use Rattle.lcm_machine.specs.Run.{Run}
 use Rattle.lcm_machine.proofs.CellLemmas.{slot_same, slot_other}
 use Rattle.lcm_machine.proofs.RegionLemmas.{contains_cases}
 use Rattle.lcm_machine.proofs.SpanLemmas.{bases_from}
@@ -21,13 +20,13 @@ use Rattle.lcm_machine.specs.Spans.{AreSpans}
 use Rattle.component_linker.specs.declared.owners.Site.{Site}
 use Rattle.component_linker.specs.declared.owners.Owner.{Owner}
 use Rattle.component_linker.specs.Parts.{PartSeen}
-use Rattle.component_linker.specs.Regions.{regions_of, region_span, in_region, in_regions, AreSpansOf}
+use Rattle.component_linker.specs.Regions.{regions_of, region_span, in_region, in_regions}
 use Rattle.component_linker.specs.Start.{Exported, main_of, start_cell, start_regs, IsStart}
 use Rattle.component_linker.specs.Owners.{IsSite, AreSites, IsOwner, AreOwners, owner_of}
 use Rattle.component_linker.specs.Started.{StartSeen, Starts}
 use Rattle.component_linker.specs.Answer.{LinksTo}
 use Rattle.component_linker.specs.Linked.{Linked}
-use Rattle.component_linker.proofs.LinksKept.{are_linked, stack_bases, stack_begins}
+use Rattle.component_linker.proofs.LinksKept.{are_linked, stack_bases}
 use Rattle.component_linker.proofs.RegionFacts.{apart_all, all_within}
 use Rattle.component_linker.proofs.SealsKept.{parts_apart, sites_apart, same_site}
 use Rattle.component_linker.proofs.StartIs.{started_once}

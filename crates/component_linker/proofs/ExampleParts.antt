@@ -1,5 +1,5 @@
 -- An instance: a trusted part with an entry and a site, and an adversary. They keep the rules.
-use Rattle.std.proofs.Common.{◌≡◌, ℕ, zero, suc, ◌+◌, ◌<◌, ◌≤◌, inl, inr, pos, Bool, true, false, List, [], ◌∷◌, ◌++◌, length, map, Option, Some, None, Result, Ok, refl, sym, ap, ◌∙◌, arith, subst, rules, ne_eqb}
+use Rattle.std.proofs.Common.{◌≡◌, ℕ, zero, suc, inl, inr, pos, Bool, true, false, List, [], ◌∷◌, ◌++◌, map, Some, None, Ok, refl, sym, ap, ◌∙◌, arith, subst, rules, ne_eqb}
 use Rattle.std.specs.Prelude.{◌==◌, ◌||◌, ◌&&◌, slice_get}
 use Rattle.std.proofs.lemmas.Bool.{cases_eq}
 use Rattle.cap_words.specs.declared.Word.{Word}
@@ -20,13 +20,12 @@ use Rattle.component_check.proofs.First.{first_broken}
 use Rattle.call_sequence.specs.Sequences.{call_code, return_code, entry_code}
 use Rattle.call_sequence.specs.Standing.{sequence_difference, is_entry}
 use Rattle.flow_check.specs.Kinds.{kind_of}
-use Rattle.flow_check.specs.Places.{begins_entry, begins_site, in_entry, in_site, declared}
+use Rattle.flow_check.specs.Places.{begins_entry, begins_site, declared}
 use Rattle.flow_check.specs.Flow.{flow}
-use Rattle.flow_check.specs.Lists.{k1, k2, k3, k4, lists, entry_is_bad, of_entry, is_misplaced}
+use Rattle.flow_check.specs.Lists.{k1, k2, k3, k4, lists, entry_is_bad}
 use Rattle.flow_check.specs.declared.walking.Walk.TheVariants.{Ended as ended}
 use Rattle.flow_check.specs.Walk.{instr_at, keep, site_ready, at_row, past, at_word, next_from, Comes}
 use Rattle.component_linker.specs.Parts.{PartSeen, IsPart}
-use Rattle.component_linker.specs.Regions.{regions_of}
 use Rattle.component_linker.specs.Pairs.{NoneIsBroken, IsFirstBrokenIn, by_part}
 use Rattle.component_linker.specs.Links.{rules_l, rule_at, l1, l2, l3, l4, l5, l6, l7, l8, l9}
 use Rattle.component_linker.proofs.FirstIn.{first_broken_in}
