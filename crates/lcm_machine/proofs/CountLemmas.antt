@@ -1,5 +1,5 @@
 -- 'Covered at most once', told by a count of places.
-use Rattle.std.proofs.Common.{◌≡◌, inl, inr, ℕ, suc, ◌+◌, ◌<◌, ◌≤◌, Bool, true, false, T, cond, List, [], ◌∷◌, map, Some, None, refl, sym, ap, ◌∙◌, arith}
+use Rattle.std.proofs.Common.{◌≡◌, ◌⊎◌, inl, inr, ℕ, suc, ◌+◌, ◌<◌, ◌≤◌, Bool, true, false, T, cond, List, [], ◌∷◌, map, Some, None, refl, sym, ap, ◌∙◌, arith}
 use Rattle.std.specs.Prelude.{Option, IsTrue, ◌&&◌, ◌↔◌, is_some}
 use Rattle.std.specs.List.{Contains, count_by}
 use Rattle.std.specs.Ordering.{nat_cmp, is_lt, is_eq, eq_by_cmp}
@@ -48,13 +48,24 @@ module _ {A : Type 0} (f : A → ℕ) (P : A → Bool) where
     | inr e ↦ omega (arith, count_cons x xs false e, count_none xs (λ y m. h y (suc m.0, omega (arith, m.1), m.2)))
   ]
 
-  count_some : (xs : List A) (y : A) → Contains xs y → P y ≡ true → 1 ≤ count_by P xs
+  pub count_some : (xs : List A) (y : A) → Contains xs y → P y ≡ true → 1 ≤ count_by P xs
   count_some [] y m p = absurd (contains_none y m)
   count_some (x ∷ xs) y m p = elim (cases_Bool (P x)) as (λ _. 1 ≤ count_by P (x ∷ xs)) [
     | inl e ↦ omega (arith, count_cons x xs true e)
     | inr e ↦ elim (contains_cases x xs y m) as (λ _. 1 ≤ count_by P (x ∷ xs)) [
       | inl same ↦ (let t : P x ≡ true = ap P same ∙ p in cc)
       | inr k ↦ omega (arith, count_some xs y k p, count_cons x xs false e)
+    ]
+  ]
+
+  -- a count that isn't 0 has counted one
+  pub counted : (xs : List A) → ((y : A) × Contains xs y × (P y ≡ true)) ⊎ (count_by P xs ≡ 0)
+  counted [] = inr refl
+  counted (x ∷ xs) = elim (cases_Bool (P x)) as (λ _. ((y : A) × Contains (x ∷ xs) y × (P y ≡ true)) ⊎ (count_by P (x ∷ xs) ≡ 0)) [
+    | inl e ↦ inl (x, (0, omega arith, refl), e)
+    | inr e ↦ elim (counted xs) as (λ _. ((y : A) × Contains (x ∷ xs) y × (P y ≡ true)) ⊎ (count_by P (x ∷ xs) ≡ 0)) [
+      | inl h ↦ inl (h.0, (suc h.1.0, (let lt = h.1.1 in omega (arith, lt)), h.1.2), h.2)
+      | inr n ↦ inr (let k = count_cons x xs false e in omega (arith, k, n))
     ]
   ]
 
@@ -163,7 +174,7 @@ module _ {W : Type 0} where
           by_rank Greater d t = cc
 
   -- a place with a capability over an address is among the places of the state
-  has_place : (look : W → Word) (s : State W) (a : ℕ) (p : Place) → IsTrue (word_over look (word_at s p) a) → Contains (places s) p
+  pub has_place : (look : W → Word) (s : State W) (a : ℕ) (p : Place) → IsTrue (word_over look (word_at s p) a) → Contains (places s) p
   has_place look s a (R r) h = Contains-append_left (map R all_regs) (map Cell (keys s.cells)) (R r) (contains_map R all_regs r (has_reg r))
   has_place look s a (Cell b) h = Contains-append_right (map R all_regs) (map Cell (keys s.cells)) (Cell b) (contains_map Cell (keys s.cells) b (has_key s.cells b (over_some look (cell s.cells b) a h)))
 

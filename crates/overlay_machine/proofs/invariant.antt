@@ -22,3 +22,4 @@ pub mod StepKept
 pub mod SequencesLacking
 pub mod StepQuiet
 pub mod FramePrivate
+pub mod Covered

@@ -18,3 +18,4 @@ pub mod Invariant
 pub mod Keeping
 pub mod Privacy
 pub mod Starting
+pub mod Cover

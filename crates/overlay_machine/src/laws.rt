@@ -11,6 +11,7 @@ ghost use Rattle.overlay_machine.specs.Runs.{Reached, plain_run, RunsAgree};
 ghost use Rattle.overlay_machine.specs.Link.{Link};
 ghost use Rattle.overlay_machine.specs.Linked.{Linked};
 ghost use Rattle.overlay_machine.specs.Invariant.{Invariant, StepsKeep};
+ghost use Rattle.overlay_machine.specs.Cover.{CoverIsOnce};
 ghost use Rattle.overlay_machine.specs.Privacy.{AllFramesArePrivate};
 ghost use Rattle.overlay_machine.specs.Starting.{StartsBegin, StartThere};
 
@@ -42,6 +43,13 @@ pub fn a_call_may_come()
 /// code is among the parts. docs/OVERLAY.md tells the invariant part by part.
 pub fn steps_keep_the_invariant()
     ensures { StepsKeep }
+{}
+
+/// That no address of a linear region is held twice, as the invariant has it of the plain state, is
+/// the same as that a count over the overlay comes to at most 1: of the registers, cells and words of
+/// frames that stand for a memory capability over the address, a RetData for one over its frame.
+pub fn cover_counts_once()
+    ensures { CoverIsOnce }
 {}
 
 /// The run of an overlay and the plain run agree, where the invariant of linked parts holds of the
