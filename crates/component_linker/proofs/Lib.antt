@@ -20,3 +20,4 @@ pub mod CodeStands
 pub mod Accepted
 pub mod ExampleParts
 pub mod ExampleLink
+pub mod LaidOut

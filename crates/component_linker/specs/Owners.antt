@@ -1,6 +1,7 @@
 -- The sites of a start, and who owns which code.
-use Rattle.std.specs.Prelude.{◌≡◌, ◌↔◌, ℕ, ◌+◌, ◌<◌, true, List, map, length, slice_get, Some}
+use Rattle.std.specs.Prelude.{◌≡◌, ◌↔◌, ℕ, ◌+◌, ◌<◌, ◌≤◌, true, List, map, length, slice_get, Some}
 use Rattle.std.specs.List.{AllPairs, Contains}
+use Rattle.component_file.specs.declared.TheConstants.{LONGEST_NAME}
 use Rattle.component_file.specs.declared.component.ComponentFields.{ComponentFields}
 use Rattle.component_file.specs.declared.component.Export.{Export}
 use Rattle.component_linker.specs.declared.owners.Site.{Site}
@@ -55,3 +56,13 @@ pub record IsOwner (parts : List PartSeen) (o : Owner) : Type 0 where
 pub record AreOwners (parts : List PartSeen) (owners : List Owner) : Type 0 where
   pub ascend : AllPairs (λ o q. o.code.base < q.code.base) owners
   pub all : (o : Owner) → Contains owners o ↔ IsOwner parts o
+
+-- ---- both
+
+-- both ascend, and the names of owners and of their entries are short
+pub record AreLaid (sites : List Site) (owners : List Owner) : Type 0 where
+  pub sites_ascend : AllPairs (λ s t. s.at < t.at) sites
+  pub owners_ascend : AllPairs (λ o q. o.code.base < q.code.base) owners
+  pub names : (k : ℕ) (o : Owner) → slice_get owners k ≡ Some o → length o.name ≤ LONGEST_NAME
+  pub entries : (k n : ℕ) (o : Owner) (e : Entry) → slice_get owners k ≡ Some o
+      → slice_get o.entries n ≡ Some e → length e.name ≤ LONGEST_NAME

@@ -3,6 +3,7 @@ ghost use Rattle.std.specs.Prelude.{◌≡◌, IfOk};
 ghost use Rattle.lcm_machine.specs.Regions.{AreApart, HeldOnce};
 ghost use Rattle.component_linker.specs.Regions.{regions_of};
 ghost use Rattle.component_linker.specs.Linked.{Linked};
+ghost use Rattle.component_linker.specs.Owners.{AreLaid};
 ghost use Rattle.component_linker.specs.Started.{Starts};
 
 use crate::machine::machine;
@@ -16,6 +17,9 @@ use std::marker::Model;
 
 /// A start: a machine, the sites of its trusted parts, who owns which code, and where its stack is.
 /// A contract sees the four.
+///
+/// In every start the sites ascend by their addresses and the owners by those of their code, and the
+/// names of owners and entries have at most [`component_file::LONGEST_NAME`] bytes.
 #[derive(Drop)]
 pub struct Start {
     state: LcmState,
@@ -34,6 +38,10 @@ impl Model for Start {
     ghost coded = { Prim.hlevel (codes, machine_contracts.the_row.coded) };
 
     ghost view = { λ s. record { state = s.state; sites = s.sites; owners = s.owners; stack = s.stack } };
+
+    ghost use Rattle.component_linker.specs.Owners.{AreLaid};
+
+    ghost invariant = { λ s. AreLaid s.sites s.owners };
 }
 
 impl Start {
@@ -80,6 +88,13 @@ impl Start {
         ensures { result.now ≡ self.now.owners }
     {
         self.owners.as_slice()
+    }
+
+    /// This does nothing: its contract is what every start keeps of its sites and owners.
+    pub fn is_laid(&self)
+        ensures { AreLaid self.now.sites self.now.owners }
+    {
+        let _ = &self.sites;
     }
 
     /// The addresses of the stack.

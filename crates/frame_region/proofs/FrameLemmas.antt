@@ -3,7 +3,8 @@ use Rattle.std.proofs.Common.{◌≡◌, ◌≤◌, ◌<◌, ℕ, zero, suc, ◌
 use Rattle.std.proofs.lemmas.List.{drop-append-le, take-append-le, length-take, length-drop, take_all, reverse-append, length-append, length-reverse, get_or-reverse, get_or-take, get_or-drop}
 use Rattle.std.proofs.lemmas.Bool.{cases_lt}
 use Rattle.std.proofs.lemmas.Option.{slice_get_past, slice_get-get_or}
-use Rattle.frame_region.specs.Frames.{sizes, with_item, IsNewestFull, IsNewestOpen, HasNewestItem, item_of, head_of}
+use Rattle.frame_region.specs.Frames.{sizes, with_item, IsNewestFull, IsNewestOpen, HasNewestItem, FrameSeen, item_of, head_of, item_there, item_at}
+use Rattle.std.specs.Prelude.{slice_get}
 use Rattle.frame_region.specs.declared.Slot.{Slot}
 use Rattle.frame_region.specs.Slots.{stacked, Lie, Fill}
 
@@ -123,3 +124,24 @@ at_least {H} {T} xs ts i h = let l = length-reverse xs in let k = some (reverse 
     some : (ss : List (Slot H)) → IsSome (item_of (stacked ss ts) i) → 0 < length ss
     some [] h = let k : is_some {T = T} None ≡ true = h in cc
     some (s ∷ ss) h = omega arith
+
+-- an item of any frame
+pub frame_there : {H T : Type 0} (fs : List (FrameSeen H T)) (k i : ℕ) → IsSome (item_at fs k i) → k < length fs
+frame_there {H} {T} fs k i h = elim (cases_lt k (length fs)) [
+  | inl lt ↦ lt
+  | inr ge ↦ absurd (no_frame (slice_get fs k) (slice_get_past fs k ge) h)
+]
+  where
+    no_frame : (o : Option (FrameSeen H T)) → o ≡ None → IsSome (item_there o i) → ⊥
+    no_frame None e h = let k : is_some {T = T} None ≡ true = h in cc
+    no_frame (Some f) e h = absurd cc
+
+pub item_at-place : {H T : Type 0} (ss : List (Slot H)) (ts : List T) (k i : ℕ) (s : Slot H) → k < length ss → s ≡ get_or ss k s → IsSome (item_at (stacked ss ts) k i) → s.start + i < length ts
+item_at-place [] ts k i s lt e h = absurd (omega (arith, lt))
+item_at-place (t ∷ ss) ts zero i s lt e h = let p = item-place ss t ts i h in subst (λ r. r.start + i < length ts) (sym e) p
+item_at-place (t ∷ ss) ts (suc k) i s lt e h = item_at-place ss ts k i s (omega (arith, lt)) e h
+
+pub item_at-is : {H T : Type 0} (ss : List (Slot H)) (ts : List T) (k i : ℕ) (s : Slot H) (x : T) → k < length ss → s ≡ get_or ss k s → IsSome (item_at (stacked ss ts) k i) → x ≡ get_or ts (s.start + i) x → item_at (stacked ss ts) k i ≡ Some x
+item_at-is [] ts k i s x lt e h g = absurd (omega (arith, lt))
+item_at-is (t ∷ ss) ts zero i s x lt e h g = item-is ss t ts i x h (subst (λ r. x ≡ get_or ts (r.start + i) x) e g)
+item_at-is (t ∷ ss) ts (suc k) i s x lt e h g = item_at-is ss ts k i s x (omega (arith, lt)) e h g

@@ -79,3 +79,11 @@ item_of (f ∷ fs) i = slice_get f.items i
 -- the head of a frame, counted from the newest
 abbrev pub head_of : {H T : Type 0} → List (FrameSeen H T) → ℕ → Option H
 head_of fs i = option_map (λ f. f.head) (slice_get fs i)
+
+-- an item of a frame, the frame counted from the newest
+abbrev pub item_there : {H T : Type 0} → Option (FrameSeen H T) → ℕ → Option T
+item_there None i = None
+item_there (Some f) i = slice_get f.items i
+
+abbrev pub item_at : {H T : Type 0} → List (FrameSeen H T) → ℕ → ℕ → Option T
+item_at fs k i = item_there (slice_get fs k) i

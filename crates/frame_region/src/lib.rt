@@ -8,7 +8,7 @@
 
 ghost use Rattle.std.specs.Prelude.{◌≡◌, ◌+◌, ◌<◌, ◌≤◌, [], length, Some, IfOk, MatchOption, IsSome};
 ghost use Rattle.frame_region.specs.Frames.{sizes, with_frame, with_item, newest_of, newest_head, older};
-ghost use Rattle.frame_region.specs.Frames.{item_of, head_of};
+ghost use Rattle.frame_region.specs.Frames.{item_of, head_of, item_at};
 ghost use Rattle.frame_region.specs.Frames.{IsNewestFull, IsNewestOpen, HasNewestItem, IsNewestEmpty};
 
 use std::alloc::{AllocError, Global};
@@ -108,6 +108,15 @@ impl<H, T> Region<H, T> {
     {
         let slot = &self.slots[self.slots.len() - 1 - i as usize];
         &slot.head
+    }
+
+    /// An item of the frame that is `frame`-th from the newest, the newest being 0. It has to be there.
+    pub fn item_at(&self, frame: u32, item: u32) -> &T
+        requires { IsSome (item_at self.now.frames frame item) }
+        ensures { item_at self.now.frames frame item ≡ Some result.now }
+    {
+        let slot = &self.slots[self.slots.len() - 1 - frame as usize];
+        &self.items[slot.start + item as usize]
     }
 
     /// Begins a new newest frame, without items. Its size is at least 1, so many cells are spare, and

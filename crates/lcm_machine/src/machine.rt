@@ -1,8 +1,9 @@
 //! The plain machine: registers and memory of plain words, with a count of steps and an end.
-ghost use Rattle.std.specs.Prelude.{◌≡◌, ◌≢◌, ◌+◌, ◌<◌, ◌≤◌, ◌^◌, ℕ, IfOk, IfSome, IsSome, is_some, IsTrue, Some, None};
+ghost use Rattle.std.specs.Prelude.{◌≡◌, ◌≢◌, ◌+◌, ◌<◌, ◌≤◌, ◌^◌, ℕ, IfOk, IfSome, IsSome, is_some, IsTrue, Some, None, MatchResult};
 ghost use Rattle.lcm_machine.specs.Places.{reg};
 ghost use Rattle.lcm_machine.specs.Cells.{cell};
-ghost use Rattle.lcm_machine.specs.Row.{word_in, put, clear, HasPlace};
+ghost use Rattle.lcm_isa.specs.declared.Reg.TheVariants.{Pc};
+ghost use Rattle.lcm_machine.specs.Row.{word_in, put, clear, HasPlace, faces, cell_faces, fetch, some, none};
 ghost use Rattle.lcm_machine.specs.Touched.{KeepsUntouched, SameCells};
 ghost use Rattle.lcm_machine.specs.Regions.{StaysHeldOnce};
 ghost use Rattle.lcm_machine.specs.Ends.{end_answer};
@@ -11,9 +12,9 @@ ghost use Rattle.lcm_machine.specs.Spans.{AreSpans, in_spans, slot, zero_regs};
 
 use crate::cells::Span;
 use crate::state::State;
-use crate::{End, Place, Step};
+use crate::{End, FailCause, Place, Step};
 use cap_words::{Held, Word};
-use lcm_isa::Reg;
+use lcm_isa::{Instr, Reg};
 use std::alloc::{AllocError, Global};
 use std::marker::Model;
 
@@ -97,6 +98,16 @@ impl LcmState {
         ensures { cell self.now.maps.cells at ≡ Some result.now }
     {
         self.maps.cell(at)
+    }
+
+    /// The instruction that pc names, and pc's word with its address raised by one, or the cause for
+    /// which there is none: as [`State::fetch`] tells them.
+    pub fn fetch(&self) -> Result<(Instr, Word), FailCause>
+        ensures { MatchResult result
+            (λ p. fetch (faces (λ w. w) self.now.maps Pc) (cell_faces (λ w. w) self.now.maps) ≡ some p.0 p.1)
+            (λ f. fetch (faces (λ w. w) self.now.maps Pc) (cell_faces (λ w. w) self.now.maps) ≡ none f) }
+    {
+        self.maps.fetch()
     }
 
     /// One step: the machine fetches the instruction that pc names and carries it out.

@@ -5,3 +5,4 @@ pub mod FileCounts
 pub mod Host
 pub mod Whole
 pub mod Memory
+pub mod Writes

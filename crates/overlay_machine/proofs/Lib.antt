@@ -26,3 +26,4 @@ pub mod RunsAgree
 mod Instance
 pub mod invariant
 pub mod starts
+mod FramedLemmas

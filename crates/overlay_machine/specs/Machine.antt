@@ -65,6 +65,11 @@ abbrev pub AreWhole : Layout → List Span → List (FrameSeen Frame OWord) → 
 AreWhole l spans [] = Unit {0}
 AreWhole l spans (f ∷ fs) = IsWhole l spans f × AreWhole l spans fs
 
+-- each frame has a word for each of its addresses
+abbrev pub AreFull : List (FrameSeen Frame OWord) → Type 0
+AreFull [] = Unit {0}
+AreFull (f ∷ fs) = (f.head.base + length f.items ≡ f.head.end + 1) × AreFull fs
+
 -- an address that no frame has
 abbrev pub IsFree : List (FrameSeen Frame OWord) → ℕ → Type 0
 IsFree [] q = Unit {0}

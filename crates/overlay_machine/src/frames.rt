@@ -7,6 +7,9 @@ ghost use Rattle.frame_region.specs.Frames.{sizes, IsNewestFull, older};
 ghost use Rattle.overlay_machine.specs.Step.{first_word, rest_words};
 ghost use Rattle.overlay_machine.specs.Moves.{with_items, HasRoom, newest_items, set_items, dropped};
 ghost use Rattle.overlay_machine.specs.Moves.{IsNewest, given, left_by, opened};
+ghost use Rattle.std.specs.Option.{option_copied};
+ghost use Rattle.overlay_machine.specs.State.{framed};
+ghost use Rattle.overlay_machine.specs.Machine.{AreFull, frames_of};
 
 use crate::words::OWord;
 use cap_words::Word;
@@ -115,4 +118,18 @@ pub(crate) fn close_frame(maps: &mut State<OWord>, frames: &mut Region<Frame, OW
     let first = frames.pop();
     let _ = maps.swap(Place::R(Reg::Dat), first);
     let _ = frames.finish();
+}
+
+/// The word that a frame has at an address.
+pub(crate) fn framed(frames: &Region<Frame, OWord>, at: u32) -> Option<&OWord>
+    requires { AreFull frames.now.frames }
+    ensures { option_copied result ≡ framed (frames_of frames.now.frames) at }
+{
+    for i in 0..frames.frames() {
+        let frame = frames.head(i);
+        if frame.base <= at && at <= frame.end {
+            return Some(frames.item_at(i, at - frame.base));
+        }
+    }
+    None
 }

@@ -7,6 +7,7 @@ ghost use Rattle.cap_words.specs.Ranges.{IsRange};
 ghost use Rattle.overlay_machine.specs.Layout.{runs_in, trusted_owner, trusted_at, numbered, site_at};
 ghost use Rattle.overlay_machine.specs.Layout.{is_entry, is_code, with_code, code_in, site_code};
 
+use crate::reach::numbered;
 use cap_words::{CapFields, Face, Items, LAST_PLACE};
 use component_linker::{Entry, Owner, Site};
 use lcm_machine::Span;
@@ -37,17 +38,6 @@ fn runs_in(c: &CapFields, owner: &Owner) -> bool
         && !c.lin.is_linear()
         && c.base == owner.code.base
         && c.end == owner.code.end
-}
-
-/// A number by its place, where it has one.
-pub(crate) fn numbered(place: usize) -> Option<u32>
-    ensures { result ≡ numbered place }
-{
-    if place < 1 << 32 {
-        Some(place as u32)
-    } else {
-        None
-    }
 }
 
 fn place_at(sites: &[Site], at: u32) -> Option<usize>

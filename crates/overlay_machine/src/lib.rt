@@ -17,6 +17,7 @@ mod layout;
 mod machine;
 mod notes;
 mod overlay;
+pub mod reach;
 mod words;
 
 pub use events::{Back, Event};

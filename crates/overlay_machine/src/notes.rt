@@ -15,11 +15,12 @@ ghost use Rattle.overlay_machine.specs.Events.{jumped, event_after};
 use crate::cases::Case;
 use crate::events::{Back, Event};
 use crate::frames::Frame;
-use crate::layout::{Layout, numbered};
+use crate::layout::Layout;
 use crate::machine::Machine;
+use crate::reach::{content_base, entry_number, hop_by, owner_closed, site_sealed};
 use crate::words::OWord;
-use cap_words::{Content, Face, Opened, Word};
-use component_linker::{Entry, Owner, Site};
+use cap_words::{Opened, Word};
+use component_linker::Owner;
 use lcm_isa::{Instr, Reg};
 use lcm_machine::Place;
 use lcm_machine::state::State;
@@ -37,36 +38,6 @@ pub enum Note {
     Jumps { from: Option<u32>, seal: u32 },
 }
 
-fn entry_place(entries: &[Entry], at: u32) -> Option<usize>
-    ensures { result ≡ position (λ e. e.at == at) entries.now }
-{
-    entries.iter().position(|entry| entry.at == at)
-}
-
-// The first entry of a part, by name, at an address.
-fn entry_at(owner: &Owner, at: u32) -> Option<u32>
-    ensures { result ≡ number_of (λ e. e.at == at) owner.now.entries }
-{
-    numbered(entry_place(owner.entries.as_slice(), at)?)
-}
-
-// The first entry of a part, by name, at which pc stands.
-fn entry_number(owner: &Owner, pc: Face) -> Option<u32>
-    requires { FaceInOrder pc }
-    ensures { result ≡ entry_number owner.now pc }
-{
-    let at = pc.target()?;
-    entry_at(owner, at)
-}
-
-fn owner_closed(owners: &[Owner], seal: u32) -> Option<&Owner>
-    ensures { option_copied result ≡ find (λ o. o.trusted && (o.closure == seal)) owners.now }
-{
-    owners
-        .iter()
-        .find(|owner| owner.trusted && owner.closure == seal)
-}
-
 // The trusted part of a closure seal.
 fn closure_owner(layout: &Layout, seal: u32) -> Option<&Owner>
     ensures { option_copied result ≡ closure_owner layout.now seal }
@@ -74,40 +45,11 @@ fn closure_owner(layout: &Layout, seal: u32) -> Option<&Owner>
     owner_closed(layout.owners.as_slice(), seal)
 }
 
-fn seal_place(sites: &[Site], seal: u32) -> Option<usize>
-    ensures { result ≡ position (λ s. s.seal == seal) sites.now }
-{
-    sites.iter().position(|site| site.seal == seal)
-}
-
 // The site of a return seal.
 fn site_of_seal(layout: &Layout, seal: u32) -> Option<u32>
     ensures { result ≡ site_of_seal layout.now seal }
 {
-    numbered(seal_place(layout.sites.as_slice(), seal)?)
-}
-
-fn content_base(content: Content) -> u32
-    ensures { result ≡ content_base content }
-{
-    match content {
-        Content::Mem(c) => c.base,
-        Content::Seal(s) => s.base,
-    }
-}
-
-// The entry of a part that code leads to.
-fn hop_by(owner: &Owner, code: Content) -> Back
-    requires { ContentInOrder code }
-    ensures { result ≡ hop_by owner.now code }
-{
-    let Content::Mem(c) = code else {
-        return Back::Out;
-    };
-    match entry_number(owner, Face::Memory(c)) {
-        Some(entry) => Back::Hop(owner.part, entry),
-        None => Back::Out,
-    }
+    site_sealed(layout.sites.as_slice(), seal)
 }
 
 // Where an `xjmp` of two halves goes, by their seal.

@@ -3,7 +3,8 @@ ghost use Rattle.std.specs.Prelude.{◌≡◌, ◌<◌, ◌^◌, IfOk, IfSome, I
 ghost use Rattle.cap_words.specs.Text.{word_text_of};
 ghost use Rattle.lcm_machine.specs.Places.{reg};
 ghost use Rattle.lcm_machine.specs.Cells.{cell};
-ghost use Rattle.overlay_machine.specs.State.{newest_size, newest_word};
+ghost use Rattle.std.specs.Option.{option_copied};
+ghost use Rattle.overlay_machine.specs.State.{newest_size, newest_word, word_at};
 ghost use Rattle.overlay_machine.specs.Step.{weight_of};
 ghost use Rattle.overlay_machine.specs.Flat.{flat};
 ghost use Rattle.overlay_machine.specs.Seen.{next_overlay, answer_of, end_answer, IsOverlayOf};
@@ -14,6 +15,7 @@ use crate::cases::{next_case, weight};
 use crate::copies::{layout_of, maps_of};
 use crate::events::Event;
 use crate::laws::starts_begin;
+use crate::frames::framed;
 use crate::layout::{Layout, stack_cells};
 use crate::machine::{Machine, Outcome};
 use crate::words::OWord;
@@ -230,6 +232,17 @@ impl Overlay {
         ensures { newest_word self.now.state.frames i ≡ Some result.now }
     {
         self.machine.frames.item(i)
+    }
+
+    /// The word at an address: that of its cell, or else the one that an open call's frame has there.
+    pub fn word_at(&self, at: u32) -> Option<&OWord>
+        ensures { option_copied result ≡ word_at self.now.state at }
+    {
+        if self.machine.maps.has_cell(at) {
+            Some(self.machine.maps.cell(at))
+        } else {
+            framed(&self.machine.frames, at)
+        }
     }
 
     /// The text of the word that the plain machine has where the overlay has this one. It takes no

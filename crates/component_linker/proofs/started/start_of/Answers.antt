@@ -1,4 +1,5 @@
 use Rattle.component_linker.proofs.PartWords.{separate}
+use Rattle.component_linker.proofs.LaidOut.{are_laid}
 use Rattle.component_linker.proofs.started.start_of.Goals as goal
 
 pub sites-requires-clause-separate : goal.sites-requires-clause-separate
@@ -6,3 +7,6 @@ sites-requires-clause-separate c = separate c.args.parts.now c.args.size c.requi
 
 pub owners-requires-clause-separate : goal.owners-requires-clause-separate
 owners-requires-clause-separate c = separate c.args.parts.now c.args.size c.requires.closed c.requires.apart
+
+pub invariant_of-result : goal.invariant_of-result
+invariant_of-result c = are_laid c.args.parts.now c.requires.closed c.in_ok-owners.owners c.in_ok-owners.ensures c.in_ok-sites.ensures

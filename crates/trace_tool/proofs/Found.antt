@@ -1,0 +1,169 @@
+-- What halving finds among sites, and among parts by the base of their code.
+use Rattle.std.proofs.Common.{◌≡◌, ℕ, suc, ◌<◌, ◌≤◌, ◌⊎◌, inl, inr, Bool, true, false, List, [], ◌∷◌, length, get_or, Option, Some, None, refl, sym, ap, ◌∙◌, arith, subst, eq-eqb}
+use Rattle.std.specs.Prelude.{◌==◌, nat_lt, position, if◌then◌else◌}
+use Rattle.std.specs.List.{AllPairs, HoldsAt, position_or_len}
+use Rattle.std.specs.Ordering.{nat_cmp, ordering_index, MatchOrdering}
+use Rattle.std.specs.declared.cmp.Ordering.{Ordering}
+use Rattle.std.specs.declared.cmp.Ordering.TheVariants.{Less, Equal, Greater}
+use Rattle.std.specs.List.Sorted.{IsNonDecreasingBy, IsPartitionPoint}
+use Rattle.std.proofs.lemmas.Cmp.{ranked}
+use Rattle.std.proofs.lemmas.Bool.{cases_eq, eqb-true, ltb-true, lt-ltb}
+use Rattle.std.proofs.lemmas.List.Sums.{position_or_len_is}
+use Rattle.std.specs.Prelude.{find, ◌&&◌, IsTrue}
+use Rattle.std.specs.Ordering.{is_eq, is_lt}
+use Rattle.std.proofs.lemmas.Cmp.{nat_cmp_total}
+use Rattle.cap_words.specs.declared.CapFields.{CapFields}
+use Rattle.component_linker.specs.declared.owners.Site.{Site}
+use Rattle.component_linker.specs.declared.owners.Owner.{Owner}
+use Rattle.component_linker.proofs.Halved as halved
+use Rattle.overlay_machine.specs.Layout.{runs_in}
+
+neq_eqb : (a b : ℕ) → (a ≡ b → ⊥) → (a == b) ≡ false
+neq_eqb a b ne = by_test (a == b) refl
+  where
+    by_test : (t : Bool) → (a == b) ≡ t → t ≡ false
+    by_test true e = absurd (ne (eqb-true a b e))
+    by_test false e = refl
+
+not_below : (n : ℕ) → nat_lt n n ≡ false
+not_below n = by_test (nat_lt n n) refl
+  where
+    by_test : (t : Bool) → nat_lt n n ≡ t → t ≡ false
+    by_test true e = absurd (let l : n < n = ltb-true n n e in omega arith)
+    by_test false e = refl
+
+abbrev Ascend : List Site → Type 0
+Ascend rows = AllPairs (λ (s t : Site). s.at < t.at) rows
+
+abbrev Finds : ℕ → List Site → Option ℕ → Type 0
+Finds o rows r = position (λ (x : Site). x.at == o) rows ≡ r
+
+find_at : (rows : List Site) (i o : ℕ) (d : Site) → Ascend rows → i < length rows → (get_or rows i d).at ≡ o → Finds o rows (Some i)
+find_at rows i o d h lt e =
+    let first : position_or_len (λ (x : Site). x.at == o) rows ≡ i =
+    position_or_len_is _ rows i d (omega arith)
+    (λ k below. neq_eqb (get_or rows k d).at o (λ same. let up : (get_or rows k d).at < (get_or rows i d).at = h k i d below lt in omega arith))
+    (λ _. eq-eqb (get_or rows i d).at o e) in
+    rw (first, lt-ltb i (length rows) lt) refl
+
+find_none : (rows : List Site) (o : ℕ) (d : Site) → ((i : ℕ) → i < length rows → (get_or rows i d).at ≡ o → ⊥) → Finds o rows None
+find_none rows o d h =
+    let first : position_or_len (λ (x : Site). x.at == o) rows ≡ length rows =
+    position_or_len_is _ rows (length rows) d (omega arith)
+    (λ k below. neq_eqb (get_or rows k d).at o (λ same. h k below same))
+    (λ lt. absurd (omega arith)) in
+    rw (first, not_below (length rows)) refl
+
+equal_is : (a b : ℕ) → nat_cmp a b ≡ Equal → a ≡ b
+equal_is a b e = subst (λ r. MatchOrdering r (a < b) (a ≡ b) (b < a)) e (ranked a b (nat_cmp a b) refl)
+
+less_is : (a b : ℕ) → nat_cmp a b ≡ Less → a < b
+less_is a b e = subst (λ r. MatchOrdering r (a < b) (a ≡ b) (b < a)) e (ranked a b (nat_cmp a b) refl)
+
+greater_is : (a b : ℕ) → nat_cmp a b ≡ Greater → b < a
+greater_is a b e = subst (λ r. MatchOrdering r (a < b) (a ≡ b) (b < a)) e (ranked a b (nat_cmp a b) refl)
+
+index_up : (a b o : ℕ) (r s : Ordering) → MatchOrdering r (a < o) (a ≡ o) (o < a) → MatchOrdering s (b < o) (b ≡ o) (o < b) → a ≤ b → ordering_index r ≤ ordering_index s
+index_up a b o Less s h k le = omega arith
+index_up a b o Equal Less h k le = absurd (let l : b < o = k in let m : a ≡ o = h in omega arith)
+index_up a b o Equal Equal h k le = omega arith
+index_up a b o Equal Greater h k le = omega arith
+index_up a b o Greater Less h k le = absurd (let l : b < o = k in let m : o < a = h in omega arith)
+index_up a b o Greater Equal h k le = absurd (let l : b ≡ o = k in let m : o < a = h in omega arith)
+index_up a b o Greater Greater h k le = omega arith
+
+searchable : (rows : List Site) (o : ℕ) → Ascend rows → IsNonDecreasingBy (λ (y : Site). ordering_index (nat_cmp y.at o)) rows
+searchable rows o h i j d le lt =
+    index_up (get_or rows i d).at (get_or rows j d).at o _ _ (ranked (get_or rows i d).at o (nat_cmp (get_or rows i d).at o) refl) (ranked (get_or rows j d).at o (nat_cmp (get_or rows j d).at o) refl)
+    (elim (cases_eq i j) as (λ _. (get_or rows i d).at ≤ (get_or rows j d).at) [
+      | inl e ↦ rw e (omega arith)
+      | inr ne ↦ (let up : (get_or rows i d).at < (get_or rows j d).at = h i j d (omega arith) lt in omega arith)
+    ])
+
+pub found : (rows : List Site) (o i : ℕ) (d : Site) → Ascend rows → i < length rows → HoldsAt (λ (y : Site). nat_cmp y.at o ≡ Equal) rows i → Finds o rows (Some i)
+found rows o i d h lt e = find_at rows i o d h lt (equal_is (get_or rows i d).at o (e d))
+
+pub missing : (rows : List Site) (o i : ℕ) (d : Site) → Ascend rows → (IsNonDecreasingBy (λ (y : Site). ordering_index (nat_cmp y.at o)) rows → IsPartitionPoint (λ (y : Site). nat_cmp y.at o ≡ Less) (λ (y : Site). nat_cmp y.at o ≡ Greater) rows i) → Finds o rows None
+missing rows o i d h split = find_none rows o d (λ j lt e. elim (side j) as (λ _. ⊥) [
+  | inl low ↦ (let k : (get_or rows j d).at < o = less_is _ o ((split (searchable rows o h)).0 j d (omega arith) low) in omega arith)
+  | inr high ↦ (let k : o < (get_or rows j d).at = greater_is _ o ((split (searchable rows o h)).1 j d high lt) in omega arith)
+])
+  where
+    side : (j : ℕ) → (j < i) ⊎ (i ≤ j)
+    side j = grind arith
+
+-- ---- the part whose code a capability runs
+
+abbrev Rise : List Owner → Type 0
+Rise os = AllPairs (λ (o q : Owner). o.code.base < q.code.base) os
+
+same_base : CapFields → Owner → Bool
+same_base c o = is_eq (nat_cmp o.code.base c.base)
+
+abbrev if_runs : CapFields → Option Owner → Option Owner
+if_runs c None = None
+if_runs c (Some o) = if runs_in c o then Some o else None
+
+four : (a b d e : Bool) → (a && b && d && false && e) ≡ false
+four true true true e = refl
+four true true false e = refl
+four true false d e = refl
+four false b d e = refl
+
+other_base : (c : CapFields) (o : Owner) → (c.base ≡ o.code.base → ⊥) → runs_in c o ≡ false
+other_base c o ne = rw (neq_eqb c.base o.code.base ne) (four o.trusted _ _ _)
+
+none_runs : (c : CapFields) (os : List Owner) → ((i : ℕ) (d : Owner) → i < length os → c.base ≡ (get_or os i d).code.base → ⊥) → find (runs_in c) os ≡ None
+none_runs c [] h = refl
+none_runs c (x ∷ xs) h = rw (other_base c x (h 0 x (omega arith))) (none_runs c xs (λ i d lt e. h (suc i) d (omega (arith, lt)) e))
+
+eq_base : (c : CapFields) (o : Owner) → nat_cmp o.code.base c.base ≡ Equal → c.base ≡ o.code.base
+eq_base c o e = sym (equal_is o.code.base c.base e)
+
+tail_rises : (x : Owner) (xs : List Owner) → Rise (x ∷ xs) → Rise xs
+tail_rises x xs h = λ i j d lt le. h (suc i) (suc j) d (omega (arith, lt)) (omega (arith, le))
+
+-- of parts whose codes ascend, the one with this base is the only one that can be meant
+pub runs_by_base : (c : CapFields) (os : List Owner) → Rise os → find (runs_in c) os ≡ if_runs c (find (λ o. is_eq (nat_cmp o.code.base c.base)) os)
+runs_by_base c [] h = refl
+runs_by_base c (x ∷ xs) h = by_cmp (nat_cmp x.code.base c.base) refl (runs_by_base c xs (tail_rises x xs h))
+  where
+    others : c.base ≡ x.code.base → find (runs_in c) xs ≡ None
+    others e = none_runs c xs (λ i d lt f. let up : x.code.base < (get_or xs i d).code.base = h 0 (suc i) d (omega arith) (omega (arith, lt)) in omega (arith, e, f, up))
+
+    by_runs : (b : Bool) → c.base ≡ x.code.base → (if b then Some x else find (runs_in c) xs) ≡ (if b then Some x else None)
+    by_runs true e = refl
+    by_runs false e = others e
+
+    by_cmp : (r : Ordering) → nat_cmp x.code.base c.base ≡ r → find (runs_in c) xs ≡ if_runs c (find (λ o. is_eq (nat_cmp o.code.base c.base)) xs)
+        → (if runs_in c x then Some x else find (runs_in c) xs) ≡ if_runs c (if is_eq (nat_cmp x.code.base c.base) then Some x else find (λ o. is_eq (nat_cmp o.code.base c.base)) xs)
+    by_cmp Equal e rest = rw e (by_runs (runs_in c x) (eq_base c x e))
+    by_cmp Less e rest = rw (e, other_base c x (λ f. let l : x.code.base < c.base = less_is x.code.base c.base e in omega (arith, f, l))) rest
+    by_cmp Greater e rest = rw (e, other_base c x (λ f. let l : c.base < x.code.base = greater_is x.code.base c.base e in omega (arith, f, l))) rest
+
+less_cmp : (a b : ℕ) → a < b → nat_cmp a b ≡ Less
+less_cmp a b lt = by_cmp (nat_cmp a b) refl
+  where
+    by_cmp : (r : Ordering) → nat_cmp a b ≡ r → r ≡ Less
+    by_cmp Less e = refl
+    by_cmp Equal e = absurd (let q : a ≡ b = equal_is a b e in omega (arith, lt, q))
+    by_cmp Greater e = absurd (let l : b < a = greater_is a b e in omega (arith, lt, l))
+
+rise_cmp : (os : List Owner) → Rise os → AllPairs (λ (o q : Owner). IsTrue (is_lt (nat_cmp o.code.base q.code.base))) os
+rise_cmp os h = λ i j d lt le. rw (less_cmp _ _ (h i j d lt le)) refl
+
+owner_found : (c : CapFields) (os : List Owner) (i : ℕ) (d : Owner) → Rise os → i < length os → HoldsAt (λ (o : Owner). nat_cmp o.code.base c.base ≡ Equal) os i → find (runs_in c) os ≡ (if runs_in c (get_or os i d) then Some (get_or os i d) else None)
+owner_found c os i d h lt at =
+    runs_by_base c os h ∙ ap (if_runs c) (halved.found (λ (o : Owner). o.code.base) nat_cmp nat_cmp_total c.base os i d (rise_cmp os h) lt at)
+
+pub owner_runs : (c : CapFields) (os : List Owner) (i : ℕ) (x : Owner) → Rise os → i < length os → HoldsAt (λ (o : Owner). nat_cmp o.code.base c.base ≡ Equal) os i → x ≡ get_or os i x → runs_in c x ≡ true → find (runs_in c) os ≡ Some x
+owner_runs c os i x h lt at e r =
+    owner_found c os i x h lt at ∙ ap (λ y. if runs_in c y then Some y else None) (sym e) ∙ ap (λ b. if b then Some x else None) r
+
+pub owner_elsewhere : (c : CapFields) (os : List Owner) (i : ℕ) (x : Owner) → Rise os → i < length os → HoldsAt (λ (o : Owner). nat_cmp o.code.base c.base ≡ Equal) os i → x ≡ get_or os i x → runs_in c x ≡ false → find (runs_in c) os ≡ None
+owner_elsewhere c os i x h lt at e r =
+    owner_found c os i x h lt at ∙ ap (λ y. if runs_in c y then Some y else None) (sym e) ∙ ap (λ b. if b then Some x else None) r
+
+pub owner_missing : (c : CapFields) (os : List Owner) (i : ℕ) → Rise os → (IsNonDecreasingBy (λ (o : Owner). ordering_index (nat_cmp o.code.base c.base)) os → IsPartitionPoint (λ (o : Owner). nat_cmp o.code.base c.base ≡ Less) (λ (o : Owner). nat_cmp o.code.base c.base ≡ Greater) os i) → find (runs_in c) os ≡ None
+owner_missing c os i h split =
+    runs_by_base c os h ∙ ap (if_runs c) (halved.missing (λ (o : Owner). o.code.base) nat_cmp nat_cmp_total c.base os i (rise_cmp os h) split)

@@ -1,0 +1,236 @@
+-- An overlay's run of some steps, with the lines that it wrote so far.
+use Rattle.std.proofs.Common.{◌≡◌, inl, inr, ℕ, zero, suc, ◌+◌, ◌<◌, ◌≤◌, Bool, true, false, List, [], ◌++◌, Option, Some, None, refl, sym, ap, ◌∙◌, arith, subst, lt-ltb, ltb-true}
+use Rattle.std.specs.Prelude.{nat_lt, if◌then◌else◌}
+use Rattle.std.proofs.lemmas.List.{append_assoc}
+use Rattle.outside_io.specs.SinkSeen.{SinkSeen, Adds, FailsToWrite}
+use Rattle.outside_io.proofs.Writing.{adds_none, adds_then, adds_fails, fails_more}
+use Rattle.component_linker.specs.Started.{StartSeen}
+use Rattle.overlay_machine.specs.declared.layout.Layout.{Layout}
+use Rattle.overlay_machine.specs.declared.cases.Case.{Case}
+use Rattle.overlay_machine.specs.declared.cases.Case.TheVariants.{Call, Entry, Back, Other}
+use Rattle.overlay_machine.specs.declared.events.Event.{Event}
+use Rattle.overlay_machine.specs.declared.overlay.OEnd.{OEnd}
+use Rattle.overlay_machine.specs.declared.overlay.OStep.TheVariants.{Went, Halted, Failed}
+use Rattle.lcm_machine.specs.Maps.{State}
+use Rattle.overlay_machine.specs.declared.words.OWord.{OWord}
+use Rattle.overlay_machine.specs.Words.{is_ret_code}
+use Rattle.overlay_machine.specs.State.{OState}
+use Rattle.overlay_machine.specs.Step.{Ending, goes, halts, fails, overlay_step, case_of, weight_by, weight_of}
+use Rattle.overlay_machine.specs.Seen.{OverlaySeen, moved, next_by, next_overlay, ending_answer, end_answer, answer_by, answer_of, IsOverlayOf}
+use Rattle.trace_tool.specs.declared.run.RunEnd.{RunEnd}
+use Rattle.trace_tool.specs.declared.run.RunEnd.TheVariants.{Halted as RunHalted, Failed as RunFailed, Running}
+use Rattle.trace_tool.specs.Layout.{layout}
+use Rattle.trace_tool.specs.Views.{overlay_view}
+use Rattle.trace_tool.specs.Lines.{Line}
+use Rattle.trace_tool.specs.Texts.{lines_text}
+use Rattle.trace_tool.specs.EndLines.{halted_text, failed_text, running_text}
+use Rattle.trace_tool.specs.Runs.{EndsBy}
+use Rattle.trace_tool.specs.Traces.{weight_with, lines_after, Traced, ended, behind, stopped, traced_by, traced, trace_of, text_of, trace_text, steps_on, TracesTo, TraceFaults, Traces}
+use Rattle.trace_tool.proofs.Going.{lines_text-append}
+
+-- ---- a step
+
+weight_some_by : (s : State OWord) (c : Case) → 1 ≤ weight_by s c
+weight_some_by s (Call i) = by (is_ret_code s.regs.c1)
+  where
+    by : (b : Bool) → 1 ≤ (if b then 17 else 16)
+    by true = omega arith
+    by false = omega arith
+weight_some_by s (Entry a) = omega arith
+weight_some_by s (Back r1 r2) = by (is_ret_code (Rattle.lcm_machine.specs.Places.reg s.regs r1))
+  where
+    by : (b : Bool) → 1 ≤ (if b then 11 else 1)
+    by true = omega arith
+    by false = omega arith
+weight_some_by s Other = omega arith
+
+-- each step has some weight
+pub weight_some : (l : Layout) (o : OState) → 1 ≤ weight_of l o
+unfolding weight_of
+weight_some l o = weight_some_by o.maps (case_of l o.maps)
+
+-- a step that went adds its weight, and the layout stays
+weight_by_ending : (o : OverlaySeen) (e : Ending) (event : Option Event) → ending_answer o e ≡ Went event → (moved e o).weight ≡ weight_with o
+weight_by_ending o (goes q) event a = refl
+weight_by_ending o halts event a = absurd cc
+weight_by_ending o fails event a = absurd cc
+
+end_no_event : (e : OEnd) (event : Option Event) → end_answer e ≡ Went event → ⊥
+end_no_event Rattle.overlay_machine.specs.declared.overlay.OEnd.TheVariants.Halted event a = cc
+end_no_event Rattle.overlay_machine.specs.declared.overlay.OEnd.TheVariants.Failed event a = cc
+
+weight_by_end : (o : OverlaySeen) (e : Option OEnd) (event : Option Event) → answer_by e o ≡ Went event → (next_by e o).weight ≡ weight_with o
+weight_by_end o None event a = weight_by_ending o (overlay_step o.layout o.state) event a
+weight_by_end o (Some e) event a = absurd (end_no_event e event a)
+
+pub went_weight : (o : OverlaySeen) (event : Option Event) → answer_of o ≡ Went event → (next_overlay o).weight ≡ weight_with o
+unfolding next_overlay answer_of
+went_weight o event a = weight_by_end o o.end event a
+
+layout_by_ending : (o : OverlaySeen) (e : Ending) → (moved e o).layout ≡ o.layout
+layout_by_ending o (goes q) = refl
+layout_by_ending o halts = refl
+layout_by_ending o fails = refl
+
+layout_by_end : (o : OverlaySeen) (e : Option OEnd) → (next_by e o).layout ≡ o.layout
+layout_by_end o None = layout_by_ending o (overlay_step o.layout o.state)
+layout_by_end o (Some e) = refl
+
+pub layout_stays : (o : OverlaySeen) → (next_overlay o).layout ≡ o.layout
+unfolding next_overlay
+layout_stays o = layout_by_end o o.end
+
+-- an overlay of a start has the start's layout
+pub layout_of_start : (s : StartSeen) (o : OverlaySeen) → IsOverlayOf s o → layout s ≡ o.layout
+layout_of_start s o is =
+    ap (λ x. let l : Layout = record { sites = x; owners = s.owners; stack = s.stack } in l) (sym is.sites)
+    ∙ ap (λ x. let l : Layout = record { sites = o.layout.sites; owners = x; stack = s.stack } in l) (sym is.owners)
+    ∙ ap (λ x. let l : Layout = record { sites = o.layout.sites; owners = o.layout.owners; stack = x } in l) (sym is.stack)
+
+-- ---- a run
+
+not_over : (a b : ℕ) → b ≤ a → nat_lt a b ≡ false
+not_over a b le = by_test (nat_lt a b) refl
+  where
+    by_test : (t : Bool) → nat_lt a b ≡ t → t ≡ false
+    by_test true e = absurd (let l : a < b = ltb-true a b e in omega (arith, le))
+    by_test false e = refl
+
+stops_at : (limit left : ℕ) (o : OverlaySeen) → limit < weight_with o → traced limit left o ≡ stopped o
+stops_at limit zero o over = refl
+stops_at limit (suc n) o over = rw (lt-ltb limit (weight_with o) over) refl
+
+goes_on : (limit n : ℕ) (o : OverlaySeen) → weight_with o ≤ limit → traced limit (suc n) o ≡ traced_by (answer_of o) o (traced limit n)
+goes_on limit n o fits = rw (not_over limit (weight_with o) fits) refl
+
+text_behind : (lines : List Line) (t : Traced) → text_of (behind lines t) ≡ lines_text lines ++ text_of t
+text_behind lines t = ap (λ x. x ++ t.last) (lines_text-append lines t.lines) ∙ append_assoc (lines_text lines) (lines_text t.lines) t.last
+
+module _ (limit : ℕ) (o : OverlaySeen) (sink : SinkSeen) where
+  -- some steps went, and what they wrote stands in front of what is still to be written
+  pub record Going (now : OverlaySeen) (seen : SinkSeen) : Type 0 where
+    pub steps : ℕ
+    pub left : ℕ
+    pub same : now ≡ steps_on steps o
+    pub layout : now.layout ≡ o.layout
+    pub few : steps ≤ now.weight
+    pub within : now.weight ≤ limit
+    pub enough : limit < left + now.weight
+    pub told : List ℕ
+    pub text : trace_text limit o ≡ told ++ text_of (traced limit left now)
+    pub end : (trace_of limit o).end ≡ (traced limit left now).end
+    pub overlay : (trace_of limit o).overlay ≡ (traced limit left now).overlay
+    pub written : Adds sink told seen
+
+  pub going_none : o.weight ≡ 0 → Going o sink
+  going_none fresh = record {
+    steps = 0;
+    left = limit + 1;
+    same = refl;
+    layout = refl;
+    few = omega arith;
+    within = omega (arith, fresh);
+    enough = omega (arith, fresh);
+    told = [];
+    text = refl;
+    end = refl;
+    overlay = refl;
+    written = adds_none sink;
+  }
+
+  -- the names that lines have are those of the start
+  pub start_layout : (s : StartSeen) (now : OverlaySeen) (seen : SinkSeen) (next : OverlaySeen) → IsOverlayOf s o → Going now seen → next ≡ next_overlay now → Rattle.trace_tool.specs.Layout.layout s ≡ next.layout
+  start_layout s now seen next is g e =
+      layout_of_start s o is ∙ sym g.layout ∙ sym (layout_stays now) ∙ sym (ap (λ (x : OverlaySeen). x.layout) e)
+
+  -- what a run comes to from a step on that is within the limit
+  on_step : (now : OverlaySeen) (left : ℕ) → limit < left + now.weight → weight_with now ≤ limit → (n : ℕ) × (left ≡ suc n) × (traced limit left now ≡ traced_by (answer_of now) now (traced limit n))
+  on_step now zero enough fits = absurd (omega (arith, enough, fits))
+  on_step now (suc n) enough fits = (n, refl, goes_on limit n now fits)
+
+  pub going_more : (now : OverlaySeen) (seen : SinkSeen) (event : Option Event) (next : OverlaySeen) (seen2 : SinkSeen) → Going now seen → weight_with now ≤ limit → answer_of now ≡ Went event
+      → next ≡ next_overlay now → Adds seen (lines_text (lines_after next event)) seen2 → Going next seen2
+  going_more now seen event next seen2 g fits a e w =
+      let s = on_step now g.left g.enough fits in
+      let weight : next.weight ≡ weight_with now = ap (λ (x : OverlaySeen). x.weight) e ∙ went_weight now event a in
+      let some = weight_some now.layout now.state in
+      let is : traced limit g.left now ≡ behind (lines_after next event) (traced limit s.0 next) =
+      s.2 ∙ ap (λ x. traced_by x now (traced limit s.0)) a ∙ ap (λ x. behind (lines_after x event) (traced limit s.0 x)) (sym e) in
+      record {
+        steps = suc g.steps;
+        left = s.0;
+        same = e ∙ ap next_overlay g.same;
+        layout = ap (λ (x : OverlaySeen). x.layout) e ∙ layout_stays now ∙ g.layout;
+        few = (let f = g.few in omega (arith, f, weight, some));
+        within = omega (arith, weight, fits);
+        enough = (let f = g.enough in let l = s.1 in omega (arith, f, l, weight, some));
+        told = g.told ++ lines_text (lines_after next event);
+        text = g.text ∙ ap (λ (t : Traced). g.told ++ text_of t) is ∙ ap (λ x. g.told ++ x) (text_behind (lines_after next event) (traced limit s.0 next)) ∙ sym (append_assoc g.told (lines_text (lines_after next event)) (text_of (traced limit s.0 next)));
+        end = g.end ∙ ap (λ (t : Traced). t.end) is;
+        overlay = g.overlay ∙ ap (λ (t : Traced). t.overlay) is;
+        written = adds_then sink seen seen2 _ _ g.written w;
+      }
+
+  -- the lines of a step that went failed to be written
+  pub going_fails : (now : OverlaySeen) (seen : SinkSeen) (event : Option Event) (next : OverlaySeen) (seen2 : SinkSeen) → Going now seen → weight_with now ≤ limit → answer_of now ≡ Went event
+      → next ≡ next_overlay now → FailsToWrite seen (lines_text (lines_after next event)) seen2 → TraceFaults limit o sink next seen2
+  going_fails now seen event next seen2 g fits a e f =
+      let s = on_step now g.left g.enough fits in
+      let some = weight_some now.layout now.state in
+      let is : traced limit g.left now ≡ behind (lines_after next event) (traced limit s.0 next) =
+      s.2 ∙ ap (λ x. traced_by x now (traced limit s.0)) a ∙ ap (λ x. behind (lines_after x event) (traced limit s.0 x)) (sym e) in
+      let text : trace_text limit o ≡ g.told ++ (lines_text (lines_after next event) ++ text_of (traced limit s.0 next)) =
+      g.text ∙ ap (λ (t : Traced). g.told ++ text_of t) is ∙ ap (λ x. g.told ++ x) (text_behind (lines_after next event) (traced limit s.0 next)) in
+      record {
+        made = (suc g.steps, (let w = g.few in omega (arith, w, some, fits)), e ∙ ap next_overlay g.same);
+        text = subst (λ x. FailsToWrite sink x seen2) (sym text) (adds_fails sink seen seen2 _ _ g.written (fails_more seen seen2 _ (text_of (traced limit s.0 next)) f));
+      }
+
+  -- a last line was written behind the others, or not
+  ends : (now : OverlaySeen) (seen : SinkSeen) (new : OverlaySeen) (seen2 : SinkSeen) (line : List ℕ) (end result : RunEnd) → (g : Going now seen)
+      → (TracesTo limit o sink new seen2 end → Traces limit o sink new seen2 end) → ((n : ℕ) × (n ≤ limit) × (new ≡ steps_on n o)) → traced limit g.left now ≡ ended end new line
+      → EndsBy seen line end seen2 result → Traces limit o sink new seen2 result
+  ends now seen new seen2 line end result g lift made is w = elim w as (λ _. Traces limit o sink new seen2 result) [
+    | inl h ↦ subst (λ r. Traces limit o sink new seen2 r) (sym h.0) (lift (whole h.1))
+    | inr h ↦ subst (λ r. Traces limit o sink new seen2 r) (sym h.0) (faults h.1)
+  ]
+    where
+      text : trace_text limit o ≡ g.told ++ line
+      text = g.text ∙ ap (λ (t : Traced). g.told ++ text_of t) is
+
+      whole : Adds seen line seen2 → TracesTo limit o sink new seen2 end
+      whole a = record {
+        is = sym (g.end ∙ ap (λ (t : Traced). t.end) is);
+        overlay = sym (g.overlay ∙ ap (λ (t : Traced). t.overlay) is);
+        text = subst (λ x. Adds sink x seen2) (sym text) (adds_then sink seen seen2 _ _ g.written a);
+      }
+
+      faults : FailsToWrite seen line seen2 → TraceFaults limit o sink new seen2
+      faults f = record { made = made; text = subst (λ x. FailsToWrite sink x seen2) (sym text) (adds_fails sink seen seen2 _ _ g.written f) }
+
+  pub ends_running : (now : OverlaySeen) (seen seen2 : SinkSeen) (line : List ℕ) (result : RunEnd) → Going now seen → limit < weight_with now
+      → line ≡ running_text (overlay_view now) now.weight → EndsBy seen line Running seen2 result → Traces limit o sink now seen2 result
+  ends_running now seen seen2 line result g over e w =
+      ends now seen now seen2 line Running result g (λ t. t)
+      (g.steps, (let f = g.few in let l = g.within in omega (arith, f, l)), g.same)
+      (stops_at limit g.left now over ∙ ap (ended Running now) (sym e)) w
+
+  -- the end of the machine
+  at_end : (now : OverlaySeen) (seen : SinkSeen) (new : OverlaySeen) (g : Going now seen) → weight_with now ≤ limit → new ≡ next_overlay now → (n : ℕ) × (n ≤ limit) × (new ≡ steps_on n o)
+  at_end now seen new g fits e =
+      let some = weight_some now.layout now.state in
+      (suc g.steps, (let f = g.few in omega (arith, f, some, fits)), e ∙ ap next_overlay g.same)
+
+  pub ends_halted : (now : OverlaySeen) (seen : SinkSeen) (new : OverlaySeen) (seen2 : SinkSeen) (line : List ℕ) (result : RunEnd) → Going now seen → weight_with now ≤ limit → answer_of now ≡ Halted
+      → new ≡ next_overlay now → line ≡ halted_text (overlay_view new) (weight_with now) → EndsBy seen line RunHalted seen2 result → Traces limit o sink new seen2 result
+  ends_halted now seen new seen2 line result g fits a e k w =
+      let s = on_step now g.left g.enough fits in
+      ends now seen new seen2 line RunHalted result g (λ t. t) (at_end now seen new g fits e)
+      (s.2 ∙ ap (λ x. traced_by x now (traced limit s.0)) a ∙ ap (λ x. ended RunHalted x (halted_text (overlay_view x) (weight_with now))) (sym e) ∙ ap (ended RunHalted new) (sym k)) w
+
+  pub ends_failed : (now : OverlaySeen) (seen : SinkSeen) (new : OverlaySeen) (seen2 : SinkSeen) (line : List ℕ) (result : RunEnd) → Going now seen → weight_with now ≤ limit → answer_of now ≡ Failed
+      → new ≡ next_overlay now → line ≡ failed_text (overlay_view new) now.weight → EndsBy seen line RunFailed seen2 result → Traces limit o sink new seen2 result
+  ends_failed now seen new seen2 line result g fits a e k w =
+      let s = on_step now g.left g.enough fits in
+      ends now seen new seen2 line RunFailed result g (λ t. t) (at_end now seen new g fits e)
+      (s.2 ∙ ap (λ x. traced_by x now (traced limit s.0)) a ∙ ap (λ x. ended RunFailed x (failed_text (overlay_view x) now.weight)) (sym e) ∙ ap (ended RunFailed new) (sym k)) w

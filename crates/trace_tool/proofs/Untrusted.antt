@@ -1,0 +1,74 @@
+-- Where no part is trusted, no instruction has an event.
+use Rattle.std.proofs.Common.{◌≡◌, ℕ, zero, suc, Bool, true, false, List, [], ◌∷◌, ◌++◌, Option, Some, None, refl, ap, ◌∙◌}
+use Rattle.std.specs.Prelude.{find, option_and_then, is_some}
+use Rattle.std.specs.List.{list_any}
+use Rattle.cap_words.specs.declared.Face.{Face}
+use Rattle.cap_words.specs.declared.Face.TheVariants.{Number, Memory, Seals, Sealed}
+use Rattle.cap_words.specs.declared.Word.{Word}
+use Rattle.lcm_isa.specs.declared.Reg.{Reg}
+use Rattle.lcm_machine.specs.declared.Step.{Step}
+use Rattle.lcm_machine.specs.declared.Step.TheVariants.{Went, Halted, Failed}
+use Rattle.lcm_machine.specs.Maps.{State}
+use Rattle.lcm_machine.specs.Run.{next_state, answer}
+use Rattle.component_linker.specs.declared.owners.Owner.{Owner}
+use Rattle.overlay_machine.specs.declared.layout.Layout.{Layout}
+use Rattle.overlay_machine.specs.declared.events.Event.{Event}
+use Rattle.overlay_machine.specs.Layout.{runs_in, trusted_owner}
+use Rattle.overlay_machine.specs.Events.{closure_owner}
+use Rattle.trace_tool.specs.Layout.{site_word}
+use Rattle.trace_tool.specs.Views.{View, view_of}
+use Rattle.trace_tool.specs.Events.{jump_at, noted_by, noted, entered, event_after}
+use Rattle.trace_tool.specs.Lines.{lines_for}
+use Rattle.trace_tool.specs.Runs.{Watched, if_went, watched, line_next, lines_of}
+
+-- no owner is trusted
+abbrev pub NoneTrusted : Layout → Type 0
+NoneTrusted l = list_any (λ o. o.trusted) l.owners ≡ false
+
+neither : (a b : Bool) → Rattle.std.specs.Prelude.◌||◌ a b ≡ false → (a ≡ false) × (b ≡ false)
+neither true b e = absurd cc
+neither false b e = (refl, e)
+
+none_found : (p : Owner → Bool) (os : List Owner) → ((o : Owner) → o.trusted ≡ false → p o ≡ false) → list_any (λ o. o.trusted) os ≡ false → find p os ≡ None
+none_found p [] h e = refl
+none_found p (x ∷ xs) h e = let k = neither x.trusted (list_any (λ o. o.trusted) xs) e in rw (h x k.0) (none_found p xs h k.1)
+
+module _ (l : Layout) (none : NoneTrusted l) where
+  no_owner : (pc : Face) → trusted_owner l pc ≡ None
+  no_owner (Memory c) = none_found (runs_in c) l.owners (λ o e. rw e refl) none
+  no_owner (Number z) = refl
+  no_owner (Seals s) = refl
+  no_owner (Sealed s) = refl
+
+  no_site : (off : ℕ) (pc : Face) → site_word l off pc ≡ None
+  unfolding site_word
+  no_site off pc = rw (no_owner pc) refl
+
+  no_closure : (seal : Option ℕ) → option_and_then (closure_owner l) seal ≡ None
+  no_closure None = refl
+  no_closure (Some s) = none_found _ l.owners (λ o e. rw e refl) none
+
+  no_event_by : (s : State Word) (o : Option Reg) (inward : Bool) (v : View) → event_after l (noted_by l s o) inward v ≡ None
+  unfolding event_after
+  no_event_by s None inward v = rw (no_site _ _) refl
+  no_event_by s (Some r1) inward v = rw (no_owner _) (ap (option_and_then (entered l v)) (no_closure _))
+
+  no_event : (s : State Word) (inward : Bool) (v : View) → event_after l (noted l s) inward v ≡ None
+  unfolding noted
+  no_event s inward v = no_event_by s (jump_at s) inward v
+
+  none_went : (a : Step) → if_went {A = Option Event} a None None ≡ None
+  none_went Went = refl
+  none_went Halted = refl
+  none_went (Failed cause at) = refl
+
+  no_line : (w : Watched) → line_next l w ≡ []
+  unfolding line_next
+  no_line w =
+      let v = view_of (next_state w.run).maps in
+      ap (λ e. lines_for l v (if_went (answer (next_state w.run)) e None)) (no_event w.run.maps w.inward v)
+      ∙ ap (lines_for l v) (none_went (answer (next_state w.run)))
+
+  pub no_lines : (w : Watched) (n : ℕ) → lines_of l w n ≡ []
+  no_lines w zero = refl
+  no_lines w (suc n) = ap (λ x. x ++ line_next l (watched l w n)) (no_lines w n) ∙ no_line (watched l w n)

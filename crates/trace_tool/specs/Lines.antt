@@ -1,0 +1,66 @@
+-- The line of an event, as a value: it knows nothing of bytes.
+use Rattle.std.specs.Prelude.{ℕ, zero, suc, ◌+◌, ◌-◌, ◌++◌, Bool, List, [], ◌∷◌, Option, Some, None}
+use Rattle.cap_words.specs.declared.Word.{Word}
+use Rattle.lcm_isa.specs.declared.Reg.TheVariants.{Stk, Dat, A0, A1, A2, A3}
+use Rattle.overlay_machine.specs.declared.layout.Layout.{Layout}
+use Rattle.overlay_machine.specs.declared.events.Back.{Back}
+use Rattle.overlay_machine.specs.declared.events.Back.TheVariants.{Out, Bad, Hop, Pair}
+use Rattle.overlay_machine.specs.declared.events.Event.{Event}
+use Rattle.overlay_machine.specs.declared.events.Event.TheVariants.{Called, Returned, Entered, Left}
+use Rattle.trace_tool.specs.Layout.{part_name, entry_name, site_of}
+use Rattle.trace_tool.specs.Views.{View}
+
+-- the words of a0 to a3
+pub record Args : Type 0 where
+  pub a0 : Word
+  pub a1 : Word
+  pub a2 : Word
+  pub a3 : Word
+
+-- what an `xjmp rcode rdata` would do
+pub data Return : Type 0 where
+  out : Return
+  bad : Return
+  hop : (part export : List ℕ) → Return
+  pair : (part : List ℕ) (site base : ℕ) → Return
+
+pub data Line : Type 0 where
+  call : (inward : Bool) (part : List ℕ) (site base last : ℕ) (args : Args) (words : List Word) → Line
+  ret : (inward : Bool) (part : List ℕ) (site base last : ℕ) (a0 : Word) (words : List Word) → Line
+  enter : (part export : List ℕ) (stk : Word) (args : Args) (back : Return) → Line
+  leave : (part : List ℕ) (a0 : Word) → Line
+
+abbrev pub args_of : View → Args
+args_of v = record { a0 = v.reg A0; a1 = v.reg A1; a2 = v.reg A2; a3 = v.reg A3 }
+
+abbrev pub list_of : {A : Type 0} → Option A → List A
+list_of None = []
+list_of (Some x) = x ∷ []
+
+-- the words that there are at n addresses from one on
+abbrev pub words_from : View → ℕ → ℕ → List Word
+words_from v a zero = []
+words_from v a (suc n) = words_from v a n ++ list_of (v.cell (a + n))
+
+abbrev pub return_of : Layout → Back → Return
+return_of l Out = out
+return_of l Bad = bad
+return_of l (Hop part k) = hop (part_name l part) (entry_name l part k)
+return_of l (Pair i base) = pair (part_name l (site_of l i).part) (site_of l i).index base
+
+-- its names are those of the start, its words are read from the state after the instruction
+abbrev pub line_of : Layout → View → Event → Line
+line_of l v (Called inward i base last) =
+    call inward (part_name l (site_of l i).part) (site_of l i).index base last (args_of v)
+    (words_from v base (last + 1 - base))
+line_of l v (Returned inward i base last) =
+    ret inward (part_name l (site_of l i).part) (site_of l i).index base last (v.reg A0)
+    (v.reg Dat ∷ words_from v (base + 1) (last - base))
+line_of l v (Entered part k back) =
+    enter (part_name l part) (entry_name l part k) (v.reg Stk) (args_of v) (return_of l back)
+line_of l v (Left part) = leave (part_name l part) (v.reg A0)
+
+-- the lines of a step, by its event
+abbrev pub lines_for : Layout → View → Option Event → List Line
+lines_for l v None = []
+lines_for l v (Some e) = line_of l v e ∷ []

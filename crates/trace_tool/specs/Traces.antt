@@ -1,0 +1,89 @@
+-- The lines and the text of an overlay's run.
+use Rattle.std.specs.Prelude.{◌≡◌, ◌≤◌, ℕ, zero, suc, ◌+◌, ◌++◌, nat_lt, List, [], Option, if◌then◌else◌}
+use Rattle.outside_io.specs.SinkSeen.{SinkSeen, Adds, FailsToWrite}
+use Rattle.overlay_machine.specs.declared.events.Event.{Event}
+use Rattle.overlay_machine.specs.declared.overlay.OStep.{OStep}
+use Rattle.overlay_machine.specs.declared.overlay.OStep.TheVariants.{Went, Halted, Failed}
+use Rattle.overlay_machine.specs.Step.{weight_of}
+use Rattle.overlay_machine.specs.Seen.{OverlaySeen, next_overlay, answer_of}
+use Rattle.trace_tool.specs.declared.run.RunEnd.{RunEnd}
+use Rattle.trace_tool.specs.declared.run.RunEnd.TheVariants.{Halted as RunHalted, Failed as RunFailed, Running, WriteFault}
+use Rattle.trace_tool.specs.Views.{overlay_view}
+use Rattle.trace_tool.specs.Lines.{Line, lines_for}
+use Rattle.trace_tool.specs.Texts.{lines_text}
+use Rattle.trace_tool.specs.EndLines.{halted_text, failed_text, running_text}
+
+-- ---- a run
+
+-- the weight of the steps that went, with that of the next one
+abbrev pub weight_with : OverlaySeen → ℕ
+weight_with o = o.weight + weight_of o.layout o.state
+
+-- the lines of a step, by its event, their words read from the overlay after it
+abbrev pub lines_after : OverlaySeen → Option Event → List Line
+lines_after o event = lines_for o.layout (overlay_view o) event
+
+-- how a run goes on: its lines, and then how it ends, with the overlay and the last line
+pub record Traced : Type 0 where
+  pub lines : List Line
+  pub end : RunEnd
+  pub overlay : OverlaySeen
+  pub last : List ℕ
+
+abbrev pub ended : RunEnd → OverlaySeen → List ℕ → Traced
+ended end o last = record { lines = []; end = end; overlay = o; last = last }
+
+abbrev pub behind : List Line → Traced → Traced
+behind lines t = record t { lines = lines ++ t.lines }
+
+-- before a step that would take the weight past the limit
+abbrev pub stopped : OverlaySeen → Traced
+stopped o = ended Running o (running_text (overlay_view o) o.weight)
+
+-- A run of n steps at most: each has some weight, so limit + 1 are enough. A halt counts its step, a failure
+-- doesn't.
+abbrev pub traced_by : OStep → OverlaySeen → (OverlaySeen → Traced) → Traced
+traced_by (Went event) o more = behind (lines_after (next_overlay o) event) (more (next_overlay o))
+traced_by Halted o more =
+    ended RunHalted (next_overlay o) (halted_text (overlay_view (next_overlay o)) (weight_with o))
+traced_by Failed o more =
+    ended RunFailed (next_overlay o) (failed_text (overlay_view (next_overlay o)) o.weight)
+
+abbrev pub traced : ℕ → ℕ → OverlaySeen → Traced
+traced limit zero o = stopped o
+traced limit (suc n) o =
+    if nat_lt limit (weight_with o) then stopped o else traced_by (answer_of o) o (traced limit n)
+
+abbrev pub trace_of : ℕ → OverlaySeen → Traced
+trace_of limit o = traced limit (limit + 1) o
+
+abbrev pub text_of : Traced → List ℕ
+text_of t = lines_text t.lines ++ t.last
+
+-- its text: its lines, and the last one
+abbrev pub trace_text : ℕ → OverlaySeen → List ℕ
+trace_text limit o = text_of (trace_of limit o)
+
+-- after n steps
+abbrev pub steps_on : ℕ → OverlaySeen → OverlaySeen
+steps_on zero o = o
+steps_on (suc n) o = next_overlay (steps_on n o)
+
+-- ---- what `run_overlay` does
+
+-- the run was made, and the whole text is written
+pub record TracesTo (limit : ℕ) (old : OverlaySeen) (sink : SinkSeen) (new : OverlaySeen) (after : SinkSeen)
+    (result : RunEnd) : Type 0 where
+  pub is : result ≡ (trace_of limit old).end
+  pub overlay : new ≡ (trace_of limit old).overlay
+  pub text : Adds sink (trace_text limit old) after
+
+-- a write failed: some steps were made, and a front of the text stands
+pub record TraceFaults (limit : ℕ) (old : OverlaySeen) (sink : SinkSeen) (new : OverlaySeen) (after : SinkSeen)
+    : Type 0 where
+  pub made : (n : ℕ) × (n ≤ limit) × (new ≡ steps_on n old)
+  pub text : FailsToWrite sink (trace_text limit old) after
+
+abbrev pub Traces : ℕ → OverlaySeen → SinkSeen → OverlaySeen → SinkSeen → RunEnd → Type 0
+Traces limit old sink new after WriteFault = TraceFaults limit old sink new after
+Traces limit old sink new after result = TracesTo limit old sink new after result

@@ -1,0 +1,18 @@
+//! What runs write: a line for each event at the border of trusted code, and the end line.
+//!
+//! A run of the plain machine and one of the overlay show their events by the same lines. Both runs
+//! are told whole by definitions: their lines as values, the text of those, and the state after
+//! them. docs/OVERLAY.md tells the events, docs/COMMANDS.md the texts.
+#![tactic(auto)]
+
+mod end_line;
+mod event;
+mod find;
+mod note;
+mod run;
+mod trace;
+mod view;
+mod write;
+
+pub use run::{RunEnd, run_plain};
+pub use trace::run_overlay;

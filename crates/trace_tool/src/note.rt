@@ -1,0 +1,79 @@
+//! What is noted of an instruction before it is made.
+ghost use Rattle.std.specs.Prelude.{◌≡◌};
+ghost use Rattle.trace_tool.specs.Layout.{layout};
+ghost use Rattle.trace_tool.specs.Events.{jump_at, noted, inward_after};
+
+use crate::find::{site_word, trusted_owner};
+use component_linker::Start;
+use lcm_isa::{Instr, Reg};
+use lcm_machine::LcmState;
+use overlay_machine::{CALL_WORDS, RETURN_WORDS};
+
+/// An `xjmp` that is about to be made: the trusted part in which it stands, the site whose call it
+/// ends, and the seal that it is to open.
+#[derive(Clone, Copy)]
+pub struct Jump {
+    pub from: Option<u32>,
+    pub call: Option<u32>,
+    pub seal: Option<u32>,
+}
+
+/// What is noted of an instruction.
+#[derive(Clone, Copy)]
+pub enum Note {
+    /// It has no event.
+    Nothing,
+    /// It is the last word of this site.
+    Last(u32),
+    /// It is an `xjmp`.
+    Leap(Jump),
+}
+
+// The register that the `xjmp` at pc opens as code, where one stands there.
+#[tactic(auto, unfolding(crate::specs::Events::jump_at))]
+fn jump_at(state: &LcmState) -> Option<Reg>
+    ensures { result ≡ jump_at state.now.maps }
+{
+    match state.fetch() {
+        Ok((Instr::Xjmp(code, _), _)) => Some(code),
+        _ => None,
+    }
+}
+
+/// What is noted of the instruction that pc names.
+#[tactic(auto, unfolding(crate::specs::Events::noted, lcm_machine::specs::Row::faces, lcm_machine::specs::Row::opens))]
+pub(crate) fn noted(start: &Start) -> Note
+    ensures { result ≡ noted (layout start.now) start.now.state.maps }
+{
+    let state = start.state();
+    let pc = state.reg(Reg::Pc).face();
+    if let Some(code) = jump_at(state) {
+        let seal = match state.reg(code).opened() {
+            Some(opened) => Some(opened.seal),
+            None => None,
+        };
+        let from = match trusted_owner(start, pc) {
+            Some(owner) => Some(owner.part),
+            None => None,
+        };
+        return Note::Leap(Jump {
+            from,
+            call: site_word(start, CALL_WORDS - 1, pc),
+            seal,
+        });
+    }
+    match site_word(start, CALL_WORDS + RETURN_WORDS - 1, pc) {
+        Some(site) => Note::Last(site),
+        None => Note::Nothing,
+    }
+}
+
+/// Whether the last `xjmp` that went stood in trusted code.
+pub(crate) fn inward_after(note: Note, inward: bool) -> bool
+    ensures { result ≡ inward_after note inward }
+{
+    match note {
+        Note::Leap(jump) => jump.from.is_some(),
+        _ => inward,
+    }
+}

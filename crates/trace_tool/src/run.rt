@@ -1,0 +1,97 @@
+//! A plain run, with its lines and its end line.
+ghost use Rattle.std.specs.Prelude.{◌≡◌, ◌+◌, ◌<◌, ◌≤◌, ◌^◌, length, None, IfOk};
+ghost use Rattle.outside_io.specs.Writes.{Writes};
+ghost use Rattle.lcm_machine.specs.Run.{next_state, answer};
+ghost use Rattle.trace_tool.specs.Layout.{layout};
+ghost use Rattle.trace_tool.specs.Texts.{lines_text};
+ghost use Rattle.trace_tool.specs.Runs.{watched_next, line_next, end_of, Runs, EndsBy};
+
+use crate::end_line::end_line;
+use crate::event::event_after;
+use crate::note::{inward_after, noted};
+use crate::write::tell;
+use component_linker::Start;
+use lcm_machine::Step;
+use outside_io::{Failed, Sink};
+
+/// How a run ended that writes its text.
+#[derive(Clone, Copy, PartialEq, Eq, Debug)]
+pub enum RunEnd {
+    /// The machine halted.
+    Halted,
+    /// A step of the machine failed.
+    Failed,
+    /// The steps were used up.
+    Running,
+    /// A write failed, and the run stopped there.
+    WriteFault,
+}
+
+// Makes one instruction, and writes its line where it has one.
+#[tactic(auto, unfolding(crate::specs::Runs::line_next))]
+fn turn<S: Sink>(start: &mut Start, inward: &mut bool, out: &mut S) -> Result<Step, Failed>
+    requires { start.old.state.count < 2 ^ 63 }
+    ensures state { start.new ≡ record start.old { state = next_state start.old.state } }
+    ensures inward { inward.new ≡ (watched_next (layout start.old) (record { run = start.old.state; inward = inward.old })).inward }
+    ensures answer { IfOk result (λ s. s ≡ answer (next_state start.old.state)) }
+    ensures line { Writes (S.seen out.old) (lines_text (line_next (layout start.old) (record { run = start.old.state; inward = inward.old }))) result (S.seen out.new) }
+{
+    let note = noted(start);
+    let step = start.state_mut().step();
+    if step != Step::Went {
+        return Ok(step);
+    }
+    let event = event_after(start, note, *inward);
+    *inward = inward_after(note, *inward);
+    match tell(start, start.state(), event, out) {
+        Ok(()) => Ok(Step::Went),
+        Err(fault) => Err(fault),
+    }
+}
+
+/// Writes a last line, and answers the end, or that the write failed.
+pub(crate) fn finish<S: Sink>(out: &mut S, line: &str, end: RunEnd) -> RunEnd
+    requires { 0 < length line.now }
+    ensures { EndsBy (S.seen out.old) line.now end (S.seen out.new) result }
+{
+    match out.write(line.as_bytes()) {
+        Ok(()) => end,
+        Err(_) => RunEnd::WriteFault,
+    }
+}
+
+fn end_of(step: Step) -> RunEnd
+    ensures { result ≡ end_of step }
+{
+    match step {
+        Step::Went => RunEnd::Running,
+        Step::Halted => RunEnd::Halted,
+        Step::Failed(_, _) => RunEnd::Failed,
+    }
+}
+
+/// Runs the machine of a start for so many instructions, or up to its end, and writes the line of
+/// each event and the end line. It takes no memory.
+///
+/// The machine hasn't ended before. Only its state changes. WriteFault comes only of a write that
+/// failed: the run stops there, and a front of the whole text stands.
+pub fn run_plain<S: Sink>(start: &mut Start, steps: u64, out: &mut S) -> RunEnd
+    requires fresh { start.old.state.end ≡ None }
+    requires count { start.old.state.count + steps ≤ 2 ^ 63 }
+    ensures { Runs start.old steps (S.seen out.old) start.new (S.seen out.new) result }
+{
+    let mut inward = false;
+    for _i in 0..steps {
+        match turn(start, &mut inward, out) {
+            Ok(step) => {
+                if step != Step::Went {
+                    let line = end_line(start.state(), step);
+                    return finish(out, line.as_str(), end_of(step));
+                }
+            }
+            Err(Failed) => return RunEnd::WriteFault,
+        }
+    }
+    let line = end_line(start.state(), Step::Went);
+    finish(out, line.as_str(), RunEnd::Running)
+}

@@ -1,0 +1,47 @@
+//! A run of the overlay, with its lines and its end line.
+ghost use Rattle.std.specs.Prelude.{◌≡◌, ◌≤◌, ◌^◌};
+ghost use Rattle.overlay_machine.specs.Seen.{IsOverlayOf};
+ghost use Rattle.trace_tool.specs.Traces.{Traces};
+
+use crate::end_line::{failed_line, halted_line, running_line};
+use crate::run::{RunEnd, finish};
+use crate::write::tell;
+use component_linker::Start;
+use outside_io::{Failed, Sink};
+use overlay_machine::{OStep, Overlay};
+
+/// Runs the overlay of a start while the weights of its steps keep within the limit, or up to its
+/// end, and writes the line of each event and the end line. It takes no memory.
+///
+/// The run stops before a step whose weight would take the sum past the limit. WriteFault comes only
+/// of a write that failed: the run stops there, and a front of the whole text stands.
+pub fn run_overlay<S: Sink>(overlay: &mut Overlay, start: &Start, steps: u64, out: &mut S) -> RunEnd
+    requires of { IsOverlayOf start.now overlay.old }
+    requires steps { steps ≤ 2 ^ 63 }
+    ensures { Traces steps overlay.old (S.seen out.old) overlay.new (S.seen out.new) result }
+{
+    loop {
+        let sum = overlay.weight();
+        let weight = u64::from(overlay.next_weight());
+        if sum + weight > steps {
+            let line = running_line(overlay, sum);
+            return finish(out, line.as_str(), RunEnd::Running);
+        }
+        match overlay.step() {
+            OStep::Went(event) => {
+                match tell(start, overlay, event, out) {
+                    Ok(()) => {}
+                    Err(Failed) => return RunEnd::WriteFault,
+                }
+            }
+            OStep::Halted => {
+                let line = halted_line(overlay, sum + weight);
+                return finish(out, line.as_str(), RunEnd::Halted);
+            }
+            OStep::Failed => {
+                let line = failed_line(overlay, sum);
+                return finish(out, line.as_str(), RunEnd::Failed);
+            }
+        }
+    }
+}

@@ -1,0 +1,326 @@
+//! The text of a line, written in pieces: its head, each word behind a blank, and the newline.
+ghost use Rattle.std.specs.Prelude.{◌≡◌, ◌+◌, ◌-◌, ◌^◌, ◌<◌, ◌≤◌, ◌++◌, length, codes, decimal};
+ghost use Rattle.arrayvec.specs.ArrayVec.{array_vec_len};
+ghost use Rattle.outside_io.specs.Writes.{Writes};
+ghost use Rattle.cap_words.specs.Text.{word_text_of};
+ghost use Rattle.trace_tool.specs.Layout.{layout, part_name, site_of};
+ghost use Rattle.trace_tool.specs.Lines.{list_of, return_of, args_of, words_from, line_of, lines_for};
+ghost use Rattle.trace_tool.specs.Texts.{field, head_text, words_text, args_text, place_text, return_text, line_text, lines_text};
+
+use crate::find::{entry_name, part_name, site_of};
+use crate::view::Shown;
+use arrayvec::ArrayVec;
+use component_linker::Start;
+use itoa::Buffer;
+use lcm_isa::Reg;
+use outside_io::{Failed, Sink};
+use overlay_machine::{Back, Event};
+
+// Room for the longest head.
+const ROOM: usize = 1_024;
+
+type Head = ArrayVec<u8, ROOM>;
+
+// Appends bytes, for which there is room.
+fn push(head: &mut Head, bytes: &[u8])
+    requires { array_vec_len head.old + length bytes.now ≤ ROOM }
+    ensures bytes { head.new.items ≡ head.old.items ++ bytes.now }
+    ensures len { array_vec_len head.new ≡ array_vec_len head.old + length bytes.now }
+{
+    let _ = head.try_extend_from_slice(bytes);
+}
+
+// Appends a blank and bytes.
+fn push_field(head: &mut Head, bytes: &[u8])
+    requires { array_vec_len head.old + length bytes.now + 1 ≤ ROOM }
+    ensures bytes { head.new.items ≡ head.old.items ++ field bytes.now }
+    ensures len { array_vec_len head.new ≡ array_vec_len head.old + length bytes.now + 1 }
+{
+    push(head, b" ");
+    push(head, bytes);
+}
+
+// Appends a number.
+fn push_number(head: &mut Head, number: u32)
+    requires { array_vec_len head.old + 10 ≤ ROOM }
+    ensures bytes { head.new.items ≡ head.old.items ++ decimal number }
+    ensures len { array_vec_len head.new ≤ array_vec_len head.old + 10 }
+{
+    let mut digits = Buffer::new();
+    push(head, digits.format(number).as_bytes());
+}
+
+// Appends a blank and a register's word.
+fn push_word<V: Shown>(head: &mut Head, view: &V, r: Reg)
+    requires { array_vec_len head.old + 129 ≤ ROOM }
+    ensures bytes { head.new.items ≡ head.old.items ++ field (word_text_of ((V.view view.now).reg r)) }
+    ensures len { array_vec_len head.new ≤ array_vec_len head.old + 129 }
+{
+    push_field(head, view.text(r).as_str().as_bytes());
+}
+
+// Appends the words of a0 to a3, each behind a blank.
+#[tactic(auto, unfolding(crate::specs::Texts::args_text))]
+fn push_args<V: Shown>(head: &mut Head, view: &V)
+    requires { array_vec_len head.old + 516 ≤ ROOM }
+    ensures bytes { head.new.items ≡ head.old.items ++ args_text (args_of (V.view view.now)) }
+    ensures len { array_vec_len head.new ≤ array_vec_len head.old + 516 }
+{
+    push_word(head, view, Reg::A0);
+    push_word(head, view, Reg::A1);
+    push_word(head, view, Reg::A2);
+    push_word(head, view, Reg::A3);
+}
+
+// Appends DIR, PART, SITE, BASE and END.
+#[tactic(auto, unfolding(crate::specs::Texts::place_text))]
+fn push_place(head: &mut Head, start: &Start, inward: bool, site: u32, base: u32, end: u32)
+    requires { array_vec_len head.old + 68 ≤ ROOM }
+    ensures bytes { head.new.items ≡ head.old.items ++ place_text inward (part_name (layout start.now) (site_of (layout start.now) site).part) (site_of (layout start.now) site).index base end }
+    ensures len { array_vec_len head.new ≤ array_vec_len head.old + 68 }
+{
+    push(head, if inward { b"in " } else { b"out " });
+    let site = site_of(start, site);
+    push(head, part_name(start, site.part));
+    push(head, b" ");
+    push_number(head, site.index);
+    push(head, b" ");
+    push_number(head, base);
+    push(head, b" ");
+    push_number(head, end);
+}
+
+// Appends what `xjmp rcode rdata` would do.
+fn push_back(head: &mut Head, start: &Start, back: Back)
+    requires { array_vec_len head.old + 80 ≤ ROOM }
+    ensures bytes { head.new.items ≡ head.old.items ++ return_text (return_of (layout start.now) back) }
+    ensures len { array_vec_len head.new ≤ array_vec_len head.old + 80 }
+{
+    match back {
+        Back::Out => push(head, b"out"),
+        Back::Bad => push(head, b"bad"),
+        Back::Hop(part, entry) => {
+            push(head, b"hop:");
+            push(head, part_name(start, part));
+            push(head, b":");
+            push(head, entry_name(start, part, entry));
+        }
+        Back::Pair(site, base) => {
+            let site = site_of(start, site);
+            push(head, b"pair:");
+            push(head, part_name(start, site.part));
+            push(head, b":");
+            push_number(head, site.index);
+            push(head, b":");
+            push_number(head, base);
+        }
+    }
+}
+
+// Writes a word's text as a piece, behind a blank.
+fn write_word<S: Sink>(out: &mut S, text: &[u8]) -> Result<(), Failed>
+    requires { length text.now ≤ 128 }
+    ensures { Writes (S.seen out.old) (field text.now) result (S.seen out.new) }
+{
+    let mut piece = Head::new();
+    push_field(&mut piece, text);
+    out.write(piece.as_slice())
+}
+
+// Writes the word of a cell, where there is one.
+fn write_cell<V: Shown, S: Sink>(view: &V, at: u32, out: &mut S) -> Result<(), Failed>
+    ensures { Writes (S.seen out.old) (words_text (list_of ((V.view view.now).cell at))) result (S.seen out.new) }
+{
+    match view.text_at(at) {
+        Some(text) => write_word(out, text.as_str().as_bytes()),
+        None => Ok(()),
+    }
+}
+
+// Writes the words of the cells that there are among so many from one on.
+fn write_cells<V: Shown, S: Sink>(
+    view: &V,
+    from: u64,
+    count: u64,
+    out: &mut S,
+) -> Result<(), Failed>
+    requires { from + count ≤ 2 ^ 32 }
+    ensures { Writes (S.seen out.old) (words_text (words_from (V.view view.now) from count)) result (S.seen out.new) }
+{
+    for i in 0..count {
+        write_cell(view, (from + i) as u32, out)?;
+    }
+    Ok(())
+}
+
+// Writes the words of cells, and the newline.
+#[tactic(auto, using(outside_io::proofs::Writing::fails_more, outside_io::proofs::Writing::writes_behind))]
+fn write_rest<V: Shown, S: Sink>(view: &V, from: u64, count: u64, out: &mut S) -> Result<(), Failed>
+    requires { from + count ≤ 2 ^ 32 }
+    ensures { Writes (S.seen out.old) (words_text (words_from (V.view view.now) from count) ++ codes "\n") result (S.seen out.new) }
+{
+    write_cells(view, from, count, out)?;
+    out.write(b"\n")
+}
+
+// The head of the line of a call.
+fn call_head<V: Shown>(
+    start: &Start,
+    view: &V,
+    inward: bool,
+    site: u32,
+    base: u32,
+    end: u32,
+) -> Head
+    ensures bytes { result.items ≡ head_text (line_of (layout start.now) (V.view view.now) (Event.Called inward site base end)) }
+    ensures some { 0 < length result.items }
+{
+    let mut head = Head::new();
+    push(&mut head, b"call ");
+    push_place(&mut head, start, inward, site, base, end);
+    push_args(&mut head, view);
+    push(&mut head, b" :");
+    head
+}
+
+// The head of the line of a return.
+fn ret_head<V: Shown>(start: &Start, view: &V, inward: bool, site: u32, base: u32, end: u32) -> Head
+    ensures bytes { result.items ≡ head_text (line_of (layout start.now) (V.view view.now) (Event.Returned inward site base end)) }
+    ensures some { 0 < length result.items }
+{
+    let mut head = Head::new();
+    push(&mut head, b"ret ");
+    push_place(&mut head, start, inward, site, base, end);
+    push_word(&mut head, view, Reg::A0);
+    push(&mut head, b" :");
+    head
+}
+
+// Writes a piece.
+fn write<S: Sink>(out: &mut S, piece: &[u8]) -> Result<(), Failed>
+    requires { 0 < length piece.now }
+    ensures { Writes (S.seen out.old) piece.now result (S.seen out.new) }
+{
+    out.write(piece)
+}
+
+// Writes the line of a call.
+fn write_call<V: Shown, S: Sink>(
+    start: &Start,
+    view: &V,
+    inward: bool,
+    site: u32,
+    base: u32,
+    end: u32,
+    out: &mut S,
+) -> Result<(), Failed>
+    ensures { Writes (S.seen out.old) (line_text (line_of (layout start.now) (V.view view.now) (Event.Called inward site base end))) result (S.seen out.new) }
+{
+    let head = call_head(start, view, inward, site, base, end);
+    write(out, head.as_slice())?;
+    let count = (u64::from(end) + 1).saturating_sub(u64::from(base));
+    write_rest(view, u64::from(base), count, out)
+}
+
+// Writes the line of a return.
+fn write_ret<V: Shown, S: Sink>(
+    start: &Start,
+    view: &V,
+    inward: bool,
+    site: u32,
+    base: u32,
+    end: u32,
+    out: &mut S,
+) -> Result<(), Failed>
+    ensures { Writes (S.seen out.old) (line_text (line_of (layout start.now) (V.view view.now) (Event.Returned inward site base end))) result (S.seen out.new) }
+{
+    let head = ret_head(start, view, inward, site, base, end);
+    write(out, head.as_slice())?;
+    write_word(out, view.text(Reg::Dat).as_str().as_bytes())?;
+    let count = u64::from(end).saturating_sub(u64::from(base));
+    write_rest(view, u64::from(base) + 1, count, out)
+}
+
+// Writes the line of an entry.
+#[tactic(auto, unfolding(crate::specs::Texts::line_text))]
+fn write_enter<V: Shown, S: Sink>(
+    start: &Start,
+    view: &V,
+    part: u32,
+    entry: u32,
+    back: Back,
+    out: &mut S,
+) -> Result<(), Failed>
+    ensures { Writes (S.seen out.old) (line_text (line_of (layout start.now) (V.view view.now) (Event.Entered part entry back))) result (S.seen out.new) }
+{
+    let mut line = Head::new();
+    push(&mut line, b"enter ");
+    push(&mut line, part_name(start, part));
+    push_field(&mut line, entry_name(start, part, entry));
+    push_word(&mut line, view, Reg::Stk);
+    push_args(&mut line, view);
+    push(&mut line, b" ");
+    push_back(&mut line, start, back);
+    push(&mut line, b"\n");
+    out.write(line.as_slice())
+}
+
+// Writes the line of a leave.
+#[tactic(auto, unfolding(crate::specs::Texts::line_text))]
+fn write_leave<V: Shown, S: Sink>(
+    start: &Start,
+    view: &V,
+    part: u32,
+    out: &mut S,
+) -> Result<(), Failed>
+    ensures { Writes (S.seen out.old) (line_text (line_of (layout start.now) (V.view view.now) (Event.Left part))) result (S.seen out.new) }
+{
+    let mut line = Head::new();
+    push(&mut line, b"leave ");
+    push(&mut line, part_name(start, part));
+    push_word(&mut line, view, Reg::A0);
+    push(&mut line, b"\n");
+    out.write(line.as_slice())
+}
+
+// Writes the line of an event, whose words are read from the state after it.
+fn write_event<V: Shown, S: Sink>(
+    start: &Start,
+    view: &V,
+    event: Event,
+    out: &mut S,
+) -> Result<(), Failed>
+    ensures { Writes (S.seen out.old) (line_text (line_of (layout start.now) (V.view view.now) event)) result (S.seen out.new) }
+{
+    match event {
+        Event::Called {
+            trusted,
+            site,
+            base,
+            end,
+        } => write_call(start, view, trusted, site, base, end, out),
+        Event::Returned {
+            trusted,
+            site,
+            base,
+            end,
+        } => write_ret(start, view, trusted, site, base, end, out),
+        Event::Entered { part, entry, back } => write_enter(start, view, part, entry, back, out),
+        Event::Left { part } => write_leave(start, view, part, out),
+    }
+}
+
+/// Writes the lines of a step, by its event.
+pub(crate) fn tell<V: Shown, S: Sink>(
+    start: &Start,
+    view: &V,
+    event: Option<Event>,
+    out: &mut S,
+) -> Result<(), Failed>
+    ensures { Writes (S.seen out.old) (lines_text (lines_for (layout start.now) (V.view view.now) event)) result (S.seen out.new) }
+{
+    match event {
+        Some(event) => write_event(start, view, event, out),
+        None => Ok(()),
+    }
+}

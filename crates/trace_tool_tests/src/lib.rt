@@ -1,0 +1,7 @@
+//! Tests of what runs write, apart from it: a crate with tests is proved twice.
+#![tactic(auto)]
+
+#[cfg(test)]
+mod parts;
+#[cfg(test)]
+mod tests;

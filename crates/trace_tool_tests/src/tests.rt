@@ -1,0 +1,209 @@
+//! What no clause says: that the definitions which the clauses cite mean what docs/OVERLAY.md and
+//! docs/COMMANDS.md say. Each line was worked out by hand.
+ghost use Rattle.std.specs.Prelude.{◌≡◌, None, IfOk};
+
+use crate::parts::part;
+use component_linker::{Part, Start, link};
+use outside_io::MemSink;
+use overlay_machine::Overlay;
+use std::alloc::{AllocError, Global};
+use std::process::Abort;
+use std::test::Fail;
+use trace_tool::{RunEnd, run_overlay, run_plain};
+
+// Cases, parted by empty lines: how many steps, the parts, and the lines of `run` (r), of `trace` (t),
+// or of both (b).
+const CASES: &str = "\
+1000 t:caller u:adv
+b call out t 0 65599 65599 0 0 0 0 : cap(rw,nor,8192,8193,8193)
+b ret out t 0 65599 65599 0 : cap(rw,nor,8192,8193,8193)
+b halted 0 steps 51
+
+0 t:caller u:adv
+b running 4098 steps 0
+
+38 t:caller u:adv
+r running 4136 steps 38
+t running 4121 steps 23
+
+39 t:caller u:adv
+b call out t 0 65599 65599 0 0 0 0 : cap(rw,nor,8192,8193,8193)
+b running 12288 steps 39
+
+49 t:caller u:adv
+b call out t 0 65599 65599 0 0 0 0 : cap(rw,nor,8192,8193,8193)
+r running 4146 steps 49
+t running 12288 steps 39
+
+50 t:caller u:adv
+b call out t 0 65599 65599 0 0 0 0 : cap(rw,nor,8192,8193,8193)
+b ret out t 0 65599 65599 0 : cap(rw,nor,8192,8193,8193)
+b running 4147 steps 50
+
+51 t:caller u:adv
+b call out t 0 65599 65599 0 0 0 0 : cap(rw,nor,8192,8193,8193)
+b ret out t 0 65599 65599 0 : cap(rw,nor,8192,8193,8193)
+b halted 0 steps 51
+
+1000 t:framed u:adv
+b call out t 0 65598 65599 0 7 0 0 : cap(rw,nor,8192,8193,8193) 7
+b ret out t 0 65598 65599 0 : cap(rw,nor,8192,8193,8193) 7
+b halted 0 steps 54
+
+1000 t:caller t:server
+b call in t 0 65599 65599 0 0 0 0 : cap(rw,nor,8192,8193,8193)
+b ret in t 0 65599 65599 0 : cap(rw,nor,8192,8193,8193)
+b halted 0 steps 71
+
+1000 t:again u:enters
+b call out t 0 65599 65599 0 0 0 0 : cap(rw,nor,8192,8193,8193)
+b enter t again cap(rw,lin,65536,65598,65598) 0 0 0 0 pair:t:0:65599
+r failed 4137 F14 steps 82
+t failed 4170 steps 65
+
+81 t:again u:enters
+b call out t 0 65599 65599 0 0 0 0 : cap(rw,nor,8192,8193,8193)
+b enter t again cap(rw,lin,65536,65598,65598) 0 0 0 0 pair:t:0:65599
+r running 4137 steps 81
+t running 4170 steps 65
+
+1000 t:back u:bare
+b enter t aa cap(rw,lin,65536,65599,65599) 0 0 0 0 bad
+r failed 4117 F6 steps 25
+t failed 4117 steps 24
+
+1000 t:back u:hops
+b enter t aa cap(rw,lin,65536,65599,65599) 0 0 0 0 hop:t:other
+b halted 0 steps 50
+
+1000 t:back u:leaves u:ends
+b enter t aa cap(rw,lin,65536,65599,65599) 5 0 0 0 out
+b leave t 5
+b halted 5 steps 31
+";
+
+// The pieces of the first case, each of them a write.
+const PIECES: &[&str] = &[
+    "call out t 0 65599 65599 0 0 0 0 :",
+    " cap(rw,nor,8192,8193,8193)",
+    "\n",
+    "ret out t 0 65599 65599 0 :",
+    " cap(rw,nor,8192,8193,8193)",
+    "\n",
+    "halted 0 steps 51\n",
+];
+
+// The start of parts with a stack of 64 words.
+fn start_of(rt: &impl Abort, alloc: Global, words: &str) -> Result<Start, Fail>
+    ensures { IfOk result (λ s. (s.state.count ≡ 0) × (s.state.end ≡ None)) }
+{
+    let mut parts: Vec<Part> = Vec::new(alloc);
+    for word in words.split_whitespace() {
+        parts.push(part(rt, alloc, word)?)?;
+    }
+    assert!(rt; parts.len() < 100);
+    match link(alloc, &parts, 64) {
+        Ok(start) => Ok(start),
+        Err(fault) => panic!(rt; "{fault}"),
+    }
+}
+
+fn text_of(alloc: Global, out: &MemSink) -> Result<String, Fail> {
+    Ok(String::from_utf8_lossy(alloc, out.bytes())?)
+}
+
+fn run(
+    rt: &impl Abort,
+    alloc: Global,
+    words: &str,
+    steps: u64,
+    out: &mut MemSink,
+) -> Result<RunEnd, Fail> {
+    assert!(rt; steps < 10_000);
+    let mut start = start_of(rt, alloc, words)?;
+    Ok(run_plain(&mut start, steps, out))
+}
+
+fn trace(
+    rt: &impl Abort,
+    alloc: Global,
+    words: &str,
+    steps: u64,
+    out: &mut MemSink,
+) -> Result<RunEnd, Fail> {
+    assert!(rt; steps < 10_000);
+    let start = start_of(rt, alloc, words)?;
+    let mut overlay = Overlay::of_start(alloc, &start)?;
+    Ok(run_overlay(&mut overlay, &start, steps, out))
+}
+
+// The lines of a case that have this mark, or are of both runs.
+fn expected(alloc: Global, case: &str, mark: &str) -> Result<String, AllocError> {
+    let mut text = String::new(alloc);
+    for line in case.lines() {
+        let own = line.strip_prefix("b ").or(line.strip_prefix(mark));
+        if let Some(rest) = own {
+            text.push_str(rest)?;
+            text.push_str("\n")?;
+        }
+    }
+    Ok(text)
+}
+
+// What the end is by the last line.
+fn end_of(text: &str) -> RunEnd {
+    if text.contains("halted ") {
+        RunEnd::Halted
+    } else if text.contains("failed ") {
+        RunEnd::Failed
+    } else {
+        RunEnd::Running
+    }
+}
+
+#[test]
+fn events_and_ends_of_runs_and_traces(rt: HostRuntime) -> Result<(), Fail> {
+    let alloc = rt.alloc();
+    for case in CASES.split("\n\n") {
+        let head = case.lines().next().unwrap_or("");
+        let (steps, words) = head.split_once(' ').unwrap_or(("", ""));
+        let steps = steps.parse::<u64>().unwrap_or(0);
+
+        let mut out = MemSink::new(alloc)?;
+        let end = run(&rt, alloc, words, steps, &mut out)?;
+        let text = expected(alloc, case, "r ")?;
+        assert_eq!(rt; text_of(alloc, &out)?, text, "run {head}");
+        assert_eq!(rt; end, end_of(text.as_str()), "run {head}");
+
+        let mut out = MemSink::new(alloc)?;
+        let end = trace(&rt, alloc, words, steps, &mut out)?;
+        let text = expected(alloc, case, "t ")?;
+        assert_eq!(rt; text_of(alloc, &out)?, text, "trace {head}");
+        assert_eq!(rt; end, end_of(text.as_str()), "trace {head}");
+    }
+    Ok(())
+}
+
+#[test]
+fn a_run_stops_at_each_write_that_fails(rt: HostRuntime) -> Result<(), Fail> {
+    let alloc = rt.alloc();
+    let mut before = String::new(alloc);
+    let mut number = 0;
+    for piece in PIECES {
+        number += 1;
+        let mut out = MemSink::new(alloc)?;
+        out.fail_at(number);
+        let end = run(&rt, alloc, "t:caller u:adv", 1000, &mut out)?;
+        assert_eq!(rt; end, RunEnd::WriteFault, "run, write {number}");
+        assert_eq!(rt; text_of(alloc, &out)?, before, "run, write {number}");
+        assert_eq!(rt; out.faults(), 1);
+
+        let mut out = MemSink::new(alloc)?;
+        out.fail_at(number);
+        let end = trace(&rt, alloc, "t:caller u:adv", 1000, &mut out)?;
+        assert_eq!(rt; end, RunEnd::WriteFault, "trace, write {number}");
+        assert_eq!(rt; text_of(alloc, &out)?, before, "trace, write {number}");
+        before.push_str(piece)?;
+    }
+    Ok(())
+}
