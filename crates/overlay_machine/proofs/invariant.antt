@@ -23,3 +23,4 @@ pub mod SequencesLacking
 pub mod StepQuiet
 pub mod FramePrivate
 pub mod Covered
+pub mod Bracketed

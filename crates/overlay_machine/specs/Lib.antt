@@ -6,6 +6,7 @@ pub mod Cases
 pub mod Flat
 pub mod Agree
 pub mod Runs
+pub mod Brackets
 pub mod Moves
 pub mod Machine
 pub mod Events

@@ -10,6 +10,7 @@ use Rattle.call_sequence.specs.declared.TheConstants.{SITE_WORDS, ENTRY_WORDS}
 use Rattle.call_sequence.specs.Standing.{CodeStands, SiteStands, EntryStands}
 use Rattle.flow_check.specs.Holds.{code_at}
 use Rattle.flow_check.specs.Places.{begins_entry, begins_site}
+use Rattle.component_linker.specs.declared.owners.Site.{Site}
 use Rattle.component_linker.specs.declared.owners.Owner.{Owner}
 use Rattle.component_linker.specs.Parts.{PartSeen, IsPart}
 use Rattle.component_linker.specs.Regions.{stack_span}
@@ -82,6 +83,8 @@ pub record Linked (g : Link) : Type 0 where
   pub sites : (j : ℕ) (s : SiteCode) → site_code g.layout j ≡ Some s
       → (p : PartSeen) × (index : ℕ) × IsTrusted g p × SiteOf p index s
   pub site_found : (j a : ℕ) → site_at g.layout a ≡ Some j → (s : SiteCode) × (site_code g.layout j ≡ Some s) × (s.at ≡ a)
+  pub listed : (j : ℕ) (s : Site) → slice_get g.layout.sites j ≡ Some s
+      → (u : SiteCode) × (site_code g.layout j ≡ Some u) × (u.seal ≡ s.seal)
   pub no_site : (p : PartSeen) (o : ℕ) → IsTrusted g p → o < length p.component.code
       → site_at g.layout (p.component.code_base + o) ≡ None → begins_site p.component o ≡ false
   pub entry_found : (p : PartSeen) (o : ℕ) → IsTrusted g p → o < length p.component.code

@@ -8,6 +8,7 @@ ghost use Rattle.overlay_machine.specs.State.{OState};
 ghost use Rattle.overlay_machine.specs.Step.{halts, overlay_step, weight_of};
 ghost use Rattle.overlay_machine.specs.Agree.{OneStep, AreMet};
 ghost use Rattle.overlay_machine.specs.Runs.{Reached, plain_run, RunsAgree};
+ghost use Rattle.overlay_machine.specs.Brackets.{AreBracketed};
 ghost use Rattle.overlay_machine.specs.Link.{Link};
 ghost use Rattle.overlay_machine.specs.Linked.{Linked};
 ghost use Rattle.overlay_machine.specs.Invariant.{Invariant, StepsKeep};
@@ -96,3 +97,13 @@ pub fn a_linked_start_may_come()
     sequences_stand();
     sequences_stand_word_by_word();
 }
+
+/// Calls and returns are bracketed, where the invariant of linked parts holds.
+///
+/// A call opens a frame, and a return closes the newest one that is open: it tells the same site, the
+/// same range and the same words as the call did. Along a run from an overlay the events so lead from
+/// the frames that are open at first to those that are open then.
+pub fn calls_are_bracketed()
+    ensures { (g : Link) (o : OState) (t : State Word) → Linked g → Invariant g o t
+        → AreBracketed g.layout o }
+{}
