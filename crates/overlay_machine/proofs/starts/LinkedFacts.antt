@@ -211,6 +211,7 @@ module _ (site_words : SitesStand) (entry_words : EntriesStand) (parts : List Pa
     owned = λ p z t. (let k = index_of parts p t.0 in ap is_some (trusted_found parts size l made owner_list k.0 p z k.1 t.1));
     sites = site_is;
     site_found = found_site;
+    listed = λ j s at. (let is = (site_list.all s).0 (listed_at l.sites j s at) in (site_code_of s is.of, site_has_code parts size l made owner_list site_list j s is at, refl));
     no_site = λ p o t lt e. (let k = index_of parts p t.0 in no_site_at parts size l made owner_list site_list k.0 o p k.1 t.1 e);
     entry_found = λ p o t lt. (let k = index_of parts p t.0 in entry_found parts size l made owner_list exports_within k.0 o p k.1 t.1 lt);
     entries = λ p o t begins. entry_in p (part_of p t.0) t.1 entry_words o begins;

@@ -1,0 +1,528 @@
+//! The overlay machine over linked trusted parts: each case of a step, and each thing that it asks for, once.
+//! The events and the weights were worked out by hand from docs/OVERLAY.md.
+use assembler::assemble;
+use cap_words::{Cap, Held, Lin, Perm, Word, word_text};
+use component_linker::{Part, Start, accept, link};
+use lcm_isa::Reg;
+use lcm_machine::Place;
+use overlay_machine::{Back, Event, OStep, Overlay};
+use std::alloc::{AllocError, Global};
+use std::process::Abort;
+use std::test::Fail;
+
+// The trusted part `t`. Its code is from 4096 on: `fail`, the literal, the entry `main` at offset 2, and a
+// call; the entry `again` and a second call. Behind the calls it halts. Data is from 8192 on: the words of
+// two imports, and two more.
+const T_BEGIN: &[u8] = b"\
+.name t
+.stack 65536
+.closure 10
+.seals 11 2
+.code 4096
+stop: fail
+lit: .seal 11 12 11
+main: ";
+
+const ENTRY: &[u8] = b"\
+move t2 pc
+cca t2 @stop
+gettype t1 stk
+minus t1 t1 1
+jnz t2 t1
+getlin t1 stk
+minus t1 t1 1
+jnz t2 t1
+getp t1 stk
+minus t1 t1 2
+jnz t2 t1
+getb t1 stk
+minus t1 t1 65536
+jnz t2 t1
+seta2b stk
+gete t1 stk
+minus t1 t1 65536
+cca stk t1
+move t1 0
+move t2 0
+";
+
+const LOAD_GO: &[u8] = b"\
+load c1 data
+cca data 1
+load c2 data
+";
+
+const LOAD_BACK: &[u8] = b"\
+cca data 2
+load c1 data
+cca data 1
+load c2 data
+";
+
+// A call up to its index, from there on, and a return.
+const CALL: &[u8] = b"\
+store stk data
+move t1 pc
+cca t1 @lit
+load t2 t1
+cca t2 ";
+
+const CALL_ON: &[u8] = b"
+geta t1 stk
+minus t1 t1 1
+split stk rdata stk t1
+cca stk -1
+cseal rdata t2
+move rcode pc
+cca rcode 6
+cseal rcode t2
+move t1 0
+move t2 0
+xjmp c1 c2
+";
+
+const RETURN: &[u8] = b"\
+splice stk stk data
+getb t1 stk
+minus t1 t1 65536
+move t2 pc
+cca t2 @stop
+jnz t2 t1
+load data stk
+move t1 0
+store stk t1
+move t2 0
+";
+
+const T_END: &[u8] = b"\
+.data 8192
+.int 0
+.int 0
+.int 0
+.int 0
+.int 0
+.int 0
+.import adv go 0
+.import adv back 2
+.export again again shared
+.export main main shared
+.site first
+.site second
+.fail stop
+.literal lit
+";
+
+// The part `adv`, which isn't trusted. Its code is from 12,288 on, its data from 16,384 on: the words of two
+// imports, and one more.
+const ADV_BEGIN: &[u8] = b"\
+.name adv
+.stack 65536
+.closure 20
+.code 12288
+go: ";
+
+const ADV_END: &[u8] = b"\
+.data 16384
+.int 0
+.int 0
+.int 0
+.int 0
+.int 0
+.import t again 0
+.import adv back 2
+.export back back shared
+.export go go shared
+";
+
+// Each line is a run: a letter, lines of `t` before its first call, before its second and behind it, the lines
+// of `go` and of `back`, and what is told: the events, and at the end the weight of the steps that went, and
+// where the last one failed what it weighs. In lines `;` is a newline, `&` are four instructions: `adv` enters
+// `again`.
+//
+// A call's own conditions: the cursor one above the base, at it, past the end and below 0; a word of c1 or
+// c2 that isn't sealed, under another seal, or the other half; halves of a pair in c1 and c2.
+const CALLS: &[u8] = b"\
+-|||halt|xjmp rcode rdata|halt|call 0 65599 65599;ret 0 65599 65599;halt 50
+-|cca stk -62||halt|xjmp rcode rdata|halt|call 0 65537 65599;ret 0 65537 65599;halt 51
+-|cca stk -63||halt|halt|halt|fail 24 16
+-|cca stk 1||halt|halt|halt|fail 24 16
+-|cca stk -65600||halt|halt|halt|fail 24 16
+-|move c1 0||halt|halt|halt|fail 24 16
+-|move c2 0||halt|halt|halt|fail 24 16
+-|move c1 c2||halt|halt|halt|fail 24 16
+-|move c2 c1||halt|halt|halt|fail 24 16
+-||move c2 a0|halt|cca data 1;load a0 data;cca data -1;&|halt|call 0 65599 65599;enter 0 0 pair 0 65599;fail 71 16
+-||move c1 rcode;move c2 rdata|halt|&|halt|call 0 65599 65599;enter 0 0 pair 0 65599;fail 69 17
+-||move c1 rcode|halt|&|halt|call 0 65599 65599;enter 0 0 pair 0 65599;fail 68 17
+-||move c2 rdata|halt|&|halt|call 0 65599 65599;enter 0 0 pair 0 65599;fail 68 16
+-||move c1 a0;move c2 a1;move a0 0|halt|load a0 data;cca data 1;load a1 data;cca data -1;&|halt|call 0 65599 65599;enter 0 0 pair 0 65599;call_in 1 65598 65598;fail 117 16
+O|||halt|halt|halt|call 0 65599 65599;halt 16
+I|||halt|halt|halt|fail 0 16
+N|||halt|halt|halt|fail 0 16
+R|||halt|halt|halt|fail 0 16
+B|||halt|halt|halt|fail 0 16
+E|||halt|halt|halt|fail 0 16
+2|||halt|move stk g0;&|halt|call 0 65599 65599;enter 0 0 pair 0 65599;fail 68 16
+2||cca stk -3|halt|move stk g0;&|halt|call 0 65599 65599;enter 0 0 pair 0 65599;fail 69 16";
+
+// Entries: each wrong stk, at `main` and by what `adv` can do; and what an `xjmp rcode rdata` would do.
+const ENTRIES: &[u8] = b"\
+o|||halt|halt|halt|call 0 65599 65599;halt 39
+i|||halt|halt|halt|fail 0 20
+n|||halt|halt|halt|fail 0 20
+r|||halt|halt|halt|fail 0 20
+b|||halt|halt|halt|fail 0 20
+-|||halt|move stk 0;&|halt|call 0 65599 65599;enter 0 0 pair 0 65599;fail 44 20
+-|||halt|restrict stk 1;&|halt|call 0 65599 65599;enter 0 0 pair 0 65599;fail 44 20
+-|||halt|split g0 stk stk 65540;&|halt|call 0 65599 65599;enter 0 0 pair 0 65599;fail 44 20
+-|||halt|move rcode 0;&|halt|call 0 65599 65599;enter 0 0 bad;call 1 65598 65598;halt 84
+-|||halt|load rcode data;cca data 1;load rdata data;cca data -1;&|halt|call 0 65599 65599;enter 0 0 hop 0 0;call 1 65598 65598;halt 87
+-||xjmp rcode rdata|halt|cca data 2;load rcode data;cca data 1;load rdata data;cca data -3;&|halt|call 0 65599 65599;enter 0 0 out;left 0;halt 73";
+
+// Returns: a pair that is moved, stored, loaded and copied; by trusted code; one inside another. Then an older
+// pair, halves of two calls, a stack one short, none, and one above the base, and words that are no halves.
+const RETURNS: &[u8] = b"\
+-|||halt|move g1 rdata;move g2 rcode;xjmp g2 g1|halt|call 0 65599 65599;ret 0 65599 65599;halt 52
+-|||halt|store data rdata;load g1 data;xjmp rcode g1|halt|call 0 65599 65599;ret 0 65599 65599;halt 52
+-|||halt|store stk rdata;load rdata stk;xjmp rcode rdata|halt|call 0 65599 65599;ret 0 65599 65599;halt 52
+-||xjmp rcode rdata|halt|&|halt|call 0 65599 65599;enter 0 0 pair 0 65599;ret_in 0 65599 65599;halt 78
+-|||halt|&|xjmp rcode rdata|call 0 65599 65599;enter 0 0 pair 0 65599;call 1 65598 65598;ret 1 65598 65598;halt 94
+-||cca data 1;store data rcode;cca data 1;store data rdata|load rdata data;cca data -1;load rcode data;xjmp rcode rdata|&|xjmp rcode rdata|call 0 65599 65599;enter 0 0 pair 0 65599;call 1 65598 65598;ret 1 65598 65598;ret_in 0 65599 65599;halt 112
+-|||halt|move g0 rcode;cca data 4;store data rdata;cca data -4;&|cca data 4;load g1 data;xjmp g0 g1|call 0 65599 65599;enter 0 0 bad;call 1 65598 65598;fail 89 11
+-|||halt|move g0 rcode;&|xjmp g0 rdata|call 0 65599 65599;enter 0 0 pair 0 65599;call 1 65598 65598;fail 84 11
+-|||halt|cca data 4;store data rdata;cca data -4;&|cca data 4;load g1 data;xjmp rcode g1|call 0 65599 65599;enter 0 0 bad;call 1 65598 65598;fail 88 11
+-|||halt|split stk g0 stk 65597;xjmp rcode rdata|halt|call 0 65599 65599;fail 40 11
+-|||halt|move stk 0;xjmp rcode rdata|halt|call 0 65599 65599;fail 40 11
+-|||halt|restrict stk 1;xjmp rcode rdata|halt|call 0 65599 65599;fail 40 11
+-|||halt|split g0 stk stk 65540;xjmp rcode rdata|halt|call 0 65599 65599;fail 40 11
+-|||halt|xjmp g0 rdata|halt|call 0 65599 65599;fail 39 1
+-|||halt|xjmp rcode g0|halt|call 0 65599 65599;fail 39 11
+-|||halt|xjmp rdata rcode|halt|call 0 65599 65599;fail 39 1";
+
+const ENTER_AGAIN: &[u8] = b"load c1 data\ncca data 1\nload c2 data\nxjmp c1 c2";
+
+// The lines of a field, if there are any.
+fn push_lines(text: &mut Vec<u8>, lines: &[u8]) -> Result<(), AllocError> {
+    for byte in lines {
+        match *byte {
+            b';' => text.push(b'\n')?,
+            b'&' => text.extend_from_slice(ENTER_AGAIN)?,
+            byte => text.push(byte)?,
+        }
+    }
+    text.push(b'\n')?;
+    Ok(())
+}
+
+fn push_call(text: &mut Vec<u8>, index: &[u8]) -> Result<(), AllocError> {
+    text.extend_from_slice(CALL)?;
+    text.extend_from_slice(index)?;
+    text.extend_from_slice(CALL_ON)?;
+    text.extend_from_slice(RETURN)
+}
+
+// The text of `t`, with lines before its first call, before its second, and behind that.
+fn trusted_text(
+    alloc: Global,
+    before_first: &[u8],
+    before_second: &[u8],
+    last: &[u8],
+) -> Result<Vec<u8>, AllocError> {
+    let mut text = Vec::from_slice(alloc, T_BEGIN)?;
+    text.extend_from_slice(ENTRY)?;
+    text.extend_from_slice(LOAD_GO)?;
+    push_lines(&mut text, before_first)?;
+    text.extend_from_slice(b"first: ")?;
+    push_call(&mut text, b"0")?;
+    text.extend_from_slice(b"halt\nagain: ")?;
+    text.extend_from_slice(ENTRY)?;
+    text.extend_from_slice(LOAD_BACK)?;
+    push_lines(&mut text, before_second)?;
+    text.extend_from_slice(b"second: ")?;
+    push_call(&mut text, b"1")?;
+    push_lines(&mut text, last)?;
+    text.extend_from_slice(T_END)?;
+    Ok(text)
+}
+
+fn adv_text(alloc: Global, go: &[u8], back: &[u8]) -> Result<Vec<u8>, AllocError> {
+    let mut text = Vec::from_slice(alloc, ADV_BEGIN)?;
+    push_lines(&mut text, go)?;
+    text.extend_from_slice(b"back: ")?;
+    push_lines(&mut text, back)?;
+    text.extend_from_slice(ADV_END)?;
+    Ok(text)
+}
+
+fn part_of(rt: &impl Abort, alloc: Global, text: &[u8], trusted: bool) -> Part {
+    assert!(rt; text.len() < 100_000);
+    let component = match assemble(alloc, text) {
+        Ok(component) => component,
+        Err(fault) => panic!(rt; "not assembled: {} at {}", fault.number(), fault.place()),
+    };
+    match accept(component, trusted) {
+        Ok(part) => part,
+        Err(broken) => panic!(rt; "{broken}"),
+    }
+}
+
+// The start of `t` and `adv` with these lines, and a stack of 64 words, 65,536 to 65,599.
+fn start_of(rt: &impl Abort, alloc: Global, lines: [&[u8]; 5]) -> Result<Start, AllocError> {
+    let t = trusted_text(alloc, lines[0], lines[1], lines[2])?;
+    let adv = adv_text(alloc, lines[3], lines[4])?;
+    let mut parts = Vec::new(alloc);
+    parts.push(part_of(rt, alloc, t.as_slice(), true))?;
+    parts.push(part_of(rt, alloc, adv.as_slice(), false))?;
+    match link(alloc, &parts, 64) {
+        Ok(start) => Ok(start),
+        Err(fault) => panic!(rt; "{fault}"),
+    }
+}
+
+fn set(start: &mut Start, r: Reg, word: Word) {
+    start.state_mut().set(Place::R(r), Held::of(word));
+}
+
+fn stack_cap(perm: Perm, lin: Lin, base: u32, end: u32) -> Word {
+    if base <= end && end < 1_000_000 {
+        Word::Mem(Cap::new(perm, lin, base, end, 65_599))
+    } else {
+        Word::Int(0)
+    }
+}
+
+// By its letter, what a case has of stk by hand, since linked parts never come to it: the own stack, integer 0,
+// one that isn't linear, without w, above the base, past the end; and for 2 a second stack in g0. A capital
+// letter: at the first call.
+fn set_by_hand(rt: &impl Abort, start: &mut Start, letter: u8) {
+    if letter.is_ascii_uppercase() {
+        assert!(rt; start.state().count() == 0);
+        let _ = start.state_mut().run(23);
+    }
+    match letter.to_ascii_lowercase() {
+        b'o' => set(
+            start,
+            Reg::Stk,
+            stack_cap(Perm::Rw, Lin::Linear, 65_536, 65_599),
+        ),
+        b'i' => set(start, Reg::Stk, Word::Int(0)),
+        b'n' => set(
+            start,
+            Reg::Stk,
+            stack_cap(Perm::Rw, Lin::Normal, 65_536, 65_599),
+        ),
+        b'r' => set(
+            start,
+            Reg::Stk,
+            stack_cap(Perm::R, Lin::Linear, 65_536, 65_599),
+        ),
+        b'b' => set(
+            start,
+            Reg::Stk,
+            stack_cap(Perm::Rw, Lin::Linear, 65_537, 65_599),
+        ),
+        b'e' => set(
+            start,
+            Reg::Stk,
+            stack_cap(Perm::Rw, Lin::Linear, 65_536, 65_600),
+        ),
+        b'2' => set(
+            start,
+            Reg::G0,
+            stack_cap(Perm::Rw, Lin::Linear, 65_536, 65_599),
+        ),
+        _ => {}
+    }
+}
+
+fn back_text(alloc: Global, back: Back) -> Result<String, AllocError> {
+    match back {
+        Back::Out => String::from_str(alloc, "out"),
+        Back::Bad => String::from_str(alloc, "bad"),
+        Back::Hop(part, entry) => format!(in alloc; "hop {part} {entry}"),
+        Back::Pair(site, base) => format!(in alloc; "pair {site} {base}"),
+    }
+}
+
+fn within(trusted: bool) -> &'static str {
+    if trusted { "_in" } else { "" }
+}
+
+fn event_text(alloc: Global, event: Event) -> Result<String, AllocError> {
+    match event {
+        Event::Called {
+            trusted,
+            site,
+            base,
+            end,
+        } => { format!(in alloc; "call{} {site} {base} {end};", within(trusted)) }
+        Event::Returned {
+            trusted,
+            site,
+            base,
+            end,
+        } => { format!(in alloc; "ret{} {site} {base} {end};", within(trusted)) }
+        Event::Entered { part, entry, back } => {
+            format!(in alloc; "enter {part} {entry} {};", back_text(alloc, back)?)
+        }
+        Event::Left { part } => format!(in alloc; "left {part};"),
+    }
+}
+
+const REGS: [Reg; 16] = [
+    Reg::Pc,
+    Reg::Rcode,
+    Reg::Rdata,
+    Reg::Stk,
+    Reg::Dat,
+    Reg::T1,
+    Reg::T2,
+    Reg::C1,
+    Reg::C2,
+    Reg::A0,
+    Reg::A1,
+    Reg::A2,
+    Reg::A3,
+    Reg::G0,
+    Reg::G1,
+    Reg::G2,
+];
+
+// The plain machine goes on for the weight of a step, and its registers are what the overlay's words stand
+// for; or it ends within the weight.
+fn plain_follows(rt: &impl Abort, overlay: &Overlay, start: &mut Start, weight: u32, went: bool) {
+    assert!(rt; start.state().count() < 10_000);
+    let step = start.state_mut().run(u64::from(weight));
+    assert_eq!(rt; step == lcm_machine::Step::Went, went);
+    for r in REGS {
+        if went {
+            let flat = overlay.flat_text(overlay.reg(r));
+            assert_eq!(rt; flat.as_str(), word_text(start.state().reg(r)).as_str());
+        }
+    }
+}
+
+// What is told of a run. Where nothing was set by hand, the plain machine is run beside it.
+fn told(
+    rt: &impl Abort,
+    alloc: Global,
+    start: &mut Start,
+    linked: bool,
+) -> Result<String, AllocError> {
+    let mut overlay = Overlay::of_start(alloc, start)?;
+    let mut text = String::new(alloc);
+    for _ in 0..200 {
+        let weight = overlay.next_weight();
+        assert!(rt; overlay.weight() < 10_000);
+        let step = overlay.step();
+        if linked {
+            let went = matches!(step, OStep::Went(_));
+            plain_follows(rt, &overlay, start, weight, went);
+        }
+        match step {
+            OStep::Went(None) => {}
+            OStep::Went(Some(event)) => text.push_str(event_text(alloc, event)?.as_str())?,
+            OStep::Halted => {
+                text.push_str(format!(in alloc; "halt {}", overlay.weight())?.as_str())?;
+                return Ok(text);
+            }
+            OStep::Failed => {
+                text.push_str(format!(in alloc; "fail {} {weight}", overlay.weight())?.as_str())?;
+                return Ok(text);
+            }
+        }
+    }
+    Ok(text)
+}
+
+fn runs_as_told(rt: &impl Abort, alloc: Global, line: &[u8]) -> Result<(), AllocError> {
+    let mut fields = line.split(|byte| *byte == b'|');
+    let letter = *fields.next().unwrap_or(b"").first().unwrap_or(&b'-');
+    let lines = [
+        fields.next().unwrap_or(b""),
+        fields.next().unwrap_or(b""),
+        fields.next().unwrap_or(b""),
+        fields.next().unwrap_or(b""),
+        fields.next().unwrap_or(b""),
+    ];
+    let mut start = start_of(rt, alloc, lines)?;
+    set_by_hand(rt, &mut start, letter);
+    let text = told(rt, alloc, &mut start, letter == b'-')?;
+    assert_eq!(rt; text.as_bytes(), fields.next().unwrap_or(b""), "{text}");
+    Ok(())
+}
+
+#[test]
+fn calls_entries_and_returns_ask_for_what_they_need(rt: HostRuntime) -> Result<(), Fail> {
+    for cases in [CALLS, ENTRIES, RETURNS] {
+        for line in cases.split(|byte| *byte == b'\n') {
+            runs_as_told(&rt, rt.alloc(), line)?;
+        }
+    }
+    Ok(())
+}
+
+fn stands_for(rt: &impl Abort, overlay: &Overlay, words: &[(Reg, &str)]) {
+    for (r, text) in words {
+        assert_eq!(rt; overlay.flat_text(overlay.reg(*r)).as_str(), *text);
+    }
+}
+
+// Steps that go, up to this weight.
+fn step_to(rt: &impl Abort, overlay: &mut Overlay, weight: u64) {
+    for _ in 0..10 {
+        assert!(rt; overlay.weight() < 100);
+        if overlay.weight() < weight {
+            assert!(rt; matches!(overlay.step(), OStep::Went(_)));
+        }
+    }
+    assert_eq!(rt; overlay.weight(), weight);
+}
+
+#[test]
+fn what_an_entry_a_call_and_a_return_leave(rt: HostRuntime) -> Result<(), Fail> {
+    let lines: [&[u8]; 5] = [b"", b"", b"halt", b"xjmp rcode rdata", b"halt"];
+    let start = start_of(&rt, rt.alloc(), lines)?;
+    let mut overlay = Overlay::of_start(rt.alloc(), &start)?;
+    step_to(&rt, &mut overlay, 20);
+    stands_for(&rt, &overlay, &ENTERED);
+    step_to(&rt, &mut overlay, 39);
+    stands_for(&rt, &overlay, &CALLED);
+    assert!(&rt; overlay.has_cell(65_598) && !overlay.has_cell(65_599));
+    assert_eq!(&rt; overlay.frame_size(), 1);
+    let first = overlay.flat_text(overlay.frame_word(0));
+    assert_eq!(&rt; first.as_str(), "cap(rw,nor,8192,8197,8193)");
+    step_to(&rt, &mut overlay, 50);
+    stands_for(&rt, &overlay, &RETURNED);
+    assert!(&rt; overlay.has_cell(65_599));
+    assert_eq!(&rt; overlay.flat_text(overlay.cell(65_599)).as_str(), "0");
+    assert_eq!(&rt; overlay.frame_size(), 0);
+    Ok(())
+}
+
+const ENTERED: [(Reg, &str); 4] = [
+    (Reg::Pc, "cap(rx,nor,4096,4198,4118)"),
+    (Reg::Stk, "cap(rw,lin,65536,65599,65599)"),
+    (Reg::T1, "0"),
+    (Reg::T2, "0"),
+];
+
+const CALLED: [(Reg, &str); 7] = [
+    (Reg::Pc, "cap(rwx,nor,12288,12289,12288)"),
+    (Reg::Dat, "cap(rw,nor,16384,16388,16384)"),
+    (Reg::Rcode, "sealed(11,cap(rx,nor,4096,4198,4137))"),
+    (Reg::Rdata, "sealed(11,cap(rw,lin,65599,65599,65599))"),
+    (Reg::Stk, "cap(rw,lin,65536,65598,65598)"),
+    (Reg::T1, "0"),
+    (Reg::T2, "0"),
+];
+
+const RETURNED: [(Reg, &str); 7] = [
+    (Reg::Pc, "cap(rx,nor,4096,4198,4147)"),
+    (Reg::Dat, "cap(rw,nor,8192,8197,8193)"),
+    (Reg::Rcode, "sealed(11,cap(rx,nor,4096,4198,4137))"),
+    (Reg::Rdata, "0"),
+    (Reg::Stk, "cap(rw,lin,65536,65599,65599)"),
+    (Reg::T1, "0"),
+    (Reg::T2, "0"),
+];
