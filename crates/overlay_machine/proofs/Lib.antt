@@ -23,6 +23,7 @@ mod EntryAgrees
 mod OtherAgrees
 pub mod OneStep
 pub mod RunsAgree
+pub mod BracketLemmas
 mod Instance
 pub mod invariant
 pub mod starts

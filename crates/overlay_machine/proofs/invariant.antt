@@ -24,3 +24,4 @@ pub mod StepQuiet
 pub mod FramePrivate
 pub mod Covered
 pub mod Bracketed
+pub mod MarksPrivate

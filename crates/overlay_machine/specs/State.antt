@@ -5,6 +5,7 @@ use Rattle.std.specs.Option.{option_or}
 use Rattle.std.specs.Ordering.{nat_cmp}
 use Rattle.std.specs.FinMap as map
 use Rattle.lcm_machine.specs.Maps.{State}
+use Rattle.lcm_machine.specs.Cells.{cell}
 use Rattle.overlay_machine.specs.declared.words.OWord.{OWord}
 
 -- the frame of an open call: the words of the cells from base to end, which are not in memory

@@ -42,10 +42,11 @@ use Rattle.overlay_machine.specs.Flat.{flat, beside}
 use Rattle.overlay_machine.specs.Events.{site_of_seal, site_opened, owner_now, note_call, note_return, note_jump, note_by, jump_seal, closure_owner, entry_number, back_of, shown, entered as event_entered, jumped, event_after, step_event}
 use Rattle.overlay_machine.specs.Agree.{ReadyFor, AtSite, AtEntry, AtReturn, FrameSound, IsKnown, AllKnown, IsForeign}
 use Rattle.overlay_machine.specs.Runs.{Reached, begins, goes_on, plain_run}
-use Rattle.overlay_machine.specs.Brackets.{FrameTold, Mark, opens, closes, flat_cell, if_there, words_at, marks_by, marks_of, Marked, none_yet, and_then, Brackets, at_end, one_opens, one_closes, frames_told, AreBracketed}
+use Rattle.overlay_machine.specs.Brackets.{FrameTold, Mark, opens, closes, flat_cell, if_there, words_at, marks_by, marks_of, Marked, none_yet, and_then, Brackets, at_end, one_opens, one_closes, frame_told, frames_told, AreBracketed}
 use Rattle.overlay_machine.specs.Link.{Link}
 use Rattle.overlay_machine.specs.Linked.{Linked}
 use Rattle.overlay_machine.specs.Invariant.{Invariant, FrameLies, FramesLie}
+use Rattle.overlay_machine.proofs.BracketLemmas.{joined}
 use Rattle.overlay_machine.proofs.FrameWords.{words_from-at, words_from-past, word_of-within, flat-other, known-other, put_back-in}
 use Rattle.overlay_machine.proofs.RunsAgree.{good_at}
 use Rattle.overlay_machine.proofs.invariant.Ready.{ready, known}
@@ -56,12 +57,6 @@ use Rattle.overlay_machine.proofs.invariant.ReturnKept.{Returned, returned}
 use Rattle.overlay_machine.proofs.invariant.Kept.{kept}
 
 -- ---- lists
-
--- brackets one after the other
-joined : {xs ys zs : List FrameTold} {ms ns : List Mark} → Brackets xs ms ys → Brackets ys ns zs → Brackets xs (ms ++ ns) zs
-joined (at_end _) k = k
-joined (one_opens h) k = one_opens (joined h k)
-joined (one_closes h) k = one_closes (joined h k)
 
 -- the words that stand at addresses, one after another
 words_taken : (m : ℕ → Option Word) (a : ℕ) (ws : List Word) → ((j : ℕ) (w : Word) → slice_get ws j ≡ Some w → m (a + j) ≡ Some w) → (n : ℕ) → n ≤ length ws → words_at m a n ≡ take n ws
@@ -164,6 +159,17 @@ return_shows l m o s c f fs st so =
     ∙ ap (λ ws. flat l fs (Plain so.first) ∷ ws) others
     ∙ sym (ap (map (flat l fs)) so.words)
 
+-- how a step moves the list of frames, with its marks
+pub data Moves (l : Layout) (before after : List OpenFrame) (ms : List (Mark FrameTold)) : Type 0 where
+  stays : ms ≡ [] → after ≡ before → Moves l before after ms
+  pushes : (f : OpenFrame) → ms ≡ opens (frame_told l f before) ∷ [] → after ≡ f ∷ before → Moves l before after ms
+  pops : (f : OpenFrame) → ms ≡ closes (frame_told l f after) ∷ [] → before ≡ f ∷ after → Moves l before after ms
+
+tells : (l : Layout) (before after : List OpenFrame) (ms : List (Mark FrameTold)) → Moves l before after ms → Brackets FrameTold (frames_told l before) ms (frames_told l after)
+tells l before after ms (stays e a) = subst (λ y. Brackets FrameTold (frames_told l before) y (frames_told l after)) (sym e) (subst (λ y. Brackets FrameTold (frames_told l before) [] (frames_told l y)) (sym a) (at_end _))
+tells l before after ms (pushes f e a) = subst (λ y. Brackets FrameTold (frames_told l before) y (frames_told l after)) (sym e) (subst (λ y. Brackets FrameTold (frames_told l before) (opens (frame_told l f before) ∷ []) (frames_told l y)) (sym a) (one_opens (at_end _)))
+tells l before after ms (pops f e a) = subst (λ y. Brackets FrameTold (frames_told l before) y (frames_told l after)) (sym e) (subst (λ y. Brackets FrameTold (frames_told l y) (closes (frame_told l f after) ∷ []) (frames_told l after)) (sym a) (one_closes (at_end _)))
+
 module _ (g : Link) (linked : Linked g) where
   abbrev L : Layout
   L = g.layout
@@ -209,64 +215,55 @@ module _ (g : Link) (linked : Linked g) where
       by_seal (Some seal) = jump_silent q (option_map (λ p. p.part) (owner_now L o)) seal
 
   module _ (o : OState) (t : State Word) (inv : Invariant g o t) (q : OState) (u : State Word) (inv' : Invariant g q u) where
-    abbrev marks : Case → List Mark
+    abbrev marks : Case → List (Mark FrameTold)
     marks c = marks_by L q (event_after L (note_by L o c) q)
 
-    abbrev TellsBy : List Mark → Type 0
-    TellsBy ms = Brackets (frames_told L o.frames) ms (frames_told L q.frames)
-
-    call_tells : (i : ℕ) → AtSite L i o → Called L i o q → TellsBy (marks (Call i))
-    call_tells i r x =
+    call_moves : (i : ℕ) → AtSite L i o → Called L i o q → Moves L o.frames q.frames (marks (Call i))
+    call_moves i r x =
         let f : OpenFrame = new_frame i (address x.cap.addr) x.cap.end o in
         let new : OState = record { maps = x.maps; frames = f ∷ o.frames; calls = o.calls + 1 } in
         let k : FramesLie L x.maps.cells (o.calls + 1) (f ∷ o.frames) = subst (λ y. FramesLie L y.maps.cells y.calls y.frames) x.result inv'.frames in
         let words = call_shows L x.maps (o.calls + 1) f o.frames k.0 (new_known i (address x.cap.addr) x.cap.end o (known g linked o t inv)) in
         let note = calls_noted i o x.plain1 r.foreign in
-        let line : marks_by L new (event_after L (note_by L o (Call i)) new) ≡ opens (record { site = i; base = f.base; end = f.end; words = map (flat L o.frames) f.words }) ∷ [] =
+        let line : marks_by L new (event_after L (note_by L o (Call i)) new) ≡ opens (frame_told L f o.frames) ∷ [] =
         ap (λ n. marks_by L new (event_after L n new)) note ∙ ap (λ ws. opens (record { site = i; base = f.base; end = f.end; words = ws }) ∷ []) words in
-        subst (λ y. Brackets (frames_told L o.frames) (marks_by L y (event_after L (note_by L o (Call i)) y)) (frames_told L y.frames)) (sym x.result)
-        (subst (λ ms. Brackets (frames_told L o.frames) ms (frames_told L (f ∷ o.frames))) (sym line) (one_opens (at_end _)))
+        pushes f (ap (λ y. marks_by L y (event_after L (note_by L o (Call i)) y)) x.result ∙ line) (ap (λ y. y.frames) x.result)
 
-    back_tells : (r1 r2 : Reg) → AtReturn L r1 r2 o → Returned L r1 r2 o q → TellsBy (marks (Back r1 r2))
-    back_tells r1 r2 rd x =
+    back_moves : (r1 r2 : Reg) → AtReturn L r1 r2 o → Returned L r1 r2 o q → Moves L o.frames q.frames (marks (Back r1 r2))
+    back_moves r1 r2 rd x =
         let f : OpenFrame = x.frame in
         let new : OState = resumed x.site x.cap x.frame x.older (put o.maps (R r2) (zero_word Plain)) o in
         let words = return_shows L o.maps.cells o x.site x.cap x.frame x.older (put o.maps (R r2) (zero_word Plain)) (rd.frames x.frame x.older x.frames_are) in
-        let line : marks_by L new (event_after L (note_by L o (Back r1 r2)) new) ≡ closes (record { site = f.site; base = f.base; end = f.end; words = map (flat L x.older) f.words }) ∷ [] =
+        let line : marks_by L new (event_after L (note_by L o (Back r1 r2)) new) ≡ closes (frame_told L f x.older) ∷ [] =
         ap (λ fs. marks_by L new (event_after L (note_return (is_some (owner_now L o)) fs) new)) x.frames_are ∙ ap (λ ws. closes (record { site = f.site; base = f.base; end = f.end; words = ws }) ∷ []) words in
-        subst (λ y. Brackets (frames_told L o.frames) (marks_by L y (event_after L (note_by L o (Back r1 r2)) y)) (frames_told L y.frames)) (sym x.result)
-        (subst (λ fs. Brackets (frames_told L fs) (marks_by L new (event_after L (note_by L o (Back r1 r2)) new)) (frames_told L x.older)) (sym x.frames_are)
-        (subst (λ ms. Brackets (frames_told L (f ∷ x.older)) ms (frames_told L x.older)) (sym line) (one_closes (at_end _))))
+        let older : q.frames ≡ x.older = ap (λ y. y.frames) x.result in
+        pops f (ap (λ y. marks_by L y (event_after L (note_by L o (Back r1 r2)) y)) x.result ∙ line ∙ ap (λ fs. closes (frame_told L f fs) ∷ []) (sym older)) (x.frames_are ∙ ap (λ fs. f ∷ fs) (sym older))
 
-    same_tells : (ms : List Mark) → ms ≡ [] → q.frames ≡ o.frames → TellsBy ms
-    same_tells ms n e = subst TellsBy (sym n) (subst (λ y. Brackets (frames_told L o.frames) [] (frames_told L y)) (sym e) (at_end _))
+    entry_moves : (a : ℕ) → AtEntry L a o → step_by L (Entry a) o ≡ goes q → Moves L o.frames q.frames (marks (Entry a))
+    entry_moves a r e = stays refl (let n = entered g linked o t inv q a (code_cap r.base r.end a) r.pc e in ap (λ y. y.frames) n.2)
 
-    entry_tells : (a : ℕ) → AtEntry L a o → step_by L (Entry a) o ≡ goes q → TellsBy (marks (Entry a))
-    entry_tells a r e = same_tells _ refl (let n = entered g linked o t inv q a (code_cap r.base r.end a) r.pc e in ap (λ y. y.frames) n.2)
-
-    other_tells : other_step o ≡ goes q → TellsBy (marks Other)
+    other_moves : other_step o ≡ goes q → Moves L o.frames q.frames (marks Other)
     unfolding other_step
-    other_tells e = same_tells _ (other_silent o q) (let n = went_other o.frames o.calls (step_of look Plain o.maps) q e in ap (λ y. y.frames) n.2)
+    other_moves e = stays (other_silent o q) (let n = went_other o.frames o.calls (step_of look Plain o.maps) q e in ap (λ y. y.frames) n.2)
 
-    tells_by : (c : Case) → ReadyFor L o c → step_by L c o ≡ goes q → TellsBy (marks c)
-    tells_by (Call i) r e = call_tells i r (called L i o q e)
-    tells_by (Entry a) r e = entry_tells a r e
-    tells_by (Back r1 r2) r e = back_tells r1 r2 r (returned L r1 r2 o q e)
-    tells_by Other r e = other_tells e
+    moves_by : (c : Case) → ReadyFor L o c → step_by L c o ≡ goes q → Moves L o.frames q.frames (marks c)
+    moves_by (Call i) r e = call_moves i r (called L i o q e)
+    moves_by (Entry a) r e = entry_moves a r e
+    moves_by (Back r1 r2) r e = back_moves r1 r2 r (returned L r1 r2 o q e)
+    moves_by Other r e = other_moves e
 
-    -- a step takes the open frames to the open frames
-    step_tells : overlay_step L o ≡ goes q → TellsBy (marks_of L o q)
+    pub step_moves : overlay_step L o ≡ goes q → Moves L o.frames q.frames (marks_of L o q)
     unfolding overlay_step step_event
-    step_tells e = tells_by (case_of L o.maps) (ready g linked o t inv) e
+    step_moves e = moves_by (case_of L o.maps) (ready g linked o t inv) e
 
   -- ---- runs
 
   module _ (o : OState) (t : State Word) (inv : Invariant g o t) where
-    reached : (j : ℕ) (ms : List Mark) (p : OState) → Marked L o j ms p → Reached L o j p
+    pub reached : (j : ℕ) (ms : List (Mark FrameTold)) (p : OState) → Marked L o j ms p → Reached L o j p
     reached _ _ _ none_yet = begins
     reached _ _ q (and_then {j = j} {ms = ms} {p = p} r e) = goes_on (reached j ms p r) e
 
-    matched : (j : ℕ) (p : OState) → Reached L o j p → (u : State Word) × (plain_run j t ≡ went u) × Invariant g p u
+    pub matched : (j : ℕ) (p : OState) → Reached L o j p → (u : State Word) × (plain_run j t ≡ went u) × Invariant g p u
     matched j p r = good_at L (Invariant g) (λ q u i. i.flat) (λ q u i. kept g linked q u i) o t inv j p r
 
     pub bracketed : AreBracketed L o
@@ -274,4 +271,4 @@ module _ (g : Link) (linked : Linked g) where
     bracketed _ _ q (and_then {j = j} {ms = ms} {p = p} r e) =
         let s = matched j p (reached j ms p r) in
         let s' = matched (j + weight_of L p) q (goes_on (reached j ms p r) e) in
-        joined (bracketed j ms p r) (step_tells p s.0 s.2 q s'.0 s'.2 e)
+        joined (bracketed j ms p r) (tells L p.frames q.frames (marks_of L p q) (step_moves p s.0 s.2 q s'.0 s'.2 e))
