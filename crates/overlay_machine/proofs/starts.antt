@@ -5,5 +5,6 @@ pub mod RegionsApart
 pub mod LayoutFacts
 pub mod LinkedFacts
 pub mod StartSafe
+pub mod OneOverlay
 pub mod StartInvariant
 pub mod StartInstance

@@ -1,5 +1,5 @@
 //! What holds of the overlay's definitions. These functions do nothing; their contracts are the laws.
-ghost use Rattle.std.specs.Prelude.{◌≡◌, ℕ};
+ghost use Rattle.std.specs.Prelude.{◌≡◌, ◌↔◌, ℕ, List};
 ghost use Rattle.cap_words.specs.declared.Word.{Word};
 ghost use Rattle.lcm_machine.specs.Maps.{State};
 ghost use Rattle.lcm_machine.specs.Row.{went};
@@ -14,7 +14,11 @@ ghost use Rattle.overlay_machine.specs.Linked.{Linked};
 ghost use Rattle.overlay_machine.specs.Invariant.{Invariant, StepsKeep};
 ghost use Rattle.overlay_machine.specs.Cover.{CoverIsOnce};
 ghost use Rattle.overlay_machine.specs.Privacy.{AllFramesArePrivate};
-ghost use Rattle.overlay_machine.specs.Starting.{StartsBegin, StartThere};
+ghost use Rattle.component_linker.specs.Parts.{PartSeen};
+ghost use Rattle.component_linker.specs.Started.{StartSeen};
+ghost use Rattle.component_linker.specs.Answer.{LinksTo};
+ghost use Rattle.overlay_machine.specs.Seen.{OverlaySeen, IsOverlayOf};
+ghost use Rattle.overlay_machine.specs.Starting.{AreParts, overlay_at, StartsBegin, AgreesFromStart, StartThere};
 
 use call_sequence::laws::sequences_stand_word_by_word;
 use flow_check::laws::sequences_stand;
@@ -87,6 +91,28 @@ pub fn starts_begin()
 {
     sequences_stand();
     sequences_stand_word_by_word();
+}
+
+/// A linked start has one overlay, which is a function of the start.
+pub fn a_start_has_one_overlay()
+    ensures { (parts : List PartSeen) (size : ℕ) (s : StartSeen) → AreParts parts → LinksTo parts size s
+        → (o : OverlaySeen) → IsOverlayOf s o ↔ (o ≡ overlay_at s) }
+{}
+
+/// The plain run from a linked start and the run of its overlay agree, and frames are private.
+///
+/// Let a start be one that `link` makes of some accepted parts with some size of stack. Then the plain
+/// run from it and the run of its overlay agree at matched points, in halts and in failures. At each
+/// matched point the invariant holds, and from there on, as long as a call stays open, nothing touches
+/// its frame. Of the parts no more is asked than that they were accepted and linked.
+pub fn linked_starts_agree()
+    ensures { (parts : List PartSeen) (size : ℕ) (s : StartSeen) → AreParts parts → LinksTo parts size s
+        → AgreesFromStart parts size s }
+{
+    starts_begin();
+    a_start_has_one_overlay();
+    linked_runs_agree();
+    frames_are_private();
 }
 
 /// There are such parts, with a start and its overlay: one trusted, with a site and an entry, and one

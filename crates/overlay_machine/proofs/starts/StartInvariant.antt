@@ -12,7 +12,6 @@ use Rattle.lcm_machine.specs.declared.Place.TheVariants.{R, Cell}
 use Rattle.lcm_machine.specs.Maps.{Regs}
 use Rattle.lcm_machine.specs.Places.{reg}
 use Rattle.lcm_machine.specs.Cells.{cell}
-use Rattle.lcm_machine.specs.Spans.{in_spans}
 use Rattle.lcm_machine.specs.Row.{word_at}
 use Rattle.lcm_machine.specs.Regions.{Region}
 use Rattle.lcm_machine.specs.Table.{is_pc}
@@ -29,7 +28,7 @@ use Rattle.component_linker.proofs.LinksKept.{are_linked}
 use Rattle.component_linker.proofs.CodeStands.{SitesStand, EntriesStand}
 use Rattle.component_linker.proofs.RegionFacts.{stack_region_of, in_regions_is, stack_is}
 use Rattle.component_linker.proofs.StartWords.{IsExport, main_is_there}
-use Rattle.component_linker.proofs.StartCells.{spans_are_regions, cell_in_region, region_has_cell}
+use Rattle.component_linker.proofs.StartCells.{region_has_cell}
 use Rattle.overlay_machine.specs.declared.words.OWord.{OWord}
 use Rattle.overlay_machine.specs.declared.words.OWord.TheVariants.{Plain}
 use Rattle.overlay_machine.specs.declared.layout.Layout.{Layout}
@@ -43,6 +42,7 @@ use Rattle.overlay_machine.specs.Linked.{Linked}
 use Rattle.overlay_machine.specs.Invariant.{PcPart, at_row, outside, FramesLie, Invariant}
 use Rattle.overlay_machine.specs.Starting.{StartsBegin}
 use Rattle.overlay_machine.proofs.starts.ListFacts.{listed_at, index_of, first_is}
+use Rattle.overlay_machine.proofs.starts.OneOverlay.{start_word_is}
 use Rattle.overlay_machine.proofs.starts.PartFacts.{export_begins, export_within}
 use Rattle.overlay_machine.proofs.starts.LinkedFacts.{linked}
 use Rattle.overlay_machine.proofs.starts.StartSafe.{code_safe, data_safe, stack_safe, cell_safe}
@@ -89,14 +89,7 @@ module _ (site_words : SitesStand) (entry_words : EntriesStand) (parts : List Pa
 
   -- the overlay has the start's cells
   cell_plain : (a : ℕ) → cell o.state.maps.cells a ≡ option_map Plain (cell s.state.maps.cells a)
-  cell_plain a = over.cells a ∙ by_span (in_spans a s.state.maps.spans) refl (cell s.state.maps.cells a) refl
-    where
-      by_span : (b : Bool) → in_spans a s.state.maps.spans ≡ b → (x : Option Word) → cell s.state.maps.cells a ≡ x → (if b then option_map Plain (cell s.state.maps.cells a) else None) ≡ option_map Plain (cell s.state.maps.cells a)
-      by_span true h x e = refl
-      by_span false h None e = sym (ap (option_map Plain) e)
-      by_span false h (Some w) e =
-          let there = cell_in_region parts size a w made.closed (sym (link.starts.state.cells a) ∙ e) in
-          absurd (let bad : false ≡ true = sym h ∙ spans_are_regions parts size s.state.maps.spans link.starts.state.spans a ∙ there in cc)
+  cell_plain a = over.cells a ∙ start_word_is parts size s each link a
 
   start_cell_is : (a : ℕ) → cell o.state.maps.cells a ≡ option_map Plain (start_cell parts size a)
   start_cell_is a = cell_plain a ∙ ap (option_map Plain) (link.starts.state.cells a)
