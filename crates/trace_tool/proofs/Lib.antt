@@ -1,8 +1,8 @@
 mod Found
-mod Untrusted
 mod LineLemmas
 mod Names
 mod Shown
 pub mod Going
 pub mod Split
 pub mod Tracing
+mod Untrusted

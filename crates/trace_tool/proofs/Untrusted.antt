@@ -1,6 +1,8 @@
 -- Where no part is trusted, no instruction has an event.
-use Rattle.std.proofs.Common.{◌≡◌, ℕ, zero, suc, Bool, true, false, List, [], ◌∷◌, ◌++◌, Option, Some, None, refl, ap, ◌∙◌}
+use Rattle.std.proofs.Common.{◌≡◌, ℕ, zero, suc, Bool, true, false, List, [], ◌∷◌, ◌++◌, Option, Some, None, refl, sym, ap, ◌∙◌, arith, subst}
 use Rattle.std.specs.Prelude.{find, option_and_then, is_some}
+use Rattle.outside_io.specs.SinkSeen.{SinkSeen, Adds}
+use Rattle.outside_io.proofs.Writing.{adds_none}
 use Rattle.std.specs.List.{list_any}
 use Rattle.cap_words.specs.declared.Face.{Face}
 use Rattle.cap_words.specs.declared.Face.TheVariants.{Number, Memory, Seals, Sealed}
@@ -9,17 +11,22 @@ use Rattle.lcm_isa.specs.declared.Reg.{Reg}
 use Rattle.lcm_machine.specs.declared.Step.{Step}
 use Rattle.lcm_machine.specs.declared.Step.TheVariants.{Went, Halted, Failed}
 use Rattle.lcm_machine.specs.Maps.{State}
-use Rattle.lcm_machine.specs.Run.{next_state, answer}
+use Rattle.lcm_machine.specs.Run.{Run, next_state, plain, answer}
 use Rattle.component_linker.specs.declared.owners.Owner.{Owner}
 use Rattle.overlay_machine.specs.declared.layout.Layout.{Layout}
 use Rattle.overlay_machine.specs.declared.events.Event.{Event}
 use Rattle.overlay_machine.specs.Layout.{runs_in, trusted_owner}
 use Rattle.overlay_machine.specs.Events.{closure_owner}
-use Rattle.trace_tool.specs.Layout.{site_word}
+use Rattle.component_linker.specs.Started.{StartSeen}
+use Rattle.trace_tool.specs.declared.run.RunEnd.{RunEnd}
+use Rattle.trace_tool.specs.Layout.{layout, site_word}
 use Rattle.trace_tool.specs.Views.{View, view_of}
 use Rattle.trace_tool.specs.Events.{jump_at, noted_by, noted, entered, event_after}
 use Rattle.trace_tool.specs.Lines.{lines_for}
-use Rattle.trace_tool.specs.Runs.{Watched, if_went, watched, line_next, lines_of}
+use Rattle.trace_tool.specs.Texts.{lines_text}
+use Rattle.trace_tool.specs.EndLines.{end_line}
+use Rattle.trace_tool.specs.Runs.{Watched, begun, if_went, watched, line_next, lines_of, end_of, Runs, EndsBy}
+use Rattle.trace_tool.proofs.Going.{ends}
 
 -- no owner is trusted
 abbrev pub NoneTrusted : Layout → Type 0
@@ -72,3 +79,10 @@ module _ (l : Layout) (none : NoneTrusted l) where
   pub no_lines : (w : Watched) (n : ℕ) → lines_of l w n ≡ []
   no_lines w zero = refl
   no_lines w (suc n) = ap (λ x. x ++ line_next l (watched l w n)) (no_lines w n) ∙ no_line (watched l w n)
+
+-- so the end line is the whole text
+pub ends_untrusted : (init : StartSeen) (sink : SinkSeen) (steps : ℕ) (start : StartSeen) (after : SinkSeen) (step : Step) (line : List ℕ) (result : RunEnd) → NoneTrusted (layout init)
+    → start ≡ record init { state = plain steps init.state } → step ≡ answer start.state → line ≡ end_line start.state → EndsBy sink line (end_of step) after result → Runs init steps sink start after result
+ends_untrusted init sink steps start after step line result none same is last e =
+    ends init sink steps steps start sink after step line result (omega arith) same refl refl
+    (subst (λ ls. Adds sink (lines_text ls) sink) (sym (no_lines (layout init) none (begun init.state) steps)) (adds_none sink)) is last e

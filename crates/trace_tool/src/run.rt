@@ -1,5 +1,6 @@
 //! A plain run, with its lines and its end line.
-ghost use Rattle.std.specs.Prelude.{◌≡◌, ◌+◌, ◌<◌, ◌≤◌, ◌^◌, length, None, IfOk};
+ghost use Rattle.std.specs.Prelude.{◌≡◌, ◌+◌, ◌<◌, ◌≤◌, ◌^◌, length, None, IfOk, false};
+ghost use Rattle.std.specs.List.{list_any};
 ghost use Rattle.outside_io.specs.Writes.{Writes};
 ghost use Rattle.lcm_machine.specs.Run.{next_state, answer};
 ghost use Rattle.trace_tool.specs.Layout.{layout};
@@ -70,6 +71,24 @@ fn end_of(step: Step) -> RunEnd
     }
 }
 
+// Whether a part is trusted: without one there are no events.
+fn has_trusted(start: &Start) -> bool
+    ensures { result ≡ list_any (λ o. o.trusted) start.now.owners }
+{
+    start.owners().iter().any(|owner| owner.trusted)
+}
+
+// Runs so many instructions, and writes the end line.
+fn run_untrusted<S: Sink>(start: &mut Start, steps: u64, out: &mut S) -> RunEnd
+    requires untrusted { list_any (λ o. o.trusted) start.old.owners ≡ false }
+    requires count { start.old.state.count + steps ≤ 2 ^ 63 }
+    ensures { Runs start.old steps (S.seen out.old) start.new (S.seen out.new) result }
+{
+    let step = start.state_mut().run(steps);
+    let line = end_line(start.state(), step);
+    finish(out, line.as_str(), end_of(step))
+}
+
 /// Runs the machine of a start for so many instructions, or up to its end, and writes the line of
 /// each event and the end line. It takes no memory.
 ///
@@ -80,6 +99,9 @@ pub fn run_plain<S: Sink>(start: &mut Start, steps: u64, out: &mut S) -> RunEnd
     requires count { start.old.state.count + steps ≤ 2 ^ 63 }
     ensures { Runs start.old steps (S.seen out.old) start.new (S.seen out.new) result }
 {
+    if !has_trusted(start) {
+        return run_untrusted(start, steps, out);
+    }
     let mut inward = false;
     for _i in 0..steps {
         match turn(start, &mut inward, out) {
