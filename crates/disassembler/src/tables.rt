@@ -2,7 +2,8 @@
 ghost use Rattle.std.specs.Prelude.{◌≡◌, ◌++◌, ℕ, List, [], ◌∷◌, decimal, OnOk};
 ghost use Rattle.std.specs.List.{flat_map};
 ghost use Rattle.disassembler.specs.Disassembled.{behind_blank, item_line, word_line, stretch_line};
-ghost use Rattle.disassembler.specs.Disassembled.{optional_line, import_line, export_line, site_line, kind_fields, row_line};
+ghost use Rattle.disassembler.specs.Disassembled.{optional_line, import_line, export_line, site_line};
+ghost use Rattle.disassembler.specs.Disassembled.{kind_fields, row_line};
 
 use crate::line::{begin_item, end, push_number, push_operand};
 use crate::words::push_word;
