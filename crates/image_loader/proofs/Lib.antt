@@ -1,0 +1,5 @@
+pub mod FieldLaws
+pub mod PartLaws
+pub mod ImageLaws
+pub mod OneByOne
+pub mod Loaded

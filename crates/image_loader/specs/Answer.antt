@@ -1,0 +1,20 @@
+-- What loading an image answers.
+use Rattle.std.specs.Prelude.{◌≡◌, ◌⊎◌, List, ℕ, Result, Ok, Err}
+use Rattle.component_linker.specs.declared.fault.LinkFault.{LinkFault}
+use Rattle.component_linker.specs.Started.{StartSeen}
+use Rattle.component_linker.specs.Answer.{Answers}
+use Rattle.image_loader.specs.declared.fault.ImageFault.{ImageFault}
+use Rattle.image_loader.specs.declared.fault.ImageFault.TheVariants.{NoMemory}
+use Rattle.image_loader.specs.declared.reading.Image.{Image}
+use Rattle.image_loader.specs.Fault.{not_linked}
+use Rattle.image_loader.specs.Reading.{told_by, image_of}
+
+-- the first fault; or of an image what linking answers of its parts and the size of its stack
+abbrev pub LinksRead : Result Image ImageFault → Result StartSeen ImageFault → Type 0
+LinksRead (Ok i) answer =
+    (r : Result StartSeen LinkFault) × Answers i.parts i.stack r × (answer ≡ told_by not_linked r)
+LinksRead (Err e) answer = answer ≡ Err e
+
+-- so it is of the bytes, unless memory was refused
+abbrev pub Loads : List ℕ → Result StartSeen ImageFault → Type 0
+Loads bytes answer = LinksRead (image_of bytes) answer ⊎ (answer ≡ Err NoMemory)

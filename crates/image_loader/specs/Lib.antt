@@ -1,0 +1,5 @@
+pub mod Image
+pub mod Fault
+pub mod FaultText
+pub mod Reading
+pub mod Answer

@@ -1,0 +1,30 @@
+//! What holds of the spelling of images. These functions do nothing; their contracts are the laws.
+ghost use Rattle.std.specs.Prelude.{◌≡◌, ◌<◌, ◌≤◌, ◌∷◌, ◌++◌, List, ℕ, length, take, Ok, Err};
+ghost use Rattle.image_loader.specs.declared.fault.ImageFault.TheVariants.{Short, Trailing};
+ghost use Rattle.image_loader.specs.declared.reading.Image.{Image};
+ghost use Rattle.image_loader.specs.Image.{IsImage, image_bytes, Spells};
+ghost use Rattle.image_loader.specs.Reading.{image_of};
+
+/// An image has one spelling, a spelling is of one image, and no spelling begins another.
+pub fn one_spelling()
+    ensures { (i j : Image) (a b x y : List ℕ) →
+        Spells a i → Spells b j → a ++ x ≡ b ++ y → (i ≡ j) × (a ≡ b) × (x ≡ y) }
+{}
+
+/// The spelling of an image is read as that image: so what was written loads as `link` answers of the
+/// same parts and size.
+pub fn spelling_is_read()
+    ensures { (i : Image) → IsImage i → image_of (image_bytes i) ≡ Ok i }
+{}
+
+/// Bytes behind an image are too many, from the first of them on.
+pub fn no_more_is_read()
+    ensures { (i : Image) (byte : ℕ) (more : List ℕ) →
+        IsImage i → image_of (image_bytes i ++ byte ∷ more) ≡ Err (Trailing (length (image_bytes i))) }
+{}
+
+/// An image that was cut anywhere is `Short`, at a field that begins before the cut or at it.
+pub fn what_is_cut_is_short()
+    ensures { (i : Image) (n : ℕ) → IsImage i → n < length (image_bytes i) →
+        (at : ℕ) × (at ≤ n) × (image_of (take n (image_bytes i)) ≡ Err (Short at)) }
+{}
