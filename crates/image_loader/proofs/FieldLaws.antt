@@ -1,9 +1,9 @@
 -- The fields of an image, tests of them, and faults of the layers below.
-use Rattle.std.proofs.Common.{◌≡◌, ℕ, Bool, true, false, List, ◌++◌, Result, Ok, Err, refl, sym, ap, subst, ◌∙◌}
+use Rattle.std.proofs.Common.{◌≡◌, ℕ, Bool, true, false, List, Result, Ok, Err, refl, ap}
 use Rattle.cap_words.specs.declared.bytes.cursor.FieldFault.{FieldFault}
 use Rattle.cap_words.specs.declared.bytes.cursor.FieldFault.TheVariants as field_faults
 use Rattle.cap_words.specs.Reading.{Input, Reader, goes_on, ◌>>=◌}
-use Rattle.cap_words.proofs.Grammar.{Reads, All}
+use Rattle.cap_words.proofs.Grammar.{Reads}
 use Rattle.image_loader.specs.declared.fault.ImageFault.{ImageFault}
 use Rattle.image_loader.specs.declared.fault.ImageFault.TheVariants.{Short}
 use Rattle.image_loader.specs.Reading.{told_by, field, given, holds}

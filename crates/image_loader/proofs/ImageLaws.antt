@@ -11,12 +11,12 @@ use Rattle.cap_words.proofs.Fields.{number_reads, within_reads}
 use Rattle.component_file.specs.Spelling.{u16_bytes, list_bytes}
 use Rattle.component_file.proofs.FieldLaws.{four_read}
 use Rattle.component_linker.specs.declared.TheConstants.{MOST_PARTS}
-use Rattle.component_linker.specs.Parts.{PartSeen, IsPart}
+use Rattle.component_linker.specs.Parts.{IsPart}
 use Rattle.image_loader.specs.declared.TheConstants.{VERSION}
 use Rattle.image_loader.specs.declared.fault.ImageFault.{ImageFault}
 use Rattle.image_loader.specs.declared.fault.ImageFault.TheVariants.{Magic, Version, Short, Trailing}
 use Rattle.image_loader.specs.declared.reading.Image.{Image}
-use Rattle.image_loader.specs.Image.{IsImage, part_bytes, magic, image_bytes}
+use Rattle.image_loader.specs.Image.{IsImage, magic, image_bytes}
 use Rattle.image_loader.specs.Reading.{field, next_header, next_count, next_parts, next_image, finished, image_of}
 use Rattle.image_loader.proofs.FieldLaws.{reads_field, reads_tells}
 use Rattle.image_loader.proofs.PartLaws.{parts_read}

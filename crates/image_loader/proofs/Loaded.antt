@@ -1,6 +1,6 @@
 -- What loading answers, from what reading gives and linking answers.
 use Rattle.std.proofs.Common.{◌≡◌, ◌⊎◌, inl, inr, List, ℕ, Result, Ok, Err, refl, sym, ap, subst, ◌∙◌}
-use Rattle.std.specs.Prelude.{IsOk, IfOk}
+use Rattle.std.specs.Prelude.{IsOk}
 use Rattle.cap_words.proofs.Grammar.{IsBytes}
 use Rattle.component_linker.specs.declared.fault.LinkFault.{LinkFault}
 use Rattle.component_linker.specs.declared.fault.LinkFault.TheVariants as link_faults
@@ -13,7 +13,7 @@ use Rattle.image_loader.specs.declared.fault.ImageFault.{ImageFault}
 use Rattle.image_loader.specs.declared.fault.ImageFault.TheVariants.{Magic, Version, Short, BadField, Trailing, File, Rule, NoMemory}
 use Rattle.image_loader.specs.declared.reading.Image.{Image}
 use Rattle.image_loader.specs.Fault.{Fails, not_linked}
-use Rattle.image_loader.specs.Image.{Spells}
+use Rattle.image_loader.specs.Image.{IsImage, image_bytes, Spells}
 use Rattle.image_loader.specs.Reading.{told_by, image_of}
 use Rattle.image_loader.specs.Answer.{LinksRead, Loads}
 use Rattle.image_loader.proofs.ImageLaws.{found_whole, read_whole}
@@ -69,3 +69,7 @@ loads_only bytes answer i (inl h) spelled none =
     by_link (Ok s) answers e = inl (subst IsOk (sym e) refl)
     by_link (Err (link_faults.Rule at)) answers e = absurd (none answers.number answers.part answers.index answers.test answers.is answers.broken)
     by_link (Err link_faults.NoMemory) answers e = inr e
+
+pub written_links : (i : Image) (answer : Result StartSeen ImageFault) → IsImage i → Loads (image_bytes i) answer → LinksRead (Ok i) answer ⊎ (answer ≡ Err NoMemory)
+written_links i answer fits (inr e) = inr e
+written_links i answer fits (inl h) = inl (subst (λ read. LinksRead read answer) (read_whole i fits) h)

@@ -1,10 +1,9 @@
 -- A part of an image is read where it is spelled, and spelled where it was read; and so are parts, one after another.
-use Rattle.std.proofs.Common.{◌≡◌, ℕ, zero, suc, ◌+◌, ◌-◌, ◌<◌, ◌≤◌, take, inl, inr, Bool, true, List, [], ◌∷◌, ◌++◌, length, Result, Ok, Err, refl, sym, ap, subst, ◌∙◌, append_assoc, arith, length-append}
+use Rattle.std.proofs.Common.{◌≡◌, ℕ, zero, suc, ◌+◌, ◌-◌, ◌<◌, take, inl, inr, Bool, List, [], ◌∷◌, ◌++◌, length, Result, Ok, Err, refl, sym, ap, subst, ◌∙◌, append_assoc, arith, length-append}
 use Rattle.std.specs.List.{flat_map, AllByRecursion}
 use Rattle.std.proofs.lemmas.Bool.{cases_lt}
 use Rattle.std.proofs.lemmas.List.{take-append-le}
 use Rattle.std.proofs.Math.Seq.{take-append-add}
-use Rattle.cap_words.specs.declared.bytes.cursor.FieldFault.TheVariants as field_faults
 use Rattle.cap_words.specs.Reading.{Input, Reader, goes_on, ◌>>=◌, done, next_bytes, next_number}
 use Rattle.cap_words.proofs.Grammar.{IsBytes, Took, took_nothing, took_then, after, before, IsCut, cut_goes_on, Reads, All, goes_on_ok, ok_value, reads_then, reads_as}
 use Rattle.cap_words.proofs.Fields.{bytes_take, bytes_again, bytes_cut, number_reads}

@@ -1,9 +1,12 @@
 //! What holds of the spelling of images. These functions do nothing; their contracts are the laws.
-ghost use Rattle.std.specs.Prelude.{◌≡◌, ◌<◌, ◌≤◌, ◌∷◌, ◌++◌, List, ℕ, length, take, Ok, Err};
-ghost use Rattle.image_loader.specs.declared.fault.ImageFault.TheVariants.{Short, Trailing};
+ghost use Rattle.std.specs.Prelude.{◌≡◌, ◌<◌, ◌≤◌, ◌⊎◌, ◌∷◌, ◌++◌, List, ℕ, length, take, Result, Ok, Err};
+ghost use Rattle.component_linker.specs.Started.{StartSeen};
+ghost use Rattle.image_loader.specs.declared.fault.ImageFault.{ImageFault};
+ghost use Rattle.image_loader.specs.declared.fault.ImageFault.TheVariants.{Short, Trailing, NoMemory};
 ghost use Rattle.image_loader.specs.declared.reading.Image.{Image};
 ghost use Rattle.image_loader.specs.Image.{IsImage, image_bytes, Spells};
 ghost use Rattle.image_loader.specs.Reading.{image_of};
+ghost use Rattle.image_loader.specs.Answer.{LinksRead, Loads};
 
 /// An image has one spelling, a spelling is of one image, and no spelling begins another.
 pub fn one_spelling()
@@ -11,10 +14,16 @@ pub fn one_spelling()
         Spells a i → Spells b j → a ++ x ≡ b ++ y → (i ≡ j) × (a ≡ b) × (x ≡ y) }
 {}
 
-/// The spelling of an image is read as that image: so what was written loads as `link` answers of the
-/// same parts and size.
+/// The spelling of an image is read as that image.
 pub fn spelling_is_read()
     ensures { (i : Image) → IsImage i → image_of (image_bytes i) ≡ Ok i }
+{}
+
+/// What was written is loaded as `link` answers of the same parts and the same size, unless memory is
+/// refused.
+pub fn what_was_written_is_linked()
+    ensures { (i : Image) (answer : Result StartSeen ImageFault) → IsImage i → Loads (image_bytes i) answer →
+        LinksRead (Ok i) answer ⊎ (answer ≡ Err NoMemory) }
 {}
 
 /// Bytes behind an image are too many, from the first of them on.

@@ -1,4 +1,4 @@
-use Rattle.std.proofs.Common.{◌≡◌, ◌∙◌, ap, subst, arith, rules, Ok}
+use Rattle.std.proofs.Common.{◌≡◌, subst, arith, rules, Ok}
 use Rattle.std.proofs.lemmas.Result.{err_from_is_err_and}
 use Rattle.image_loader.specs.Fault.{Fails}
 use Rattle.image_loader.specs.Reading.{next_part}
