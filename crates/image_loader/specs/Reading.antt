@@ -1,6 +1,7 @@
 -- Reading an image field after field, with the first fault that is met: the header, and then of each part its
 -- header, its form and its own rules.
-use Rattle.std.specs.Prelude.{ℕ, zero, suc, ◌+◌, ◌==◌, Bool, true, false, List, [], ◌∷◌, length, Result, Ok, Err, if◌then◌else◌}
+use Rattle.std.specs.Prelude.{ℕ, zero, suc, ◌+◌, ◌==◌, Bool, true, false, List, [], ◌∷◌, length}
+use Rattle.std.specs.Prelude.{Result, Ok, Err, if◌then◌else◌}
 use Rattle.std.specs.Str.{bytes_eq}
 use Rattle.cap_words.specs.declared.bytes.cursor.FieldFault.{FieldFault}
 use Rattle.cap_words.specs.Reading.{Input, Reader, ◌>>=◌, done, meant, within, next_bytes, next_number}

@@ -27,8 +27,7 @@ pub enum ImageFault {
     /// The component of the part with this index can't be read. Places in it are counted from the
     /// component's first byte.
     File(u32, FileFault),
-    /// This is the first rule that is broken: one that a part keeps by itself, or one that they keep
-    /// together.
+    /// This is the first rule that is broken: by a part alone, or by the parts together.
     Rule(RuleAt),
     /// Memory was refused.
     NoMemory,

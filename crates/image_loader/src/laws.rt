@@ -1,8 +1,10 @@
 //! What holds of the spelling of images. These functions do nothing; their contracts are the laws.
-ghost use Rattle.std.specs.Prelude.{◌≡◌, ◌<◌, ◌≤◌, ◌⊎◌, ◌∷◌, ◌++◌, List, ℕ, length, take, Result, Ok, Err};
+ghost use Rattle.std.specs.Prelude.{◌≡◌, ◌<◌, ◌≤◌, ◌⊎◌, ◌∷◌, ◌++◌, List, ℕ, length, take};
+ghost use Rattle.std.specs.Prelude.{Result, Ok, Err};
 ghost use Rattle.component_linker.specs.Started.{StartSeen};
 ghost use Rattle.image_loader.specs.declared.fault.ImageFault.{ImageFault};
-ghost use Rattle.image_loader.specs.declared.fault.ImageFault.TheVariants.{Short, Trailing, NoMemory};
+ghost use Rattle.image_loader.specs.declared.fault.ImageFault.TheVariants.{Short, Trailing};
+ghost use Rattle.image_loader.specs.declared.fault.ImageFault.TheVariants.{NoMemory};
 ghost use Rattle.image_loader.specs.declared.reading.Image.{Image};
 ghost use Rattle.image_loader.specs.Image.{IsImage, image_bytes, Spells};
 ghost use Rattle.image_loader.specs.Reading.{image_of};
@@ -19,17 +21,17 @@ pub fn spelling_is_read()
     ensures { (i : Image) → IsImage i → image_of (image_bytes i) ≡ Ok i }
 {}
 
-/// What was written is loaded as `link` answers of the same parts and the same size, unless memory is
-/// refused.
+/// What was written is loaded as `link` answers of the same parts and the same size, unless memory
+/// is refused.
 pub fn what_was_written_is_linked()
-    ensures { (i : Image) (answer : Result StartSeen ImageFault) → IsImage i → Loads (image_bytes i) answer →
-        LinksRead (Ok i) answer ⊎ (answer ≡ Err NoMemory) }
+    ensures { (i : Image) (answer : Result StartSeen ImageFault) → IsImage i →
+        Loads (image_bytes i) answer → LinksRead (Ok i) answer ⊎ (answer ≡ Err NoMemory) }
 {}
 
 /// Bytes behind an image are too many, from the first of them on.
 pub fn no_more_is_read()
-    ensures { (i : Image) (byte : ℕ) (more : List ℕ) →
-        IsImage i → image_of (image_bytes i ++ byte ∷ more) ≡ Err (Trailing (length (image_bytes i))) }
+    ensures { (i : Image) (byte : ℕ) (more : List ℕ) → IsImage i →
+        image_of (image_bytes i ++ byte ∷ more) ≡ Err (Trailing (length (image_bytes i))) }
 {}
 
 /// An image that was cut anywhere is `Short`, at a field that begins before the cut or at it.

@@ -15,21 +15,23 @@ use component_linker::{Start, link};
 use std::alloc::Global;
 
 /// The start of the parts that an image holds, linked with the stack size that it tells. Its parts
-/// are decoded, accepted and linked anew: nothing of what was found when it was written is believed.
+/// are decoded, accepted and linked anew: nothing that was found when it was written is believed.
 /// docs/FORMATS.md has the form.
 ///
 /// # Errors
 ///
 /// The first fault, in this order: of the image's header; of each part in its turn, of its header,
-/// then of its component's form, then the first rule C, and of a trusted part the first rule K, that
-/// it breaks; of the image's end; the first rule L that the parts break together.
+/// then of its component's form, then the first rule that it breaks, C and of a trusted part K; of
+/// the image's end; and last the first rule L that the parts break together.
 /// [`ImageFault::NoMemory`] stands for any answer where memory was refused.
 pub fn load_image(alloc: Global, bytes: &[u8]) -> Result<Start, ImageFault>
     requires { length bytes.now < 2 ^ 32 }
     // What is loaded is an image, and what linking answers of its parts.
-    ensures found { IfOk result (λ s. (i : Image) × Spells bytes.now i × Answers i.parts i.stack (Ok s)) }
+    ensures found { IfOk result (λ s.
+        (i : Image) × Spells bytes.now i × Answers i.parts i.stack (Ok s)) }
     // An image whose parts keep the rules L is loaded, unless memory is refused.
-    ensures only { (i : Image) → Spells bytes.now i → NoneIsBroken (rules_l (placed i.parts i.stack) i.stack) →
+    ensures only { (i : Image) → Spells bytes.now i →
+        NoneIsBroken (rules_l (placed i.parts i.stack) i.stack) →
         IsOk result ⊎ (result ≡ Err NoMemory) }
     // Which fault it is.
     ensures exact { Loads bytes.now result }

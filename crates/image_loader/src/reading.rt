@@ -77,7 +77,8 @@ fn component(alloc: Global, index: u32, bytes: &[u8]) -> Result<Component, Image
 
 // The part of a component that keeps its own rules.
 fn kept(component: Component, index: u32, trusted: bool) -> Result<Part, ImageFault>
-    ensures { result ≡ told_by (broken_in index) (accepted (record { component = component; trusted = trusted })) }
+    ensures { result ≡ told_by (broken_in index)
+        (accepted (record { component = component; trusted = trusted })) }
 {
     match accept(component, trusted) {
         Ok(part) => Ok(part),
