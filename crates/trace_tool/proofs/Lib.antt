@@ -6,3 +6,6 @@ pub mod Going
 pub mod Split
 pub mod Tracing
 mod Untrusted
+mod ReturnLines
+mod LinesBracketed
+mod TraceTold

@@ -6,3 +6,5 @@ pub mod Texts
 pub mod EndLines
 pub mod Runs
 pub mod Traces
+pub mod Told
+pub mod Brackets

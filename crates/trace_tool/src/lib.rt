@@ -8,6 +8,7 @@
 mod end_line;
 mod event;
 mod find;
+pub mod laws;
 mod note;
 mod run;
 mod trace;

@@ -1,0 +1,35 @@
+//! What holds of the lines of runs. These functions do nothing; their contracts are the laws.
+ghost use Rattle.std.specs.Prelude.{ℕ, List};
+ghost use Rattle.cap_words.specs.declared.Word.{Word};
+ghost use Rattle.lcm_machine.specs.Maps.{State};
+ghost use Rattle.component_linker.specs.Parts.{PartSeen};
+ghost use Rattle.overlay_machine.specs.State.{OState};
+ghost use Rattle.overlay_machine.specs.Seen.{OverlaySeen};
+ghost use Rattle.overlay_machine.specs.Link.{Link};
+ghost use Rattle.overlay_machine.specs.Linked.{Linked};
+ghost use Rattle.overlay_machine.specs.Invariant.{Invariant};
+ghost use Rattle.overlay_machine.specs.Keeping.{HoldsFor};
+ghost use Rattle.trace_tool.specs.Brackets.{LinesAreBracketed, TraceIsBracketed, CallsArePrivate};
+
+/// Call and ret lines are bracketed, where the invariant of linked parts holds.
+///
+/// A call line is open until a ret line closes it, and each ret line closes the newest that is open,
+/// with its part, site, base, last and words. The lines of a run of the overlay so lead from the
+/// frames that are open at first to those that are open then, and so do those that a trace writes.
+pub fn lines_are_bracketed()
+    ensures steps { (g : Link) (o : OState) (t : State Word) → Linked g → Invariant g o t
+        → LinesAreBracketed g.layout o }
+    ensures traces { (parts : List PartSeen) (size : ℕ) (o : OverlaySeen) (t : State Word)
+        → HoldsFor parts size o t → TraceIsBracketed o }
+{}
+
+/// The range of a call line is private until a ret line closes it, where the invariant of linked parts
+/// holds.
+///
+/// From the plain state behind the call's `xjmp` on, no plain instruction touches an address of the
+/// range as long as no ret line closes the call line, and neither does the `xjmp` of the return that
+/// brings that ret line.
+pub fn call_lines_are_private()
+    ensures { (g : Link) (o : OState) (t : State Word) → Linked g → Invariant g o t
+        → CallsArePrivate g.layout o t }
+{}
