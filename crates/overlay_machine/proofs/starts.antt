@@ -6,5 +6,6 @@ pub mod LayoutFacts
 pub mod LinkedFacts
 pub mod StartSafe
 pub mod OneOverlay
+pub mod Linking
 pub mod StartInvariant
 pub mod StartInstance

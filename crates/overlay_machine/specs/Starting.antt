@@ -7,8 +7,9 @@ use Rattle.cap_words.specs.declared.Word.{Word}
 use Rattle.lcm_machine.specs.Maps.{State}
 use Rattle.lcm_machine.specs.Row.{went}
 use Rattle.component_linker.specs.Parts.{PartSeen, IsPart}
-use Rattle.component_linker.specs.Started.{StartSeen}
-use Rattle.component_linker.specs.Answer.{LinksTo}
+use Rattle.component_linker.specs.Pairs.{NoneIsBroken}
+use Rattle.component_linker.specs.Links.{rules_l}
+use Rattle.component_linker.specs.Started.{StartSeen, Starts}
 use Rattle.overlay_machine.specs.declared.words.OWord.TheVariants.{Plain}
 use Rattle.overlay_machine.specs.State.{OState, Cells}
 use Rattle.overlay_machine.specs.Copies.{plain_regs}
@@ -45,10 +46,17 @@ overlay_at s =
 abbrev pub AreParts : List PartSeen → Type 0
 AreParts parts = (k : ℕ) (p : PartSeen) → slice_get parts k ≡ Some p → IsPart p
 
--- of whatever parts it is the start, as `link` leaves it: they are linked in the overlay's layout, and the
--- invariant holds of the overlay and the start's own registers and cells
+-- Each part keeps the rules C, and K where it is trusted; together they keep the rules L with this size of stack;
+-- and this is their start. Of no part more is asked.
+pub record IsLinkedStart (parts : List PartSeen) (size : ℕ) (s : StartSeen) : Type 0 where
+  pub accepted : AreParts parts
+  pub rules : NoneIsBroken (rules_l parts size)
+  pub starts : Starts parts size s
+
+-- of whatever parts it is the start: they are linked in the overlay's layout, and the invariant holds of the overlay
+-- and the start's own registers and cells
 abbrev pub Begins : StartSeen → OverlaySeen → Type 0
-Begins s o = (parts : List PartSeen) (size : ℕ) → AreParts parts → LinksTo parts size s → HoldsFor parts size o s.state.maps
+Begins s o = (parts : List PartSeen) (size : ℕ) → IsLinkedStart parts size s → HoldsFor parts size o s.state.maps
 
 abbrev pub StartsBegin : Type 0
 StartsBegin = (s : StartSeen) (o : OverlaySeen) → IsOverlayOf s o → Begins s o
@@ -66,9 +74,8 @@ pub record AgreesFromStart (parts : List PartSeen) (size : ℕ) (s : StartSeen) 
 pub record StartThere : Type 0 where
   pub parts : List PartSeen
   pub size : ℕ
-  pub accepted : AreParts parts
   pub start : StartSeen
-  pub linked : LinksTo parts size start
+  pub linked : IsLinkedStart parts size start
   pub overlay : OverlaySeen
   pub over : IsOverlayOf start overlay
   pub caller : PartSeen

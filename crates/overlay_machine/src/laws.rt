@@ -16,9 +16,8 @@ ghost use Rattle.overlay_machine.specs.Cover.{CoverIsOnce};
 ghost use Rattle.overlay_machine.specs.Privacy.{AllFramesArePrivate};
 ghost use Rattle.component_linker.specs.Parts.{PartSeen};
 ghost use Rattle.component_linker.specs.Started.{StartSeen};
-ghost use Rattle.component_linker.specs.Answer.{LinksTo};
 ghost use Rattle.overlay_machine.specs.Seen.{OverlaySeen, IsOverlayOf};
-ghost use Rattle.overlay_machine.specs.Starting.{AreParts, overlay_at, StartsBegin, AgreesFromStart, StartThere};
+ghost use Rattle.overlay_machine.specs.Starting.{IsLinkedStart, overlay_at, StartsBegin, AgreesFromStart, StartThere};
 
 use call_sequence::laws::sequences_stand_word_by_word;
 use flow_check::laws::sequences_stand;
@@ -83,8 +82,8 @@ pub fn frames_are_private()
 
 /// The overlay of each linked start begins with the invariant.
 ///
-/// Let an overlay be that of a start, and let the start be one that `link` makes of some accepted parts
-/// with some size of stack. Then the parts are linked in the overlay's layout, and the invariant holds
+/// Let an overlay be that of a start, and let the start be that of some accepted parts, which keep the
+/// rules L with some size of stack. Then the parts are linked in the overlay's layout, and the invariant holds
 /// of the overlay and of the start's own registers and cells.
 pub fn starts_begin()
     ensures { StartsBegin }
@@ -95,18 +94,18 @@ pub fn starts_begin()
 
 /// A linked start has one overlay, which is a function of the start.
 pub fn a_start_has_one_overlay()
-    ensures { (parts : List PartSeen) (size : ℕ) (s : StartSeen) → AreParts parts → LinksTo parts size s
+    ensures { (parts : List PartSeen) (size : ℕ) (s : StartSeen) → IsLinkedStart parts size s
         → (o : OverlaySeen) → IsOverlayOf s o ↔ (o ≡ overlay_at s) }
 {}
 
 /// The plain run from a linked start and the run of its overlay agree, and frames are private.
 ///
-/// Let a start be one that `link` makes of some accepted parts with some size of stack. Then the plain
-/// run from it and the run of its overlay agree at matched points, in halts and in failures. At each
-/// matched point the invariant holds, and from there on, as long as a call stays open, nothing touches
-/// its frame. Of the parts no more is asked than that they were accepted and linked.
+/// Let a start be that of some accepted parts, which keep the rules L with some size of stack. Then the
+/// plain run from it and the run of its overlay agree at matched points, in halts and in failures. At
+/// each matched point the invariant holds, and from there on, as long as a call stays open, nothing
+/// touches its frame. Of no part more is asked than that it was accepted and linked.
 pub fn linked_starts_agree()
-    ensures { (parts : List PartSeen) (size : ℕ) (s : StartSeen) → AreParts parts → LinksTo parts size s
+    ensures { (parts : List PartSeen) (size : ℕ) (s : StartSeen) → IsLinkedStart parts size s
         → AgreesFromStart parts size s }
 {
     starts_begin();

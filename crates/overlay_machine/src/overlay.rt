@@ -103,8 +103,8 @@ impl Overlay {
     /// The overlay machine of a start: its registers and memory, and no frames, with room for as many
     /// words of frames as the stack has. `AllocError` where the memory can't be had.
     ///
-    /// Where the start is one that `link` makes of accepted parts, the invariant holds of the overlay
-    /// and of the start's own registers and cells. docs/OVERLAY.md tells the invariant.
+    /// Where the start is that of accepted parts that keep the rules L, the invariant holds of the
+    /// overlay and of the start's own registers and cells. docs/OVERLAY.md tells the invariant.
     pub fn of_start(alloc: Global, start: &Start) -> Result<Overlay, AllocError>
         ensures is { IfOk result (IsOverlayOf start.now) }
         ensures begins { IfOk result (Begins start.now) }

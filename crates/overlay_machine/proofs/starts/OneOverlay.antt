@@ -14,14 +14,13 @@ use Rattle.lcm_machine.specs.Spans.{in_spans}
 use Rattle.lcm_machine.proofs.CellLemmas.{same_cells}
 use Rattle.component_linker.specs.Parts.{PartSeen, IsPart}
 use Rattle.component_linker.specs.Started.{StartSeen}
-use Rattle.component_linker.specs.Answer.{LinksTo}
 use Rattle.component_linker.proofs.LinksKept.{are_linked}
 use Rattle.component_linker.proofs.StartCells.{spans_are_regions, cell_in_region}
 use Rattle.overlay_machine.specs.declared.words.OWord.{OWord}
 use Rattle.overlay_machine.specs.declared.words.OWord.TheVariants.{Plain}
 use Rattle.overlay_machine.specs.Copies.{plain_regs}
 use Rattle.overlay_machine.specs.Seen.{OverlaySeen, IsOverlayOf, start_word}
-use Rattle.overlay_machine.specs.Starting.{plain_cells, overlay_at}
+use Rattle.overlay_machine.specs.Starting.{plain_cells, overlay_at, IsLinkedStart}
 
 -- ---- cells and registers of plain words
 
@@ -81,7 +80,7 @@ same_regs os rs h = λ i. record {
 
 -- ---- of a linked start
 
-module _ (parts : List PartSeen) (size : ℕ) (s : StartSeen) (each : (k : ℕ) (p : PartSeen) → slice_get parts k ≡ Some p → IsPart p) (link : LinksTo parts size s) where
+module _ (parts : List PartSeen) (size : ℕ) (s : StartSeen) (linked : IsLinkedStart parts size s) where
   -- each of its cells lies in a span
   pub start_word_is : (a : ℕ) → start_word s.state.maps a ≡ option_map Plain (cell s.state.maps.cells a)
   start_word_is a = by_span (in_spans a s.state.maps.spans) refl (cell s.state.maps.cells a) refl
@@ -90,8 +89,8 @@ module _ (parts : List PartSeen) (size : ℕ) (s : StartSeen) (each : (k : ℕ) 
       by_span true h x e = refl
       by_span false h None e = sym (ap (option_map Plain) e)
       by_span false h (Some w) e =
-          let there = cell_in_region parts size a w (are_linked parts size each link.rules).closed (sym (link.starts.state.cells a) ∙ e) in
-          absurd (let bad : false ≡ true = sym h ∙ spans_are_regions parts size s.state.maps.spans link.starts.state.spans a ∙ there in cc)
+          let there = cell_in_region parts size a w (are_linked parts size linked.accepted linked.rules).closed (sym (linked.starts.state.cells a) ∙ e) in
+          absurd (let bad : false ≡ true = sym h ∙ spans_are_regions parts size s.state.maps.spans linked.starts.state.spans a ∙ there in cc)
 
   pub is_overlay : IsOverlayOf s (overlay_at s)
   is_overlay = record {

@@ -43,6 +43,7 @@ use Rattle.overlay_machine.specs.Invariant.{PcPart, at_row, outside, FramesLie, 
 use Rattle.overlay_machine.specs.Starting.{StartsBegin}
 use Rattle.overlay_machine.proofs.starts.ListFacts.{listed_at, index_of, first_is}
 use Rattle.overlay_machine.proofs.starts.OneOverlay.{start_word_is}
+use Rattle.overlay_machine.proofs.starts.Linking.{links_of}
 use Rattle.overlay_machine.proofs.starts.PartFacts.{export_begins, export_within}
 use Rattle.overlay_machine.proofs.starts.LinkedFacts.{linked}
 use Rattle.overlay_machine.proofs.starts.StartSafe.{code_safe, data_safe, stack_safe, cell_safe}
@@ -89,7 +90,7 @@ module _ (site_words : SitesStand) (entry_words : EntriesStand) (parts : List Pa
 
   -- the overlay has the start's cells
   cell_plain : (a : ℕ) → cell o.state.maps.cells a ≡ option_map Plain (cell s.state.maps.cells a)
-  cell_plain a = over.cells a ∙ start_word_is parts size s each link a
+  cell_plain a = over.cells a ∙ start_word_is parts size s (record { accepted = each; rules = link.rules; starts = link.starts }) a
 
   start_cell_is : (a : ℕ) → cell o.state.maps.cells a ≡ option_map Plain (start_cell parts size a)
   start_cell_is a = cell_plain a ∙ ap (option_map Plain) (link.starts.state.cells a)
@@ -236,7 +237,9 @@ module _ (site_words : SitesStand) (entry_words : EntriesStand) (parts : List Pa
   }
 
 pub starts_begin : SitesStand → EntriesStand → StartsBegin
-starts_begin site_words entry_words s o over parts size each link = record {
-  linked = start_linked site_words entry_words parts size s o each link over;
-  holds = begins site_words entry_words parts size s o each link over;
-}
+starts_begin site_words entry_words s o over parts size is =
+    let link = links_of site_words entry_words parts size s is in
+    record {
+      linked = start_linked site_words entry_words parts size s o is.accepted link over;
+      holds = begins site_words entry_words parts size s o is.accepted link over;
+    }

@@ -1,0 +1,29 @@
+-- A start of accepted parts that keep the rules L is as `link` leaves it.
+use Rattle.std.proofs.Common.{ℕ, List, ◌∙◌}
+use Rattle.component_linker.specs.Parts.{PartSeen}
+use Rattle.component_linker.specs.Regions.{regions_of}
+use Rattle.component_linker.specs.Started.{StartSeen}
+use Rattle.component_linker.specs.Answer.{LinksTo}
+use Rattle.component_linker.specs.Linked.{Linked}
+use Rattle.component_linker.proofs.LinksKept.{are_linked, stack_bases, stack_begins}
+use Rattle.component_linker.proofs.RegionFacts.{apart_all}
+use Rattle.component_linker.proofs.SealsKept.{parts_apart, sites_apart}
+use Rattle.component_linker.proofs.StartIs.{started_once}
+use Rattle.component_linker.proofs.CodeStands.{SitesStand, EntriesStand, code_stands, trusted_stand}
+use Rattle.overlay_machine.specs.Starting.{IsLinkedStart}
+
+pub links_of : SitesStand → EntriesStand → (parts : List PartSeen) (size : ℕ) (s : StartSeen) → IsLinkedStart parts size s → LinksTo parts size s
+links_of sites entries parts size s is =
+    let made : Linked parts size = are_linked parts size is.accepted is.rules in
+    let apart = parts_apart parts size is.accepted is.rules in
+    record {
+      rules = is.rules;
+      starts = is.starts;
+      parts_apart = apart;
+      sites_apart = sites_apart parts s.sites is.accepted apart is.starts.sites;
+      regions = apart_all (regions_of parts size) made.apart;
+      held_once = started_once parts size s.state made is.starts.state;
+      stack_base = λ k p at. stack_bases parts size is.rules k p at ∙ stack_begins parts size s.stack is.starts.stack;
+      code = code_stands parts size s.state made is.starts.state;
+      trusted = trusted_stand sites entries parts size s.state is.accepted made is.starts.state;
+    }
