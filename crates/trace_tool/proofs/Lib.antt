@@ -9,3 +9,4 @@ mod Untrusted
 mod ReturnLines
 mod LinesBracketed
 mod TraceTold
+mod Agreeing

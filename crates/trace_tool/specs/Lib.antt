@@ -8,3 +8,4 @@ pub mod Runs
 pub mod Traces
 pub mod Told
 pub mod Brackets
+pub mod Headline

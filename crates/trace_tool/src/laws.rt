@@ -10,6 +10,11 @@ ghost use Rattle.overlay_machine.specs.Linked.{Linked};
 ghost use Rattle.overlay_machine.specs.Invariant.{Invariant};
 ghost use Rattle.overlay_machine.specs.Keeping.{HoldsFor};
 ghost use Rattle.trace_tool.specs.Brackets.{LinesAreBracketed, TraceIsBracketed, CallsArePrivate};
+ghost use Rattle.trace_tool.specs.Headline.{HeadlineHolds};
+
+use overlay_machine::laws::{
+    a_start_has_one_overlay, linked_starts_agree, one_step_is_its_weight, starts_begin,
+};
 
 /// Call and ret lines are bracketed, where the invariant of linked parts holds.
 ///
@@ -33,3 +38,19 @@ pub fn call_lines_are_private()
     ensures { (g : Link) (o : OState) (t : State Word) → Linked g → Invariant g o t
         → CallsArePrivate g.layout o t }
 {}
+
+/// The headline.
+///
+/// For all trusted parts that keep the rules and every untrusted part that links with them: at each
+/// matched point the plain machine halts, fails or goes on as the overlay does; each return closes the
+/// newest open call; and until then no instruction touches that call's private frame.
+pub fn the_headline()
+    ensures { HeadlineHolds }
+{
+    starts_begin();
+    a_start_has_one_overlay();
+    linked_starts_agree();
+    one_step_is_its_weight();
+    lines_are_bracketed();
+    call_lines_are_private();
+}

@@ -1,0 +1,91 @@
+-- The headline. For all trusted parts that keep the rules and every untrusted part that links with them: at each
+-- matched point the plain machine halts, fails or goes on as the overlay does, each return resumes the newest open
+-- call, and no instruction between touches that call's private frame. docs/THEOREMS.md has it in words.
+use Rattle.std.specs.Prelude.{◌≡◌, ◌↔◌, ℕ, ◌+◌, ◌≤◌, ◌<◌, ℤ, List, [], Some, None}
+use Rattle.lcm_isa.specs.declared.Reg.TheVariants.{A0}
+use Rattle.lcm_machine.specs.declared.FailCause.{FailCause}
+use Rattle.lcm_machine.specs.declared.End.{End}
+use Rattle.lcm_machine.specs.declared.End.TheVariants.{Halted, Failed}
+use Rattle.lcm_machine.specs.Places.{reg}
+use Rattle.lcm_machine.specs.Run.{plain}
+use Rattle.component_linker.specs.Parts.{PartSeen}
+use Rattle.component_linker.specs.Started.{StartSeen}
+use Rattle.overlay_machine.specs.State.{OState}
+use Rattle.overlay_machine.specs.Step.{halts, fails, overlay_step, weight_of}
+use Rattle.overlay_machine.specs.Flat.{IsFlat}
+use Rattle.overlay_machine.specs.Runs.{Reached}
+use Rattle.overlay_machine.specs.Brackets.{Brackets}
+use Rattle.overlay_machine.specs.Starting.{IsLinkedStart, overlay_at}
+use Rattle.trace_tool.specs.Layout.{layout}
+use Rattle.trace_tool.specs.Views.{flat_view}
+use Rattle.trace_tool.specs.Lines.{Line}
+use Rattle.trace_tool.specs.Traces.{trace_of}
+use Rattle.trace_tool.specs.Brackets.{LineTold, marks_in, CallsArePrivate}
+
+-- ---- the words of it
+
+-- a matched point is the sum of the weights of the first steps that go from the overlay of the start, and there
+-- stands the overlay after them
+abbrev pub Matched : StartSeen → ℕ → OState → Type 0
+Matched s j p = Reached (layout s) (overlay_at s).state j p
+
+-- the overlay's next step halts, or fails
+abbrev pub OverlayHalts : StartSeen → OState → Type 0
+OverlayHalts s p = overlay_step (layout s) p ≡ halts
+
+abbrev pub OverlayFails : StartSeen → OState → Type 0
+OverlayFails s p = overlay_step (layout s) p ≡ fails
+
+-- n instructions of the plain run go, and the next one ends it
+pub record PlainEnds (s : StartSeen) (n : ℕ) (e : End) : Type 0 where
+  pub goes : (plain n s.state).end ≡ None
+  pub ends : (plain (n + 1) s.state).end ≡ Some e
+
+-- the instruction behind n others lies within the weight of the step at a matched point
+abbrev pub Within : StartSeen → ℕ → ℕ → OState → Type 0
+Within s n j p = Matched s j p × (j ≤ n) × (n < j + weight_of (layout s) p)
+
+-- ---- the plain machine halts, fails or goes on as the overlay does
+
+pub record Agrees (s : StartSeen) : Type 0 where
+  -- at each matched point the plain machine has gone on, to the state that the overlay stands for
+  pub matched : (j : ℕ) (p : OState) → Matched s j p
+      → ((plain j s.state).end ≡ None) × IsFlat (layout s) p (plain j s.state).maps
+  -- it halts exactly where the overlay halts, with one instruction, and both have the same word in a0
+  pub halts : (n : ℕ) → PlainEnds s n Halted ↔ ((p : OState) × Matched s n p × OverlayHalts s p)
+  pub alike : (n : ℕ) (p : OState) → Matched s n p → OverlayHalts s p
+      → (weight_of (layout s) p ≡ 1)
+      × (reg (plain (n + 1) s.state).maps.regs A0 ≡ (flat_view (layout s) p).reg A0)
+  -- where it fails, the overlay stands at a matched point and fails, and the instruction lies within the weight of
+  -- that step; where the overlay fails, so does the plain machine, within that weight
+  pub plain_fails : (n : ℕ) (cause : FailCause) (at : ℤ) → PlainEnds s n (Failed cause at)
+      → (j : ℕ) × (p : OState) × Within s n j p × OverlayFails s p
+  pub overlay_fails : (j : ℕ) (p : OState) → Matched s j p → OverlayFails s p
+      → (n : ℕ) × (cause : FailCause) × (at : ℤ) × Within s n j p × PlainEnds s n (Failed cause at)
+  -- where it has gone on, it stands less than the next weight behind a matched point, which is the greatest so far
+  pub goes : (n : ℕ) → (plain n s.state).end ≡ None → (j : ℕ) × (p : OState) × Within s n j p
+
+-- ---- each return resumes the newest open call
+
+-- the lines of the first steps of the overlay, up to the greatest matched point that is at most a limit
+abbrev pub lines_upto : StartSeen → ℕ → List Line
+lines_upto s limit = (trace_of limit (overlay_at s)).lines
+
+-- Among these lines a call line is open until a ret line closes it, and each ret line closes the newest open one,
+-- with its part, site, base, last and words. At first none is open.
+abbrev pub AreBracketed : StartSeen → Type 0
+AreBracketed s =
+    (limit : ℕ) → (open_now : List LineTold) × Brackets LineTold [] (marks_in (lines_upto s limit)) open_now
+
+-- ---- all of it
+
+pub record Headline (s : StartSeen) : Type 0 where
+  pub agrees : Agrees s
+  pub bracketed : AreBracketed s
+  -- from behind the `xjmp` of each call line on, as long as no ret line closes it, no plain instruction touches an
+  -- address of its range, and neither does the `xjmp` of the return that brings that ret line
+  pub private : CallsArePrivate (layout s) (overlay_at s).state s.state.maps
+
+-- of every linked start
+abbrev pub HeadlineHolds : Type 0
+HeadlineHolds = (parts : List PartSeen) (size : ℕ) (s : StartSeen) → IsLinkedStart parts size s → Headline s
