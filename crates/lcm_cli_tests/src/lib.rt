@@ -4,6 +4,8 @@
 #[cfg(test)]
 mod call;
 #[cfg(test)]
+mod components;
+#[cfg(test)]
 mod faults;
 #[cfg(test)]
 mod parts;

@@ -60,8 +60,7 @@ fn words_that_are_no_command_write_usage(rt: HostRuntime) -> Result<(), Fail> {
         "run u:one.stc t:two.stc",
         "trace u:one.asm",
         "check t:one.prc",
-        "dis u:one.stc",
-        "asm u:one.asm --out one.stc",
+        "compile u:one.prc --out one.stc",
         "link u:one.asm --out one.img",
         "generate --seed 1",
     ] {
