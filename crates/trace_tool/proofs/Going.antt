@@ -19,7 +19,7 @@ use Rattle.trace_tool.specs.Events.{noted, event_after}
 use Rattle.trace_tool.specs.Lines.{Line, lines_for}
 use Rattle.trace_tool.specs.Texts.{line_text, lines_text}
 use Rattle.trace_tool.specs.EndLines.{end_line}
-use Rattle.trace_tool.specs.Runs.{Watched, begun, if_went, watched, watched_next, line_next, lines_of, run_text, end_of, RunsTo, RunFaults, Runs, EndsBy}
+use Rattle.trace_tool.specs.Runs.{Watched, begun, watching, if_went, watched, watched_next, line_next, lines_of, run_text, end_of, RunsTo, RunFaults, Runs, EndsBy}
 use Rattle.outside_io.proofs.Writing.{adds_none, adds_then, adds_fails, fails_more, fails_upto}
 
 pub lines_text-append : (xs ys : List Line) → lines_text (xs ++ ys) ≡ lines_text xs ++ lines_text ys
@@ -68,9 +68,6 @@ no_more_lines l r i (suc n) le ended = elim (cases_lt n i) as (λ _. lines_of l 
       let none : line_next l (watched l (begun r) n) ≡ [] = no_line l (watched l (begun r) n) (λ k. ended (ap answer (sym stays) ∙ k)) in
       ap (λ x. lines_of l (begun r) n ++ x) none ∙ append-nil (lines_of l (begun r) n) ∙ no_more_lines l r i n below ended)
 ]
-
-abbrev pub watching : StartSeen → Bool → Watched
-watching start inward = record { run = start.state; inward = inward }
 
 -- n instructions went, and their lines were written
 pub record Going (init : StartSeen) (sink : SinkSeen) (n : ℕ) (start : StartSeen) (inward : Bool) (now : SinkSeen) : Type 0 where

@@ -26,6 +26,9 @@ pub record Watched : Type 0 where
 abbrev pub begun : Run → Watched
 begun r = record { run = r; inward = false }
 
+abbrev pub watching : StartSeen → Bool → Watched
+watching start inward = record { run = start.state; inward = inward }
+
 -- by what a step answered: it went, or the machine has ended
 abbrev pub if_went : {A : Type 0} → Step → A → A → A
 if_went Went went other = went

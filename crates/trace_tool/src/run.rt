@@ -5,7 +5,7 @@ ghost use Rattle.outside_io.specs.Writes.{Writes};
 ghost use Rattle.lcm_machine.specs.Run.{next_state, answer};
 ghost use Rattle.trace_tool.specs.Layout.{layout};
 ghost use Rattle.trace_tool.specs.Texts.{lines_text};
-ghost use Rattle.trace_tool.specs.Runs.{watched_next, line_next, end_of, Runs, EndsBy};
+ghost use Rattle.trace_tool.specs.Runs.{watching, watched_next, line_next, end_of, Runs, EndsBy};
 
 use crate::end_line::end_line;
 use crate::event::event_after;
@@ -33,9 +33,11 @@ pub enum RunEnd {
 fn turn<S: Sink>(start: &mut Start, inward: &mut bool, out: &mut S) -> Result<Step, Failed>
     requires { start.old.state.count < 2 ^ 63 }
     ensures state { start.new ≡ record start.old { state = next_state start.old.state } }
-    ensures inward { inward.new ≡ (watched_next (layout start.old) (record { run = start.old.state; inward = inward.old })).inward }
+    ensures inward { let w = watching start.old inward.old in
+        inward.new ≡ (watched_next (layout start.old) w).inward }
     ensures answer { IfOk result (λ s. s ≡ answer (next_state start.old.state)) }
-    ensures line { Writes (S.seen out.old) (lines_text (line_next (layout start.old) (record { run = start.old.state; inward = inward.old }))) result (S.seen out.new) }
+    ensures line { let lines = line_next (layout start.old) (watching start.old inward.old) in
+        Writes (S.seen out.old) (lines_text lines) result (S.seen out.new) }
 {
     let note = noted(start);
     let step = start.state_mut().step();

@@ -21,6 +21,15 @@ const ROOM: usize = 1_024;
 
 type Head = ArrayVec<u8, ROOM>;
 
+// What a line tells of a call: whether the code on its other side is trusted, its site, and its frame.
+#[derive(Clone, Copy)]
+struct Call {
+    inward: bool,
+    site: u32,
+    base: u32,
+    end: u32,
+}
+
 // Appends bytes, for which there is room.
 fn push(head: &mut Head, bytes: &[u8])
     requires { array_vec_len head.old + length bytes.now ≤ ROOM }
@@ -74,20 +83,21 @@ fn push_args<V: Shown>(head: &mut Head, view: &V)
 
 // Appends DIR, PART, SITE, BASE and END.
 #[tactic(auto, unfolding(crate::specs::Texts::place_text))]
-fn push_place(head: &mut Head, start: &Start, inward: bool, site: u32, base: u32, end: u32)
+fn push_place(head: &mut Head, start: &Start, call: Call)
     requires { array_vec_len head.old + 68 ≤ ROOM }
-    ensures bytes { head.new.items ≡ head.old.items ++ place_text inward (part_name (layout start.now) (site_of (layout start.now) site).part) (site_of (layout start.now) site).index base end }
+    ensures bytes { let l = layout start.now in let s = site_of l call.site in
+        head.new.items ≡ head.old.items ++ place_text call.inward (part_name l s.part) s.index call.base call.end }
     ensures len { array_vec_len head.new ≤ array_vec_len head.old + 68 }
 {
-    push(head, if inward { b"in " } else { b"out " });
-    let site = site_of(start, site);
+    push(head, if call.inward { b"in " } else { b"out " });
+    let site = site_of(start, call.site);
     push(head, part_name(start, site.part));
     push(head, b" ");
     push_number(head, site.index);
     push(head, b" ");
-    push_number(head, base);
+    push_number(head, call.base);
     push(head, b" ");
-    push_number(head, end);
+    push_number(head, call.end);
 }
 
 // Appends what `xjmp rcode rdata` would do.
@@ -164,33 +174,28 @@ fn write_rest<V: Shown, S: Sink>(view: &V, from: u64, count: u64, out: &mut S) -
 }
 
 // The head of the line of a call.
-fn call_head<V: Shown>(
-    start: &Start,
-    view: &V,
-    inward: bool,
-    site: u32,
-    base: u32,
-    end: u32,
-) -> Head
-    ensures bytes { result.items ≡ head_text (line_of (layout start.now) (V.view view.now) (Event.Called inward site base end)) }
+fn call_head<V: Shown>(start: &Start, view: &V, call: Call) -> Head
+    ensures bytes { let event = Event.Called call.inward call.site call.base call.end in
+        result.items ≡ head_text (line_of (layout start.now) (V.view view.now) event) }
     ensures some { 0 < length result.items }
 {
     let mut head = Head::new();
     push(&mut head, b"call ");
-    push_place(&mut head, start, inward, site, base, end);
+    push_place(&mut head, start, call);
     push_args(&mut head, view);
     push(&mut head, b" :");
     head
 }
 
 // The head of the line of a return.
-fn ret_head<V: Shown>(start: &Start, view: &V, inward: bool, site: u32, base: u32, end: u32) -> Head
-    ensures bytes { result.items ≡ head_text (line_of (layout start.now) (V.view view.now) (Event.Returned inward site base end)) }
+fn ret_head<V: Shown>(start: &Start, view: &V, call: Call) -> Head
+    ensures bytes { let event = Event.Returned call.inward call.site call.base call.end in
+        result.items ≡ head_text (line_of (layout start.now) (V.view view.now) event) }
     ensures some { 0 < length result.items }
 {
     let mut head = Head::new();
     push(&mut head, b"ret ");
-    push_place(&mut head, start, inward, site, base, end);
+    push_place(&mut head, start, call);
     push_word(&mut head, view, Reg::A0);
     push(&mut head, b" :");
     head
@@ -208,37 +213,35 @@ fn write<S: Sink>(out: &mut S, piece: &[u8]) -> Result<(), Failed>
 fn write_call<V: Shown, S: Sink>(
     start: &Start,
     view: &V,
-    inward: bool,
-    site: u32,
-    base: u32,
-    end: u32,
+    call: Call,
     out: &mut S,
 ) -> Result<(), Failed>
-    ensures { Writes (S.seen out.old) (line_text (line_of (layout start.now) (V.view view.now) (Event.Called inward site base end))) result (S.seen out.new) }
+    ensures { let event = Event.Called call.inward call.site call.base call.end in
+        let line = line_of (layout start.now) (V.view view.now) event in
+        Writes (S.seen out.old) (line_text line) result (S.seen out.new) }
 {
-    let head = call_head(start, view, inward, site, base, end);
+    let head = call_head(start, view, call);
     write(out, head.as_slice())?;
-    let count = (u64::from(end) + 1).saturating_sub(u64::from(base));
-    write_rest(view, u64::from(base), count, out)
+    let count = (u64::from(call.end) + 1).saturating_sub(u64::from(call.base));
+    write_rest(view, u64::from(call.base), count, out)
 }
 
 // Writes the line of a return.
 fn write_ret<V: Shown, S: Sink>(
     start: &Start,
     view: &V,
-    inward: bool,
-    site: u32,
-    base: u32,
-    end: u32,
+    call: Call,
     out: &mut S,
 ) -> Result<(), Failed>
-    ensures { Writes (S.seen out.old) (line_text (line_of (layout start.now) (V.view view.now) (Event.Returned inward site base end))) result (S.seen out.new) }
+    ensures { let event = Event.Returned call.inward call.site call.base call.end in
+        let line = line_of (layout start.now) (V.view view.now) event in
+        Writes (S.seen out.old) (line_text line) result (S.seen out.new) }
 {
-    let head = ret_head(start, view, inward, site, base, end);
+    let head = ret_head(start, view, call);
     write(out, head.as_slice())?;
     write_word(out, view.text(Reg::Dat).as_str().as_bytes())?;
-    let count = u64::from(end).saturating_sub(u64::from(base));
-    write_rest(view, u64::from(base) + 1, count, out)
+    let count = u64::from(call.end).saturating_sub(u64::from(call.base));
+    write_rest(view, u64::from(call.base) + 1, count, out)
 }
 
 // Writes the line of an entry.
@@ -251,7 +254,8 @@ fn write_enter<V: Shown, S: Sink>(
     back: Back,
     out: &mut S,
 ) -> Result<(), Failed>
-    ensures { Writes (S.seen out.old) (line_text (line_of (layout start.now) (V.view view.now) (Event.Entered part entry back))) result (S.seen out.new) }
+    ensures { let line = line_of (layout start.now) (V.view view.now) (Event.Entered part entry back) in
+        Writes (S.seen out.old) (line_text line) result (S.seen out.new) }
 {
     let mut line = Head::new();
     push(&mut line, b"enter ");
@@ -273,7 +277,8 @@ fn write_leave<V: Shown, S: Sink>(
     part: u32,
     out: &mut S,
 ) -> Result<(), Failed>
-    ensures { Writes (S.seen out.old) (line_text (line_of (layout start.now) (V.view view.now) (Event.Left part))) result (S.seen out.new) }
+    ensures { let line = line_of (layout start.now) (V.view view.now) (Event.Left part) in
+        Writes (S.seen out.old) (line_text line) result (S.seen out.new) }
 {
     let mut line = Head::new();
     push(&mut line, b"leave ");
@@ -290,21 +295,38 @@ fn write_event<V: Shown, S: Sink>(
     event: Event,
     out: &mut S,
 ) -> Result<(), Failed>
-    ensures { Writes (S.seen out.old) (line_text (line_of (layout start.now) (V.view view.now) event)) result (S.seen out.new) }
+    ensures { let line = line_of (layout start.now) (V.view view.now) event in
+        Writes (S.seen out.old) (line_text line) result (S.seen out.new) }
 {
     match event {
         Event::Called {
-            trusted,
+            trusted: inward,
             site,
             base,
             end,
-        } => write_call(start, view, trusted, site, base, end, out),
+        } => {
+            let call = Call {
+                inward,
+                site,
+                base,
+                end,
+            };
+            write_call(start, view, call, out)
+        }
         Event::Returned {
-            trusted,
+            trusted: inward,
             site,
             base,
             end,
-        } => write_ret(start, view, trusted, site, base, end, out),
+        } => {
+            let call = Call {
+                inward,
+                site,
+                base,
+                end,
+            };
+            write_ret(start, view, call, out)
+        }
         Event::Entered { part, entry, back } => write_enter(start, view, part, entry, back, out),
         Event::Left { part } => write_leave(start, view, part, out),
     }
@@ -317,7 +339,8 @@ pub(crate) fn tell<V: Shown, S: Sink>(
     event: Option<Event>,
     out: &mut S,
 ) -> Result<(), Failed>
-    ensures { Writes (S.seen out.old) (lines_text (lines_for (layout start.now) (V.view view.now) event)) result (S.seen out.new) }
+    ensures { let lines = lines_for (layout start.now) (V.view view.now) event in
+        Writes (S.seen out.old) (lines_text lines) result (S.seen out.new) }
 {
     match event {
         Some(event) => write_event(start, view, event, out),

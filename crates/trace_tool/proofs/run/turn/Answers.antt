@@ -5,7 +5,8 @@ use Rattle.trace_tool.specs.Layout.{layout}
 use Rattle.trace_tool.specs.Views.{view_of}
 use Rattle.trace_tool.specs.Lines.{lines_for}
 use Rattle.trace_tool.specs.Texts.{lines_text}
-use Rattle.trace_tool.proofs.Going.{event_fails, watching}
+use Rattle.trace_tool.specs.Runs.{watching}
+use Rattle.trace_tool.proofs.Going.{event_fails}
 use Rattle.trace_tool.proofs.run.turn.Goals as goal
 
 pub returns-in-Err-clause-line : goal.returns-in-Err-clause-line

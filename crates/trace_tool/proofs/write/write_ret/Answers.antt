@@ -10,10 +10,10 @@ returns-in_err-write g c =
 
 pub returns-in_err-write_word : goal.returns-in_err-write_word
 returns-in_err-write_word g c =
-    word_fails _ _ _ _ _ _ ((g.V.Shown.view c.args.view.now).reg Dat) (words_from (g.V.Shown.view c.args.view.now) (c.args.base + 1) (c.args.end - c.args.base)) _ (c.as_slice.ensures.value ∙ c.ret_head-head.ensures.bytes) refl (search rules)
+    word_fails _ _ _ _ _ _ ((g.V.Shown.view c.args.view.now).reg Dat) (words_from (g.V.Shown.view c.args.view.now) (c.args.call.base + 1) (c.args.call.end - c.args.call.base)) _ (c.as_slice.ensures.value ∙ c.ret_head-head.ensures.bytes) refl (search rules)
     c.from_residual-in_err-write_word.ensures.0 c.in_ok-write.ensures c.in_err-write_word.ensures
 
 pub returns : goal.returns
 returns g c =
-    word_written _ _ _ _ _ _ _ ((g.V.Shown.view c.args.view.now).reg Dat) (words_from (g.V.Shown.view c.args.view.now) (c.args.base + 1) (c.args.end - c.args.base)) _ _ (c.as_slice.ensures.value ∙ c.ret_head-head.ensures.bytes) refl (search rules) (search rules)
+    word_written _ _ _ _ _ _ _ ((g.V.Shown.view c.args.view.now).reg Dat) (words_from (g.V.Shown.view c.args.view.now) (c.args.call.base + 1) (c.args.call.end - c.args.call.base)) _ _ (c.as_slice.ensures.value ∙ c.ret_head-head.ensures.bytes) refl (search rules) (search rules)
     c.in_ok-write.ensures c.in_ok-write_word.ensures c.write_rest.ensures
