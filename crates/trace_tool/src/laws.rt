@@ -9,12 +9,19 @@ ghost use Rattle.overlay_machine.specs.Link.{Link};
 ghost use Rattle.overlay_machine.specs.Linked.{Linked};
 ghost use Rattle.overlay_machine.specs.Invariant.{Invariant};
 ghost use Rattle.overlay_machine.specs.Keeping.{HoldsFor};
+ghost use Rattle.trace_tool.specs.Told.{TracesSteps};
 ghost use Rattle.trace_tool.specs.Brackets.{LinesAreBracketed, TraceIsBracketed, CallsArePrivate};
 ghost use Rattle.trace_tool.specs.Headline.{HeadlineHolds};
 
 use overlay_machine::laws::{
     a_start_has_one_overlay, linked_starts_agree, one_step_is_its_weight, starts_begin,
 };
+
+/// The lines that a trace writes are those of the overlay's steps up to the greatest matched point that is
+/// at most its limit.
+pub fn traces_tell_steps()
+    ensures { (o : OverlaySeen) → TracesSteps o }
+{}
 
 /// Call and ret lines are bracketed, where the invariant of linked parts holds.
 ///
