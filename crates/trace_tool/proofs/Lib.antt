@@ -9,4 +9,5 @@ mod Untrusted
 mod ReturnLines
 mod LinesBracketed
 mod TraceTold
+mod TracesAlike
 mod Agreeing

@@ -7,5 +7,6 @@ pub mod EndLines
 pub mod Runs
 pub mod Traces
 pub mod Told
+pub mod Alike
 pub mod Brackets
 pub mod Headline
