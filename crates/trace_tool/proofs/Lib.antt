@@ -11,3 +11,4 @@ mod LinesBracketed
 mod TraceTold
 mod TracesAlike
 mod Agreeing
+mod Closures

@@ -11,10 +11,12 @@ ghost use Rattle.overlay_machine.specs.Invariant.{Invariant};
 ghost use Rattle.overlay_machine.specs.Keeping.{HoldsFor};
 ghost use Rattle.trace_tool.specs.Told.{TracesSteps};
 ghost use Rattle.trace_tool.specs.Brackets.{LinesAreBracketed, TraceIsBracketed, CallsArePrivate};
-ghost use Rattle.trace_tool.specs.Headline.{HeadlineHolds};
+ghost use Rattle.overlay_machine.specs.Starting.{StartThere};
+ghost use Rattle.trace_tool.specs.Headline.{Headline, HeadlineHolds};
 
 use overlay_machine::laws::{
-    a_start_has_one_overlay, linked_starts_agree, one_step_is_its_weight, starts_begin,
+    a_linked_start_may_come, a_start_has_one_overlay, linked_starts_agree, one_step_is_its_weight,
+    starts_begin,
 };
 
 /// The lines that a trace writes are those of the overlay's steps up to the greatest matched point that is
@@ -51,9 +53,13 @@ pub fn call_lines_are_private()
 /// For all trusted parts that keep the rules and every untrusted part that links with them: at each
 /// matched point the plain machine halts, fails or goes on as the overlay does; each return closes the
 /// newest open call; and until then no instruction touches that call's private frame.
+///
+/// There are such parts: of some, one of them trusted with a site and an entry and one not, it holds.
 pub fn the_headline()
-    ensures { HeadlineHolds }
+    ensures holds { HeadlineHolds }
+    ensures of_some { (there : StartThere) × Headline there.start }
 {
+    a_linked_start_may_come();
     starts_begin();
     a_start_has_one_overlay();
     linked_starts_agree();
