@@ -1,6 +1,6 @@
 -- The cause of every status.
-use Rattle.std.proofs.Common.{◌≡◌, ◌≢◌, ℕ, ◌⊎◌, ◌+◌, List, [], ◌∷◌, Option, Some, None, refl, sym, ap, subst, ◌∙◌, inl, inr, true, false}
-use Rattle.std.specs.Prelude.{Result, Ok, Err, Bool, not, ℤ, IsNone, IsSomeAnd, MatchOption}
+use Rattle.std.proofs.Common.{◌≡◌, ◌≢◌, ℕ, zero, suc, ◌⊎◌, ◌+◌, List, [], ◌∷◌, Option, Some, None, refl, sym, ap, subst, ◌∙◌, inl, inr, true, false}
+use Rattle.std.specs.Prelude.{Result, Ok, Err, Bool, ℤ, IsNone, IsSomeAnd, MatchOption, nat_lt, if◌then◌else◌}
 use Rattle.std.specs.List.{list_all}
 use Rattle.outside_io.specs.Counts.{Rose}
 use Rattle.outside_io.specs.FilesSeen.{FilesSeen, Puts, KeepsOthers}
@@ -21,11 +21,18 @@ use Rattle.component_file.specs.Spelling.{spelling}
 use Rattle.disassembler.specs.Disassembled.{disassembled}
 use Rattle.component_linker.specs.declared.fault.RuleAt.{RuleAt}
 use Rattle.component_linker.specs.Parts.{PartSeen}
-use Rattle.component_linker.specs.Start.{IsStart}
+use Rattle.component_linker.specs.Started.{StartSeen, Starts}
+use Rattle.overlay_machine.specs.Seen.{OverlaySeen, IsOverlayOf, next_overlay, answer_of}
+use Rattle.trace_tool.specs.declared.run.RunEnd.{RunEnd}
+use Rattle.trace_tool.specs.declared.run.RunEnd.TheVariants as run_end
+use Rattle.trace_tool.specs.Runs.{end_of}
+use Rattle.trace_tool.specs.Traces.{Traced, stopped, weight_with, traced_by, traced as traced_upto, trace_of}
+use Rattle.overlay_machine.specs.declared.overlay.OStep.{OStep}
+use Rattle.overlay_machine.specs.declared.overlay.OStep.TheVariants.{Went as WentOn, Halted as HaltedThere, Failed as FailedThere}
 use Rattle.lcm_machine.specs.declared.FailCause.{FailCause}
 use Rattle.lcm_machine.specs.declared.Step.{Step}
 use Rattle.lcm_machine.specs.declared.Step.TheVariants.{Went, Halted, Failed}
-use Rattle.lcm_machine.specs.Run.{Run as Machine, answer as last_step, plain}
+use Rattle.lcm_machine.specs.Run.{answer as last_step, plain}
 use Rattle.lcm_cli.specs.declared.refusal.Refusal.{Refusal}
 use Rattle.lcm_cli.specs.declared.refusal.Refusal.TheVariants as refusal
 use Rattle.lcm_cli.specs.declared.status.Status.{Status}
@@ -34,12 +41,12 @@ use Rattle.lcm_cli.specs.Refusals.{refusal_status}
 use Rattle.lcm_cli.specs.Plans.{Plan, Reads, Ends, Made, unless, whole as came_whole, too_long, unread, Comes}
 use Rattle.component_linker.specs.Accepted.{accepted}
 use Rattle.lcm_cli.specs.Parts.{is_trusted, broken_in, linked, form_by, component_at, part_at, each_at}
-use Rattle.lcm_cli.specs.Commands.{Task, Run, Put, Show, Say, is_source, is_built_form, is_built_part, is_built, run_plan, assemble_plan, disassemble_plan, check_plan, built_plan, plan_in, is_command}
-use Rattle.lcm_cli.specs.Answers.{Answer, NewFile, Outside, with_files, step_status, writes, ran, said, refused, IsAnswerOf, IsPut, GivesWhole, whole, unput, unwritten, Answers, answer, nothing}
-use Rattle.lcm_cli.specs.Causes.{IsTurn, IsUnread, IsLong, IsUndecoded, IsUnassembled, Breaks, Runs, Assembles, Shows, Says, out_of, Wrote, Causes, Stay, OthersStay, StayAt, PutsWhole, IsRunStatus, RunGiven, Promised}
+use Rattle.lcm_cli.specs.Commands.{Task, Run, Trace, Put, Show, Say, is_source, is_built_form, is_built, linked_parts, run_plan, trace_plan, assemble_plan, disassemble_plan, check_plan, built_plan, plan_in, is_command}
+use Rattle.lcm_cli.specs.Answers.{Answer, NewFile, Outside, with_files, end_status, writes, ran, traced, said, refused, IsAnswerOf, IsPut, GivesWhole, whole, unput, unwritten, Answers, answer, nothing}
+use Rattle.lcm_cli.specs.Causes.{IsTurn, IsUnread, IsLong, IsUndecoded, IsUnassembled, Breaks, Runs, Traces, Assembles, Shows, Says, out_of, Wrote, Causes, Stay, OthersStay, StayAt, PutsWhole, IsRunStatus, RunGiven, TraceGiven, Promised}
 use Rattle.lcm_cli.proofs.BuiltParts.{and_left, and_right, no_source}
 use Rattle.lcm_cli.proofs.Settled.{complete, puts_rose}
-use Rattle.lcm_cli.proofs.Reasons.{Reasoned, comes_split, same_err, ended_unless, links_reasoned, assembles_reasoned, shows_reasoned, checks_reasoned, links_break, checks_break, assembles_never, shows_never, assembles_no_rule, shows_no_rule, links_made, assembles_made, shows_made, checks_made}
+use Rattle.lcm_cli.proofs.Reasons.{Reasoned, comes_split, same_err, ended_unless, runs_reasoned, traces_reasoned, assembles_reasoned, shows_reasoned, checks_reasoned, runs_end, traces_end, assembles_end, shows_end, checks_end, runs_break, traces_break, checks_break, assembles_no_rule, shows_no_rule, runs_made, traces_made, assembles_made, shows_made, checks_made, linked_made}
 
 -- ---- words that are a command that is built have its plan, and all others are refused at once
 
@@ -84,19 +91,19 @@ no_usage_part place w f old new h = elim (comes_split (component_at place w) _ o
   | inr s ↦ no_usage_component place w (no_source w f) old new (back_usage (component_at place w) old new s.0 s.1 s.2)
 ]
 
-no_usage_each : (place : ℕ) (ws : List PartWord) → list_all is_built_part ws ≡ true → Never (each_at part_at place ws)
+no_usage_each : (place : ℕ) (ws : List PartWord) → list_all is_built_form ws ≡ true → Never (each_at part_at place ws)
 no_usage_each place [] f old new h = absurd (let e = h.0 in cc)
 no_usage_each place (w ∷ ws) f old new h = elim (comes_split (part_at place w) _ old new (Err refusal.Usage) h) as (λ _. ⊥) [
   | inl s ↦ elim (comes_split (each_at part_at (place + 1) ws) _ s.1 new (Err refusal.Usage) s.3) as (λ _. ⊥) [
     | inl t ↦ absurd (let e = t.3.0 in cc)
-    | inr t ↦ no_usage_each (place + 1) ws (and_right (is_built_part w) (list_all is_built_part ws) f) s.1 new (back_usage (each_at part_at (place + 1) ws) s.1 new t.0 t.1 t.2)
+    | inr t ↦ no_usage_each (place + 1) ws (and_right (is_built_form w) (list_all is_built_form ws) f) s.1 new (back_usage (each_at part_at (place + 1) ws) s.1 new t.0 t.1 t.2)
   ]
-  | inr s ↦ no_usage_part place w (and_right (not (is_trusted w.mark)) (is_built_form w) (and_left (is_built_part w) (list_all is_built_part ws) f)) old new (back_usage (part_at place w) old new s.0 s.1 s.2)
+  | inr s ↦ no_usage_part place w (and_left (is_built_form w) (list_all is_built_form ws) f) old new (back_usage (part_at place w) old new s.0 s.1 s.2)
 ]
 
-no_usage_links : (words : List PartWord) (size steps : ℕ) → list_all is_built_part words ≡ true → Never (run_plan words size steps)
-unfolding run_plan
-no_usage_links words size steps f old new h = elim (comes_split (each_at part_at 0 words) _ old new (Err refusal.Usage) h) as (λ _. ⊥) [
+no_usage_linked : (words : List PartWord) (size : ℕ) → list_all is_built_form words ≡ true → Never (linked_parts words size)
+unfolding linked_parts
+no_usage_linked words size f old new h = elim (comes_split (each_at part_at 0 words) _ old new (Err refusal.Usage) h) as (λ _. ⊥) [
   | inl s ↦ elim (comes_split (unless refusal.Rule (linked s.0 size)) _ s.1 new (Err refusal.Usage) s.3) as (λ _. ⊥) [
     | inl t ↦ absurd (let e = t.3.0 in cc)
     | inr t ↦ (let e = (ended_unless refusal.Rule (linked s.0 size) s.1 new refusal.Usage (back_usage (unless refusal.Rule (linked s.0 size)) s.1 new t.0 t.1 t.2)).2 in cc)
@@ -104,18 +111,20 @@ no_usage_links words size steps f old new h = elim (comes_split (each_at part_at
   | inr s ↦ no_usage_each 0 words f old new (back_usage (each_at part_at 0 words) old new s.0 s.1 s.2)
 ]
 
-no_usage_checks : (word : PartWord) → is_built_form word ≡ true → Never (check_plan word)
-unfolding check_plan
-no_usage_checks word f old new h = elim (comes_split (part_at 0 word) _ old new (Err refusal.Usage) h) as (λ _. ⊥) [
-  | inl s ↦ absurd (let e = s.3.0 in cc)
-  | inr s ↦ no_usage_part 0 word f old new (back_usage (part_at 0 word) old new s.0 s.1 s.2)
-]
+no_usage_runs : (words : List PartWord) (size steps : ℕ) → list_all is_built_form words ≡ true → Never (run_plan words size steps)
+no_usage_runs words size steps f old new h = no_usage_linked words size f old new (runs_end words size steps old new refusal.Usage h)
+
+no_usage_traces : (words : List PartWord) (size steps : ℕ) → list_all is_built_form words ≡ true → Never (trace_plan words size steps)
+no_usage_traces words size steps f old new h = no_usage_linked words size f old new (traces_end words size steps old new refusal.Usage h)
 
 no_usage_assembles : (word : PartWord) (out : List ℕ) → is_built_form word ≡ true → Never (assemble_plan word out)
-no_usage_assembles word out f = assembles_never word out refusal.Usage (no_usage_component 0 word (no_source word f))
+no_usage_assembles word out f old new h = no_usage_component 0 word (no_source word f) old new (assembles_end word out old new refusal.Usage h)
 
 no_usage_shows : (word : PartWord) → is_built_form word ≡ true → Never (disassemble_plan word)
-no_usage_shows word f = shows_never word refusal.Usage (no_usage_component 0 word (no_source word f))
+no_usage_shows word f old new h = no_usage_component 0 word (no_source word f) old new (shows_end word old new refusal.Usage h)
+
+no_usage_checks : (word : PartWord) → is_built_form word ≡ true → Never (check_plan word)
+no_usage_checks word f old new h = no_usage_part 0 word f old new (checks_end word old new refusal.Usage h)
 
 -- ---- why the words' plan ends
 
@@ -138,11 +147,13 @@ why_from asked plan old new (refusal.Rule r) k n b h = b r h
 
 why_built : (c : Command) (old new : FilesSeen) (why : Refusal) → is_built c ≡ true → Comes (built_plan c) old (Err why) new → WhyIs (Some c) (built_plan c) old why new
 why_built (command.Run (Parts words size) steps) old new why e h =
-    why_from (Some (command.Run (Parts words size) steps)) (run_plan words size steps) old new why (links_reasoned words size steps) (no_usage_links words size steps e) (links_break words size steps old new) h
+    why_from (Some (command.Run (Parts words size) steps)) (run_plan words size steps) old new why (runs_reasoned words size steps) (no_usage_runs words size steps e) (runs_break words size steps old new) h
+why_built (command.Trace (Parts words size) steps) old new why e h =
+    why_from (Some (command.Trace (Parts words size) steps)) (trace_plan words size steps) old new why (traces_reasoned words size steps) (no_usage_traces words size steps e) (traces_break words size steps old new) h
 why_built (command.Check word) old new why e h =
     why_from (Some (command.Check word)) (check_plan word) old new why (checks_reasoned word) (no_usage_checks word e) (checks_break word old new) h
 why_built (command.Run (Image name) steps) old new why e h = absurd (cc)
-why_built (command.Trace what steps) old new why e h = absurd (cc)
+why_built (command.Trace (Image name) steps) old new why e h = absurd (cc)
 why_built (command.Assemble word out) old new why e h =
     why_from (Some (command.Assemble word out)) (assemble_plan word out) old new why (assembles_reasoned word out) (no_usage_assembles word out e) (λ r c. absurd (assembles_no_rule word out r old new c)) h
 why_built (command.Compile word out) old new why e h = absurd (cc)
@@ -173,12 +184,32 @@ turn_reads (Reads n k next) old seen name place (inr h) = turn_reads (next h.0) 
 unread_rose : {A : Type 0} (p : Plan A) (old new : FilesSeen) → IsUnread p old new → Rose old.failed_reads new.failed_reads
 unread_rose p old new h = subst (λ n. Rose n new.failed_reads) (turn_reads p old h.2 h.0 h.1 h.3) h.4.rose
 
+-- ---- a trace ends by no write
+
+if_none : (b : Bool) (s t : Traced) → s.end ≢ run_end.WriteFault → t.end ≢ run_end.WriteFault → (if b then s else t).end ≢ run_end.WriteFault
+if_none true s t h k = h
+if_none false s t h k = k
+
+step_writes : (s : OStep) (limit : ℕ) (o : OverlaySeen) (more : OverlaySeen → Traced) → ((p : OverlaySeen) → (more p).end ≢ run_end.WriteFault) → (traced_by s o more).end ≢ run_end.WriteFault
+step_writes (WentOn event) limit o more h = h (next_overlay o)
+step_writes HaltedThere limit o more h = λ e. cc
+step_writes FailedThere limit o more h = λ e. cc
+
+traced_none : (limit n : ℕ) (o : OverlaySeen) → (traced_upto limit n o).end ≢ run_end.WriteFault
+traced_none limit zero o = λ e. cc
+traced_none limit (suc n) o = if_none (nat_lt limit (weight_with o)) (stopped o) (traced_by (answer_of o) o (traced_upto limit n)) (λ e. cc) (step_writes (answer_of o) limit o (traced_upto limit n) (traced_none limit n))
+
+writes_none : (limit : ℕ) (o : OverlaySeen) → (trace_of limit o).end ≢ run_end.WriteFault
+writes_none limit o = traced_none limit (limit + 1) o
+
 -- ---- the cause of what is due
 
 abbrev Caused : Option Command → Outside → Outside → Status → Type 0
-Caused asked old new status.Done = Runs asked old.files new.files (λ step. step ≡ Halted) ⊎ (Assembles asked old.files new.files ⊎ (Shows asked old.files new.files ⊎ Says asked old.files new.files))
-Caused asked old new status.MachineFailed = Runs asked old.files new.files (λ step. (cause : FailCause) × (at : ℤ) × (step ≡ Failed cause at))
-Caused asked old new status.StepsUsed = Runs asked old.files new.files (λ step. step ≡ Went)
+Caused asked old new status.Done =
+    Runs asked old.files new.files (λ step. step ≡ Halted)
+    ⊎ (Traces asked old.files new.files run_end.Halted ⊎ (Assembles asked old.files new.files ⊎ (Shows asked old.files new.files ⊎ Says asked old.files new.files)))
+Caused asked old new status.MachineFailed = Runs asked old.files new.files (λ step. (cause : FailCause) × (at : ℤ) × (step ≡ Failed cause at)) ⊎ Traces asked old.files new.files run_end.Failed
+Caused asked old new status.StepsUsed = Runs asked old.files new.files (λ step. step ≡ Went) ⊎ Traces asked old.files new.files run_end.Running
 Caused asked old new status.Usage = is_command asked ≡ false
 Caused asked old new status.ReadFault = Rose old.files.failed_reads new.files.failed_reads × IsUnread (plan_in asked) old.files new.files
 Caused asked old new status.WriteFault = Rose old.sink.faults new.sink.faults ⊎ (Rose old.files.failed_puts new.files.failed_puts × (out_of asked ≡ Some new.files.last_failed_put))
@@ -189,11 +220,18 @@ Caused asked old new status.SourceRefused = ⊥
 Caused asked old new status.FileRefused = (place : ℕ) × (f : FileFault) × Wrote (refusal.File place f) old new × IsUndecoded (plan_in asked) old.files place f new.files
 Caused asked old new status.RuleBroken = (r : RuleAt) × Wrote (refusal.Rule r) old new × Breaks asked old.files r new.files
 
-run_caused : (asked : Option Command) (old new : Outside) (parts : List PartSeen) (size steps : ℕ) → Comes (plan_in asked) old.files (Ok (Run parts size steps)) new.files → (start : Machine) → IsStart parts size start
-    → (step : Step) → last_step (plain steps start) ≡ step → Caused asked old new (step_status step)
-run_caused asked old new parts size steps c start s Went e = (parts, size, steps, c, start, s, e)
+run_caused : (asked : Option Command) (old new : Outside) (parts : List PartSeen) (size steps : ℕ) → Comes (plan_in asked) old.files (Ok (Run parts size steps)) new.files → (start : StartSeen) → Starts parts size start
+    → (step : Step) → last_step (plain steps start.state) ≡ step → Caused asked old new (end_status (end_of step))
+run_caused asked old new parts size steps c start s Went e = inl (parts, size, steps, c, start, s, e)
 run_caused asked old new parts size steps c start s Halted e = inl (parts, size, steps, c, start, s, e)
-run_caused asked old new parts size steps c start s (Failed cause at) e = (parts, size, steps, c, start, s, (cause, at, e))
+run_caused asked old new parts size steps c start s (Failed cause at) e = inl (parts, size, steps, c, start, s, (cause, at, e))
+
+trace_caused : (asked : Option Command) (old new : Outside) (parts : List PartSeen) (size steps : ℕ) → Comes (plan_in asked) old.files (Ok (Trace parts size steps)) new.files → (start : StartSeen) (overlay : OverlaySeen)
+    → Starts parts size start → IsOverlayOf start overlay → (end : RunEnd) → (trace_of steps overlay).end ≡ end → Caused asked old new (end_status end)
+trace_caused asked old new parts size steps c start overlay s o run_end.Halted e = inr (inl (parts, size, steps, c, start, overlay, s, o, e))
+trace_caused asked old new parts size steps c start overlay s o run_end.Failed e = inr (parts, size, steps, c, start, overlay, s, o, e)
+trace_caused asked old new parts size steps c start overlay s o run_end.Running e = inr (parts, size, steps, c, start, overlay, s, o, e)
+trace_caused asked old new parts size steps c start overlay s o run_end.WriteFault e = absurd (writes_none steps overlay e)
 
 err_caused : (asked : Option Command) (old new : Outside) (why : Refusal) → WhyIs asked (plan_in asked) old.files why new.files → Wrote why old new → Caused asked old new (refusal_status why)
 err_caused asked old new refusal.Usage h w = h
@@ -210,16 +248,19 @@ unput_seen seen new a b e n p = subst (λ f. IsPut seen f new) (ap (λ (x : Answ
 due_caused : (asked : Option Command) (old new : Outside) (seen : FilesSeen) (due : Result Task Refusal) (a : Answer) → Comes (plan_in asked) old.files due seen → IsAnswerOf due a → IsPut seen a.file new.files → Adds old.sink a.text new.sink
     → Caused asked old new a.status
 due_caused asked old new seen (Ok (Run parts size steps)) a c x p w =
-    let n : new.files ≡ seen = unput_seen seen new.files a (ran (plain steps x.0)) x.2 refl p in
-    subst (λ (b : Answer). Caused asked old new b.status) (sym x.2) (run_caused asked old new parts size steps (rw n c) x.0 x.1 (last_step (plain steps x.0)) refl)
+    let n : new.files ≡ seen = unput_seen seen new.files a (ran x.0 steps) x.2 refl p in
+    subst (λ (b : Answer). Caused asked old new b.status) (sym x.2) (run_caused asked old new parts size steps (rw n c) x.0 x.1 (last_step (plain steps x.0.state)) refl)
+due_caused asked old new seen (Ok (Trace parts size steps)) a c x p w =
+    let n : new.files ≡ seen = unput_seen seen new.files a (traced x.1 steps) x.4 refl p in
+    subst (λ (b : Answer). Caused asked old new b.status) (sym x.4) (trace_caused asked old new parts size steps (rw n c) x.0 x.1 x.2 x.3 (trace_of steps x.1).end refl)
 due_caused asked old new seen (Ok (Put name d)) a c x p w =
-    subst (λ (b : Answer). Caused asked old new b.status) (sym x) (inr (inl (name, d, seen, c, subst (λ (b : Answer). IsPut seen b.file new.files) x p)))
+    subst (λ (b : Answer). Caused asked old new b.status) (sym x) (inr (inr (inl (name, d, seen, c, subst (λ (b : Answer). IsPut seen b.file new.files) x p))))
 due_caused asked old new seen (Ok (Show d)) a c x p w =
     let n : new.files ≡ seen = unput_seen seen new.files a (writes status.Done (disassembled d)) x refl p in
-    subst (λ (b : Answer). Caused asked old new b.status) (sym x) (inr (inr (inl (d, rw n c))))
+    subst (λ (b : Answer). Caused asked old new b.status) (sym x) (inr (inr (inr (inl (d, rw n c)))))
 due_caused asked old new seen (Ok Say) a c x p w =
     let n : new.files ≡ seen = unput_seen seen new.files a said x refl p in
-    subst (λ (b : Answer). Caused asked old new b.status) (sym x) (inr (inr (inr (rw n c))))
+    subst (λ (b : Answer). Caused asked old new b.status) (sym x) (inr (inr (inr (inr (rw n c)))))
 due_caused asked old new seen (Err why) a c x p w =
     let n : new.files ≡ seen = unput_seen seen new.files a (refused why) x refl p in
     subst (λ (b : Answer). Caused asked old new b.status) (sym x)
@@ -231,12 +272,13 @@ name_same : (name out : List ℕ) (c d : ComponentFields) → Put name c ≡ Put
 name_same name out c d e = cc
 
 put_built : (c : Command) (old seen : FilesSeen) (name : List ℕ) (d : ComponentFields) → is_built c ≡ true → Comes (built_plan c) old (Ok (Put name d)) seen → out_of (Some c) ≡ Some name
-put_built (command.Run (Parts words size) steps) old seen name d e h = absurd (let m = (links_made words size steps old seen (Put name d) h).3 in cc)
+put_built (command.Run (Parts words size) steps) old seen name d e h = absurd (let m = (runs_made words size steps old seen (Put name d) h).2 in cc)
+put_built (command.Trace (Parts words size) steps) old seen name d e h = absurd (let m = (traces_made words size steps old seen (Put name d) h).2 in cc)
 put_built (command.Assemble word out) old seen name d e h = let m = assembles_made word out old seen (Put name d) h in ap (λ n. Some n) (sym (name_same name out d m.0 m.2))
 put_built (command.Disassemble word) old seen name d e h = absurd (let m = (shows_made word old seen (Put name d) h).2 in cc)
 put_built (command.Check word) old seen name d e h = absurd (let m = checks_made word old seen (Put name d) h in cc)
 put_built (command.Run (Image name) steps) old seen out d e h = absurd (cc)
-put_built (command.Trace what steps) old seen name d e h = absurd (cc)
+put_built (command.Trace (Image name) steps) old seen out d e h = absurd (cc)
 put_built (command.Compile word out) old seen name d e h = absurd (cc)
 put_built (command.Link words size out) old seen name d e h = absurd (cc)
 put_built (command.Mean words size fuel feed) old seen name d e h = absurd (cc)
@@ -257,6 +299,7 @@ some_same f g e = cc
 put_of : (asked : Option Command) (due : Result Task Refusal) (a : Answer) (f : NewFile) (old seen : FilesSeen) → Comes (plan_in asked) old due seen → IsAnswerOf due a → a.file ≡ Some f
     → (d : ComponentFields) × Comes (plan_in asked) old (Ok (Put f.name d)) seen × (f.bytes ≡ spelling d) × (out_of asked ≡ Some f.name)
 put_of asked (Ok (Run parts size steps)) a f old seen c x e = absurd (let k = ap (λ (b : Answer). b.file) x.2 in cc)
+put_of asked (Ok (Trace parts size steps)) a f old seen c x e = absurd (let k = ap (λ (b : Answer). b.file) x.4 in cc)
 put_of asked (Ok (Put name d)) a f old seen c x e =
     let k : f ≡ record { name = name; bytes = spelling d } = some_same f (record { name = name; bytes = spelling d }) (sym e ∙ ap (λ (b : Answer). b.file) x) in
     let n : f.name ≡ name = ap (λ (g : NewFile). g.name) k in
@@ -343,10 +386,11 @@ abbrev PutsNone : Status → Answer → Type 0
 PutsNone status.Done a = Unit {0}
 PutsNone _ a = a.file ≡ None
 
-step_none : (step : Step) (a : Answer) → a.file ≡ None → PutsNone (step_status step) a
-step_none Went a e = e
-step_none Halted a e = tt
-step_none (Failed cause at) a e = e
+end_none : (end : RunEnd) (a : Answer) → a.file ≡ None → PutsNone (end_status end) a
+end_none run_end.Halted a e = tt
+end_none run_end.Failed a e = e
+end_none run_end.Running a e = e
+end_none run_end.WriteFault a e = e
 
 why_none : (why : Refusal) (a : Answer) → a.file ≡ None → PutsNone (refusal_status why) a
 why_none refusal.Usage a e = e
@@ -357,7 +401,8 @@ why_none (refusal.File place f) a e = e
 why_none (refusal.Rule r) a e = e
 
 puts_none : (due : Result Task Refusal) (a : Answer) → IsAnswerOf due a → PutsNone a.status a
-puts_none (Ok (Run parts size steps)) a x = subst (λ (b : Answer). PutsNone b.status b) (sym x.2) (step_none (last_step (plain steps x.0)) (ran (plain steps x.0)) refl)
+puts_none (Ok (Run parts size steps)) a x = subst (λ (b : Answer). PutsNone b.status b) (sym x.2) (end_none (end_of (last_step (plain steps x.0.state))) (ran x.0 steps) refl)
+puts_none (Ok (Trace parts size steps)) a x = subst (λ (b : Answer). PutsNone b.status b) (sym x.4) (end_none (trace_of steps x.1).end (traced x.1 steps) refl)
 puts_none (Ok (Put name d)) a x = subst (λ (b : Answer). PutsNone b.status b) (sym x) tt
 puts_none (Ok (Show d)) a x = subst (λ (b : Answer). PutsNone b.status b) (sym x) tt
 puts_none (Ok Say) a x = subst (λ (b : Answer). PutsNone b.status b) (sym x) tt
@@ -403,40 +448,92 @@ no_run (refusal.Assembly place f) h = h
 no_run (refusal.File place f) h = h
 no_run (refusal.Rule r) h = h
 
+-- a status of a run is of no refusal
+refused_none : (why : Refusal) (a : Answer) (ended : Status) → a ≡ refused why → ended ≡ a.status → IsRunStatus ended → ⊥
+refused_none why a ended x e r = no_run why (subst IsRunStatus (e ∙ ap (λ (b : Answer). b.status) x) r)
+
 same_run : (p q : List PartSeen) (n m k l : ℕ) → Run p n k ≡ Run q m l → (p ≡ q) × (n ≡ m) × (k ≡ l)
 same_run p q n m k l e = (cc, cc, cc)
 
 given_run : (words : List PartWord) (size steps : ℕ) (old : Outside) (seen : FilesSeen) (ended : Status) (new : Outside) (due : Result Task Refusal) (a : Answer) → Comes (run_plan words size steps) old.files due seen → IsAnswerOf due a
     → GivesWhole (with_files old seen) a ended new → IsRunStatus ended → RunGiven words size steps old ended new
-given_run words size steps old seen ended new (Err why) a c x g r =
-    absurd (no_run why (subst IsRunStatus (g.status_is ∙ ap (λ (b : Answer). b.status) x) r))
-given_run words size steps old seen ended new (Ok (Put name d)) a c x g r =
-    absurd (let e = (links_made words size steps old.files seen (Put name d) c).3 in cc)
-given_run words size steps old seen ended new (Ok (Show d)) a c x g r =
-    absurd (let e = (links_made words size steps old.files seen (Show d) c).3 in cc)
-given_run words size steps old seen ended new (Ok Say) a c x g r =
-    absurd (let e = (links_made words size steps old.files seen Say c).3 in cc)
+given_run words size steps old seen ended new (Err why) a c x g r = absurd (refused_none why a ended x g.status_is r)
+given_run words size steps old seen ended new (Ok (Trace parts n k)) a c x g r = absurd (let e = (runs_made words size steps old.files seen (Trace parts n k) c).2 in cc)
+given_run words size steps old seen ended new (Ok (Put name d)) a c x g r = absurd (let e = (runs_made words size steps old.files seen (Put name d) c).2 in cc)
+given_run words size steps old seen ended new (Ok (Show d)) a c x g r = absurd (let e = (runs_made words size steps old.files seen (Show d) c).2 in cc)
+given_run words size steps old seen ended new (Ok Say) a c x g r = absurd (let e = (runs_made words size steps old.files seen Say c).2 in cc)
 given_run words size steps old seen ended new (Ok (Run parts n k)) a c x g r =
-    let m = links_made words size steps old.files seen (Run parts n k) c in
-    let s = same_run parts m.0 n size k steps m.3 in
-    let start : IsStart m.0 size x.0 = subst (λ z. IsStart m.0 z x.0) s.1 (subst (λ ps. IsStart ps n x.0) s.0 x.1) in
-    let is : a ≡ ran (plain steps x.0) = x.2 ∙ ap (λ z. ran (plain z x.0)) s.2 in
-    let h : GivesWhole (with_files old seen) (ran (plain steps x.0)) ended new = subst (λ b. GivesWhole (with_files old seen) b ended new) is g in
+    let m = runs_made words size steps old.files seen (Run parts n k) c in
+    let l = linked_made words size old.files seen m.0 m.1 in
+    let s = same_run parts m.0 n size k steps m.2 in
+    let start : Starts m.0 size x.0 = subst (λ z. Starts m.0 z x.0) s.1 (subst (λ ps. Starts ps n x.0) s.0 x.1) in
+    let is : a ≡ ran x.0 steps = x.2 ∙ ap (ran x.0) s.2 in
+    let h : GivesWhole (with_files old seen) (ran x.0 steps) ended new = subst (λ b. GivesWhole (with_files old seen) b ended new) is g in
     let p : new.files ≡ seen = h.put in
-    record { parts = m.0; came = (rw p m.1); keep = m.2; start = x.0; starts = start; status_is = h.status_is; written = h.written; kept_is = h.kept_is }
+    record { parts = m.0; came = (rw p l.0); keep = l.1; start = x.0; starts = start; status_is = h.status_is; written = h.written; kept_is = h.kept_is }
 
-runs_by : (words : List PartWord) (size steps : ℕ) (b : Bool) → list_all is_built_part words ≡ b → (old : Outside) (seen : FilesSeen) (ended : Status) (new : Outside) (due : Result Task Refusal) (a : Answer)
+same_trace : (p q : List PartSeen) (n m k l : ℕ) → Trace p n k ≡ Trace q m l → (p ≡ q) × (n ≡ m) × (k ≡ l)
+same_trace p q n m k l e = (cc, cc, cc)
+
+given_trace : (words : List PartWord) (size steps : ℕ) (old : Outside) (seen : FilesSeen) (ended : Status) (new : Outside) (due : Result Task Refusal) (a : Answer) → Comes (trace_plan words size steps) old.files due seen → IsAnswerOf due a
+    → GivesWhole (with_files old seen) a ended new → IsRunStatus ended → TraceGiven words size steps old ended new
+given_trace words size steps old seen ended new (Err why) a c x g r = absurd (refused_none why a ended x g.status_is r)
+given_trace words size steps old seen ended new (Ok (Run parts n k)) a c x g r = absurd (let e = (traces_made words size steps old.files seen (Run parts n k) c).2 in cc)
+given_trace words size steps old seen ended new (Ok (Put name d)) a c x g r = absurd (let e = (traces_made words size steps old.files seen (Put name d) c).2 in cc)
+given_trace words size steps old seen ended new (Ok (Show d)) a c x g r = absurd (let e = (traces_made words size steps old.files seen (Show d) c).2 in cc)
+given_trace words size steps old seen ended new (Ok Say) a c x g r = absurd (let e = (traces_made words size steps old.files seen Say c).2 in cc)
+given_trace words size steps old seen ended new (Ok (Trace parts n k)) a c x g r =
+    let m = traces_made words size steps old.files seen (Trace parts n k) c in
+    let l = linked_made words size old.files seen m.0 m.1 in
+    let s = same_trace parts m.0 n size k steps m.2 in
+    let start : Starts m.0 size x.0 = subst (λ z. Starts m.0 z x.0) s.1 (subst (λ ps. Starts ps n x.0) s.0 x.2) in
+    let is : a ≡ traced x.1 steps = x.4 ∙ ap (traced x.1) s.2 in
+    let h : GivesWhole (with_files old seen) (traced x.1 steps) ended new = subst (λ b. GivesWhole (with_files old seen) b ended new) is g in
+    let p : new.files ≡ seen = h.put in
+    record { parts = m.0; came = (rw p l.0); keep = l.1; start = x.0; starts = start; overlay = x.1; overlay_is = x.3; status_is = h.status_is; written = h.written; kept_is = h.kept_is }
+
+-- a whole answer to words that aren't built is of no run
+usage_none : (asked : Option Command) (old : Outside) (seen : FilesSeen) (ended : Status) (new : Outside) (due : Result Task Refusal) (a : Answer) → is_command asked ≡ false → Comes (plan_in asked) old.files due seen → IsAnswerOf due a
+    → GivesWhole (with_files old seen) a ended new → IsRunStatus ended → ⊥
+usage_none asked old seen ended new due a f c x g r =
+    let is : a ≡ refused refusal.Usage = subst (λ d. IsAnswerOf d a) (due_usage asked old.files seen due f c) x in
+    refused_none refusal.Usage a ended is g.status_is r
+
+runs_by : (words : List PartWord) (size steps : ℕ) (b : Bool) → list_all is_built_form words ≡ b → (old : Outside) (seen : FilesSeen) (ended : Status) (new : Outside) (due : Result Task Refusal) (a : Answer)
     → Comes (plan_in (Some (command.Run (Parts words size) steps))) old.files due seen → IsAnswerOf due a → GivesWhole (with_files old seen) a ended new → IsRunStatus ended → RunGiven words size steps old ended new
 runs_by words size steps true f old seen ended new due a c x g r =
     given_run words size steps old seen ended new due a (subst (λ p. Comes p old.files due seen) (planned (command.Run (Parts words size) steps) f) c) x g r
-runs_by words size steps false f old seen ended new due a c x g r =
-    let is : a ≡ refused refusal.Usage = subst (λ d. IsAnswerOf d a) (due_usage (Some (command.Run (Parts words size) steps)) old.files seen due f c) x in
-    absurd (no_run refusal.Usage (subst IsRunStatus (g.status_is ∙ ap (λ (b : Answer). b.status) is) r))
+runs_by words size steps false f old seen ended new due a c x g r = absurd (usage_none (Some (command.Run (Parts words size) steps)) old seen ended new due a f c x g r)
+
+traces_by : (words : List PartWord) (size steps : ℕ) (b : Bool) → list_all is_built_form words ≡ b → (old : Outside) (seen : FilesSeen) (ended : Status) (new : Outside) (due : Result Task Refusal) (a : Answer)
+    → Comes (plan_in (Some (command.Trace (Parts words size) steps))) old.files due seen → IsAnswerOf due a → GivesWhole (with_files old seen) a ended new → IsRunStatus ended → TraceGiven words size steps old ended new
+traces_by words size steps true f old seen ended new due a c x g r =
+    given_trace words size steps old seen ended new due a (subst (λ p. Comes p old.files due seen) (planned (command.Trace (Parts words size) steps) f) c) x g r
+traces_by words size steps false f old seen ended new due a c x g r = absurd (usage_none (Some (command.Trace (Parts words size) steps)) old seen ended new due a f c x g r)
+
+-- an answer with the status of a run is given whole
+pub record WholeRun (plan : Plan Task) (old : Outside) (ended : Status) (new : Outside) : Type 0 where
+  pub due : Result Task Refusal
+  pub gives : Answer
+  pub seen : FilesSeen
+  pub came : Comes plan old.files due seen
+  pub is : IsAnswerOf due gives
+  pub given : GivesWhole (with_files old seen) gives ended new
+
+whole_run : (plan : Plan Task) (old : Outside) (ended : Status) (new : Outside) → Answers plan old ended new → IsRunStatus ended → WholeRun plan old ended new
+whole_run plan old ended new (nothing n) r = absurd (subst IsRunStatus n.status_is r)
+whole_run plan old ended new (answer due a seen c x (unput f i w u k s)) r = absurd (subst IsRunStatus s r)
+whole_run plan old ended new (answer due a seen c x (unwritten p f k s)) r = absurd (subst IsRunStatus s r)
+whole_run plan old ended new (answer due a seen c x (whole g)) r = record { due = due; gives = a; seen = seen; came = c; is = x; given = g }
 
 pub runs : (asked : Option Command) (old : Outside) (ended : Status) (new : Outside) → Answers (plan_in asked) old ended new → (words : List PartWord) (size steps : ℕ) → asked ≡ Some (command.Run (Parts words size) steps)
     → IsRunStatus ended → RunGiven words size steps old ended new
-runs asked old ended new (nothing n) words size steps e r = absurd (subst IsRunStatus n.status_is r)
-runs asked old ended new (answer due a seen c x (unput f i w u k s)) words size steps e r = absurd (subst IsRunStatus s r)
-runs asked old ended new (answer due a seen c x (unwritten p f k s)) words size steps e r = absurd (subst IsRunStatus s r)
-runs asked old ended new (answer due a seen c x (whole g)) words size steps e r =
-    runs_by words size steps (list_all is_built_part words) refl old seen ended new due a (subst (λ z. Comes (plan_in z) old.files due seen) e c) x g r
+runs asked old ended new a words size steps e r =
+    let w = whole_run (plan_in asked) old ended new a r in
+    runs_by words size steps (list_all is_built_form words) refl old w.seen ended new w.due w.gives (subst (λ z. Comes (plan_in z) old.files w.due w.seen) e w.came) w.is w.given r
+
+pub traces : (asked : Option Command) (old : Outside) (ended : Status) (new : Outside) → Answers (plan_in asked) old ended new → (words : List PartWord) (size steps : ℕ) → asked ≡ Some (command.Trace (Parts words size) steps)
+    → IsRunStatus ended → TraceGiven words size steps old ended new
+traces asked old ended new a words size steps e r =
+    let w = whole_run (plan_in asked) old ended new a r in
+    traces_by words size steps (list_all is_built_form words) refl old w.seen ended new w.due w.gives (subst (λ z. Comes (plan_in z) old.files w.due w.seen) e w.came) w.is w.given r

@@ -7,5 +7,7 @@ pub mod Reasons
 pub mod BuiltParts
 pub mod Settled
 pub mod Caused
+pub mod Rising
 pub mod OneStart
+pub mod OneOverlay
 pub mod OneAnswer

@@ -7,17 +7,18 @@ use Rattle.command_words.specs.declared.command.Command.{Command}
 use Rattle.command_words.specs.declared.command.Command.TheVariants as command
 use Rattle.component_linker.specs.declared.fault.RuleAt.{RuleAt}
 use Rattle.component_linker.specs.Parts.{PartSeen}
-use Rattle.lcm_machine.specs.Run.{Run as Machine, plain}
 use Rattle.lcm_cli.specs.declared.TheConstants.{LONGEST_FILE}
 use Rattle.lcm_cli.specs.declared.refusal.Refusal.{Refusal}
 use Rattle.lcm_cli.specs.declared.refusal.Refusal.TheVariants as refusal
 use Rattle.lcm_cli.specs.Plans.{Plan, Reads, Ends, Made, ◌>>=◌, unless}
-use Rattle.component_file.specs.declared.component.ComponentFields.{ComponentFields}
 use Rattle.lcm_cli.specs.Parts.{linked, component_at, part_at, each_at}
-use Rattle.lcm_cli.specs.Commands.{Task, Run, Put, Show, Say, is_built, run_plan, assemble_plan, disassemble_plan, check_plan, built_plan, plan_in, is_command}
-use Rattle.lcm_cli.specs.Answers.{Answer, IsAnswerOf, ran, Settles, IsWritten}
+use Rattle.lcm_cli.specs.Commands.{Task, Run, Trace, Put, Show, Say, is_built, linked_parts, run_plan, trace_plan, assemble_plan, disassemble_plan, check_plan, built_plan, plan_in, is_command}
+use Rattle.lcm_cli.specs.Answers.{Answer, IsAnswerOf, ran, traced, Settles, IsWritten}
 use Rattle.lcm_cli.proofs.Caused.{planned, unplanned}
 use Rattle.lcm_cli.proofs.OneStart.{one_start}
+use Rattle.lcm_cli.proofs.OneOverlay.{one_overlay}
+use Rattle.component_linker.specs.Started.{StartSeen}
+use Rattle.overlay_machine.specs.Seen.{OverlaySeen, IsOverlayOf}
 
 -- ---- files settle one due
 
@@ -47,12 +48,15 @@ one_due held (Reads name place next) due last (b, e, h) (d, f, k) = at_bytes hel
 -- ---- a run is due to parts that keep the rules of the link
 
 abbrev Split : {A B : Type 0} → (List ℕ → Option (List ℕ)) → Plan A → (A → Plan B) → Result B Refusal → Type 0
-Split {A} held p f due = ((x : A) × Settles held (f x) due) ⊎ ((why : Refusal) × (due ≡ Err why))
+Split {A} held p f due = ((x : A) × Settles held p (Ok x) × Settles held (f x) due) ⊎ ((why : Refusal) × (due ≡ Err why))
 
 settles_split : {A B : Type 0} (held : List ℕ → Option (List ℕ)) (p : Plan A) (f : A → Plan B) (due : Result B Refusal) → Settles held (p >>= f) due → Split held p f due
-settles_split held (Made x) f due h = inl (x, h)
+settles_split held (Made x) f due h = inl (x, refl, h)
 settles_split held (Ends why) f due h = inr (why, h)
-settles_split held (Reads name place next) f due (b, e, inl u) = settles_split held (next b) f due u.1
+settles_split held (Reads name place next) f due (b, e, inl u) = elim (settles_split held (next b) f due u.1) as (λ _. Split held (Reads name place next) f due) [
+  | inl s ↦ inl (s.0, (b, e, inl (u.0, s.1)), s.2)
+  | inr s ↦ inr s
+]
 settles_split held (Reads name place next) f due (b, e, inr u) = inr (refusal.TooLong place, u.1)
 
 no_err : {A : Type 0} (x : A) (why : Refusal) → (let r : Result A Refusal = Ok x in r) ≡ Err why → ⊥
@@ -61,59 +65,70 @@ no_err x why e = cc
 same_task : (x y : Task) → (let r : Result Task Refusal = Ok x in r) ≡ Ok y → x ≡ y
 same_task x y e = cc
 
-same_parts : (p q : List PartSeen) (n m k l : ℕ) → Run p n k ≡ Run q m l → (p ≡ q) × (n ≡ m)
-same_parts p q n m k l e = (cc, cc)
+same_list : (x y : List PartSeen) → (let r : Result (List PartSeen) Refusal = Ok x in r) ≡ Ok y → y ≡ x
+same_list x y e = cc
 
-links_settle : (held : List ℕ → Option (List ℕ)) (words : List PartWord) (size steps : ℕ) (parts : List PartSeen) (n k : ℕ) → Settles held (run_plan words size steps) (Ok (Run parts n k)) → linked parts n ≡ Ok tt
-unfolding run_plan
-links_settle held words size steps parts n k h = elim (settles_split held (each_at part_at 0 words) _ (Ok (Run parts n k)) h) as (λ _. linked parts n ≡ Ok tt) [
-  | inl s ↦ kept s.0 (linked s.0 size) refl s.1
-  | inr s ↦ absurd (no_err (Run parts n k) s.0 s.1)
+linked_settle : (held : List ℕ → Option (List ℕ)) (words : List PartWord) (size : ℕ) (parts : List PartSeen) → Settles held (linked_parts words size) (Ok parts) → linked parts size ≡ Ok tt
+unfolding linked_parts
+linked_settle held words size parts h = elim (settles_split held (each_at part_at 0 words) _ (Ok parts) h) as (λ _. linked parts size ≡ Ok tt) [
+  | inl s ↦ kept s.0 (linked s.0 size) refl s.2
+  | inr s ↦ absurd (no_err parts s.0 s.1)
 ]
   where
-    kept : (ps : List PartSeen) (r : Result (Unit {0}) RuleAt) → linked ps size ≡ r → Settles held (unless refusal.Rule r >>= (λ _. Made (Run ps size steps))) (Ok (Run parts n k)) → linked parts n ≡ Ok tt
-    kept ps (Ok u) e s =
-        let q = same_parts parts ps n size k steps (same_task _ _ s) in
-        subst (λ z. linked parts z ≡ Ok tt) (sym q.1) (subst (λ z. linked z size ≡ Ok tt) (sym q.0) e)
-    kept ps (Err b) e s = absurd (no_err (Run parts n k) (refusal.Rule b) s)
+    kept : (ps : List PartSeen) (r : Result (Unit {0}) RuleAt) → linked ps size ≡ r → Settles held (unless refusal.Rule r >>= (λ _. Made ps)) (Ok parts) → linked parts size ≡ Ok tt
+    kept ps (Ok u) e s = subst (λ xs. linked xs size ≡ Ok tt) (same_list parts ps s) e
+    kept ps (Err b) e s = absurd (no_err parts (refusal.Rule b) s)
 
-checks_settle : (held : List ℕ → Option (List ℕ)) (word : PartWord) (parts : List PartSeen) (n k : ℕ) → Settles held (check_plan word) (Ok (Run parts n k)) → ⊥
-unfolding check_plan
-checks_settle held word parts n k h = elim (settles_split held (part_at 0 word) _ (Ok (Run parts n k)) h) as (λ _. ⊥) [
-  | inl s ↦ (let e = same_task (Run parts n k) Say s.1 in cc)
-  | inr s ↦ no_err (Run parts n k) s.0 s.1
+-- the parts that are to run keep the rules L
+abbrev Keeps : Task → Type 0
+Keeps (Run parts size steps) = linked parts size ≡ Ok tt
+Keeps (Trace parts size steps) = linked parts size ≡ Ok tt
+Keeps task = Unit {0}
+
+-- a task of what a plan made
+settles_made : {A : Type 0} (held : List ℕ → Option (List ℕ)) (p : Plan A) (f : A → Task) (task : Task) → ((x : A) → Settles held p (Ok x) → Keeps (f x)) → Settles held (p >>= (λ x. Made (f x))) (Ok task) → Keeps task
+settles_made held p f task k h = elim (settles_split held p (λ x. Made (f x)) (Ok task) h) as (λ _. Keeps task) [
+  | inl s ↦ subst Keeps (sym (same_task task (f s.0) s.2)) (k s.0 s.1)
+  | inr s ↦ absurd (no_err task s.0 s.1)
 ]
 
-component_settles : (held : List ℕ → Option (List ℕ)) (word : PartWord) (f : ComponentFields → Task) (parts : List PartSeen) (n k : ℕ) → ((c : ComponentFields) → Run parts n k ≡ f c → ⊥) → Settles held (component_at 0 word >>= (λ c. Made (f c))) (Ok (Run parts n k)) → ⊥
-component_settles held word f parts n k differ h = elim (settles_split held (component_at 0 word) (λ c. Made (f c)) (Ok (Run parts n k)) h) as (λ _. ⊥) [
-  | inl s ↦ differ s.0 (same_task (Run parts n k) (f s.0) s.1)
-  | inr s ↦ no_err (Run parts n k) s.0 s.1
-]
+runs_settle : (held : List ℕ → Option (List ℕ)) (words : List PartWord) (size steps : ℕ) (task : Task) → Settles held (run_plan words size steps) (Ok task) → Keeps task
+unfolding run_plan
+runs_settle held words size steps task h = settles_made held (linked_parts words size) (λ ps. Run ps size steps) task (linked_settle held words size) h
 
-assembles_settle : (held : List ℕ → Option (List ℕ)) (word : PartWord) (out : List ℕ) (parts : List PartSeen) (n k : ℕ) → Settles held (assemble_plan word out) (Ok (Run parts n k)) → ⊥
+traces_settle : (held : List ℕ → Option (List ℕ)) (words : List PartWord) (size steps : ℕ) (task : Task) → Settles held (trace_plan words size steps) (Ok task) → Keeps task
+unfolding trace_plan
+traces_settle held words size steps task h = settles_made held (linked_parts words size) (λ ps. Trace ps size steps) task (linked_settle held words size) h
+
+assembles_settle : (held : List ℕ → Option (List ℕ)) (word : PartWord) (out : List ℕ) (task : Task) → Settles held (assemble_plan word out) (Ok task) → Keeps task
 unfolding assemble_plan
-assembles_settle held word out parts n k h = component_settles held word (Put out) parts n k (λ c e. cc) h
+assembles_settle held word out task h = settles_made held (component_at 0 word) (Put out) task (λ c s. tt) h
 
-shows_settle : (held : List ℕ → Option (List ℕ)) (word : PartWord) (parts : List PartSeen) (n k : ℕ) → Settles held (disassemble_plan word) (Ok (Run parts n k)) → ⊥
+shows_settle : (held : List ℕ → Option (List ℕ)) (word : PartWord) (task : Task) → Settles held (disassemble_plan word) (Ok task) → Keeps task
 unfolding disassemble_plan
-shows_settle held word parts n k h = component_settles held word Show parts n k (λ c e. cc) h
+shows_settle held word task h = settles_made held (component_at 0 word) Show task (λ c s. tt) h
 
-built_settles : (held : List ℕ → Option (List ℕ)) (c : Command) (parts : List PartSeen) (n k : ℕ) → is_built c ≡ true → Settles held (built_plan c) (Ok (Run parts n k)) → linked parts n ≡ Ok tt
-built_settles held (command.Run (Parts words size) steps) parts n k e h = links_settle held words size steps parts n k h
-built_settles held (command.Check word) parts n k e h = absurd (checks_settle held word parts n k h)
-built_settles held (command.Run (Image name) steps) parts n k e h = absurd (cc)
-built_settles held (command.Trace what steps) parts n k e h = absurd (cc)
-built_settles held (command.Assemble word out) parts n k e h = absurd (assembles_settle held word out parts n k h)
-built_settles held (command.Compile word out) parts n k e h = absurd (cc)
-built_settles held (command.Disassemble word) parts n k e h = absurd (shows_settle held word parts n k h)
-built_settles held (command.Link words size out) parts n k e h = absurd (cc)
-built_settles held (command.Mean words size fuel feed) parts n k e h = absurd (cc)
-built_settles held (command.Generate seed) parts n k e h = absurd (cc)
+checks_settle : (held : List ℕ → Option (List ℕ)) (word : PartWord) (task : Task) → Settles held (check_plan word) (Ok task) → Keeps task
+unfolding check_plan
+checks_settle held word task h = settles_made held (part_at 0 word) (λ p. Say) task (λ p s. tt) h
 
-run_settles : (held : List ℕ → Option (List ℕ)) (asked : Option Command) (b : Bool) → is_command asked ≡ b → (parts : List PartSeen) (n k : ℕ) → Settles held (plan_in asked) (Ok (Run parts n k)) → linked parts n ≡ Ok tt
-run_settles held asked false f parts n k h = absurd (no_err (Run parts n k) refusal.Usage (subst (λ p. Settles held p (Ok (Run parts n k))) (unplanned asked f) h))
-run_settles held None true f parts n k h = absurd (cc)
-run_settles held (Some c) true f parts n k h = built_settles held c parts n k f (subst (λ p. Settles held p (Ok (Run parts n k))) (planned c f) h)
+built_settles : (held : List ℕ → Option (List ℕ)) (c : Command) (task : Task) → is_built c ≡ true → Settles held (built_plan c) (Ok task) → Keeps task
+built_settles held (command.Run (Parts words size) steps) task e h = runs_settle held words size steps task h
+built_settles held (command.Trace (Parts words size) steps) task e h = traces_settle held words size steps task h
+built_settles held (command.Assemble word out) task e h = assembles_settle held word out task h
+built_settles held (command.Disassemble word) task e h = shows_settle held word task h
+built_settles held (command.Check word) task e h = checks_settle held word task h
+built_settles held (command.Run (Image name) steps) task e h = absurd (cc)
+built_settles held (command.Trace (Image name) steps) task e h = absurd (cc)
+built_settles held (command.Compile word out) task e h = absurd (cc)
+built_settles held (command.Link words size out) task e h = absurd (cc)
+built_settles held (command.Mean words size fuel feed) task e h = absurd (cc)
+built_settles held (command.Generate seed) task e h = absurd (cc)
+
+task_settles : (held : List ℕ → Option (List ℕ)) (asked : Option Command) (b : Bool) → is_command asked ≡ b → (task : Task) → Settles held (plan_in asked) (Ok task) → Keeps task
+task_settles held asked false f task h = absurd (no_err task refusal.Usage (subst (λ p. Settles held p (Ok task)) (unplanned asked f) h))
+task_settles held None true f task h = absurd (cc)
+task_settles held (Some c) true f task h = built_settles held c task f (subst (λ p. Settles held p (Ok task)) (planned c f) h)
 
 -- ---- and so one answer
 
@@ -123,8 +138,12 @@ one_of held asked (Ok (Put name c)) a b s h k = h ∙ sym k
 one_of held asked (Ok (Show c)) a b s h k = h ∙ sym k
 one_of held asked (Ok Say) a b s h k = h ∙ sym k
 one_of held asked (Ok (Run parts size steps)) a b s h k =
-    let l = run_settles held asked (is_command asked) refl parts size steps s in
-    h.2 ∙ ap (λ (m : Machine). ran (plain steps m)) (one_start parts size h.0 k.0 l h.1 k.1) ∙ sym k.2
+    let l : linked parts size ≡ Ok tt = task_settles held asked (is_command asked) refl (Run parts size steps) s in
+    h.2 ∙ ap (λ (m : StartSeen). ran m steps) (one_start parts size h.0 k.0 l h.1 k.1) ∙ sym k.2
+one_of held asked (Ok (Trace parts size steps)) a b s h k =
+    let l : linked parts size ≡ Ok tt = task_settles held asked (is_command asked) refl (Trace parts size steps) s in
+    let e = one_start parts size h.0 k.0 l h.2 k.2 in
+    h.4 ∙ ap (λ (o : OverlaySeen). traced o steps) (one_overlay k.0 h.1 k.1 (subst (λ m. IsOverlayOf m h.1) e h.3) k.3) ∙ sym k.4
 
 pub one_answer : (asked : Option Command) (held : List ℕ → Option (List ℕ)) (a b : Answer) → IsWritten held (plan_in asked) a → IsWritten held (plan_in asked) b → a ≡ b
 one_answer asked held a b h k =

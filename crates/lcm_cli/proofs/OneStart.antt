@@ -1,5 +1,5 @@
 -- Linked parts have one start.
-use Rattle.std.proofs.Common.{◌≡◌, ◌≢◌, ℕ, zero, suc, ◌<◌, ◌≤◌, ◌⊎◌, List, [], ◌∷◌, ◌++◌, length, map, Option, Some, None, get_or, refl, sym, ap, subst, ◌∙◌, arith, inl, inr}
+use Rattle.std.proofs.Common.{◌≡◌, ◌≢◌, ℕ, zero, suc, ◌<◌, ◌≤◌, List, [], ◌∷◌, ◌++◌, length, map, Option, Some, None, get_or, refl, sym, ap, subst, ◌∙◌, arith, inl, inr}
 use Rattle.std.specs.Prelude.{Bool, true, false, ◌==◌, if◌then◌else◌, Ok}
 use Rattle.std.specs.List.{AllPairs, Contains, IsDistinct}
 use Rattle.std.proofs.lemmas.Bool.{ne_eqb, eqb-false}
@@ -19,6 +19,11 @@ use Rattle.lcm_machine.specs.Regions.{Region}
 use Rattle.lcm_cli.specs.Parts.{linked}
 use Rattle.lcm_cli.proofs.FirstOf.{linked_keeps}
 use Rattle.component_linker.specs.Start.{Exported, IsStart, start_regs, main_of}
+use Rattle.component_linker.specs.declared.owners.Site.{Site}
+use Rattle.component_linker.specs.declared.owners.Owner.{Owner}
+use Rattle.component_linker.specs.Owners.{AreSites, AreOwners}
+use Rattle.component_linker.specs.Started.{StartSeen, Starts}
+use Rattle.lcm_cli.proofs.Rising.{Rises, one_rising}
 use Rattle.lcm_machine.specs.declared.End.{End}
 use Rattle.lcm_machine.specs.declared.cells.Span.{Span}
 use Rattle.lcm_machine.specs.Maps.{Regs}
@@ -36,46 +41,6 @@ same_run s t a b l c d =
 
 one_main : (parts : List PartSeen) (x y : Exported) → main_of parts ≡ Some x → main_of parts ≡ Some y → x ≡ y
 one_main parts x y h k = let e : Some x ≡ Some y = sym h ∙ k in cc
-
--- ---- two rising lists of the same spans are one
-
-abbrev Rises : List Span → Type 0
-Rises = AllPairs (λ s t. s.base < t.base)
-
-cons_cases : (t s : Span) (ts : List Span) → Contains (t ∷ ts) s → (t ≡ s) ⊎ Contains ts s
-cons_cases t s ts (zero, l, e) = inl e
-cons_cases t s ts (suc k, l, e) = inr (k, omega (arith, l), e)
-
-cons_later : (t s : Span) (ts : List Span) → Contains ts s → Contains (t ∷ ts) s
-cons_later t s ts (k, l, e) = (suc k, omega (arith, l), e)
-
-above : (t s : Span) (ts : List Span) → Rises (t ∷ ts) → Contains ts s → t.base < s.base
-above t s ts r (k, l, e) = subst (λ (u : Span). t.base < u.base) e (r 0 (suc k) s (omega arith) (omega (arith, l)))
-
-tail_rises : (t : Span) (ts : List Span) → Rises (t ∷ ts) → Rises ts
-tail_rises t ts r = λ i j d lt in'. r (suc i) (suc j) d (omega (arith, lt)) (omega (arith, in'))
-
-same_base : (s t : Span) → s ≡ t → s.base ≡ t.base
-same_base s t e = ap (λ (u : Span). u.base) e
-
-heads : (s t : Span) (ss ts : List Span) → Rises (s ∷ ss) → Rises (t ∷ ts) → (t ≡ s) ⊎ Contains ts s → (s ≡ t) ⊎ Contains ss t → s ≡ t
-heads s t ss ts r q (inl e) h = sym e
-heads s t ss ts r q (inr c) (inl e) = e
-heads s t ss ts r q (inr c) (inr d) = absurd (let a = above t s ts q c in let b = above s t ss r d in omega (arith, a, b))
-
-rest : (x y : Span) (xs ys : List Span) → x ≡ y → Rises (x ∷ xs) → ((z : Span) → Contains (x ∷ xs) z → Contains (y ∷ ys) z) → (z : Span) → Contains xs z → Contains ys z
-rest x y xs ys e r f z c = elim (cons_cases y z ys (f z (cons_later x z xs c))) as (λ _. Contains ys z) [
-  | inl h ↦ absurd (let a = above x z xs r c in let b = same_base x z (e ∙ h) in omega (arith, a, b))
-  | inr h ↦ h
-]
-
-same_spans : (ss ts : List Span) → Rises ss → Rises ts → ((s : Span) → Contains ss s → Contains ts s) → ((s : Span) → Contains ts s → Contains ss s) → ss ≡ ts
-same_spans [] [] r q f g = refl
-same_spans [] (t ∷ ts) r q f g = absurd (let c = g t (0, omega arith, refl) in omega (arith, c.1))
-same_spans (s ∷ ss) [] r q f g = absurd (let c = f s (0, omega arith, refl) in omega (arith, c.1))
-same_spans (s ∷ ss) (t ∷ ts) r q f g =
-    let e = heads s t ss ts r q (cons_cases t s ts (f s (0, omega arith, refl))) (cons_cases s t ss (g t (0, omega arith, refl))) in
-    ap (λ u. u ∷ ss) e ∙ ap (λ us. t ∷ us) (same_spans ss ts (tail_rises s ss r) (tail_rises t ts q) (rest s t ss ts e r f) (rest t s ts ss (sym e) q g))
 
 -- ---- the spans of linked parts
 
@@ -140,7 +105,10 @@ distinct rs pairs fits = IsDistinct-from_apart begins_as (map region_span rs) (�
     let h : begins_as (region_span (get_or rs i D)) (region_span (get_or rs j D)) ≡ false = ne_eqb _ _ (apart_differ (get_or rs i D) (get_or rs j D) (fits _ (Contains-get_or rs i D low)) (fits _ (Contains-get_or rs j D high)) (pairs i j D lt high)) in
     subst (λ x. begins_as x (get_or (map region_span rs) j d) ≡ false) (sym (map_at rs i D)) (subst (λ y. begins_as (region_span (get_or rs i D)) y ≡ false) (sym (map_at rs j D)) h))
 
-rises : (parts : List PartSeen) (size : ℕ) (ss : List Span) → AllPairs Apart (regions_of parts size) → AreSpansOf parts size ss → Rises ss
+abbrev base_of : Span → ℕ
+base_of s = s.base
+
+rises : (parts : List PartSeen) (size : ℕ) (ss : List Span) → AllPairs Apart (regions_of parts size) → AreSpansOf parts size ss → Rises base_of ss
 unfolding begins_as
 rises parts size ss pairs h = λ i j d lt in'.
     let apart = IsDistinct-IsPermutation begins_as flips (map region_span (regions_of parts size)) ss h.same (distinct (regions_of parts size) pairs (in_order parts size)) in
@@ -154,13 +122,44 @@ rises parts size ss pairs h = λ i j d lt in'.
 one_spans : (parts : List PartSeen) (size : ℕ) (ss ts : List Span) → AllPairs Apart (regions_of parts size) → AreSpansOf parts size ss → AreSpansOf parts size ts → ss ≡ ts
 one_spans parts size ss ts pairs h k =
     let xs = map region_span (regions_of parts size) in
-    same_spans ss ts (rises parts size ss pairs h) (rises parts size ts pairs k)
+    one_rising base_of ss ts (rises parts size ss pairs h) (rises parts size ts pairs k)
     (λ s c. Contains-permutation xs ts s k.same (Contains-permutation ss xs s (IsPermutation-sym xs ss h.same) c))
     (λ s c. Contains-permutation xs ss s h.same (Contains-permutation ts xs s (IsPermutation-sym xs ts k.same) c))
 
--- linked parts have one start
-pub one_start : (parts : List PartSeen) (size : ℕ) (s t : Run) → linked parts size ≡ Ok tt → IsStart parts size s → IsStart parts size t → s ≡ t
-one_start parts size s t l h k =
+one_run : (parts : List PartSeen) (size : ℕ) (s t : Run) → linked parts size ≡ Ok tt → IsStart parts size s → IsStart parts size t → s ≡ t
+one_run parts size s t l h k =
     let main = one_main parts h.main k.main h.main_is k.main_is in
     same_run s t (h.regs ∙ ap (start_regs parts size) main ∙ sym k.regs) (same_cells s.maps.cells t.maps.cells (λ a. h.cells a ∙ sym (k.cells a)))
     (one_spans parts size s.maps.spans t.maps.spans (regions_apart parts size (linked_keeps parts size l)) h.spans k.spans) (h.count ∙ sym k.count) (h.end ∙ sym k.end)
+
+-- ---- its sites, owners and stack
+
+abbrev address_of : Site → ℕ
+address_of s = s.at
+
+one_sites : (parts : List PartSeen) (ss ts : List Site) → AreSites parts ss → AreSites parts ts → ss ≡ ts
+one_sites parts ss ts h k = one_rising address_of ss ts h.ascend k.ascend (λ s c. (k.all s).1 ((h.all s).0 c)) (λ s c. (h.all s).1 ((k.all s).0 c))
+
+abbrev code_base_of : Owner → ℕ
+code_base_of o = o.code.base
+
+one_owners : (parts : List PartSeen) (ss ts : List Owner) → AreOwners parts ss → AreOwners parts ts → ss ≡ ts
+one_owners parts ss ts h k = one_rising code_base_of ss ts h.ascend k.ascend (λ s c. (k.all s).1 ((h.all s).0 c)) (λ s c. (h.all s).1 ((k.all s).0 c))
+
+one_stack : (o : Option Span) (x y : Span) → o ≡ Some x → o ≡ Some y → x ≡ y
+one_stack o x y h k = let e : Some x ≡ Some y = sym h ∙ k in cc
+
+start_with : Run → List Site → List Owner → Span → StartSeen
+start_with state sites owners stack = record { state = state; sites = sites; owners = owners; stack = stack }
+
+same_start : (s t : StartSeen) → s.state ≡ t.state → s.sites ≡ t.sites → s.owners ≡ t.owners → s.stack ≡ t.stack → s ≡ t
+unfolding start_with
+same_start s t a b c d =
+    ap (λ x. start_with x s.sites s.owners s.stack) a ∙ ap (λ x. start_with t.state x s.owners s.stack) b
+    ∙ ap (λ x. start_with t.state t.sites x s.stack) c ∙ ap (start_with t.state t.sites t.owners) d
+
+-- linked parts have one start
+pub one_start : (parts : List PartSeen) (size : ℕ) (s t : StartSeen) → linked parts size ≡ Ok tt → Starts parts size s → Starts parts size t → s ≡ t
+one_start parts size s t l h k =
+    same_start s t (one_run parts size s.state t.state l h.state k.state) (one_sites parts s.sites t.sites h.sites k.sites)
+    (one_owners parts s.owners t.owners h.owners k.owners) (one_stack (stack_span parts size) s.stack t.stack h.stack k.stack)

@@ -17,7 +17,7 @@ use Rattle.lcm_cli.specs.declared.refusal.Refusal.TheVariants as refusal
 use Rattle.lcm_cli.specs.Plans.{Plan, Reads, Ends, Made, ◌>>=◌, unless, whole, too_long, unread, Comes}
 use Rattle.component_linker.specs.Accepted.{accepted}
 use Rattle.lcm_cli.specs.Parts.{is_trusted, broken_in, linked, form_by, component_at, part_at, each_at}
-use Rattle.lcm_cli.specs.Commands.{Task, Run, Put, Show, Say, run_plan, assemble_plan, disassemble_plan, check_plan}
+use Rattle.lcm_cli.specs.Commands.{Task, Run, Trace, Put, Show, Say, linked_parts, run_plan, trace_plan, assemble_plan, disassemble_plan, check_plan}
 use Rattle.lcm_cli.specs.Causes.{IsTurn, IsUnread, IsLong, IsUndecoded, IsUnassembled, PartBreaks, SomeBreaks, AllBreak}
 
 -- what comes of two plans that are joined
@@ -157,22 +157,34 @@ each_reasoned : {A : Type 0} (item : ℕ → PartWord → Plan A) → ((place : 
 each_reasoned item h place [] = reasoned_made []
 each_reasoned item h place (w ∷ ws) = reasoned_bind (item place w) _ (h place w) (λ x. reasoned_bind (each_at item (place + 1) ws) _ (each_reasoned item h (place + 1) ws) (λ xs. reasoned_made (x ∷ xs)))
 
-pub links_reasoned : (words : List PartWord) (size steps : ℕ) → Reasoned (run_plan words size steps)
-unfolding run_plan
-links_reasoned words size steps =
-    reasoned_bind (each_at part_at 0 words) _ (each_reasoned part_at part_reasoned 0 words) (λ parts. reasoned_bind (unless refusal.Rule (linked parts size)) _ (reasoned_rule refusal.Rule (linked parts size) (λ f old new. tt)) (λ u. reasoned_made _))
+linked_reasoned : (words : List PartWord) (size : ℕ) → Reasoned (linked_parts words size)
+unfolding linked_parts
+linked_reasoned words size =
+    reasoned_bind (each_at part_at 0 words) _ (each_reasoned part_at part_reasoned 0 words) (λ parts. reasoned_bind (unless refusal.Rule (linked parts size)) _ (reasoned_rule refusal.Rule (linked parts size) (λ f old new. tt)) (λ u. reasoned_made parts))
 
-pub checks_reasoned : (word : PartWord) → Reasoned (check_plan word)
-unfolding check_plan
-checks_reasoned word = reasoned_bind (part_at 0 word) _ (part_reasoned 0 word) (λ p. reasoned_made Say)
+-- a task that is made of what a plan made
+reasoned_of : {A : Type 0} (p : Plan A) (f : A → Task) → Reasoned p → Reasoned (p >>= (λ x. Made (f x)))
+reasoned_of p f k = reasoned_bind p _ k (λ x. reasoned_made (f x))
+
+pub runs_reasoned : (words : List PartWord) (size steps : ℕ) → Reasoned (run_plan words size steps)
+unfolding run_plan
+runs_reasoned words size steps = reasoned_of (linked_parts words size) (λ parts. Run parts size steps) (linked_reasoned words size)
+
+pub traces_reasoned : (words : List PartWord) (size steps : ℕ) → Reasoned (trace_plan words size steps)
+unfolding trace_plan
+traces_reasoned words size steps = reasoned_of (linked_parts words size) (λ parts. Trace parts size steps) (linked_reasoned words size)
 
 pub assembles_reasoned : (word : PartWord) (out : List ℕ) → Reasoned (assemble_plan word out)
 unfolding assemble_plan
-assembles_reasoned word out = reasoned_bind (component_at 0 word) _ (component_reasoned 0 word) (λ c. reasoned_made (Put out c))
+assembles_reasoned word out = reasoned_of (component_at 0 word) (Put out) (component_reasoned 0 word)
 
 pub shows_reasoned : (word : PartWord) → Reasoned (disassemble_plan word)
 unfolding disassemble_plan
-shows_reasoned word = reasoned_bind (component_at 0 word) _ (component_reasoned 0 word) (λ c. reasoned_made (Show c))
+shows_reasoned word = reasoned_of (component_at 0 word) Show (component_reasoned 0 word)
+
+pub checks_reasoned : (word : PartWord) → Reasoned (check_plan word)
+unfolding check_plan
+checks_reasoned word = reasoned_of (part_at 0 word) (λ p. Say) (part_reasoned 0 word)
 
 -- ---- rules
 
@@ -230,92 +242,115 @@ each_breaks place (w ∷ ws) old new r h = elim (comes_split (part_at place w) _
 err_same : {A : Type 0} {x y : RuleAt} → x ≡ y → (let q : Result A RuleAt = Err x in q) ≡ Err y
 err_same e = cc
 
-pub links_break : (words : List PartWord) (size steps : ℕ) (old new : FilesSeen) (r : RuleAt) → Comes (run_plan words size steps) old (Err (refusal.Rule r)) new → SomeBreaks old 0 words r new ⊎ AllBreak old words size r new
-unfolding run_plan
-links_break words size steps old new r h = elim (comes_split (each_at part_at 0 words) _ old new (Err (refusal.Rule r)) h) as (λ _. SomeBreaks old 0 words r new ⊎ AllBreak old words size r new) [
+linked_break : (words : List PartWord) (size : ℕ) (old new : FilesSeen) (r : RuleAt) → Comes (linked_parts words size) old (Err (refusal.Rule r)) new → SomeBreaks old 0 words r new ⊎ AllBreak old words size r new
+unfolding linked_parts
+linked_break words size old new r h = elim (comes_split (each_at part_at 0 words) _ old new (Err (refusal.Rule r)) h) as (λ _. SomeBreaks old 0 words r new ⊎ AllBreak old words size r new) [
   | inl s ↦ inr (elim (comes_split (unless refusal.Rule (linked s.0 size)) _ s.1 new (Err (refusal.Rule r)) s.3) as (λ _. AllBreak old words size r new) [
     | inl t ↦ absurd (not_made _ (refusal.Rule r) t.1 new t.3)
     | inr t ↦ (
         let e = ended_unless refusal.Rule (linked s.0 size) s.1 new t.0 t.1 in
         let q = e.3 in
-        let k = same_rule e.0 r (sym e.2 ∙ same_err {A = Task} (refusal.Rule r) t.0 t.2) in
+        let k = same_rule e.0 r (sym e.2 ∙ same_err {A = List PartSeen} (refusal.Rule r) t.0 t.2) in
         (s.0, rw q s.2, e.1 ∙ err_same k)
         )
   ])
   | inr s ↦ inl (each_breaks 0 words old new r (let e = same_err (refusal.Rule r) s.0 s.2 in rw (← e) s.1))
 ]
 
-pub checks_break : (word : PartWord) (old new : FilesSeen) (r : RuleAt) → Comes (check_plan word) old (Err (refusal.Rule r)) new → PartBreaks old 0 word r new
-unfolding check_plan
-checks_break word old new r h = elim (comes_split (part_at 0 word) _ old new (Err (refusal.Rule r)) h) as (λ _. PartBreaks old 0 word r new) [
-  | inl s ↦ absurd (not_made _ (refusal.Rule r) s.1 new s.3)
-  | inr s ↦ part_breaks 0 word old new r (let e = same_err (refusal.Rule r) s.0 s.2 in rw (← e) s.1)
+-- ---- a task that is made of what a plan made
+
+-- where the call ends, it was the plan that ended it
+err_of : {A : Type 0} (p : Plan A) (f : A → Task) (old new : FilesSeen) (why : Refusal) → Comes (p >>= (λ x. Made (f x))) old (Err why) new → Comes p old (Err why) new
+err_of p f old new why h = elim (comes_split p (λ x. Made (f x)) old new (Err why) h) as (λ _. Comes p old (Err why) new) [
+  | inl s ↦ absurd (not_made (f s.0) why s.1 new s.3)
+  | inr s ↦ (let e = same_err why s.0 s.2 in rw (← e) s.1)
 ]
-
--- a task that is made of the component alone
-abbrev OfComponent : PartWord → (ComponentFields → Task) → Plan Task
-OfComponent word f = component_at 0 word >>= (λ c. Made (f c))
-
-never_of : (word : PartWord) (f : ComponentFields → Task) (why : Refusal) → Never (component_at 0 word) why → Never (OfComponent word f) why
-never_of word f why n old new h = elim (comes_split (component_at 0 word) (λ c. Made (f c)) old new (Err why) h) as (λ _. ⊥) [
-  | inl s ↦ not_made (f s.0) why s.1 new s.3
-  | inr s ↦ n old new (let e = same_err why s.0 s.2 in rw (← e) s.1)
-]
-
-pub assembles_never : (word : PartWord) (out : List ℕ) (why : Refusal) → Never (component_at 0 word) why → Never (assemble_plan word out) why
-unfolding assemble_plan
-assembles_never word out why n = never_of word (Put out) why n
-
-pub shows_never : (word : PartWord) (why : Refusal) → Never (component_at 0 word) why → Never (disassemble_plan word) why
-unfolding disassemble_plan
-shows_never word why n = never_of word Show why n
-
-pub assembles_no_rule : (word : PartWord) (out : List ℕ) (r : RuleAt) → Never (assemble_plan word out) (refusal.Rule r)
-assembles_no_rule word out r = assembles_never word out (refusal.Rule r) (no_rule 0 word r)
-
-pub shows_no_rule : (word : PartWord) (r : RuleAt) → Never (disassemble_plan word) (refusal.Rule r)
-shows_no_rule word r = shows_never word (refusal.Rule r) (no_rule 0 word r)
-
--- ---- tasks
 
 same_task : (x y : Task) → (let r : Result Task Refusal = Ok x in r) ≡ Ok y → x ≡ y
 same_task x y e = cc
 
--- the parts came and keep the rules, where a task was made
-pub links_made : (words : List PartWord) (size steps : ℕ) (old new : FilesSeen) (task : Task) → Comes (run_plan words size steps) old (Ok task) new
-    → (parts : List PartSeen) × Comes (each_at part_at 0 words) old (Ok parts) new × (linked parts size ≡ Ok tt) × (task ≡ Run parts size steps)
+-- the task is of what the plan made
+made_of : {A : Type 0} (p : Plan A) (f : A → Task) (old new : FilesSeen) (task : Task) → Comes (p >>= (λ x. Made (f x))) old (Ok task) new → (x : A) × Comes p old (Ok x) new × (task ≡ f x)
+made_of {A} p f old new task h = elim (comes_split p (λ x. Made (f x)) old new (Ok task) h) as (λ _. (x : A) × Comes p old (Ok x) new × (task ≡ f x)) [
+  | inl s ↦ (let q = s.3.1 in (s.0, rw q s.2, same_task task (f s.0) s.3.0))
+  | inr s ↦ absurd (let e = s.2 in cc)
+]
+
+pub runs_end : (words : List PartWord) (size steps : ℕ) (old new : FilesSeen) (why : Refusal) → Comes (run_plan words size steps) old (Err why) new → Comes (linked_parts words size) old (Err why) new
 unfolding run_plan
-links_made words size steps old new task h = elim (comes_split (each_at part_at 0 words) _ old new (Ok task) h) as (λ _. Goal) [
+runs_end words size steps old new why h = err_of (linked_parts words size) (λ parts. Run parts size steps) old new why h
+
+pub traces_end : (words : List PartWord) (size steps : ℕ) (old new : FilesSeen) (why : Refusal) → Comes (trace_plan words size steps) old (Err why) new → Comes (linked_parts words size) old (Err why) new
+unfolding trace_plan
+traces_end words size steps old new why h = err_of (linked_parts words size) (λ parts. Trace parts size steps) old new why h
+
+pub assembles_end : (word : PartWord) (out : List ℕ) (old new : FilesSeen) (why : Refusal) → Comes (assemble_plan word out) old (Err why) new → Comes (component_at 0 word) old (Err why) new
+unfolding assemble_plan
+assembles_end word out old new why h = err_of (component_at 0 word) (Put out) old new why h
+
+pub shows_end : (word : PartWord) (old new : FilesSeen) (why : Refusal) → Comes (disassemble_plan word) old (Err why) new → Comes (component_at 0 word) old (Err why) new
+unfolding disassemble_plan
+shows_end word old new why h = err_of (component_at 0 word) Show old new why h
+
+pub checks_end : (word : PartWord) (old new : FilesSeen) (why : Refusal) → Comes (check_plan word) old (Err why) new → Comes (part_at 0 word) old (Err why) new
+unfolding check_plan
+checks_end word old new why h = err_of (part_at 0 word) (λ p. Say) old new why h
+
+pub runs_break : (words : List PartWord) (size steps : ℕ) (old new : FilesSeen) (r : RuleAt) → Comes (run_plan words size steps) old (Err (refusal.Rule r)) new → SomeBreaks old 0 words r new ⊎ AllBreak old words size r new
+runs_break words size steps old new r h = linked_break words size old new r (runs_end words size steps old new (refusal.Rule r) h)
+
+pub traces_break : (words : List PartWord) (size steps : ℕ) (old new : FilesSeen) (r : RuleAt) → Comes (trace_plan words size steps) old (Err (refusal.Rule r)) new → SomeBreaks old 0 words r new ⊎ AllBreak old words size r new
+traces_break words size steps old new r h = linked_break words size old new r (traces_end words size steps old new (refusal.Rule r) h)
+
+pub checks_break : (word : PartWord) (old new : FilesSeen) (r : RuleAt) → Comes (check_plan word) old (Err (refusal.Rule r)) new → PartBreaks old 0 word r new
+checks_break word old new r h = part_breaks 0 word old new r (checks_end word old new (refusal.Rule r) h)
+
+pub assembles_no_rule : (word : PartWord) (out : List ℕ) (r : RuleAt) → Never (assemble_plan word out) (refusal.Rule r)
+assembles_no_rule word out r old new h = no_rule 0 word r old new (assembles_end word out old new (refusal.Rule r) h)
+
+pub shows_no_rule : (word : PartWord) (r : RuleAt) → Never (disassemble_plan word) (refusal.Rule r)
+shows_no_rule word r old new h = no_rule 0 word r old new (shows_end word old new (refusal.Rule r) h)
+
+-- ---- tasks
+
+pub runs_made : (words : List PartWord) (size steps : ℕ) (old new : FilesSeen) (task : Task) → Comes (run_plan words size steps) old (Ok task) new → (parts : List PartSeen) × Comes (linked_parts words size) old (Ok parts) new × (task ≡ Run parts size steps)
+unfolding run_plan
+runs_made words size steps old new task h = made_of (linked_parts words size) (λ parts. Run parts size steps) old new task h
+
+pub traces_made : (words : List PartWord) (size steps : ℕ) (old new : FilesSeen) (task : Task) → Comes (trace_plan words size steps) old (Ok task) new → (parts : List PartSeen) × Comes (linked_parts words size) old (Ok parts) new × (task ≡ Trace parts size steps)
+unfolding trace_plan
+traces_made words size steps old new task h = made_of (linked_parts words size) (λ parts. Trace parts size steps) old new task h
+
+pub assembles_made : (word : PartWord) (out : List ℕ) (old new : FilesSeen) (task : Task) → Comes (assemble_plan word out) old (Ok task) new → (c : ComponentFields) × Comes (component_at 0 word) old (Ok c) new × (task ≡ Put out c)
+unfolding assemble_plan
+assembles_made word out old new task h = made_of (component_at 0 word) (Put out) old new task h
+
+pub shows_made : (word : PartWord) (old new : FilesSeen) (task : Task) → Comes (disassemble_plan word) old (Ok task) new → (c : ComponentFields) × Comes (component_at 0 word) old (Ok c) new × (task ≡ Show c)
+unfolding disassemble_plan
+shows_made word old new task h = made_of (component_at 0 word) Show old new task h
+
+pub checks_made : (word : PartWord) (old new : FilesSeen) (task : Task) → Comes (check_plan word) old (Ok task) new → task ≡ Say
+unfolding check_plan
+checks_made word old new task h = (made_of (part_at 0 word) (λ p. Say) old new task h).2
+
+same_list : (x y : List PartSeen) → (let r : Result (List PartSeen) Refusal = Ok x in r) ≡ Ok y → y ≡ x
+same_list x y e = cc
+
+-- the parts came and keep the rules L
+pub linked_made : (words : List PartWord) (size : ℕ) (old new : FilesSeen) (parts : List PartSeen) → Comes (linked_parts words size) old (Ok parts) new → Comes (each_at part_at 0 words) old (Ok parts) new × (linked parts size ≡ Ok tt)
+unfolding linked_parts
+linked_made words size old new parts h = elim (comes_split (each_at part_at 0 words) _ old new (Ok parts) h) as (λ _. Goal) [
   | inl s ↦ made s.0 (linked s.0 size) refl s.1 s.2 s.3
   | inr s ↦ absurd (let e = s.2 in cc)
 ]
   where
     Goal : Type 0
-    Goal = (parts : List PartSeen) × Comes (each_at part_at 0 words) old (Ok parts) new × (linked parts size ≡ Ok tt) × (task ≡ Run parts size steps)
+    Goal = Comes (each_at part_at 0 words) old (Ok parts) new × (linked parts size ≡ Ok tt)
 
-    made : (parts : List PartSeen) (r : Result (Unit {0}) RuleAt) → linked parts size ≡ r → (mid : FilesSeen) → Comes (each_at part_at 0 words) old (Ok parts) mid → Comes (unless refusal.Rule r >>= (λ _. Made (Run parts size steps))) mid (Ok task) new
-        → (parts : List PartSeen) × Comes (each_at part_at 0 words) old (Ok parts) new × (linked parts size ≡ Ok tt) × (task ≡ Run parts size steps)
-    made parts (Ok u) e mid c h = (let q = h.1 in (parts, rw q c, e, same_task task _ h.0))
-    made parts (Err b) e mid c h = absurd (let q = h.0 in cc)
-
--- the task of a component
-made_of : (word : PartWord) (f : ComponentFields → Task) (old new : FilesSeen) (task : Task) → Comes (OfComponent word f) old (Ok task) new → (c : ComponentFields) × Comes (component_at 0 word) old (Ok c) new × (task ≡ f c)
-made_of word f old new task h = elim (comes_split (component_at 0 word) (λ c. Made (f c)) old new (Ok task) h) as (λ _. (c : ComponentFields) × Comes (component_at 0 word) old (Ok c) new × (task ≡ f c)) [
-  | inl s ↦ (let q = s.3.1 in (s.0, rw q s.2, same_task task (f s.0) s.3.0))
-  | inr s ↦ absurd (let e = s.2 in cc)
-]
-
-pub assembles_made : (word : PartWord) (out : List ℕ) (old new : FilesSeen) (task : Task) → Comes (assemble_plan word out) old (Ok task) new → (c : ComponentFields) × Comes (component_at 0 word) old (Ok c) new × (task ≡ Put out c)
-unfolding assemble_plan
-assembles_made word out old new task h = made_of word (Put out) old new task h
-
-pub shows_made : (word : PartWord) (old new : FilesSeen) (task : Task) → Comes (disassemble_plan word) old (Ok task) new → (c : ComponentFields) × Comes (component_at 0 word) old (Ok c) new × (task ≡ Show c)
-unfolding disassemble_plan
-shows_made word old new task h = made_of word Show old new task h
-
-pub checks_made : (word : PartWord) (old new : FilesSeen) (task : Task) → Comes (check_plan word) old (Ok task) new → task ≡ Say
-unfolding check_plan
-checks_made word old new task h = elim (comes_split (part_at 0 word) _ old new (Ok task) h) as (λ _. task ≡ Say) [
-  | inl s ↦ same_task task Say s.3.0
-  | inr s ↦ absurd (let e = s.2 in cc)
-]
+    made : (ps : List PartSeen) (r : Result (Unit {0}) RuleAt) → linked ps size ≡ r → (mid : FilesSeen) → Comes (each_at part_at 0 words) old (Ok ps) mid → Comes (unless refusal.Rule r >>= (λ _. Made ps)) mid (Ok parts) new
+        → Comes (each_at part_at 0 words) old (Ok parts) new × (linked parts size ≡ Ok tt)
+    made ps (Ok u) e mid c h =
+        let q = h.1 in
+        let same : ps ≡ parts = same_list parts ps h.0 in
+        subst (λ xs. Comes (each_at part_at 0 words) old (Ok xs) new × (linked xs size ≡ Ok tt)) same (rw q c, e)
+    made ps (Err b) e mid c h = absurd (let q = h.0 in cc)

@@ -4,11 +4,15 @@ use Rattle.outside_io.specs.Counts.{Rose}
 use Rattle.outside_io.specs.FilesSeen.{FilesSeen, Puts, FailsToPut}
 use Rattle.outside_io.specs.SinkSeen.{SinkSeen, Adds, FailsToWrite}
 use Rattle.outside_io.specs.Whole.{OnlyGave}
-use Rattle.lcm_machine.specs.declared.Step.{Step}
-use Rattle.lcm_machine.specs.declared.Step.TheVariants.{Went, Halted, Failed}
 use Rattle.lcm_machine.specs.Run.{Run as Machine, answer as last_step, plain}
 use Rattle.component_file.specs.Spelling.{spelling}
-use Rattle.component_linker.specs.Start.{IsStart}
+use Rattle.component_linker.specs.Started.{StartSeen, Starts}
+use Rattle.overlay_machine.specs.Seen.{OverlaySeen, IsOverlayOf}
+use Rattle.trace_tool.specs.declared.run.RunEnd.{RunEnd}
+use Rattle.trace_tool.specs.declared.run.RunEnd.TheVariants as run_end
+use Rattle.trace_tool.specs.Layout.{layout}
+use Rattle.trace_tool.specs.Runs.{run_text, end_of}
+use Rattle.trace_tool.specs.Traces.{trace_of, trace_text}
 use Rattle.disassembler.specs.Disassembled.{disassembled}
 use Rattle.lcm_cli.specs.declared.TheConstants.{LONGEST_FILE}
 use Rattle.lcm_cli.specs.declared.status.Status.{Status}
@@ -18,10 +22,9 @@ use Rattle.lcm_cli.specs.declared.refusal.Refusal.{Refusal}
 use Rattle.lcm_cli.specs.declared.refusal.Refusal.TheVariants.{TooLong}
 use Rattle.lcm_cli.specs.declared.job.Job.{Job}
 use Rattle.lcm_cli.specs.declared.job.Job.TheVariants as job
-use Rattle.lcm_cli.specs.EndLine.{end_line}
 use Rattle.lcm_cli.specs.Refusals.{refusal_text, refusal_status}
 use Rattle.lcm_cli.specs.Plans.{Plan, Reads, Ends, Made, Comes}
-use Rattle.lcm_cli.specs.Commands.{Task, Run, Put, Show, Say}
+use Rattle.lcm_cli.specs.Commands.{Task, Run, Trace, Put, Show, Say}
 
 -- a file that is put, by its name and its bytes
 pub record NewFile : Type 0 where
@@ -42,15 +45,22 @@ writes status text = record { status = status; text = text; file = None; machine
 abbrev pub refused : Refusal → Answer
 refused why = writes (refusal_status why) (refusal_text why)
 
--- the status of a run, by what its last step answered
-abbrev pub step_status : Step → Status
-step_status Went = StepsUsed
-step_status Halted = Done
-step_status (Failed cause at) = MachineFailed
+-- the status of a run, by how it ended
+abbrev pub end_status : RunEnd → Status
+end_status run_end.Halted = Done
+end_status run_end.Failed = MachineFailed
+end_status run_end.Running = StepsUsed
+end_status run_end.WriteFault = WriteFault
 
--- of a machine as a run left it
-abbrev pub ran : Machine → Answer
-ran m = record (writes (step_status (last_step m)) (end_line m)) { machine = Some m }
+-- of the plain run from a start: its lines and its end line, and the machine as it left it
+abbrev pub ran : StartSeen → ℕ → Answer
+ran start steps =
+    let left = plain steps start.state in
+    record (writes (end_status (end_of (last_step left))) (run_text (layout start) start.state steps)) { machine = Some left }
+
+-- of an overlay's run: its lines and its end line
+abbrev pub traced : OverlaySeen → ℕ → Answer
+traced overlay steps = writes (end_status (trace_of steps overlay).end) (trace_text steps overlay)
 
 abbrev pub said : Answer
 said = writes Done (codes "ok\n")
@@ -58,11 +68,14 @@ said = writes Done (codes "ok\n")
 abbrev pub puts : List ℕ → List ℕ → Answer
 puts name bytes = record said { file = Some (record { name = name; bytes = bytes }) }
 
--- the answer to what came of a plan: that of the plain run of a start of the parts, the component's file or
--- its text, `ok`, or the refusal's
+-- the answer to what came of a plan: that of the plain run of a start of the parts or of its overlay, the
+-- component's file or its text, `ok`, or the refusal's
 abbrev pub IsAnswerOf : Result Task Refusal → Answer → Type 0
 IsAnswerOf (Ok (Run parts size steps)) a =
-    (start : Machine) × IsStart parts size start × (a ≡ ran (plain steps start))
+    (start : StartSeen) × Starts parts size start × (a ≡ ran start steps)
+IsAnswerOf (Ok (Trace parts size steps)) a =
+    (start : StartSeen) × (overlay : OverlaySeen) × Starts parts size start × IsOverlayOf start overlay
+    × (a ≡ traced overlay steps)
 IsAnswerOf (Ok (Put name c)) a = a ≡ puts name (spelling c)
 IsAnswerOf (Ok (Show c)) a = a ≡ writes Done (disassembled c)
 IsAnswerOf (Ok Say) a = a ≡ said
@@ -158,12 +171,14 @@ Tells old text status result new =
 
 -- the answer of a job
 abbrev pub job_answer : Job → Answer
-job_answer (job.Run start steps) = ran (plain steps start.state)
+job_answer (job.Run start steps) = ran start steps
+job_answer (job.Trace start overlay steps) = traced overlay steps
 job_answer (job.Put out bytes) = puts out bytes
 job_answer (job.Show text) = writes Done text
 job_answer job.Say = said
 
--- the machine of a job made no step yet
+-- the machine of a job made no step yet, and its overlay is that of its start
 abbrev pub IsReady : Job → Type 0
-IsReady (job.Run start steps) = start.state.count ≡ 0
+IsReady (job.Run start steps) = (start.state.count ≡ 0) × (start.state.end ≡ None)
+IsReady (job.Trace start overlay steps) = IsOverlayOf start overlay
 IsReady _ = Unit {0}

@@ -17,11 +17,17 @@ use Rattle.component_file.specs.Spelling.{spelling}
 use Rattle.component_check.specs.declared.rule.Broken.{Broken}
 use Rattle.component_linker.specs.declared.fault.RuleAt.{RuleAt}
 use Rattle.component_linker.specs.Parts.{PartSeen}
-use Rattle.component_linker.specs.Start.{IsStart}
+use Rattle.component_linker.specs.Started.{StartSeen, Starts}
+use Rattle.overlay_machine.specs.Seen.{OverlaySeen, IsOverlayOf}
+use Rattle.trace_tool.specs.declared.run.RunEnd.{RunEnd}
+use Rattle.trace_tool.specs.declared.run.RunEnd.TheVariants as run_end
+use Rattle.trace_tool.specs.Layout.{layout}
+use Rattle.trace_tool.specs.Runs.{run_text, end_of}
+use Rattle.trace_tool.specs.Traces.{trace_of, trace_text}
 use Rattle.lcm_machine.specs.declared.FailCause.{FailCause}
 use Rattle.lcm_machine.specs.declared.Step.{Step}
 use Rattle.lcm_machine.specs.declared.Step.TheVariants.{Went, Halted, Failed}
-use Rattle.lcm_machine.specs.Run.{Run as Machine, answer as last_step, plain}
+use Rattle.lcm_machine.specs.Run.{answer as last_step, plain}
 use Rattle.lcm_cli.specs.declared.TheConstants.{LONGEST_FILE}
 use Rattle.lcm_cli.specs.declared.refusal.Refusal.{Refusal}
 use Rattle.lcm_cli.specs.declared.refusal.Refusal.TheVariants as refusal
@@ -29,13 +35,12 @@ use Rattle.lcm_cli.specs.declared.status.Status.{Status}
 use Rattle.lcm_cli.specs.declared.status.Status.TheVariants.{Done, MachineFailed, StepsUsed, Usage, ReadFault}
 use Rattle.lcm_cli.specs.declared.status.Status.TheVariants.{WriteFault, NoMemory, TooLong, AsmRefused}
 use Rattle.lcm_cli.specs.declared.status.Status.TheVariants.{SourceRefused, FileRefused, RuleBroken}
-use Rattle.lcm_cli.specs.EndLine.{end_line}
 use Rattle.lcm_cli.specs.Refusals.{refusal_text}
 use Rattle.lcm_cli.specs.Plans.{Plan, Reads, Ends, Made, Comes}
 use Rattle.component_linker.specs.Accepted.{accepted}
 use Rattle.lcm_cli.specs.Parts.{is_trusted, linked, component_at, part_at, each_at}
-use Rattle.lcm_cli.specs.Commands.{Run, Put, Show, Say, is_command, plan_in}
-use Rattle.lcm_cli.specs.Answers.{Outside, Answers, IsComplete, step_status}
+use Rattle.lcm_cli.specs.Commands.{Run, Trace, Put, Show, Say, is_command, plan_in}
+use Rattle.lcm_cli.specs.Answers.{Outside, Answers, IsComplete, end_status}
 
 -- ---- files
 
@@ -100,6 +105,8 @@ AllBreak old words size r new =
 abbrev pub Breaks : Option Command → FilesSeen → RuleAt → FilesSeen → Type 0
 Breaks (Some (command.Run (Parts words size) steps)) old r new =
     SomeBreaks old 0 words r new ⊎ AllBreak old words size r new
+Breaks (Some (command.Trace (Parts words size) steps)) old r new =
+    SomeBreaks old 0 words r new ⊎ AllBreak old words size r new
 Breaks (Some (command.Check word)) old r new = PartBreaks old 0 word r new
 Breaks _ old r new = ⊥
 
@@ -110,7 +117,15 @@ abbrev pub Runs : Option Command → FilesSeen → FilesSeen → (Step → Type 
 Runs asked old new P =
     (parts : List PartSeen) × (size : ℕ) × (steps : ℕ)
     × Comes (plan_in asked) old (Ok (Run parts size steps)) new
-    × (start : Machine) × IsStart parts size start × P (last_step (plain steps start))
+    × (start : StartSeen) × Starts parts size start × P (last_step (plain steps start.state))
+
+-- the parts of the words came, and the run of their start's overlay came to this
+abbrev pub Traces : Option Command → FilesSeen → FilesSeen → RunEnd → Type 0
+Traces asked old new end =
+    (parts : List PartSeen) × (size : ℕ) × (steps : ℕ)
+    × Comes (plan_in asked) old (Ok (Trace parts size steps)) new
+    × (start : StartSeen) × (overlay : OverlaySeen) × Starts parts size start × IsOverlayOf start overlay
+    × ((trace_of steps overlay).end ≡ end)
 
 -- `ok` was to be written, and nothing else to be done
 abbrev pub Says : Option Command → FilesSeen → FilesSeen → Type 0
@@ -142,10 +157,13 @@ Wrote why old new = Adds old.sink (refusal_text why) new.sink
 pub record Causes (asked : Option Command) (old : Outside) (status : Status) (new : Outside) : Type 0 where
   -- the run halted, the component's file was put, its text or `ok` was to be written
   pub done : status ≡ Done → Runs asked old.files new.files (λ step. step ≡ Halted)
-      ⊎ (Assembles asked old.files new.files ⊎ (Shows asked old.files new.files ⊎ Says asked old.files new.files))
+      ⊎ (Traces asked old.files new.files run_end.Halted ⊎ (Assembles asked old.files new.files
+      ⊎ (Shows asked old.files new.files ⊎ Says asked old.files new.files)))
   pub machine_failed : status ≡ MachineFailed → Runs asked old.files new.files
       (λ step. (cause : FailCause) × (at : ℤ) × (step ≡ Failed cause at))
+      ⊎ Traces asked old.files new.files run_end.Failed
   pub steps_used : status ≡ StepsUsed → Runs asked old.files new.files (λ step. step ≡ Went)
+      ⊎ Traces asked old.files new.files run_end.Running
   pub usage : status ≡ Usage → is_command asked ≡ false
   pub read_fault : status ≡ ReadFault
       → Rose old.files.failed_reads new.files.failed_reads × IsUnread (plan_in asked) old.files new.files
@@ -194,18 +212,32 @@ IsRunStatus MachineFailed = Unit {0}
 IsRunStatus StepsUsed = Unit {0}
 IsRunStatus _ = ⊥
 
--- the words made parts that keep the rules, and the plain run of their start gave the end line, the status
--- and the machine
+-- the words made parts that keep the rules, and the plain run of their start gave the status, the text, which
+-- is its lines and its end line, and the machine
 pub record RunGiven (words : List PartWord) (size steps : ℕ) (old : Outside) (status : Status) (new : Outside)
     : Type 0 where
   pub parts : List PartSeen
   pub came : Comes (each_at part_at 0 words) old.files (Ok parts) new.files
   pub keep : linked parts size ≡ Ok tt
-  pub start : Machine
-  pub starts : IsStart parts size start
-  pub status_is : status ≡ step_status (last_step (plain steps start))
-  pub written : Adds old.sink (end_line (plain steps start)) new.sink
-  pub kept_is : new.kept ≡ Some (plain steps start)
+  pub start : StartSeen
+  pub starts : Starts parts size start
+  pub status_is : status ≡ end_status (end_of (last_step (plain steps start.state)))
+  pub written : Adds old.sink (run_text (layout start) start.state steps) new.sink
+  pub kept_is : new.kept ≡ Some (plain steps start.state)
+
+-- the same of the run of their start's overlay, which hands no machine over
+pub record TraceGiven (words : List PartWord) (size steps : ℕ) (old : Outside) (status : Status) (new : Outside)
+    : Type 0 where
+  pub parts : List PartSeen
+  pub came : Comes (each_at part_at 0 words) old.files (Ok parts) new.files
+  pub keep : linked parts size ≡ Ok tt
+  pub start : StartSeen
+  pub starts : Starts parts size start
+  pub overlay : OverlaySeen
+  pub overlay_is : IsOverlayOf start overlay
+  pub status_is : status ≡ end_status (trace_of steps overlay).end
+  pub written : Adds old.sink (trace_text steps overlay) new.sink
+  pub kept_is : new.kept ≡ old.kept
 
 -- what the top call promises: the answer that was due, the cause of its status, and that no other answer is
 -- given where nothing outside fails

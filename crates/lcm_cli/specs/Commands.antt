@@ -1,5 +1,5 @@
 -- What each command does: its files in the order of refusals, and then its task.
-use Rattle.std.specs.Prelude.{ℕ, Bool, true, false, ◌&&◌, not, List, Option, Some, None, if◌then◌else◌}
+use Rattle.std.specs.Prelude.{ℕ, Bool, true, false, not, List, Option, Some, None, if◌then◌else◌}
 use Rattle.std.specs.List.{list_all}
 use Rattle.command_words.specs.declared.part.Ending.{Ending}
 use Rattle.command_words.specs.declared.part.Ending.TheVariants.{Source}
@@ -12,17 +12,19 @@ use Rattle.component_file.specs.declared.component.ComponentFields.{ComponentFie
 use Rattle.component_linker.specs.Parts.{PartSeen}
 use Rattle.lcm_cli.specs.declared.refusal.Refusal.TheVariants as refusal
 use Rattle.lcm_cli.specs.Plans.{Plan, Ends, Made, ◌>>=◌, unless}
-use Rattle.lcm_cli.specs.Parts.{is_trusted, linked, component_at, part_at, each_at}
+use Rattle.lcm_cli.specs.Parts.{linked, component_at, part_at, each_at}
 
--- what is left to do once the files came: to run the start of parts with a stack of a size; to put the file of
--- a component under a name, and then to write `ok`; to write the text of a component; or to write `ok`
+-- what is left to do once the files came: to run the start of parts with a stack of a size, or its overlay; to
+-- put the file of a component under a name, and then to write `ok`; to write the text of a component; or to
+-- write `ok`
 pub data Task : Type 0 where
   Run : (parts : List PartSeen) (size steps : ℕ) → Task
+  Trace : (parts : List PartSeen) (size steps : ℕ) → Task
   Put : (name : List ℕ) (component : ComponentFields) → Task
   Show : (component : ComponentFields) → Task
   Say : Task
 
--- ---- what is built: `run` of untrusted parts, `asm`, `dis` and `check`; of no sources
+-- ---- what is built: `run` and `trace` of parts, `asm`, `dis` and `check`; of no sources
 
 abbrev pub is_source : Ending → Bool
 is_source Source = true
@@ -31,26 +33,36 @@ is_source _ = false
 abbrev pub is_built_form : PartWord → Bool
 is_built_form word = not (is_source word.ending)
 
-abbrev pub is_built_part : PartWord → Bool
-is_built_part word = not (is_trusted word.mark) && is_built_form word
-
 abbrev pub is_built_linked : Linked → Bool
-is_built_linked (Parts words size) = list_all is_built_part words
+is_built_linked (Parts words size) = list_all is_built_form words
 is_built_linked (Image name) = false
 
 abbrev pub is_built : Command → Bool
 is_built (command.Run what steps) = is_built_linked what
+is_built (command.Trace what steps) = is_built_linked what
 is_built (command.Assemble word out) = is_built_form word
 is_built (command.Disassemble word) = is_built_form word
 is_built (command.Check word) = is_built_form word
 is_built _ = false
 
--- the parts, the rules L, and then the run
-unfoldable pub run_plan : List PartWord → ℕ → ℕ → Plan Task
-run_plan words size steps = do
+-- the parts, and the rules L of all of them
+unfoldable pub linked_parts : List PartWord → ℕ → Plan (List PartSeen)
+linked_parts words size = do
   parts ← each_at part_at 0 words
   _ ← unless refusal.Rule (linked parts size)
+  Made parts
+
+-- and then their run
+unfoldable pub run_plan : List PartWord → ℕ → ℕ → Plan Task
+run_plan words size steps = do
+  parts ← linked_parts words size
   Made (Run parts size steps)
+
+-- or that of their overlay
+unfoldable pub trace_plan : List PartWord → ℕ → ℕ → Plan Task
+trace_plan words size steps = do
+  parts ← linked_parts words size
+  Made (Trace parts size steps)
 
 -- the component, whose file is put under this name; no rule is asked
 unfoldable pub assemble_plan : PartWord → List ℕ → Plan Task
@@ -71,6 +83,7 @@ check_plan word = do
 
 abbrev pub built_plan : Command → Plan Task
 built_plan (command.Run (Parts words size) steps) = run_plan words size steps
+built_plan (command.Trace (Parts words size) steps) = trace_plan words size steps
 built_plan (command.Assemble word out) = assemble_plan word out
 built_plan (command.Disassemble word) = disassemble_plan word
 built_plan (command.Check word) = check_plan word

@@ -1,18 +1,22 @@
 -- A job of the code, beside the task of the plan.
-use Rattle.std.specs.Prelude.{◌≡◌, Result, Ok, Err}
+use Rattle.std.specs.Prelude.{◌≡◌, ℕ, List, Result, Ok, Err}
 use Rattle.outside_io.specs.FilesSeen.{FilesSeen}
 use Rattle.component_file.specs.Spelling.{spelling}
-use Rattle.component_linker.specs.Start.{IsStart}
+use Rattle.component_linker.specs.Parts.{PartSeen}
+use Rattle.component_linker.specs.Started.{StartSeen, Starts}
+use Rattle.overlay_machine.specs.Seen.{IsOverlayOf}
 use Rattle.disassembler.specs.Disassembled.{disassembled}
 use Rattle.lcm_cli.specs.declared.job.Job.{Job}
 use Rattle.lcm_cli.specs.declared.job.Job.TheVariants as job
 use Rattle.lcm_cli.specs.declared.refusal.Stop.{Stop}
 use Rattle.lcm_cli.specs.Plans.{Plan, Comes, Follows}
-use Rattle.lcm_cli.specs.Commands.{Task, Run, Put, Show, Say}
+use Rattle.lcm_cli.specs.Commands.{Task, Run, Trace, Put, Show, Say}
 
--- the job runs from the start of the task's parts, and has the bytes of its component
+-- the job runs from the start of the task's parts, or from its overlay, and has the bytes of its component
 abbrev pub Does : Task → Job → Type 0
-Does (Run parts size steps) (job.Run start n) = IsStart parts size start.state × (n ≡ steps)
+Does (Run parts size steps) (job.Run start n) = Starts parts size start × (n ≡ steps)
+Does (Trace parts size steps) (job.Trace start overlay n) =
+    Starts parts size start × IsOverlayOf start overlay × (n ≡ steps)
 Does (Put name c) (job.Put out bytes) = (out ≡ name) × (bytes ≡ spelling c)
 Does (Show c) (job.Show text) = text ≡ disassembled c
 Does Say job.Say = Unit {0}
@@ -22,6 +26,12 @@ Does _ _ = ⊥
 abbrev pub FollowsTask : Plan Task → FilesSeen → Result Job Stop → FilesSeen → Type 0
 FollowsTask plan old (Ok job) new = (task : Task) × Comes plan old (Ok task) new × Does task job
 FollowsTask plan old (Err stop) new = Follows plan old (Err stop) new
+
+-- a body's start is that of the parts that the plan made
+abbrev pub FollowsStart : Plan (List PartSeen) → ℕ → FilesSeen → Result StartSeen Stop → FilesSeen → Type 0
+FollowsStart plan size old (Ok start) new =
+    (parts : List PartSeen) × Comes plan old (Ok parts) new × Starts parts size start
+FollowsStart plan size old (Err stop) new = Follows plan old (Err stop) new
 
 -- an answer without what was made
 abbrev pub without : {A : Type 0} → Result A Stop → Result (Unit {0}) Stop

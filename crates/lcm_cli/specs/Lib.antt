@@ -1,4 +1,3 @@
-pub mod EndLine
 pub mod Status
 pub mod Refusals
 pub mod Plans

@@ -5,23 +5,24 @@ ghost use Rattle.component_file.specs.Spelling.{spelling};
 ghost use Rattle.disassembler.specs.Disassembled.{disassembled};
 ghost use Rattle.command_words.specs.declared.TheConstants.{MOST_PARTS};
 ghost use Rattle.command_words.specs.declared.command.Command.TheVariants as command;
-ghost use Rattle.component_linker.specs.Start.{IsStart};
+ghost use Rattle.component_linker.specs.Started.{Starts};
 ghost use Rattle.lcm_cli.specs.declared.refusal.Refusal.TheVariants.{Rule};
 ghost use Rattle.lcm_cli.specs.Plans.{Meets, unless};
 ghost use Rattle.lcm_cli.specs.Parts.{linked};
-ghost use Rattle.lcm_cli.specs.Commands.{is_built_form, is_built_part, is_built_linked, is_built};
-ghost use Rattle.lcm_cli.specs.Commands.{run_plan, assemble_plan, disassemble_plan, check_plan};
+ghost use Rattle.lcm_cli.specs.Commands.{is_built_form, is_built_linked, is_built, linked_parts};
+ghost use Rattle.lcm_cli.specs.Commands.{run_plan, trace_plan, assemble_plan, disassemble_plan, check_plan};
 ghost use Rattle.lcm_cli.specs.Commands.{built_plan, plan_of};
-ghost use Rattle.lcm_cli.specs.Jobs.{without, FollowsTask};
+ghost use Rattle.lcm_cli.specs.Jobs.{without, FollowsStart, FollowsTask};
 
 use crate::part::{component, part, parts};
 use crate::refusal::{Refusal, Stop};
 use cap_words::Items;
-use command_words::{Command, Ending, FileName, Linked, Mark, PartWord, Steps};
+use command_words::{Command, Ending, FileName, Linked, PartWord, Steps};
 use component_file::encode_component;
 use component_linker::{LinkFault, Part, Start, link};
 use disassembler::disassemble;
 use outside_io::Files;
+use overlay_machine::Overlay;
 use std::alloc::Global;
 
 /// What is left to do.
@@ -29,6 +30,8 @@ use std::alloc::Global;
 pub(crate) enum Job<'a> {
     /// To run from this start for so many steps, and to write how the run ended.
     Run(Start, Steps),
+    /// To run this overlay of this start up to so much weight, and to write how the run ended.
+    Trace(Start, Overlay, Steps),
     /// To put these bytes into the file of this name, and then to write `ok`.
     Put(FileName<'a>, Items<u8>),
     /// To write this text.
@@ -41,7 +44,7 @@ pub(crate) enum Job<'a> {
 fn started(alloc: Global, parts: &Items<Part>, size: u32) -> Result<Start, Stop>
     requires { length parts.now < 2 ^ 32 }
     ensures rules { Meets (unless Rule (linked parts.now size)) (without result) }
-    ensures starts { IfOk result (λ start. IsStart parts.now size start.state) }
+    ensures starts { IfOk result (Starts parts.now size) }
 {
     match link(alloc, parts.as_slice(), size) {
         Ok(start) => Ok(start),
@@ -51,6 +54,21 @@ fn started(alloc: Global, parts: &Items<Part>, size: u32) -> Result<Start, Stop>
 }
 
 // Reads the parts that are to run, and links them.
+#[tactic(auto, using(crate::proofs::Follow::follows_end), unfolding(crate::specs::Commands::linked_parts))]
+fn start<F: Files>(
+    alloc: Global,
+    files: &mut F,
+    words: &[PartWord<'_>],
+    size: u32,
+) -> Result<Start, Stop>
+    requires few { length words.now ≤ MOST_PARTS }
+    ensures { FollowsStart (linked_parts words.now size) size (F.seen files.old) result (F.seen files.new) }
+{
+    let parts = parts(alloc, files, words)?;
+    started(alloc, &parts, size)
+}
+
+// Makes the start of the parts that are to run.
 #[tactic(auto, using(crate::proofs::Follow::follows_end), unfolding(crate::specs::Commands::run_plan))]
 fn run<'a, F: Files>(
     alloc: Global,
@@ -62,9 +80,25 @@ fn run<'a, F: Files>(
     requires few { length words.now ≤ MOST_PARTS }
     ensures { FollowsTask (run_plan words.now size steps) (F.seen files.old) result (F.seen files.new) }
 {
-    let parts = parts(alloc, files, words)?;
-    let start = started(alloc, &parts, size)?;
+    let start = start(alloc, files, words, size)?;
     Ok(Job::Run(start, steps))
+}
+
+// Makes the start of the parts whose overlay is to run, and the overlay.
+#[tactic(auto, using(crate::proofs::Follow::follows_end), unfolding(crate::specs::Commands::trace_plan))]
+fn trace<'a, F: Files>(
+    alloc: Global,
+    files: &mut F,
+    words: &[PartWord<'a>],
+    size: u32,
+    steps: Steps,
+) -> Result<Job<'a>, Stop>
+    requires few { length words.now ≤ MOST_PARTS }
+    ensures { FollowsTask (trace_plan words.now size steps) (F.seen files.old) result (F.seen files.new) }
+{
+    let start = start(alloc, files, words, size)?;
+    let overlay = Overlay::of_start(alloc, &start)?;
+    Ok(Job::Trace(start, overlay, steps))
 }
 
 // Reads the part whose component's file is to be put.
@@ -107,23 +141,17 @@ fn is_built_form(word: &PartWord<'_>) -> bool
     word.ending != Ending::Source
 }
 
-fn is_built_part(word: &PartWord<'_>) -> bool
-    ensures { result ≡ is_built_part word.now }
+fn are_built_forms(words: &[PartWord<'_>]) -> bool
+    ensures { result ≡ list_all is_built_form words.now }
 {
-    word.mark == Mark::Untrusted && is_built_form(word)
-}
-
-fn are_built_parts(words: &[PartWord<'_>]) -> bool
-    ensures { result ≡ list_all is_built_part words.now }
-{
-    words.iter().all(|word| is_built_part(word))
+    words.iter().all(|word| is_built_form(word))
 }
 
 fn is_built_linked(what: &Linked<'_>) -> bool
     ensures { result ≡ is_built_linked what.now }
 {
     match what {
-        Linked::Parts(words, _) => are_built_parts(words.as_slice()),
+        Linked::Parts(words, _) => are_built_forms(words.as_slice()),
         Linked::Image(_) => false,
     }
 }
@@ -134,6 +162,7 @@ fn is_built(command: &Command<'_>) -> bool
 {
     match command {
         Command::Run(what, _) => is_built_linked(what),
+        Command::Trace(what, _) => is_built_linked(what),
         Command::Assemble(word, _) => is_built_form(word),
         Command::Disassemble(word) => is_built_form(word),
         Command::Check(word) => is_built_form(word),
@@ -157,6 +186,22 @@ fn run_linked<'a, F: Files>(
     }
 }
 
+// Reads what is to be linked, and whose overlay is to run.
+fn trace_linked<'a, F: Files>(
+    alloc: Global,
+    files: &mut F,
+    what: Linked<'a>,
+    steps: Steps,
+) -> Result<Job<'a>, Stop>
+    ensures { FollowsTask (built_plan (command.Trace what.entry steps)) (F.seen files.old) result
+        (F.seen files.new) }
+{
+    match what {
+        Linked::Parts(words, size) => trace(alloc, files, words.as_slice(), size, steps),
+        Linked::Image(_) => Err(Stop::Refused(Refusal::Usage)),
+    }
+}
+
 // Reads the files of a command that is built.
 fn built_job<'a, F: Files>(
     alloc: Global,
@@ -167,6 +212,7 @@ fn built_job<'a, F: Files>(
 {
     match command {
         Command::Run(what, steps) => run_linked(alloc, files, what, steps),
+        Command::Trace(what, steps) => trace_linked(alloc, files, what, steps),
         Command::Assemble(word, out) => assemble(alloc, files, &word, out),
         Command::Disassemble(word) => show(alloc, files, &word),
         Command::Check(word) => check(alloc, files, &word),

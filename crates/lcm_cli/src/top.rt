@@ -1,5 +1,5 @@
 //! The top call.
-ghost use Rattle.std.specs.Prelude.{◌≡◌, ◌⊎◌, ◌<◌, ℕ, List, Some, false, length};
+ghost use Rattle.std.specs.Prelude.{◌≡◌, ◌⊎◌, ◌<◌, ℕ, List, Some, None, false, length};
 ghost use Rattle.command_words.specs.declared.command.Command.TheVariants as command;
 ghost use Rattle.command_words.specs.declared.command.Linked.TheVariants as what;
 ghost use Rattle.command_words.specs.declared.part.PartWord.{PartWord};
@@ -8,11 +8,11 @@ ghost use Rattle.command_words.specs.Texts.{texts};
 ghost use Rattle.lcm_cli.specs.declared.job.Job.TheVariants as job;
 ghost use Rattle.lcm_cli.specs.Commands.{plan_in, is_command};
 ghost use Rattle.lcm_cli.specs.Jobs.{FollowsTask};
-ghost use Rattle.lcm_cli.specs.Answers.{Answers, Gives, Tells, outside, step_status, refused};
+ghost use Rattle.overlay_machine.specs.Seen.{IsOverlayOf};
+ghost use Rattle.lcm_cli.specs.Answers.{Answers, Gives, Tells, outside, end_status, refused};
 ghost use Rattle.lcm_cli.specs.Answers.{job_answer, IsReady};
-ghost use Rattle.lcm_cli.specs.Causes.{Promised, IsRunStatus, RunGiven, StayAt, PutsWhole};
+ghost use Rattle.lcm_cli.specs.Causes.{Promised, IsRunStatus, RunGiven, TraceGiven, StayAt, PutsWhole};
 
-use crate::end_line::end_line;
 use crate::job::{Job, job_of};
 use crate::lines::write_lines;
 use crate::refusal::{Refusal, Stop};
@@ -21,9 +21,11 @@ use crate::status::Status;
 use cap_words::Items;
 use command_words::{FileName, Steps, WordsFault, command_of};
 use component_linker::Start;
-use lcm_machine::{LcmState, Step};
+use lcm_machine::LcmState;
 use outside_io::{Files, Sink};
+use overlay_machine::Overlay;
 use std::alloc::Global;
+use trace_tool::{RunEnd, run_overlay, run_plain};
 
 // Writes a text, and answers the status, or WriteFault where the sink fails.
 fn tell<S: Sink>(out: &mut S, text: &str, status: Status) -> Status
@@ -36,32 +38,42 @@ fn tell<S: Sink>(out: &mut S, text: &str, status: Status) -> Status
     }
 }
 
-fn step_status(step: Step) -> Status
-    ensures { result ≡ step_status step }
+fn end_status(end: RunEnd) -> Status
+    ensures { result ≡ end_status end }
 {
-    match step {
-        Step::Went => Status::StepsUsed,
-        Step::Halted => Status::Done,
-        Step::Failed(_, _) => Status::MachineFailed,
+    match end {
+        RunEnd::Halted => Status::Done,
+        RunEnd::Failed => Status::MachineFailed,
+        RunEnd::Running => Status::StepsUsed,
+        RunEnd::WriteFault => Status::WriteFault,
     }
 }
 
-// Runs, writes the end line, and hands the machine over where that line was written.
+// Runs, writes the text of the run, and hands the machine over where all of it was written.
 fn give_run<S: Sink>(start: Start, steps: Steps, out: &mut S, kept: &mut Option<LcmState>) -> Status
-    requires { start.state.count ≡ 0 }
+    requires fresh { start.state.count ≡ 0 }
+    requires goes { start.state.end ≡ None }
     ensures { (files : _) → Gives (outside files (S.seen out.old) kept.old)
         (job_answer (job.Run start steps)) result (outside files (S.seen out.new) kept.new) }
 {
-    let mut machine = start.into_state();
-    let step = machine.run(steps.number());
-    let line = end_line(&machine, step);
-    match out.write(line.as_str().as_bytes()) {
-        Ok(()) => {
-            *kept = Some(machine);
-            step_status(step)
+    let mut start = start;
+    match run_plain(&mut start, steps.number(), out) {
+        RunEnd::WriteFault => Status::WriteFault,
+        end => {
+            *kept = Some(start.into_state());
+            end_status(end)
         }
-        Err(_) => Status::WriteFault,
     }
+}
+
+// Runs the overlay of a start, and writes the text of the run.
+fn give_trace<S: Sink>(start: &Start, overlay: Overlay, steps: Steps, out: &mut S) -> Status
+    requires { IsOverlayOf start.now overlay }
+    ensures { (files : _) (kept : _) → Gives (outside files (S.seen out.old) kept)
+        (job_answer (job.Trace start.now overlay steps)) result (outside files (S.seen out.new) kept) }
+{
+    let mut overlay = overlay;
+    end_status(run_overlay(&mut overlay, start, steps.number(), out))
 }
 
 // Puts the file, and then writes `ok`.
@@ -104,6 +116,7 @@ fn give<F: Files, S: Sink>(
 {
     match job {
         Job::Run(start, steps) => give_run(start, steps, out, kept),
+        Job::Trace(start, overlay, steps) => give_trace(&start, overlay, steps, out),
         Job::Put(name, bytes) => give_file(&name, &bytes, files, out),
         Job::Show(text) => give_text(&text, out),
         Job::Say => tell(out, "ok\n", Status::Done),
@@ -150,11 +163,13 @@ fn answer<F: Files, S: Sink>(
 
 /// All that the program does, with the words after its own name.
 ///
-/// `run`, with 1 to 16 parts `u:NAME` of names that end in `.stc` or `.asm`, reads the parts in
-/// their order, each with its form and its own rules, links them with a stack of `--stack` words,
-/// runs the machine that they start for `--steps` steps or up to its end, and writes the end line.
-/// Where that line was written, `kept` holds the machine as the run left it; in every other case it
-/// is as before. `check` reads one part in the same way, `u:NAME` or, by the rules of trusted parts,
+/// `run`, with 1 to 16 parts `u:NAME` or `t:NAME` of names that end in `.stc` or `.asm`, reads the
+/// parts in their order, each with its form and the rules of its mark, links them with a stack of
+/// `--stack` words, runs the machine that they start for `--steps` steps or up to its end, and writes
+/// a line for each event and the end line. Where all of that was written, `kept` holds the machine as
+/// the run left it; in every other case, and after any other action, it is as before. `trace` does
+/// the same with the overlay of that start, for as long as the weight of its steps is at most
+/// `--steps`. `check` reads one part in the same way, `u:NAME` or, by the rules of trusted parts,
 /// `t:NAME`, and writes `ok`. `asm` reads one part, of either mark and a name in `.asm`, asks no rules,
 /// puts its component's file under the name of `--out`, and then writes `ok`. `dis` reads one part of
 /// either mark, asks no rules, and writes its text. Any other words write `usage`.
@@ -176,6 +191,13 @@ pub fn stk_main<F: Files, S: Sink>(
     ensures ran { (parts : List PartWord) (size steps : ℕ)
         → asked_in (texts words.now.items) ≡ Some (command.Run (what.Parts parts size) steps)
         → IsRunStatus result → RunGiven parts size steps
+        (outside (F.seen files.old) (S.seen out.old) kept.old)
+        result (outside (F.seen files.new) (S.seen out.new) kept.new) }
+
+    // What a run of the overlay writes and answers.
+    ensures traced { (parts : List PartWord) (size steps : ℕ)
+        → asked_in (texts words.now.items) ≡ Some (command.Trace (what.Parts parts size) steps)
+        → IsRunStatus result → TraceGiven parts size steps
         (outside (F.seen files.old) (S.seen out.old) kept.old)
         result (outside (F.seen files.new) (S.seen out.new) kept.new) }
 

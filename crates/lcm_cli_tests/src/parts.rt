@@ -68,6 +68,13 @@ fn the_first_refusal_is_told(rt: HostRuntime) -> Result<(), Fail> {
             "rule 1 L8 65537\n",
             Status::RuleBroken,
         ),
+        ("run t:one.stc", "rule 0 C12 1\n", Status::RuleBroken),
+        ("trace t:one.stc", "rule 0 C12 1\n", Status::RuleBroken),
+        (
+            "trace u:one.stc u:base.stc",
+            "rule 1 L1 0\n",
+            Status::RuleBroken,
+        ),
     ] {
         let got = run(alloc, line, &mut files)?;
         assert_eq!(rt; got, expected(alloc, status, text, None)?, "{line}");

@@ -1,7 +1,7 @@
-//! A part that is marked trusted.
-use crate::call::{expected, run};
+//! Parts that are marked trusted.
+use crate::call::{call, expected, run};
 use lcm_cli::Status;
-use outside_io::MemFiles;
+use outside_io::{MemFiles, MemSink};
 use std::test::Fail;
 
 // An entry at 2, a call at 25, and three words before it that jump into it.
@@ -81,6 +81,330 @@ fn a_jump_into_a_call_is_told_of_a_trusted_part(rt: HostRuntime) -> Result<(), F
     ] {
         let got = run(alloc, line, &mut files)?;
         assert_eq!(rt; got, expected(alloc, status, text, None)?, "{line}");
+    }
+    Ok(())
+}
+
+// A trusted part: an entry at 2, and then a call of what it imports.
+const CALLER: &str = "\
+.name t\n\
+.stack 65536\n\
+.closure 10\n\
+.seals 11 1\n\
+.code 4096\n\
+fail\n\
+.seal 11 11 11\n\
+move t2 pc\n\
+cca t2 -2\n\
+gettype t1 stk\n\
+minus t1 t1 1\n\
+jnz t2 t1\n\
+getlin t1 stk\n\
+minus t1 t1 1\n\
+jnz t2 t1\n\
+getp t1 stk\n\
+minus t1 t1 2\n\
+jnz t2 t1\n\
+getb t1 stk\n\
+minus t1 t1 65536\n\
+jnz t2 t1\n\
+seta2b stk\n\
+gete t1 stk\n\
+minus t1 t1 65536\n\
+cca stk t1\n\
+move t1 0\n\
+move t2 0\n\
+load c1 data\n\
+cca data 1\n\
+load c2 data\n\
+store stk data\n\
+move t1 pc\n\
+cca t1 -25\n\
+load t2 t1\n\
+cca t2 0\n\
+geta t1 stk\n\
+minus t1 t1 1\n\
+split stk rdata stk t1\n\
+cca stk -1\n\
+cseal rdata t2\n\
+move rcode pc\n\
+cca rcode 6\n\
+cseal rcode t2\n\
+move t1 0\n\
+move t2 0\n\
+xjmp c1 c2\n\
+splice stk stk data\n\
+getb t1 stk\n\
+minus t1 t1 65536\n\
+move t2 pc\n\
+cca t2 -44\n\
+jnz t2 t1\n\
+load data stk\n\
+move t1 0\n\
+store stk t1\n\
+move t2 0\n\
+halt\n\
+.data 8192\n\
+.int 0\n\
+.int 0\n\
+.import adv go 0\n\
+.export main 2 shared\n\
+.site 25\n\
+.fail 0\n\
+.literal 1\n";
+
+// What it calls, which goes right back.
+const BACK: &str = "\
+.name adv\n\
+.stack 65536\n\
+.closure 20\n\
+.code 12288\n\
+xjmp rcode rdata\n\
+.data 16384\n\
+.int 0\n\
+.export go 0 shared\n";
+
+// The same with a second entry, which calls what its caller would go back to.
+const AGAIN: &str = "\
+.name t\n\
+.stack 65536\n\
+.closure 10\n\
+.seals 11 2\n\
+.code 4096\n\
+fail\n\
+.seal 11 12 11\n\
+move t2 pc\n\
+cca t2 -2\n\
+gettype t1 stk\n\
+minus t1 t1 1\n\
+jnz t2 t1\n\
+getlin t1 stk\n\
+minus t1 t1 1\n\
+jnz t2 t1\n\
+getp t1 stk\n\
+minus t1 t1 2\n\
+jnz t2 t1\n\
+getb t1 stk\n\
+minus t1 t1 65536\n\
+jnz t2 t1\n\
+seta2b stk\n\
+gete t1 stk\n\
+minus t1 t1 65536\n\
+cca stk t1\n\
+move t1 0\n\
+move t2 0\n\
+load c1 data\n\
+cca data 1\n\
+load c2 data\n\
+store stk data\n\
+move t1 pc\n\
+cca t1 -25\n\
+load t2 t1\n\
+cca t2 0\n\
+geta t1 stk\n\
+minus t1 t1 1\n\
+split stk rdata stk t1\n\
+cca stk -1\n\
+cseal rdata t2\n\
+move rcode pc\n\
+cca rcode 6\n\
+cseal rcode t2\n\
+move t1 0\n\
+move t2 0\n\
+xjmp c1 c2\n\
+splice stk stk data\n\
+getb t1 stk\n\
+minus t1 t1 65536\n\
+move t2 pc\n\
+cca t2 -44\n\
+jnz t2 t1\n\
+load data stk\n\
+move t1 0\n\
+store stk t1\n\
+move t2 0\n\
+halt\n\
+move t2 pc\n\
+cca t2 -52\n\
+gettype t1 stk\n\
+minus t1 t1 1\n\
+jnz t2 t1\n\
+getlin t1 stk\n\
+minus t1 t1 1\n\
+jnz t2 t1\n\
+getp t1 stk\n\
+minus t1 t1 2\n\
+jnz t2 t1\n\
+getb t1 stk\n\
+minus t1 t1 65536\n\
+jnz t2 t1\n\
+seta2b stk\n\
+gete t1 stk\n\
+minus t1 t1 65536\n\
+cca stk t1\n\
+move t1 0\n\
+move t2 0\n\
+move c1 rcode\n\
+move c2 rdata\n\
+store stk data\n\
+move t1 pc\n\
+cca t1 -74\n\
+load t2 t1\n\
+cca t2 1\n\
+geta t1 stk\n\
+minus t1 t1 1\n\
+split stk rdata stk t1\n\
+cca stk -1\n\
+cseal rdata t2\n\
+move rcode pc\n\
+cca rcode 6\n\
+cseal rcode t2\n\
+move t1 0\n\
+move t2 0\n\
+xjmp c1 c2\n\
+splice stk stk data\n\
+getb t1 stk\n\
+minus t1 t1 65536\n\
+move t2 pc\n\
+cca t2 -93\n\
+jnz t2 t1\n\
+load data stk\n\
+move t1 0\n\
+store stk t1\n\
+move t2 0\n\
+halt\n\
+.data 8192\n\
+.int 0\n\
+.int 0\n\
+.import adv go 0\n\
+.export again 52 shared\n\
+.export main 2 shared\n\
+.site 25\n\
+.site 74\n\
+.fail 0\n\
+.literal 1\n";
+
+// What it calls, which goes to that entry.
+const ENTERS: &str = "\
+.name adv\n\
+.stack 65536\n\
+.closure 20\n\
+.code 12288\n\
+load c1 data\n\
+cca data 1\n\
+load c2 data\n\
+xjmp c1 c2\n\
+.data 16384\n\
+.int 0\n\
+.int 0\n\
+.import t again 0\n\
+.export go 0 shared\n";
+
+#[test]
+fn runs_and_traces_of_trusted_parts_write_their_events(rt: HostRuntime) -> Result<(), Fail> {
+    let alloc = rt.alloc();
+    let mut files = MemFiles::new(alloc)?;
+    files.add("t.asm", CALLER.as_bytes())?;
+    files.add("back.asm", BACK.as_bytes())?;
+    files.add("again.asm", AGAIN.as_bytes())?;
+    files.add("enters.asm", ENTERS.as_bytes())?;
+    let called = "call out t 0 65599 65599 0 0 0 0 : cap(rw,nor,8192,8193,8193)\n";
+    let returned = "ret out t 0 65599 65599 0 : cap(rw,nor,8192,8193,8193)\n";
+    let entered = "enter t again cap(rw,lin,65536,65598,65598) 0 0 0 0 pair:t:0:65599\n";
+    for (line, events, end, status, count) in [
+        (
+            "run --stack 64 t:t.asm u:back.asm",
+            [called, returned],
+            "halted 0 steps 51\n",
+            Status::Done,
+            Some(51),
+        ),
+        (
+            "trace --stack 64 t:t.asm u:back.asm",
+            [called, returned],
+            "halted 0 steps 51\n",
+            Status::Done,
+            None,
+        ),
+        (
+            "run --stack 64 t:again.asm u:enters.asm",
+            [called, entered],
+            "failed 4137 F14 steps 82\n",
+            Status::MachineFailed,
+            Some(82),
+        ),
+        (
+            "trace --stack 64 t:again.asm u:enters.asm",
+            [called, entered],
+            "failed 4170 steps 65\n",
+            Status::MachineFailed,
+            None,
+        ),
+        (
+            "run --stack 64 --steps 81 t:again.asm u:enters.asm",
+            [called, entered],
+            "running 4137 steps 81\n",
+            Status::StepsUsed,
+            Some(81),
+        ),
+        (
+            "trace --stack 64 --steps 81 t:again.asm u:enters.asm",
+            [called, entered],
+            "running 4170 steps 65\n",
+            Status::StepsUsed,
+            None,
+        ),
+        (
+            "run --stack 64 u:t.asm u:back.asm",
+            ["", ""],
+            "halted 0 steps 51\n",
+            Status::Done,
+            Some(51),
+        ),
+        (
+            "trace --stack 64 u:t.asm u:back.asm",
+            ["", ""],
+            "halted 0 steps 51\n",
+            Status::Done,
+            None,
+        ),
+    ] {
+        let [first, second] = events;
+        let text = format!(in alloc; "{first}{second}{end}")?;
+        let got = run(alloc, line, &mut files)?;
+        assert_eq!(rt;
+            got,
+            expected(alloc, status, text.as_str(), count)?,
+            "{line}"
+        );
+    }
+    // A call and a return are a head, a word and a newline each; then comes the end line.
+    for line in [
+        "run --stack 64 t:t.asm u:back.asm",
+        "trace --stack 64 t:t.asm u:back.asm",
+    ] {
+        for (unwritten, text) in [
+            (1, ""),
+            (2, "call out t 0 65599 65599 0 0 0 0 :"),
+            (4, called),
+        ] {
+            let mut out = MemSink::new(alloc)?;
+            out.fail_at(unwritten);
+            let got = call(alloc, line, &mut files, &mut out)?;
+            assert_eq!(rt;
+                got,
+                expected(alloc, Status::WriteFault, text, None)?,
+                "{line} {unwritten}"
+            );
+        }
+        let mut out = MemSink::new(alloc)?;
+        out.fail_at(7);
+        let got = call(alloc, line, &mut files, &mut out)?;
+        let text = format!(in alloc; "{called}{returned}")?;
+        assert_eq!(rt;
+            got,
+            expected(alloc, Status::WriteFault, text.as_str(), None)?,
+            "{line}"
+        );
     }
     Ok(())
 }

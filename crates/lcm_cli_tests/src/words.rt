@@ -24,6 +24,14 @@ fn words_that_are_a_command_are_taken(rt: HostRuntime) -> Result<(), Fail> {
             "{line}"
         );
     }
+    for line in ["trace u:one.asm", "trace --stack 64 --steps 1 u:one.stc"] {
+        let got = run(alloc, line, &mut files)?;
+        assert_eq!(rt;
+            got,
+            expected(alloc, Status::Done, "halted 0 steps 1\n", None)?,
+            "{line}"
+        );
+    }
     for line in ["check u:one.asm", "check u:one.stc", "check u:two.stc"] {
         let got = run(alloc, line, &mut files)?;
         assert_eq!(rt; got, expected(alloc, Status::Done, "ok\n", None)?, "{line}");
@@ -54,11 +62,10 @@ fn words_that_are_no_command_write_usage(rt: HostRuntime) -> Result<(), Fail> {
         "check u:one.asm u:two.stc",
         "check --stack 5 u:one.asm",
         // What isn't built yet.
-        "run t:one.asm",
         "run u:one.prc",
         "run one.img",
-        "run u:one.stc t:two.stc",
-        "trace u:one.asm",
+        "trace one.img",
+        "trace t:one.prc",
         "check t:one.prc",
         "compile u:one.prc --out one.stc",
         "link u:one.asm --out one.img",

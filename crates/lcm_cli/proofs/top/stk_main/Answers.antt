@@ -1,7 +1,7 @@
 -- All of it follows from the answer that was given.
 use Rattle.command_words.specs.Action.{asked_in}
 use Rattle.command_words.specs.Texts.{texts}
-use Rattle.lcm_cli.proofs.Caused.{promised, usage, files_stay, put_whole, runs}
+use Rattle.lcm_cli.proofs.Caused.{promised, usage, files_stay, put_whole, runs, traces}
 use Rattle.lcm_cli.proofs.top.stk_main.Goals as goal
 
 pub returns-clause-promised : goal.returns-clause-promised
@@ -9,6 +9,9 @@ returns-clause-promised g c = promised (asked_in (texts c.args.words.now.items))
 
 pub returns-clause-ran : goal.returns-clause-ran
 returns-clause-ran g c = runs (asked_in (texts c.args.words.now.items)) _ _ _ (rw c.as_slice.ensures.value at c.answer.ensures)
+
+pub returns-clause-traced : goal.returns-clause-traced
+returns-clause-traced g c = traces (asked_in (texts c.args.words.now.items)) _ _ _ (rw c.as_slice.ensures.value at c.answer.ensures)
 
 pub returns-clause-usage : goal.returns-clause-usage
 returns-clause-usage g c = usage (asked_in (texts c.args.words.now.items)) _ _ _ (rw c.as_slice.ensures.value at c.answer.ensures)
