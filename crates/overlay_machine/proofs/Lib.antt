@@ -11,16 +11,16 @@ mod HeadLemmas
 mod CopyLemmas
 mod StepLemmas
 pub mod FlatLemmas
-mod FrameWords
-mod PairsOpened
-mod OwnStack
+pub mod FrameWords
+pub mod PairsOpened
+pub mod OwnStack
 mod CallFlat
-mod CallAgrees
-mod WholeCall
+pub mod CallAgrees
+pub mod WholeCall
 mod ReturnFlat
-mod ReturnAgrees
+pub mod ReturnAgrees
 mod EntryAgrees
-mod OtherAgrees
+pub mod OtherAgrees
 pub mod OneStep
 pub mod RunsAgree
 pub mod BracketLemmas

@@ -193,7 +193,7 @@ module _ (l : Layout) (r1 r2 : Reg) (o : OState) (t : State Word) (at_return : A
             plain_row ∙ xjmp_goes id id r1 r2 at_return.next t (put t (R r2) (left_of id id (reg t.regs r2))) s.seal code (MemC half) (ap opened_of (m.regs r1) ∙ ex) (ap opened_of (m.regs r2) ∙ ey) refl refl refl (left id id t r2)
             ∙ ap (λ w. went (put (put (put t (R r2) w) (R Pc) (Mem code)) (R Dat) (Mem half))) half_is
 
-        code_is : HasReturn id s1.cells s.base s.end (s.at + 16) l.stack.base
+        pub code_is : HasReturn id s1.cells s.base s.end (s.at + 16) l.stack.base
         code_is = HasReturn-flat l o t m k s.base s.end (s.at + 16) l.stack.base stands.back
 
         cannot_join : CannotJoin (face_of s1.regs.stk) (Memory half) → HasFailed (run_of id id 11 t)

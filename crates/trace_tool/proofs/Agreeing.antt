@@ -1,11 +1,11 @@
 -- The plain run with its count and end agrees with the overlay's, where their states do.
-use Rattle.std.proofs.Common.{◌≡◌, ℕ, suc, ◌+◌, ◌≤◌, ◌<◌, ℤ, List, Option, Some, None, refl, sym, ap, subst, ◌∙◌, arith, add-one}
+use Rattle.std.proofs.Common.{◌≡◌, ℕ, ◌+◌, ℤ, Option, Some, None, refl, sym, ap, subst, ◌∙◌}
 use Rattle.cap_words.specs.declared.Word.{Word}
 use Rattle.lcm_isa.specs.declared.Reg.TheVariants.{A0}
 use Rattle.lcm_machine.specs.declared.FailCause.{FailCause}
 use Rattle.lcm_machine.specs.declared.End.{End}
 use Rattle.lcm_machine.specs.declared.End.TheVariants.{Halted, Failed}
-use Rattle.lcm_machine.specs.Maps.{Regs, State}
+use Rattle.lcm_machine.specs.Maps.{State}
 use Rattle.lcm_machine.specs.Places.{reg}
 use Rattle.lcm_machine.specs.Row.{Outcome, went, halted, failed, step_of}
 use Rattle.lcm_machine.specs.Run.{Run, moved, next_state, plain, fresh, EndsAs}
@@ -13,13 +13,13 @@ use Rattle.lcm_machine.proofs.RunLemmas.{plain_more, plain_ends}
 use Rattle.component_linker.specs.Started.{StartSeen}
 use Rattle.overlay_machine.specs.declared.layout.Layout.{Layout}
 use Rattle.overlay_machine.specs.State.{OState}
-use Rattle.overlay_machine.specs.Step.{halts, fails, overlay_step, weight_of}
+use Rattle.overlay_machine.specs.Step.{halts, overlay_step, weight_of}
 use Rattle.overlay_machine.specs.Flat.{IsFlat}
-use Rattle.overlay_machine.specs.Runs.{Reached, plain_run, HaltsBehind, FailsBehind, RunsAgree}
+use Rattle.overlay_machine.specs.Runs.{plain_run, HaltsBehind, FailsBehind, RunsAgree}
 use Rattle.overlay_machine.specs.Starting.{overlay_at}
 use Rattle.trace_tool.specs.Layout.{layout}
 use Rattle.trace_tool.specs.Views.{flat_view}
-use Rattle.trace_tool.specs.Headline.{Matched, OverlayHalts, OverlayFails, PlainEnds, Within, Agrees}
+use Rattle.trace_tool.specs.Headline.{Matched, OverlayHalts, PlainEnds, Agrees}
 
 -- the machine after n instructions that went, and the next one
 abbrev gone : State Word → ℕ → Run

@@ -1,5 +1,5 @@
 -- The closure seal of a trusted owner is that of a trusted part.
-use Rattle.std.proofs.Common.{◌≡◌, ℕ, true, List, sym, ap, ◌∙◌}
+use Rattle.std.proofs.Common.{◌≡◌, true, List, sym, ap, ◌∙◌}
 use Rattle.std.specs.List.{Contains}
 use Rattle.component_linker.specs.declared.owners.Owner.{Owner}
 use Rattle.component_linker.specs.Parts.{PartSeen}

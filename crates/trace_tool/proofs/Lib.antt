@@ -12,3 +12,4 @@ mod TraceTold
 mod TracesAlike
 mod Agreeing
 mod Closures
+pub mod alike

@@ -1,21 +1,15 @@
 -- A trace and a plain run of as many instructions write the same lines.
-use Rattle.std.proofs.Common.{◌≡◌, ◌⊎◌, inl, inr, ℕ, ◌+◌, ◌<◌, ◌≤◌, None, sym, subst}
+use Rattle.std.proofs.Common.{◌≡◌, ◌⊎◌, inl, inr, ℕ, ◌+◌, ◌<◌, ◌≤◌, None, sym}
 use Rattle.cap_words.specs.declared.Word.{Word}
 use Rattle.lcm_machine.specs.Maps.{State}
 use Rattle.lcm_machine.specs.Run.{fresh}
-use Rattle.overlay_machine.specs.declared.layout.Layout.{Layout}
-use Rattle.overlay_machine.specs.State.{OState}
-use Rattle.overlay_machine.specs.Step.{overlay_step, weight_of}
+use Rattle.overlay_machine.specs.Step.{weight_of}
 use Rattle.overlay_machine.specs.Seen.{OverlaySeen}
 use Rattle.trace_tool.specs.Told.{Told, EndsOverlay}
 use Rattle.trace_tool.specs.Runs.{begun, lines_of}
 use Rattle.trace_tool.specs.Traces.{trace_of}
-use Rattle.trace_tool.specs.Alike.{HasEnded, LinesAgree}
+use Rattle.trace_tool.specs.Alike.{LinesAgree}
 use Rattle.trace_tool.proofs.TraceTold.{trace_stands}
-
-has_ended : (l : Layout) (p : OState) → EndsOverlay l p → HasEnded (overlay_step l p)
-has_ended l p (inl h) = subst HasEnded (sym h) tt
-has_ended l p (inr h) = subst HasEnded (sym h) tt
 
 pub traces_alike : (o : OverlaySeen) (t : State Word) → LinesAgree o.layout o.state t → o.end ≡ None → o.weight ≡ 0 → (limit : ℕ) → (trace_of limit o).lines ≡ lines_of o.layout (begun (fresh t)) limit
 traces_alike o t agree none unmoved limit =
@@ -26,4 +20,4 @@ traces_alike o t agree none unmoved limit =
         → (limit < j + weight_of o.layout (trace_of limit o).overlay.state) ⊎ EndsOverlay o.layout (trace_of limit o).overlay.state
         → (trace_of limit o).lines ≡ lines_of o.layout (begun (fresh t)) limit
     by j told within (inl past) = sym (agree.between j limit (trace_of limit o).lines (trace_of limit o).overlay.state told within past)
-    by j told within (inr ends) = sym (agree.ended j limit (trace_of limit o).lines (trace_of limit o).overlay.state told within (has_ended o.layout (trace_of limit o).overlay.state ends))
+    by j told within (inr ends) = sym (agree.ended j limit (trace_of limit o).lines (trace_of limit o).overlay.state told within ends)

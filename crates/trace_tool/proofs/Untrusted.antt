@@ -11,7 +11,7 @@ use Rattle.lcm_isa.specs.declared.Reg.{Reg}
 use Rattle.lcm_machine.specs.declared.Step.{Step}
 use Rattle.lcm_machine.specs.declared.Step.TheVariants.{Went, Halted, Failed}
 use Rattle.lcm_machine.specs.Maps.{State}
-use Rattle.lcm_machine.specs.Run.{Run, next_state, plain, answer}
+use Rattle.lcm_machine.specs.Run.{next_state, plain, answer}
 use Rattle.component_linker.specs.declared.owners.Owner.{Owner}
 use Rattle.overlay_machine.specs.declared.layout.Layout.{Layout}
 use Rattle.overlay_machine.specs.declared.events.Event.{Event}

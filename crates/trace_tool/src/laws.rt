@@ -13,6 +13,7 @@ ghost use Rattle.trace_tool.specs.Told.{TracesSteps};
 ghost use Rattle.trace_tool.specs.Brackets.{LinesAreBracketed, TraceIsBracketed, CallsArePrivate};
 ghost use Rattle.overlay_machine.specs.Starting.{StartThere};
 ghost use Rattle.trace_tool.specs.Headline.{Headline, HeadlineHolds};
+ghost use Rattle.trace_tool.specs.Alike.{LinkedLinesAgree, StartLinesAgree, TracesAlike};
 
 use overlay_machine::laws::{
     a_linked_start_may_come, a_start_has_one_overlay, linked_starts_agree, one_step_is_its_weight,
@@ -66,4 +67,26 @@ pub fn the_headline()
     one_step_is_its_weight();
     lines_are_bracketed();
     call_lines_are_private();
+}
+
+/// The plain run writes the lines of the overlay's steps, where the invariant of linked parts holds.
+///
+/// At a matched point the plain run has written the lines of the steps up to there. Behind it, fewer
+/// instructions than the next step weighs write none; and where that step ends the overlay, there are
+/// no more lines at all.
+pub fn linked_lines_agree()
+    ensures { LinkedLinesAgree }
+{}
+
+/// Equal lines.
+///
+/// The plain run from a linked start writes the lines of the steps of its overlay; and a trace up to a
+/// limit writes the same event lines as a run of so many instructions.
+pub fn start_lines_agree()
+    ensures agree { StartLinesAgree }
+    ensures traces { TracesAlike }
+{
+    starts_begin();
+    a_start_has_one_overlay();
+    linked_lines_agree();
 }

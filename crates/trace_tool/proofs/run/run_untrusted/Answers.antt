@@ -1,4 +1,4 @@
-use Rattle.std.proofs.Common.{rules, ◌≡◌, ◌∙◌, sym, ap, subst}
+use Rattle.std.proofs.Common.{rules, subst}
 use Rattle.trace_tool.specs.Runs.{EndsBy}
 use Rattle.trace_tool.proofs.Untrusted.{ends_untrusted}
 use Rattle.trace_tool.proofs.run.run_untrusted.Goals as goal

@@ -1,0 +1,149 @@
+-- An `xjmp` of a return word, and the words after it: no line but at the last.
+use Rattle.std.proofs.Common.{◌≡◌, inl, inr, ℕ, ◌+◌, ◌≤◌, ℤ, pos, Bool, true, [], ◌∷◌, Option, Some, None, refl, sym, ap, ◌∙◌, arith, rules}
+use Rattle.std.specs.Prelude.{option_map}
+use Rattle.cap_words.specs.declared.TheConstants.{LAST_PLACE}
+use Rattle.cap_words.specs.declared.Word.{Word}
+use Rattle.cap_words.specs.declared.Word.TheVariants.{Mem}
+use Rattle.cap_words.specs.declared.CapFields.{CapFields}
+use Rattle.cap_words.specs.declared.Opened.{Opened}
+use Rattle.cap_words.specs.declared.Content.TheVariants.{Mem as MemC}
+use Rattle.cap_words.specs.Face.{face_of, opened_of}
+use Rattle.lcm_isa.specs.declared.Reg.{Reg}
+use Rattle.lcm_isa.specs.declared.Reg.TheVariants.{Pc, Stk, Dat, T1, T2}
+use Rattle.lcm_isa.specs.declared.Operand.TheVariants.{Imm}
+use Rattle.lcm_isa.specs.declared.Instr.TheVariants.{Fail, Jnz, Getb, Move, Store, Load, Minus, Splice, Xjmp}
+use Rattle.lcm_machine.specs.Maps.{State}
+use Rattle.lcm_machine.specs.Places.{reg}
+use Rattle.lcm_machine.specs.Row.{faces, cell_faces, opens, fetch, some, row, step_fetched, step_of, went}
+use Rattle.lcm_machine.specs.Runs.{code_cap}
+use Rattle.lcm_machine.specs.Mapped.{mapped_or}
+use Rattle.lcm_machine.proofs.Commute.{fetch_mapped}
+use Rattle.call_sequence.specs.Sequences.{return_code, distance}
+use Rattle.call_sequence.specs.SequenceRuns.{HasReturn}
+use Rattle.overlay_machine.specs.declared.cases.Case.TheVariants.{Back}
+use Rattle.overlay_machine.specs.declared.layout.Layout.{Layout}
+use Rattle.overlay_machine.specs.declared.layout.SiteCode.{SiteCode}
+use Rattle.overlay_machine.specs.Layout.{site_code}
+use Rattle.overlay_machine.specs.Words.{look}
+use Rattle.overlay_machine.specs.State.{OState, framed}
+use Rattle.overlay_machine.specs.Flat.{flat, beside, IsFlat}
+use Rattle.overlay_machine.specs.Agree.{AtReturn, Looks}
+use Rattle.overlay_machine.specs.Events.{closure_owner}
+use Rattle.overlay_machine.specs.Link.{Link}
+use Rattle.overlay_machine.specs.Linked.{Linked}
+use Rattle.overlay_machine.proofs.FlatLemmas.{HasReturn-flat}
+use Rattle.overlay_machine.proofs.invariant.View.{View}
+use Rattle.trace_tool.specs.declared.note.Note.{Note}
+use Rattle.trace_tool.specs.declared.note.Note.TheVariants.{Leap}
+use Rattle.trace_tool.specs.Layout.{is_trusted, trusted_part, site_word}
+use Rattle.trace_tool.specs.Views.{View as Shown, view_of}
+use Rattle.trace_tool.specs.Events.{jump_in, jump_at, noted, noted_by, event_after, reaches_trusted, leapt_by}
+use Rattle.trace_tool.specs.Lines.{lines_for}
+use Rattle.trace_tool.specs.Runs.{line_next}
+use Rattle.trace_tool.specs.Alike.{ClosuresAreParts}
+use Rattle.trace_tool.proofs.alike.Calm.{id, at_state, Calm}
+use Rattle.trace_tool.proofs.alike.Mute.{Mute, calm_mute, line_goes}
+use Rattle.trace_tool.proofs.alike.Straight.{Num}
+use Rattle.trace_tool.proofs.alike.Laying.{NoEnd, calm_front, stands_kept}
+use Rattle.trace_tool.proofs.alike.Armed.{Armed, rest, tests, calm_arming}
+use Rattle.trace_tool.proofs.alike.Operands.{fits_small, small_operand, near_operand, leads}
+use Rattle.trace_tool.proofs.alike.Sites.{trusted_code, no_closure}
+use Rattle.trace_tool.proofs.alike.Apart.{back_apart}
+use Rattle.trace_tool.proofs.alike.Lands.{Landed, xjmp_lands}
+use Rattle.trace_tool.proofs.alike.Others.{face_same}
+
+-- ---- the words of a return
+
+back_rest : Armed (Jnz T2 T1 ∷ Load Dat Stk ∷ Move T1 (Imm (pos 0)) ∷ Store Stk T1 ∷ [])
+back_rest = tests T1 (rest (refl, inl refl, tt, (refl, inl refl, (search rules), (refl, inr refl, tt, tt))))
+
+module _ (l : Layout) (s : State Word) (base last at sb : ℕ) (h : HasReturn id s.cells base last at sb) where
+  -- all but the last of them are calm whatever they do
+  pub words_calm : s.regs.pc ≡ Mem (code_cap base last at) → sb ≤ LAST_PLACE → NoEnd l at (at + 9) → Calm l 9 s
+  unfolding return_code
+  words_calm pc small free =
+      let ai = h.at_is in
+      let en = h.ends in
+      let sm = h.small in
+      let fh = h.fails.1 in
+      let c = h.code in
+      calm_front l base last (Splice Stk Stk Dat) s at 8 (refl, refl, tt) pc (omega (arith, ai)) (omega (arith, en)) c.0 (free _ (omega arith) (omega arith)) (λ s1 p1 n1.
+      calm_front l base last (Getb T1 Stk) s1 (at + 1) 7 (refl, refl, tt) p1 (omega (arith, ai)) (omega (arith, en)) (n1 _ _ c.1.0) (free _ (omega arith) (omega arith)) (λ s2 p2 n2.
+      calm_front l base last (Minus T1 T1 (Imm (pos sb))) s2 (at + 1 + 1) 6 (refl, refl, small_operand sb small) p2 (omega (arith, ai)) (omega (arith, en)) (n2 _ _ (n1 _ _ c.1.1.0)) (free _ (omega arith) (omega arith)) (λ s3 p3 n3.
+      let keep : (q : ℕ) (z : ℤ) → Num s q z → Num s3 q z = λ q z h. n3 q z (n2 q z (n1 q z h)) in
+      let c3 = stands_kept s s3 at (return_code h.fail h.offset sb) keep c in
+      calm_arming l base last (base + h.fail) (omega arith) fh (Jnz T2 T1 ∷ Load Dat Stk ∷ Move T1 (Imm (pos 0)) ∷ Store Stk T1 ∷ []) back_rest (distance (h.offset + 3) h.fail) s3 (at + 1 + 1 + 1) p3 (omega (arith, ai)) (omega (arith, en))
+      (c3.1.1.1.0, (c3.1.1.1.1.0, (c3.1.1.1.1.1.0, (c3.1.1.1.1.1.1.0, (c3.1.1.1.1.1.1.1.0, (c3.1.1.1.1.1.1.1.1.0, tt))))))
+      (λ q lo hi. free q (omega (arith, lo)) (omega (arith, hi)))
+      (leads (at + 1 + 1 + 1) base (h.offset + 3) h.fail (omega (arith, ai))) (fits_small (base + h.fail) (omega (arith, fh, sm)))
+      (near_operand (h.offset + 3) h.fail (omega (arith, ai, en, sm)) (omega (arith, fh, sm))) (keep _ _ h.fails.0.0))))
+
+-- where numbers stay, a return stands as before
+return_kept : (s u : State Word) (base last at sb : ℕ) → ((q : ℕ) (z : ℤ) → Num s q z → Num u q z) → HasReturn id s.cells base last at sb → HasReturn id u.cells base last at sb
+return_kept s u base last at sb k h = record {
+  offset = h.offset;
+  fail = h.fail;
+  at_is = h.at_is;
+  code = stands_kept s u at (return_code h.fail h.offset sb) k h.code;
+  ends = h.ends;
+  small = h.small;
+  fails = (stands_kept s u (base + h.fail) (Fail ∷ []) k h.fails.0, h.fails.1);
+}
+
+-- ---- the `xjmp`
+
+no_leap : (l : Layout) (from : Option ℕ) (seal : ℕ) (v : Shown) → closure_owner l seal ≡ None → reaches_trusted l v ≡ true → leapt_by l from None (Some seal) v ≡ None
+no_leap l None seal v c r = rw c refl
+no_leap l (Some p) seal v c r = rw r refl
+
+module _ (g : Link) (linked : Linked g) (closures : ClosuresAreParts g) (r1 r2 : Reg) (o : OState) (t : State Word) (rd : AtReturn g.layout r1 r2 o) (m : IsFlat g.layout o t) (k : Looks g.layout o) (v : View g o.frames o.maps (Back r1 r2)) (i : ℕ) (s : SiteCode) (es : site_code g.layout i ≡ Some s)
+    (ex : opened_of (flat g.layout o.frames (reg o.maps.regs r1)) ≡ Some (record { seal = s.seal; content = MemC (code_cap s.base s.end (s.at + 16)) })) where
+  abbrev l : Layout
+  l = g.layout
+
+  abbrev pub code : CapFields
+  code = code_cap s.base s.end (s.at + 16)
+
+  free_here : (a : ℕ) → framed o.frames a ≡ None → beside l o.frames a ≡ None
+  unfolding beside
+  free_here a e = ap (λ y. mapped_or (flat l o.frames) y None) e
+
+  got : fetch (faces id t Pc) (cell_faces id t) ≡ some (Xjmp r1 r2) rd.next
+  got = fetch_mapped look id (flat l o.frames) (beside l o.frames) o.maps t m k.0 (λ a e. free_here a (rd.free a e)) ∙ rd.fetched
+
+  row_is : (u : State Word) → step_of id id t ≡ went u → row id id (Xjmp r1 r2) rd.next t ≡ went u
+  unfolding step_of
+  row_is u e = sym (ap (step_fetched id id t) got) ∙ e
+
+  t_opened : opened_of (reg t.regs r1) ≡ Some (record { seal = s.seal; content = MemC code })
+  t_opened = ap opened_of (m.regs r1) ∙ ex
+
+  pub lands : (u : State Word) → step_of id id t ≡ went u → Landed code t u
+  lands u e = xjmp_lands t u r1 r2 rd.next s.seal code t_opened (row_is u e)
+
+  abbrev pub NoteBack : Note
+  NoteBack = Leap (record { from = trusted_part l (faces id t Pc); call = None; seal = Some s.seal })
+
+  pub noted_back : noted l t ≡ NoteBack
+  unfolding noted jump_at opens
+  noted_back =
+      ap (λ f. noted_by l t (jump_in f)) got
+      ∙ ap (λ c. let n : Note = Leap (record { from = trusted_part l (faces id t Pc); call = c; seal = option_map (λ (z : Opened). z.seal) (opened_of (reg t.regs r1)) }) in n)
+      (ap (site_word l 15) (face_same l o t m k Pc) ∙ back_apart g linked o.frames o.maps (Xjmp r1 r2) rd.next rd.fetched (λ q. cc) 15 (omega arith) (omega arith) r1 r2 v)
+      ∙ ap (λ w. let n : Note = Leap (record { from = trusted_part l (faces id t Pc); call = None; seal = option_map (λ (z : Opened). z.seal) w }) in n) t_opened
+
+  back_event : (u : State Word) (inward : Bool) → step_of id id t ≡ went u → event_after l NoteBack inward (view_of u) ≡ None
+  unfolding event_after
+  back_event u inward e = no_leap l _ s.seal (view_of u) (no_closure g linked closures i s es) (ap (λ w. is_trusted l (face_of w)) (lands u e).0 ∙ trusted_code g linked i s es (s.at + 16))
+
+  pub back_line : (u : State Word) (c : ℕ) (inward : Bool) → step_of id id t ≡ went u → line_next l (at_state t c inward) ≡ []
+  back_line u c inward e = line_goes l t u c inward e ∙ ap (λ n. lines_for l (view_of u) (event_after l n inward (view_of u))) noted_back ∙ ap (lines_for l (view_of u)) (back_event u inward e)
+
+  pub calm_behind : NoEnd l (s.at + 16) (s.at + 25) → (u : State Word) → step_of id id t ≡ went u → Calm l 9 u
+  calm_behind free u e =
+      let y = lands u e in
+      words_calm l u s.base s.end (s.at + 16) l.stack.base (return_kept t u s.base s.end (s.at + 16) l.stack.base y.1 (HasReturn-flat l o t m k s.base s.end (s.at + 16) l.stack.base (rd.sites i s es).back))
+      y.0 rd.small_base (λ a lo hi. free a lo (omega (arith, hi)))
+
+  pub back_mute : NoEnd l (s.at + 16) (s.at + 25) → Mute l 10 t
+  back_mute free = λ u e. (λ c inward. back_line u c inward e, calm_mute l 9 u (calm_behind free u e))

@@ -1,0 +1,156 @@
+-- Rows that go straight on: pc stands at the next word, and the words of numbers stay in their cells.
+use Rattle.std.proofs.Common.{◌≡◌, inl, inr, ℕ, ℤ, true, false, Option, Some, None, refl, sym, ap, ◌∙◌}
+use Rattle.std.specs.Prelude.{Bool, if◌then◌else◌, unwrap_or}
+use Rattle.std.proofs.lemmas.Bool.{cases_eq}
+use Rattle.cap_words.specs.declared.Word.{Word}
+use Rattle.cap_words.specs.declared.Word.TheVariants.{Int, Mem, Seal, Sealed}
+use Rattle.cap_words.specs.declared.Sealable.TheVariants.{Mem as MemIn, Seal as SealIn}
+use Rattle.cap_words.specs.declared.Opened.{Opened}
+use Rattle.cap_words.specs.declared.Face.{Face}
+use Rattle.cap_words.specs.declared.Face.TheVariants.{Number}
+use Rattle.cap_words.specs.Linear.{is_linear, zero_word}
+use Rattle.lcm_isa.specs.declared.Reg.{Reg}
+use Rattle.lcm_isa.specs.declared.Reg.TheVariants.{Pc}
+use Rattle.lcm_isa.specs.declared.Operand.TheVariants.{R as InReg, Imm}
+use Rattle.lcm_isa.specs.declared.Instr.{Instr}
+use Rattle.lcm_isa.specs.declared.Instr.TheVariants.{Fail, Halt, Jmp, Jnz, Gettype, Geta, Getb, Gete, Getp, Getlin, Move, Store, Load, Cca, Restrict, Lt, Plus, Minus, Seta2b, Xjmp, Cseal, Split, Splice}
+use Rattle.lcm_machine.specs.Plan.{Plan, Fails, Halts, Goes}
+use Rattle.lcm_machine.specs.declared.plan.Effect.{Effect}
+use Rattle.lcm_machine.specs.declared.plan.Moved.{Moved}
+use Rattle.lcm_machine.specs.declared.plan.Made.{Made}
+use Rattle.lcm_machine.specs.declared.Place.{Place}
+use Rattle.lcm_machine.specs.declared.Place.TheVariants.{R, Cell}
+use Rattle.lcm_machine.specs.Maps.{State}
+use Rattle.lcm_machine.specs.Places.{reg}
+use Rattle.lcm_machine.specs.Cells.{cell}
+use Rattle.lcm_machine.specs.Table.{plan}
+use Rattle.lcm_machine.specs.Row.{word_in, put, clear, move_on, spend, make, go_on, perform, faces, opens, look_face, plan_in, outcome, row, went}
+use Rattle.lcm_machine.proofs.Plans.{Gives, gives_goes, Gives-effect, Gives-ask, Gives-need, Gives-by_cap}
+use Rattle.lcm_machine.proofs.CellLemmas.{cell-set_other}
+use Rattle.trace_tool.proofs.alike.Calm.{id}
+
+-- neither a jump nor an end
+abbrev pub is_straight : Instr → Bool
+is_straight Fail = false
+is_straight Halt = false
+is_straight (Jmp r1) = false
+is_straight (Jnz r1 r2) = false
+is_straight (Xjmp r1 r2) = false
+is_straight _ = true
+
+abbrev pub is_store : Instr → Bool
+is_store (Store r1 r2) = true
+is_store _ = false
+
+abbrev pub IsReg : Place → Type 0
+IsReg (R r) = Unit {0}
+IsReg (Cell a) = ⊥
+
+abbrev pub ToReg : Bool → Option Moved → Type 0
+ToReg true m = Unit {0}
+ToReg false None = Unit {0}
+ToReg false (Some m) = IsReg m.to
+
+abbrev Onward : Word → Bool → Effect → Type 0
+Onward next b e = (e.next ≡ Some next) × ToReg b e.moved
+
+module _ (f : Reg → Face) (w : Reg → Option Opened) (there : Option Face) (next : Word) where
+  plan-Onward : (i : Instr) → is_straight i ≡ true → Gives (Onward next (is_store i)) (plan i f w there next)
+  plan-Onward Fail h = cc
+  plan-Onward Halt h = cc
+  plan-Onward (Jmp r1) h = cc
+  plan-Onward (Jnz r1 r2) h = cc
+  plan-Onward (Xjmp r1 r2) h = cc
+  plan-Onward (Gettype r1 r2) h = Gives-ask _ _ _ (λ _. gives_goes (refl, tt))
+  plan-Onward (Geta r1 r2) h = Gives-ask _ _ _ (λ _. gives_goes (refl, tt))
+  plan-Onward (Getb r1 r2) h = Gives-ask _ _ _ (λ _. gives_goes (refl, tt))
+  plan-Onward (Gete r1 r2) h = Gives-ask _ _ _ (λ _. gives_goes (refl, tt))
+  plan-Onward (Getp r1 r2) h = Gives-ask _ _ _ (λ _. gives_goes (refl, tt))
+  plan-Onward (Getlin r1 r2) h = Gives-ask _ _ _ (λ _. gives_goes (refl, tt))
+  plan-Onward (Restrict r1 n) h = Gives-ask _ _ _ (λ _. Gives-need _ _ _ (λ c m. Gives-need _ _ _ (λ z _. Gives-need _ _ _ (λ q _. Gives-ask _ _ _ (λ _. gives_goes (refl, tt))))))
+  plan-Onward (Minus r1 r2 n) h = Gives-ask _ _ _ (λ _. Gives-need _ _ _ (λ x e. Gives-need _ _ _ (λ z _. Gives-ask _ _ _ (λ _. gives_goes (refl, tt)))))
+  plan-Onward (Plus r1 r2 n) h = Gives-ask _ _ _ (λ _. Gives-need _ _ _ (λ x e. Gives-need _ _ _ (λ z _. Gives-ask _ _ _ (λ _. gives_goes (refl, tt)))))
+  plan-Onward (Lt r1 r2 n) h = Gives-ask _ _ _ (λ _. Gives-need _ _ _ (λ x e. Gives-need _ _ _ (λ z _. gives_goes (refl, tt))))
+  plan-Onward (Seta2b r1) h = Gives-ask _ _ _ (λ _. Gives-by_cap (f r1) _ _ (λ c e. gives_goes (refl, tt)) (λ c e. gives_goes (refl, tt)))
+  plan-Onward (Cseal r1 r2) h = Gives-ask _ _ _ (λ _. Gives-by_cap (f r1) _ _
+      (λ c e. Gives-need _ _ _ (λ q _. Gives-ask _ _ _ (λ _. gives_goes (refl, tt))))
+      (λ c e. Gives-need _ _ _ (λ q _. Gives-ask _ _ _ (λ _. gives_goes (refl, tt)))))
+  plan-Onward (Cca r1 n) h = Gives-ask _ _ _ (λ _. Gives-by_cap (f r1) _ _
+      (λ c e. Gives-need _ _ _ (λ z _. Gives-ask _ _ _ (λ _. gives_goes (refl, tt))))
+      (λ c e. Gives-need _ _ _ (λ z _. Gives-ask _ _ _ (λ _. gives_goes (refl, tt)))))
+  plan-Onward (Move r1 (InReg r2)) h = Gives-ask _ _ _ (λ _. gives_goes (refl, tt))
+  plan-Onward (Move r1 (Imm z)) h = Gives-ask _ _ _ (λ _. gives_goes (refl, tt))
+  plan-Onward (Store r1 r2) h = Gives-need _ _ _ (λ c m. Gives-ask _ _ _ (λ _. Gives-need _ _ _ (λ x k. gives_goes (refl, tt))))
+  plan-Onward (Load r1 r2) h = Gives-ask _ _ _ (λ _. Gives-need _ _ _ (λ c m. Gives-ask _ _ _ (λ _. Gives-need _ _ _ (λ x k. Gives-ask _ _ _ (λ _. gives_goes (refl, tt))))))
+  plan-Onward (Split r1 r2 r3 n) h = Gives-ask _ _ _ (λ _. Gives-ask _ _ _ (λ _. Gives-need _ _ _ (λ c e. Gives-need _ _ _ (λ z _. Gives-ask _ _ _ (λ _. gives_goes (refl, tt))))))
+  plan-Onward (Splice r1 r2 r3) h = Gives-ask _ _ _ (λ _. Gives-need _ _ _ (λ a e. Gives-need _ _ _ (λ b k. Gives-ask _ _ _ (λ _. gives_goes (refl, tt)))))
+
+-- ---- the word of a number stays in its cell
+
+abbrev pub Num : State Word → ℕ → ℤ → Type 0
+Num s q z = look_face id (cell s.cells q) ≡ Some (Number z)
+
+not_linear : (o : Option Word) (z : ℤ) → look_face id o ≡ Some (Number z) → is_linear (unwrap_or o (zero_word id)) ≡ false
+not_linear None z e = cc
+not_linear (Some (Int y)) z e = refl
+not_linear (Some (Mem c)) z e = cc
+not_linear (Some (Seal c)) z e = cc
+not_linear (Some (Sealed o (MemIn c))) z e = cc
+not_linear (Some (Sealed o (SealIn c))) z e = cc
+
+clear_num : (s : State Word) (p : Place) (q : ℕ) (z : ℤ) → Num s q z → Num (clear id id s p) q z
+unfolding clear
+clear_num s (R r) q z h = elim (is_linear (reg s.regs r)) as (λ b. Num (if b then put s (R r) (zero_word id) else s) q z) [ true ↦ h | false ↦ h ]
+clear_num s (Cell a) q z h = elim (cases_eq q a) as (λ _. Num (if is_linear (word_in id s (Cell a)) then put s (Cell a) (zero_word id) else s) q z) [
+  | inl e ↦ (let n : is_linear (word_in id s (Cell a)) ≡ false = ap (λ k. is_linear (unwrap_or (cell s.cells k) (zero_word id))) (sym e) ∙ not_linear (cell s.cells q) z h in rw n h)
+  | inr ne ↦ elim (is_linear (word_in id s (Cell a))) as (λ b. Num (if b then put s (Cell a) (zero_word id) else s) q z) [
+    | true ↦ ap (look_face id) (cell-set_other s.cells a q (zero_word id) ne) ∙ h
+    | false ↦ h
+  ]
+]
+
+put_num : (s : State Word) (p : Place) (w : Word) (q : ℕ) (z : ℤ) → IsReg p → Num s q z → Num (put s p w) q z
+put_num s (R r) w q z i h = h
+put_num s (Cell a) w q z i h = absurd i
+
+moved_num : (s : State Word) (m : Option Moved) (q : ℕ) (z : ℤ) → ToReg false m → Num s q z → Num (move_on id id s m) q z
+moved_num s None q z i h = h
+moved_num s (Some m) q z i h = put_num (clear id id s m.from) m.to (word_in id s m.from) q z i (clear_num s m.from q z h)
+
+spent_num : (s : State Word) (r : Option Reg) (q : ℕ) (z : ℤ) → Num s q z → Num (spend id id s r) q z
+spent_num s None q z h = h
+spent_num s (Some r) q z h = clear_num s (R r) q z h
+
+made_num : (s : State Word) (m : Option Made) (q : ℕ) (z : ℤ) → Num s q z → Num (make id s m) q z
+made_num s None q z h = h
+made_num s (Some m) q z h = h
+
+gone_num : (s : State Word) (m : Option Word) (q : ℕ) (z : ℤ) → Num s q z → Num (go_on id s m) q z
+gone_num s None q z h = h
+gone_num s (Some m) q z h = h
+
+pub performed_num : (s : State Word) (e : Effect) (q : ℕ) (z : ℤ) → ToReg false e.moved → Num s q z → Num (perform id id s e) q z
+unfolding perform
+performed_num s e q z i h = gone_num _ e.next q z (made_num _ e.second q z (made_num _ e.first q z (spent_num _ e.also_spent q z (spent_num _ e.spent q z (moved_num s e.moved q z i h)))))
+
+performed_pc : (s : State Word) (e : Effect) (next : Word) → e.next ≡ Some next → reg (perform id id s e).regs Pc ≡ next
+unfolding perform
+performed_pc s e next h = rw h refl
+
+abbrev KeepsNumbers : Bool → State Word → State Word → Type 0
+KeepsNumbers true s s' = Unit {0}
+KeepsNumbers false s s' = (q : ℕ) (z : ℤ) → Num s q z → Num s' q z
+
+by_store : (b : Bool) (s : State Word) (e : Effect) → ToReg b e.moved → KeepsNumbers b s (perform id id s e)
+by_store true s e h = tt
+by_store false s e h = λ q z. performed_num s e q z h
+
+planned : (s s' : State Word) (next : Word) (b : Bool) (p : Plan) → Gives (Onward next b) p → outcome id id s p ≡ went s' → (s'.regs.pc ≡ next) × KeepsNumbers b s s'
+planned s s' next b (Fails f) h e = cc
+planned s s' next b Halts h e = cc
+planned s s' next b (Goes x) h e = let q : perform id id s x ≡ s' = cc in let k = Gives-effect h in rw (← q) (performed_pc s x next k.0, by_store b s x k.1)
+
+-- a straight instruction goes to the next word, and but for a store numbers stay
+pub straight_goes : (s s' : State Word) (i : Instr) (next : Word) → is_straight i ≡ true → row id id i next s ≡ went s' → (s'.regs.pc ≡ next) × KeepsNumbers (is_store i) s s'
+unfolding row plan_in
+straight_goes s s' i next h e = planned s s' next (is_store i) _ (plan-Onward (faces id s) (opens id s) _ next i h) e
