@@ -19,6 +19,8 @@ use Rattle.overlay_machine.specs.Starting.{IsLinkedStart, overlay_at}
 use Rattle.trace_tool.specs.Layout.{layout}
 use Rattle.trace_tool.specs.Views.{flat_view}
 use Rattle.trace_tool.specs.Lines.{Line}
+use Rattle.trace_tool.specs.Runs.{begun, lines_of}
+use Rattle.trace_tool.specs.Told.{Told, StopsAt}
 use Rattle.trace_tool.specs.Traces.{trace_of}
 use Rattle.trace_tool.specs.Brackets.{LineTold, marks_in, CallsArePrivate}
 
@@ -65,23 +67,32 @@ pub record Agrees (s : StartSeen) : Type 0 where
   -- where it has gone on, it stands less than the next weight behind a matched point, which is the greatest so far
   pub goes : (n : ℕ) → (plain n s.state).end ≡ None → (j : ℕ) × (p : OState) × Within s n j p
 
--- ---- each return resumes the newest open call
+-- ---- what is written
 
--- the lines of the first steps of the overlay, up to the greatest matched point that is at most a limit
-abbrev pub lines_upto : StartSeen → ℕ → List Line
-lines_upto s limit = (trace_of limit (overlay_at s)).lines
+-- the event lines that `run` writes of so many instructions
+abbrev pub written : StartSeen → ℕ → List Line
+written s n = lines_of (layout s) (begun s.state) n
 
--- Among these lines a call line is open until a ret line closes it, and each ret line closes the newest open one,
--- with its part, site, base, last and words. At first none is open.
-abbrev pub AreBracketed : StartSeen → Type 0
-AreBracketed s =
-    (limit : ℕ) → (open_now : List LineTold) × Brackets LineTold [] (marks_in (lines_upto s limit)) open_now
+-- they are the lines of the overlay's first steps, up to the greatest matched point that is at most so many
+-- instructions
+abbrev pub LinesOfSteps : StartSeen → ℕ → Type 0
+LinesOfSteps s n =
+    (j : ℕ) × (p : OState) × Told (layout s) (overlay_at s).state j (written s n) p × StopsAt (layout s) n j p
+
+-- a call line is open until a ret line closes it, and each ret line closes the newest open one, with its part, site,
+-- base, last and words; at first none is open
+abbrev pub AreBracketed : List Line → Type 0
+AreBracketed lines = (open_now : List LineTold) × Brackets LineTold [] (marks_in lines) open_now
 
 -- ---- all of it
 
 pub record Headline (s : StartSeen) : Type 0 where
   pub agrees : Agrees s
-  pub bracketed : AreBracketed s
+  pub lines : (n : ℕ) → LinesOfSteps s n
+  -- a trace up to so many instructions writes the same lines
+  pub traced : (n : ℕ) → (trace_of n (overlay_at s)).lines ≡ written s n
+  -- each return resumes the newest open call
+  pub bracketed : (n : ℕ) → AreBracketed (written s n)
   -- from behind the `xjmp` of each call line on, as long as no ret line closes it, no plain instruction touches an
   -- address of its range, and neither does the `xjmp` of the return that brings that ret line
   pub private : CallsArePrivate (layout s) (overlay_at s).state s.state.maps

@@ -65,6 +65,8 @@ pub fn the_headline()
     a_start_has_one_overlay();
     linked_starts_agree();
     one_step_is_its_weight();
+    traces_tell_steps();
+    start_lines_agree();
     lines_are_bracketed();
     call_lines_are_private();
 }
