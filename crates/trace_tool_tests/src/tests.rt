@@ -188,9 +188,9 @@ fn events_and_ends_of_runs_and_traces(rt: HostRuntime) -> Result<(), Fail> {
 fn a_run_stops_at_each_write_that_fails(rt: HostRuntime) -> Result<(), Fail> {
     let alloc = rt.alloc();
     let mut before = String::new(alloc);
-    let mut number = 0;
+    let mut number = 0_u32;
     for piece in PIECES {
-        number += 1;
+        number = number.saturating_add(1);
         let mut out = MemSink::new(alloc)?;
         out.fail_at(number);
         let end = run(&rt, alloc, "t:caller u:adv", 1000, &mut out)?;
