@@ -1,9 +1,9 @@
 -- The first place at which a test holds, and the first rule that is broken.
 use Rattle.std.proofs.Common.{◌≡◌, ℕ, zero, suc, ◌+◌, ◌<◌, ◌⊎◌, inl, inr, Bool, true, false, List, [], ◌∷◌, Option, Some, None, Result, Ok, Err, refl, sym, ap, ◌∙◌, arith, subst}
 use Rattle.std.specs.Prelude.{slice_get, option_map}
-use Rattle.std.proofs.lemmas.Bool.{cases_eq}
+use Rattle.std.proofs.lemmas.Bool.{cases_eq, cases_order}
 use Rattle.component_check.specs.Places.{Test, plainly, BrokenAt, or_here, first_below, first_of, first_place, FoundBy, FirstBy}
-use Rattle.component_check.specs.Verdict.{rule, IsBefore, IsFirstBroken, kept_or, check_from}
+use Rattle.component_check.specs.Verdict.{rule, IsBefore, IsFirst, IsFirstBroken, kept_or, check_from}
 
 -- what the first place is
 abbrev pub IsFirstIn : (ℕ → Bool) → ℕ → Option ℕ → Type 0
@@ -140,3 +140,36 @@ first_broken told ts = numbered (check_from told 1 ts) (verdict told 1 ts)
         all : (n p : ℕ) (t : Test _) → rule ts n ≡ Some t → IsBefore n p (suc v.0) v.1 → BrokenAt t p → ⊥
         all zero p t is lt b = cc
         all (suc n) p t is lt b = v.6 n p t is (elim lt as (λ _. IsBefore n p v.0 v.1) [ inl l ↦ inl (omega arith) | inr l ↦ inr (omega arith, l.1) ]) b
+
+-- ---- there is one first broken rule
+
+one_number : {P E : Type 0} (told : ℕ → P → E) (ts : List (Test P)) (a b : E) (h : IsFirst told ts a) (k : IsFirst told ts b) → h.number ≡ k.number → h.index ≡ k.index → a ≡ b
+one_number told ts a b h k n i =
+    let s : Some h.test ≡ Some k.test = sym h.is ∙ ap (rule ts) n ∙ k.is in
+    let t : h.test ≡ k.test = cc in
+    h.reported ∙ ap (λ m. told m (h.test.place h.index)) n ∙ ap (λ (u : Test _). told k.number (u.place h.index)) t ∙ ap (λ j. told k.number (k.test.place j)) i ∙ sym k.reported
+
+one_first : {P E : Type 0} (told : ℕ → P → E) (ts : List (Test P)) (a b : E) → IsFirst told ts a → IsFirst told ts b → a ≡ b
+one_first told ts a b h k = elim (cases_order h.number k.number) as (λ _. a ≡ b) [
+  | inl n ↦ elim (cases_order h.index k.index) as (λ _. a ≡ b) [
+    | inl i ↦ one_number told ts a b h k n i
+    | inr i ↦ elim i as (λ _. a ≡ b) [
+      | inl lt ↦ absurd (k.first h.number h.index h.test h.is (inr (n, lt)) h.broken)
+      | inr lt ↦ absurd (h.first k.number k.index k.test k.is (inr (sym n, lt)) k.broken)
+    ]
+  ]
+  | inr n ↦ elim n as (λ _. a ≡ b) [
+    | inl lt ↦ absurd (k.first h.number h.index h.test h.is (inl lt) h.broken)
+    | inr lt ↦ absurd (h.first k.number k.index k.test k.is (inl lt) k.broken)
+  ]
+]
+
+-- to try the rules in their order gives it
+pub is_tried : {P E : Type 0} (told : ℕ → P → E) (ts : List (Test P)) (r : Result (Unit {0}) E) → IsFirstBroken told ts r → r ≡ check_from told 1 ts
+is_tried {P} {E} told ts r h = by_both r (check_from told 1 ts) h (first_broken told ts)
+  where
+    by_both : (r s : Result (Unit {0}) E) → IsFirstBroken told ts r → IsFirstBroken told ts s → r ≡ s
+    by_both (Ok u) (Ok v) h k = refl
+    by_both (Ok u) (Err b) h k = absurd (h k.number k.index k.test k.is k.broken)
+    by_both (Err b) (Ok v) h k = absurd (k h.number h.index h.test h.is h.broken)
+    by_both (Err b) (Err d) h k = ap (λ e. Err e) (one_first told ts b d h k)

@@ -2,6 +2,7 @@ mod Ascending
 mod Listing
 mod Entries
 mod Verdicts
+pub mod OneVerdict
 pub mod Walks
 pub mod Placed
 mod Rowed

@@ -5,7 +5,7 @@ ghost use Rattle.component_check.specs.Rules.{is_at};
 ghost use Rattle.flow_check.specs.Kinds.{entry_row, clean_row};
 ghost use Rattle.flow_check.specs.Flow.{is_stk, flow};
 ghost use Rattle.flow_check.specs.Walk.{instr_at, keep, comes_in, is_data, passes, site_ready, good_target, flow_of, after_flow, at_row, past, at_word, at_entry, at_end, next_from};
-ghost use Rattle.flow_check.specs.Verdict.{WalksTo, IsFirstOfFlow};
+ghost use Rattle.flow_check.specs.Verdict.{WalksTo, IsFirstOfFlow, flow_answer};
 
 use crate::judging::{Flow, flow_at};
 use crate::kinds::{CLEAN_ROW, ENTRY_ROW, Row, below_any, kind_of, row_below};
@@ -233,7 +233,9 @@ fn check_walk(c: &ComponentFields) -> Result<(), Broken>
 ///
 /// It is meant for components that keep C1 to C12 as trusted ones. It takes no memory.
 pub fn check_flow(c: &Component) -> Result<(), Broken>
-    ensures { IsFirstOfFlow c.now result }
+    ensures first { IsFirstOfFlow c.now result }
+    // The same as a function.
+    ensures is { result ≡ flow_answer c.now }
 {
     check_lists(c)?;
     check_walk(c.fields())
