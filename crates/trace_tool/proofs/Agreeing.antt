@@ -92,7 +92,7 @@ module _ (s : StartSeen) (is : s.state ≡ fresh s.state.maps) (alone : HaltsAlo
   end_is : (n : ℕ) → (plain n s.state).end ≡ (plain n (fresh s.state.maps)).end
   end_is n = ap (λ (r : Run). (plain n r).end) is
 
-  state_is : (n : ℕ) (u : State Word) → plain_run n s.state.maps ≡ went u → plain n s.state ≡ gone u n
+  pub state_is : (n : ℕ) (u : State Word) → plain_run n s.state.maps ≡ went u → plain n s.state ≡ gone u n
   state_is n u e = ap (plain n) is ∙ at_state s.state.maps n u e
 
   ends_is : (n : ℕ) (e : End) → (plain n (fresh s.state.maps)).end ≡ None → (plain (n + 1) (fresh s.state.maps)).end ≡ Some e → PlainEnds s n e

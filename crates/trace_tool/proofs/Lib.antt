@@ -12,4 +12,5 @@ mod TraceTold
 mod TracesAlike
 mod Agreeing
 mod Closures
+mod LeftAlone
 pub mod alike

@@ -1,28 +1,30 @@
 -- The headline. For all trusted parts that keep the rules and every untrusted part that links with them: at each
 -- matched point the plain machine halts, fails or goes on as the overlay does, each return resumes the newest open
 -- call, and no instruction between touches that call's private frame. docs/THEOREMS.md has it in words.
-use Rattle.std.specs.Prelude.{◌≡◌, ◌↔◌, ℕ, ◌+◌, ◌≤◌, ◌<◌, ℤ, List, [], Some, None}
+use Rattle.std.specs.Prelude.{◌≡◌, ◌↔◌, ℕ, ◌+◌, ◌≤◌, ◌<◌, ◌++◌, ℤ, Bool, List, [], ◌∷◌, Some, None}
+use Rattle.cap_words.specs.declared.Word.{Word}
 use Rattle.lcm_isa.specs.declared.Reg.TheVariants.{A0}
 use Rattle.lcm_machine.specs.declared.FailCause.{FailCause}
 use Rattle.lcm_machine.specs.declared.End.{End}
 use Rattle.lcm_machine.specs.declared.End.TheVariants.{Halted, Failed}
 use Rattle.lcm_machine.specs.Places.{reg}
 use Rattle.lcm_machine.specs.Run.{plain}
+use Rattle.lcm_machine.specs.Touched.{Untouched}
 use Rattle.component_linker.specs.Parts.{PartSeen}
 use Rattle.component_linker.specs.Started.{StartSeen}
 use Rattle.overlay_machine.specs.State.{OState}
-use Rattle.overlay_machine.specs.Step.{halts, fails, overlay_step, weight_of}
+use Rattle.overlay_machine.specs.Step.{goes, halts, fails, overlay_step, weight_of}
 use Rattle.overlay_machine.specs.Flat.{IsFlat}
 use Rattle.overlay_machine.specs.Runs.{Reached}
-use Rattle.overlay_machine.specs.Brackets.{Brackets}
+use Rattle.overlay_machine.specs.Brackets.{Brackets, Depth}
 use Rattle.overlay_machine.specs.Starting.{IsLinkedStart, overlay_at}
 use Rattle.trace_tool.specs.Layout.{layout}
 use Rattle.trace_tool.specs.Views.{flat_view}
-use Rattle.trace_tool.specs.Lines.{Line}
+use Rattle.trace_tool.specs.Lines.{Line, Args, call}
 use Rattle.trace_tool.specs.Runs.{begun, lines_of}
 use Rattle.trace_tool.specs.Told.{Told, StopsAt}
 use Rattle.trace_tool.specs.Traces.{trace_of}
-use Rattle.trace_tool.specs.Brackets.{LineTold, marks_in, CallsArePrivate}
+use Rattle.trace_tool.specs.Brackets.{LineTold, marks_in, IsRet}
 
 -- ---- the words of it
 
@@ -84,6 +86,31 @@ LinesOfSteps s n =
 abbrev pub AreBracketed : List Line → Type 0
 AreBracketed lines = (open_now : List LineTold) × Brackets LineTold [] (marks_in lines) open_now
 
+-- ---- no instruction between touches a call's private frame
+
+-- a range, from a matched point on that lies behind n instructions and at which the overlay is q
+pub record RangeIsLeftAlone (s : StartSeen) (n : ℕ) (q : OState) (base last : ℕ) : Type 0 where
+  -- up to each matched point m instructions later, where the lines up to it close no call line that was open before
+  -- them, no instruction touches an address of the range
+  pub while_open : (m e a : ℕ) (r : OState) (more : List Line) → Reached (layout s) q m r
+      → written s (n + m) ≡ written s n ++ more → Depth (marks_in more) 0 e
+      → base ≤ a → a ≤ last → Untouched (λ w. w) (λ w. w) a m (plain n s.state).maps
+  -- and where the step from there on brings a ret line, neither does its first instruction, the `xjmp` that reaches
+  -- the return sequence
+  pub up_to_ret : (m e a : ℕ) (r next : OState) (more line : List Line) → Reached (layout s) q m r
+      → written s (n + m) ≡ written s n ++ more → Depth (marks_in more) 0 e
+      → overlay_step (layout s) r ≡ goes next
+      → written s (n + m + weight_of (layout s) r) ≡ written s (n + m) ++ line → IsRet line
+      → base ≤ a → a ≤ last → Untouched (λ w. w) (λ w. w) a (m + 1) (plain n s.state).maps
+
+-- so it is of the range of each call line that is written, from behind the `xjmp` of its call on
+abbrev pub FramesAreLeftAlone : StartSeen → Type 0
+FramesAreLeftAlone s =
+    (j : ℕ) (p q : OState) → Matched s j p → overlay_step (layout s) p ≡ goes q
+    → (inward : Bool) (part : List ℕ) (site base last : ℕ) (args : Args) (words : List Word)
+    → written s (j + weight_of (layout s) p) ≡ written s j ++ call inward part site base last args words ∷ []
+    → RangeIsLeftAlone s (j + weight_of (layout s) p) q base last
+
 -- ---- all of it
 
 pub record Headline (s : StartSeen) : Type 0 where
@@ -93,9 +120,7 @@ pub record Headline (s : StartSeen) : Type 0 where
   pub traced : (n : ℕ) → (trace_of n (overlay_at s)).lines ≡ written s n
   -- each return resumes the newest open call
   pub bracketed : (n : ℕ) → AreBracketed (written s n)
-  -- from behind the `xjmp` of each call line on, as long as no ret line closes it, no plain instruction touches an
-  -- address of its range, and neither does the `xjmp` of the return that brings that ret line
-  pub private : CallsArePrivate (layout s) (overlay_at s).state s.state.maps
+  pub private : FramesAreLeftAlone s
 
 -- of every linked start
 abbrev pub HeadlineHolds : Type 0

@@ -8,6 +8,7 @@ use Rattle.trace_tool.specs.Told.{Told}
 use Rattle.trace_tool.specs.Traces.{trace_of}
 use Rattle.trace_tool.specs.Brackets.{LineTold, marks_in, lines_told}
 use Rattle.trace_tool.proofs.Agreeing.{agrees, start_fresh}
+use Rattle.trace_tool.proofs.LeftAlone.{left_alone}
 use Rattle.trace_tool.proofs.laws.the_headline.Goals as goal
 
 pub returns-clause-holds : goal.returns-clause-holds
@@ -17,14 +18,15 @@ returns-clause-holds c = λ parts size s is.
     let h = c.starts_begin.ensures s o ((c.a_start_has_one_overlay.ensures parts size s is o).1 refl) parts size is in
     let is_fresh = start_fresh s is.starts.state.count is.starts.state.end in
     let same = c.start_lines_agree.ensures.traces parts size s is in
+    let runs = (c.linked_starts_agree.ensures parts size s is).runs in
     record {
-      agrees = agrees s is_fresh c.one_step_is_its_weight.ensures.halts (c.linked_starts_agree.ensures parts size s is).runs;
+      agrees = agrees s is_fresh c.one_step_is_its_weight.ensures.halts runs;
       lines = λ n. (let k = c.traces_tell_steps.ensures o refl refl n in
           (k.0, (trace_of n o).overlay.state, subst (λ (ls : List Line). Told (layout s) o.state k.0 ls (trace_of n o).overlay.state) (same n) k.1, k.2));
       traced = same;
       bracketed = λ n. (let now = lines_told (layout s) (trace_of n o).overlay.state.frames in
           (now, subst (λ (ls : List Line). Brackets LineTold [] (marks_in ls) now) (same n) (c.lines_are_bracketed.ensures.traces parts size o s.state.maps h n)));
-      private = c.call_lines_are_private.ensures g o.state s.state.maps h.linked h.holds;
+      private = left_alone s is_fresh c.one_step_is_its_weight.ensures.halts runs (c.start_lines_agree.ensures.agree parts size s is) (c.call_lines_are_private.ensures g o.state s.state.maps h.linked h.holds);
     })
 
 pub returns-clause-of_some : goal.returns-clause-of_some
