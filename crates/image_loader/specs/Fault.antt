@@ -23,6 +23,13 @@ fault_number (File part fault) = 6
 fault_number (Rule at) = 7
 fault_number NoMemory = 8
 
+-- the place in the image that a fault tells, and 0 where it tells none there
+abbrev pub fault_place : ImageFault → ℕ
+fault_place (Short at) = at
+fault_place (BadField at) = at
+fault_place (Trailing at) = at
+fault_place _ = 0
+
 -- ---- the faults of the layers below, as the image's
 
 -- of a field of the image's own

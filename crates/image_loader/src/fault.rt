@@ -1,7 +1,7 @@
 //! Why an image can't be loaded.
 ghost use Rattle.std.specs.Prelude.{◌≡◌};
 ghost use Rattle.image_loader.specs.declared.fault.ImageFault.TheVariants.{NoMemory};
-ghost use Rattle.image_loader.specs.Fault.{fault_number, in_image, not_linked};
+ghost use Rattle.image_loader.specs.Fault.{fault_number, fault_place, in_image, not_linked};
 
 use cap_words::FieldFault;
 use component_file::FileFault;
@@ -48,6 +48,21 @@ impl ImageFault {
             ImageFault::File(_, _) => 6,
             ImageFault::Rule(_) => 7,
             ImageFault::NoMemory => 8,
+        }
+    }
+
+    /// The place of its byte in the image, and 0 where it tells none there. What `File` and `Rule`
+    /// hold tells its own.
+    pub fn place(self) -> u32
+        ensures { result ≡ fault_place self }
+    {
+        match self {
+            ImageFault::Short(at) | ImageFault::BadField(at) | ImageFault::Trailing(at) => at,
+            ImageFault::Magic
+            | ImageFault::Version
+            | ImageFault::File(_, _)
+            | ImageFault::Rule(_)
+            | ImageFault::NoMemory => 0,
         }
     }
 }

@@ -178,7 +178,7 @@ fn sixteen_parts_are_read(rt: HostRuntime) -> Result<(), Fail> {
 }
 
 #[test]
-fn each_fault_has_its_number_and_its_text(rt: HostRuntime) -> Result<(), Fail> {
+fn each_fault_has_its_number_its_place_and_its_text(rt: HostRuntime) -> Result<(), Fail> {
     let rule = RuleAt {
         rule: Rule {
             group: Group::L,
@@ -188,21 +188,23 @@ fn each_fault_has_its_number_and_its_text(rt: HostRuntime) -> Result<(), Fail> {
         place: 2,
     };
     let faults = [
-        (Magic, 1, "the image does not begin with STKI"),
-        (Version, 2, "the version is not 1"),
-        (Short(7), 3, "the image ends within the field at byte 7"),
-        (BadField(8), 4, "the field at byte 8 is not valid"),
-        (Trailing(107), 5, "the image ends before byte 107"),
+        (Magic, 1, 0, "the image does not begin with STKI"),
+        (Version, 2, 0, "the version is not 1"),
+        (Short(7), 3, 7, "the image ends within the field at byte 7"),
+        (BadField(8), 4, 8, "the field at byte 8 is not valid"),
+        (Trailing(107), 5, 107, "the image ends before byte 107"),
         (
             File(3, FileFault::Order(9)),
             6,
+            0,
             "part 3 has the file fault 5 at byte 9",
         ),
-        (RuleFault(rule), 7, "1 L4 2"),
-        (NoMemory, 8, "out of memory"),
+        (RuleFault(rule), 7, 0, "1 L4 2"),
+        (NoMemory, 8, 0, "out of memory"),
     ];
-    for (fault, number, text) in faults {
+    for (fault, number, place, text) in faults {
         assert_eq!(rt; fault.number(), number);
+        assert_eq!(rt; fault.place(), place);
         assert_eq!(rt; format!(in rt.alloc(); "{fault}")?.as_str(), text);
     }
     Ok(())
