@@ -79,18 +79,9 @@ module _ (g : Link) (linked : Linked g) where
           let st' : SiteOf r index u = subst (λ x. SiteOf x index u) same st in
           (u, is, index, st', (let a = st'.at_is in omega (arith, a, at)))
 
-  module _ (fs : List OpenFrame) (s : State OWord) (code : (p : PartSeen) → IsTrusted g p → CodeIn p s.cells) where
-    abbrev Got : Fetched
-    Got = fetch (faces look s Pc) (cell_faces look s)
-
-    pc_trusted : (p : PartSeen) (o : ℕ) → IsTrusted g p → o < length p.component.code → PcAt look (ranges_of p) o s.regs → trusted_at g.layout (faces look s Pc) ≡ Some (p.component.code_base + o)
-    unfolding faces
-    pc_trusted p o ip lt h =
-        let low : p.component.code_base ≤ p.component.code_base + o = omega arith in
-        let high : p.component.code_base + o ≤ (ranges_of p).code_last = in_code g linked p o ip lt in
-        rw (h, linked.owned p (pos (p.component.code_base + o)) ip, le-leb p.component.code_base (p.component.code_base + o) low, le-leb (p.component.code_base + o) (ranges_of p).code_last high) refl
-
-    pc_untrusted : IsSafe g fs s.regs.pc → trusted_at g.layout (faces look s Pc) ≡ None
+  -- a safe pc is no trusted one
+  module _ (fs : List OpenFrame) (s : State OWord) where
+    pub pc_untrusted : IsSafe g fs s.regs.pc → trusted_at g.layout (faces look s Pc) ≡ None
     unfolding faces
     pc_untrusted h = by_look (look s.regs.pc) refl
       where
@@ -109,6 +100,17 @@ module _ (g : Link) (linked : Linked g) where
         by_look (Mem c) e = by_owner c (find (runs_in c) g.layout.owners) e refl
         by_look (Seal c) e = refl
         by_look (Sealed o c) e = by_sealed o c
+
+  module _ (fs : List OpenFrame) (s : State OWord) (code : (p : PartSeen) → IsTrusted g p → CodeIn p s.cells) where
+    abbrev Got : Fetched
+    Got = fetch (faces look s Pc) (cell_faces look s)
+
+    pc_trusted : (p : PartSeen) (o : ℕ) → IsTrusted g p → o < length p.component.code → PcAt look (ranges_of p) o s.regs → trusted_at g.layout (faces look s Pc) ≡ Some (p.component.code_base + o)
+    unfolding faces
+    pc_trusted p o ip lt h =
+        let low : p.component.code_base ≤ p.component.code_base + o = omega arith in
+        let high : p.component.code_base + o ≤ (ranges_of p).code_last = in_code g linked p o ip lt in
+        rw (h, linked.owned p (pos (p.component.code_base + o)) ip, le-leb p.component.code_base (p.component.code_base + o) low, le-leb (p.component.code_base + o) (ranges_of p).code_last high) refl
 
     -- the word at a part's fail is no site's and no entry's first
     fail_fetched : (p : PartSeen) (o : ℕ) → IsTrusted g p → p.component.fail_at ≡ Some o → PcAt look (ranges_of p) o s.regs → (next : Word) × (Got ≡ some Fail next)
@@ -157,4 +159,4 @@ module _ (g : Link) (linked : Linked g) where
     unfolding case_of
     view (at_fail p o ip f h) = rw (pc_trusted p o ip (linked.fails p o ip f).0 h) (fail_view p o ip f h _ refl _ refl)
     view (at_row p o ip at) = rw (pc_trusted p o ip at.inside at.at_pc) (view_at p o ip at _ refl _ refl)
-    view (outside h) = rw (pc_untrusted (h Pc)) (out h refl)
+    view (outside h) = rw (pc_untrusted fs s (h Pc)) (out h refl)

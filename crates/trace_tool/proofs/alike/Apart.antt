@@ -1,14 +1,8 @@
 -- Where a step is no call and no entry, pc is at no word inside a site; and within a sequence no other site ends.
 use Rattle.std.proofs.Common.{◌≡◌, ℕ, ◌+◌, ◌-◌, ◌<◌, ◌≤◌, inr, true, List, length, Option, Some, None, refl, sym, ap, ◌∙◌, subst, arith}
-use Rattle.std.specs.Prelude.{if◌then◌else◌, find, is_some, option_and_then}
+use Rattle.std.specs.Prelude.{option_and_then}
 use Rattle.cap_words.specs.declared.Word.{Word}
-use Rattle.cap_words.specs.declared.Word.TheVariants.{Int, Mem, Seal, Sealed}
-use Rattle.cap_words.specs.declared.Sealable.{Sealable}
-use Rattle.cap_words.specs.declared.Sealable.TheVariants.{Mem as MemIn, Seal as SealIn}
-use Rattle.cap_words.specs.declared.CapFields.{CapFields}
 use Rattle.cap_words.specs.declared.Face.TheVariants.{Memory}
-use Rattle.cap_words.specs.Face.{face_of}
-use Rattle.cap_words.specs.Faces.{target_of}
 use Rattle.lcm_isa.specs.declared.Reg.{Reg}
 use Rattle.lcm_isa.specs.declared.Reg.TheVariants.{Pc}
 use Rattle.lcm_isa.specs.declared.Instr.{Instr}
@@ -19,20 +13,18 @@ use Rattle.flow_check.specs.Holds.{code_at}
 use Rattle.flow_check.specs.Places.{begins_entry, begins_site}
 use Rattle.flow_check.proofs.Walks.{Inside, no_row_inside}
 use Rattle.flow_check.proofs.Placed.{placed_lists}
-use Rattle.component_linker.specs.declared.owners.Owner.{Owner}
 use Rattle.component_linker.specs.Parts.{PartSeen}
 use Rattle.overlay_machine.specs.declared.words.OWord.{OWord}
 use Rattle.overlay_machine.specs.declared.cases.Case.TheVariants.{Back, Other}
 use Rattle.overlay_machine.specs.declared.layout.SiteCode.{SiteCode}
 use Rattle.overlay_machine.specs.Words.{look}
-use Rattle.overlay_machine.specs.Layout.{runs_in, trusted_at}
 use Rattle.overlay_machine.specs.State.{OpenFrame}
 use Rattle.overlay_machine.specs.Link.{Link, IsTrusted, ranges_of}
 use Rattle.overlay_machine.specs.Linked.{Linked, SiteOf}
 use Rattle.overlay_machine.specs.Safe.{IsSafe}
 use Rattle.overlay_machine.specs.Invariant.{StandsAt}
-use Rattle.overlay_machine.proofs.invariant.Facts.{in_code, one_part, mem_safe, not_trusted}
-use Rattle.overlay_machine.proofs.invariant.View.{View, in_part, failing, out}
+use Rattle.overlay_machine.proofs.invariant.Facts.{in_code, one_part}
+use Rattle.overlay_machine.proofs.invariant.View.{View, in_part, failing, out, pc_untrusted}
 use Rattle.trace_tool.specs.Layout.{site_before, site_word}
 use Rattle.trace_tool.proofs.alike.Laying.{NoEnd, word_none, target_code}
 use Rattle.trace_tool.proofs.alike.Sites.{word_is}
@@ -101,29 +93,9 @@ module _ (g : Link) (linked : Linked g) where
         rw at.at_pc (word_none g.layout off (p.component.code_base + o) (Memory (code_at (ranges_of p) o)) (target_code p.component.code_base (ranges_of p).code_last (p.component.code_base + o) (omega arith) (in_code g linked p o ip lt))
         (off_sequence p o off ip lt (λ i. no_row_inside p.component flow.walked (placed_lists p.component flow.placed is.limits) o i at.there at.row) pos_off small))
 
-    pc_untrusted : IsSafe g fs s.regs.pc → trusted_at g.layout (faces look s Pc) ≡ None
-    unfolding faces
-    pc_untrusted h = by_look (look s.regs.pc) refl
-      where
-        by_owner : (c : CapFields) (r : Option Owner) → look s.regs.pc ≡ Mem c → find (runs_in c) g.layout.owners ≡ r → (if is_some r then target_of (Memory c) else None) ≡ None
-        by_owner c None e q = refl
-        by_owner c (Some x) e q =
-            let k = linked.owners c x q in
-            absurd (not_trusted g linked fs k.0 c k.1 (mem_safe g fs s.regs.pc c e h) (ap (λ x. x.base) k.2) (ap (λ x. x.end) k.2))
-
-        by_sealed : (o : ℕ) (c : Sealable) → trusted_at g.layout (face_of (Sealed o c)) ≡ None
-        by_sealed o (MemIn m) = refl
-        by_sealed o (SealIn m) = refl
-
-        by_look : (x : Word) → look s.regs.pc ≡ x → trusted_at g.layout (face_of x) ≡ None
-        by_look (Int z) e = refl
-        by_look (Mem c) e = by_owner c (find (runs_in c) g.layout.owners) e refl
-        by_look (Seal c) e = refl
-        by_look (Sealed o c) e = by_sealed o c
-
     at_safe : IsSafe g fs s.regs.pc → Off
     unfolding site_word
-    at_safe h = ap (option_and_then (site_before g.layout off)) (pc_untrusted h)
+    at_safe h = ap (option_and_then (site_before g.layout off)) (pc_untrusted g linked fs s h)
 
     pub other_apart : View g fs s Other → Off
     other_apart (in_part p o ip ne ns at c) = at_part p o ip at

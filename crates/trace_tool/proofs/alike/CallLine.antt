@@ -4,7 +4,6 @@ use Rattle.std.specs.Prelude.{option_map, option_and_then, is_some, nat_le}
 use Rattle.std.proofs.lemmas.Bool.{cases_eq, cases_lt, lt-leb, and_left, and_right}
 use Rattle.cap_words.specs.declared.Word.{Word}
 use Rattle.cap_words.specs.declared.Word.TheVariants.{Mem}
-use Rattle.cap_words.specs.declared.CapFields.{CapFields}
 use Rattle.cap_words.specs.declared.Opened.{Opened}
 use Rattle.cap_words.specs.declared.Content.TheVariants.{Mem as MemC}
 use Rattle.cap_words.specs.declared.Face.TheVariants.{Memory}
@@ -89,9 +88,6 @@ module _ (g : Link) (linked : Linked g) (i : ℕ) (o : OState) (t : State Word) 
 
   abbrev site : SiteCode
   site = at_site.site
-
-  stack : CapFields
-  stack = record (stack_cap l.stack.base at_site.end 0) { addr = at_site.to }
 
   has_call : HasCall id t.cells site.base site.end site.at site.seal
   has_call = HasCall-flat l o t m k site.base site.end site.at site.seal (its_site l i o t at_site m k).call

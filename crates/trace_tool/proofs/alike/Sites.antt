@@ -1,13 +1,12 @@
 -- Where the layout finds sites, by their words and by their seals; and whose closure seals there are.
 use Rattle.std.proofs.Common.{◌≡◌, inl, inr, ℕ, zero, suc, ◌+◌, ◌-◌, ◌<◌, ◌≤◌, pos, Bool, true, false, List, [], ◌∷◌, length, Option, Some, None, refl, sym, ap, ◌∙◌, arith, subst, leb-true, le-leb, lt-ltb, eq-eqb, get_or}
-use Rattle.std.specs.Prelude.{if◌then◌else◌, ◌==◌, ◌^◌, ◌&&◌, nat_le, nat_lt, slice_get, is_some, find, position, option_and_then, IsTrue}
-use Rattle.std.specs.List.{Contains, position_or_len}
+use Rattle.std.specs.Prelude.{if◌then◌else◌, ◌==◌, ◌^◌, ◌&&◌, nat_le, nat_lt, slice_get, is_some, position, option_and_then, IsTrue}
+use Rattle.std.specs.List.{position_or_len}
 use Rattle.std.proofs.lemmas.Bool.{cases_lt, eqb-true, ltb-true, and_parts}
 use Rattle.std.proofs.lemmas.Bool.Decides.{nat_tests}
-use Rattle.std.proofs.lemmas.List.Quantifiers.{position-Some}
 use Rattle.std.proofs.lemmas.List.Sums.{fails_before_first}
 use Rattle.std.proofs.lemmas.Grind.{common_steps}
-use Rattle.std.proofs.lemmas.Option.{get_or_from_slice_get, slice_get-get_or}
+use Rattle.std.proofs.lemmas.Option.{get_or_from_slice_get}
 use Rattle.cap_words.specs.declared.Word.{Word}
 use Rattle.cap_words.specs.declared.Opened.{Opened}
 use Rattle.cap_words.specs.Face.{opened_of}
@@ -24,6 +23,7 @@ use Rattle.overlay_machine.specs.Events.{site_of_seal, site_opened, closure_owne
 use Rattle.overlay_machine.specs.Link.{Link, IsTrusted, ranges_of}
 use Rattle.overlay_machine.specs.Linked.{any_pc, SiteOf, Linked}
 use Rattle.overlay_machine.proofs.invariant.Facts.{there_is}
+use Rattle.overlay_machine.proofs.starts.ListFacts.{found_is, position_is}
 use Rattle.overlay_machine.proofs.invariant.View.{site_of}
 use Rattle.trace_tool.specs.Layout.{site_before, is_trusted}
 use Rattle.trace_tool.specs.Alike.{ClosuresAreParts}
@@ -32,10 +32,6 @@ use Rattle.trace_tool.specs.Alike.{ClosuresAreParts}
 
 lt_true : (a b : ℕ) → IsTrue (nat_lt a b) → a < b
 lt_true a b h = grind (arith, nat_tests)
-
-found_at : {X : Type 0} (p : X → Bool) (xs : List X) (j : ℕ) → position p xs ≡ Some j → (x : X) × (slice_get xs j ≡ Some x) × (p x ≡ true)
-found_at p [] j e = absurd cc
-found_at p (x ∷ xs) j e = let h = position-Some p (x ∷ xs) j x e in (get_or (x ∷ xs) j x, slice_get-get_or (x ∷ xs) j x h.0, h.1)
 
 numbered_is : (o : Option ℕ) (j : ℕ) → option_and_then numbered o ≡ Some j → (o ≡ Some j) × (j < 2 ^ 32)
 numbered_is None j e = cc
@@ -80,14 +76,6 @@ distinct b (x ∷ xs) h zero (suc j) o ei ej = absurd (let up = above x xs h.1 j
 distinct b (x ∷ xs) h (suc i) zero o ei ej = absurd (let up = above x xs h.1 i o ei in let k = some_nat x o ej in omega (arith, up, k))
 distinct b (x ∷ xs) h (suc i) (suc j) o ei ej = let e = distinct (Some x) xs h.1 i j o ei ej in omega (arith, e)
 
-found_in : (p : Owner → Bool) (xs : List Owner) (x : Owner) → find p xs ≡ Some x → Contains xs x × (p x ≡ true)
-found_in p [] x e = cc
-found_in p (y ∷ ys) x e = by_test (p y) refl (λ h. found_in p ys x h) e
-  where
-    by_test : (b : Bool) → p y ≡ b → (find p ys ≡ Some x → Contains ys x × (p x ≡ true)) → (if b then Some y else find p ys) ≡ Some x → Contains (y ∷ ys) x × (p x ≡ true)
-    by_test true t more e = (let k : y ≡ x = cc in ((zero, omega arith, k), ap p (sym k) ∙ t))
-    by_test false t more e = (let r = more e in let lt = (r.0).1 in ((suc (r.0).0, omega (arith, lt), (r.0).2), r.1))
-
 module _ (g : Link) (linked : Linked g) where
   -- ---- by words
 
@@ -131,7 +119,7 @@ module _ (g : Link) (linked : Linked g) where
 
   pub seal_site : (i n : ℕ) → site_of_seal g.layout n ≡ Some i → (s : SiteCode) × (site_code g.layout i ≡ Some s) × (s.seal ≡ n)
   seal_site i n e =
-      let p = found_at (λ (s : Site). s.seal == n) g.layout.sites i (numbered_is (position (λ (s : Site). s.seal == n) g.layout.sites) i e).0 in
+      let p = position_is (λ (s : Site). s.seal == n) g.layout.sites i (numbered_is (position (λ (s : Site). s.seal == n) g.layout.sites) i e).0 in
       let u = linked.listed i p.0 p.1 in
       (u.0, u.1, u.2 ∙ eqb-true (p.0).seal n p.2)
 
@@ -173,7 +161,7 @@ module _ (g : Link) (linked : Linked g) where
       by_found : (r : Option Owner) → closure_owner g.layout s.seal ≡ r → r ≡ None
       by_found None e = refl
       by_found (Some o) e = (
-          let f = found_in (λ (o : Owner). o.trusted && (o.closure == s.seal)) g.layout.owners o e in
+          let f = found_is (λ (o : Owner). o.trusted && (o.closure == s.seal)) g.layout.owners o e in
           let t = and_parts o.trusted (o.closure == s.seal) f.1 in
           let p = closures o f.0 t.0 in
           absurd (linked.return_other i s p.0 es p.1 (p.2 ∙ eqb-true o.closure s.seal t.1)))
