@@ -1,5 +1,5 @@
 -- Brackets one after the other, and under a map.
-use Rattle.std.proofs.Common.{◌≡◌, ℕ, zero, suc, List, [], ◌∷◌, ◌++◌, length, refl}
+use Rattle.std.proofs.Common.{ℕ, zero, suc, List, [], ◌∷◌, ◌++◌, length, refl}
 use Rattle.std.specs.Prelude.{map}
 use Rattle.overlay_machine.specs.Brackets.{Mark, opens, closes, Brackets, at_end, one_opens, one_closes, Depth}
 

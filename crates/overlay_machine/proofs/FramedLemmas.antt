@@ -1,16 +1,16 @@
 -- The word that a frame has at an address, found from the newest frame on.
-use Rattle.std.proofs.Common.{◌≡◌, ◌≤◌, ◌<◌, ◌⊎◌, inl, inr, ℕ, zero, suc, ◌+◌, ◌-◌, Bool, true, false, List, [], ◌∷◌, length, drop, refl, sym, ap, subst, ◌∙◌, arith, Some, None, Option, IsSome, is_some, lt-ltb, ltb-true}
-use Rattle.std.specs.Prelude.{slice_get, nat_lt, if◌then◌else◌}
+use Rattle.std.proofs.Common.{◌≡◌, ◌≤◌, ◌<◌, ◌⊎◌, inl, inr, ℕ, zero, suc, ◌+◌, ◌-◌, Bool, true, false, List, [], ◌∷◌, length, drop, refl, ap, subst, arith, Some, None, Option, IsSome, lt-ltb, ltb-true}
+use Rattle.std.specs.Prelude.{slice_get, nat_lt}
 use Rattle.std.specs.Option.{option_or}
-use Rattle.std.proofs.lemmas.Option.{slice_get_past, slice_get-get_or, slice_get_within}
+use Rattle.std.proofs.lemmas.Option.{slice_get_past, slice_get-get_or}
 use Rattle.lcm_machine.specs.declared.cells.Span.{Span}
 use Rattle.cap_words.specs.Linear.{zero_word}
-use Rattle.frame_region.specs.Frames.{FrameSeen, head_of, item_there, item_at}
+use Rattle.frame_region.specs.Frames.{FrameSeen, head_of, item_at}
 use Rattle.overlay_machine.specs.declared.words.OWord.{OWord}
 use Rattle.overlay_machine.specs.declared.words.OWord.TheVariants.{Plain}
 use Rattle.overlay_machine.specs.declared.layout.Layout.{Layout}
 use Rattle.overlay_machine.specs.declared.frames.Frame.{Frame}
-use Rattle.overlay_machine.specs.State.{OpenFrame, word_of, framed}
+use Rattle.overlay_machine.specs.State.{word_of, framed}
 use Rattle.overlay_machine.specs.Machine.{frame_seen, frames_of, AreWhole, AreFull}
 
 abbrev Frames : Type 0

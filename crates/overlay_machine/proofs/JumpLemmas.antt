@@ -1,17 +1,15 @@
 -- A call's `xjmp`.
-use Rattle.std.proofs.Common.{◌≡◌, ℕ, ◌+◌, Bool, true, false, ◌∷◌, refl, ap, subst, ◌∙◌}
+use Rattle.std.proofs.Common.{◌≡◌, ℕ, ◌+◌, Bool, true, false, ◌∷◌, refl, ap, ◌∙◌}
 use Rattle.std.specs.Prelude.{if◌then◌else◌}
 use Rattle.cap_words.specs.declared.CapFields.{CapFields}
 use Rattle.cap_words.specs.declared.Word.{Word}
 use Rattle.cap_words.specs.Linear.{zero_word, is_linear}
-use Rattle.lcm_isa.specs.declared.Reg.TheVariants.{C1, C2}
-use Rattle.lcm_isa.specs.declared.Instr.TheVariants.{Xjmp}
+use Rattle.lcm_isa.specs.declared.Reg.TheVariants.{C2}
 use Rattle.lcm_machine.specs.declared.Place.TheVariants.{R}
 use Rattle.lcm_machine.specs.declared.plan.Effect.{Effect}
-use Rattle.lcm_machine.specs.Plan.{Goes, IsJump, is_jump}
+use Rattle.lcm_machine.specs.Plan.{IsJump, is_jump}
 use Rattle.lcm_machine.specs.Maps.{State}
-use Rattle.lcm_machine.specs.Row.{perform, clear, plan_in, put, MoveFits}
-use Rattle.lcm_machine.proofs.Plans.{Gives, gives_goes, Gives-need, Gives-ask, Gives-effect}
+use Rattle.lcm_machine.specs.Row.{perform, clear, put}
 use Rattle.frame_region.specs.Frames.{RegionSeen}
 use Rattle.overlay_machine.specs.declared.words.OWord.{OWord}
 use Rattle.overlay_machine.specs.declared.words.OWord.TheVariants.{Plain}

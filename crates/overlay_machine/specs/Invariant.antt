@@ -1,5 +1,5 @@
 -- What holds of an overlay and of the plain state that it stands for, between two steps.
-use Rattle.std.specs.Prelude.{◌≡◌, ℕ, ◌+◌, ◌≤◌, ◌<◌, ℤ, List, [], ◌∷◌, length, Some, None, IsSome}
+use Rattle.std.specs.Prelude.{◌≡◌, ℕ, ◌+◌, ◌≤◌, ◌<◌, ℤ, List, [], ◌∷◌, length, is_some, Some, None}
 use Rattle.std.specs.List.{Contains}
 use Rattle.cap_words.specs.declared.Word.{Word}
 use Rattle.cap_words.specs.declared.Word.TheVariants.{Mem}
@@ -25,7 +25,7 @@ use Rattle.overlay_machine.specs.State.{OpenFrame, OState, Cells, word_of, frame
 use Rattle.overlay_machine.specs.Step.{Ending, overlay_step, weight_of}
 use Rattle.overlay_machine.specs.Flat.{IsFlat}
 use Rattle.overlay_machine.specs.Agree.{EndAlike}
-use Rattle.overlay_machine.specs.Link.{Link, IsTrusted, ranges_of, regions, IsStackCell, IsOpenAt, CodeIn}
+use Rattle.overlay_machine.specs.Link.{Link, IsTrusted, ranges_of, regions, has_cell, IsStackCell, IsOpenAt, CodeIn}
 use Rattle.overlay_machine.specs.Safe.{IsSafe, IsMet}
 use Rattle.overlay_machine.specs.Linked.{SiteOf, Linked}
 
@@ -89,9 +89,9 @@ pub record Invariant (g : Link) (o : OState) (t : State Word) : Type 0 where
   -- the plain state is the one that the overlay stands for
   pub flat : IsFlat g.layout o t
   pub pc : PcPart g o.frames o.maps.regs
-  -- the stack's addresses that are in no frame have cells; trusted code is as linked; all cells but those of
-  -- trusted code hold safe words
-  pub stack : (a : ℕ) → IsStackCell g o.frames a → IsSome (cell o.maps.cells a)
+  -- the addresses of the regions that are in no frame have cells, and no others; trusted code is as linked; all
+  -- cells but those of trusted code hold safe words
+  pub there : (a : ℕ) → is_some (cell o.maps.cells a) ≡ has_cell g o.frames a
   pub code : (p : PartSeen) → IsTrusted g p → CodeIn p o.maps.cells
   pub cells : (a : ℕ) (w : OWord) → IsOpenAt g a → cell o.maps.cells a ≡ Some w → IsSafe g o.frames w
   pub frames : FramesLie g.layout o.maps.cells o.calls o.frames

@@ -1,12 +1,12 @@
 -- What was linked: the accepted parts with a size of stack, and the layout of the overlay that came of them.
-use Rattle.std.specs.Prelude.{◌≡◌, ℕ, ◌+◌, ◌-◌, ◌≤◌, Bool, true, false, List, length, slice_get, Some, None}
+use Rattle.std.specs.Prelude.{◌≡◌, ℕ, ◌+◌, ◌-◌, ◌≤◌, Bool, true, false, ◌&&◌, not, is_some, List, length, slice_get, Some, None}
 use Rattle.std.specs.List.{Contains}
 use Rattle.cap_words.specs.declared.Word.{Word}
 use Rattle.lcm_machine.specs.Regions.{Region}
 use Rattle.lcm_machine.specs.Cells.{cell}
 use Rattle.call_sequence.specs.SequenceRuns.{Outside}
 use Rattle.component_linker.specs.Parts.{PartSeen}
-use Rattle.component_linker.specs.Regions.{code_span, data_span, linear_span, region, regions_of}
+use Rattle.component_linker.specs.Regions.{code_span, data_span, linear_span, region, regions_of, in_regions}
 use Rattle.flow_check.specs.Holds.{Ranges}
 use Rattle.overlay_machine.specs.declared.words.OWord.TheVariants.{Plain}
 use Rattle.overlay_machine.specs.declared.layout.Layout.{Layout}
@@ -65,6 +65,10 @@ IsOpenAt g a = (p : PartSeen) → IsTrusted g p → Outside a (ranges_of p).code
 -- an address of the stack that is in no frame
 abbrev pub IsStackCell : Link → List OpenFrame → ℕ → Type 0
 IsStackCell g fs a = (g.layout.stack.base ≤ a) × (a ≤ g.layout.stack.end) × (framed fs a ≡ None)
+
+-- whether an address has a cell: it is of a region, and in no frame
+abbrev pub has_cell : Link → List OpenFrame → ℕ → Bool
+has_cell g fs a = in_regions a (regions g) && not (is_some (framed fs a))
 
 -- a part's code stands in memory as it was linked
 abbrev pub CodeIn : PartSeen → Cells → Type 0

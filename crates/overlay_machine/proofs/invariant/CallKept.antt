@@ -1,6 +1,6 @@
 -- The invariant is kept by a call that goes on.
 use Rattle.std.proofs.Common.{◌≡◌, ◌≢◌, ◌⊎◌, inl, inr, ℕ, suc, ◌+◌, ◌-◌, ◌<◌, ◌≤◌, ℤ, pos, negsuc, Bool, true, false, List, ◌∷◌, length, Option, Some, None, refl, sym, ap, ◌∙◌, subst, arith, is_some, IsSome, leb-true, ltb-true}
-use Rattle.std.specs.Prelude.{◌&&◌, int_lt, nat_le, slice_get, unwrap_or}
+use Rattle.std.specs.Prelude.{◌&&◌, not, int_lt, nat_le, slice_get, unwrap_or}
 use Rattle.std.specs.Option.{option_or}
 use Rattle.std.specs.List.{Contains}
 use Rattle.std.proofs.lemmas.Bool.{and_parts}
@@ -27,6 +27,7 @@ use Rattle.flow_check.specs.Kinds.{kind_of, below_any}
 use Rattle.flow_check.specs.Holds.{data_cap, HasKind}
 use Rattle.flow_check.proofs.Fitting.{is_safe}
 use Rattle.component_linker.specs.Parts.{PartSeen}
+use Rattle.component_linker.specs.Regions.{in_regions}
 use Rattle.overlay_machine.specs.declared.words.OWord.{OWord}
 use Rattle.overlay_machine.specs.declared.words.OWord.TheVariants.{Plain, RetCode, RetData}
 use Rattle.overlay_machine.specs.declared.layout.Layout.{Layout}
@@ -37,14 +38,14 @@ use Rattle.overlay_machine.specs.State.{OpenFrame, OState, Cells, framed, word_o
 use Rattle.overlay_machine.specs.Flat.{flat}
 use Rattle.overlay_machine.specs.Step.{goes, own_stack, new_frame, at_call, call_step}
 use Rattle.overlay_machine.specs.Agree.{IsKnown, AllKnown}
-use Rattle.overlay_machine.specs.Link.{Link, IsTrusted, ranges_of, regions, IsStackCell, IsOpenAt}
+use Rattle.overlay_machine.specs.Link.{Link, IsTrusted, ranges_of, regions, has_cell, IsStackCell, IsOpenAt}
 use Rattle.overlay_machine.specs.Linked.{Linked, SiteOf}
 use Rattle.overlay_machine.specs.Safe.{IsSafeCap, IsSafe}
 use Rattle.overlay_machine.specs.Invariant.{StandsAt, PcPart, FrameLies, FramesLie, FrameFits, Invariant}
 use Rattle.lcm_machine.proofs.Stretches.{cell-without_in, cell-without_out}
 use Rattle.overlay_machine.proofs.FlatLemmas.{flat-mem}
 use Rattle.overlay_machine.proofs.FrameWords.{words_from-at, word_of-within, frame_of-later, frame_of-newest}
-use Rattle.overlay_machine.proofs.invariant.Facts.{there_is, safe_int, safe_stk, mem_safe, in_code, closed, open_stack_at, in_stack}
+use Rattle.overlay_machine.proofs.invariant.Facts.{there_is, safe_int, safe_stk, mem_safe, in_code, closed, stack_cells, open_stack_at, in_stack}
 use Rattle.overlay_machine.proofs.invariant.HeldFlat.{one_holder, place_flat, framed_flat}
 use Rattle.overlay_machine.proofs.invariant.Ready.{own_dat, dat_is, stk_is, passes_on, linear, known}
 use Rattle.overlay_machine.proofs.OwnStack.{own_is}
@@ -53,9 +54,13 @@ use Rattle.overlay_machine.proofs.invariant.OtherKept.{went_other, cross_safe}
 use Rattle.overlay_machine.proofs.invariant.Standing.{Stand}
 use Rattle.overlay_machine.proofs.invariant.ReturnKept.{ask_goes, where_in}
 use Rattle.overlay_machine.proofs.invariant.FramesKept.{call_keeps}
-use Rattle.overlay_machine.proofs.invariant.FrameFacts.{lies_of, word_in_frame, has_word}
-use Rattle.overlay_machine.proofs.invariant.Popped.{framed_at, none_rest, none_first}
+use Rattle.overlay_machine.proofs.invariant.FrameFacts.{lies_of, word_in_frame, word_out, has_word}
+use Rattle.overlay_machine.proofs.invariant.Popped.{framed_at}
 use Rattle.overlay_machine.proofs.invariant.Crossing.{Crossed, xjmp_crossed}
+
+and_false : (b : Bool) → (b && false) ≡ false
+and_false true = refl
+and_false false = refl
 
 -- what a call that goes on was
 pub record Called (l : Layout) (i : ℕ) (o q : OState) : Type 0 where
@@ -142,7 +147,7 @@ module _ (g : Link) (linked : Linked g) (o : OState) (t : State Word) (inv : Inv
   top = in_stack g linked fs c cap base_is
 
   owned : (a : ℕ) → g.layout.stack.base ≤ a → a ≤ c.end → IsSome (cell m a)
-  owned a low high = inv.stack a (low, (let b = top in omega (arith, high, b)), cap.free a (let b = base_is in omega (arith, b, low)) high)
+  owned a low high = stack_cells g linked m fs inv.there a (low, (let b = top in omega (arith, high, b)), cap.free a (let b = base_is in omega (arith, b, low)) high)
 
   dat : (to : ℤ) × (look o.maps.regs.dat ≡ Mem (data_cap (ranges_of p) to))
   dat = own_dat g linked o t inv p st.offset at (dat_is g linked o t inv i p index u ip eu st at)
@@ -264,10 +269,12 @@ module _ (g : Link) (linked : Linked g) (o : OState) (t : State Word) (inv : Inv
   cell_is : (a : ℕ) → cell x.maps.cells a ≡ cell (without m A c.end) a
   cell_is a = ap (λ y. cell y a) crossed.cells
 
-  stack_after : (a : ℕ) → IsStackCell g (F ∷ fs) a → IsSome (cell x.maps.cells a)
-  stack_after a h = elim (where_in a A c.end) as (λ _. IsSome (cell x.maps.cells a)) [
-    | inl out ↦ ap is_some (cell_is a ∙ cell-without_out m A c.end a out) ∙ inv.stack a (h.0, h.1, none_rest F fs a h.2)
-    | inr inn ↦ (let v = has_word g.layout (without m A c.end) F a lies inn.0 inn.1 in let n = none_first F fs a h.2 in let bad : Some v.0 ≡ None = sym v.1 ∙ n in cc)
+  there_after : (a : ℕ) → is_some (cell x.maps.cells a) ≡ has_cell g (F ∷ fs) a
+  there_after a = elim (where_in a A c.end) as (λ _. is_some (cell x.maps.cells a) ≡ has_cell g (F ∷ fs) a) [
+    | inl out ↦ ap is_some (cell_is a ∙ cell-without_out m A c.end a out) ∙ inv.there a ∙ ap (λ y. in_regions a (regions g) && not (is_some (option_or y (framed fs a)))) (sym (word_out g.layout (without m A c.end) F a lies out))
+    | inr inn ↦ (let v = has_word g.layout (without m A c.end) F a lies inn.0 inn.1 in
+        ap is_some (cell_is a ∙ cell-without_in m A c.end a inn.0 inn.1)
+        ∙ sym (ap (λ y. in_regions a (regions g) && not (is_some (option_or y (framed fs a)))) v.1 ∙ and_false (in_regions a (regions g))))
   ]
 
   code_out : (r : PartSeen) (n : ℕ) → IsTrusted g r → n < length r.component.code → (r.component.code_base + n < A) ⊎ (c.end < r.component.code_base + n)
@@ -337,7 +344,7 @@ module _ (g : Link) (linked : Linked g) (o : OState) (t : State Word) (inv : Inv
   pub call_kept : Stand g q
   call_kept = subst (λ y. Stand g y) (sym x.result) (record {
     pc = pc_after;
-    stack = stack_after;
+    there = there_after;
     code = λ r ir n w e. cell_is (r.component.code_base + n) ∙ cell-without_out m A c.end (r.component.code_base + n) (code_out r n ir (there_is r.component.code n w e)) ∙ inv.code r ir n w e;
     cells = cells_after;
     frames = subst (λ y. FramesLie g.layout y (o.calls + 1) (F ∷ fs)) (sym crossed.cells) frames_after;

@@ -1,16 +1,12 @@
 -- That no address is held twice in the plain state, told by a count over the overlay.
-use Rattle.std.proofs.Common.{◌≡◌, ◌⊎◌, inl, inr, ℕ, zero, suc, ◌+◌, ◌<◌, ◌≤◌, Bool, true, false, cond, List, [], ◌∷◌, ◌++◌, length, Option, Some, None, refl, sym, ap, ◌∙◌, subst, arith}
-use Rattle.std.specs.Prelude.{IsTrue, ◌↔◌}
+use Rattle.std.proofs.Common.{◌≡◌, ◌⊎◌, inl, inr, ℕ, zero, suc, ◌+◌, ◌<◌, ◌≤◌, true, List, [], ◌∷◌, ◌++◌, length, Option, Some, None, refl, sym, ap, ◌∙◌, subst, arith}
 use Rattle.std.specs.List.{Contains, count_by}
-use Rattle.std.specs.Option.{option_or}
-use Rattle.std.proofs.lemmas.Bool.{cases_Bool, cases_eq}
+use Rattle.std.proofs.lemmas.Bool.{cases_eq}
 use Rattle.std.proofs.lemmas.List.Elements.{Contains-append_left, Contains-append_right}
 use Rattle.cap_words.specs.declared.Word.{Word}
-use Rattle.lcm_isa.specs.declared.Reg.{Reg}
 use Rattle.lcm_machine.specs.declared.Place.{Place}
 use Rattle.lcm_machine.specs.declared.Place.TheVariants.{R, Cell}
 use Rattle.lcm_machine.specs.Maps.{State}
-use Rattle.lcm_machine.specs.Places.{reg}
 use Rattle.lcm_machine.specs.Cells.{cell}
 use Rattle.lcm_machine.specs.Row.{word_at}
 use Rattle.lcm_machine.specs.Mapped.{mapped_or}
@@ -20,7 +16,7 @@ use Rattle.lcm_machine.proofs.RegionLemmas.{contains_cases, contains_none}
 use Rattle.lcm_machine.proofs.CountLemmas.{count_some, counted, once_counts, counts_once, has_place, covered_counts}
 use Rattle.overlay_machine.specs.declared.words.OWord.{OWord}
 use Rattle.overlay_machine.specs.declared.layout.Layout.{Layout}
-use Rattle.overlay_machine.specs.State.{OpenFrame, OState, Cells, framed, word_of}
+use Rattle.overlay_machine.specs.State.{OpenFrame, OState, Cells, framed}
 use Rattle.overlay_machine.specs.Flat.{flat, beside, IsFlat}
 use Rattle.overlay_machine.specs.Invariant.{LiesBelow, FramesLie}
 use Rattle.overlay_machine.specs.Cover.{addresses, framed_addresses, cover, CoverIsOnce}

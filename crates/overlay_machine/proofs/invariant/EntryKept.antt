@@ -112,7 +112,7 @@ module _ (g : Link) (linked : Linked g) (o : OState) (t : State Word) (inv : Inv
       subst (λ x. Stand g x) (sym k.2) (record {
         pc = at_row p (off + 20) ip (stands_clean g linked fs p ip (after a (code_at (ranges_of p) off) c) (off + 20) (entry_flows p.component part.limits (part.flow ip.1) off en)
             (ap (λ y. Mem (record (code_at (ranges_of p) 0) { addr = pos y })) far) fits);
-        stack = inv.stack;
+        there = inv.there;
         code = inv.code;
         cells = inv.cells;
         frames = inv.frames;

@@ -1,6 +1,6 @@
 -- What linked parts say of addresses, of safe words and of trusted pcs.
 use Rattle.std.proofs.Common.{◌≡◌, ◌≢◌, inl, inr, ℕ, zero, suc, ◌+◌, ◌<◌, ◌≤◌, ℤ, pos, false, List, [], ◌∷◌, length, Some, refl, sym, ap, ◌∙◌, arith}
-use Rattle.std.specs.Prelude.{slice_get}
+use Rattle.std.specs.Prelude.{slice_get, ◌&&◌, not, true, is_some, IsSome}
 use Rattle.std.specs.List.{Contains}
 use Rattle.cap_words.specs.declared.Word.TheVariants.{Int, Mem, Seal}
 use Rattle.cap_words.specs.declared.CapFields.{CapFields}
@@ -9,17 +9,20 @@ use Rattle.cap_words.specs.declared.TheConstants.{LAST_PLACE}
 use Rattle.lcm_isa.specs.declared.Instr.{Instr}
 use Rattle.lcm_isa.specs.Numbers.{number_of}
 use Rattle.lcm_machine.specs.Regions.{Region}
+use Rattle.lcm_machine.specs.Cells.{cell}
 use Rattle.lcm_machine.specs.Row.{look_face}
 use Rattle.lcm_machine.specs.Runs.{Stands}
 use Rattle.call_sequence.specs.SequenceRuns.{Outside}
 use Rattle.call_sequence.specs.Standing.{CodeStands}
 use Rattle.flow_check.specs.Holds.{stack_cap, Up}
 use Rattle.component_linker.specs.Parts.{PartSeen}
+use Rattle.component_linker.specs.Regions.{in_regions}
+use Rattle.component_linker.proofs.RegionFacts.{in_regions_is}
 use Rattle.overlay_machine.specs.declared.words.OWord.{OWord}
 use Rattle.overlay_machine.specs.declared.words.OWord.TheVariants.{Plain, RetCode, RetData}
 use Rattle.overlay_machine.specs.Words.{look}
 use Rattle.overlay_machine.specs.State.{OpenFrame, Cells}
-use Rattle.overlay_machine.specs.Link.{Link, IsTrusted, the_stack, regions, ranges_of, code_region, data_region, stack_region, IsOpenAt, IsStackCell, CodeIn}
+use Rattle.overlay_machine.specs.Link.{Link, IsTrusted, the_stack, regions, ranges_of, code_region, data_region, stack_region, has_cell, IsOpenAt, IsStackCell, CodeIn}
 use Rattle.overlay_machine.specs.Safe.{IsSafeCap, AreSafeSeals, IsSafe}
 use Rattle.overlay_machine.specs.Linked.{Linked}
 
@@ -85,6 +88,12 @@ module _ (g : Link) (linked : Linked g) where
 
   pub stack_there : Contains (regions g) (stack_region g.layout)
   stack_there = linked.usable (stack_region g.layout) false the_stack
+
+  -- the stack's addresses that are in no frame have cells
+  pub stack_cells : (m : Cells) (fs : List OpenFrame) → ((a : ℕ) → is_some (cell m a) ≡ has_cell g fs a) → (a : ℕ) → IsStackCell g fs a → IsSome (cell m a)
+  stack_cells m fs there a h =
+      there a ∙ ap (λ w. in_regions a (regions g) && not (is_some w)) h.2
+      ∙ ap (λ b. b && true) (in_regions_is a (regions g) (stack_region g.layout) stack_there h.0 h.1)
 
   pub open_stack_at : (a : ℕ) → g.layout.stack.base ≤ a → a ≤ g.layout.stack.end → IsOpenAt g a
   open_stack_at a low high = open_region (stack_region g.layout) stack_there (λ p ip. linked.code_closed (stack_region g.layout) false p the_stack ip) a low high

@@ -78,6 +78,18 @@ word_in_frame l m f a w s e = elim (cases_lt a f.base) as (λ _. (f.base ≤ a) 
   ]
 ]
 
+-- outside it a frame has no word
+pub word_out : (l : Layout) (m : Cells) (f : OpenFrame) (a : ℕ) → FrameLies l m f → (a < f.base) ⊎ (f.end < a) → word_of f a ≡ None
+word_out l m f a lies out = by_word (word_of f a) refl
+  where
+    by_word : (w : Option OWord) → word_of f a ≡ w → w ≡ None
+    by_word None e = refl
+    by_word (Some w) e =
+        let r = word_in_frame l m f a w lies e in
+        let low = r.0 in
+        let high = r.1 in
+        elim out as (λ _. Some w ≡ None) [ inl lt ↦ absurd (omega (arith, lt, low)) | inr lt ↦ absurd (omega (arith, lt, high)) ]
+
 pub framed_in : (l : Layout) (m : Cells) (n : ℕ) (fs : List OpenFrame) (g : OpenFrame) (a : ℕ) → FramesLie l m n fs → Contains fs g → g.base ≤ a → a ≤ g.end → framed fs a ≡ None → ⊥
 framed_in l m n [] g a h c low high e = absurd (omega (arith, c.1))
 framed_in l m n (f ∷ fs) g a h (zero, lt, q) low high e =

@@ -1,6 +1,6 @@
 -- The invariant is kept by each step that is a row of the table: of untrusted code, and of trusted code outside
 -- sequences.
-use Rattle.std.proofs.Common.{◌≡◌, ◌≢◌, ◌⊎◌, inl, inr, ℕ, ◌+◌, pos, ◌+ℤ◌, true, false, List, Option, Some, None, refl, sym, ap, ◌∙◌, subst, arith, is_some, IsSome, eqb-true}
+use Rattle.std.proofs.Common.{◌≡◌, ◌≢◌, ◌⊎◌, inl, inr, ℕ, ◌+◌, pos, ◌+ℤ◌, true, false, List, Option, Some, None, refl, sym, ap, ◌∙◌, subst, arith, is_some, eqb-true}
 use Rattle.cap_words.specs.declared.Word.{Word}
 use Rattle.cap_words.specs.Face.{face_of, opened_of}
 use Rattle.lcm_isa.specs.declared.Reg.{Reg}
@@ -25,7 +25,7 @@ use Rattle.overlay_machine.specs.declared.cases.Case.TheVariants.{Other}
 use Rattle.overlay_machine.specs.Words.{look, is_plain}
 use Rattle.overlay_machine.specs.State.{OpenFrame, OState, Cells}
 use Rattle.overlay_machine.specs.Step.{goes, case_fetched, with_frames, other_step}
-use Rattle.overlay_machine.specs.Link.{Link, IsTrusted, IsStackCell, IsOpenAt, CodeIn}
+use Rattle.overlay_machine.specs.Link.{Link, IsTrusted, has_cell, IsOpenAt, CodeIn}
 use Rattle.overlay_machine.specs.Linked.{Linked}
 use Rattle.overlay_machine.specs.Safe.{IsSafe}
 use Rattle.overlay_machine.specs.Invariant.{PcPart, at_fail, at_row, outside, FramesLie, Invariant}
@@ -85,7 +85,7 @@ module _ (g : Link) (linked : Linked g) where
 
     -- what the invariant says of memory and frames
     pub record Others (s' : State OWord) : Type 0 where
-      pub stack : (a : ℕ) → IsStackCell g fs a → IsSome (cell s'.cells a)
+      pub there : (a : ℕ) → is_some (cell s'.cells a) ≡ has_cell g fs a
       pub code : (p : PartSeen) → IsTrusted g p → CodeIn p s'.cells
       pub cells : (a : ℕ) (w : OWord) → IsOpenAt g a → cell s'.cells a ≡ Some w → IsSafe g fs w
       pub frames : FramesLie g.layout s'.cells o.calls fs
@@ -93,7 +93,7 @@ module _ (g : Link) (linked : Linked g) where
     others_of : (s' : State OWord) → ((q : ℕ) → is_some (cell s'.cells q) ≡ is_some (cell o.maps.cells q)) → ((a : ℕ) → (IsOpenAt g a → ⊥) → cell s'.cells a ≡ cell o.maps.cells a)
         → ((a : ℕ) (w : OWord) → IsOpenAt g a → cell s'.cells a ≡ Some w → IsSafe g fs w) → Others s'
     others_of s' there same safe = record {
-      stack = λ a h. there a ∙ inv.stack a h;
+      there = λ a. there a ∙ inv.there a;
       code = λ p ip off w e. same (p.component.code_base + off) (closed g linked p ip (p.component.code_base + off) (omega arith) (in_code g linked p off ip (there_is p.component.code off w e))) ∙ inv.code p ip off w e;
       cells = safe;
       frames = frames_same g.layout o.maps.cells s'.cells o.calls fs (gone_stays o.maps.cells s'.cells there) inv.frames;
@@ -183,4 +183,4 @@ module _ (g : Link) (linked : Linked g) where
     other_kept q v e =
         let k = went_other fs o.calls (step_of look Plain o.maps) q e in
         let r = stepped k.0 v k.1 in
-        subst (λ y. Stand g y) (sym k.2) (record { pc = r.pc; stack = r.others.stack; code = r.others.code; cells = r.others.cells; frames = r.others.frames; frames_fit = inv.frames_fit })
+        subst (λ y. Stand g y) (sym k.2) (record { pc = r.pc; there = r.others.there; code = r.others.code; cells = r.others.cells; frames = r.others.frames; frames_fit = inv.frames_fit })

@@ -49,7 +49,7 @@ use Rattle.overlay_machine.specs.Link.{Link, IsTrusted, ranges_of, data_region, 
 use Rattle.overlay_machine.specs.Linked.{Linked, SiteOf}
 use Rattle.overlay_machine.specs.Safe.{IsSafeCap, IsSafe, IsMet, IsTrustedHalf, IsOpenSeal}
 use Rattle.overlay_machine.specs.Invariant.{StandsAt, FramesLie, Invariant}
-use Rattle.overlay_machine.proofs.invariant.Facts.{there_is, in_code, length_is, stands, safe_int, safe_stk, mem_safe, code_small, stack_small, stack_order, stack_apart, same_region, stack_there}
+use Rattle.overlay_machine.proofs.invariant.Facts.{there_is, in_code, length_is, stands, safe_int, safe_stk, mem_safe, code_small, stack_small, stack_order, stack_apart, same_region, stack_there, stack_cells}
 use Rattle.overlay_machine.proofs.invariant.View.{View, at_site, at_entry, in_part, failing, out, view}
 use Rattle.overlay_machine.proofs.invariant.Glue.{glue_shows, glue_area}
 use Rattle.overlay_machine.proofs.invariant.Crossing.{half_seal, seal_is}
@@ -241,7 +241,7 @@ module _ (g : Link) (linked : Linked g) where
             end = S.0;
             to = S.1;
             stk = S.2;
-            owned = λ a lo hi. inv.stack a (up.1 a (omega (arith, sb, lo)) hi);
+            owned = λ a lo hi. stack_cells g linked o.maps.cells fs inv.there a (up.1 a (omega (arith, sb, lo)) hi);
             in_stack = top;
             small_stack = stack_small g linked;
             dat = rw (D.1) refl;

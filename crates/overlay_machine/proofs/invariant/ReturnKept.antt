@@ -1,6 +1,6 @@
 -- The invariant is kept by a return that succeeds.
-use Rattle.std.proofs.Common.{◌≡◌, ◌≢◌, ◌⊎◌, inl, inr, ℕ, suc, ◌+◌, ◌-◌, ◌<◌, ◌≤◌, pos, Bool, true, false, List, [], ◌∷◌, length, Option, Some, None, refl, sym, ap, ◌∙◌, subst, arith, is_some, IsSome, eqb-true}
-use Rattle.std.specs.Prelude.{◌==◌, slice_get}
+use Rattle.std.proofs.Common.{◌≡◌, ◌≢◌, ◌⊎◌, inl, inr, ℕ, suc, ◌+◌, ◌-◌, ◌<◌, ◌≤◌, pos, Bool, true, false, List, [], ◌∷◌, length, Option, Some, None, refl, sym, ap, ◌∙◌, subst, arith, is_some, eqb-true}
+use Rattle.std.specs.Prelude.{◌==◌, ◌&&◌, not, slice_get}
 use Rattle.std.specs.Option.{option_or}
 use Rattle.std.specs.List.{Contains}
 use Rattle.std.proofs.lemmas.Bool.{cases_lt, and_parts}
@@ -23,6 +23,8 @@ use Rattle.lcm_machine.proofs.RegLemmas.{cases_reg, reg-set_same, reg-set_other}
 use Rattle.flow_check.specs.Holds.{data_cap, stack_cap, Up}
 use Rattle.flow_check.proofs.LocalFacts.{site_flows}
 use Rattle.component_linker.specs.Parts.{PartSeen}
+use Rattle.component_linker.specs.Regions.{in_regions}
+use Rattle.component_linker.proofs.RegionFacts.{in_regions_is}
 use Rattle.overlay_machine.specs.declared.words.OWord.{OWord}
 use Rattle.overlay_machine.specs.declared.words.OWord.TheVariants.{Plain, RetCode, RetData}
 use Rattle.overlay_machine.specs.declared.layout.Layout.{Layout}
@@ -32,19 +34,19 @@ use Rattle.overlay_machine.specs.Layout.{site_code}
 use Rattle.overlay_machine.specs.State.{OpenFrame, OState, Cells, framed, word_of}
 use Rattle.overlay_machine.specs.Step.{Ending, goes, ask, own_stack, return_by, return_step, resumed, first_word, rest_words}
 use Rattle.overlay_machine.specs.Agree.{IsOther, AtReturn}
-use Rattle.overlay_machine.specs.Link.{Link, IsTrusted, ranges_of, IsStackCell, IsOpenAt}
+use Rattle.overlay_machine.specs.Link.{Link, IsTrusted, ranges_of, regions, stack_region, has_cell, IsStackCell, IsOpenAt}
 use Rattle.overlay_machine.specs.Linked.{Linked}
 use Rattle.overlay_machine.specs.Safe.{IsSafeCap, IsSafe}
 use Rattle.overlay_machine.specs.Invariant.{StandsAt, at_row, FrameLies, FramesLie, FrameFits, Invariant}
 use Rattle.overlay_machine.proofs.OutLemmas.{put_back-other}
 use Rattle.overlay_machine.proofs.FrameWords.{put_back-in, word_of-within}
-use Rattle.overlay_machine.proofs.invariant.Facts.{there_is, mem_safe, in_code, closed, open_stack_at, stk_cap_safe}
+use Rattle.overlay_machine.proofs.invariant.Facts.{there_is, mem_safe, in_code, closed, stack_there, open_stack_at, stk_cap_safe}
 use Rattle.overlay_machine.proofs.invariant.Clean.{clean_fits, stands_clean}
 use Rattle.overlay_machine.proofs.OwnStack.{own_is}
 use Rattle.overlay_machine.proofs.invariant.EntryKept.{need_goes}
 use Rattle.overlay_machine.proofs.invariant.Standing.{Stand}
 use Rattle.overlay_machine.proofs.invariant.FramesKept.{return_keeps}
-use Rattle.overlay_machine.proofs.invariant.FrameFacts.{word_in_frame, has_word, contains_first, contains_rest, frames_apart}
+use Rattle.overlay_machine.proofs.invariant.FrameFacts.{word_out, has_word, contains_first, contains_rest, frames_apart}
 use Rattle.overlay_machine.proofs.invariant.Popped.{popped, fits_popped, frames_up, framed_at, none_rest}
 
 -- what a return that goes on was
@@ -287,24 +289,24 @@ module _ (g : Link) (linked : Linked g) (o : OState) (t : State Word) (inv : Inv
           )
 
   frame_out : (a : ℕ) → (a < F.base) ⊎ (F.end < a) → word_of F a ≡ None
-  frame_out a out = by_word (word_of F a) refl
-    where
-      by_word : (w : Option OWord) → word_of F a ≡ w → w ≡ None
-      by_word None e = refl
-      by_word (Some w) e =
-          let r = word_in_frame g.layout m F a w lies e in
-          let low = r.0 in
-          let high = r.1 in
-          elim out as (λ _. Some w ≡ None) [ inl lt ↦ absurd (omega (arith, lt, low)) | inr lt ↦ absurd (omega (arith, lt, high)) ]
+  frame_out a out = word_out g.layout m F a lies out
 
-  stack_after : (a : ℕ) → IsStackCell g gs a → IsSome (cell back_cells a)
-  stack_after a h = elim (where_in a F.base F.end) as (λ _. IsSome (cell back_cells a)) [
-    | inl out ↦ ap is_some (cell_out a out) ∙ inv.stack a (h.0, h.1, ap (λ y. framed y a) x.frames_are ∙ both_none a (frame_out a out) h.2)
-    | inr inn ↦ ap is_some (cell_in a inn.0 inn.1).1
-  ]
+  -- no older frame is at its addresses
+  older_none : (a : ℕ) → F.base ≤ a → a ≤ F.end → framed gs a ≡ None
+  older_none a low high = by_word (framed gs a) refl
     where
-      both_none : (a : ℕ) → word_of F a ≡ None → framed gs a ≡ None → framed (F ∷ gs) a ≡ None
-      both_none a e h = ap (λ y. option_or y (framed gs a)) e ∙ h
+      by_word : (w : Option OWord) → framed gs a ≡ w → w ≡ None
+      by_word None e = refl
+      by_word (Some w) e = (let v = has_word g.layout m F a lies low high in let bad : Some v.0 ≡ None = sym v.1 ∙ frames_apart g.layout m o.calls F gs a w k e in cc)
+
+  in_stack_region : (a : ℕ) → F.base ≤ a → a ≤ F.end → in_regions a (regions g) ≡ true
+  in_stack_region a low high = in_regions_is a (regions g) (stack_region g.layout) (stack_there g linked) (let x = lies.above in omega (arith, x, low)) (let x = lies.within in omega (arith, x, high))
+
+  there_after : (a : ℕ) → is_some (cell back_cells a) ≡ has_cell g gs a
+  there_after a = elim (where_in a F.base F.end) as (λ _. is_some (cell back_cells a) ≡ has_cell g gs a) [
+    | inl out ↦ ap is_some (cell_out a out) ∙ inv.there a ∙ ap (λ y. in_regions a (regions g) && not (is_some (framed y a))) x.frames_are ∙ ap (λ y. in_regions a (regions g) && not (is_some (option_or y (framed gs a)))) (frame_out a out)
+    | inr inn ↦ ap is_some (cell_in a inn.0 inn.1).1 ∙ sym (ap (λ y. in_regions a (regions g) && not (is_some y)) (older_none a inn.0 inn.1) ∙ ap (λ b. b && true) (in_stack_region a inn.0 inn.1))
+  ]
 
   code_out : (p : PartSeen) (n : ℕ) → IsTrusted g p → n < length p.component.code → (p.component.code_base + n < F.base) ⊎ (F.end < p.component.code_base + n)
   code_out p n ip lt = elim (where_in (p.component.code_base + n) F.base F.end) as (λ _. (p.component.code_base + n < F.base) ⊎ (F.end < p.component.code_base + n)) [
@@ -322,7 +324,7 @@ module _ (g : Link) (linked : Linked g) (o : OState) (t : State Word) (inv : Inv
   pub return_kept : Stand g q
   return_kept = subst (λ y. Stand g y) (sym x.result) (record {
     pc = at_row fit.part (off + 26) fit.trusted stands_after;
-    stack = stack_after;
+    there = there_after;
     code = λ p ip n w e. cell_out (p.component.code_base + n) (code_out p n ip (there_is p.component.code n w e)) ∙ inv.code p ip n w e;
     cells = cells_after;
     frames = frames_up g.layout back_cells F.call o.calls gs (let c = k.1 in omega (arith, c)) (return_keeps g.layout m o.calls F gs ws long k);

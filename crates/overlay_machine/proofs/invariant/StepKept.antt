@@ -1,5 +1,5 @@
 -- What a step of an overlay of linked parts keeps, as its contract says it.
-use Rattle.std.proofs.Common.{◌≡◌, ℕ, List, Option, Some, None, refl, sym, ap, subst, ◌∙◌}
+use Rattle.std.proofs.Common.{◌≡◌, ℕ, List, Option, Some, None, refl, sym, subst}
 use Rattle.cap_words.specs.declared.Word.{Word}
 use Rattle.lcm_isa.specs.declared.Reg.TheVariants.{A0}
 use Rattle.lcm_machine.specs.Maps.{State}
@@ -8,11 +8,9 @@ use Rattle.lcm_machine.specs.Runs.{run_of}
 use Rattle.component_linker.specs.Parts.{PartSeen}
 use Rattle.overlay_machine.specs.declared.overlay.OStep.{OStep}
 use Rattle.overlay_machine.specs.declared.overlay.OEnd.{OEnd}
-use Rattle.overlay_machine.specs.State.{OState}
 use Rattle.overlay_machine.specs.Step.{Ending, goes, halts, fails, overlay_step, weight_of}
 use Rattle.overlay_machine.specs.Seen.{OverlaySeen, moved, next_by, next_overlay, ending_answer, answer_by, answer_of}
-use Rattle.overlay_machine.specs.Link.{Link}
-use Rattle.overlay_machine.specs.Invariant.{Invariant, KeepsAgreeing}
+use Rattle.overlay_machine.specs.Invariant.{KeepsAgreeing}
 use Rattle.overlay_machine.specs.Keeping.{link_of, HoldsFor, KeepsBy, StepKeeps}
 use Rattle.overlay_machine.proofs.invariant.Kept.{kept}
 use Rattle.overlay_machine.proofs.RunsAgree.{halts_alone}

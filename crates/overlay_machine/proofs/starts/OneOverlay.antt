@@ -1,6 +1,6 @@
 -- A linked start has one overlay.
 use Rattle.std.proofs.Common.{◌≡◌, ℕ, Bool, true, false, List, [], ◌∷◌, map, Option, Some, None, refl, sym, ap, ◌∙◌}
-use Rattle.std.specs.Prelude.{cond, slice_get, option_map, if◌then◌else◌}
+use Rattle.std.specs.Prelude.{cond, option_map, if◌then◌else◌}
 use Rattle.std.specs.Ordering.{nat_cmp, eq_by_cmp}
 use Rattle.std.specs.Cmp.{nat_cmp_total}
 use Rattle.std.specs.FinMap as finite
@@ -12,7 +12,7 @@ use Rattle.lcm_machine.specs.Places.{reg}
 use Rattle.lcm_machine.specs.Cells.{cell}
 use Rattle.lcm_machine.specs.Spans.{in_spans}
 use Rattle.lcm_machine.proofs.CellLemmas.{same_cells}
-use Rattle.component_linker.specs.Parts.{PartSeen, IsPart}
+use Rattle.component_linker.specs.Parts.{PartSeen}
 use Rattle.component_linker.specs.Started.{StartSeen}
 use Rattle.component_linker.proofs.LinksKept.{are_linked}
 use Rattle.component_linker.proofs.StartCells.{spans_are_regions, cell_in_region}

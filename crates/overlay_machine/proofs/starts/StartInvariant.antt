@@ -1,6 +1,6 @@
 -- The invariant holds of the overlay of a linked start, with the start's own registers and cells.
 use Rattle.std.proofs.Common.{◌≡◌, inl, ℕ, ◌+◌, ◌≤◌, Bool, true, false, pos, List, [], Option, Some, None, refl, sym, ap, subst, ◌∙◌, arith}
-use Rattle.std.specs.Prelude.{slice_get, option_map, IsSome, if◌then◌else◌}
+use Rattle.std.specs.Prelude.{slice_get, option_map, ◌&&◌, not, is_some, IsSome, if◌then◌else◌}
 use Rattle.std.specs.List.{Contains}
 use Rattle.cap_words.specs.declared.Word.{Word}
 use Rattle.cap_words.specs.declared.Word.TheVariants.{Mem}
@@ -19,16 +19,16 @@ use Rattle.lcm_machine.specs.Mapped.{mapped_or}
 use Rattle.flow_check.specs.Kinds.{kind_of, entry_row}
 use Rattle.flow_check.specs.Holds.{HasKind, code_at}
 use Rattle.component_linker.specs.Parts.{PartSeen, IsPart}
-use Rattle.component_linker.specs.Regions.{regions_of, region, stack_span}
+use Rattle.component_linker.specs.Regions.{regions_of, region, in_regions, stack_span}
 use Rattle.component_linker.specs.Start.{code_of, stack_cap, stack_of, stack_base_of, start_cell, start_regs}
 use Rattle.component_linker.specs.Started.{StartSeen}
 use Rattle.component_linker.specs.Answer.{LinksTo}
 use Rattle.component_linker.specs.Linked as making
 use Rattle.component_linker.proofs.LinksKept.{are_linked}
 use Rattle.component_linker.proofs.CodeStands.{SitesStand, EntriesStand}
-use Rattle.component_linker.proofs.RegionFacts.{stack_region_of, in_regions_is, stack_is}
+use Rattle.component_linker.proofs.RegionFacts.{stack_region_of, stack_is}
 use Rattle.component_linker.proofs.StartWords.{IsExport, main_is_there}
-use Rattle.component_linker.proofs.StartCells.{region_has_cell}
+use Rattle.component_linker.proofs.StartCells.{cell_in_region, region_has_cell}
 use Rattle.overlay_machine.specs.declared.words.OWord.{OWord}
 use Rattle.overlay_machine.specs.declared.words.OWord.TheVariants.{Plain}
 use Rattle.overlay_machine.specs.declared.layout.Layout.{Layout}
@@ -36,7 +36,7 @@ use Rattle.overlay_machine.specs.Words.{look}
 use Rattle.overlay_machine.specs.State.{OpenFrame, framed}
 use Rattle.overlay_machine.specs.Flat.{flat, beside, IsFlat}
 use Rattle.overlay_machine.specs.Seen.{OverlaySeen, IsOverlayOf}
-use Rattle.overlay_machine.specs.Link.{Link, IsTrusted, IsUntrusted, ranges_of, IsOpenAt, IsStackCell, CodeIn, stack_region}
+use Rattle.overlay_machine.specs.Link.{Link, IsTrusted, IsUntrusted, ranges_of, IsOpenAt, IsStackCell, has_cell, CodeIn, stack_region}
 use Rattle.overlay_machine.specs.Safe.{IsSafe, IsMet}
 use Rattle.overlay_machine.specs.Linked.{Linked}
 use Rattle.overlay_machine.specs.Invariant.{PcPart, at_row, outside, FramesLie, Invariant}
@@ -198,10 +198,19 @@ module _ (site_words : SitesStand) (entry_words : EntriesStand) (parts : List Pa
 
   -- ---- memory
 
-  stack_there : (a : ℕ) → IsStackCell g o.state.frames a → IsSome (cell o.state.maps.cells a)
-  stack_there a h =
-      let there = in_regions_is a (regions_of parts size) (stack_region o.layout) (stack_region_of parts size (stack_region o.layout) stack_listed) h.0 h.1 in
-      subst IsSome (sym (start_cell_is a)) (some_map (start_cell parts size a) (region_has_cell parts size a there))
+  cells_there : (a : ℕ) → is_some (cell o.state.maps.cells a) ≡ has_cell g o.state.frames a
+  cells_there a =
+      ap is_some (start_cell_is a) ∙ same_some (start_cell parts size a) ∙ in_region (start_cell parts size a) refl (in_regions a (regions_of parts size)) refl
+      ∙ ap (λ fs. in_regions a (regions_of parts size) && not (is_some (framed fs a))) (sym over.frames)
+    where
+      same_some : (x : Option Word) → is_some (option_map Plain x) ≡ is_some x
+      same_some None = refl
+      same_some (Some w) = refl
+
+      in_region : (x : Option Word) → start_cell parts size a ≡ x → (b : Bool) → in_regions a (regions_of parts size) ≡ b → is_some (start_cell parts size a) ≡ (in_regions a (regions_of parts size) && true)
+      in_region x e true t = region_has_cell parts size a t ∙ sym (ap (λ b. b && true) t)
+      in_region None e false t = ap is_some e ∙ sym (ap (λ b. b && true) t)
+      in_region (Some w) e false t = (let bad : true ≡ false = sym (cell_in_region parts size a w made.closed e) ∙ t in cc)
 
   code_there : (p : PartSeen) → IsTrusted g p → CodeIn p o.state.maps.cells
   code_there p t off w e =
@@ -226,7 +235,7 @@ module _ (site_words : SitesStand) (entry_words : EntriesStand) (parts : List Pa
   begins = record {
     flat = is_flat;
     pc = subst (λ fs. PcPart g fs o.state.maps.regs) (sym over.frames) pc_part;
-    stack = stack_there;
+    there = cells_there;
     code = code_there;
     cells = λ a w open' e. subst (λ fs. IsSafe g fs w) (sym over.frames) (cells_safe a w open' e);
     frames = subst (λ fs. FramesLie o.layout o.state.maps.cells o.state.calls fs) (sym over.frames) tt;

@@ -1,5 +1,5 @@
-use Rattle.std.proofs.Common.{rules, ◌≡◌, ◌≤◌, ◌<◌, ◌⊎◌, inl, inr, sym, ◌∙◌, length, arith}
-use Rattle.overlay_machine.proofs.FramedLemmas.{item_there_is, framed_here, framed_step, framed_end}
+use Rattle.std.proofs.Common.{◌<◌, ◌⊎◌, inl, inr, sym, ◌∙◌, arith}
+use Rattle.overlay_machine.proofs.FramedLemmas.{item_there_is, framed_here, framed_step}
 use Rattle.overlay_machine.proofs.frames.framed.Goals as goal
 use Rattle.overlay_machine.proofs.frames.framed.Goals.{else-frame-at-via-then-frame-at+else-at-frame, else-frame-at-via-else-frame-at}
 
