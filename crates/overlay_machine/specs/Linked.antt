@@ -79,6 +79,9 @@ pub record Linked (g : Link) : Type 0 where
   pub owners : (c : CapFields) (o : Owner) → find (runs_in c) g.layout.owners ≡ Some o
       → (p : PartSeen) × IsTrusted g p × (c ≡ any_pc p c.addr)
   pub owned : (p : PartSeen) (z : ℤ) → IsTrusted g p → is_some (find (runs_in (any_pc p z)) g.layout.owners) ≡ true
+  -- and each trusted owner has the closure seal of one
+  pub closures : (o : Owner) → Contains g.layout.owners o → o.trusted ≡ true
+      → (p : PartSeen) × IsTrusted g p × (p.component.closure ≡ o.closure)
   -- the layout's sites and entries are those of the trusted parts
   pub sites : (j : ℕ) (s : SiteCode) → site_code g.layout j ≡ Some s
       → (p : PartSeen) × (index : ℕ) × IsTrusted g p × SiteOf p index s

@@ -1,5 +1,5 @@
 -- The range of a call line that is written is left alone, by the private ranges of the overlay's lines.
-use Rattle.std.proofs.Common.{◌≡◌, ℕ, ◌+◌, ◌≤◌, Bool, List, [], ◌∷◌, ◌++◌, refl, sym, ap, subst, ◌∙◌, arith, append_assoc}
+use Rattle.std.proofs.Common.{◌≡◌, ℕ, ◌+◌, List, [], ◌∷◌, ◌++◌, sym, ap, subst, ◌∙◌, arith, append_assoc}
 use Rattle.std.proofs.lemmas.List.{append_cancel_left, append-nil}
 use Rattle.cap_words.specs.declared.Word.{Word}
 use Rattle.lcm_machine.specs.Maps.{State}
@@ -8,17 +8,17 @@ use Rattle.lcm_machine.specs.Touched.{Untouched}
 use Rattle.component_linker.specs.Started.{StartSeen}
 use Rattle.overlay_machine.specs.declared.layout.Layout.{Layout}
 use Rattle.overlay_machine.specs.State.{OState}
-use Rattle.overlay_machine.specs.Step.{goes, overlay_step, weight_of}
+use Rattle.overlay_machine.specs.Step.{weight_of}
 use Rattle.overlay_machine.specs.Runs.{Reached, begins, goes_on, RunsAgree}
 use Rattle.overlay_machine.specs.Brackets.{Depth}
 use Rattle.overlay_machine.specs.Starting.{overlay_at}
 use Rattle.trace_tool.specs.Layout.{layout}
-use Rattle.trace_tool.specs.Lines.{Line, Args, call}
+use Rattle.trace_tool.specs.Lines.{Line, call}
 use Rattle.trace_tool.specs.Runs.{begun, lines_of}
 use Rattle.trace_tool.specs.Told.{Told, none_yet, and_then, step_lines}
 use Rattle.trace_tool.specs.Brackets.{marks_in, IsRet, CallsArePrivate}
 use Rattle.trace_tool.specs.Alike.{LinesAgree}
-use Rattle.trace_tool.specs.Headline.{Matched, written, RangeIsLeftAlone, FramesAreLeftAlone}
+use Rattle.trace_tool.specs.Headline.{written, FramesAreLeftAlone}
 use Rattle.trace_tool.proofs.Agreeing.{HaltsAlone, state_is}
 
 -- ---- lines of steps

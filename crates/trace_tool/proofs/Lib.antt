@@ -11,6 +11,5 @@ mod LinesBracketed
 mod TraceTold
 mod TracesAlike
 mod Agreeing
-mod Closures
 mod LeftAlone
 pub mod alike

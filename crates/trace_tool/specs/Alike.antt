@@ -1,16 +1,14 @@
 -- The event lines of a plain run, and those of the overlay's steps beside it.
-use Rattle.std.specs.Prelude.{◌≡◌, ℕ, ◌+◌, ◌≤◌, ◌<◌, true, List}
-use Rattle.std.specs.List.{Contains}
+use Rattle.std.specs.Prelude.{◌≡◌, ℕ, ◌+◌, ◌≤◌, ◌<◌, List}
 use Rattle.cap_words.specs.declared.Word.{Word}
 use Rattle.lcm_machine.specs.Maps.{State}
 use Rattle.lcm_machine.specs.Run.{fresh}
-use Rattle.component_linker.specs.declared.owners.Owner.{Owner}
 use Rattle.component_linker.specs.Parts.{PartSeen}
 use Rattle.component_linker.specs.Started.{StartSeen}
 use Rattle.overlay_machine.specs.declared.layout.Layout.{Layout}
 use Rattle.overlay_machine.specs.State.{OState}
 use Rattle.overlay_machine.specs.Step.{weight_of}
-use Rattle.overlay_machine.specs.Link.{Link, IsTrusted}
+use Rattle.overlay_machine.specs.Link.{Link}
 use Rattle.overlay_machine.specs.Linked.{Linked}
 use Rattle.overlay_machine.specs.Invariant.{Invariant}
 use Rattle.overlay_machine.specs.Starting.{IsLinkedStart, overlay_at}
@@ -32,17 +30,10 @@ pub record LinesAgree (l : Layout) (o : OState) (t : State Word) : Type 0 where
 
 -- ---- of linked parts
 
--- a trusted owner's closure seal is that of a trusted part
-abbrev pub ClosuresAreParts : Link → Type 0
-ClosuresAreParts g =
-    (o : Owner) → Contains g.layout.owners o → o.trusted ≡ true
-    → (p : PartSeen) × IsTrusted g p × (p.component.closure ≡ o.closure)
-
 -- so it is where the invariant holds
 abbrev pub LinkedLinesAgree : Type 0
 LinkedLinesAgree =
-    (g : Link) (o : OState) (t : State Word) → Linked g → ClosuresAreParts g → Invariant g o t
-    → LinesAgree g.layout o t
+    (g : Link) (o : OState) (t : State Word) → Linked g → Invariant g o t → LinesAgree g.layout o t
 
 -- and so it is from every linked start
 abbrev pub StartLinesAgree : Type 0

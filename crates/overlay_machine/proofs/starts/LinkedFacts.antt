@@ -10,7 +10,8 @@ use Rattle.component_linker.specs.declared.owners.Site.{Site}
 use Rattle.component_linker.specs.Parts.{PartSeen, IsPart}
 use Rattle.component_linker.specs.Regions.{part_regions, region, regions_of, code_span, data_span, linear_span, stack_span}
 use Rattle.component_linker.specs.SealsApart.{is_seal_of}
-use Rattle.component_linker.specs.Owners.{AreSites, AreOwners}
+use Rattle.component_linker.specs.declared.owners.Owner.{Owner}
+use Rattle.component_linker.specs.Owners.{owner_of, AreSites, AreOwners}
 use Rattle.component_linker.specs.Started.{StartSeen}
 use Rattle.component_linker.specs.Answer.{LinksTo}
 use Rattle.component_linker.specs.Linked as making
@@ -48,6 +49,16 @@ in_data p r m = Contains-append_left (region false (code_span p) ++ region false
 
 in_area : (p : PartSeen) (r : Region) → Contains (region true (linear_span p)) r → Contains (part_regions p) r
 in_area p r m = Contains-append_right (region false (code_span p) ++ region false (data_span p)) (region true (linear_span p)) r m
+
+-- ---- owners
+
+-- the closure seal of a trusted owner is that of a trusted part
+owner_closure : (parts : List PartSeen) (owners : List Owner) → AreOwners parts owners → (o : Owner) → Contains owners o → o.trusted ≡ true
+    → (p : PartSeen) × (Contains parts p × (p.trusted ≡ true)) × (p.component.closure ≡ o.closure)
+unfolding owner_of
+owner_closure parts owners are o m trusted =
+    let is = (are.all o).0 m in
+    (is.of, (listed_at parts o.part is.of is.of_is, sym (ap (λ (x : Owner). x.trusted) is.is) ∙ trusted), sym (ap (λ (x : Owner). x.closure) is.is))
 
 -- ---- all of it
 
@@ -209,6 +220,7 @@ module _ (site_words : SitesStand) (entry_words : EntriesStand) (parts : List Pa
     one_seal = one_seal_is;
     owners = λ c o e. (let t = trusted_is parts size l made owner_list c o e in (t.0, (listed_at parts o.part t.0 t.1, t.2), t.3));
     owned = λ p z t. (let k = index_of parts p t.0 in ap is_some (trusted_found parts size l made owner_list k.0 p z k.1 t.1));
+    closures = owner_closure parts l.owners owner_list;
     sites = site_is;
     site_found = found_site;
     listed = λ j s at. (let is = (site_list.all s).0 (listed_at l.sites j s at) in (site_code_of s is.of, site_has_code parts size l made owner_list site_list j s is at, refl));

@@ -43,7 +43,7 @@ use Rattle.trace_tool.specs.Views.{flat_view}
 use Rattle.trace_tool.specs.Lines.{Line, lines_for}
 use Rattle.trace_tool.specs.Runs.{Watched, begun, watched, lines_of}
 use Rattle.trace_tool.specs.Told.{step_lines, Told, none_yet, and_then, EndsOverlay}
-use Rattle.trace_tool.specs.Alike.{LinesAgree, ClosuresAreParts}
+use Rattle.trace_tool.specs.Alike.{LinesAgree}
 use Rattle.trace_tool.proofs.Split.{lines_split}
 use Rattle.trace_tool.proofs.alike.Calm.{id, at_state, IsEnd, Calm}
 use Rattle.trace_tool.proofs.alike.Mute.{Mute, calm_mute, mute_lines, mute_ends, alike_goes, alike_ends}
@@ -74,7 +74,7 @@ never_entry s f a c = elim (fetched_case s f (Entry a) c) as (λ _. ⊥) [ inl h
     never_back : (r1 r2 : Reg) → Entry a ≡ Back r1 r2 → ⊥
     never_back r1 r2 e = cc
 
-module _ (g : Link) (linked : Linked g) (closures : ClosuresAreParts g) where
+module _ (g : Link) (linked : Linked g) where
   abbrev l : Layout
   l = g.layout
 
@@ -129,7 +129,7 @@ module _ (g : Link) (linked : Linked g) (closures : ClosuresAreParts g) where
         by_word (RetData n) e = (0, ap (λ y. if is_ret_code y then 11 else 1) e, tt)
         by_word (RetCode j) e = (
             let s = inv.met (R r1) (RetCode j) (ap Some e) in
-            (10, ap (λ y. if is_ret_code y then 11 else 1) e, back_mute g linked closures r1 r2 o t rd m k v j s.0 s.1 (code_some l r1 r2 o t rd m k j s.0 e s.1) (λ q lo hi. site_free j s.0 s.1 q (omega (arith, lo)) hi)))
+            (10, ap (λ y. if is_ret_code y then 11 else 1) e, back_mute g linked r1 r2 o t rd m k v j s.0 s.1 (code_some l r1 r2 o t rd m k j s.0 e s.1) (λ q lo hi. site_free j s.0 s.1 q (omega (arith, lo)) hi)))
 
     muted : (c : Case) → View g o.frames o.maps c → ReadyFor l o c → Muted c
     muted (Call i) v r = call_muted i r
@@ -160,7 +160,7 @@ module _ (g : Link) (linked : Linked g) (closures : ClosuresAreParts g) where
         let y = returned l r1 r2 o q e in
         let z : weight_by o.maps (Back r1 r2) ≡ 11 = ap (λ w. if is_ret_code w then 11 else 1) y.code_is in
         ap (lines_of l (at_state t n inward)) z
-        ∙ return_whole g linked closures r1 r2 o t r m k v q y (λ b lo hi. site_free (y.frame).site y.site y.site_is b (omega (arith, lo)) hi) u n inward (ap (λ w. run_of id id w t) (sym z) ∙ run) mq
+        ∙ return_whole g linked r1 r2 o t r m k v q y (λ b lo hi. site_free (y.frame).site y.site y.site_is b (omega (arith, lo)) hi) u n inward (ap (λ w. run_of id id w t) (sym z) ∙ run) mq
     whole_by Other v r u q n inward e run mq kq = other_whole g linked o t m k r v (is_other v) u q n inward e run mq kq
 
     -- ---- of a step

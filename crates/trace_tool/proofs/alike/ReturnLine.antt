@@ -49,7 +49,6 @@ use Rattle.trace_tool.specs.Views.{flat_view}
 use Rattle.trace_tool.specs.Events.{noted, noted_by, note_last, event_after, inward_after, returned as returned_event}
 use Rattle.trace_tool.specs.Lines.{lines_for}
 use Rattle.trace_tool.specs.Runs.{lines_of}
-use Rattle.trace_tool.specs.Alike.{ClosuresAreParts}
 use Rattle.trace_tool.proofs.alike.Calm.{id, at_state, calm_then}
 use Rattle.trace_tool.proofs.alike.Mute.{mute_step, line_flat}
 use Rattle.trace_tool.proofs.alike.Straight.{Num}
@@ -74,7 +73,7 @@ part_some l f = by_owner (trusted_owner l f)
     by_owner None = refl
     by_owner (Some o) = refl
 
-module _ (g : Link) (linked : Linked g) (closures : ClosuresAreParts g) (r1 r2 : Reg) (o : OState) (t : State Word) (rd : AtReturn g.layout r1 r2 o) (m : IsFlat g.layout o t) (k : Looks g.layout o) (v : View g o.frames o.maps (Back r1 r2)) (q : OState) (y : Returned g.layout r1 r2 o q) (free : NoEnd g.layout (y.site.at + 16) (y.site.at + 25)) where
+module _ (g : Link) (linked : Linked g) (r1 r2 : Reg) (o : OState) (t : State Word) (rd : AtReturn g.layout r1 r2 o) (m : IsFlat g.layout o t) (k : Looks g.layout o) (v : View g o.frames o.maps (Back r1 r2)) (q : OState) (y : Returned g.layout r1 r2 o q) (free : NoEnd g.layout (y.site.at + 16) (y.site.at + 25)) where
   abbrev l : Layout
   l = g.layout
 
@@ -203,10 +202,10 @@ module _ (g : Link) (linked : Linked g) (closures : ClosuresAreParts g) (r1 r2 :
   return_whole w n inward e mq =
       let step : step_of id id u9 ≡ went w = last_step 9 u u9 w nine (after_step 10 t u (went w) jumped e) in
       let bit : inward_after (noted l t) inward ≡ now =
-      ap (λ z. inward_after z inward) (noted_back g linked closures r1 r2 o t rd m k v F.site y.site y.site_is ex) ∙ ap (λ f. is_some (trusted_part l f)) (face_same l o t m k Pc) ∙ part_some l (faces look o.maps Pc) in
-      mute_step l t u n inward 10 (back_line g linked closures r1 r2 o t rd m k v F.site y.site y.site_is ex u n inward jumped) jumped
+      ap (λ z. inward_after z inward) (noted_back g linked r1 r2 o t rd m k v F.site y.site y.site_is ex) ∙ ap (λ f. is_some (trusted_part l f)) (face_same l o t m k Pc) ∙ part_some l (faces look o.maps Pc) in
+      mute_step l t u n inward 10 (back_line g linked r1 r2 o t rd m k v F.site y.site y.site_is ex u n inward jumped) jumped
       ∙ ap (λ b. lines_of l (at_state u (n + 1) b) 10) bit
-      ∙ calm_then l 9 1 u u9 (n + 1) now (calm_behind g linked closures r1 r2 o t rd m k v F.site y.site y.site_is ex free u jumped) nine
+      ∙ calm_then l 9 1 u u9 (n + 1) now (calm_behind g linked r1 r2 o t rd m k v F.site y.site y.site_is ex free u jumped) nine
       ∙ line_flat l q u9 w (n + 1 + 9) now step mq
       ∙ ap (λ z. lines_for l (flat_view l q) (event_after l z now (flat_view l q))) noted9
       ∙ ap (lines_for l (flat_view l q)) (event9 w now e mq ∙ told)

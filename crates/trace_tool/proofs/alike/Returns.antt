@@ -40,7 +40,6 @@ use Rattle.trace_tool.specs.Views.{View as Shown, view_of}
 use Rattle.trace_tool.specs.Events.{jump_in, jump_at, noted, noted_by, event_after, reaches_trusted, leapt_by}
 use Rattle.trace_tool.specs.Lines.{lines_for}
 use Rattle.trace_tool.specs.Runs.{line_next}
-use Rattle.trace_tool.specs.Alike.{ClosuresAreParts}
 use Rattle.trace_tool.proofs.alike.Calm.{id, at_state, Calm}
 use Rattle.trace_tool.proofs.alike.Mute.{Mute, calm_mute, line_goes}
 use Rattle.trace_tool.proofs.alike.Straight.{Num}
@@ -96,7 +95,7 @@ no_leap : (l : Layout) (from : Option ℕ) (seal : ℕ) (v : Shown) → closure_
 no_leap l None seal v c r = rw c refl
 no_leap l (Some p) seal v c r = rw r refl
 
-module _ (g : Link) (linked : Linked g) (closures : ClosuresAreParts g) (r1 r2 : Reg) (o : OState) (t : State Word) (rd : AtReturn g.layout r1 r2 o) (m : IsFlat g.layout o t) (k : Looks g.layout o) (v : View g o.frames o.maps (Back r1 r2)) (i : ℕ) (s : SiteCode) (es : site_code g.layout i ≡ Some s)
+module _ (g : Link) (linked : Linked g) (r1 r2 : Reg) (o : OState) (t : State Word) (rd : AtReturn g.layout r1 r2 o) (m : IsFlat g.layout o t) (k : Looks g.layout o) (v : View g o.frames o.maps (Back r1 r2)) (i : ℕ) (s : SiteCode) (es : site_code g.layout i ≡ Some s)
     (ex : opened_of (flat g.layout o.frames (reg o.maps.regs r1)) ≡ Some (record { seal = s.seal; content = MemC (code_cap s.base s.end (s.at + 16)) })) where
   abbrev l : Layout
   l = g.layout
@@ -134,7 +133,7 @@ module _ (g : Link) (linked : Linked g) (closures : ClosuresAreParts g) (r1 r2 :
 
   back_event : (u : State Word) (inward : Bool) → step_of id id t ≡ went u → event_after l NoteBack inward (view_of u) ≡ None
   unfolding event_after
-  back_event u inward e = no_leap l _ s.seal (view_of u) (no_closure g linked closures i s es) (ap (λ w. is_trusted l (face_of w)) (lands u e).0 ∙ trusted_code g linked i s es (s.at + 16))
+  back_event u inward e = no_leap l _ s.seal (view_of u) (no_closure g linked i s es) (ap (λ w. is_trusted l (face_of w)) (lands u e).0 ∙ trusted_code g linked i s es (s.at + 16))
 
   pub back_line : (u : State Word) (c : ℕ) (inward : Bool) → step_of id id t ≡ went u → line_next l (at_state t c inward) ≡ []
   back_line u c inward e = line_goes l t u c inward e ∙ ap (λ n. lines_for l (view_of u) (event_after l n inward (view_of u))) noted_back ∙ ap (lines_for l (view_of u)) (back_event u inward e)

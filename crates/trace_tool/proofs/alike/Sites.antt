@@ -26,7 +26,6 @@ use Rattle.overlay_machine.proofs.invariant.Facts.{there_is}
 use Rattle.overlay_machine.proofs.starts.ListFacts.{found_is, position_is}
 use Rattle.overlay_machine.proofs.invariant.View.{site_of}
 use Rattle.trace_tool.specs.Layout.{site_before, is_trusted}
-use Rattle.trace_tool.specs.Alike.{ClosuresAreParts}
 
 -- ---- lists
 
@@ -155,13 +154,13 @@ module _ (g : Link) (linked : Linked g) where
       let b : code_cap s.base s.end a ≡ any_pc f.0 (pos a) = ap (λ y. code_cap y s.end a) st.base_is ∙ ap (λ y. code_cap (ranges_of f.0).code_base y a) st.end_is in
       ap (λ c. is_trusted g.layout (Memory c)) b ∙ linked.owned f.0 (pos a) f.2
 
-  pub no_closure : ClosuresAreParts g → (i : ℕ) (s : SiteCode) → site_code g.layout i ≡ Some s → closure_owner g.layout s.seal ≡ None
-  no_closure closures i s es = by_found (closure_owner g.layout s.seal) refl
+  pub no_closure : (i : ℕ) (s : SiteCode) → site_code g.layout i ≡ Some s → closure_owner g.layout s.seal ≡ None
+  no_closure i s es = by_found (closure_owner g.layout s.seal) refl
     where
       by_found : (r : Option Owner) → closure_owner g.layout s.seal ≡ r → r ≡ None
       by_found None e = refl
       by_found (Some o) e = (
           let f = found_is (λ (o : Owner). o.trusted && (o.closure == s.seal)) g.layout.owners o e in
           let t = and_parts o.trusted (o.closure == s.seal) f.1 in
-          let p = closures o f.0 t.0 in
+          let p = linked.closures o f.0 t.0 in
           absurd (linked.return_other i s p.0 es p.1 (p.2 ∙ eqb-true o.closure s.seal t.1)))
