@@ -24,7 +24,6 @@ pub mod OtherAgrees
 pub mod OneStep
 pub mod RunsAgree
 pub mod BracketLemmas
-mod Instance
 pub mod invariant
 pub mod starts
 mod FramedLemmas

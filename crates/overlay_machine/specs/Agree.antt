@@ -24,7 +24,7 @@ use Rattle.lcm_machine.specs.Row.{Outcome, went, halted, failed, faces, cell_fac
 use Rattle.lcm_machine.specs.Runs.{run_of, code_cap}
 use Rattle.lcm_machine.specs.Table.{target}
 use Rattle.call_sequence.specs.SequenceRuns.{stack_cap, Outside, HasCall, HasReturn, HasEntry}
-use Rattle.overlay_machine.specs.declared.TheConstants.{CALL_WORDS}
+use Rattle.call_sequence.specs.declared.TheConstants.{CALL_WORDS}
 use Rattle.overlay_machine.specs.declared.words.OWord.{OWord}
 use Rattle.overlay_machine.specs.declared.words.OWord.TheVariants.{Plain, RetCode, RetData}
 use Rattle.overlay_machine.specs.declared.cases.Case.{Case}
@@ -187,9 +187,3 @@ abbrev pub OneStep : Type 0
 OneStep =
     (l : Layout) (o : OState) (t : State Word) → ReadyFor l o (case_of l o.maps) → IsFlat l o t → Looks l o
     → Agrees l (overlay_step l o) (run_of (λ w. w) (λ w. w) (weight_of l o) t)
-
--- of some call all this holds
-abbrev pub AreMet : Type 0
-AreMet =
-    (l : Layout) × (o : OState) × (t : State Word) × (i : ℕ) × (case_of l o.maps ≡ Call i)
-    × ReadyFor l o (case_of l o.maps) × IsFlat l o t × Looks l o

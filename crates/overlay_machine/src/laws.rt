@@ -6,7 +6,6 @@ ghost use Rattle.lcm_machine.specs.Row.{went};
 ghost use Rattle.overlay_machine.specs.declared.layout.Layout.{Layout};
 ghost use Rattle.overlay_machine.specs.State.{OState};
 ghost use Rattle.overlay_machine.specs.Step.{halts, overlay_step, weight_of};
-ghost use Rattle.overlay_machine.specs.Agree.{OneStep, AreMet};
 ghost use Rattle.overlay_machine.specs.Runs.{Reached, plain_run, RunsAgree};
 ghost use Rattle.overlay_machine.specs.Brackets.{AreBracketed, OpenedArePrivate};
 ghost use Rattle.overlay_machine.specs.Link.{Link};
@@ -22,21 +21,9 @@ ghost use Rattle.overlay_machine.specs.Starting.{IsLinkedStart, overlay_at, Star
 use call_sequence::laws::sequences_stand_word_by_word;
 use flow_check::laws::sequences_stand;
 
-/// One step of the overlay is as many plain instructions as it weighs.
-///
-/// Let an overlay be ready for its next step, let a plain state be the overlay flattened, and let each
-/// half of a call's pair be of a site or of an open call. Then after the instructions for which the
-/// step stands, both went on and the plain state is the new overlay flattened, both halted, or both
-/// failed: whatever the step is, and whatever words it finds. A step that halts stands for one
-/// instruction.
-pub fn one_step_is_its_weight()
-    ensures agrees { OneStep }
-    ensures halts { (l : Layout) (o : OState) → overlay_step l o ≡ halts → weight_of l o ≡ 1 }
-{}
-
-/// Of some overlay all that a step needs is there, and its next step is a call.
-pub fn a_call_may_come()
-    ensures { AreMet }
+/// A step of the overlay that halts stands for one plain instruction.
+pub fn a_halt_weighs_one()
+    ensures { (l : Layout) (o : OState) → overlay_step l o ≡ halts → weight_of l o ≡ 1 }
 {}
 
 /// Each step of the overlay keeps the invariant of linked parts.

@@ -16,7 +16,7 @@ ghost use Rattle.trace_tool.specs.Headline.{Headline, HeadlineHolds};
 ghost use Rattle.trace_tool.specs.Alike.{LinkedLinesAgree, StartLinesAgree, TracesAlike};
 
 use overlay_machine::laws::{
-    a_linked_start_may_come, a_start_has_one_overlay, linked_starts_agree, one_step_is_its_weight,
+    a_halt_weighs_one, a_linked_start_may_come, a_start_has_one_overlay, linked_starts_agree,
     starts_begin,
 };
 
@@ -64,7 +64,7 @@ pub fn the_headline()
     starts_begin();
     a_start_has_one_overlay();
     linked_starts_agree();
-    one_step_is_its_weight();
+    a_halt_weighs_one();
     traces_tell_steps();
     start_lines_agree();
     lines_are_bracketed();

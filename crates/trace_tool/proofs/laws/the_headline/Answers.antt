@@ -20,13 +20,13 @@ returns-clause-holds c = λ parts size s is.
     let same = c.start_lines_agree.ensures.traces parts size s is in
     let runs = (c.linked_starts_agree.ensures parts size s is).runs in
     record {
-      agrees = agrees s is_fresh c.one_step_is_its_weight.ensures.halts runs;
+      agrees = agrees s is_fresh c.a_halt_weighs_one.ensures runs;
       lines = λ n. (let k = c.traces_tell_steps.ensures o refl refl n in
           (k.0, (trace_of n o).overlay.state, subst (λ (ls : List Line). Told (layout s) o.state k.0 ls (trace_of n o).overlay.state) (same n) k.1, k.2));
       traced = same;
       bracketed = λ n. (let now = lines_told (layout s) (trace_of n o).overlay.state.frames in
           (now, subst (λ (ls : List Line). Brackets LineTold [] (marks_in ls) now) (same n) (c.lines_are_bracketed.ensures.traces parts size o s.state.maps h n)));
-      private = left_alone s is_fresh c.one_step_is_its_weight.ensures.halts runs (c.start_lines_agree.ensures.agree parts size s is) (c.call_lines_are_private.ensures g o.state s.state.maps h.linked h.holds);
+      private = left_alone s is_fresh c.a_halt_weighs_one.ensures runs (c.start_lines_agree.ensures.agree parts size s is) (c.call_lines_are_private.ensures g o.state s.state.maps h.linked h.holds);
     })
 
 pub returns-clause-of_some : goal.returns-clause-of_some
