@@ -7,7 +7,7 @@ use Rattle.lcm_machine.specs.Maps.{State}
 use Rattle.lcm_machine.specs.Runs.{code_cap}
 use Rattle.lcm_machine.specs.Mapped.{mapped_or, IsMapped}
 use Rattle.call_sequence.specs.SequenceRuns.{stack_cap}
-use Rattle.overlay_machine.specs.declared.TheConstants.{CALL_WORDS}
+use Rattle.call_sequence.specs.declared.TheConstants.{CALL_WORDS}
 use Rattle.overlay_machine.specs.declared.words.OWord.{OWord}
 use Rattle.overlay_machine.specs.declared.words.OWord.TheVariants.{Plain, RetCode, RetData}
 use Rattle.overlay_machine.specs.declared.layout.Layout.{Layout}

@@ -9,7 +9,7 @@ ghost use Rattle.overlay_machine.specs.Cases.{IsWithin};
 
 use crate::layout::Layout;
 use crate::words::OWord;
-use crate::{CALL_WORDS, ENTRY_WORDS, RETURN_WORDS};
+use call_sequence::{CALL_WORDS, ENTRY_WORDS, RETURN_WORDS};
 use cap_words::CapFields;
 use lcm_isa::{Instr, Reg};
 use lcm_machine::state::State;

@@ -7,11 +7,11 @@ ghost use Rattle.overlay_machine.specs.Machine.{Fits, frames_of};
 ghost use Rattle.overlay_machine.specs.Flat.{flat, flat_code, flat_data};
 ghost use Rattle.overlay_machine.specs.Events.{head_of};
 
-use crate::CALL_WORDS;
 use crate::frames::Frame;
 use crate::layout::{Layout, SiteCode};
 use crate::machine::Machine;
 use crate::words::OWord;
+use call_sequence::CALL_WORDS;
 use cap_words::{Cap, Lin, Perm, SealCap, Sealable, Word};
 use frame_region::Region;
 

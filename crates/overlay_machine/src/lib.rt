@@ -24,12 +24,3 @@ pub use events::{Back, Event};
 pub use frames::Frame;
 pub use overlay::{OStep, Overlay};
 pub use words::OWord;
-
-/// How many words a call takes, up to and with its `xjmp`.
-pub const CALL_WORDS: u32 = 16;
-
-/// How many words a return takes, after the `xjmp` that reaches it. They stand behind the call's.
-pub const RETURN_WORDS: u32 = 10;
-
-/// How many words an entry takes.
-pub const ENTRY_WORDS: u32 = 20;

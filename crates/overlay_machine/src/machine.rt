@@ -20,7 +20,7 @@ use crate::cases::{Case, own_stack};
 use crate::frames::{Frame, all_there, close_frame, open_frame};
 use crate::layout::{Layout, SiteCode};
 use crate::words::OWord;
-use crate::{CALL_WORDS, ENTRY_WORDS, RETURN_WORDS};
+use call_sequence::{CALL_WORDS, ENTRY_WORDS, RETURN_WORDS};
 use cap_words::{Cap, CapFields, LAST_PLACE, Lin, Perm, Word};
 use frame_region::Region;
 use lcm_isa::Reg;

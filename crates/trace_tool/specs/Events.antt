@@ -15,7 +15,7 @@ use Rattle.lcm_isa.specs.declared.Instr.TheVariants.{Xjmp}
 use Rattle.lcm_machine.specs.Maps.{State}
 use Rattle.lcm_machine.specs.Row.{faces, opens, cell_faces, Fetched, some, fetch}
 use Rattle.component_linker.specs.declared.owners.Owner.{Owner}
-use Rattle.overlay_machine.specs.declared.TheConstants.{CALL_WORDS, RETURN_WORDS}
+use Rattle.call_sequence.specs.declared.TheConstants.{CALL_WORDS, RETURN_WORDS}
 use Rattle.overlay_machine.specs.declared.layout.Layout.{Layout}
 use Rattle.overlay_machine.specs.declared.events.Event.{Event}
 use Rattle.overlay_machine.specs.declared.events.Event.TheVariants.{Called, Returned, Entered, Left}

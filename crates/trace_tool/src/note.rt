@@ -4,10 +4,10 @@ ghost use Rattle.trace_tool.specs.Layout.{layout};
 ghost use Rattle.trace_tool.specs.Events.{jump_at, noted, inward_after};
 
 use crate::find::{site_word, trusted_owner};
+use call_sequence::{CALL_WORDS, RETURN_WORDS};
 use component_linker::Start;
 use lcm_isa::{Instr, Reg};
 use lcm_machine::LcmState;
-use overlay_machine::{CALL_WORDS, RETURN_WORDS};
 
 /// An `xjmp` that is about to be made: the trusted part in which it stands, the site whose call it
 /// ends, and the seal that it is to open.
