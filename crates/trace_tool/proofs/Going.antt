@@ -126,11 +126,14 @@ run_fails l r sink after i n le f =
 -- the line of the next instruction failed to be written
 pub line_fails : (init : StartSeen) (sink : SinkSeen) (n steps : ℕ) (start : StartSeen) (inward : Bool) (now : SinkSeen) (next : StartSeen) (after : SinkSeen) → Going init sink n start inward now → n < steps
     → next ≡ record start { state = next_state start.state } → FailsToWrite now (lines_text (line_next (layout start) (watching start inward))) after → Runs init steps sink next after WriteFault
-line_fails init sink n steps start inward now next after g lt e f = record {
-  made = (suc n, (omega arith), next_same init sink n start inward now next g e);
-  text = run_fails (layout init) init.state sink after (suc n) steps (omega arith)
-      (rw (text_grows (layout init) init.state n) (adds_fails sink now after _ _ g.told (subst (λ x. FailsToWrite now (lines_text x) after) (going_line init sink n start inward now g) f)));
-}
+line_fails init sink n steps start inward now next after g lt e f =
+    let mine : FailsToWrite now (text_next (layout init) init.state n) after = subst (λ x. FailsToWrite now (lines_text x) after) (going_line init sink n start inward now g) f in
+    record {
+      made = (suc n, (omega arith), next_same init sink n start inward now next g e);
+      at = inl (n, refl, (now, g.told, mine));
+      text = run_fails (layout init) init.state sink after (suc n) steps (omega arith)
+          (rw (text_grows (layout init) init.state n) (adds_fails sink now after _ _ g.told mine));
+    }
 
 text_is : (l : Layout) (r : Run) (n steps : ℕ) → lines_of l (begun r) steps ≡ lines_of l (begun r) n → plain steps r ≡ plain n r → run_text l r steps ≡ text_upto l r n ++ end_line (plain n r)
 unfolding run_text
@@ -170,6 +173,7 @@ ends init sink n steps start now after step line result le same lines run told i
     faults : FailsToWrite now line after → RunFaults init steps sink start after
     faults f = record {
       made = (n, le, same);
+      at = inr (sym run, (now, subst (λ ls. Adds sink (lines_text ls) now) (sym lines) told, subst (λ x. FailsToWrite now x after) (line_is ∙ ap end_line (sym run)) f));
       text = subst (λ x. FailsToWrite sink x after) (sym text) (adds_fails sink now after _ _ told f);
     }
 

@@ -1,7 +1,7 @@
 -- An overlay's run of some steps, with the lines that it wrote so far.
 use Rattle.std.proofs.Common.{◌≡◌, inl, inr, ℕ, zero, suc, ◌+◌, ◌<◌, ◌≤◌, Bool, true, false, List, [], ◌++◌, Option, Some, None, refl, sym, ap, ◌∙◌, arith, subst, lt-ltb, ltb-true}
 use Rattle.std.specs.Prelude.{nat_lt, if◌then◌else◌}
-use Rattle.std.proofs.lemmas.List.{append_assoc}
+use Rattle.std.proofs.lemmas.List.{append_assoc, append-nil}
 use Rattle.outside_io.specs.SinkSeen.{SinkSeen, Adds, FailsToWrite}
 use Rattle.outside_io.proofs.Writing.{adds_none, adds_then, adds_fails, fails_more}
 use Rattle.component_linker.specs.Started.{StartSeen}
@@ -25,7 +25,7 @@ use Rattle.trace_tool.specs.Lines.{Line}
 use Rattle.trace_tool.specs.Texts.{lines_text}
 use Rattle.trace_tool.specs.EndLines.{halted_text, failed_text, running_text}
 use Rattle.trace_tool.specs.Runs.{EndsBy}
-use Rattle.trace_tool.specs.Traces.{weight_with, lines_after, Traced, ended, behind, stopped, traced_by, traced, trace_of, text_of, trace_text, steps_on, TracesTo, TraceFaults, Traces}
+use Rattle.trace_tool.specs.Traces.{weight_with, lines_after, Traced, ended, behind, stopped, traced_by, traced, trace_of, text_of, trace_text, event_in, step_lines, steps_lines, steps_on, TracesTo, TraceFaults, Traces}
 use Rattle.trace_tool.proofs.Going.{lines_text-append}
 
 -- ---- a step
@@ -66,6 +66,20 @@ weight_by_end o (Some e) event a = absurd (end_no_event e event a)
 pub went_weight : (o : OverlaySeen) (event : Option Event) → answer_of o ≡ Went event → (next_overlay o).weight ≡ weight_with o
 unfolding next_overlay answer_of
 went_weight o event a = weight_by_end o o.end event a
+
+-- no step adds more than its weight
+most_by_ending : (o : OverlaySeen) (e : Ending) → (moved e o).weight ≤ weight_with o
+most_by_ending o (goes q) = omega arith
+most_by_ending o halts = omega arith
+most_by_ending o fails = omega arith
+
+most_by_end : (o : OverlaySeen) (e : Option OEnd) → (next_by e o).weight ≤ weight_with o
+most_by_end o None = most_by_ending o (overlay_step o.layout o.state)
+most_by_end o (Some e) = omega arith
+
+next_weight_most : (o : OverlaySeen) → (next_overlay o).weight ≤ weight_with o
+unfolding next_overlay
+next_weight_most o = most_by_end o o.end
 
 layout_by_ending : (o : OverlaySeen) (e : Ending) → (moved e o).layout ≡ o.layout
 layout_by_ending o (goes q) = refl
@@ -117,9 +131,12 @@ module _ (limit : ℕ) (o : OverlaySeen) (sink : SinkSeen) where
     pub within : now.weight ≤ limit
     pub enough : limit < left + now.weight
     pub told : List ℕ
+    pub lines : told ≡ lines_text (steps_lines steps o)
+    pub whole : (trace_of limit o).lines ≡ steps_lines steps o ++ (traced limit left now).lines
     pub text : trace_text limit o ≡ told ++ text_of (traced limit left now)
     pub end : (trace_of limit o).end ≡ (traced limit left now).end
     pub overlay : (trace_of limit o).overlay ≡ (traced limit left now).overlay
+    pub last : (trace_of limit o).last ≡ (traced limit left now).last
     pub written : Adds sink told seen
 
   pub going_none : o.weight ≡ 0 → Going o sink
@@ -132,9 +149,12 @@ module _ (limit : ℕ) (o : OverlaySeen) (sink : SinkSeen) where
     within = omega (arith, fresh);
     enough = omega (arith, fresh);
     told = [];
+    lines = refl;
+    whole = refl;
     text = refl;
     end = refl;
     overlay = refl;
+    last = refl;
     written = adds_none sink;
   }
 
@@ -148,6 +168,11 @@ module _ (limit : ℕ) (o : OverlaySeen) (sink : SinkSeen) where
   on_step now zero enough fits = absurd (omega (arith, enough, fits))
   on_step now (suc n) enough fits = (n, refl, goes_on limit n now fits)
 
+  -- the lines of the next step, of which it is known what it answers
+  own_lines : (now : OverlaySeen) (seen : SinkSeen) (event : Option Event) (next : OverlaySeen) → (g : Going now seen) → answer_of now ≡ Went event → next ≡ next_overlay now → lines_after next event ≡ step_lines (steps_on g.steps o)
+  own_lines now seen event next g a e =
+      ap (λ (x : OverlaySeen). lines_after x event) e ∙ ap (λ x. lines_after (next_overlay now) (event_in x)) (sym a) ∙ ap step_lines g.same
+
   pub going_more : (now : OverlaySeen) (seen : SinkSeen) (event : Option Event) (next : OverlaySeen) (seen2 : SinkSeen) → Going now seen → weight_with now ≤ limit → answer_of now ≡ Went event
       → next ≡ next_overlay now → Adds seen (lines_text (lines_after next event)) seen2 → Going next seen2
   going_more now seen event next seen2 g fits a e w =
@@ -156,6 +181,7 @@ module _ (limit : ℕ) (o : OverlaySeen) (sink : SinkSeen) where
       let some = weight_some now.layout now.state in
       let is : traced limit g.left now ≡ behind (lines_after next event) (traced limit s.0 next) =
       s.2 ∙ ap (λ x. traced_by x now (traced limit s.0)) a ∙ ap (λ x. behind (lines_after x event) (traced limit s.0 x)) (sym e) in
+      let mine : lines_after next event ≡ step_lines (steps_on g.steps o) = own_lines now seen event next g a e in
       record {
         steps = suc g.steps;
         left = s.0;
@@ -165,9 +191,12 @@ module _ (limit : ℕ) (o : OverlaySeen) (sink : SinkSeen) where
         within = omega (arith, weight, fits);
         enough = (let f = g.enough in let l = s.1 in omega (arith, f, l, weight, some));
         told = g.told ++ lines_text (lines_after next event);
+        lines = ap (λ x. x ++ lines_text (lines_after next event)) g.lines ∙ sym (lines_text-append (steps_lines g.steps o) (lines_after next event)) ∙ ap (λ ls. lines_text (steps_lines g.steps o ++ ls)) mine;
+        whole = g.whole ∙ ap (λ (t : Traced). steps_lines g.steps o ++ t.lines) is ∙ sym (append_assoc (steps_lines g.steps o) (lines_after next event) (traced limit s.0 next).lines) ∙ ap (λ ls. (steps_lines g.steps o ++ ls) ++ (traced limit s.0 next).lines) mine;
         text = g.text ∙ ap (λ (t : Traced). g.told ++ text_of t) is ∙ ap (λ x. g.told ++ x) (text_behind (lines_after next event) (traced limit s.0 next)) ∙ sym (append_assoc g.told (lines_text (lines_after next event)) (text_of (traced limit s.0 next)));
         end = g.end ∙ ap (λ (t : Traced). t.end) is;
         overlay = g.overlay ∙ ap (λ (t : Traced). t.overlay) is;
+        last = g.last ∙ ap (λ (t : Traced). t.last) is;
         written = adds_then sink seen seen2 _ _ g.written w;
       }
 
@@ -183,14 +212,16 @@ module _ (limit : ℕ) (o : OverlaySeen) (sink : SinkSeen) where
       g.text ∙ ap (λ (t : Traced). g.told ++ text_of t) is ∙ ap (λ x. g.told ++ x) (text_behind (lines_after next event) (traced limit s.0 next)) in
       record {
         made = (suc g.steps, (let w = g.few in omega (arith, w, some, fits)), e ∙ ap next_overlay g.same);
+        within = (let w : next.weight ≡ weight_with now = ap (λ (x : OverlaySeen). x.weight) e ∙ went_weight now event a in omega (arith, w, fits));
+        at = inl (g.steps, refl, (seen, subst (λ x. Adds sink x seen) g.lines g.written, subst (λ ls. FailsToWrite seen (lines_text ls) seen2) (own_lines now seen event next g a e) f));
         text = subst (λ x. FailsToWrite sink x seen2) (sym text) (adds_fails sink seen seen2 _ _ g.written (fails_more seen seen2 _ (text_of (traced limit s.0 next)) f));
       }
 
   -- a last line was written behind the others, or not
   ends : (now : OverlaySeen) (seen : SinkSeen) (new : OverlaySeen) (seen2 : SinkSeen) (line : List ℕ) (end result : RunEnd) → (g : Going now seen)
-      → (TracesTo limit o sink new seen2 end → Traces limit o sink new seen2 end) → ((n : ℕ) × (n ≤ limit) × (new ≡ steps_on n o)) → traced limit g.left now ≡ ended end new line
+      → (TracesTo limit o sink new seen2 end → Traces limit o sink new seen2 end) → ((n : ℕ) × (n ≤ limit) × (new ≡ steps_on n o)) → new.weight ≤ limit → traced limit g.left now ≡ ended end new line
       → EndsBy seen line end seen2 result → Traces limit o sink new seen2 result
-  ends now seen new seen2 line end result g lift made is w = elim w as (λ _. Traces limit o sink new seen2 result) [
+  ends now seen new seen2 line end result g lift made within is w = elim w as (λ _. Traces limit o sink new seen2 result) [
     | inl h ↦ subst (λ r. Traces limit o sink new seen2 r) (sym h.0) (lift (whole h.1))
     | inr h ↦ subst (λ r. Traces limit o sink new seen2 r) (sym h.0) (faults h.1)
   ]
@@ -205,14 +236,25 @@ module _ (limit : ℕ) (o : OverlaySeen) (sink : SinkSeen) where
         text = subst (λ x. Adds sink x seen2) (sym text) (adds_then sink seen seen2 _ _ g.written a);
       }
 
+      all_lines : g.told ≡ lines_text (trace_of limit o).lines
+      all_lines = g.lines ∙ ap lines_text (sym (g.whole ∙ ap (λ (t : Traced). steps_lines g.steps o ++ t.lines) is ∙ append-nil (steps_lines g.steps o)))
+
+      last_is : line ≡ (trace_of limit o).last
+      last_is = sym (g.last ∙ ap (λ (t : Traced). t.last) is)
+
       faults : FailsToWrite seen line seen2 → TraceFaults limit o sink new seen2
-      faults f = record { made = made; text = subst (λ x. FailsToWrite sink x seen2) (sym text) (adds_fails sink seen seen2 _ _ g.written f) }
+      faults f = record {
+        made = made;
+        within = within;
+        at = inr (sym made.2 ∙ sym (g.overlay ∙ ap (λ (t : Traced). t.overlay) is), (seen, subst (λ x. Adds sink x seen) all_lines g.written, subst (λ x. FailsToWrite seen x seen2) last_is f));
+        text = subst (λ x. FailsToWrite sink x seen2) (sym text) (adds_fails sink seen seen2 _ _ g.written f);
+      }
 
   pub ends_running : (now : OverlaySeen) (seen seen2 : SinkSeen) (line : List ℕ) (result : RunEnd) → Going now seen → limit < weight_with now
       → line ≡ running_text (overlay_view now) now.weight → EndsBy seen line Running seen2 result → Traces limit o sink now seen2 result
   ends_running now seen seen2 line result g over e w =
       ends now seen now seen2 line Running result g (λ t. t)
-      (g.steps, (let f = g.few in let l = g.within in omega (arith, f, l)), g.same)
+      (g.steps, (let f = g.few in let l = g.within in omega (arith, f, l)), g.same) g.within
       (stops_at limit g.left now over ∙ ap (ended Running now) (sym e)) w
 
   -- the end of the machine
@@ -221,16 +263,22 @@ module _ (limit : ℕ) (o : OverlaySeen) (sink : SinkSeen) where
       let some = weight_some now.layout now.state in
       (suc g.steps, (let f = g.few in omega (arith, f, some, fits)), e ∙ ap next_overlay g.same)
 
+  end_weight : (now new : OverlaySeen) → weight_with now ≤ limit → new ≡ next_overlay now → new.weight ≤ limit
+  end_weight now new fits e =
+      let w : new.weight ≡ (next_overlay now).weight = ap (λ (x : OverlaySeen). x.weight) e in
+      let m = next_weight_most now in
+      omega (arith, m, w, fits)
+
   pub ends_halted : (now : OverlaySeen) (seen : SinkSeen) (new : OverlaySeen) (seen2 : SinkSeen) (line : List ℕ) (result : RunEnd) → Going now seen → weight_with now ≤ limit → answer_of now ≡ Halted
       → new ≡ next_overlay now → line ≡ halted_text (overlay_view new) (weight_with now) → EndsBy seen line RunHalted seen2 result → Traces limit o sink new seen2 result
   ends_halted now seen new seen2 line result g fits a e k w =
       let s = on_step now g.left g.enough fits in
-      ends now seen new seen2 line RunHalted result g (λ t. t) (at_end now seen new g fits e)
+      ends now seen new seen2 line RunHalted result g (λ t. t) (at_end now seen new g fits e) (end_weight now new fits e)
       (s.2 ∙ ap (λ x. traced_by x now (traced limit s.0)) a ∙ ap (λ x. ended RunHalted x (halted_text (overlay_view x) (weight_with now))) (sym e) ∙ ap (ended RunHalted new) (sym k)) w
 
   pub ends_failed : (now : OverlaySeen) (seen : SinkSeen) (new : OverlaySeen) (seen2 : SinkSeen) (line : List ℕ) (result : RunEnd) → Going now seen → weight_with now ≤ limit → answer_of now ≡ Failed
       → new ≡ next_overlay now → line ≡ failed_text (overlay_view new) now.weight → EndsBy seen line RunFailed seen2 result → Traces limit o sink new seen2 result
   ends_failed now seen new seen2 line result g fits a e k w =
       let s = on_step now g.left g.enough fits in
-      ends now seen new seen2 line RunFailed result g (λ t. t) (at_end now seen new g fits e)
+      ends now seen new seen2 line RunFailed result g (λ t. t) (at_end now seen new g fits e) (end_weight now new fits e)
       (s.2 ∙ ap (λ x. traced_by x now (traced limit s.0)) a ∙ ap (λ x. ended RunFailed x (failed_text (overlay_view x) now.weight)) (sym e) ∙ ap (ended RunFailed new) (sym k)) w

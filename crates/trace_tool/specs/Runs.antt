@@ -78,10 +78,24 @@ pub record RunsTo (old : StartSeen) (steps : ℕ) (sink : SinkSeen) (new : Start
   pub state : new ≡ record old { state = plain steps old.state }
   pub text : Adds sink (run_text (layout old) old.state steps) after
 
--- a write failed: some of the instructions were made, and a front of the text stands
+-- a text was written whole, and then, behind it, the write of another failed
+abbrev pub FailsBehind : SinkSeen → List ℕ → List ℕ → SinkSeen → Type 0
+FailsBehind old text piece new = (mid : SinkSeen) × Adds old text mid × FailsToWrite mid piece new
+
+-- after n instructions: those before the last one have their lines, and the write of its own failed; or all
+-- lines stand, there are no more instructions to make, and the write of the end line failed
+abbrev pub FaultAt : Layout → Run → ℕ → SinkSeen → ℕ → SinkSeen → Type 0
+FaultAt l r steps sink n after =
+    ((k : ℕ) × (n ≡ suc k)
+    × FailsBehind sink (lines_text (lines_of l (begun r) k)) (lines_text (line_next l (watched l (begun r) k))) after)
+    ⊎ ((plain n r ≡ plain steps r)
+    × FailsBehind sink (lines_text (lines_of l (begun r) steps)) (end_line (plain steps r)) after)
+
+-- a write failed: the run stopped there, after some of the instructions, and a front of the text stands
 pub record RunFaults (old : StartSeen) (steps : ℕ) (sink : SinkSeen) (new : StartSeen) (after : SinkSeen)
     : Type 0 where
   pub made : (n : ℕ) × (n ≤ steps) × (new ≡ record old { state = plain n old.state })
+  pub at : FaultAt (layout old) old.state steps sink made.0 after
   pub text : FailsToWrite sink (run_text (layout old) old.state steps) after
 
 abbrev pub Runs : StartSeen → ℕ → SinkSeen → StartSeen → SinkSeen → RunEnd → Type 0

@@ -1,5 +1,5 @@
 -- The lines and the text of an overlay's run.
-use Rattle.std.specs.Prelude.{◌≡◌, ◌≤◌, ℕ, zero, suc, ◌+◌, ◌++◌, nat_lt, List, [], Option, if◌then◌else◌}
+use Rattle.std.specs.Prelude.{◌≡◌, ◌⊎◌, ◌≤◌, ℕ, zero, suc, ◌+◌, ◌++◌, nat_lt, List, [], Option, if◌then◌else◌, None}
 use Rattle.outside_io.specs.SinkSeen.{SinkSeen, Adds, FailsToWrite}
 use Rattle.overlay_machine.specs.declared.events.Event.{Event}
 use Rattle.overlay_machine.specs.declared.overlay.OStep.{OStep}
@@ -8,6 +8,7 @@ use Rattle.overlay_machine.specs.Step.{weight_of}
 use Rattle.overlay_machine.specs.Seen.{OverlaySeen, next_overlay, answer_of}
 use Rattle.trace_tool.specs.declared.run.RunEnd.{RunEnd}
 use Rattle.trace_tool.specs.declared.run.RunEnd.TheVariants.{Halted as RunHalted, Failed as RunFailed, Running, WriteFault}
+use Rattle.trace_tool.specs.Runs.{FailsBehind}
 use Rattle.trace_tool.specs.Views.{overlay_view}
 use Rattle.trace_tool.specs.Lines.{Line, lines_for}
 use Rattle.trace_tool.specs.Texts.{lines_text}
@@ -64,10 +65,22 @@ text_of t = lines_text t.lines ++ t.last
 abbrev pub trace_text : ℕ → OverlaySeen → List ℕ
 trace_text limit o = text_of (trace_of limit o)
 
--- after n steps
+-- after n steps, and the lines of these
 abbrev pub steps_on : ℕ → OverlaySeen → OverlaySeen
 steps_on zero o = o
 steps_on (suc n) o = next_overlay (steps_on n o)
+
+abbrev pub event_in : OStep → Option Event
+event_in (Went event) = event
+event_in Halted = None
+event_in Failed = None
+
+abbrev pub step_lines : OverlaySeen → List Line
+step_lines o = lines_after (next_overlay o) (event_in (answer_of o))
+
+abbrev pub steps_lines : ℕ → OverlaySeen → List Line
+steps_lines zero o = []
+steps_lines (suc n) o = steps_lines n o ++ step_lines (steps_on n o)
 
 -- ---- what `run_overlay` does
 
@@ -78,10 +91,21 @@ pub record TracesTo (limit : ℕ) (old : OverlaySeen) (sink : SinkSeen) (new : O
   pub overlay : new ≡ (trace_of limit old).overlay
   pub text : Adds sink (trace_text limit old) after
 
--- a write failed: some steps were made, and a front of the text stands
+-- after n steps: those before the last one have their lines, and the write of its own failed; or the run was
+-- made, all lines stand, and the write of the last one failed
+abbrev pub TraceFaultAt : ℕ → OverlaySeen → SinkSeen → ℕ → SinkSeen → Type 0
+TraceFaultAt limit o sink n after =
+    ((k : ℕ) × (n ≡ suc k)
+    × FailsBehind sink (lines_text (steps_lines k o)) (lines_text (step_lines (steps_on k o))) after)
+    ⊎ ((steps_on n o ≡ (trace_of limit o).overlay)
+    × FailsBehind sink (lines_text (trace_of limit o).lines) (trace_of limit o).last after)
+
+-- a write failed: the run stopped there, after some steps within the limit, and a front of the text stands
 pub record TraceFaults (limit : ℕ) (old : OverlaySeen) (sink : SinkSeen) (new : OverlaySeen) (after : SinkSeen)
     : Type 0 where
   pub made : (n : ℕ) × (n ≤ limit) × (new ≡ steps_on n old)
+  pub within : new.weight ≤ limit
+  pub at : TraceFaultAt limit old sink made.0 after
   pub text : FailsToWrite sink (trace_text limit old) after
 
 abbrev pub Traces : ℕ → OverlaySeen → SinkSeen → OverlaySeen → SinkSeen → RunEnd → Type 0
