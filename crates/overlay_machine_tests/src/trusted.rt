@@ -140,7 +140,8 @@ const ADV_END: &[u8] = b"\
 // `again`.
 //
 // A call's own conditions: the cursor one above the base, at it, past the end and below 0; a word of c1 or
-// c2 that isn't sealed, under another seal, or the other half; halves of a pair in c1 and c2.
+// c2 that isn't sealed, under another seal, or the other half; halves of a pair in c1 and c2. With a pc that
+// isn't over the whole code it is no call, and its instructions are carried out one by one.
 const CALLS: &[u8] = b"\
 -|||halt|xjmp rcode rdata|halt|call 0 65599 65599;ret 0 65599 65599;halt 50
 -|cca stk -62||halt|xjmp rcode rdata|halt|call 0 65537 65599;ret 0 65537 65599;halt 51
@@ -162,6 +163,7 @@ N|||halt|halt|halt|fail 0 16
 R|||halt|halt|halt|fail 0 16
 B|||halt|halt|halt|fail 0 16
 E|||halt|halt|halt|fail 0 16
+P|||halt|halt|halt|halt 16
 2|||halt|move stk g0;&|halt|call 0 65599 65599;enter 0 0 pair 0 65599;fail 68 16
 2||cca stk -3|halt|move stk g0;&|halt|call 0 65599 65599;enter 0 0 pair 0 65599;fail 69 16";
 
@@ -279,59 +281,33 @@ fn start_of(rt: &impl Abort, alloc: Global, lines: [&[u8]; 5]) -> Result<Start, 
     }
 }
 
-fn set(start: &mut Start, r: Reg, word: Word) {
-    start.state_mut().set(Place::R(r), Held::of(word));
+// By its letter, what a case has by hand, since linked parts never come to it: the own stack, integer 0, one
+// that isn't linear, without w, above the base, past the end; for 2 a second stack in g0, and for p a pc over
+// all but one word of the code.
+fn word_by_hand(letter: u8) -> Option<(Reg, Word)> {
+    let (r, perm, lin, base, end) = match letter {
+        b'o' => (Reg::Stk, Perm::Rw, Lin::Linear, 65_536, 65_599),
+        b'n' => (Reg::Stk, Perm::Rw, Lin::Normal, 65_536, 65_599),
+        b'r' => (Reg::Stk, Perm::R, Lin::Linear, 65_536, 65_599),
+        b'b' => (Reg::Stk, Perm::Rw, Lin::Linear, 65_537, 65_599),
+        b'e' => (Reg::Stk, Perm::Rw, Lin::Linear, 65_536, 65_600),
+        b'2' => (Reg::G0, Perm::Rw, Lin::Linear, 65_536, 65_599),
+        b'p' => (Reg::Pc, Perm::Rx, Lin::Normal, 4096, 4197),
+        b'i' => return Some((Reg::Stk, Word::Int(0))),
+        _ => return None,
+    };
+    let at = if r == Reg::Pc { 4121 } else { 65_599 };
+    Some((r, Word::Mem(Cap::new(perm, lin, base, end, at))))
 }
 
-fn stack_cap(perm: Perm, lin: Lin, base: u32, end: u32) -> Word {
-    if base <= end && end < 1_000_000 {
-        Word::Mem(Cap::new(perm, lin, base, end, 65_599))
-    } else {
-        Word::Int(0)
-    }
-}
-
-// By its letter, what a case has of stk by hand, since linked parts never come to it: the own stack, integer 0,
-// one that isn't linear, without w, above the base, past the end; and for 2 a second stack in g0. A capital
-// letter: at the first call.
+// A capital letter: at the first call, before which the plain machine makes 23 steps.
 fn set_by_hand(rt: &impl Abort, start: &mut Start, letter: u8) {
     if letter.is_ascii_uppercase() {
         assert!(rt; start.state().count() == 0);
         let _ = start.state_mut().run(23);
     }
-    match letter.to_ascii_lowercase() {
-        b'o' => set(
-            start,
-            Reg::Stk,
-            stack_cap(Perm::Rw, Lin::Linear, 65_536, 65_599),
-        ),
-        b'i' => set(start, Reg::Stk, Word::Int(0)),
-        b'n' => set(
-            start,
-            Reg::Stk,
-            stack_cap(Perm::Rw, Lin::Normal, 65_536, 65_599),
-        ),
-        b'r' => set(
-            start,
-            Reg::Stk,
-            stack_cap(Perm::R, Lin::Linear, 65_536, 65_599),
-        ),
-        b'b' => set(
-            start,
-            Reg::Stk,
-            stack_cap(Perm::Rw, Lin::Linear, 65_537, 65_599),
-        ),
-        b'e' => set(
-            start,
-            Reg::Stk,
-            stack_cap(Perm::Rw, Lin::Linear, 65_536, 65_600),
-        ),
-        b'2' => set(
-            start,
-            Reg::G0,
-            stack_cap(Perm::Rw, Lin::Linear, 65_536, 65_599),
-        ),
-        _ => {}
+    if let Some((r, word)) = word_by_hand(letter.to_ascii_lowercase()) {
+        start.state_mut().set(Place::R(r), Held::of(word));
     }
 }
 
@@ -402,7 +378,28 @@ fn plain_follows(rt: &impl Abort, overlay: &Overlay, start: &mut Start, weight: 
     }
 }
 
-// What is told of a run. Where nothing was set by hand, the plain machine is run beside it.
+// One step; where nothing was set by hand, the plain machine goes along.
+fn step(rt: &impl Abort, overlay: &mut Overlay, start: &mut Start, linked: bool) -> OStep {
+    let weight = overlay.next_weight();
+    assert!(rt; overlay.weight() < 10_000);
+    let step = overlay.step();
+    if linked {
+        plain_follows(rt, overlay, start, weight, matches!(step, OStep::Went(_)));
+    }
+    step
+}
+
+// What is told of a step: its event, or the end with the weight so far, and of a failure its own.
+fn step_text(alloc: Global, step: OStep, weight: u64, own: u32) -> Result<String, AllocError> {
+    match step {
+        OStep::Went(None) => Ok(String::new(alloc)),
+        OStep::Went(Some(event)) => event_text(alloc, event),
+        OStep::Halted => format!(in alloc; "halt {weight}"),
+        OStep::Failed => format!(in alloc; "fail {weight} {own}"),
+    }
+}
+
+// What is told of a run.
 fn told(
     rt: &impl Abort,
     alloc: Global,
@@ -412,24 +409,11 @@ fn told(
     let mut overlay = Overlay::of_start(alloc, start)?;
     let mut text = String::new(alloc);
     for _ in 0..200 {
-        let weight = overlay.next_weight();
-        assert!(rt; overlay.weight() < 10_000);
-        let step = overlay.step();
-        if linked {
-            let went = matches!(step, OStep::Went(_));
-            plain_follows(rt, &overlay, start, weight, went);
-        }
-        match step {
-            OStep::Went(None) => {}
-            OStep::Went(Some(event)) => text.push_str(event_text(alloc, event)?.as_str())?,
-            OStep::Halted => {
-                text.push_str(format!(in alloc; "halt {}", overlay.weight())?.as_str())?;
-                return Ok(text);
-            }
-            OStep::Failed => {
-                text.push_str(format!(in alloc; "fail {} {weight}", overlay.weight())?.as_str())?;
-                return Ok(text);
-            }
+        let own = overlay.next_weight();
+        let step = step(rt, &mut overlay, start, linked);
+        text.push_str(step_text(alloc, step, overlay.weight(), own)?.as_str())?;
+        if !matches!(step, OStep::Went(_)) {
+            break;
         }
     }
     Ok(text)
@@ -479,26 +463,39 @@ fn step_to(rt: &impl Abort, overlay: &mut Overlay, weight: u64) {
     assert_eq!(rt; overlay.weight(), weight);
 }
 
+// The word of the highest address of the stack: in the newest frame, or in memory.
+fn top_is(rt: &impl Abort, overlay: &Overlay, framed: bool, text: &str) {
+    assert_eq!(rt; overlay.has_cell(65_599), !framed);
+    let word = if overlay.has_cell(65_599) {
+        overlay.cell(65_599)
+    } else {
+        assert!(rt; overlay.frame_size() == 1);
+        overlay.frame_word(0)
+    };
+    assert_eq!(rt; overlay.flat_text(word).as_str(), text);
+}
+
 #[test]
 fn what_an_entry_a_call_and_a_return_leave(rt: HostRuntime) -> Result<(), Fail> {
     let lines: [&[u8]; 5] = [b"", b"", b"halt", b"xjmp rcode rdata", b"halt"];
     let start = start_of(&rt, rt.alloc(), lines)?;
     let mut overlay = Overlay::of_start(rt.alloc(), &start)?;
-    step_to(&rt, &mut overlay, 20);
-    stands_for(&rt, &overlay, &ENTERED);
-    step_to(&rt, &mut overlay, 39);
-    stands_for(&rt, &overlay, &CALLED);
-    assert!(&rt; overlay.has_cell(65_598) && !overlay.has_cell(65_599));
-    assert_eq!(&rt; overlay.frame_size(), 1);
-    let first = overlay.flat_text(overlay.frame_word(0));
-    assert_eq!(&rt; first.as_str(), "cap(rw,nor,8192,8197,8193)");
-    step_to(&rt, &mut overlay, 50);
-    stands_for(&rt, &overlay, &RETURNED);
-    assert!(&rt; overlay.has_cell(65_599));
-    assert_eq!(&rt; overlay.flat_text(overlay.cell(65_599)).as_str(), "0");
-    assert_eq!(&rt; overlay.frame_size(), 0);
+    for (weight, words, framed, top) in STAGES {
+        step_to(&rt, &mut overlay, weight);
+        stands_for(&rt, &overlay, words);
+        top_is(&rt, &overlay, framed, top);
+    }
     Ok(())
 }
+
+// The weight so far, what registers stand for, whether the stack's highest word is in a frame, and that word.
+type Stage = (u64, &'static [(Reg, &'static str)], bool, &'static str);
+
+const STAGES: [Stage; 3] = [
+    (20, &ENTERED, false, "0"),
+    (39, &CALLED, true, "cap(rw,nor,8192,8197,8193)"),
+    (50, &RETURNED, false, "0"),
+];
 
 const ENTERED: [(Reg, &str); 4] = [
     (Reg::Pc, "cap(rx,nor,4096,4198,4118)"),
