@@ -82,6 +82,9 @@ fn rows_of_a_caller(rt: HostRuntime) -> Result<(), Fail> {
     let caller = component_of(&rt, rt.alloc(), &CALLER)?;
     assert!(rt; is_entry(&caller, 2));
     assert!(rt; !is_entry(&caller, 3));
+    let sites = caller.fields().sites.as_slice().len();
+    assert!(rt; 0 < sites);
+    assert!(rt; is_site(&caller, 0));
     let kept = check_flow(&caller);
     assert!(rt; kept.is_ok());
     for (offset, wanted) in [
