@@ -221,6 +221,7 @@ starts = record { state = is_start; sites = sites_are; owners = owners_are; stac
 
 pub links : SitesStand → EntriesStand → LinksTo pair 4 start
 links sites entries = record {
+  accepted = each;
   rules = keeps;
   starts = starts;
   parts_apart = parts_apart pair 4 each keeps;

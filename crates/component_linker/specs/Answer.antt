@@ -3,7 +3,7 @@ use Rattle.std.specs.Prelude.{◌≡◌, ℕ, List, slice_get, Some, Result, Ok,
 use Rattle.lcm_machine.specs.Regions.{AreApart, HeldOnce}
 use Rattle.component_linker.specs.declared.fault.LinkFault.{LinkFault}
 use Rattle.component_linker.specs.declared.fault.LinkFault.TheVariants.{Rule, NoMemory}
-use Rattle.component_linker.specs.Parts.{PartSeen, placed}
+use Rattle.component_linker.specs.Parts.{PartSeen, IsPart, placed}
 use Rattle.component_linker.specs.Regions.{regions_of}
 use Rattle.component_linker.specs.Pairs.{IsFirstIn, NoneIsBroken}
 use Rattle.component_linker.specs.Links.{rules_l, rule_at}
@@ -11,10 +11,11 @@ use Rattle.component_linker.specs.SealsApart.{PartsApart, SitesApart}
 use Rattle.component_linker.specs.TrustedCode.{CodeInCells, TrustedInCells}
 use Rattle.component_linker.specs.Started.{StartSeen, Starts}
 
--- of parts as they stand: no rule L is broken, and this is their start. No seal is of two parts or of two
+-- of parts as they stand: each keeps its own rules, no rule L is broken, and this is their start. No seal is of two parts or of two
 -- sites, regions lie apart, and no address of a linear one is held twice; all have the start's stack, and their
 -- code stands in the cells, that of trusted ones with its sequences
 pub record LinksTo (parts : List PartSeen) (size : ℕ) (s : StartSeen) : Type 0 where
+  pub accepted : (k : ℕ) (p : PartSeen) → slice_get parts k ≡ Some p → IsPart p
   pub rules : NoneIsBroken (rules_l parts size)
   pub starts : Starts parts size s
   pub parts_apart : PartsApart parts

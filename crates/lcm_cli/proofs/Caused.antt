@@ -1,6 +1,6 @@
 -- The cause of every status.
 use Rattle.std.proofs.Common.{◌≡◌, ◌≢◌, ℕ, zero, suc, ◌⊎◌, ◌+◌, List, [], ◌∷◌, Option, Some, None, refl, sym, ap, subst, ◌∙◌, inl, inr, true, false}
-use Rattle.std.specs.Prelude.{Result, Ok, Err, Bool, ℤ, IsNone, IsSomeAnd, MatchOption, nat_lt, if◌then◌else◌}
+use Rattle.std.specs.Prelude.{◌↔◌, Result, Ok, Err, Bool, ℤ, IsNone, IsSomeAnd, MatchOption, nat_lt, if◌then◌else◌}
 use Rattle.std.specs.List.{list_all}
 use Rattle.outside_io.specs.Counts.{Rose}
 use Rattle.outside_io.specs.FilesSeen.{FilesSeen, Puts, KeepsOthers}
@@ -21,10 +21,12 @@ use Rattle.component_file.specs.Spelling.{spelling}
 use Rattle.disassembler.specs.Disassembled.{disassembled}
 use Rattle.component_linker.specs.declared.fault.RuleAt.{RuleAt}
 use Rattle.component_linker.specs.Parts.{PartSeen}
-use Rattle.component_linker.specs.Started.{StartSeen, Starts}
+use Rattle.overlay_machine.specs.Starting.{IsLinkedStart, overlay_at}
+use Rattle.component_linker.specs.Started.{StartSeen}
 use Rattle.overlay_machine.specs.Seen.{OverlaySeen, IsOverlayOf, next_overlay, answer_of}
 use Rattle.trace_tool.specs.declared.run.RunEnd.{RunEnd}
 use Rattle.trace_tool.specs.declared.run.RunEnd.TheVariants as run_end
+use Rattle.trace_tool.specs.Headline.{HeadlineHolds}
 use Rattle.trace_tool.specs.Runs.{end_of}
 use Rattle.trace_tool.specs.Traces.{Traced, stopped, weight_with, traced_by, traced as traced_upto, trace_of}
 use Rattle.overlay_machine.specs.declared.overlay.OStep.{OStep}
@@ -220,14 +222,14 @@ Caused asked old new status.SourceRefused = ⊥
 Caused asked old new status.FileRefused = (place : ℕ) × (f : FileFault) × Wrote (refusal.File place f) old new × IsUndecoded (plan_in asked) old.files place f new.files
 Caused asked old new status.RuleBroken = (r : RuleAt) × Wrote (refusal.Rule r) old new × Breaks asked old.files r new.files
 
-run_caused : (asked : Option Command) (old new : Outside) (parts : List PartSeen) (size steps : ℕ) → Comes (plan_in asked) old.files (Ok (Run parts size steps)) new.files → (start : StartSeen) → Starts parts size start
+run_caused : (asked : Option Command) (old new : Outside) (parts : List PartSeen) (size steps : ℕ) → Comes (plan_in asked) old.files (Ok (Run parts size steps)) new.files → (start : StartSeen) → IsLinkedStart parts size start
     → (step : Step) → last_step (plain steps start.state) ≡ step → Caused asked old new (end_status (end_of step))
 run_caused asked old new parts size steps c start s Went e = inl (parts, size, steps, c, start, s, e)
 run_caused asked old new parts size steps c start s Halted e = inl (parts, size, steps, c, start, s, e)
 run_caused asked old new parts size steps c start s (Failed cause at) e = inl (parts, size, steps, c, start, s, (cause, at, e))
 
 trace_caused : (asked : Option Command) (old new : Outside) (parts : List PartSeen) (size steps : ℕ) → Comes (plan_in asked) old.files (Ok (Trace parts size steps)) new.files → (start : StartSeen) (overlay : OverlaySeen)
-    → Starts parts size start → IsOverlayOf start overlay → (end : RunEnd) → (trace_of steps overlay).end ≡ end → Caused asked old new (end_status end)
+    → IsLinkedStart parts size start → IsOverlayOf start overlay → (end : RunEnd) → (trace_of steps overlay).end ≡ end → Caused asked old new (end_status end)
 trace_caused asked old new parts size steps c start overlay s o run_end.Halted e = inr (inl (parts, size, steps, c, start, overlay, s, o, e))
 trace_caused asked old new parts size steps c start overlay s o run_end.Failed e = inr (parts, size, steps, c, start, overlay, s, o, e)
 trace_caused asked old new parts size steps c start overlay s o run_end.Running e = inr (parts, size, steps, c, start, overlay, s, o, e)
@@ -455,42 +457,46 @@ refused_none why a ended x e r = no_run why (subst IsRunStatus (e ∙ ap (λ (b 
 same_run : (p q : List PartSeen) (n m k l : ℕ) → Run p n k ≡ Run q m l → (p ≡ q) × (n ≡ m) × (k ≡ l)
 same_run p q n m k l e = (cc, cc, cc)
 
-given_run : (words : List PartWord) (size steps : ℕ) (old : Outside) (seen : FilesSeen) (ended : Status) (new : Outside) (due : Result Task Refusal) (a : Answer) → Comes (run_plan words size steps) old.files due seen → IsAnswerOf due a
+given_run : HeadlineHolds → (words : List PartWord) (size steps : ℕ) (old : Outside) (seen : FilesSeen) (ended : Status) (new : Outside) (due : Result Task Refusal) (a : Answer) → Comes (run_plan words size steps) old.files due seen → IsAnswerOf due a
     → GivesWhole (with_files old seen) a ended new → IsRunStatus ended → RunGiven words size steps old ended new
-given_run words size steps old seen ended new (Err why) a c x g r = absurd (refused_none why a ended x g.status_is r)
-given_run words size steps old seen ended new (Ok (Trace parts n k)) a c x g r = absurd (let e = (runs_made words size steps old.files seen (Trace parts n k) c).2 in cc)
-given_run words size steps old seen ended new (Ok (Put name d)) a c x g r = absurd (let e = (runs_made words size steps old.files seen (Put name d) c).2 in cc)
-given_run words size steps old seen ended new (Ok (Show d)) a c x g r = absurd (let e = (runs_made words size steps old.files seen (Show d) c).2 in cc)
-given_run words size steps old seen ended new (Ok Say) a c x g r = absurd (let e = (runs_made words size steps old.files seen Say c).2 in cc)
-given_run words size steps old seen ended new (Ok (Run parts n k)) a c x g r =
+given_run all words size steps old seen ended new (Err why) a c x g r = absurd (refused_none why a ended x g.status_is r)
+given_run all words size steps old seen ended new (Ok (Trace parts n k)) a c x g r = absurd (let e = (runs_made words size steps old.files seen (Trace parts n k) c).2 in cc)
+given_run all words size steps old seen ended new (Ok (Put name d)) a c x g r = absurd (let e = (runs_made words size steps old.files seen (Put name d) c).2 in cc)
+given_run all words size steps old seen ended new (Ok (Show d)) a c x g r = absurd (let e = (runs_made words size steps old.files seen (Show d) c).2 in cc)
+given_run all words size steps old seen ended new (Ok Say) a c x g r = absurd (let e = (runs_made words size steps old.files seen Say c).2 in cc)
+given_run all words size steps old seen ended new (Ok (Run parts n k)) a c x g r =
     let m = runs_made words size steps old.files seen (Run parts n k) c in
     let l = linked_made words size old.files seen m.0 m.1 in
     let s = same_run parts m.0 n size k steps m.2 in
-    let start : Starts m.0 size x.0 = subst (λ z. Starts m.0 z x.0) s.1 (subst (λ ps. Starts ps n x.0) s.0 x.1) in
+    let start : IsLinkedStart m.0 size x.0 = subst (λ z. IsLinkedStart m.0 z x.0) s.1 (subst (λ ps. IsLinkedStart ps n x.0) s.0 x.1) in
     let is : a ≡ ran x.0 steps = x.2 ∙ ap (ran x.0) s.2 in
     let h : GivesWhole (with_files old seen) (ran x.0 steps) ended new = subst (λ b. GivesWhole (with_files old seen) b ended new) is g in
     let p : new.files ≡ seen = h.put in
-    record { parts = m.0; came = (rw p l.0); keep = l.1; start = x.0; starts = start; status_is = h.status_is; written = h.written; kept_is = h.kept_is }
+    record { parts = m.0; came = (rw p l.0); keep = l.1; start = x.0; linked_start = start; headline = all m.0 size x.0 start; status_is = h.status_is; written = h.written; kept_is = h.kept_is }
 
 same_trace : (p q : List PartSeen) (n m k l : ℕ) → Trace p n k ≡ Trace q m l → (p ≡ q) × (n ≡ m) × (k ≡ l)
 same_trace p q n m k l e = (cc, cc, cc)
 
-given_trace : (words : List PartWord) (size steps : ℕ) (old : Outside) (seen : FilesSeen) (ended : Status) (new : Outside) (due : Result Task Refusal) (a : Answer) → Comes (trace_plan words size steps) old.files due seen → IsAnswerOf due a
+-- a linked start has one overlay
+OverlaysAreOne : Type 0
+OverlaysAreOne = (parts : List PartSeen) (size : ℕ) (s : StartSeen) → IsLinkedStart parts size s → (o : OverlaySeen) → IsOverlayOf s o ↔ (o ≡ overlay_at s)
+
+given_trace : HeadlineHolds → OverlaysAreOne → (words : List PartWord) (size steps : ℕ) (old : Outside) (seen : FilesSeen) (ended : Status) (new : Outside) (due : Result Task Refusal) (a : Answer) → Comes (trace_plan words size steps) old.files due seen → IsAnswerOf due a
     → GivesWhole (with_files old seen) a ended new → IsRunStatus ended → TraceGiven words size steps old ended new
-given_trace words size steps old seen ended new (Err why) a c x g r = absurd (refused_none why a ended x g.status_is r)
-given_trace words size steps old seen ended new (Ok (Run parts n k)) a c x g r = absurd (let e = (traces_made words size steps old.files seen (Run parts n k) c).2 in cc)
-given_trace words size steps old seen ended new (Ok (Put name d)) a c x g r = absurd (let e = (traces_made words size steps old.files seen (Put name d) c).2 in cc)
-given_trace words size steps old seen ended new (Ok (Show d)) a c x g r = absurd (let e = (traces_made words size steps old.files seen (Show d) c).2 in cc)
-given_trace words size steps old seen ended new (Ok Say) a c x g r = absurd (let e = (traces_made words size steps old.files seen Say c).2 in cc)
-given_trace words size steps old seen ended new (Ok (Trace parts n k)) a c x g r =
+given_trace all one words size steps old seen ended new (Err why) a c x g r = absurd (refused_none why a ended x g.status_is r)
+given_trace all one words size steps old seen ended new (Ok (Run parts n k)) a c x g r = absurd (let e = (traces_made words size steps old.files seen (Run parts n k) c).2 in cc)
+given_trace all one words size steps old seen ended new (Ok (Put name d)) a c x g r = absurd (let e = (traces_made words size steps old.files seen (Put name d) c).2 in cc)
+given_trace all one words size steps old seen ended new (Ok (Show d)) a c x g r = absurd (let e = (traces_made words size steps old.files seen (Show d) c).2 in cc)
+given_trace all one words size steps old seen ended new (Ok Say) a c x g r = absurd (let e = (traces_made words size steps old.files seen Say c).2 in cc)
+given_trace all one words size steps old seen ended new (Ok (Trace parts n k)) a c x g r =
     let m = traces_made words size steps old.files seen (Trace parts n k) c in
     let l = linked_made words size old.files seen m.0 m.1 in
     let s = same_trace parts m.0 n size k steps m.2 in
-    let start : Starts m.0 size x.0 = subst (λ z. Starts m.0 z x.0) s.1 (subst (λ ps. Starts ps n x.0) s.0 x.2) in
+    let start : IsLinkedStart m.0 size x.0 = subst (λ z. IsLinkedStart m.0 z x.0) s.1 (subst (λ ps. IsLinkedStart ps n x.0) s.0 x.2) in
     let is : a ≡ traced x.1 steps = x.4 ∙ ap (traced x.1) s.2 in
     let h : GivesWhole (with_files old seen) (traced x.1 steps) ended new = subst (λ b. GivesWhole (with_files old seen) b ended new) is g in
     let p : new.files ≡ seen = h.put in
-    record { parts = m.0; came = (rw p l.0); keep = l.1; start = x.0; starts = start; overlay = x.1; overlay_is = x.3; status_is = h.status_is; written = h.written; kept_is = h.kept_is }
+    record { parts = m.0; came = (rw p l.0); keep = l.1; start = x.0; linked_start = start; headline = all m.0 size x.0 start; overlay = x.1; overlay_is = x.3; lines_are = (ap (λ o. (trace_of steps o).lines) ((one m.0 size x.0 start x.1).0 x.3) ∙ (all m.0 size x.0 start).traced steps); status_is = h.status_is; written = h.written; kept_is = h.kept_is }
 
 -- a whole answer to words that aren't built is of no run
 usage_none : (asked : Option Command) (old : Outside) (seen : FilesSeen) (ended : Status) (new : Outside) (due : Result Task Refusal) (a : Answer) → is_command asked ≡ false → Comes (plan_in asked) old.files due seen → IsAnswerOf due a
@@ -499,17 +505,17 @@ usage_none asked old seen ended new due a f c x g r =
     let is : a ≡ refused refusal.Usage = subst (λ d. IsAnswerOf d a) (due_usage asked old.files seen due f c) x in
     refused_none refusal.Usage a ended is g.status_is r
 
-runs_by : (words : List PartWord) (size steps : ℕ) (b : Bool) → list_all is_built_form words ≡ b → (old : Outside) (seen : FilesSeen) (ended : Status) (new : Outside) (due : Result Task Refusal) (a : Answer)
+runs_by : HeadlineHolds → (words : List PartWord) (size steps : ℕ) (b : Bool) → list_all is_built_form words ≡ b → (old : Outside) (seen : FilesSeen) (ended : Status) (new : Outside) (due : Result Task Refusal) (a : Answer)
     → Comes (plan_in (Some (command.Run (Parts words size) steps))) old.files due seen → IsAnswerOf due a → GivesWhole (with_files old seen) a ended new → IsRunStatus ended → RunGiven words size steps old ended new
-runs_by words size steps true f old seen ended new due a c x g r =
-    given_run words size steps old seen ended new due a (subst (λ p. Comes p old.files due seen) (planned (command.Run (Parts words size) steps) f) c) x g r
-runs_by words size steps false f old seen ended new due a c x g r = absurd (usage_none (Some (command.Run (Parts words size) steps)) old seen ended new due a f c x g r)
+runs_by all words size steps true f old seen ended new due a c x g r =
+    given_run all words size steps old seen ended new due a (subst (λ p. Comes p old.files due seen) (planned (command.Run (Parts words size) steps) f) c) x g r
+runs_by all words size steps false f old seen ended new due a c x g r = absurd (usage_none (Some (command.Run (Parts words size) steps)) old seen ended new due a f c x g r)
 
-traces_by : (words : List PartWord) (size steps : ℕ) (b : Bool) → list_all is_built_form words ≡ b → (old : Outside) (seen : FilesSeen) (ended : Status) (new : Outside) (due : Result Task Refusal) (a : Answer)
+traces_by : HeadlineHolds → OverlaysAreOne → (words : List PartWord) (size steps : ℕ) (b : Bool) → list_all is_built_form words ≡ b → (old : Outside) (seen : FilesSeen) (ended : Status) (new : Outside) (due : Result Task Refusal) (a : Answer)
     → Comes (plan_in (Some (command.Trace (Parts words size) steps))) old.files due seen → IsAnswerOf due a → GivesWhole (with_files old seen) a ended new → IsRunStatus ended → TraceGiven words size steps old ended new
-traces_by words size steps true f old seen ended new due a c x g r =
-    given_trace words size steps old seen ended new due a (subst (λ p. Comes p old.files due seen) (planned (command.Trace (Parts words size) steps) f) c) x g r
-traces_by words size steps false f old seen ended new due a c x g r = absurd (usage_none (Some (command.Trace (Parts words size) steps)) old seen ended new due a f c x g r)
+traces_by all one words size steps true f old seen ended new due a c x g r =
+    given_trace all one words size steps old seen ended new due a (subst (λ p. Comes p old.files due seen) (planned (command.Trace (Parts words size) steps) f) c) x g r
+traces_by all one words size steps false f old seen ended new due a c x g r = absurd (usage_none (Some (command.Trace (Parts words size) steps)) old seen ended new due a f c x g r)
 
 -- an answer with the status of a run is given whole
 pub record WholeRun (plan : Plan Task) (old : Outside) (ended : Status) (new : Outside) : Type 0 where
@@ -526,14 +532,14 @@ whole_run plan old ended new (answer due a seen c x (unput f i w u k s)) r = abs
 whole_run plan old ended new (answer due a seen c x (unwritten p f k s)) r = absurd (subst IsRunStatus s r)
 whole_run plan old ended new (answer due a seen c x (whole g)) r = record { due = due; gives = a; seen = seen; came = c; is = x; given = g }
 
-pub runs : (asked : Option Command) (old : Outside) (ended : Status) (new : Outside) → Answers (plan_in asked) old ended new → (words : List PartWord) (size steps : ℕ) → asked ≡ Some (command.Run (Parts words size) steps)
+pub runs : HeadlineHolds → (asked : Option Command) (old : Outside) (ended : Status) (new : Outside) → Answers (plan_in asked) old ended new → (words : List PartWord) (size steps : ℕ) → asked ≡ Some (command.Run (Parts words size) steps)
     → IsRunStatus ended → RunGiven words size steps old ended new
-runs asked old ended new a words size steps e r =
+runs all asked old ended new a words size steps e r =
     let w = whole_run (plan_in asked) old ended new a r in
-    runs_by words size steps (list_all is_built_form words) refl old w.seen ended new w.due w.gives (subst (λ z. Comes (plan_in z) old.files w.due w.seen) e w.came) w.is w.given r
+    runs_by all words size steps (list_all is_built_form words) refl old w.seen ended new w.due w.gives (subst (λ z. Comes (plan_in z) old.files w.due w.seen) e w.came) w.is w.given r
 
-pub traces : (asked : Option Command) (old : Outside) (ended : Status) (new : Outside) → Answers (plan_in asked) old ended new → (words : List PartWord) (size steps : ℕ) → asked ≡ Some (command.Trace (Parts words size) steps)
+pub traces : HeadlineHolds → OverlaysAreOne → (asked : Option Command) (old : Outside) (ended : Status) (new : Outside) → Answers (plan_in asked) old ended new → (words : List PartWord) (size steps : ℕ) → asked ≡ Some (command.Trace (Parts words size) steps)
     → IsRunStatus ended → TraceGiven words size steps old ended new
-traces asked old ended new a words size steps e r =
+traces all one asked old ended new a words size steps e r =
     let w = whole_run (plan_in asked) old ended new a r in
-    traces_by words size steps (list_all is_built_form words) refl old w.seen ended new w.due w.gives (subst (λ z. Comes (plan_in z) old.files w.due w.seen) e w.came) w.is w.given r
+    traces_by all one words size steps (list_all is_built_form words) refl old w.seen ended new w.due w.gives (subst (λ z. Comes (plan_in z) old.files w.due w.seen) e w.came) w.is w.given r

@@ -41,7 +41,7 @@ does_answers Say (job.Show text) d = absurd d
 does_answers Say job.Say d = refl
 
 does_ready : (t : Task) (j : Job) → Does t j → IsReady j
-does_ready (Run parts size steps) (job.Run start n) d = (d.0.state.count, d.0.state.end)
+does_ready (Run parts size steps) (job.Run start n) d = (d.0.starts.state.count, d.0.starts.state.end)
 does_ready (Trace parts size steps) (job.Run start n) d = absurd d
 does_ready (Put name c) (job.Run start n) d = absurd d
 does_ready (Show c) (job.Run start n) d = absurd d

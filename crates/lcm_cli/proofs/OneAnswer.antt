@@ -139,10 +139,10 @@ one_of held asked (Ok (Show c)) a b s h k = h ∙ sym k
 one_of held asked (Ok Say) a b s h k = h ∙ sym k
 one_of held asked (Ok (Run parts size steps)) a b s h k =
     let l : linked parts size ≡ Ok tt = task_settles held asked (is_command asked) refl (Run parts size steps) s in
-    h.2 ∙ ap (λ (m : StartSeen). ran m steps) (one_start parts size h.0 k.0 l h.1 k.1) ∙ sym k.2
+    h.2 ∙ ap (λ (m : StartSeen). ran m steps) (one_start parts size h.0 k.0 l h.1.starts k.1.starts) ∙ sym k.2
 one_of held asked (Ok (Trace parts size steps)) a b s h k =
     let l : linked parts size ≡ Ok tt = task_settles held asked (is_command asked) refl (Trace parts size steps) s in
-    let e = one_start parts size h.0 k.0 l h.2 k.2 in
+    let e = one_start parts size h.0 k.0 l h.2.starts k.2.starts in
     h.4 ∙ ap (λ (o : OverlaySeen). traced o steps) (one_overlay k.0 h.1 k.1 (subst (λ m. IsOverlayOf m h.1) e h.3) k.3) ∙ sym k.4
 
 pub one_answer : (asked : Option Command) (held : List ℕ → Option (List ℕ)) (a b : Answer) → IsWritten held (plan_in asked) a → IsWritten held (plan_in asked) b → a ≡ b

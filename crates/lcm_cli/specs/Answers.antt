@@ -6,7 +6,8 @@ use Rattle.outside_io.specs.SinkSeen.{SinkSeen, Adds, FailsToWrite}
 use Rattle.outside_io.specs.Whole.{OnlyGave}
 use Rattle.lcm_machine.specs.Run.{Run as Machine, answer as last_step, plain}
 use Rattle.component_file.specs.Spelling.{spelling}
-use Rattle.component_linker.specs.Started.{StartSeen, Starts}
+use Rattle.overlay_machine.specs.Starting.{IsLinkedStart}
+use Rattle.component_linker.specs.Started.{StartSeen}
 use Rattle.overlay_machine.specs.Seen.{OverlaySeen, IsOverlayOf}
 use Rattle.trace_tool.specs.declared.run.RunEnd.{RunEnd}
 use Rattle.trace_tool.specs.declared.run.RunEnd.TheVariants as run_end
@@ -68,13 +69,13 @@ said = writes Done (codes "ok\n")
 abbrev pub puts : List ℕ → List ℕ → Answer
 puts name bytes = record said { file = Some (record { name = name; bytes = bytes }) }
 
--- the answer to what came of a plan: that of the plain run of a start of the parts or of its overlay, the
--- component's file or its text, `ok`, or the refusal's
+-- the answer to what came of a plan: that of the plain run of the start that the parts link to or of its
+-- overlay, the component's file or its text, `ok`, or the refusal's
 abbrev pub IsAnswerOf : Result Task Refusal → Answer → Type 0
 IsAnswerOf (Ok (Run parts size steps)) a =
-    (start : StartSeen) × Starts parts size start × (a ≡ ran start steps)
+    (start : StartSeen) × IsLinkedStart parts size start × (a ≡ ran start steps)
 IsAnswerOf (Ok (Trace parts size steps)) a =
-    (start : StartSeen) × (overlay : OverlaySeen) × Starts parts size start × IsOverlayOf start overlay
+    (start : StartSeen) × (overlay : OverlaySeen) × IsLinkedStart parts size start × IsOverlayOf start overlay
     × (a ≡ traced overlay steps)
 IsAnswerOf (Ok (Put name c)) a = a ≡ puts name (spelling c)
 IsAnswerOf (Ok (Show c)) a = a ≡ writes Done (disassembled c)

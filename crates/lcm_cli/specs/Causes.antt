@@ -17,10 +17,12 @@ use Rattle.component_file.specs.Spelling.{spelling}
 use Rattle.component_check.specs.declared.rule.Broken.{Broken}
 use Rattle.component_linker.specs.declared.fault.RuleAt.{RuleAt}
 use Rattle.component_linker.specs.Parts.{PartSeen}
-use Rattle.component_linker.specs.Started.{StartSeen, Starts}
+use Rattle.overlay_machine.specs.Starting.{IsLinkedStart}
+use Rattle.component_linker.specs.Started.{StartSeen}
 use Rattle.overlay_machine.specs.Seen.{OverlaySeen, IsOverlayOf}
 use Rattle.trace_tool.specs.declared.run.RunEnd.{RunEnd}
 use Rattle.trace_tool.specs.declared.run.RunEnd.TheVariants as run_end
+use Rattle.trace_tool.specs.Headline.{Headline, written}
 use Rattle.trace_tool.specs.Layout.{layout}
 use Rattle.trace_tool.specs.Runs.{run_text, end_of}
 use Rattle.trace_tool.specs.Traces.{trace_of, trace_text}
@@ -117,14 +119,14 @@ abbrev pub Runs : Option Command → FilesSeen → FilesSeen → (Step → Type 
 Runs asked old new P =
     (parts : List PartSeen) × (size : ℕ) × (steps : ℕ)
     × Comes (plan_in asked) old (Ok (Run parts size steps)) new
-    × (start : StartSeen) × Starts parts size start × P (last_step (plain steps start.state))
+    × (start : StartSeen) × IsLinkedStart parts size start × P (last_step (plain steps start.state))
 
 -- the parts of the words came, and the run of their start's overlay came to this
 abbrev pub Traces : Option Command → FilesSeen → FilesSeen → RunEnd → Type 0
 Traces asked old new end =
     (parts : List PartSeen) × (size : ℕ) × (steps : ℕ)
     × Comes (plan_in asked) old (Ok (Trace parts size steps)) new
-    × (start : StartSeen) × (overlay : OverlaySeen) × Starts parts size start × IsOverlayOf start overlay
+    × (start : StartSeen) × (overlay : OverlaySeen) × IsLinkedStart parts size start × IsOverlayOf start overlay
     × ((trace_of steps overlay).end ≡ end)
 
 -- `ok` was to be written, and nothing else to be done
@@ -212,29 +214,34 @@ IsRunStatus MachineFailed = Unit {0}
 IsRunStatus StepsUsed = Unit {0}
 IsRunStatus _ = ⊥
 
--- the words made parts that keep the rules, and the plain run of their start gave the status, the text, which
--- is its lines and its end line, and the machine
+-- the words made parts that keep the rules, and the plain run of the start that they link to gave the status,
+-- the text, which is its lines and its end line, and the machine. That start has the headline: the plain run
+-- agrees with the run of the start's overlay, its calls and returns are bracketed, and its frames are private.
 pub record RunGiven (words : List PartWord) (size steps : ℕ) (old : Outside) (status : Status) (new : Outside)
     : Type 0 where
   pub parts : List PartSeen
   pub came : Comes (each_at part_at 0 words) old.files (Ok parts) new.files
   pub keep : linked parts size ≡ Ok tt
   pub start : StartSeen
-  pub starts : Starts parts size start
+  pub linked_start : IsLinkedStart parts size start
+  pub headline : Headline start
   pub status_is : status ≡ end_status (end_of (last_step (plain steps start.state)))
   pub written : Adds old.sink (run_text (layout start) start.state steps) new.sink
   pub kept_is : new.kept ≡ Some (plain steps start.state)
 
--- the same of the run of their start's overlay, which hands no machine over
+-- the same of the run of that start's overlay, which hands no machine over. Its lines are those that a plain run
+-- of as many instructions writes.
 pub record TraceGiven (words : List PartWord) (size steps : ℕ) (old : Outside) (status : Status) (new : Outside)
     : Type 0 where
   pub parts : List PartSeen
   pub came : Comes (each_at part_at 0 words) old.files (Ok parts) new.files
   pub keep : linked parts size ≡ Ok tt
   pub start : StartSeen
-  pub starts : Starts parts size start
+  pub linked_start : IsLinkedStart parts size start
+  pub headline : Headline start
   pub overlay : OverlaySeen
   pub overlay_is : IsOverlayOf start overlay
+  pub lines_are : (trace_of steps overlay).lines ≡ written start steps
   pub status_is : status ≡ end_status (trace_of steps overlay).end
   pub written : Adds old.sink (trace_text steps overlay) new.sink
   pub kept_is : new.kept ≡ old.kept

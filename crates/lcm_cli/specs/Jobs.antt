@@ -3,7 +3,8 @@ use Rattle.std.specs.Prelude.{◌≡◌, ℕ, List, Result, Ok, Err}
 use Rattle.outside_io.specs.FilesSeen.{FilesSeen}
 use Rattle.component_file.specs.Spelling.{spelling}
 use Rattle.component_linker.specs.Parts.{PartSeen}
-use Rattle.component_linker.specs.Started.{StartSeen, Starts}
+use Rattle.overlay_machine.specs.Starting.{IsLinkedStart}
+use Rattle.component_linker.specs.Started.{StartSeen}
 use Rattle.overlay_machine.specs.Seen.{IsOverlayOf}
 use Rattle.disassembler.specs.Disassembled.{disassembled}
 use Rattle.lcm_cli.specs.declared.job.Job.{Job}
@@ -14,9 +15,9 @@ use Rattle.lcm_cli.specs.Commands.{Task, Run, Trace, Put, Show, Say}
 
 -- the job runs from the start of the task's parts, or from its overlay, and has the bytes of its component
 abbrev pub Does : Task → Job → Type 0
-Does (Run parts size steps) (job.Run start n) = Starts parts size start × (n ≡ steps)
+Does (Run parts size steps) (job.Run start n) = IsLinkedStart parts size start × (n ≡ steps)
 Does (Trace parts size steps) (job.Trace start overlay n) =
-    Starts parts size start × IsOverlayOf start overlay × (n ≡ steps)
+    IsLinkedStart parts size start × IsOverlayOf start overlay × (n ≡ steps)
 Does (Put name c) (job.Put out bytes) = (out ≡ name) × (bytes ≡ spelling c)
 Does (Show c) (job.Show text) = text ≡ disassembled c
 Does Say job.Say = Unit {0}
@@ -30,7 +31,7 @@ FollowsTask plan old (Err stop) new = Follows plan old (Err stop) new
 -- a body's start is that of the parts that the plan made
 abbrev pub FollowsStart : Plan (List PartSeen) → ℕ → FilesSeen → Result StartSeen Stop → FilesSeen → Type 0
 FollowsStart plan size old (Ok start) new =
-    (parts : List PartSeen) × Comes plan old (Ok parts) new × Starts parts size start
+    (parts : List PartSeen) × Comes plan old (Ok parts) new × IsLinkedStart parts size start
 FollowsStart plan size old (Err stop) new = Follows plan old (Err stop) new
 
 -- an answer without what was made

@@ -5,7 +5,7 @@ ghost use Rattle.component_file.specs.Spelling.{spelling};
 ghost use Rattle.disassembler.specs.Disassembled.{disassembled};
 ghost use Rattle.command_words.specs.declared.TheConstants.{MOST_PARTS};
 ghost use Rattle.command_words.specs.declared.command.Command.TheVariants as command;
-ghost use Rattle.component_linker.specs.Started.{Starts};
+ghost use Rattle.overlay_machine.specs.Starting.{IsLinkedStart};
 ghost use Rattle.lcm_cli.specs.declared.refusal.Refusal.TheVariants.{Rule};
 ghost use Rattle.lcm_cli.specs.Plans.{Meets, unless};
 ghost use Rattle.lcm_cli.specs.Parts.{linked};
@@ -44,7 +44,7 @@ pub(crate) enum Job<'a> {
 fn started(alloc: Global, parts: &Items<Part>, size: u32) -> Result<Start, Stop>
     requires { length parts.now < 2 ^ 32 }
     ensures rules { Meets (unless Rule (linked parts.now size)) (without result) }
-    ensures starts { IfOk result (Starts parts.now size) }
+    ensures linked { IfOk result (IsLinkedStart parts.now size) }
 {
     match link(alloc, parts.as_slice(), size) {
         Ok(start) => Ok(start),

@@ -5,17 +5,17 @@ ghost use Rattle.lcm_cli.specs.Status.{status_number};
 /// What a call of the program came to. The number is the process's exit status.
 #[derive(Clone, Copy, PartialEq, Eq, Debug)]
 pub enum Status {
-    /// The machine halted, or what was to be said was written.
+    /// The machine halted, or what was to be put was put and what was to be said was written.
     Done,
     /// The machine failed.
     MachineFailed,
-    /// The machine neither halted nor failed within its steps.
+    /// The machine neither halted nor failed within its steps or its weight.
     StepsUsed,
     /// The words are no command, or ask for something that isn't built.
     Usage,
     /// A file could not be read.
     ReadFault,
-    /// The line could not be written.
+    /// The text could not be written, or the file of `--out` could not be put.
     WriteFault,
     /// Memory was refused.
     NoMemory,

@@ -24,7 +24,9 @@ use component_linker::Start;
 use lcm_machine::LcmState;
 use outside_io::{Files, Sink};
 use overlay_machine::Overlay;
+use overlay_machine::laws::a_start_has_one_overlay;
 use std::alloc::Global;
+use trace_tool::laws::the_headline;
 use trace_tool::{RunEnd, run_overlay, run_plain};
 
 // Writes a text, and answers the status, or WriteFault where the sink fails.
@@ -187,14 +189,15 @@ pub fn stk_main<F: Files, S: Sink>(
         (outside (F.seen files.old) (S.seen out.old) kept.old)
         result (outside (F.seen files.new) (S.seen out.new) kept.new) }
 
-    // What a run writes, answers and hands over.
+    // What a run writes, answers and hands over, and that its start has the headline: the plain machine
+    // agrees with the overlay, returns are bracketed, frames are private.
     ensures ran { (parts : List PartWord) (size steps : ℕ)
         → asked_in (texts words.now.items) ≡ Some (command.Run (what.Parts parts size) steps)
         → IsRunStatus result → RunGiven parts size steps
         (outside (F.seen files.old) (S.seen out.old) kept.old)
         result (outside (F.seen files.new) (S.seen out.new) kept.new) }
 
-    // What a run of the overlay writes and answers.
+    // What a run of the overlay writes and answers: its lines are those of a plain run.
     ensures traced { (parts : List PartWord) (size steps : ℕ)
         → asked_in (texts words.now.items) ≡ Some (command.Trace (what.Parts parts size) steps)
         → IsRunStatus result → TraceGiven parts size steps
@@ -211,5 +214,7 @@ pub fn stk_main<F: Files, S: Sink>(
     // Where no put failed, the file of `--out` is as before or has the bytes of the component.
     ensures put_whole { PutsWhole (asked_in (texts words.now.items)) (F.seen files.old) (F.seen files.new) }
 {
+    the_headline();
+    a_start_has_one_overlay();
     answer(alloc, words.as_slice(), files, out, kept)
 }

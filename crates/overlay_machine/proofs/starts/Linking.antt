@@ -17,6 +17,7 @@ links_of sites entries parts size s is =
     let made : Linked parts size = are_linked parts size is.accepted is.rules in
     let apart = parts_apart parts size is.accepted is.rules in
     record {
+      accepted = is.accepted;
       rules = is.rules;
       starts = is.starts;
       parts_apart = apart;

@@ -11,6 +11,7 @@ returns c =
     let s = c.in_ok-start_of.field-0 in
     let P : List PartSeen → Type 0 = λ parts. LinksTo parts c.args.stack s in
     subst P c.of-placed.ensures (record {
+      accepted = c.in_ok-check_links.ensures.kept;
       rules = c.in_ok-check_links.ensures.first;
       starts = c.in_ok-start_of.ensures.starts;
       parts_apart = c.in_ok-check_links.ensures.apart;

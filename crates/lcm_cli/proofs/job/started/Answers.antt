@@ -4,6 +4,7 @@ use Rattle.lcm_cli.specs.declared.refusal.Refusal.TheVariants.{Rule}
 use Rattle.lcm_cli.specs.Parts.{linked}
 use Rattle.lcm_cli.proofs.Follow.{unless_made, unless_ended}
 use Rattle.lcm_cli.proofs.FirstOf.{linked_none, linked_broken}
+use Rattle.overlay_machine.specs.Starting.{IsLinkedStart}
 use Rattle.lcm_cli.proofs.job.started.Goals as goal
 
 pub returns-in-Ok-clause-rules : goal.returns-in-Ok-clause-rules
@@ -15,3 +16,8 @@ pub returns-in-Err-Rule-clause-rules : goal.returns-in-Err-Rule-clause-rules
 returns-in-Err-Rule-clause-rules c =
     unless_ended Rule (linked c.args.parts.now c.args.size) c.in-Err-Rule.broken
     (sym (subst (λ ps. linked ps c.args.size ≡ Err c.in-Err-Rule.broken) c.as_slice.ensures (linked_broken c.as_slice.result.now c.args.size _ c.in-Err-Rule.broken c.in-Err-Rule.field-0-is c.in-Err-Rule.ensures)))
+
+pub returns-in-Ok-clause-linked : goal.returns-in-Ok-clause-linked
+returns-in-Ok-clause-linked c =
+    subst (λ ps. IsLinkedStart ps c.args.size c.in-Ok.start) c.as_slice.ensures
+    (record { accepted = c.in-Ok.ensures.accepted; rules = c.in-Ok.ensures.rules; starts = c.in-Ok.ensures.starts })

@@ -15,4 +15,4 @@ pub returns : goal.returns
 unfolding trace_plan
 returns g c =
     let f = c.in_ok-start.ensures in
-    (Trace f.0 c.args.size c.args.steps, comes_made (linked_parts c.args.words.now c.args.size) (λ ps. Trace ps c.args.size c.args.steps) _ _ f.0 f.1, (f.2, c.in_ok-overlay.ensures, refl))
+    (Trace f.0 c.args.size c.args.steps, comes_made (linked_parts c.args.words.now c.args.size) (λ ps. Trace ps c.args.size c.args.steps) _ _ f.0 f.1, (f.2, c.in_ok-overlay.ensures.is, refl))

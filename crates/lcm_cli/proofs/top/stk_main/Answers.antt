@@ -8,10 +8,10 @@ pub returns-clause-promised : goal.returns-clause-promised
 returns-clause-promised g c = promised (asked_in (texts c.args.words.now.items)) _ _ _ (rw c.as_slice.ensures.value at c.answer.ensures)
 
 pub returns-clause-ran : goal.returns-clause-ran
-returns-clause-ran g c = runs (asked_in (texts c.args.words.now.items)) _ _ _ (rw c.as_slice.ensures.value at c.answer.ensures)
+returns-clause-ran g c = runs c.the_headline.ensures.holds (asked_in (texts c.args.words.now.items)) _ _ _ (rw c.as_slice.ensures.value at c.answer.ensures)
 
 pub returns-clause-traced : goal.returns-clause-traced
-returns-clause-traced g c = traces (asked_in (texts c.args.words.now.items)) _ _ _ (rw c.as_slice.ensures.value at c.answer.ensures)
+returns-clause-traced g c = traces c.the_headline.ensures.holds c.a_start_has_one_overlay.ensures (asked_in (texts c.args.words.now.items)) _ _ _ (rw c.as_slice.ensures.value at c.answer.ensures)
 
 pub returns-clause-usage : goal.returns-clause-usage
 returns-clause-usage g c = usage (asked_in (texts c.args.words.now.items)) _ _ _ (rw c.as_slice.ensures.value at c.answer.ensures)
