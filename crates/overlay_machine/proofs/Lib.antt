@@ -24,6 +24,7 @@ pub mod OtherAgrees
 pub mod OneStep
 pub mod RunsAgree
 pub mod BracketLemmas
+pub mod Marks
 pub mod invariant
 pub mod starts
 mod FramedLemmas

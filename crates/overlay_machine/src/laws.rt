@@ -7,7 +7,6 @@ ghost use Rattle.overlay_machine.specs.declared.layout.Layout.{Layout};
 ghost use Rattle.overlay_machine.specs.State.{OState};
 ghost use Rattle.overlay_machine.specs.Step.{halts, overlay_step, weight_of};
 ghost use Rattle.overlay_machine.specs.Runs.{Reached, plain_run, RunsAgree};
-ghost use Rattle.overlay_machine.specs.Brackets.{AreBracketed, OpenedArePrivate};
 ghost use Rattle.overlay_machine.specs.Link.{Link};
 ghost use Rattle.overlay_machine.specs.Linked.{Linked};
 ghost use Rattle.overlay_machine.specs.Invariant.{Invariant, StepsKeep};
@@ -109,22 +108,3 @@ pub fn a_linked_start_may_come()
     sequences_stand();
     sequences_stand_word_by_word();
 }
-
-/// Calls and returns are bracketed, where the invariant of linked parts holds.
-///
-/// A call opens a frame, and a return closes the newest one that is open: it tells the same site, the
-/// same range and the same words as the call did. Along a run from an overlay the events so lead from
-/// the frames that are open at first to those that are open then.
-pub fn calls_are_bracketed()
-    ensures { (g : Link) (o : OState) (t : State Word) → Linked g → Invariant g o t
-        → AreBracketed g.layout o }
-{}
-
-/// A frame that a call has opened is private until a return closes it, told by the events.
-///
-/// From the plain state behind the call on, no plain instruction touches an address of its range as
-/// long as no event closes it, nor does an `xjmp` of a return word that comes then.
-pub fn opened_frames_are_private()
-    ensures { (g : Link) (o : OState) (t : State Word) → Linked g → Invariant g o t
-        → OpenedArePrivate g.layout o t }
-{}

@@ -7,12 +7,13 @@ use Rattle.overlay_machine.specs.declared.layout.Layout.{Layout}
 use Rattle.overlay_machine.specs.State.{OpenFrame, OState, Cells, frame_of}
 use Rattle.overlay_machine.specs.Step.{goes, overlay_step, weight_of}
 use Rattle.overlay_machine.specs.Runs.{begins, goes_on, plain_run}
-use Rattle.overlay_machine.specs.Brackets.{FrameTold, Mark, opens, closes, marks_of, Marked, none_yet, and_then, frame_told, Depth, StaysPrivate, OpenedArePrivate}
+use Rattle.overlay_machine.specs.Brackets.{FrameTold, Mark, opens, closes, frame_told, Depth}
 use Rattle.overlay_machine.specs.Link.{Link}
 use Rattle.overlay_machine.specs.Linked.{Linked}
 use Rattle.overlay_machine.specs.Invariant.{Invariant, FramesLie}
 use Rattle.overlay_machine.specs.Privacy.{FramesArePrivate}
 use Rattle.overlay_machine.proofs.BracketLemmas.{depth_split}
+use Rattle.overlay_machine.proofs.Marks.{marks_of, Marked, none_yet, and_then, StaysPrivate, OpenedArePrivate}
 use Rattle.overlay_machine.proofs.FrameWords.{frame_of-later, frame_of-newest}
 use Rattle.overlay_machine.proofs.invariant.Bracketed.{Moves, stays, pushes, pops, step_moves, reached, matched}
 use Rattle.overlay_machine.proofs.invariant.FramePrivate.{frames_private}
