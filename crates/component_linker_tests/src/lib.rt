@@ -2,9 +2,7 @@
 #![tactic(auto)]
 
 #[cfg(test)]
-mod cases;
-#[cfg(test)]
-mod draft;
+mod parts;
 #[cfg(test)]
 mod rules;
 #[cfg(test)]

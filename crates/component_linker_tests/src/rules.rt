@@ -1,172 +1,256 @@
-//! What no clause says: that the rules which the clauses describe are those of docs/RULES.md.
-use crate::cases::{
-    AUX, Case, IMPORT_CASES, LIB, ONE, PAIR_CASES, REGION_CASES, STACK_REGION_CASES, WHOLE_CASES,
-};
-use crate::draft::{Change, Draft, component_of, part_of};
-use component_check::{Broken, Group, Rule};
-use component_file::{Area, FileFault};
-use component_linker::{LinkFault, Part, RuleAt, accept, link};
-use std::alloc::Global;
+//! What no clause says: that the rules which the clauses describe are those of docs/RULES.md. Each
+//! answer was worked out by hand from there.
+//!
+//! Many cases stand in one text, one a line: a constant of many parts would be proved slowly.
+use crate::parts::{AUX, LIB, ONE, changed, component_of, numbered, part_of};
+use assembler::AsmFault;
+use component_linker::{LinkFault, Part, accept, link};
+use std::alloc::{AllocError, Global};
 use std::process::Abort;
 use std::test::Fail;
 
-// The number of the first rule that the parts break, its part and its place.
-pub(crate) fn broken_by(
+// Below, each line has what is changed in the parts `one`, `lib` and `aux` (0, 1 and 2), the stack's
+// size, and what is told: the part that breaks a rule first, the rule and the place; or `ok`.
+
+// L1 with the parts alone: one address between two regions is enough.
+const REGION_CASES: &str = "\
+| 64 | ok
+1 .code 103 | 64 | ok
+1 .code 102 | 64 | 1 L1 0
+1 .code 101 | 64 | 1 L1 0
+1 .code 98 | 64 | 1 L1 0
+1 .code 97 | 64 | ok
+1 .data 205 | 64 | ok
+1 .data 204 | 64 | 1 L1 1
+1 .data 102 | 64 | 1 L1 1
+1 .linear 1017 16 | 64 | ok
+1 .linear 1016 16 | 64 | 1 L1 2
+1 .linear 204 1 | 64 | 1 L1 2
+2 .linear 303 1 | 64 | ok
+2 .linear 302 1 | 64 | 2 L1 2
+2 .code 1016 | 64 | 2 L1 0
+2 .data 1997 | 64 | ok
+2 .data 1998 | 64 | 2 L1 1
+1 .data 204, 2 .code 102 | 64 | 1 L1 1
+0 #.linear, 1 .code 0 | 64 | ok";
+
+// L1 with the stack, from 65,536 on.
+const STACK_REGION_CASES: &str = "\
+1 .linear 65601 16 | 64 | ok
+1 .linear 65600 16 | 64 | 3 L1 0
+1 .linear 65599 16 | 64 | 3 L1 0
+1 .linear 65519 16 | 64 | ok
+1 .linear 65520 16 | 64 | 3 L1 0
+0 .code 65540 | 64 | 3 L1 0
+1 .linear 65539 16 | 2 | ok
+1 .linear 65538 16 | 2 | 3 L1 0
+1 .linear 65536 16 | 1 | 3 L8 1
+1 .linear 65536 16 | 65537 | 3 L8 65537
+1 .linear 65600 16, 2 .code 102 | 64 | 2 L1 0
+1 .linear 65600 16, 2 .closure 1 | 64 | 3 L1 0";
+
+// L2 and L3: the seals of `one` are 1, 10 and 11, those of `lib` 2, 20 and 21.
+const PAIR_CASES: &str = "\
+1 .closure 1 | 64 | 1 L2 0
+2 .closure 1 | 64 | 2 L2 0
+2 .closure 2 | 64 | 2 L2 1
+1 .closure 9 | 64 | ok
+1 .closure 10 | 64 | 1 L2 0
+1 .closure 11 | 64 | 1 L2 0
+1 .closure 12 | 64 | ok
+0 .closure 20 | 64 | 1 L2 0
+1 .seals 1 1 | 64 | 1 L2 0
+1 .seals 11 2 | 64 | 1 L2 0
+1 .seals 12 2 | 64 | ok
+1 .seals 8 2 | 64 | ok
+1 .seals 8 3 | 64 | 1 L2 0
+1 #.seals | 64 | ok
+2 .seals 11 10 | 64 | 2 L2 0
+2 .seals 12 9 | 64 | 2 L2 1
+1 .closure 1, 2 .closure 1 | 64 | 1 L2 0
+1 .name one, 2 .closure 1 | 64 | 2 L2 0
+1 .name one | 64 | 1 L3 0
+2 .name lib | 64 | 2 L3 1
+2 .name one | 64 | 2 L3 0
+2 .name on | 64 | ok";
+
+// L4 and L5: `lib` shares `read`, and keeps `hide` for itself.
+const IMPORT_CASES: &str = "\
+0 .import lib rea 0 | 64 | 0 L4 0
+0 .import li read 0 | 64 | 0 L4 0
+0 .import aux read 0 | 64 | 0 L4 0
+0 .import lib read 0$.import lib none 2 | 64 | 0 L4 1
+2 .import one none 0 | 64 | 2 L4 0
+0 .import lib read 0$.import lib read 2 | 64 | ok
+0 .import lib hide 0 | 64 | 0 L5 0
+0 .import one own 0 | 64 | ok
+0 .import lib read 0$.import lib hide 2 | 64 | 0 L5 1
+1 .import one own 0 | 64 | 1 L5 0
+0 .import lib hide 0, 2 .import one none 0 | 64 | 2 L4 0
+1 .import lib hide 0 | 64 | ok";
+
+// L6 to L8: one `main`, one stack base, and a stack that fits.
+const WHOLE_CASES: &str = "\
+0 .export own 0 shared | 64 | 3 L6 0
+0 .export main 0 own | 64 | 3 L6 0
+0 .export mai 0 shared$.export main_ 0 shared | 64 | 3 L6 0
+2 .export main 0 shared | 64 | 2 L6 0
+2 .export a 0 shared$.export main 0 shared | 64 | 2 L6 1
+2 .export main 0 own | 64 | ok
+1 .export main 0 shared$.export read 0 shared, 2 .export main 0 shared | 64 | 1 L6 0
+1 .stack 65537 | 64 | 1 L7 65537
+2 .stack 0 | 64 | 2 L7 0
+1 .stack 9, 2 .stack 8 | 64 | 1 L7 9
+0 .stack 1 | 64 | 1 L7 65536
+1 .stack 9 | 1 | 1 L7 9
+| 0 | 3 L8 0
+| 1 | 3 L8 1
+| 2 | ok
+| 65536 | ok
+| 65537 | 3 L8 65537
+| 4294967295 | 3 L8 4294967295
+0 .stack 1048512, 1 .stack 1048512, 2 .stack 1048512 | 64 | ok
+0 .stack 1048513, 1 .stack 1048513, 2 .stack 1048513 | 64 | 3 L8 64";
+
+// What linking these parts tells.
+pub(crate) fn told(
     rt: &impl Abort,
     alloc: Global,
     parts: &[Part],
     stack: u32,
-) -> Option<(u8, u32, u32)> {
+) -> Result<String, AllocError> {
     assert!(rt; parts.len() < 100);
     match link(alloc, parts, stack) {
-        Ok(_) => None,
-        Err(LinkFault::Rule(RuleAt { rule, part, place })) => {
-            assert_eq!(rt; rule.group, Group::L);
-            Some((rule.number, part, place))
-        }
-        Err(LinkFault::NoMemory) => panic!(rt; "out of memory"),
+        Ok(_) => String::from_str(alloc, "ok"),
+        Err(LinkFault::Rule(at)) => format!(in alloc; "{at}"),
+        Err(LinkFault::NoMemory) => Err(AllocError),
     }
 }
 
-fn judge(
+fn parts_of(
     rt: &impl Abort,
     alloc: Global,
-    drafts: &[Draft],
-    stack: u32,
-    wanted: Option<(u8, u32, u32)>,
-) -> Result<(), FileFault> {
+    texts: &[&str],
+    changes: &str,
+) -> Result<Vec<Part>, AsmFault> {
     let mut parts = Vec::new(alloc);
-    for draft in drafts {
-        parts.push(part_of(rt, alloc, draft)?)?;
+    for (text, number) in texts.iter().zip(["0 ", "1 ", "2 "]) {
+        let text = numbered(alloc, text, number, changes)?;
+        parts.push(part_of(rt, alloc, text.as_str(), false)?)?;
     }
-    assert_eq!(rt;
-        broken_by(rt, alloc, &parts, stack),
-        wanted,
-        "{drafts:?} {stack}"
-    );
-    Ok(())
+    Ok(parts)
 }
 
-fn break_first(rt: &impl Abort, alloc: Global, cases: &[Case]) -> Result<(), FileFault> {
-    for (changes, stack, wanted) in cases {
-        let mut drafts = [ONE, LIB, AUX];
-        for (draft, change) in drafts.iter_mut().zip(*changes) {
-            draft.make(change);
-        }
-        judge(rt, alloc, &drafts, *stack, *wanted)?;
+// Each line of cases over these texts.
+fn each_is_told(rt: &impl Abort, alloc: Global, texts: &[&str], cases: &str) -> Result<(), Fail> {
+    for case in cases.split('\n') {
+        let mut fields = case.split('|');
+        let (Some(changes), Some(size), Some(wanted)) = (
+            fields.next(),
+            fields.next(),
+            fields.next(),
+        ) else {
+            panic!(rt; "no case: {case}");
+        };
+        let parts = parts_of(rt, alloc, texts, changes)?;
+        let Ok(size) = size.trim().parse::<u32>() else {
+            panic!(rt; "no size: {case}");
+        };
+        let told = told(rt, alloc, &parts, size)?;
+        assert_eq!(rt; told.as_str(), wanted.trim(), "{case}");
     }
     Ok(())
 }
 
 #[test]
 fn lists_of_parts_are_judged(rt: HostRuntime) -> Result<(), Fail> {
-    break_first(&rt, rt.alloc(), &REGION_CASES)?;
-    break_first(&rt, rt.alloc(), &STACK_REGION_CASES)?;
-    break_first(&rt, rt.alloc(), &PAIR_CASES)?;
-    break_first(&rt, rt.alloc(), &IMPORT_CASES)?;
-    break_first(&rt, rt.alloc(), &WHOLE_CASES)?;
+    let texts = [ONE, LIB, AUX];
+    each_is_told(&rt, rt.alloc(), &texts, REGION_CASES)?;
+    each_is_told(&rt, rt.alloc(), &texts, STACK_REGION_CASES)?;
+    each_is_told(&rt, rt.alloc(), &texts, PAIR_CASES)?;
+    each_is_told(&rt, rt.alloc(), &texts, IMPORT_CASES)?;
+    each_is_told(&rt, rt.alloc(), &texts, WHOLE_CASES)?;
     Ok(())
 }
 
 /// Code 100, data 200, no linear area, no return seals, and `main` shared.
-const ALONE: Draft = Draft {
-    name: "one",
-    stack: 65_536,
-    closure: 1,
-    seals: Area { base: 0, count: 0 },
-    linear: Area { base: 0, count: 0 },
-    code_base: 100,
-    code_count: 1,
-    data_base: 200,
-    data_count: 1,
-    holds_linear: false,
-    imports: [None, None],
-    exports: [Some(("main", 0, true)), None],
-};
+const ALONE: &str = "\
+.name one
+.stack 65536
+.closure 1
+#.linear
+.code 100
+.int 1
+.data 200
+word: .int 0
+.export main 0 shared";
 
 /// Another part beside `ALONE`: code 102, data 300, nothing exported.
-const TWO: Draft = Draft {
-    name: "two",
-    code_base: 102,
-    data_base: 300,
-    exports: [None, None],
-    ..ALONE
-};
+const TWO: &str = "\
+.name two
+.stack 65536
+.closure 1
+.code 102
+.int 1
+.data 300
+.int 0";
+
+// The last two: a linear area right behind the stack.
+const ALONE_CASES: &str = "\
+| 1 | 1 L8 1
+| 2 | ok
+| 65536 | ok
+| 65537 | 1 L8 65537
+0 .linear 65600 16, 0 word: .cap rw lin 65600 65615 65600 | 64 | 1 L1 0
+0 .linear 65601 16, 0 word: .cap rw lin 65601 65616 65601 | 64 | ok";
+
+const TWO_CASES: &str = "\
+1 .closure 1, 1 .code 102 | 64 | 1 L2 0
+1 .closure 2, 1 .code 101 | 64 | 1 L1 0
+1 .closure 2, 1 .code 102 | 64 | ok";
 
 #[test]
 fn no_part_and_one_and_two(rt: HostRuntime) -> Result<(), Fail> {
-    let alloc = rt.alloc();
-    judge(&rt, alloc, &[], 64, Some((6, 0, 0)))?;
-    judge(&rt, alloc, &[], 1, Some((6, 0, 0)))?;
-    let sizes = [
-        (1, Some((8, 1, 1))),
-        (2, None),
-        (65_536, None),
-        (65_537, Some((8, 1, 65_537))),
-    ];
-    for (stack, wanted) in sizes {
-        judge(&rt, alloc, &[ALONE], stack, wanted)?;
-    }
-    // A linear area right behind the stack.
-    for (base, wanted) in [(65_600, Some((1, 1, 0))), (65_601, None)] {
-        let mut draft = ALONE;
-        draft.make(Change::LinearArea(base, 16));
-        draft.holds_linear = true;
-        judge(&rt, alloc, &[draft], 64, wanted)?;
-    }
-    let seconds = [
-        (1, 102, Some((2, 1, 0))),
-        (2, 101, Some((1, 1, 0))),
-        (2, 102, None),
-    ];
-    for (closure, code_base, wanted) in seconds {
-        let second = Draft {
-            closure,
-            code_base,
-            ..TWO
-        };
-        judge(&rt, alloc, &[ALONE, second], 64, wanted)?;
-    }
+    each_is_told(&rt, rt.alloc(), &[], "| 64 | 0 L6 0\n| 1 | 0 L6 0")?;
+    each_is_told(&rt, rt.alloc(), &[ALONE], ALONE_CASES)?;
+    each_is_told(&rt, rt.alloc(), &[ALONE, TWO], TWO_CASES)?;
     Ok(())
 }
 
-/// Parts behind `ALONE` that have names, seals and places of their own.
-const MORE_NAMES: [&str; 16] = [
-    "p1", "p2", "p3", "p4", "p5", "p6", "p7", "p8", "p9", "p10", "p11", "p12", "p13", "p14", "p15",
-    "p16",
-];
+// A part behind `ALONE` that has a name, a seal and places of its own.
+fn another(alloc: Global, number: u32) -> Result<String, AllocError> {
+    let places = number.saturating_mul(1000);
+    let data = places.saturating_add(500);
+    let closure = number.saturating_add(1);
+    let changes = format!(in alloc;
+        "0 .name p{number}, 0 .closure {closure}, 0 .code {places}, 0 .data {data}"
+    )?;
+    numbered(alloc, TWO, "0 ", changes.as_str())
+}
 
 #[test]
 fn sixteen_parts_are_enough(rt: HostRuntime) -> Result<(), Fail> {
-    let mut parts = Vec::new(rt.alloc());
-    parts.push(part_of(&rt, rt.alloc(), &ALONE)?)?;
-    for (number, name) in (1_u8..=16).zip(MORE_NAMES) {
-        assert_eq!(&rt; broken_by(&rt, rt.alloc(), &parts, 64), None);
-        let mut draft = TWO;
-        draft.make(Change::Name(name));
-        draft.make(Change::Closure(u32::from(number) + 1));
-        draft.make(Change::CodeBase(u32::from(number) * 1000));
-        draft.make(Change::DataBase(u32::from(number) * 1000 + 500));
-        parts.push(part_of(&rt, rt.alloc(), &draft)?)?;
+    let alloc = rt.alloc();
+    let mut parts = Vec::new(alloc);
+    parts.push(part_of(&rt, alloc, ALONE, false)?)?;
+    for number in 1..=16 {
+        assert_eq!(&rt; told(&rt, alloc, &parts, 64)?.as_str(), "ok");
+        parts.push(part_of(&rt, alloc, another(alloc, number)?.as_str(), false)?)?;
     }
-    assert_eq!(&rt; broken_by(&rt, rt.alloc(), &parts, 64), Some((9, 16, 17)));
-    assert_eq!(&rt; broken_by(&rt, rt.alloc(), &parts, 1), Some((8, 17, 1)));
+    assert_eq!(&rt; told(&rt, alloc, &parts, 64)?.as_str(), "16 L9 17");
+    assert_eq!(&rt; told(&rt, alloc, &parts, 1)?.as_str(), "17 L8 1");
     Ok(())
 }
 
 #[test]
 fn a_component_that_breaks_a_rule_is_no_part(rt: HostRuntime) -> Result<(), Fail> {
-    let mut draft = ALONE;
-    draft.make(Change::DataBase(101));
-    let Err(broken) = accept(component_of(&rt, rt.alloc(), &draft)?, false) else {
+    let alloc = rt.alloc();
+    let text = changed(alloc, ALONE, ".data 101")?;
+    let Err(broken) = accept(component_of(&rt, alloc, text.as_str())?, false) else {
         panic!(&rt; "accepted");
     };
-    let rule = Rule {
-        group: Group::C,
-        number: 2,
-    };
-    assert_eq!(&rt; broken, Broken { rule, place: 0 });
-    let part = part_of(&rt, rt.alloc(), &ALONE)?;
+    assert_eq!(&rt; format!(in alloc; "{broken}")?.as_str(), "C2 0");
+    let part = part_of(&rt, alloc, ALONE, false)?;
     assert!(&rt; !part.trusted());
     assert_eq!(&rt;
         part.component().fields().name.as_slice(),

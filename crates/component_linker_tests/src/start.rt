@@ -1,6 +1,5 @@
 //! One link, looked at from all sides. Each word was worked out by hand.
-use crate::cases::{LIB, ONE};
-use crate::draft::part_of;
+use crate::parts::{LIB, ONE, changed, part_of};
 use cap_words::word_text;
 use component_linker::{Owner, link};
 use lcm_isa::Reg;
@@ -98,11 +97,10 @@ fn entries_are(rt: &impl Abort, owner: &Owner, wanted: [(&str, u32); 2]) {
 #[test]
 fn two_parts_start(rt: HostRuntime) -> Result<(), Fail> {
     let alloc = rt.alloc();
-    let mut main = ONE;
-    main.holds_linear = true;
     let mut parts = Vec::new(alloc);
-    parts.push(part_of(&rt, alloc, &LIB)?)?;
-    parts.push(part_of(&rt, alloc, &main)?)?;
+    parts.push(part_of(&rt, alloc, LIB, false)?)?;
+    let one = changed(alloc, ONE, "word: .cap rw lin 1000 1015 1000")?;
+    parts.push(part_of(&rt, alloc, one.as_str(), false)?)?;
     let Ok(start) = link(alloc, &parts, 64) else {
         panic!(&rt; "not linked");
     };

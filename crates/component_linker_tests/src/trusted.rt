@@ -1,165 +1,158 @@
 //! Trusted parts: which are accepted, what they start with, and how their sites are counted.
-use crate::draft::{
-    Draft, ExportDraft, ImportDraft, part_of, push_area, push_exports, push_imports, push_integer,
-    push_name, push_number,
-};
-use crate::rules::broken_by;
-use call_sequence::{call_words, entry_words, return_words};
+use crate::parts::{changed, component_of, numbered, part_of};
+use crate::rules::told;
 use cap_words::word_text;
-use component_check::Group;
-use component_file::{Area, Component, FileFault, decode_component};
-use component_linker::{Part, Site, Start, accept, link};
+use component_linker::{Site, Start, accept, link};
 use lcm_isa::Reg;
 use std::alloc::{AllocError, Global};
 use std::process::Abort;
 use std::test::Fail;
 
-const STACK_BASE: u32 = 65_536;
+/// Its code begins with the instruction `fail` at 0, at 1 the literal, and an entry at 2. From 22 on
+/// stand its calls, one behind another, in place of the line `#calls`, and then `halt`. Code from 4096
+/// on, data 8192 and 8193, seals 10 and 11.
+const T: &str = "\
+.name t
+.stack 65536
+.closure 10
+.seals 11 1
+.code 4096
+no: fail
+right: .seal 11 11 11
+move t2 pc
+cca t2 @no
+gettype t1 stk
+minus t1 t1 1
+jnz t2 t1
+getlin t1 stk
+minus t1 t1 1
+jnz t2 t1
+getp t1 stk
+minus t1 t1 2
+jnz t2 t1
+getb t1 stk
+minus t1 t1 65536
+jnz t2 t1
+seta2b stk
+gete t1 stk
+minus t1 t1 65536
+cca stk t1
+move t1 0
+move t2 0
+#calls
+halt
+.data 8192
+.int 0
+.int 0
+.import adv go 0
+.export main 2 shared
+#sites
+.fail no
+.literal right";
 
-/// A trusted part. Its code begins with the instruction `fail` at 0, at 1 the literal, and an entry
-/// at 2. From 22 on stand so many sites, one behind another, and then `halt`. Its data is two words
-/// 0, and its seals are as many as it declares sites, from the one behind its closure seal on.
-#[derive(Clone, Copy, Debug)]
-struct Trusted {
-    name: &'static str,
-    closure: u32,
-    code_base: u32,
-    data_base: u32,
-    import: ImportDraft,
-    export: ExportDraft,
-    standing: u32,
-    declared: u32,
-}
-
-/// Code 4096 to 4144, data 8192 and 8193, seals 10 and 11, and one site at 22.
-const T: Trusted = Trusted {
-    name: "t",
-    closure: 10,
-    code_base: 4096,
-    data_base: 8192,
-    import: Some(("adv", "go", 0)),
-    export: Some(("main", 2, true)),
-    standing: 1,
-    declared: 1,
-};
+/// A call up to the number of its site, and from there on with its return.
+const CALL: [&str; 2] = [
+    "\
+store stk data
+move t1 pc
+cca t1 @right
+load t2 t1
+cca t2",
+    "
+geta t1 stk
+minus t1 t1 1
+split stk rdata stk t1
+cca stk -1
+cseal rdata t2
+move rcode pc
+cca rcode 6
+cseal rcode t2
+move t1 0
+move t2 0
+xjmp c1 c2
+splice stk stk data
+getb t1 stk
+minus t1 t1 65536
+move t2 pc
+cca t2 @no
+jnz t2 t1
+load data stk
+move t1 0
+store stk t1
+move t2 0
+",
+];
 
 /// Code 12,288, data 16,384 and 16,385, seal 20.
-const ADV: Draft = Draft {
-    name: "adv",
-    stack: STACK_BASE,
-    closure: 20,
-    seals: Area { base: 0, count: 0 },
-    linear: Area { base: 0, count: 0 },
-    code_base: 12_288,
-    code_count: 1,
-    data_base: 16_384,
-    data_count: 2,
-    holds_linear: false,
-    imports: [Some(("t", "main", 0)), None],
-    exports: [Some(("go", 0, true)), None],
-};
+const ADV: &str = "\
+.name adv
+.stack 65536
+.closure 20
+.code 12288
+.int 1
+.data 16384
+.int 0
+.int 0
+.import t main 0
+.export go 0 shared";
 
-fn push_site(bytes: &mut Vec<u8>, rt: &impl Abort, site: u32) -> Result<(), AllocError> {
-    assert!(rt; site < 2500);
-    let at = 22 + 26 * site;
-    for number in call_words(1, at, site) {
-        push_integer(bytes, number)?;
+// The text of a trusted part with calls, of which so many are declared as sites.
+fn with_calls(alloc: Global, part: &str, calls: u32, declared: u32) -> Result<String, AllocError> {
+    let mut code = String::from_str(alloc, "#calls\n")?;
+    let [front, back] = CALL;
+    for number in 0..calls {
+        code.push_str(format!(in alloc; "{front} {number}{back}")?.as_str())?;
     }
-    for number in return_words(0, at + 16, STACK_BASE) {
-        push_integer(bytes, number)?;
+    let mut sites = String::from_str(alloc, "#sites\n")?;
+    for number in 0..declared {
+        let at = number.saturating_mul(26).saturating_add(22);
+        sites.push_str(format!(in alloc; ".site {at}\n")?.as_str())?;
     }
-    Ok(())
+    let text = inserted(alloc, part, code.as_str())?;
+    inserted(alloc, text.as_str(), sites.as_str())
 }
 
-fn push_code(bytes: &mut Vec<u8>, rt: &impl Abort, draft: &Trusted) -> Result<(), AllocError> {
-    assert!(rt; draft.standing < 2500);
-    push_number(bytes, draft.code_base)?;
-    push_number(bytes, 23 + 26 * draft.standing)?;
-    push_integer(bytes, 0)?;
-    bytes.push(2)?;
-    push_number(bytes, draft.closure.saturating_add(1))?;
-    push_number(bytes, draft.closure.saturating_add(draft.declared))?;
-    bytes.extend_from_slice(&i64::from(draft.closure.saturating_add(1)).to_le_bytes())?;
-    for number in entry_words(0, 2, STACK_BASE) {
-        push_integer(bytes, number)?;
+// The text with more lines behind the one that is the first of these.
+fn inserted(alloc: Global, text: &str, lines: &str) -> Result<String, AllocError> {
+    let first = lines.split('\n').next();
+    let mut new = String::new(alloc);
+    for line in text.split('\n') {
+        if Some(line) == first {
+            new.push_str(lines)?;
+        } else {
+            new.push_str(line)?;
+            new.push('\n')?;
+        }
     }
-    for site in 0..draft.standing {
-        push_site(bytes, rt, site)?;
-    }
-    push_integer(bytes, 1)
+    Ok(new)
 }
 
-// The sites, `fail` at 0, the literal at 1, and no rows.
-fn push_lists(bytes: &mut Vec<u8>, draft: &Trusted) -> Result<(), AllocError> {
-    bytes.extend_from_slice(&((draft.declared % 65_536) as u16).to_le_bytes())?;
-    for site in 0..draft.declared {
-        push_number(bytes, site.saturating_mul(26).saturating_add(22))?;
-    }
-    bytes.extend_from_slice(b"\x01\0\0\0\0\x01\x01\0\0\0\0\0\0\0")
-}
-
-// The bytes of a component file, by the table of docs/FORMATS.md.
-fn bytes_of(rt: &impl Abort, alloc: Global, draft: &Trusted) -> Result<Vec<u8>, AllocError> {
-    let mut bytes = Vec::from_slice(alloc, b"STKC\x01\0")?;
-    push_name(&mut bytes, draft.name)?;
-    push_number(&mut bytes, STACK_BASE)?;
-    push_number(&mut bytes, draft.closure)?;
-    let base = draft.closure.saturating_add(1);
-    push_area(
-        &mut bytes,
-        Area {
-            base,
-            count: draft.declared,
-        },
-    )?;
-    push_area(&mut bytes, Area { base: 0, count: 0 })?;
-    push_code(&mut bytes, rt, draft)?;
-    push_number(&mut bytes, draft.data_base)?;
-    push_number(&mut bytes, 2)?;
-    push_integer(&mut bytes, 0)?;
-    push_integer(&mut bytes, 0)?;
-    push_imports(&mut bytes, [draft.import, None])?;
-    push_exports(&mut bytes, [draft.export, None])?;
-    push_lists(&mut bytes, draft)?;
-    Ok(bytes)
-}
-
-fn component_of(rt: &impl Abort, alloc: Global, draft: &Trusted) -> Result<Component, FileFault> {
-    let bytes = bytes_of(rt, alloc, draft)?;
-    assert!(rt; bytes.len() < 1_000_000);
-    decode_component(alloc, &bytes)
-}
-
-fn trusted_part(rt: &impl Abort, alloc: Global, draft: &Trusted) -> Result<Part, FileFault> {
-    match accept(component_of(rt, alloc, draft)?, true) {
-        Ok(part) => Ok(part),
-        Err(broken) => panic!(rt; "{broken}"),
-    }
-}
+// The changes, how many calls of one are declared as sites, whether the part is trusted, and what it
+// breaks.
+const FLOW_CASES: [(&str, u32, bool, &str); 5] = [
+    ("", 1, true, "ok"),
+    ("0 .seals 11 2, 0 right: .seal 11 12 11", 2, true, "K1 48"),
+    ("0 .seals 11 2, 0 right: .seal 11 12 11", 2, false, "ok"),
+    ("0 .export main 3 shared", 1, true, "K3 3"),
+    (
+        "0 .seals 11 2, 0 right: .seal 11 12 11, 0 .export main 100 shared",
+        2,
+        true,
+        "C6 0",
+    ),
+];
 
 #[test]
 fn flow_is_asked_of_trusted_parts_after_the_rest(rt: HostRuntime) -> Result<(), Fail> {
-    let past_end = Some(("main", 100, true));
-    let elsewhere = Some(("main", 3, true));
-    let cases = [
-        (T.export, 1, true, None),
-        (T.export, 2, true, Some((Group::K, 1, 48))),
-        (T.export, 2, false, None),
-        (elsewhere, 1, true, Some((Group::K, 3, 3))),
-        (past_end, 2, true, Some((Group::C, 6, 0))),
-    ];
-    for (export, declared, trusted, wanted) in cases {
-        let draft = Trusted {
-            export,
-            declared,
-            ..T
+    let alloc = rt.alloc();
+    for (changes, declared, trusted, wanted) in FLOW_CASES {
+        let text = with_calls(alloc, T, 1, declared)?;
+        let text = numbered(alloc, text.as_str(), "0 ", changes)?;
+        let told = match accept(component_of(&rt, alloc, text.as_str())?, trusted) {
+            Ok(_) => String::from_str(alloc, "ok")?,
+            Err(broken) => format!(in alloc; "{broken}")?,
         };
-        let component = component_of(&rt, rt.alloc(), &draft)?;
-        let broken = match accept(component, trusted) {
-            Ok(_) => None,
-            Err(b) => Some((b.rule.group, b.rule.number, b.place)),
-        };
-        assert_eq!(&rt; broken, wanted, "{draft:?}");
+        assert_eq!(&rt; told.as_str(), wanted, "{changes} {declared}");
     }
     Ok(())
 }
@@ -203,8 +196,8 @@ fn start_is(rt: &impl Abort, start: &Start) {
 fn a_trusted_part_starts(rt: HostRuntime) -> Result<(), Fail> {
     let alloc = rt.alloc();
     let mut parts = Vec::new(alloc);
-    parts.push(part_of(&rt, alloc, &ADV)?)?;
-    parts.push(trusted_part(&rt, alloc, &T)?)?;
+    parts.push(part_of(&rt, alloc, ADV, false)?)?;
+    parts.push(part_of(&rt, alloc, with_calls(alloc, T, 1, 1)?.as_str(), true)?)?;
     assert!(&rt; parts[1].trusted());
     match link(alloc, &parts, 64) {
         Ok(start) => start_is(&rt, &start),
@@ -213,46 +206,55 @@ fn a_trusted_part_starts(rt: HostRuntime) -> Result<(), Fail> {
     Ok(())
 }
 
-/// It stands apart from `T`, even where both have as many sites as fit.
-const MORE: Trusted = Trusted {
-    name: "more",
-    closure: 10_000,
-    code_base: 200_000,
-    data_base: 190_000,
-    import: None,
-    export: Some(("go", 2, true)),
-    standing: 1,
-    declared: 1,
-};
+/// What makes another part of `T`, which stands apart from it even where both have as many sites as
+/// fit.
+const MORE: &str =
+    "0 .name more, 0 .closure 10000, 0 .code 200000, 0 .data 190000, 0 #.import, 0 .export go 2 shared";
+
+// A trusted part with so many sites and seals for them.
+fn with_sites(
+    alloc: Global,
+    changes: &str,
+    first_seal: u32,
+    sites: u32,
+) -> Result<String, AllocError> {
+    let text = numbered(alloc, T, "0 ", changes)?;
+    let seals = format!(in alloc; ".seals {first_seal} {sites}")?;
+    let text = changed(alloc, text.as_str(), seals.as_str())?;
+    let last = first_seal.saturating_add(sites).saturating_sub(1);
+    let right = format!(in alloc; "right: .seal {first_seal} {last} {first_seal}")?;
+    let text = changed(alloc, text.as_str(), right.as_str())?;
+    with_calls(alloc, text.as_str(), sites, sites)
+}
+
+// What is changed in `T` and in `MORE`, how many sites they have, and what is told.
+const SITE_CASES: [(&str, &str, u32, u32, &str); 4] = [
+    (".import more go 0", "", 1, 1, "ok"),
+    (".import more go 0", "0 .export go 2 own", 1, 1, "0 L5 0"),
+    ("#.import", "", 2048, 2048, "ok"),
+    ("#.import", "", 2048, 2049, "1 L9 4097"),
+];
 
 #[test]
 fn private_exports_and_many_sites(rt: HostRuntime) -> Result<(), Fail> {
     let alloc = rt.alloc();
-    let import = Some(("more", "go", 0));
-    let cases = [
-        (import, true, 1, 1, None),
-        (import, false, 1, 1, Some((5, 0, 0))),
-        (None, true, 2048, 2048, None),
-        (None, true, 2048, 2049, Some((9, 1, 4097))),
-    ];
-    for (import, shared, first, second, wanted) in cases {
-        let t = Trusted {
-            code_base: 100_000,
-            import,
-            standing: first,
-            declared: first,
-            ..T
-        };
-        let more = Trusted {
-            export: Some(("go", 2, shared)),
-            standing: second,
-            declared: second,
-            ..MORE
-        };
+    for (import, export, first, second, wanted) in SITE_CASES {
+        let one = with_sites(
+            alloc,
+            format!(in alloc; "0 .code 100000, 0 {import}")?.as_str(),
+            11,
+            first,
+        )?;
+        let more = with_sites(
+            alloc,
+            format!(in alloc; "{MORE}, {export}")?.as_str(),
+            10_001,
+            second,
+        )?;
         let mut parts = Vec::new(alloc);
-        parts.push(trusted_part(&rt, alloc, &t)?)?;
-        parts.push(trusted_part(&rt, alloc, &more)?)?;
-        assert_eq!(&rt; broken_by(&rt, alloc, &parts, 64), wanted);
+        parts.push(part_of(&rt, alloc, one.as_str(), true)?)?;
+        parts.push(part_of(&rt, alloc, more.as_str(), true)?)?;
+        assert_eq!(&rt; told(&rt, alloc, &parts, 64)?.as_str(), wanted);
     }
     Ok(())
 }

@@ -3,14 +3,10 @@
 #![tactic(auto)]
 
 #[cfg(test)]
-mod draft;
+mod cases;
 #[cfg(test)]
-mod list_cases;
+mod component;
 #[cfg(test)]
 mod rows;
 #[cfg(test)]
-mod sequence_cases;
-#[cfg(test)]
 mod tests;
-#[cfg(test)]
-mod walk_cases;

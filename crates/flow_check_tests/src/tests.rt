@@ -1,85 +1,54 @@
 //! What no clause says: that the rules and the sequences which the clauses describe are those of
 //! docs/RULES.md.
-use crate::draft::{Draft, component_of};
-use crate::list_cases::{CALLER, Case, LIST_CASES};
+use crate::cases::{FLOW_CASES, LIST_CASES, SEQUENCE_CASES, WORD_CASES};
+use crate::component::{case_of, component_of};
 use crate::rows::{CLEAN, ENTRY};
-use crate::sequence_cases::SEQUENCE_CASES;
-use crate::walk_cases::{FLOW_CASES, WORD_CASES, Walked};
 use call_sequence::{call_words, entry_words, is_entry, is_site, return_words};
-use component_check::{Broken, Group, check};
-use component_file::FileFault;
+use component_check::check;
 use flow_check::{check_flow, row_at};
 use lcm_isa::decode;
 use std::alloc::Global;
 use std::process::Abort;
 use std::test::Fail;
 
-fn break_first(
-    rt: &impl Abort,
-    alloc: Global,
-    draft: &Draft,
-    wanted: Option<(u8, u32)>,
-) -> Result<(), FileFault> {
-    let component = component_of(rt, alloc, draft)?;
-    assert_eq!(rt; check(&component, true), Ok(()), "{draft:?}");
-    let answer = match check_flow(&component) {
-        Ok(()) => None,
-        Err(Broken { rule, place }) => {
-            assert_eq!(rt; rule.group, Group::K);
-            Some((rule.number, place))
+// Each line of cases.
+fn each_is_told(rt: &impl Abort, alloc: Global, cases: &str) -> Result<(), Fail> {
+    for line in cases.split('\n') {
+        if line.starts_with('#') {
+            continue;
         }
-    };
-    assert_eq!(rt; answer, wanted, "{draft:?}");
-    Ok(())
-}
-
-fn break_each(rt: &impl Abort, alloc: Global, cases: &[Case]) -> Result<(), FileFault> {
-    for (draft, wanted) in cases {
-        break_first(rt, alloc, draft, *wanted)?;
-    }
-    Ok(())
-}
-
-fn walk_each(rt: &impl Abort, alloc: Global, cases: &[Walked]) -> Result<(), FileFault> {
-    for (body, rows, wanted) in cases {
-        let draft = Draft {
-            body: *body,
-            exports: [Some(2), None, None],
-            sites: [None, None],
-            rows: *rows,
+        let Some(case) = case_of(line) else {
+            panic!(rt; "no case: {line}");
         };
-        break_first(rt, alloc, &draft, *wanted)?;
+        let component = component_of(rt, alloc, &case)?;
+        assert_eq!(rt; check(&component, true), Ok(()), "{line}");
+        let told = match check_flow(&component) {
+            Ok(()) => String::from_str(alloc, "ok")?,
+            Err(broken) => format!(in alloc; "{broken}")?,
+        };
+        assert_eq!(rt; told.as_str(), case.wanted, "{line}");
     }
     Ok(())
 }
 
 #[test]
-fn lists_are_judged(rt: HostRuntime) -> Result<(), Fail> {
-    break_each(&rt, rt.alloc(), &LIST_CASES)?;
+fn components_are_judged(rt: HostRuntime) -> Result<(), Fail> {
+    each_is_told(&rt, rt.alloc(), LIST_CASES)?;
+    each_is_told(&rt, rt.alloc(), WORD_CASES)?;
+    each_is_told(&rt, rt.alloc(), FLOW_CASES)?;
+    each_is_told(&rt, rt.alloc(), SEQUENCE_CASES)?;
     Ok(())
 }
 
-#[test]
-fn words_are_judged(rt: HostRuntime) -> Result<(), Fail> {
-    walk_each(&rt, rt.alloc(), &WORD_CASES)?;
-    Ok(())
-}
-
-#[test]
-fn flow_is_judged(rt: HostRuntime) -> Result<(), Fail> {
-    walk_each(&rt, rt.alloc(), &FLOW_CASES)?;
-    Ok(())
-}
-
-#[test]
-fn sequences_are_judged(rt: HostRuntime) -> Result<(), Fail> {
-    break_each(&rt, rt.alloc(), &SEQUENCE_CASES)?;
-    Ok(())
-}
+/// Its site is at 25.
+const CALLER: &str = "load c1 data; cca data 1; load c2 data; call 0; return; halt | 2 | 25 | | ok";
 
 #[test]
 fn rows_of_a_caller(rt: HostRuntime) -> Result<(), Fail> {
-    let caller = component_of(&rt, rt.alloc(), &CALLER)?;
+    let Some(case) = case_of(CALLER) else {
+        panic!(&rt; "no case");
+    };
+    let caller = component_of(&rt, rt.alloc(), &case)?;
     assert!(rt; is_entry(&caller, 2));
     assert!(rt; !is_entry(&caller, 3));
     let sites = caller.fields().sites.as_slice().len();
