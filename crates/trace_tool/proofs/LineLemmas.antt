@@ -8,8 +8,7 @@ use Rattle.outside_io.specs.SinkSeen.{SinkSeen, Adds, FailsToWrite}
 use Rattle.cap_words.specs.declared.Word.{Word}
 use Rattle.cap_words.specs.Text.{word_text_of}
 use Rattle.trace_tool.specs.Views.{View}
-use Rattle.overlay_machine.specs.Brackets.{if_there}
-use Rattle.trace_tool.specs.Lines.{Line, words_from}
+use Rattle.trace_tool.specs.Lines.{Line, list_of, words_from}
 use Rattle.trace_tool.specs.Texts.{field, words_text, words_of, head_text, line_text}
 use Rattle.outside_io.proofs.Writing.{adds_then, adds_fails, fails_more, fails_upto, writes_behind, failed_writes}
 
@@ -23,10 +22,10 @@ abbrev pub cells_text : View → ℕ → ℕ → List ℕ
 cells_text v a n = words_text (words_from v a n)
 
 abbrev pub cell_text : View → ℕ → ℕ → List ℕ
-cell_text v a n = words_text (if_there (v.cell (a + n)))
+cell_text v a n = words_text (list_of (v.cell (a + n)))
 
 cells_grow : (v : View) (a n : ℕ) → cells_text v a (suc n) ≡ cells_text v a n ++ cell_text v a n
-cells_grow v a n = words_text-append (words_from v a n) (if_there (v.cell (a + n)))
+cells_grow v a n = words_text-append (words_from v a n) (list_of (v.cell (a + n)))
 
 pub cell_more : (v : View) (a n : ℕ) (s t u : SinkSeen) → Adds s (cells_text v a n) t → Adds t (cell_text v a n) u → Adds s (cells_text v a (n + 1)) u
 cell_more v a n s t u e f = rw (add-one, cells_grow v a n) (adds_then s t u (cells_text v a n) (cell_text v a n) e f)

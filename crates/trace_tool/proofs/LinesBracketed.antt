@@ -14,24 +14,35 @@ use Rattle.overlay_machine.specs.State.{OState}
 use Rattle.overlay_machine.specs.Events.{step_event}
 use Rattle.overlay_machine.specs.Step.{goes, overlay_step, weight_of}
 use Rattle.overlay_machine.specs.Runs.{plain_run}
-use Rattle.overlay_machine.specs.Brackets.{FrameTold, Mark, opens, closes, flat_cell, words_at, Brackets, Depth}
+use Rattle.overlay_machine.specs.Brackets.{FrameTold, Mark, opens, closes, flat_cell, if_there, words_at, Brackets, Depth}
 use Rattle.overlay_machine.proofs.BracketLemmas.{mark_map, mapped, depth_unmapped}
 use Rattle.overlay_machine.proofs.Marks.{marks_by, marks_of, Marked, none_yet, and_then, AreBracketed, StaysPrivate, OpenedArePrivate}
 use Rattle.trace_tool.proofs.ReturnLines.{ret_returns}
 use Rattle.trace_tool.specs.Layout.{part_name, site_of}
 use Rattle.trace_tool.specs.Views.{View, flat_view}
-use Rattle.trace_tool.specs.Lines.{Args, Line, call, line_of, lines_for}
+use Rattle.trace_tool.specs.Lines.{Args, Line, call, list_of, words_from, line_of, lines_for}
 use Rattle.trace_tool.specs.Told.{step_lines, Told, none_yet as nothing_yet, and_then as tells}
 use Rattle.trace_tool.specs.Brackets.{LineTold, mark_of, marks_in, line_told, lines_told, LinesAreBracketed, RangeIsPrivate, CallsArePrivate}
 
--- the lines of an event are its marks
+-- the words of lines are those of marks
+listed : {A : Type 0} (o : Option A) → list_of o ≡ if_there o
+listed None = refl
+listed (Some x) = refl
+
+same_words : (v : View) (a n : ℕ) → words_from v a n ≡ words_at v.cell a n
+same_words v a zero = refl
+same_words v a (suc n) = ap (λ ws. ws ++ list_of (v.cell (a + n))) (same_words v a n) ∙ ap (λ ws. words_at v.cell a n ++ ws) (listed (v.cell (a + n)))
+
+-- and so are the lines of an event
 abbrev of_marks : Layout → List (Mark FrameTold) → List (Mark LineTold)
 of_marks l ms = map (mark_map (line_told l)) ms
 
 event_marks : (l : Layout) (q : OState) (e : Option Event) → marks_in (lines_for l (flat_view l q) e) ≡ of_marks l (marks_by l q e)
 event_marks l q None = refl
-event_marks l q (Some (Called inward i b e)) = refl
-event_marks l q (Some (Returned inward i b e)) = refl
+event_marks l q (Some (Called inward i b e)) =
+    ap (λ ws. opens (record { part = part_name l (site_of l i).part; site = (site_of l i).index; base = b; last = e; words = ws }) ∷ []) (same_words (flat_view l q) b (e + 1 - b))
+event_marks l q (Some (Returned inward i b e)) =
+    ap (λ ws. closes (record { part = part_name l (site_of l i).part; site = (site_of l i).index; base = b; last = e; words = (flat_view l q).reg Dat ∷ ws }) ∷ []) (same_words (flat_view l q) (b + 1) (e - b))
 event_marks l q (Some (Entered part k back)) = refl
 event_marks l q (Some (Left part)) = refl
 

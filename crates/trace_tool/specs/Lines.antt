@@ -1,5 +1,5 @@
 -- The line of an event, as a value: it knows nothing of bytes.
-use Rattle.std.specs.Prelude.{ℕ, ◌+◌, ◌-◌, Bool, List, [], ◌∷◌, Option, Some, None}
+use Rattle.std.specs.Prelude.{ℕ, zero, suc, ◌+◌, ◌-◌, ◌++◌, Bool, List, [], ◌∷◌, Option, Some, None}
 use Rattle.cap_words.specs.declared.Word.{Word}
 use Rattle.lcm_isa.specs.declared.Reg.TheVariants.{Stk, Dat, A0, A1, A2, A3}
 use Rattle.overlay_machine.specs.declared.layout.Layout.{Layout}
@@ -7,7 +7,6 @@ use Rattle.overlay_machine.specs.declared.events.Back.{Back}
 use Rattle.overlay_machine.specs.declared.events.Back.TheVariants.{Out, Bad, Hop, Pair}
 use Rattle.overlay_machine.specs.declared.events.Event.{Event}
 use Rattle.overlay_machine.specs.declared.events.Event.TheVariants.{Called, Returned, Entered, Left}
-use Rattle.overlay_machine.specs.Brackets.{words_at}
 use Rattle.trace_tool.specs.Layout.{part_name, entry_name, site_of}
 use Rattle.trace_tool.specs.Views.{View}
 
@@ -34,9 +33,14 @@ pub data Line : Type 0 where
 abbrev pub args_of : View → Args
 args_of v = record { a0 = v.reg A0; a1 = v.reg A1; a2 = v.reg A2; a3 = v.reg A3 }
 
+abbrev pub list_of : {A : Type 0} → Option A → List A
+list_of None = []
+list_of (Some x) = x ∷ []
+
 -- the words that there are at n addresses from one on
 abbrev pub words_from : View → ℕ → ℕ → List Word
-words_from v a n = words_at v.cell a n
+words_from v a zero = []
+words_from v a (suc n) = words_from v a n ++ list_of (v.cell (a + n))
 
 abbrev pub return_of : Layout → Back → Return
 return_of l Out = out

@@ -5,10 +5,10 @@ use Rattle.lcm_isa.specs.declared.Reg.{Reg}
 use Rattle.lcm_machine.specs.Maps.{State}
 use Rattle.lcm_machine.specs.Places.{reg}
 use Rattle.lcm_machine.specs.Cells.{cell}
+use Rattle.lcm_machine.specs.Mapped.{mapped_or}
 use Rattle.overlay_machine.specs.declared.layout.Layout.{Layout}
 use Rattle.overlay_machine.specs.State.{OState}
-use Rattle.overlay_machine.specs.Flat.{flat}
-use Rattle.overlay_machine.specs.Brackets.{flat_cell}
+use Rattle.overlay_machine.specs.Flat.{flat, beside}
 use Rattle.overlay_machine.specs.Seen.{OverlaySeen}
 
 pub record View : Type 0 where
@@ -23,7 +23,7 @@ view_of s = record { reg = reg s.regs; cell = cell s.cells }
 abbrev pub flat_view : Layout → OState → View
 flat_view l o = record {
   reg = λ r. flat l o.frames (reg o.maps.regs r);
-  cell = flat_cell l o;
+  cell = λ a. mapped_or (flat l o.frames) (cell o.maps.cells a) (beside l o.frames a);
 }
 
 abbrev pub overlay_view : OverlaySeen → View

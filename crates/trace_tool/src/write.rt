@@ -4,8 +4,7 @@ ghost use Rattle.arrayvec.specs.ArrayVec.{array_vec_len};
 ghost use Rattle.outside_io.specs.Writes.{Writes};
 ghost use Rattle.cap_words.specs.Text.{word_text_of};
 ghost use Rattle.trace_tool.specs.Layout.{layout, part_name, site_of};
-ghost use Rattle.overlay_machine.specs.Brackets.{if_there};
-ghost use Rattle.trace_tool.specs.Lines.{return_of, args_of, words_from, line_of, lines_for};
+ghost use Rattle.trace_tool.specs.Lines.{list_of, return_of, args_of, words_from, line_of, lines_for};
 ghost use Rattle.trace_tool.specs.Texts.{field, head_text, words_text, args_text, place_text, return_text, line_text, lines_text};
 
 use crate::find::{entry_name, part_name, site_of};
@@ -140,7 +139,7 @@ fn write_word<S: Sink>(out: &mut S, text: &[u8]) -> Result<(), Failed>
 
 // Writes the word of a cell, where there is one.
 fn write_cell<V: Shown, S: Sink>(view: &V, at: u32, out: &mut S) -> Result<(), Failed>
-    ensures { Writes (S.seen out.old) (words_text (if_there ((V.view view.now).cell at))) result (S.seen out.new) }
+    ensures { Writes (S.seen out.old) (words_text (list_of ((V.view view.now).cell at))) result (S.seen out.new) }
 {
     match view.text_at(at) {
         Some(text) => write_word(out, text.as_str().as_bytes()),
