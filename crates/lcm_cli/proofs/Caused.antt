@@ -478,7 +478,7 @@ same_trace : (p q : List PartSeen) (n m k l : ℕ) → Trace p n k ≡ Trace q m
 same_trace p q n m k l e = (cc, cc, cc)
 
 -- a linked start has one overlay
-OverlaysAreOne : Type 0
+abbrev pub OverlaysAreOne : Type 0
 OverlaysAreOne = (parts : List PartSeen) (size : ℕ) (s : StartSeen) → IsLinkedStart parts size s → (o : OverlaySeen) → IsOverlayOf s o ↔ (o ≡ overlay_at s)
 
 given_trace : HeadlineHolds → OverlaysAreOne → (words : List PartWord) (size steps : ℕ) (old : Outside) (seen : FilesSeen) (ended : Status) (new : Outside) (due : Result Task Refusal) (a : Answer) → Comes (trace_plan words size steps) old.files due seen → IsAnswerOf due a
