@@ -1,6 +1,10 @@
 //! A plain run, with its lines and its end line.
 ghost use Rattle.std.specs.Prelude.{◌≡◌, ◌+◌, ◌<◌, ◌≤◌, ◌^◌, length, None, IfOk, false};
+ghost use Rattle.std.specs.Prelude.{ℕ, List};
 ghost use Rattle.std.specs.List.{list_any};
+ghost use Rattle.component_linker.specs.Parts.{PartSeen};
+ghost use Rattle.overlay_machine.specs.Starting.{IsLinkedStart};
+ghost use Rattle.trace_tool.specs.Headline.{Headline};
 ghost use Rattle.outside_io.specs.Writes.{Writes};
 ghost use Rattle.lcm_machine.specs.Run.{next_state, answer};
 ghost use Rattle.trace_tool.specs.Layout.{layout};
@@ -9,6 +13,7 @@ ghost use Rattle.trace_tool.specs.Runs.{watching, watched_next, line_next, end_o
 
 use crate::end_line::end_line;
 use crate::event::event_after;
+use crate::laws::the_headline;
 use crate::note::{inward_after, noted};
 use crate::write::tell;
 use component_linker::Start;
@@ -96,11 +101,17 @@ fn run_untrusted<S: Sink>(start: &mut Start, steps: u64, out: &mut S) -> RunEnd
 ///
 /// The machine hasn't ended before. Only its state changes. WriteFault comes only of a write that
 /// failed: the run stops there, and a front of the whole text stands.
+///
+/// Of a linked start the headline holds, which is said of what this writes and of the states that it
+/// goes through.
 pub fn run_plain<S: Sink>(start: &mut Start, steps: u64, out: &mut S) -> RunEnd
     requires fresh { start.old.state.end ≡ None }
     requires count { start.old.state.count + steps ≤ 2 ^ 63 }
-    ensures { Runs start.old steps (S.seen out.old) start.new (S.seen out.new) result }
+    ensures runs { Runs start.old steps (S.seen out.old) start.new (S.seen out.new) result }
+    ensures headline { (parts : List PartSeen) (size : ℕ) → IsLinkedStart parts size start.old
+        → Headline start.old }
 {
+    the_headline();
     if !has_trusted(start) {
         return run_untrusted(start, steps, out);
     }

@@ -1,9 +1,14 @@
 //! A run of the overlay, with its lines and its end line.
 ghost use Rattle.std.specs.Prelude.{◌≡◌, ◌≤◌, ◌^◌};
+ghost use Rattle.std.specs.Prelude.{ℕ, List};
+ghost use Rattle.component_linker.specs.Parts.{PartSeen};
+ghost use Rattle.overlay_machine.specs.Starting.{IsLinkedStart};
+ghost use Rattle.trace_tool.specs.Headline.{Headline};
 ghost use Rattle.overlay_machine.specs.Seen.{IsOverlayOf};
 ghost use Rattle.trace_tool.specs.Traces.{Traces};
 
 use crate::end_line::{failed_line, halted_line, running_line};
+use crate::laws::the_headline;
 use crate::run::{RunEnd, finish};
 use crate::write::tell;
 use component_linker::Start;
@@ -18,8 +23,11 @@ use overlay_machine::{OStep, Overlay};
 pub fn run_overlay<S: Sink>(overlay: &mut Overlay, start: &Start, steps: u64, out: &mut S) -> RunEnd
     requires of { IsOverlayOf start.now overlay.old }
     requires steps { steps ≤ 2 ^ 63 }
-    ensures { Traces steps overlay.old (S.seen out.old) overlay.new (S.seen out.new) result }
+    ensures traces { Traces steps overlay.old (S.seen out.old) overlay.new (S.seen out.new) result }
+    ensures headline { (parts : List PartSeen) (size : ℕ) → IsLinkedStart parts size start.now
+        → Headline start.now }
 {
+    the_headline();
     loop {
         let sum = overlay.weight();
         let weight = u64::from(overlay.next_weight());

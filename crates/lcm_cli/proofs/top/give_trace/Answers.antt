@@ -22,4 +22,4 @@ gives_trace limit old sink new after Running files kept status r s = told limit 
 gives_trace limit old sink new after WriteFault files kept status r s = unwritten refl r.text refl s
 
 pub returns : goal.returns
-returns g c = λ files kept. rw (← c.number.ensures.same) (gives_trace _ _ _ _ _ c.run_overlay.result files kept _ c.run_overlay.ensures c.end_status.ensures)
+returns g c = λ files kept. rw (← c.number.ensures.same) (gives_trace _ _ _ _ _ c.run_overlay.result files kept _ c.run_overlay.ensures.traces c.end_status.ensures)

@@ -18,8 +18,8 @@ step-requires g c =
     let some = weight_some c.loop-overlay.overlay.layout c.loop-overlay.overlay.state in
     omega (arith, some, c.if-sum-weight.false, c.weight-sum.ensures, c.next_weight.ensures, c.from-weight.ensures, c.requires.steps)
 
-pub returns-then-sum-weight : goal.returns-then-sum-weight
-returns-then-sum-weight g c =
+pub returns-then-sum-weight-clause-traces : goal.returns-then-sum-weight-clause-traces
+returns-then-sum-weight-clause-traces g c =
     let over : c.args.steps < weight_with c.loop-overlay.overlay = omega (arith, c.if-sum-weight.true, c.weight-sum.ensures, c.next_weight.ensures, c.from-weight.ensures) in
     ends_running c.args.steps c.args.overlay.now (g.S.Sink.seen c.args.out.now) c.loop-overlay.overlay _ _ c.as_str.result.now c.finish.result c.loop-overlay.invariant over
     (c.as_str.ensures.value ∙ c.running_line-line.ensures.bytes ∙ ap (running_text (overlay_view c.loop-overlay.overlay)) c.weight-sum.ensures) c.finish.ensures
@@ -39,22 +39,34 @@ loop-overlay-preserved g c =
     (subst (λ l. Adds (g.S.Sink.seen c.loop-overlay.out) (lines_text (lines_for l (overlay_view c.step.new.self) c.in-Went.event)) (g.S.Sink.seen c.tell.new.out))
     (start_layout c.args.steps c.args.overlay.now (g.S.Sink.seen c.args.out.now) c.args.start.now c.loop-overlay.overlay _ c.step.new.self c.requires.of c.loop-overlay.invariant c.step.ensures.after) c.in-Ok.ensures)
 
-pub returns-in-Err : goal.returns-in-Err
-returns-in-Err g c =
+pub returns-in-Err-clause-traces : goal.returns-in-Err-clause-traces
+returns-in-Err-clause-traces g c =
     let fits : weight_with c.loop-overlay.overlay ≤ c.args.steps = omega (arith, c.if-sum-weight.false, c.weight-sum.ensures, c.next_weight.ensures, c.from-weight.ensures) in
     going_fails c.args.steps c.args.overlay.now (g.S.Sink.seen c.args.out.now) c.loop-overlay.overlay _ c.in-Went.event c.step.new.self _ c.loop-overlay.invariant fits (search rules) c.step.ensures.after
     (subst (λ l. FailsToWrite (g.S.Sink.seen c.loop-overlay.out) (lines_text (lines_for l (overlay_view c.step.new.self) c.in-Went.event)) (g.S.Sink.seen c.tell.new.out))
     (start_layout c.args.steps c.args.overlay.now (g.S.Sink.seen c.args.out.now) c.args.start.now c.loop-overlay.overlay _ c.step.new.self c.requires.of c.loop-overlay.invariant c.step.ensures.after) c.in-Err.ensures)
 
-pub returns-in-Halted : goal.returns-in-Halted
-returns-in-Halted g c =
+pub returns-in-Halted-clause-traces : goal.returns-in-Halted-clause-traces
+returns-in-Halted-clause-traces g c =
     let fits : weight_with c.loop-overlay.overlay ≤ c.args.steps = omega (arith, c.if-sum-weight.false, c.weight-sum.ensures, c.next_weight.ensures, c.from-weight.ensures) in
     let sum : c.weight-sum.result + c.from-weight.result ≡ weight_with c.loop-overlay.overlay = omega (arith, c.weight-sum.ensures, c.next_weight.ensures, c.from-weight.ensures) in
     ends_halted c.args.steps c.args.overlay.now (g.S.Sink.seen c.args.out.now) c.loop-overlay.overlay _ c.step.new.self _ c.as_str-in-Halted.result.now c.finish-in-Halted.result c.loop-overlay.invariant fits (search rules) c.step.ensures.after
     (c.as_str-in-Halted.ensures.value ∙ c.halted_line-line.ensures.bytes ∙ ap (halted_text (overlay_view c.step.new.self)) sum) c.finish-in-Halted.ensures
 
-pub returns-in-Failed : goal.returns-in-Failed
-returns-in-Failed g c =
+pub returns-in-Failed-clause-traces : goal.returns-in-Failed-clause-traces
+returns-in-Failed-clause-traces g c =
     let fits : weight_with c.loop-overlay.overlay ≤ c.args.steps = omega (arith, c.if-sum-weight.false, c.weight-sum.ensures, c.next_weight.ensures, c.from-weight.ensures) in
     ends_failed c.args.steps c.args.overlay.now (g.S.Sink.seen c.args.out.now) c.loop-overlay.overlay _ c.step.new.self _ c.as_str-in-Failed.result.now c.finish-in-Failed.result c.loop-overlay.invariant fits (search rules) c.step.ensures.after
     (c.as_str-in-Failed.ensures.value ∙ c.failed_line-line.ensures.bytes ∙ ap (failed_text (overlay_view c.step.new.self)) c.weight-sum.ensures) c.finish-in-Failed.ensures
+
+pub returns-then-sum-weight-clause-headline : goal.returns-then-sum-weight-clause-headline
+returns-then-sum-weight-clause-headline g c = λ parts size is. c.the_headline.ensures.holds parts size c.args.start.now is
+
+pub returns-in-Err-clause-headline : goal.returns-in-Err-clause-headline
+returns-in-Err-clause-headline g c = λ parts size is. c.the_headline.ensures.holds parts size c.args.start.now is
+
+pub returns-in-Halted-clause-headline : goal.returns-in-Halted-clause-headline
+returns-in-Halted-clause-headline g c = λ parts size is. c.the_headline.ensures.holds parts size c.args.start.now is
+
+pub returns-in-Failed-clause-headline : goal.returns-in-Failed-clause-headline
+returns-in-Failed-clause-headline g c = λ parts size is. c.the_headline.ensures.holds parts size c.args.start.now is
