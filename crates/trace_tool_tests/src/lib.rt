@@ -2,6 +2,8 @@
 #![tactic(auto)]
 
 #[cfg(test)]
+mod adversaries;
+#[cfg(test)]
 mod parts;
 #[cfg(test)]
 mod tests;

@@ -108,7 +108,7 @@ fn start_of(rt: &impl Abort, alloc: Global, words: &str) -> Result<Start, Fail>
     }
 }
 
-fn text_of(alloc: Global, out: &MemSink) -> Result<String, Fail> {
+pub(crate) fn text_of(alloc: Global, out: &MemSink) -> Result<String, Fail> {
     Ok(String::from_utf8_lossy(alloc, out.bytes())?)
 }
 
@@ -138,7 +138,7 @@ fn trace(
 }
 
 // The lines of a case that have this mark, or are of both runs.
-fn expected(alloc: Global, case: &str, mark: &str) -> Result<String, AllocError> {
+pub(crate) fn expected(alloc: Global, case: &str, mark: &str) -> Result<String, AllocError> {
     let mut text = String::new(alloc);
     for line in case.lines() {
         let own = line.strip_prefix("b ").or(line.strip_prefix(mark));
@@ -151,7 +151,7 @@ fn expected(alloc: Global, case: &str, mark: &str) -> Result<String, AllocError>
 }
 
 // What the end is by the last line.
-fn end_of(text: &str) -> RunEnd {
+pub(crate) fn end_of(text: &str) -> RunEnd {
     if text.contains("halted ") {
         RunEnd::Halted
     } else if text.contains("failed ") {
