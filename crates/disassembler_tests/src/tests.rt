@@ -134,7 +134,11 @@ fn side(alloc: Global, behind: bool) -> Result<Vec<u8>, AllocError> {
     Ok(text)
 }
 
-fn assembled(rt: &impl Abort, alloc: Global, text: &[u8]) -> Result<Component, AsmFault> {
+pub(crate) fn assembled(
+    rt: &impl Abort,
+    alloc: Global,
+    text: &[u8],
+) -> Result<Component, AsmFault> {
     assert!(rt; text.len() < 1_000_000);
     assemble(alloc, text)
 }
