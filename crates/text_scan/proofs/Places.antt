@@ -53,7 +53,7 @@ text_placed text ts h =
 
 -- ---- bytes
 
-drop_more : (a b : ℕ) (xs : List ℕ) → drop (a + b) xs ≡ drop b (drop a xs)
+pub drop_more : (a b : ℕ) (xs : List ℕ) → drop (a + b) xs ≡ drop b (drop a xs)
 drop_more a b xs = sym (drop-drop b a xs)
 
 -- what stands at a place of the text, and behind it

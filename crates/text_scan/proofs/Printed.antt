@@ -20,7 +20,8 @@ use Rattle.text_scan.specs.declared.piece.Piece.{Piece}
 use Rattle.text_scan.specs.Bytes.{is_newline, is_digit, is_name_start, is_name_byte, is_blank, is_sign}
 use Rattle.text_scan.specs.Tokens.{first_of, number_piece, piece_at, token_of, line_from, with_front}
 use Rattle.text_scan.specs.Grammar.{IsName}
-use Rattle.text_scan.proofs.Lines.{one_piece, begins}
+use Rattle.text_scan.proofs.Pieces.{drop_front, take_front, after_piece, name_piece, digits_piece}
+use Rattle.text_scan.proofs.Places.{drop_more}
 
 -- a token's kind and bytes, wherever it stands
 pub record Form : Type 0 where
@@ -42,27 +43,6 @@ Shows text forms = (whole after : List ℕ) (at : ℕ) → drop at whole ≡ tex
 pub shows_nothing : Shows [] []
 unfolding line_from
 shows_nothing whole after at h = record { tokens = []; read = refl; are = refl }
-
-drop_front : (xs ys : List ℕ) → drop (length xs) (xs ++ ys) ≡ ys
-drop_front [] ys = refl
-drop_front (x ∷ xs) ys = drop_front xs ys
-
-take_front : (xs ys : List ℕ) → take (length xs) (xs ++ ys) ≡ xs
-take_front [] ys = refl
-take_front (x ∷ xs) ys = ap (λ l. x ∷ l) (take_front xs ys)
-
-drop_more : (a b : ℕ) (xs : List ℕ) → drop (a + b) xs ≡ drop b (drop a xs)
-drop_more a b xs = sym (drop-drop b a xs)
-
--- a piece that isn't empty, and what is read behind it
-pub after_piece : (at : ℕ) (first rest : List ℕ) (p : Piece) → 0 < length first → p.len ≡ length first → piece_at at (first ++ rest) ≡ Ok p
-    → line_from at 0 (first ++ rest) ≡ with_front (token_of at p.kind p.len) (line_from (at + length first) 0 rest)
-after_piece at [] rest p lt len read = absurd (omega arith)
-after_piece at (b ∷ first) rest p lt len read =
-    let one = one_piece [] at b (first ++ rest) p (omega (arith, len)) read in
-    sym (begins (line_from at 0 (b ∷ (first ++ rest)))) ∙ one
-    ∙ ap (λ n. with_front (token_of at p.kind p.len) (line_from (at + n) 0 (drop n (b ∷ (first ++ rest))))) len
-    ∙ ap (λ l. with_front (token_of at p.kind p.len) (line_from (at + length (b ∷ first)) 0 l)) (drop_front (b ∷ first) rest)
 
 pub shows_token : (kind : TokenKind) (first rest : List ℕ) (fs : List Form) → 0 < length first → ((at : ℕ) → piece_at at (first ++ rest) ≡ Ok (record { kind = Some kind; len = length first }))
     → Shows rest fs → Shows (first ++ rest) (record { kind = kind; text = first } ∷ fs)
@@ -100,53 +80,12 @@ pub shows_dot : (rest : List ℕ) (fs : List Form) → Shows rest fs → Shows (
 unfolding piece_at is_sign
 shows_dot rest fs others = shows_sign 46 rest fs (λ at. refl) others
 
--- ---- runs
-
-run_ends : (p : ℕ → Bool) (xs ys : List ℕ) → list_all p xs ≡ true → p (first_of ys) ≡ false → prefix_len p (xs ++ ys) ≡ length xs
-run_ends p [] [] h e = refl
-run_ends p [] (y ∷ ys) h e = rw e refl
-run_ends p (x ∷ xs) ys h e =
-    let q = and_parts (p x) (list_all p xs) h in
-    let r = run_ends p xs ys q.1 e in
-    let one : p x ≡ true = q.0 in
-    rw (one, r) (omega arith)
-
 -- ---- names
-
-first_front : (xs ys : List ℕ) → 0 < length xs → first_of (xs ++ ys) ≡ first_of xs
-first_front [] ys lt = absurd (omega arith)
-first_front (x ∷ xs) ys lt = refl
-
--- a letter is no blank and begins no comment
-letter_blank : (b : ℕ) → is_name_start b ≡ true → is_blank b ≡ false
-letter_blank b h = grind (arith, nat_tests)
-
-letter_hash : (b : ℕ) → is_name_start b ≡ true → (b == 35) ≡ false
-letter_hash b h = grind (arith, nat_tests)
-
-pub name_piece : (name rest : List ℕ) (at : ℕ) → IsName name → is_name_byte (first_of rest) ≡ false → piece_at at (name ++ rest) ≡ Ok (record { kind = Some Name; len = length name })
-unfolding piece_at
-name_piece name rest at w stops =
-    let first = first_front name rest w.some in
-    let start = ap is_name_start first ∙ w.start in
-    let blank = letter_blank (first_of (name ++ rest)) start in
-    let hash = letter_hash (first_of (name ++ rest)) start in
-    let run = run_ends is_name_byte name rest w.bytes stops in
-    rw (blank, hash, start, run) refl
 
 pub shows_name : (name rest : List ℕ) (fs : List Form) → IsName name → is_name_byte (first_of rest) ≡ false → Shows rest fs → Shows (name ++ rest) (record { kind = Name; text = name } ∷ fs)
 shows_name name rest fs w stops others = shows_token Name name rest fs w.some (λ at. name_piece name rest at w stops) others
 
 -- ---- numbers
-
-digit_blank : (b : ℕ) → is_digit b ≡ true → is_blank b ≡ false
-digit_blank b h = grind (arith, nat_tests)
-
-digit_hash : (b : ℕ) → is_digit b ≡ true → (b == 35) ≡ false
-digit_hash b h = grind (arith, nat_tests)
-
-digit_start : (b : ℕ) → is_digit b ≡ true → is_name_start b ≡ false
-digit_start b h = grind (arith, nat_tests)
 
 own : IsNumeralModel (λ ds. all_ascii_digits ds ≡ true) (digits_value 10)
 own = numerals_by_value _ tells_all_ascii_digits
@@ -161,27 +100,6 @@ all_digits (d ∷ ds) h =
     let one = same_digit d p.0 in
     let r = all_digits ds p.1 in
     rw (one, r) refl
-
-first_passes : (p : ℕ → Bool) (xs : List ℕ) → 0 < length xs → list_all p xs ≡ true → p (first_of xs) ≡ true
-first_passes p [] lt h = absurd (omega arith)
-first_passes p (x ∷ xs) lt h = (and_parts (p x) (list_all p xs) h).0
-
-value_fits : (at n : ℕ) (ds : List ℕ) → digits_value 10 ds ≡ n → n ≤ 9223372036854775808 → number_piece at ds ≡ Ok (record { kind = Some (Number n); len = length ds })
-unfolding number_piece
-value_fits at n ds value le =
-    let fits : nat_le n 9223372036854775808 ≡ true = le-leb _ _ le in
-    rw (value, fits) refl
-
-pub digits_piece : (ds rest : List ℕ) (at n : ℕ) → 0 < length ds → list_all is_digit ds ≡ true → digits_value 10 ds ≡ n → n ≤ 9223372036854775808 → is_digit (first_of rest) ≡ false → piece_at at (ds ++ rest) ≡ Ok (record { kind = Some (Number n); len = length ds })
-unfolding piece_at
-digits_piece ds rest at n some all value le stops =
-    let first = first_front ds rest some in
-    let digit : is_digit (first_of (ds ++ rest)) ≡ true = ap is_digit first ∙ first_passes is_digit ds some all in
-    let blank = digit_blank (first_of (ds ++ rest)) digit in
-    let hash = digit_hash (first_of (ds ++ rest)) digit in
-    let start = digit_start (first_of (ds ++ rest)) digit in
-    let run : take_while is_digit (ds ++ rest) ≡ ds = ap (λ k. take k (ds ++ rest)) (run_ends is_digit ds rest all stops) ∙ take_front ds rest in
-    rw (blank, hash, start, digit) (ap (number_piece at) run ∙ value_fits at n ds value le)
 
 decimal_piece : (n : ℕ) (rest : List ℕ) (at : ℕ) → n ≤ 9223372036854775808 → is_digit (first_of rest) ≡ false → piece_at at (decimal n ++ rest) ≡ Ok (record { kind = Some (Number n); len = length (decimal n) })
 decimal_piece n rest at le stops =
