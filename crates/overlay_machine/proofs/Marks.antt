@@ -1,5 +1,5 @@
 -- What calls and returns tell of frames along a run of the overlay: the lines of runs are told by these marks.
-use Rattle.std.specs.Prelude.{◌≡◌, ℕ, ◌+◌, ◌-◌, ◌≤◌, List, [], ◌∷◌, ◌++◌, Option, Some, None}
+use Rattle.std.specs.Prelude.{◌≡◌, ℕ, zero, suc, ◌+◌, ◌-◌, ◌≤◌, List, [], ◌∷◌, ◌++◌, Option, Some, None}
 use Rattle.lcm_isa.specs.declared.Reg.{Reg}
 use Rattle.lcm_isa.specs.declared.Reg.TheVariants.{Dat}
 use Rattle.cap_words.specs.declared.Word.{Word}
@@ -14,7 +14,23 @@ use Rattle.overlay_machine.specs.State.{OState}
 use Rattle.overlay_machine.specs.Step.{goes, case_of, overlay_step, weight_of}
 use Rattle.overlay_machine.specs.Events.{shown, step_event}
 use Rattle.overlay_machine.specs.Runs.{plain_run}
-use Rattle.overlay_machine.specs.Brackets.{FrameTold, Mark, opens, closes, flat_cell, words_at, Brackets, frames_told, Depth}
+use Rattle.lcm_machine.specs.Mapped.{mapped_or}
+use Rattle.lcm_machine.specs.Cells.{cell}
+use Rattle.overlay_machine.specs.Flat.{flat, beside}
+use Rattle.overlay_machine.specs.Brackets.{FrameTold, Mark, opens, closes, Brackets, frames_told, Depth}
+
+-- the plain word that an address stands for, in memory or in a frame
+abbrev pub flat_cell : Layout → OState → ℕ → Option Word
+flat_cell l o a = mapped_or (flat l o.frames) (cell o.maps.cells a) (beside l o.frames a)
+
+abbrev pub if_there : {A : Type 0} → Option A → List A
+if_there None = []
+if_there (Some x) = x ∷ []
+
+-- the words that there are at n addresses from one on
+abbrev pub words_at : (ℕ → Option Word) → ℕ → ℕ → List Word
+words_at m a zero = []
+words_at m a (suc n) = words_at m a n ++ if_there (m (a + n))
 
 -- what an event tells of a frame, its words read from the overlay after the step: of a return the first one is in
 -- data, and the others have come back

@@ -1,11 +1,9 @@
 -- What it is that openings and closings are bracketed, and what is told of frames.
-use Rattle.std.specs.Prelude.{◌≡◌, ℕ, zero, suc, ◌+◌, List, [], ◌∷◌, ◌++◌, Option, Some, None, map}
+use Rattle.std.specs.Prelude.{◌≡◌, ℕ, zero, suc, List, [], ◌∷◌, map}
 use Rattle.cap_words.specs.declared.Word.{Word}
-use Rattle.lcm_machine.specs.Mapped.{mapped_or}
-use Rattle.lcm_machine.specs.Cells.{cell}
 use Rattle.overlay_machine.specs.declared.layout.Layout.{Layout}
-use Rattle.overlay_machine.specs.State.{OpenFrame, OState}
-use Rattle.overlay_machine.specs.Flat.{flat, beside}
+use Rattle.overlay_machine.specs.State.{OpenFrame}
+use Rattle.overlay_machine.specs.Flat.{flat}
 
 -- a frame as it is told: its site, its range, and its words as plain words
 pub record FrameTold : Type 0 where
@@ -18,19 +16,6 @@ pub record FrameTold : Type 0 where
 pub data Mark (F : Type 0) : Type 0 where
   opens : F → Mark F
   closes : F → Mark F
-
--- the plain word that an address stands for, in memory or in a frame
-abbrev pub flat_cell : Layout → OState → ℕ → Option Word
-flat_cell l o a = mapped_or (flat l o.frames) (cell o.maps.cells a) (beside l o.frames a)
-
-abbrev pub if_there : {A : Type 0} → Option A → List A
-if_there None = []
-if_there (Some x) = x ∷ []
-
--- the words that there are at n addresses from one on
-abbrev pub words_at : (ℕ → Option Word) → ℕ → ℕ → List Word
-words_at m a zero = []
-words_at m a (suc n) = words_at m a n ++ if_there (m (a + n))
 
 -- What was opened is open until it is closed, and what is closed is the newest that is open: from some that are
 -- open, newest first, through marks, to those that are open then.

@@ -58,10 +58,9 @@ pub fn linked_runs_agree()
 
 /// The frame of an open call is private.
 ///
-/// From an overlay of linked parts with the invariant at which a call is open, and as long as it is
-/// open, no instruction of the plain machine fetches from an address of its frame, loads from it or
-/// stores to it. Neither does an `xjmp` of a return word that comes next, so the first to touch the
-/// frame again is the return sequence behind the call.
+/// From an overlay of linked parts with the invariant at which a call is open, up to each matched point
+/// at which it is open still, no instruction of the plain machine fetches from an address of its frame,
+/// loads from it or stores to it. Where an `xjmp` of a return word comes next, neither does that.
 pub fn frames_are_private()
     ensures { AllFramesArePrivate }
 {}
@@ -88,8 +87,9 @@ pub fn a_start_has_one_overlay()
 ///
 /// Let a start be that of some accepted parts, which keep the rules L with some size of stack. Then the
 /// plain run from it and the run of its overlay agree at matched points, in halts and in failures. At
-/// each matched point the invariant holds, and from there on, as long as a call stays open, nothing
-/// touches its frame. Of no part more is asked than that it was accepted and linked.
+/// each matched point the invariant holds, and the frames of the calls that are open there are private up
+/// to each later one at which they are open still. Of no part more is asked than that it was accepted
+/// and linked.
 pub fn linked_starts_agree()
     ensures { (parts : List PartSeen) (size : ℕ) (s : StartSeen) → IsLinkedStart parts size s
         → AgreesFromStart parts size s }

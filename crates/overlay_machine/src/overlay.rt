@@ -130,7 +130,7 @@ impl Overlay {
     /// One step: a call, an entry, a return, or a row of the table of instructions.
     ///
     /// Where it halts or fails, state and weight stay as they were, and the machine has ended: each
-    /// later step answers that end again and changes nothing. The weight may not pass 2^63.
+    /// later step answers that end again and changes nothing. The weight before it is below 2^63.
     ///
     /// Where the invariant holds of the overlay and a plain state, for any accepted parts and a size of
     /// stack, the plain machine does the same within as many instructions as the step weighs: it goes on

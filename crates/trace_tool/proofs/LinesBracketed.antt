@@ -14,9 +14,9 @@ use Rattle.overlay_machine.specs.State.{OState}
 use Rattle.overlay_machine.specs.Events.{step_event}
 use Rattle.overlay_machine.specs.Step.{goes, overlay_step, weight_of}
 use Rattle.overlay_machine.specs.Runs.{plain_run}
-use Rattle.overlay_machine.specs.Brackets.{FrameTold, Mark, opens, closes, flat_cell, if_there, words_at, Brackets, Depth}
+use Rattle.overlay_machine.specs.Brackets.{FrameTold, Mark, opens, closes, Brackets, Depth}
 use Rattle.overlay_machine.proofs.BracketLemmas.{mark_map, mapped, depth_unmapped}
-use Rattle.overlay_machine.proofs.Marks.{marks_by, marks_of, Marked, none_yet, and_then, AreBracketed, StaysPrivate, OpenedArePrivate}
+use Rattle.overlay_machine.proofs.Marks.{flat_cell, if_there, words_at, marks_by, marks_of, Marked, none_yet, and_then, AreBracketed, StaysPrivate, OpenedArePrivate}
 use Rattle.trace_tool.proofs.ReturnLines.{ret_returns}
 use Rattle.trace_tool.specs.Layout.{part_name, site_of}
 use Rattle.trace_tool.specs.Views.{View, flat_view}

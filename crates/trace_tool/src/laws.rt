@@ -41,9 +41,9 @@ pub fn lines_are_bracketed()
 /// The range of a call line is private until a ret line closes it, where the invariant of linked parts
 /// holds.
 ///
-/// From the plain state behind the call's `xjmp` on, no plain instruction touches an address of the
-/// range as long as no ret line closes the call line, and neither does the `xjmp` of the return that
-/// brings that ret line.
+/// From the plain state behind the call's `xjmp` on, up to each matched point at which no ret line has
+/// closed the call line, no plain instruction touches an address of the range, and neither does the
+/// `xjmp` of the return that brings that ret line.
 pub fn call_lines_are_private()
     ensures { (g : Link) (o : OState) (t : State Word) → Linked g → Invariant g o t
         → CallsArePrivate g.layout o t }
@@ -53,7 +53,8 @@ pub fn call_lines_are_private()
 ///
 /// For all trusted parts that keep the rules and every untrusted part that links with them: at each
 /// matched point the plain machine halts, fails or goes on as the overlay does; each return closes the
-/// newest open call; and until then no instruction touches that call's private frame.
+/// newest open call; and up to each matched point before that, and at the `xjmp` of the return, no
+/// instruction touches that call's private frame.
 ///
 /// There are such parts: of some, one of them trusted with a site and an entry and one not, it holds.
 pub fn the_headline()

@@ -42,12 +42,12 @@ use Rattle.overlay_machine.specs.Flat.{flat, beside}
 use Rattle.overlay_machine.specs.Events.{site_of_seal, site_opened, owner_now, note_call, note_return, note_jump, note_by, jump_seal, closure_owner, entry_number, back_of, shown, entered as event_entered, jumped, event_after, step_event}
 use Rattle.overlay_machine.specs.Agree.{ReadyFor, AtSite, AtEntry, AtReturn, FrameSound, IsKnown, AllKnown, IsForeign}
 use Rattle.overlay_machine.specs.Runs.{Reached, begins, goes_on, plain_run}
-use Rattle.overlay_machine.specs.Brackets.{FrameTold, Mark, opens, closes, flat_cell, if_there, words_at, Brackets, at_end, one_opens, one_closes, frame_told, frames_told}
+use Rattle.overlay_machine.specs.Brackets.{FrameTold, Mark, opens, closes, Brackets, at_end, one_opens, one_closes, frame_told, frames_told}
 use Rattle.overlay_machine.specs.Link.{Link}
 use Rattle.overlay_machine.specs.Linked.{Linked}
 use Rattle.overlay_machine.specs.Invariant.{Invariant, FrameLies, FramesLie}
 use Rattle.overlay_machine.proofs.BracketLemmas.{joined}
-use Rattle.overlay_machine.proofs.Marks.{marks_by, marks_of, Marked, none_yet, and_then, AreBracketed}
+use Rattle.overlay_machine.proofs.Marks.{flat_cell, if_there, words_at, marks_by, marks_of, Marked, none_yet, and_then, AreBracketed}
 use Rattle.overlay_machine.proofs.FrameWords.{words_from-at, words_from-past, word_of-within, flat-other, known-other, put_back-in}
 use Rattle.overlay_machine.proofs.RunsAgree.{good_at}
 use Rattle.overlay_machine.proofs.invariant.Ready.{ready, known}

@@ -225,20 +225,20 @@ module _ (g : Link) (linked : Linked g) (o : OState) (t : State Word) (inv : Inv
   safe_after G1 p ne = zeroed_safe G1 refl (λ e. cc)
   safe_after G2 p ne = zeroed_safe G2 refl (λ e. cc)
 
-  abbrev W0 : OWord
-  W0 = Plain (Mem (data_cap (ranges_of fit.part) fit.to))
+  abbrev saved : OWord
+  saved = Plain (Mem (data_cap (ranges_of fit.part) fit.to))
 
-  head_is : slice_get F.words 0 ≡ Some W0
+  head_is : slice_get F.words 0 ≡ Some saved
   head_is = let z : F.base - F.base ≡ 0 = omega arith in ap (slice_get F.words) (sym z) ∙ sym (word_of-within F F.base (omega arith)) ∙ fit.first
 
-  words_are : F.words ≡ W0 ∷ rest_words F.words
+  words_are : F.words ≡ saved ∷ rest_words F.words
   words_are = by_words F.words head_is
     where
-      by_words : (ws : List OWord) → slice_get ws 0 ≡ Some W0 → ws ≡ W0 ∷ rest_words ws
+      by_words : (ws : List OWord) → slice_get ws 0 ≡ Some saved → ws ≡ saved ∷ rest_words ws
       by_words [] e = cc
-      by_words (y ∷ ws) e = let s : y ≡ W0 = cc in ap (λ v. v ∷ ws) s
+      by_words (y ∷ ws) e = let s : y ≡ saved = cc in ap (λ v. v ∷ ws) s
 
-  first_is : first_word F.words ≡ W0
+  first_is : first_word F.words ≡ saved
   first_is = ap first_word words_are
 
   stands_after : StandsAt g gs fit.part (off + 26) after
