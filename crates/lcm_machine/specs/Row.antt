@@ -9,6 +9,7 @@ use Rattle.lcm_isa.specs.declared.Reg.TheVariants.{Pc}
 use Rattle.lcm_machine.specs.declared.FailCause.{FailCause}
 use Rattle.lcm_machine.specs.declared.FailCause.TheVariants.{F1, F2, F3}
 use Rattle.lcm_isa.specs.declared.Instr.{Instr}
+use Rattle.lcm_isa.specs.declared.Instr.TheVariants.{Xjmp}
 use Rattle.cap_words.specs.declared.CapFields.{CapFields}
 use Rattle.cap_words.specs.declared.Word.{Word}
 use Rattle.cap_words.specs.declared.Word.TheVariants.{Mem}
@@ -163,6 +164,19 @@ fetch (Memory c) cells =
     then fetch_word c (face_there cells (target_of (Memory c)))
     else none F1
 fetch _ cells = none F1
+
+-- the register whose word an `xjmp` opens as code
+abbrev pub jump_of : Instr → Option Reg
+jump_of (Xjmp r1 r2) = Some r1
+jump_of _ = None
+
+-- where pc names one
+abbrev pub jump_in : Fetched → Option Reg
+jump_in (none f) = None
+jump_in (some i next) = jump_of i
+
+unfoldable pub jump_at : {W : Type 0} → (W → Word) → State W → Option Reg
+jump_at look s = jump_in (fetch (faces look s Pc) (cell_faces look s))
 
 abbrev pub step_fetched : {W : Type 0} → (W → Word) → (Word → W) → State W → Fetched → Outcome W
 step_fetched look plain s (none f) = failed f (pc_at look s)

@@ -2,13 +2,14 @@
 -- it has.
 use Rattle.std.specs.Prelude.{◌≡◌, ℕ, zero, suc, ◌+◌, Option, Some, None}
 use Rattle.cap_words.specs.declared.Word.{Word}
+use Rattle.lcm_isa.specs.declared.Reg.{Reg}
 use Rattle.lcm_machine.specs.declared.Step.{Step}
 use Rattle.lcm_machine.specs.declared.Step.TheVariants.{Went}
 use Rattle.lcm_machine.specs.declared.End.{End}
 use Rattle.lcm_machine.specs.declared.End.TheVariants.{Halted, Failed}
 use Rattle.lcm_machine.specs.Ends.{end_answer}
 use Rattle.lcm_machine.specs.Maps.{State}
-use Rattle.lcm_machine.specs.Row.{Outcome, went, halted, failed, step_of}
+use Rattle.lcm_machine.specs.Row.{Outcome, went, halted, failed, jump_at, step_of}
 
 -- `end` says how the machine ended, once it has
 pub record Run : Type 0 where
@@ -30,6 +31,14 @@ next_by (Some e) s = s
 -- after one step
 unfoldable pub next_state : Run → Run
 next_state s = next_by s.end s
+
+-- the register whose word the next step opens as code, where it makes an `xjmp`: an ended machine makes none
+abbrev pub jump_by : Option End → Run → Option Reg
+jump_by None s = jump_at (λ w. w) s.maps
+jump_by (Some e) s = None
+
+unfoldable pub next_jump : Run → Option Reg
+next_jump s = jump_by s.end s
 
 -- what the step answers that led to this state: that it went, or the end
 abbrev pub answer_by : Option End → Step

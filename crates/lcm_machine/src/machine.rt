@@ -1,13 +1,13 @@
 //! The plain machine: registers and memory of plain words, with a count of steps and an end.
-ghost use Rattle.std.specs.Prelude.{◌≡◌, ◌≢◌, ◌+◌, ◌<◌, ◌≤◌, ◌^◌, ℕ, IfOk, IfSome, IsSome, is_some, IsTrue, Some, None, MatchResult};
+ghost use Rattle.std.specs.Prelude.{◌≡◌, ◌≢◌, ◌+◌, ◌<◌, ◌≤◌, ◌^◌, ℕ, IfOk, IfSome, IfNone, IsSome, is_some, IsTrue, Some, None, ◌||◌, not, true, if◌then◌else◌, MatchResult};
 ghost use Rattle.lcm_machine.specs.Places.{reg};
 ghost use Rattle.lcm_machine.specs.Cells.{cell};
 ghost use Rattle.lcm_isa.specs.declared.Reg.TheVariants.{Pc};
-ghost use Rattle.lcm_machine.specs.Row.{word_in, put, clear, HasPlace, faces, cell_faces, fetch, some, none};
+ghost use Rattle.lcm_machine.specs.Row.{word_in, put, clear, HasPlace, faces, cell_faces, fetch, some, none, pc_at};
 ghost use Rattle.lcm_machine.specs.Touched.{KeepsUntouched, SameCells};
 ghost use Rattle.lcm_machine.specs.Regions.{StaysHeldOnce};
 ghost use Rattle.lcm_machine.specs.Ends.{end_answer};
-ghost use Rattle.lcm_machine.specs.Run.{next_state, answer, plain};
+ghost use Rattle.lcm_machine.specs.Run.{next_state, next_jump, answer, plain};
 ghost use Rattle.lcm_machine.specs.Spans.{AreSpans, in_spans, slot, zero_regs};
 
 use crate::cells::Span;
@@ -84,6 +84,13 @@ impl LcmState {
         self.maps.reg(r)
     }
 
+    /// pc's address, or -1 where pc holds no memory capability.
+    pub fn pc_at(&self) -> i64
+        ensures { result ≡ pc_at (λ w. w) self.now.maps }
+    {
+        self.maps.pc_at()
+    }
+
     /// Whether the address has a cell. Each cell lies in a span.
     pub fn has_cell(&self, at: u32) -> bool
         ensures is { result ≡ is_some (cell self.now.maps.cells at) }
@@ -110,6 +117,35 @@ impl LcmState {
         self.maps.fetch()
     }
 
+    // One step, unless it makes an `xjmp` and none is to be made: then nothing changes. Whether the step
+    // was made.
+    #[tactic(auto, unfolding(crate::specs::Run::next_state, crate::specs::Run::next_jump))]
+    fn advance(&mut self, leaps: bool) -> bool
+        requires { self.old.count < 2 ^ 63 }
+        ensures made { result ≡ (leaps || not (is_some (next_jump self.old))) }
+        ensures after { self.new ≡ (if result then next_state self.old else self.old) }
+        ensures ended { IfSome self.old.end (λ e.
+            (result ≡ true) × (answer self.new ≡ end_answer e) × (self.new ≡ self.old)) }
+        ensures stays { answer self.new ≢ Step.Went → self.new.maps ≡ self.old.maps }
+        ensures same_cells { SameCells self.old.maps self.new.maps }
+        ensures untouched { KeepsUntouched (λ w. w) self.old.maps self.new.maps }
+        ensures held_once { StaysHeldOnce (λ w. w) self.old.maps self.new.maps }
+    {
+        if self.end.is_some() {
+            return true;
+        }
+        let Some(step) = self.maps.advance(leaps) else {
+            return false;
+        };
+        self.count += 1;
+        match step {
+            Step::Went => {}
+            Step::Halted => self.end = Some(End::Halted),
+            Step::Failed(cause, at) => self.end = Some(End::Failed(cause, at)),
+        }
+        true
+    }
+
     /// One step: the machine fetches the instruction that pc names and carries it out.
     ///
     /// The count rises by one, also with a step that halts or fails. Such a step leaves registers
@@ -120,7 +156,6 @@ impl LcmState {
     /// touches it: the one that it fetches, and the one that its instruction loads from or stores to.
     ///
     /// No linear memory comes to be held twice: [`State::step`] says in which sense.
-    #[tactic(auto, unfolding(crate::specs::Run::next_state))]
     pub fn step(&mut self) -> Step
         requires { self.old.count < 2 ^ 63 }
         ensures after { self.new ≡ next_state self.old }
@@ -131,17 +166,30 @@ impl LcmState {
         ensures untouched { KeepsUntouched (λ w. w) self.old.maps self.new.maps }
         ensures held_once { StaysHeldOnce (λ w. w) self.old.maps self.new.maps }
     {
-        if let Some(ended) = self.end {
-            return ended.answer();
+        let _ = self.advance(true);
+        self.last_answer()
+    }
+
+    /// The same step, unless it makes an `xjmp`: then `None`, and nothing changes. An ended machine
+    /// makes none.
+    pub fn step_unless_xjmp(&mut self) -> Option<Step>
+        requires { self.old.count < 2 ^ 63 }
+        ensures none { IfNone result (IsSome (next_jump self.old)) }
+        ensures same { IfNone result (self.new ≡ self.old) }
+        ensures some { IfSome result (λ _. next_jump self.old ≡ None) }
+        ensures after { IfSome result (λ _. self.new ≡ next_state self.old) }
+        ensures answer { IfSome result (λ step. step ≡ answer self.new) }
+        ensures ended { IfSome self.old.end (λ e. (result ≡ Some (end_answer e)) × (self.new ≡ self.old)) }
+        ensures stays { result ≢ Some Step.Went → self.new.maps ≡ self.old.maps }
+        ensures same_cells { SameCells self.old.maps self.new.maps }
+        ensures untouched { KeepsUntouched (λ w. w) self.old.maps self.new.maps }
+        ensures held_once { StaysHeldOnce (λ w. w) self.old.maps self.new.maps }
+    {
+        if self.advance(false) {
+            Some(self.last_answer())
+        } else {
+            None
         }
-        let step = self.maps.step();
-        self.count += 1;
-        match step {
-            Step::Went => {}
-            Step::Halted => self.end = Some(End::Halted),
-            Step::Failed(cause, at) => self.end = Some(End::Failed(cause, at)),
-        }
-        step
     }
 
     /// So many steps, or up to the end where that comes first. The answer is that of the last step,
@@ -162,7 +210,7 @@ impl LcmState {
             if let Some(end) = self.end {
                 return end.answer();
             }
-            let _ = self.step();
+            let _ = self.advance(true);
         }
         self.last_answer()
     }

@@ -1,12 +1,12 @@
 //! One step, for words of any kind.
-ghost use Rattle.std.specs.Prelude.{◌≡◌, ℕ, Option, IfOk, MatchResult, pos};
+ghost use Rattle.std.specs.Prelude.{◌≡◌, ℕ, Option, None, IfOk, IfSome, IfNone, IsSome, is_some, false, MatchResult, pos};
 ghost use Rattle.cap_words.specs.Face.{CapInOrder};
 ghost use Rattle.cap_words.specs.declared.Face.{Face};
 ghost use Rattle.lcm_isa.specs.declared.Reg.TheVariants.{Pc};
 ghost use Rattle.lcm_machine.specs.Ends.{Meets};
 ghost use Rattle.lcm_machine.specs.Touched.{KeepsUntouched, SameCells};
 ghost use Rattle.lcm_machine.specs.Regions.{StaysHeldOnce};
-ghost use Rattle.lcm_machine.specs.Row.{faces, cell_faces, fetch, fetch_word, step_of, none, some};
+ghost use Rattle.lcm_machine.specs.Row.{faces, cell_faces, fetch, fetch_word, jump_of, jump_at, step_of, none, some};
 
 use crate::state::State;
 use crate::{FailCause, Step};
@@ -37,6 +37,13 @@ fn decoded(c: CapFields, at: u32, found: Option<Face>) -> Result<(Instr, Word), 
         ..c
     };
     Ok((instr, Word::Mem(Cap::of(next))))
+}
+
+#[inline(always)]
+fn is_xjmp(instr: Instr) -> bool
+    ensures { result ≡ is_some (jump_of instr) }
+{
+    matches!(instr, Instr::Xjmp(_, _))
 }
 
 impl<W: MachineWord> State<W> {
@@ -91,6 +98,32 @@ impl<W: MachineWord> State<W> {
         decoded(c, at, found)
     }
 
+    // Fetches an instruction and carries it out, unless that is an `xjmp` and none is to be made: then
+    // `None`, and nothing changes. The one place that carries instructions out, so that it isn't
+    // compiled twice.
+    #[tactic(auto, unfolding(crate::specs::Row::step_of, crate::specs::Row::jump_at))]
+    pub(crate) fn advance(&mut self, leaps: bool) -> Option<Step>
+        ensures none { IfNone result (IsSome (jump_at W.look self.old)) }
+        ensures held { IfNone result (leaps ≡ false) }
+        ensures same { IfNone result (self.new ≡ self.old) }
+        ensures some { leaps ≡ false → IfSome result (λ _. jump_at W.look self.old ≡ None) }
+        ensures meets { IfSome result (λ step. Meets self.old (step_of W.look W.plain self.old) step self.new) }
+        ensures same_cells { SameCells self.old self.new }
+        ensures untouched { KeepsUntouched W.look self.old self.new }
+        ensures held_once { StaysHeldOnce W.look self.old self.new }
+    {
+        match self.fetch_on() {
+            Err(cause) => Some(Step::Failed(cause, self.pc_at())),
+            Ok((instr, next)) => {
+                if is_xjmp(instr) && !leaps {
+                    None
+                } else {
+                    Some(self.execute(instr, next))
+                }
+            }
+        }
+    }
+
     /// One step: fetches an instruction and carries it out. Where the step halts or fails, the state
     /// stays as it was. The spans stay, and so does which addresses have cells. A cell changes only
     /// where the step touches it: the one that it fetches, and the one that its instruction loads from
@@ -100,16 +133,15 @@ impl<W: MachineWord> State<W> {
     /// each two, each region linear or normal. If each memory capability of a register or a cell,
     /// sealed or not, lies in one region and is linear exactly where that region is, and if no two
     /// places have capabilities over one address of a linear region, then both hold after the step.
-    #[tactic(auto, unfolding(crate::specs::Row::step_of))]
     pub fn step(&mut self) -> Step
         ensures meets { Meets self.old (step_of W.look W.plain self.old) result self.new }
         ensures same_cells { SameCells self.old self.new }
         ensures untouched { KeepsUntouched W.look self.old self.new }
         ensures held_once { StaysHeldOnce W.look self.old self.new }
     {
-        match self.fetch_on() {
-            Err(cause) => Step::Failed(cause, self.pc_at()),
-            Ok((instr, next)) => self.execute(instr, next),
+        match self.advance(true) {
+            Some(step) => step,
+            None => unreachable!(),
         }
     }
 }

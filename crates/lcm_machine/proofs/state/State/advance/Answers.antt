@@ -1,6 +1,6 @@
 use Rattle.lcm_machine.proofs.TouchLemmas.{row_same, row_untouched, same_as_is, untouched_as_is}
 use Rattle.lcm_machine.proofs.HeldOnce.{row_stays, unchanged_stays}
-use Rattle.lcm_machine.proofs.state.State.step.Goals as goal
+use Rattle.lcm_machine.proofs.state.State.advance.Goals as goal
 
 pub returns-in-Err-clause-held_once : goal.returns-in-Err-clause-held_once
 returns-in-Err-clause-held_once g c = rw c.fetch_on.ensures.same (unchanged_stays g.W.MachineWord.look c.args.self.now)
@@ -11,17 +11,26 @@ returns-in-Err-clause-same_cells g c = rw c.fetch_on.ensures.same (same_as_is c.
 pub returns-in-Err-clause-untouched : goal.returns-in-Err-clause-untouched
 returns-in-Err-clause-untouched g c = rw c.fetch_on.ensures.same (untouched_as_is g.W.MachineWord.look c.args.self.now)
 
-pub returns-in-Ok-clause-held_once : goal.returns-in-Ok-clause-held_once
-returns-in-Ok-clause-held_once g c =
+pub returns-then-not-leaps-clause-held_once : goal.returns-then-not-leaps-clause-held_once
+returns-then-not-leaps-clause-held_once g c = rw c.fetch_on.ensures.same (unchanged_stays g.W.MachineWord.look c.args.self.now)
+
+pub returns-then-not-leaps-clause-same_cells : goal.returns-then-not-leaps-clause-same_cells
+returns-then-not-leaps-clause-same_cells g c = rw c.fetch_on.ensures.same (same_as_is c.args.self.now)
+
+pub returns-then-not-leaps-clause-untouched : goal.returns-then-not-leaps-clause-untouched
+returns-then-not-leaps-clause-untouched g c = rw c.fetch_on.ensures.same (untouched_as_is g.W.MachineWord.look c.args.self.now)
+
+pub returns-else-is_xjmp-clause-held_once : goal.returns-else-is_xjmp-clause-held_once
+returns-else-is_xjmp-clause-held_once g c =
     row_stays g.W.MachineWord.look g.W.MachineWord.plain g.met.W.MachineWord.looks_plain c.args.self.now c.execute.new.self
     c.in-Ok.instr c.in-Ok.next c.execute.result c.in-Ok.ensures.is (rw c.fetch_on.ensures.same at c.execute.ensures)
 
-pub returns-in-Ok-clause-same_cells : goal.returns-in-Ok-clause-same_cells
-returns-in-Ok-clause-same_cells g c =
+pub returns-else-is_xjmp-clause-same_cells : goal.returns-else-is_xjmp-clause-same_cells
+returns-else-is_xjmp-clause-same_cells g c =
     row_same g.W.MachineWord.look g.W.MachineWord.plain c.args.self.now c.execute.new.self
     c.in-Ok.instr c.in-Ok.next c.execute.result c.in-Ok.ensures.is (rw c.fetch_on.ensures.same at c.execute.ensures)
 
-pub returns-in-Ok-clause-untouched : goal.returns-in-Ok-clause-untouched
-returns-in-Ok-clause-untouched g c =
+pub returns-else-is_xjmp-clause-untouched : goal.returns-else-is_xjmp-clause-untouched
+returns-else-is_xjmp-clause-untouched g c =
     row_untouched g.W.MachineWord.look g.W.MachineWord.plain c.args.self.now c.execute.new.self
     c.in-Ok.instr c.in-Ok.next c.execute.result c.in-Ok.ensures.is (rw c.fetch_on.ensures.same at c.execute.ensures)
