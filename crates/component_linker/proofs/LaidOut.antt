@@ -1,7 +1,7 @@
--- What a start keeps: its sites and owners ascend, and their names are short.
-use Rattle.std.proofs.Common.{◌≡◌, ℕ, zero, suc, ◌+◌, ◌<◌, ◌≤◌, Bool, true, false, List, [], ◌∷◌, length, get_or, leb, Option, Some, None, refl, sym, ap, subst, ◌∙◌, arith}
-use Rattle.std.specs.Prelude.{slice_get, map, option_map, IsTrue, ◌&&◌}
-use Rattle.std.specs.List.{AllPairs, Contains}
+-- What a start keeps: its sites are in order, its owners ascend, and their names are short.
+use Rattle.std.proofs.Common.{◌≡◌, ℕ, zero, suc, ◌≤◌, Bool, true, false, List, [], ◌∷◌, length, leb, Option, Some, None, refl, sym, ap, subst, ◌∙◌, arith}
+use Rattle.std.specs.Prelude.{slice_get, option_map, IsTrue, ◌&&◌}
+use Rattle.std.specs.List.{Contains}
 use Rattle.std.proofs.lemmas.Option.{slice_get_within, get_or_from_slice_get, slice_get-map}
 use Rattle.std.proofs.lemmas.List.Elements.{Contains-get_or}
 use Rattle.component_file.specs.declared.TheConstants.{LONGEST_NAME}
@@ -13,7 +13,7 @@ use Rattle.component_linker.specs.declared.owners.Owner.{Owner}
 use Rattle.component_linker.specs.declared.owners.Entry.{Entry}
 use Rattle.component_linker.specs.Parts.{PartSeen}
 use Rattle.component_linker.specs.Linked.{Kept, AreClosed}
-use Rattle.component_linker.specs.Owners.{AreSites, entry_of, owner_of, IsOwner, AreOwners, AreLaid}
+use Rattle.component_linker.specs.Owners.{AreInOrder, entry_of, owner_of, IsOwner, AreOwners, AreLaid}
 
 both_are : (a b : Bool) → IsTrue (a && b) → IsTrue a × IsTrue b
 both_are true true h = (h, h)
@@ -56,9 +56,9 @@ module _ (parts : List PartSeen) (closed : AreClosed parts) (owners : List Owner
       let x = given (entry_of c) (slice_get c.exports n) e there in
       subst (λ (y : Entry). length y.name ≤ LONGEST_NAME) x.2 (export_name c.exports None n x.0 (kept_of o is).limits.exports.1 x.1)
 
-  pub are_laid : {sites : List Site} → AreSites parts sites → AreLaid sites owners
-  are_laid are_sites = record {
-    sites_ascend = are_sites.ascend;
+  pub are_laid : {sites : List Site} → AreInOrder sites → AreLaid sites owners
+  are_laid in_order = record {
+    sites_in_order = in_order;
     owners_ascend = are.ascend;
     names = λ k o e. name_of o (owner_at k o e);
     entries = λ k n o e at. entry_name o (owner_at k o at) n e;

@@ -13,6 +13,8 @@ pub mod OwnWords
 pub mod StartCells
 pub mod StartIs
 pub mod ListedOwners
+pub mod SiteSearch
+pub mod SitesInOrder
 pub mod PartKept
 pub mod LinksKept
 pub mod SealsKept

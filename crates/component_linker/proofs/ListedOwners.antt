@@ -57,7 +57,7 @@ above [] b k o h at = absurd cc
 above (x ∷ xs) b zero o h at = let same : x ≡ o = cc in let lt = ltb-true b x h.0.1 in omega (arith, same, lt)
 above (x ∷ xs) b (suc k) o h at = let low = ltb-true b x h.0.1 in let high = above xs x k o h.1 at in omega (arith, low, high)
 
-sites_rise : (xs : List ℕ) (b : Option ℕ) (k n o q : ℕ) → Chain SiteFits b xs → k < n → slice_get xs k ≡ Some o → slice_get xs n ≡ Some q → o < q
+pub sites_rise : (xs : List ℕ) (b : Option ℕ) (k n o q : ℕ) → Chain SiteFits b xs → k < n → slice_get xs k ≡ Some o → slice_get xs n ≡ Some q → o < q
 sites_rise [] b k n o q h lt at_k at_n = absurd cc
 sites_rise (x ∷ xs) b k zero o q h lt at_k at_n = absurd (omega (arith, lt))
 sites_rise (x ∷ xs) b zero (suc n) o q h lt at_k at_n = let same : x ≡ o = cc in let high = above xs x n q h.1 at_n in omega (arith, same, high)
@@ -66,13 +66,13 @@ sites_rise (x ∷ xs) b (suc k) (suc n) o q h lt at_k at_n = sites_rise xs (Some
 -- ---- sites
 
 -- parts with a code word at one address are one
-meet_not : (parts : List PartSeen) (k n a : ℕ) (p q : PartSeen) → AreSeparate parts → k < n → slice_get parts k ≡ Some p → slice_get parts n ≡ Some q
+pub meet_not : (parts : List PartSeen) (k n a : ℕ) (p q : PartSeen) → AreSeparate parts → k < n → slice_get parts k ≡ Some p → slice_get parts n ≡ Some q
     → p.component.code_base ≤ a → a < p.component.code_base + length p.component.code → q.component.code_base ≤ a → a < q.component.code_base + length q.component.code → ⊥
 meet_not parts k n a p q separate lt at_k at_n low high below above' =
     with_some (part_word parts a p) ⊥ (code_there parts p a low high)
     (λ w h. with_some (part_word parts a q) ⊥ (code_there parts q a below above') (λ v g. separate.apart k n a p q w v lt at_k at_n h g))
 
-site_in : (parts : List PartSeen) (s : Site) (a : ℕ) → AreClosed parts → (h : IsSite parts s) → s.at ≡ a → (h.of.component.code_base ≤ a) × (a < h.of.component.code_base + length h.of.component.code)
+pub site_in : (parts : List PartSeen) (s : Site) (a : ℕ) → AreClosed parts → (h : IsSite parts s) → s.at ≡ a → (h.of.component.code_base ≤ a) × (a < h.of.component.code_base + length h.of.component.code)
 site_in parts s a closed h is =
     let lt = (closed.kept s.part h.of h.of_is).sites_in h.trusted s.index h.offset h.offset_is in
     let at = h.at in
@@ -102,7 +102,7 @@ same_site s t a b c d =
     ∙ ap (λ (x : ℕ). p (record { part = t.part; index = t.index; seal = t.seal; at = x })) d
 
 -- a site is told by its part and its index
-one_site : (parts : List PartSeen) (s t : Site) → IsSite parts s → IsSite parts t → s.part ≡ t.part → s.index ≡ t.index → s ≡ t
+pub one_site : (parts : List PartSeen) (s t : Site) → IsSite parts s → IsSite parts t → s.part ≡ t.part → s.index ≡ t.index → s ≡ t
 one_site parts s t h g part_is index_is =
     let e : Some h.of ≡ Some g.of = sym h.of_is ∙ ap (slice_get parts) part_is ∙ g.of_is in
     let one : h.of ≡ g.of = cc in

@@ -1,5 +1,5 @@
 -- The sites of a start, and who owns which code.
-use Rattle.std.specs.Prelude.{◌≡◌, ◌↔◌, ℕ, ◌+◌, ◌<◌, ◌≤◌, true, List, map, length, slice_get, Some}
+use Rattle.std.specs.Prelude.{◌≡◌, ◌↔◌, ℕ, ◌+◌, ◌<◌, ◌≤◌, true, List, map, length, slice_get, slice_index_or, Some}
 use Rattle.std.specs.List.{AllPairs, Contains}
 use Rattle.component_file.specs.declared.TheConstants.{LONGEST_NAME}
 use Rattle.component_file.specs.declared.component.ComponentFields.{ComponentFields}
@@ -9,6 +9,33 @@ use Rattle.component_linker.specs.declared.owners.Owner.{Owner}
 use Rattle.component_linker.specs.declared.owners.Entry.{Entry}
 use Rattle.component_linker.specs.Parts.{PartSeen}
 use Rattle.component_linker.specs.Regions.{addresses}
+
+-- ---- the order of sites
+
+abbrev pub Ascend : List Site → Type 0
+Ascend sites = AllPairs (λ s t. s.at < t.at) sites
+
+-- of the same part, with the next seal
+abbrev pub Follows : Site → Site → Type 0
+Follows s t = (t.part ≡ s.part) × (t.seal ≡ s.seal + 1)
+
+-- the sites of a part stand together, each with the seal after that of the one before: where a site of the
+-- same part comes later, the next site follows
+abbrev pub InRuns : List Site → Type 0
+InRuns sites = (i j : ℕ) (d : Site) → i < j → j < length sites
+    → (slice_index_or sites i d).part ≡ (slice_index_or sites j d).part
+    → Follows (slice_index_or sites i d) (slice_index_or sites (i + 1) d)
+
+pub record AreInOrder (sites : List Site) : Type 0 where
+  pub ascend : Ascend sites
+  pub runs : InRuns sites
+
+-- the sites from one place up to another are some, and of one part
+pub record IsRun (sites : List Site) (place end : ℕ) : Type 0 where
+  pub some : place < end
+  pub within : end ≤ length sites
+  pub one_part : (k : ℕ) (d : Site) → place ≤ k → k < end
+      → (slice_index_or sites place d).part ≡ (slice_index_or sites k d).part
 
 -- ---- sites
 
@@ -24,7 +51,7 @@ pub record IsSite (parts : List PartSeen) (s : Site) : Type 0 where
 
 -- each of them, in ascending address
 pub record AreSites (parts : List PartSeen) (sites : List Site) : Type 0 where
-  pub ascend : AllPairs (λ s t. s.at < t.at) sites
+  pub ascend : Ascend sites
   pub all : (s : Site) → Contains sites s ↔ IsSite parts s
 
 -- ---- owners
@@ -59,9 +86,9 @@ pub record AreOwners (parts : List PartSeen) (owners : List Owner) : Type 0 wher
 
 -- ---- both
 
--- both ascend, and the names of owners and of their entries are short
+-- sites are in order, owners ascend, and the names of owners and of their entries are short
 pub record AreLaid (sites : List Site) (owners : List Owner) : Type 0 where
-  pub sites_ascend : AllPairs (λ s t. s.at < t.at) sites
+  pub sites_in_order : AreInOrder sites
   pub owners_ascend : AllPairs (λ o q. o.code.base < q.code.base) owners
   pub names : (k : ℕ) (o : Owner) → slice_get owners k ≡ Some o → length o.name ≤ LONGEST_NAME
   pub entries : (k n : ℕ) (o : Owner) (e : Entry) → slice_get owners k ≡ Some o

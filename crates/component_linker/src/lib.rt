@@ -16,6 +16,7 @@ mod part;
 mod parts;
 mod placed;
 mod regions;
+mod site_list;
 mod started;
 mod whole;
 
@@ -23,6 +24,7 @@ pub use fault::{LinkFault, RuleAt};
 pub use linking::link;
 pub use owners::{Entry, Owner, Site};
 pub use part::{Part, accept};
+pub use site_list::SiteList;
 pub use started::Start;
 
 /// The most parts that are linked together.

@@ -7,6 +7,7 @@ ghost use Rattle.component_linker.specs.Listing.{SitesUpto, OwnersUpto};
 
 use crate::MOST_PARTS;
 use crate::placed::{Placed, PlacedParts};
+use crate::site_list::SiteList;
 use cap_words::{Items, LAST_PLACE};
 use lcm_machine::Span;
 use std::alloc::{AllocError, Global};
@@ -77,8 +78,8 @@ fn push_sites(sites: &mut Vec<Site>, parts: &PlacedParts<'_>, number: u32) -> Re
     Ok(())
 }
 
-/// The sites of all trusted parts, in ascending address.
-pub(crate) fn sites(alloc: Global, parts: &PlacedParts<'_>) -> Result<Items<Site>, AllocError>
+/// The sites of all trusted parts, in their order.
+pub(crate) fn sites(alloc: Global, parts: &PlacedParts<'_>) -> Result<SiteList, AllocError>
     requires few { length parts.now ≤ MOST_PARTS }
     requires closed { AreClosed parts.now }
     requires separate { AreSeparate parts.now }
@@ -89,7 +90,7 @@ pub(crate) fn sites(alloc: Global, parts: &PlacedParts<'_>) -> Result<Items<Site
         push_sites(&mut sites, parts, number)?;
     }
     sites.sort_by_key(|site| site.at)?;
-    Ok(Items::of(sites))
+    Ok(SiteList::of(sites))
 }
 
 // So many addresses from a first one on.

@@ -8,8 +8,9 @@ ghost use Rattle.component_linker.specs.Started.{Starts};
 
 use crate::machine::machine;
 use crate::memory::stack_of;
-use crate::owners::{Owner, Site, owners, sites};
+use crate::owners::{Owner, owners, sites};
 use crate::placed::PlacedParts;
+use crate::site_list::SiteList;
 use cap_words::Items;
 use lcm_machine::{LcmState, Span};
 use std::alloc::{AllocError, Global};
@@ -18,12 +19,12 @@ use std::marker::Model;
 /// A start: a machine, the sites of its trusted parts, who owns which code, and where its stack is.
 /// A contract sees the four.
 ///
-/// In every start the sites ascend by their addresses and the owners by those of their code, and the
-/// names of owners and entries have at most [`component_file::LONGEST_NAME`] bytes.
+/// In every start the sites stand in the order of a [`SiteList`], the owners ascend by the addresses of
+/// their code, and the names of owners and entries have at most [`component_file::LONGEST_NAME`] bytes.
 #[derive(Drop)]
 pub struct Start {
     state: LcmState,
-    sites: Items<Site>,
+    sites: SiteList,
     owners: Items<Owner>,
     stack: Span,
 }
@@ -76,11 +77,11 @@ impl Start {
         state
     }
 
-    /// The sites of the trusted parts, in ascending address.
-    pub fn sites(&self) -> &[Site]
+    /// The sites of the trusted parts.
+    pub fn sites(&self) -> &SiteList
         ensures { result.now ≡ self.now.sites }
     {
-        self.sites.as_slice()
+        &self.sites
     }
 
     /// The owners, one for each part, in ascending address of their code.

@@ -1,5 +1,6 @@
 use Rattle.component_linker.proofs.PartWords.{separate}
 use Rattle.component_linker.proofs.LaidOut.{are_laid}
+use Rattle.component_linker.proofs.SitesInOrder.{in_order}
 use Rattle.component_linker.proofs.started.start_of.Goals as goal
 
 pub sites-requires-clause-separate : goal.sites-requires-clause-separate
@@ -9,4 +10,6 @@ pub owners-requires-clause-separate : goal.owners-requires-clause-separate
 owners-requires-clause-separate c = separate c.args.parts.now c.args.size c.requires.closed c.requires.apart
 
 pub invariant_of-result : goal.invariant_of-result
-invariant_of-result c = are_laid c.args.parts.now c.requires.closed c.in_ok-owners.owners c.in_ok-owners.ensures c.in_ok-sites.ensures
+invariant_of-result c =
+    are_laid c.args.parts.now c.requires.closed c.in_ok-owners.owners c.in_ok-owners.ensures
+    (in_order c.args.parts.now c.in_ok-sites.sites c.requires.closed (separate c.args.parts.now c.args.size c.requires.closed c.requires.apart) c.in_ok-sites.ensures)
