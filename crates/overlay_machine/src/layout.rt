@@ -1,5 +1,5 @@
 //! What the overlay keeps of a start, and what it finds there.
-ghost use Rattle.std.specs.Prelude.{◌≡◌, ◌==◌, ◌&&◌, ◌≤◌, ◌-◌, IfSome, position, find, slice_get};
+ghost use Rattle.std.specs.Prelude.{◌≡◌, ◌==◌, ◌&&◌, ◌≤◌, ◌-◌, IfSome, find, slice_get};
 ghost use Rattle.std.specs.List.{list_any};
 ghost use Rattle.std.specs.Option.{option_copied};
 ghost use Rattle.cap_words.specs.Face.{FaceInOrder};
@@ -9,13 +9,13 @@ ghost use Rattle.overlay_machine.specs.Layout.{is_entry, is_code, with_code, cod
 
 use crate::reach::numbered;
 use cap_words::{CapFields, Face, Items, LAST_PLACE};
-use component_linker::{Entry, Owner, Site};
+use component_linker::{Entry, Owner, Site, SiteList};
 use lcm_machine::Span;
 
 /// The sites of a start, its owners, and where its stack is.
 #[derive(Drop)]
 pub struct Layout {
-    pub sites: Items<Site>,
+    pub sites: SiteList,
     pub owners: Items<Owner>,
     pub stack: Span,
 }
@@ -38,12 +38,6 @@ fn runs_in(c: &CapFields, owner: &Owner) -> bool
         && !c.lin.is_linear()
         && c.base == owner.code.base
         && c.end == owner.code.end
-}
-
-fn place_at(sites: &[Site], at: u32) -> Option<usize>
-    ensures { result ≡ position (λ s. s.at == at) sites.now }
-{
-    sites.iter().position(|site| site.at == at)
 }
 
 fn has_entry(entries: &[Entry], at: u32) -> bool
@@ -140,7 +134,7 @@ impl Layout {
     pub(crate) fn site_at(&self, at: u32) -> Option<u32>
         ensures { result ≡ site_at self.now at }
     {
-        numbered(place_at(self.sites.as_slice(), at)?)
+        numbered(self.sites.place_at(at)?)
     }
 
     /// Whether an entry of a trusted part is at an address.

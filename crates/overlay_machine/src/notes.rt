@@ -49,7 +49,7 @@ fn closure_owner(layout: &Layout, seal: u32) -> Option<&Owner>
 fn site_of_seal(layout: &Layout, seal: u32) -> Option<u32>
     ensures { result ≡ site_of_seal layout.now seal }
 {
-    site_sealed(layout.sites.as_slice(), seal)
+    site_sealed(&layout.sites, seal)
 }
 
 // Where an `xjmp` of two halves goes, by their seal.

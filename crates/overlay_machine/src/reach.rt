@@ -7,7 +7,7 @@ ghost use Rattle.overlay_machine.specs.Events.{entry_number, content_base, hop_b
 
 use crate::events::Back;
 use cap_words::{Content, Face};
-use component_linker::{Entry, Owner, Site};
+use component_linker::{Entry, Owner, SiteList};
 
 /// The number of a place, where it has 32 bits.
 pub fn numbered(place: usize) -> Option<u32>
@@ -51,17 +51,11 @@ pub fn owner_closed(owners: &[Owner], seal: u32) -> Option<&Owner>
         .find(|owner| owner.trusted && owner.closure == seal)
 }
 
-fn seal_place(sites: &[Site], seal: u32) -> Option<usize>
-    ensures { result ≡ position (λ s. s.seal == seal) sites.now }
-{
-    sites.iter().position(|site| site.seal == seal)
-}
-
 /// The number of the site of a return seal.
-pub fn site_sealed(sites: &[Site], seal: u32) -> Option<u32>
+pub fn site_sealed(sites: &SiteList, seal: u32) -> Option<u32>
     ensures { result ≡ number_of (λ s. s.seal == seal) sites.now }
 {
-    numbered(seal_place(sites, seal)?)
+    numbered(sites.place_sealed(seal)?)
 }
 
 /// The base of the range of a capability that was sealed.

@@ -1,98 +1,18 @@
--- What halving finds among sites, and among parts by the base of their code.
-use Rattle.std.proofs.Common.{◌≡◌, ℕ, suc, ◌<◌, ◌≤◌, ◌⊎◌, inl, inr, Bool, true, false, List, [], ◌∷◌, length, get_or, Option, Some, None, refl, sym, ap, ◌∙◌, arith, subst, eq-eqb}
-use Rattle.std.specs.Prelude.{◌==◌, nat_lt, position, if◌then◌else◌}
-use Rattle.std.specs.List.{AllPairs, HoldsAt, position_or_len}
-use Rattle.std.specs.Ordering.{nat_cmp, ordering_index, MatchOrdering}
+-- The part whose code a capability runs, found by halving.
+use Rattle.std.proofs.Common.{◌≡◌, ℕ, suc, ◌<◌, ◌≤◌, Bool, true, false, List, [], ◌∷◌, length, get_or, Option, Some, None, refl, sym, ap, ◌∙◌, arith}
+use Rattle.std.specs.Prelude.{find, ◌&&◌, IsTrue, if◌then◌else◌}
+use Rattle.std.specs.List.{AllPairs, HoldsAt}
+use Rattle.std.specs.List.Sorted.{IsNonDecreasingBy, IsPartitionPoint}
+use Rattle.std.specs.Ordering.{nat_cmp, ordering_index, is_eq, is_lt}
 use Rattle.std.specs.declared.cmp.Ordering.{Ordering}
 use Rattle.std.specs.declared.cmp.Ordering.TheVariants.{Less, Equal, Greater}
-use Rattle.std.specs.List.Sorted.{IsNonDecreasingBy, IsPartitionPoint}
-use Rattle.std.proofs.lemmas.Cmp.{ranked}
-use Rattle.std.proofs.lemmas.Bool.{cases_eq, eqb-true, ltb-true, lt-ltb}
-use Rattle.std.proofs.lemmas.List.Sums.{position_or_len_is}
-use Rattle.std.specs.Prelude.{find, ◌&&◌, IsTrue}
-use Rattle.std.specs.Ordering.{is_eq, is_lt}
+use Rattle.std.proofs.lemmas.Bool.{ne_eqb}
 use Rattle.std.proofs.lemmas.Cmp.{nat_cmp_total}
 use Rattle.cap_words.specs.declared.CapFields.{CapFields}
-use Rattle.component_linker.specs.declared.owners.Site.{Site}
 use Rattle.component_linker.specs.declared.owners.Owner.{Owner}
 use Rattle.component_linker.proofs.Halved as halved
+use Rattle.component_linker.proofs.SiteSearch.{equal_is, less_is, greater_is}
 use Rattle.overlay_machine.specs.Layout.{runs_in}
-
-neq_eqb : (a b : ℕ) → (a ≡ b → ⊥) → (a == b) ≡ false
-neq_eqb a b ne = by_test (a == b) refl
-  where
-    by_test : (t : Bool) → (a == b) ≡ t → t ≡ false
-    by_test true e = absurd (ne (eqb-true a b e))
-    by_test false e = refl
-
-not_below : (n : ℕ) → nat_lt n n ≡ false
-not_below n = by_test (nat_lt n n) refl
-  where
-    by_test : (t : Bool) → nat_lt n n ≡ t → t ≡ false
-    by_test true e = absurd (let l : n < n = ltb-true n n e in omega arith)
-    by_test false e = refl
-
-abbrev Ascend : List Site → Type 0
-Ascend rows = AllPairs (λ (s t : Site). s.at < t.at) rows
-
-abbrev Finds : ℕ → List Site → Option ℕ → Type 0
-Finds o rows r = position (λ (x : Site). x.at == o) rows ≡ r
-
-find_at : (rows : List Site) (i o : ℕ) (d : Site) → Ascend rows → i < length rows → (get_or rows i d).at ≡ o → Finds o rows (Some i)
-find_at rows i o d h lt e =
-    let first : position_or_len (λ (x : Site). x.at == o) rows ≡ i =
-    position_or_len_is _ rows i d (omega arith)
-    (λ k below. neq_eqb (get_or rows k d).at o (λ same. let up : (get_or rows k d).at < (get_or rows i d).at = h k i d below lt in omega arith))
-    (λ _. eq-eqb (get_or rows i d).at o e) in
-    rw (first, lt-ltb i (length rows) lt) refl
-
-find_none : (rows : List Site) (o : ℕ) (d : Site) → ((i : ℕ) → i < length rows → (get_or rows i d).at ≡ o → ⊥) → Finds o rows None
-find_none rows o d h =
-    let first : position_or_len (λ (x : Site). x.at == o) rows ≡ length rows =
-    position_or_len_is _ rows (length rows) d (omega arith)
-    (λ k below. neq_eqb (get_or rows k d).at o (λ same. h k below same))
-    (λ lt. absurd (omega arith)) in
-    rw (first, not_below (length rows)) refl
-
-equal_is : (a b : ℕ) → nat_cmp a b ≡ Equal → a ≡ b
-equal_is a b e = subst (λ r. MatchOrdering r (a < b) (a ≡ b) (b < a)) e (ranked a b (nat_cmp a b) refl)
-
-less_is : (a b : ℕ) → nat_cmp a b ≡ Less → a < b
-less_is a b e = subst (λ r. MatchOrdering r (a < b) (a ≡ b) (b < a)) e (ranked a b (nat_cmp a b) refl)
-
-greater_is : (a b : ℕ) → nat_cmp a b ≡ Greater → b < a
-greater_is a b e = subst (λ r. MatchOrdering r (a < b) (a ≡ b) (b < a)) e (ranked a b (nat_cmp a b) refl)
-
-index_up : (a b o : ℕ) (r s : Ordering) → MatchOrdering r (a < o) (a ≡ o) (o < a) → MatchOrdering s (b < o) (b ≡ o) (o < b) → a ≤ b → ordering_index r ≤ ordering_index s
-index_up a b o Less s h k le = omega arith
-index_up a b o Equal Less h k le = absurd (let l : b < o = k in let m : a ≡ o = h in omega arith)
-index_up a b o Equal Equal h k le = omega arith
-index_up a b o Equal Greater h k le = omega arith
-index_up a b o Greater Less h k le = absurd (let l : b < o = k in let m : o < a = h in omega arith)
-index_up a b o Greater Equal h k le = absurd (let l : b ≡ o = k in let m : o < a = h in omega arith)
-index_up a b o Greater Greater h k le = omega arith
-
-searchable : (rows : List Site) (o : ℕ) → Ascend rows → IsNonDecreasingBy (λ (y : Site). ordering_index (nat_cmp y.at o)) rows
-searchable rows o h i j d le lt =
-    index_up (get_or rows i d).at (get_or rows j d).at o _ _ (ranked (get_or rows i d).at o (nat_cmp (get_or rows i d).at o) refl) (ranked (get_or rows j d).at o (nat_cmp (get_or rows j d).at o) refl)
-    (elim (cases_eq i j) as (λ _. (get_or rows i d).at ≤ (get_or rows j d).at) [
-      | inl e ↦ rw e (omega arith)
-      | inr ne ↦ (let up : (get_or rows i d).at < (get_or rows j d).at = h i j d (omega arith) lt in omega arith)
-    ])
-
-pub found : (rows : List Site) (o i : ℕ) (d : Site) → Ascend rows → i < length rows → HoldsAt (λ (y : Site). nat_cmp y.at o ≡ Equal) rows i → Finds o rows (Some i)
-found rows o i d h lt e = find_at rows i o d h lt (equal_is (get_or rows i d).at o (e d))
-
-pub missing : (rows : List Site) (o i : ℕ) (d : Site) → Ascend rows → (IsNonDecreasingBy (λ (y : Site). ordering_index (nat_cmp y.at o)) rows → IsPartitionPoint (λ (y : Site). nat_cmp y.at o ≡ Less) (λ (y : Site). nat_cmp y.at o ≡ Greater) rows i) → Finds o rows None
-missing rows o i d h split = find_none rows o d (λ j lt e. elim (side j) as (λ _. ⊥) [
-  | inl low ↦ (let k : (get_or rows j d).at < o = less_is _ o ((split (searchable rows o h)).0 j d (omega arith) low) in omega arith)
-  | inr high ↦ (let k : o < (get_or rows j d).at = greater_is _ o ((split (searchable rows o h)).1 j d high lt) in omega arith)
-])
-  where
-    side : (j : ℕ) → (j < i) ⊎ (i ≤ j)
-    side j = grind arith
-
--- ---- the part whose code a capability runs
 
 abbrev Rise : List Owner → Type 0
 Rise os = AllPairs (λ (o q : Owner). o.code.base < q.code.base) os
@@ -111,7 +31,7 @@ four true false d e = refl
 four false b d e = refl
 
 other_base : (c : CapFields) (o : Owner) → (c.base ≡ o.code.base → ⊥) → runs_in c o ≡ false
-other_base c o ne = rw (neq_eqb c.base o.code.base ne) (four o.trusted _ _ _)
+other_base c o ne = rw (ne_eqb c.base o.code.base ne) (four o.trusted _ _ _)
 
 none_runs : (c : CapFields) (os : List Owner) → ((i : ℕ) (d : Owner) → i < length os → c.base ≡ (get_or os i d).code.base → ⊥) → find (runs_in c) os ≡ None
 none_runs c [] h = refl

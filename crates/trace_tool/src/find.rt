@@ -1,5 +1,5 @@
-//! Looking up sites and parts, which stand in ascending address.
-ghost use Rattle.std.specs.Prelude.{◌≡◌, ◌==◌, ◌<◌, ◌≤◌, position, find, slice_get, length};
+//! Looking up sites and parts.
+ghost use Rattle.std.specs.Prelude.{◌≡◌, ◌==◌, ◌<◌, ◌≤◌, find, slice_get, length};
 ghost use Rattle.std.specs.List.{AllPairs};
 ghost use Rattle.std.specs.Option.{option_copied};
 ghost use Rattle.cap_words.specs.Face.{FaceInOrder};
@@ -13,22 +13,11 @@ use cap_words::{CapFields, Face};
 use component_linker::{Entry, Owner, Site, Start};
 use overlay_machine::reach::{numbered, owner_closed, site_sealed};
 
-fn site_place(sites: &[Site], at: u32) -> Option<usize>
-    requires { AllPairs (λ s t. s.at < t.at) sites.now }
-    ensures { result ≡ position (λ s. s.at == at) sites.now }
-{
-    match sites.binary_search_by_key(&at, |site| site.at) {
-        Ok(place) => Some(place),
-        Err(_) => None,
-    }
-}
-
-// The number of the site whose call begins at an address, by halving.
+// The number of the site whose call begins at an address.
 fn site_at(start: &Start, at: u32) -> Option<u32>
     ensures { result ≡ site_at (layout start.now) at }
 {
-    start.is_laid();
-    numbered(site_place(start.sites(), at)?)
+    numbered(start.sites().place_at(at)?)
 }
 
 fn site_before(start: &Start, offset: u32, at: u32) -> Option<u32>
@@ -154,7 +143,7 @@ pub(crate) fn entry_name(start: &Start, part: u32, entry: u32) -> &[u8]
 pub(crate) fn site_of(start: &Start, site: u32) -> Site
     ensures { result ≡ site_of (layout start.now) site }
 {
-    match start.sites().get(site as usize) {
+    match start.sites().as_slice().get(site as usize) {
         Some(site) => *site,
         None => {
             Site {
