@@ -6,6 +6,8 @@ pub mod Going
 pub mod Split
 pub mod Tracing
 mod Untrusted
+mod Between
+mod Gaps
 mod ReturnLines
 mod LinesBracketed
 mod TraceTold

@@ -11,6 +11,7 @@ use Rattle.lcm_isa.specs.declared.Reg.{Reg}
 use Rattle.lcm_machine.specs.declared.Step.{Step}
 use Rattle.lcm_machine.specs.declared.Step.TheVariants.{Went, Halted, Failed}
 use Rattle.lcm_machine.specs.Maps.{State}
+use Rattle.lcm_machine.specs.Row.{jump_at}
 use Rattle.lcm_machine.specs.Run.{next_state, plain, answer}
 use Rattle.component_linker.specs.declared.owners.Owner.{Owner}
 use Rattle.overlay_machine.specs.declared.layout.Layout.{Layout}
@@ -21,7 +22,7 @@ use Rattle.component_linker.specs.Started.{StartSeen}
 use Rattle.trace_tool.specs.declared.run.RunEnd.{RunEnd}
 use Rattle.trace_tool.specs.Layout.{layout, site_word}
 use Rattle.trace_tool.specs.Views.{View, view_of}
-use Rattle.trace_tool.specs.Events.{jump_at, noted_by, noted, entered, event_after}
+use Rattle.trace_tool.specs.Events.{noted_by, noted, entered, event_after}
 use Rattle.trace_tool.specs.Lines.{lines_for}
 use Rattle.trace_tool.specs.Texts.{lines_text}
 use Rattle.trace_tool.specs.EndLines.{end_line}
@@ -62,7 +63,7 @@ module _ (l : Layout) (none : NoneTrusted l) where
 
   no_event : (s : State Word) (inward : Bool) (v : View) → event_after l (noted l s) inward v ≡ None
   unfolding noted
-  no_event s inward v = no_event_by s (jump_at s) inward v
+  no_event s inward v = no_event_by s (jump_at (λ w. w) s) inward v
 
   none_went : (a : Step) → if_went {A = Option Event} a None None ≡ None
   none_went Went = refl

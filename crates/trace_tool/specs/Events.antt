@@ -11,9 +11,8 @@ use Rattle.cap_words.specs.Face.{face_of, opened_of}
 use Rattle.cap_words.specs.Faces.{target_of, memory_in}
 use Rattle.lcm_isa.specs.declared.Reg.{Reg}
 use Rattle.lcm_isa.specs.declared.Reg.TheVariants.{Pc, Rcode, Rdata, Stk}
-use Rattle.lcm_isa.specs.declared.Instr.TheVariants.{Xjmp}
 use Rattle.lcm_machine.specs.Maps.{State}
-use Rattle.lcm_machine.specs.Row.{faces, opens, cell_faces, Fetched, some, fetch}
+use Rattle.lcm_machine.specs.Row.{faces, opens, jump_at}
 use Rattle.component_linker.specs.declared.owners.Owner.{Owner}
 use Rattle.call_sequence.specs.declared.TheConstants.{CALL_WORDS, RETURN_WORDS}
 use Rattle.overlay_machine.specs.declared.layout.Layout.{Layout}
@@ -27,14 +26,6 @@ use Rattle.trace_tool.specs.Layout.{is_trusted, trusted_part, site_word}
 use Rattle.trace_tool.specs.Views.{View}
 
 -- ---- before an instruction
-
--- the register whose word an `xjmp` that pc names opens as code
-abbrev pub jump_in : Fetched → Option Reg
-jump_in (some (Xjmp r1 r2) next) = Some r1
-jump_in _ = None
-
-unfoldable pub jump_at : State Word → Option Reg
-jump_at s = jump_in (fetch (faces (λ w. w) s Pc) (cell_faces (λ w. w) s))
 
 -- the last word of a site
 abbrev pub note_last : Option ℕ → Note
@@ -51,7 +42,7 @@ noted_by l s (Some r1) = Leap (record {
 })
 
 unfoldable pub noted : Layout → State Word → Note
-noted l s = noted_by l s (jump_at s)
+noted l s = noted_by l s (jump_at (λ w. w) s)
 
 -- whether the last `xjmp` that went stood in trusted code
 abbrev pub inward_after : Note → Bool → Bool

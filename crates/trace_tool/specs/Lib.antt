@@ -1,5 +1,6 @@
 pub mod Layout
 pub mod Views
+pub mod Gaps
 pub mod Events
 pub mod Lines
 pub mod Texts

@@ -8,6 +8,7 @@
 mod end_line;
 mod event;
 mod find;
+mod gap;
 pub mod laws;
 mod note;
 mod run;

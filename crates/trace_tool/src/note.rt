@@ -1,7 +1,8 @@
 //! What is noted of an instruction before it is made.
 ghost use Rattle.std.specs.Prelude.{◌≡◌};
 ghost use Rattle.trace_tool.specs.Layout.{layout};
-ghost use Rattle.trace_tool.specs.Events.{jump_at, noted, inward_after};
+ghost use Rattle.lcm_machine.specs.Row.{jump_at};
+ghost use Rattle.trace_tool.specs.Events.{noted, inward_after};
 
 use crate::find::{site_word, trusted_owner};
 use call_sequence::{CALL_WORDS, RETURN_WORDS};
@@ -30,9 +31,9 @@ pub enum Note {
 }
 
 // The register that the `xjmp` at pc opens as code, where one stands there.
-#[tactic(auto, unfolding(crate::specs::Events::jump_at))]
+#[tactic(auto, unfolding(lcm_machine::specs::Row::jump_at))]
 fn jump_at(state: &LcmState) -> Option<Reg>
-    ensures { result ≡ jump_at state.now.maps }
+    ensures { result ≡ jump_at (λ w. w) state.now.maps }
 {
     match state.fetch() {
         Ok((Instr::Xjmp(code, _), _)) => Some(code),

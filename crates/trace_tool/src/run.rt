@@ -8,11 +8,13 @@ ghost use Rattle.trace_tool.specs.Headline.{Headline};
 ghost use Rattle.outside_io.specs.Writes.{Writes};
 ghost use Rattle.lcm_machine.specs.Run.{next_state, answer};
 ghost use Rattle.trace_tool.specs.Layout.{layout};
+ghost use Rattle.trace_tool.specs.Gaps.{IsGap};
 ghost use Rattle.trace_tool.specs.Texts.{lines_text};
 ghost use Rattle.trace_tool.specs.Runs.{watching, watched_next, line_next, end_of, Runs, EndsBy};
 
 use crate::end_line::end_line;
 use crate::event::event_after;
+use crate::gap::{Gap, gap_around};
 use crate::laws::the_headline;
 use crate::note::{inward_after, noted};
 use crate::write::tell;
@@ -35,7 +37,8 @@ pub enum RunEnd {
 
 // Makes one instruction, and writes its line where it has one.
 #[tactic(auto, unfolding(crate::specs::Runs::line_next))]
-fn turn<S: Sink>(start: &mut Start, inward: &mut bool, out: &mut S) -> Result<Step, Failed>
+#[inline(never)]
+fn noted_turn<S: Sink>(start: &mut Start, inward: &mut bool, out: &mut S) -> Result<Step, Failed>
     requires { start.old.state.count < 2 ^ 63 }
     ensures state { start.new ≡ record start.old { state = next_state start.old.state } }
     ensures inward { let w = watching start.old inward.old in
@@ -55,6 +58,31 @@ fn turn<S: Sink>(start: &mut Start, inward: &mut bool, out: &mut S) -> Result<St
         Ok(()) => Ok(Step::Went),
         Err(fault) => Err(fault),
     }
+}
+
+// The same. In the gap an instruction has no line, unless it is an `xjmp`, and so nothing is looked up.
+fn turn<S: Sink>(
+    start: &mut Start,
+    inward: &mut bool,
+    gap: &mut Gap,
+    out: &mut S,
+) -> Result<Step, Failed>
+    requires count { start.old.state.count < 2 ^ 63 }
+    requires gap { IsGap start.old.sites gap.old }
+    ensures gap { IsGap start.new.sites gap.new }
+    ensures state { start.new ≡ record start.old { state = next_state start.old.state } }
+    ensures inward { let w = watching start.old inward.old in
+        inward.new ≡ (watched_next (layout start.old) w).inward }
+    ensures answer { IfOk result (λ s. s ≡ answer (next_state start.old.state)) }
+    ensures line { let lines = line_next (layout start.old) (watching start.old inward.old) in
+        Writes (S.seen out.old) (lines_text lines) result (S.seen out.new) }
+{
+    if !gap.has(start.state().pc_at()) {
+        *gap = gap_around(start);
+    } else if let Some(step) = start.state_mut().step_unless_xjmp() {
+        return Ok(step);
+    }
+    noted_turn(start, inward, out)
 }
 
 /// Writes a last line, and answers the end, or that the write failed.
@@ -116,8 +144,9 @@ pub fn run_plain<S: Sink>(start: &mut Start, steps: u64, out: &mut S) -> RunEnd
         return run_untrusted(start, steps, out);
     }
     let mut inward = false;
+    let mut gap = gap_around(start);
     for _i in 0..steps {
-        match turn(start, &mut inward, out) {
+        match turn(start, &mut inward, &mut gap, out) {
             Ok(step) => {
                 if step != Step::Went {
                     let line = end_line(start.state(), step);

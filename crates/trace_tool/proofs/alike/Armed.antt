@@ -135,7 +135,7 @@ module _ (l : Layout) (base last fail : ℕ) (fail_low : base ≤ fail) (fail_hi
       let w : row id id i (Mem (code_cap base last (at + 1))) s ≡ went s' = sym (step_row id id s base last at i e low (omega (arith, high)) h.0 b.2) ∙ goes in
       let g = straight_goes s s' i (Mem (code_cap base last (at + 1))) b.0 w in
       let nums : (q : ℕ) (z : ℤ) → Num s q z → Num s' q z = rw (b.1) at g.1 in (
-        quiet_at l s base last at i e low (omega (arith, high)) h.0 b.2 (no_jump i _ b.0) (free at (omega arith) (omega arith)),
+        quiet_at l s base last at i e low (omega (arith, high)) h.0 b.2 (no_jump i b.0) (free at (omega arith) (omega arith)),
         calm_armed is a s' (at + 1) g.0 (omega (arith, low)) (omega (arith, high)) (stands_kept s s' (at + 1) is nums h.1) (λ q lo hi. free q (omega (arith, lo)) (omega (arith, hi))) (t2_stays s s' i _ r d ne w ∙ t2) (nums fail _ hf),
       ))
 

@@ -7,7 +7,7 @@ use Rattle.lcm_machine.specs.declared.Step.TheVariants.{Went, Halted, Failed}
 use Rattle.lcm_machine.specs.declared.End.{End}
 use Rattle.lcm_machine.specs.declared.End.TheVariants.{Halted as AtHalt, Failed as AtFailure}
 use Rattle.lcm_machine.specs.Maps.{State}
-use Rattle.lcm_machine.specs.Row.{Outcome, went, halted, failed, faces, step_of}
+use Rattle.lcm_machine.specs.Row.{Outcome, went, halted, failed, faces, jump_at, step_of}
 use Rattle.lcm_machine.specs.Run.{Run, moved, next_state, answer}
 use Rattle.lcm_machine.specs.Runs.{and_then, run_of}
 use Rattle.overlay_machine.specs.declared.layout.Layout.{Layout}
@@ -15,7 +15,7 @@ use Rattle.trace_tool.specs.declared.note.Note.{Note}
 use Rattle.trace_tool.specs.declared.note.Note.TheVariants.{Nothing}
 use Rattle.trace_tool.specs.Layout.{site_word}
 use Rattle.trace_tool.specs.Views.{View, view_of}
-use Rattle.trace_tool.specs.Events.{jump_at, noted, noted_by, note_last, event_after, inward_after}
+use Rattle.trace_tool.specs.Events.{noted, noted_by, note_last, event_after, inward_after}
 use Rattle.trace_tool.specs.Lines.{lines_for}
 use Rattle.trace_tool.specs.Runs.{Watched, if_went, watched, watched_next, line_next, lines_of}
 use Rattle.trace_tool.proofs.Split.{lines_split}
@@ -31,9 +31,9 @@ at_state t n inward = record { run = record { maps = t; count = n; end = None };
 
 -- it is no `xjmp`, and doesn't end a site
 abbrev pub IsQuiet : Layout → State Word → Type 0
-IsQuiet l s = (jump_at s ≡ None) × (site_word l 25 (faces id s Pc) ≡ None)
+IsQuiet l s = (jump_at id s ≡ None) × (site_word l 25 (faces id s Pc) ≡ None)
 
-noted_quiet : (l : Layout) (s : State Word) → IsQuiet l s → noted l s ≡ Nothing
+pub noted_quiet : (l : Layout) (s : State Word) → IsQuiet l s → noted l s ≡ Nothing
 unfolding noted
 noted_quiet l s q = ap (noted_by l s) q.0 ∙ ap note_last q.1
 
@@ -62,15 +62,15 @@ quiet_next l s t n inward q e =
 
 -- ---- a machine that has ended
 
-abbrev over : State Word → ℕ → End → Bool → Watched
+abbrev pub over : State Word → ℕ → End → Bool → Watched
 over s c e inward = record { run = record { maps = s; count = c; end = Some e }; inward = inward }
 
-over_next : (l : Layout) (s : State Word) (c : ℕ) (e : End) (inward : Bool) → watched_next l (over s c e inward) ≡ over s c e inward
+pub over_next : (l : Layout) (s : State Word) (c : ℕ) (e : End) (inward : Bool) → watched_next l (over s c e inward) ≡ over s c e inward
 unfolding next_state
 over_next l s c AtHalt inward = refl
 over_next l s c (AtFailure f a) inward = refl
 
-over_line : (l : Layout) (s : State Word) (c : ℕ) (e : End) (inward : Bool) → line_next l (over s c e inward) ≡ []
+pub over_line : (l : Layout) (s : State Word) (c : ℕ) (e : End) (inward : Bool) → line_next l (over s c e inward) ≡ []
 unfolding line_next next_state
 over_line l s c AtHalt inward = refl
 over_line l s c (AtFailure f a) inward = refl

@@ -14,7 +14,7 @@ use Rattle.lcm_isa.specs.Numbers.{number_of, IsInstr}
 use Rattle.lcm_machine.specs.Maps.{State}
 use Rattle.lcm_machine.specs.Cells.{cell}
 use Rattle.lcm_machine.specs.Table.{target}
-use Rattle.lcm_machine.specs.Row.{faces, look_face, row, went, some}
+use Rattle.lcm_machine.specs.Row.{faces, look_face, row, went, jump_of, jump_in, jump_at}
 use Rattle.lcm_machine.specs.Runs.{Stands, code_cap}
 use Rattle.lcm_machine.proofs.Goes.{shows, fetch_at}
 use Rattle.lcm_machine.proofs.StepRows.{step_row}
@@ -22,13 +22,12 @@ use Rattle.lcm_machine.proofs.TouchLemmas.{row_others}
 use Rattle.overlay_machine.specs.declared.layout.Layout.{Layout}
 use Rattle.overlay_machine.specs.Layout.{trusted_owner}
 use Rattle.trace_tool.specs.Layout.{site_before, site_word}
-use Rattle.trace_tool.specs.Events.{jump_in, jump_at}
 use Rattle.trace_tool.proofs.alike.Calm.{id, IsQuiet, Calm}
 use Rattle.trace_tool.proofs.alike.Straight.{is_straight, is_store, Num, straight_goes}
 
 -- an instruction that stands at pc
 pub jump_is : (s : State Word) (base last at : ℕ) (i : Instr) → s.regs.pc ≡ Mem (code_cap base last at) → base ≤ at → at ≤ last → Num s at (pos (number_of i)) → IsInstr i
-    → jump_at s ≡ jump_in (some i (Mem (code_cap base last (at + 1))))
+    → jump_at id s ≡ jump_of i
 unfolding jump_at
 jump_is s base last at i e low high h ok = ap jump_in (fetch_at id id s base last at i e low high h ok)
 
@@ -52,13 +51,13 @@ pub shown_at : (s : State Word) (base last at : ℕ) → s.regs.pc ≡ Mem (code
 shown_at s base last at e = shows id id s Pc (Mem (code_cap base last at)) e
 
 pub quiet_at : (l : Layout) (s : State Word) (base last at : ℕ) (i : Instr) → s.regs.pc ≡ Mem (code_cap base last at) → base ≤ at → at ≤ last → Num s at (pos (number_of i)) → IsInstr i
-    → jump_in (some i (Mem (code_cap base last (at + 1)))) ≡ None → site_before l 25 at ≡ None → IsQuiet l s
+    → jump_of i ≡ None → site_before l 25 at ≡ None → IsQuiet l s
 quiet_at l s base last at i e low high h ok j f =
     (jump_is s base last at i e low high h ok ∙ j, ap (site_word l 25) (shown_at s base last at e) ∙ word_none l 25 at (Memory (code_cap base last at)) (target_code base last at low high) f)
 
-pub no_jump : (i : Instr) (next : Word) → is_straight i ≡ true → jump_in (some i next) ≡ None
-no_jump (Xjmp r1 r2) next h = cc
-no_jump _ next h = refl
+pub no_jump : (i : Instr) → is_straight i ≡ true → jump_of i ≡ None
+no_jump (Xjmp r1 r2) h = cc
+no_jump _ h = refl
 
 -- no site ends at these addresses
 abbrev pub NoEnd : Layout → ℕ → ℕ → Type 0
@@ -84,7 +83,7 @@ module _ (l : Layout) (base last : ℕ) where
   calm_code (i ∷ is) s at a e low high h free = λ s' goes. (
       let r : row id id i (Mem (code_cap base last (at + 1))) s ≡ went s' = sym (step_row id id s base last at i e low (omega (arith, high)) h.0 a.2) ∙ goes in
       let g = straight_goes s s' i (Mem (code_cap base last (at + 1))) a.0 r in (
-        quiet_at l s base last at i e low (omega (arith, high)) h.0 a.2 (no_jump i _ a.0) (free at (omega arith) (omega arith)),
+        quiet_at l s base last at i e low (omega (arith, high)) h.0 a.2 (no_jump i a.0) (free at (omega arith) (omega arith)),
         elim a.1 as (λ _. Calm l (length is) s') [
           | inl ns ↦ calm_code is s' (at + 1) a.3 g.0 (omega (arith, low)) (omega (arith, high)) (stands_kept s s' (at + 1) is (rw ns at g.1) h.1) (λ q lo hi. free q (omega (arith, lo)) (omega (arith, hi)))
           | inr none ↦ subst (λ js. Calm l (length js) s') (sym none) tt
@@ -100,7 +99,7 @@ module _ (l : Layout) (base last : ℕ) where
   calm_front i s at n a e low high h free more = λ s' goes. (
       let r : row id id i (Mem (code_cap base last (at + 1))) s ≡ went s' = sym (step_row id id s base last at i e low high h a.2) ∙ goes in
       let g = straight_goes s s' i (Mem (code_cap base last (at + 1))) a.0 r in
-      (quiet_at l s base last at i e low high h a.2 (no_jump i _ a.0) free, more s' g.0 (rw (a.1) at g.1)))
+      (quiet_at l s base last at i e low high h a.2 (no_jump i a.0) free, more s' g.0 (rw (a.1) at g.1)))
 
   -- a store to no word of the code in front
   pub calm_store : (r1 r2 : Reg) (is : List Instr) (s : State Word) (at : ℕ) → AreStraight is → s.regs.pc ≡ Mem (code_cap base last at) → base ≤ at → at + 1 + length is ≤ last + 1 → Stands id s.cells at (Store r1 r2 ∷ is)

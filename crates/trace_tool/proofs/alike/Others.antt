@@ -10,7 +10,7 @@ use Rattle.lcm_isa.specs.declared.Instr.TheVariants.{Fail, Xjmp}
 use Rattle.lcm_machine.specs.declared.Place.TheVariants.{R}
 use Rattle.lcm_machine.specs.Maps.{State}
 use Rattle.lcm_machine.specs.Places.{reg}
-use Rattle.lcm_machine.specs.Row.{faces, cell_faces, opens, fetch, Fetched, none, some, row, plan_in, Outcome, went, halted, failed, step_of, step_fetched}
+use Rattle.lcm_machine.specs.Row.{faces, cell_faces, opens, fetch, Fetched, none, some, jump_in, jump_at, row, plan_in, Outcome, went, halted, failed, step_of, step_fetched}
 use Rattle.lcm_machine.specs.Runs.{run_of}
 use Rattle.lcm_machine.proofs.Commute.{fetch_commutes}
 use Rattle.lcm_machine.proofs.StepRows.{run_one}
@@ -35,7 +35,7 @@ use Rattle.overlay_machine.proofs.OtherAgrees.{plain_both, free_pc}
 use Rattle.overlay_machine.proofs.invariant.View.{View}
 use Rattle.trace_tool.specs.Layout.{trusted_part, site_word}
 use Rattle.trace_tool.specs.Views.{flat_view}
-use Rattle.trace_tool.specs.Events.{jump_in, jump_at, noted, noted_by, note_last, leapt_by, event_after}
+use Rattle.trace_tool.specs.Events.{noted, noted_by, note_last, leapt_by, event_after}
 use Rattle.trace_tool.specs.Lines.{lines_for}
 use Rattle.trace_tool.specs.Runs.{lines_of}
 use Rattle.trace_tool.proofs.alike.Calm.{id, at_state}

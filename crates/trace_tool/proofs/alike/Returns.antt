@@ -14,7 +14,7 @@ use Rattle.lcm_isa.specs.declared.Operand.TheVariants.{Imm}
 use Rattle.lcm_isa.specs.declared.Instr.TheVariants.{Fail, Jnz, Getb, Move, Store, Load, Minus, Splice, Xjmp}
 use Rattle.lcm_machine.specs.Maps.{State}
 use Rattle.lcm_machine.specs.Places.{reg}
-use Rattle.lcm_machine.specs.Row.{faces, cell_faces, opens, fetch, some, row, step_fetched, step_of, went}
+use Rattle.lcm_machine.specs.Row.{faces, cell_faces, opens, fetch, some, jump_in, jump_at, row, step_fetched, step_of, went}
 use Rattle.lcm_machine.specs.Runs.{code_cap}
 use Rattle.lcm_machine.specs.Mapped.{mapped_or}
 use Rattle.lcm_machine.proofs.Commute.{fetch_mapped}
@@ -37,7 +37,7 @@ use Rattle.trace_tool.specs.declared.note.Note.{Note}
 use Rattle.trace_tool.specs.declared.note.Note.TheVariants.{Leap}
 use Rattle.trace_tool.specs.Layout.{is_trusted, trusted_part, site_word}
 use Rattle.trace_tool.specs.Views.{View as Shown, view_of}
-use Rattle.trace_tool.specs.Events.{jump_in, jump_at, noted, noted_by, event_after, reaches_trusted, leapt_by}
+use Rattle.trace_tool.specs.Events.{noted, noted_by, event_after, reaches_trusted, leapt_by}
 use Rattle.trace_tool.specs.Lines.{lines_for}
 use Rattle.trace_tool.specs.Runs.{line_next}
 use Rattle.trace_tool.proofs.alike.Calm.{id, at_state, Calm}

@@ -1,15 +1,14 @@
-use Rattle.std.proofs.Common.{rules, ◌∙◌, ap, subst}
-use Rattle.outside_io.specs.SinkSeen.{FailsToWrite}
-use Rattle.lcm_machine.specs.Run.{Run, next_state}
-use Rattle.trace_tool.specs.Layout.{layout}
-use Rattle.trace_tool.specs.Views.{view_of}
-use Rattle.trace_tool.specs.Lines.{lines_for}
+use Rattle.std.proofs.Common.{rules, sym, subst}
+use Rattle.outside_io.specs.SinkSeen.{Adds}
+use Rattle.outside_io.proofs.Writing.{adds_none}
 use Rattle.trace_tool.specs.Texts.{lines_text}
-use Rattle.trace_tool.specs.Runs.{watching}
-use Rattle.trace_tool.proofs.Going.{event_fails}
+use Rattle.trace_tool.proofs.Gaps.{none_in_gap}
 use Rattle.trace_tool.proofs.run.turn.Goals as goal
 
-pub returns-in-Err-clause-line : goal.returns-in-Err-clause-line
-returns-in-Err-clause-line g c =
-    event_fails (layout c.args.start.now) (watching c.args.start.now c.args.inward.now) c.step-step.new.self c.event_after-event.result _ _ (c.step-step.ensures.after ∙ ap next_state c.state_mut.ensures.value) (search rules) (search rules)
-    (subst (λ (r : Run). FailsToWrite (g.S.Sink.seen c.args.out.now) (lines_text (lines_for (layout c.args.start.now) (view_of r.maps) c.event_after-event.result)) (g.S.Sink.seen c.tell.new.out)) c.state.ensures c.in-Err.ensures)
+pub returns-in-Some-clause-inward : goal.returns-in-Some-clause-inward
+returns-in-Some-clause-inward g c = sym (none_in_gap c.args.start.now c.args.gap.now c.args.inward.now c.requires.gap (search rules) (search rules)).1
+
+pub returns-in-Some-clause-line : goal.returns-in-Some-clause-line
+returns-in-Some-clause-line g c =
+    subst (λ lines. Adds (g.S.Sink.seen c.args.out.now) (lines_text lines) (g.S.Sink.seen c.args.out.now))
+    (sym (none_in_gap c.args.start.now c.args.gap.now c.args.inward.now c.requires.gap (search rules) (search rules)).0) (adds_none (g.S.Sink.seen c.args.out.now))
