@@ -1,9 +1,10 @@
 -- Addresses at which no site ends.
-use Rattle.std.specs.Prelude.{◌≡◌, ℕ, ◌+◌, ◌-◌, ◌<◌, ◌≤◌, nat_lt, nat_le, Bool, false, ◌&&◌, ℤ, pos, negsuc, List, length, slice_index_or}
+use Rattle.std.specs.Prelude.{◌≡◌, ℕ, zero, suc, ◌+◌, ◌-◌, ◌^◌, ◌<◌, ◌≤◌, nat_lt, nat_le, Bool, false, ◌&&◌, if◌then◌else◌, ℤ, pos, negsuc, List, length, slice_index_or}
 use Rattle.std.specs.List.{All}
 use Rattle.call_sequence.specs.declared.TheConstants.{CALL_WORDS, RETURN_WORDS}
 use Rattle.component_linker.specs.declared.owners.Site.{Site}
 use Rattle.trace_tool.specs.declared.gap.Gap.{Gap}
+use Rattle.trace_tool.specs.Layout.{no_site}
 
 -- the address of a site's last word
 abbrev pub last_word : Site → ℕ
@@ -18,12 +19,22 @@ has g (negsuc n) = false
 abbrev pub IsGap : List Site → Gap → Type 0
 IsGap sites g = All (λ s. has g (pos (last_word s)) ≡ false) sites
 
--- the sites before a place end below an address
-abbrev pub EndsBelow : List Site → ℕ → ℕ → Type 0
-EndsBelow sites place a =
-    (k : ℕ) (d : Site) → k < place → last_word (slice_index_or sites k d) < a
+-- around an address, or right behind it
+abbrev pub IsAround : ℕ → Gap → Type 0
+IsAround a g = (g.from ≤ a + 1) × (a < g.to)
 
--- those from a place on don't
-abbrev pub EndsFrom : List Site → ℕ → ℕ → Type 0
-EndsFrom sites place a =
-    (k : ℕ) (d : Site) → place ≤ k → k < length sites → a ≤ last_word (slice_index_or sites k d)
+-- pc's address, and 0 where it has none
+abbrev pub gap_address : ℤ → ℕ
+gap_address (pos a) = a
+gap_address (negsuc n) = 0
+
+-- ---- between two sites
+
+-- the address behind the site before a place
+abbrev pub behind : List Site → ℕ → ℕ
+behind sites zero = 0
+behind sites (suc k) = last_word (slice_index_or sites k no_site) + 1
+
+-- the last word of the one there
+abbrev pub ahead : List Site → ℕ → ℕ
+ahead sites k = if nat_lt k (length sites) then last_word (slice_index_or sites k no_site) else 2 ^ 64 - 1

@@ -1,7 +1,8 @@
 //! Addresses at which no site ends, so that a run needn't look for a site at each of its steps.
-ghost use Rattle.std.specs.Prelude.{◌≡◌, ◌+◌, ◌-◌, ◌<◌, ◌≤◌, ◌^◌, ℕ, length};
+ghost use Rattle.std.specs.Prelude.{◌≡◌, ◌<◌, ◌≤◌, ◌^◌, length};
 ghost use Rattle.component_linker.specs.Owners.{Ascend};
-ghost use Rattle.trace_tool.specs.Gaps.{last_word, EndsBelow, EndsFrom, has, IsGap};
+ghost use Rattle.lcm_machine.specs.Row.{pc_at};
+ghost use Rattle.trace_tool.specs.Gaps.{last_word, behind, ahead, has, IsGap, IsAround, gap_address};
 
 use call_sequence::{CALL_WORDS, RETURN_WORDS};
 use component_linker::{Site, Start};
@@ -34,11 +35,10 @@ fn last_word(site: &Site) -> u64
     u64::from(site.at) + u64::from(CALL_WORDS + RETURN_WORDS - 1)
 }
 
-// An address above the last words of the sites before a place.
+// The address behind the site before a place, and 0 where there is none.
 fn behind(sites: &[Site], place: usize) -> u64
-    requires ascend { Ascend sites.now }
-    requires within { place ≤ length sites.now }
-    ensures { EndsBelow sites.now place result }
+    requires { place ≤ length sites.now }
+    ensures { result ≡ behind sites.now place }
 {
     if place == 0 {
         0
@@ -47,10 +47,9 @@ fn behind(sites: &[Site], place: usize) -> u64
     }
 }
 
-// An address that isn't above the last words of the sites from a place on.
+// The last word of the site at a place, and the greatest number where there is none.
 fn ahead(sites: &[Site], place: usize) -> u64
-    requires { Ascend sites.now }
-    ensures { EndsFrom sites.now place result }
+    ensures { result ≡ ahead sites.now place }
 {
     if place < sites.len() {
         last_word(&sites[place])
@@ -60,23 +59,28 @@ fn ahead(sites: &[Site], place: usize) -> u64
 }
 
 // The addresses between the last site that ends up to this address, and the next one.
-fn gap_in(sites: &[Site], at: i64) -> Gap
-    requires { Ascend sites.now }
-    ensures { IsGap sites.now result }
+fn gap_in(sites: &[Site], at: u64) -> Gap
+    requires ascend { Ascend sites.now }
+    requires small { at < 2 ^ 63 }
+    ensures free { IsGap sites.now result }
+    ensures around { IsAround at result }
 {
-    let place = sites.partition_point(|site| last_word(site) as i64 <= at);
+    let place = sites.partition_point(|site| last_word(site) <= at);
     Gap {
         from: behind(sites, place),
         to: ahead(sites, place),
     }
 }
 
-/// The addresses around pc's at which no site ends, by halving. Where one ends there, those behind
-/// it.
+/// The addresses around pc's, or right behind it, at which no site ends: found by halving. Where pc has
+/// no address they are those around 0.
 #[inline(never)]
+#[tactic(auto, unfolding(crate::specs::Gaps::gap_address))]
 pub(crate) fn gap_around(start: &Start) -> Gap
-    ensures { IsGap start.now.sites result }
+    ensures free { IsGap start.now.sites result }
+    ensures around { IsAround (gap_address (pc_at (λ w. w) start.now.state.maps)) result }
 {
     start.is_laid();
-    gap_in(start.sites().as_slice(), start.state().pc_at())
+    let at = start.state().pc_at();
+    gap_in(start.sites().as_slice(), if at < 0 { 0 } else { at as u64 })
 }
