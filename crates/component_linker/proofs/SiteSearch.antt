@@ -121,6 +121,10 @@ module _ (rows : List Site) (place part : ℕ) (rest : List Site) (d : Site) (fr
         let here : place + (k - place) ≡ k = omega (arith, low) in
         let on = eqb-true _ part (split.0 (k - place) e (omega arith) (omega (arith, low, high))) in
         first_part e ∙ sym on ∙ rest_at (k - place) e ∙ ap (λ x. (get_or rows x e).part) here;
+    whole = λ e lt same.
+        let off = split.1 n e (omega arith) (let long = rest_length in omega (arith, lt, long)) in
+        let on : (get_or rest n e).part ≡ part = rest_at n e ∙ sym same ∙ first_part e in
+        true≢false (sym (eq-eqb _ part on) ∙ off);
   }
     where
       some : (m : ℕ) → ((k : ℕ) (e : Site) → m ≤ k → k < length rest → ((get_or rest k e).part == part) ≡ false) → place < place + m

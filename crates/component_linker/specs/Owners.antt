@@ -1,5 +1,5 @@
 -- The sites of a start, and who owns which code.
-use Rattle.std.specs.Prelude.{◌≡◌, ◌↔◌, ℕ, ◌+◌, ◌<◌, ◌≤◌, true, List, map, length, slice_get, slice_index_or, Some}
+use Rattle.std.specs.Prelude.{◌≡◌, ◌≢◌, ◌↔◌, ℕ, ◌+◌, ◌<◌, ◌≤◌, true, List, map, length, slice_get, slice_index_or, Some}
 use Rattle.std.specs.List.{AllPairs, Contains}
 use Rattle.component_file.specs.declared.TheConstants.{LONGEST_NAME}
 use Rattle.component_file.specs.declared.component.ComponentFields.{ComponentFields}
@@ -30,12 +30,14 @@ pub record AreInOrder (sites : List Site) : Type 0 where
   pub ascend : Ascend sites
   pub runs : InRuns sites
 
--- the sites from one place up to another are some, and of one part
+-- the sites from one place up to another are some, and all those of one part that stand from there on
 pub record IsRun (sites : List Site) (place end : ℕ) : Type 0 where
   pub some : place < end
   pub within : end ≤ length sites
   pub one_part : (k : ℕ) (d : Site) → place ≤ k → k < end
       → (slice_index_or sites place d).part ≡ (slice_index_or sites k d).part
+  pub whole : (d : Site) → end < length sites
+      → (slice_index_or sites place d).part ≢ (slice_index_or sites end d).part
 
 -- ---- sites
 

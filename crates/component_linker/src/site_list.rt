@@ -80,7 +80,7 @@ impl SiteList {
         SiteList { sites }
     }
 
-    /// The same list once more.
+    /// The same list once more. `AllocError` where the memory can't be had.
     pub fn copy(&self, alloc: Global) -> Result<SiteList, AllocError>
         ensures { IfOk result (λ list. list ≡ self.now) }
     {

@@ -8,7 +8,7 @@ ghost use Rattle.component_linker.specs.Started.{Starts};
 
 use crate::machine::machine;
 use crate::memory::stack_of;
-use crate::owners::{Owner, owners, sites};
+use crate::owners::{Owner, Site, owners, sites};
 use crate::placed::PlacedParts;
 use crate::site_list::SiteList;
 use cap_words::Items;
@@ -77,8 +77,15 @@ impl Start {
         state
     }
 
-    /// The sites of the trusted parts.
-    pub fn sites(&self) -> &SiteList
+    /// The sites of the trusted parts, in ascending address.
+    pub fn sites(&self) -> &[Site]
+        ensures { result.now ≡ self.now.sites }
+    {
+        self.sites.as_slice()
+    }
+
+    /// The same sites, as a list in which one is found by its address or its seal.
+    pub fn site_list(&self) -> &SiteList
         ensures { result.now ≡ self.now.sites }
     {
         &self.sites

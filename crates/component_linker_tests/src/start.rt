@@ -107,7 +107,7 @@ fn two_parts_start(rt: HostRuntime) -> Result<(), Fail> {
     words_are(&rt, start.state());
     assert_eq!(&rt; start.state().count(), 0);
     assert_eq!(&rt; (start.stack().base, start.stack().end), (65_536, 65_599));
-    assert_eq!(&rt; start.sites().as_slice().len(), 0);
+    assert_eq!(&rt; start.sites().len(), 0);
     let [first, second] = start.owners() else {
         panic!(&rt; "not two owners");
     };

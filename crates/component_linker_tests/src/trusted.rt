@@ -184,16 +184,7 @@ fn start_is(rt: &impl Abort, start: &Start) {
         seal: 11,
         at: 4118,
     };
-    let sites = start.sites();
-    assert_eq!(rt; sites.as_slice(), [site].as_slice());
-    assert_eq!(rt;
-        (sites.place_at(4118), sites.place_at(4119)),
-        (Some(0), None)
-    );
-    assert_eq!(rt;
-        (sites.place_sealed(11), sites.place_sealed(10)),
-        (Some(0), None)
-    );
+    assert_eq!(rt; start.sites(), [site].as_slice());
     let [first, second] = start.owners() else {
         panic!(rt; "not two owners");
     };

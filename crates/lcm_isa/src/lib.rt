@@ -407,6 +407,7 @@ fn instr_of(n: u64) -> Option<Instr>
 }
 
 /// The instruction of a number, and None exactly where no instruction has it.
+#[inline(always)]
 #[tactic(auto, unfolding(crate::specs::Numbers::decode_of))]
 pub fn decode(word: i64) -> Option<Instr>
     ensures is { result ≡ decode_of word }

@@ -67,7 +67,7 @@ pub(crate) fn layout_of(alloc: Global, start: &Start) -> Result<Layout, AllocErr
     ensures owners { IfOk result (λ l. l.owners ≡ start.now.owners) }
     ensures stack { IfOk result (λ l. l.stack ≡ start.now.stack) }
 {
-    let sites = start.sites().copy(alloc)?;
+    let sites = start.site_list().copy(alloc)?;
     let owners = copy_owners(alloc, start.owners())?;
     Ok(Layout {
         sites,

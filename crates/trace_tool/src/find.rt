@@ -17,7 +17,7 @@ use overlay_machine::reach::{numbered, owner_closed, site_sealed};
 fn site_at(start: &Start, at: u32) -> Option<u32>
     ensures { result ≡ site_at (layout start.now) at }
 {
-    numbered(start.sites().place_at(at)?)
+    numbered(start.site_list().place_at(at)?)
 }
 
 fn site_before(start: &Start, offset: u32, at: u32) -> Option<u32>
@@ -81,7 +81,7 @@ pub(crate) fn closure_owner(start: &Start, seal: u32) -> Option<&Owner>
 pub(crate) fn site_of_seal(start: &Start, seal: u32) -> Option<u32>
     ensures { result ≡ site_of_seal (layout start.now) seal }
 {
-    site_sealed(start.sites(), seal)
+    site_sealed(start.site_list(), seal)
 }
 
 /// The site whose word of this offset pc names, where pc is trusted.
@@ -143,7 +143,7 @@ pub(crate) fn entry_name(start: &Start, part: u32, entry: u32) -> &[u8]
 pub(crate) fn site_of(start: &Start, site: u32) -> Site
     ensures { result ≡ site_of (layout start.now) site }
 {
-    match start.sites().as_slice().get(site as usize) {
+    match start.sites().get(site as usize) {
         Some(site) => *site,
         None => {
             Site {

@@ -82,5 +82,5 @@ pub(crate) fn gap_around(start: &Start) -> Gap
 {
     start.is_laid();
     let at = start.state().pc_at();
-    gap_in(start.sites().as_slice(), if at < 0 { 0 } else { at as u64 })
+    gap_in(start.sites(), if at < 0 { 0 } else { at as u64 })
 }
