@@ -7,6 +7,10 @@ use Rattle.component_linker.specs.Parts.{PartSeen, IsPart}
 use Rattle.image_loader.specs.declared.TheConstants.{VERSION}
 use Rattle.image_loader.specs.declared.reading.Image.{Image}
 
+-- parts with the size of their stack, under a name for other crates
+abbrev pub ImageSeen : Type 0
+ImageSeen = Image
+
 -- as many parts as may be linked, each a component within its limits that keeps the rules of a part; and the size
 -- of their stack
 pub record IsImage (i : Image) : Type 0 where

@@ -1,26 +1,21 @@
 -- The cause of every status.
-use Rattle.std.proofs.Common.{◌≡◌, ◌≢◌, ℕ, zero, suc, ◌⊎◌, ◌+◌, List, [], ◌∷◌, Option, Some, None, refl, sym, ap, subst, ◌∙◌, inl, inr, true, false}
+use Rattle.std.proofs.Common.{◌≡◌, ◌≢◌, ℕ, zero, suc, ◌⊎◌, ◌+◌, List, Option, Some, None, refl, sym, ap, subst, ◌∙◌, inl, inr, true, false}
 use Rattle.std.specs.Prelude.{◌↔◌, Result, Ok, Err, Bool, ℤ, IsNone, IsSomeAnd, MatchOption, nat_lt, if◌then◌else◌}
-use Rattle.std.specs.List.{list_all}
 use Rattle.outside_io.specs.Counts.{Rose}
 use Rattle.outside_io.specs.FilesSeen.{FilesSeen, Puts, KeepsOthers}
 use Rattle.outside_io.specs.SinkSeen.{Adds}
 use Rattle.outside_io.specs.Whole.{OnlyGave}
-use Rattle.command_words.specs.declared.part.Ending.{Ending}
-use Rattle.command_words.specs.declared.part.Ending.TheVariants.{Source, Assembler, Component}
-use Rattle.command_words.specs.declared.part.PartWord.{PartWord}
-use Rattle.command_words.specs.declared.command.Linked.TheVariants.{Parts, Image}
+use Rattle.command_words.specs.declared.command.Linked.{Linked}
+use Rattle.command_words.specs.declared.command.Linked.TheVariants as what
 use Rattle.command_words.specs.declared.command.Command.{Command}
 use Rattle.command_words.specs.declared.command.Command.TheVariants as command
 use Rattle.asm_fields.specs.declared.fault.AsmFault.{AsmFault}
-use Rattle.assembler.specs.Assembled.{assembled}
 use Rattle.component_file.specs.declared.fault.FileFault.{FileFault}
-use Rattle.component_file.specs.declared.component.ComponentFields.{ComponentFields}
-use Rattle.component_file.specs.Reading.{decoded}
-use Rattle.component_file.specs.Spelling.{spelling}
 use Rattle.disassembler.specs.Disassembled.{disassembled}
 use Rattle.component_linker.specs.declared.fault.RuleAt.{RuleAt}
 use Rattle.component_linker.specs.Parts.{PartSeen}
+use Rattle.image_loader.specs.declared.fault.ImageFault.{ImageFault}
+use Rattle.image_loader.specs.declared.fault.ImageFault.TheVariants as image
 use Rattle.overlay_machine.specs.Starting.{IsLinkedStart, overlay_at}
 use Rattle.component_linker.specs.Started.{StartSeen}
 use Rattle.overlay_machine.specs.Seen.{OverlaySeen, IsOverlayOf, next_overlay, answer_of}
@@ -39,16 +34,14 @@ use Rattle.lcm_cli.specs.declared.refusal.Refusal.{Refusal}
 use Rattle.lcm_cli.specs.declared.refusal.Refusal.TheVariants as refusal
 use Rattle.lcm_cli.specs.declared.status.Status.{Status}
 use Rattle.lcm_cli.specs.declared.status.Status.TheVariants as status
-use Rattle.lcm_cli.specs.Refusals.{refusal_status}
-use Rattle.lcm_cli.specs.Plans.{Plan, Reads, Ends, Made, unless, whole as came_whole, too_long, unread, Comes}
-use Rattle.component_linker.specs.Accepted.{accepted}
-use Rattle.lcm_cli.specs.Parts.{is_trusted, broken_in, linked, form_by, component_at, part_at, each_at}
-use Rattle.lcm_cli.specs.Commands.{Task, Run, Trace, Put, Show, Say, is_source, is_built_form, is_built, linked_parts, run_plan, trace_plan, assemble_plan, disassemble_plan, check_plan, built_plan, plan_in, is_command}
+use Rattle.lcm_cli.specs.Refusals.{refusal_status, image_status}
+use Rattle.lcm_cli.specs.Plans.{Plan, Reads, Ends, Made, whole as came_whole, too_long, unread, Comes}
+use Rattle.lcm_cli.specs.Commands.{Task, Run, Trace, Put, Show, Say, Content, OfComponent, OfImage, spelling_of, is_built_linked, is_built, run_plan, trace_plan, built_plan, plan_in, is_command}
 use Rattle.lcm_cli.specs.Answers.{Answer, NewFile, Outside, with_files, end_status, writes, ran, traced, said, refused, IsAnswerOf, IsPut, GivesWhole, whole, unput, unwritten, Answers, answer, nothing}
-use Rattle.lcm_cli.specs.Causes.{IsTurn, IsUnread, IsLong, IsUndecoded, IsUnassembled, Breaks, Runs, Traces, Assembles, Shows, Says, out_of, Wrote, Causes, Stay, OthersStay, StayAt, PutsWhole, IsRunStatus, RunGiven, TraceGiven, Promised}
-use Rattle.lcm_cli.proofs.BuiltParts.{and_left, and_right, no_source}
+use Rattle.lcm_cli.specs.Causes.{IsTurn, IsUnread, IsLong, IsUndecoded, IsUnassembled, IsUnloaded, Breaks, Runs, Traces, PutsFile, Shows, Says, out_of, Wrote, Causes, Stay, OthersStay, StayAt, PutsWhole, IsRunStatus, LinkedCame, RunGiven, TraceGiven, Promised}
+use Rattle.lcm_cli.proofs.Ends.{Never, same_err, never_runs, never_traces, never_links, never_assembles, never_shows, never_checks, never_image_runs, never_image_traces}
 use Rattle.lcm_cli.proofs.Settled.{complete, puts_rose}
-use Rattle.lcm_cli.proofs.Reasons.{Reasoned, comes_split, same_err, ended_unless, runs_reasoned, traces_reasoned, assembles_reasoned, shows_reasoned, checks_reasoned, runs_end, traces_end, assembles_end, shows_end, checks_end, runs_break, traces_break, checks_break, assembles_no_rule, shows_no_rule, runs_made, traces_made, assembles_made, shows_made, checks_made, linked_made}
+use Rattle.lcm_cli.proofs.Reasons.{Reasoned, runs_reasoned, traces_reasoned, links_reasoned, assembles_reasoned, shows_reasoned, checks_reasoned, runs_break, traces_break, links_break, checks_break, run_fails, trace_fails, assembles_no_rule, shows_no_rule, runs_made, traces_made, links_made, assembles_made, shows_made, checks_made, in_made}
 
 -- ---- words that are a command that is built have its plan, and all others are refused at once
 
@@ -59,75 +52,6 @@ pub unplanned : (asked : Option Command) → is_command asked ≡ false → plan
 unplanned None e = refl
 unplanned (Some c) e = rw e refl
 
--- ---- a command that is built is no usage
-
-abbrev Never : {A : Type 0} → Plan A → Type 0
-Never p = (old new : FilesSeen) → Comes p old (Err refusal.Usage) new → ⊥
-
-no_usage_form : (ending : Ending) (place : ℕ) (name : List ℕ) → is_source ending ≡ false → Never (let p : Plan _ = Reads name place (form_by ending place) in p)
-no_usage_form Source place name f = λ old new h. absurd (cc)
-no_usage_form Assembler place name f = by
-  where
-    by : Never (let p : Plan _ = Reads name place (form_by Assembler place) in p)
-    by old new (came_whole bytes mid w h) = let e = (ended_unless (refusal.Assembly place) (assembled bytes) mid new refusal.Usage h).2 in cc
-    by old new (too_long t e) = cc
-    by old new (unread t e) = cc
-no_usage_form Component place name f = by
-  where
-    by : Never (let p : Plan _ = Reads name place (form_by Component place) in p)
-    by old new (came_whole bytes mid w h) = let e = (ended_unless (refusal.File place) (decoded bytes) mid new refusal.Usage h).2 in cc
-    by old new (too_long t e) = cc
-    by old new (unread t e) = cc
-
-no_usage_component : (place : ℕ) (w : PartWord) → is_source w.ending ≡ false → Never (component_at place w)
-unfolding component_at
-no_usage_component place w f = no_usage_form w.ending place w.name f
-
-back_usage : {A B : Type 0} (p : Plan A) (old new : FilesSeen) (why : Refusal) → Comes p old (Err why) new → (let r : Result B Refusal = Err refusal.Usage in r) ≡ Err why → Comes p old (Err refusal.Usage) new
-back_usage p old new why c d = let e : why ≡ refusal.Usage = same_err refusal.Usage why d in subst (λ w. Comes p old (Err w) new) e c
-
-no_usage_part : (place : ℕ) (w : PartWord) → is_built_form w ≡ true → Never (part_at place w)
-unfolding part_at
-no_usage_part place w f old new h = elim (comes_split (component_at place w) _ old new (Err refusal.Usage) h) as (λ _. ⊥) [
-  | inl s ↦ (let e = (ended_unless (broken_in place) (accepted (record { component = s.0; trusted = is_trusted w.mark })) s.1 new refusal.Usage s.3).2 in cc)
-  | inr s ↦ no_usage_component place w (no_source w f) old new (back_usage (component_at place w) old new s.0 s.1 s.2)
-]
-
-no_usage_each : (place : ℕ) (ws : List PartWord) → list_all is_built_form ws ≡ true → Never (each_at part_at place ws)
-no_usage_each place [] f old new h = absurd (let e = h.0 in cc)
-no_usage_each place (w ∷ ws) f old new h = elim (comes_split (part_at place w) _ old new (Err refusal.Usage) h) as (λ _. ⊥) [
-  | inl s ↦ elim (comes_split (each_at part_at (place + 1) ws) _ s.1 new (Err refusal.Usage) s.3) as (λ _. ⊥) [
-    | inl t ↦ absurd (let e = t.3.0 in cc)
-    | inr t ↦ no_usage_each (place + 1) ws (and_right (is_built_form w) (list_all is_built_form ws) f) s.1 new (back_usage (each_at part_at (place + 1) ws) s.1 new t.0 t.1 t.2)
-  ]
-  | inr s ↦ no_usage_part place w (and_left (is_built_form w) (list_all is_built_form ws) f) old new (back_usage (part_at place w) old new s.0 s.1 s.2)
-]
-
-no_usage_linked : (words : List PartWord) (size : ℕ) → list_all is_built_form words ≡ true → Never (linked_parts words size)
-unfolding linked_parts
-no_usage_linked words size f old new h = elim (comes_split (each_at part_at 0 words) _ old new (Err refusal.Usage) h) as (λ _. ⊥) [
-  | inl s ↦ elim (comes_split (unless refusal.Rule (linked s.0 size)) _ s.1 new (Err refusal.Usage) s.3) as (λ _. ⊥) [
-    | inl t ↦ absurd (let e = t.3.0 in cc)
-    | inr t ↦ (let e = (ended_unless refusal.Rule (linked s.0 size) s.1 new refusal.Usage (back_usage (unless refusal.Rule (linked s.0 size)) s.1 new t.0 t.1 t.2)).2 in cc)
-  ]
-  | inr s ↦ no_usage_each 0 words f old new (back_usage (each_at part_at 0 words) old new s.0 s.1 s.2)
-]
-
-no_usage_runs : (words : List PartWord) (size steps : ℕ) → list_all is_built_form words ≡ true → Never (run_plan words size steps)
-no_usage_runs words size steps f old new h = no_usage_linked words size f old new (runs_end words size steps old new refusal.Usage h)
-
-no_usage_traces : (words : List PartWord) (size steps : ℕ) → list_all is_built_form words ≡ true → Never (trace_plan words size steps)
-no_usage_traces words size steps f old new h = no_usage_linked words size f old new (traces_end words size steps old new refusal.Usage h)
-
-no_usage_assembles : (word : PartWord) (out : List ℕ) → is_built_form word ≡ true → Never (assemble_plan word out)
-no_usage_assembles word out f old new h = no_usage_component 0 word (no_source word f) old new (assembles_end word out old new refusal.Usage h)
-
-no_usage_shows : (word : PartWord) → is_built_form word ≡ true → Never (disassemble_plan word)
-no_usage_shows word f old new h = no_usage_component 0 word (no_source word f) old new (shows_end word old new refusal.Usage h)
-
-no_usage_checks : (word : PartWord) → is_built_form word ≡ true → Never (check_plan word)
-no_usage_checks word f old new h = no_usage_part 0 word f old new (checks_end word old new refusal.Usage h)
-
 -- ---- why the words' plan ends
 
 abbrev WhyIs : Option Command → Plan Task → FilesSeen → Refusal → FilesSeen → Type 0
@@ -137,33 +61,76 @@ WhyIs asked plan old (refusal.TooLong place) new = IsLong plan old place new
 WhyIs asked plan old (refusal.Assembly place f) new = IsUnassembled plan old place f new
 WhyIs asked plan old (refusal.File place f) new = IsUndecoded plan old place f new
 WhyIs asked plan old (refusal.Rule r) new = Breaks asked old r new
+WhyIs asked plan old (refusal.Image f) new = IsUnloaded asked old f new
 
-why_from : (asked : Option Command) (plan : Plan Task) (old new : FilesSeen) (why : Refusal) → Reasoned plan → Never plan → ((r : RuleAt) → Comes plan old (Err (refusal.Rule r)) new → Breaks asked old r new)
-    → Comes plan old (Err why) new → WhyIs asked plan old why new
-why_from asked plan old new refusal.Usage k n b h = absurd (n old new h)
-why_from asked plan old new refusal.ReadFault k n b h = k.gives old new refusal.ReadFault h
-why_from asked plan old new (refusal.TooLong place) k n b h = k.gives old new (refusal.TooLong place) h
-why_from asked plan old new (refusal.Assembly place f) k n b h = k.gives old new (refusal.Assembly place f) h
-why_from asked plan old new (refusal.File place f) k n b h = k.gives old new (refusal.File place f) h
-why_from asked plan old new (refusal.Rule r) k n b h = b r h
+-- what the plan of a command says of its ends
+record Explains (asked : Option Command) (plan : Plan Task) (old new : FilesSeen) : Type 0 where
+  reasoned : Reasoned plan
+  no_usage : Never plan refusal.Usage
+  breaks : (r : RuleAt) → Comes plan old (Err (refusal.Rule r)) new → Breaks asked old r new
+  unloaded : (f : ImageFault) → Comes plan old (Err (refusal.Image f)) new → IsUnloaded asked old f new
 
-why_built : (c : Command) (old new : FilesSeen) (why : Refusal) → is_built c ≡ true → Comes (built_plan c) old (Err why) new → WhyIs (Some c) (built_plan c) old why new
-why_built (command.Run (Parts words size) steps) old new why e h =
-    why_from (Some (command.Run (Parts words size) steps)) (run_plan words size steps) old new why (runs_reasoned words size steps) (no_usage_runs words size steps e) (runs_break words size steps old new) h
-why_built (command.Trace (Parts words size) steps) old new why e h =
-    why_from (Some (command.Trace (Parts words size) steps)) (trace_plan words size steps) old new why (traces_reasoned words size steps) (no_usage_traces words size steps e) (traces_break words size steps old new) h
-why_built (command.Check word) old new why e h =
-    why_from (Some (command.Check word)) (check_plan word) old new why (checks_reasoned word) (no_usage_checks word e) (checks_break word old new) h
-why_built (command.Run (Image name) steps) old new why e h = absurd (cc)
-why_built (command.Trace (Image name) steps) old new why e h = absurd (cc)
-why_built (command.Assemble word out) old new why e h =
-    why_from (Some (command.Assemble word out)) (assemble_plan word out) old new why (assembles_reasoned word out) (no_usage_assembles word out e) (λ r c. absurd (assembles_no_rule word out r old new c)) h
-why_built (command.Compile word out) old new why e h = absurd (cc)
-why_built (command.Disassemble word) old new why e h =
-    why_from (Some (command.Disassemble word)) (disassemble_plan word) old new why (shows_reasoned word) (no_usage_shows word e) (λ r c. absurd (shows_no_rule word r old new c)) h
-why_built (command.Link words size out) old new why e h = absurd (cc)
-why_built (command.Mean words size fuel feed) old new why e h = absurd (cc)
-why_built (command.Generate seed) old new why e h = absurd (cc)
+why_from : (asked : Option Command) (plan : Plan Task) (old new : FilesSeen) (why : Refusal) → Explains asked plan old new → Comes plan old (Err why) new → WhyIs asked plan old why new
+why_from asked plan old new refusal.Usage t h = absurd (t.no_usage old new h)
+why_from asked plan old new refusal.ReadFault t h = t.reasoned.gives old new refusal.ReadFault h
+why_from asked plan old new (refusal.TooLong place) t h = t.reasoned.gives old new (refusal.TooLong place) h
+why_from asked plan old new (refusal.Assembly place f) t h = t.reasoned.gives old new (refusal.Assembly place f) h
+why_from asked plan old new (refusal.File place f) t h = t.reasoned.gives old new (refusal.File place f) h
+why_from asked plan old new (refusal.Rule r) t h = t.breaks r h
+why_from asked plan old new (refusal.Image f) t h = t.unloaded f h
+
+built_explains : (c : Command) (old new : FilesSeen) → is_built c ≡ true → Explains (Some c) (built_plan c) old new
+built_explains (command.Run (what.Parts words size) steps) old new e = record {
+  reasoned = runs_reasoned (what.Parts words size) steps;
+  no_usage = never_runs refusal.Usage tt words size steps e;
+  breaks = runs_break words size steps old new;
+  unloaded = λ f h. absurd (never_runs (refusal.Image f) tt words size steps e old new h);
+}
+built_explains (command.Trace (what.Parts words size) steps) old new e = record {
+  reasoned = traces_reasoned (what.Parts words size) steps;
+  no_usage = never_traces refusal.Usage tt words size steps e;
+  breaks = traces_break words size steps old new;
+  unloaded = λ f h. absurd (never_traces (refusal.Image f) tt words size steps e old new h);
+}
+built_explains (command.Run (what.Image name) steps) old new e = record {
+  reasoned = runs_reasoned (what.Image name) steps;
+  no_usage = never_image_runs refusal.Usage tt name steps;
+  breaks = λ r h. never_image_runs (refusal.Rule r) tt name steps old new h;
+  unloaded = λ f h. let g = run_fails name steps old new f h in (name, refl, g.0, g.1, g.2);
+}
+built_explains (command.Trace (what.Image name) steps) old new e = record {
+  reasoned = traces_reasoned (what.Image name) steps;
+  no_usage = never_image_traces refusal.Usage tt name steps;
+  breaks = λ r h. never_image_traces (refusal.Rule r) tt name steps old new h;
+  unloaded = λ f h. let g = trace_fails name steps old new f h in (name, refl, g.0, g.1, g.2);
+}
+built_explains (command.Assemble word out) old new e = record {
+  reasoned = assembles_reasoned word out;
+  no_usage = never_assembles refusal.Usage tt word out e;
+  breaks = λ r h. assembles_no_rule word out r old new h;
+  unloaded = λ f h. absurd (never_assembles (refusal.Image f) tt word out e old new h);
+}
+built_explains (command.Disassemble word) old new e = record {
+  reasoned = shows_reasoned word;
+  no_usage = never_shows refusal.Usage tt word e;
+  breaks = λ r h. shows_no_rule word r old new h;
+  unloaded = λ f h. absurd (never_shows (refusal.Image f) tt word e old new h);
+}
+built_explains (command.Check word) old new e = record {
+  reasoned = checks_reasoned word;
+  no_usage = never_checks refusal.Usage tt word e;
+  breaks = checks_break word old new;
+  unloaded = λ f h. absurd (never_checks (refusal.Image f) tt word e old new h);
+}
+built_explains (command.Link words size out) old new e = record {
+  reasoned = links_reasoned words size out;
+  no_usage = never_links refusal.Usage tt words size out e;
+  breaks = links_break words size out old new;
+  unloaded = λ f h. absurd (never_links (refusal.Image f) tt words size out e old new h);
+}
+built_explains (command.Compile word out) old new e = absurd (cc)
+built_explains (command.Mean words size fuel feed) old new e = absurd (cc)
+built_explains (command.Generate seed) old new e = absurd (cc)
 
 why_usage : (asked : Option Command) (old new : FilesSeen) (why : Refusal) → is_command asked ≡ false → Comes (let p : Plan Task = Ends refusal.Usage in p) old (Err why) new → WhyIs asked (plan_in asked) old why new
 why_usage asked old new why f h = let e = same_err {A = Task} refusal.Usage why (sym h.0) in subst (λ w. WhyIs asked (plan_in asked) old w new) (sym e) f
@@ -173,7 +140,7 @@ why_is asked false f old new why h = why_usage asked old new why f (subst (λ p.
 why_is None true f old new why h = absurd (cc)
 why_is (Some c) true f old new why h =
     let p = planned c f in
-    subst (λ q. WhyIs (Some c) q old why new) (sym p) (why_built c old new why f (subst (λ q. Comes q old (Err why) new) p h))
+    subst (λ q. WhyIs (Some c) q old why new) (sym p) (why_from (Some c) (built_plan c) old new why (built_explains c old new f) (subst (λ q. Comes q old (Err why) new) p h))
 
 -- ---- a read that failed
 
@@ -209,7 +176,7 @@ writes_none limit o = traced_none limit (limit + 1) o
 abbrev Caused : Option Command → Outside → Outside → Status → Type 0
 Caused asked old new status.Done =
     Runs asked old.files new.files (λ step. step ≡ Halted)
-    ⊎ (Traces asked old.files new.files run_end.Halted ⊎ (Assembles asked old.files new.files ⊎ (Shows asked old.files new.files ⊎ Says asked old.files new.files)))
+    ⊎ (Traces asked old.files new.files run_end.Halted ⊎ (PutsFile asked old.files new.files ⊎ (Shows asked old.files new.files ⊎ Says asked old.files new.files)))
 Caused asked old new status.MachineFailed = Runs asked old.files new.files (λ step. (cause : FailCause) × (at : ℤ) × (step ≡ Failed cause at)) ⊎ Traces asked old.files new.files run_end.Failed
 Caused asked old new status.StepsUsed = Runs asked old.files new.files (λ step. step ≡ Went) ⊎ Traces asked old.files new.files run_end.Running
 Caused asked old new status.Usage = is_command asked ≡ false
@@ -219,8 +186,10 @@ Caused asked old new status.NoMemory = OnlyGave old.files new.files × (new.sink
 Caused asked old new status.TooLong = (place : ℕ) × Wrote (refusal.TooLong place) old new × IsLong (plan_in asked) old.files place new.files
 Caused asked old new status.AsmRefused = (place : ℕ) × (f : AsmFault) × Wrote (refusal.Assembly place f) old new × IsUnassembled (plan_in asked) old.files place f new.files
 Caused asked old new status.SourceRefused = ⊥
-Caused asked old new status.FileRefused = (place : ℕ) × (f : FileFault) × Wrote (refusal.File place f) old new × IsUndecoded (plan_in asked) old.files place f new.files
-Caused asked old new status.RuleBroken = (r : RuleAt) × Wrote (refusal.Rule r) old new × Breaks asked old.files r new.files
+Caused asked old new status.FileRefused =
+    ((place : ℕ) × (f : FileFault) × Wrote (refusal.File place f) old new × IsUndecoded (plan_in asked) old.files place f new.files)
+    ⊎ ((f : ImageFault) × (image_status f ≡ status.FileRefused) × Wrote (refusal.Image f) old new × IsUnloaded asked old.files f new.files)
+Caused asked old new status.RuleBroken = (r : RuleAt) × Wrote (refusal.Rule r) old new × (Breaks asked old.files r new.files ⊎ IsUnloaded asked old.files (image.Rule r) new.files)
 
 run_caused : (asked : Option Command) (old new : Outside) (parts : List PartSeen) (size steps : ℕ) → Comes (plan_in asked) old.files (Ok (Run parts size steps)) new.files → (start : StartSeen) → IsLinkedStart parts size start
     → (step : Step) → last_step (plain steps start.state) ≡ step → Caused asked old new (end_status (end_of step))
@@ -235,13 +204,24 @@ trace_caused asked old new parts size steps c start overlay s o run_end.Failed e
 trace_caused asked old new parts size steps c start overlay s o run_end.Running e = inr (parts, size, steps, c, start, overlay, s, o, e)
 trace_caused asked old new parts size steps c start overlay s o run_end.WriteFault e = absurd (writes_none steps overlay e)
 
+image_caused : (asked : Option Command) (old new : Outside) (f : ImageFault) → IsUnloaded asked old.files f new.files → Wrote (refusal.Image f) old new → Caused asked old new (image_status f)
+image_caused asked old new (image.Rule r) h w = (r, w, inr h)
+image_caused asked old new image.Magic h w = inr (image.Magic, refl, w, h)
+image_caused asked old new image.Version h w = inr (image.Version, refl, w, h)
+image_caused asked old new (image.Short at) h w = inr (image.Short at, refl, w, h)
+image_caused asked old new (image.BadField at) h w = inr (image.BadField at, refl, w, h)
+image_caused asked old new (image.Trailing at) h w = inr (image.Trailing at, refl, w, h)
+image_caused asked old new (image.File part f) h w = inr (image.File part f, refl, w, h)
+image_caused asked old new image.NoMemory h w = inr (image.NoMemory, refl, w, h)
+
 err_caused : (asked : Option Command) (old new : Outside) (why : Refusal) → WhyIs asked (plan_in asked) old.files why new.files → Wrote why old new → Caused asked old new (refusal_status why)
 err_caused asked old new refusal.Usage h w = h
 err_caused asked old new refusal.ReadFault h w = (unread_rose (plan_in asked) old.files new.files h, h)
 err_caused asked old new (refusal.TooLong place) h w = (place, w, h)
 err_caused asked old new (refusal.Assembly place f) h w = (place, f, w, h)
-err_caused asked old new (refusal.File place f) h w = (place, f, w, h)
-err_caused asked old new (refusal.Rule r) h w = (r, w, h)
+err_caused asked old new (refusal.File place f) h w = inl (place, f, w, h)
+err_caused asked old new (refusal.Rule r) h w = (r, w, inl h)
+err_caused asked old new (refusal.Image f) h w = image_caused asked old new f h w
 
 -- what is told at the end, where no file was put
 unput_seen : (seen new : FilesSeen) (a b : Answer) → a ≡ b → b.file ≡ None → IsPut seen a.file new → new ≡ seen
@@ -270,26 +250,24 @@ due_caused asked old new seen (Err why) a c x p w =
 
 -- ---- the file that is put
 
-name_same : (name out : List ℕ) (c d : ComponentFields) → Put name c ≡ Put out d → name ≡ out
+name_same : (name out : List ℕ) (c d : Content) → Put name c ≡ Put out d → name ≡ out
 name_same name out c d e = cc
 
-put_built : (c : Command) (old seen : FilesSeen) (name : List ℕ) (d : ComponentFields) → is_built c ≡ true → Comes (built_plan c) old (Ok (Put name d)) seen → out_of (Some c) ≡ Some name
-put_built (command.Run (Parts words size) steps) old seen name d e h = absurd (let m = (runs_made words size steps old seen (Put name d) h).2 in cc)
-put_built (command.Trace (Parts words size) steps) old seen name d e h = absurd (let m = (traces_made words size steps old seen (Put name d) h).2 in cc)
-put_built (command.Assemble word out) old seen name d e h = let m = assembles_made word out old seen (Put name d) h in ap (λ n. Some n) (sym (name_same name out d m.0 m.2))
+put_built : (c : Command) (old seen : FilesSeen) (name : List ℕ) (d : Content) → is_built c ≡ true → Comes (built_plan c) old (Ok (Put name d)) seen → out_of (Some c) ≡ Some name
+put_built (command.Run l steps) old seen name d e h = absurd (let m = (runs_made l steps old seen (Put name d) h).2 in cc)
+put_built (command.Trace l steps) old seen name d e h = absurd (let m = (traces_made l steps old seen (Put name d) h).2 in cc)
+put_built (command.Assemble word out) old seen name d e h = let m = assembles_made word out old seen (Put name d) h in ap (λ n. Some n) (sym (name_same name out d (OfComponent m.0) m.2))
 put_built (command.Disassemble word) old seen name d e h = absurd (let m = (shows_made word old seen (Put name d) h).2 in cc)
 put_built (command.Check word) old seen name d e h = absurd (let m = checks_made word old seen (Put name d) h in cc)
-put_built (command.Run (Image name) steps) old seen out d e h = absurd (cc)
-put_built (command.Trace (Image name) steps) old seen out d e h = absurd (cc)
+put_built (command.Link words size out) old seen name d e h = let m = links_made words size out old seen (Put name d) h in ap (λ n. Some n) (sym (name_same name out d (OfImage m.0) m.2))
 put_built (command.Compile word out) old seen name d e h = absurd (cc)
-put_built (command.Link words size out) old seen name d e h = absurd (cc)
 put_built (command.Mean words size fuel feed) old seen name d e h = absurd (cc)
 put_built (command.Generate seed) old seen name d e h = absurd (cc)
 
 no_ok : {A : Type 0} (x : A) (why : Refusal) → (let r : Result A Refusal = Ok x in r) ≡ Err why → ⊥
 no_ok x why e = cc
 
-put_in : (asked : Option Command) (b : Bool) → is_command asked ≡ b → (old seen : FilesSeen) (name : List ℕ) (d : ComponentFields) → Comes (plan_in asked) old (Ok (Put name d)) seen → out_of asked ≡ Some name
+put_in : (asked : Option Command) (b : Bool) → is_command asked ≡ b → (old seen : FilesSeen) (name : List ℕ) (d : Content) → Comes (plan_in asked) old (Ok (Put name d)) seen → out_of asked ≡ Some name
 put_in asked false f old seen name d h = absurd (no_ok (Put name d) refusal.Usage (subst (λ p. Comes p old (Ok (Put name d)) seen) (unplanned asked f) h).0)
 put_in None true f old seen name d h = absurd (cc)
 put_in (Some c) true f old seen name d h = put_built c old seen name d f (subst (λ p. Comes p old (Ok (Put name d)) seen) (planned c f) h)
@@ -297,13 +275,13 @@ put_in (Some c) true f old seen name d h = put_built c old seen name d f (subst 
 some_same : (f g : NewFile) → Some f ≡ Some g → f ≡ g
 some_same f g e = cc
 
--- an answer with a file is that of a component, and the file is that of `--out`
+-- an answer with a file is that of a component or an image, and the file is that of `--out`
 put_of : (asked : Option Command) (due : Result Task Refusal) (a : Answer) (f : NewFile) (old seen : FilesSeen) → Comes (plan_in asked) old due seen → IsAnswerOf due a → a.file ≡ Some f
-    → (d : ComponentFields) × Comes (plan_in asked) old (Ok (Put f.name d)) seen × (f.bytes ≡ spelling d) × (out_of asked ≡ Some f.name)
+    → (d : Content) × Comes (plan_in asked) old (Ok (Put f.name d)) seen × (f.bytes ≡ spelling_of d) × (out_of asked ≡ Some f.name)
 put_of asked (Ok (Run parts size steps)) a f old seen c x e = absurd (let k = ap (λ (b : Answer). b.file) x.2 in cc)
 put_of asked (Ok (Trace parts size steps)) a f old seen c x e = absurd (let k = ap (λ (b : Answer). b.file) x.4 in cc)
 put_of asked (Ok (Put name d)) a f old seen c x e =
-    let k : f ≡ record { name = name; bytes = spelling d } = some_same f (record { name = name; bytes = spelling d }) (sym e ∙ ap (λ (b : Answer). b.file) x) in
+    let k : f ≡ record { name = name; bytes = spelling_of d } = some_same f (record { name = name; bytes = spelling_of d }) (sym e ∙ ap (λ (b : Answer). b.file) x) in
     let n : f.name ≡ name = ap (λ (g : NewFile). g.name) k in
     (d, subst (λ m. Comes (plan_in asked) old (Ok (Put m d)) seen) (sym n) c, ap (λ (g : NewFile). g.bytes) k, put_in asked (is_command asked) refl old seen name d c ∙ ap (λ m. Some m) (sym n))
 put_of asked (Ok (Show d)) a f old seen c x e = absurd (let k = ap (λ (b : Answer). b.file) x in cc)
@@ -369,17 +347,17 @@ keeps_from old seen new out e k =
 
 -- what became of the files of an answer
 put_stays : (asked : Option Command) (due : Result Task Refusal) (a : Answer) (old seen new : FilesSeen) (file : Option NewFile) → Comes (plan_in asked) old due seen → IsAnswerOf due a → a.file ≡ file → IsPut seen file new
-    → Stay old new ⊎ ((out : List ℕ) × (out_of asked ≡ Some out) × KeepsOthers old new out × Assembles asked old new)
+    → Stay old new ⊎ ((out : List ℕ) × (out_of asked ≡ Some out) × KeepsOthers old new out × PutsFile asked old new)
 put_stays asked due a old seen new None c x e p = inl (ap (λ (s : FilesSeen). s.contents) p ∙ comes_contents (plan_in asked) old seen due c)
 put_stays asked due a old seen new (Some f) c x e p =
     let m = put_of asked due a f old seen c x e in
     inr (f.name, m.3, keeps_from old seen new f.name (comes_contents (plan_in asked) old seen due c) p.others, (f.name, m.0, seen, m.1, subst (λ b. Puts seen new f.name b) m.2 p))
 
-others : (asked : Option Command) (old new : FilesSeen) → Stay old new ⊎ ((out : List ℕ) × (out_of asked ≡ Some out) × KeepsOthers old new out × Assembles asked old new) → OthersStay asked old new
+others : (asked : Option Command) (old new : FilesSeen) → Stay old new ⊎ ((out : List ℕ) × (out_of asked ≡ Some out) × KeepsOthers old new out × PutsFile asked old new) → OthersStay asked old new
 others asked old new (inl s) = inl s
 others asked old new (inr s) = inr (s.0, s.1, s.2)
 
-put_or_stay : (asked : Option Command) (old new : FilesSeen) → Stay old new ⊎ ((out : List ℕ) × (out_of asked ≡ Some out) × KeepsOthers old new out × Assembles asked old new) → Stay old new ⊎ Assembles asked old new
+put_or_stay : (asked : Option Command) (old new : FilesSeen) → Stay old new ⊎ ((out : List ℕ) × (out_of asked ≡ Some out) × KeepsOthers old new out × PutsFile asked old new) → Stay old new ⊎ PutsFile asked old new
 put_or_stay asked old new (inl s) = inl s
 put_or_stay asked old new (inr s) = inr s.3
 
@@ -394,6 +372,16 @@ end_none run_end.Failed a e = e
 end_none run_end.Running a e = e
 end_none run_end.WriteFault a e = e
 
+image_none : (f : ImageFault) (a : Answer) → a.file ≡ None → PutsNone (image_status f) a
+image_none (image.Rule r) a e = e
+image_none image.Magic a e = e
+image_none image.Version a e = e
+image_none (image.Short at) a e = e
+image_none (image.BadField at) a e = e
+image_none (image.Trailing at) a e = e
+image_none (image.File part f) a e = e
+image_none image.NoMemory a e = e
+
 why_none : (why : Refusal) (a : Answer) → a.file ≡ None → PutsNone (refusal_status why) a
 why_none refusal.Usage a e = e
 why_none refusal.ReadFault a e = e
@@ -401,6 +389,7 @@ why_none (refusal.TooLong place) a e = e
 why_none (refusal.Assembly place f) a e = e
 why_none (refusal.File place f) a e = e
 why_none (refusal.Rule r) a e = e
+why_none (refusal.Image f) a e = image_none f a e
 
 puts_none : (due : Result Task Refusal) (a : Answer) → IsAnswerOf due a → PutsNone a.status a
 puts_none (Ok (Run parts size steps)) a x = subst (λ (b : Answer). PutsNone b.status b) (sym x.2) (end_none (end_of (last_step (plain steps x.0.state))) (ran x.0 steps) refl)
@@ -442,6 +431,16 @@ put_whole asked old ended new (answer due a seen c x (unwritten p w k s)) q = pu
 
 -- ---- what a run writes
 
+no_image_run : (f : ImageFault) → IsRunStatus (image_status f) → ⊥
+no_image_run (image.Rule r) h = h
+no_image_run image.Magic h = h
+no_image_run image.Version h = h
+no_image_run (image.Short at) h = h
+no_image_run (image.BadField at) h = h
+no_image_run (image.Trailing at) h = h
+no_image_run (image.File part f) h = h
+no_image_run image.NoMemory h = h
+
 no_run : (why : Refusal) → IsRunStatus (refusal_status why) → ⊥
 no_run refusal.Usage h = h
 no_run refusal.ReadFault h = h
@@ -449,6 +448,7 @@ no_run (refusal.TooLong place) h = h
 no_run (refusal.Assembly place f) h = h
 no_run (refusal.File place f) h = h
 no_run (refusal.Rule r) h = h
+no_run (refusal.Image f) h = no_image_run f h
 
 -- a status of a run is of no refusal
 refused_none : (why : Refusal) (a : Answer) (ended : Status) → a ≡ refused why → ended ≡ a.status → IsRunStatus ended → ⊥
@@ -457,22 +457,23 @@ refused_none why a ended x e r = no_run why (subst IsRunStatus (e ∙ ap (λ (b 
 same_run : (p q : List PartSeen) (n m k l : ℕ) → Run p n k ≡ Run q m l → (p ≡ q) × (n ≡ m) × (k ≡ l)
 same_run p q n m k l e = (cc, cc, cc)
 
-given_run : HeadlineHolds → (words : List PartWord) (size steps : ℕ) (old : Outside) (seen : FilesSeen) (ended : Status) (new : Outside) (due : Result Task Refusal) (a : Answer) → Comes (run_plan words size steps) old.files due seen → IsAnswerOf due a
-    → GivesWhole (with_files old seen) a ended new → IsRunStatus ended → RunGiven words size steps old ended new
-given_run all words size steps old seen ended new (Err why) a c x g r = absurd (refused_none why a ended x g.status_is r)
-given_run all words size steps old seen ended new (Ok (Trace parts n k)) a c x g r = absurd (let e = (runs_made words size steps old.files seen (Trace parts n k) c).2 in cc)
-given_run all words size steps old seen ended new (Ok (Put name d)) a c x g r = absurd (let e = (runs_made words size steps old.files seen (Put name d) c).2 in cc)
-given_run all words size steps old seen ended new (Ok (Show d)) a c x g r = absurd (let e = (runs_made words size steps old.files seen (Show d) c).2 in cc)
-given_run all words size steps old seen ended new (Ok Say) a c x g r = absurd (let e = (runs_made words size steps old.files seen Say c).2 in cc)
-given_run all words size steps old seen ended new (Ok (Run parts n k)) a c x g r =
-    let m = runs_made words size steps old.files seen (Run parts n k) c in
-    let l = linked_made words size old.files seen m.0 m.1 in
-    let s = same_run parts m.0 n size k steps m.2 in
-    let start : IsLinkedStart m.0 size x.0 = subst (λ z. IsLinkedStart m.0 z x.0) s.1 (subst (λ ps. IsLinkedStart ps n x.0) s.0 x.1) in
+given_run : HeadlineHolds → (l : Linked) (steps : ℕ) (old : Outside) (seen : FilesSeen) (ended : Status) (new : Outside) (due : Result Task Refusal) (a : Answer) → Comes (run_plan l steps) old.files due seen → IsAnswerOf due a
+    → GivesWhole (with_files old seen) a ended new → IsRunStatus ended → RunGiven l steps old ended new
+given_run all l steps old seen ended new (Err why) a c x g r = absurd (refused_none why a ended x g.status_is r)
+given_run all l steps old seen ended new (Ok (Trace parts n k)) a c x g r = absurd (let e = (runs_made l steps old.files seen (Trace parts n k) c).2 in cc)
+given_run all l steps old seen ended new (Ok (Put name d)) a c x g r = absurd (let e = (runs_made l steps old.files seen (Put name d) c).2 in cc)
+given_run all l steps old seen ended new (Ok (Show d)) a c x g r = absurd (let e = (runs_made l steps old.files seen (Show d) c).2 in cc)
+given_run all l steps old seen ended new (Ok Say) a c x g r = absurd (let e = (runs_made l steps old.files seen Say c).2 in cc)
+given_run all l steps old seen ended new (Ok (Run parts n k)) a c x g r =
+    let m = runs_made l steps old.files seen (Run parts n k) c in
+    let i = m.0 in
+    let came = in_made l old.files seen i m.1 in
+    let s = same_run parts i.parts n i.stack k steps m.2 in
+    let start : IsLinkedStart i.parts i.stack x.0 = subst (λ z. IsLinkedStart i.parts z x.0) s.1 (subst (λ ps. IsLinkedStart ps n x.0) s.0 x.1) in
     let is : a ≡ ran x.0 steps = x.2 ∙ ap (ran x.0) s.2 in
     let h : GivesWhole (with_files old seen) (ran x.0 steps) ended new = subst (λ b. GivesWhole (with_files old seen) b ended new) is g in
     let p : new.files ≡ seen = h.put in
-    record { parts = m.0; came = (rw p l.0); keep = l.1; start = x.0; linked_start = start; headline = all m.0 size x.0 start; status_is = h.status_is; written = h.written; kept_is = h.kept_is }
+    record { parts = i.parts; size = i.stack; came = subst (λ z. LinkedCame l old.files i.parts i.stack z) (sym p) came.0; keep = came.1; start = x.0; linked_start = start; headline = all i.parts i.stack x.0 start; status_is = h.status_is; written = h.written; kept_is = h.kept_is }
 
 same_trace : (p q : List PartSeen) (n m k l : ℕ) → Trace p n k ≡ Trace q m l → (p ≡ q) × (n ≡ m) × (k ≡ l)
 same_trace p q n m k l e = (cc, cc, cc)
@@ -481,22 +482,23 @@ same_trace p q n m k l e = (cc, cc, cc)
 abbrev pub OverlaysAreOne : Type 0
 OverlaysAreOne = (parts : List PartSeen) (size : ℕ) (s : StartSeen) → IsLinkedStart parts size s → (o : OverlaySeen) → IsOverlayOf s o ↔ (o ≡ overlay_at s)
 
-given_trace : HeadlineHolds → OverlaysAreOne → (words : List PartWord) (size steps : ℕ) (old : Outside) (seen : FilesSeen) (ended : Status) (new : Outside) (due : Result Task Refusal) (a : Answer) → Comes (trace_plan words size steps) old.files due seen → IsAnswerOf due a
-    → GivesWhole (with_files old seen) a ended new → IsRunStatus ended → TraceGiven words size steps old ended new
-given_trace all one words size steps old seen ended new (Err why) a c x g r = absurd (refused_none why a ended x g.status_is r)
-given_trace all one words size steps old seen ended new (Ok (Run parts n k)) a c x g r = absurd (let e = (traces_made words size steps old.files seen (Run parts n k) c).2 in cc)
-given_trace all one words size steps old seen ended new (Ok (Put name d)) a c x g r = absurd (let e = (traces_made words size steps old.files seen (Put name d) c).2 in cc)
-given_trace all one words size steps old seen ended new (Ok (Show d)) a c x g r = absurd (let e = (traces_made words size steps old.files seen (Show d) c).2 in cc)
-given_trace all one words size steps old seen ended new (Ok Say) a c x g r = absurd (let e = (traces_made words size steps old.files seen Say c).2 in cc)
-given_trace all one words size steps old seen ended new (Ok (Trace parts n k)) a c x g r =
-    let m = traces_made words size steps old.files seen (Trace parts n k) c in
-    let l = linked_made words size old.files seen m.0 m.1 in
-    let s = same_trace parts m.0 n size k steps m.2 in
-    let start : IsLinkedStart m.0 size x.0 = subst (λ z. IsLinkedStart m.0 z x.0) s.1 (subst (λ ps. IsLinkedStart ps n x.0) s.0 x.2) in
+given_trace : HeadlineHolds → OverlaysAreOne → (l : Linked) (steps : ℕ) (old : Outside) (seen : FilesSeen) (ended : Status) (new : Outside) (due : Result Task Refusal) (a : Answer) → Comes (trace_plan l steps) old.files due seen → IsAnswerOf due a
+    → GivesWhole (with_files old seen) a ended new → IsRunStatus ended → TraceGiven l steps old ended new
+given_trace all one l steps old seen ended new (Err why) a c x g r = absurd (refused_none why a ended x g.status_is r)
+given_trace all one l steps old seen ended new (Ok (Run parts n k)) a c x g r = absurd (let e = (traces_made l steps old.files seen (Run parts n k) c).2 in cc)
+given_trace all one l steps old seen ended new (Ok (Put name d)) a c x g r = absurd (let e = (traces_made l steps old.files seen (Put name d) c).2 in cc)
+given_trace all one l steps old seen ended new (Ok (Show d)) a c x g r = absurd (let e = (traces_made l steps old.files seen (Show d) c).2 in cc)
+given_trace all one l steps old seen ended new (Ok Say) a c x g r = absurd (let e = (traces_made l steps old.files seen Say c).2 in cc)
+given_trace all one l steps old seen ended new (Ok (Trace parts n k)) a c x g r =
+    let m = traces_made l steps old.files seen (Trace parts n k) c in
+    let i = m.0 in
+    let came = in_made l old.files seen i m.1 in
+    let s = same_trace parts i.parts n i.stack k steps m.2 in
+    let start : IsLinkedStart i.parts i.stack x.0 = subst (λ z. IsLinkedStart i.parts z x.0) s.1 (subst (λ ps. IsLinkedStart ps n x.0) s.0 x.2) in
     let is : a ≡ traced x.1 steps = x.4 ∙ ap (traced x.1) s.2 in
     let h : GivesWhole (with_files old seen) (traced x.1 steps) ended new = subst (λ b. GivesWhole (with_files old seen) b ended new) is g in
     let p : new.files ≡ seen = h.put in
-    record { parts = m.0; came = (rw p l.0); keep = l.1; start = x.0; linked_start = start; headline = all m.0 size x.0 start; overlay = x.1; overlay_is = x.3; lines_are = (ap (λ o. (trace_of steps o).lines) ((one m.0 size x.0 start x.1).0 x.3) ∙ (all m.0 size x.0 start).traced steps); status_is = h.status_is; written = h.written; kept_is = h.kept_is }
+    record { parts = i.parts; size = i.stack; came = subst (λ z. LinkedCame l old.files i.parts i.stack z) (sym p) came.0; keep = came.1; start = x.0; linked_start = start; headline = all i.parts i.stack x.0 start; overlay = x.1; overlay_is = x.3; lines_are = (ap (λ o. (trace_of steps o).lines) ((one i.parts i.stack x.0 start x.1).0 x.3) ∙ (all i.parts i.stack x.0 start).traced steps); status_is = h.status_is; written = h.written; kept_is = h.kept_is }
 
 -- a whole answer to words that aren't built is of no run
 usage_none : (asked : Option Command) (old : Outside) (seen : FilesSeen) (ended : Status) (new : Outside) (due : Result Task Refusal) (a : Answer) → is_command asked ≡ false → Comes (plan_in asked) old.files due seen → IsAnswerOf due a
@@ -505,17 +507,15 @@ usage_none asked old seen ended new due a f c x g r =
     let is : a ≡ refused refusal.Usage = subst (λ d. IsAnswerOf d a) (due_usage asked old.files seen due f c) x in
     refused_none refusal.Usage a ended is g.status_is r
 
-runs_by : HeadlineHolds → (words : List PartWord) (size steps : ℕ) (b : Bool) → list_all is_built_form words ≡ b → (old : Outside) (seen : FilesSeen) (ended : Status) (new : Outside) (due : Result Task Refusal) (a : Answer)
-    → Comes (plan_in (Some (command.Run (Parts words size) steps))) old.files due seen → IsAnswerOf due a → GivesWhole (with_files old seen) a ended new → IsRunStatus ended → RunGiven words size steps old ended new
-runs_by all words size steps true f old seen ended new due a c x g r =
-    given_run all words size steps old seen ended new due a (subst (λ p. Comes p old.files due seen) (planned (command.Run (Parts words size) steps) f) c) x g r
-runs_by all words size steps false f old seen ended new due a c x g r = absurd (usage_none (Some (command.Run (Parts words size) steps)) old seen ended new due a f c x g r)
+runs_by : HeadlineHolds → (l : Linked) (steps : ℕ) (b : Bool) → is_built_linked l ≡ b → (old : Outside) (seen : FilesSeen) (ended : Status) (new : Outside) (due : Result Task Refusal) (a : Answer)
+    → Comes (plan_in (Some (command.Run l steps))) old.files due seen → IsAnswerOf due a → GivesWhole (with_files old seen) a ended new → IsRunStatus ended → RunGiven l steps old ended new
+runs_by all l steps true f old seen ended new due a c x g r = given_run all l steps old seen ended new due a (subst (λ p. Comes p old.files due seen) (planned (command.Run l steps) f) c) x g r
+runs_by all l steps false f old seen ended new due a c x g r = absurd (usage_none (Some (command.Run l steps)) old seen ended new due a f c x g r)
 
-traces_by : HeadlineHolds → OverlaysAreOne → (words : List PartWord) (size steps : ℕ) (b : Bool) → list_all is_built_form words ≡ b → (old : Outside) (seen : FilesSeen) (ended : Status) (new : Outside) (due : Result Task Refusal) (a : Answer)
-    → Comes (plan_in (Some (command.Trace (Parts words size) steps))) old.files due seen → IsAnswerOf due a → GivesWhole (with_files old seen) a ended new → IsRunStatus ended → TraceGiven words size steps old ended new
-traces_by all one words size steps true f old seen ended new due a c x g r =
-    given_trace all one words size steps old seen ended new due a (subst (λ p. Comes p old.files due seen) (planned (command.Trace (Parts words size) steps) f) c) x g r
-traces_by all one words size steps false f old seen ended new due a c x g r = absurd (usage_none (Some (command.Trace (Parts words size) steps)) old seen ended new due a f c x g r)
+traces_by : HeadlineHolds → OverlaysAreOne → (l : Linked) (steps : ℕ) (b : Bool) → is_built_linked l ≡ b → (old : Outside) (seen : FilesSeen) (ended : Status) (new : Outside) (due : Result Task Refusal) (a : Answer)
+    → Comes (plan_in (Some (command.Trace l steps))) old.files due seen → IsAnswerOf due a → GivesWhole (with_files old seen) a ended new → IsRunStatus ended → TraceGiven l steps old ended new
+traces_by all one l steps true f old seen ended new due a c x g r = given_trace all one l steps old seen ended new due a (subst (λ p. Comes p old.files due seen) (planned (command.Trace l steps) f) c) x g r
+traces_by all one l steps false f old seen ended new due a c x g r = absurd (usage_none (Some (command.Trace l steps)) old seen ended new due a f c x g r)
 
 -- an answer with the status of a run is given whole
 pub record WholeRun (plan : Plan Task) (old : Outside) (ended : Status) (new : Outside) : Type 0 where
@@ -532,14 +532,14 @@ whole_run plan old ended new (answer due a seen c x (unput f i w u k s)) r = abs
 whole_run plan old ended new (answer due a seen c x (unwritten p f k s)) r = absurd (subst IsRunStatus s r)
 whole_run plan old ended new (answer due a seen c x (whole g)) r = record { due = due; gives = a; seen = seen; came = c; is = x; given = g }
 
-pub runs : HeadlineHolds → (asked : Option Command) (old : Outside) (ended : Status) (new : Outside) → Answers (plan_in asked) old ended new → (words : List PartWord) (size steps : ℕ) → asked ≡ Some (command.Run (Parts words size) steps)
-    → IsRunStatus ended → RunGiven words size steps old ended new
-runs all asked old ended new a words size steps e r =
+pub runs : HeadlineHolds → (asked : Option Command) (old : Outside) (ended : Status) (new : Outside) → Answers (plan_in asked) old ended new → (l : Linked) (steps : ℕ) → asked ≡ Some (command.Run l steps) → IsRunStatus ended
+    → RunGiven l steps old ended new
+runs all asked old ended new a l steps e r =
     let w = whole_run (plan_in asked) old ended new a r in
-    runs_by all words size steps (list_all is_built_form words) refl old w.seen ended new w.due w.gives (subst (λ z. Comes (plan_in z) old.files w.due w.seen) e w.came) w.is w.given r
+    runs_by all l steps (is_built_linked l) refl old w.seen ended new w.due w.gives (subst (λ z. Comes (plan_in z) old.files w.due w.seen) e w.came) w.is w.given r
 
-pub traces : HeadlineHolds → OverlaysAreOne → (asked : Option Command) (old : Outside) (ended : Status) (new : Outside) → Answers (plan_in asked) old ended new → (words : List PartWord) (size steps : ℕ) → asked ≡ Some (command.Trace (Parts words size) steps)
-    → IsRunStatus ended → TraceGiven words size steps old ended new
-traces all one asked old ended new a words size steps e r =
+pub traces : HeadlineHolds → OverlaysAreOne → (asked : Option Command) (old : Outside) (ended : Status) (new : Outside) → Answers (plan_in asked) old ended new → (l : Linked) (steps : ℕ) → asked ≡ Some (command.Trace l steps) → IsRunStatus ended
+    → TraceGiven l steps old ended new
+traces all one asked old ended new a l steps e r =
     let w = whole_run (plan_in asked) old ended new a r in
-    traces_by all one words size steps (list_all is_built_form words) refl old w.seen ended new w.due w.gives (subst (λ z. Comes (plan_in z) old.files w.due w.seen) e w.came) w.is w.given r
+    traces_by all one l steps (is_built_linked l) refl old w.seen ended new w.due w.gives (subst (λ z. Comes (plan_in z) old.files w.due w.seen) e w.came) w.is w.given r

@@ -3,8 +3,10 @@ pub mod Sinks
 pub mod Each
 pub mod FirstOf
 pub mod Given
-pub mod Reasons
 pub mod BuiltParts
+pub mod Linking
+pub mod Ends
+pub mod Reasons
 pub mod Settled
 pub mod Caused
 pub mod Rising

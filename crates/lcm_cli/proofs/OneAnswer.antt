@@ -2,19 +2,23 @@
 use Rattle.std.proofs.Common.{◌≡◌, ℕ, ◌<◌, ◌≤◌, ◌⊎◌, List, length, Option, Some, None, refl, sym, ap, subst, ◌∙◌, arith, inl, inr, true, false}
 use Rattle.std.specs.Prelude.{Result, Ok, Err, Bool}
 use Rattle.command_words.specs.declared.part.PartWord.{PartWord}
-use Rattle.command_words.specs.declared.command.Linked.TheVariants.{Parts, Image}
+use Rattle.command_words.specs.declared.command.Linked.{Linked}
+use Rattle.command_words.specs.declared.command.Linked.TheVariants as what
 use Rattle.command_words.specs.declared.command.Command.{Command}
 use Rattle.command_words.specs.declared.command.Command.TheVariants as command
 use Rattle.component_linker.specs.declared.fault.RuleAt.{RuleAt}
 use Rattle.component_linker.specs.Parts.{PartSeen}
+use Rattle.image_loader.specs.declared.fault.ImageFault.{ImageFault}
+use Rattle.image_loader.specs.Image.{ImageSeen}
 use Rattle.lcm_cli.specs.declared.TheConstants.{LONGEST_FILE}
 use Rattle.lcm_cli.specs.declared.refusal.Refusal.{Refusal}
 use Rattle.lcm_cli.specs.declared.refusal.Refusal.TheVariants as refusal
 use Rattle.lcm_cli.specs.Plans.{Plan, Reads, Ends, Made, ◌>>=◌, unless}
-use Rattle.lcm_cli.specs.Parts.{linked, component_at, part_at, each_at}
-use Rattle.lcm_cli.specs.Commands.{Task, Run, Trace, Put, Show, Say, is_built, linked_parts, run_plan, trace_plan, assemble_plan, disassemble_plan, check_plan, built_plan, plan_in, is_command}
+use Rattle.lcm_cli.specs.Parts.{linked, loaded, component_at, part_at, each_at}
+use Rattle.lcm_cli.specs.Commands.{Task, Run, Trace, Put, Show, Say, OfComponent, OfImage, is_built, linked_parts, linked_image, linked_in, run_plan, trace_plan, assemble_plan, disassemble_plan, check_plan, link_plan, built_plan, plan_in, is_command}
 use Rattle.lcm_cli.specs.Answers.{Answer, IsAnswerOf, ran, traced, Settles, IsWritten}
 use Rattle.lcm_cli.proofs.Caused.{planned, unplanned}
+use Rattle.lcm_cli.proofs.Linking.{image_with, loaded_read}
 use Rattle.lcm_cli.proofs.OneStart.{one_start}
 use Rattle.lcm_cli.proofs.OneOverlay.{one_overlay}
 use Rattle.component_linker.specs.Started.{StartSeen}
@@ -65,19 +69,35 @@ no_err x why e = cc
 same_task : (x y : Task) → (let r : Result Task Refusal = Ok x in r) ≡ Ok y → x ≡ y
 same_task x y e = cc
 
-same_list : (x y : List PartSeen) → (let r : Result (List PartSeen) Refusal = Ok x in r) ≡ Ok y → y ≡ x
-same_list x y e = cc
+same_image : (x y : ImageSeen) → (let r : Result ImageSeen Refusal = Ok x in r) ≡ Ok y → y ≡ x
+same_image x y e = cc
 
-linked_settle : (held : List ℕ → Option (List ℕ)) (words : List PartWord) (size : ℕ) (parts : List PartSeen) → Settles held (linked_parts words size) (Ok parts) → linked parts size ≡ Ok tt
+abbrev KeptIn : ImageSeen → Type 0
+KeptIn i = linked i.parts i.stack ≡ Ok tt
+
+linked_settle : (held : List ℕ → Option (List ℕ)) (words : List PartWord) (size : ℕ) (i : ImageSeen) → Settles held (linked_parts words size) (Ok i) → KeptIn i
 unfolding linked_parts
-linked_settle held words size parts h = elim (settles_split held (each_at part_at 0 words) _ (Ok parts) h) as (λ _. linked parts size ≡ Ok tt) [
+linked_settle held words size i h = elim (settles_split held (each_at part_at 0 words) _ (Ok i) h) as (λ _. KeptIn i) [
   | inl s ↦ kept s.0 (linked s.0 size) refl s.2
-  | inr s ↦ absurd (no_err parts s.0 s.1)
+  | inr s ↦ absurd (no_err i s.0 s.1)
 ]
   where
-    kept : (ps : List PartSeen) (r : Result (Unit {0}) RuleAt) → linked ps size ≡ r → Settles held (unless refusal.Rule r >>= (λ _. Made ps)) (Ok parts) → linked parts size ≡ Ok tt
-    kept ps (Ok u) e s = subst (λ xs. linked xs size ≡ Ok tt) (same_list parts ps s) e
-    kept ps (Err b) e s = absurd (no_err parts (refusal.Rule b) s)
+    kept : (ps : List PartSeen) (r : Result (Unit {0}) RuleAt) → linked ps size ≡ r → Settles held (unless refusal.Rule r >>= (λ _. Made (image_with size ps))) (Ok i) → KeptIn i
+    kept ps (Ok u) e s = subst KeptIn (same_image i (image_with size ps) s) e
+    kept ps (Err b) e s = absurd (no_err i (refusal.Rule b) s)
+
+image_settle : (held : List ℕ → Option (List ℕ)) (name : List ℕ) (i : ImageSeen) → Settles held (linked_image name) (Ok i) → KeptIn i
+unfolding linked_image
+image_settle held name i (bytes, e, inl u) = kept (loaded bytes) refl u.1
+  where
+    kept : (r : Result ImageSeen ImageFault) → loaded bytes ≡ r → Settles held (unless refusal.Image r) (Ok i) → KeptIn i
+    kept (Ok j) l s = subst KeptIn (same_image i j s) (loaded_read bytes j l).1
+    kept (Err f) l s = absurd (no_err i (refusal.Image f) s)
+image_settle held name i (bytes, e, inr u) = absurd (no_err i (refusal.TooLong 0) u.1)
+
+in_settle : (held : List ℕ → Option (List ℕ)) (l : Linked) (i : ImageSeen) → Settles held (linked_in l) (Ok i) → KeptIn i
+in_settle held (what.Parts words size) i h = linked_settle held words size i h
+in_settle held (what.Image name) i h = image_settle held name i h
 
 -- the parts that are to run keep the rules L
 abbrev Keeps : Task → Type 0
@@ -92,17 +112,21 @@ settles_made held p f task k h = elim (settles_split held p (λ x. Made (f x)) (
   | inr s ↦ absurd (no_err task s.0 s.1)
 ]
 
-runs_settle : (held : List ℕ → Option (List ℕ)) (words : List PartWord) (size steps : ℕ) (task : Task) → Settles held (run_plan words size steps) (Ok task) → Keeps task
+runs_settle : (held : List ℕ → Option (List ℕ)) (l : Linked) (steps : ℕ) (task : Task) → Settles held (run_plan l steps) (Ok task) → Keeps task
 unfolding run_plan
-runs_settle held words size steps task h = settles_made held (linked_parts words size) (λ ps. Run ps size steps) task (linked_settle held words size) h
+runs_settle held l steps task h = settles_made held (linked_in l) (λ i. Run i.parts i.stack steps) task (in_settle held l) h
 
-traces_settle : (held : List ℕ → Option (List ℕ)) (words : List PartWord) (size steps : ℕ) (task : Task) → Settles held (trace_plan words size steps) (Ok task) → Keeps task
+traces_settle : (held : List ℕ → Option (List ℕ)) (l : Linked) (steps : ℕ) (task : Task) → Settles held (trace_plan l steps) (Ok task) → Keeps task
 unfolding trace_plan
-traces_settle held words size steps task h = settles_made held (linked_parts words size) (λ ps. Trace ps size steps) task (linked_settle held words size) h
+traces_settle held l steps task h = settles_made held (linked_in l) (λ i. Trace i.parts i.stack steps) task (in_settle held l) h
+
+links_settle : (held : List ℕ → Option (List ℕ)) (words : List PartWord) (size : ℕ) (out : List ℕ) (task : Task) → Settles held (link_plan words size out) (Ok task) → Keeps task
+unfolding link_plan
+links_settle held words size out task h = settles_made held (linked_parts words size) (λ i. Put out (OfImage i)) task (λ i s. tt) h
 
 assembles_settle : (held : List ℕ → Option (List ℕ)) (word : PartWord) (out : List ℕ) (task : Task) → Settles held (assemble_plan word out) (Ok task) → Keeps task
 unfolding assemble_plan
-assembles_settle held word out task h = settles_made held (component_at 0 word) (Put out) task (λ c s. tt) h
+assembles_settle held word out task h = settles_made held (component_at 0 word) (λ c. Put out (OfComponent c)) task (λ c s. tt) h
 
 shows_settle : (held : List ℕ → Option (List ℕ)) (word : PartWord) (task : Task) → Settles held (disassemble_plan word) (Ok task) → Keeps task
 unfolding disassemble_plan
@@ -113,15 +137,13 @@ unfolding check_plan
 checks_settle held word task h = settles_made held (part_at 0 word) (λ p. Say) task (λ p s. tt) h
 
 built_settles : (held : List ℕ → Option (List ℕ)) (c : Command) (task : Task) → is_built c ≡ true → Settles held (built_plan c) (Ok task) → Keeps task
-built_settles held (command.Run (Parts words size) steps) task e h = runs_settle held words size steps task h
-built_settles held (command.Trace (Parts words size) steps) task e h = traces_settle held words size steps task h
+built_settles held (command.Run l steps) task e h = runs_settle held l steps task h
+built_settles held (command.Trace l steps) task e h = traces_settle held l steps task h
 built_settles held (command.Assemble word out) task e h = assembles_settle held word out task h
 built_settles held (command.Disassemble word) task e h = shows_settle held word task h
 built_settles held (command.Check word) task e h = checks_settle held word task h
-built_settles held (command.Run (Image name) steps) task e h = absurd (cc)
-built_settles held (command.Trace (Image name) steps) task e h = absurd (cc)
 built_settles held (command.Compile word out) task e h = absurd (cc)
-built_settles held (command.Link words size out) task e h = absurd (cc)
+built_settles held (command.Link words size out) task e h = links_settle held words size out task h
 built_settles held (command.Mean words size fuel feed) task e h = absurd (cc)
 built_settles held (command.Generate seed) task e h = absurd (cc)
 

@@ -1,39 +1,30 @@
 -- Why plans end.
-use Rattle.std.proofs.Common.{◌≡◌, ℕ, ◌+◌, ◌⊎◌, List, [], ◌∷◌, refl, sym, subst, ◌∙◌, inl, inr}
+use Rattle.std.proofs.Common.{◌≡◌, ℕ, ◌+◌, List, [], ◌∷◌, refl, sym, subst, ◌∙◌, inl, inr}
 use Rattle.std.specs.Prelude.{Result, Ok, Err, ⊤}
 use Rattle.outside_io.specs.FilesSeen.{FilesSeen}
 use Rattle.outside_io.specs.Whole.{GivesWhole}
 use Rattle.command_words.specs.declared.part.Ending.{Ending}
 use Rattle.command_words.specs.declared.part.Ending.TheVariants.{Source, Assembler, Component}
 use Rattle.command_words.specs.declared.part.PartWord.{PartWord}
+use Rattle.command_words.specs.declared.command.Linked.{Linked}
+use Rattle.command_words.specs.declared.command.Linked.TheVariants as what
 use Rattle.component_file.specs.declared.component.ComponentFields.{ComponentFields}
 use Rattle.component_file.specs.Reading.{decoded}
 use Rattle.assembler.specs.Assembled.{assembled}
 use Rattle.component_linker.specs.declared.fault.RuleAt.{RuleAt}
 use Rattle.component_linker.specs.Parts.{PartSeen}
+use Rattle.image_loader.specs.declared.fault.ImageFault.{ImageFault}
+use Rattle.image_loader.specs.Image.{ImageSeen}
 use Rattle.lcm_cli.specs.declared.TheConstants.{LONGEST_FILE}
 use Rattle.lcm_cli.specs.declared.refusal.Refusal.{Refusal}
 use Rattle.lcm_cli.specs.declared.refusal.Refusal.TheVariants as refusal
 use Rattle.lcm_cli.specs.Plans.{Plan, Reads, Ends, Made, ◌>>=◌, unless, whole, too_long, unread, Comes}
 use Rattle.component_linker.specs.Accepted.{accepted}
-use Rattle.lcm_cli.specs.Parts.{is_trusted, broken_in, linked, form_by, component_at, part_at, each_at}
-use Rattle.lcm_cli.specs.Commands.{Task, Run, Trace, Put, Show, Say, linked_parts, run_plan, trace_plan, assemble_plan, disassemble_plan, check_plan}
-use Rattle.lcm_cli.specs.Causes.{IsTurn, IsUnread, IsLong, IsUndecoded, IsUnassembled, PartBreaks, SomeBreaks, AllBreak}
-
--- what comes of two plans that are joined
-abbrev pub Split : {A B : Type 0} → Plan A → (A → Plan B) → FilesSeen → Result B Refusal → FilesSeen → Type 0
-Split {A} p f old due new = ((x : A) × (mid : FilesSeen) × Comes p old (Ok x) mid × Comes (f x) mid due new) ⊎ ((why : Refusal) × Comes p old (Err why) new × (due ≡ Err why))
-
-pub comes_split : {A B : Type 0} (p : Plan A) (f : A → Plan B) (old new : FilesSeen) (due : Result B Refusal) → Comes (p >>= f) old due new → Split p f old due new
-comes_split (Made x) f old new due h = inl (x, old, (refl, refl), h)
-comes_split (Ends why) f old new due h = inr (why, (refl, h.1), h.0)
-comes_split (Reads name place next) f old new due (whole bytes mid w h) =
-    elim (comes_split (next bytes) f mid new due h) as (λ _. Split (Reads name place next) f old due new) [
-      | inl s ↦ inl (s.0, s.1, whole bytes mid w s.2, s.3)
-      | inr s ↦ inr (s.0, whole bytes mid w s.1, s.2)
-    ]
-comes_split (Reads name place next) f old new due (too_long t e) = inr (refusal.TooLong place, too_long t refl, e)
-comes_split (Reads name place next) f old new due (unread t e) = inr (refusal.ReadFault, unread t refl, e)
+use Rattle.lcm_cli.specs.Parts.{is_trusted, broken_in, linked, loaded, form_by, component_at, part_at, each_at}
+use Rattle.lcm_cli.specs.Commands.{Task, Run, Trace, Put, Show, Say, OfComponent, OfImage, linked_parts, linked_image, linked_in, run_plan, trace_plan, assemble_plan, disassemble_plan, check_plan, link_plan}
+use Rattle.lcm_cli.specs.Causes.{IsTurn, IsUnread, IsLong, IsUndecoded, IsUnassembled, PartBreaks, SomeBreaks, AllBreak, LinkBreaks, LinkedCame}
+use Rattle.lcm_cli.proofs.Ends.{Never, comes_split, same_err, ended_unless, not_made, no_rule}
+use Rattle.lcm_cli.proofs.Linking.{image_with, loaded_read}
 
 -- ---- the turns of files
 
@@ -65,6 +56,7 @@ FileReason plan old (refusal.TooLong place) new = IsLong plan old place new
 FileReason plan old (refusal.Assembly place f) new = IsUnassembled plan old place f new
 FileReason plan old (refusal.File place f) new = IsUndecoded plan old place f new
 FileReason plan old (refusal.Rule r) new = ⊤
+FileReason plan old (refusal.Image f) new = ⊤
 
 reason_first : {A B : Type 0} (p : Plan A) (f : A → Plan B) (old new : FilesSeen) (why : Refusal) → FileReason p old why new → FileReason (p >>= f) old why new
 reason_first p f old new refusal.Usage h = tt
@@ -73,6 +65,7 @@ reason_first p f old new (refusal.TooLong place) h = (h.0, h.1, turn_first p f o
 reason_first p f old new (refusal.Assembly place x) h = (h.0, h.1, turn_first p f old h.1 h.0 place h.2, h.3, h.4, h.5)
 reason_first p f old new (refusal.File place x) h = (h.0, h.1, turn_first p f old h.1 h.0 place h.2, h.3, h.4, h.5)
 reason_first p f old new (refusal.Rule r) h = tt
+reason_first p f old new (refusal.Image x) h = tt
 
 reason_next : {A B : Type 0} (p : Plan A) (f : A → Plan B) (old mid new : FilesSeen) (x : A) (why : Refusal) → Comes p old (Ok x) mid → FileReason (f x) mid why new → FileReason (p >>= f) old why new
 reason_next p f old mid new x refusal.Usage c h = tt
@@ -81,13 +74,11 @@ reason_next p f old mid new x (refusal.TooLong place) c h = (h.0, h.1, turn_next
 reason_next p f old mid new x (refusal.Assembly place y) c h = (h.0, h.1, turn_next p f old mid h.1 x h.0 place c h.2, h.3, h.4, h.5)
 reason_next p f old mid new x (refusal.File place y) c h = (h.0, h.1, turn_next p f old mid h.1 x h.0 place c h.2, h.3, h.4, h.5)
 reason_next p f old mid new x (refusal.Rule r) c h = tt
+reason_next p f old mid new x (refusal.Image y) c h = tt
 
 -- wherever a plan ends the call, it has a reason
 pub record Reasoned {A : Type 0} (plan : Plan A) : Type 0 where
   pub gives : (old new : FilesSeen) (why : Refusal) → Comes plan old (Err why) new → FileReason plan old why new
-
-pub same_err : {A : Type 0} (x y : Refusal) → (let r : Result A Refusal = Err x in r) ≡ Err y → y ≡ x
-same_err x y e = cc
 
 reasoned_bind : {A B : Type 0} (p : Plan A) (f : A → Plan B) → Reasoned p → ((x : A) → Reasoned (f x)) → Reasoned (p >>= f)
 reasoned_bind p f a b = record {
@@ -102,11 +93,6 @@ reasoned_made x = record { gives = λ old new why h. absurd (let e = h.0 in cc) 
 
 reasoned_usage : {A : Type 0} → Reasoned (let p : Plan A = Ends refusal.Usage in p)
 reasoned_usage {A} = record { gives = λ old new why h. (let e = same_err {A = A} refusal.Usage why (sym h.0) in rw e tt) }
-
--- what a layer below gave, where the call ended
-pub ended_unless : {A F : Type 0} (told : F → Refusal) (r : Result A F) (old new : FilesSeen) (why : Refusal) → Comes (unless told r) old (Err why) new → (f : F) × (r ≡ Err f) × (why ≡ told f) × (new ≡ old)
-ended_unless told (Ok x) old new why h = absurd (let e = h.0 in cc)
-ended_unless {A} told (Err f) old new why h = (f, refl, same_err {A = A} (told f) why (sym h.0), h.1)
 
 -- its own rules and those of the link are no reason of a file
 reasoned_rule : {A F : Type 0} (told : F → Refusal) (r : Result A F) → ((f : F) (old new : FilesSeen) → FileReason (unless told r) old (told f) new) → Reasoned (unless told r)
@@ -160,23 +146,38 @@ each_reasoned item h place (w ∷ ws) = reasoned_bind (item place w) _ (h place 
 linked_reasoned : (words : List PartWord) (size : ℕ) → Reasoned (linked_parts words size)
 unfolding linked_parts
 linked_reasoned words size =
-    reasoned_bind (each_at part_at 0 words) _ (each_reasoned part_at part_reasoned 0 words) (λ parts. reasoned_bind (unless refusal.Rule (linked parts size)) _ (reasoned_rule refusal.Rule (linked parts size) (λ f old new. tt)) (λ u. reasoned_made parts))
+    reasoned_bind (each_at part_at 0 words) _ (each_reasoned part_at part_reasoned 0 words) (λ parts. reasoned_bind (unless refusal.Rule (linked parts size)) _ (reasoned_rule refusal.Rule (linked parts size) (λ f old new. tt)) (λ u. reasoned_made (image_with size parts)))
+
+image_by : (name : List ℕ) → ByBytes name 0 (λ bytes. unless refusal.Image (loaded bytes))
+image_by name old mid new bytes why w h = let e = (ended_unless refusal.Image (loaded bytes) mid new why h).2 in rw e tt
+
+image_reasoned : (name : List ℕ) → Reasoned (linked_image name)
+unfolding linked_image
+image_reasoned name = reads_reasoned name 0 (λ bytes. unless refusal.Image (loaded bytes)) (image_by name)
+
+in_reasoned : (l : Linked) → Reasoned (linked_in l)
+in_reasoned (what.Parts words size) = linked_reasoned words size
+in_reasoned (what.Image name) = image_reasoned name
 
 -- a task that is made of what a plan made
 reasoned_of : {A : Type 0} (p : Plan A) (f : A → Task) → Reasoned p → Reasoned (p >>= (λ x. Made (f x)))
 reasoned_of p f k = reasoned_bind p _ k (λ x. reasoned_made (f x))
 
-pub runs_reasoned : (words : List PartWord) (size steps : ℕ) → Reasoned (run_plan words size steps)
+pub runs_reasoned : (l : Linked) (steps : ℕ) → Reasoned (run_plan l steps)
 unfolding run_plan
-runs_reasoned words size steps = reasoned_of (linked_parts words size) (λ parts. Run parts size steps) (linked_reasoned words size)
+runs_reasoned l steps = reasoned_of (linked_in l) (λ i. Run i.parts i.stack steps) (in_reasoned l)
 
-pub traces_reasoned : (words : List PartWord) (size steps : ℕ) → Reasoned (trace_plan words size steps)
+pub traces_reasoned : (l : Linked) (steps : ℕ) → Reasoned (trace_plan l steps)
 unfolding trace_plan
-traces_reasoned words size steps = reasoned_of (linked_parts words size) (λ parts. Trace parts size steps) (linked_reasoned words size)
+traces_reasoned l steps = reasoned_of (linked_in l) (λ i. Trace i.parts i.stack steps) (in_reasoned l)
+
+pub links_reasoned : (words : List PartWord) (size : ℕ) (out : List ℕ) → Reasoned (link_plan words size out)
+unfolding link_plan
+links_reasoned words size out = reasoned_of (linked_parts words size) (λ i. Put out (OfImage i)) (linked_reasoned words size)
 
 pub assembles_reasoned : (word : PartWord) (out : List ℕ) → Reasoned (assemble_plan word out)
 unfolding assemble_plan
-assembles_reasoned word out = reasoned_of (component_at 0 word) (Put out) (component_reasoned 0 word)
+assembles_reasoned word out = reasoned_of (component_at 0 word) (λ c. Put out (OfComponent c)) (component_reasoned 0 word)
 
 pub shows_reasoned : (word : PartWord) → Reasoned (disassemble_plan word)
 unfolding disassemble_plan
@@ -187,28 +188,6 @@ unfolding check_plan
 checks_reasoned word = reasoned_of (part_at 0 word) (λ p. Say) (part_reasoned 0 word)
 
 -- ---- rules
-
--- a plan never ends so
-abbrev pub Never : {A : Type 0} → Plan A → Refusal → Type 0
-Never p why = (old new : FilesSeen) → Comes p old (Err why) new → ⊥
-
-no_rule_form : (ending : Ending) (place : ℕ) (name : List ℕ) (r : RuleAt) → Never (let p : Plan _ = Reads name place (form_by ending place) in p) (refusal.Rule r)
-no_rule_form Source place name r old new (whole bytes mid w h) = let e = same_err {A = ComponentFields} refusal.Usage (refusal.Rule r) (sym h.0) in cc
-no_rule_form Source place name r old new (too_long t e) = cc
-no_rule_form Source place name r old new (unread t e) = cc
-no_rule_form Assembler place name r old new (whole bytes mid w h) = let e = (ended_unless (refusal.Assembly place) (assembled bytes) mid new (refusal.Rule r) h).2 in cc
-no_rule_form Assembler place name r old new (too_long t e) = cc
-no_rule_form Assembler place name r old new (unread t e) = cc
-no_rule_form Component place name r old new (whole bytes mid w h) = let e = (ended_unless (refusal.File place) (decoded bytes) mid new (refusal.Rule r) h).2 in cc
-no_rule_form Component place name r old new (too_long t e) = cc
-no_rule_form Component place name r old new (unread t e) = cc
-
-no_rule : (place : ℕ) (w : PartWord) (r : RuleAt) → Never (component_at place w) (refusal.Rule r)
-unfolding component_at
-no_rule place w r = no_rule_form w.ending place w.name r
-
-not_made : {A : Type 0} (x : A) (why : Refusal) → Never (Made x) why
-not_made x why old new h = absurd (let e = h.0 in cc)
 
 same_rule : (r s : RuleAt) → refusal.Rule r ≡ refusal.Rule s → r ≡ s
 same_rule r s e = cc
@@ -242,20 +221,41 @@ each_breaks place (w ∷ ws) old new r h = elim (comes_split (part_at place w) _
 err_same : {A : Type 0} {x y : RuleAt} → x ≡ y → (let q : Result A RuleAt = Err x in q) ≡ Err y
 err_same e = cc
 
-linked_break : (words : List PartWord) (size : ℕ) (old new : FilesSeen) (r : RuleAt) → Comes (linked_parts words size) old (Err (refusal.Rule r)) new → SomeBreaks old 0 words r new ⊎ AllBreak old words size r new
+linked_break : (words : List PartWord) (size : ℕ) (old new : FilesSeen) (r : RuleAt) → Comes (linked_parts words size) old (Err (refusal.Rule r)) new → LinkBreaks old words size r new
 unfolding linked_parts
-linked_break words size old new r h = elim (comes_split (each_at part_at 0 words) _ old new (Err (refusal.Rule r)) h) as (λ _. SomeBreaks old 0 words r new ⊎ AllBreak old words size r new) [
+linked_break words size old new r h = elim (comes_split (each_at part_at 0 words) _ old new (Err (refusal.Rule r)) h) as (λ _. LinkBreaks old words size r new) [
   | inl s ↦ inr (elim (comes_split (unless refusal.Rule (linked s.0 size)) _ s.1 new (Err (refusal.Rule r)) s.3) as (λ _. AllBreak old words size r new) [
     | inl t ↦ absurd (not_made _ (refusal.Rule r) t.1 new t.3)
     | inr t ↦ (
         let e = ended_unless refusal.Rule (linked s.0 size) s.1 new t.0 t.1 in
         let q = e.3 in
-        let k = same_rule e.0 r (sym e.2 ∙ same_err {A = List PartSeen} (refusal.Rule r) t.0 t.2) in
+        let k = same_rule e.0 r (sym e.2 ∙ same_err {A = ImageSeen} (refusal.Rule r) t.0 t.2) in
         (s.0, rw q s.2, e.1 ∙ err_same k)
         )
   ])
   | inr s ↦ inl (each_breaks 0 words old new r (let e = same_err (refusal.Rule r) s.0 s.2 in rw (← e) s.1))
 ]
+
+-- ---- images
+
+-- the file of an image came whole, and its bytes are not loaded, with this first fault
+abbrev pub ImageFails : FilesSeen → List ℕ → ImageFault → FilesSeen → Type 0
+ImageFails old name f new = (bytes : List ℕ) × GivesWhole old name LONGEST_FILE bytes new × (loaded bytes ≡ Err f)
+
+same_fault : (f g : ImageFault) → refusal.Image f ≡ refusal.Image g → f ≡ g
+same_fault f g e = cc
+
+fault_same : {A : Type 0} {x y : ImageFault} → x ≡ y → (let q : Result A ImageFault = Err x in q) ≡ Err y
+fault_same e = cc
+
+image_fails : (name : List ℕ) (old new : FilesSeen) (f : ImageFault) → Comes (linked_image name) old (Err (refusal.Image f)) new → ImageFails old name f new
+unfolding linked_image
+image_fails name old new f (whole bytes mid w h) =
+    let e = ended_unless refusal.Image (loaded bytes) mid new (refusal.Image f) h in
+    let q = e.3 in
+    (bytes, rw q w, e.1 ∙ fault_same (same_fault e.0 f (sym e.2)))
+image_fails name old new f (too_long t e) = absurd (cc)
+image_fails name old new f (unread t e) = absurd (cc)
 
 -- ---- a task that is made of what a plan made
 
@@ -276,31 +276,44 @@ made_of {A} p f old new task h = elim (comes_split p (λ x. Made (f x)) old new 
   | inr s ↦ absurd (let e = s.2 in cc)
 ]
 
-pub runs_end : (words : List PartWord) (size steps : ℕ) (old new : FilesSeen) (why : Refusal) → Comes (run_plan words size steps) old (Err why) new → Comes (linked_parts words size) old (Err why) new
+runs_end : (l : Linked) (steps : ℕ) (old new : FilesSeen) (why : Refusal) → Comes (run_plan l steps) old (Err why) new → Comes (linked_in l) old (Err why) new
 unfolding run_plan
-runs_end words size steps old new why h = err_of (linked_parts words size) (λ parts. Run parts size steps) old new why h
+runs_end l steps old new why h = err_of (linked_in l) (λ i. Run i.parts i.stack steps) old new why h
 
-pub traces_end : (words : List PartWord) (size steps : ℕ) (old new : FilesSeen) (why : Refusal) → Comes (trace_plan words size steps) old (Err why) new → Comes (linked_parts words size) old (Err why) new
+traces_end : (l : Linked) (steps : ℕ) (old new : FilesSeen) (why : Refusal) → Comes (trace_plan l steps) old (Err why) new → Comes (linked_in l) old (Err why) new
 unfolding trace_plan
-traces_end words size steps old new why h = err_of (linked_parts words size) (λ parts. Trace parts size steps) old new why h
+traces_end l steps old new why h = err_of (linked_in l) (λ i. Trace i.parts i.stack steps) old new why h
 
-pub assembles_end : (word : PartWord) (out : List ℕ) (old new : FilesSeen) (why : Refusal) → Comes (assemble_plan word out) old (Err why) new → Comes (component_at 0 word) old (Err why) new
+links_end : (words : List PartWord) (size : ℕ) (out : List ℕ) (old new : FilesSeen) (why : Refusal) → Comes (link_plan words size out) old (Err why) new → Comes (linked_parts words size) old (Err why) new
+unfolding link_plan
+links_end words size out old new why h = err_of (linked_parts words size) (λ i. Put out (OfImage i)) old new why h
+
+assembles_end : (word : PartWord) (out : List ℕ) (old new : FilesSeen) (why : Refusal) → Comes (assemble_plan word out) old (Err why) new → Comes (component_at 0 word) old (Err why) new
 unfolding assemble_plan
-assembles_end word out old new why h = err_of (component_at 0 word) (Put out) old new why h
+assembles_end word out old new why h = err_of (component_at 0 word) (λ c. Put out (OfComponent c)) old new why h
 
-pub shows_end : (word : PartWord) (old new : FilesSeen) (why : Refusal) → Comes (disassemble_plan word) old (Err why) new → Comes (component_at 0 word) old (Err why) new
+shows_end : (word : PartWord) (old new : FilesSeen) (why : Refusal) → Comes (disassemble_plan word) old (Err why) new → Comes (component_at 0 word) old (Err why) new
 unfolding disassemble_plan
 shows_end word old new why h = err_of (component_at 0 word) Show old new why h
 
-pub checks_end : (word : PartWord) (old new : FilesSeen) (why : Refusal) → Comes (check_plan word) old (Err why) new → Comes (part_at 0 word) old (Err why) new
+checks_end : (word : PartWord) (old new : FilesSeen) (why : Refusal) → Comes (check_plan word) old (Err why) new → Comes (part_at 0 word) old (Err why) new
 unfolding check_plan
 checks_end word old new why h = err_of (part_at 0 word) (λ p. Say) old new why h
 
-pub runs_break : (words : List PartWord) (size steps : ℕ) (old new : FilesSeen) (r : RuleAt) → Comes (run_plan words size steps) old (Err (refusal.Rule r)) new → SomeBreaks old 0 words r new ⊎ AllBreak old words size r new
-runs_break words size steps old new r h = linked_break words size old new r (runs_end words size steps old new (refusal.Rule r) h)
+pub runs_break : (words : List PartWord) (size steps : ℕ) (old new : FilesSeen) (r : RuleAt) → Comes (run_plan (what.Parts words size) steps) old (Err (refusal.Rule r)) new → LinkBreaks old words size r new
+runs_break words size steps old new r h = linked_break words size old new r (runs_end (what.Parts words size) steps old new (refusal.Rule r) h)
 
-pub traces_break : (words : List PartWord) (size steps : ℕ) (old new : FilesSeen) (r : RuleAt) → Comes (trace_plan words size steps) old (Err (refusal.Rule r)) new → SomeBreaks old 0 words r new ⊎ AllBreak old words size r new
-traces_break words size steps old new r h = linked_break words size old new r (traces_end words size steps old new (refusal.Rule r) h)
+pub traces_break : (words : List PartWord) (size steps : ℕ) (old new : FilesSeen) (r : RuleAt) → Comes (trace_plan (what.Parts words size) steps) old (Err (refusal.Rule r)) new → LinkBreaks old words size r new
+traces_break words size steps old new r h = linked_break words size old new r (traces_end (what.Parts words size) steps old new (refusal.Rule r) h)
+
+pub links_break : (words : List PartWord) (size : ℕ) (out : List ℕ) (old new : FilesSeen) (r : RuleAt) → Comes (link_plan words size out) old (Err (refusal.Rule r)) new → LinkBreaks old words size r new
+links_break words size out old new r h = linked_break words size old new r (links_end words size out old new (refusal.Rule r) h)
+
+pub run_fails : (name : List ℕ) (steps : ℕ) (old new : FilesSeen) (f : ImageFault) → Comes (run_plan (what.Image name) steps) old (Err (refusal.Image f)) new → ImageFails old name f new
+run_fails name steps old new f h = image_fails name old new f (runs_end (what.Image name) steps old new (refusal.Image f) h)
+
+pub trace_fails : (name : List ℕ) (steps : ℕ) (old new : FilesSeen) (f : ImageFault) → Comes (trace_plan (what.Image name) steps) old (Err (refusal.Image f)) new → ImageFails old name f new
+trace_fails name steps old new f h = image_fails name old new f (traces_end (what.Image name) steps old new (refusal.Image f) h)
 
 pub checks_break : (word : PartWord) (old new : FilesSeen) (r : RuleAt) → Comes (check_plan word) old (Err (refusal.Rule r)) new → PartBreaks old 0 word r new
 checks_break word old new r h = part_breaks 0 word old new r (checks_end word old new (refusal.Rule r) h)
@@ -313,17 +326,21 @@ shows_no_rule word r old new h = no_rule 0 word r old new (shows_end word old ne
 
 -- ---- tasks
 
-pub runs_made : (words : List PartWord) (size steps : ℕ) (old new : FilesSeen) (task : Task) → Comes (run_plan words size steps) old (Ok task) new → (parts : List PartSeen) × Comes (linked_parts words size) old (Ok parts) new × (task ≡ Run parts size steps)
+pub runs_made : (l : Linked) (steps : ℕ) (old new : FilesSeen) (task : Task) → Comes (run_plan l steps) old (Ok task) new → (i : ImageSeen) × Comes (linked_in l) old (Ok i) new × (task ≡ Run i.parts i.stack steps)
 unfolding run_plan
-runs_made words size steps old new task h = made_of (linked_parts words size) (λ parts. Run parts size steps) old new task h
+runs_made l steps old new task h = made_of (linked_in l) (λ i. Run i.parts i.stack steps) old new task h
 
-pub traces_made : (words : List PartWord) (size steps : ℕ) (old new : FilesSeen) (task : Task) → Comes (trace_plan words size steps) old (Ok task) new → (parts : List PartSeen) × Comes (linked_parts words size) old (Ok parts) new × (task ≡ Trace parts size steps)
+pub traces_made : (l : Linked) (steps : ℕ) (old new : FilesSeen) (task : Task) → Comes (trace_plan l steps) old (Ok task) new → (i : ImageSeen) × Comes (linked_in l) old (Ok i) new × (task ≡ Trace i.parts i.stack steps)
 unfolding trace_plan
-traces_made words size steps old new task h = made_of (linked_parts words size) (λ parts. Trace parts size steps) old new task h
+traces_made l steps old new task h = made_of (linked_in l) (λ i. Trace i.parts i.stack steps) old new task h
 
-pub assembles_made : (word : PartWord) (out : List ℕ) (old new : FilesSeen) (task : Task) → Comes (assemble_plan word out) old (Ok task) new → (c : ComponentFields) × Comes (component_at 0 word) old (Ok c) new × (task ≡ Put out c)
+pub links_made : (words : List PartWord) (size : ℕ) (out : List ℕ) (old new : FilesSeen) (task : Task) → Comes (link_plan words size out) old (Ok task) new → (i : ImageSeen) × Comes (linked_parts words size) old (Ok i) new × (task ≡ Put out (OfImage i))
+unfolding link_plan
+links_made words size out old new task h = made_of (linked_parts words size) (λ i. Put out (OfImage i)) old new task h
+
+pub assembles_made : (word : PartWord) (out : List ℕ) (old new : FilesSeen) (task : Task) → Comes (assemble_plan word out) old (Ok task) new → (c : ComponentFields) × Comes (component_at 0 word) old (Ok c) new × (task ≡ Put out (OfComponent c))
 unfolding assemble_plan
-assembles_made word out old new task h = made_of (component_at 0 word) (Put out) old new task h
+assembles_made word out old new task h = made_of (component_at 0 word) (λ c. Put out (OfComponent c)) old new task h
 
 pub shows_made : (word : PartWord) (old new : FilesSeen) (task : Task) → Comes (disassemble_plan word) old (Ok task) new → (c : ComponentFields) × Comes (component_at 0 word) old (Ok c) new × (task ≡ Show c)
 unfolding disassemble_plan
@@ -333,24 +350,41 @@ pub checks_made : (word : PartWord) (old new : FilesSeen) (task : Task) → Come
 unfolding check_plan
 checks_made word old new task h = (made_of (part_at 0 word) (λ p. Say) old new task h).2
 
-same_list : (x y : List PartSeen) → (let r : Result (List PartSeen) Refusal = Ok x in r) ≡ Ok y → y ≡ x
-same_list x y e = cc
+same_image : (x y : ImageSeen) → (let r : Result ImageSeen Refusal = Ok x in r) ≡ Ok y → y ≡ x
+same_image x y e = cc
 
 -- the parts came and keep the rules L
-pub linked_made : (words : List PartWord) (size : ℕ) (old new : FilesSeen) (parts : List PartSeen) → Comes (linked_parts words size) old (Ok parts) new → Comes (each_at part_at 0 words) old (Ok parts) new × (linked parts size ≡ Ok tt)
+abbrev pub KeptBy : Linked → FilesSeen → ImageSeen → FilesSeen → Type 0
+KeptBy l old i new = LinkedCame l old i.parts i.stack new × (linked i.parts i.stack ≡ Ok tt)
+
+linked_made : (words : List PartWord) (size : ℕ) (old new : FilesSeen) (i : ImageSeen) → Comes (linked_parts words size) old (Ok i) new → KeptBy (what.Parts words size) old i new
 unfolding linked_parts
-linked_made words size old new parts h = elim (comes_split (each_at part_at 0 words) _ old new (Ok parts) h) as (λ _. Goal) [
+linked_made words size old new i h = elim (comes_split (each_at part_at 0 words) _ old new (Ok i) h) as (λ _. KeptBy (what.Parts words size) old i new) [
   | inl s ↦ made s.0 (linked s.0 size) refl s.1 s.2 s.3
   | inr s ↦ absurd (let e = s.2 in cc)
 ]
   where
-    Goal : Type 0
-    Goal = Comes (each_at part_at 0 words) old (Ok parts) new × (linked parts size ≡ Ok tt)
-
-    made : (ps : List PartSeen) (r : Result (Unit {0}) RuleAt) → linked ps size ≡ r → (mid : FilesSeen) → Comes (each_at part_at 0 words) old (Ok ps) mid → Comes (unless refusal.Rule r >>= (λ _. Made ps)) mid (Ok parts) new
-        → Comes (each_at part_at 0 words) old (Ok parts) new × (linked parts size ≡ Ok tt)
+    made : (ps : List PartSeen) (r : Result (Unit {0}) RuleAt) → linked ps size ≡ r → (mid : FilesSeen) → Comes (each_at part_at 0 words) old (Ok ps) mid → Comes (unless refusal.Rule r >>= (λ _. Made (image_with size ps))) mid (Ok i) new
+        → KeptBy (what.Parts words size) old i new
     made ps (Ok u) e mid c h =
         let q = h.1 in
-        let same : ps ≡ parts = same_list parts ps h.0 in
-        subst (λ xs. Comes (each_at part_at 0 words) old (Ok xs) new × (linked xs size ≡ Ok tt)) same (rw q c, e)
+        let same : image_with size ps ≡ i = same_image i (image_with size ps) h.0 in
+        subst (λ (j : ImageSeen). KeptBy (what.Parts words size) old j new) same ((rw q c, refl), e)
     made ps (Err b) e mid c h = absurd (let q = h.0 in cc)
+
+image_made : (name : List ℕ) (old new : FilesSeen) (i : ImageSeen) → Comes (linked_image name) old (Ok i) new → KeptBy (what.Image name) old i new
+unfolding linked_image
+image_made name old new i (whole bytes mid w h) = made (loaded bytes) refl h
+  where
+    made : (r : Result ImageSeen ImageFault) → loaded bytes ≡ r → Comes (unless refusal.Image r) mid (Ok i) new → KeptBy (what.Image name) old i new
+    made (Ok j) e h =
+        let q = h.1 in
+        let same : j ≡ i = same_image i j h.0 in
+        subst (λ (k : ImageSeen). KeptBy (what.Image name) old k new) same (let l = loaded_read bytes j e in ((bytes, rw q w, l.0), l.1))
+    made (Err f) e h = absurd (let q = h.0 in cc)
+image_made name old new i (too_long t e) = absurd (cc)
+image_made name old new i (unread t e) = absurd (cc)
+
+pub in_made : (l : Linked) (old new : FilesSeen) (i : ImageSeen) → Comes (linked_in l) old (Ok i) new → KeptBy l old i new
+in_made (what.Parts words size) old new i h = linked_made words size old new i h
+in_made (what.Image name) old new i h = image_made name old new i h

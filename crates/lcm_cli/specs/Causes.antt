@@ -5,7 +5,8 @@ use Rattle.outside_io.specs.FilesSeen.{FilesSeen, Puts, KeepsOthers}
 use Rattle.outside_io.specs.SinkSeen.{Adds}
 use Rattle.outside_io.specs.Whole.{GivesWhole as ComesWhole, IsTooLong, Faults, OnlyGave}
 use Rattle.command_words.specs.declared.part.PartWord.{PartWord}
-use Rattle.command_words.specs.declared.command.Linked.TheVariants.{Parts}
+use Rattle.command_words.specs.declared.command.Linked.{Linked}
+use Rattle.command_words.specs.declared.command.Linked.TheVariants as what
 use Rattle.command_words.specs.declared.command.Command.{Command}
 use Rattle.command_words.specs.declared.command.Command.TheVariants as command
 use Rattle.asm_fields.specs.declared.fault.AsmFault.{AsmFault}
@@ -13,10 +14,12 @@ use Rattle.assembler.specs.Assembled.{assembled}
 use Rattle.component_file.specs.declared.fault.FileFault.{FileFault}
 use Rattle.component_file.specs.declared.component.ComponentFields.{ComponentFields}
 use Rattle.component_file.specs.Reading.{decoded}
-use Rattle.component_file.specs.Spelling.{spelling}
 use Rattle.component_check.specs.declared.rule.Broken.{Broken}
 use Rattle.component_linker.specs.declared.fault.RuleAt.{RuleAt}
 use Rattle.component_linker.specs.Parts.{PartSeen}
+use Rattle.image_loader.specs.declared.fault.ImageFault.{ImageFault}
+use Rattle.image_loader.specs.declared.fault.ImageFault.TheVariants as image
+use Rattle.image_loader.specs.Reading.{image_of}
 use Rattle.overlay_machine.specs.Starting.{IsLinkedStart}
 use Rattle.component_linker.specs.Started.{StartSeen}
 use Rattle.overlay_machine.specs.Seen.{OverlaySeen, IsOverlayOf}
@@ -37,11 +40,11 @@ use Rattle.lcm_cli.specs.declared.status.Status.{Status}
 use Rattle.lcm_cli.specs.declared.status.Status.TheVariants.{Done, MachineFailed, StepsUsed, Usage, ReadFault}
 use Rattle.lcm_cli.specs.declared.status.Status.TheVariants.{WriteFault, NoMemory, TooLong, AsmRefused}
 use Rattle.lcm_cli.specs.declared.status.Status.TheVariants.{SourceRefused, FileRefused, RuleBroken}
-use Rattle.lcm_cli.specs.Refusals.{refusal_text}
+use Rattle.lcm_cli.specs.Refusals.{refusal_text, image_status}
 use Rattle.lcm_cli.specs.Plans.{Plan, Reads, Ends, Made, Comes}
 use Rattle.component_linker.specs.Accepted.{accepted}
-use Rattle.lcm_cli.specs.Parts.{is_trusted, linked, component_at, part_at, each_at}
-use Rattle.lcm_cli.specs.Commands.{Run, Trace, Put, Show, Say, is_command, plan_in}
+use Rattle.lcm_cli.specs.Parts.{is_trusted, linked, loaded, component_at, part_at, each_at}
+use Rattle.lcm_cli.specs.Commands.{Content, spelling_of, Run, Trace, Put, Show, Say, is_command, plan_in}
 use Rattle.lcm_cli.specs.Answers.{Outside, Answers, IsComplete, end_status}
 
 -- ---- files
@@ -81,6 +84,18 @@ IsUndecoded plan old place f new = Holds plan old place new (λ bytes. decoded b
 abbrev pub IsUnassembled : {A : Type 0} → Plan A → FilesSeen → ℕ → AsmFault → FilesSeen → Type 0
 IsUnassembled plan old place f new = Holds plan old place new (λ text. assembled text ≡ Err f)
 
+-- the name of an image word
+abbrev pub image_in : Option Command → Option (List ℕ)
+image_in (Some (command.Run (what.Image name) steps)) = Some name
+image_in (Some (command.Trace (what.Image name) steps)) = Some name
+image_in _ = None
+
+-- the file of the image word came whole, and its bytes are no image whose parts link, with this first fault
+abbrev pub IsUnloaded : Option Command → FilesSeen → ImageFault → FilesSeen → Type 0
+IsUnloaded asked old f new =
+    (name : List ℕ) × (image_in asked ≡ Some name) × (bytes : List ℕ)
+    × ComesWhole old name LONGEST_FILE bytes new × (loaded bytes ≡ Err f)
+
 -- ---- rules
 
 -- the word's part breaks a rule by itself
@@ -103,25 +118,28 @@ abbrev pub AllBreak : FilesSeen → List PartWord → ℕ → RuleAt → FilesSe
 AllBreak old words size r new =
     (parts : List PartSeen) × Comes (each_at part_at 0 words) old (Ok parts) new × (linked parts size ≡ Err r)
 
--- a rule that the command asks for is broken
+-- a part breaks a rule by itself, or all of them together do
+abbrev pub LinkBreaks : FilesSeen → List PartWord → ℕ → RuleAt → FilesSeen → Type 0
+LinkBreaks old words size r new = SomeBreaks old 0 words r new ⊎ AllBreak old words size r new
+
+-- a rule that the command asks for is broken by the parts of its words
 abbrev pub Breaks : Option Command → FilesSeen → RuleAt → FilesSeen → Type 0
-Breaks (Some (command.Run (Parts words size) steps)) old r new =
-    SomeBreaks old 0 words r new ⊎ AllBreak old words size r new
-Breaks (Some (command.Trace (Parts words size) steps)) old r new =
-    SomeBreaks old 0 words r new ⊎ AllBreak old words size r new
+Breaks (Some (command.Run (what.Parts words size) steps)) old r new = LinkBreaks old words size r new
+Breaks (Some (command.Trace (what.Parts words size) steps)) old r new = LinkBreaks old words size r new
 Breaks (Some (command.Check word)) old r new = PartBreaks old 0 word r new
+Breaks (Some (command.Link words size out)) old r new = LinkBreaks old words size r new
 Breaks _ old r new = ⊥
 
 -- ---- runs
 
--- the parts of the words came, and the plain run of their start came to this
+-- the parts that are linked came, and the plain run of their start came to this
 abbrev pub Runs : Option Command → FilesSeen → FilesSeen → (Step → Type 0) → Type 0
 Runs asked old new P =
     (parts : List PartSeen) × (size : ℕ) × (steps : ℕ)
     × Comes (plan_in asked) old (Ok (Run parts size steps)) new
     × (start : StartSeen) × IsLinkedStart parts size start × P (last_step (plain steps start.state))
 
--- the parts of the words came, and the run of their start's overlay came to this
+-- the parts that are linked came, and the run of their start's overlay came to this
 abbrev pub Traces : Option Command → FilesSeen → FilesSeen → RunEnd → Type 0
 Traces asked old new end =
     (parts : List PartSeen) × (size : ℕ) × (steps : ℕ)
@@ -133,13 +151,13 @@ Traces asked old new end =
 abbrev pub Says : Option Command → FilesSeen → FilesSeen → Type 0
 Says asked old new = Comes (plan_in asked) old (Ok Say) new
 
--- ---- components
+-- ---- files that are put, and components that are shown
 
--- the word's component came, and its file was put under the name of `--out`
-abbrev pub Assembles : Option Command → FilesSeen → FilesSeen → Type 0
-Assembles asked old new =
-    (name : List ℕ) × (c : ComponentFields) × (seen : FilesSeen)
-    × Comes (plan_in asked) old (Ok (Put name c)) seen × Puts seen new name (spelling c)
+-- the component or the image that the words ask for came, and its file was put under the name of `--out`
+abbrev pub PutsFile : Option Command → FilesSeen → FilesSeen → Type 0
+PutsFile asked old new =
+    (name : List ℕ) × (content : Content) × (seen : FilesSeen)
+    × Comes (plan_in asked) old (Ok (Put name content)) seen × Puts seen new name (spelling_of content)
 
 -- the word's component came, and its text was to be written
 abbrev pub Shows : Option Command → FilesSeen → FilesSeen → Type 0
@@ -148,6 +166,7 @@ Shows asked old new = (c : ComponentFields) × Comes (plan_in asked) old (Ok (Sh
 -- the name of `--out`
 abbrev pub out_of : Option Command → Option (List ℕ)
 out_of (Some (command.Assemble word out)) = Some out
+out_of (Some (command.Link words size out)) = Some out
 out_of _ = None
 
 -- the refusal's line was written
@@ -157,9 +176,9 @@ Wrote why old new = Adds old.sink (refusal_text why) new.sink
 -- ---- the causes, a law for each status
 
 pub record Causes (asked : Option Command) (old : Outside) (status : Status) (new : Outside) : Type 0 where
-  -- the run halted, the component's file was put, its text or `ok` was to be written
+  -- the run halted, the file was put, the component's text or `ok` was to be written
   pub done : status ≡ Done → Runs asked old.files new.files (λ step. step ≡ Halted)
-      ⊎ (Traces asked old.files new.files run_end.Halted ⊎ (Assembles asked old.files new.files
+      ⊎ (Traces asked old.files new.files run_end.Halted ⊎ (PutsFile asked old.files new.files
       ⊎ (Shows asked old.files new.files ⊎ Says asked old.files new.files)))
   pub machine_failed : status ≡ MachineFailed → Runs asked old.files new.files
       (λ step. (cause : FailCause) × (at : ℤ) × (step ≡ Failed cause at))
@@ -178,10 +197,14 @@ pub record Causes (asked : Option Command) (old : Outside) (status : Status) (ne
       × IsLong (plan_in asked) old.files place new.files
   pub asm_refused : status ≡ AsmRefused → (place : ℕ) × (f : AsmFault)
       × Wrote (refusal.Assembly place f) old new × IsUnassembled (plan_in asked) old.files place f new.files
-  pub file_refused : status ≡ FileRefused → (place : ℕ) × (f : FileFault)
-      × Wrote (refusal.File place f) old new × IsUndecoded (plan_in asked) old.files place f new.files
+  -- the bytes of a part's file are no component, or those of an image's file no image
+  pub file_refused : status ≡ FileRefused → ((place : ℕ) × (f : FileFault)
+      × Wrote (refusal.File place f) old new × IsUndecoded (plan_in asked) old.files place f new.files)
+      ⊎ ((f : ImageFault) × (image_status f ≡ FileRefused) × Wrote (refusal.Image f) old new
+      × IsUnloaded asked old.files f new.files)
+  -- parts of words break a rule, or those of an image do
   pub rule_broken : status ≡ RuleBroken → (r : RuleAt) × Wrote (refusal.Rule r) old new
-      × Breaks asked old.files r new.files
+      × (Breaks asked old.files r new.files ⊎ IsUnloaded asked old.files (image.Rule r) new.files)
   -- no command that is built has a source
   pub no_source : status ≡ SourceRefused → ⊥
 
@@ -200,10 +223,10 @@ StayAt asked old Done new = OthersStay asked old new
 StayAt asked old WriteFault new = OthersStay asked old new
 StayAt asked old status new = Stay old new
 
--- where no put failed, all files stay, or that of `--out` has the bytes of the component
+-- where no put failed, all files stay, or that of `--out` has the bytes of the component or the image
 abbrev pub PutsWhole : Option Command → FilesSeen → FilesSeen → Type 0
 PutsWhole asked old new =
-    ¬ (Rose old.failed_puts new.failed_puts) → Stay old new ⊎ Assembles asked old new
+    ¬ (Rose old.failed_puts new.failed_puts) → Stay old new ⊎ PutsFile asked old new
 
 -- ---- what is promised
 
@@ -214,13 +237,23 @@ IsRunStatus MachineFailed = Unit {0}
 IsRunStatus StepsUsed = Unit {0}
 IsRunStatus _ = ⊥
 
--- the words made parts that keep the rules, and the plain run of the start that they link to gave the status,
--- the text, which is its lines and its end line, and the machine. That start has the headline: the plain run
--- agrees with the run of the start's overlay, its calls and returns are bracketed, and its frames are private.
-pub record RunGiven (words : List PartWord) (size steps : ℕ) (old : Outside) (status : Status) (new : Outside)
-    : Type 0 where
+-- the parts came that are linked, with the size of their stack: those of the words, or those that are read of
+-- the image's bytes
+abbrev pub LinkedCame : Linked → FilesSeen → List PartSeen → ℕ → FilesSeen → Type 0
+LinkedCame (what.Parts words stack) old parts size new =
+    Comes (each_at part_at 0 words) old (Ok parts) new × (size ≡ stack)
+LinkedCame (what.Image name) old parts size new =
+    (bytes : List ℕ) × ComesWhole old name LONGEST_FILE bytes new
+    × (image_of bytes ≡ Ok (record { stack = size; parts = parts }))
+
+-- the words or the image made parts that keep the rules, and the plain run of the start that they link to gave
+-- the status, the text, which is its lines and its end line, and the machine. That start has the headline: the
+-- plain run agrees with the run of the start's overlay, its calls and returns are bracketed, and its frames are
+-- private.
+pub record RunGiven (l : Linked) (steps : ℕ) (old : Outside) (status : Status) (new : Outside) : Type 0 where
   pub parts : List PartSeen
-  pub came : Comes (each_at part_at 0 words) old.files (Ok parts) new.files
+  pub size : ℕ
+  pub came : LinkedCame l old.files parts size new.files
   pub keep : linked parts size ≡ Ok tt
   pub start : StartSeen
   pub linked_start : IsLinkedStart parts size start
@@ -231,10 +264,10 @@ pub record RunGiven (words : List PartWord) (size steps : ℕ) (old : Outside) (
 
 -- the same of the run of that start's overlay, which hands no machine over. Its lines are those that a plain run
 -- of as many instructions writes.
-pub record TraceGiven (words : List PartWord) (size steps : ℕ) (old : Outside) (status : Status) (new : Outside)
-    : Type 0 where
+pub record TraceGiven (l : Linked) (steps : ℕ) (old : Outside) (status : Status) (new : Outside) : Type 0 where
   pub parts : List PartSeen
-  pub came : Comes (each_at part_at 0 words) old.files (Ok parts) new.files
+  pub size : ℕ
+  pub came : LinkedCame l old.files parts size new.files
   pub keep : linked parts size ≡ Ok tt
   pub start : StartSeen
   pub linked_start : IsLinkedStart parts size start

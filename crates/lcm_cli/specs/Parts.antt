@@ -1,6 +1,6 @@
 -- The parts of part words: read, length, form, rules C, and K where it is trusted; and then the rules L of all of
--- them.
-use Rattle.std.specs.Prelude.{ℕ, ◌+◌, Bool, true, false, List, [], ◌∷◌, map, Result}
+-- them. And those of an image.
+use Rattle.std.specs.Prelude.{ℕ, ◌+◌, Bool, true, false, List, [], ◌∷◌, map, Result, Ok, Err}
 use Rattle.assembler.specs.Assembled.{assembled}
 use Rattle.command_words.specs.declared.part.Mark.{Mark}
 use Rattle.command_words.specs.declared.part.Mark.TheVariants.{Trusted, Untrusted}
@@ -16,6 +16,10 @@ use Rattle.component_linker.specs.Pairs.{by_part}
 use Rattle.component_linker.specs.Links.{rules_l, rule_at}
 use Rattle.component_linker.specs.Accepted.{accepted}
 use Rattle.component_linker.specs.Parts.{PartSeen}
+use Rattle.image_loader.specs.declared.fault.ImageFault.{ImageFault}
+use Rattle.image_loader.specs.declared.fault.ImageFault.TheVariants as image
+use Rattle.image_loader.specs.Image.{ImageSeen}
+use Rattle.image_loader.specs.Reading.{image_of}
 use Rattle.lcm_cli.specs.declared.refusal.Refusal.{Refusal}
 use Rattle.lcm_cli.specs.declared.refusal.Refusal.TheVariants as refusal
 use Rattle.lcm_cli.specs.Plans.{Plan, Ends, Made, ◌>>=◌, file, unless}
@@ -29,6 +33,22 @@ broken_in place b = refusal.Rule (record { rule = b.rule; part = place; place = 
 -- the first of the rules L that parts break together, where they break one
 unfoldable pub linked : List PartSeen → ℕ → Result (Unit {0}) RuleAt
 linked parts size = check_from rule_at 1 (map by_part (rules_l parts size))
+
+-- ---- images
+
+-- an image, by what the rules L say of its parts
+abbrev pub linked_as : ImageSeen → Result (Unit {0}) RuleAt → Result ImageSeen ImageFault
+linked_as i (Ok u) = Ok i
+linked_as i (Err broken) = Err (image.Rule broken)
+
+-- what was read, where its parts keep the rules L
+abbrev pub loaded_by : Result ImageSeen ImageFault → Result ImageSeen ImageFault
+loaded_by (Err f) = Err f
+loaded_by (Ok i) = linked_as i (linked i.parts i.stack)
+
+-- the image that bytes spell, whose parts keep the rules C, K and then L; or the first fault
+unfoldable pub loaded : List ℕ → Result ImageSeen ImageFault
+loaded bytes = loaded_by (image_of bytes)
 
 -- ---- parts
 

@@ -8,6 +8,9 @@ use Rattle.component_file.specs.declared.fault.FileFault.{FileFault}
 use Rattle.component_file.specs.Fault.{fault_number, fault_place}
 use Rattle.component_linker.specs.declared.fault.RuleAt.{RuleAt}
 use Rattle.component_linker.specs.FaultText.{rule_at_text}
+use Rattle.image_loader.specs.declared.fault.ImageFault.{ImageFault}
+use Rattle.image_loader.specs.declared.fault.ImageFault.TheVariants as image
+use Rattle.image_loader.specs.Fault.{fault_number as image_number, fault_place as image_place}
 use Rattle.lcm_cli.specs.declared.refusal.Refusal.{Refusal}
 use Rattle.lcm_cli.specs.declared.refusal.Refusal.TheVariants as refusal
 use Rattle.lcm_cli.specs.declared.status.Status.{Status}
@@ -33,6 +36,20 @@ assembly_text part f =
 abbrev pub rule_line : RuleAt → List ℕ
 rule_line broken = codes "rule " ++ rule_at_text broken ++ codes "\n"
 
+-- the fault's number and its place in the image
+abbrev pub form_text : ImageFault → List ℕ
+form_text f = codes "image " ++ decimal (image_number f) ++ codes " " ++ decimal (image_place f) ++ codes "\n"
+
+-- of an image, what its part's file or the rule tells, and else its own form
+abbrev pub image_text : ImageFault → List ℕ
+image_text (image.File part f) = file_text part f
+image_text (image.Rule broken) = rule_line broken
+image_text f = form_text f
+
+abbrev pub image_status : ImageFault → Status
+image_status (image.Rule broken) = status.RuleBroken
+image_status f = status.FileRefused
+
 abbrev pub refusal_text : Refusal → List ℕ
 refusal_text refusal.Usage = codes "usage\n"
 refusal_text refusal.ReadFault = codes "read fault\n"
@@ -40,6 +57,7 @@ refusal_text (refusal.TooLong place) = codes "too long " ++ decimal place ++ cod
 refusal_text (refusal.Assembly part f) = assembly_text part f
 refusal_text (refusal.File part f) = file_text part f
 refusal_text (refusal.Rule broken) = rule_line broken
+refusal_text (refusal.Image f) = image_text f
 
 abbrev pub refusal_status : Refusal → Status
 refusal_status refusal.Usage = status.Usage
@@ -48,3 +66,4 @@ refusal_status (refusal.TooLong place) = status.TooLong
 refusal_status (refusal.Assembly part f) = status.AsmRefused
 refusal_status (refusal.File part f) = status.FileRefused
 refusal_status (refusal.Rule broken) = status.RuleBroken
+refusal_status (refusal.Image f) = image_status f

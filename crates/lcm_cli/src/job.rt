@@ -1,26 +1,27 @@
 //! What is left to do once the files of a command came.
-ghost use Rattle.std.specs.Prelude.{◌≡◌, ◌<◌, ◌≤◌, ◌^◌, IsTrue, IfOk, length};
+ghost use Rattle.std.specs.Prelude.{◌≡◌, ◌≤◌, IfOk, length};
 ghost use Rattle.std.specs.List.{list_all};
 ghost use Rattle.component_file.specs.Spelling.{spelling};
 ghost use Rattle.disassembler.specs.Disassembled.{disassembled};
+ghost use Rattle.image_loader.specs.Image.{image_bytes};
 ghost use Rattle.command_words.specs.declared.TheConstants.{MOST_PARTS};
-ghost use Rattle.command_words.specs.declared.command.Command.TheVariants as command;
-ghost use Rattle.overlay_machine.specs.Starting.{IsLinkedStart};
 ghost use Rattle.lcm_cli.specs.declared.refusal.Refusal.TheVariants.{Rule};
 ghost use Rattle.lcm_cli.specs.Plans.{Meets, unless};
 ghost use Rattle.lcm_cli.specs.Parts.{linked};
-ghost use Rattle.lcm_cli.specs.Commands.{is_built_form, is_built_linked, is_built, linked_parts};
+ghost use Rattle.lcm_cli.specs.Commands.{is_built_form, is_built_linked, is_built};
 ghost use Rattle.lcm_cli.specs.Commands.{run_plan, trace_plan, assemble_plan, disassemble_plan, check_plan};
-ghost use Rattle.lcm_cli.specs.Commands.{built_plan, plan_of};
-ghost use Rattle.lcm_cli.specs.Jobs.{without, FollowsStart, FollowsTask};
+ghost use Rattle.lcm_cli.specs.Commands.{link_plan, built_plan, plan_of};
+ghost use Rattle.lcm_cli.specs.Jobs.{without, FollowsTask};
 
 use crate::part::{component, part, parts};
 use crate::refusal::{Refusal, Stop};
+use crate::start::{start, started};
 use cap_words::Items;
 use command_words::{Command, Ending, FileName, Linked, PartWord, Steps};
 use component_file::encode_component;
-use component_linker::{LinkFault, Part, Start, link};
+use component_linker::{Part, Start};
 use disassembler::disassemble;
+use image_loader::write_image;
 use outside_io::Files;
 use overlay_machine::Overlay;
 use std::alloc::Global;
@@ -40,65 +41,64 @@ pub(crate) enum Job<'a> {
     Say,
 }
 
-// The start of parts that keep the rules of linking.
-fn started(alloc: Global, parts: &Items<Part>, size: u32) -> Result<Start, Stop>
-    requires { length parts.now < 2 ^ 32 }
-    ensures rules { Meets (unless Rule (linked parts.now size)) (without result) }
-    ensures linked { IfOk result (IsLinkedStart parts.now size) }
-{
-    match link(alloc, parts.as_slice(), size) {
-        Ok(start) => Ok(start),
-        Err(LinkFault::Rule(broken)) => Err(Stop::Refused(Refusal::Rule(broken))),
-        Err(LinkFault::NoMemory) => Err(Stop::NoMemory),
-    }
-}
-
-// Reads the parts that are to run, and links them.
-#[tactic(auto, using(crate::proofs::Follow::follows_end), unfolding(crate::specs::Commands::linked_parts))]
-fn start<F: Files>(
-    alloc: Global,
-    files: &mut F,
-    words: &[PartWord<'_>],
-    size: u32,
-) -> Result<Start, Stop>
-    requires few { length words.now ≤ MOST_PARTS }
-    ensures { FollowsStart (linked_parts words.now size) size (F.seen files.old) result (F.seen files.new) }
-{
-    let parts = parts(alloc, files, words)?;
-    started(alloc, &parts, size)
-}
-
-// Makes the start of the parts that are to run.
+// Makes the start of what is to run.
 #[tactic(auto, using(crate::proofs::Follow::follows_end), unfolding(crate::specs::Commands::run_plan))]
 fn run<'a, F: Files>(
     alloc: Global,
     files: &mut F,
-    words: &[PartWord<'a>],
-    size: u32,
+    what: &Linked<'_>,
     steps: Steps,
 ) -> Result<Job<'a>, Stop>
-    requires few { length words.now ≤ MOST_PARTS }
-    ensures { FollowsTask (run_plan words.now size steps) (F.seen files.old) result (F.seen files.new) }
+    ensures { FollowsTask (run_plan what.now steps) (F.seen files.old) result (F.seen files.new) }
 {
-    let start = start(alloc, files, words, size)?;
+    let start = start(alloc, files, what)?;
     Ok(Job::Run(start, steps))
 }
 
-// Makes the start of the parts whose overlay is to run, and the overlay.
+// Makes the start whose overlay is to run, and the overlay.
 #[tactic(auto, using(crate::proofs::Follow::follows_end), unfolding(crate::specs::Commands::trace_plan))]
 fn trace<'a, F: Files>(
     alloc: Global,
     files: &mut F,
-    words: &[PartWord<'a>],
-    size: u32,
+    what: &Linked<'_>,
     steps: Steps,
 ) -> Result<Job<'a>, Stop>
-    requires few { length words.now ≤ MOST_PARTS }
-    ensures { FollowsTask (trace_plan words.now size steps) (F.seen files.old) result (F.seen files.new) }
+    ensures { FollowsTask (trace_plan what.now steps) (F.seen files.old) result (F.seen files.new) }
 {
-    let start = start(alloc, files, words, size)?;
+    let start = start(alloc, files, what)?;
     let overlay = Overlay::of_start(alloc, &start)?;
     Ok(Job::Trace(start, overlay, steps))
+}
+
+// The bytes of the image of parts that keep the rules of linking. Their start is made and let go.
+fn linked_bytes(alloc: Global, parts: &Items<Part>, size: u32) -> Result<Items<u8>, Stop>
+    requires some { 1 ≤ length parts.now }
+    requires few { length parts.now ≤ MOST_PARTS }
+    ensures rules { Meets (unless Rule (linked parts.now size)) (without result) }
+    ensures bytes { IfOk result (λ bytes. bytes ≡ image_bytes (record { stack = size; parts = parts.now })) }
+{
+    started(alloc, parts, size)?;
+    let bytes = write_image(alloc, parts.as_slice(), size)?;
+    Ok(Items::of(bytes))
+}
+
+// Reads the parts whose image is to be put.
+#[tactic(auto, using(crate::proofs::Follow::follows_end), unfolding(crate::specs::Commands::link_plan))]
+fn link<'a, F: Files>(
+    alloc: Global,
+    files: &mut F,
+    words: &[PartWord<'_>],
+    size: u32,
+    out: FileName<'a>,
+) -> Result<Job<'a>, Stop>
+    requires some { 1 ≤ length words.now }
+    requires few { length words.now ≤ MOST_PARTS }
+    ensures { FollowsTask (link_plan words.now size out.entry) (F.seen files.old) result
+        (F.seen files.new) }
+{
+    let parts = parts(alloc, files, words)?;
+    let bytes = linked_bytes(alloc, &parts, size)?;
+    Ok(Job::Put(out, bytes))
 }
 
 // Reads the part whose component's file is to be put.
@@ -152,7 +152,7 @@ fn is_built_linked(what: &Linked<'_>) -> bool
 {
     match what {
         Linked::Parts(words, _) => are_built_forms(words.as_slice()),
-        Linked::Image(_) => false,
+        Linked::Image(_) => true,
     }
 }
 
@@ -166,39 +166,8 @@ fn is_built(command: &Command<'_>) -> bool
         Command::Assemble(word, _) => is_built_form(word),
         Command::Disassemble(word) => is_built_form(word),
         Command::Check(word) => is_built_form(word),
+        Command::Link(words, _, _) => are_built_forms(words.as_slice()),
         _ => false,
-    }
-}
-
-// Reads what is to be linked and run.
-fn run_linked<'a, F: Files>(
-    alloc: Global,
-    files: &mut F,
-    what: Linked<'a>,
-    steps: Steps,
-) -> Result<Job<'a>, Stop>
-    ensures { FollowsTask (built_plan (command.Run what.entry steps)) (F.seen files.old) result
-        (F.seen files.new) }
-{
-    match what {
-        Linked::Parts(words, size) => run(alloc, files, words.as_slice(), size, steps),
-        Linked::Image(_) => Err(Stop::Refused(Refusal::Usage)),
-    }
-}
-
-// Reads what is to be linked, and whose overlay is to run.
-fn trace_linked<'a, F: Files>(
-    alloc: Global,
-    files: &mut F,
-    what: Linked<'a>,
-    steps: Steps,
-) -> Result<Job<'a>, Stop>
-    ensures { FollowsTask (built_plan (command.Trace what.entry steps)) (F.seen files.old) result
-        (F.seen files.new) }
-{
-    match what {
-        Linked::Parts(words, size) => trace(alloc, files, words.as_slice(), size, steps),
-        Linked::Image(_) => Err(Stop::Refused(Refusal::Usage)),
     }
 }
 
@@ -211,11 +180,12 @@ fn built_job<'a, F: Files>(
     ensures { FollowsTask (built_plan command.entry) (F.seen files.old) result (F.seen files.new) }
 {
     match command {
-        Command::Run(what, steps) => run_linked(alloc, files, what, steps),
-        Command::Trace(what, steps) => trace_linked(alloc, files, what, steps),
+        Command::Run(what, steps) => run(alloc, files, &what, steps),
+        Command::Trace(what, steps) => trace(alloc, files, &what, steps),
         Command::Assemble(word, out) => assemble(alloc, files, &word, out),
         Command::Disassemble(word) => show(alloc, files, &word),
         Command::Check(word) => check(alloc, files, &word),
+        Command::Link(words, size, out) => link(alloc, files, words.as_slice(), size, out),
         _ => Err(Stop::Refused(Refusal::Usage)),
     }
 }

@@ -1,10 +1,11 @@
 //! What holds of the answers of the top call. These functions do nothing; their contracts are the laws.
-ghost use Rattle.std.specs.Prelude.{◌≡◌, ℕ, List, Option};
+ghost use Rattle.std.specs.Prelude.{◌≡◌, ℕ, List, Option, Ok};
 ghost use Rattle.command_words.specs.declared.command.Command.{Command};
 ghost use Rattle.component_linker.specs.Parts.{PartSeen};
 ghost use Rattle.component_linker.specs.Pairs.{IsFirstBrokenIn};
 ghost use Rattle.component_linker.specs.Links.{rules_l, rule_at};
-ghost use Rattle.lcm_cli.specs.Parts.{linked};
+ghost use Rattle.image_loader.specs.Image.{ImageSeen, IsImage, image_bytes};
+ghost use Rattle.lcm_cli.specs.Parts.{linked, loaded};
 ghost use Rattle.lcm_cli.specs.Commands.{plan_in};
 ghost use Rattle.lcm_cli.specs.Answers.{Answer, IsWritten};
 
@@ -13,6 +14,12 @@ ghost use Rattle.lcm_cli.specs.Answers.{Answer, IsWritten};
 pub fn first_rule_is_told()
     ensures { (parts : List PartSeen) (size : ℕ)
         → IsFirstBrokenIn rule_at (rules_l parts size) (linked parts size) }
+{}
+
+/// The bytes of an image whose parts keep the rules of linking, as those that `link` puts, are loaded as
+/// just this image.
+pub fn what_is_put_is_loaded()
+    ensures { (i : ImageSeen) → IsImage i → linked i.parts i.stack ≡ Ok tt → loaded (image_bytes i) ≡ Ok i }
 {}
 
 /// The words and the bytes of the files determine the answer.

@@ -5,6 +5,7 @@ ghost use Rattle.lcm_cli.specs.declared.refusal.Stop.TheVariants.{NoMemory};
 use assembler::AsmFault;
 use component_file::FileFault;
 use component_linker::RuleAt;
+use image_loader::ImageFault;
 use std::alloc::{AllocError, AllocFailed};
 
 /// What a refusal tells. A part is told by its index among the part words.
@@ -22,6 +23,8 @@ pub(crate) enum Refusal {
     File(u32, FileFault),
     /// A part breaks a rule, or several of them do together.
     Rule(RuleAt),
+    /// The image isn't loaded.
+    Image(ImageFault),
 }
 
 /// Why a call goes no further.

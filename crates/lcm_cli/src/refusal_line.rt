@@ -1,7 +1,8 @@
 //! The line and the status of each refusal.
 ghost use Rattle.std.specs.Prelude.{◌≡◌, ◌+◌, ◌≤◌, ◌<◌, ◌++◌, [], decimal};
 ghost use Rattle.arrayvec.specs.ArrayString.{array_string_len};
-ghost use Rattle.lcm_cli.specs.Refusals.{asm_number_text, assembly_text, file_text, rule_line, refusal_text, refusal_status};
+ghost use Rattle.lcm_cli.specs.Refusals.{asm_number_text, assembly_text, file_text, rule_line, form_text};
+ghost use Rattle.lcm_cli.specs.Refusals.{image_text, image_status, refusal_text, refusal_status};
 
 use crate::refusal::Refusal;
 use crate::status::Status;
@@ -9,6 +10,7 @@ use arrayvec::ArrayString;
 use assembler::AsmFault;
 use component_file::FileFault;
 use component_linker::RuleAt;
+use image_loader::ImageFault;
 use itoa::Buffer;
 
 fn push_number(line: &mut ArrayString<64>, number: u32)
@@ -75,6 +77,29 @@ fn push_rule(line: &mut ArrayString<64>, broken: RuleAt)
     line.push_str("\n");
 }
 
+fn push_form(line: &mut ArrayString<64>, fault: ImageFault)
+    requires { line.old.bytes ≡ [] }
+    ensures { line.new.bytes ≡ form_text fault }
+{
+    line.push_str("image ");
+    push_number(line, u32::from(fault.number()));
+    line.push_str(" ");
+    push_number(line, fault.place());
+    line.push_str("\n");
+}
+
+// Appends what is told of an image that isn't loaded.
+fn push_image(line: &mut ArrayString<64>, fault: ImageFault)
+    requires { line.old.bytes ≡ [] }
+    ensures { line.new.bytes ≡ image_text fault }
+{
+    match fault {
+        ImageFault::File(part, fault) => push_file(line, part, fault),
+        ImageFault::Rule(broken) => push_rule(line, broken),
+        other => push_form(line, other),
+    }
+}
+
 /// The line that a refusal writes.
 pub(crate) fn refusal_line(why: Refusal) -> ArrayString<64>
     ensures text { result.bytes ≡ refusal_text why }
@@ -92,8 +117,18 @@ pub(crate) fn refusal_line(why: Refusal) -> ArrayString<64>
         Refusal::Assembly(part, fault) => push_assembly(&mut line, part, fault),
         Refusal::File(part, fault) => push_file(&mut line, part, fault),
         Refusal::Rule(broken) => push_rule(&mut line, broken),
+        Refusal::Image(fault) => push_image(&mut line, fault),
     }
     line
+}
+
+fn image_status(fault: ImageFault) -> Status
+    ensures { result ≡ image_status fault }
+{
+    match fault {
+        ImageFault::Rule(_) => Status::RuleBroken,
+        _ => Status::FileRefused,
+    }
 }
 
 /// The status of a refusal.
@@ -107,5 +142,6 @@ pub(crate) fn refusal_status(why: Refusal) -> Status
         Refusal::Assembly(_, _) => Status::AsmRefused,
         Refusal::File(_, _) => Status::FileRefused,
         Refusal::Rule(_) => Status::RuleBroken,
+        Refusal::Image(fault) => image_status(fault),
     }
 }

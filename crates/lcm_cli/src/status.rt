@@ -25,7 +25,7 @@ pub enum Status {
     AsmRefused,
     /// A source is refused. No command that is built answers it.
     SourceRefused,
-    /// The bytes of a file are no component.
+    /// The bytes of a file are no component, or no image.
     FileRefused,
     /// A rule of a part, or of the parts together, is broken.
     RuleBroken,

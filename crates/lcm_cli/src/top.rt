@@ -1,8 +1,7 @@
 //! The top call.
-ghost use Rattle.std.specs.Prelude.{◌≡◌, ◌⊎◌, ◌<◌, ℕ, List, Some, None, false, length};
+ghost use Rattle.std.specs.Prelude.{◌≡◌, ◌⊎◌, ◌<◌, ℕ, Some, None, false, length};
 ghost use Rattle.command_words.specs.declared.command.Command.TheVariants as command;
-ghost use Rattle.command_words.specs.declared.command.Linked.TheVariants as what;
-ghost use Rattle.command_words.specs.declared.part.PartWord.{PartWord};
+ghost use Rattle.command_words.specs.declared.command.Linked.{Linked};
 ghost use Rattle.command_words.specs.Action.{asked_in};
 ghost use Rattle.command_words.specs.Texts.{texts};
 ghost use Rattle.lcm_cli.specs.declared.job.Job.TheVariants as job;
@@ -168,10 +167,12 @@ fn answer<F: Files, S: Sink>(
 /// `run`, with 1 to 16 parts `u:NAME` or `t:NAME` of names that end in `.stc` or `.asm`, reads the
 /// parts in their order, each with its form and the rules of its mark, links them with a stack of
 /// `--stack` words, runs the machine that they start for `--steps` steps or up to its end, and writes
-/// a line for each event and the end line. Where all of that was written, `kept` holds the machine as
-/// the run left it; in every other case, and after any other action, it is as before. `trace` does
+/// a line for each event and the end line. In place of parts it takes one image, `NAME.img`, checks
+/// and links its parts anew, and runs them so. Where all of that was written, `kept` holds the machine
+/// as the run left it; in every other case, and after any other action, it is as before. `trace` does
 /// the same with the overlay of that start, for as long as the weight of its steps is at most
-/// `--steps`. `check` reads one part in the same way, `u:NAME` or, by the rules of trusted parts,
+/// `--steps`. `link` reads and links parts as `run` does, puts their image under the name of `--out`,
+/// and then writes `ok`. `check` reads one part in the same way, `u:NAME` or, by the rules of trusted parts,
 /// `t:NAME`, and writes `ok`. `asm` reads one part, of either mark and a name in `.asm`, asks no rules,
 /// puts its component's file under the name of `--out`, and then writes `ok`. `dis` reads one part of
 /// either mark, asks no rules, and writes its text. Any other words write `usage`.
@@ -191,16 +192,16 @@ pub fn stk_main<F: Files, S: Sink>(
 
     // What a run writes, answers and hands over, and that its start has the headline: the plain machine
     // agrees with the overlay, returns are bracketed, frames are private.
-    ensures ran { (parts : List PartWord) (size steps : ℕ)
-        → asked_in (texts words.now.items) ≡ Some (command.Run (what.Parts parts size) steps)
-        → IsRunStatus result → RunGiven parts size steps
+    ensures ran { (l : Linked) (steps : ℕ)
+        → asked_in (texts words.now.items) ≡ Some (command.Run l steps)
+        → IsRunStatus result → RunGiven l steps
         (outside (F.seen files.old) (S.seen out.old) kept.old)
         result (outside (F.seen files.new) (S.seen out.new) kept.new) }
 
     // What a run of the overlay writes and answers: its lines are those of a plain run.
-    ensures traced { (parts : List PartWord) (size steps : ℕ)
-        → asked_in (texts words.now.items) ≡ Some (command.Trace (what.Parts parts size) steps)
-        → IsRunStatus result → TraceGiven parts size steps
+    ensures traced { (l : Linked) (steps : ℕ)
+        → asked_in (texts words.now.items) ≡ Some (command.Trace l steps)
+        → IsRunStatus result → TraceGiven l steps
         (outside (F.seen files.old) (S.seen out.old) kept.old)
         result (outside (F.seen files.new) (S.seen out.new) kept.new) }
 
@@ -211,7 +212,7 @@ pub fn stk_main<F: Files, S: Sink>(
     // No file is changed but that of `--out`, and that one only where the status is Done or WriteFault.
     ensures files_stay { StayAt (asked_in (texts words.now.items)) (F.seen files.old) result (F.seen files.new) }
 
-    // Where no put failed, the file of `--out` is as before or has the bytes of the component.
+    // Where no put failed, the file of `--out` is as before or has the bytes of the component or the image.
     ensures put_whole { PutsWhole (asked_in (texts words.now.items)) (F.seen files.old) (F.seen files.new) }
 {
     the_headline();

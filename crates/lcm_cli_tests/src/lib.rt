@@ -8,6 +8,8 @@ mod components;
 #[cfg(test)]
 mod faults;
 #[cfg(test)]
+mod images;
+#[cfg(test)]
 mod parts;
 #[cfg(test)]
 mod runs;

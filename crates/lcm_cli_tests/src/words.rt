@@ -61,14 +61,16 @@ fn words_that_are_no_command_write_usage(rt: HostRuntime) -> Result<(), Fail> {
         "run --help",
         "check u:one.asm u:two.stc",
         "check --stack 5 u:one.asm",
+        "run u:one.img",
+        "run one.img u:one.asm",
+        "link u:one.asm",
+        "link one.img --out two.img",
         // What isn't built yet.
         "run u:one.prc",
-        "run one.img",
-        "trace one.img",
+        "link u:one.prc --out one.img",
         "trace t:one.prc",
         "check t:one.prc",
         "compile u:one.prc --out one.stc",
-        "link u:one.asm --out one.img",
         "generate --seed 1",
     ] {
         let got = run(alloc, line, &mut files)?;

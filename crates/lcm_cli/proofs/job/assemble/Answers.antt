@@ -1,7 +1,7 @@
 use Rattle.std.proofs.Common.{refl, ◌∙◌}
 use Rattle.std.proofs.lemmas.Result.{err_from_is_err_and}
 use Rattle.lcm_cli.specs.Parts.{component_at}
-use Rattle.lcm_cli.specs.Commands.{Put, assemble_plan}
+use Rattle.lcm_cli.specs.Commands.{Put, OfComponent, assemble_plan}
 use Rattle.lcm_cli.proofs.Follow.{comes_made, comes_quiet}
 use Rattle.lcm_cli.proofs.job.assemble.Goals as goal
 
@@ -14,7 +14,7 @@ returns-in_err-bytes g c =
 pub returns : goal.returns
 unfolding assemble_plan
 returns g c = (
-  Put c.args.out c.in_ok-component.component,
-  comes_made (component_at 0 c.args.word.now) (Put c.args.out) _ _ c.in_ok-component.component c.in_ok-component.ensures,
+  Put c.args.out (OfComponent c.in_ok-component.component),
+  comes_made (component_at 0 c.args.word.now) (λ x. Put c.args.out (OfComponent x)) _ _ c.in_ok-component.component c.in_ok-component.ensures,
   (refl, c.of.ensures ∙ c.in_ok-bytes.ensures.spelled.1),
 )

@@ -1,5 +1,5 @@
 use Rattle.std.proofs.Common.{refl}
-use Rattle.lcm_cli.specs.Commands.{Run, linked_parts, run_plan}
+use Rattle.lcm_cli.specs.Commands.{Run, linked_in, run_plan}
 use Rattle.lcm_cli.proofs.Follow.{comes_made}
 use Rattle.lcm_cli.proofs.job.run.Goals as goal
 
@@ -7,4 +7,4 @@ pub returns : goal.returns
 unfolding run_plan
 returns g c =
     let f = c.in_ok-start.ensures in
-    (Run f.0 c.args.size c.args.steps, comes_made (linked_parts c.args.words.now c.args.size) (λ ps. Run ps c.args.size c.args.steps) _ _ f.0 f.1, (f.2, refl))
+    (Run f.0.parts f.0.stack c.args.steps, comes_made (linked_in c.args.what.now) (λ i. Run i.parts i.stack c.args.steps) _ _ f.0 f.1, (f.2, refl))

@@ -5,7 +5,7 @@ use Rattle.lcm_cli.specs.Parts.{linked}
 use Rattle.lcm_cli.proofs.Follow.{unless_made, unless_ended}
 use Rattle.lcm_cli.proofs.FirstOf.{linked_none, linked_broken}
 use Rattle.overlay_machine.specs.Starting.{IsLinkedStart}
-use Rattle.lcm_cli.proofs.job.started.Goals as goal
+use Rattle.lcm_cli.proofs.start.started.Goals as goal
 
 pub returns-in-Ok-clause-rules : goal.returns-in-Ok-clause-rules
 returns-in-Ok-clause-rules c =
