@@ -1,4 +1,7 @@
 //! Parts as assembler texts, and texts that differ from them in some lines.
+//!
+//! Each value that owns much goes to a function of its own: each way out of a function that has one is
+//! proved at length.
 use assembler::{AsmFault, assemble};
 use component_file::Component;
 use component_linker::{Part, accept};
@@ -65,7 +68,8 @@ fn first_word(line: &str) -> Option<&str> {
     line.trim_start_matches('#').split(' ').next()
 }
 
-fn push_line(text: &mut String, line: &str) -> Result<(), AllocError> {
+/// Appends a line.
+pub(crate) fn push_line(text: &mut String, line: &str) -> Result<(), AllocError> {
     text.push_str(line)?;
     text.push('\n')
 }
@@ -126,4 +130,36 @@ pub(crate) fn part_of(
         Ok(part) => Ok(part),
         Err(broken) => panic!(rt; "{broken}"),
     }
+}
+
+/// Appends the part of a text.
+pub(crate) fn push_part(
+    rt: &impl Abort,
+    alloc: Global,
+    parts: &mut Vec<Part>,
+    text: &str,
+    trusted: bool,
+) -> Result<(), AsmFault> {
+    let part = part_of(rt, alloc, text, trusted)?;
+    parts.push(part)?;
+    Ok(())
+}
+
+// The rule that a component breaks as a part, and its place; or `ok`.
+fn judged(alloc: Global, component: Component, trusted: bool) -> Result<String, AllocError> {
+    match accept(component, trusted) {
+        Ok(_) => String::from_str(alloc, "ok"),
+        Err(broken) => format!(in alloc; "{broken}"),
+    }
+}
+
+/// What is told of the component of a text.
+pub(crate) fn judgement(
+    rt: &impl Abort,
+    alloc: Global,
+    text: &str,
+    trusted: bool,
+) -> Result<String, AsmFault> {
+    let text = judged(alloc, component_of(rt, alloc, text)?, trusted)?;
+    Ok(text)
 }

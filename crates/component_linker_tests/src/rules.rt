@@ -2,9 +2,9 @@
 //! answer was worked out by hand from there.
 //!
 //! Many cases stand in one text, one a line: a constant of many parts would be proved slowly.
-use crate::parts::{AUX, LIB, ONE, changed, component_of, numbered, part_of};
+use crate::parts::{AUX, LIB, ONE, changed, judgement, numbered, part_of, push_part};
 use assembler::AsmFault;
-use component_linker::{LinkFault, Part, accept, link};
+use component_linker::{LinkFault, Part, link};
 use std::alloc::{AllocError, Global};
 use std::process::Abort;
 use std::test::Fail;
@@ -127,18 +127,32 @@ pub(crate) fn told(
     }
 }
 
-fn parts_of(
+fn push_parts(
+    rt: &impl Abort,
+    alloc: Global,
+    parts: &mut Vec<Part>,
+    texts: &[&str],
+    changes: &str,
+) -> Result<(), AsmFault> {
+    for (text, number) in texts.iter().zip(["0 ", "1 ", "2 "]) {
+        let text = numbered(alloc, text, number, changes)?;
+        push_part(rt, alloc, parts, text.as_str(), false)?;
+    }
+    Ok(())
+}
+
+// What linking these texts tells, each with its changes.
+fn texts_told(
     rt: &impl Abort,
     alloc: Global,
     texts: &[&str],
     changes: &str,
-) -> Result<Vec<Part>, AsmFault> {
+    stack: u32,
+) -> Result<String, AsmFault> {
     let mut parts = Vec::new(alloc);
-    for (text, number) in texts.iter().zip(["0 ", "1 ", "2 "]) {
-        let text = numbered(alloc, text, number, changes)?;
-        parts.push(part_of(rt, alloc, text.as_str(), false)?)?;
-    }
-    Ok(parts)
+    push_parts(rt, alloc, &mut parts, texts, changes)?;
+    let text = told(rt, alloc, &parts, stack)?;
+    Ok(text)
 }
 
 // Each line of cases over these texts.
@@ -152,11 +166,10 @@ fn each_is_told(rt: &impl Abort, alloc: Global, texts: &[&str], cases: &str) -> 
         ) else {
             panic!(rt; "no case: {case}");
         };
-        let parts = parts_of(rt, alloc, texts, changes)?;
         let Ok(size) = size.trim().parse::<u32>() else {
             panic!(rt; "no size: {case}");
         };
-        let told = told(rt, alloc, &parts, size)?;
+        let told = texts_told(rt, alloc, texts, changes, size)?;
         assert_eq!(rt; told.as_str(), wanted.trim(), "{case}");
     }
     Ok(())
@@ -228,33 +241,33 @@ fn another(alloc: Global, number: u32) -> Result<String, AllocError> {
     numbered(alloc, TWO, "0 ", changes.as_str())
 }
 
-#[test]
-fn sixteen_parts_are_enough(rt: HostRuntime) -> Result<(), Fail> {
-    let alloc = rt.alloc();
-    let mut parts = Vec::new(alloc);
-    parts.push(part_of(&rt, alloc, ALONE, false)?)?;
+fn sixteen_are_linked(rt: &impl Abort, alloc: Global, parts: &mut Vec<Part>) -> Result<(), Fail> {
+    push_part(rt, alloc, parts, ALONE, false)?;
     for number in 1..=16 {
-        assert_eq!(&rt; told(&rt, alloc, &parts, 64)?.as_str(), "ok");
-        parts.push(part_of(&rt, alloc, another(alloc, number)?.as_str(), false)?)?;
+        assert_eq!(rt; told(rt, alloc, parts, 64)?.as_str(), "ok");
+        push_part(rt, alloc, parts, another(alloc, number)?.as_str(), false)?;
     }
-    assert_eq!(&rt; told(&rt, alloc, &parts, 64)?.as_str(), "16 L9 17");
-    assert_eq!(&rt; told(&rt, alloc, &parts, 1)?.as_str(), "17 L8 1");
+    assert_eq!(rt; told(rt, alloc, parts, 64)?.as_str(), "16 L9 17");
+    assert_eq!(rt; told(rt, alloc, parts, 1)?.as_str(), "17 L8 1");
     Ok(())
 }
 
 #[test]
+fn sixteen_parts_are_enough(rt: HostRuntime) -> Result<(), Fail> {
+    let mut parts = Vec::new(rt.alloc());
+    sixteen_are_linked(&rt, rt.alloc(), &mut parts)
+}
+
+fn is_untrusted(part: Part, name: &[u8]) -> bool {
+    !part.trusted() && part.component().fields().name.as_slice() == name
+}
+
+#[test]
 fn a_component_that_breaks_a_rule_is_no_part(rt: HostRuntime) -> Result<(), Fail> {
-    let alloc = rt.alloc();
-    let text = changed(alloc, ALONE, ".data 101")?;
-    let Err(broken) = accept(component_of(&rt, alloc, text.as_str())?, false) else {
-        panic!(&rt; "accepted");
-    };
-    assert_eq!(&rt; format!(in alloc; "{broken}")?.as_str(), "C2 0");
-    let part = part_of(&rt, alloc, ALONE, false)?;
-    assert!(&rt; !part.trusted());
-    assert_eq!(&rt;
-        part.component().fields().name.as_slice(),
-        b"one".as_slice()
-    );
+    let text = changed(rt.alloc(), ALONE, ".data 101")?;
+    let told = judgement(&rt, rt.alloc(), text.as_str(), false)?;
+    assert_eq!(&rt; told.as_str(), "C2 0");
+    let part = part_of(&rt, rt.alloc(), ALONE, false)?;
+    assert!(&rt; is_untrusted(part, b"one"));
     Ok(())
 }

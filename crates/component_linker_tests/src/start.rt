@@ -1,14 +1,16 @@
 //! One link, looked at from all sides. Each word was worked out by hand.
-use crate::parts::{LIB, ONE, changed, part_of};
+use crate::parts::{LIB, ONE, changed, push_part};
+use assembler::AsmFault;
 use cap_words::word_text;
-use component_linker::{Owner, link};
+use component_linker::{Owner, Part, Start, link};
 use lcm_isa::Reg;
 use lcm_machine::LcmState;
+use std::alloc::Global;
 use std::process::Abort;
 use std::test::Fail;
 
 /// The words of the registers, but for the integers 0.
-const REGISTERS: [(Reg, &str); 16] = [
+static REGISTERS: [(Reg, &str); 16] = [
     (Reg::Pc, "cap(rwx,nor,100,101,100)"),
     (Reg::Rcode, "0"),
     (Reg::Rdata, "0"),
@@ -28,7 +30,7 @@ const REGISTERS: [(Reg, &str); 16] = [
 ];
 
 /// Addresses and their words: the first and the last ones of each region, and the words of slots.
-const CELLS: [(u32, &str); 18] = [
+static CELLS: [(u32, &str); 18] = [
     (100, "1"),
     (101, "2"),
     (200, "sealed(2,cap(rwx,nor,300,301,300))"),
@@ -50,71 +52,93 @@ const CELLS: [(u32, &str); 18] = [
 ];
 
 /// Addresses right beside the regions.
-const NO_CELLS: [u32; 14] = [
+static NO_CELLS: [u32; 14] = [
     99, 102, 199, 204, 299, 302, 399, 404, 999, 1016, 1999, 2016, 65_535, 65_600,
 ];
 
+fn registers_are(rt: &impl Abort, state: &LcmState) {
+    for (register, wanted) in &REGISTERS {
+        assert_eq!(rt; word_text(state.reg(*register)).as_str(), *wanted);
+    }
+}
+
+/// Addresses have cells with these words.
+pub(crate) fn cells_are(rt: &impl Abort, state: &LcmState, cells: &[(u32, &str)]) {
+    for (at, wanted) in cells {
+        assert!(rt; state.has_cell(*at), "{at}");
+        assert_eq!(rt; word_text(state.cell(*at)).as_str(), *wanted, "{at}");
+    }
+}
+
 fn words_are(rt: &impl Abort, state: &LcmState) {
-    for (register, wanted) in REGISTERS {
-        assert_eq!(rt; word_text(state.reg(register)).as_str(), wanted);
-    }
-    for (at, wanted) in CELLS {
-        assert!(rt; state.has_cell(at));
-        assert_eq!(rt; word_text(state.cell(at)).as_str(), wanted, "{at}");
-    }
-    for at in NO_CELLS {
-        assert!(rt; !state.has_cell(at), "{at}");
+    registers_are(rt, state);
+    cells_are(rt, state, &CELLS);
+    for at in &NO_CELLS {
+        assert!(rt; !state.has_cell(*at), "{at}");
     }
 }
 
-// An owner: the part and its name, where its code and data stand, and its closure seal.
-fn owner_is(
-    rt: &impl Abort,
-    owner: &Owner,
-    part: u32,
-    name: &str,
-    code: (u32, u32),
-    data: (u32, u32),
-    closure: u32,
-) {
-    assert_eq!(rt; owner.part, part);
-    assert_eq!(rt; owner.name.as_slice(), name.as_bytes());
-    assert!(rt; !owner.trusted);
-    assert_eq!(rt; (owner.code.base, owner.code.end), code);
-    assert_eq!(rt; (owner.data_span.base, owner.data_span.end), data);
-    assert_eq!(rt; owner.closure, closure);
+// The part, where its code and data stand, and its closure seal.
+fn places(owner: &Owner) -> [u32; 6] {
+    [
+        owner.part,
+        owner.code.base,
+        owner.code.end,
+        owner.data_span.base,
+        owner.data_span.end,
+        owner.closure,
+    ]
 }
 
-fn entries_are(rt: &impl Abort, owner: &Owner, wanted: [(&str, u32); 2]) {
+fn has_entries(owner: &Owner, wanted: &[(&str, u32)]) -> bool {
     let entries = owner.entries.as_slice();
-    assert_eq!(rt; entries.len(), 2);
-    for (entry, (name, at)) in entries.iter().zip(wanted) {
-        assert_eq!(rt; entry.name.as_slice(), name.as_bytes());
-        assert_eq!(rt; entry.at, at);
+    entries.len() == wanted.len()
+        && entries.iter().zip(wanted).all(|(entry, (name, at))| {
+            entry.name.as_slice() == name.as_bytes() && entry.at == *at
+        })
+}
+
+fn owner_is(rt: &impl Abort, owner: &Owner, name: &str, wanted: [u32; 6], entries: &[(&str, u32)]) {
+    assert!(rt; owner.name.as_slice() == name.as_bytes() && !owner.trusted);
+    assert_eq!(rt; places(owner), wanted);
+    assert!(rt; has_entries(owner, entries));
+}
+
+fn start_is(rt: &impl Abort, start: &Start) {
+    words_are(rt, start.state());
+    assert_eq!(rt; start.state().count(), 0);
+    assert_eq!(rt; (start.stack().base, start.stack().end), (65_536, 65_599));
+    assert_eq!(rt; start.sites().len(), 0);
+    let [first, second] = start.owners() else {
+        panic!(rt; "not two owners");
+    };
+    let entries = [("main", 100), ("own", 101)];
+    owner_is(rt, first, "one", [1, 100, 101, 200, 203, 1], &entries);
+    let entries = [("hide", 301), ("read", 300)];
+    owner_is(rt, second, "lib", [0, 300, 301, 400, 403, 2], &entries);
+}
+
+fn push_both(rt: &impl Abort, alloc: Global, parts: &mut Vec<Part>) -> Result<(), AsmFault> {
+    push_part(rt, alloc, parts, LIB, false)?;
+    let one = changed(alloc, ONE, "word: .cap rw lin 1000 1015 1000")?;
+    push_part(rt, alloc, parts, one.as_str(), false)
+}
+
+/// The start of these parts.
+pub(crate) fn linked(rt: &impl Abort, alloc: Global, parts: &[Part]) -> Start {
+    assert!(rt; parts.len() < 100);
+    match link(alloc, parts, 64) {
+        Ok(start) => start,
+        Err(_) => panic!(rt; "not linked"),
     }
 }
 
 #[test]
 fn two_parts_start(rt: HostRuntime) -> Result<(), Fail> {
-    let alloc = rt.alloc();
-    let mut parts = Vec::new(alloc);
-    parts.push(part_of(&rt, alloc, LIB, false)?)?;
-    let one = changed(alloc, ONE, "word: .cap rw lin 1000 1015 1000")?;
-    parts.push(part_of(&rt, alloc, one.as_str(), false)?)?;
-    let Ok(start) = link(alloc, &parts, 64) else {
-        panic!(&rt; "not linked");
-    };
-    words_are(&rt, start.state());
-    assert_eq!(&rt; start.state().count(), 0);
-    assert_eq!(&rt; (start.stack().base, start.stack().end), (65_536, 65_599));
-    assert_eq!(&rt; start.sites().len(), 0);
-    let [first, second] = start.owners() else {
-        panic!(&rt; "not two owners");
-    };
-    owner_is(&rt, first, 1, "one", (100, 101), (200, 203), 1);
-    entries_are(&rt, first, [("main", 100), ("own", 101)]);
-    owner_is(&rt, second, 0, "lib", (300, 301), (400, 403), 2);
-    entries_are(&rt, second, [("hide", 301), ("read", 300)]);
+    let mut parts = Vec::new(rt.alloc());
+    push_both(&rt, rt.alloc(), &mut parts)?;
+    let start = linked(&rt, rt.alloc(), &parts);
+    start_is(&rt, &start);
     words_are(&rt, &start.into_state());
     Ok(())
 }

@@ -1,8 +1,10 @@
 //! Trusted parts: which are accepted, what they start with, and how their sites are counted.
-use crate::parts::{changed, component_of, numbered, part_of};
+use crate::parts::{judgement, numbered, push_line, push_part};
 use crate::rules::told;
+use crate::start::{cells_are, linked};
+use assembler::AsmFault;
 use cap_words::word_text;
-use component_linker::{Site, Start, accept, link};
+use component_linker::{Part, Site, Start};
 use lcm_isa::Reg;
 use std::alloc::{AllocError, Global};
 use std::process::Abort;
@@ -117,19 +119,19 @@ fn inserted(alloc: Global, text: &str, lines: &str) -> Result<String, AllocError
     let first = lines.split('\n').next();
     let mut new = String::new(alloc);
     for line in text.split('\n') {
-        if Some(line) == first {
-            new.push_str(lines)?;
+        let more = if Some(line) == first {
+            lines.trim_end()
         } else {
-            new.push_str(line)?;
-            new.push('\n')?;
-        }
+            line
+        };
+        push_line(&mut new, more)?;
     }
     Ok(new)
 }
 
 // The changes, how many calls of one are declared as sites, whether the part is trusted, and what it
 // breaks.
-const FLOW_CASES: [(&str, u32, bool, &str); 5] = [
+static FLOW_CASES: [(&str, u32, bool, &str); 5] = [
     ("", 1, true, "ok"),
     ("0 .seals 11 2, 0 right: .seal 11 12 11", 2, true, "K1 48"),
     ("0 .seals 11 2, 0 right: .seal 11 12 11", 2, false, "ok"),
@@ -142,23 +144,29 @@ const FLOW_CASES: [(&str, u32, bool, &str); 5] = [
     ),
 ];
 
+fn flow_told(
+    rt: &impl Abort,
+    alloc: Global,
+    changes: &str,
+    declared: u32,
+    trusted: bool,
+) -> Result<String, AsmFault> {
+    let text = with_calls(alloc, T, 1, declared)?;
+    let text = numbered(alloc, text.as_str(), "0 ", changes)?;
+    judgement(rt, alloc, text.as_str(), trusted)
+}
+
 #[test]
 fn flow_is_asked_of_trusted_parts_after_the_rest(rt: HostRuntime) -> Result<(), Fail> {
-    let alloc = rt.alloc();
-    for (changes, declared, trusted, wanted) in FLOW_CASES {
-        let text = with_calls(alloc, T, 1, declared)?;
-        let text = numbered(alloc, text.as_str(), "0 ", changes)?;
-        let told = match accept(component_of(&rt, alloc, text.as_str())?, trusted) {
-            Ok(_) => String::from_str(alloc, "ok")?,
-            Err(broken) => format!(in alloc; "{broken}")?,
-        };
-        assert_eq!(&rt; told.as_str(), wanted, "{changes} {declared}");
+    for (changes, declared, trusted, wanted) in &FLOW_CASES {
+        let told = flow_told(&rt, rt.alloc(), changes, *declared, *trusted)?;
+        assert_eq!(&rt; told.as_str(), *wanted, "{changes} {declared}");
     }
     Ok(())
 }
 
 /// Addresses and their words: `fail`, the literal, `halt`, and the slots of both parts.
-const CELLS: [(u32, &str); 7] = [
+static CELLS: [(u32, &str); 7] = [
     (4096, "0"),
     (4097, "seal(11,11,11)"),
     (4144, "1"),
@@ -174,10 +182,7 @@ fn start_is(rt: &impl Abort, start: &Start) {
         word_text(state.reg(Reg::Pc)).as_str(),
         "cap(rx,nor,4096,4144,4098)"
     );
-    for (at, wanted) in CELLS {
-        assert!(rt; state.has_cell(at));
-        assert_eq!(rt; word_text(state.cell(at)).as_str(), wanted, "{at}");
-    }
+    cells_are(rt, state, &CELLS);
     let site = Site {
         part: 1,
         index: 0,
@@ -192,17 +197,18 @@ fn start_is(rt: &impl Abort, start: &Start) {
     assert_eq!(rt; (first.part, first.code.end, first.closure), (1, 4144, 10));
 }
 
+fn push_both(rt: &impl Abort, alloc: Global, parts: &mut Vec<Part>) -> Result<(), AsmFault> {
+    push_part(rt, alloc, parts, ADV, false)?;
+    let text = with_calls(alloc, T, 1, 1)?;
+    push_part(rt, alloc, parts, text.as_str(), true)
+}
+
 #[test]
 fn a_trusted_part_starts(rt: HostRuntime) -> Result<(), Fail> {
-    let alloc = rt.alloc();
-    let mut parts = Vec::new(alloc);
-    parts.push(part_of(&rt, alloc, ADV, false)?)?;
-    parts.push(part_of(&rt, alloc, with_calls(alloc, T, 1, 1)?.as_str(), true)?)?;
-    assert!(&rt; parts[1].trusted());
-    match link(alloc, &parts, 64) {
-        Ok(start) => start_is(&rt, &start),
-        Err(_) => panic!(&rt; "not linked"),
-    }
+    let mut parts = Vec::new(rt.alloc());
+    push_both(&rt, rt.alloc(), &mut parts)?;
+    assert!(&rt; parts.last().is_some_and(|part| part.trusted()));
+    start_is(&rt, &linked(&rt, rt.alloc(), &parts));
     Ok(())
 }
 
@@ -218,43 +224,54 @@ fn with_sites(
     first_seal: u32,
     sites: u32,
 ) -> Result<String, AllocError> {
-    let text = numbered(alloc, T, "0 ", changes)?;
-    let seals = format!(in alloc; ".seals {first_seal} {sites}")?;
-    let text = changed(alloc, text.as_str(), seals.as_str())?;
     let last = first_seal.saturating_add(sites).saturating_sub(1);
-    let right = format!(in alloc; "right: .seal {first_seal} {last} {first_seal}")?;
-    let text = changed(alloc, text.as_str(), right.as_str())?;
+    let changes = format!(in alloc;
+        "{changes}, 0 .seals {first_seal} {sites}, 0 right: .seal {first_seal} {last} {first_seal}"
+    )?;
+    let text = numbered(alloc, T, "0 ", changes.as_str())?;
     with_calls(alloc, text.as_str(), sites, sites)
 }
 
 // What is changed in `T` and in `MORE`, how many sites they have, and what is told.
-const SITE_CASES: [(&str, &str, u32, u32, &str); 4] = [
+static SITE_CASES: [(&str, &str, u32, u32, &str); 4] = [
     (".import more go 0", "", 1, 1, "ok"),
     (".import more go 0", "0 .export go 2 own", 1, 1, "0 L5 0"),
     ("#.import", "", 2048, 2048, "ok"),
     ("#.import", "", 2048, 2049, "1 L9 4097"),
 ];
 
+fn push_one(
+    rt: &impl Abort,
+    alloc: Global,
+    parts: &mut Vec<Part>,
+    import: &str,
+    sites: u32,
+) -> Result<(), AsmFault> {
+    let changes = format!(in alloc; "0 .code 100000, 0 {import}")?;
+    let text = with_sites(alloc, changes.as_str(), 11, sites)?;
+    push_part(rt, alloc, parts, text.as_str(), true)
+}
+
+fn push_more(
+    rt: &impl Abort,
+    alloc: Global,
+    parts: &mut Vec<Part>,
+    export: &str,
+    sites: u32,
+) -> Result<(), AsmFault> {
+    let changes = format!(in alloc; "{MORE}, {export}")?;
+    let text = with_sites(alloc, changes.as_str(), 10_001, sites)?;
+    push_part(rt, alloc, parts, text.as_str(), true)
+}
+
 #[test]
 fn private_exports_and_many_sites(rt: HostRuntime) -> Result<(), Fail> {
-    let alloc = rt.alloc();
-    for (import, export, first, second, wanted) in SITE_CASES {
-        let one = with_sites(
-            alloc,
-            format!(in alloc; "0 .code 100000, 0 {import}")?.as_str(),
-            11,
-            first,
-        )?;
-        let more = with_sites(
-            alloc,
-            format!(in alloc; "{MORE}, {export}")?.as_str(),
-            10_001,
-            second,
-        )?;
-        let mut parts = Vec::new(alloc);
-        parts.push(part_of(&rt, alloc, one.as_str(), true)?)?;
-        parts.push(part_of(&rt, alloc, more.as_str(), true)?)?;
-        assert_eq!(&rt; told(&rt, alloc, &parts, 64)?.as_str(), wanted);
+    for (import, export, first, second, wanted) in &SITE_CASES {
+        let mut parts = Vec::new(rt.alloc());
+        push_one(&rt, rt.alloc(), &mut parts, import, *first)?;
+        push_more(&rt, rt.alloc(), &mut parts, export, *second)?;
+        let told = told(&rt, rt.alloc(), &parts, 64)?;
+        assert_eq!(&rt; told.as_str(), *wanted);
     }
     Ok(())
 }
