@@ -259,14 +259,19 @@ fn assembled(rt: &impl Abort, alloc: Global, text: &[u8]) -> Result<Component, A
     assemble(alloc, text)
 }
 
-fn is_told(rt: &impl Abort, alloc: Global, text: &[u8], number: u8, place: usize) {
+// Each value that owns much goes to a function of its own: each way out of a function that has one is
+// proved at length.
+
+// The number of a text's fault, and its place.
+fn fault_of(rt: &impl Abort, alloc: Global, text: &[u8]) -> Option<(u8, usize)> {
     match assembled(rt, alloc, text) {
-        Ok(_) => assert!(rt; false, "no fault, in place of {number} at {place}"),
-        Err(fault) => {
-            assert_eq!(rt; fault.place() as usize, place, "the place of {number}");
-            assert_eq!(rt; fault.number(), number, "at {place}");
-        }
+        Ok(_) => None,
+        Err(fault) => Some((fault.number(), fault.place() as usize)),
     }
+}
+
+fn is_told(rt: &impl Abort, alloc: Global, text: &[u8], number: u8, place: usize) {
+    assert_eq!(rt; fault_of(rt, alloc, text), Some((number, place)));
 }
 
 fn each_is_told(
@@ -413,10 +418,13 @@ const FULL: &[u8; 262] = b"STKC\x01\0\
 \0\0\0\0\0\x01\x02\x03\x04\x02\0\0\0\x05\0\0\0\0\0\0\0\0\x05\
 \x02\0\0\0\x01\x01\x01\x01\x01\x01\x01\x01\x01\x01\x01\x01\x01\x01\x04\xff\xff\0\0";
 
+fn bytes_of(alloc: Global, component: Component) -> Result<Vec<u8>, AllocError> {
+    encode_component(alloc, &component)
+}
+
 fn is_spelled(rt: &impl Abort, alloc: Global, text: &[u8], wanted: &[u8]) -> Result<(), AsmFault> {
-    let component = assembled(rt, alloc, text)?;
-    let bytes = encode_component(alloc, &component)?;
-    assert_eq!(rt; bytes.as_slice(), wanted);
+    let bytes = bytes_of(alloc, assembled(rt, alloc, text)?)?;
+    assert!(rt; bytes.as_slice() == wanted);
     Ok(())
 }
 
@@ -502,29 +510,38 @@ fn shows(rt: &impl Abort, word: &Word, as_instr: bool, wanted: &[u8]) {
     }
 }
 
-fn lines_spell(
-    rt: &impl Abort,
-    alloc: Global,
-    lines: &[u8],
-    as_instr: bool,
-) -> Result<(), AsmFault> {
+// The text whose code has these lines.
+fn with_code(alloc: Global, lines: &[u8]) -> Result<Vec<u8>, AllocError> {
     let mut text = Vec::from_slice(alloc, CODE)?;
     for line in lines.split(|byte| *byte == b'\n') {
         text.extend_from_slice(parts(line).0)?;
         text.push(b'\n')?;
     }
     text.extend_from_slice(b".data 0\nfront: .int 5\n.int 5\nback: .int 5\n")?;
-    let component = assembled(rt, alloc, text.as_slice())?;
-    let mut words = component.fields().code.as_slice();
+    Ok(text)
+}
+
+fn words_show(rt: &impl Abort, words: &[Word], lines: &[u8], as_instr: bool) {
+    let mut words = words;
     for line in lines.split(|byte| *byte == b'\n') {
         let Some((word, others)) = words.split_first() else {
-            assert!(rt; false, "words are missing");
-            return Ok(());
+            panic!(rt; "words are missing");
         };
         shows(rt, word, as_instr, parts(line).1);
         words = others;
     }
     assert!(rt; words.is_empty());
+}
+
+fn lines_spell(
+    rt: &impl Abort,
+    alloc: Global,
+    lines: &[u8],
+    as_instr: bool,
+) -> Result<(), AsmFault> {
+    let text = with_code(alloc, lines)?;
+    let component = assembled(rt, alloc, text.as_slice())?;
+    words_show(rt, component.fields().code.as_slice(), lines, as_instr);
     Ok(())
 }
 
@@ -544,11 +561,21 @@ fn with_long_line(alloc: Global, len: u32) -> Result<Vec<u8>, AllocError> {
     Ok(text)
 }
 
+// How many words of code and of data, and the last site.
+fn counts(component: Component) -> (usize, usize, Option<u32>) {
+    let fields = component.fields();
+    (
+        fields.code.as_slice().len(),
+        fields.data_words.as_slice().len(),
+        fields.sites.as_slice().last().copied(),
+    )
+}
+
 #[test]
 fn lines_of_512_bytes_and_513(rt: HostRuntime) -> Result<(), Fail> {
     let text = with_long_line(rt.alloc(), 512)?;
-    let component = assembled(&rt, rt.alloc(), text.as_slice())?;
-    assert_eq!(rt; component.fields().code.as_slice().len(), 1);
+    let counts = counts(assembled(&rt, rt.alloc(), text.as_slice())?);
+    assert_eq!(rt; counts, (1, 1, None));
     let text = with_long_line(rt.alloc(), 513)?;
     // Told by the number of the line.
     is_told(&rt, rt.alloc(), text.as_slice(), SCAN, 5);
@@ -568,10 +595,7 @@ fn with_most_words(alloc: Global) -> Result<Vec<u8>, AllocError> {
 #[test]
 fn the_longest_sections(rt: HostRuntime) -> Result<(), Fail> {
     let text = with_most_words(rt.alloc())?;
-    let component = assembled(&rt, rt.alloc(), text.as_slice())?;
-    let fields = component.fields();
-    assert_eq!(rt; fields.code.as_slice().len(), 65_536);
-    assert_eq!(rt; fields.data_words.as_slice().len(), 65_536);
-    assert_eq!(rt; fields.sites.as_slice().first(), Some(&65_535));
+    let counts = counts(assembled(&rt, rt.alloc(), text.as_slice())?);
+    assert_eq!(rt; counts, (65_536, 65_536, Some(65_535)));
     Ok(())
 }

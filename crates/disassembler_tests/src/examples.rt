@@ -1,8 +1,8 @@
 //! The texts of `examples`, as they stand there: each is the text of a part again once it was assembled,
 //! disassembled and assembled.
-use crate::tests::assembled;
+use crate::tests::{assembled, spells};
 use assembler::AsmFault;
-use component_file::{Component, encode_component};
+use component_file::Component;
 use disassembler::disassemble;
 use std::alloc::Global;
 use std::process::Abort;
@@ -206,28 +206,21 @@ add:    load a0 rdata
 .export add add shared
 ";
 
-fn written_again(
-    rt: &impl Abort,
-    alloc: Global,
-    component: &Component,
-) -> Result<Component, AsmFault> {
+// Whether the component's text is assembled as it again.
+fn comes_back(rt: &impl Abort, alloc: Global, component: &Component) -> Result<bool, AsmFault> {
     let text = disassemble(alloc, component)?;
-    assembled(rt, alloc, text.as_slice())
+    spells(rt, alloc, text.as_slice(), component)
 }
 
-fn comes_back(rt: &impl Abort, alloc: Global, text: &str) -> Result<(), AsmFault> {
-    let first = assembled(rt, alloc, text.as_bytes())?;
-    let second = written_again(rt, alloc, &first)?;
-    let bytes = encode_component(alloc, &first)?;
-    let again = encode_component(alloc, &second)?;
-    assert_eq!(rt; bytes.as_slice(), again.as_slice(), "{text}");
-    Ok(())
+fn text_comes_back(rt: &impl Abort, alloc: Global, text: &str) -> Result<bool, AsmFault> {
+    let component = assembled(rt, alloc, text.as_bytes())?;
+    comes_back(rt, alloc, &component)
 }
 
 #[test]
 fn examples_come_back(rt: HostRuntime) -> Result<(), Fail> {
     for text in EXAMPLES.split("\n\n") {
-        comes_back(&rt, rt.alloc(), text)?;
+        assert!(rt; text_comes_back(&rt, rt.alloc(), text)?, "{text}");
     }
     Ok(())
 }

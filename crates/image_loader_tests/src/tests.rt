@@ -3,54 +3,79 @@
 use crate::cases::{Case, ONE, ONE_STARTS, OWN_CASES, PART_CASES, TWO};
 use cap_words::word_text;
 use component_check::{Group, Rule};
-use component_file::{FileFault, decode_component};
+use component_file::{Component, FileFault, decode_component};
 use component_linker::{Part, RuleAt, Start, accept};
 use image_loader::ImageFault::{
     BadField, File, Magic, NoMemory, Rule as RuleFault, Short, Trailing, Version,
 };
 use image_loader::{ImageFault, load_image, write_image};
 use lcm_isa::Reg;
-use lcm_machine::Step;
+use lcm_machine::{LcmState, Step};
 use std::alloc::{AllocError, Global};
 use std::process::Abort;
 use std::test::Fail;
 
 fn loaded(rt: &impl Abort, alloc: Global, bytes: &[u8]) -> Result<Start, ImageFault> {
-    assert!(rt; bytes.len() < 1000);
+    assert!(rt; bytes.len() < 10_000);
     load_image(alloc, bytes)
 }
 
-// The part of a component that stands in an example.
-fn part_of(
-    rt: &impl Abort,
-    alloc: Global,
-    component: &[u8],
-    trusted: bool,
-) -> Result<Part, FileFault> {
-    assert!(rt; component.len() < 1000);
-    match accept(decode_component(alloc, component)?, trusted) {
-        Ok(part) => Ok(part),
+// Each value that owns much goes to a function of its own: each way out of a function that has one is
+// proved at length.
+fn accepted(rt: &impl Abort, component: Component, trusted: bool) -> Part {
+    match accept(component, trusted) {
+        Ok(part) => part,
         Err(broken) => panic!(rt; "{broken}"),
     }
 }
 
-#[test]
-fn an_example_is_written(rt: HostRuntime) -> Result<(), Fail> {
-    let alloc = rt.alloc();
-    let (_, one) = ONE.split_at(17);
-    let (_, two) = TWO.split_at(112);
-    let mut parts = Vec::new(alloc);
-    parts.push(part_of(&rt, alloc, one, false)?)?;
-    assert_eq!(&rt; write_image(alloc, &parts, 4)?.as_slice(), ONE.as_slice());
-    parts.push(part_of(&rt, alloc, two, true)?)?;
-    assert_eq!(&rt; write_image(alloc, &parts, 4)?.as_slice(), TWO.as_slice());
+// Appends the part of a component that stands in an example.
+fn push_part(
+    rt: &impl Abort,
+    alloc: Global,
+    parts: &mut Vec<Part>,
+    bytes: &[u8],
+    trusted: bool,
+) -> Result<(), FileFault> {
+    assert!(rt; bytes.len() < 1000);
+    let part = accepted(rt, decode_component(alloc, bytes)?, trusted);
+    parts.push(part)?;
     Ok(())
 }
 
-// It starts at `main`, below the stack that it tells of, and halts at once.
-fn halts(rt: &impl Abort, start: Start) {
+// Whether the parts are written as these bytes.
+fn is_image(
+    rt: &impl Abort,
+    alloc: Global,
+    parts: &[Part],
+    bytes: &[u8],
+) -> Result<bool, AllocError> {
+    assert!(rt; parts.len() < 17);
+    let image = write_image(alloc, parts, 4)?;
+    Ok(image.as_slice() == bytes)
+}
+
+fn are_written(rt: &impl Abort, alloc: Global, parts: &mut Vec<Part>) -> Result<(), FileFault> {
+    let (_, one) = ONE.split_at(17);
+    push_part(rt, alloc, parts, one, false)?;
+    assert!(rt; is_image(rt, alloc, parts, ONE)?);
+    let (_, two) = TWO.split_at(112);
+    push_part(rt, alloc, parts, two, true)?;
+    assert!(rt; is_image(rt, alloc, parts, TWO)?);
+    Ok(())
+}
+
+#[test]
+fn an_example_is_written(rt: HostRuntime) -> Result<(), Fail> {
+    let mut parts = Vec::new(rt.alloc());
+    are_written(&rt, rt.alloc(), &mut parts)?;
+    Ok(())
+}
+
+// It starts at `main`, below the stack that it tells of.
+fn begins(rt: &impl Abort, start: &Start) {
+    let state = start.state();
     assert_eq!(rt; (start.stack().base, start.stack().end), (65_536, 65_539));
-    let mut state = start.into_state();
     assert_eq!(rt;
         word_text(state.reg(Reg::Pc)).as_str(),
         "cap(rwx,nor,100,100,100)"
@@ -59,26 +84,45 @@ fn halts(rt: &impl Abort, start: Start) {
         word_text(state.reg(Reg::Stk)).as_str(),
         "cap(rw,lin,65536,65539,65539)"
     );
+}
+
+// It halts at once.
+fn halts(rt: &impl Abort, state: &mut LcmState) {
     assert_eq!(rt; state.count(), 0);
     assert_eq!(rt; state.run(10), Step::Halted);
     assert_eq!(rt; state.count(), 1);
 }
 
+fn runs(rt: &impl Abort, start: Start) {
+    begins(rt, &start);
+    halts(rt, &mut start.into_state());
+}
+
+fn has_both(start: &Start) -> bool {
+    match start.owners() {
+        [first, second] => {
+            !first.trusted
+                && second.trusted
+                && [first.part, first.closure, second.part, second.closure] == [0, 1, 1, 2]
+        }
+        _ => false,
+    }
+}
+
+fn one_runs(rt: &impl Abort, start: Start) {
+    assert_eq!(rt; start.owners().len(), 1);
+    runs(rt, start);
+}
+
+fn two_run(rt: &impl Abort, start: Start) {
+    assert!(rt; has_both(&start));
+    runs(rt, start);
+}
+
 #[test]
 fn an_example_is_loaded(rt: HostRuntime) -> Result<(), Fail> {
-    let start = loaded(&rt, rt.alloc(), ONE)?;
-    assert_eq!(&rt; start.owners().len(), 1);
-    halts(&rt, start);
-    let start = loaded(&rt, rt.alloc(), TWO)?;
-    let [first, second] = start.owners() else {
-        panic!(&rt; "not two owners");
-    };
-    assert!(&rt; !first.trusted && second.trusted);
-    assert_eq!(&rt;
-        (first.part, first.closure, second.part, second.closure),
-        (0, 1, 1, 2)
-    );
-    halts(&rt, start);
+    one_runs(&rt, loaded(&rt, rt.alloc(), ONE)?);
+    two_run(&rt, loaded(&rt, rt.alloc(), TWO)?);
     Ok(())
 }
 
@@ -94,17 +138,21 @@ fn replace(rt: &impl Abort, bytes: &mut Vec<u8>, at: usize, with: &[u8]) -> Resu
     Ok(())
 }
 
+// What is told of the bytes.
+fn told(rt: &impl Abort, alloc: Global, bytes: &[u8]) -> Result<String, AllocError> {
+    match loaded(rt, alloc, bytes) {
+        Ok(_) => String::from_str(alloc, "loads"),
+        Err(fault) => format!(in alloc; "{fault}"),
+    }
+}
+
 fn have_the_faults(rt: &impl Abort, alloc: Global, cases: &[Case]) -> Result<(), AllocError> {
     for (edits, wanted) in cases {
         let mut bytes = Vec::from_slice(alloc, ONE)?;
         for (at, with) in *edits {
             replace(rt, &mut bytes, *at, with)?;
         }
-        let found = match loaded(rt, alloc, &bytes) {
-            Ok(_) => format!(in alloc; "loads")?,
-            Err(fault) => format!(in alloc; "{fault}")?,
-        };
-        assert_eq!(rt; found.as_str(), *wanted, "{edits:?}");
+        assert_eq!(rt; told(rt, alloc, &bytes)?.as_str(), *wanted, "{edits:?}");
     }
     Ok(())
 }
@@ -116,19 +164,34 @@ fn the_first_fault_is_told(rt: HostRuntime) -> Result<(), Fail> {
     Ok(())
 }
 
+// Where the bytes are short, if they are.
+fn short_at(rt: &impl Abort, alloc: Global, bytes: &[u8]) -> Option<u32> {
+    match loaded(rt, alloc, bytes) {
+        Err(Short(place)) => Some(place),
+        _ => None,
+    }
+}
+
 // A field that is cut is short at its first byte, and a part's component is one field.
 #[test]
 fn each_cut_is_short(rt: HostRuntime) {
     let mut field = 0;
     for (at, _) in ONE.iter().enumerate() {
         if ONE_STARTS.contains(&at) {
-            field = at;
+            field = at as u32;
         }
         let (front, _) = ONE.split_at(at);
-        match loaded(&rt, rt.alloc(), front) {
-            Err(Short(place)) => assert_eq!(rt; place as usize, field, "at {at}"),
-            _ => panic!(rt; "at {at}"),
-        }
+        assert_eq!(rt; short_at(&rt, rt.alloc(), front), Some(field), "at {at}");
+    }
+}
+
+// Whether the bytes load, break a rule, have a part that is no component, or are no image.
+fn kind_of(rt: &impl Abort, alloc: Global, bytes: &[u8]) -> usize {
+    match loaded(rt, alloc, bytes) {
+        Ok(_) => 0,
+        Err(RuleFault(_)) => 1,
+        Err(File(_, _)) => 2,
+        Err(_) => 3,
     }
 }
 
@@ -142,16 +205,24 @@ fn each_byte_complemented(rt: HostRuntime) -> Result<(), Fail> {
     for (at, byte) in ONE.iter().enumerate() {
         let mut bytes = Vec::from_slice(rt.alloc(), ONE)?;
         replace(&rt, &mut bytes, at, &[!*byte])?;
-        let kind = match loaded(&rt, rt.alloc(), &bytes) {
-            Ok(_) => 0,
-            Err(RuleFault(_)) => 1,
-            Err(File(_, _)) => 2,
-            Err(_) => 3,
-        };
-        counts[kind] = counts[kind].saturating_add(1);
+        let kind = kind_of(&rt, rt.alloc(), &bytes);
+        if let Some(count) = counts.get_mut(kind) {
+            *count = count.saturating_add(1);
+        }
     }
     assert_eq!(rt; counts, [26, 8, 60, 13]);
     Ok(())
+}
+
+// The image of as many copies of one part.
+fn copies(rt: &impl Abort, alloc: Global, count: u8) -> Result<Vec<u8>, AllocError> {
+    let (header, part) = ONE.split_at(12);
+    let mut bytes = Vec::from_slice(alloc, header)?;
+    replace(rt, &mut bytes, 10, &[count])?;
+    for _ in 0..count {
+        bytes.extend_from_slice(part)?;
+    }
+    Ok(bytes)
 }
 
 // As many copies of one part as a number says: they are read, and then the rules L are asked.
@@ -162,17 +233,8 @@ fn sixteen_parts_are_read(rt: HostRuntime) -> Result<(), Fail> {
         (16, "1 L1 0"),
         (17, "the field at byte 10 is not valid"),
     ] {
-        let (header, part) = ONE.split_at(12);
-        let mut bytes = Vec::from_slice(rt.alloc(), header)?;
-        replace(&rt, &mut bytes, 10, &[count])?;
-        for _ in 0..count {
-            bytes.extend_from_slice(part)?;
-        }
-        assert!(&rt; bytes.len() < 10_000);
-        match load_image(rt.alloc(), &bytes) {
-            Ok(_) => panic!(&rt; "loaded"),
-            Err(fault) => assert_eq!(&rt; format!(in rt.alloc(); "{fault}")?.as_str(), wanted),
-        }
+        let bytes = copies(&rt, rt.alloc(), count)?;
+        assert_eq!(&rt; told(&rt, rt.alloc(), &bytes)?.as_str(), wanted);
     }
     Ok(())
 }
@@ -203,8 +265,7 @@ fn each_fault_has_its_number_its_place_and_its_text(rt: HostRuntime) -> Result<(
         (NoMemory, 8, 0, "out of memory"),
     ];
     for (fault, number, place, text) in faults {
-        assert_eq!(rt; fault.number(), number);
-        assert_eq!(rt; fault.place(), place);
+        assert_eq!(rt; (fault.number(), fault.place()), (number, place));
         assert_eq!(rt; format!(in rt.alloc(); "{fault}")?.as_str(), text);
     }
     Ok(())

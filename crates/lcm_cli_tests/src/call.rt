@@ -3,6 +3,7 @@ use lcm_cli::{Status, stk_main};
 use lcm_machine::LcmState;
 use outside_io::{MemFiles, MemSink};
 use std::alloc::{AllocError, Global};
+use std::process::Abort;
 use std::test::Fail;
 
 /// What a call came to: its status, what it wrote, and the count of the machine that it kept.
@@ -26,6 +27,27 @@ pub(crate) fn expected(
     })
 }
 
+// Each value that owns much goes to a function of its own: each way out of a function that has one is
+// proved at length.
+fn words_of(alloc: Global, line: &str) -> Result<Vec<String>, AllocError> {
+    let mut words = Vec::new(alloc);
+    for word in line.split_whitespace() {
+        words.push(String::from_str(alloc, word)?)?;
+    }
+    Ok(words)
+}
+
+fn stk(
+    alloc: Global,
+    words: &Vec<String>,
+    files: &mut MemFiles,
+    out: &mut MemSink,
+) -> (Status, Option<u64>) {
+    let mut kept: Option<LcmState> = None;
+    let status = stk_main(alloc, words, files, out, &mut kept);
+    (status, kept.as_ref().map(|machine| machine.count()))
+}
+
 /// Calls the program with the words of a line, which are parted by blanks.
 pub(crate) fn call(
     alloc: Global,
@@ -33,16 +55,12 @@ pub(crate) fn call(
     files: &mut MemFiles,
     out: &mut MemSink,
 ) -> Result<Told, Fail> {
-    let mut words = Vec::new(alloc);
-    for word in line.split_whitespace() {
-        words.push(String::from_str(alloc, word)?)?;
-    }
-    let mut kept: Option<LcmState> = None;
-    let status = stk_main(alloc, &words, files, out, &mut kept);
+    let words = words_of(alloc, line)?;
+    let (status, count) = stk(alloc, &words, files, out);
     Ok(Told {
         status,
         text: String::from_utf8_lossy(alloc, out.bytes())?,
-        count: kept.as_ref().map(|machine| machine.count()),
+        count,
     })
 }
 
@@ -50,6 +68,82 @@ pub(crate) fn call(
 pub(crate) fn run(alloc: Global, line: &str, files: &mut MemFiles) -> Result<Told, Fail> {
     let mut out = MemSink::new(alloc)?;
     call(alloc, line, files, &mut out)
+}
+
+/// A line of words, and what its call is to come to: the status, the text, and the machine's count.
+pub(crate) type Case<'a> = (&'a str, Status, &'a str, Option<u64>);
+
+/// The call of a case over these files comes to what is told.
+pub(crate) fn is_told(
+    rt: &impl Abort,
+    alloc: Global,
+    files: &mut MemFiles,
+    case: Case<'_>,
+) -> Result<(), Fail> {
+    let (line, status, text, count) = case;
+    let got = run(alloc, line, files)?;
+    assert_eq!(rt; got, expected(alloc, status, text, count)?, "{line}");
+    Ok(())
+}
+
+/// The calls of some cases, one after the other.
+pub(crate) fn are_told(
+    rt: &impl Abort,
+    alloc: Global,
+    files: &mut MemFiles,
+    cases: &[Case<'_>],
+) -> Result<(), Fail> {
+    for case in cases {
+        is_told(rt, alloc, files, *case)?;
+    }
+    Ok(())
+}
+
+/// The calls of some lines come to the same.
+pub(crate) fn all_are_told(
+    rt: &impl Abort,
+    alloc: Global,
+    files: &mut MemFiles,
+    lines: &[&str],
+    told: (Status, &str, Option<u64>),
+) -> Result<(), Fail> {
+    let (status, text, count) = told;
+    for line in lines {
+        is_told(rt, alloc, files, (*line, status, text, count))?;
+    }
+    Ok(())
+}
+
+/// The call of a case over a sink whose write of this number fails.
+pub(crate) fn is_told_unwritten(
+    rt: &impl Abort,
+    alloc: Global,
+    files: &mut MemFiles,
+    unwritten: u32,
+    case: Case<'_>,
+) -> Result<(), Fail> {
+    let (line, status, text, count) = case;
+    let mut out = MemSink::new(alloc)?;
+    out.fail_at(unwritten);
+    let got = call(alloc, line, files, &mut out)?;
+    assert_eq!(rt;
+        got,
+        expected(alloc, status, text, count)?,
+        "{line} {unwritten}"
+    );
+    Ok(())
+}
+
+/// The call of a case over the one file `one.asm`.
+pub(crate) fn text_is_told(
+    rt: &impl Abort,
+    alloc: Global,
+    text: &str,
+    case: Case<'_>,
+) -> Result<(), Fail> {
+    let mut files = MemFiles::new(alloc)?;
+    files.add("one.asm", text.as_bytes())?;
+    is_told(rt, alloc, &mut files, case)
 }
 
 /// The text of the part `one` with these lines of code and this integer.
@@ -121,14 +215,7 @@ pub(crate) fn component(alloc: Global, part: &Small) -> Result<Vec<u8>, AllocErr
     Ok(bytes)
 }
 
-/// The files that most calls are made over: `one.asm` and `one.stc`; `two.stc`, which stands well
-/// beside them, and three that differ from it in one number; `near.stc`, whose data touches its
-/// code; `bad.asm`, which begins with an instruction; and `empty.stc` of no bytes.
-pub(crate) fn files(alloc: Global) -> Result<MemFiles, Fail> {
-    let mut files = MemFiles::new(alloc)?;
-    files.add("one.asm", text(alloc, "halt\n", "0")?.as_bytes())?;
-    files.add("bad.asm", b"halt\n")?;
-    files.add("empty.stc", b"")?;
+fn add_parts(alloc: Global, files: &mut MemFiles) -> Result<(), Fail> {
     for (name, part) in [
         ("one.stc", ONE),
         ("two.stc", TWO),
@@ -151,5 +238,22 @@ pub(crate) fn files(alloc: Global) -> Result<MemFiles, Fail> {
     ] {
         files.add(name, component(alloc, &part)?.as_slice())?;
     }
+    Ok(())
+}
+
+fn add_texts(alloc: Global, files: &mut MemFiles) -> Result<(), Fail> {
+    files.add("one.asm", text(alloc, "halt\n", "0")?.as_bytes())?;
+    files.add("bad.asm", b"halt\n")?;
+    files.add("empty.stc", b"")?;
+    Ok(())
+}
+
+/// The files that most calls are made over: `one.asm` and `one.stc`; `two.stc`, which stands well
+/// beside them, and three that differ from it in one number; `near.stc`, whose data touches its
+/// code; `bad.asm`, which begins with an instruction; and `empty.stc` of no bytes.
+pub(crate) fn files(alloc: Global) -> Result<MemFiles, Fail> {
+    let mut files = MemFiles::new(alloc)?;
+    add_texts(alloc, &mut files)?;
+    add_parts(alloc, &mut files)?;
     Ok(files)
 }

@@ -1,59 +1,47 @@
 //! Faults outside.
-use crate::call::{call, expected, files, run};
+use crate::call::{files, is_told, is_told_unwritten};
 use lcm_cli::Status;
-use outside_io::MemSink;
+use std::alloc::Global;
+use std::process::Abort;
 use std::test::Fail;
 
-#[test]
-fn a_read_that_fails_is_told_at_each_part(rt: HostRuntime) -> Result<(), Fail> {
-    let alloc = rt.alloc();
-    // Each of these files is read by two calls: the second one gives no more bytes.
-    for number in [1, 2, 3, 4] {
-        let mut files = files(alloc)?;
-        files.fail_at(number);
-        let got = run(alloc, "run u:one.stc u:two.stc", &mut files)?;
-        assert_eq!(rt;
-            got,
-            expected(alloc, Status::ReadFault, "read fault\n", None)?,
-            "{number}"
-        );
-    }
+const TWO_PARTS: &str = "run u:one.stc u:two.stc";
+
+fn is_unread(rt: &impl Abort, alloc: Global, number: u32) -> Result<(), Fail> {
     let mut files = files(alloc)?;
-    files.fail_at(5);
-    let got = run(alloc, "run u:one.stc u:two.stc", &mut files)?;
-    assert_eq!(rt;
-        got,
-        expected(alloc, Status::Done, "halted 0 steps 1\n", Some(1))?
-    );
-    Ok(())
+    files.fail_at(number);
+    let case = (TWO_PARTS, Status::ReadFault, "read fault\n", None);
+    is_told(rt, alloc, &mut files, case)
 }
 
 #[test]
+fn a_read_that_fails_is_told_at_each_part(rt: HostRuntime) -> Result<(), Fail> {
+    // Each of these files is read by two calls: the second one gives no more bytes.
+    for number in [1, 2, 3, 4] {
+        is_unread(&rt, rt.alloc(), number)?;
+    }
+    let mut files = files(rt.alloc())?;
+    files.fail_at(5);
+    let case = (TWO_PARTS, Status::Done, "halted 0 steps 1\n", Some(1));
+    is_told(&rt, rt.alloc(), &mut files, case)
+}
+
+static LINES: [&str; 5] = [
+    "run u:one.asm",
+    "check u:one.stc",
+    "run u:empty.stc",
+    "run u:missing.stc",
+    "run",
+];
+
+#[test]
 fn a_write_that_fails_keeps_no_machine(rt: HostRuntime) -> Result<(), Fail> {
-    let alloc = rt.alloc();
-    for line in [
-        "run u:one.asm",
-        "check u:one.stc",
-        "run u:empty.stc",
-        "run u:missing.stc",
-        "run",
-    ] {
-        let mut out = MemSink::new(alloc)?;
-        out.fail_at(1);
-        let got = call(alloc, line, &mut files(alloc)?, &mut out)?;
-        assert_eq!(rt;
-            got,
-            expected(alloc, Status::WriteFault, "", None)?,
-            "{line}"
-        );
+    let mut files = files(rt.alloc())?;
+    for line in &LINES {
+        let case = (*line, Status::WriteFault, "", None);
+        is_told_unwritten(&rt, rt.alloc(), &mut files, 1, case)?;
     }
     // The line is one piece: a second write never comes.
-    let mut out = MemSink::new(alloc)?;
-    out.fail_at(2);
-    let got = call(alloc, "run u:one.asm", &mut files(alloc)?, &mut out)?;
-    assert_eq!(rt;
-        got,
-        expected(alloc, Status::Done, "halted 0 steps 1\n", Some(1))?
-    );
-    Ok(())
+    let case = ("run u:one.asm", Status::Done, "halted 0 steps 1\n", Some(1));
+    is_told_unwritten(&rt, rt.alloc(), &mut files, 2, case)
 }

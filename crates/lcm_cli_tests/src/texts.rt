@@ -1,5 +1,5 @@
 //! Parts that are assembler texts.
-use crate::call::{expected, run};
+use crate::call::{Case, is_told, text_is_told};
 use lcm_cli::Status;
 use outside_io::MemFiles;
 use std::alloc::{AllocError, Global};
@@ -75,29 +75,41 @@ right: .seal 21 21 21\n\
 .int 0\n\
 .export add add shared\n";
 
-#[test]
-fn parts_call_each_other_by_sealed_pairs(rt: HostRuntime) -> Result<(), Fail> {
-    let alloc = rt.alloc();
-    for (other, status, text, count) in [
-        (ADDER, Status::Done, "halted 42 steps 17\n", 17),
+// What the part `adder` is, and what a run comes to.
+static PAIRS: [(&str, Case<'static>); 3] = [
+    (
+        ADDER,
+        (PAIR, Status::Done, "halted 42 steps 17\n", Some(17)),
+    ),
+    (
+        THIEF,
         (
-            THIEF,
+            PAIR,
             Status::MachineFailed,
             "failed 12288 F6 steps 15\n",
-            15,
+            Some(15),
         ),
+    ),
+    (
+        FORGER,
         (
-            FORGER,
+            PAIR,
             Status::MachineFailed,
             "failed 12292 F12 steps 19\n",
-            19,
+            Some(19),
         ),
-    ] {
-        let mut files = MemFiles::new(alloc)?;
-        files.add("asker.asm", ASKER.as_bytes())?;
+    ),
+];
+
+const PAIR: &str = "run u:asker.asm u:adder.asm";
+
+#[test]
+fn parts_call_each_other_by_sealed_pairs(rt: HostRuntime) -> Result<(), Fail> {
+    let mut files = MemFiles::new(rt.alloc())?;
+    files.add("asker.asm", ASKER.as_bytes())?;
+    for (other, case) in &PAIRS {
         files.add("adder.asm", other.as_bytes())?;
-        let got = run(alloc, "run u:asker.asm u:adder.asm", &mut files)?;
-        assert_eq!(rt; got, expected(alloc, status, text, Some(count))?, "{text}");
+        is_told(&rt, rt.alloc(), &mut files, *case)?;
     }
     Ok(())
 }
@@ -109,66 +121,71 @@ fn one(alloc: Global, linear: &str, code: &str, data: &str) -> Result<String, Al
     )
 }
 
-#[test]
-fn linear_words_stay_single(rt: HostRuntime) -> Result<(), Fail> {
-    let alloc = rt.alloc();
-    for (size, linear, code, data, status, text, count) in [
+// A linear area, words of code and of data, and what a run of the part comes to.
+static LINEAR: [(&str, &str, &str, Case<'static>); 5] = [
+    (
+        "",
+        "split stk g0 stk 65539\nhalt\n",
+        ".int 0\n",
         (
-            "4",
-            "",
-            "split stk g0 stk 65539\nhalt\n",
-            ".int 0\n",
+            "run --stack 4 u:one.asm",
             Status::MachineFailed,
             "failed 100 F13 steps 1\n",
             Some(1),
         ),
+    ),
+    (
+        "",
+        "split stk g0 stk 65538\nmove a0 g0\nhalt\n",
+        ".int 0\n",
         (
-            "4",
-            "",
-            "split stk g0 stk 65538\nmove a0 g0\nhalt\n",
-            ".int 0\n",
+            "run --stack 4 u:one.asm",
             Status::Done,
             "halted cap(rw,lin,65539,65539,65539) steps 3\n",
             Some(3),
         ),
+    ),
+    (
+        ".linear 300 4\n",
+        "restrict data 1\nload g0 data\nhalt\n",
+        ".cap rw lin 300 303 300\n",
         (
-            "64",
-            ".linear 300 4\n",
-            "restrict data 1\nload g0 data\nhalt\n",
-            ".cap rw lin 300 303 300\n",
+            "run --stack 64 u:one.asm",
             Status::MachineFailed,
             "failed 101 F10 steps 2\n",
             Some(2),
         ),
-        // An address that belongs to nobody lies between the stack and the linear area.
+    ),
+    // An address that belongs to nobody lies between the stack and the linear area.
+    (
+        ".linear 65601 16\n",
+        "load g0 data\nsplice stk stk g0\nhalt\n",
+        ".cap rw lin 65601 65616 65601\n",
         (
-            "64",
-            ".linear 65601 16\n",
-            "load g0 data\nsplice stk stk g0\nhalt\n",
-            ".cap rw lin 65601 65616 65601\n",
+            "run --stack 64 u:one.asm",
             Status::MachineFailed,
             "failed 101 F14 steps 2\n",
             Some(2),
         ),
+    ),
+    (
+        ".linear 65600 16\n",
+        "load g0 data\nsplice stk stk g0\nhalt\n",
+        ".cap rw lin 65600 65615 65600\n",
         (
-            "64",
-            ".linear 65600 16\n",
-            "load g0 data\nsplice stk stk g0\nhalt\n",
-            ".cap rw lin 65600 65615 65600\n",
+            "run --stack 64 u:one.asm",
             Status::RuleBroken,
             "rule 1 L1 0\n",
             None,
         ),
-    ] {
-        let mut files = MemFiles::new(alloc)?;
-        files.add("one.asm", one(alloc, linear, code, data)?.as_bytes())?;
-        let words = format!(in alloc; "run --stack {size} u:one.asm")?;
-        let got = run(alloc, words.as_str(), &mut files)?;
-        assert_eq!(rt;
-            got,
-            expected(alloc, status, text, count)?,
-            "{linear}{code}"
-        );
+    ),
+];
+
+#[test]
+fn linear_words_stay_single(rt: HostRuntime) -> Result<(), Fail> {
+    for (linear, code, data, case) in &LINEAR {
+        let text = one(rt.alloc(), linear, code, data)?;
+        text_is_told(&rt, rt.alloc(), text.as_str(), *case)?;
     }
     Ok(())
 }

@@ -1,7 +1,7 @@
 //! Parts that are marked trusted.
-use crate::call::{call, expected, run};
+use crate::call::{Case, are_told, is_told, is_told_unwritten};
 use lcm_cli::Status;
-use outside_io::{MemFiles, MemSink};
+use outside_io::MemFiles;
 use std::test::Fail;
 
 // An entry at 2, a call at 25, and three words before it that jump into it.
@@ -70,19 +70,16 @@ halt\n\
 .fail 0\n\
 .literal 1\n";
 
+static CHECKS: [Case<'static>; 2] = [
+    ("check t:t.asm", Status::RuleBroken, "rule 0 K7 24\n", None),
+    ("check u:t.asm", Status::Done, "ok\n", None),
+];
+
 #[test]
 fn a_jump_into_a_call_is_told_of_a_trusted_part(rt: HostRuntime) -> Result<(), Fail> {
-    let alloc = rt.alloc();
-    let mut files = MemFiles::new(alloc)?;
+    let mut files = MemFiles::new(rt.alloc())?;
     files.add("t.asm", PART.as_bytes())?;
-    for (line, status, text) in [
-        ("check t:t.asm", Status::RuleBroken, "rule 0 K7 24\n"),
-        ("check u:t.asm", Status::Done, "ok\n"),
-    ] {
-        let got = run(alloc, line, &mut files)?;
-        assert_eq!(rt; got, expected(alloc, status, text, None)?, "{line}");
-    }
-    Ok(())
+    are_told(&rt, rt.alloc(), &mut files, &CHECKS)
 }
 
 // A trusted part: an entry at 2, and then a call of what it imports.
@@ -299,112 +296,128 @@ xjmp c1 c2\n\
 .import t again 0\n\
 .export go 0 shared\n";
 
-#[test]
-fn runs_and_traces_of_trusted_parts_write_their_events(rt: HostRuntime) -> Result<(), Fail> {
-    let alloc = rt.alloc();
-    let mut files = MemFiles::new(alloc)?;
+const CALLED: &str = "call out t 0 65599 65599 0 0 0 0 : cap(rw,nor,8192,8193,8193)\n";
+
+const RETURNED: &str = "ret out t 0 65599 65599 0 : cap(rw,nor,8192,8193,8193)\n";
+
+const ENTERED: &str = "enter t again cap(rw,lin,65536,65598,65598) 0 0 0 0 pair:t:0:65599\n";
+
+// The words, the two events, the end line, the status and the machine's count.
+static EVENTS: [(&str, &str, &str, &str, Status, Option<u64>); 8] = [
+    (
+        "run --stack 64 t:t.asm u:back.asm",
+        CALLED,
+        RETURNED,
+        "halted 0 steps 51\n",
+        Status::Done,
+        Some(51),
+    ),
+    (
+        "trace --stack 64 t:t.asm u:back.asm",
+        CALLED,
+        RETURNED,
+        "halted 0 steps 51\n",
+        Status::Done,
+        None,
+    ),
+    (
+        "run --stack 64 t:again.asm u:enters.asm",
+        CALLED,
+        ENTERED,
+        "failed 4137 F14 steps 82\n",
+        Status::MachineFailed,
+        Some(82),
+    ),
+    (
+        "trace --stack 64 t:again.asm u:enters.asm",
+        CALLED,
+        ENTERED,
+        "failed 4170 steps 65\n",
+        Status::MachineFailed,
+        None,
+    ),
+    (
+        "run --stack 64 --steps 81 t:again.asm u:enters.asm",
+        CALLED,
+        ENTERED,
+        "running 4137 steps 81\n",
+        Status::StepsUsed,
+        Some(81),
+    ),
+    (
+        "trace --stack 64 --steps 81 t:again.asm u:enters.asm",
+        CALLED,
+        ENTERED,
+        "running 4170 steps 65\n",
+        Status::StepsUsed,
+        None,
+    ),
+    (
+        "run --stack 64 u:t.asm u:back.asm",
+        "",
+        "",
+        "halted 0 steps 51\n",
+        Status::Done,
+        Some(51),
+    ),
+    (
+        "trace --stack 64 u:t.asm u:back.asm",
+        "",
+        "",
+        "halted 0 steps 51\n",
+        Status::Done,
+        None,
+    ),
+];
+
+fn add_files(files: &mut MemFiles) -> Result<(), Fail> {
     files.add("t.asm", CALLER.as_bytes())?;
     files.add("back.asm", BACK.as_bytes())?;
     files.add("again.asm", AGAIN.as_bytes())?;
     files.add("enters.asm", ENTERS.as_bytes())?;
-    let called = "call out t 0 65599 65599 0 0 0 0 : cap(rw,nor,8192,8193,8193)\n";
-    let returned = "ret out t 0 65599 65599 0 : cap(rw,nor,8192,8193,8193)\n";
-    let entered = "enter t again cap(rw,lin,65536,65598,65598) 0 0 0 0 pair:t:0:65599\n";
-    for (line, events, end, status, count) in [
-        (
-            "run --stack 64 t:t.asm u:back.asm",
-            [called, returned],
-            "halted 0 steps 51\n",
-            Status::Done,
-            Some(51),
-        ),
-        (
-            "trace --stack 64 t:t.asm u:back.asm",
-            [called, returned],
-            "halted 0 steps 51\n",
-            Status::Done,
-            None,
-        ),
-        (
-            "run --stack 64 t:again.asm u:enters.asm",
-            [called, entered],
-            "failed 4137 F14 steps 82\n",
-            Status::MachineFailed,
-            Some(82),
-        ),
-        (
-            "trace --stack 64 t:again.asm u:enters.asm",
-            [called, entered],
-            "failed 4170 steps 65\n",
-            Status::MachineFailed,
-            None,
-        ),
-        (
-            "run --stack 64 --steps 81 t:again.asm u:enters.asm",
-            [called, entered],
-            "running 4137 steps 81\n",
-            Status::StepsUsed,
-            Some(81),
-        ),
-        (
-            "trace --stack 64 --steps 81 t:again.asm u:enters.asm",
-            [called, entered],
-            "running 4170 steps 65\n",
-            Status::StepsUsed,
-            None,
-        ),
-        (
-            "run --stack 64 u:t.asm u:back.asm",
-            ["", ""],
-            "halted 0 steps 51\n",
-            Status::Done,
-            Some(51),
-        ),
-        (
-            "trace --stack 64 u:t.asm u:back.asm",
-            ["", ""],
-            "halted 0 steps 51\n",
-            Status::Done,
-            None,
-        ),
-    ] {
-        let [first, second] = events;
-        let text = format!(in alloc; "{first}{second}{end}")?;
-        let got = run(alloc, line, &mut files)?;
-        assert_eq!(rt;
-            got,
-            expected(alloc, status, text.as_str(), count)?,
-            "{line}"
-        );
+    Ok(())
+}
+
+#[test]
+fn runs_and_traces_of_trusted_parts_write_their_events(rt: HostRuntime) -> Result<(), Fail> {
+    let mut files = MemFiles::new(rt.alloc())?;
+    add_files(&mut files)?;
+    for (line, first, second, end, status, count) in &EVENTS {
+        let text = format!(in rt.alloc(); "{first}{second}{end}")?;
+        is_told(
+            &rt,
+            rt.alloc(),
+            &mut files,
+            (*line, *status, text.as_str(), *count),
+        )?;
     }
-    // A call and a return are a head, a word and a newline each; then comes the end line.
-    for line in [
-        "run --stack 64 t:t.asm u:back.asm",
-        "trace --stack 64 t:t.asm u:back.asm",
-    ] {
-        for (unwritten, text) in [
-            (1, ""),
-            (2, "call out t 0 65599 65599 0 0 0 0 :"),
-            (4, called),
-        ] {
-            let mut out = MemSink::new(alloc)?;
-            out.fail_at(unwritten);
-            let got = call(alloc, line, &mut files, &mut out)?;
-            assert_eq!(rt;
-                got,
-                expected(alloc, Status::WriteFault, text, None)?,
-                "{line} {unwritten}"
-            );
+    Ok(())
+}
+
+static LINES: [&str; 2] = [
+    "run --stack 64 t:t.asm u:back.asm",
+    "trace --stack 64 t:t.asm u:back.asm",
+];
+
+// The number of the write that fails, and the two pieces that were written before it.
+static UNWRITTEN: [(u32, &str, &str); 4] = [
+    (1, "", ""),
+    (2, "call out t 0 65599 65599 0 0 0 0 :", ""),
+    (4, CALLED, ""),
+    (7, CALLED, RETURNED),
+];
+
+// A call and a return are a head, a word and a newline each; then comes the end line.
+#[test]
+fn a_write_of_an_event_that_fails_is_the_last_one(rt: HostRuntime) -> Result<(), Fail> {
+    let mut files = MemFiles::new(rt.alloc())?;
+    add_files(&mut files)?;
+    for line in &LINES {
+        for (unwritten, first, second) in &UNWRITTEN {
+            let text = format!(in rt.alloc(); "{first}{second}")?;
+            let case = (*line, Status::WriteFault, text.as_str(), None);
+            is_told_unwritten(&rt, rt.alloc(), &mut files, *unwritten, case)?;
         }
-        let mut out = MemSink::new(alloc)?;
-        out.fail_at(7);
-        let got = call(alloc, line, &mut files, &mut out)?;
-        let text = format!(in alloc; "{called}{returned}")?;
-        assert_eq!(rt;
-            got,
-            expected(alloc, Status::WriteFault, text.as_str(), None)?,
-            "{line}"
-        );
     }
     Ok(())
 }

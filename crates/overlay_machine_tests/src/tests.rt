@@ -1,11 +1,12 @@
 //! The overlay machine over starts without trusted parts, where each step is a row of the table. The
 //! ends and the words were worked out by hand.
 use cap_words::word_text;
-use component_file::{FileFault, decode_component};
-use component_linker::{Start, accept, link};
+use component_file::{Component, FileFault, decode_component};
+use component_linker::{Part, Start, accept, link};
 use lcm_isa::Instr::{Getlin, Halt, Load, Move, Plus, Split, Store, Xjmp};
 use lcm_isa::Operand::{Imm, R};
 use lcm_isa::{Instr, Reg, encode};
+use lcm_machine::LcmState;
 use overlay_machine::{OStep, Overlay};
 use std::alloc::{AllocError, Global};
 use std::process::Abort;
@@ -120,32 +121,56 @@ fn bytes_of(alloc: Global, code: &[Instr], data_word: i64) -> Result<Vec<u8>, Al
     Ok(bytes)
 }
 
-// The start of that part alone.
-fn start_of(rt: &impl Abort, alloc: Global, program: &Program) -> Result<Start, FileFault> {
+// Each value that owns much goes to a function of its own: each way out of a function that has one is
+// proved at length.
+fn accepted(rt: &impl Abort, component: Component) -> Part {
+    match accept(component, false) {
+        Ok(part) => part,
+        Err(broken) => panic!(rt; "{broken}"),
+    }
+}
+
+fn part_of(rt: &impl Abort, alloc: Global, program: &Program) -> Result<Part, FileFault> {
     let bytes = bytes_of(alloc, program.0, program.1)?;
     assert!(rt; bytes.len() < 10_000);
-    let Ok(part) = accept(decode_component(alloc, &bytes)?, false) else {
-        panic!(rt; "not accepted");
-    };
-    let mut parts = Vec::new(alloc);
-    parts.push(part)?;
-    match link(alloc, &parts, program.2) {
-        Ok(start) => Ok(start),
+    Ok(accepted(rt, decode_component(alloc, &bytes)?))
+}
+
+/// The start of these parts.
+pub(crate) fn linked(rt: &impl Abort, alloc: Global, parts: &[Part], stack: u32) -> Start {
+    assert!(rt; parts.len() < 17);
+    match link(alloc, parts, stack) {
+        Ok(start) => start,
         Err(fault) => panic!(rt; "{fault}"),
     }
 }
 
-// The words of some registers, and of the data's cell, are those of the plain machine.
-fn same_words(rt: &impl Abort, overlay: &Overlay, start: &Start) {
+// The start of that part alone.
+fn start_of(rt: &impl Abort, alloc: Global, program: &Program) -> Result<Start, FileFault> {
+    let mut parts = Vec::new(alloc);
+    parts.push(part_of(rt, alloc, program)?)?;
+    Ok(linked(rt, alloc, &parts, program.2))
+}
+
+fn same_registers(rt: &impl Abort, overlay: &Overlay, state: &LcmState) {
     for r in [Reg::Pc, Reg::Stk, Reg::Dat, Reg::A0, Reg::G0] {
         let flat = overlay.flat_text(overlay.reg(r));
-        assert_eq!(rt; flat.as_str(), word_text(start.state().reg(r)).as_str());
+        assert!(rt; flat.as_str() == word_text(state.reg(r)).as_str());
     }
-    assert!(rt; overlay.has_cell(200) && start.state().has_cell(200));
-    let flat = overlay.flat_text(overlay.cell(200));
-    assert_eq!(rt; flat.as_str(), word_text(start.state().cell(200)).as_str());
+}
+
+fn same_cell(rt: &impl Abort, overlay: &Overlay, state: &LcmState, at: u32) {
+    assert!(rt; overlay.has_cell(at) && state.has_cell(at));
+    let flat = overlay.flat_text(overlay.cell(at));
+    assert!(rt; flat.as_str() == word_text(state.cell(at)).as_str());
+}
+
+// The words of some registers, and of the data's cell, are those of the plain machine.
+fn same_words(rt: &impl Abort, overlay: &Overlay, start: &Start) {
+    same_registers(rt, overlay, start.state());
+    same_cell(rt, overlay, start.state(), 200);
     assert!(rt; !overlay.has_cell(99));
-    assert_eq!(rt; overlay.frame_size(), 0);
+    assert!(rt; overlay.frame_size() == 0);
 }
 
 // One step, which weighs 1. Both machines make it.
@@ -156,20 +181,34 @@ fn step(rt: &impl Abort, overlay: &mut Overlay, start: &mut Start) -> OStep {
     overlay.step()
 }
 
-fn runs(rt: &impl Abort, alloc: Global, program: &Program) -> Result<(), FileFault> {
+fn runs_as_told(rt: &impl Abort, overlay: &mut Overlay, start: &mut Start, program: &Program) {
     let (_, _, _, end, weight, a0) = *program;
-    let mut start = start_of(rt, alloc, program)?;
-    let mut overlay = Overlay::of_start(alloc, &start)?;
-    same_words(rt, &overlay, &start);
+    same_words(rt, overlay, start);
     for _ in 0..weight {
-        assert_eq!(rt; step(rt, &mut overlay, &mut start), OStep::Went(None));
-        same_words(rt, &overlay, &start);
+        assert!(rt; step(rt, overlay, start) == OStep::Went(None));
+        same_words(rt, overlay, start);
     }
-    assert_eq!(rt; step(rt, &mut overlay, &mut start), end);
-    assert_eq!(rt; step(rt, &mut overlay, &mut start), end);
-    same_words(rt, &overlay, &start);
+    assert!(rt; step(rt, overlay, start) == end);
+    assert!(rt; step(rt, overlay, start) == end);
+    same_words(rt, overlay, start);
     assert_eq!(rt; overlay.weight(), weight);
     assert_eq!(rt; overlay.flat_text(overlay.reg(Reg::A0)).as_str(), a0);
+}
+
+fn start_runs(
+    rt: &impl Abort,
+    alloc: Global,
+    start: &mut Start,
+    program: &Program,
+) -> Result<(), AllocError> {
+    let mut overlay = Overlay::of_start(alloc, start)?;
+    runs_as_told(rt, &mut overlay, start, program);
+    Ok(())
+}
+
+fn runs(rt: &impl Abort, alloc: Global, program: &Program) -> Result<(), FileFault> {
+    let mut start = start_of(rt, alloc, program)?;
+    start_runs(rt, alloc, &mut start, program)?;
     Ok(())
 }
 

@@ -1,10 +1,12 @@
 //! The overlay machine over linked trusted parts: each case of a step, and each thing that it asks for, once.
 //! The events and the weights were worked out by hand from docs/OVERLAY.md.
+use crate::tests::linked;
 use assembler::assemble;
 use cap_words::{Cap, Held, Lin, Perm, Word, word_text};
-use component_linker::{Part, Start, accept, link};
+use component_file::Component;
+use component_linker::{Part, Start, accept};
 use lcm_isa::Reg;
-use lcm_machine::Place;
+use lcm_machine::{LcmState, Place};
 use overlay_machine::{Back, Event, OStep, Overlay};
 use std::alloc::{AllocError, Global};
 use std::process::Abort;
@@ -256,29 +258,39 @@ fn adv_text(alloc: Global, go: &[u8], back: &[u8]) -> Result<Vec<u8>, AllocError
     Ok(text)
 }
 
-fn part_of(rt: &impl Abort, alloc: Global, text: &[u8], trusted: bool) -> Part {
+fn assembled(rt: &impl Abort, alloc: Global, text: &[u8]) -> Component {
     assert!(rt; text.len() < 100_000);
-    let component = match assemble(alloc, text) {
+    match assemble(alloc, text) {
         Ok(component) => component,
         Err(fault) => panic!(rt; "not assembled: {} at {}", fault.number(), fault.place()),
-    };
-    match accept(component, trusted) {
+    }
+}
+
+fn part_of(rt: &impl Abort, alloc: Global, text: &[u8], trusted: bool) -> Part {
+    match accept(assembled(rt, alloc, text), trusted) {
         Ok(part) => part,
         Err(broken) => panic!(rt; "{broken}"),
     }
 }
 
+fn push_parts(
+    rt: &impl Abort,
+    alloc: Global,
+    parts: &mut Vec<Part>,
+    lines: [&[u8]; 5],
+) -> Result<(), AllocError> {
+    let t = trusted_text(alloc, lines[0], lines[1], lines[2])?;
+    parts.push(part_of(rt, alloc, t.as_slice(), true))?;
+    let adv = adv_text(alloc, lines[3], lines[4])?;
+    parts.push(part_of(rt, alloc, adv.as_slice(), false))?;
+    Ok(())
+}
+
 // The start of `t` and `adv` with these lines, and a stack of 64 words, 65,536 to 65,599.
 fn start_of(rt: &impl Abort, alloc: Global, lines: [&[u8]; 5]) -> Result<Start, AllocError> {
-    let t = trusted_text(alloc, lines[0], lines[1], lines[2])?;
-    let adv = adv_text(alloc, lines[3], lines[4])?;
     let mut parts = Vec::new(alloc);
-    parts.push(part_of(rt, alloc, t.as_slice(), true))?;
-    parts.push(part_of(rt, alloc, adv.as_slice(), false))?;
-    match link(alloc, &parts, 64) {
-        Ok(start) => Ok(start),
-        Err(fault) => panic!(rt; "{fault}"),
-    }
+    push_parts(rt, alloc, &mut parts, lines)?;
+    Ok(linked(rt, alloc, &parts, 64))
 }
 
 // By its letter, what a case has by hand, since linked parts never come to it: the own stack, integer 0, one
@@ -364,17 +376,22 @@ const REGS: [Reg; 16] = [
     Reg::G2,
 ];
 
+// The registers of the plain machine are what the overlay's words stand for.
+fn same_registers(rt: &impl Abort, overlay: &Overlay, state: &LcmState) {
+    for r in REGS {
+        let flat = overlay.flat_text(overlay.reg(r));
+        assert!(rt; flat.as_str() == word_text(state.reg(r)).as_str());
+    }
+}
+
 // The plain machine goes on for the weight of a step, and its registers are what the overlay's words stand
 // for; or it ends within the weight.
 fn plain_follows(rt: &impl Abort, overlay: &Overlay, start: &mut Start, weight: u32, went: bool) {
     assert!(rt; start.state().count() < 10_000);
     let step = start.state_mut().run(u64::from(weight));
     assert_eq!(rt; step == lcm_machine::Step::Went, went);
-    for r in REGS {
-        if went {
-            let flat = overlay.flat_text(overlay.reg(r));
-            assert_eq!(rt; flat.as_str(), word_text(start.state().reg(r)).as_str());
-        }
+    if went {
+        same_registers(rt, overlay, start.state());
     }
 }
 
@@ -399,24 +416,46 @@ fn step_text(alloc: Global, step: OStep, weight: u64, own: u32) -> Result<String
     }
 }
 
-// What is told of a run.
-fn told(
+// What is told of the steps of a run.
+fn steps_told(
     rt: &impl Abort,
     alloc: Global,
+    overlay: &mut Overlay,
     start: &mut Start,
     linked: bool,
 ) -> Result<String, AllocError> {
-    let mut overlay = Overlay::of_start(alloc, start)?;
     let mut text = String::new(alloc);
     for _ in 0..200 {
         let own = overlay.next_weight();
-        let step = step(rt, &mut overlay, start, linked);
+        let step = step(rt, overlay, start, linked);
         text.push_str(step_text(alloc, step, overlay.weight(), own)?.as_str())?;
         if !matches!(step, OStep::Went(_)) {
             break;
         }
     }
     Ok(text)
+}
+
+fn start_told(
+    rt: &impl Abort,
+    alloc: Global,
+    start: &mut Start,
+    linked: bool,
+) -> Result<String, AllocError> {
+    let mut overlay = Overlay::of_start(alloc, start)?;
+    steps_told(rt, alloc, &mut overlay, start, linked)
+}
+
+// What is told of a run.
+fn told(
+    rt: &impl Abort,
+    alloc: Global,
+    letter: u8,
+    lines: [&[u8]; 5],
+) -> Result<String, AllocError> {
+    let mut start = start_of(rt, alloc, lines)?;
+    set_by_hand(rt, &mut start, letter);
+    start_told(rt, alloc, &mut start, letter == b'-')
 }
 
 fn runs_as_told(rt: &impl Abort, alloc: Global, line: &[u8]) -> Result<(), AllocError> {
@@ -429,10 +468,8 @@ fn runs_as_told(rt: &impl Abort, alloc: Global, line: &[u8]) -> Result<(), Alloc
         fields.next().unwrap_or(b""),
         fields.next().unwrap_or(b""),
     ];
-    let mut start = start_of(rt, alloc, lines)?;
-    set_by_hand(rt, &mut start, letter);
-    let text = told(rt, alloc, &mut start, letter == b'-')?;
-    assert_eq!(rt; text.as_bytes(), fields.next().unwrap_or(b""), "{text}");
+    let text = told(rt, alloc, letter, lines)?;
+    assert!(rt; text.as_bytes() == fields.next().unwrap_or(b""), "{text}");
     Ok(())
 }
 
@@ -475,23 +512,31 @@ fn top_is(rt: &impl Abort, overlay: &Overlay, framed: bool, text: &str) {
     assert_eq!(rt; overlay.flat_text(word).as_str(), text);
 }
 
+fn stages_are(rt: &impl Abort, overlay: &mut Overlay) {
+    for (weight, words, framed, top) in &STAGES {
+        step_to(rt, overlay, *weight);
+        stands_for(rt, overlay, words);
+        top_is(rt, overlay, *framed, top);
+    }
+}
+
+fn leaves(rt: &impl Abort, alloc: Global, start: &Start) -> Result<(), AllocError> {
+    let mut overlay = Overlay::of_start(alloc, start)?;
+    stages_are(rt, &mut overlay);
+    Ok(())
+}
+
 #[test]
 fn what_an_entry_a_call_and_a_return_leave(rt: HostRuntime) -> Result<(), Fail> {
     let lines: [&[u8]; 5] = [b"", b"", b"halt", b"xjmp rcode rdata", b"halt"];
-    let start = start_of(&rt, rt.alloc(), lines)?;
-    let mut overlay = Overlay::of_start(rt.alloc(), &start)?;
-    for (weight, words, framed, top) in STAGES {
-        step_to(&rt, &mut overlay, weight);
-        stands_for(&rt, &overlay, words);
-        top_is(&rt, &overlay, framed, top);
-    }
+    leaves(&rt, rt.alloc(), &start_of(&rt, rt.alloc(), lines)?)?;
     Ok(())
 }
 
 // The weight so far, what registers stand for, whether the stack's highest word is in a frame, and that word.
 type Stage = (u64, &'static [(Reg, &'static str)], bool, &'static str);
 
-const STAGES: [Stage; 3] = [
+static STAGES: [Stage; 3] = [
     (20, &ENTERED, false, "0"),
     (39, &CALLED, true, "cap(rw,nor,8192,8197,8193)"),
     (50, &RETURNED, false, "0"),

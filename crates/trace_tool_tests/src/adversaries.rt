@@ -2,14 +2,14 @@
 //! was worked out by hand from docs/OVERLAY.md, docs/MACHINE.md and docs/COMMANDS.md.
 ghost use Rattle.std.specs.Prelude.{◌≡◌, None, IfOk};
 
-use crate::tests::{end_of, expected, text_of};
-use component_linker::{Part, Start, accept, link};
+use crate::parts::accepted;
+use crate::tests::{as_told, expected, linked, traced};
+use component_linker::{Part, Start};
 use outside_io::MemSink;
-use overlay_machine::Overlay;
 use std::alloc::{AllocError, Global};
 use std::process::Abort;
 use std::test::Fail;
-use trace_tool::{RunEnd, run_overlay, run_plain};
+use trace_tool::run_plain;
 
 // The trusted part. Its `main` calls `go` at offset 25 and halts; `again`, at 52, calls `back` at 76. It is
 // 103 words where a case has no lines before its calls (`first`, `second`) and one behind them (`last`).
@@ -512,32 +512,29 @@ fn part_of(
     template: &str,
     case: &str,
     trusted: bool,
-) -> Result<Part, Fail> {
+) -> Result<Part, AllocError> {
     let text = spelled(alloc, template, case)?;
-    let bytes = text.as_bytes();
-    assert!(rt; bytes.len() < 10_000);
-    match assembler::assemble(alloc, bytes) {
-        Ok(component) => {
-            match accept(component, trusted) {
-                Ok(part) => Ok(part),
-                Err(broken) => panic!(rt; "{case} breaks {broken}"),
-            }
-        }
-        Err(fault) => panic!(rt; "{case} has fault {} at {}", fault.number(), fault.place()),
-    }
+    Ok(accepted(rt, alloc, text.as_str(), trusted))
 }
 
-// The start of the two parts of a case with a stack of 64 words, 65,536 to 65,599.
-fn start_of(rt: &impl Abort, alloc: Global, case: &str) -> Result<Start, Fail>
+fn push_parts(
+    rt: &impl Abort,
+    alloc: Global,
+    parts: &mut Vec<Part>,
+    case: &str,
+) -> Result<(), AllocError> {
+    parts.push(part_of(rt, alloc, TRUSTED, case, true)?)?;
+    parts.push(part_of(rt, alloc, ADVERSARY, case, false)?)?;
+    Ok(())
+}
+
+// The start of the two parts of a case.
+fn start_of(rt: &impl Abort, alloc: Global, case: &str) -> Result<Start, AllocError>
     ensures { IfOk result (λ s. (s.state.count ≡ 0) × (s.state.end ≡ None)) }
 {
     let mut parts: Vec<Part> = Vec::new(alloc);
-    parts.push(part_of(rt, alloc, TRUSTED, case, true)?)?;
-    parts.push(part_of(rt, alloc, ADVERSARY, case, false)?)?;
-    match link(alloc, &parts, 64) {
-        Ok(start) => Ok(start),
-        Err(fault) => panic!(rt; "{fault}"),
-    }
+    push_parts(rt, alloc, &mut parts, case)?;
+    Ok(linked(rt, alloc, &parts))
 }
 
 // A text without its last line.
@@ -547,49 +544,41 @@ fn events(text: &str) -> &str {
     events
 }
 
-fn run(rt: &impl Abort, alloc: Global, case: &str, out: &mut MemSink) -> Result<RunEnd, Fail> {
+fn run(rt: &impl Abort, alloc: Global, case: &str, out: &mut MemSink) -> Result<(), Fail> {
     let mut start = start_of(rt, alloc, case)?;
-    Ok(run_plain(&mut start, 1000, out))
+    let end = run_plain(&mut start, 1000, out);
+    Ok(as_told(rt, alloc, case, "r ", end, out)?)
 }
 
-fn trace(rt: &impl Abort, alloc: Global, case: &str, out: &mut MemSink) -> Result<RunEnd, Fail> {
+fn trace(rt: &impl Abort, alloc: Global, case: &str, out: &mut MemSink) -> Result<(), Fail> {
     let start = start_of(rt, alloc, case)?;
-    let mut overlay = Overlay::of_start(alloc, &start)?;
-    Ok(run_overlay(&mut overlay, &start, 1000, out))
+    let end = traced(rt, alloc, &start, 1000, out)?;
+    Ok(as_told(rt, alloc, case, "t ", end, out)?)
 }
 
-// The text that was written, which is that of the case's lines with this mark.
-fn as_told(
-    rt: &impl Abort,
-    alloc: Global,
-    case: &str,
-    mark: &str,
-    end: RunEnd,
-    out: &MemSink,
-) -> Result<String, Fail> {
-    let name = said(case, "=", "");
-    let text = text_of(alloc, out)?;
-    let wanted = expected(alloc, case, mark)?;
-    assert_eq!(rt; text, wanted, "{mark}{name}");
-    assert_eq!(rt; end, end_of(wanted.as_str()), "{mark}{name}");
-    Ok(text)
+// Whether both runs wrote the same events: then what is expected of them has the same ones.
+fn same_events(alloc: Global, case: &str) -> Result<bool, AllocError> {
+    let plain = expected(alloc, case, "r ")?;
+    let traced = expected(alloc, case, "t ")?;
+    Ok(events(plain.as_str()) == events(traced.as_str()))
 }
 
 fn runs_as_told(rt: &impl Abort, alloc: Global, case: &str) -> Result<(), Fail> {
     let mut out = MemSink::new(alloc)?;
-    let end = run(rt, alloc, case, &mut out)?;
-    let plain = as_told(rt, alloc, case, "r ", end, &out)?;
+    run(rt, alloc, case, &mut out)
+}
+
+fn traces_as_told(rt: &impl Abort, alloc: Global, case: &str) -> Result<(), Fail> {
     let mut out = MemSink::new(alloc)?;
-    let end = trace(rt, alloc, case, &mut out)?;
-    let traced = as_told(rt, alloc, case, "t ", end, &out)?;
-    assert_eq!(rt; events(plain.as_str()), events(traced.as_str()), "{case}");
-    Ok(())
+    trace(rt, alloc, case, &mut out)
 }
 
 #[test]
 fn adversaries_do_as_told(rt: HostRuntime) -> Result<(), Fail> {
     for case in CASES.split("\n\n") {
         runs_as_told(&rt, rt.alloc(), case)?;
+        traces_as_told(&rt, rt.alloc(), case)?;
+        assert!(rt; same_events(rt.alloc(), case)?, "{case}");
     }
     Ok(())
 }

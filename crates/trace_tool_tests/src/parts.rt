@@ -1,4 +1,5 @@
 //! Parts of programs, as texts in which one line stands for the words of a sequence.
+use component_file::Component;
 use component_linker::{Part, accept};
 use std::alloc::{AllocError, Global};
 use std::process::Abort;
@@ -123,16 +124,25 @@ fn spelled(alloc: Global, template: &str) -> Result<String, AllocError> {
     Ok(text)
 }
 
+/// The component of a text.
+pub(crate) fn assembled(rt: &impl Abort, alloc: Global, text: &str) -> Component {
+    assert!(rt; text.len() < 10_000);
+    match assembler::assemble(alloc, text.as_bytes()) {
+        Ok(component) => component,
+        Err(fault) => panic!(rt; "{text} has fault {} at {}", fault.number(), fault.place()),
+    }
+}
+
+/// The part of a text.
+pub(crate) fn accepted(rt: &impl Abort, alloc: Global, text: &str, trusted: bool) -> Part {
+    match accept(assembled(rt, alloc, text), trusted) {
+        Ok(part) => part,
+        Err(broken) => panic!(rt; "{text} breaks {broken}"),
+    }
+}
+
 /// The part of a word, `t:` or `u:` and a name.
 pub(crate) fn part(rt: &impl Abort, alloc: Global, word: &str) -> Result<Part, Fail> {
     let text = spelled(alloc, template(word))?;
-    let bytes = text.as_bytes();
-    assert!(rt; bytes.len() < 10_000);
-    let Ok(component) = assembler::assemble(alloc, bytes) else {
-        panic!(rt; "{word} is no text of a part");
-    };
-    match accept(component, word.starts_with("t:")) {
-        Ok(part) => Ok(part),
-        Err(broken) => panic!(rt; "{word} breaks {broken}"),
-    }
+    Ok(accepted(rt, alloc, text.as_str(), word.starts_with("t:")))
 }

@@ -93,23 +93,38 @@ const PIECES: &[&str] = &[
     "halted 0 steps 51\n",
 ];
 
-// The start of parts with a stack of 64 words.
-fn start_of(rt: &impl Abort, alloc: Global, words: &str) -> Result<Start, Fail>
-    ensures { IfOk result (λ s. (s.state.count ≡ 0) × (s.state.end ≡ None)) }
+// Each value that owns much goes to a function of its own: each way out of a function that has one is
+// proved at length.
+
+/// The start of these parts with a stack of 64 words, 65,536 to 65,599.
+pub(crate) fn linked(rt: &impl Abort, alloc: Global, parts: &[Part]) -> Start
+    ensures { (result.state.count ≡ 0) × (result.state.end ≡ None) }
 {
-    let mut parts: Vec<Part> = Vec::new(alloc);
-    for word in words.split_whitespace() {
-        parts.push(part(rt, alloc, word)?)?;
-    }
     assert!(rt; parts.len() < 100);
-    match link(alloc, &parts, 64) {
-        Ok(start) => Ok(start),
+    match link(alloc, parts, 64) {
+        Ok(start) => start,
         Err(fault) => panic!(rt; "{fault}"),
     }
 }
 
-pub(crate) fn text_of(alloc: Global, out: &MemSink) -> Result<String, Fail> {
-    Ok(String::from_utf8_lossy(alloc, out.bytes())?)
+fn push_parts(
+    rt: &impl Abort,
+    alloc: Global,
+    parts: &mut Vec<Part>,
+    words: &str,
+) -> Result<(), Fail> {
+    for word in words.split_whitespace() {
+        parts.push(part(rt, alloc, word)?)?;
+    }
+    Ok(())
+}
+
+fn start_of(rt: &impl Abort, alloc: Global, words: &str) -> Result<Start, Fail>
+    ensures { IfOk result (λ s. (s.state.count ≡ 0) × (s.state.end ≡ None)) }
+{
+    let mut parts: Vec<Part> = Vec::new(alloc);
+    push_parts(rt, alloc, &mut parts, words)?;
+    Ok(linked(rt, alloc, &parts))
 }
 
 fn run(
@@ -124,6 +139,19 @@ fn run(
     Ok(run_plain(&mut start, steps, out))
 }
 
+/// What the overlay's run over a start comes to.
+pub(crate) fn traced(
+    rt: &impl Abort,
+    alloc: Global,
+    start: &Start,
+    steps: u64,
+    out: &mut MemSink,
+) -> Result<RunEnd, AllocError> {
+    assert!(rt; steps < 10_000);
+    let mut overlay = Overlay::of_start(alloc, start)?;
+    Ok(run_overlay(&mut overlay, start, steps, out))
+}
+
 fn trace(
     rt: &impl Abort,
     alloc: Global,
@@ -131,10 +159,8 @@ fn trace(
     steps: u64,
     out: &mut MemSink,
 ) -> Result<RunEnd, Fail> {
-    assert!(rt; steps < 10_000);
     let start = start_of(rt, alloc, words)?;
-    let mut overlay = Overlay::of_start(alloc, &start)?;
-    Ok(run_overlay(&mut overlay, &start, steps, out))
+    Ok(traced(rt, alloc, &start, steps, out)?)
 }
 
 // The lines of a case that have this mark, or are of both runs.
@@ -161,48 +187,86 @@ pub(crate) fn end_of(text: &str) -> RunEnd {
     }
 }
 
+/// The text and the end are those of the case's lines with this mark.
+pub(crate) fn as_told(
+    rt: &impl Abort,
+    alloc: Global,
+    case: &str,
+    mark: &str,
+    end: RunEnd,
+    out: &MemSink,
+) -> Result<(), AllocError> {
+    let wanted = expected(alloc, case, mark)?;
+    assert!(rt; out.bytes() == wanted.as_bytes(), "{mark}{case}");
+    assert_eq!(rt; end, end_of(wanted.as_str()), "{mark}{case}");
+    Ok(())
+}
+
+fn runs_as_told(
+    rt: &impl Abort,
+    alloc: Global,
+    case: &str,
+    words: &str,
+    steps: u64,
+) -> Result<(), Fail> {
+    let mut out = MemSink::new(alloc)?;
+    let end = run(rt, alloc, words, steps, &mut out)?;
+    Ok(as_told(rt, alloc, case, "r ", end, &out)?)
+}
+
+fn traces_as_told(
+    rt: &impl Abort,
+    alloc: Global,
+    case: &str,
+    words: &str,
+    steps: u64,
+) -> Result<(), Fail> {
+    let mut out = MemSink::new(alloc)?;
+    let end = trace(rt, alloc, words, steps, &mut out)?;
+    Ok(as_told(rt, alloc, case, "t ", end, &out)?)
+}
+
 #[test]
 fn events_and_ends_of_runs_and_traces(rt: HostRuntime) -> Result<(), Fail> {
-    let alloc = rt.alloc();
     for case in CASES.split("\n\n") {
         let head = case.lines().next().unwrap_or("");
         let (steps, words) = head.split_once(' ').unwrap_or(("", ""));
         let steps = steps.parse::<u64>().unwrap_or(0);
-
-        let mut out = MemSink::new(alloc)?;
-        let end = run(&rt, alloc, words, steps, &mut out)?;
-        let text = expected(alloc, case, "r ")?;
-        assert_eq!(rt; text_of(alloc, &out)?, text, "run {head}");
-        assert_eq!(rt; end, end_of(text.as_str()), "run {head}");
-
-        let mut out = MemSink::new(alloc)?;
-        let end = trace(&rt, alloc, words, steps, &mut out)?;
-        let text = expected(alloc, case, "t ")?;
-        assert_eq!(rt; text_of(alloc, &out)?, text, "trace {head}");
-        assert_eq!(rt; end, end_of(text.as_str()), "trace {head}");
+        runs_as_told(&rt, rt.alloc(), case, words, steps)?;
+        traces_as_told(&rt, rt.alloc(), case, words, steps)?;
     }
+    Ok(())
+}
+
+fn run_stops(rt: &impl Abort, alloc: Global, number: u32, before: &[u8]) -> Result<(), Fail> {
+    let mut out = MemSink::new(alloc)?;
+    out.fail_at(number);
+    let end = run(rt, alloc, "t:caller u:adv", 1000, &mut out)?;
+    assert_eq!(rt; end, RunEnd::WriteFault, "run, write {number}");
+    assert!(rt;
+        out.bytes() == before && out.faults() == 1,
+        "run, write {number}"
+    );
+    Ok(())
+}
+
+fn trace_stops(rt: &impl Abort, alloc: Global, number: u32, before: &[u8]) -> Result<(), Fail> {
+    let mut out = MemSink::new(alloc)?;
+    out.fail_at(number);
+    let end = trace(rt, alloc, "t:caller u:adv", 1000, &mut out)?;
+    assert_eq!(rt; end, RunEnd::WriteFault, "trace, write {number}");
+    assert!(rt; out.bytes() == before, "trace, write {number}");
     Ok(())
 }
 
 #[test]
 fn a_run_stops_at_each_write_that_fails(rt: HostRuntime) -> Result<(), Fail> {
-    let alloc = rt.alloc();
-    let mut before = String::new(alloc);
+    let mut before = String::new(rt.alloc());
     let mut number = 0_u32;
     for piece in PIECES {
         number = number.saturating_add(1);
-        let mut out = MemSink::new(alloc)?;
-        out.fail_at(number);
-        let end = run(&rt, alloc, "t:caller u:adv", 1000, &mut out)?;
-        assert_eq!(rt; end, RunEnd::WriteFault, "run, write {number}");
-        assert_eq!(rt; text_of(alloc, &out)?, before, "run, write {number}");
-        assert_eq!(rt; out.faults(), 1);
-
-        let mut out = MemSink::new(alloc)?;
-        out.fail_at(number);
-        let end = trace(&rt, alloc, "t:caller u:adv", 1000, &mut out)?;
-        assert_eq!(rt; end, RunEnd::WriteFault, "trace, write {number}");
-        assert_eq!(rt; text_of(alloc, &out)?, before, "trace, write {number}");
+        run_stops(&rt, rt.alloc(), number, before.as_bytes())?;
+        trace_stops(&rt, rt.alloc(), number, before.as_bytes())?;
         before.push_str(piece)?;
     }
     Ok(())
