@@ -63,19 +63,30 @@ fn command_text(alloc: Global, command: &Command<'_>) -> Result<String, AllocErr
     }
 }
 
-// What the line asks for, and `usage` where it asks for nothing.
-fn told(alloc: Global, line: &str) -> Result<String, AllocError> {
+// Each value that owns much goes to a function of its own: each way out of a function that has one is
+// proved at length.
+fn words_of(alloc: Global, line: &str) -> Result<Vec<String>, AllocError> {
     let mut words = Vec::new(alloc);
     if !line.is_empty() {
         for word in line.split(' ') {
             words.push(String::from_str(alloc, word)?)?;
         }
     }
-    match command_of(alloc, words.as_slice()) {
+    Ok(words)
+}
+
+fn words_told(alloc: Global, words: &[String]) -> Result<String, AllocError> {
+    match command_of(alloc, words) {
         Ok(command) => command_text(alloc, &command),
         Err(WordsFault::Usage) => String::from_str(alloc, "usage"),
         Err(WordsFault::NoMemory) => Err(AllocError),
     }
+}
+
+// What the line asks for, and `usage` where it asks for nothing.
+fn told(alloc: Global, line: &str) -> Result<String, AllocError> {
+    let words = words_of(alloc, line)?;
+    words_told(alloc, words.as_slice())
 }
 
 fn is_command(alloc: Global, line: &str) -> Result<bool, AllocError> {
@@ -286,25 +297,33 @@ fn so_many_parts_may_stand(rt: HostRuntime) -> Result<(), Fail> {
     Ok(())
 }
 
-#[test]
-fn names_have_up_to_255_bytes(rt: HostRuntime) -> Result<(), Fail> {
-    let alloc = rt.alloc();
-    // 251 bytes.
+// What stands before and behind 251 bytes of a name, and whether this is a command.
+static LONG: [(&str, &str, bool); 8] = [
+    ("check u:", ".asm", true),
+    ("check u:", "b.asm", false),
+    ("run ", ".img", true),
+    ("run ", "b.img", false),
+    ("link u:a.asm --out ", ".img", true),
+    ("link u:a.asm --out ", "b.img", false),
+    ("mean t:a.prc --feed ", ".txt", true),
+    ("mean t:a.prc --feed ", "b.txt", false),
+];
+
+fn long_name(alloc: Global) -> Result<String, AllocError> {
     let mut name = String::from_str(alloc, "é")?;
     for _ in 0..249u32 {
         name.push_str("a")?;
     }
-    for (line, expected) in [
-        (format!(in alloc; "check u:{name}.asm")?, true),
-        (format!(in alloc; "check u:{name}b.asm")?, false),
-        (format!(in alloc; "run {name}.img")?, true),
-        (format!(in alloc; "run {name}b.img")?, false),
-        (format!(in alloc; "link u:a.asm --out {name}.img")?, true),
-        (format!(in alloc; "link u:a.asm --out {name}b.img")?, false),
-        (format!(in alloc; "mean t:a.prc --feed {name}.txt")?, true),
-        (format!(in alloc; "mean t:a.prc --feed {name}b.txt")?, false),
-    ] {
-        assert_eq!(rt; is_command(alloc, line.as_str())?, expected, "{line}");
+    Ok(name)
+}
+
+#[test]
+fn names_have_up_to_255_bytes(rt: HostRuntime) -> Result<(), Fail> {
+    let name = long_name(rt.alloc())?;
+    for (front, back, expected) in &LONG {
+        let line = format!(in rt.alloc(); "{front}{name}{back}")?;
+        let is_taken = is_command(rt.alloc(), line.as_str())?;
+        assert_eq!(rt; is_taken, *expected, "{line}");
     }
     Ok(())
 }

@@ -3,10 +3,10 @@
 use crate::cases::{
     AREAS_CASES, CAPABILITIES_CASES, Case, LINEAR_CASES, LISTS_CASES, SEALS_CASES, UNTRUSTED,
 };
-use crate::draft::{Draft, component_of};
+use crate::draft::{Change, Draft, component_of};
 use crate::trusted_cases::{PASSED_OVER, TRUSTED, TRUSTED_CASES};
 use component_check::{Broken, Group, Rule, check};
-use component_file::{FileFault, decode_component};
+use component_file::{Component, FileFault, decode_component};
 use std::alloc::Global;
 use std::process::Abort;
 use std::test::Fail;
@@ -29,6 +29,30 @@ fn a_rule_prints_as_its_letter_and_number(rt: HostRuntime) -> Result<(), Fail> {
     Ok(())
 }
 
+// Each value that owns much goes to a function of its own: each way out of a function that has one is
+// proved at length.
+fn judged(component: Component, trusted: bool) -> Option<(Group, u8, u32)> {
+    match check(&component, trusted) {
+        Ok(()) => None,
+        Err(Broken { rule, place }) => Some((rule.group, rule.number, place)),
+    }
+}
+
+// The rule that a draft with changes breaks, and its place.
+fn broken(
+    rt: &impl Abort,
+    alloc: Global,
+    base: Draft,
+    trusted: bool,
+    changes: &[Change],
+) -> Result<Option<(Group, u8, u32)>, FileFault> {
+    let mut draft = base;
+    for change in changes {
+        draft.make(*change);
+    }
+    Ok(judged(component_of(rt, alloc, &draft)?, trusted))
+}
+
 fn break_first(
     rt: &impl Abort,
     alloc: Global,
@@ -37,19 +61,9 @@ fn break_first(
     cases: &[Case],
 ) -> Result<(), FileFault> {
     for (changes, wanted) in cases {
-        let mut draft = base;
-        for change in changes {
-            draft.make(*change);
-        }
-        let component = component_of(rt, alloc, &draft)?;
-        let answer = match check(&component, trusted) {
-            Ok(()) => None,
-            Err(Broken { rule, place }) => {
-                assert_eq!(rt; rule.group, Group::C);
-                Some((rule.number, place))
-            }
-        };
-        assert_eq!(rt; answer, *wanted, "{changes:?}");
+        let told = broken(rt, alloc, base, trusted, changes)?;
+        let wanted = wanted.map(|(number, place)| (Group::C, number, place));
+        assert_eq!(rt; told, wanted, "{changes:?}");
     }
     Ok(())
 }
@@ -115,15 +129,14 @@ const ONE: &[u8; 90] = b"STKC\x01\0\
 \0\
 \0\0\0\0";
 
+fn one_is_judged(alloc: Global, trusted: bool) -> Result<Option<(Group, u8, u32)>, FileFault> {
+    Ok(judged(decode_component(alloc, ONE)?, trusted))
+}
+
 // It keeps the rules of a part that isn't trusted; a trusted one names its instruction fail.
 #[test]
 fn the_smallest_component_is_judged(rt: HostRuntime) -> Result<(), Fail> {
-    let one = decode_component(rt.alloc(), ONE)?;
-    assert_eq!(rt; check(&one, false), Ok(()));
-    let rule = Rule {
-        group: Group::C,
-        number: 12,
-    };
-    assert_eq!(rt; check(&one, true), Err(Broken { rule, place: 1 }));
+    assert_eq!(rt; one_is_judged(rt.alloc(), false)?, None);
+    assert_eq!(rt; one_is_judged(rt.alloc(), true)?, Some((Group::C, 12, 1)));
     Ok(())
 }

@@ -50,7 +50,7 @@ fn is_image(
     parts: &[Part],
     bytes: &[u8],
 ) -> Result<bool, AllocError> {
-    assert!(rt; parts.len() < 17);
+    assert!(rt; !parts.is_empty() && parts.len() < 17);
     let image = write_image(alloc, parts, 4)?;
     Ok(image.as_slice() == bytes)
 }

@@ -2,6 +2,7 @@
 use cap_words::{Held, Word};
 use lcm_machine::state::State;
 use lcm_machine::{LcmState, Place, Span};
+use std::process::Abort;
 use std::test::Fail;
 
 /// The spans of a machine, and addresses with whether they have a cell.
@@ -35,17 +36,21 @@ const MEMORIES: [([Span; 2], [(u32, bool); 5]); 3] = [
     ),
 ];
 
+fn has_spans(rt: &impl Abort, machine: &LcmState, spans: &[Span], cells: &[(u32, bool)]) {
+    for (at, there) in cells {
+        assert_eq!(rt; machine.has_cell(*at), *there, "at {at}");
+    }
+    assert_eq!(rt; machine.spans().len(), 2);
+    for (given, kept) in spans.iter().zip(machine.spans()) {
+        assert_eq!(rt; (kept.base, kept.end), (given.base, given.end));
+    }
+}
+
 #[test]
 fn cells_stand_where_the_spans_are(rt: HostRuntime) -> Result<(), Fail> {
     for (spans, cells) in MEMORIES {
         let machine = LcmState::make(rt.alloc(), &spans)?;
-        for (at, there) in cells {
-            assert_eq!(rt; machine.has_cell(at), there, "at {at}");
-        }
-        assert_eq!(rt; machine.spans().len(), 2);
-        for (given, kept) in spans.iter().zip(machine.spans()) {
-            assert_eq!(rt; (kept.base, kept.end), (given.base, given.end));
-        }
+        has_spans(&rt, &machine, &spans, &cells);
     }
     Ok(())
 }
@@ -71,8 +76,8 @@ fn each_span_has_cells_of_its_own(rt: HostRuntime) -> Result<(), Fail> {
     let (spans, _) = MEMORIES[0];
     let mut machine = LcmState::make(rt.alloc(), &spans)?;
     set(&mut machine, 1_048_575, 7);
-    assert_eq!(rt; number(&machine, 0), Some(0));
-    assert_eq!(rt; number(&machine, 1_048_575), Some(7));
+    let ends = (number(&machine, 0), number(&machine, 1_048_575));
+    assert_eq!(rt; ends, (Some(0), Some(7)));
     Ok(())
 }
 
@@ -91,8 +96,7 @@ fn out_and_in(state: &mut State<Word>, at: u32) -> bool {
 fn a_cell_goes_out_of_memory_and_comes_back(rt: HostRuntime) -> Result<(), Fail> {
     let (spans, _) = MEMORIES[1];
     let mut state = State::<Word>::zeros(rt.alloc(), &spans)?;
-    assert_eq!(rt; out_and_in(&mut state, 13), false);
-    assert_eq!(rt; out_and_in(&mut state, 14), true);
-    assert_eq!(rt; state.has_cell(14), true);
+    let went = (out_and_in(&mut state, 13), out_and_in(&mut state, 14));
+    assert_eq!(rt; (went, state.has_cell(14)), ((false, true), true));
     Ok(())
 }

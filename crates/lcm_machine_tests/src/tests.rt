@@ -159,6 +159,20 @@ const PC_AT_START: (Place, Parts) = (Place::R(Pc), Mem(3, false, 100, 110, 100))
 // pc's word after a step that is no jump.
 const NEXT: (Place, Parts) = (Place::R(Pc), Mem(3, false, 100, 110, 101));
 
+// Each value that owns much goes to a function of its own: each way out of a function that has one is
+// proved at length.
+
+// The machine's first step is this one.
+fn steps(rt: &impl Abort, machine: &mut LcmState, step: Step, instr: Instr) {
+    assert_eq!(rt; machine.count(), 0);
+    assert_eq!(rt; machine.step(), step, "{instr:?}");
+    assert_eq!(rt; machine.count(), 1);
+}
+
+fn holds(rt: &impl Abort, machine: &LcmState, place: Place, parts: Parts) {
+    assert_eq!(rt; at(machine, place), Some(parts), "{place:?}");
+}
+
 // The instruction goes, and two places then hold these words.
 fn goes(
     rt: &impl Abort,
@@ -180,11 +194,9 @@ fn goes_with(
     let (place, parts) = set;
     let mut machine = start(alloc, instr)?;
     put(&mut machine, place, parts);
-    assert_eq!(rt; machine.count(), 0);
-    assert_eq!(rt; machine.step(), Step::Went, "{instr:?}");
-    assert_eq!(rt; machine.count(), 1);
+    steps(rt, &mut machine, Step::Went, instr);
     for (place, parts) in after {
-        assert_eq!(rt; at(&machine, place), Some(parts), "{instr:?}: {place:?}");
+        holds(rt, &machine, place, parts);
     }
     Ok(())
 }
@@ -404,9 +416,7 @@ fn fails_with(
     let (place, parts) = set;
     let mut machine = start(alloc, instr)?;
     put(&mut machine, place, parts);
-    assert_eq!(rt; machine.count(), 0);
-    assert_eq!(rt; machine.step(), Step::Failed(cause, 100), "{instr:?}");
-    assert_eq!(rt; machine.count(), 1);
+    steps(rt, &mut machine, Step::Failed(cause, 100), instr);
     Ok(())
 }
 
@@ -580,15 +590,25 @@ const FETCHES: [(Parts, Step); 9] = [
     (Mem(4, false, 100, 110, 100), Step::Halted),
 ];
 
+fn fetches(rt: &impl Abort, machine: &mut LcmState, pc: Parts, step: Step) {
+    put(machine, Place::R(Pc), pc);
+    assert_eq!(rt; machine.count(), 0);
+    assert_eq!(rt; machine.step(), step, "{pc:?}");
+}
+
 #[test]
 fn what_pc_holds_decides_the_fetch(rt: HostRuntime) -> Result<(), Fail> {
     for (pc, step) in FETCHES {
         let mut machine = start(rt.alloc(), Instr::Halt)?;
-        put(&mut machine, Place::R(Pc), pc);
-        assert_eq!(rt; machine.count(), 0);
-        assert_eq!(rt; machine.step(), step, "{pc:?}");
+        fetches(&rt, &mut machine, pc, step);
     }
     Ok(())
+}
+
+fn runs_on(rt: &impl Abort, machine: &mut LcmState, steps: u64, step: Step, count: u64) {
+    assert!(rt; machine.count() < 100 && steps < 100);
+    assert_eq!(rt; machine.run(steps), step);
+    assert_eq!(rt; machine.count(), count);
 }
 
 #[test]
@@ -600,49 +620,33 @@ fn a_run_ends_where_the_machine_halts(rt: HostRuntime) -> Result<(), Fail> {
         Int(encode(&Instr::Plus(T1, T1, Imm(2)))),
     );
     put(&mut machine, Place::Cell(102), Int(encode(&Instr::Halt)));
-    assert_eq!(rt; machine.count(), 0);
-    assert_eq!(rt; machine.run(2), Step::Went);
-    assert_eq!(rt; machine.count(), 2);
-    assert_eq!(rt; machine.run(10), Step::Halted);
-    assert_eq!(rt; machine.count(), 3);
-    assert_eq!(rt; at(&machine, Place::R(T1)), Some(Int(7)));
+    runs_on(&rt, &mut machine, 0, Step::Went, 0);
+    runs_on(&rt, &mut machine, 2, Step::Went, 2);
+    runs_on(&rt, &mut machine, 10, Step::Halted, 3);
+    holds(&rt, &machine, Place::R(T1), Int(7));
     Ok(())
+}
+
+// The word that is lifted from a place, and what is left there.
+fn leaves(rt: &impl Abort, machine: &mut LcmState, place: Place, lifted: Parts, left: Parts) {
+    let held = machine.lift(place);
+    let word = parts_of(held.word());
+    held.give_up();
+    assert_eq!(rt; word, lifted, "{place:?}");
+    holds(rt, machine, place, left);
 }
 
 #[test]
 fn a_linear_word_leaves_its_place(rt: HostRuntime) -> Result<(), Fail> {
     let mut machine = start(rt.alloc(), Instr::Halt)?;
-    for (place, lifted, left) in [
-        (Place::R(Stk), Mem(2, true, 105, 109, 105), Int(0)),
-        (Place::R(A0), Seal(4, 6, 5), Seal(4, 6, 5)),
-    ] {
-        let held = machine.lift(place);
-        assert_eq!(rt; parts_of(held.word()), lifted, "{place:?}");
-        held.give_up();
-        assert_eq!(rt; at(&machine, place), Some(left), "{place:?}");
-    }
+    let stack = Mem(2, true, 105, 109, 105);
+    leaves(&rt, &mut machine, Place::R(Stk), stack, Int(0));
+    let seals = Seal(4, 6, 5);
+    leaves(&rt, &mut machine, Place::R(A0), seals, seals);
     Ok(())
 }
 
-#[test]
-fn a_new_machine_has_the_cells_of_its_spans(rt: HostRuntime) -> Result<(), Fail> {
-    let machine = LcmState::make(
-        rt.alloc(),
-        &[
-            Span {
-                base: 100,
-                end: 104,
-            },
-            Span {
-                base: 105,
-                end: 109,
-            },
-            Span {
-                base: 200,
-                end: 200,
-            },
-        ],
-    )?;
+fn cells_are(rt: &impl Abort, machine: &LcmState) {
     for (address, want) in [
         (0, None),
         (99, None),
@@ -656,7 +660,26 @@ fn a_new_machine_has_the_cells_of_its_spans(rt: HostRuntime) -> Result<(), Fail>
         (201, None),
         (1_048_575, None),
     ] {
-        assert_eq!(rt; at(&machine, Place::Cell(address)), want, "{address}");
+        assert_eq!(rt; at(machine, Place::Cell(address)), want, "{address}");
     }
+}
+
+#[test]
+fn a_new_machine_has_the_cells_of_its_spans(rt: HostRuntime) -> Result<(), Fail> {
+    let spans = [
+        Span {
+            base: 100,
+            end: 104,
+        },
+        Span {
+            base: 105,
+            end: 109,
+        },
+        Span {
+            base: 200,
+            end: 200,
+        },
+    ];
+    cells_are(&rt, &LcmState::make(rt.alloc(), &spans)?);
     Ok(())
 }

@@ -225,27 +225,34 @@ fn push_call(text: &mut Vec<u8>, index: &[u8]) -> Result<(), AllocError> {
     text.extend_from_slice(RETURN)
 }
 
+fn push_entry(text: &mut Vec<u8>, load: &[u8], lines: &[u8]) -> Result<(), AllocError> {
+    text.extend_from_slice(ENTRY)?;
+    text.extend_from_slice(load)?;
+    push_lines(text, lines)
+}
+
+fn push_t(text: &mut Vec<u8>, first: &[u8], second: &[u8], last: &[u8]) -> Result<(), AllocError> {
+    text.extend_from_slice(T_BEGIN)?;
+    push_entry(text, LOAD_GO, first)?;
+    text.extend_from_slice(b"first: ")?;
+    push_call(text, b"0")?;
+    text.extend_from_slice(b"halt\nagain: ")?;
+    push_entry(text, LOAD_BACK, second)?;
+    text.extend_from_slice(b"second: ")?;
+    push_call(text, b"1")?;
+    push_lines(text, last)?;
+    text.extend_from_slice(T_END)
+}
+
 // The text of `t`, with lines before its first call, before its second, and behind that.
 fn trusted_text(
     alloc: Global,
-    before_first: &[u8],
-    before_second: &[u8],
+    first: &[u8],
+    second: &[u8],
     last: &[u8],
 ) -> Result<Vec<u8>, AllocError> {
-    let mut text = Vec::from_slice(alloc, T_BEGIN)?;
-    text.extend_from_slice(ENTRY)?;
-    text.extend_from_slice(LOAD_GO)?;
-    push_lines(&mut text, before_first)?;
-    text.extend_from_slice(b"first: ")?;
-    push_call(&mut text, b"0")?;
-    text.extend_from_slice(b"halt\nagain: ")?;
-    text.extend_from_slice(ENTRY)?;
-    text.extend_from_slice(LOAD_BACK)?;
-    push_lines(&mut text, before_second)?;
-    text.extend_from_slice(b"second: ")?;
-    push_call(&mut text, b"1")?;
-    push_lines(&mut text, last)?;
-    text.extend_from_slice(T_END)?;
+    let mut text = Vec::new(alloc);
+    push_t(&mut text, first, second, last)?;
     Ok(text)
 }
 
