@@ -16,9 +16,8 @@ pub fn first_rule_is_told()
         → IsFirstBrokenIn rule_at (rules_l parts size) (linked parts size) }
 {}
 
-/// The bytes of an image whose parts keep the rules of linking, as those that `link` puts, are loaded as
-/// just this image.
-pub fn what_is_put_is_loaded()
+/// The bytes of an image whose parts keep the rules of linking are loaded as just this image.
+pub fn linked_images_are_loaded()
     ensures { (i : ImageSeen) → IsImage i → linked i.parts i.stack ≡ Ok tt → loaded (image_bytes i) ≡ Ok i }
 {}
 

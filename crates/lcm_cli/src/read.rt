@@ -9,7 +9,8 @@ use command_words::FileName;
 use outside_io::{Files, ReadEnd, read_whole};
 use std::alloc::Global;
 
-/// The bytes of a file whose turn it is. `place` is the index of its part.
+/// The bytes of a file whose turn it is. `place` is the index of its part, and 0 for an
+/// image.
 pub(crate) fn read<F: Files>(
     alloc: Global,
     files: &mut F,

@@ -8,14 +8,15 @@ use component_linker::RuleAt;
 use image_loader::ImageFault;
 use std::alloc::{AllocError, AllocFailed};
 
-/// What a refusal tells. A part is told by its index among the part words.
+/// What a refusal tells. A part is told by its index among the part words, or in
+/// the image.
 #[derive(Clone, Copy, Debug, PartialEq, Eq)]
 pub(crate) enum Refusal {
     /// The words are no command, or ask for something that isn't built.
     Usage,
     /// A file could not be read.
     ReadFault,
-    /// The file of this part is too long.
+    /// The file of this part, or that of an image as part 0, is too long.
     TooLong(u32),
     /// The assembler text of this part spells no component.
     Assembly(u32, AsmFault),

@@ -1,11 +1,11 @@
 //! Images that are put, run and refused.
-use crate::call::{ONE, component, expected, files, run};
+use crate::call::{Case, ONE, are_told, component, files, is_told, is_told_unwritten};
 use lcm_cli::Status;
 use outside_io::{MemFiles, read_whole};
 use std::alloc::{AllocError, Global};
 use std::test::Fail;
 
-// The image of the part `one` with this stack, by the table of docs/FORMATS.md.
+// The image of the part `one` with this stack, by the table of docs/FORMATS.md: 107 bytes.
 fn image(alloc: Global, stack: u8) -> Result<Vec<u8>, AllocError> {
     let mut bytes = Vec::from_slice(alloc, b"STKI\x01\0")?;
     bytes.extend_from_slice(&[stack, 0, 0, 0, 1, 0, 0, 90, 0, 0, 0])?;
@@ -13,65 +13,126 @@ fn image(alloc: Global, stack: u8) -> Result<Vec<u8>, AllocError> {
     Ok(bytes)
 }
 
-// The files of most calls; `cut.img`, whose component isn't all there; `part.img`, whose component
-// is cut in its turn; and `small.img`, with a stack of 1 word, which breaks a rule.
+fn add_cut(alloc: Global, files: &mut MemFiles) -> Result<(), Fail> {
+    let mut bytes = image(alloc, 4)?;
+    bytes.truncate(106);
+    files.add("cut.img", bytes.as_slice())?;
+    Ok(())
+}
+
+fn add_longer(alloc: Global, files: &mut MemFiles) -> Result<(), Fail> {
+    let mut bytes = image(alloc, 4)?;
+    bytes.push(0)?;
+    files.add("longer.img", bytes.as_slice())?;
+    Ok(())
+}
+
+// A stack of one word breaks a rule.
+fn add_small(alloc: Global, files: &mut MemFiles) -> Result<(), Fail> {
+    let bytes = image(alloc, 1)?;
+    files.add("small.img", bytes.as_slice())?;
+    Ok(())
+}
+
+// The files of most calls, and images that are refused: `part.img` is whole, and its component is cut.
 fn with_images(alloc: Global) -> Result<MemFiles, Fail> {
     let mut files = files(alloc)?;
-    let mut cut = image(alloc, 4)?;
-    cut.truncate(106);
-    files.add("cut.img", cut.as_slice())?;
+    add_cut(alloc, &mut files)?;
+    add_longer(alloc, &mut files)?;
+    add_small(alloc, &mut files)?;
+    files.add("magic.img", b"STKC\x01\0")?;
+    files.add("version.img", b"STKI\x02\0")?;
+    files.add("none.img", b"STKI\x01\0\x04\0\0\0\0")?;
     files.add("part.img", b"STKI\x01\0\x04\0\0\0\x01\0\0\x04\0\0\0STKC")?;
-    files.add("small.img", image(alloc, 1)?.as_slice())?;
     Ok(files)
+}
+
+static CASES: [Case<'static>; 18] = [
+    // The put fails.
+    (
+        "link --stack 4 --out one.img u:one.asm",
+        Status::WriteFault,
+        "",
+        None,
+    ),
+    ("run one.img", Status::ReadFault, "read fault\n", None),
+    (
+        "link --stack 4 --out one.img u:one.asm",
+        Status::Done,
+        "ok\n",
+        None,
+    ),
+    ("run one.img", Status::Done, "halted 0 steps 1\n", Some(1)),
+    (
+        "trace --steps 1 one.img",
+        Status::Done,
+        "halted 0 steps 1\n",
+        None,
+    ),
+    ("run --stack 4 one.img", Status::Usage, "usage\n", None),
+    ("run magic.img", Status::FileRefused, "image 1 0\n", None),
+    ("run version.img", Status::FileRefused, "image 2 0\n", None),
+    ("run cut.img", Status::FileRefused, "image 3 17\n", None),
+    ("run none.img", Status::FileRefused, "image 4 10\n", None),
+    (
+        "trace longer.img",
+        Status::FileRefused,
+        "image 5 107\n",
+        None,
+    ),
+    ("trace part.img", Status::FileRefused, "file 0 3 4\n", None),
+    ("run small.img", Status::RuleBroken, "rule 1 L8 1\n", None),
+    // What breaks a rule is put nowhere.
+    (
+        "link --out two.img u:one.stc u:closure.stc",
+        Status::RuleBroken,
+        "rule 1 L2 0\n",
+        None,
+    ),
+    ("trace two.img", Status::ReadFault, "read fault\n", None),
+    // A part's own file is read, and then lost.
+    (
+        "link --stack 4 --out two.stc u:two.stc",
+        Status::Done,
+        "ok\n",
+        None,
+    ),
+    ("check u:two.stc", Status::FileRefused, "file 0 1 0\n", None),
+    (
+        "run --stack 4 u:one.stc",
+        Status::Done,
+        "halted 0 steps 1\n",
+        Some(1),
+    ),
+];
+
+// The image is put, and `ok` can't be written.
+const UNSAID: Case<'static> = (
+    "link --stack 4 --out more.img u:one.asm",
+    Status::WriteFault,
+    "",
+    None,
+);
+
+const SAID: Case<'static> = ("run more.img", Status::Done, "halted 0 steps 1\n", Some(1));
+
+fn is_whole(alloc: Global, files: &mut MemFiles) -> Result<bool, Fail> {
+    let wanted = image(alloc, 4)?;
+    match read_whole(alloc, files, "one.img", 4096) {
+        Ok(held) => Ok(held == wanted),
+        Err(_) => Ok(false),
+    }
 }
 
 #[test]
 fn images_are_put_run_and_refused(rt: HostRuntime) -> Result<(), Fail> {
-    let alloc = rt.alloc();
-    let mut files = with_images(alloc)?;
-    // The third call on the files is the put of the first line, which fails.
+    let mut files = with_images(rt.alloc())?;
+    // The third call on the files is the put of the first line.
     files.fail_at(3);
-    for (line, status, text, count) in [
-        (
-            "link --stack 4 --out one.img u:one.asm",
-            Status::WriteFault,
-            "",
-            None,
-        ),
-        ("run one.img", Status::ReadFault, "read fault\n", None),
-        (
-            "link --stack 4 --out one.img u:one.asm",
-            Status::Done,
-            "ok\n",
-            None,
-        ),
-        ("run one.img", Status::Done, "halted 0 steps 1\n", Some(1)),
-        (
-            "trace --steps 1 one.img",
-            Status::Done,
-            "halted 0 steps 1\n",
-            None,
-        ),
-        ("run --stack 4 one.img", Status::Usage, "usage\n", None),
-        ("run cut.img", Status::FileRefused, "image 3 17\n", None),
-        ("trace part.img", Status::FileRefused, "file 0 3 4\n", None),
-        ("run small.img", Status::RuleBroken, "rule 1 L8 1\n", None),
-        // What breaks a rule is put nowhere.
-        (
-            "link --out two.img u:one.stc u:closure.stc",
-            Status::RuleBroken,
-            "rule 1 L2 0\n",
-            None,
-        ),
-        ("trace two.img", Status::ReadFault, "read fault\n", None),
-    ] {
-        let got = run(alloc, line, &mut files)?;
-        assert_eq!(rt; got, expected(alloc, status, text, count)?, "{line}");
-    }
-    let held = match read_whole(alloc, &mut files, "one.img", 4096) {
-        Ok(held) => held == image(alloc, 4)?,
-        Err(_) => false,
-    };
-    assert_eq!(rt; held, true);
+    are_told(&rt, rt.alloc(), &mut files, &CASES)?;
+    is_told_unwritten(&rt, rt.alloc(), &mut files, 1, UNSAID)?;
+    is_told(&rt, rt.alloc(), &mut files, SAID)?;
+    let whole = is_whole(rt.alloc(), &mut files)?;
+    assert_eq!(rt; whole, true);
     Ok(())
 }

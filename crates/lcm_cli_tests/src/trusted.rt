@@ -303,7 +303,7 @@ const RETURNED: &str = "ret out t 0 65599 65599 0 : cap(rw,nor,8192,8193,8193)\n
 const ENTERED: &str = "enter t again cap(rw,lin,65536,65598,65598) 0 0 0 0 pair:t:0:65599\n";
 
 // The words, the two events, the end line, the status and the machine's count.
-static EVENTS: [(&str, &str, &str, &str, Status, Option<u64>); 8] = [
+static EVENTS: [(&str, &str, &str, &str, Status, Option<u64>); 11] = [
     (
         "run --stack 64 t:t.asm u:back.asm",
         CALLED,
@@ -364,6 +364,30 @@ static EVENTS: [(&str, &str, &str, &str, Status, Option<u64>); 8] = [
         "trace --stack 64 u:t.asm u:back.asm",
         "",
         "",
+        "halted 0 steps 51\n",
+        Status::Done,
+        None,
+    ),
+    (
+        "link --stack 64 --out two.img t:t.asm u:back.asm",
+        "",
+        "",
+        "ok\n",
+        Status::Done,
+        None,
+    ),
+    (
+        "run two.img",
+        CALLED,
+        RETURNED,
+        "halted 0 steps 51\n",
+        Status::Done,
+        Some(51),
+    ),
+    (
+        "trace two.img",
+        CALLED,
+        RETURNED,
         "halted 0 steps 51\n",
         Status::Done,
         None,

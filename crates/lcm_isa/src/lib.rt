@@ -344,6 +344,7 @@ impl Instr {
 // The instruction of an op number, where there is one, with those of these registers and
 // this operand that it has.
 #[tactic(auto, unfolding(crate::specs::Numbers::table, crate::specs::Numbers::all_with))]
+#[inline(always)]
 fn shape(op: u64, a: Reg, b: Reg, c: Reg, mode: u64, field: u64) -> Option<Instr>
     requires { field < 2 ^ 32 }
     ensures { result ≡ table op a b c (operand_of mode field) }
@@ -379,6 +380,7 @@ fn shape(op: u64, a: Reg, b: Reg, c: Reg, mode: u64, field: u64) -> Option<Instr
 
 // What the parts of a number spell, if anything. Parts that it doesn't use may be other than 0.
 #[tactic(auto, unfolding(crate::specs::Numbers::candidate))]
+#[inline(always)]
 fn candidate(n: u64) -> Option<Instr>
     requires { n < 2 ^ 51 }
     ensures { result ≡ candidate n }
@@ -390,6 +392,7 @@ fn candidate(n: u64) -> Option<Instr>
 }
 
 // The instruction that the parts spell, where the number is its own.
+#[inline(always)]
 fn instr_of(n: u64) -> Option<Instr>
     requires { n < 2 ^ 51 }
     ensures { result ≡ if_numbered n (candidate n) }
@@ -407,8 +410,8 @@ fn instr_of(n: u64) -> Option<Instr>
 }
 
 /// The instruction of a number, and None exactly where no instruction has it.
-#[inline(always)]
 #[tactic(auto, unfolding(crate::specs::Numbers::decode_of))]
+#[inline(always)]
 pub fn decode(word: i64) -> Option<Instr>
     ensures is { result ≡ decode_of word }
     ensures found { IfSome result (λ i. IsInstr i × (word ≡ pos (number_of i))) }

@@ -1,5 +1,5 @@
 use Rattle.lcm_cli.proofs.Linking.{loaded_again}
-use Rattle.lcm_cli.proofs.laws.what_is_put_is_loaded.Goals as goal
+use Rattle.lcm_cli.proofs.laws.linked_images_are_loaded.Goals as goal
 
 pub returns : goal.returns
 returns c = loaded_again
