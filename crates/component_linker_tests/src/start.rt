@@ -78,15 +78,13 @@ fn words_are(rt: &impl Abort, state: &LcmState) {
     }
 }
 
-// The part, where its code and data stand, and its closure seal.
-fn places(owner: &Owner) -> [u32; 6] {
+// Where its code and data stand.
+fn places(owner: &Owner) -> [u32; 4] {
     [
-        owner.part,
         owner.code.base,
         owner.code.end,
         owner.data_span.base,
         owner.data_span.end,
-        owner.closure,
     ]
 }
 
@@ -98,9 +96,18 @@ fn has_entries(owner: &Owner, wanted: &[(&str, u32)]) -> bool {
         })
 }
 
-fn owner_is(rt: &impl Abort, owner: &Owner, name: &str, wanted: [u32; 6], entries: &[(&str, u32)]) {
+// An untrusted owner: its part, name and closure seal, and where its code and data stand.
+fn owner_is(
+    rt: &impl Abort,
+    owner: &Owner,
+    wanted: (u32, &str, u32),
+    at: [u32; 4],
+    entries: &[(&str, u32)],
+) {
+    let (part, name, closure) = wanted;
     assert!(rt; owner.name.as_slice() == name.as_bytes() && !owner.trusted);
-    assert_eq!(rt; places(owner), wanted);
+    assert_eq!(rt; (owner.part, owner.closure), (part, closure));
+    assert_eq!(rt; places(owner), at);
     assert!(rt; has_entries(owner, entries));
 }
 
@@ -113,9 +120,9 @@ fn start_is(rt: &impl Abort, start: &Start) {
         panic!(rt; "not two owners");
     };
     let entries = [("main", 100), ("own", 101)];
-    owner_is(rt, first, "one", [1, 100, 101, 200, 203, 1], &entries);
+    owner_is(rt, first, (1, "one", 1), [100, 101, 200, 203], &entries);
     let entries = [("hide", 301), ("read", 300)];
-    owner_is(rt, second, "lib", [0, 300, 301, 400, 403, 2], &entries);
+    owner_is(rt, second, (0, "lib", 2), [300, 301, 400, 403], &entries);
 }
 
 fn push_both(rt: &impl Abort, alloc: Global, parts: &mut Vec<Part>) -> Result<(), AsmFault> {

@@ -4,7 +4,6 @@ use lcm_machine::LcmState;
 use outside_io::{MemFiles, MemSink};
 use std::alloc::{AllocError, Global};
 use std::process::Abort;
-use std::test::Fail;
 
 /// What a call came to: its status, what it wrote, and the count of the machine that it kept.
 #[derive(Drop, PartialEq, Eq, Debug)]
@@ -54,7 +53,7 @@ pub(crate) fn call(
     line: &str,
     files: &mut MemFiles,
     out: &mut MemSink,
-) -> Result<Told, Fail> {
+) -> Result<Told, AllocError> {
     let words = words_of(alloc, line)?;
     let (status, count) = stk(alloc, &words, files, out);
     Ok(Told {
@@ -65,7 +64,7 @@ pub(crate) fn call(
 }
 
 /// Calls the program over these files and an empty sink.
-pub(crate) fn run(alloc: Global, line: &str, files: &mut MemFiles) -> Result<Told, Fail> {
+pub(crate) fn run(alloc: Global, line: &str, files: &mut MemFiles) -> Result<Told, AllocError> {
     let mut out = MemSink::new(alloc)?;
     call(alloc, line, files, &mut out)
 }
@@ -79,7 +78,7 @@ pub(crate) fn is_told(
     alloc: Global,
     files: &mut MemFiles,
     case: Case<'_>,
-) -> Result<(), Fail> {
+) -> Result<(), AllocError> {
     let (line, status, text, count) = case;
     let got = run(alloc, line, files)?;
     assert_eq!(rt; got, expected(alloc, status, text, count)?, "{line}");
@@ -92,7 +91,7 @@ pub(crate) fn are_told(
     alloc: Global,
     files: &mut MemFiles,
     cases: &[Case<'_>],
-) -> Result<(), Fail> {
+) -> Result<(), AllocError> {
     for case in cases {
         is_told(rt, alloc, files, *case)?;
     }
@@ -106,7 +105,7 @@ pub(crate) fn all_are_told(
     files: &mut MemFiles,
     lines: &[&str],
     told: (Status, &str, Option<u64>),
-) -> Result<(), Fail> {
+) -> Result<(), AllocError> {
     let (status, text, count) = told;
     for line in lines {
         is_told(rt, alloc, files, (*line, status, text, count))?;
@@ -121,7 +120,7 @@ pub(crate) fn is_told_unwritten(
     files: &mut MemFiles,
     unwritten: u32,
     case: Case<'_>,
-) -> Result<(), Fail> {
+) -> Result<(), AllocError> {
     let (line, status, text, count) = case;
     let mut out = MemSink::new(alloc)?;
     out.fail_at(unwritten);
@@ -140,7 +139,7 @@ pub(crate) fn text_is_told(
     alloc: Global,
     text: &str,
     case: Case<'_>,
-) -> Result<(), Fail> {
+) -> Result<(), AllocError> {
     let mut files = MemFiles::new(alloc)?;
     files.add("one.asm", text.as_bytes())?;
     is_told(rt, alloc, &mut files, case)
@@ -215,7 +214,7 @@ pub(crate) fn component(alloc: Global, part: &Small) -> Result<Vec<u8>, AllocErr
     Ok(bytes)
 }
 
-fn add_parts(alloc: Global, files: &mut MemFiles) -> Result<(), Fail> {
+fn add_parts(alloc: Global, files: &mut MemFiles) -> Result<(), AllocError> {
     for (name, part) in [
         ("one.stc", ONE),
         ("two.stc", TWO),
@@ -241,7 +240,7 @@ fn add_parts(alloc: Global, files: &mut MemFiles) -> Result<(), Fail> {
     Ok(())
 }
 
-fn add_texts(alloc: Global, files: &mut MemFiles) -> Result<(), Fail> {
+fn add_texts(alloc: Global, files: &mut MemFiles) -> Result<(), AllocError> {
     files.add("one.asm", text(alloc, "halt\n", "0")?.as_bytes())?;
     files.add("bad.asm", b"halt\n")?;
     files.add("empty.stc", b"")?;
@@ -251,7 +250,7 @@ fn add_texts(alloc: Global, files: &mut MemFiles) -> Result<(), Fail> {
 /// The files that most calls are made over: `one.asm` and `one.stc`; `two.stc`, which stands well
 /// beside them, and three that differ from it in one number; `near.stc`, whose data touches its
 /// code; `bad.asm`, which begins with an instruction; and `empty.stc` of no bytes.
-pub(crate) fn files(alloc: Global) -> Result<MemFiles, Fail> {
+pub(crate) fn files(alloc: Global) -> Result<MemFiles, AllocError> {
     let mut files = MemFiles::new(alloc)?;
     add_texts(alloc, &mut files)?;
     add_parts(alloc, &mut files)?;

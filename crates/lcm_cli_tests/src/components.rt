@@ -270,12 +270,12 @@ fn put_or_shown(
     unread: u32,
     unwritten: u32,
     case: Case<'_>,
-) -> Result<bool, Fail> {
+) -> Result<bool, AllocError> {
     files.add("near.asm", NEAR.as_bytes())?;
     files.fail_at(unread);
     is_told_unwritten(rt, alloc, files, unwritten, case)?;
     files.fail_at(0);
-    Ok(holds_one(alloc, files)?)
+    holds_one(alloc, files)
 }
 
 #[test]

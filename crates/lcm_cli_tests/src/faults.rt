@@ -1,13 +1,13 @@
 //! Faults outside.
 use crate::call::{files, is_told, is_told_unwritten};
 use lcm_cli::Status;
-use std::alloc::Global;
+use std::alloc::{AllocError, Global};
 use std::process::Abort;
 use std::test::Fail;
 
 const TWO_PARTS: &str = "run u:one.stc u:two.stc";
 
-fn is_unread(rt: &impl Abort, alloc: Global, number: u32) -> Result<(), Fail> {
+fn is_unread(rt: &impl Abort, alloc: Global, number: u32) -> Result<(), AllocError> {
     let mut files = files(alloc)?;
     files.fail_at(number);
     let case = (TWO_PARTS, Status::ReadFault, "read fault\n", None);
@@ -23,7 +23,8 @@ fn a_read_that_fails_is_told_at_each_part(rt: HostRuntime) -> Result<(), Fail> {
     let mut files = files(rt.alloc())?;
     files.fail_at(5);
     let case = (TWO_PARTS, Status::Done, "halted 0 steps 1\n", Some(1));
-    is_told(&rt, rt.alloc(), &mut files, case)
+    is_told(&rt, rt.alloc(), &mut files, case)?;
+    Ok(())
 }
 
 static LINES: [&str; 5] = [
@@ -43,5 +44,6 @@ fn a_write_that_fails_keeps_no_machine(rt: HostRuntime) -> Result<(), Fail> {
     }
     // The line is one piece: a second write never comes.
     let case = ("run u:one.asm", Status::Done, "halted 0 steps 1\n", Some(1));
-    is_told_unwritten(&rt, rt.alloc(), &mut files, 2, case)
+    is_told_unwritten(&rt, rt.alloc(), &mut files, 2, case)?;
+    Ok(())
 }

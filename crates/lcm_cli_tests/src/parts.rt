@@ -114,7 +114,8 @@ static REFUSALS: [Case<'static>; 20] = [
 #[test]
 fn the_first_refusal_is_told(rt: HostRuntime) -> Result<(), Fail> {
     let mut files = files(rt.alloc())?;
-    are_told(&rt, rt.alloc(), &mut files, &REFUSALS)
+    are_told(&rt, rt.alloc(), &mut files, &REFUSALS)?;
+    Ok(())
 }
 
 static RUNS: [&str; 4] = [
@@ -128,7 +129,8 @@ static RUNS: [&str; 4] = [
 fn parts_that_keep_the_rules_run(rt: HostRuntime) -> Result<(), Fail> {
     let mut files = files(rt.alloc())?;
     let ran = (Status::Done, "halted 0 steps 1\n", Some(1));
-    all_are_told(&rt, rt.alloc(), &mut files, &RUNS, ran)
+    all_are_told(&rt, rt.alloc(), &mut files, &RUNS, ran)?;
+    Ok(())
 }
 
 // The names of the sixteen parts, and of one more.
@@ -155,7 +157,7 @@ fn add_part(
     line: &mut String,
     name: &'static str,
     at: u32,
-) -> Result<(), Fail> {
+) -> Result<(), AllocError> {
     let file = format!(in alloc; "{name}.stc")?;
     files.add(file.as_str(), numbered(alloc, name, at)?.as_slice())?;
     line.push_str(" u:")?;
@@ -168,7 +170,7 @@ fn sixteen_run(
     alloc: Global,
     files: &mut MemFiles,
     line: &mut String,
-) -> Result<(), Fail> {
+) -> Result<(), AllocError> {
     for (i, name) in NAMES.iter().enumerate() {
         if i == 16 {
             let ran = (line.as_str(), Status::Done, "halted 0 steps 1\n", Some(1));
@@ -188,7 +190,8 @@ fn sixteen_run(
 fn sixteen_parts_are_run_and_seventeen_are_no_command(rt: HostRuntime) -> Result<(), Fail> {
     let mut files = MemFiles::new(rt.alloc())?;
     let mut line = String::from_str(rt.alloc(), "run")?;
-    sixteen_run(&rt, rt.alloc(), &mut files, &mut line)
+    sixteen_run(&rt, rt.alloc(), &mut files, &mut line)?;
+    Ok(())
 }
 
 static LONGEST: [Case<'static>; 2] = [
@@ -218,7 +221,12 @@ static LONGER: [Case<'static>; 4] = [
     ("check u:long.stc", Status::TooLong, "too long 0\n", None),
 ];
 
-fn add_long(alloc: Global, files: &mut MemFiles, name: &str, length: usize) -> Result<(), Fail> {
+fn add_long(
+    alloc: Global,
+    files: &mut MemFiles,
+    name: &str,
+    length: usize,
+) -> Result<(), AllocError> {
     let bytes = vec![in alloc; b'x'; length]?;
     files.add(name, bytes.as_slice())?;
     Ok(())
@@ -231,5 +239,6 @@ fn a_file_that_is_too_long_is_told_by_its_place(rt: HostRuntime) -> Result<(), F
     add_long(rt.alloc(), &mut files, "long.asm", 4_194_304)?;
     are_told(&rt, rt.alloc(), &mut files, &LONGEST)?;
     add_long(rt.alloc(), &mut files, "long.stc", 4_194_305)?;
-    are_told(&rt, rt.alloc(), &mut files, &LONGER)
+    are_told(&rt, rt.alloc(), &mut files, &LONGER)?;
+    Ok(())
 }

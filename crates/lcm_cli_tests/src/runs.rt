@@ -181,5 +181,6 @@ fn a_line_of_513_bytes_is_told(rt: HostRuntime) -> Result<(), Fail> {
     long.push_str("\n")?;
     let text = text(rt.alloc(), long.as_str(), "0")?;
     let case = ("run u:one.asm", Status::AsmRefused, "asm 0 s3 5\n", None);
-    text_is_told(&rt, rt.alloc(), text.as_str(), case)
+    text_is_told(&rt, rt.alloc(), text.as_str(), case)?;
+    Ok(())
 }

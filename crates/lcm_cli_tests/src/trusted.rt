@@ -2,6 +2,7 @@
 use crate::call::{Case, are_told, is_told, is_told_unwritten};
 use lcm_cli::Status;
 use outside_io::MemFiles;
+use std::alloc::AllocError;
 use std::test::Fail;
 
 // An entry at 2, a call at 25, and three words before it that jump into it.
@@ -79,7 +80,8 @@ static CHECKS: [Case<'static>; 2] = [
 fn a_jump_into_a_call_is_told_of_a_trusted_part(rt: HostRuntime) -> Result<(), Fail> {
     let mut files = MemFiles::new(rt.alloc())?;
     files.add("t.asm", PART.as_bytes())?;
-    are_told(&rt, rt.alloc(), &mut files, &CHECKS)
+    are_told(&rt, rt.alloc(), &mut files, &CHECKS)?;
+    Ok(())
 }
 
 // A trusted part: an entry at 2, and then a call of what it imports.
@@ -394,7 +396,7 @@ static EVENTS: [(&str, &str, &str, &str, Status, Option<u64>); 11] = [
     ),
 ];
 
-fn add_files(files: &mut MemFiles) -> Result<(), Fail> {
+fn add_files(files: &mut MemFiles) -> Result<(), AllocError> {
     files.add("t.asm", CALLER.as_bytes())?;
     files.add("back.asm", BACK.as_bytes())?;
     files.add("again.asm", AGAIN.as_bytes())?;

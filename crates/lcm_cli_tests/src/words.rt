@@ -26,7 +26,8 @@ fn words_that_are_a_command_are_taken(rt: HostRuntime) -> Result<(), Fail> {
     let traced = (Status::Done, "halted 0 steps 1\n", None);
     all_are_told(&rt, rt.alloc(), &mut files, &TRACES, traced)?;
     let checked = (Status::Done, "ok\n", None);
-    all_are_told(&rt, rt.alloc(), &mut files, &CHECKS, checked)
+    all_are_told(&rt, rt.alloc(), &mut files, &CHECKS, checked)?;
+    Ok(())
 }
 
 static REFUSED: [&str; 27] = [
@@ -64,5 +65,6 @@ static REFUSED: [&str; 27] = [
 fn words_that_are_no_command_write_usage(rt: HostRuntime) -> Result<(), Fail> {
     let mut files = files(rt.alloc())?;
     let usage = (Status::Usage, "usage\n", None);
-    all_are_told(&rt, rt.alloc(), &mut files, &REFUSED, usage)
+    all_are_told(&rt, rt.alloc(), &mut files, &REFUSED, usage)?;
+    Ok(())
 }

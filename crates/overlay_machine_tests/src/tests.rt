@@ -152,10 +152,16 @@ fn start_of(rt: &impl Abort, alloc: Global, program: &Program) -> Result<Start, 
     Ok(linked(rt, alloc, &parts, program.2))
 }
 
-fn same_registers(rt: &impl Abort, overlay: &Overlay, state: &LcmState) {
-    for r in [Reg::Pc, Reg::Stk, Reg::Dat, Reg::A0, Reg::G0] {
-        let flat = overlay.flat_text(overlay.reg(r));
-        assert!(rt; flat.as_str() == word_text(state.reg(r)).as_str());
+/// The words of some registers of the plain machine are what the overlay's stand for.
+pub(crate) fn same_registers(
+    rt: &impl Abort,
+    overlay: &Overlay,
+    state: &LcmState,
+    registers: &[Reg],
+) {
+    for r in registers {
+        let flat = overlay.flat_text(overlay.reg(*r));
+        assert!(rt; flat.as_str() == word_text(state.reg(*r)).as_str());
     }
 }
 
@@ -167,7 +173,8 @@ fn same_cell(rt: &impl Abort, overlay: &Overlay, state: &LcmState, at: u32) {
 
 // The words of some registers, and of the data's cell, are those of the plain machine.
 fn same_words(rt: &impl Abort, overlay: &Overlay, start: &Start) {
-    same_registers(rt, overlay, start.state());
+    let registers = [Reg::Pc, Reg::Stk, Reg::Dat, Reg::A0, Reg::G0];
+    same_registers(rt, overlay, start.state(), &registers);
     same_cell(rt, overlay, start.state(), 200);
     assert!(rt; !overlay.has_cell(99));
     assert!(rt; overlay.frame_size() == 0);

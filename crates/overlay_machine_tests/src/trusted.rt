@@ -1,6 +1,6 @@
 //! The overlay machine over linked trusted parts: each case of a step, and each thing that it asks for, once.
 //! The events and the weights were worked out by hand from docs/OVERLAY.md.
-use crate::tests::linked;
+use crate::tests::{linked, same_registers};
 use assembler::assemble;
 use cap_words::{Cap, Held, Lin, Perm, Word, word_text};
 use component_file::Component;
@@ -383,14 +383,6 @@ const REGS: [Reg; 16] = [
     Reg::G2,
 ];
 
-// The registers of the plain machine are what the overlay's words stand for.
-fn same_registers(rt: &impl Abort, overlay: &Overlay, state: &LcmState) {
-    for r in REGS {
-        let flat = overlay.flat_text(overlay.reg(r));
-        assert!(rt; flat.as_str() == word_text(state.reg(r)).as_str());
-    }
-}
-
 // The plain machine goes on for the weight of a step, and its registers are what the overlay's words stand
 // for; or it ends within the weight.
 fn plain_follows(rt: &impl Abort, overlay: &Overlay, start: &mut Start, weight: u32, went: bool) {
@@ -398,7 +390,7 @@ fn plain_follows(rt: &impl Abort, overlay: &Overlay, start: &mut Start, weight: 
     let step = start.state_mut().run(u64::from(weight));
     assert_eq!(rt; step == lcm_machine::Step::Went, went);
     if went {
-        same_registers(rt, overlay, start.state());
+        same_registers(rt, overlay, start.state(), &REGS);
     }
 }
 

@@ -544,16 +544,16 @@ fn events(text: &str) -> &str {
     events
 }
 
-fn run(rt: &impl Abort, alloc: Global, case: &str, out: &mut MemSink) -> Result<(), Fail> {
+fn run(rt: &impl Abort, alloc: Global, case: &str, out: &mut MemSink) -> Result<(), AllocError> {
     let mut start = start_of(rt, alloc, case)?;
     let end = run_plain(&mut start, 1000, out);
-    Ok(as_told(rt, alloc, case, "r ", end, out)?)
+    as_told(rt, alloc, case, "r ", end, out)
 }
 
-fn trace(rt: &impl Abort, alloc: Global, case: &str, out: &mut MemSink) -> Result<(), Fail> {
+fn trace(rt: &impl Abort, alloc: Global, case: &str, out: &mut MemSink) -> Result<(), AllocError> {
     let start = start_of(rt, alloc, case)?;
     let end = traced(rt, alloc, &start, 1000, out)?;
-    Ok(as_told(rt, alloc, case, "t ", end, out)?)
+    as_told(rt, alloc, case, "t ", end, out)
 }
 
 // Whether both runs wrote the same events: then what is expected of them has the same ones.
@@ -563,12 +563,12 @@ fn same_events(alloc: Global, case: &str) -> Result<bool, AllocError> {
     Ok(events(plain.as_str()) == events(traced.as_str()))
 }
 
-fn runs_as_told(rt: &impl Abort, alloc: Global, case: &str) -> Result<(), Fail> {
+fn runs_as_told(rt: &impl Abort, alloc: Global, case: &str) -> Result<(), AllocError> {
     let mut out = MemSink::new(alloc)?;
     run(rt, alloc, case, &mut out)
 }
 
-fn traces_as_told(rt: &impl Abort, alloc: Global, case: &str) -> Result<(), Fail> {
+fn traces_as_told(rt: &impl Abort, alloc: Global, case: &str) -> Result<(), AllocError> {
     let mut out = MemSink::new(alloc)?;
     trace(rt, alloc, case, &mut out)
 }

@@ -3,7 +3,6 @@ use component_file::Component;
 use component_linker::{Part, accept};
 use std::alloc::{AllocError, Global};
 use std::process::Abort;
-use std::test::Fail;
 
 // Calls `go` of `adv` once.
 const CALLER: &str =
@@ -142,7 +141,7 @@ pub(crate) fn accepted(rt: &impl Abort, alloc: Global, text: &str, trusted: bool
 }
 
 /// The part of a word, `t:` or `u:` and a name.
-pub(crate) fn part(rt: &impl Abort, alloc: Global, word: &str) -> Result<Part, Fail> {
+pub(crate) fn part(rt: &impl Abort, alloc: Global, word: &str) -> Result<Part, AllocError> {
     let text = spelled(alloc, template(word))?;
     Ok(accepted(rt, alloc, text.as_str(), word.starts_with("t:")))
 }

@@ -112,14 +112,14 @@ fn push_parts(
     alloc: Global,
     parts: &mut Vec<Part>,
     words: &str,
-) -> Result<(), Fail> {
+) -> Result<(), AllocError> {
     for word in words.split_whitespace() {
         parts.push(part(rt, alloc, word)?)?;
     }
     Ok(())
 }
 
-fn start_of(rt: &impl Abort, alloc: Global, words: &str) -> Result<Start, Fail>
+fn start_of(rt: &impl Abort, alloc: Global, words: &str) -> Result<Start, AllocError>
     ensures { IfOk result (λ s. (s.state.count ≡ 0) × (s.state.end ≡ None)) }
 {
     let mut parts: Vec<Part> = Vec::new(alloc);
@@ -133,7 +133,7 @@ fn run(
     words: &str,
     steps: u64,
     out: &mut MemSink,
-) -> Result<RunEnd, Fail> {
+) -> Result<RunEnd, AllocError> {
     assert!(rt; steps < 10_000);
     let mut start = start_of(rt, alloc, words)?;
     Ok(run_plain(&mut start, steps, out))
@@ -158,9 +158,9 @@ fn trace(
     words: &str,
     steps: u64,
     out: &mut MemSink,
-) -> Result<RunEnd, Fail> {
+) -> Result<RunEnd, AllocError> {
     let start = start_of(rt, alloc, words)?;
-    Ok(traced(rt, alloc, &start, steps, out)?)
+    traced(rt, alloc, &start, steps, out)
 }
 
 // The lines of a case that have this mark, or are of both runs.
@@ -208,10 +208,10 @@ fn runs_as_told(
     case: &str,
     words: &str,
     steps: u64,
-) -> Result<(), Fail> {
+) -> Result<(), AllocError> {
     let mut out = MemSink::new(alloc)?;
     let end = run(rt, alloc, words, steps, &mut out)?;
-    Ok(as_told(rt, alloc, case, "r ", end, &out)?)
+    as_told(rt, alloc, case, "r ", end, &out)
 }
 
 fn traces_as_told(
@@ -220,10 +220,10 @@ fn traces_as_told(
     case: &str,
     words: &str,
     steps: u64,
-) -> Result<(), Fail> {
+) -> Result<(), AllocError> {
     let mut out = MemSink::new(alloc)?;
     let end = trace(rt, alloc, words, steps, &mut out)?;
-    Ok(as_told(rt, alloc, case, "t ", end, &out)?)
+    as_told(rt, alloc, case, "t ", end, &out)
 }
 
 #[test]
@@ -238,7 +238,7 @@ fn events_and_ends_of_runs_and_traces(rt: HostRuntime) -> Result<(), Fail> {
     Ok(())
 }
 
-fn run_stops(rt: &impl Abort, alloc: Global, number: u32, before: &[u8]) -> Result<(), Fail> {
+fn run_stops(rt: &impl Abort, alloc: Global, number: u32, before: &[u8]) -> Result<(), AllocError> {
     let mut out = MemSink::new(alloc)?;
     out.fail_at(number);
     let end = run(rt, alloc, "t:caller u:adv", 1000, &mut out)?;
@@ -250,7 +250,12 @@ fn run_stops(rt: &impl Abort, alloc: Global, number: u32, before: &[u8]) -> Resu
     Ok(())
 }
 
-fn trace_stops(rt: &impl Abort, alloc: Global, number: u32, before: &[u8]) -> Result<(), Fail> {
+fn trace_stops(
+    rt: &impl Abort,
+    alloc: Global,
+    number: u32,
+    before: &[u8],
+) -> Result<(), AllocError> {
     let mut out = MemSink::new(alloc)?;
     out.fail_at(number);
     let end = trace(rt, alloc, "t:caller u:adv", 1000, &mut out)?;
