@@ -13,14 +13,14 @@ fn image(alloc: Global, stack: u8) -> Result<Vec<u8>, AllocError> {
     Ok(bytes)
 }
 
-fn add_cut(alloc: Global, files: &mut MemFiles) -> Result<(), Fail> {
+fn add_cut(alloc: Global, files: &mut MemFiles) -> Result<(), AllocError> {
     let mut bytes = image(alloc, 4)?;
     bytes.truncate(106);
     files.add("cut.img", bytes.as_slice())?;
     Ok(())
 }
 
-fn add_longer(alloc: Global, files: &mut MemFiles) -> Result<(), Fail> {
+fn add_longer(alloc: Global, files: &mut MemFiles) -> Result<(), AllocError> {
     let mut bytes = image(alloc, 4)?;
     bytes.push(0)?;
     files.add("longer.img", bytes.as_slice())?;
@@ -28,22 +28,34 @@ fn add_longer(alloc: Global, files: &mut MemFiles) -> Result<(), Fail> {
 }
 
 // A stack of one word breaks a rule.
-fn add_small(alloc: Global, files: &mut MemFiles) -> Result<(), Fail> {
+fn add_small(alloc: Global, files: &mut MemFiles) -> Result<(), AllocError> {
     let bytes = image(alloc, 1)?;
     files.add("small.img", bytes.as_slice())?;
     Ok(())
 }
 
-// The files of most calls, and images that are refused: `part.img` is whole, and its component is cut.
-fn with_images(alloc: Global) -> Result<MemFiles, Fail> {
+// Images that are refused, by their names: the component of the last is cut.
+static REFUSED: [(&str, &str); 4] = [
+    ("magic.img", "STKC\x01\0"),
+    ("version.img", "STKI\x02\0"),
+    ("none.img", "STKI\x01\0\x04\0\0\0\0"),
+    ("part.img", "STKI\x01\0\x04\0\0\0\x01\0\0\x04\0\0\0STKC"),
+];
+
+fn add_refused(files: &mut MemFiles) -> Result<(), AllocError> {
+    for (name, bytes) in &REFUSED {
+        files.add(name, bytes.as_bytes())?;
+    }
+    Ok(())
+}
+
+// The files of most calls, and images.
+fn with_images(alloc: Global) -> Result<MemFiles, AllocError> {
     let mut files = files(alloc)?;
     add_cut(alloc, &mut files)?;
     add_longer(alloc, &mut files)?;
     add_small(alloc, &mut files)?;
-    files.add("magic.img", b"STKC\x01\0")?;
-    files.add("version.img", b"STKI\x02\0")?;
-    files.add("none.img", b"STKI\x01\0\x04\0\0\0\0")?;
-    files.add("part.img", b"STKI\x01\0\x04\0\0\0\x01\0\0\x04\0\0\0STKC")?;
+    add_refused(&mut files)?;
     Ok(files)
 }
 
@@ -116,7 +128,7 @@ const UNSAID: Case<'static> = (
 
 const SAID: Case<'static> = ("run more.img", Status::Done, "halted 0 steps 1\n", Some(1));
 
-fn is_whole(alloc: Global, files: &mut MemFiles) -> Result<bool, Fail> {
+fn is_whole(alloc: Global, files: &mut MemFiles) -> Result<bool, AllocError> {
     let wanted = image(alloc, 4)?;
     match read_whole(alloc, files, "one.img", 4096) {
         Ok(held) => Ok(held == wanted),
