@@ -139,7 +139,8 @@ static NAMES: [&str; 17] = [
 ];
 
 // The bytes of the part of this number.
-fn numbered(alloc: Global, name: &'static str, at: u32) -> Result<Vec<u8>, AllocError> {
+fn numbered(alloc: Global, name: &'static str, number: usize) -> Result<Vec<u8>, AllocError> {
+    let at = (number % 32) as u32;
     let part = Small {
         name,
         closure: 1 + at,
@@ -156,10 +157,10 @@ fn add_part(
     files: &mut MemFiles,
     line: &mut String,
     name: &'static str,
-    at: u32,
+    number: usize,
 ) -> Result<(), AllocError> {
     let file = format!(in alloc; "{name}.stc")?;
-    files.add(file.as_str(), numbered(alloc, name, at)?.as_slice())?;
+    files.add(file.as_str(), numbered(alloc, name, number)?.as_slice())?;
     line.push_str(" u:")?;
     line.push_str(file.as_str())?;
     Ok(())
@@ -176,7 +177,7 @@ fn sixteen_run(
             let ran = (line.as_str(), Status::Done, "halted 0 steps 1\n", Some(1));
             is_told(rt, alloc, files, ran)?;
         }
-        add_part(alloc, files, line, name, (i % 32) as u32)?;
+        add_part(alloc, files, line, name, i)?;
     }
     is_told(
         rt,
