@@ -5,7 +5,7 @@
 use cap_words::{Cap, Held, Lin, Perm, SealCap, SealFields, Sealable, Word};
 use lcm_isa::Operand::{Imm, R};
 use lcm_isa::Reg::*;
-use lcm_isa::{Instr, encode};
+use lcm_isa::{Instr, Reg, encode};
 use lcm_machine::{FailCause, LcmState, Place, Span, Step};
 use std::alloc::{AllocError, Global};
 use std::process::Abort;
@@ -627,22 +627,22 @@ fn a_run_ends_where_the_machine_halts(rt: HostRuntime) -> Result<(), Fail> {
     Ok(())
 }
 
-// The word that is lifted from a place, and what is left there.
-fn leaves(rt: &impl Abort, machine: &mut LcmState, place: Place, lifted: Parts, left: Parts) {
-    let held = machine.lift(place);
+// The word that is lifted from a register, and what is left there.
+fn leaves(rt: &impl Abort, machine: &mut LcmState, register: Reg, lifted: Parts, left: Parts) {
+    let held = machine.lift(Place::R(register));
     let word = parts_of(held.word());
     held.give_up();
-    assert_eq!(rt; word, lifted, "{place:?}");
-    holds(rt, machine, place, left);
+    assert_eq!(rt; word, lifted, "{register:?}");
+    holds(rt, machine, Place::R(register), left);
 }
 
 #[test]
 fn a_linear_word_leaves_its_place(rt: HostRuntime) -> Result<(), Fail> {
     let mut machine = start(rt.alloc(), Instr::Halt)?;
     let stack = Mem(2, true, 105, 109, 105);
-    leaves(&rt, &mut machine, Place::R(Stk), stack, Int(0));
+    leaves(&rt, &mut machine, Stk, stack, Int(0));
     let seals = Seal(4, 6, 5);
-    leaves(&rt, &mut machine, Place::R(A0), seals, seals);
+    leaves(&rt, &mut machine, A0, seals, seals);
     Ok(())
 }
 
