@@ -38,7 +38,7 @@ fn add_small(alloc: Global, files: &mut MemFiles) -> Result<(), AllocError> {
 static REFUSED: [(&str, &str); 4] = [
     ("magic.img", "STKC\x01\0"),
     ("version.img", "STKI\x02\0"),
-    ("none.img", "STKI\x01\0\x04\0\0\0\0"),
+    ("none.img", "STKI\x01\0\x04\0\0\0\0\0"),
     ("part.img", "STKI\x01\0\x04\0\0\0\x01\0\0\x04\0\0\0STKC"),
 ];
 
