@@ -1,5 +1,5 @@
 //! Images that are put, run and refused.
-use crate::call::{Case, ONE, are_told, component, files, is_told, is_told_unwritten};
+use crate::call::{Case, ONE, are_told, component, files};
 use lcm_cli::Status;
 use outside_io::{MemFiles, read_whole};
 use std::alloc::{AllocError, Global};
@@ -59,7 +59,7 @@ fn with_images(alloc: Global) -> Result<MemFiles, AllocError> {
     Ok(files)
 }
 
-static CASES: [Case<'static>; 18] = [
+static CASES: [Case<'static>; 15] = [
     // The put fails.
     (
         "link --stack 4 --out one.img u:one.asm",
@@ -102,31 +102,7 @@ static CASES: [Case<'static>; 18] = [
         None,
     ),
     ("trace two.img", Status::ReadFault, "read fault\n", None),
-    // A part's own file is read, and then lost.
-    (
-        "link --stack 4 --out two.stc u:two.stc",
-        Status::Done,
-        "ok\n",
-        None,
-    ),
-    ("check u:two.stc", Status::FileRefused, "file 0 1 0\n", None),
-    (
-        "run --stack 4 u:one.stc",
-        Status::Done,
-        "halted 0 steps 1\n",
-        Some(1),
-    ),
 ];
-
-// The image is put, and `ok` can't be written.
-const UNSAID: Case<'static> = (
-    "link --stack 4 --out more.img u:one.asm",
-    Status::WriteFault,
-    "",
-    None,
-);
-
-const SAID: Case<'static> = ("run more.img", Status::Done, "halted 0 steps 1\n", Some(1));
 
 fn is_whole(alloc: Global, files: &mut MemFiles) -> Result<bool, AllocError> {
     let wanted = image(alloc, 4)?;
@@ -142,8 +118,6 @@ fn images_are_put_run_and_refused(rt: HostRuntime) -> Result<(), Fail> {
     // The third call on the files is the put of the first line.
     files.fail_at(3);
     are_told(&rt, rt.alloc(), &mut files, &CASES)?;
-    is_told_unwritten(&rt, rt.alloc(), &mut files, 1, UNSAID)?;
-    is_told(&rt, rt.alloc(), &mut files, SAID)?;
     let whole = is_whole(rt.alloc(), &mut files)?;
     assert_eq!(rt; whole, true);
     Ok(())
