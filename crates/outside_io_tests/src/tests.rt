@@ -1,58 +1,94 @@
+ghost use Rattle.outside_io.specs.FilesSeen.{IsFileName};
+
 use arrayvec::ArrayVec;
 use outside_io::{
     Failed, Files, HostFiles, HostSink, LONGEST_NAME, MemFiles, MemSink, ReadEnd, Sink, read_whole,
 };
-use std::alloc::{AllocError, Global};
+use std::alloc::{AllocError, AllocGlobal, Global};
 use std::cell::RefCell;
 use std::fmt::Display;
+use std::process::Abort;
 use std::test::Fail;
-use std::{env, fs, io};
+use std::{env, fs, io, rt};
+
+fn add_two(files: &mut MemFiles) -> Result<(), AllocError> {
+    files.add("a", b"old")?;
+    files.add("b", b"other")?;
+    files.add("a", b"hello")
+}
+
+fn gives(rt: &impl Abort, files: &mut MemFiles, at: u64, want: &[u8]) {
+    let mut buf = [0; 4];
+    let count = files.read("a", at, &mut buf);
+    assert_eq!(rt; count, Ok(want.len()));
+    assert!(rt; buf.starts_with(want));
+}
+
+fn is_missing(rt: &impl Abort, files: &mut MemFiles) {
+    assert_eq!(rt; files.read("missing", 0, &mut [0; 4]), Err(Failed));
+    let counts = files.counts();
+    assert_eq!(rt; counts.last_failed_read(), "missing");
+    assert_eq!(rt;
+        (counts.failed_reads(), counts.given(), counts.reads()),
+        (1, 14, 9)
+    );
+}
+
+fn are_given(rt: &impl Abort, alloc: Global, files: &mut MemFiles) -> Result<(), Fail> {
+    add_two(files)?;
+    gives(rt, files, 0, b"hell");
+    gives(rt, files, 3, b"lo");
+    gives(rt, files, 5, b"");
+    gives(rt, files, 9, b"");
+    files.put("a", b"new")?;
+    let a = read_whole(alloc, files, "a", 5)?;
+    assert_eq!(rt; a.as_slice(), b"new".as_slice());
+    let b = read_whole(alloc, files, "b", 5)?;
+    assert_eq!(rt; b.as_slice(), b"other".as_slice());
+    is_missing(rt, files);
+    Ok(())
+}
 
 #[test]
 fn files_in_memory_give_what_was_added(rt: HostRuntime) -> Result<(), Fail> {
     let mut files = MemFiles::new(rt.alloc())?;
-    files.add("a", b"old")?;
-    files.add("b", b"other")?;
-    files.add("a", b"hello")?;
+    are_given(&rt, rt.alloc(), &mut files)
+}
+
+fn second_call_fails(rt: &impl Abort, files: &mut MemFiles) -> Result<(), AllocError> {
+    files.add("a", b"x")?;
+    files.fail_at(1);
+    files.fail_at(2);
     let mut buf = [0; 4];
-    for (at, want) in [(0, "hell"), (3, "lo"), (5, ""), (9, "")] {
-        let count = files.read("a", at, &mut buf)?;
-        assert_eq!(rt; &buf[..count], want.as_bytes(), "at {at}");
-    }
-    files.put("a", b"new")?;
-    let a = read_whole(rt.alloc(), &mut files, "a", 5)?;
-    let b = read_whole(rt.alloc(), &mut files, "b", 5)?;
-    assert_eq!(rt; a.as_slice(), b"new".as_slice());
-    assert_eq!(rt; b.as_slice(), b"other".as_slice());
-    assert_eq!(rt; files.read("missing", 0, &mut buf), Err(Failed));
-    let counts = files.counts();
-    assert_eq!(rt; counts.failed_reads(), 1);
-    assert_eq!(rt; counts.last_failed_read(), "missing");
-    assert_eq!(rt; counts.given(), 14);
-    assert_eq!(rt; counts.reads(), 9);
+    let calls = (
+        files.read("a", 0, &mut buf),
+        files.put("b", b"y"),
+        files.put("b", b"y"),
+    );
+    assert_eq!(rt; calls, (Ok(1), Err(Failed), Ok(())));
+    assert_eq!(rt; files.counts().failed_puts(), 1);
+    assert_eq!(rt; files.counts().last_failed_put(), "b");
     Ok(())
 }
 
 #[test]
 fn the_set_call_fails_once(rt: HostRuntime) -> Result<(), Fail> {
     let mut files = MemFiles::new(rt.alloc())?;
-    files.add("a", b"x")?;
-    files.fail_at(1);
-    files.fail_at(2);
-    let mut buf = [0; 4];
-    assert_eq!(rt; files.read("a", 0, &mut buf), Ok(1));
-    assert_eq!(rt; files.put("b", b"y"), Err(Failed));
-    assert_eq!(rt; files.put("b", b"y"), Ok(()));
-    assert_eq!(rt; files.counts().failed_puts(), 1);
-    assert_eq!(rt; files.counts().last_failed_put(), "b");
+    Ok(second_call_fails(&rt, &mut files)?)
+}
 
-    let mut sink = MemSink::new(rt.alloc())?;
+fn second_write_fails(rt: &impl Abort, sink: &mut MemSink) {
     sink.fail_at(2);
-    assert_eq!(rt; sink.write(b"ab"), Ok(()));
-    assert_eq!(rt; sink.write(b"z"), Err(Failed));
-    assert_eq!(rt; sink.write(b"c"), Ok(()));
+    let writes = (sink.write(b"ab"), sink.write(b"z"), sink.write(b"c"));
+    assert_eq!(rt; writes, (Ok(()), Err(Failed), Ok(())));
     assert_eq!(rt; sink.bytes(), b"abc".as_slice());
     assert_eq!(rt; sink.faults(), 1);
+}
+
+#[test]
+fn the_set_write_fails_once(rt: HostRuntime) -> Result<(), Fail> {
+    let mut sink = MemSink::new(rt.alloc())?;
+    second_write_fails(&rt, &mut sink);
     Ok(())
 }
 
@@ -70,35 +106,98 @@ fn length_read(
 
 #[test]
 fn a_whole_file_is_read_up_to_the_limit(rt: HostRuntime) -> Result<(), Fail> {
-    for (len, limit, want) in [
-        (0, 0, (Ok(0), 1)),
-        (1, 0, (Err(ReadEnd::TooLong), 1)),
-        (40_000, 40_000, (Ok(40_000), 4)),
-        (40_000, 39_999, (Err(ReadEnd::TooLong), 3)),
-    ] {
-        assert_eq!(rt;
-            length_read(rt.alloc(), len, limit)?,
-            want,
-            "{len} bytes, at most {limit}"
-        );
-    }
+    let alloc = rt.alloc();
+    assert_eq!(rt; length_read(alloc, 0, 0)?, (Ok(0), 1));
+    assert_eq!(rt; length_read(alloc, 1, 0)?, (Err(ReadEnd::TooLong), 1));
+    assert_eq!(rt; length_read(alloc, 40_000, 40_000)?, (Ok(40_000), 4));
+    assert_eq!(rt;
+        length_read(alloc, 40_000, 39_999)?,
+        (Err(ReadEnd::TooLong), 3)
+    );
+    Ok(())
+}
+
+fn are_empty(rt: &impl Abort, alloc: Global, files: &mut MemFiles) -> Result<(), Fail> {
+    files.put("new", b"")?;
+    files.add("old", b"some")?;
+    files.put("old", b"")?;
+    let mut buf = [0; 4];
+    let reads = (
+        files.read("new", 0, &mut buf),
+        files.read("old", 0, &mut buf),
+    );
+    assert_eq!(rt; reads, (Ok(0), Ok(0)));
+    let new = read_whole(alloc, files, "new", 0)?.len();
+    let old = read_whole(alloc, files, "old", 0)?.len();
+    let counts = files.counts();
+    assert_eq!(rt;
+        (new, old, counts.failed_puts(), counts.failed_reads()),
+        (0, 0, 0, 0)
+    );
     Ok(())
 }
 
 #[test]
 fn a_put_of_no_bytes_makes_an_empty_file(rt: HostRuntime) -> Result<(), Fail> {
     let mut files = MemFiles::new(rt.alloc())?;
-    files.put("new", b"")?;
-    files.add("old", b"some")?;
-    files.put("old", b"")?;
-    let mut buf = [0; 4];
-    for name in ["new", "old"] {
-        assert_eq!(rt; files.read(name, 0, &mut buf), Ok(0), "{name}");
-        let whole = read_whole(rt.alloc(), &mut files, name, 0)?;
-        assert!(rt; whole.is_empty(), "{name}");
-    }
-    assert_eq!(rt; files.counts().failed_puts(), 0);
-    assert_eq!(rt; files.counts().failed_reads(), 0);
+    are_empty(&rt, rt.alloc(), &mut files)
+}
+
+fn keeps_put<R: Abort + AllocGlobal + rt::Files>(
+    rt: &R,
+    files: &mut HostFiles<&R>,
+    path: &str,
+    bytes: &str,
+) -> Result<(), Fail>
+    requires { IsFileName path.now }
+{
+    files.put(path, bytes.as_bytes())?;
+    let left = fs::read(rt, path)?;
+    assert_eq!(rt; left.as_slice(), bytes.as_bytes());
+    Ok(())
+}
+
+fn gives_what_was_put<R: Abort + rt::Files>(
+    rt: &R,
+    alloc: Global,
+    files: &mut HostFiles<&R>,
+    path: &str,
+) -> Result<(), Fail>
+    requires { IsFileName path.now }
+{
+    let mut buf = [0; 3];
+    let count = files.read(path, 3, &mut buf)?;
+    assert_eq!(rt; &buf[..count], b"lo".as_slice());
+    let whole = read_whole(alloc, files, path, 5)?;
+    assert_eq!(rt; whole.as_slice(), b"hello".as_slice());
+    assert_eq!(rt; files.counts().reads(), 3);
+    Ok(())
+}
+
+fn tells_what_is_gone<R: Abort + rt::Files>(
+    rt: &R,
+    alloc: Global,
+    files: &mut HostFiles<&R>,
+    path: &str,
+)
+    requires { IsFileName path.now }
+{
+    let end = read_whole(alloc, files, path, 5).err();
+    assert_eq!(rt; end, Some(ReadEnd::Fault));
+    assert_eq!(rt; files.counts().last_failed_read(), path);
+    assert_eq!(rt; files.counts().reads(), 4);
+}
+
+fn are_kept<R: Abort + AllocGlobal + rt::Files>(rt: &R, path: &str) -> Result<(), Fail> {
+    assert!(rt; !path.is_empty() && path.len() <= LONGEST_NAME);
+    let mut files = HostFiles::new(rt);
+    keeps_put(rt, &mut files, path, "longer than what follows")?;
+    keeps_put(rt, &mut files, path, "hello")?;
+    keeps_put(rt, &mut files, path, "")?;
+    keeps_put(rt, &mut files, path, "hello")?;
+    gives_what_was_put(rt, rt.alloc(), &mut files, path)?;
+    fs::remove_file(rt, path)?;
+    tells_what_is_gone(rt, rt.alloc(), &mut files, path);
     Ok(())
 }
 
@@ -107,28 +206,7 @@ fn files_of_the_system_keep_what_was_put(rt: HostRuntime) -> Result<(), Fail> {
     let id = std::process::id(rt.process());
     let name = format!(in rt.alloc(); "outside_io_{id}")?;
     let path = env::temp_dir(&rt)?.join(rt.alloc(), name.as_str())?;
-    let path = path.as_str();
-    assert!(rt; !path.is_empty() && path.len() <= LONGEST_NAME);
-    let mut files = HostFiles::new(&rt);
-    for bytes in ["longer than what follows", "hello", "", "hello"] {
-        files.put(path, bytes.as_bytes())?;
-        let left = fs::read(&rt, path)?;
-        assert_eq!(rt; left.as_slice(), bytes.as_bytes());
-    }
-    let mut buf = [0; 3];
-    let count = files.read(path, 3, &mut buf)?;
-    assert_eq!(rt; &buf[..count], b"lo".as_slice());
-    let whole = read_whole(rt.alloc(), &mut files, path, 5)?;
-    assert_eq!(rt; whole.as_slice(), b"hello".as_slice());
-    assert_eq!(rt; files.counts().reads(), 3);
-    fs::remove_file(&rt, path)?;
-    assert_eq!(rt;
-        read_whole(rt.alloc(), &mut files, path, 5).err(),
-        Some(ReadEnd::Fault)
-    );
-    assert_eq!(rt; files.counts().last_failed_read(), path);
-    assert_eq!(rt; files.counts().reads(), 4);
-    Ok(())
+    are_kept(&rt, path.as_str())
 }
 
 // A standard output that has room for eight bytes.
@@ -159,24 +237,32 @@ impl Print for Paper {
     }
 }
 
+fn holds(rt: &impl Abort, paper: &Paper, text: &str) -> Result<(), Fail> {
+    let left = paper.text.try_borrow()?;
+    assert_eq!(rt; left.as_slice(), text.as_bytes());
+    Ok(())
+}
+
+fn takes_what_fits(
+    rt: &impl Abort,
+    sink: &mut HostSink<&Paper>,
+    paper: &Paper,
+) -> Result<(), Fail> {
+    sink.write(b"abcde")?;
+    holds(rt, paper, "abcde")?;
+    sink.write(b"f")?;
+    holds(rt, paper, "abcdef")?;
+    assert_eq!(rt; sink.write(b"ghi"), Err(Failed));
+    assert_eq!(rt; sink.faults(), 1);
+    holds(rt, paper, "abcdefgh")
+}
+
 #[test]
 fn the_standard_output_gets_each_piece_whole(rt: HostRuntime) -> Result<(), Fail> {
     let paper = Paper {
         text: RefCell::new(ArrayVec::new()),
     };
-    let mut sink = HostSink::new(&paper);
-    for (piece, want, text) in [
-        ("abcde", Ok(()), "abcde"),
-        ("f", Ok(()), "abcdef"),
-        ("ghi", Err(Failed), "abcdefgh"),
-    ] {
-        assert_eq!(rt; sink.write(piece.as_bytes()), want, "{piece}");
-        if let Ok(left) = paper.text.try_borrow() {
-            assert_eq!(rt; left.as_slice(), text.as_bytes(), "{piece}");
-        }
-    }
-    assert_eq!(rt; sink.faults(), 1);
-    Ok(())
+    takes_what_fits(&rt, &mut HostSink::new(&paper), &paper)
 }
 
 #[test]
