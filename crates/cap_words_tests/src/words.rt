@@ -1,5 +1,6 @@
 //! What no clause says: that the definitions mean what they should.
 use cap_words::{Cap, Held, Lin, Perm, SealCap, Sealable, Word, word_text};
+use std::process::Abort;
 
 // The texts were worked out by hand; the last is the longest that there is.
 #[test]
@@ -68,30 +69,37 @@ fn shapes() -> [(Word, bool); 7] {
     ]
 }
 
+fn is_copied(rt: &impl Abort, word: &Word, linear: bool) {
+    assert_eq!(rt; word.is_linear(), linear, "at {word:?}");
+    match word.copy_of() {
+        Some(copy) => {
+            assert!(rt; !linear, "at {word:?}");
+            assert_eq!(rt; word_text(&copy).as_str(), word_text(word).as_str());
+        }
+        None => assert!(rt; linear, "at {word:?}"),
+    }
+}
+
 #[test]
 fn copy_of_is_none_exactly_for_a_linear_word(rt: HostRuntime) {
     for (word, linear) in &shapes() {
-        assert_eq!(rt; word.is_linear(), *linear, "at {word:?}");
-        match word.copy_of() {
-            Some(copy) => {
-                assert!(rt; !*linear, "at {word:?}");
-                assert_eq!(rt; word_text(&copy).as_str(), word_text(word).as_str());
-            }
-            None => assert!(rt; *linear, "at {word:?}"),
-        }
+        is_copied(&rt, word, *linear);
     }
+}
+
+fn is_lifted(rt: &impl Abort, mut place: Word, linear: bool) {
+    let before = word_text(&place);
+    let held = Held::lift(&mut place);
+    assert_eq!(rt; word_text(held.word()).as_str(), before.as_str());
+    let left = if linear { "0" } else { before.as_str() };
+    assert_eq!(rt; word_text(&place).as_str(), left);
+    held.put_into(&mut place);
+    assert_eq!(rt; word_text(&place).as_str(), before.as_str());
 }
 
 #[test]
 fn lift_leaves_zero_of_a_linear_word_and_the_copy_of_another(rt: HostRuntime) {
     for (word, linear) in shapes() {
-        let before = word_text(&word);
-        let mut place = word;
-        let held = Held::lift(&mut place);
-        assert_eq!(rt; word_text(held.word()).as_str(), before.as_str());
-        let left = if linear { "0" } else { before.as_str() };
-        assert_eq!(rt; word_text(&place).as_str(), left);
-        held.put_into(&mut place);
-        assert_eq!(rt; word_text(&place).as_str(), before.as_str());
+        is_lifted(&rt, word, linear);
     }
 }
