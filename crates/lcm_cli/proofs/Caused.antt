@@ -36,7 +36,7 @@ use Rattle.lcm_cli.specs.declared.status.Status.{Status}
 use Rattle.lcm_cli.specs.declared.status.Status.TheVariants as status
 use Rattle.lcm_cli.specs.Refusals.{refusal_status, image_status}
 use Rattle.lcm_cli.specs.Plans.{Plan, Reads, Ends, Made, whole as came_whole, too_long, unread, Comes}
-use Rattle.lcm_cli.specs.Commands.{Task, Run, Trace, Put, Show, Say, Content, OfComponent, OfImage, spelling_of, is_built_linked, is_built, run_plan, trace_plan, built_plan, plan_in, is_command}
+use Rattle.lcm_cli.specs.Commands.{Task, Run, Trace, Put, Show, Say, Content, OfComponent, OfImage, spelling_of, IsReadAgain, is_built_linked, is_built, run_plan, trace_plan, built_plan, plan_in, is_command}
 use Rattle.lcm_cli.specs.Answers.{Answer, NewFile, Outside, with_files, end_status, writes, ran, traced, said, refused, IsAnswerOf, IsPut, GivesWhole, whole, unput, unwritten, Answers, answer, nothing}
 use Rattle.lcm_cli.specs.Causes.{IsTurn, IsUnread, IsLong, IsUndecoded, IsUnassembled, IsUnloaded, Breaks, Runs, Traces, PutsFile, Shows, Says, out_of, Wrote, Causes, Stay, OthersStay, StayAt, PutsWhole, IsRunStatus, LinkedCame, RunGiven, TraceGiven, Promised}
 use Rattle.lcm_cli.proofs.Ends.{Never, same_err, never_runs, never_traces, never_links, never_assembles, never_shows, never_checks, never_image_runs, never_image_traces}
@@ -236,7 +236,7 @@ due_caused asked old new seen (Ok (Trace parts size steps)) a c x p w =
     let n : new.files ≡ seen = unput_seen seen new.files a (traced x.1 steps) x.4 refl p in
     subst (λ (b : Answer). Caused asked old new b.status) (sym x.4) (trace_caused asked old new parts size steps (rw n c) x.0 x.1 x.2 x.3 (trace_of steps x.1).end refl)
 due_caused asked old new seen (Ok (Put name d)) a c x p w =
-    subst (λ (b : Answer). Caused asked old new b.status) (sym x) (inr (inr (inl (name, d, seen, c, subst (λ (b : Answer). IsPut seen b.file new.files) x p))))
+    subst (λ (b : Answer). Caused asked old new b.status) (sym x.1) (inr (inr (inl (name, d, seen, c, x.0, subst (λ (b : Answer). IsPut seen b.file new.files) x.1 p))))
 due_caused asked old new seen (Ok (Show d)) a c x p w =
     let n : new.files ≡ seen = unput_seen seen new.files a (writes status.Done (disassembled d)) x refl p in
     subst (λ (b : Answer). Caused asked old new b.status) (sym x) (inr (inr (inr (inl (d, rw n c)))))
@@ -277,13 +277,13 @@ some_same f g e = cc
 
 -- an answer with a file is that of a component or an image, and the file is that of `--out`
 put_of : (asked : Option Command) (due : Result Task Refusal) (a : Answer) (f : NewFile) (old seen : FilesSeen) → Comes (plan_in asked) old due seen → IsAnswerOf due a → a.file ≡ Some f
-    → (d : Content) × Comes (plan_in asked) old (Ok (Put f.name d)) seen × (f.bytes ≡ spelling_of d) × (out_of asked ≡ Some f.name)
+    → (d : Content) × Comes (plan_in asked) old (Ok (Put f.name d)) seen × (f.bytes ≡ spelling_of d) × (out_of asked ≡ Some f.name) × IsReadAgain d
 put_of asked (Ok (Run parts size steps)) a f old seen c x e = absurd (let k = ap (λ (b : Answer). b.file) x.2 in cc)
 put_of asked (Ok (Trace parts size steps)) a f old seen c x e = absurd (let k = ap (λ (b : Answer). b.file) x.4 in cc)
 put_of asked (Ok (Put name d)) a f old seen c x e =
-    let k : f ≡ record { name = name; bytes = spelling_of d } = some_same f (record { name = name; bytes = spelling_of d }) (sym e ∙ ap (λ (b : Answer). b.file) x) in
+    let k : f ≡ record { name = name; bytes = spelling_of d } = some_same f (record { name = name; bytes = spelling_of d }) (sym e ∙ ap (λ (b : Answer). b.file) x.1) in
     let n : f.name ≡ name = ap (λ (g : NewFile). g.name) k in
-    (d, subst (λ m. Comes (plan_in asked) old (Ok (Put m d)) seen) (sym n) c, ap (λ (g : NewFile). g.bytes) k, put_in asked (is_command asked) refl old seen name d c ∙ ap (λ m. Some m) (sym n))
+    (d, subst (λ m. Comes (plan_in asked) old (Ok (Put m d)) seen) (sym n) c, ap (λ (g : NewFile). g.bytes) k, put_in asked (is_command asked) refl old seen name d c ∙ ap (λ m. Some m) (sym n), x.0)
 put_of asked (Ok (Show d)) a f old seen c x e = absurd (let k = ap (λ (b : Answer). b.file) x in cc)
 put_of asked (Ok Say) a f old seen c x e = absurd (let k = ap (λ (b : Answer). b.file) x in cc)
 put_of asked (Err why) a f old seen c x e = absurd (let k = ap (λ (b : Answer). b.file) x in cc)
@@ -351,7 +351,7 @@ put_stays : (asked : Option Command) (due : Result Task Refusal) (a : Answer) (o
 put_stays asked due a old seen new None c x e p = inl (ap (λ (s : FilesSeen). s.contents) p ∙ comes_contents (plan_in asked) old seen due c)
 put_stays asked due a old seen new (Some f) c x e p =
     let m = put_of asked due a f old seen c x e in
-    inr (f.name, m.3, keeps_from old seen new f.name (comes_contents (plan_in asked) old seen due c) p.others, (f.name, m.0, seen, m.1, subst (λ b. Puts seen new f.name b) m.2 p))
+    inr (f.name, m.3, keeps_from old seen new f.name (comes_contents (plan_in asked) old seen due c) p.others, (f.name, m.0, seen, m.1, m.4, subst (λ b. Puts seen new f.name b) m.2 p))
 
 others : (asked : Option Command) (old new : FilesSeen) → Stay old new ⊎ ((out : List ℕ) × (out_of asked ≡ Some out) × KeepsOthers old new out × PutsFile asked old new) → OthersStay asked old new
 others asked old new (inl s) = inl s
@@ -394,7 +394,7 @@ why_none (refusal.Image f) a e = image_none f a e
 puts_none : (due : Result Task Refusal) (a : Answer) → IsAnswerOf due a → PutsNone a.status a
 puts_none (Ok (Run parts size steps)) a x = subst (λ (b : Answer). PutsNone b.status b) (sym x.2) (end_none (end_of (last_step (plain steps x.0.state))) (ran x.0 steps) refl)
 puts_none (Ok (Trace parts size steps)) a x = subst (λ (b : Answer). PutsNone b.status b) (sym x.4) (end_none (trace_of steps x.1).end (traced x.1 steps) refl)
-puts_none (Ok (Put name d)) a x = subst (λ (b : Answer). PutsNone b.status b) (sym x) tt
+puts_none (Ok (Put name d)) a x = subst (λ (b : Answer). PutsNone b.status b) (sym x.1) tt
 puts_none (Ok (Show d)) a x = subst (λ (b : Answer). PutsNone b.status b) (sym x) tt
 puts_none (Ok Say) a x = subst (λ (b : Answer). PutsNone b.status b) (sym x) tt
 puts_none (Err why) a x = subst (λ (b : Answer). PutsNone b.status b) (sym x) (why_none why (refused why) refl)

@@ -93,6 +93,11 @@ unless_made told (Ok y) x e = made_same y x (cc)
     made_same y x e = ap (λ z. Made z) e
 unless_made told (Err f) x e = absurd (cc)
 
+-- what a layer gave, where the plan has made it
+pub unless_gave : {A F : Type 0} (told : F → Refusal) (r : Result A F) (x : A) → unless told r ≡ Made x → r ≡ Ok x
+unless_gave told (Ok y) x e = let same : y ≡ x = cc in ap (λ z. Ok z) same
+unless_gave told (Err f) x e = absurd (cc)
+
 pub unless_ended : {A F : Type 0} (told : F → Refusal) (r : Result A F) (f : F) → Err f ≡ r → unless told r ≡ Ends (told f)
 unless_ended told (Ok y) f e = absurd (cc)
 unless_ended told (Err h) f e = ends_same told h f (cc)

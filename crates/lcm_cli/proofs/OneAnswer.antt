@@ -156,7 +156,7 @@ task_settles held (Some c) true f task h = built_settles held c task f (subst (�
 
 one_of : (held : List ℕ → Option (List ℕ)) (asked : Option Command) (due : Result Task Refusal) (a b : Answer) → Settles held (plan_in asked) due → IsAnswerOf due a → IsAnswerOf due b → a ≡ b
 one_of held asked (Err why) a b s h k = h ∙ sym k
-one_of held asked (Ok (Put name c)) a b s h k = h ∙ sym k
+one_of held asked (Ok (Put name c)) a b s h k = h.1 ∙ sym k.1
 one_of held asked (Ok (Show c)) a b s h k = h ∙ sym k
 one_of held asked (Ok Say) a b s h k = h ∙ sym k
 one_of held asked (Ok (Run parts size steps)) a b s h k =

@@ -24,7 +24,7 @@ use Rattle.lcm_cli.specs.declared.job.Job.{Job}
 use Rattle.lcm_cli.specs.declared.job.Job.TheVariants as job
 use Rattle.lcm_cli.specs.Refusals.{refusal_text, refusal_status}
 use Rattle.lcm_cli.specs.Plans.{Plan, Reads, Ends, Made, Comes}
-use Rattle.lcm_cli.specs.Commands.{Task, Run, Trace, Put, Show, Say, spelling_of}
+use Rattle.lcm_cli.specs.Commands.{Task, Run, Trace, Put, Show, Say, spelling_of, IsReadAgain}
 
 -- a file that is put, by its name and its bytes
 pub record NewFile : Type 0 where
@@ -69,14 +69,14 @@ abbrev pub puts : List ℕ → List ℕ → Answer
 puts name bytes = record said { file = Some (record { name = name; bytes = bytes }) }
 
 -- the answer to what came of a plan: that of the plain run of the start that the parts link to or of its
--- overlay, the file, the component's text, `ok`, or the refusal's
+-- overlay, the file, which is read again as what was put, the component's text, `ok`, or the refusal's
 abbrev pub IsAnswerOf : Result Task Refusal → Answer → Type 0
 IsAnswerOf (Ok (Run parts size steps)) a =
     (start : StartSeen) × IsLinkedStart parts size start × (a ≡ ran start steps)
 IsAnswerOf (Ok (Trace parts size steps)) a =
     (start : StartSeen) × (overlay : OverlaySeen) × IsLinkedStart parts size start × IsOverlayOf start overlay
     × (a ≡ traced overlay steps)
-IsAnswerOf (Ok (Put name content)) a = a ≡ puts name (spelling_of content)
+IsAnswerOf (Ok (Put name content)) a = IsReadAgain content × (a ≡ puts name (spelling_of content))
 IsAnswerOf (Ok (Show c)) a = a ≡ writes Done (disassembled c)
 IsAnswerOf (Ok Say) a = a ≡ said
 IsAnswerOf (Err why) a = a ≡ refused why

@@ -44,7 +44,7 @@ use Rattle.lcm_cli.specs.Refusals.{refusal_text, image_status}
 use Rattle.lcm_cli.specs.Plans.{Plan, Reads, Ends, Made, Comes}
 use Rattle.component_linker.specs.Accepted.{accepted}
 use Rattle.lcm_cli.specs.Parts.{is_trusted, linked, loaded, component_at, part_at, each_at}
-use Rattle.lcm_cli.specs.Commands.{Content, spelling_of, Run, Trace, Put, Show, Say, is_command, plan_in}
+use Rattle.lcm_cli.specs.Commands.{Content, spelling_of, IsReadAgain, Run, Trace, Put, Show, Say, is_command, plan_in}
 use Rattle.lcm_cli.specs.Answers.{Outside, Answers, IsComplete, end_status}
 
 -- ---- files
@@ -153,11 +153,13 @@ Says asked old new = Comes (plan_in asked) old (Ok Say) new
 
 -- ---- files that are put, and components that are shown
 
--- the component or the image that the words ask for came, and its file was put under the name of `--out`
+-- the component or the image that the words ask for came, and its file was put under the name of `--out`, whose
+-- bytes are read again as just this component or image
 abbrev pub PutsFile : Option Command → FilesSeen → FilesSeen → Type 0
 PutsFile asked old new =
     (name : List ℕ) × (content : Content) × (seen : FilesSeen)
-    × Comes (plan_in asked) old (Ok (Put name content)) seen × Puts seen new name (spelling_of content)
+    × Comes (plan_in asked) old (Ok (Put name content)) seen × IsReadAgain content
+    × Puts seen new name (spelling_of content)
 
 -- the word's component came, and its text was to be written
 abbrev pub Shows : Option Command → FilesSeen → FilesSeen → Type 0

@@ -1,5 +1,5 @@
 -- What each command does: its files in the order of refusals, and then its task.
-use Rattle.std.specs.Prelude.{ℕ, Bool, true, false, not, List, Option, Some, None, if◌then◌else◌}
+use Rattle.std.specs.Prelude.{◌≡◌, ℕ, Bool, true, false, not, List, Option, Some, None, Ok, if◌then◌else◌}
 use Rattle.std.specs.List.{list_all}
 use Rattle.command_words.specs.declared.part.Ending.{Ending}
 use Rattle.command_words.specs.declared.part.Ending.TheVariants.{Source}
@@ -10,6 +10,7 @@ use Rattle.command_words.specs.declared.command.Command.{Command}
 use Rattle.command_words.specs.declared.command.Command.TheVariants as command
 use Rattle.component_file.specs.declared.component.ComponentFields.{ComponentFields}
 use Rattle.component_file.specs.Spelling.{spelling}
+use Rattle.component_file.specs.Reading.{decoded}
 use Rattle.component_linker.specs.Parts.{PartSeen}
 use Rattle.image_loader.specs.Image.{ImageSeen, image_bytes}
 use Rattle.lcm_cli.specs.declared.refusal.Refusal.TheVariants as refusal
@@ -25,6 +26,11 @@ pub data Content : Type 0 where
 abbrev pub spelling_of : Content → List ℕ
 spelling_of (OfComponent c) = spelling c
 spelling_of (OfImage i) = image_bytes i
+
+-- its bytes are read again as just this content
+abbrev pub IsReadAgain : Content → Type 0
+IsReadAgain (OfComponent c) = decoded (spelling c) ≡ Ok c
+IsReadAgain (OfImage i) = loaded (image_bytes i) ≡ Ok i
 
 -- what is left to do once the files came: to run the start of parts with a stack of a size, or its overlay; to
 -- put a file under a name, and then to write `ok`; to write the text of a component; or to write `ok`

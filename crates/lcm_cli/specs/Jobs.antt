@@ -10,14 +10,15 @@ use Rattle.lcm_cli.specs.declared.job.Job.{Job}
 use Rattle.lcm_cli.specs.declared.job.Job.TheVariants as job
 use Rattle.lcm_cli.specs.declared.refusal.Stop.{Stop}
 use Rattle.lcm_cli.specs.Plans.{Plan, Made, Comes, Follows, Meets}
-use Rattle.lcm_cli.specs.Commands.{Task, Run, Trace, Put, Show, Say, spelling_of}
+use Rattle.lcm_cli.specs.Commands.{Task, Run, Trace, Put, Show, Say, spelling_of, IsReadAgain}
 
 -- the job runs from the start of the task's parts, or from its overlay, and has the bytes of its file or its text
 abbrev pub Does : Task → Job → Type 0
 Does (Run parts size steps) (job.Run start n) = IsLinkedStart parts size start × (n ≡ steps)
 Does (Trace parts size steps) (job.Trace start overlay n) =
     IsLinkedStart parts size start × IsOverlayOf start overlay × (n ≡ steps)
-Does (Put name content) (job.Put out bytes) = (out ≡ name) × (bytes ≡ spelling_of content)
+Does (Put name content) (job.Put out bytes) =
+    IsReadAgain content × (out ≡ name) × (bytes ≡ spelling_of content)
 Does (Show c) (job.Show text) = text ≡ disassembled c
 Does Say job.Say = Unit {0}
 Does _ _ = ⊥

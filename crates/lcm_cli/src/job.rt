@@ -3,7 +3,7 @@ ghost use Rattle.std.specs.Prelude.{◌≡◌, ◌≤◌, IfOk, length};
 ghost use Rattle.std.specs.List.{list_all};
 ghost use Rattle.component_file.specs.Spelling.{spelling};
 ghost use Rattle.disassembler.specs.Disassembled.{disassembled};
-ghost use Rattle.image_loader.specs.Image.{image_bytes};
+ghost use Rattle.image_loader.specs.Image.{Spells};
 ghost use Rattle.command_words.specs.declared.TheConstants.{MOST_PARTS};
 ghost use Rattle.lcm_cli.specs.declared.refusal.Refusal.TheVariants.{Rule};
 ghost use Rattle.lcm_cli.specs.Plans.{Meets, unless};
@@ -75,7 +75,7 @@ fn linked_bytes(alloc: Global, parts: &Items<Part>, size: u32) -> Result<Items<u
     requires some { 1 ≤ length parts.now }
     requires few { length parts.now ≤ MOST_PARTS }
     ensures rules { Meets (unless Rule (linked parts.now size)) (without result) }
-    ensures bytes { IfOk result (λ bytes. bytes ≡ image_bytes (record { stack = size; parts = parts.now })) }
+    ensures bytes { IfOk result (λ bytes. Spells bytes (record { stack = size; parts = parts.now })) }
 {
     started(alloc, parts, size)?;
     let bytes = write_image(alloc, parts.as_slice(), size)?;

@@ -1,8 +1,9 @@
 //! Images that are put, run and refused.
-use crate::call::{Case, ONE, are_told, component, files};
+use crate::call::{Case, ONE, are_told, component, files, is_told, is_told_unwritten};
 use lcm_cli::Status;
 use outside_io::{MemFiles, read_whole};
 use std::alloc::{AllocError, Global};
+use std::process::Abort;
 use std::test::Fail;
 
 // The image of the part `one` with this stack, by the table of docs/FORMATS.md: 107 bytes.
@@ -59,7 +60,7 @@ fn with_images(alloc: Global) -> Result<MemFiles, AllocError> {
     Ok(files)
 }
 
-static CASES: [Case<'static>; 15] = [
+static CASES: [Case<'static>; 17] = [
     // The put fails.
     (
         "link --stack 4 --out one.img u:one.asm",
@@ -102,7 +103,30 @@ static CASES: [Case<'static>; 15] = [
         None,
     ),
     ("trace two.img", Status::ReadFault, "read fault\n", None),
+    // A part's own file may be written over.
+    (
+        "link --stack 4 --out one.stc u:one.stc",
+        Status::Done,
+        "ok\n",
+        None,
+    ),
+    ("check u:one.stc", Status::FileRefused, "file 0 1 0\n", None),
 ];
+
+// The image is put, and what can't be written is `ok`.
+static UNWRITTEN: Case<'static> = (
+    "link --stack 4 --out late.img u:one.asm",
+    Status::WriteFault,
+    "",
+    None,
+);
+
+static LATE: Case<'static> = ("run late.img", Status::Done, "halted 0 steps 1\n", Some(1));
+
+fn late_is_put(rt: &impl Abort, alloc: Global, files: &mut MemFiles) -> Result<(), AllocError> {
+    is_told_unwritten(rt, alloc, files, 1, UNWRITTEN)?;
+    is_told(rt, alloc, files, LATE)
+}
 
 fn is_whole(alloc: Global, files: &mut MemFiles) -> Result<bool, AllocError> {
     let wanted = image(alloc, 4)?;
@@ -118,6 +142,7 @@ fn images_are_put_run_and_refused(rt: HostRuntime) -> Result<(), Fail> {
     // The third call on the files is the put of the first line.
     files.fail_at(3);
     are_told(&rt, rt.alloc(), &mut files, &CASES)?;
+    late_is_put(&rt, rt.alloc(), &mut files)?;
     let whole = is_whole(rt.alloc(), &mut files)?;
     assert_eq!(rt; whole, true);
     Ok(())

@@ -1,9 +1,11 @@
 use Rattle.std.proofs.Common.{refl}
 use Rattle.std.proofs.lemmas.Result.{err_from_is_err_and}
+use Rattle.lcm_cli.specs.declared.refusal.Refusal.TheVariants.{Rule}
 use Rattle.lcm_cli.specs.Plans.{Made}
+use Rattle.lcm_cli.specs.Parts.{linked}
 use Rattle.lcm_cli.specs.Commands.{Put, OfImage, linked_parts, link_plan}
-use Rattle.lcm_cli.proofs.Follow.{comes_made, follows_end}
-use Rattle.lcm_cli.proofs.Linking.{image_with, linked_comes, linked_unread, linked_stops}
+use Rattle.lcm_cli.proofs.Follow.{comes_made, follows_end, unless_gave}
+use Rattle.lcm_cli.proofs.Linking.{image_with, linked_comes, linked_unread, linked_stops, loaded_again}
 use Rattle.lcm_cli.proofs.job.link.Goals as goal
 
 pub returns-in_err-parts : goal.returns-in_err-parts
@@ -25,5 +27,5 @@ returns g c =
     let i = image_with c.args.size c.in_ok-parts.parts in (
       Put c.args.out (OfImage i),
       comes_made (linked_parts c.args.words.now c.args.size) (λ j. Put c.args.out (OfImage j)) _ _ i (linked_comes c.args.words.now c.args.size c.in_ok-parts.parts _ _ c.in_ok-parts.ensures.are c.in_ok-bytes.ensures.rules),
-      (refl, c.in_ok-bytes.ensures.bytes),
+      (loaded_again i c.in_ok-bytes.ensures.bytes.0 (unless_gave Rule (linked c.in_ok-parts.parts c.args.size) tt c.in_ok-bytes.ensures.rules), refl, c.in_ok-bytes.ensures.bytes.1),
     )
