@@ -69,7 +69,7 @@ abbrev pub puts : List ℕ → List ℕ → Answer
 puts name bytes = record said { file = Some (record { name = name; bytes = bytes }) }
 
 -- the answer to what came of a plan: that of the plain run of the start that the parts link to or of its
--- overlay, the file, which is read again as what was put, the component's text, `ok`, or the refusal's
+-- overlay, the file, whose bytes give again what was put, the component's text, `ok`, or the refusal's
 abbrev pub IsAnswerOf : Result Task Refusal → Answer → Type 0
 IsAnswerOf (Ok (Run parts size steps)) a =
     (start : StartSeen) × IsLinkedStart parts size start × (a ≡ ran start steps)

@@ -154,7 +154,7 @@ Says asked old new = Comes (plan_in asked) old (Ok Say) new
 -- ---- files that are put, and components that are shown
 
 -- the component or the image that the words ask for came, and its file was put under the name of `--out`, whose
--- bytes are read again as just this component or image
+-- bytes give just this component or image again
 abbrev pub PutsFile : Option Command → FilesSeen → FilesSeen → Type 0
 PutsFile asked old new =
     (name : List ℕ) × (content : Content) × (seen : FilesSeen)

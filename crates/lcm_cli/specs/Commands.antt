@@ -27,7 +27,7 @@ abbrev pub spelling_of : Content → List ℕ
 spelling_of (OfComponent c) = spelling c
 spelling_of (OfImage i) = image_bytes i
 
--- its bytes are read again as just this content
+-- decoded, or loaded with all the rules, its bytes give just this content again
 abbrev pub IsReadAgain : Content → Type 0
 IsReadAgain (OfComponent c) = decoded (spelling c) ≡ Ok c
 IsReadAgain (OfImage i) = loaded (image_bytes i) ≡ Ok i
