@@ -2,17 +2,17 @@
 //!
 //! A row makes its tests in the order of the table. It answers the effect to carry out, or the cause
 //! of the first test that fails.
-ghost use Rattle.std.specs.Prelude.{◌≡◌, MatchResult, IfOk, true, false};
+ghost use Rattle.std.specs.Prelude.{◌≡◌, ◌+◌, ◌==◌, ◌&&◌, ◌+ℤ◌, ◌-ℤ◌, MatchResult, IfOk, true, false};
 ghost use Rattle.std.specs.Option.{ok_or};
 ghost use Rattle.lcm_isa.specs.declared.Instr.{Instr};
 ghost use Rattle.cap_words.specs.declared.Word.TheVariants.{Int};
 ghost use Rattle.cap_words.specs.Face.{CapInOrder};
-ghost use Rattle.lcm_machine.specs.Table.{is_pc, into, makes, bit, operand};
-ghost use Rattle.cap_words.specs.Faces.{face_linear, int_in, memory_in};
+ghost use Rattle.lcm_machine.specs.Table.{is_pc, into, makes, bit, operand, fits_64};
+ghost use Rattle.cap_words.specs.Faces.{face_linear, int_in, memory_in, address, can_split, same_kind};
 ghost use Rattle.lcm_machine.specs.Ends.{Meets};
 ghost use Rattle.lcm_machine.specs.Row.{plan_in, planned, faces, row, outcome, MoveFits};
 ghost use Rattle.lcm_machine.specs.declared.plan.Effect.{Effect};
-ghost use Rattle.lcm_machine.specs.declared.FailCause.TheVariants.{F5, F6};
+ghost use Rattle.lcm_machine.specs.declared.FailCause.TheVariants.{F5, F6, F9, F13, F14};
 ghost use Rattle.lcm_machine.specs.Plan.{Goes};
 
 use crate::plan::{Effect, Made};
@@ -46,6 +46,58 @@ fn shows(r1: Reg, shown: i64, next: Word) -> Result<Effect, FailCause>
 {
     into(r1)?;
     Ok(Effect::making(r1, Word::Int(shown), next))
+}
+
+// The sum of two integers: F9 where it doesn't fit in 64 bits.
+#[inline(always)]
+fn sum(x: i64, z: i64) -> Result<i64, FailCause>
+    ensures { MatchResult result
+        (λ n. (fits_64 (x +ℤ z) ≡ true) × (n ≡ x +ℤ z))
+        (λ f. (fits_64 (x +ℤ z) ≡ false) × (f ≡ F9)) }
+{
+    x.checked_add(z).ok_or(FailCause::F9)
+}
+
+// The difference of two integers: F9 where it doesn't fit in 64 bits.
+#[inline(always)]
+fn difference(x: i64, z: i64) -> Result<i64, FailCause>
+    ensures { MatchResult result
+        (λ n. (fits_64 (x -ℤ z) ≡ true) × (n ≡ x -ℤ z))
+        (λ f. (fits_64 (x -ℤ z) ≡ false) × (f ≡ F9)) }
+{
+    x.checked_sub(z).ok_or(FailCause::F9)
+}
+
+// The two parts of a capability, of which the first ends at `z`: F13 where its range has no such
+// parts.
+#[inline(always)]
+fn parts(c: CapFields, z: i64) -> Result<(Cap, Cap), FailCause>
+    requires { CapInOrder c }
+    ensures { MatchResult result
+        (λ p. (can_split c z ≡ true) × (p.0 ≡ record c { end = address z }) × (p.1 ≡ record c { base = address z + 1 }))
+        (λ f. (can_split c z ≡ false) × (f ≡ F13)) }
+{
+    let inside = i64::from(c.base) <= z && z < i64::from(c.end);
+    ask(inside, FailCause::F13)?;
+    let at = z as u32;
+    let low = CapFields { end: at, ..c };
+    let high = CapFields { base: at + 1, ..c };
+    Ok((Cap::of(low), Cap::of(high)))
+}
+
+// One capability for the ranges of two: F14 where they aren't of one kind, or not side by side.
+#[inline(always)]
+fn joined(a: CapFields, b: CapFields) -> Result<Cap, FailCause>
+    requires of_a { CapInOrder a }
+    requires of_b { CapInOrder b }
+    ensures { MatchResult result
+        (λ c. ((same_kind a b && (a.end + 1 == b.base)) ≡ true) × (c ≡ record b { base = a.base }))
+        (λ f. ((same_kind a b && (a.end + 1 == b.base)) ≡ false) × (f ≡ F14)) }
+{
+    let adjacent = u64::from(a.end) + 1 == u64::from(b.base);
+    ask(a.same_kind(&b) && adjacent, FailCause::F14)?;
+    let both = CapFields { base: a.base, ..b };
+    Ok(Cap::of(both))
 }
 
 #[tactic(auto, unfolding(crate::specs::Row::plan_in, crate::specs::Table::ask, crate::specs::Table::need, crate::specs::Table::by_cap))]
@@ -186,12 +238,12 @@ impl<W: MachineWord> State<W> {
         match self.face(r1) {
             Face::Memory(c) => {
                 let z = self.operand(n)?;
-                let addr = c.addr.checked_add(z).ok_or(FailCause::F9)?;
+                let addr = sum(c.addr, z)?;
                 Ok(Effect::making(r1, Word::Mem(Cap::of(CapFields { addr, ..c })), next))
             }
             Face::Seals(c) => {
                 let z = self.operand(n)?;
-                let cur = c.cur.checked_add(z).ok_or(FailCause::F9)?;
+                let cur = sum(c.cur, z)?;
                 Ok(Effect::making(r1, Word::Seal(SealCap::of(SealFields { cur, ..c })), next))
             }
             _ => Err(FailCause::F6),
@@ -227,8 +279,7 @@ impl<W: MachineWord> State<W> {
         into(r1)?;
         let x = self.int(r2)?;
         let z = self.operand(n)?;
-        let sum = x.checked_add(z).ok_or(FailCause::F9)?;
-        Ok(Effect::making(r1, Word::Int(sum), next))
+        Ok(Effect::making(r1, Word::Int(sum(x, z)?), next))
     }
 
     // `r1` gets `r2` less `n`.
@@ -238,8 +289,7 @@ impl<W: MachineWord> State<W> {
         into(r1)?;
         let x = self.int(r2)?;
         let z = self.operand(n)?;
-        let difference = x.checked_sub(z).ok_or(FailCause::F9)?;
-        Ok(Effect::making(r1, Word::Int(difference), next))
+        Ok(Effect::making(r1, Word::Int(difference(x, z)?), next))
     }
 
     // The address or seal of `r1` becomes its base.
@@ -328,20 +378,16 @@ impl<W: MachineWord> State<W> {
         into(r2)?;
         let c = self.memory(r3)?;
         let z = self.operand(n)?;
-        let inside = i64::from(c.base) <= z && z < i64::from(c.end);
-        ask(inside, FailCause::F13)?;
-        let at = z as u32;
-        let low = CapFields { end: at, ..c };
-        let high = CapFields { base: at + 1, ..c };
+        let (low, high) = parts(c, z)?;
         Ok(Effect {
             spent: Some(r3),
             first: Some(Made {
                 reg: r1,
-                word: Word::Mem(Cap::of(low)),
+                word: Word::Mem(low),
             }),
             second: Some(Made {
                 reg: r2,
-                word: Word::Mem(Cap::of(high)),
+                word: Word::Mem(high),
             }),
             next: Some(next),
             ..Effect::none()
@@ -355,15 +401,13 @@ impl<W: MachineWord> State<W> {
         into(r1)?;
         let a = self.memory(r2)?;
         let b = self.memory(r3)?;
-        let adjacent = u64::from(a.end) + 1 == u64::from(b.base);
-        ask(a.same_kind(&b) && adjacent, FailCause::F14)?;
-        let both = CapFields { base: a.base, ..b };
+        let both = joined(a, b)?;
         Ok(Effect {
             spent: Some(r2),
             also_spent: Some(r3),
             first: Some(Made {
                 reg: r1,
-                word: Word::Mem(Cap::of(both)),
+                word: Word::Mem(both),
             }),
             next: Some(next),
             ..Effect::none()
@@ -389,7 +433,7 @@ impl<W: MachineWord> State<W> {
 
     // Carries out one instruction, `next` being pc's word with its address raised by one. Where it
     // halts or fails the state stays as it was.
-    #[tactic(auto, unfolding(crate::specs::Row::row), using(crate::proofs::RowLemmas::plan_fits))]
+    #[tactic(auto, unfolding(crate::specs::Row::row))]
     pub(crate) fn execute(&mut self, instr: Instr, next: Word) -> Step
         ensures { Meets self.old (row W.look W.plain instr next self.old) result self.new }
     {
