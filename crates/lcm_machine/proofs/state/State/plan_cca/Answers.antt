@@ -1,0 +1,24 @@
+use Rattle.std.proofs.Common.{◌≡◌, true, ◌+ℤ◌, rules}
+use Rattle.lcm_machine.specs.Table.{ask, need, by_cap, fits_64}
+use Rattle.lcm_machine.specs.Row.{faces, plan_in}
+use Rattle.cap_words.specs.declared.Face.TheVariants.{Memory, Seals}
+use Rattle.lcm_machine.proofs.RowLemmas.{got}
+use Rattle.lcm_machine.proofs.state.State.plan_cca.Goals as goal
+
+pub returns-in_ok-addr-in-Memory : goal.returns-in_ok-addr-in-Memory
+unfolding plan_in ask need by_cap
+returns-in_ok-addr-in-Memory g c =
+    let face : faces g.W.MachineWord.look c.args.self.now c.args.r1 ≡ Memory c.in-Memory.c = search rules in
+    let z = got _ _ _ c.in_ok-z-in-Memory.ensures in
+    let fits : fits_64 (c.in-Memory.c.addr +ℤ c.in_ok-z-in-Memory.z) ≡ true = search rules in
+    let is : c.in_ok-addr-in-Memory.addr ≡ c.in-Memory.c.addr +ℤ c.in_ok-z-in-Memory.z = search rules in
+    rw (c.in_ok-into.ensures, face, z, fits, ← is) (search rules)
+
+pub returns-in_ok-cur-in-Seals : goal.returns-in_ok-cur-in-Seals
+unfolding plan_in ask need by_cap
+returns-in_ok-cur-in-Seals g c =
+    let face : faces g.W.MachineWord.look c.args.self.now c.args.r1 ≡ Seals c.in-Seals.c = search rules in
+    let z = got _ _ _ c.in_ok-z-in-Seals.ensures in
+    let fits : fits_64 (c.in-Seals.c.cur +ℤ c.in_ok-z-in-Seals.z) ≡ true = search rules in
+    let is : c.in_ok-cur-in-Seals.cur ≡ c.in-Seals.c.cur +ℤ c.in_ok-z-in-Seals.z = search rules in
+    rw (c.in_ok-into.ensures, face, z, fits, ← is) (search rules)

@@ -1,0 +1,14 @@
+use Rattle.std.proofs.Common.{◌≡◌, true, ◌+ℤ◌, rules}
+use Rattle.lcm_machine.specs.Table.{ask, need, fits_64}
+use Rattle.lcm_machine.specs.Row.{plan_in}
+use Rattle.lcm_machine.proofs.RowLemmas.{got}
+use Rattle.lcm_machine.proofs.state.State.plan_plus.Goals as goal
+
+pub returns : goal.returns
+unfolding plan_in ask need
+returns g c =
+    let x = got _ _ _ c.in_ok-x.ensures in
+    let z = got _ _ _ c.in_ok-z.ensures in
+    let fits : fits_64 (c.in_ok-x.x +ℤ c.in_ok-z.z) ≡ true = search rules in
+    let is : c.in_ok-sum.field-0 ≡ c.in_ok-x.x +ℤ c.in_ok-z.z = search rules in
+    rw (c.in_ok-into.ensures, x, z, fits, ← is) (search rules)

@@ -1,0 +1,14 @@
+use Rattle.std.proofs.Common.{◌≡◌, true, rules}
+use Rattle.lcm_machine.specs.Table.{ask, need}
+use Rattle.lcm_machine.specs.Row.{plan_in}
+use Rattle.cap_words.specs.Faces.{can_split}
+use Rattle.lcm_machine.proofs.RowLemmas.{got}
+use Rattle.lcm_machine.proofs.state.State.plan_split.Goals as goal
+
+pub returns : goal.returns
+unfolding plan_in ask need
+returns g c =
+    let low = got _ _ _ c.in_ok-c.ensures.is in
+    let z = got _ _ _ c.in_ok-z.ensures in
+    let fits : can_split c.in_ok-c.c c.in_ok-z.z ≡ true = search rules in
+    rw (c.in_ok-into.ensures, c.in_ok-into-2.ensures, low, z, fits) (search rules)
