@@ -1,9 +1,10 @@
 //! The plain machine: registers and memory of plain words, with a count of steps and an end.
-ghost use Rattle.std.specs.Prelude.{◌≡◌, ◌≢◌, ◌+◌, ◌<◌, ◌≤◌, ◌^◌, ℕ, IfOk, IfSome, IfNone, IsSome, is_some, IsTrue, Some, None, ◌||◌, not, true, if◌then◌else◌, MatchResult};
+ghost use Rattle.std.specs.Prelude.{◌≡◌, ◌≢◌, ◌+◌, ◌<◌, ◌≤◌, ◌^◌, ℕ, IfOk, IfSome, IfNone, IsSome, is_some, IsTrue, Some, None, not, true, if◌then◌else◌, MatchResult};
 ghost use Rattle.lcm_machine.specs.Places.{reg};
 ghost use Rattle.lcm_machine.specs.Cells.{cell};
 ghost use Rattle.lcm_isa.specs.declared.Reg.TheVariants.{Pc};
 ghost use Rattle.lcm_machine.specs.Row.{word_in, put, clear, HasPlace, faces, cell_faces, fetch, some, none, pc_at};
+ghost use Rattle.lcm_machine.specs.declared.steps.OnXjmp.TheVariants.{Make, Stop};
 ghost use Rattle.lcm_machine.specs.Touched.{KeepsUntouched, SameCells};
 ghost use Rattle.lcm_machine.specs.Regions.{StaysHeldOnce};
 ghost use Rattle.lcm_machine.specs.Ends.{end_answer};
@@ -12,6 +13,7 @@ ghost use Rattle.lcm_machine.specs.Spans.{AreSpans, in_spans, slot, zero_regs};
 
 use crate::cells::Span;
 use crate::state::State;
+use crate::steps::OnXjmp;
 use crate::{End, FailCause, Place, Step};
 use cap_words::{Held, Word};
 use lcm_isa::{Instr, Reg};
@@ -120,9 +122,10 @@ impl LcmState {
     // One step, unless it makes an `xjmp` and none is to be made: then nothing changes. Whether the step
     // was made.
     #[tactic(auto, unfolding(crate::specs::Run::next_state, crate::specs::Run::next_jump))]
-    fn advance(&mut self, leaps: bool) -> bool
+    fn advance(&mut self, on_xjmp: OnXjmp) -> bool
         requires { self.old.count < 2 ^ 63 }
-        ensures made { result ≡ (leaps || not (is_some (next_jump self.old))) }
+        ensures made { on_xjmp ≡ Make → result ≡ true }
+        ensures unless { on_xjmp ≡ Stop → result ≡ not (is_some (next_jump self.old)) }
         ensures after { self.new ≡ (if result then next_state self.old else self.old) }
         ensures ended { IfSome self.old.end (λ e.
             (result ≡ true) × (answer self.new ≡ end_answer e) × (self.new ≡ self.old)) }
@@ -134,7 +137,7 @@ impl LcmState {
         if self.end.is_some() {
             return true;
         }
-        let Some(step) = self.maps.advance(leaps) else {
+        let Some(step) = self.maps.advance(on_xjmp) else {
             return false;
         };
         self.count += 1;
@@ -166,7 +169,7 @@ impl LcmState {
         ensures untouched { KeepsUntouched (λ w. w) self.old.maps self.new.maps }
         ensures held_once { StaysHeldOnce (λ w. w) self.old.maps self.new.maps }
     {
-        let _ = self.advance(true);
+        let _ = self.advance(OnXjmp::Make);
         self.last_answer()
     }
 
@@ -185,7 +188,7 @@ impl LcmState {
         ensures untouched { KeepsUntouched (λ w. w) self.old.maps self.new.maps }
         ensures held_once { StaysHeldOnce (λ w. w) self.old.maps self.new.maps }
     {
-        if self.advance(false) {
+        if self.advance(OnXjmp::Stop) {
             Some(self.last_answer())
         } else {
             None
@@ -210,7 +213,7 @@ impl LcmState {
             if let Some(end) = self.end {
                 return end.answer();
             }
-            let _ = self.advance(true);
+            let _ = self.advance(OnXjmp::Make);
         }
         self.last_answer()
     }

@@ -6,12 +6,22 @@ ghost use Rattle.lcm_isa.specs.declared.Reg.TheVariants.{Pc};
 ghost use Rattle.lcm_machine.specs.Ends.{Meets};
 ghost use Rattle.lcm_machine.specs.Touched.{KeepsUntouched, SameCells};
 ghost use Rattle.lcm_machine.specs.Regions.{StaysHeldOnce};
+ghost use Rattle.lcm_machine.specs.declared.steps.OnXjmp.TheVariants.{Make, Stop};
 ghost use Rattle.lcm_machine.specs.Row.{faces, cell_faces, fetch, fetch_word, jump_of, jump_at, step_of, none, some};
 
 use crate::state::State;
 use crate::{FailCause, Step};
 use cap_words::{Cap, CapFields, Face, MachineWord, Word};
 use lcm_isa::{Instr, Reg, decode};
+
+/// What becomes of an `xjmp` that pc names.
+#[derive(Clone, Copy)]
+pub(crate) enum OnXjmp {
+    /// It is made, as any other instruction.
+    Make,
+    /// It isn't made, and nothing changes.
+    Stop,
+}
 
 // The instruction of the cell that pc's capability names, and pc's word with its address raised by
 // one: F2 where there is no cell, and F3 where it holds no instruction.
@@ -99,14 +109,14 @@ impl<W: MachineWord> State<W> {
     }
 
     // Fetches an instruction and carries it out, unless that is an `xjmp` and none is to be made: then
-    // `None`, and nothing changes. The one place that carries instructions out, so that it isn't
-    // compiled twice.
+    // `None`, and nothing changes. What instructions do is compiled into this and into `step`, so a
+    // machine makes all its steps by one of the two.
     #[tactic(auto, unfolding(crate::specs::Row::step_of, crate::specs::Row::jump_at))]
-    pub(crate) fn advance(&mut self, leaps: bool) -> Option<Step>
+    pub(crate) fn advance(&mut self, on_xjmp: OnXjmp) -> Option<Step>
         ensures none { IfNone result (IsSome (jump_at W.look self.old)) }
-        ensures held { IfNone result (leaps ≡ false) }
+        ensures held { IfNone result (on_xjmp ≡ Stop) }
         ensures same { IfNone result (self.new ≡ self.old) }
-        ensures some { leaps ≡ false → IfSome result (λ _. jump_at W.look self.old ≡ None) }
+        ensures some { on_xjmp ≡ Stop → IfSome result (λ _. jump_at W.look self.old ≡ None) }
         ensures meets { IfSome result (λ step. Meets self.old (step_of W.look W.plain self.old) step self.new) }
         ensures same_cells { SameCells self.old self.new }
         ensures untouched { KeepsUntouched W.look self.old self.new }
@@ -115,7 +125,7 @@ impl<W: MachineWord> State<W> {
         match self.fetch_on() {
             Err(cause) => Some(Step::Failed(cause, self.pc_at())),
             Ok((instr, next)) => {
-                if is_xjmp(instr) && !leaps {
+                if is_xjmp(instr) && matches!(on_xjmp, OnXjmp::Stop) {
                     None
                 } else {
                     Some(self.execute(instr, next))
@@ -133,15 +143,16 @@ impl<W: MachineWord> State<W> {
     /// each two, each region linear or normal. If each memory capability of a register or a cell,
     /// sealed or not, lies in one region and is linear exactly where that region is, and if no two
     /// places have capabilities over one address of a linear region, then both hold after the step.
+    #[tactic(auto, unfolding(crate::specs::Row::step_of))]
     pub fn step(&mut self) -> Step
         ensures meets { Meets self.old (step_of W.look W.plain self.old) result self.new }
         ensures same_cells { SameCells self.old self.new }
         ensures untouched { KeepsUntouched W.look self.old self.new }
         ensures held_once { StaysHeldOnce W.look self.old self.new }
     {
-        match self.advance(true) {
-            Some(step) => step,
-            None => unreachable!(),
+        match self.fetch_on() {
+            Err(cause) => Step::Failed(cause, self.pc_at()),
+            Ok((instr, next)) => self.execute(instr, next),
         }
     }
 }

@@ -11,14 +11,14 @@ returns-in-Err-clause-same_cells g c = rw c.fetch_on.ensures.same (same_as_is c.
 pub returns-in-Err-clause-untouched : goal.returns-in-Err-clause-untouched
 returns-in-Err-clause-untouched g c = rw c.fetch_on.ensures.same (untouched_as_is g.W.MachineWord.look c.args.self.now)
 
-pub returns-then-not-leaps-clause-held_once : goal.returns-then-not-leaps-clause-held_once
-returns-then-not-leaps-clause-held_once g c = rw c.fetch_on.ensures.same (unchanged_stays g.W.MachineWord.look c.args.self.now)
+pub returns-then-matches-clause-held_once : goal.returns-then-matches-clause-held_once
+returns-then-matches-clause-held_once g c = rw c.fetch_on.ensures.same (unchanged_stays g.W.MachineWord.look c.args.self.now)
 
-pub returns-then-not-leaps-clause-same_cells : goal.returns-then-not-leaps-clause-same_cells
-returns-then-not-leaps-clause-same_cells g c = rw c.fetch_on.ensures.same (same_as_is c.args.self.now)
+pub returns-then-matches-clause-same_cells : goal.returns-then-matches-clause-same_cells
+returns-then-matches-clause-same_cells g c = rw c.fetch_on.ensures.same (same_as_is c.args.self.now)
 
-pub returns-then-not-leaps-clause-untouched : goal.returns-then-not-leaps-clause-untouched
-returns-then-not-leaps-clause-untouched g c = rw c.fetch_on.ensures.same (untouched_as_is g.W.MachineWord.look c.args.self.now)
+pub returns-then-matches-clause-untouched : goal.returns-then-matches-clause-untouched
+returns-then-matches-clause-untouched g c = rw c.fetch_on.ensures.same (untouched_as_is g.W.MachineWord.look c.args.self.now)
 
 pub returns-else-is_xjmp-clause-held_once : goal.returns-else-is_xjmp-clause-held_once
 returns-else-is_xjmp-clause-held_once g c =

@@ -1,6 +1,6 @@
 use Rattle.std.proofs.Common.{rules}
 use Rattle.lcm_machine.specs.Row.{row, plan_in}
-use Rattle.lcm_machine.proofs.RowLemmas.{planned_fits, planned_meets}
+use Rattle.lcm_machine.proofs.RowsMet.{planned_fits, planned_meets}
 use Rattle.lcm_machine.proofs.state.State.execute.Goals as goal
 
 pub returns-in-Fail : goal.returns-in-Fail

@@ -2,7 +2,7 @@ use Rattle.std.proofs.Common.{◌≡◌, true, ◌+ℤ◌, rules}
 use Rattle.lcm_machine.specs.Table.{ask, need, by_cap, fits_64}
 use Rattle.lcm_machine.specs.Row.{faces, plan_in}
 use Rattle.cap_words.specs.declared.Face.TheVariants.{Memory, Seals}
-use Rattle.lcm_machine.proofs.RowLemmas.{got}
+use Rattle.lcm_machine.proofs.RowsMet.{got}
 use Rattle.lcm_machine.proofs.state.State.plan_cca.Goals as goal
 
 pub returns-in_ok-addr-in-Memory : goal.returns-in_ok-addr-in-Memory

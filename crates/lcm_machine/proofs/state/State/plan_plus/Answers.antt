@@ -1,7 +1,7 @@
 use Rattle.std.proofs.Common.{◌≡◌, true, ◌+ℤ◌, rules}
 use Rattle.lcm_machine.specs.Table.{ask, need, fits_64}
 use Rattle.lcm_machine.specs.Row.{plan_in}
-use Rattle.lcm_machine.proofs.RowLemmas.{got}
+use Rattle.lcm_machine.proofs.RowsMet.{got}
 use Rattle.lcm_machine.proofs.state.State.plan_plus.Goals as goal
 
 pub returns : goal.returns

@@ -2,7 +2,7 @@ use Rattle.std.proofs.Common.{◌≡◌, true, rules}
 use Rattle.lcm_machine.specs.Table.{ask, need}
 use Rattle.lcm_machine.specs.Row.{plan_in}
 use Rattle.cap_words.specs.Faces.{can_split}
-use Rattle.lcm_machine.proofs.RowLemmas.{got}
+use Rattle.lcm_machine.proofs.RowsMet.{got}
 use Rattle.lcm_machine.proofs.state.State.plan_split.Goals as goal
 
 pub returns : goal.returns
