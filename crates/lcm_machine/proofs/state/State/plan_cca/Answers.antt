@@ -1,5 +1,5 @@
-use Rattle.std.proofs.Common.{◌≡◌, true, ◌+ℤ◌, rules}
-use Rattle.lcm_machine.specs.Table.{ask, need, by_cap, fits_64}
+use Rattle.std.proofs.Common.{◌≡◌, true, false, None, ◌+ℤ◌, rules}
+use Rattle.lcm_machine.specs.Table.{ask, need, by_cap, operand, fits_64}
 use Rattle.lcm_machine.specs.Row.{faces, plan_in}
 use Rattle.cap_words.specs.declared.Face.TheVariants.{Memory, Seals}
 use Rattle.lcm_machine.proofs.RowsMet.{got}
@@ -22,3 +22,33 @@ returns-in_ok-cur-in-Seals g c =
     let fits : fits_64 (c.in-Seals.c.cur +ℤ c.in_ok-z-in-Seals.z) ≡ true = search rules in
     let is : c.in_ok-cur-in-Seals.cur ≡ c.in-Seals.c.cur +ℤ c.in_ok-z-in-Seals.z = search rules in
     rw (c.in_ok-into.ensures, face, z, fits, ← is) (search rules)
+
+pub returns-in_err-z-in-Memory : goal.returns-in_err-z-in-Memory
+unfolding plan_in ask need by_cap
+returns-in_err-z-in-Memory g c =
+    let face : faces g.W.MachineWord.look c.args.self.now c.args.r1 ≡ Memory c.in-Memory.c = search rules in
+    let z : operand (faces g.W.MachineWord.look c.args.self.now) c.args.n ≡ None = search rules in
+    rw (c.in_ok-into.ensures, face, z) (search rules)
+
+pub returns-in_err-z-in-Seals : goal.returns-in_err-z-in-Seals
+unfolding plan_in ask need by_cap
+returns-in_err-z-in-Seals g c =
+    let face : faces g.W.MachineWord.look c.args.self.now c.args.r1 ≡ Seals c.in-Seals.c = search rules in
+    let z : operand (faces g.W.MachineWord.look c.args.self.now) c.args.n ≡ None = search rules in
+    rw (c.in_ok-into.ensures, face, z) (search rules)
+
+pub returns-in_err-addr-in-Memory : goal.returns-in_err-addr-in-Memory
+unfolding plan_in ask need by_cap
+returns-in_err-addr-in-Memory g c =
+    let face : faces g.W.MachineWord.look c.args.self.now c.args.r1 ≡ Memory c.in-Memory.c = search rules in
+    let z = got _ _ _ c.in_ok-z-in-Memory.ensures in
+    let over : fits_64 (c.in-Memory.c.addr +ℤ c.in_ok-z-in-Memory.z) ≡ false = search rules in
+    rw (c.in_ok-into.ensures, face, z, over) (search rules)
+
+pub returns-in_err-cur-in-Seals : goal.returns-in_err-cur-in-Seals
+unfolding plan_in ask need by_cap
+returns-in_err-cur-in-Seals g c =
+    let face : faces g.W.MachineWord.look c.args.self.now c.args.r1 ≡ Seals c.in-Seals.c = search rules in
+    let z = got _ _ _ c.in_ok-z-in-Seals.ensures in
+    let over : fits_64 (c.in-Seals.c.cur +ℤ c.in_ok-z-in-Seals.z) ≡ false = search rules in
+    rw (c.in_ok-into.ensures, face, z, over) (search rules)

@@ -1,4 +1,4 @@
-use Rattle.std.proofs.Common.{◌≡◌, true, ◌-ℤ◌, rules}
+use Rattle.std.proofs.Common.{◌≡◌, true, false, ◌-ℤ◌, rules}
 use Rattle.lcm_machine.specs.Table.{ask, need, fits_64}
 use Rattle.lcm_machine.specs.Row.{plan_in}
 use Rattle.lcm_machine.proofs.RowsMet.{got}
@@ -12,3 +12,11 @@ returns g c =
     let fits : fits_64 (c.in_ok-x.x -ℤ c.in_ok-z.z) ≡ true = search rules in
     let is : c.in_ok-difference.field-0 ≡ c.in_ok-x.x -ℤ c.in_ok-z.z = search rules in
     rw (c.in_ok-into.ensures, x, z, fits, ← is) (search rules)
+
+pub returns-in_err-difference : goal.returns-in_err-difference
+unfolding plan_in ask need
+returns-in_err-difference g c =
+    let x = got _ _ _ c.in_ok-x.ensures in
+    let z = got _ _ _ c.in_ok-z.ensures in
+    let over : fits_64 (c.in_ok-x.x -ℤ c.in_ok-z.z) ≡ false = search rules in
+    rw (c.in_ok-into.ensures, x, z, over) (search rules)
