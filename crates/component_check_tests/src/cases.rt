@@ -34,7 +34,7 @@ pub(crate) const UNTRUSTED: Draft = Draft {
 };
 
 /// C1 and C2: the code is 100 to 103, the data are 200 to 205.
-pub(crate) const AREAS_CASES: [Case; 29] = [
+pub(crate) static AREAS_CASES: [Case; 29] = [
     ([Same, Same, Same], None),
     ([CodeBase(1_048_572), Same, Same], None),
     ([CodeBase(1_048_573), Same, Same], Some((1, 0))),
@@ -73,7 +73,7 @@ pub(crate) const AREAS_CASES: [Case; 29] = [
 ];
 
 /// C3 to C6: the seals are 10 and 11, and there are 4 code words and 6 data words.
-pub(crate) const LISTS_CASES: [Case; 28] = [
+pub(crate) static LISTS_CASES: [Case; 28] = [
     ([OwnSeals(1_048_574, 2), Same, Same], None),
     ([OwnSeals(1_048_575, 2), Same, Same], Some((3, 0))),
     ([Closure(9), Same, Same], None),
@@ -172,7 +172,7 @@ pub(crate) const LISTS_CASES: [Case; 28] = [
 ];
 
 /// C7: most stand first among the code words.
-pub(crate) const CAPABILITIES_CASES: [Case; 24] = [
+pub(crate) static CAPABILITIES_CASES: [Case; 24] = [
     (
         [
             Code([Cap(Rwx, Normal, 100, 103), Int(0), Int(0), Int(0)]),
@@ -380,7 +380,7 @@ pub(crate) const CAPABILITIES_CASES: [Case; 24] = [
 ];
 
 /// C8.
-pub(crate) const LINEAR_CASES: [Case; 14] = [
+pub(crate) static LINEAR_CASES: [Case; 14] = [
     (
         [
             Code([
@@ -568,7 +568,7 @@ pub(crate) const LINEAR_CASES: [Case; 14] = [
 ];
 
 /// C9, where the closure seal is 1; and that the rule of the lower number comes first.
-pub(crate) const SEALS_CASES: [Case; 11] = [
+pub(crate) static SEALS_CASES: [Case; 11] = [
     (
         [
             Code([Seals(10, 11, -5), Seals(11, 11, 10), Int(0), Int(0)]),

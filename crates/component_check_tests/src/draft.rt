@@ -5,7 +5,7 @@ use std::alloc::{AllocError, Global};
 use std::process::Abort;
 
 /// A word of a draft.
-#[derive(Clone, Copy, Debug)]
+#[derive(Clone, Copy)]
 pub(crate) enum Item {
     /// An integer.
     Int(i64),
@@ -16,7 +16,7 @@ pub(crate) enum Item {
 }
 
 /// What of a component the rules speak of. Exports are named `a`, `b` and so on.
-#[derive(Clone, Copy, Debug)]
+#[derive(Clone, Copy)]
 pub(crate) struct Draft {
     pub(crate) closure: u32,
     pub(crate) seals: Area,
@@ -154,7 +154,7 @@ pub(crate) fn component_of(
 }
 
 /// What is other than in a draft.
-#[derive(Clone, Copy, Debug)]
+#[derive(Clone, Copy)]
 pub(crate) enum Change {
     Same,
     Closure(u32),

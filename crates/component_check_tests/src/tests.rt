@@ -60,10 +60,10 @@ fn break_first(
     trusted: bool,
     cases: &[Case],
 ) -> Result<(), FileFault> {
-    for (changes, wanted) in cases {
+    for (number, (changes, wanted)) in cases.iter().enumerate() {
         let told = broken(rt, alloc, base, trusted, changes)?;
-        let wanted = wanted.map(|(number, place)| (Group::C, number, place));
-        assert_eq!(rt; told, wanted, "{changes:?}");
+        let wanted = wanted.map(|(rule, place)| (Group::C, rule, place));
+        assert_eq!(rt; told, wanted, "case {number}");
     }
     Ok(())
 }

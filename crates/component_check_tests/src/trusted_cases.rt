@@ -27,7 +27,7 @@ pub(crate) const TRUSTED: Draft = Draft {
 };
 
 /// C10 to C12, of `TRUSTED` as a trusted part.
-pub(crate) const TRUSTED_CASES: [Case; 32] = [
+pub(crate) static TRUSTED_CASES: [Case; 32] = [
     ([Same, Same, Same], None),
     (
         [
@@ -221,7 +221,7 @@ pub(crate) const TRUSTED_CASES: [Case; 32] = [
 ];
 
 /// Of `TRUSTED`, as a part that isn't trusted: what is declared for a trusted one is passed over.
-pub(crate) const PASSED_OVER: [Case; 3] = [
+pub(crate) static PASSED_OVER: [Case; 3] = [
     ([Same, Same, Same], None),
     (
         [

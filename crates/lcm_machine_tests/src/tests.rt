@@ -116,7 +116,7 @@ fn at(machine: &LcmState, place: Place) -> Option<Parts> {
 }
 
 // What the machine of each row holds, beside its instruction.
-const START: [(Place, Parts); 18] = [
+static START: [(Place, Parts); 18] = [
     (Place::Cell(105), Mem(2, true, 400, 401, 400)),
     (Place::Cell(106), Int(42)),
     (Place::Cell(107), Mem(2, true, 500, 501, 500)),
@@ -147,8 +147,8 @@ fn start(alloc: Global, instr: Instr) -> Result<LcmState, AllocError> {
         }],
     )?;
     put(&mut machine, Place::Cell(100), Int(encode(&instr)));
-    for (place, parts) in START {
-        put(&mut machine, place, parts);
+    for (place, parts) in &START {
+        put(&mut machine, *place, *parts);
     }
     Ok(machine)
 }
@@ -201,7 +201,17 @@ fn goes_with(
     Ok(())
 }
 
-const JUMPS_AND_QUESTIONS: [(Instr, (Place, Parts), (Place, Parts)); 15] = [
+// An instruction, and two places with the words that they hold after it.
+type Goes = (Instr, (Place, Parts), (Place, Parts));
+
+fn all_go(rt: &impl Abort, alloc: Global, rows: &[Goes]) -> Result<(), AllocError> {
+    for (instr, first, second) in rows {
+        goes(rt, alloc, *instr, [*first, *second])?;
+    }
+    Ok(())
+}
+
+static JUMPS_AND_QUESTIONS: [Goes; 15] = [
     (
         Instr::Jmp(Stk),
         (Place::R(Pc), Mem(2, true, 105, 109, 105)),
@@ -233,13 +243,11 @@ const JUMPS_AND_QUESTIONS: [(Instr, (Place, Parts), (Place, Parts)); 15] = [
 
 #[test]
 fn jumps_and_questions_go(rt: HostRuntime) -> Result<(), Fail> {
-    for (instr, first, second) in JUMPS_AND_QUESTIONS {
-        goes(&rt, rt.alloc(), instr, [first, second])?;
-    }
+    all_go(&rt, rt.alloc(), &JUMPS_AND_QUESTIONS)?;
     Ok(())
 }
 
-const MOVES: [(Instr, (Place, Parts), (Place, Parts)); 8] = [
+static MOVES: [Goes; 8] = [
     (Instr::Move(T1, Imm(-3)), NEXT, (Place::R(T1), Int(-3))),
     (
         Instr::Move(T1, R(Pc)),
@@ -280,13 +288,11 @@ const MOVES: [(Instr, (Place, Parts), (Place, Parts)); 8] = [
 
 #[test]
 fn moves_stores_and_loads_go(rt: HostRuntime) -> Result<(), Fail> {
-    for (instr, first, second) in MOVES {
-        goes(&rt, rt.alloc(), instr, [first, second])?;
-    }
+    all_go(&rt, rt.alloc(), &MOVES)?;
     Ok(())
 }
 
-const NUMBERS: [(Instr, (Place, Parts), (Place, Parts)); 17] = [
+static NUMBERS: [Goes; 17] = [
     (
         Instr::Cca(Dat, Imm(2)),
         NEXT,
@@ -352,9 +358,7 @@ const NUMBERS: [(Instr, (Place, Parts), (Place, Parts)); 17] = [
 
 #[test]
 fn numbers_and_capabilities_go(rt: HostRuntime) -> Result<(), Fail> {
-    for (instr, first, second) in NUMBERS {
-        goes(&rt, rt.alloc(), instr, [first, second])?;
-    }
+    all_go(&rt, rt.alloc(), &NUMBERS)?;
     Ok(())
 }
 
@@ -365,7 +369,7 @@ const NORMAL: Parts = SealedMem(5, 3, false, 100, 110, 103);
 
 // What goes where a word is another than at the start: loads of sealed words, and jumps whose data
 // half is a capability of seals.
-const WITH_A_WORD: [((Place, Parts), Instr, (Place, Parts), (Place, Parts)); 4] = [
+static WITH_A_WORD: [((Place, Parts), Instr, (Place, Parts), (Place, Parts)); 4] = [
     (
         (Place::Cell(106), LINEAR),
         Instr::Load(T1, Dat),
@@ -394,8 +398,8 @@ const WITH_A_WORD: [((Place, Parts), Instr, (Place, Parts), (Place, Parts)); 4] 
 
 #[test]
 fn sealed_words_go(rt: HostRuntime) -> Result<(), Fail> {
-    for (set, instr, first, second) in WITH_A_WORD {
-        goes_with(&rt, rt.alloc(), set, instr, [first, second])?;
+    for (set, instr, first, second) in &WITH_A_WORD {
+        goes_with(&rt, rt.alloc(), *set, *instr, [*first, *second])?;
     }
     Ok(())
 }
@@ -420,7 +424,7 @@ fn fails_with(
     Ok(())
 }
 
-const INTO_PC: [Instr; 19] = [
+static INTO_PC: [Instr; 19] = [
     Instr::Gettype(Pc, T1),
     Instr::Geta(Pc, T1),
     Instr::Getb(Pc, T1),
@@ -444,13 +448,13 @@ const INTO_PC: [Instr; 19] = [
 
 #[test]
 fn pc_is_no_destination(rt: HostRuntime) -> Result<(), Fail> {
-    for instr in INTO_PC {
-        fails(&rt, rt.alloc(), instr, FailCause::F5)?;
+    for instr in &INTO_PC {
+        fails(&rt, rt.alloc(), *instr, FailCause::F5)?;
     }
     Ok(())
 }
 
-const WRONG_KINDS: [Instr; 23] = [
+static WRONG_KINDS: [Instr; 23] = [
     Instr::Jnz(Dat, Stk),
     Instr::Store(T2, T1),
     Instr::Load(T1, T2),
@@ -478,13 +482,13 @@ const WRONG_KINDS: [Instr; 23] = [
 
 #[test]
 fn words_of_the_wrong_kind_fail(rt: HostRuntime) -> Result<(), Fail> {
-    for instr in WRONG_KINDS {
-        fails(&rt, rt.alloc(), instr, FailCause::F6)?;
+    for instr in &WRONG_KINDS {
+        fails(&rt, rt.alloc(), *instr, FailCause::F6)?;
     }
     Ok(())
 }
 
-const OTHER_CAUSES: [(Instr, FailCause); 26] = [
+static OTHER_CAUSES: [(Instr, FailCause); 26] = [
     (Instr::Fail, FailCause::F4),
     (Instr::Store(A1, T1), FailCause::F7),
     (Instr::Load(T1, A2), FailCause::F7),
@@ -515,8 +519,8 @@ const OTHER_CAUSES: [(Instr, FailCause); 26] = [
 
 #[test]
 fn other_causes_fail(rt: HostRuntime) -> Result<(), Fail> {
-    for (instr, cause) in OTHER_CAUSES {
-        fails(&rt, rt.alloc(), instr, cause)?;
+    for (instr, cause) in &OTHER_CAUSES {
+        fails(&rt, rt.alloc(), *instr, *cause)?;
     }
     Ok(())
 }
@@ -524,7 +528,7 @@ fn other_causes_fail(rt: HostRuntime) -> Result<(), Fail> {
 // What fails where a word is another than at the start: a code half that may not run, halves that
 // meet and differ in their permission alone, a sealed linear word under a capability that may not
 // write, and the permission before the address.
-const FAILS_WITH_A_WORD: [((Place, Parts), Instr, FailCause); 5] = [
+static FAILS_WITH_A_WORD: [((Place, Parts), Instr, FailCause); 5] = [
     (
         (Place::R(T1), SealedMem(5, 2, false, 105, 109, 106)),
         Instr::Xjmp(T1, C2),
@@ -554,13 +558,13 @@ const FAILS_WITH_A_WORD: [((Place, Parts), Instr, FailCause); 5] = [
 
 #[test]
 fn what_a_word_does_not_let_do_fails(rt: HostRuntime) -> Result<(), Fail> {
-    for (set, instr, cause) in FAILS_WITH_A_WORD {
-        fails_with(&rt, rt.alloc(), set, instr, cause)?;
+    for (set, instr, cause) in &FAILS_WITH_A_WORD {
+        fails_with(&rt, rt.alloc(), *set, *instr, *cause)?;
     }
     Ok(())
 }
 
-const FETCHES: [(Parts, Step); 9] = [
+static FETCHES: [(Parts, Step); 9] = [
     (Int(100), Step::Failed(FailCause::F1, -1)),
     (
         Mem(2, false, 100, 110, 100),
@@ -598,9 +602,9 @@ fn fetches(rt: &impl Abort, machine: &mut LcmState, pc: Parts, step: Step) {
 
 #[test]
 fn what_pc_holds_decides_the_fetch(rt: HostRuntime) -> Result<(), Fail> {
-    for (pc, step) in FETCHES {
+    for (pc, step) in &FETCHES {
         let mut machine = start(rt.alloc(), Instr::Halt)?;
-        fetches(&rt, &mut machine, pc, step);
+        fetches(&rt, &mut machine, *pc, *step);
     }
     Ok(())
 }
