@@ -11,9 +11,9 @@ use std::alloc::{AllocError, Global};
 use std::process::Abort;
 use std::test::Fail;
 
-// A word as its parts, to compare. A capability is its permission's number, whether it is linear,
-// its range and its address.
-#[derive(Clone, Copy, PartialEq, Eq, Debug)]
+// A word as its parts. A capability is its permission's number, whether it is linear, its range and
+// its address.
+#[derive(Clone, Copy)]
 enum Parts {
     Int(i64),
     Mem(u8, bool, u32, u32, i64),
@@ -60,32 +60,11 @@ fn word(parts: Parts) -> Option<Word> {
     }
 }
 
-fn parts_of(word: &Word) -> Parts {
-    match word {
-        Word::Int(n) => Int(*n),
-        Word::Mem(c) => {
-            let c = c.fields();
-            Mem(c.perm.number(), c.lin.is_linear(), c.base, c.end, c.addr)
-        }
-        Word::Seal(c) => {
-            let c = c.fields();
-            Seal(c.base, c.end, c.cur)
-        }
-        Word::Sealed(seal, Sealable::Mem(c)) => {
-            let c = c.fields();
-            SealedMem(
-                *seal,
-                c.perm.number(),
-                c.lin.is_linear(),
-                c.base,
-                c.end,
-                c.addr,
-            )
-        }
-        Word::Sealed(seal, Sealable::Seal(c)) => {
-            let c = c.fields();
-            SealedSeal(*seal, c.base, c.end, c.cur)
-        }
+// Whether a word has these parts, under its seal too.
+fn is_word(found: &Word, parts: Parts) -> bool {
+    match word(parts) {
+        Some(wanted) => found.face() == wanted.face() && found.opened() == wanted.opened(),
+        None => false,
     }
 }
 
@@ -101,17 +80,11 @@ fn put(machine: &mut LcmState, place: Place, parts: Parts) {
     }
 }
 
-// The parts of the word at a place, where that is there.
-fn at(machine: &LcmState, place: Place) -> Option<Parts> {
+// Whether a place is there and its word has these parts.
+fn holds(machine: &LcmState, place: Place, parts: Parts) -> bool {
     match place {
-        Place::R(r) => Some(parts_of(machine.reg(r))),
-        Place::Cell(at) => {
-            if machine.has_cell(at) {
-                Some(parts_of(machine.cell(at)))
-            } else {
-                None
-            }
-        }
+        Place::R(r) => is_word(machine.reg(r), parts),
+        Place::Cell(at) => machine.has_cell(at) && is_word(machine.cell(at), parts),
     }
 }
 
@@ -164,13 +137,8 @@ const NEXT: (Place, Parts) = (Place::R(Pc), Mem(3, false, 100, 110, 101));
 
 // The machine's first step is this one.
 fn steps(rt: &impl Abort, machine: &mut LcmState, step: Step, instr: Instr) {
-    assert_eq!(rt; machine.count(), 0);
-    assert_eq!(rt; machine.step(), step, "{instr:?}");
-    assert_eq!(rt; machine.count(), 1);
-}
-
-fn holds(rt: &impl Abort, machine: &LcmState, place: Place, parts: Parts) {
-    assert_eq!(rt; at(machine, place), Some(parts), "{place:?}");
+    assert!(rt; machine.count() == 0);
+    assert_eq!(rt; (machine.step(), machine.count()), (step, 1), "{instr:?}");
 }
 
 // The instruction goes, and two places then hold these words.
@@ -196,7 +164,7 @@ fn goes_with(
     put(&mut machine, place, parts);
     steps(rt, &mut machine, Step::Went, instr);
     for (place, parts) in after {
-        holds(rt, &machine, place, parts);
+        assert!(rt; holds(&machine, place, parts), "{instr:?}: {place:?}");
     }
     Ok(())
 }
@@ -596,8 +564,8 @@ static FETCHES: [(Parts, Step); 9] = [
 
 fn fetches(rt: &impl Abort, machine: &mut LcmState, pc: Parts, step: Step) {
     put(machine, Place::R(Pc), pc);
-    assert_eq!(rt; machine.count(), 0);
-    assert_eq!(rt; machine.step(), step, "{pc:?}");
+    assert!(rt; machine.count() == 0);
+    assert_eq!(rt; machine.step(), step);
 }
 
 #[test]
@@ -611,8 +579,7 @@ fn what_pc_holds_decides_the_fetch(rt: HostRuntime) -> Result<(), Fail> {
 
 fn runs_on(rt: &impl Abort, machine: &mut LcmState, steps: u64, step: Step, count: u64) {
     assert!(rt; machine.count() < 100 && steps < 100);
-    assert_eq!(rt; machine.run(steps), step);
-    assert_eq!(rt; machine.count(), count);
+    assert_eq!(rt; (machine.run(steps), machine.count()), (step, count));
 }
 
 #[test]
@@ -627,17 +594,19 @@ fn a_run_ends_where_the_machine_halts(rt: HostRuntime) -> Result<(), Fail> {
     runs_on(&rt, &mut machine, 0, Step::Went, 0);
     runs_on(&rt, &mut machine, 2, Step::Went, 2);
     runs_on(&rt, &mut machine, 10, Step::Halted, 3);
-    holds(&rt, &machine, Place::R(T1), Int(7));
+    assert!(rt; holds(&machine, Place::R(T1), Int(7)));
     Ok(())
 }
 
 // The word that is lifted from a register, and what is left there.
 fn leaves(rt: &impl Abort, machine: &mut LcmState, register: Reg, lifted: Parts, left: Parts) {
     let held = machine.lift(Place::R(register));
-    let word = parts_of(held.word());
+    let is_lifted = is_word(held.word(), lifted);
     held.give_up();
-    assert_eq!(rt; word, lifted, "{register:?}");
-    holds(rt, machine, Place::R(register), left);
+    assert!(rt;
+        is_lifted && holds(machine, Place::R(register), left),
+        "{register:?}"
+    );
 }
 
 #[test]
@@ -650,21 +619,25 @@ fn a_linear_word_leaves_its_place(rt: HostRuntime) -> Result<(), Fail> {
     Ok(())
 }
 
+// Addresses, and whether a cell with integer 0 is there.
+static CELLS: [(u32, bool); 11] = [
+    (0, false),
+    (99, false),
+    (100, true),
+    (104, true),
+    (105, true),
+    (109, true),
+    (110, false),
+    (199, false),
+    (200, true),
+    (201, false),
+    (1_048_575, false),
+];
+
 fn cells_are(rt: &impl Abort, machine: &LcmState) {
-    for (address, want) in [
-        (0, None),
-        (99, None),
-        (100, Some(Int(0))),
-        (104, Some(Int(0))),
-        (105, Some(Int(0))),
-        (109, Some(Int(0))),
-        (110, None),
-        (199, None),
-        (200, Some(Int(0))),
-        (201, None),
-        (1_048_575, None),
-    ] {
-        assert_eq!(rt; at(machine, Place::Cell(address)), want, "{address}");
+    for (at, there) in &CELLS {
+        let zero = holds(machine, Place::Cell(*at), Int(0));
+        assert!(rt; machine.has_cell(*at) == *there && zero == *there, "{at}");
     }
 }
 
