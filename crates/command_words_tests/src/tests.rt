@@ -2,6 +2,7 @@
 //! cite mean what they should. Each was worked out by hand.
 use command_words::{Command, Ending, Linked, Mark, PartWord, PartWords, WordsFault, command_of};
 use std::alloc::{AllocError, Global};
+use std::process::Abort;
 use std::test::Fail;
 
 fn part_text(alloc: Global, part: &PartWord<'_>) -> Result<String, AllocError> {
@@ -32,32 +33,58 @@ fn linked_text(alloc: Global, what: &Linked<'_>) -> Result<String, AllocError> {
     }
 }
 
+fn run_text(
+    alloc: Global,
+    action: &str,
+    what: &Linked<'_>,
+    steps: u64,
+) -> Result<String, AllocError> {
+    format!(in alloc; "{action} {} {steps}", linked_text(alloc, what)?)
+}
+
+fn put_text(
+    alloc: Global,
+    action: &str,
+    part: &PartWord<'_>,
+    out: &str,
+) -> Result<String, AllocError> {
+    format!(in alloc; "{action} {} {out}", part_text(alloc, part)?)
+}
+
+fn one_part_text(alloc: Global, action: &str, part: &PartWord<'_>) -> Result<String, AllocError> {
+    format!(in alloc; "{action} {}", part_text(alloc, part)?)
+}
+
+fn link_text(
+    alloc: Global,
+    parts: &PartWords<'_>,
+    size: u32,
+    out: &str,
+) -> Result<String, AllocError> {
+    format!(in alloc; "link {} {size} {out}", parts_text(alloc, parts)?)
+}
+
+fn mean_text(
+    alloc: Global,
+    modules: &PartWords<'_>,
+    size: u32,
+    fuel: u64,
+    feed: &str,
+) -> Result<String, AllocError> {
+    format!(in alloc; "mean {} {size} {fuel} {feed}", parts_text(alloc, modules)?)
+}
+
 fn command_text(alloc: Global, command: &Command<'_>) -> Result<String, AllocError> {
     match command {
-        Command::Run(what, steps) => {
-            format!(in alloc; "run {} {}", linked_text(alloc, what)?, steps.number())
-        }
-        Command::Trace(what, steps) => {
-            format!(in alloc; "trace {} {}", linked_text(alloc, what)?, steps.number())
-        }
-        Command::Assemble(part, out) => {
-            format!(in alloc; "asm {} {}", part_text(alloc, part)?, out.as_str())
-        }
-        Command::Compile(part, out) => {
-            format!(in alloc; "compile {} {}", part_text(alloc, part)?, out.as_str())
-        }
-        Command::Disassemble(part) => format!(in alloc; "dis {}", part_text(alloc, part)?),
-        Command::Check(part) => format!(in alloc; "check {}", part_text(alloc, part)?),
-        Command::Link(parts, size, out) => {
-            format!(in alloc;
-                "link {} {size} {}",
-                parts_text(alloc, parts)?,
-                out.as_str()
-            )
-        }
+        Command::Run(what, steps) => run_text(alloc, "run", what, steps.number()),
+        Command::Trace(what, steps) => run_text(alloc, "trace", what, steps.number()),
+        Command::Assemble(part, out) => put_text(alloc, "asm", part, out.as_str()),
+        Command::Compile(part, out) => put_text(alloc, "compile", part, out.as_str()),
+        Command::Disassemble(part) => one_part_text(alloc, "dis", part),
+        Command::Check(part) => one_part_text(alloc, "check", part),
+        Command::Link(parts, size, out) => link_text(alloc, parts, *size, out.as_str()),
         Command::Mean(modules, size, fuel, feed) => {
-            let modules = parts_text(alloc, modules)?;
-            format!(in alloc; "mean {modules} {size} {} {}", fuel.number(), feed.as_str())
+            mean_text(alloc, modules, *size, fuel.number(), feed.as_str())
         }
         Command::Generate(seed) => format!(in alloc; "generate {}", seed.number()),
     }
@@ -231,12 +258,20 @@ static NAMES: [(&str, &str); 20] = [
     ("link u:one.asm --out=-one.img", "usage"),
 ];
 
+fn each_asks(rt: &impl Abort, alloc: Global, lines: &[(&str, &str)]) -> Result<(), AllocError> {
+    for (line, expected) in lines {
+        assert_eq!(rt; told(alloc, *line)?.as_str(), *expected, "{line}");
+    }
+    Ok(())
+}
+
 #[test]
 fn each_line_asks_for_its_command(rt: HostRuntime) -> Result<(), Fail> {
-    assert_eq!(rt; told(rt.alloc(), "")?.as_str(), "usage");
-    for (line, expected) in ACTIONS.iter().chain(&OPTIONS).chain(&NUMBERS).chain(&NAMES) {
-        assert_eq!(rt; told(rt.alloc(), *line)?.as_str(), *expected, "{line}");
-    }
+    each_asks(&rt, rt.alloc(), &[("", "usage")])?;
+    each_asks(&rt, rt.alloc(), &ACTIONS)?;
+    each_asks(&rt, rt.alloc(), &OPTIONS)?;
+    each_asks(&rt, rt.alloc(), &NUMBERS)?;
+    each_asks(&rt, rt.alloc(), &NAMES)?;
     Ok(())
 }
 
@@ -255,15 +290,23 @@ static ADDED: [(&str, &[&str]); 11] = [
     ("generate --seed 7", &[]),
 ];
 
+// Whether the line is a command with this option behind it.
+fn takes_option(alloc: Global, line: &str, option: &str) -> Result<bool, AllocError> {
+    let longer = format!(in alloc; "{line} {option}=7")?;
+    is_command(alloc, longer.as_str())
+}
+
 #[test]
 fn options_that_an_action_does_not_name_are_usage(rt: HostRuntime) -> Result<(), Fail> {
     let alloc = rt.alloc();
     for (line, may_be_added) in &ADDED {
         assert!(rt; is_command(alloc, *line)?, "{line}");
         for option in &["--stack", "--steps", "--out", "--feed", "--seed"] {
-            let longer = format!(in alloc; "{line} {option}=7")?;
-            let is_taken = is_command(alloc, longer.as_str())?;
-            assert_eq!(rt; is_taken, may_be_added.contains(option), "{longer}");
+            let is_taken = takes_option(alloc, *line, *option)?;
+            assert!(rt;
+                is_taken == may_be_added.contains(option),
+                "{line} {option}"
+            );
         }
     }
     Ok(())
@@ -282,16 +325,29 @@ static COUNTS: [(&str, &str, usize, usize); 9] = [
     ("generate --seed 7", "u:a.asm", 0, 0),
 ];
 
+fn push_parts(line: &mut String, part: &str, count: usize) -> Result<(), AllocError> {
+    for _ in 0..count {
+        line.push_str(" ")?;
+        line.push_str(part)?;
+    }
+    Ok(())
+}
+
+// Whether an action with so many parts is a command.
+fn takes_parts(alloc: Global, action: &str, part: &str, count: usize) -> Result<bool, AllocError> {
+    let mut line = String::from_str(alloc, action)?;
+    push_parts(&mut line, part, count)?;
+    is_command(alloc, line.as_str())
+}
+
 #[test]
 fn so_many_parts_may_stand(rt: HostRuntime) -> Result<(), Fail> {
     let alloc = rt.alloc();
     for (action, part, least, most) in &COUNTS {
-        let mut line = String::from_str(alloc, *action)?;
         for count in 0..18usize {
-            let is_taken = is_command(alloc, line.as_str())?;
-            assert_eq!(rt; is_taken, *least <= count && count <= *most, "{line}");
-            line.push_str(" ")?;
-            line.push_str(*part)?;
+            let is_taken = takes_parts(alloc, *action, *part, count)?;
+            let may_be = *least <= count && count <= *most;
+            assert!(rt; is_taken == may_be, "{action} with {count}");
         }
     }
     Ok(())
@@ -317,13 +373,23 @@ fn long_name(alloc: Global) -> Result<String, AllocError> {
     Ok(name)
 }
 
+// Whether a name with this before and behind it is a command.
+fn takes_name(alloc: Global, front: &str, name: &str, back: &str) -> Result<bool, AllocError> {
+    let line = format!(in alloc; "{front}{name}{back}")?;
+    is_command(alloc, line.as_str())
+}
+
+fn long_names_are_told(rt: &impl Abort, alloc: Global, name: &str) -> Result<(), AllocError> {
+    for (front, back, expected) in &LONG {
+        let is_taken = takes_name(alloc, *front, name, *back)?;
+        assert!(rt; is_taken == *expected, "{front}..{back}");
+    }
+    Ok(())
+}
+
 #[test]
 fn names_have_up_to_255_bytes(rt: HostRuntime) -> Result<(), Fail> {
     let name = long_name(rt.alloc())?;
-    for (front, back, expected) in &LONG {
-        let line = format!(in rt.alloc(); "{front}{name}{back}")?;
-        let is_taken = is_command(rt.alloc(), line.as_str())?;
-        assert_eq!(rt; is_taken, *expected, "{line}");
-    }
+    long_names_are_told(&rt, rt.alloc(), name.as_str())?;
     Ok(())
 }

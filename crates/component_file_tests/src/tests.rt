@@ -12,7 +12,7 @@ use std::process::Abort;
 use std::test::Fail;
 
 // A component of one code word and one data word, with one export.
-const ONE: &[u8; 90] = b"STKC\x01\0\
+static ONE: &[u8; 90] = b"STKC\x01\0\
 \x03one\
 \0\0\x01\0\
 \x01\0\0\0\
@@ -31,13 +31,13 @@ const ONE: &[u8; 90] = b"STKC\x01\0\
 \0\0\0\0";
 
 // Where each field of `ONE` begins.
-const ONE_STARTS: [usize; 26] = [
+static ONE_STARTS: [usize; 26] = [
     0, 4, 6, 10, 14, 18, 22, 26, 30, 34, 38, 42, 43, 51, 55, 59, 60, 68, 70, 72, 77, 81, 82, 84,
     85, 86,
 ];
 
 // A component with something of everything.
-const FULL: &[u8; 262] = b"STKC\x01\0\
+static FULL: &[u8; 262] = b"STKC\x01\0\
 \x04full\
 \0\x10\0\0\
 \x07\0\0\0\
@@ -67,7 +67,7 @@ const FULL: &[u8; 262] = b"STKC\x01\0\
 \x02\0\0\0\x01\x01\x01\x01\x01\x01\x01\x01\x01\x01\x01\x01\x01\x01\x04\xff\xff\0\0";
 
 // Where each field of `FULL` begins.
-const FULL_STARTS: [usize; 93] = [
+static FULL_STARTS: [usize; 93] = [
     0, 4, 6, 11, 15, 19, 23, 27, 31, 35, 39, 43, 44, 52, 53, 54, 55, 59, 63, 71, 72, 76, 80, 88,
     92, 96, 97, 98, 99, 103, 107, 115, 116, 120, 124, 132, 133, 141, 143, 147, 152, 156, 160, 166,
     170, 172, 176, 180, 181, 187, 191, 192, 194, 198, 202, 203, 207, 208, 212, 216, 220, 221, 222,
@@ -200,7 +200,7 @@ struct Wanted {
     rows: &'static [(u32, &'static [Kind])],
 }
 
-const ONE_FIELDS: Wanted = Wanted {
+static ONE_FIELDS: Wanted = Wanted {
     name: b"one",
     bases: [65_536, 1, 100, 200],
     areas: [0, 0, 0, 0],
@@ -214,7 +214,7 @@ const ONE_FIELDS: Wanted = Wanted {
     rows: &[],
 };
 
-const FULL_FIELDS: Wanted = Wanted {
+static FULL_FIELDS: Wanted = Wanted {
     name: b"full",
     bases: [4096, 7, 65_536, 200],
     areas: [300, 2, 1000, 16],
@@ -307,17 +307,22 @@ fn are_lists(rt: &impl Abort, fields: &ComponentFields, wanted: &Wanted) {
 
 fn are_fields(rt: &impl Abort, fields: &ComponentFields, wanted: &Wanted) {
     assert!(rt; fields.name.as_slice() == wanted.name);
-    assert_eq!(rt; bases(fields), wanted.bases);
-    assert_eq!(rt; areas(fields), wanted.areas);
+    assert_eq!(rt;
+        (bases(fields), areas(fields)),
+        (wanted.bases, wanted.areas)
+    );
     assert!(rt; fields.sites.as_slice() == wanted.sites);
     assert!(rt; fields.fail_at == wanted.fail_at && fields.literal_at == wanted.literal_at);
     are_lists(rt, fields, wanted);
 }
 
+fn has_fields(rt: &impl Abort, component: Component, wanted: &Wanted) {
+    are_fields(rt, component.fields(), wanted);
+}
+
 fn spells(rt: &impl Abort, alloc: Global, bytes: &[u8], wanted: &Wanted) -> Result<(), FileFault> {
     assert_eq!(rt; fault_of(rt, alloc, bytes)?, None);
-    let component = decoded(rt, alloc, bytes)?;
-    are_fields(rt, component.fields(), wanted);
+    has_fields(rt, decoded(rt, alloc, bytes)?, wanted);
     Ok(())
 }
 
@@ -361,42 +366,67 @@ fn what_is_built_of_fields_has_the_bytes_of_the_example(rt: HostRuntime) -> Resu
     Ok(())
 }
 
+fn is_short_at(fault: Option<FileFault>, field: usize) -> bool {
+    match fault {
+        Some(Short(place)) => place as usize == field,
+        _ => false,
+    }
+}
+
+fn cuts_are_short(
+    rt: &impl Abort,
+    alloc: Global,
+    base: &[u8],
+    starts: &[usize],
+) -> Result<(), FileFault> {
+    let mut field = 0;
+    for (at, _) in base.iter().enumerate() {
+        if starts.contains(&at) {
+            field = at;
+        }
+        let (front, _) = base.split_at(at);
+        let fault = fault_of(rt, alloc, front)?;
+        assert!(rt; is_short_at(fault, field), "{fault:?} at {at}");
+    }
+    Ok(())
+}
+
 // A field that is cut is short at its first byte.
 #[test]
 fn each_cut_of_an_example_is_short(rt: HostRuntime) -> Result<(), Fail> {
-    let examples = [
-        (ONE.as_slice(), ONE_STARTS.as_slice()),
-        (FULL.as_slice(), FULL_STARTS.as_slice()),
-    ];
-    for (base, starts) in examples {
-        let mut field = 0;
-        for (at, _) in base.iter().enumerate() {
-            if starts.contains(&at) {
-                field = at;
-            }
-            let (front, _) = base.split_at(at);
-            match fault_of(&rt, rt.alloc(), front)? {
-                Some(Short(place)) => assert_eq!(rt; place as usize, field, "at {at}"),
-                other => panic!(rt; "{other:?} at {at}"),
-            }
+    cuts_are_short(&rt, rt.alloc(), ONE, &ONE_STARTS)?;
+    cuts_are_short(&rt, rt.alloc(), FULL, &FULL_STARTS)?;
+    Ok(())
+}
+
+// The fault of `base` with others in the place of its bytes from `at` on.
+fn fault_with(
+    rt: &impl Abort,
+    alloc: Global,
+    base: &[u8],
+    at: usize,
+    with: &[u8],
+) -> Result<Option<FileFault>, FileFault> {
+    let bytes = replaced(rt, alloc, base, at, with)?;
+    fault_of(rt, alloc, &bytes)
+}
+
+// How many bytes there are that make another component when they are complemented.
+fn accepted(rt: &impl Abort, alloc: Global, base: &[u8]) -> Result<u32, FileFault> {
+    let mut accepted = 0_u32;
+    for (at, byte) in base.iter().enumerate() {
+        if fault_with(rt, alloc, base, at, &[!*byte])?.is_none() {
+            accepted = accepted.saturating_add(1);
         }
     }
-    Ok(())
+    Ok(accepted)
 }
 
 // The counts were worked out by hand: the two low bytes of numbers, and integers.
 #[test]
 fn a_byte_complemented_is_another_component_or_none(rt: HostRuntime) -> Result<(), Fail> {
-    for (base, wanted) in [(ONE.as_slice(), 30_u32), (FULL.as_slice(), 92)] {
-        let mut accepted = 0_u32;
-        for (at, byte) in base.iter().enumerate() {
-            let bytes = replaced(&rt, rt.alloc(), base, at, &[!*byte])?;
-            if fault_of(&rt, rt.alloc(), &bytes)?.is_none() {
-                accepted = accepted.saturating_add(1);
-            }
-        }
-        assert_eq!(rt; accepted, wanted);
-    }
+    assert_eq!(rt; accepted(&rt, rt.alloc(), ONE)?, 30);
+    assert_eq!(rt; accepted(&rt, rt.alloc(), FULL)?, 92);
     Ok(())
 }
 
@@ -404,7 +434,7 @@ fn a_byte_complemented_is_another_component_or_none(rt: HostRuntime) -> Result<(
 type Case<'a> = (usize, &'a [u8], Option<FileFault>);
 
 // Each with the fault that `ONE` then has.
-const ONE_CASES: [Case<'static>; 61] = [
+static ONE_CASES: [Case<'static>; 61] = [
     // The magic and the version.
     (0, b"R", Some(Magic)),
     (3, b"D", Some(Magic)),
@@ -489,7 +519,7 @@ const ONE_CASES: [Case<'static>; 61] = [
 ];
 
 // Each with the fault that `FULL` then has.
-const FULL_CASES: [Case<'static>; 95] = [
+static FULL_CASES: [Case<'static>; 95] = [
     // The base of seals and of a linear area that are there.
     (23, b"\xff\xff\x0f\0", None),
     (23, b"\0\0\x10\0", Some(BadField(23))),
@@ -642,8 +672,7 @@ fn have_the_faults(
     cases: &[Case<'_>],
 ) -> Result<(), FileFault> {
     for (at, with, wanted) in cases {
-        let bytes = replaced(rt, alloc, base, *at, with)?;
-        let fault = fault_of(rt, alloc, &bytes)?;
+        let fault = fault_with(rt, alloc, base, *at, with)?;
         assert_eq!(rt; fault, *wanted, "{with:?} at {at}");
     }
     Ok(())
@@ -657,49 +686,56 @@ fn the_first_fault_is_found_in_its_place(rt: HostRuntime) -> Result<(), Fail> {
     Ok(())
 }
 
+// Names, and whether they may be ones.
+static NAMES: [(&[u8], bool); 20] = [
+    (b"", false),
+    (b"a", true),
+    (b"z", true),
+    (b"_", true),
+    (b"0", false),
+    (b"9", false),
+    (b"a0", true),
+    (b"_9", true),
+    (b"9a", false),
+    (b"A", false),
+    (b"aZ", false),
+    (b"a`", false),
+    (b"a{", false),
+    (b"a/", false),
+    (b"a:", false),
+    (b"a-b", false),
+    (b"a\0", false),
+    (b"a\xe1", false),
+    (b"abcdefghijklmnopqrstuvwxyz_0123", true),
+    (b"abcdefghijklmnopqrstuvwxyz_01234", false),
+];
+
 #[test]
 fn a_name_has_1_to_31_bytes_of_its_kind(rt: HostRuntime) {
-    let names: [(&[u8], bool); 20] = [
-        (b"", false),
-        (b"a", true),
-        (b"z", true),
-        (b"_", true),
-        (b"0", false),
-        (b"9", false),
-        (b"a0", true),
-        (b"_9", true),
-        (b"9a", false),
-        (b"A", false),
-        (b"aZ", false),
-        (b"a`", false),
-        (b"a{", false),
-        (b"a/", false),
-        (b"a:", false),
-        (b"a-b", false),
-        (b"a\0", false),
-        (b"a\xe1", false),
-        (b"abcdefghijklmnopqrstuvwxyz_0123", true),
-        (b"abcdefghijklmnopqrstuvwxyz_01234", false),
-    ];
-    for (name, wanted) in names {
-        assert_eq!(rt; is_name(name), wanted, "{name:?}");
+    for (name, wanted) in &NAMES {
+        assert!(rt; is_name(name) == *wanted, "{name:?}");
     }
 }
 
+// Faults with their numbers, places and texts.
+static FAULTS: [(FileFault, u8, u32, &str); 7] = [
+    (Magic, 1, 0, "the file does not begin with STKC"),
+    (Version, 2, 0, "the version is not 1"),
+    (Short(7), 3, 7, "the file ends within the field at byte 7"),
+    (BadField(8), 4, 8, "the field at byte 8 is not valid"),
+    (Order(9), 5, 9, "the item at byte 9 is out of order"),
+    (Trailing(90), 6, 90, "the component ends before byte 90"),
+    (NoMemory, 7, 0, "out of memory"),
+];
+
 #[test]
 fn each_fault_has_its_number_its_place_and_its_text(rt: HostRuntime) -> Result<(), Fail> {
-    let faults = [
-        (Magic, 1, 0, "the file does not begin with STKC"),
-        (Version, 2, 0, "the version is not 1"),
-        (Short(7), 3, 7, "the file ends within the field at byte 7"),
-        (BadField(8), 4, 8, "the field at byte 8 is not valid"),
-        (Order(9), 5, 9, "the item at byte 9 is out of order"),
-        (Trailing(90), 6, 90, "the component ends before byte 90"),
-        (NoMemory, 7, 0, "out of memory"),
-    ];
-    for (fault, number, place, text) in faults {
-        assert_eq!(rt; (fault.number(), fault.place()), (number, place));
-        assert_eq!(rt; format!(in rt.alloc(); "{fault}")?.as_str(), text);
+    for (fault, number, place, text) in &FAULTS {
+        let told = format!(in rt.alloc(); "{fault}")?;
+        assert_eq!(rt;
+            (fault.number(), fault.place(), told.as_str()),
+            (*number, *place, *text)
+        );
     }
     Ok(())
 }
