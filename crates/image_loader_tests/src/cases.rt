@@ -1,7 +1,7 @@
 //! Two images, and what is wrong with the first where some of its bytes are others. Each place and
 //! each value was worked out by hand from docs/FORMATS.md and docs/RULES.md.
 /// The part `one`, untrusted, with a stack of 4 words.
-pub(crate) const ONE: &[u8; 107] = b"STKI\x01\0\
+pub(crate) static ONE: &[u8; 107] = b"STKI\x01\0\
 \x04\0\0\0\
 \x01\0\
 \0\x5a\0\0\0\
@@ -24,11 +24,11 @@ STKC\x01\0\
 \0\0\0\0";
 
 /// Where each field of `ONE` begins.
-pub(crate) const ONE_STARTS: [usize; 7] = [0, 4, 6, 10, 12, 13, 17];
+pub(crate) static ONE_STARTS: [usize; 7] = [0, 4, 6, 10, 12, 13, 17];
 
 /// The part `one`, and the trusted part `two` whose one code word is the instruction `fail`. Its
 /// component begins at 112.
-pub(crate) const TWO: &[u8; 196] = b"STKI\x01\0\
+pub(crate) static TWO: &[u8; 196] = b"STKI\x01\0\
 \x04\0\0\0\
 \x02\0\
 \0\x5a\0\0\0\
@@ -72,7 +72,7 @@ STKC\x01\0\
 pub(crate) type Case = (&'static [(usize, &'static [u8])], &'static str);
 
 /// The image's own fields, and its end.
-pub(crate) const OWN_CASES: [Case; 26] = [
+pub(crate) static OWN_CASES: [Case; 26] = [
     (&[], "loads"),
     (&[(0, b"R")], "the image does not begin with STKI"),
     (&[(3, b"C")], "the image does not begin with STKI"),
@@ -131,7 +131,7 @@ pub(crate) const OWN_CASES: [Case; 26] = [
 ];
 
 /// The parts: their form, and their own rules.
-pub(crate) const PART_CASES: [Case; 18] = [
+pub(crate) static PART_CASES: [Case; 18] = [
     (&[(17, b"R")], "part 0 has the file fault 1 at byte 0"),
     (&[(21, b"\x02")], "part 0 has the file fault 2 at byte 0"),
     (&[(24, b"1")], "part 0 has the file fault 4 at byte 6"),

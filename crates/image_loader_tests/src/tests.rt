@@ -72,25 +72,24 @@ fn an_example_is_written(rt: HostRuntime) -> Result<(), Fail> {
     Ok(())
 }
 
+static BEGINNING: [(Reg, &str); 2] = [
+    (Reg::Pc, "cap(rwx,nor,100,100,100)"),
+    (Reg::Stk, "cap(rw,lin,65536,65539,65539)"),
+];
+
 // It starts at `main`, below the stack that it tells of.
 fn begins(rt: &impl Abort, start: &Start) {
     let state = start.state();
     assert_eq!(rt; (start.stack().base, start.stack().end), (65_536, 65_539));
-    assert_eq!(rt;
-        word_text(state.reg(Reg::Pc)).as_str(),
-        "cap(rwx,nor,100,100,100)"
-    );
-    assert_eq!(rt;
-        word_text(state.reg(Reg::Stk)).as_str(),
-        "cap(rw,lin,65536,65539,65539)"
-    );
+    for (register, word) in &BEGINNING {
+        assert_eq!(rt; word_text(state.reg(*register)).as_str(), *word);
+    }
 }
 
 // It halts at once.
 fn halts(rt: &impl Abort, state: &mut LcmState) {
-    assert_eq!(rt; state.count(), 0);
-    assert_eq!(rt; state.run(10), Step::Halted);
-    assert_eq!(rt; state.count(), 1);
+    assert!(rt; state.count() == 0);
+    assert_eq!(rt; (state.run(10), state.count()), (Step::Halted, 1));
 }
 
 fn runs(rt: &impl Abort, start: Start) {
@@ -146,13 +145,23 @@ fn told(rt: &impl Abort, alloc: Global, bytes: &[u8]) -> Result<String, AllocErr
     }
 }
 
+// What is told of `ONE` with edits: bytes in the place of others, each from a place on.
+fn told_of_edited(
+    rt: &impl Abort,
+    alloc: Global,
+    edits: &[(usize, &[u8])],
+) -> Result<String, AllocError> {
+    let mut bytes = Vec::from_slice(alloc, ONE)?;
+    for (at, with) in edits {
+        replace(rt, &mut bytes, *at, with)?;
+    }
+    told(rt, alloc, &bytes)
+}
+
 fn have_the_faults(rt: &impl Abort, alloc: Global, cases: &[Case]) -> Result<(), AllocError> {
     for (edits, wanted) in cases {
-        let mut bytes = Vec::from_slice(alloc, ONE)?;
-        for (at, with) in *edits {
-            replace(rt, &mut bytes, *at, with)?;
-        }
-        assert_eq!(rt; told(rt, alloc, &bytes)?.as_str(), *wanted, "{edits:?}");
+        let found = told_of_edited(rt, alloc, *edits)?;
+        assert_eq!(rt; found.as_str(), *wanted, "{edits:?}");
     }
     Ok(())
 }
@@ -195,6 +204,13 @@ fn kind_of(rt: &impl Abort, alloc: Global, bytes: &[u8]) -> usize {
     }
 }
 
+// The kind of `ONE` with another byte at a place.
+fn kind_with(rt: &impl Abort, alloc: Global, at: usize, byte: u8) -> Result<usize, AllocError> {
+    let mut bytes = Vec::from_slice(alloc, ONE)?;
+    replace(rt, &mut bytes, at, &[byte])?;
+    Ok(kind_of(rt, alloc, &bytes))
+}
+
 // Of the 107 bytes 26 make other images that load: two of the stack size, and of the component
 // those of the bases, of the closure and of its two integers. Eight make images of which a rule is
 // broken: two of the stack size, and of the component those of the seals, the linear area and the
@@ -203,9 +219,7 @@ fn kind_of(rt: &impl Abort, alloc: Global, bytes: &[u8]) -> usize {
 fn each_byte_complemented(rt: HostRuntime) -> Result<(), Fail> {
     let mut counts = [0_u32; 4];
     for (at, byte) in ONE.iter().enumerate() {
-        let mut bytes = Vec::from_slice(rt.alloc(), ONE)?;
-        replace(&rt, &mut bytes, at, &[!*byte])?;
-        let kind = kind_of(&rt, rt.alloc(), &bytes);
+        let kind = kind_with(&rt, rt.alloc(), at, !*byte)?;
         if let Some(count) = counts.get_mut(kind) {
             *count = count.saturating_add(1);
         }
@@ -225,48 +239,58 @@ fn copies(rt: &impl Abort, alloc: Global, count: u8) -> Result<Vec<u8>, AllocErr
     Ok(bytes)
 }
 
+fn told_of_copies(rt: &impl Abort, alloc: Global, count: u8) -> Result<String, AllocError> {
+    let bytes = copies(rt, alloc, count)?;
+    told(rt, alloc, &bytes)
+}
+
+static COPIES: [(u8, &str); 3] = [
+    (2, "1 L1 0"),
+    (16, "1 L1 0"),
+    (17, "the field at byte 10 is not valid"),
+];
+
 // As many copies of one part as a number says: they are read, and then the rules L are asked.
 #[test]
 fn sixteen_parts_are_read(rt: HostRuntime) -> Result<(), Fail> {
-    for (count, wanted) in [
-        (2, "1 L1 0"),
-        (16, "1 L1 0"),
-        (17, "the field at byte 10 is not valid"),
-    ] {
-        let bytes = copies(&rt, rt.alloc(), count)?;
-        assert_eq!(&rt; told(&rt, rt.alloc(), &bytes)?.as_str(), wanted);
+    for (count, wanted) in &COPIES {
+        let found = told_of_copies(&rt, rt.alloc(), *count)?;
+        assert_eq!(&rt; found.as_str(), *wanted);
     }
     Ok(())
 }
 
+// Faults with their numbers, places and texts.
+static FAULTS: [(ImageFault, u8, u32, &str); 8] = [
+    (Magic, 1, 0, "the image does not begin with STKI"),
+    (Version, 2, 0, "the version is not 1"),
+    (Short(7), 3, 7, "the image ends within the field at byte 7"),
+    (BadField(8), 4, 8, "the field at byte 8 is not valid"),
+    (Trailing(107), 5, 107, "the image ends before byte 107"),
+    (
+        File(3, FileFault::Order(9)),
+        6,
+        0,
+        "part 3 has the file fault 5 at byte 9",
+    ),
+    (RuleFault(L4_AT_2), 7, 0, "1 L4 2"),
+    (NoMemory, 8, 0, "out of memory"),
+];
+
+const L4_AT_2: RuleAt = RuleAt {
+    rule: Rule {
+        group: Group::L,
+        number: 4,
+    },
+    part: 1,
+    place: 2,
+};
+
 #[test]
 fn each_fault_has_its_number_its_place_and_its_text(rt: HostRuntime) -> Result<(), Fail> {
-    let rule = RuleAt {
-        rule: Rule {
-            group: Group::L,
-            number: 4,
-        },
-        part: 1,
-        place: 2,
-    };
-    let faults = [
-        (Magic, 1, 0, "the image does not begin with STKI"),
-        (Version, 2, 0, "the version is not 1"),
-        (Short(7), 3, 7, "the image ends within the field at byte 7"),
-        (BadField(8), 4, 8, "the field at byte 8 is not valid"),
-        (Trailing(107), 5, 107, "the image ends before byte 107"),
-        (
-            File(3, FileFault::Order(9)),
-            6,
-            0,
-            "part 3 has the file fault 5 at byte 9",
-        ),
-        (RuleFault(rule), 7, 0, "1 L4 2"),
-        (NoMemory, 8, 0, "out of memory"),
-    ];
-    for (fault, number, place, text) in faults {
-        assert_eq!(rt; (fault.number(), fault.place()), (number, place));
-        assert_eq!(rt; format!(in rt.alloc(); "{fault}")?.as_str(), text);
+    for (fault, number, place, text) in &FAULTS {
+        assert_eq!(rt; (fault.number(), fault.place()), (*number, *place));
+        assert_eq!(rt; format!(in rt.alloc(); "{fault}")?.as_str(), *text);
     }
     Ok(())
 }
