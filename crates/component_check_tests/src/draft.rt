@@ -22,12 +22,12 @@ pub(crate) struct Draft {
     pub(crate) seals: Area,
     pub(crate) linear: Area,
     pub(crate) code_base: u32,
-    pub(crate) code: [Item; 4],
+    pub(crate) code: &'static [Item],
     pub(crate) data_base: u32,
-    pub(crate) data: [Item; 6],
-    pub(crate) slots: [Option<u32>; 3],
-    pub(crate) exports: [Option<u32>; 3],
-    pub(crate) sites: [Option<u32>; 3],
+    pub(crate) data: &'static [Item],
+    pub(crate) slots: &'static [u32],
+    pub(crate) exports: &'static [u32],
+    pub(crate) sites: &'static [u32],
     pub(crate) fail_at: Option<u32>,
     pub(crate) literal_at: Option<u32>,
 }
@@ -60,56 +60,46 @@ fn push_item(bytes: &mut Vec<u8>, item: Item) -> Result<(), AllocError> {
     Ok(())
 }
 
-// A base, a count that is below 256, and the words.
-fn push_items(bytes: &mut Vec<u8>, base: u32, count: u8, items: &[Item]) -> Result<(), AllocError> {
+// A base, the count and the words.
+fn push_items(bytes: &mut Vec<u8>, base: u32, items: &[Item]) -> Result<(), AllocError> {
+    let count = (items.len() % 65_536) as u32;
     bytes.extend_from_slice(&base.to_le_bytes())?;
-    bytes.extend_from_slice(&[count, 0, 0, 0])?;
+    bytes.extend_from_slice(&count.to_le_bytes())?;
     for item in items {
         push_item(bytes, *item)?;
     }
     Ok(())
 }
 
-// The numbers that are there, and how many they are.
-fn push_count(bytes: &mut Vec<u8>, numbers: [Option<u32>; 3]) -> Result<(), AllocError> {
-    let mut count = 0_u8;
-    for number in numbers {
-        if number.is_some() {
-            count = count.saturating_add(1);
-        }
-    }
-    bytes.extend_from_slice(&[count, 0])
+// How many numbers there are.
+fn push_count(bytes: &mut Vec<u8>, numbers: &[u32]) -> Result<(), AllocError> {
+    let count = (numbers.len() % 65_536) as u16;
+    bytes.extend_from_slice(&count.to_le_bytes())
 }
 
-fn push_slots(bytes: &mut Vec<u8>, slots: [Option<u32>; 3]) -> Result<(), AllocError> {
+fn push_slots(bytes: &mut Vec<u8>, slots: &[u32]) -> Result<(), AllocError> {
     push_count(bytes, slots)?;
     for slot in slots {
-        if let Some(slot) = slot {
-            bytes.extend_from_slice(b"\x03lib\x04read")?;
-            bytes.extend_from_slice(&slot.to_le_bytes())?;
-        }
+        bytes.extend_from_slice(b"\x03lib\x04read")?;
+        bytes.extend_from_slice(&slot.to_le_bytes())?;
     }
     Ok(())
 }
 
-fn push_exports(bytes: &mut Vec<u8>, offsets: [Option<u32>; 3]) -> Result<(), AllocError> {
+fn push_exports(bytes: &mut Vec<u8>, offsets: &[u32]) -> Result<(), AllocError> {
     push_count(bytes, offsets)?;
-    for (name, offset) in (b'a'..=b'c').zip(offsets) {
-        if let Some(offset) = offset {
-            bytes.extend_from_slice(&[1, name])?;
-            bytes.extend_from_slice(&offset.to_le_bytes())?;
-            bytes.push(1)?;
-        }
+    for (name, offset) in b"abc".iter().zip(offsets) {
+        bytes.extend_from_slice(&[1, *name])?;
+        bytes.extend_from_slice(&offset.to_le_bytes())?;
+        bytes.push(1)?;
     }
     Ok(())
 }
 
-fn push_sites(bytes: &mut Vec<u8>, sites: [Option<u32>; 3]) -> Result<(), AllocError> {
+fn push_sites(bytes: &mut Vec<u8>, sites: &[u32]) -> Result<(), AllocError> {
     push_count(bytes, sites)?;
     for site in sites {
-        if let Some(site) = site {
-            bytes.extend_from_slice(&site.to_le_bytes())?;
-        }
+        bytes.extend_from_slice(&site.to_le_bytes())?;
     }
     Ok(())
 }
@@ -126,19 +116,24 @@ fn push_offset(bytes: &mut Vec<u8>, offset: Option<u32>) -> Result<(), AllocErro
 }
 
 // The bytes of a component file, by the table of docs/FORMATS.md.
-fn bytes_of(alloc: Global, draft: &Draft) -> Result<Vec<u8>, AllocError> {
-    let mut bytes = Vec::from_slice(alloc, b"STKC\x01\0\x04part\0\0\x01\0")?;
+fn push_draft(bytes: &mut Vec<u8>, draft: &Draft) -> Result<(), AllocError> {
+    bytes.extend_from_slice(b"STKC\x01\0\x04part\0\0\x01\0")?;
     bytes.extend_from_slice(&draft.closure.to_le_bytes())?;
-    push_area(&mut bytes, draft.seals)?;
-    push_area(&mut bytes, draft.linear)?;
-    push_items(&mut bytes, draft.code_base, 4, &draft.code)?;
-    push_items(&mut bytes, draft.data_base, 6, &draft.data)?;
-    push_slots(&mut bytes, draft.slots)?;
-    push_exports(&mut bytes, draft.exports)?;
-    push_sites(&mut bytes, draft.sites)?;
-    push_offset(&mut bytes, draft.fail_at)?;
-    push_offset(&mut bytes, draft.literal_at)?;
-    bytes.extend_from_slice(b"\0\0\0\0")?;
+    push_area(bytes, draft.seals)?;
+    push_area(bytes, draft.linear)?;
+    push_items(bytes, draft.code_base, draft.code)?;
+    push_items(bytes, draft.data_base, draft.data)?;
+    push_slots(bytes, draft.slots)?;
+    push_exports(bytes, draft.exports)?;
+    push_sites(bytes, draft.sites)?;
+    push_offset(bytes, draft.fail_at)?;
+    push_offset(bytes, draft.literal_at)?;
+    bytes.extend_from_slice(b"\0\0\0\0")
+}
+
+fn bytes_of(alloc: Global, draft: &Draft) -> Result<Vec<u8>, AllocError> {
+    let mut bytes = Vec::new(alloc);
+    push_draft(&mut bytes, draft)?;
     Ok(bytes)
 }
 
@@ -156,19 +151,18 @@ pub(crate) fn component_of(
 /// What is other than in a draft.
 #[derive(Clone, Copy)]
 pub(crate) enum Change {
-    Same,
     Closure(u32),
     /// The base and the count.
     OwnSeals(u32, u32),
     /// The base and the count.
     LinearArea(u32, u32),
     CodeBase(u32),
-    Code([Item; 4]),
+    Code(&'static [Item]),
     DataBase(u32),
-    Data([Item; 6]),
-    Slots([Option<u32>; 3]),
-    Exports([Option<u32>; 3]),
-    Sites([Option<u32>; 3]),
+    Data(&'static [Item]),
+    Slots(&'static [u32]),
+    Exports(&'static [u32]),
+    Sites(&'static [u32]),
     FailAt(Option<u32>),
     LiteralAt(Option<u32>),
 }
@@ -176,7 +170,6 @@ pub(crate) enum Change {
 impl Draft {
     pub(crate) fn make(&mut self, change: Change) {
         match change {
-            Change::Same => {}
             Change::Closure(seal) => self.closure = seal,
             Change::OwnSeals(base, count) => self.seals = Area { base, count },
             Change::LinearArea(base, count) => self.linear = Area { base, count },

@@ -11,31 +11,40 @@ use std::alloc::Global;
 use std::process::Abort;
 use std::test::Fail;
 
+// Groups and numbers of rules, and how they print.
+static PRINTED: [(Group, u8, &str); 5] = [
+    (Group::C, 7, "C7"),
+    (Group::K, 10, "K10"),
+    (Group::L, 3, "L3"),
+    (Group::L, 255, "L255"),
+    (Group::C, 0, "C0"),
+];
+
 #[test]
 fn a_rule_prints_as_its_letter_and_number(rt: HostRuntime) -> Result<(), Fail> {
-    let rules = [
-        (Group::C, 7, "C7"),
-        (Group::K, 10, "K10"),
-        (Group::L, 3, "L3"),
-        (Group::L, 255, "L255"),
-        (Group::C, 0, "C0"),
-    ];
-    for (group, number, wanted) in rules {
-        let rule = Rule { group, number };
-        assert_eq!(rt; rule.text().as_str(), wanted);
+    for (group, number, wanted) in &PRINTED {
+        let rule = Rule {
+            group: *group,
+            number: *number,
+        };
+        assert_eq!(rt; rule.text().as_str(), *wanted);
         let printed = format!(in rt.alloc(); "{rule}")?;
-        assert_eq!(rt; printed.as_str(), wanted);
+        assert_eq!(rt; printed.as_str(), *wanted);
     }
     Ok(())
+}
+
+fn told(judgement: Result<(), Broken>) -> Option<(Group, u8, u32)> {
+    match judgement {
+        Ok(()) => None,
+        Err(Broken { rule, place }) => Some((rule.group, rule.number, place)),
+    }
 }
 
 // Each value that owns much goes to a function of its own: each way out of a function that has one is
 // proved at length.
 fn judged(component: Component, trusted: bool) -> Option<(Group, u8, u32)> {
-    match check(&component, trusted) {
-        Ok(()) => None,
-        Err(Broken { rule, place }) => Some((rule.group, rule.number, place)),
-    }
+    told(check(&component, trusted))
 }
 
 // The rule that a draft with changes breaks, and its place.
