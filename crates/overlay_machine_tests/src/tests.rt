@@ -16,7 +16,7 @@ use std::test::Fail;
 /// before, and then the text of a0.
 type Program = (&'static [Instr], i64, u32, OStep, u64, &'static str);
 
-const PROGRAMS: &[Program] = &[
+static PROGRAMS: [Program; 7] = [
     (&[Halt], 0, 2, OStep::Halted, 0, "0"),
     // A sum that has more than 64 bits.
     (
@@ -104,21 +104,20 @@ fn push_integer(bytes: &mut Vec<u8>, number: i64) -> Result<(), AllocError> {
 
 // The bytes of a component with code from 100 on, one word of data at 200, and the export main, by the
 // table of docs/FORMATS.md.
-fn bytes_of(alloc: Global, code: &[Instr], data_word: i64) -> Result<Vec<u8>, AllocError> {
-    let mut bytes = Vec::from_slice(alloc, b"STKC\x01\0\x03one")?;
+fn push_component(bytes: &mut Vec<u8>, code: &[Instr], data_word: i64) -> Result<(), AllocError> {
+    bytes.extend_from_slice(b"STKC\x01\0\x03one")?;
     for number in [65_536, 1, 0, 0, 0, 0, 100] {
-        push_number(&mut bytes, number)?;
+        push_number(bytes, number)?;
     }
-    push_number(&mut bytes, (code.len() % 256) as u32)?;
+    push_number(bytes, (code.len() % 256) as u32)?;
     for instr in code {
-        push_integer(&mut bytes, encode(instr))?;
+        push_integer(bytes, encode(instr))?;
     }
-    push_number(&mut bytes, 200)?;
-    push_number(&mut bytes, 1)?;
-    push_integer(&mut bytes, data_word)?;
+    push_number(bytes, 200)?;
+    push_number(bytes, 1)?;
+    push_integer(bytes, data_word)?;
     bytes.extend_from_slice(b"\0\0\x01\0\x04main\0\0\0\0\x01")?;
-    bytes.extend_from_slice(b"\0\0\0\0\0\0\0\0")?;
-    Ok(bytes)
+    bytes.extend_from_slice(b"\0\0\0\0\0\0\0\0")
 }
 
 // Each value that owns much goes to a function of its own: each way out of a function that has one is
@@ -130,10 +129,15 @@ fn accepted(rt: &impl Abort, component: Component) -> Part {
     }
 }
 
-fn part_of(rt: &impl Abort, alloc: Global, program: &Program) -> Result<Part, FileFault> {
-    let bytes = bytes_of(alloc, program.0, program.1)?;
+fn part_of_bytes(rt: &impl Abort, alloc: Global, bytes: &[u8]) -> Result<Part, FileFault> {
     assert!(rt; bytes.len() < 10_000);
-    Ok(accepted(rt, decode_component(alloc, &bytes)?))
+    Ok(accepted(rt, decode_component(alloc, bytes)?))
+}
+
+fn part_of(rt: &impl Abort, alloc: Global, program: &Program) -> Result<Part, FileFault> {
+    let mut bytes = Vec::new(alloc);
+    push_component(&mut bytes, program.0, program.1)?;
+    part_of_bytes(rt, alloc, &bytes)
 }
 
 /// The start of these parts.
@@ -221,7 +225,7 @@ fn runs(rt: &impl Abort, alloc: Global, program: &Program) -> Result<(), FileFau
 
 #[test]
 fn programs_end(rt: HostRuntime) -> Result<(), Fail> {
-    for program in PROGRAMS {
+    for program in &PROGRAMS {
         runs(&rt, rt.alloc(), program)?;
     }
     Ok(())

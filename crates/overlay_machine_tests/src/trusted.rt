@@ -256,12 +256,17 @@ fn trusted_text(
     Ok(text)
 }
 
-fn adv_text(alloc: Global, go: &[u8], back: &[u8]) -> Result<Vec<u8>, AllocError> {
-    let mut text = Vec::from_slice(alloc, ADV_BEGIN)?;
-    push_lines(&mut text, go)?;
+fn push_adv(text: &mut Vec<u8>, go: &[u8], back: &[u8]) -> Result<(), AllocError> {
+    text.extend_from_slice(ADV_BEGIN)?;
+    push_lines(text, go)?;
     text.extend_from_slice(b"back: ")?;
-    push_lines(&mut text, back)?;
-    text.extend_from_slice(ADV_END)?;
+    push_lines(text, back)?;
+    text.extend_from_slice(ADV_END)
+}
+
+fn adv_text(alloc: Global, go: &[u8], back: &[u8]) -> Result<Vec<u8>, AllocError> {
+    let mut text = Vec::new(alloc);
+    push_adv(&mut text, go, back)?;
     Ok(text)
 }
 
@@ -280,16 +285,30 @@ fn part_of(rt: &impl Abort, alloc: Global, text: &[u8], trusted: bool) -> Part {
     }
 }
 
+fn trusted_part(
+    rt: &impl Abort,
+    alloc: Global,
+    first: &[u8],
+    second: &[u8],
+    last: &[u8],
+) -> Result<Part, AllocError> {
+    let text = trusted_text(alloc, first, second, last)?;
+    Ok(part_of(rt, alloc, text.as_slice(), true))
+}
+
+fn adv_part(rt: &impl Abort, alloc: Global, go: &[u8], back: &[u8]) -> Result<Part, AllocError> {
+    let text = adv_text(alloc, go, back)?;
+    Ok(part_of(rt, alloc, text.as_slice(), false))
+}
+
 fn push_parts(
     rt: &impl Abort,
     alloc: Global,
     parts: &mut Vec<Part>,
     lines: [&[u8]; 5],
 ) -> Result<(), AllocError> {
-    let t = trusted_text(alloc, lines[0], lines[1], lines[2])?;
-    parts.push(part_of(rt, alloc, t.as_slice(), true))?;
-    let adv = adv_text(alloc, lines[3], lines[4])?;
-    parts.push(part_of(rt, alloc, adv.as_slice(), false))?;
+    parts.push(trusted_part(rt, alloc, lines[0], lines[1], lines[2])?)?;
+    parts.push(adv_part(rt, alloc, lines[3], lines[4])?)?;
     Ok(())
 }
 
@@ -343,6 +362,21 @@ fn within(trusted: bool) -> &'static str {
     if trusted { "_in" } else { "" }
 }
 
+fn crossing_text(
+    alloc: Global,
+    name: &str,
+    trusted: bool,
+    site: u32,
+    base: u32,
+    end: u32,
+) -> Result<String, AllocError> {
+    format!(in alloc; "{name}{} {site} {base} {end};", within(trusted))
+}
+
+fn entered_text(alloc: Global, part: u32, entry: u32, back: Back) -> Result<String, AllocError> {
+    format!(in alloc; "enter {part} {entry} {};", back_text(alloc, back)?)
+}
+
 fn event_text(alloc: Global, event: Event) -> Result<String, AllocError> {
     match event {
         Event::Called {
@@ -350,21 +384,19 @@ fn event_text(alloc: Global, event: Event) -> Result<String, AllocError> {
             site,
             base,
             end,
-        } => { format!(in alloc; "call{} {site} {base} {end};", within(trusted)) }
+        } => crossing_text(alloc, "call", trusted, site, base, end),
         Event::Returned {
             trusted,
             site,
             base,
             end,
-        } => { format!(in alloc; "ret{} {site} {base} {end};", within(trusted)) }
-        Event::Entered { part, entry, back } => {
-            format!(in alloc; "enter {part} {entry} {};", back_text(alloc, back)?)
-        }
+        } => crossing_text(alloc, "ret", trusted, site, base, end),
+        Event::Entered { part, entry, back } => entered_text(alloc, part, entry, back),
         Event::Left { part } => format!(in alloc; "left {part};"),
     }
 }
 
-const REGS: [Reg; 16] = [
+static REGS: [Reg; 16] = [
     Reg::Pc,
     Reg::Rcode,
     Reg::Rdata,
@@ -415,7 +447,37 @@ fn step_text(alloc: Global, step: OStep, weight: u64, own: u32) -> Result<String
     }
 }
 
-// What is told of the steps of a run.
+// Appends what is told of a step.
+fn push_step(
+    alloc: Global,
+    text: &mut String,
+    step: OStep,
+    weight: u64,
+    own: u32,
+) -> Result<(), AllocError> {
+    text.push_str(step_text(alloc, step, weight, own)?.as_str())
+}
+
+// Appends what is told of the steps of a run.
+fn push_steps(
+    rt: &impl Abort,
+    alloc: Global,
+    text: &mut String,
+    overlay: &mut Overlay,
+    start: &mut Start,
+    linked: bool,
+) -> Result<(), AllocError> {
+    for _ in 0..200 {
+        let own = overlay.next_weight();
+        let step = step(rt, overlay, start, linked);
+        push_step(alloc, text, step, overlay.weight(), own)?;
+        if !matches!(step, OStep::Went(_)) {
+            break;
+        }
+    }
+    Ok(())
+}
+
 fn steps_told(
     rt: &impl Abort,
     alloc: Global,
@@ -424,14 +486,7 @@ fn steps_told(
     linked: bool,
 ) -> Result<String, AllocError> {
     let mut text = String::new(alloc);
-    for _ in 0..200 {
-        let own = overlay.next_weight();
-        let step = step(rt, overlay, start, linked);
-        text.push_str(step_text(alloc, step, overlay.weight(), own)?.as_str())?;
-        if !matches!(step, OStep::Went(_)) {
-            break;
-        }
-    }
+    push_steps(rt, alloc, &mut text, overlay, start, linked)?;
     Ok(text)
 }
 
@@ -467,8 +522,9 @@ fn runs_as_told(rt: &impl Abort, alloc: Global, line: &[u8]) -> Result<(), Alloc
         fields.next().unwrap_or(b""),
         fields.next().unwrap_or(b""),
     ];
+    let wanted = fields.next().unwrap_or(b"");
     let text = told(rt, alloc, letter, lines)?;
-    assert!(rt; text.as_bytes() == fields.next().unwrap_or(b""), "{text}");
+    assert!(rt; text.as_bytes() == wanted, "{text}");
     Ok(())
 }
 
