@@ -74,21 +74,26 @@ pub(crate) fn push_line(text: &mut String, line: &str) -> Result<(), AllocError>
     text.push('\n')
 }
 
+fn push_changed(new: &mut String, text: &str, change: &str) -> Result<(), AllocError> {
+    let mut due = true;
+    for line in text.split('\n') {
+        if first_word(line) != first_word(change) {
+            push_line(new, line)?;
+        } else if due {
+            due = false;
+            for other in change.split('$') {
+                push_line(new, other)?;
+            }
+        }
+    }
+    Ok(())
+}
+
 /// The text with other lines in place of those that begin with some word. The change has these
 /// lines, parted by `$`; each begins with that word.
 pub(crate) fn changed(alloc: Global, text: &str, change: &str) -> Result<String, AllocError> {
     let mut new = String::new(alloc);
-    let mut due = true;
-    for line in text.split('\n') {
-        if first_word(line) != first_word(change) {
-            push_line(&mut new, line)?;
-        } else if due {
-            due = false;
-            for other in change.split('$') {
-                push_line(&mut new, other)?;
-            }
-        }
-    }
+    push_changed(&mut new, text, change)?;
     Ok(new)
 }
 

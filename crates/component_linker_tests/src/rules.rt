@@ -155,22 +155,27 @@ fn texts_told(
     Ok(text)
 }
 
+// What is changed, the stack's size, and what is told.
+fn case_of(line: &str) -> Option<(&str, u32, &str)> {
+    let (changes, rest) = line.split_once('|')?;
+    let (size, wanted) = rest.split_once('|')?;
+    let size = size.trim().parse::<u32>().ok()?;
+    Some((changes, size, wanted.trim()))
+}
+
 // Each line of cases over these texts.
-fn each_is_told(rt: &impl Abort, alloc: Global, texts: &[&str], cases: &str) -> Result<(), Fail> {
+fn each_is_told(
+    rt: &impl Abort,
+    alloc: Global,
+    texts: &[&str],
+    cases: &str,
+) -> Result<(), AsmFault> {
     for case in cases.split('\n') {
-        let mut fields = case.split('|');
-        let (Some(changes), Some(size), Some(wanted)) = (
-            fields.next(),
-            fields.next(),
-            fields.next(),
-        ) else {
+        let Some((changes, size, wanted)) = case_of(case) else {
             panic!(rt; "no case: {case}");
         };
-        let Ok(size) = size.trim().parse::<u32>() else {
-            panic!(rt; "no size: {case}");
-        };
         let told = texts_told(rt, alloc, texts, changes, size)?;
-        assert_eq!(rt; told.as_str(), wanted.trim(), "{case}");
+        assert_eq!(rt; told.as_str(), wanted, "{case}");
     }
     Ok(())
 }
@@ -241,33 +246,67 @@ fn another(alloc: Global, number: u32) -> Result<String, AllocError> {
     numbered(alloc, TWO, "0 ", changes.as_str())
 }
 
-fn sixteen_are_linked(rt: &impl Abort, alloc: Global, parts: &mut Vec<Part>) -> Result<(), Fail> {
+fn push_another(
+    rt: &impl Abort,
+    alloc: Global,
+    parts: &mut Vec<Part>,
+    number: u32,
+) -> Result<(), AsmFault> {
+    let text = another(alloc, number)?;
+    push_part(rt, alloc, parts, text.as_str(), false)
+}
+
+fn is_told(
+    rt: &impl Abort,
+    alloc: Global,
+    parts: &[Part],
+    stack: u32,
+    wanted: &str,
+) -> Result<(), AllocError> {
+    assert_eq!(rt; told(rt, alloc, parts, stack)?.as_str(), wanted);
+    Ok(())
+}
+
+fn sixteen_are_linked(
+    rt: &impl Abort,
+    alloc: Global,
+    parts: &mut Vec<Part>,
+) -> Result<(), AsmFault> {
     push_part(rt, alloc, parts, ALONE, false)?;
     for number in 1..=16 {
-        assert_eq!(rt; told(rt, alloc, parts, 64)?.as_str(), "ok");
-        push_part(rt, alloc, parts, another(alloc, number)?.as_str(), false)?;
+        is_told(rt, alloc, parts, 64, "ok")?;
+        push_another(rt, alloc, parts, number)?;
     }
-    assert_eq!(rt; told(rt, alloc, parts, 64)?.as_str(), "16 L9 17");
-    assert_eq!(rt; told(rt, alloc, parts, 1)?.as_str(), "17 L8 1");
+    is_told(rt, alloc, parts, 64, "16 L9 17")?;
+    is_told(rt, alloc, parts, 1, "17 L8 1")?;
     Ok(())
 }
 
 #[test]
 fn sixteen_parts_are_enough(rt: HostRuntime) -> Result<(), Fail> {
     let mut parts = Vec::new(rt.alloc());
-    sixteen_are_linked(&rt, rt.alloc(), &mut parts)
+    sixteen_are_linked(&rt, rt.alloc(), &mut parts)?;
+    Ok(())
 }
 
 fn is_untrusted(part: Part, name: &[u8]) -> bool {
     !part.trusted() && part.component().fields().name.as_slice() == name
 }
 
+fn alone_is_untrusted(rt: &impl Abort, alloc: Global) -> Result<bool, AsmFault> {
+    let part = part_of(rt, alloc, ALONE, false)?;
+    Ok(is_untrusted(part, b"one"))
+}
+
+fn alone_changed_told(rt: &impl Abort, alloc: Global, change: &str) -> Result<String, AsmFault> {
+    let text = changed(alloc, ALONE, change)?;
+    judgement(rt, alloc, text.as_str(), false)
+}
+
 #[test]
 fn a_component_that_breaks_a_rule_is_no_part(rt: HostRuntime) -> Result<(), Fail> {
-    let text = changed(rt.alloc(), ALONE, ".data 101")?;
-    let told = judgement(&rt, rt.alloc(), text.as_str(), false)?;
+    assert!(&rt; alone_is_untrusted(&rt, rt.alloc())?);
+    let told = alone_changed_told(&rt, rt.alloc(), ".data 101")?;
     assert_eq!(&rt; told.as_str(), "C2 0");
-    let part = part_of(&rt, rt.alloc(), ALONE, false)?;
-    assert!(&rt; is_untrusted(part, b"one"));
     Ok(())
 }

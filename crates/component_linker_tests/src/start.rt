@@ -140,12 +140,15 @@ pub(crate) fn linked(rt: &impl Abort, alloc: Global, parts: &[Part]) -> Start {
     }
 }
 
+fn starts(rt: &impl Abort, start: Start) {
+    start_is(rt, &start);
+    words_are(rt, &start.into_state());
+}
+
 #[test]
 fn two_parts_start(rt: HostRuntime) -> Result<(), Fail> {
     let mut parts = Vec::new(rt.alloc());
     push_both(&rt, rt.alloc(), &mut parts)?;
-    let start = linked(&rt, rt.alloc(), &parts);
-    start_is(&rt, &start);
-    words_are(&rt, &start.into_state());
+    starts(&rt, linked(&rt, rt.alloc(), &parts));
     Ok(())
 }

@@ -98,35 +98,58 @@ const ADV: &str = "\
 .import t main 0
 .export go 0 shared";
 
-// The text of a trusted part with calls, of which so many are declared as sites.
-fn with_calls(alloc: Global, part: &str, calls: u32, declared: u32) -> Result<String, AllocError> {
-    let mut code = String::from_str(alloc, "#calls\n")?;
+fn push_calls(alloc: Global, code: &mut String, calls: u32) -> Result<(), AllocError> {
     let [front, back] = CALL;
     for number in 0..calls {
         code.push_str(format!(in alloc; "{front} {number}{back}")?.as_str())?;
     }
-    let mut sites = String::from_str(alloc, "#sites\n")?;
+    Ok(())
+}
+
+fn push_sites(alloc: Global, sites: &mut String, declared: u32) -> Result<(), AllocError> {
     for number in 0..declared {
         let at = number.saturating_mul(26).saturating_add(22);
         sites.push_str(format!(in alloc; ".site {at}\n")?.as_str())?;
     }
-    let text = inserted(alloc, part, code.as_str())?;
-    inserted(alloc, text.as_str(), sites.as_str())
+    Ok(())
 }
 
-// The text with more lines behind the one that is the first of these.
-fn inserted(alloc: Global, text: &str, lines: &str) -> Result<String, AllocError> {
+fn push_inserted(new: &mut String, text: &str, lines: &str) -> Result<(), AllocError> {
     let first = lines.split('\n').next();
-    let mut new = String::new(alloc);
     for line in text.split('\n') {
         let more = if Some(line) == first {
             lines.trim_end()
         } else {
             line
         };
-        push_line(&mut new, more)?;
+        push_line(new, more)?;
     }
+    Ok(())
+}
+
+// The text with more lines behind the one that is the first of these.
+fn inserted(alloc: Global, text: &str, lines: &str) -> Result<String, AllocError> {
+    let mut new = String::new(alloc);
+    push_inserted(&mut new, text, lines)?;
     Ok(new)
+}
+
+fn calls_inserted(alloc: Global, part: &str, calls: u32) -> Result<String, AllocError> {
+    let mut code = String::from_str(alloc, "#calls\n")?;
+    push_calls(alloc, &mut code, calls)?;
+    inserted(alloc, part, code.as_str())
+}
+
+fn sites_inserted(alloc: Global, part: &str, declared: u32) -> Result<String, AllocError> {
+    let mut sites = String::from_str(alloc, "#sites\n")?;
+    push_sites(alloc, &mut sites, declared)?;
+    inserted(alloc, part, sites.as_str())
+}
+
+// The text of a trusted part with calls, of which so many are declared as sites.
+fn with_calls(alloc: Global, part: &str, calls: u32, declared: u32) -> Result<String, AllocError> {
+    let text = calls_inserted(alloc, part, calls)?;
+    sites_inserted(alloc, text.as_str(), declared)
 }
 
 // The changes, how many calls of one are declared as sites, whether the part is trusted, and what it
@@ -144,6 +167,12 @@ static FLOW_CASES: [(&str, u32, bool, &str); 5] = [
     ),
 ];
 
+// `T` with one call, which is declared so often, and then these changes.
+fn changed_with_call(alloc: Global, changes: &str, declared: u32) -> Result<String, AllocError> {
+    let text = with_calls(alloc, T, 1, declared)?;
+    numbered(alloc, text.as_str(), "0 ", changes)
+}
+
 fn flow_told(
     rt: &impl Abort,
     alloc: Global,
@@ -151,8 +180,7 @@ fn flow_told(
     declared: u32,
     trusted: bool,
 ) -> Result<String, AsmFault> {
-    let text = with_calls(alloc, T, 1, declared)?;
-    let text = numbered(alloc, text.as_str(), "0 ", changes)?;
+    let text = changed_with_call(alloc, changes, declared)?;
     judgement(rt, alloc, text.as_str(), trusted)
 }
 
@@ -197,18 +225,26 @@ fn start_is(rt: &impl Abort, start: &Start) {
     assert_eq!(rt; (first.part, first.code.end, first.closure), (1, 4144, 10));
 }
 
-fn push_both(rt: &impl Abort, alloc: Global, parts: &mut Vec<Part>) -> Result<(), AsmFault> {
-    push_part(rt, alloc, parts, ADV, false)?;
+fn push_t(rt: &impl Abort, alloc: Global, parts: &mut Vec<Part>) -> Result<(), AsmFault> {
     let text = with_calls(alloc, T, 1, 1)?;
     push_part(rt, alloc, parts, text.as_str(), true)
+}
+
+fn push_both(rt: &impl Abort, alloc: Global, parts: &mut Vec<Part>) -> Result<(), AsmFault> {
+    push_part(rt, alloc, parts, ADV, false)?;
+    push_t(rt, alloc, parts)
+}
+
+fn starts(rt: &impl Abort, alloc: Global, parts: &[Part]) {
+    assert!(rt; parts.last().is_some_and(|part| part.trusted()));
+    start_is(rt, &linked(rt, alloc, parts));
 }
 
 #[test]
 fn a_trusted_part_starts(rt: HostRuntime) -> Result<(), Fail> {
     let mut parts = Vec::new(rt.alloc());
     push_both(&rt, rt.alloc(), &mut parts)?;
-    assert!(&rt; parts.last().is_some_and(|part| part.trusted()));
-    start_is(&rt, &linked(&rt, rt.alloc(), &parts));
+    starts(&rt, rt.alloc(), &parts);
     Ok(())
 }
 
@@ -217,6 +253,15 @@ fn a_trusted_part_starts(rt: HostRuntime) -> Result<(), Fail> {
 const MORE: &str =
     "0 .name more, 0 .closure 10000, 0 .code 200000, 0 .data 190000, 0 #.import, 0 .export go 2 shared";
 
+// `T` with changes, and so many seals for sites.
+fn with_seals(alloc: Global, changes: &str, first: u32, seals: u32) -> Result<String, AllocError> {
+    let last = first.saturating_add(seals).saturating_sub(1);
+    let changes = format!(in alloc;
+        "{changes}, 0 .seals {first} {seals}, 0 right: .seal {first} {last} {first}"
+    )?;
+    numbered(alloc, T, "0 ", changes.as_str())
+}
+
 // A trusted part with so many sites and seals for them.
 fn with_sites(
     alloc: Global,
@@ -224,12 +269,20 @@ fn with_sites(
     first_seal: u32,
     sites: u32,
 ) -> Result<String, AllocError> {
-    let last = first_seal.saturating_add(sites).saturating_sub(1);
-    let changes = format!(in alloc;
-        "{changes}, 0 .seals {first_seal} {sites}, 0 right: .seal {first_seal} {last} {first_seal}"
-    )?;
-    let text = numbered(alloc, T, "0 ", changes.as_str())?;
+    let text = with_seals(alloc, changes, first_seal, sites)?;
     with_calls(alloc, text.as_str(), sites, sites)
+}
+
+fn push_with_sites(
+    rt: &impl Abort,
+    alloc: Global,
+    parts: &mut Vec<Part>,
+    changes: &str,
+    first_seal: u32,
+    sites: u32,
+) -> Result<(), AsmFault> {
+    let text = with_sites(alloc, changes, first_seal, sites)?;
+    push_part(rt, alloc, parts, text.as_str(), true)
 }
 
 // What is changed in `T` and in `MORE`, how many sites they have, and what is told.
@@ -248,8 +301,7 @@ fn push_one(
     sites: u32,
 ) -> Result<(), AsmFault> {
     let changes = format!(in alloc; "0 .code 100000, 0 {import}")?;
-    let text = with_sites(alloc, changes.as_str(), 11, sites)?;
-    push_part(rt, alloc, parts, text.as_str(), true)
+    push_with_sites(rt, alloc, parts, changes.as_str(), 11, sites)
 }
 
 fn push_more(
@@ -260,17 +312,37 @@ fn push_more(
     sites: u32,
 ) -> Result<(), AsmFault> {
     let changes = format!(in alloc; "{MORE}, {export}")?;
-    let text = with_sites(alloc, changes.as_str(), 10_001, sites)?;
-    push_part(rt, alloc, parts, text.as_str(), true)
+    push_with_sites(rt, alloc, parts, changes.as_str(), 10_001, sites)
+}
+
+// The changes and the number of sites of `T` and of `MORE`.
+fn push_one_and_more(
+    rt: &impl Abort,
+    alloc: Global,
+    parts: &mut Vec<Part>,
+    one: (&str, u32),
+    more: (&str, u32),
+) -> Result<(), AsmFault> {
+    push_one(rt, alloc, parts, one.0, one.1)?;
+    push_more(rt, alloc, parts, more.0, more.1)
+}
+
+fn sites_told(
+    rt: &impl Abort,
+    alloc: Global,
+    one: (&str, u32),
+    more: (&str, u32),
+) -> Result<String, AsmFault> {
+    let mut parts = Vec::new(alloc);
+    push_one_and_more(rt, alloc, &mut parts, one, more)?;
+    let told = told(rt, alloc, &parts, 64)?;
+    Ok(told)
 }
 
 #[test]
 fn private_exports_and_many_sites(rt: HostRuntime) -> Result<(), Fail> {
     for (import, export, first, second, wanted) in &SITE_CASES {
-        let mut parts = Vec::new(rt.alloc());
-        push_one(&rt, rt.alloc(), &mut parts, import, *first)?;
-        push_more(&rt, rt.alloc(), &mut parts, export, *second)?;
-        let told = told(&rt, rt.alloc(), &parts, 64)?;
+        let told = sites_told(&rt, rt.alloc(), (import, *first), (export, *second))?;
         assert_eq!(&rt; told.as_str(), *wanted);
     }
     Ok(())

@@ -56,12 +56,16 @@ fn has_spans(machine: &LcmState, given: &[Span; 2]) -> bool {
     }
 }
 
+fn memory_is(rt: &impl Abort, machine: &LcmState, spans: &[Span; 2], cells: &[(u32, bool)]) {
+    has_cells(rt, machine, cells);
+    assert!(rt; has_spans(machine, spans));
+}
+
 #[test]
 fn cells_stand_where_the_spans_are(rt: HostRuntime) -> Result<(), Fail> {
     for (spans, cells) in MEMORIES {
         let machine = LcmState::make(rt.alloc(), &spans)?;
-        has_cells(&rt, &machine, &cells);
-        assert!(rt; has_spans(&machine, &spans));
+        memory_is(&rt, &machine, &spans, &cells);
     }
     Ok(())
 }
