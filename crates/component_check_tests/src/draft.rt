@@ -22,9 +22,9 @@ pub(crate) struct Draft {
     pub(crate) seals: Area,
     pub(crate) linear: Area,
     pub(crate) code_base: u32,
-    pub(crate) code: &'static [Item],
+    pub(crate) code: [Item; 4],
     pub(crate) data_base: u32,
-    pub(crate) data: &'static [Item],
+    pub(crate) data: [Item; 6],
     pub(crate) slots: &'static [u32],
     pub(crate) exports: &'static [u32],
     pub(crate) sites: &'static [u32],
@@ -121,8 +121,8 @@ fn push_draft(bytes: &mut Vec<u8>, draft: &Draft) -> Result<(), AllocError> {
     bytes.extend_from_slice(&draft.closure.to_le_bytes())?;
     push_area(bytes, draft.seals)?;
     push_area(bytes, draft.linear)?;
-    push_items(bytes, draft.code_base, draft.code)?;
-    push_items(bytes, draft.data_base, draft.data)?;
+    push_items(bytes, draft.code_base, &draft.code)?;
+    push_items(bytes, draft.data_base, &draft.data)?;
     push_slots(bytes, draft.slots)?;
     push_exports(bytes, draft.exports)?;
     push_sites(bytes, draft.sites)?;
@@ -151,15 +151,17 @@ pub(crate) fn component_of(
 /// What is other than in a draft.
 #[derive(Clone, Copy)]
 pub(crate) enum Change {
+    /// Nothing.
+    Same,
     Closure(u32),
     /// The base and the count.
     OwnSeals(u32, u32),
     /// The base and the count.
     LinearArea(u32, u32),
     CodeBase(u32),
-    Code(&'static [Item]),
+    Code(Item, Item, Item, Item),
     DataBase(u32),
-    Data(&'static [Item]),
+    Data(Item, Item, Item, Item, Item, Item),
     Slots(&'static [u32]),
     Exports(&'static [u32]),
     Sites(&'static [u32]),
@@ -170,13 +172,14 @@ pub(crate) enum Change {
 impl Draft {
     pub(crate) fn make(&mut self, change: Change) {
         match change {
+            Change::Same => {}
             Change::Closure(seal) => self.closure = seal,
             Change::OwnSeals(base, count) => self.seals = Area { base, count },
             Change::LinearArea(base, count) => self.linear = Area { base, count },
             Change::CodeBase(base) => self.code_base = base,
-            Change::Code(items) => self.code = items,
+            Change::Code(a, b, c, d) => self.code = [a, b, c, d],
             Change::DataBase(base) => self.data_base = base,
-            Change::Data(items) => self.data = items,
+            Change::Data(a, b, c, d, e, f) => self.data = [a, b, c, d, e, f],
             Change::Slots(slots) => self.slots = slots,
             Change::Exports(offsets) => self.exports = offsets,
             Change::Sites(offsets) => self.sites = offsets,

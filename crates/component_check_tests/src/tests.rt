@@ -53,11 +53,11 @@ fn broken(
     alloc: Global,
     base: Draft,
     trusted: bool,
-    changes: &[Change],
+    changes: [Change; 3],
 ) -> Result<Option<(Group, u8, u32)>, FileFault> {
     let mut draft = base;
     for change in changes {
-        draft.make(*change);
+        draft.make(change);
     }
     Ok(judged(component_of(rt, alloc, &draft)?, trusted))
 }
@@ -69,8 +69,8 @@ fn break_first(
     trusted: bool,
     cases: &[Case],
 ) -> Result<(), FileFault> {
-    for (number, (changes, wanted)) in cases.iter().enumerate() {
-        let told = broken(rt, alloc, base, trusted, changes)?;
+    for (number, (first, second, third, wanted)) in cases.iter().enumerate() {
+        let told = broken(rt, alloc, base, trusted, [*first, *second, *third])?;
         let wanted = wanted.map(|(rule, place)| (Group::C, rule, place));
         assert_eq!(rt; told, wanted, "case {number}");
     }

@@ -1,6 +1,8 @@
 //! The same of trusted parts.
 use crate::cases::Case;
-use crate::draft::Change::{Code, Data, DataBase, FailAt, LinearArea, LiteralAt, OwnSeals, Sites};
+use crate::draft::Change::{
+    Code, Data, DataBase, FailAt, LinearArea, LiteralAt, OwnSeals, Same, Sites,
+};
 use crate::draft::Draft;
 use crate::draft::Item::{Cap, Int, Seals};
 use cap_words::Lin::Normal;
@@ -14,9 +16,9 @@ pub(crate) const TRUSTED: Draft = Draft {
     seals: Area { base: 11, count: 1 },
     linear: Area { base: 0, count: 0 },
     code_base: 4096,
-    code: &[Int(0), Seals(11, 11, 11), Int(7), Int(0)],
+    code: [Int(0), Seals(11, 11, 11), Int(7), Int(0)],
     data_base: 8192,
-    data: &[Int(0), Int(0), Int(3), Int(0), Int(0), Int(0)],
+    data: [Int(0), Int(0), Int(3), Int(0), Int(0), Int(0)],
     slots: &[0],
     exports: &[2],
     sites: &[2],
@@ -26,157 +28,164 @@ pub(crate) const TRUSTED: Draft = Draft {
 
 /// C10 to C12, of `TRUSTED` as a trusted part.
 pub(crate) static TRUSTED_CASES: [Case; 32] = [
-    (&[], None),
+    (Same, Same, Same, None),
     (
-        &[
-            OwnSeals(11, 2),
-            Code(&[Int(0), Seals(11, 12, 11), Int(7), Int(0)]),
-        ],
+        OwnSeals(11, 2),
+        Code(Int(0), Seals(11, 12, 11), Int(7), Int(0)),
+        Same,
         None,
     ),
-    (&[DataBase(4100), FailAt(None)], Some((2, 0))),
+    (DataBase(4100), FailAt(None), Same, Some((2, 0))),
     (
-        &[Code(&[
+        Code(
             Int(0),
             Seals(11, 12, 11),
             Cap(R, Normal, 4096, 4096),
             Int(0),
-        ])],
+        ),
+        Same,
+        Same,
         Some((9, 1)),
     ),
     (
-        &[Code(&[
+        Code(
             Int(0),
             Seals(11, 11, 11),
             Cap(Rx, Normal, 4096, 4098),
             Int(0),
-        ])],
+        ),
+        Same,
+        Same,
         Some((10, 2)),
     ),
     (
-        &[Code(&[Int(0), Seals(11, 11, 11), Seals(11, 11, 11), Int(0)])],
+        Code(Int(0), Seals(11, 11, 11), Seals(11, 11, 11), Int(0)),
+        Same,
+        Same,
         Some((10, 2)),
     ),
     (
-        &[Code(&[
+        Code(
             Cap(R, Normal, 4096, 4096),
             Seals(11, 11, 11),
             Seals(11, 11, 11),
             Int(0),
-        ])],
+        ),
+        Same,
+        Same,
         Some((10, 0)),
     ),
-    (&[LiteralAt(None)], Some((10, 1))),
-    (&[LiteralAt(Some(2))], Some((10, 1))),
+    (LiteralAt(None), Same, Same, Some((10, 1))),
+    (LiteralAt(Some(2)), Same, Same, Some((10, 1))),
     (
-        &[Data(&[
+        Data(
             Int(0),
             Int(0),
             Cap(Rw, Normal, 8192, 8194),
             Int(0),
             Int(0),
             Int(0),
-        ])],
+        ),
+        Same,
+        Same,
         Some((11, 6)),
     ),
     (
-        &[Data(&[
+        Data(
             Int(0),
             Int(0),
             Int(0),
             Seals(11, 11, 11),
             Seals(11, 11, 11),
             Int(0),
-        ])],
+        ),
+        Same,
+        Same,
         Some((11, 7)),
     ),
     (
-        &[
-            Data(&[
-                Int(0),
-                Int(0),
-                Cap(R, Normal, 8192, 8192),
-                Int(0),
-                Int(0),
-                Int(0),
-            ]),
-            FailAt(None),
-        ],
+        Data(
+            Int(0),
+            Int(0),
+            Cap(R, Normal, 8192, 8192),
+            Int(0),
+            Int(0),
+            Int(0),
+        ),
+        FailAt(None),
+        Same,
         Some((11, 6)),
     ),
-    (&[LinearArea(1000, 1)], Some((12, 0))),
-    (&[LinearArea(1000, 1), FailAt(None)], Some((12, 0))),
-    (&[FailAt(None)], Some((12, 1))),
-    (&[FailAt(Some(1))], Some((12, 1))),
-    (&[FailAt(Some(2))], Some((12, 1))),
-    (&[FailAt(Some(4))], Some((12, 1))),
-    (&[FailAt(Some(65_535))], Some((12, 1))),
-    (&[FailAt(None), Sites(&[1, 2])], Some((12, 1))),
-    (&[Sites(&[0, 2])], Some((12, 2))),
+    (LinearArea(1000, 1), Same, Same, Some((12, 0))),
+    (LinearArea(1000, 1), FailAt(None), Same, Some((12, 0))),
+    (FailAt(None), Same, Same, Some((12, 1))),
+    (FailAt(Some(1)), Same, Same, Some((12, 1))),
+    (FailAt(Some(2)), Same, Same, Some((12, 1))),
+    (FailAt(Some(4)), Same, Same, Some((12, 1))),
+    (FailAt(Some(65_535)), Same, Same, Some((12, 1))),
+    (FailAt(None), Sites(&[1, 2]), Same, Some((12, 1))),
+    (Sites(&[0, 2]), Same, Same, Some((12, 2))),
     (
-        &[Code(&[Int(0), Int(1), Int(7), Int(0)]), LiteralAt(None)],
+        Code(Int(0), Int(1), Int(7), Int(0)),
+        LiteralAt(None),
+        Same,
         Some((12, 3)),
     ),
     (
-        &[Code(&[Int(0), Int(1), Int(7), Int(0)]), LiteralAt(Some(2))],
+        Code(Int(0), Int(1), Int(7), Int(0)),
+        LiteralAt(Some(2)),
+        Same,
         Some((12, 3)),
     ),
     (
-        &[Code(&[Int(0), Int(1), Int(7), Int(0)]), LiteralAt(Some(4))],
+        Code(Int(0), Int(1), Int(7), Int(0)),
+        LiteralAt(Some(4)),
+        Same,
         Some((12, 3)),
     ),
     (
-        &[
-            Code(&[Int(0), Int(1), Int(7), Int(0)]),
-            LiteralAt(Some(65_535)),
-        ],
+        Code(Int(0), Int(1), Int(7), Int(0)),
+        LiteralAt(Some(65_535)),
+        Same,
         Some((12, 3)),
     ),
     (
-        &[Code(&[Int(0), Seals(11, 11, 12), Int(7), Int(0)])],
+        Code(Int(0), Seals(11, 11, 12), Int(7), Int(0)),
+        Same,
+        Same,
         Some((12, 3)),
     ),
-    (&[OwnSeals(11, 2)], Some((12, 3))),
+    (OwnSeals(11, 2), Same, Same, Some((12, 3))),
     (
-        &[
-            OwnSeals(11, 2),
-            Code(&[Int(0), Seals(12, 12, 11), Int(7), Int(0)]),
-        ],
+        OwnSeals(11, 2),
+        Code(Int(0), Seals(12, 12, 11), Int(7), Int(0)),
+        Same,
         Some((12, 3)),
     ),
-    (&[Sites(&[])], Some((12, 4))),
+    (Sites(&[]), Same, Same, Some((12, 4))),
     (
-        &[
-            OwnSeals(0, 0),
-            Code(&[Int(0), Int(1), Int(7), Int(0)]),
-            LiteralAt(None),
-        ],
+        OwnSeals(0, 0),
+        Code(Int(0), Int(1), Int(7), Int(0)),
+        LiteralAt(None),
         Some((12, 2)),
     ),
     (
-        &[
-            Sites(&[]),
-            Code(&[Int(0), Int(1), Int(7), Int(0)]),
-            LiteralAt(None),
-        ],
+        Sites(&[]),
+        Code(Int(0), Int(1), Int(7), Int(0)),
+        LiteralAt(None),
         None,
     ),
     (
-        &[
-            Sites(&[]),
-            Code(&[Int(0), Int(1), Int(7), Int(0)]),
-            LiteralAt(Some(65_535)),
-        ],
+        Sites(&[]),
+        Code(Int(0), Int(1), Int(7), Int(0)),
+        LiteralAt(Some(65_535)),
         Some((12, 4)),
     ),
 ];
 
 /// Of `TRUSTED`, as a part that isn't trusted: what is declared for a trusted one is passed over.
 pub(crate) static PASSED_OVER: [Case; 3] = [
-    (&[], None),
-    (&[FailAt(None), LiteralAt(None), Sites(&[0, 1, 2])], None),
-    (
-        &[FailAt(Some(65_535)), LiteralAt(Some(2)), Sites(&[])],
-        None,
-    ),
+    (Same, Same, Same, None),
+    (FailAt(None), LiteralAt(None), Sites(&[0, 1, 2]), None),
+    (FailAt(Some(65_535)), LiteralAt(Some(2)), Sites(&[]), None),
 ];
