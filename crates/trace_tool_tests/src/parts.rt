@@ -102,23 +102,28 @@ fn site(alloc: Global, at: &str, number: &str, back: &str) -> Result<String, All
     )
 }
 
+// Appends a line, or the words of the sequence that it names.
+fn push_spelled(alloc: Global, text: &mut String, line: &str) -> Result<(), AllocError> {
+    let mut fields = line.split_whitespace();
+    let first = fields.next().unwrap_or("");
+    let at = fields.next().unwrap_or("");
+    if first == "entry" {
+        text.push_str(entry(alloc, at)?.as_str())
+    } else if first == "site" {
+        let number = fields.next().unwrap_or("");
+        let back = fields.next().unwrap_or("");
+        text.push_str(site(alloc, at, number, back)?.as_str())
+    } else {
+        text.push_str(line)?;
+        text.push_str("\n")
+    }
+}
+
 // A text with the words of its sequences.
 fn spelled(alloc: Global, template: &str) -> Result<String, AllocError> {
     let mut text = String::new(alloc);
     for line in template.lines() {
-        let mut fields = line.split_whitespace();
-        let first = fields.next().unwrap_or("");
-        let at = fields.next().unwrap_or("");
-        if first == "entry" {
-            text.push_str(entry(alloc, at)?.as_str())?;
-        } else if first == "site" {
-            let number = fields.next().unwrap_or("");
-            let back = fields.next().unwrap_or("");
-            text.push_str(site(alloc, at, number, back)?.as_str())?;
-        } else {
-            text.push_str(line)?;
-            text.push_str("\n")?;
-        }
+        push_spelled(alloc, &mut text, line)?;
     }
     Ok(text)
 }

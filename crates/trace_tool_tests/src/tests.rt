@@ -83,7 +83,7 @@ b halted 5 steps 31
 ";
 
 // The pieces of the first case, each of them a write.
-const PIECES: &[&str] = &[
+static PIECES: [&str; 7] = [
     "call out t 0 65599 65599 0 0 0 0 :",
     " cap(rw,nor,8192,8193,8193)",
     "\n",
@@ -163,9 +163,7 @@ fn trace(
     traced(rt, alloc, &start, steps, out)
 }
 
-// The lines of a case that have this mark, or are of both runs.
-pub(crate) fn expected(alloc: Global, case: &str, mark: &str) -> Result<String, AllocError> {
-    let mut text = String::new(alloc);
+fn push_expected(text: &mut String, case: &str, mark: &str) -> Result<(), AllocError> {
     for line in case.lines() {
         let own = line.strip_prefix("b ").or(line.strip_prefix(mark));
         if let Some(rest) = own {
@@ -173,6 +171,13 @@ pub(crate) fn expected(alloc: Global, case: &str, mark: &str) -> Result<String, 
             text.push_str("\n")?;
         }
     }
+    Ok(())
+}
+
+// The lines of a case that have this mark, or are of both runs.
+pub(crate) fn expected(alloc: Global, case: &str, mark: &str) -> Result<String, AllocError> {
+    let mut text = String::new(alloc);
+    push_expected(&mut text, case, mark)?;
     Ok(text)
 }
 
@@ -187,6 +192,11 @@ pub(crate) fn end_of(text: &str) -> RunEnd {
     }
 }
 
+// Whether what was written and the end are these.
+fn are_lines(wanted: &str, end: RunEnd, out: &MemSink) -> bool {
+    out.bytes() == wanted.as_bytes() && end == end_of(wanted)
+}
+
 /// The text and the end are those of the case's lines with this mark.
 pub(crate) fn as_told(
     rt: &impl Abort,
@@ -197,8 +207,10 @@ pub(crate) fn as_told(
     out: &MemSink,
 ) -> Result<(), AllocError> {
     let wanted = expected(alloc, case, mark)?;
-    assert!(rt; out.bytes() == wanted.as_bytes(), "{mark}{case}");
-    assert_eq!(rt; end, end_of(wanted.as_str()), "{mark}{case}");
+    assert!(rt;
+        are_lines(wanted.as_str(), end, out),
+        "{mark}{end:?} {case}"
+    );
     Ok(())
 }
 
@@ -238,41 +250,68 @@ fn events_and_ends_of_runs_and_traces(rt: HostRuntime) -> Result<(), Fail> {
     Ok(())
 }
 
-fn run_stops(rt: &impl Abort, alloc: Global, number: u32, before: &[u8]) -> Result<(), AllocError> {
-    let mut out = MemSink::new(alloc)?;
-    out.fail_at(number);
-    let end = run(rt, alloc, "t:caller u:adv", 1000, &mut out)?;
-    assert_eq!(rt; end, RunEnd::WriteFault, "run, write {number}");
-    assert!(rt;
-        out.bytes() == before && out.faults() == 1,
-        "run, write {number}"
-    );
-    Ok(())
+// A run that stops at a write that fails, with what was written before.
+fn run_stops(
+    rt: &impl Abort,
+    alloc: Global,
+    before: &str,
+    out: &mut MemSink,
+) -> Result<bool, AllocError> {
+    let end = run(rt, alloc, "t:caller u:adv", 1000, out)?;
+    Ok(end == RunEnd::WriteFault && out.bytes() == before.as_bytes() && out.faults() == 1)
 }
 
 fn trace_stops(
     rt: &impl Abort,
     alloc: Global,
+    before: &str,
+    out: &mut MemSink,
+) -> Result<bool, AllocError> {
+    let end = trace(rt, alloc, "t:caller u:adv", 1000, out)?;
+    Ok(end == RunEnd::WriteFault && out.bytes() == before.as_bytes())
+}
+
+fn run_stops_at(
+    rt: &impl Abort,
+    alloc: Global,
     number: u32,
-    before: &[u8],
-) -> Result<(), AllocError> {
+    before: &str,
+) -> Result<bool, AllocError> {
     let mut out = MemSink::new(alloc)?;
     out.fail_at(number);
-    let end = trace(rt, alloc, "t:caller u:adv", 1000, &mut out)?;
-    assert_eq!(rt; end, RunEnd::WriteFault, "trace, write {number}");
-    assert!(rt; out.bytes() == before, "trace, write {number}");
+    run_stops(rt, alloc, before, &mut out)
+}
+
+fn trace_stops_at(
+    rt: &impl Abort,
+    alloc: Global,
+    number: u32,
+    before: &str,
+) -> Result<bool, AllocError> {
+    let mut out = MemSink::new(alloc)?;
+    out.fail_at(number);
+    trace_stops(rt, alloc, before, &mut out)
+}
+
+fn stop_at_each_write(
+    rt: &impl Abort,
+    alloc: Global,
+    before: &mut String,
+) -> Result<(), AllocError> {
+    let mut number = 0_u32;
+    for piece in &PIECES {
+        number = number.saturating_add(1);
+        let run = run_stops_at(rt, alloc, number, before.as_str())?;
+        let trace = trace_stops_at(rt, alloc, number, before.as_str())?;
+        assert_eq!(rt; (run, trace), (true, true), "write {number}");
+        before.push_str(*piece)?;
+    }
     Ok(())
 }
 
 #[test]
 fn a_run_stops_at_each_write_that_fails(rt: HostRuntime) -> Result<(), Fail> {
     let mut before = String::new(rt.alloc());
-    let mut number = 0_u32;
-    for piece in PIECES {
-        number = number.saturating_add(1);
-        run_stops(&rt, rt.alloc(), number, before.as_bytes())?;
-        trace_stops(&rt, rt.alloc(), number, before.as_bytes())?;
-        before.push_str(piece)?;
-    }
+    stop_at_each_write(&rt, rt.alloc(), &mut before)?;
     Ok(())
 }
