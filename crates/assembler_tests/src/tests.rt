@@ -235,12 +235,11 @@ t .site 1$.site 2$ !.site 2
 t .site 1$!.site x$.site 0
 t .row 1& any$!.row 0& any";
 
-// The text of a line of cases, and the place of its mark.
-fn text_of(alloc: Global, line: &[u8]) -> Result<(Vec<u8>, usize), AllocError> {
-    let mut text = Vec::new(alloc);
+// Appends the text of a line of cases, and answers the place of its mark.
+fn push_case(text: &mut Vec<u8>, line: &[u8]) -> Result<usize, AllocError> {
     let mut mark = 0;
     let Some((letter, rest)) = line.split_first() else {
-        return Ok((text, mark));
+        return Ok(mark);
     };
     text.extend_from_slice(head(*letter))?;
     for byte in rest {
@@ -251,7 +250,7 @@ fn text_of(alloc: Global, line: &[u8]) -> Result<(Vec<u8>, usize), AllocError> {
             byte => text.push(byte)?,
         }
     }
-    Ok((text, mark))
+    Ok(mark)
 }
 
 fn assembled(rt: &impl Abort, alloc: Global, text: &[u8]) -> Result<Component, AsmFault> {
@@ -274,6 +273,13 @@ fn is_told(rt: &impl Abort, alloc: Global, text: &[u8], number: u8, place: usize
     assert_eq!(rt; fault_of(rt, alloc, text), Some((number, place)));
 }
 
+fn line_is_told(rt: &impl Abort, alloc: Global, number: u8, line: &[u8]) -> Result<(), AllocError> {
+    let mut text = Vec::new(alloc);
+    let mark = push_case(&mut text, line)?;
+    is_told(rt, alloc, text.as_slice(), number, mark);
+    Ok(())
+}
+
 fn each_is_told(
     rt: &impl Abort,
     alloc: Global,
@@ -281,8 +287,7 @@ fn each_is_told(
     faults: &[u8],
 ) -> Result<(), AllocError> {
     for line in faults.split(|byte| *byte == b'\n') {
-        let (text, mark) = text_of(alloc, line)?;
-        is_told(rt, alloc, text.as_slice(), number, mark);
+        line_is_told(rt, alloc, number, line)?;
     }
     Ok(())
 }
@@ -308,6 +313,20 @@ fn push_times(text: &mut Vec<u8>, times: u32, line: &[u8]) -> Result<(), AllocEr
     Ok(())
 }
 
+// Appends an item once more than so many times, and answers where the last one stands.
+fn push_counted(
+    text: &mut Vec<u8>,
+    letter: u8,
+    most: u32,
+    line: &[u8],
+) -> Result<usize, AllocError> {
+    text.extend_from_slice(head(letter))?;
+    push_times(text, most, line)?;
+    let place = text.len();
+    text.extend_from_slice(line)?;
+    Ok(place)
+}
+
 // An item that stands in a text of this head, at most so many times.
 fn is_counted(
     rt: &impl Abort,
@@ -316,10 +335,8 @@ fn is_counted(
     most: u32,
     line: &[u8],
 ) -> Result<(), AllocError> {
-    let mut text = Vec::from_slice(alloc, head(letter))?;
-    push_times(&mut text, most, line)?;
-    let place = text.len();
-    text.extend_from_slice(line)?;
+    let mut text = Vec::new(alloc);
+    let place = push_counted(&mut text, letter, most, line)?;
     is_told(rt, alloc, text.as_slice(), SECTION, place);
     Ok(())
 }
@@ -422,16 +439,20 @@ fn bytes_of(alloc: Global, component: Component) -> Result<Vec<u8>, AllocError> 
     encode_component(alloc, &component)
 }
 
-fn is_spelled(rt: &impl Abort, alloc: Global, text: &[u8], wanted: &[u8]) -> Result<(), AsmFault> {
+fn is_spelled(
+    rt: &impl Abort,
+    alloc: Global,
+    text: &[u8],
+    wanted: &[u8],
+) -> Result<bool, AsmFault> {
     let bytes = bytes_of(alloc, assembled(rt, alloc, text)?)?;
-    assert!(rt; bytes.as_slice() == wanted);
-    Ok(())
+    Ok(bytes.as_slice() == wanted)
 }
 
 #[test]
 fn texts_spell_files(rt: HostRuntime) -> Result<(), Fail> {
-    is_spelled(&rt, rt.alloc(), ONE_TEXT, ONE)?;
-    is_spelled(&rt, rt.alloc(), FULL_TEXT, FULL)?;
+    assert!(rt; is_spelled(&rt, rt.alloc(), ONE_TEXT, ONE)?);
+    assert!(rt; is_spelled(&rt, rt.alloc(), FULL_TEXT, FULL)?);
     Ok(())
 }
 
@@ -510,14 +531,19 @@ fn shows(rt: &impl Abort, word: &Word, as_instr: bool, wanted: &[u8]) {
     }
 }
 
-// The text whose code has these lines.
-fn with_code(alloc: Global, lines: &[u8]) -> Result<Vec<u8>, AllocError> {
-    let mut text = Vec::from_slice(alloc, CODE)?;
+fn push_code(text: &mut Vec<u8>, lines: &[u8]) -> Result<(), AllocError> {
+    text.extend_from_slice(CODE)?;
     for line in lines.split(|byte| *byte == b'\n') {
         text.extend_from_slice(parts(line).0)?;
         text.push(b'\n')?;
     }
-    text.extend_from_slice(b".data 0\nfront: .int 5\n.int 5\nback: .int 5\n")?;
+    text.extend_from_slice(b".data 0\nfront: .int 5\n.int 5\nback: .int 5\n")
+}
+
+// The text whose code has these lines.
+fn with_code(alloc: Global, lines: &[u8]) -> Result<Vec<u8>, AllocError> {
+    let mut text = Vec::new(alloc);
+    push_code(&mut text, lines)?;
     Ok(text)
 }
 
@@ -552,17 +578,24 @@ fn lines_spell_words(rt: HostRuntime) -> Result<(), Fail> {
     Ok(())
 }
 
+fn push_long_line(text: &mut Vec<u8>, len: u32) -> Result<(), AllocError> {
+    text.extend_from_slice(CODE)?;
+    text.extend_from_slice(b"halt")?;
+    push_times(text, len.saturating_sub(4), b" ")?;
+    text.extend_from_slice(b"\n.data 0\n.int 0")
+}
+
 // A text whose fifth line has so many bytes, at least 4.
 fn with_long_line(alloc: Global, len: u32) -> Result<Vec<u8>, AllocError> {
-    let mut text = Vec::from_slice(alloc, CODE)?;
-    text.extend_from_slice(b"halt")?;
-    push_times(&mut text, len.saturating_sub(4), b" ")?;
-    text.extend_from_slice(b"\n.data 0\n.int 0")?;
+    let mut text = Vec::new(alloc);
+    push_long_line(&mut text, len)?;
     Ok(text)
 }
 
 // How many words of code and of data, and the last site.
-fn counts(component: Component) -> (usize, usize, Option<u32>) {
+type Counts = (usize, usize, Option<u32>);
+
+fn counts(component: Component) -> Counts {
     let fields = component.fields();
     (
         fields.code.as_slice().len(),
@@ -571,31 +604,48 @@ fn counts(component: Component) -> (usize, usize, Option<u32>) {
     )
 }
 
-#[test]
-fn lines_of_512_bytes_and_513(rt: HostRuntime) -> Result<(), Fail> {
-    let text = with_long_line(rt.alloc(), 512)?;
-    let counts = counts(assembled(&rt, rt.alloc(), text.as_slice())?);
-    assert_eq!(rt; counts, (1, 1, None));
-    let text = with_long_line(rt.alloc(), 513)?;
-    // Told by the number of the line.
-    is_told(&rt, rt.alloc(), text.as_slice(), SCAN, 5);
+fn counts_of(rt: &impl Abort, alloc: Global, text: &[u8]) -> Result<Counts, AsmFault> {
+    let component = assembled(rt, alloc, text)?;
+    Ok(counts(component))
+}
+
+fn long_line_counts(rt: &impl Abort, alloc: Global) -> Result<Counts, AsmFault> {
+    let text = with_long_line(alloc, 512)?;
+    counts_of(rt, alloc, text.as_slice())
+}
+
+// Told by the number of the line.
+fn longer_line_is_told(rt: &impl Abort, alloc: Global) -> Result<(), AllocError> {
+    let text = with_long_line(alloc, 513)?;
+    is_told(rt, alloc, text.as_slice(), SCAN, 5);
     Ok(())
 }
 
-// 65,536 words of code and of data, with labels at the last ones.
-fn with_most_words(alloc: Global) -> Result<Vec<u8>, AllocError> {
-    let mut text = Vec::from_slice(alloc, CODE)?;
-    push_times(&mut text, 65_535, b"halt\n")?;
+#[test]
+fn lines_of_512_bytes_and_513(rt: HostRuntime) -> Result<(), Fail> {
+    assert_eq!(rt; long_line_counts(&rt, rt.alloc())?, (1, 1, None));
+    longer_line_is_told(&rt, rt.alloc())?;
+    Ok(())
+}
+
+fn push_most_words(text: &mut Vec<u8>) -> Result<(), AllocError> {
+    text.extend_from_slice(CODE)?;
+    push_times(text, 65_535, b"halt\n")?;
     text.extend_from_slice(b"x: halt\n.data 0\n")?;
-    push_times(&mut text, 65_535, b".int 0\n")?;
-    text.extend_from_slice(b"y: .int 0\n.import p e y\n.site x")?;
-    Ok(text)
+    push_times(text, 65_535, b".int 0\n")?;
+    text.extend_from_slice(b"y: .int 0\n.import p e y\n.site x")
+}
+
+// 65,536 words of code and of data, with labels at the last ones.
+fn most_words_counts(rt: &impl Abort, alloc: Global) -> Result<Counts, AsmFault> {
+    let mut text = Vec::new(alloc);
+    push_most_words(&mut text)?;
+    counts_of(rt, alloc, text.as_slice())
 }
 
 #[test]
 fn the_longest_sections(rt: HostRuntime) -> Result<(), Fail> {
-    let text = with_most_words(rt.alloc())?;
-    let counts = counts(assembled(&rt, rt.alloc(), text.as_slice())?);
+    let counts = most_words_counts(&rt, rt.alloc())?;
     assert_eq!(rt; counts, (65_536, 65_536, Some(65_535)));
     Ok(())
 }

@@ -165,27 +165,43 @@ fn scanned(rt: &impl Abort, alloc: Global, text: Text) -> Result<Vec<Token>, Sca
     scan(alloc, &bytes)
 }
 
+fn are_tokens(tokens: &[Token], wanted: &[(TokenKind, u32, u32)]) -> bool {
+    tokens.len() == wanted.len()
+        && tokens
+            .iter()
+            .zip(wanted)
+            .all(|(token, what)| (token.kind, token.at, token.len) == *what)
+}
+
+fn has_tokens(
+    rt: &impl Abort,
+    alloc: Global,
+    text: Text,
+    wanted: Tokens,
+) -> Result<bool, ScanFault> {
+    let tokens = scanned(rt, alloc, text)?;
+    Ok(are_tokens(&tokens, wanted))
+}
+
 #[test]
 fn a_text_has_its_tokens(rt: HostRuntime) -> Result<(), Fail> {
     for (text, wanted) in TOKENS {
-        let tokens = scanned(&rt, rt.alloc(), text)?;
-        assert_eq!(&rt; tokens.len(), wanted.len(), "of {text:?}");
-        for (token, (kind, at, len)) in tokens.iter().zip(*wanted) {
-            assert_eq!(&rt; token.kind, *kind, "of {text:?}");
-            assert_eq!(&rt; token.at, *at, "of {text:?}");
-            assert_eq!(&rt; token.len, *len, "of {text:?}");
-        }
+        assert!(&rt; has_tokens(&rt, rt.alloc(), text, wanted)?, "{text:?}");
     }
     Ok(())
+}
+
+fn fault_of(rt: &impl Abort, alloc: Global, text: Text) -> Option<ScanFault> {
+    match scanned(rt, alloc, text) {
+        Ok(_) => None,
+        Err(fault) => Some(fault),
+    }
 }
 
 #[test]
 fn a_text_has_its_first_fault(rt: HostRuntime) -> Result<(), Fail> {
     for (text, wanted) in FAULTS {
-        match scanned(&rt, rt.alloc(), text) {
-            Ok(_) => assert!(&rt; false, "{text:?} has tokens"),
-            Err(fault) => assert_eq!(&rt; fault, *wanted, "of {text:?}"),
-        }
+        assert_eq!(&rt; fault_of(&rt, rt.alloc(), text), Some(*wanted), "{text:?}");
     }
     Ok(())
 }
