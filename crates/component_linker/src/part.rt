@@ -1,6 +1,7 @@
 //! A part: a component that keeps its rules, and whether it is trusted.
-ghost use Rattle.std.specs.Prelude.{◌≡◌};
-ghost use Rattle.component_linker.specs.Parts.{IsPart, TriesFlow, Accepts};
+ghost use Rattle.std.specs.Prelude.{◌≡◌, Ok};
+ghost use Rattle.std.specs.Result.{result_and};
+ghost use Rattle.component_linker.specs.Parts.{PartSeen, IsPart, TriesFlow, Accepts};
 ghost use Rattle.component_linker.specs.Accepted.{accepted};
 
 use component_check::{Broken, check};
@@ -38,6 +39,14 @@ fn check_trusted(c: &Component, trusted: bool) -> Result<(), Broken>
     check_flow(c)
 }
 
+// All rules that are asked of a component, C before K.
+fn check_part(c: &Component, trusted: bool) -> Result<(), Broken>
+    ensures { let p : PartSeen = record { component = c.now; trusted = trusted } in Accepts p (result_and result (Ok p)) }
+{
+    check(c, trusted)?;
+    check_trusted(c, trusted)
+}
+
 /// The part of a component that keeps its rules: C1 to C9, and of a trusted one C10 to C12 and then
 /// K1 to K10. Else the first rule that it breaks, in this order, and the first place at which it
 /// breaks it. It takes no memory. A component that is refused is dropped.
@@ -45,8 +54,7 @@ pub fn accept(c: Component, trusted: bool) -> Result<Part, Broken>
     ensures first { Accepts (record { component = c; trusted = trusted }) result }
     ensures is { result ≡ accepted (record { component = c; trusted = trusted }) }
 {
-    check(&c, trusted)?;
-    check_trusted(&c, trusted)?;
+    check_part(&c, trusted)?;
     Ok(Part {
         component: c,
         trusted,

@@ -1,4 +1,5 @@
 pub mod Follow
+pub mod Tasks
 pub mod Sinks
 pub mod Each
 pub mod FirstOf

@@ -1,5 +1,5 @@
 //! What is left to do once the files of a command came.
-ghost use Rattle.std.specs.Prelude.{◌≡◌, ◌≤◌, IfOk, length};
+ghost use Rattle.std.specs.Prelude.{◌≡◌, ◌≤◌, IfOk, IfErr, length};
 ghost use Rattle.std.specs.List.{list_all};
 ghost use Rattle.component_file.specs.Spelling.{spelling};
 ghost use Rattle.disassembler.specs.Disassembled.{disassembled};
@@ -8,17 +8,18 @@ ghost use Rattle.command_words.specs.declared.TheConstants.{MOST_PARTS};
 ghost use Rattle.lcm_cli.specs.declared.refusal.Refusal.TheVariants.{Rule};
 ghost use Rattle.lcm_cli.specs.Plans.{Meets, unless};
 ghost use Rattle.lcm_cli.specs.Parts.{linked};
+ghost use Rattle.lcm_cli.specs.Commands.{Put, Show, OfComponent};
 ghost use Rattle.lcm_cli.specs.Commands.{is_built_form, is_built_linked, is_built};
 ghost use Rattle.lcm_cli.specs.Commands.{run_plan, trace_plan, assemble_plan, disassemble_plan, check_plan};
 ghost use Rattle.lcm_cli.specs.Commands.{link_plan, built_plan, plan_of};
-ghost use Rattle.lcm_cli.specs.Jobs.{without, FollowsTask};
+ghost use Rattle.lcm_cli.specs.Jobs.{without, Does, FollowsTask};
 
 use crate::part::{component, part, parts};
 use crate::refusal::{Refusal, Stop};
 use crate::start::{start, started};
 use cap_words::Items;
 use command_words::{Command, Ending, FileName, Linked, PartWord, Steps};
-use component_file::encode_component;
+use component_file::{Component, encode_component};
 use component_linker::{Part, Start};
 use disassembler::disassemble;
 use image_loader::write_image;
@@ -101,6 +102,15 @@ fn link<'a, F: Files>(
     Ok(Job::Put(out, bytes))
 }
 
+// The file of a component, which is to be put.
+fn filed<'a>(alloc: Global, component: &Component, out: FileName<'a>) -> Result<Job<'a>, Stop>
+    ensures does { IfOk result (Does (Put out.entry (OfComponent component.now))) }
+    ensures stops { IfErr result (λ stop. stop ≡ Stop.NoMemory) }
+{
+    let bytes = encode_component(alloc, component)?;
+    Ok(Job::Put(out, Items::of(bytes)))
+}
+
 // Reads the part whose component's file is to be put.
 #[tactic(auto, using(crate::proofs::Follow::follows_end), unfolding(crate::specs::Commands::assemble_plan))]
 fn assemble<'a, F: Files>(
@@ -112,8 +122,16 @@ fn assemble<'a, F: Files>(
     ensures { FollowsTask (assemble_plan word.now out.entry) (F.seen files.old) result (F.seen files.new) }
 {
     let component = component(alloc, files, 0, word)?;
-    let bytes = encode_component(alloc, &component)?;
-    Ok(Job::Put(out, Items::of(bytes)))
+    filed(alloc, &component, out)
+}
+
+// The text of a component, which is to be shown.
+fn shown<'a>(alloc: Global, component: &Component) -> Result<Job<'a>, Stop>
+    ensures does { IfOk result (Does (Show component.now)) }
+    ensures stops { IfErr result (λ stop. stop ≡ Stop.NoMemory) }
+{
+    let text = disassemble(alloc, component)?;
+    Ok(Job::Show(Items::of(text)))
 }
 
 // Reads the part that is to be shown.
@@ -122,8 +140,7 @@ fn show<'a, F: Files>(alloc: Global, files: &mut F, word: &PartWord<'a>) -> Resu
     ensures { FollowsTask (disassemble_plan word.now) (F.seen files.old) result (F.seen files.new) }
 {
     let component = component(alloc, files, 0, word)?;
-    let text = disassemble(alloc, &component)?;
-    Ok(Job::Show(Items::of(text)))
+    shown(alloc, &component)
 }
 
 // Reads the part that is to be checked.

@@ -1,13 +1,14 @@
 //! The overlay machine of a start.
-ghost use Rattle.std.specs.Prelude.{◌≡◌, ◌<◌, ◌^◌, IfOk, IfSome, IsSome, is_some, Some};
+ghost use Rattle.std.specs.Prelude.{◌≡◌, ◌≤◌, ◌<◌, ◌-◌, ◌^◌, ℕ, [], IfOk, IfSome, IsSome, is_some, Some};
 ghost use Rattle.cap_words.specs.Text.{word_text_of};
+ghost use Rattle.lcm_isa.specs.declared.Reg.{Reg as AnyReg};
 ghost use Rattle.lcm_machine.specs.Places.{reg};
 ghost use Rattle.lcm_machine.specs.Cells.{cell};
 ghost use Rattle.std.specs.Option.{option_copied};
 ghost use Rattle.overlay_machine.specs.State.{newest_size, newest_word, word_at};
 ghost use Rattle.overlay_machine.specs.Step.{weight_of};
 ghost use Rattle.overlay_machine.specs.Flat.{flat};
-ghost use Rattle.overlay_machine.specs.Seen.{next_overlay, answer_of, end_answer, IsOverlayOf};
+ghost use Rattle.overlay_machine.specs.Seen.{start_word, next_overlay, answer_of, end_answer, IsOverlayOf};
 ghost use Rattle.overlay_machine.specs.Keeping.{StepKeeps};
 ghost use Rattle.overlay_machine.specs.Starting.{Begins};
 
@@ -99,6 +100,25 @@ impl Model for Overlay {
     ghost invariant = { λ o. Holds o.layout o.machine o.weight };
 }
 
+// The machine of a start before its first step: with no frames, and room for as many words of them as
+// the stack has.
+fn machine_of(alloc: Global, start: &Start) -> Result<Machine, AllocError>
+    ensures regs { IfOk result (λ m. (r : AnyReg) → reg m.maps.regs r ≡ OWord.Plain (reg start.now.state.maps.regs r)) }
+    ensures cells { IfOk result (λ m. (a : ℕ) → cell m.maps.cells a ≡ start_word start.now.state.maps a) }
+    ensures spans { IfOk result (λ m. m.maps.spans ≡ start.now.state.maps.spans) }
+    ensures frames { IfOk result (λ m. m.frames.frames ≡ []) }
+    ensures room { IfOk result (λ m. start.now.stack.end - start.now.stack.base ≤ m.frames.cells) }
+    ensures calls { IfOk result (λ m. m.calls ≡ 0) }
+{
+    let frames = Region::reserve(alloc, stack_cells(start.stack()))?;
+    let maps = maps_of(alloc, start.state())?;
+    Ok(Machine {
+        maps,
+        frames,
+        calls: 0,
+    })
+}
+
 impl Overlay {
     /// The overlay machine of a start: its registers and memory, and no frames, with room for as many
     /// words of frames as the stack has. `AllocError` where the memory can't be had.
@@ -110,18 +130,13 @@ impl Overlay {
         ensures begins { IfOk result (Begins start.now) }
     {
         starts_begin();
+        let asked = State::zeros(alloc, &[])?;
+        let machine = machine_of(alloc, start)?;
         let layout = layout_of(alloc, start)?;
-        let maps = maps_of(alloc, start.state())?;
-        let frames = Region::reserve(alloc, stack_cells(layout.stack))?;
-        let machine = Machine {
-            maps,
-            frames,
-            calls: 0,
-        };
         Ok(Overlay {
             layout,
             machine,
-            asked: State::zeros(alloc, &[])?,
+            asked,
             weight: 0,
             end: None,
         })

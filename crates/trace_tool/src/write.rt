@@ -127,6 +127,14 @@ fn push_back(head: &mut Head, start: &Start, back: Back)
     }
 }
 
+// Writes a piece.
+fn write<S: Sink>(out: &mut S, piece: &[u8]) -> Result<(), Failed>
+    requires { 0 < length piece.now }
+    ensures { Writes (S.seen out.old) piece.now result (S.seen out.new) }
+{
+    out.write(piece)
+}
+
 // Writes a word's text as a piece, behind a blank.
 fn write_word<S: Sink>(out: &mut S, text: &[u8]) -> Result<(), Failed>
     requires { length text.now ≤ 128 }
@@ -164,13 +172,12 @@ fn write_cells<V: Shown, S: Sink>(
 }
 
 // Writes the words of cells, and the newline.
-#[tactic(auto, using(outside_io::proofs::Writing::fails_more, outside_io::proofs::Writing::writes_behind))]
 fn write_rest<V: Shown, S: Sink>(view: &V, from: u64, count: u64, out: &mut S) -> Result<(), Failed>
     requires { from + count ≤ 2 ^ 32 }
     ensures { Writes (S.seen out.old) (words_text (words_from (V.view view.now) from count) ++ codes "\n") result (S.seen out.new) }
 {
     write_cells(view, from, count, out)?;
-    out.write(b"\n")
+    write(out, b"\n")
 }
 
 // The head of the line of a call.
@@ -199,14 +206,6 @@ fn ret_head<V: Shown>(start: &Start, view: &V, call: Call) -> Head
     push_word(&mut head, view, Reg::A0);
     push(&mut head, b" :");
     head
-}
-
-// Writes a piece.
-fn write<S: Sink>(out: &mut S, piece: &[u8]) -> Result<(), Failed>
-    requires { 0 < length piece.now }
-    ensures { Writes (S.seen out.old) piece.now result (S.seen out.new) }
-{
-    out.write(piece)
 }
 
 // Writes the line of a call.
