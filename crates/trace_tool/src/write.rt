@@ -265,7 +265,7 @@ fn write_enter<V: Shown, S: Sink>(
     push(&mut line, b" ");
     push_back(&mut line, start, back);
     push(&mut line, b"\n");
-    out.write(line.as_slice())
+    write(out, line.as_slice())
 }
 
 // Writes the line of a leave.
