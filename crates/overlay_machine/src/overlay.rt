@@ -167,7 +167,6 @@ impl Overlay {
         requires { self.old.weight < 2 ^ 63 }
         ensures after { self.new ≡ next_overlay self.old }
         ensures answer { result ≡ answer_of self.old }
-        ensures ended { IfSome self.old.end (λ e. (result ≡ end_answer e) × (self.new ≡ self.old)) }
     {
         if let Some(end) = self.end {
             return end.answer();

@@ -198,13 +198,13 @@ ends_early init sink n steps start inward now next mid after step line result g 
     (rw (text_grows (layout init) init.state n) (adds_then sink now mid _ _ g.told (subst (λ x. Adds now (lines_text x) mid) (going_line init sink n start inward now g) w)))
     answers last f
 
--- the line of an instruction that went, where its write failed
-pub event_fails : (l : Layout) (w : Watched) (s : Run) (event : Option Event) (a c : SinkSeen) → s ≡ next_state w.run → answer s ≡ Went
-    → event ≡ event_after l (noted l w.run.maps) w.inward (view_of s.maps) → FailsToWrite a (lines_text (lines_for l (view_of s.maps) event)) c → FailsToWrite a (lines_text (line_next l w)) c
+-- the line of an instruction that went
+pub event_lines : (l : Layout) (w : Watched) (s : Run) (event : Option Event) → s ≡ next_state w.run → answer s ≡ Went
+    → event ≡ event_after l (noted l w.run.maps) w.inward (view_of s.maps) → lines_for l (view_of s.maps) event ≡ line_next l w
 unfolding line_next
-event_fails l w s event a c same went e f =
+event_lines l w s event same went e =
     let went_too : answer (next_state w.run) ≡ Went = ap answer (sym same) ∙ went in
     let events : event ≡ event_after l (noted l w.run.maps) w.inward (view_of (next_state w.run).maps) = e ∙ ap (λ (x : Run). event_after l (noted l w.run.maps) w.inward (view_of x.maps)) same in
     let lines : lines_for l (view_of s.maps) event ≡ lines_for l (view_of (next_state w.run).maps) (event_after l (noted l w.run.maps) w.inward (view_of (next_state w.run).maps)) =
     ap (λ (x : Run). lines_for l (view_of x.maps) event) same ∙ ap (lines_for l (view_of (next_state w.run).maps)) events in
-    rw went_too (subst (λ x. FailsToWrite a (lines_text x) c) lines f)
+    rw went_too lines
