@@ -43,7 +43,6 @@ pub(crate) enum Job<'a> {
 }
 
 // Makes the start of what is to run.
-#[tactic(auto, using(crate::proofs::Follow::follows_end), unfolding(crate::specs::Commands::run_plan))]
 fn run<'a, F: Files>(
     alloc: Global,
     files: &mut F,
@@ -57,7 +56,6 @@ fn run<'a, F: Files>(
 }
 
 // Makes the start whose overlay is to run, and the overlay.
-#[tactic(auto, using(crate::proofs::Follow::follows_end), unfolding(crate::specs::Commands::trace_plan))]
 fn trace<'a, F: Files>(
     alloc: Global,
     files: &mut F,
@@ -84,7 +82,6 @@ fn linked_bytes(alloc: Global, parts: &Items<Part>, size: u32) -> Result<Items<u
 }
 
 // Reads the parts whose image is to be put.
-#[tactic(auto, using(crate::proofs::Follow::follows_end), unfolding(crate::specs::Commands::link_plan))]
 fn link<'a, F: Files>(
     alloc: Global,
     files: &mut F,
@@ -112,7 +109,6 @@ fn filed<'a>(alloc: Global, component: &Component, out: FileName<'a>) -> Result<
 }
 
 // Reads the part whose component's file is to be put.
-#[tactic(auto, using(crate::proofs::Follow::follows_end), unfolding(crate::specs::Commands::assemble_plan))]
 fn assemble<'a, F: Files>(
     alloc: Global,
     files: &mut F,
@@ -135,7 +131,6 @@ fn shown<'a>(alloc: Global, component: &Component) -> Result<Job<'a>, Stop>
 }
 
 // Reads the part that is to be shown.
-#[tactic(auto, using(crate::proofs::Follow::follows_end), unfolding(crate::specs::Commands::disassemble_plan))]
 fn show<'a, F: Files>(alloc: Global, files: &mut F, word: &PartWord<'a>) -> Result<Job<'a>, Stop>
     ensures { FollowsTask (disassemble_plan word.now) (F.seen files.old) result (F.seen files.new) }
 {
@@ -144,7 +139,6 @@ fn show<'a, F: Files>(alloc: Global, files: &mut F, word: &PartWord<'a>) -> Resu
 }
 
 // Reads the part that is to be checked.
-#[tactic(auto, using(crate::proofs::Follow::follows_end), unfolding(crate::specs::Commands::check_plan))]
 fn check<'a, F: Files>(alloc: Global, files: &mut F, word: &PartWord<'a>) -> Result<Job<'a>, Stop>
     ensures { FollowsTask (check_plan word.now) (F.seen files.old) result (F.seen files.new) }
 {

@@ -32,7 +32,6 @@ pub(crate) fn started(alloc: Global, parts: &Items<Part>, size: u32) -> Result<S
 }
 
 // Reads the parts, and links them.
-#[tactic(auto, using(crate::proofs::Follow::follows_end), unfolding(crate::specs::Commands::linked_parts))]
 fn parts_start<F: Files>(
     alloc: Global,
     files: &mut F,
