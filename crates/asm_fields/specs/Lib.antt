@@ -1,4 +1,5 @@
 pub mod Fault
+pub mod FaultText
 pub mod Fields
 pub mod Names
 pub mod Directives

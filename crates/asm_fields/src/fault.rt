@@ -71,6 +71,11 @@ impl AsmFault {
 }
 
 impl fmt::Display for AsmFault {
+    ghost use Rattle.std.specs.Prelude.{Some};
+    ghost use Rattle.asm_fields.specs.FaultText.{asm_fault_text};
+
+    ghost output = { λ fault. Some (asm_fault_text fault) };
+
     fn fmt<W: fmt::Write>(&self, f: &mut fmt::Formatter<W>) -> fmt::Result {
         match self {
             AsmFault::Scan(fault) => write!(f, "{fault}"),

@@ -1,4 +1,5 @@
 pub mod Fault
+pub mod FaultText
 pub mod Limits
 pub mod Spelling
 pub mod Reading

@@ -61,6 +61,11 @@ impl FileFault {
 }
 
 impl fmt::Display for FileFault {
+    ghost use Rattle.std.specs.Prelude.{Some};
+    ghost use Rattle.component_file.specs.FaultText.{file_fault_text};
+
+    ghost output = { λ fault. Some (file_fault_text fault) };
+
     fn fmt<W: fmt::Write>(&self, f: &mut fmt::Formatter<W>) -> fmt::Result {
         match self {
             FileFault::Magic => write!(f, "the file does not begin with STKC"),

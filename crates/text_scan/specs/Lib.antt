@@ -1,4 +1,5 @@
 pub mod Bytes
 pub mod Fault
+pub mod FaultText
 pub mod Tokens
 pub mod Grammar

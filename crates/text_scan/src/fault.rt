@@ -48,6 +48,11 @@ impl ScanFault {
 }
 
 impl fmt::Display for ScanFault {
+    ghost use Rattle.std.specs.Prelude.{Some};
+    ghost use Rattle.text_scan.specs.FaultText.{scan_fault_text};
+
+    ghost output = { λ fault. Some (scan_fault_text fault) };
+
     fn fmt<W: fmt::Write>(&self, f: &mut fmt::Formatter<W>) -> fmt::Result {
         match self {
             ScanFault::BadByte(at) => write!(f, "no token begins at byte {at}"),

@@ -1,0 +1,20 @@
+-- How the faults of assembler text print.
+use Rattle.std.specs.Prelude.{ℕ, ◌++◌, List, codes, decimal}
+use Rattle.text_scan.specs.FaultText.{scan_fault_text}
+use Rattle.asm_fields.specs.declared.fault.AsmFault.{AsmFault}
+use Rattle.asm_fields.specs.declared.fault.AsmFault.TheVariants.{Scan, Unknown, Operand, LabelTwice}
+use Rattle.asm_fields.specs.declared.fault.AsmFault.TheVariants.{LabelMissing, Range, Section, NoMemory}
+
+-- what is wrong at a byte
+abbrev at_byte : ℕ → List ℕ → List ℕ
+at_byte at what = codes "byte " ++ decimal at ++ what
+
+abbrev pub asm_fault_text : AsmFault → List ℕ
+asm_fault_text (Scan fault) = scan_fault_text fault
+asm_fault_text (Unknown at) = at_byte at (codes ": no directive or instruction")
+asm_fault_text (Operand at) = at_byte at (codes ": a missing, extra or wrong operand")
+asm_fault_text (LabelTwice at) = at_byte at (codes ": this label stands twice")
+asm_fault_text (LabelMissing at) = at_byte at (codes ": there is no such label")
+asm_fault_text (Range at) = at_byte at (codes ": the number is out of its bounds")
+asm_fault_text (Section at) = at_byte at (codes ": an item out of its place, or missing")
+asm_fault_text NoMemory = codes "out of memory"
