@@ -101,6 +101,7 @@ known : (d : Directive) → directive_named (directive_name d) ≡ Some d
 known (directive.Of item.Name) = refl
 known (directive.Of item.Stack) = refl
 known (directive.Of item.Closure) = refl
+known (directive.Of item.Movable) = refl
 known (directive.Of item.Seals) = refl
 known (directive.Of item.Linear) = refl
 known (directive.Of item.Code) = refl
@@ -278,6 +279,9 @@ code_base_again at n d h = again_last (offset_forms n) n address_at (λ n. with_
 
 pub data_base_again : (at n : ℕ) (d : Draft) → n ≤ 1048575 → Again (offset_forms n) (with_header (record d.header { data_base = n }) d) (operands_in at item.Data d)
 data_base_again at n d h = again_last (offset_forms n) n address_at (λ n. with_header (record d.header { data_base = n }) d) (address_again n h)
+
+pub movable_again : (at : ℕ) (d : Draft) → Again [] (with_header (record d.header { movable = true }) d) (operands_in at item.Movable d)
+movable_again at d = again_done (with_header (record d.header { movable = true }) d)
 
 pub seals_again : (at base count : ℕ) (d : Draft) → base ≤ 1048575 → 1 ≤ count → count ≤ 65536 → Again (stretch_forms base count) (with_header (record d.header { seals = record { base = base; count = count } }) d) (operands_in at item.Seals d)
 seals_again at base count d h i j = again_last (stretch_forms base count) (record { base = base; count = count }) stretch_at (λ a. with_header (record d.header { seals = seals_of a }) d) (stretch_again base count h i j)

@@ -1,5 +1,5 @@
 -- What the lines of a text have made so far.
-use Rattle.std.specs.Prelude.{ℕ, ◌==◌, nat_lt, Bool, true, not, List, [], ◌∷◌, ◌++◌, length, pos}
+use Rattle.std.specs.Prelude.{false, ℕ, ◌==◌, nat_lt, Bool, true, not, List, [], ◌∷◌, ◌++◌, length, pos}
 use Rattle.std.specs.Prelude.{Option, Some, None}
 use Rattle.cap_words.specs.declared.Word.{Word}
 use Rattle.cap_words.specs.declared.Word.TheVariants.{Int}
@@ -32,6 +32,7 @@ no_header = record {
   name = [];
   stack_base = 0;
   closure = 0;
+  movable = false;
   seals = record { base = 0; count = 0 };
   linear = record { base = 0; count = 0 };
   code_base = 0;

@@ -1,5 +1,5 @@
 -- The operands of items, where the lines before have made a draft.
-use Rattle.std.specs.Prelude.{ℕ, zero, suc, List, [], ◌∷◌, ◌++◌, Some, None, unwrap_or}
+use Rattle.std.specs.Prelude.{true, ℕ, zero, suc, List, [], ◌∷◌, ◌++◌, Some, None, unwrap_or}
 use Rattle.cap_words.specs.Stretch.{Stretch}
 use Rattle.component_file.specs.declared.component.Area.{Area}
 use Rattle.component_file.specs.declared.component.Kind.{Kind}
@@ -101,6 +101,7 @@ abbrev pub operands_in : ℕ → Item → Draft → Reader Draft
 operands_in at item.Name d = proper_name_at >>= λ name. done (with_header (record d.header { name = name }) d)
 operands_in at item.Stack d = address_at >>= λ n. done (with_header (record d.header { stack_base = n }) d)
 operands_in at item.Closure d = address_at >>= λ n. done (with_header (record d.header { closure = n }) d)
+operands_in at item.Movable d = done (with_header (record d.header { movable = true }) d)
 operands_in at item.Seals d =
     stretch_at >>= λ a. done (with_header (record d.header { seals = seals_of a }) d)
 operands_in at item.Linear d = stretch_at >>= λ a. done (with_header (record d.header { linear = a }) d)

@@ -4,7 +4,7 @@ use Rattle.std.specs.Prelude.{Option, Some, None}
 use Rattle.asm_labels.specs.declared.labels.Section.{Section}
 use Rattle.asm_labels.specs.declared.labels.Section.TheVariants as section
 use Rattle.asm_fields.specs.declared.directives.Item.{Item}
-use Rattle.asm_fields.specs.declared.directives.Item.TheVariants.{Name, Stack, Closure, Seals, Linear}
+use Rattle.asm_fields.specs.declared.directives.Item.TheVariants.{Name, Stack, Closure, Movable, Seals, Linear}
 use Rattle.asm_fields.specs.declared.directives.Item.TheVariants.{Code, Data, Import, Export, Site, Fail}
 use Rattle.asm_fields.specs.declared.directives.Item.TheVariants.{Literal, Row}
 
@@ -13,16 +13,17 @@ abbrev pub rank : Item → ℕ
 rank Name = 1
 rank Stack = 2
 rank Closure = 3
-rank Seals = 4
-rank Linear = 5
-rank Code = 6
-rank Data = 7
-rank Import = 8
-rank Export = 9
-rank Site = 10
-rank Fail = 11
-rank Literal = 12
-rank Row = 13
+rank Movable = 4
+rank Seals = 5
+rank Linear = 6
+rank Code = 7
+rank Data = 8
+rank Import = 9
+rank Export = 10
+rank Site = 11
+rank Fail = 12
+rank Literal = 13
+rank Row = 14
 
 -- the others stand once at most
 abbrev pub repeats : Item → Bool
@@ -39,7 +40,9 @@ rank_of (Some item) = rank item
 
 -- how far one may go from an item of a rank: name, stack, closure, code and data must not be left out
 abbrev pub furthest : ℕ → ℕ
-furthest r = if nat_lt r 3 then r + 1 else if nat_lt r 6 then 6 else if r == 6 then 7 else 13
+furthest r =
+    if nat_lt r (rank Closure) then r + 1 else if nat_lt r (rank Code) then rank Code
+    else if r == rank Code then rank Data else rank Row
 
 -- the item may stand next where those that came end with the last
 abbrev pub may_follow : Option Item → Item → Bool

@@ -404,6 +404,7 @@ impl<'a> Draft<'a> {
             Item::Name => self.header.name = name(alloc, fields)?,
             Item::Stack => self.header.stack_base = fields.address()?,
             Item::Closure => self.header.closure = fields.address()?,
+            Item::Movable => self.header.movable = true,
             Item::Seals => {
                 let seals = fields.stretch()?;
                 self.header.seals = SealRange::new(seals.base, seals.count);

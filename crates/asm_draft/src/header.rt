@@ -16,6 +16,8 @@ pub struct Header {
     pub stack_base: u32,
     /// The seal of the part's entries.
     pub closure: u32,
+    /// Whether the linker gives the part its place.
+    pub movable: bool,
     /// The seals of the part's return points.
     pub seals: SealRange,
     /// The addresses of which the part may have linear capabilities.
@@ -35,6 +37,7 @@ impl Header {
             name: Items::of(Vec::new(alloc)),
             stack_base: 0,
             closure: 0,
+            movable: false,
             seals: SealRange::new(0, 0),
             linear: Area { base: 0, count: 0 },
             code_base: 0,

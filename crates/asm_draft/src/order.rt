@@ -2,28 +2,30 @@
 ghost use Rattle.std.specs.Prelude.{◌≡◌, ◌≤◌};
 ghost use Rattle.asm_draft.specs.Order.{rank, rank_of, repeats, furthest, may_follow, reaches_data};
 ghost use Rattle.asm_draft.specs.Order.{section_of};
+ghost use Rattle.asm_fields.specs.declared.directives.Item.TheVariants.{Row};
 
 use asm_fields::Item;
 use asm_labels::Section;
 
 fn rank(item: Item) -> u32
     ensures value { result ≡ rank item }
-    ensures below { result ≤ 13 }
+    ensures below { result ≤ rank Row }
 {
     match item {
         Item::Name => 1,
         Item::Stack => 2,
         Item::Closure => 3,
-        Item::Seals => 4,
-        Item::Linear => 5,
-        Item::Code => 6,
-        Item::Data => 7,
-        Item::Import => 8,
-        Item::Export => 9,
-        Item::Site => 10,
-        Item::Fail => 11,
-        Item::Literal => 12,
-        Item::Row => 13,
+        Item::Movable => 4,
+        Item::Seals => 5,
+        Item::Linear => 6,
+        Item::Code => 7,
+        Item::Data => 8,
+        Item::Import => 9,
+        Item::Export => 10,
+        Item::Site => 11,
+        Item::Fail => 12,
+        Item::Literal => 13,
+        Item::Row => 14,
     }
 }
 
@@ -36,7 +38,7 @@ fn repeats(item: Item) -> bool
 
 fn rank_of(last: Option<Item>) -> u32
     ensures value { result ≡ rank_of last }
-    ensures below { result ≤ 13 }
+    ensures below { result ≤ rank Row }
 {
     match last {
         Some(item) => rank(item),
@@ -45,17 +47,18 @@ fn rank_of(last: Option<Item>) -> u32
 }
 
 // The rank of the furthest item that may stand next: no item that is needed is left out.
-fn furthest(rank: u32) -> u32
-    ensures { result ≡ furthest rank }
+fn furthest(reached: u32) -> u32
+    ensures { result ≡ furthest reached }
 {
-    if rank < 3 {
-        rank + 1
-    } else if rank < 6 {
-        6
-    } else if rank == 6 {
-        7
+    let code = rank(Item::Code);
+    if reached < rank(Item::Closure) {
+        reached + 1
+    } else if reached < code {
+        code
+    } else if reached == code {
+        rank(Item::Data)
     } else {
-        13
+        rank(Item::Row)
     }
 }
 

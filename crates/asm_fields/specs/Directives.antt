@@ -1,7 +1,7 @@
 -- The directives: what a `.` stands before.
 use Rattle.std.specs.Prelude.{ℕ, List, [], ◌∷◌, codes, Option}
 use Rattle.asm_fields.specs.declared.directives.Item.{Item}
-use Rattle.asm_fields.specs.declared.directives.Item.TheVariants.{Name, Stack, Closure, Seals, Linear}
+use Rattle.asm_fields.specs.declared.directives.Item.TheVariants.{Name, Stack, Closure, Movable, Seals, Linear}
 use Rattle.asm_fields.specs.declared.directives.Item.TheVariants.{Code, Data, Import, Export, Site, Fail}
 use Rattle.asm_fields.specs.declared.directives.Item.TheVariants.{Literal, Row}
 use Rattle.asm_fields.specs.declared.directives.WordKind.{WordKind}
@@ -14,6 +14,7 @@ abbrev pub item_name : Item → List ℕ
 item_name Name = codes "name"
 item_name Stack = codes "stack"
 item_name Closure = codes "closure"
+item_name Movable = codes "movable"
 item_name Seals = codes "seals"
 item_name Linear = codes "linear"
 item_name Code = codes "code"
@@ -36,7 +37,7 @@ directive_name (Word kind) = word_kind_name kind
 
 abbrev pub directives : List Directive
 directives =
-    Of Name ∷ Of Stack ∷ Of Closure ∷ Of Seals ∷ Of Linear ∷ Of Code ∷ Of Data
+    Of Name ∷ Of Stack ∷ Of Closure ∷ Of Movable ∷ Of Seals ∷ Of Linear ∷ Of Code ∷ Of Data
     ∷ Of Import ∷ Of Export ∷ Of Site ∷ Of Fail ∷ Of Literal ∷ Of Row
     ∷ Word Int ∷ Word Cap ∷ Word Seal ∷ []
 

@@ -11,6 +11,8 @@ pub enum Item {
     Stack,
     /// The seal of the part's entries.
     Closure,
+    /// That the linker gives the part its place.
+    Movable,
     /// The seals of the part's return points.
     Seals,
     /// The addresses of which the part may have linear capabilities.
@@ -42,6 +44,7 @@ impl Item {
             Item::Name => "name",
             Item::Stack => "stack",
             Item::Closure => "closure",
+            Item::Movable => "movable",
             Item::Seals => "seals",
             Item::Linear => "linear",
             Item::Code => "code",
@@ -108,6 +111,7 @@ impl Directive {
             Directive::Of(Item::Name),
             Directive::Of(Item::Stack),
             Directive::Of(Item::Closure),
+            Directive::Of(Item::Movable),
             Directive::Of(Item::Seals),
             Directive::Of(Item::Linear),
             Directive::Of(Item::Code),

@@ -24,7 +24,8 @@ use Rattle.asm_labels.specs.References.{Reference, value_of, word_resolved, reso
 use Rattle.asm_labels.proofs.Tables.{within}
 use Rattle.asm_labels.proofs.Resolved.{first_of, last, rest_ready, word_len, as_many}
 use Rattle.asm_fields.specs.declared.fault.AsmFault.{AsmFault}
-use Rattle.asm_draft.specs.Order.{rank_of, reaches_data}
+use Rattle.asm_fields.specs.declared.directives.Item.TheVariants as item
+use Rattle.asm_draft.specs.Order.{rank, rank_of, reaches_data}
 use Rattle.asm_draft.specs.Draft.{Draft, nothing, may_end}
 use Rattle.asm_draft.specs.Whole.{drafted, ended_all, draft_of_text}
 use Rattle.assembler.specs.Assembled.{scan_told, assembled, missing_told, none_missing, in_order, component_of, finished, ◌>>=◌}
@@ -148,7 +149,7 @@ complete d c m h =
     let q = bound (in_order d.tables.out_of_order) (λ _. Ok (component_of d code)) c p.2 in
     let made : component_of d code ≡ c = ok_same (component_of d code) c (Ok (component_of d code)) refl q.2 in
     let found : resolved d.labels d.references d.code ≡ Ok code = missing_gone (resolved d.labels d.references d.code) code p.1 in
-    let le : 7 ≤ rank_of d.last = grind (arith, nat_tests, m.1) in
+    let le : rank item.Data ≤ rank_of d.last = grind (arith, nat_tests, m.1) in
     let some = ended_some d k le m.2 in
     let many = as_many d.labels d.references d.code code found in
     let ordered = k.tables.ordered (none_out d.tables.out_of_order q.0 q.1) in

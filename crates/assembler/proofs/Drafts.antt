@@ -150,11 +150,13 @@ instr_is d k =
 -- ---- the order of items
 
 -- the items that came end with the code, or the data, where the next item is not before that
-code_last : (last : Option Item) → 6 ≤ rank_of last → (section_of last ≡ Some section.Code) ⊎ (7 ≤ rank_of last)
+code_last : (last : Option Item) → rank item.Code ≤ rank_of last
+    → (section_of last ≡ Some section.Code) ⊎ (rank item.Data ≤ rank_of last)
 code_last None le = absurd (omega (arith, le))
 code_last (Some item.Name) le = absurd (omega (arith, le))
 code_last (Some item.Stack) le = absurd (omega (arith, le))
 code_last (Some item.Closure) le = absurd (omega (arith, le))
+code_last (Some item.Movable) le = absurd (omega (arith, le))
 code_last (Some item.Seals) le = absurd (omega (arith, le))
 code_last (Some item.Linear) le = absurd (omega (arith, le))
 code_last (Some item.Code) le = inl refl
@@ -166,11 +168,13 @@ code_last (Some item.Fail) le = inr (omega arith)
 code_last (Some item.Literal) le = inr (omega arith)
 code_last (Some item.Row) le = inr (omega arith)
 
-data_last : (last : Option Item) → 7 ≤ rank_of last → (section_of last ≡ Some section.Data) ⊎ (8 ≤ rank_of last)
+data_last : (last : Option Item) → rank item.Data ≤ rank_of last
+    → (section_of last ≡ Some section.Data) ⊎ (rank item.Import ≤ rank_of last)
 data_last None le = absurd (omega (arith, le))
 data_last (Some item.Name) le = absurd (omega (arith, le))
 data_last (Some item.Stack) le = absurd (omega (arith, le))
 data_last (Some item.Closure) le = absurd (omega (arith, le))
+data_last (Some item.Movable) le = absurd (omega (arith, le))
 data_last (Some item.Seals) le = absurd (omega (arith, le))
 data_last (Some item.Linear) le = absurd (omega (arith, le))
 data_last (Some item.Code) le = absurd (omega (arith, le))
@@ -187,39 +191,28 @@ far_from_1 : (r n : ℕ) → n ≤ furthest r → 2 ≤ n → 1 ≤ r
 far_from_1 zero n le far = absurd (omega (arith, le, far))
 far_from_1 (suc r) n le far = omega arith
 
-far_from_6 : (r n : ℕ) → n ≤ furthest r → 7 ≤ n → 6 ≤ r
-far_from_6 zero n le far = absurd (omega (arith, le, far))
-far_from_6 (suc zero) n le far = absurd (omega (arith, le, far))
-far_from_6 (suc (suc zero)) n le far = absurd (omega (arith, le, far))
-far_from_6 (suc (suc (suc zero))) n le far = absurd (omega (arith, le, far))
-far_from_6 (suc (suc (suc (suc zero)))) n le far = absurd (omega (arith, le, far))
-far_from_6 (suc (suc (suc (suc (suc zero))))) n le far = absurd (omega (arith, le, far))
-far_from_6 (suc (suc (suc (suc (suc (suc r)))))) n le far = omega arith
+far_from_code : (r n : ℕ) → n ≤ furthest r → rank item.Data ≤ n → rank item.Code ≤ r
+far_from_code r n le far = grind (arith, nat_tests)
 
-far_from_7 : (r n : ℕ) → n ≤ furthest r → 8 ≤ n → 7 ≤ r
-far_from_7 zero n le far = absurd (omega (arith, le, far))
-far_from_7 (suc zero) n le far = absurd (omega (arith, le, far))
-far_from_7 (suc (suc zero)) n le far = absurd (omega (arith, le, far))
-far_from_7 (suc (suc (suc zero))) n le far = absurd (omega (arith, le, far))
-far_from_7 (suc (suc (suc (suc zero)))) n le far = absurd (omega (arith, le, far))
-far_from_7 (suc (suc (suc (suc (suc zero))))) n le far = absurd (omega (arith, le, far))
-far_from_7 (suc (suc (suc (suc (suc (suc zero)))))) n le far = absurd (omega (arith, le, far))
-far_from_7 (suc (suc (suc (suc (suc (suc (suc r))))))) n le far = omega arith
+far_from_data : (r n : ℕ) → n ≤ furthest r → rank item.Import ≤ n → rank item.Data ≤ r
+far_from_data r n le far = grind (arith, nat_tests)
 
 not_none : (words : List Word) → not (length words == 0) ≡ true → 1 ≤ length words
 not_none words h = grind (arith, nat_tests, h)
 
-code_some : (last : Option Item) (d : Draft) → (7 ≤ rank_of last → 1 ≤ length d.code) → may_end_in (section_of last) d ≡ true → 6 ≤ rank_of last → 1 ≤ length d.code
+code_some : (last : Option Item) (d : Draft) → (rank item.Data ≤ rank_of last → 1 ≤ length d.code)
+    → may_end_in (section_of last) d ≡ true → rank item.Code ≤ rank_of last → 1 ≤ length d.code
 code_some last d came ends le = by_last (code_last last le)
   where
-    by_last : (section_of last ≡ Some section.Code) ⊎ (7 ≤ rank_of last) → 1 ≤ length d.code
+    by_last : (section_of last ≡ Some section.Code) ⊎ (rank item.Data ≤ rank_of last) → 1 ≤ length d.code
     by_last (inl is) = not_none d.code (ap (λ o. may_end_in o d) (sym is) ∙ ends)
     by_last (inr past) = came past
 
-data_some : (last : Option Item) (d : Draft) → (8 ≤ rank_of last → 1 ≤ length d.data_words) → may_end_in (section_of last) d ≡ true → 7 ≤ rank_of last → 1 ≤ length d.data_words
+data_some : (last : Option Item) (d : Draft) → (rank item.Import ≤ rank_of last → 1 ≤ length d.data_words)
+    → may_end_in (section_of last) d ≡ true → rank item.Data ≤ rank_of last → 1 ≤ length d.data_words
 data_some last d came ends le = by_last (data_last last le)
   where
-    by_last : (section_of last ≡ Some section.Data) ⊎ (8 ≤ rank_of last) → 1 ≤ length d.data_words
+    by_last : (section_of last ≡ Some section.Data) ⊎ (rank item.Import ≤ rank_of last) → 1 ≤ length d.data_words
     by_last (inl is) = not_none d.data_words (ap (λ o. may_end_in o d) (sym is) ∙ ends)
     by_last (inr past) = came past
 
@@ -242,8 +235,8 @@ others_begun labelled i d k stands behind =
       tables = k.tables;
       came = record {
         name_came = λ _. k.came.name_came (far_from_1 (rank_of d.last) (rank i) le behind);
-        code_came = λ far. code_some d.last d k.came.code_came second.1 (far_from_6 (rank_of d.last) (rank i) le far);
-        data_came = λ far. data_some d.last d k.came.data_came second.1 (far_from_7 (rank_of d.last) (rank i) le far);
+        code_came = λ far. code_some d.last d k.came.code_came second.1 (far_from_code (rank_of d.last) (rank i) le far);
+        data_came = λ far. data_some d.last d k.came.data_came second.1 (far_from_data (rank_of d.last) (rank i) le far);
       };
     }
 
@@ -284,6 +277,15 @@ operands_are at item.Closure d le k room =
       code_base = k.header.code_base;
       data_base = k.header.data_base;
     }) refl))
+operands_are at item.Movable d le k room =
+    gets_done IsDraft _ (other_header d (record d.header { movable = true }) k (record {
+      stack_base = k.header.stack_base;
+      closure = k.header.closure;
+      seals = k.header.seals;
+      linear = k.header.linear;
+      code_base = k.header.code_base;
+      data_base = k.header.data_base;
+    }) refl)
 operands_are at item.Seals d le k room =
     gets_then _ IsDraft _ _ stretch_is (λ s fits. gets_done IsDraft _ (other_header d (record d.header { seals = seals_of s }) k (record {
       stack_base = k.header.stack_base;
@@ -348,6 +350,7 @@ name_or_other : (i : Item) → (i ≡ item.Name) ⊎ (2 ≤ rank i)
 name_or_other item.Name = inl refl
 name_or_other item.Stack = inr (omega arith)
 name_or_other item.Closure = inr (omega arith)
+name_or_other item.Movable = inr (omega arith)
 name_or_other item.Seals = inr (omega arith)
 name_or_other item.Linear = inr (omega arith)
 name_or_other item.Code = inr (omega arith)
@@ -443,5 +446,5 @@ pub drafted_is : (e : Draft) (lines : List Input) → drafted nothing lines ≡ 
 drafted_is e lines h = lines_are nothing e lines nothing_is h
 
 -- where the text may end, both sections have words
-pub ended_some : (d : Draft) → IsDraft d → 7 ≤ rank_of d.last → may_end d ≡ true → (1 ≤ length d.code) × (1 ≤ length d.data_words)
+pub ended_some : (d : Draft) → IsDraft d → rank item.Data ≤ rank_of d.last → may_end d ≡ true → (1 ≤ length d.code) × (1 ≤ length d.data_words)
 ended_some d k le ends = (k.came.code_came le, data_some d.last d k.came.data_came ends le)

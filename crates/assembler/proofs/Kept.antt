@@ -15,7 +15,8 @@ use Rattle.asm_labels.specs.Patch.{instr_in, some_immediate, has_immediate, has_
 use Rattle.asm_labels.specs.References.{Reference, IsReady, IsFrom, behind, AreReady}
 use Rattle.asm_fields.specs.declared.directives.Item.{Item}
 use Rattle.asm_draft.specs.declared.header.Header.{Header}
-use Rattle.asm_draft.specs.Order.{rank_of}
+use Rattle.asm_fields.specs.declared.directives.Item.TheVariants as item
+use Rattle.asm_draft.specs.Order.{rank, rank_of}
 use Rattle.asm_draft.specs.Tables.{Tables}
 use Rattle.asm_draft.specs.Draft.{Draft}
 use Rattle.assembler.proofs.Words.{IsPartWord}
@@ -53,8 +54,8 @@ pub record TablesKept (t : Tables) : Type 0 where
 -- what has come with the last item
 pub record Came (last : Option Item) (name : List ℕ) (code data_words : List Word) : Type 0 where
   pub name_came : 1 ≤ rank_of last → IsTrue (is_name name)
-  pub code_came : 7 ≤ rank_of last → 1 ≤ length code
-  pub data_came : 8 ≤ rank_of last → 1 ≤ length data_words
+  pub code_came : rank item.Data ≤ rank_of last → 1 ≤ length code
+  pub data_came : rank item.Import ≤ rank_of last → 1 ≤ length data_words
 
 pub record IsDraft (d : Draft) : Type 0 where
   pub words : WordsKept d.labels d.references d.code d.data_words

@@ -53,6 +53,7 @@ component_of d code = record {
   fail_at = d.tables.fail_at;
   literal_at = d.tables.literal_at;
   rows = d.tables.rows;
+  movable = d.header.movable;
 }
 
 unfoldable pub finished : Draft → Result ComponentFields AsmFault

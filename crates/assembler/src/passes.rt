@@ -49,6 +49,7 @@ fn finished(draft: Draft<'_>) -> Result<ComponentFields, AsmFault>
         fail_at: tables.fail_at,
         literal_at: tables.literal_at,
         rows: Items::of(tables.rows),
+        movable: header.movable,
     })
 }
 

@@ -75,6 +75,7 @@ c !jump 99999999999
 // One too many or too few, another kind of token, names of 32 bytes. The last one: lines come before labels
 // that are missing.
 const OPERAND_FAULTS: &[u8] = b"c halt !5
+h .movable !1
 c jmp!
 c jmp!$halt
 c jmp   # a0!$halt
@@ -177,8 +178,16 @@ n !
 n !.name b
 n !.closure 1
 n .stack 1$!.seals 1 1
+n !.movable
+n .stack 1$!.movable
 h !halt
 h !.data 0
+h .movable$!.movable
+h .movable$!.closure 1
+h .movable$!.data 0
+h .seals 1 1$!.movable
+h .linear 1 1$!.movable
+c !.movable
 h .seals 1 1$!.seals 1 1
 h .linear 1 1$!.seals 1 1
 h .linear 1 1$!
@@ -379,6 +388,36 @@ const ONE: &[u8; 90] = b"STKC\x01\0\
 \0\
 \0\0\0\0";
 
+// The same, movable: its version is 2.
+const MOVABLE_TEXT: &[u8] = b".name one
+.stack 65536
+.closure 1
+. movable # anywhere
+.code 100
+halt
+.data 200
+.int 0
+.export main 0 shared
+";
+
+const MOVABLE: &[u8; 90] = b"STKC\x02\0\
+\x03one\
+\0\0\x01\0\
+\x01\0\0\0\
+\0\0\0\0\0\0\0\0\
+\0\0\0\0\0\0\0\0\
+\x64\0\0\0\x01\0\0\0\
+\0\x01\0\0\0\0\0\0\0\
+\xc8\0\0\0\x01\0\0\0\
+\0\0\0\0\0\0\0\0\0\
+\0\0\
+\x01\0\
+\x04main\0\0\0\0\x01\
+\0\0\
+\0\
+\0\
+\0\0\0\0";
+
 // Something of everything, with blanks where they may stand, and labels for all but some offsets.
 const FULL_TEXT: &[u8] = b"# a part
 . name full
@@ -452,6 +491,7 @@ fn is_spelled(
 #[test]
 fn texts_spell_files(rt: HostRuntime) -> Result<(), Fail> {
     assert!(rt; is_spelled(&rt, rt.alloc(), ONE_TEXT, ONE)?);
+    assert!(rt; is_spelled(&rt, rt.alloc(), MOVABLE_TEXT, MOVABLE)?);
     assert!(rt; is_spelled(&rt, rt.alloc(), FULL_TEXT, FULL)?);
     Ok(())
 }

@@ -1,5 +1,5 @@
 -- A component is read where it is spelled, and spelled where it was read.
-use Rattle.std.proofs.Common.{◌≡◌, ℕ, ◌+◌, ◌<◌, ◌≤◌, Bool, true, false, cond, eqb, List, [], ◌∷◌, ◌++◌, length, Result, Ok, Err, refl, sym, ap, ◌∙◌, append-nil, arith, take}
+use Rattle.std.proofs.Common.{◌≡◌, ℕ, ◌+◌, ◌^◌, Option, Some, None, ◌<◌, ◌≤◌, Bool, true, false, cond, eqb, List, [], ◌∷◌, ◌++◌, length, Result, Ok, Err, refl, sym, ap, ◌∙◌, append-nil, arith, take}
 use Rattle.std.specs.Str.{bytes_eq}
 use Rattle.std.proofs.lemmas.Bool.{eqb-true, eq-eqb, ne_eqb}
 use Rattle.std.proofs.lemmas.List.{nil_from_length}
@@ -8,37 +8,52 @@ use Rattle.cap_words.specs.Stretch.{Stretch}
 use Rattle.cap_words.specs.Reading.{Input, next_bytes, next_number}
 use Rattle.cap_words.proofs.Grammar.{IsBytes, Reads, All, reads_then, reads_done, reads_as, reads_text}
 use Rattle.cap_words.proofs.Fields.{number_reads}
-use Rattle.component_file.specs.declared.TheConstants.{MOST_IMPORTS, MOST_EXPORTS, MOST_SITES, MOST_ROWS, VERSION}
+use Rattle.component_file.specs.declared.TheConstants.{MOST_IMPORTS, MOST_EXPORTS, MOST_SITES, MOST_ROWS, FIXED_VERSION, MOVABLE_VERSION}
 use Rattle.component_file.specs.declared.fault.FileFault.{FileFault}
 use Rattle.component_file.specs.declared.fault.FileFault.TheVariants.{Magic, Version, Short, BadField, Order, Trailing, NoMemory}
 use Rattle.component_file.specs.declared.component.ComponentFields.{ComponentFields}
 use Rattle.component_file.specs.Fault.{Fails}
 use Rattle.component_file.specs.Limits.{IsComponent}
-use Rattle.component_file.specs.Spelling.{u16_bytes, magic, spelling, Spells}
-use Rattle.component_file.specs.Reading.{field, next_name, next_address, next_stretch, next_optional, next_list, next_import, next_export, next_site, next_row, next_header, next_words, next_component, finished, decoded}
-use Rattle.component_file.proofs.FieldLaws.{reads_field, reads_tells, four_read, name_reads, address_reads, stretch_reads, optional_reads}
+use Rattle.component_file.specs.Spelling.{u16_bytes, version_of, magic, spelling, Spells}
+use Rattle.component_file.specs.Reading.{field, version_meant, next_name, next_address, next_stretch, next_optional, next_list, next_import, next_export, next_site, next_row, next_header, next_words, next_component, finished, decoded}
+use Rattle.component_file.proofs.FieldLaws.{reads_field, reads_tells, reads_meaning, four_read, name_reads, address_reads, stretch_reads, optional_reads}
 use Rattle.component_file.proofs.ListLaws.{list_read, import_reads, export_reads, site_reads, row_reads, words_reads}
 
 -- ---- magic and version
 
-header_reads : Reads Short All (All {A = Unit {0}}) (λ _. magic ++ u16_bytes VERSION) next_header
+version_there : (n : ℕ) (b : Bool) → version_meant n ≡ Some b → version_of b ≡ n
+version_there n b e = by_tests (eqb n 1) (eqb n 2) refl refl
+  where
+    by_tests : (s t : Bool) → eqb n 1 ≡ s → eqb n 2 ≡ t → version_of b ≡ n
+    by_tests true t f g = let is : Some false ≡ Some b = sym (ap (λ v. cond v (Some false) (cond (eqb n 2) (Some true) None)) f) ∙ e in let same : false ≡ b = cc in ap version_of (sym same) ∙ sym (eqb-true n 1 f)
+    by_tests false true f g = let is : Some true ≡ Some b = sym (rw (f, g) refl) ∙ e in let same : true ≡ b = cc in ap version_of (sym same) ∙ sym (eqb-true n 2 g)
+    by_tests false false f g = let is : None ≡ Some b = sym (rw (f, g) refl) ∙ e in absurd cc
+
+version_back : (b : Bool) → version_meant (version_of b) ≡ Some b
+version_back false = refl
+version_back true = refl
+
+version_small : (b : Bool) → version_of b < 2 ^ 16
+version_small false = omega arith
+version_small true = omega arith
+
+header_reads : Reads Short All (All {A = Bool}) (λ movable. magic ++ u16_bytes (version_of movable)) next_header
 unfolding next_header
 header_reads = reads_as next_header
-    (reads_text _ (λ c k. ap (λ l. magic ++ l) (append-nil (u16_bytes VERSION)))
-    (reads_then (λ (c : Unit {0}). magic) (field (next_bytes 4)) _ (reads_field four_read) (λ four p0.
+    (reads_text _ (λ c k. ap (λ l. magic ++ l) (append-nil (u16_bytes (version_of c))))
+    (reads_then (λ (c : Bool). magic) (field (next_bytes 4)) _ (reads_field four_read) (λ four p0.
     reads_tells (bytes_eq four magic) Magic _ (λ e. sym ((bytes_eq-Decides four magic).0 e)) (λ e. (bytes_eq-Decides four magic).1 (sym e))
-    (reads_then (λ (c : Unit {0}). VERSION) (field (next_number 2)) _ (reads_field (number_reads 2)) (λ version p1.
-    reads_tells (eqb version VERSION) Version _ (λ e. sym (eqb-true _ _ e)) (λ e. eq-eqb version VERSION (sym e))
-    (reads_done tt (λ c k. refl) tt))))))
+    (reads_then version_of (field (next_number 2)) _ (reads_field (number_reads 2)) (λ version p1.
+    reads_meaning version_meant version_of Version version version_there version_back (λ b e. (tt, e)) (λ b k. k.1))))))
     (λ c k p. tt)
-    (λ c k p. (refl, (omega arith, tt)))
+    (λ c k p. (refl, (version_small c, tt)))
 
 -- ---- the component
 
 pub component_reads : Reads Short All IsComponent spelling next_component
 unfolding next_component spelling
 component_reads = reads_as next_component
-    (reads_then {A = Unit {0}} (λ (c : ComponentFields). tt) next_header _ header_reads (λ header p0.
+    (reads_then (λ (c : ComponentFields). c.movable) next_header _ header_reads (λ movable p0.
     reads_then (λ (c : ComponentFields). c.name) (field next_name) _ (reads_field name_reads) (λ name p1.
     reads_then (λ (c : ComponentFields). c.stack_base) (field next_address) _ (reads_field address_reads) (λ stack_base p2.
     reads_then (λ (c : ComponentFields). c.closure) (field next_address) _ (reads_field address_reads) (λ closure p3.
@@ -70,8 +85,9 @@ component_reads = reads_as next_component
       fail_at = fail_at;
       literal_at = literal_at;
       rows = rows;
+      movable = movable;
     })
-    (λ c k. rw (← k.1, ← k.0.1, ← k.0.0.1, ← k.0.0.0.1, ← k.0.0.0.0.1, ← k.0.0.0.0.0.1, ← k.0.0.0.0.0.0.1, ← k.0.0.0.0.0.0.0.1, ← k.0.0.0.0.0.0.0.0.1, ← k.0.0.0.0.0.0.0.0.0.1, ← k.0.0.0.0.0.0.0.0.0.0.1, ← k.0.0.0.0.0.0.0.0.0.0.0.1, ← k.0.0.0.0.0.0.0.0.0.0.0.0.1, ← k.0.0.0.0.0.0.0.0.0.0.0.0.0.1, ← k.0.0.0.0.0.0.0.0.0.0.0.0.0.0.1) refl)
+    (λ c k. rw (← k.1, ← k.0.1, ← k.0.0.1, ← k.0.0.0.1, ← k.0.0.0.0.1, ← k.0.0.0.0.0.1, ← k.0.0.0.0.0.0.1, ← k.0.0.0.0.0.0.0.1, ← k.0.0.0.0.0.0.0.0.1, ← k.0.0.0.0.0.0.0.0.0.1, ← k.0.0.0.0.0.0.0.0.0.0.1, ← k.0.0.0.0.0.0.0.0.0.0.0.1, ← k.0.0.0.0.0.0.0.0.0.0.0.0.1, ← k.0.0.0.0.0.0.0.0.0.0.0.0.0.1, ← k.0.0.0.0.0.0.0.0.0.0.0.0.0.0.1, ← k.0.0.0.0.0.0.0.0.0.0.0.0.0.0.0.1) refl)
     ((((((((((((((((tt, refl), refl), refl), refl), refl), refl), refl), refl), refl), refl), refl), refl), refl), refl), refl), refl))))))))))))))))))
     (λ c k p. record { name = p.1.0; stack_base = p.1.1.0; closure = p.1.1.1.0; seals = p.1.1.1.1.0; linear = p.1.1.1.1.1.0; code_base = p.1.1.1.1.1.1.0; code = p.1.1.1.1.1.1.1.0; data_base = p.1.1.1.1.1.1.1.1.0; data_words = p.1.1.1.1.1.1.1.1.1.0; imports = (p.1.1.1.1.1.1.1.1.1.1.0.0.1, p.1.1.1.1.1.1.1.1.1.1.0.1); exports = (p.1.1.1.1.1.1.1.1.1.1.1.0.0.1, p.1.1.1.1.1.1.1.1.1.1.1.0.1); sites = (p.1.1.1.1.1.1.1.1.1.1.1.1.0.0.1, p.1.1.1.1.1.1.1.1.1.1.1.1.0.1); fail_at = p.1.1.1.1.1.1.1.1.1.1.1.1.1.0; literal_at = p.1.1.1.1.1.1.1.1.1.1.1.1.1.1.0; rows = (p.1.1.1.1.1.1.1.1.1.1.1.1.1.1.1.0.0.1, p.1.1.1.1.1.1.1.1.1.1.1.1.1.1.1.0.1) })
     (λ c k p. (tt, (p.name, (p.stack_base, (p.closure, (p.seals, (p.linear, (p.code_base, (p.code, (p.data_base, (p.data_words, (((omega arith, p.imports.0), p.imports.1), (((omega arith, p.exports.0), p.exports.1), (((omega arith, p.sites.0), p.sites.1), (p.fail_at, (p.literal_at, (((omega arith, p.rows.0), p.rows.1), tt)))))))))))))))))

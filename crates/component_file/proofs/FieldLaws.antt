@@ -7,7 +7,7 @@ use Rattle.cap_words.specs.declared.bytes.cursor.FieldFault.{FieldFault}
 use Rattle.cap_words.specs.declared.bytes.cursor.FieldFault.TheVariants as field_faults
 use Rattle.cap_words.specs.Stretch.{Stretch}
 use Rattle.cap_words.specs.Reading.{Input, Reader, goes_on, ◌>>=◌, done, next_bytes, unless_none, meant, next_byte, next_number, within}
-use Rattle.cap_words.proofs.Grammar.{Took, took_nothing, Reads, All, reads_then, reads_last, reads_done, reads_as, reads_text, reads_placed, reads_known, reads_learned, reads_case, reads_if}
+use Rattle.cap_words.proofs.Grammar.{before, ok_value, Took, took_nothing, Reads, All, reads_then, reads_last, reads_done, reads_as, reads_text, reads_placed, reads_known, reads_learned, reads_case, reads_if}
 use Rattle.cap_words.proofs.Fields.{unless_none_ok, bytes_take, bytes_again, bytes_cut, byte_reads, meant_reads, within_reads}
 use Rattle.component_file.specs.declared.TheConstants.{LAST_OFFSET}
 use Rattle.component_file.specs.declared.fault.FileFault.{FileFault}
@@ -17,7 +17,7 @@ use Rattle.component_file.specs.declared.component.Kind.TheVariants.{Any, Int, D
 use Rattle.component_file.specs.Limits.{is_name, KindFits, last_base, StretchFits}
 use Rattle.component_file.specs.Spelling.{u32_bytes, name_bytes, stretch_bytes, flag_byte, optional_bytes, kind_bytes}
 use Rattle.component_file.proofs.CanWrite.{name_is_short}
-use Rattle.component_file.specs.Reading.{as_file, field, holds, short_at, next_text, name_meant, next_name, next_address, next_offset, next_stretch, flag_meant, next_flag, next_optional, plain_kind, next_kind}
+use Rattle.component_file.specs.Reading.{as_file, field, holds, known, short_at, next_text, name_meant, next_name, next_address, next_offset, next_stretch, flag_meant, next_flag, next_optional, plain_kind, next_kind}
 
 -- ---- fields of the file
 
@@ -67,6 +67,25 @@ reads_tells b fault f tells told h = record {
   cut = λ c at n k p lt.
       let passed : b ≡ true = told k.1 in
       rw passed (h.cut c at n k.0 p lt);
+}
+
+known_ok : {A : Type 0} (o : Option A) (fault : FileFault) (i : Input) (y : A) (j : Input) → known o fault i ≡ Ok (y, j) → (o ≡ Some y) × (i ≡ j)
+known_ok None fault i y j e = absurd cc
+known_ok (Some x) fault i y j e = let both = ok_value x y i j e in (ap Some both.0, both.1)
+
+-- a number that was read, as what it means
+pub reads_meaning : {A B : Type 0} {K : B → Type 0} (meaning : A → Option B) (stands : B → A) (fault : FileFault) (a : A)
+    → ((a : A) (b : B) → meaning a ≡ Some b → stands b ≡ a) → ((b : B) → meaning (stands b) ≡ Some b)
+    → ((b : B) → stands b ≡ a → K b) → ((b : B) → K b → stands b ≡ a)
+    → Reads Short K All (λ b. []) (known (meaning a) fault)
+reads_meaning meaning stands fault a there back known_of of_known = record {
+  takes = λ i b j bytes e.
+      let v = known_ok (meaning a) fault i b j e in
+      (known_of b (there a b v.0), tt, subst (λ k. Took i [] k) v.1 (took_nothing i bytes));
+  again = λ b at rest k fits.
+      let is : meaning a ≡ Some b = ap meaning (sym (of_known b k)) ∙ back b in
+      ap (λ o. known o fault (before at [] rest)) is ∙ ap (λ n. Ok (b, record { at = n; rest = rest })) (let e : at ≡ at + 0 = omega arith in e);
+  cut = λ b at n k fits lt. absurd (omega arith);
 }
 
 -- ---- names

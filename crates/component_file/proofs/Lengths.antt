@@ -4,7 +4,7 @@ use Rattle.std.specs.List.{flat_map}
 use Rattle.cap_words.specs.declared.Word.{Word}
 use Rattle.cap_words.specs.declared.Word.TheVariants.{Int as IntWord, Mem, Seal, Sealed}
 use Rattle.cap_words.specs.WordBytes.{number_bytes, signed_bytes, cap_bytes, seal_bytes, word_bytes_of, WordFits, IsUnsealed}
-use Rattle.component_file.specs.declared.TheConstants.{MOST_WORDS, MOST_IMPORTS, MOST_EXPORTS, MOST_SITES, MOST_ROWS, VERSION}
+use Rattle.component_file.specs.declared.TheConstants.{MOST_WORDS, MOST_IMPORTS, MOST_EXPORTS, MOST_SITES, MOST_ROWS}
 use Rattle.component_file.specs.declared.component.Kind.{Kind}
 use Rattle.component_file.specs.declared.component.Kind.TheVariants.{Any, Int, DataCap, Stk, Pc, Top}
 use Rattle.component_file.specs.declared.component.Import.{Import}
@@ -12,7 +12,7 @@ use Rattle.component_file.specs.declared.component.Export.{Export}
 use Rattle.component_file.specs.declared.component.KindRow.{KindRow}
 use Rattle.component_file.specs.declared.component.ComponentFields.{ComponentFields}
 use Rattle.component_file.specs.Limits.{Chain, Each, ImportFits, ExportFits, SiteFits, KindFits, RowFits, IsComponent}
-use Rattle.component_file.specs.Spelling.{u32_bytes, name_bytes, stretch_bytes, list_bytes, import_bytes, export_bytes, flag_byte, optional_bytes, kind_bytes, row_bytes, spelling}
+use Rattle.component_file.specs.Spelling.{version_of, u32_bytes, name_bytes, stretch_bytes, list_bytes, import_bytes, export_bytes, flag_byte, optional_bytes, kind_bytes, row_bytes, spelling}
 use Rattle.component_file.proofs.CanWrite.{name_is_short}
 
 u16_length : (n : ℕ) → length (number_bytes 2 n) ≡ 2
@@ -94,7 +94,7 @@ unfolding spelling
 spelling_length c fits =
     simp length-append (omega (
       arith,
-      u16_length VERSION,
+      u16_length (version_of c.movable),
       name_is_short c.name fits.name,
       u32_length c.stack_base,
       u32_length c.closure,

@@ -6,7 +6,7 @@ use Rattle.component_file.specs.declared.fault.FileFault.TheVariants.{Order, Tra
 
 abbrev pub file_fault_text : FileFault → List ℕ
 file_fault_text Magic = codes "the file does not begin with STKC"
-file_fault_text Version = codes "the version is not 1"
+file_fault_text Version = codes "the version is neither 1 nor 2"
 file_fault_text (Short at) = codes "the file ends within the field at byte " ++ decimal at
 file_fault_text (BadField at) = codes "the field at byte " ++ decimal at ++ codes " is not valid"
 file_fault_text (Order at) = codes "the item at byte " ++ decimal at ++ codes " is out of order"

@@ -10,7 +10,7 @@ use Rattle.cap_words.specs.Stretch.{Stretch}
 use Rattle.cap_words.specs.Reading.{Input, Reader, ◌>>=◌, done, here, unless_none, meant, within}
 use Rattle.cap_words.specs.Reading.{next_bytes, next_byte, next_number}
 use Rattle.cap_words.specs.WordReading.{next_in_space, next_unsealed}
-use Rattle.component_file.specs.declared.TheConstants.{LAST_OFFSET, MOST_WORDS, VERSION}
+use Rattle.component_file.specs.declared.TheConstants.{LAST_OFFSET, MOST_WORDS, FIXED_VERSION, MOVABLE_VERSION}
 use Rattle.component_file.specs.declared.TheConstants.{MOST_IMPORTS, MOST_EXPORTS, MOST_SITES, MOST_ROWS}
 use Rattle.component_file.specs.declared.fault.FileFault.{FileFault}
 use Rattle.component_file.specs.declared.fault.FileFault.TheVariants.{Magic, Version, Order, Trailing}
@@ -38,6 +38,11 @@ field r i = as_file (r i)
 abbrev pub holds : Bool → FileFault → Reader FileFault (Unit {0})
 holds true fault i = Ok (tt, i)
 holds false fault i = Err fault
+
+-- what a field means, where it means something
+abbrev pub known : {A : Type 0} → Option A → FileFault → Reader FileFault A
+known (Some x) fault i = Ok (x, i)
+known None fault i = Err fault
 
 -- a field in parts, of which each can only be short, is short at its first byte
 abbrev pub short_at : {A : Type 0} → ℕ → Result A FieldFault → Result A FieldFault
@@ -152,20 +157,24 @@ next_row before = do
 
 -- ---- the component
 
-unfoldable pub next_header : Reader FileFault (Unit {0})
+-- whether a component of this version is movable
+abbrev pub version_meant : ℕ → Option Bool
+version_meant n = if n == FIXED_VERSION then Some false else if n == MOVABLE_VERSION then Some true else None
+
+-- the magic and the version, which tells whether it is movable
+unfoldable pub next_header : Reader FileFault Bool
 next_header = do
   four ← field (next_bytes 4)
   _ ← holds (bytes_eq four magic) Magic
   version ← field (next_number 2)
-  _ ← holds (version == VERSION) Version
-  done tt
+  known (version_meant version) Version
 
 unfoldable pub next_words : Reader FileFault (List Word)
 next_words = next_list 4 1 MOST_WORDS next_part_word
 
 unfoldable pub next_component : Reader FileFault ComponentFields
 next_component = do
-  _ ← next_header
+  movable ← next_header
   name ← field next_name
   stack_base ← field next_address
   closure ← field next_address
@@ -197,6 +206,7 @@ next_component = do
     fail_at = fail_at;
     literal_at = literal_at;
     rows = rows;
+    movable = movable;
   })
 
 -- nothing may follow the component

@@ -3,7 +3,7 @@ use Rattle.std.specs.Prelude.{◌≡◌, ℕ, ◌<◌, ◌++◌, Bool, true, fal
 use Rattle.std.specs.Prelude.{Some, None}
 use Rattle.std.specs.List.{flat_map, concat}
 use Rattle.cap_words.specs.WordBytes.{number_bytes, word_bytes_of}
-use Rattle.component_file.specs.declared.TheConstants.{VERSION}
+use Rattle.component_file.specs.declared.TheConstants.{FIXED_VERSION, MOVABLE_VERSION}
 use Rattle.component_file.specs.Limits.{IsComponent}
 use Rattle.component_file.specs.declared.component.Kind.{Kind}
 use Rattle.component_file.specs.declared.component.Kind.TheVariants.{Any, Int, DataCap, Stk, Pc, Top}
@@ -55,12 +55,16 @@ kind_bytes Top = 5 ∷ []
 unfoldable pub row_bytes : KindRow → List ℕ
 row_bytes r = u32_bytes r.offset ++ flat_map kind_bytes r.kinds
 
+abbrev pub version_of : Bool → ℕ
+version_of false = FIXED_VERSION
+version_of true = MOVABLE_VERSION
+
 abbrev pub magic : List ℕ
 magic = codes "STKC"
 
 unfoldable pub spelling : ComponentFields → List ℕ
 spelling c = concat (
-    magic ∷ u16_bytes VERSION
+    magic ∷ u16_bytes (version_of c.movable)
     ∷ name_bytes c.name ∷ u32_bytes c.stack_base ∷ u32_bytes c.closure
     ∷ stretch_bytes c.seals.base c.seals.count ∷ stretch_bytes c.linear.base c.linear.count
     ∷ u32_bytes c.code_base ∷ list_bytes 4 word_bytes_of c.code

@@ -94,6 +94,8 @@ pub struct ComponentFields {
     pub literal_at: Option<u32>,
     /// The declared rows of kinds.
     pub rows: Items<KindRow>,
+    /// Whether the linker gives the part its place; else it stands at its own numbers.
+    pub movable: bool,
 }
 
 /// A component: a part of a program before it is linked. A contract sees its fields.

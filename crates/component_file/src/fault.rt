@@ -69,7 +69,7 @@ impl fmt::Display for FileFault {
     fn fmt<W: fmt::Write>(&self, f: &mut fmt::Formatter<W>) -> fmt::Result {
         match self {
             FileFault::Magic => write!(f, "the file does not begin with STKC"),
-            FileFault::Version => write!(f, "the version is not 1"),
+            FileFault::Version => write!(f, "the version is neither 1 nor 2"),
             FileFault::Short(at) => write!(f, "the file ends within the field at byte {at}"),
             FileFault::BadField(at) => write!(f, "the field at byte {at} is not valid"),
             FileFault::Order(at) => write!(f, "the item at byte {at} is out of order"),

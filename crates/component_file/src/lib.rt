@@ -36,5 +36,7 @@ pub const MOST_SITES: u16 = 4_096;
 /// The most rows of kinds of a component.
 pub const MOST_ROWS: u32 = 65_536;
 
-// The version of the form.
-const VERSION: u16 = 1;
+// The version of the form where the component isn't movable, and where it is.
+const FIXED_VERSION: u16 = 1;
+
+const MOVABLE_VERSION: u16 = 2;

@@ -4,28 +4,41 @@ ghost use Rattle.component_file.specs.declared.fault.FileFault.TheVariants.{NoMe
 ghost use Rattle.component_file.specs.Spelling.{Spells};
 ghost use Rattle.component_file.specs.declared.component.ComponentFields.{ComponentFields};
 ghost use Rattle.component_file.specs.Fault.{GivesUnlessRefused, Decodes};
-ghost use Rattle.component_file.specs.Reading.{field, next_header, next_words, next_component, decoded};
+ghost use Rattle.component_file.specs.Reading.{field, next_header, version_meant, next_words, next_component, decoded};
 
 use crate::component::{Area, Component, ComponentFields};
 use crate::fault::FileFault;
 use crate::fields::{address, optional, stretch};
 use crate::listed::{long_list, name, short_list};
-use crate::{MOST_EXPORTS, MOST_IMPORTS, MOST_ROWS, MOST_SITES, MOST_WORDS, VERSION};
+use crate::{
+    FIXED_VERSION, MOST_EXPORTS, MOST_IMPORTS, MOST_ROWS, MOST_SITES, MOST_WORDS, MOVABLE_VERSION,
+};
 use cap_words::{Cursor, Items, SealRange, Word};
 use std::alloc::Global;
 
-// `STKC`, and version 1 of the format.
+// Whether a component of this version is movable.
+fn version_meant(version: u16) -> Option<bool>
+    ensures { result ≡ version_meant version }
+{
+    match version {
+        FIXED_VERSION => Some(false),
+        MOVABLE_VERSION => Some(true),
+        _ => None,
+    }
+}
+
+// `STKC`, and the version, which tells whether the component is movable.
 #[tactic(auto, unfolding(crate::specs::Reading::next_header, crate::specs::Reading::field))]
-fn header(bytes: &mut Cursor<'_>) -> Result<(), FileFault>
+fn header(bytes: &mut Cursor<'_>) -> Result<bool, FileFault>
     ensures { GivesUnlessRefused result bytes.new (next_header bytes.old) }
 {
     if bytes.bytes(4)? != b"STKC".as_slice() {
         return Err(FileFault::Magic);
     }
-    if bytes.u16()? != VERSION {
-        return Err(FileFault::Version);
+    match version_meant(bytes.u16()?) {
+        Some(movable) => Ok(movable),
+        None => Err(FileFault::Version),
     }
-    Ok(())
 }
 
 #[tactic(auto, unfolding(crate::specs::Reading::next_words))]
@@ -40,7 +53,7 @@ fn words(alloc: Global, bytes: &mut Cursor<'_>) -> Result<Items<Word>, FileFault
 fn component(alloc: Global, bytes: &mut Cursor<'_>) -> Result<ComponentFields, FileFault>
     ensures { GivesUnlessRefused result bytes.new (next_component bytes.old) }
 {
-    header(bytes)?;
+    let movable = header(bytes)?;
     let name = name(alloc, bytes)?;
     let stack_base = address(bytes)?;
     let closure = address(bytes)?;
@@ -74,6 +87,7 @@ fn component(alloc: Global, bytes: &mut Cursor<'_>) -> Result<ComponentFields, F
         fail_at,
         literal_at,
         rows,
+        movable,
     })
 }
 

@@ -4,10 +4,10 @@ ghost use Rattle.std.specs.List.{flat_map, AllByRecursion};
 ghost use Rattle.cap_words.specs.WordBytes.{SealInSpace, word_bytes_of};
 ghost use Rattle.component_file.specs.Spelling.{u32_bytes, name_bytes, stretch_bytes, list_bytes};
 ghost use Rattle.component_file.specs.Spelling.{import_bytes, export_bytes, optional_bytes, kind_bytes};
-ghost use Rattle.component_file.specs.Spelling.{row_bytes, Spells, NamesAreShort, NameIsShort, Always};
+ghost use Rattle.component_file.specs.Spelling.{row_bytes, version_of, Spells, NamesAreShort, NameIsShort, Always};
 
-use crate::VERSION;
 use crate::component::{Component, Export, Import, Kind, KindRow};
+use crate::{FIXED_VERSION, MOVABLE_VERSION};
 use cap_words::{Word, push_u16, push_u32, push_word};
 use std::alloc::{AllocError, Global};
 
@@ -170,6 +170,16 @@ fn push_long_list<T: Spelled>(out: &mut Vec<u8>, items: &[T]) -> Result<(), Allo
     push_items(out, items)
 }
 
+fn version_of(movable: bool) -> u16
+    ensures { result ≡ version_of movable }
+{
+    if movable {
+        MOVABLE_VERSION
+    } else {
+        FIXED_VERSION
+    }
+}
+
 /// The bytes of a component, which are its one spelling: docs/FORMATS.md has the form.
 #[tactic(auto, unfolding(crate::specs::Spelling::spelling))]
 pub fn encode_component(alloc: Global, c: &Component) -> Result<Vec<u8>, AllocError>
@@ -180,7 +190,7 @@ pub fn encode_component(alloc: Global, c: &Component) -> Result<Vec<u8>, AllocEr
     let fields = c.fields();
     let mut out = Vec::new(alloc);
     out.extend_from_slice(b"STKC")?;
-    push_u16(&mut out, VERSION)?;
+    push_u16(&mut out, version_of(fields.movable))?;
     push_name(&mut out, fields.name.as_slice())?;
     push_u32(&mut out, fields.stack_base)?;
     push_u32(&mut out, fields.closure)?;

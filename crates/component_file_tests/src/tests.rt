@@ -197,6 +197,7 @@ struct Wanted {
     sites: &'static [u32],
     fail_at: Option<u32>,
     literal_at: Option<u32>,
+    movable: bool,
     rows: &'static [(u32, &'static [Kind])],
 }
 
@@ -211,6 +212,23 @@ static ONE_FIELDS: Wanted = Wanted {
     sites: &[],
     fail_at: None,
     literal_at: None,
+    movable: false,
+    rows: &[],
+};
+
+// Those of `ONE` where its version is 2.
+static MOVABLE_FIELDS: Wanted = Wanted {
+    name: b"one",
+    bases: [65_536, 1, 100, 200],
+    areas: [0, 0, 0, 0],
+    code: &[Face::Number(1)],
+    data_words: &[Face::Number(0)],
+    imports: &[],
+    exports: &[(b"main", 0, true)],
+    sites: &[],
+    fail_at: None,
+    literal_at: None,
+    movable: true,
     rows: &[],
 };
 
@@ -253,6 +271,7 @@ static FULL_FIELDS: Wanted = Wanted {
     sites: &[0, 1],
     fail_at: Some(1),
     literal_at: Some(2),
+    movable: false,
     rows: &[
         (
             0,
@@ -313,6 +332,7 @@ fn are_fields(rt: &impl Abort, fields: &ComponentFields, wanted: &Wanted) {
     );
     assert!(rt; fields.sites.as_slice() == wanted.sites);
     assert!(rt; fields.fail_at == wanted.fail_at && fields.literal_at == wanted.literal_at);
+    assert_eq!(rt; fields.movable, wanted.movable);
     are_lists(rt, fields, wanted);
 }
 
@@ -330,12 +350,14 @@ fn spells(rt: &impl Abort, alloc: Global, bytes: &[u8], wanted: &Wanted) -> Resu
 fn an_example_is_the_component_that_it_spells(rt: HostRuntime) -> Result<(), Fail> {
     spells(&rt, rt.alloc(), ONE, &ONE_FIELDS)?;
     spells(&rt, rt.alloc(), FULL, &FULL_FIELDS)?;
+    let movable = replaced(&rt, rt.alloc(), ONE, 4, b"\x02\0")?;
+    spells(&rt, rt.alloc(), &movable, &MOVABLE_FIELDS)?;
     Ok(())
 }
 
 // The component that `ONE` spells, built of its fields.
 #[tactic(auto, unfolding(component_file::specs::Limits::is_name))]
-fn one(alloc: Global) -> Result<Component, AllocError> {
+fn one(alloc: Global, movable: bool) -> Result<Component, AllocError> {
     let main = Export {
         name: Items::of(Vec::from_slice(alloc, b"main")?),
         offset: 0,
@@ -357,12 +379,15 @@ fn one(alloc: Global) -> Result<Component, AllocError> {
         fail_at: None,
         literal_at: None,
         rows: Items::of(Vec::new(alloc)),
+        movable,
     }))
 }
 
 #[test]
 fn what_is_built_of_fields_has_the_bytes_of_the_example(rt: HostRuntime) -> Result<(), Fail> {
-    assert!(rt; has_bytes(rt.alloc(), one(rt.alloc())?, ONE)?);
+    assert!(rt; has_bytes(rt.alloc(), one(rt.alloc(), false)?, ONE)?);
+    let movable = replaced(&rt, rt.alloc(), ONE, 4, b"\x02\0")?;
+    assert!(rt; has_bytes(rt.alloc(), one(rt.alloc(), true)?, &movable)?);
     Ok(())
 }
 
@@ -434,11 +459,13 @@ fn a_byte_complemented_is_another_component_or_none(rt: HostRuntime) -> Result<(
 type Case<'a> = (usize, &'a [u8], Option<FileFault>);
 
 // Each with the fault that `ONE` then has.
-static ONE_CASES: [Case<'static>; 61] = [
+static ONE_CASES: [Case<'static>; 63] = [
     // The magic and the version.
     (0, b"R", Some(Magic)),
     (3, b"D", Some(Magic)),
     (4, b"\0\0", Some(Version)),
+    (4, b"\x02\0", None),
+    (4, b"\x03\0", Some(Version)),
     (4, b"\x09\0", Some(Version)),
     (5, b"\x01", Some(Version)),
     // The name: each byte, its length, and bytes that are not there. 31 bytes of a name end at 38,
@@ -720,7 +747,7 @@ fn a_name_has_1_to_31_bytes_of_its_kind(rt: HostRuntime) {
 // Faults, and the number, the place and the text of each.
 static FAULTS: [(FileFault, &str); 7] = [
     (Magic, "1 0 the file does not begin with STKC"),
-    (Version, "2 0 the version is not 1"),
+    (Version, "2 0 the version is neither 1 nor 2"),
     (Short(7), "3 7 the file ends within the field at byte 7"),
     (BadField(8), "4 8 the field at byte 8 is not valid"),
     (Order(9), "5 9 the item at byte 9 is out of order"),

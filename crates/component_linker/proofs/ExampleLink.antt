@@ -19,6 +19,8 @@ use Rattle.lcm_machine.proofs.SpanLemmas.{bases_from}
 use Rattle.lcm_machine.specs.Spans.{AreSpans}
 use Rattle.component_linker.specs.declared.owners.Site.{Site}
 use Rattle.component_linker.specs.declared.owners.Owner.{Owner}
+use Rattle.component_linker.specs.Links.{l10}
+use Rattle.component_linker.specs.Pairs.{NoneIsBroken, BrokenIn}
 use Rattle.component_linker.specs.Parts.{PartSeen}
 use Rattle.component_linker.specs.Regions.{regions_of, region_span, in_region, in_regions}
 use Rattle.component_linker.specs.Start.{Exported, main_of, start_cell, start_regs, IsStart}
@@ -219,9 +221,19 @@ owners_are = record {
 starts : Starts pair 4 start
 starts = record { state = is_start; sites = sites_are; owners = owners_are; stack = refl }
 
+-- neither of them is movable
+pub has_room : NoneIsBroken (l10 pair ∷ [])
+unfolding l10
+has_room zero p i t e b = cc
+has_room (suc zero) zero i t e b = let is : l10 pair ≡ t = cc in let here = subst (λ u. BrokenIn u 0 i) (sym is) b in absurd (omega (arith, here.1.0))
+has_room (suc zero) (suc zero) i t e b = let is : l10 pair ≡ t = cc in let here = subst (λ u. BrokenIn u 1 i) (sym is) b in absurd (omega (arith, here.1.0))
+has_room (suc zero) (suc (suc p)) i t e b = let is : l10 pair ≡ t = cc in let here = subst (λ u. BrokenIn u (suc (suc p)) i) (sym is) b in absurd (omega (arith, here.0))
+has_room (suc (suc n)) p i t e b = cc
+
 pub links : SitesStand → EntriesStand → LinksTo pair 4 start
 links sites entries = record {
   accepted = each;
+  room = has_room;
   rules = keeps;
   starts = starts;
   parts_apart = parts_apart pair 4 each keeps;

@@ -56,6 +56,7 @@ caller = record {
   fail_at = Some 47;
   literal_at = Some 48;
   rows = [];
+  movable = false;
 }
 
 caller_checked : check_from (broken_at C) 1 (rules_c caller true) ≡ Ok tt
@@ -143,6 +144,7 @@ other = record {
   fail_at = None;
   literal_at = None;
   rows = [];
+  movable = false;
 }
 
 other_checked : check_from (broken_at C) 1 (rules_c other false) ≡ Ok tt

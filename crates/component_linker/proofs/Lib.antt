@@ -19,6 +19,11 @@ pub mod PartKept
 pub mod LinksKept
 pub mod SealsKept
 pub mod CodeStands
+pub mod MovedFlow
+pub mod MovedRules
+pub mod MovedPart
+pub mod Settling
+pub mod DropFirst
 pub mod Accepted
 pub mod ExampleParts
 pub mod ExampleLink

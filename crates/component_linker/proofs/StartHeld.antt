@@ -55,7 +55,7 @@ get_cases [] ys k w h = let e : k - 0 ≡ k = omega arith in inr (rw e h)
 get_cases (x ∷ xs) ys zero w h = inl h
 get_cases (x ∷ xs) ys (suc k) w h = let e : suc k - suc (length xs) ≡ k - length xs = omega arith in elim (get_cases xs ys k w h) as (λ _. (slice_get (x ∷ xs) (suc k) ≡ Some w) ⊎ (slice_get ys (suc k - suc (length xs)) ≡ Some w)) [ inl a ↦ inl a | inr b ↦ inr (rw e b) ]
 
-each_at : (ws : List Word) (b : Option Word) (k : ℕ) (w : Word) → Chain (λ _ x. WordFits x × IsUnsealed x) b ws → slice_get ws k ≡ Some w → WordFits w × IsUnsealed w
+pub each_at : (ws : List Word) (b : Option Word) (k : ℕ) (w : Word) → Chain (λ _ x. WordFits x × IsUnsealed x) b ws → slice_get ws k ≡ Some w → WordFits w × IsUnsealed w
 each_at [] b k w h at = absurd cc
 each_at (x ∷ xs) b zero w h at = let e : x ≡ w = cc in subst (λ y. WordFits y × IsUnsealed y) e h.0
 each_at (x ∷ xs) b (suc k) w h at = each_at xs (Some x) k w h.1 at

@@ -1,21 +1,31 @@
 -- What linking answers.
-use Rattle.std.specs.Prelude.{◌≡◌, ℕ, List, slice_get, Some, Result, Ok, Err}
+use Rattle.std.specs.Prelude.{◌≡◌, ℕ, List, [], ◌∷◌, slice_get, Some, None, Result, Ok, Err}
 use Rattle.lcm_machine.specs.Regions.{AreApart, HeldOnce}
 use Rattle.component_linker.specs.declared.fault.LinkFault.{LinkFault}
 use Rattle.component_linker.specs.declared.fault.LinkFault.TheVariants.{Rule, NoMemory}
-use Rattle.component_linker.specs.Parts.{PartSeen, IsPart, placed}
+use Rattle.component_linker.specs.Parts.{PartSeen, IsPart}
+use Rattle.component_linker.specs.Standing.{placed}
 use Rattle.component_linker.specs.Regions.{regions_of}
-use Rattle.component_linker.specs.Pairs.{IsFirstIn, NoneIsBroken}
-use Rattle.component_linker.specs.Links.{rules_l, rule_at}
+use Rattle.component_linker.specs.Pairs.{IsFirstIn, NoneIsBroken, first_in}
+use Rattle.component_linker.specs.declared.pairs.PartPlace.{PartPlace}
+use Rattle.component_linker.specs.Links.{l10, rules_l, rules_of_link, rule_at}
 use Rattle.component_linker.specs.SealsApart.{PartsApart, SitesApart}
 use Rattle.component_linker.specs.TrustedCode.{CodeInCells, TrustedInCells}
 use Rattle.component_linker.specs.Started.{StartSeen, Starts}
 
--- of parts as they stand: each keeps its own rules, no rule L is broken, and this is their start. No seal is of two parts or of two
--- sites, regions lie apart, and no address of a linear one is held twice; all have the start's stack, and their
+-- the parts as they stand; or the first that has no room, and what it lacks
+abbrev pub Places : List PartSeen → ℕ → Result (List PartSeen) PartPlace → Type 0
+Places parts size (Ok ps) = (ps ≡ placed parts size) × (first_in (l10 (placed parts size)) ≡ None)
+Places parts size (Err at) = first_in (l10 (placed parts size)) ≡ Some at
+
+-- of parts as they stand: each keeps its own rules, no rule L is broken, and this is their start. No seal is
+-- of two parts or of two
+-- sites, regions lie apart, and no address of a linear one is held twice; all have the start's stack, and
+-- their
 -- code stands in the cells, that of trusted ones with its sequences
 pub record LinksTo (parts : List PartSeen) (size : ℕ) (s : StartSeen) : Type 0 where
   pub accepted : (k : ℕ) (p : PartSeen) → slice_get parts k ≡ Some p → IsPart p
+  pub room : NoneIsBroken (l10 parts ∷ [])
   pub rules : NoneIsBroken (rules_l parts size)
   pub starts : Starts parts size s
   pub parts_apart : PartsApart parts
@@ -27,7 +37,11 @@ pub record LinksTo (parts : List PartSeen) (size : ℕ) (s : StartSeen) : Type 0
   pub trusted : TrustedInCells parts s.state.maps
 
 -- the start; or the first rule that is broken; or, with no rule broken, that memory was refused
+abbrev pub AnswersPlaced : List PartSeen → ℕ → Result StartSeen LinkFault → Type 0
+AnswersPlaced parts size (Ok s) = LinksTo parts size s
+AnswersPlaced parts size (Err (Rule at)) = IsFirstIn rule_at (rules_of_link parts size) at
+AnswersPlaced parts size (Err NoMemory) = NoneIsBroken (rules_of_link parts size)
+
+-- of parts, as they stand once they are placed
 abbrev pub Answers : List PartSeen → ℕ → Result StartSeen LinkFault → Type 0
-Answers parts size (Ok s) = LinksTo (placed parts size) size s
-Answers parts size (Err (Rule at)) = IsFirstIn rule_at (rules_l (placed parts size) size) at
-Answers parts size (Err NoMemory) = NoneIsBroken (rules_l (placed parts size) size)
+Answers parts size answer = AnswersPlaced (placed parts size) size answer

@@ -1,6 +1,8 @@
 pub mod Parts
 pub mod Accepted
+pub mod Placing
 pub mod Regions
+pub mod Standing
 pub mod Start
 pub mod Pairs
 pub mod Links

@@ -1,16 +1,18 @@
 -- The rules L, which parts and a stack size keep together. docs/RULES.md has them as a table.
-use Rattle.std.specs.Prelude.{ℕ, ◌+◌, ◌==◌, ◌&&◌, ◌||◌, nat_le, nat_lt, Bool, false, not, List, [], ◌∷◌, length, take, sum_by, slice_index_or, Option, Some, None, is_none, if◌then◌else◌}
+use Rattle.std.specs.Prelude.{ℕ, zero, suc, ◌+◌, ◌==◌, ◌&&◌, ◌||◌, nat_le, nat_lt, Bool, false, not, List, [], ◌∷◌, length, take, sum_by, slice_index_or, Option, Some, None, is_none, if◌then◌else◌}
 use Rattle.std.specs.List.{list_any}
 use Rattle.cap_words.specs.declared.TheConstants.{LAST_PLACE}
 use Rattle.component_file.specs.declared.TheConstants.{MOST_SITES}
 use Rattle.seal_space.specs.Seals.{has_seal, are_disjoint}
 use Rattle.lcm_machine.specs.declared.cells.Span.{Span}
-use Rattle.component_check.specs.Places.{plainly}
+use Rattle.component_check.specs.Places.{Test, plainly, each_of}
 use Rattle.component_check.specs.declared.rule.Group.TheVariants.{L}
 use Rattle.component_linker.specs.declared.TheConstants.{MOST_PARTS}
 use Rattle.component_linker.specs.declared.pairs.PartPlace.{PartPlace}
 use Rattle.component_linker.specs.declared.fault.RuleAt.{RuleAt}
+use Rattle.component_file.specs.declared.component.ComponentFields.{ComponentFields}
 use Rattle.component_linker.specs.Parts.{PartSeen}
+use Rattle.component_linker.specs.Placing.{areas_end_late, seals_end_late, points_too_far}
 use Rattle.component_linker.specs.Regions.{code_span, data_span, linear_span, stack_span, is_stack_size}
 use Rattle.component_linker.specs.Start.{Exported, same_name, imported, is_main, stack_base_of}
 use Rattle.component_linker.specs.Pairs.{PairTest, never, once, at_each, each_part, each_part_then}
@@ -108,6 +110,18 @@ l9 parts = each_part parts (λ i p. once
     (if are_few parts then nat_lt MOST_SITES (sites_upto parts i) else i == MOST_PARTS)
     (if are_few parts then sites_upto parts i else length parts))
 
+-- ---- L10: a movable part, where it stands, has addresses and seals that there are, and integers of the machine
+
+-- 0 addresses, 1 seals, 2 integers
+abbrev pub lacks_room : ComponentFields → Test ℕ
+lacks_room c = each_of (areas_end_late c ∷ seals_end_late c ∷ points_too_far c ∷ [])
+
+abbrev pub room_test : PartSeen → Test ℕ
+room_test p = if p.component.movable then lacks_room p.component else never
+
+unfoldable pub l10 : List PartSeen → PairTest
+l10 parts = each_part parts (λ i p. room_test p)
+
 -- ---- all of them, in their order
 
 abbrev pub rules_l : List PartSeen → ℕ → List PairTest
@@ -115,6 +129,16 @@ rules_l parts size =
     l1 parts size ∷ l2 parts ∷ l3 parts ∷ l4 parts ∷ l5 parts ∷ l6 parts ∷ l7 parts ∷ l8 parts size
     ∷ l9 parts ∷ []
 
--- rule number n is broken at a place in a part
+-- and before them L10
+abbrev pub rules_of_link : List PartSeen → ℕ → List PairTest
+rules_of_link parts size = l10 parts ∷ rules_l parts size
+
+-- the number of the rule that is tried so many-th
+abbrev pub number_of : ℕ → ℕ
+number_of zero = 0
+number_of (suc zero) = 10
+number_of (suc (suc n)) = suc n
+
+-- the rule that is tried n-th is broken at a place in a part
 abbrev pub rule_at : ℕ → PartPlace → RuleAt
-rule_at n at = record { rule = record { group = L; number = n }; part = at.part; place = at.place }
+rule_at n at = record { rule = record { group = L; number = number_of n }; part = at.part; place = at.place }

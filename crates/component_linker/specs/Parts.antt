@@ -1,4 +1,4 @@
--- Parts as the linker sees them, and where they stand.
+-- Parts as the linker sees them.
 use Rattle.std.specs.Prelude.{◌≡◌, ℕ, ◌⊎◌, Bool, true, List, Result, Ok, Err}
 use Rattle.component_file.specs.declared.component.ComponentFields.{ComponentFields}
 use Rattle.component_file.specs.Limits.{IsComponent}
@@ -35,7 +35,3 @@ pub record IsPart (p : PartSeen) : Type 0 where
 abbrev pub Accepts : PartSeen → Result PartSeen Broken → Type 0
 Accepts p (Ok q) = (q ≡ p) × NoneBroken (rules_of p) × TriesFlow p (Ok tt)
 Accepts p (Err b) = IsFirst (broken_at C) (rules_of p) b ⊎ (NoneBroken (rules_of p) × TriesFlow p (Err b))
-
--- the parts as they stand in memory: each at its component's own numbers
-abbrev pub placed : List PartSeen → ℕ → List PartSeen
-placed parts stack = parts

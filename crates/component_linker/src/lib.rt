@@ -9,6 +9,7 @@ mod laying;
 mod linking;
 mod machine;
 mod memory;
+mod moving;
 mod names;
 mod owners;
 mod pairs;

@@ -1,15 +1,15 @@
 //! Linking.
-ghost use Rattle.std.specs.Prelude.{◌≡◌, ◌<◌, ◌^◌, ℕ, List, length, map, slice_get, Some, Ok, OnOk};
+ghost use Rattle.std.specs.Prelude.{◌≡◌, ◌<◌, ◌^◌, ℕ, List, length, map, slice_get, Some, None, Ok, OnOk};
 ghost use Rattle.component_check.specs.Verdict.{check_from, kept_or};
-ghost use Rattle.component_linker.specs.Pairs.{by_part, IsFirstBrokenIn};
-ghost use Rattle.component_linker.specs.Links.{rules_l, rule_at};
+ghost use Rattle.component_linker.specs.Pairs.{by_part, first_in, IsFirstBrokenIn};
+ghost use Rattle.component_linker.specs.Links.{l10, rules_l, rules_of_link, number_of, rule_at};
 ghost use Rattle.lcm_machine.specs.Run.{Run};
 ghost use Rattle.component_linker.specs.Parts.{PartSeen, IsPart};
 ghost use Rattle.component_linker.specs.Linked.{Linked};
 ghost use Rattle.component_linker.specs.SealsApart.{PartsApart};
 ghost use Rattle.component_linker.specs.Start.{IsStart};
 ghost use Rattle.component_linker.specs.TrustedCode.{TrustedInCells};
-ghost use Rattle.component_linker.specs.Answer.{Answers};
+ghost use Rattle.component_linker.specs.Answer.{Answers, AnswersPlaced};
 
 use crate::fault::{LinkFault, RuleAt};
 use crate::imports::{l4, l5};
@@ -25,41 +25,60 @@ use component_check::{Group, Rule};
 use flow_check::laws::sequences_stand;
 use std::alloc::Global;
 
+// The number of the rule that is tried so many-th.
+fn number_of(tried: u8) -> u8
+    ensures { result ≡ number_of tried }
+{
+    match tried {
+        0 => 0,
+        1 => 10,
+        _ => tried - 1,
+    }
+}
+
+// A rule that is broken.
+fn told(tried: u8, at: PartPlace) -> RuleAt
+    ensures { result ≡ rule_at tried at }
+{
+    RuleAt {
+        rule: Rule {
+            group: Group::L,
+            number: number_of(tried),
+        },
+        part: at.part,
+        place: at.place,
+    }
+}
+
 // Goes on where a rule has no broken place.
-fn kept(number: u8, at: Option<PartPlace>) -> Result<(), RuleAt>
-    ensures { result ≡ kept_or rule_at number at (Ok tt) }
+fn kept(tried: u8, at: Option<PartPlace>) -> Result<(), RuleAt>
+    ensures { result ≡ kept_or rule_at tried at (Ok tt) }
 {
     match at {
         None => Ok(()),
-        Some(at) => Err(RuleAt {
-            rule: Rule {
-                group: Group::L,
-                number,
-            },
-            part: at.part,
-            place: at.place,
-        }),
+        Some(at) => Err(told(tried, at)),
     }
 }
 
 fn try_rules(parts: &PlacedParts, stack: u32) -> Result<(), RuleAt>
-    ensures { result ≡ check_from rule_at 1 (map by_part (rules_l parts.now stack)) }
+    ensures { result ≡ check_from rule_at 2 (map by_part (rules_l parts.now stack)) }
 {
-    kept(1, l1(parts, stack))?;
-    kept(2, l2(parts))?;
-    kept(3, l3(parts))?;
-    kept(4, l4(parts))?;
-    kept(5, l5(parts))?;
-    kept(6, l6(parts))?;
-    kept(7, l7(parts))?;
-    kept(8, l8(parts, stack))?;
-    kept(9, l9(parts))
+    kept(2, l1(parts, stack))?;
+    kept(3, l2(parts))?;
+    kept(4, l3(parts))?;
+    kept(5, l4(parts))?;
+    kept(6, l5(parts))?;
+    kept(7, l6(parts))?;
+    kept(8, l7(parts))?;
+    kept(9, l8(parts, stack))?;
+    kept(10, l9(parts))
 }
 
-// The first of the rules L1 to L9 that the parts break, in the first part and at the first place
+// The first of the rules L1 to L9 that parts with room break, in the first part and at the first place
 // there at which they break it.
 fn check_links(parts: &PlacedParts, stack: u32) -> Result<(), RuleAt>
-    ensures first { IsFirstBrokenIn rule_at (rules_l parts.now stack) result }
+    requires { first_in (l10 parts.now) ≡ None }
+    ensures first { IsFirstBrokenIn rule_at (rules_of_link parts.now stack) result }
     ensures linked { OnOk result (Linked parts.now stack) }
     ensures apart { OnOk result (PartsApart parts.now) }
     ensures kept { (k : ℕ) (p : PartSeen) → slice_get parts.now k ≡ Some p → IsPart p }
@@ -78,12 +97,24 @@ fn trusted_code_stands()
     sequences_stand_word_by_word();
 }
 
+// The same of parts that are placed.
+fn link_placed(alloc: Global, parts: &PlacedParts, stack: u32) -> Result<Start, LinkFault>
+    requires { first_in (l10 parts.now) ≡ None }
+    ensures { AnswersPlaced parts.now stack result }
+{
+    check_links(parts, stack)?;
+    trusted_code_stands();
+    Ok(start_of(alloc, parts, stack)?)
+}
+
 /// The start of parts that are linked with a stack of this many words.
 ///
-/// Their code and data stand at their bases, with the two halves of what an import names in its
-/// slot; linear areas and the stack are integer 0. The registers pc and data are the halves of the
-/// one shared export `main`, unsealed; stk is the linear capability over the whole stack, at its
-/// end; all others are integer 0. docs/RULES.md has the rules that are asked for first, L1 to L9.
+/// Movable parts are placed behind the others and the stack, as docs/RULES.md says; the others stand
+/// at their own numbers. Code and data stand at the bases that they have then, with the two halves of
+/// what an import names in its slot; linear areas and the stack are integer 0. The registers pc and
+/// data are the halves of the one shared export `main`, unsealed; stk is the linear capability over
+/// the whole stack, at its end; all others are integer 0. docs/RULES.md has the rules that are asked
+/// for first, L10 and then L1 to L9.
 ///
 /// No seal is of two parts, and none is of two sites. No address of a linear area or of the stack is
 /// held twice at the start, and what [`lcm_machine::LcmState::run`] ensures keeps it so in every
@@ -98,8 +129,8 @@ pub fn link(alloc: Global, parts: &[Part], stack: u32) -> Result<Start, LinkFaul
     requires { length parts.now < 2 ^ 32 }
     ensures { Answers parts.now stack result }
 {
-    let placed = PlacedParts::of(parts, stack);
-    check_links(&placed, stack)?;
-    trusted_code_stands();
-    Ok(start_of(alloc, &placed, stack)?)
+    match PlacedParts::of(parts, stack) {
+        Ok(placed) => link_placed(alloc, &placed, stack),
+        Err(at) => Err(LinkFault::Rule(told(1, at))),
+    }
 }

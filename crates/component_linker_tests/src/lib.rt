@@ -4,6 +4,8 @@
 #[cfg(test)]
 mod parts;
 #[cfg(test)]
+mod placing;
+#[cfg(test)]
 mod rules;
 #[cfg(test)]
 mod start;

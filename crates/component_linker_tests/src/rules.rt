@@ -155,8 +155,8 @@ fn texts_told(
     Ok(text)
 }
 
-// What is changed, the stack's size, and what is told.
-fn case_of(line: &str) -> Option<(&str, u32, &str)> {
+/// What is changed, the stack's size, and what is told.
+pub(crate) fn case_of(line: &str) -> Option<(&str, u32, &str)> {
     let (changes, rest) = line.split_once('|')?;
     let (size, wanted) = rest.split_once('|')?;
     let size = size.trim().parse::<u32>().ok()?;

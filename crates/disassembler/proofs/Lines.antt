@@ -96,11 +96,13 @@ code_leads (Sealed seal content) h code words t fits plain room = absurd plain
 -- ---- the order of items
 
 -- behind `.closure` and before `.data`
-pub in_header : (n m : ℕ) (b : Bool) → 3 ≤ n → n < m → m ≤ 6 → ((nat_lt n m || ((m == n) && b)) && nat_le m (furthest n)) ≡ true
+pub in_header : (n m : ℕ) (b : Bool) → rank item.Closure ≤ n → n < m → m ≤ rank item.Code
+    → ((nat_lt n m || ((m == n) && b)) && nat_le m (furthest n)) ≡ true
 in_header n m b low lt high = grind (arith, nat_tests)
 
 -- behind `.data`
-pub in_tables : (n m : ℕ) (b : Bool) → 7 ≤ n → n < m → m ≤ 13 → ((nat_lt n m || ((m == n) && b)) && nat_le m (furthest n)) ≡ true
+pub in_tables : (n m : ℕ) (b : Bool) → rank item.Data ≤ n → n < m → m ≤ rank item.Row
+    → ((nat_lt n m || ((m == n) && b)) && nat_le m (furthest n)) ≡ true
 in_tables n m b low lt high = grind (arith, nat_tests)
 
 ends_in : (s : Option Section) (d : Draft) → not (length d.code == 0) ≡ true → not (length d.data_words == 0) ≡ true → may_end_in s d ≡ true
@@ -125,7 +127,8 @@ last_behind i last [] x = refl
 last_behind i last (y ∷ xs) x = refl
 
 -- one more item of a table may stand there
-pub follows : {A : Type 0} (i : Item) (last : Option Item) (xs : List A) → 7 ≤ rank_of last → rank_of last < rank i → rank i ≤ 13 → may_follow (Some i) i ≡ true → may_follow (last_in i last xs) i ≡ true
+pub follows : {A : Type 0} (i : Item) (last : Option Item) (xs : List A) → rank item.Data ≤ rank_of last → rank_of last < rank i
+    → rank i ≤ rank item.Row → may_follow (Some i) i ≡ true → may_follow (last_in i last xs) i ≡ true
 follows i last [] low lt high again = in_tables (rank_of last) (rank i) (repeats i) low lt high
 follows i last (x ∷ xs) low lt high again = again
 

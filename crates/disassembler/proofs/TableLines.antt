@@ -46,7 +46,7 @@ fewer most xs before x after few is =
     below n m lt = grind (arith, nat_tests)
 
 -- an item of a table may stand behind those before it
-stands : {A : Type 0} (i : Item) (last : Option Item) (h : Header) (code words : List Word) (t : Tables) (before : List A) → HasWords code words → 7 ≤ rank_of last → rank_of last < rank i → rank i ≤ 13
+stands : {A : Type 0} (i : Item) (last : Option Item) (h : Header) (code words : List Word) (t : Tables) (before : List A) → HasWords code words → rank item.Data ≤ rank_of last → rank_of last < rank i → rank i ≤ rank item.Row
     → may_follow (Some i) i ≡ true → has_room i t ≡ true → may_stand false i (so_far (last_in i last before) h code words t) ≡ true
 stands i last h code words t before some low lt high again room =
     all_three (may_follow (last_in i last before) i) (may_end (so_far (last_in i last before) h code words t)) (has_room i t)
@@ -68,7 +68,8 @@ still false at h = absurd cc
 
 -- ---- imports
 
-pub imports_lead : (last : Option Item) (h : Header) (code words : List Word) (is : List Import) → HasWords code words → 7 ≤ rank_of last → rank_of last < 8 → length is ≤ 1024 → Chain ImportFits None is
+pub imports_lead : (last : Option Item) (h : Header) (code words : List Word) (is : List Import) → HasWords code words → rank item.Data ≤ rank_of last
+    → rank_of last < rank item.Import → length is ≤ 1024 → Chain ImportFits None is
     → Leads (length is) (flat_map import_line is) (so_far last h code words (tables [] [] [] None None [])) (so_far (last_in item.Import last is) h code words (tables is [] [] None None []))
 imports_lead last h code words is some low lt few chain =
     table item.Import import_line (λ is. tables is [] [] None None []) 1024 ImportFits last h code words is few chain (λ before i room fits.
@@ -82,7 +83,8 @@ imports_lead last h code words is some low lt few chain =
 
 -- ---- exports
 
-pub exports_lead : (last : Option Item) (h : Header) (code words : List Word) (is : List Import) (es : List Export) → HasWords code words → 7 ≤ rank_of last → rank_of last < 9 → length es ≤ 1024 → Chain ExportFits None es
+pub exports_lead : (last : Option Item) (h : Header) (code words : List Word) (is : List Import) (es : List Export) → HasWords code words → rank item.Data ≤ rank_of last
+    → rank_of last < rank item.Export → length es ≤ 1024 → Chain ExportFits None es
     → Leads (length es) (flat_map export_line es) (so_far last h code words (tables is [] [] None None [])) (so_far (last_in item.Export last es) h code words (tables is es [] None None []))
 exports_lead last h code words is es some low lt few chain =
     table item.Export export_line (λ es. tables is es [] None None []) 1024 ExportFits last h code words es few chain (λ before e room fits.
@@ -96,7 +98,8 @@ exports_lead last h code words is es some low lt few chain =
 
 -- ---- sites
 
-pub sites_lead : (last : Option Item) (h : Header) (code words : List Word) (is : List Import) (es : List Export) (ss : List ℕ) → HasWords code words → 7 ≤ rank_of last → rank_of last < 10 → length ss ≤ 4096 → Chain SiteFits None ss
+pub sites_lead : (last : Option Item) (h : Header) (code words : List Word) (is : List Import) (es : List Export) (ss : List ℕ) → HasWords code words → rank item.Data ≤ rank_of last
+    → rank_of last < rank item.Site → length ss ≤ 4096 → Chain SiteFits None ss
     → Leads (length ss) (flat_map site_line ss) (so_far last h code words (tables is es [] None None [])) (so_far (last_in item.Site last ss) h code words (tables is es ss None None []))
 sites_lead last h code words is es ss some low lt few chain =
     table item.Site site_line (λ ss. tables is es ss None None []) 4096 SiteFits last h code words ss few chain (λ before s room fits.
@@ -112,22 +115,24 @@ abbrev pub last_some : Item → Option Item → Option ℕ → Option Item
 last_some i last None = last
 last_some i last (Some n) = Some i
 
-pub fail_leads : (last : Option Item) (h : Header) (code words : List Word) (is : List Import) (es : List Export) (ss : List ℕ) (f : Option ℕ) → HasWords code words → 7 ≤ rank_of last → rank_of last < 11 → IfSome f (λ o. o ≤ 65535)
+pub fail_leads : (last : Option Item) (h : Header) (code words : List Word) (is : List Import) (es : List Export) (ss : List ℕ) (f : Option ℕ) → HasWords code words → rank item.Data ≤ rank_of last
+    → rank_of last < rank item.Fail → IfSome f (λ o. o ≤ 65535)
     → Leads 1 (optional_line item.Fail f) (so_far last h code words (tables is es ss None None [])) (so_far (last_some item.Fail last f) h code words (tables is es ss f None []))
 fail_leads last h code words is es ss None some low lt fits = leads_optional (so_far last h code words (tables is es ss None None []))
 fail_leads last h code words is es ss (Some n) some low lt fits =
     leads_item item.Fail _ _ (offset_forms n) (so_far last h code words (tables is es ss None None [])) (so_far (Some item.Fail) h code words (tables is es ss (Some n) None []))
     (one_operand 5 (decimal n) (integer_forms (pos n)) (offset_field n fits)) (lit≤ tt)
-    (all_three (may_follow last item.Fail) _ true (in_tables (rank_of last) 11 false low lt (lit≤ tt)) (ends last h code words (tables is es ss None None []) some.in_code some.in_data) refl)
+    (all_three (may_follow last item.Fail) _ true (in_tables (rank_of last) (rank item.Fail) false low lt (lit≤ tt)) (ends last h code words (tables is es ss None None []) some.in_code some.in_data) refl)
     (λ at. fail_again at n (so_far (Some item.Fail) h code words (tables is es ss None None [])) fits)
 
-pub literal_leads : (last : Option Item) (h : Header) (code words : List Word) (is : List Import) (es : List Export) (ss : List ℕ) (f l : Option ℕ) → HasWords code words → 7 ≤ rank_of last → rank_of last < 12 → IfSome l (λ o. o ≤ 65535)
+pub literal_leads : (last : Option Item) (h : Header) (code words : List Word) (is : List Import) (es : List Export) (ss : List ℕ) (f l : Option ℕ) → HasWords code words → rank item.Data ≤ rank_of last
+    → rank_of last < rank item.Literal → IfSome l (λ o. o ≤ 65535)
     → Leads 1 (optional_line item.Literal l) (so_far last h code words (tables is es ss f None [])) (so_far (last_some item.Literal last l) h code words (tables is es ss f l []))
 literal_leads last h code words is es ss f None some low lt fits = leads_optional (so_far last h code words (tables is es ss f None []))
 literal_leads last h code words is es ss f (Some n) some low lt fits =
     leads_item item.Literal _ _ (offset_forms n) (so_far last h code words (tables is es ss f None [])) (so_far (Some item.Literal) h code words (tables is es ss f (Some n) []))
     (one_operand 5 (decimal n) (integer_forms (pos n)) (offset_field n fits)) (lit≤ tt)
-    (all_three (may_follow last item.Literal) _ true (in_tables (rank_of last) 12 false low lt (lit≤ tt)) (ends last h code words (tables is es ss f None []) some.in_code some.in_data) refl)
+    (all_three (may_follow last item.Literal) _ true (in_tables (rank_of last) (rank item.Literal) false low lt (lit≤ tt)) (ends last h code words (tables is es ss f None []) some.in_code some.in_data) refl)
     (λ at. literal_again at n (so_far (Some item.Literal) h code words (tables is es ss f None [])) fits)
 
 -- ---- rows
@@ -163,7 +168,8 @@ row_rest r offset many kinds =
     let all = subst (λ fs. IsRest (11 * length r.kinds) (kinds_text r.kinds) fs) (sym (append-nil (flat_map kind_forms r.kinds))) (kinds_rest r.kinds kinds) in
     wider (1 + 5 + 11 * length r.kinds) 171 _ _ (omega arith) (rest_more 5 (11 * length r.kinds) (decimal r.offset) (kinds_text r.kinds) (integer_forms (pos r.offset)) (flat_map kind_forms r.kinds ++ []) (offset_field r.offset offset) all)
 
-pub rows_lead : (last : Option Item) (h : Header) (code words : List Word) (is : List Import) (es : List Export) (ss : List ℕ) (f l : Option ℕ) (rs : List KindRow) → HasWords code words → 7 ≤ rank_of last → rank_of last < 13 → length rs ≤ 65536 → Chain RowFits None rs
+pub rows_lead : (last : Option Item) (h : Header) (code words : List Word) (is : List Import) (es : List Export) (ss : List ℕ) (f l : Option ℕ) (rs : List KindRow) → HasWords code words → rank item.Data ≤ rank_of last
+    → rank_of last < rank item.Row → length rs ≤ 65536 → Chain RowFits None rs
     → Leads (length rs) (flat_map row_line rs) (so_far last h code words (tables is es ss f l [])) (so_far (last_in item.Row last rs) h code words (tables is es ss f l rs))
 rows_lead last h code words is es ss f l rs some low lt few chain =
     table item.Row row_line (λ rs. tables is es ss f l rs) 65536 RowFits last h code words rs few chain (λ before r room fits.

@@ -1,5 +1,5 @@
 -- The text of a component: its items in their order, each in a line.
-use Rattle.std.specs.Prelude.{ℕ, ◌==◌, if◌then◌else◌, ◌++◌, List, [], ◌∷◌, codes, decimal, ℤ, Option, Some, None}
+use Rattle.std.specs.Prelude.{ℕ, Bool, true, false, ◌==◌, if◌then◌else◌, ◌++◌, List, [], ◌∷◌, codes, decimal, ℤ, Option, Some, None}
 use Rattle.std.specs.List.{flat_map, concat}
 use Rattle.std.specs.Fmt.{signed_decimal}
 use Rattle.cap_words.specs.declared.Word.{Word}
@@ -62,6 +62,11 @@ code_line w = word_line w
 
 -- ---- items
 
+-- an item without operands; nothing where it isn't so
+abbrev pub flag_line : Item → Bool → List ℕ
+flag_line i false = []
+flag_line i true = item_line i []
+
 -- nothing where nothing is counted
 abbrev pub stretch_line : Item → ℕ → ℕ → List ℕ
 stretch_line i base count = if count == 0 then [] else item_line i (decimal base ∷ decimal count ∷ [])
@@ -95,6 +100,7 @@ disassembled c = concat (
     item_line item.Name (c.name ∷ [])
     ∷ item_line item.Stack (decimal c.stack_base ∷ [])
     ∷ item_line item.Closure (decimal c.closure ∷ [])
+    ∷ flag_line item.Movable c.movable
     ∷ stretch_line item.Seals c.seals.base c.seals.count
     ∷ stretch_line item.Linear c.linear.base c.linear.count
     ∷ item_line item.Code (decimal c.code_base ∷ [])

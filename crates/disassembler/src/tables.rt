@@ -1,7 +1,7 @@
 //! The lines of data and of items that may be many or missing.
 ghost use Rattle.std.specs.Prelude.{◌≡◌, ◌++◌, ℕ, List, [], ◌∷◌, decimal, OnOk};
 ghost use Rattle.std.specs.List.{flat_map};
-ghost use Rattle.disassembler.specs.Disassembled.{behind_blank, item_line, word_line, stretch_line};
+ghost use Rattle.disassembler.specs.Disassembled.{behind_blank, item_line, flag_line, word_line, stretch_line};
 ghost use Rattle.disassembler.specs.Disassembled.{optional_line, import_line, export_line, site_line};
 ghost use Rattle.disassembler.specs.Disassembled.{kind_fields, row_line};
 
@@ -123,6 +123,17 @@ pub(crate) fn push_stretch(
     begin_item(text, item)?;
     push_number(text, base)?;
     push_number(text, count)?;
+    end(text)
+}
+
+/// Appends the line of an item without operands, or nothing where it isn't so.
+pub(crate) fn push_flag(text: &mut Vec<u8>, item: Item, is_so: bool) -> Result<(), AllocError>
+    ensures { OnOk result (text.new.items ≡ text.old.items ++ flag_line item is_so) }
+{
+    if !is_so {
+        return Ok(());
+    }
+    begin_item(text, item)?;
     end(text)
 }
 

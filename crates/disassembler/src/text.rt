@@ -5,7 +5,7 @@ ghost use Rattle.asm_fields.specs.declared.directives.Item.TheVariants.{Name};
 ghost use Rattle.disassembler.specs.Disassembled.{item_line, disassembled};
 
 use crate::line::{begin_item, end, push_operand};
-use crate::tables::{push_lines, push_optional, push_single, push_stretch};
+use crate::tables::{push_flag, push_lines, push_optional, push_single, push_stretch};
 use crate::words::push_code;
 use asm_fields::Item;
 use component_file::Component;
@@ -25,7 +25,8 @@ fn push_name(text: &mut Vec<u8>, name: &[u8]) -> Result<(), AllocError>
 ///
 /// Its items stand in their order, each in a line, with one blank between fields. A word of the code that
 /// is an instruction is written as that, another integer as `.int`. Offsets are numbers: there are no
-/// labels and no comments. `.seals` and `.linear` stand only where they count anything.
+/// labels and no comments. `.movable` stands only where the component is, `.seals` and `.linear` only where
+/// they count anything.
 #[tactic(auto, unfolding(crate::specs::Disassembled::disassembled))]
 pub fn disassemble(alloc: Global, c: &Component) -> Result<Vec<u8>, AllocError>
     ensures text { IfOk result (λ text. text.items ≡ disassembled c.now) }
@@ -39,6 +40,7 @@ pub fn disassemble(alloc: Global, c: &Component) -> Result<Vec<u8>, AllocError>
     push_name(&mut text, fields.name.as_slice())?;
     push_single(&mut text, Item::Stack, fields.stack_base)?;
     push_single(&mut text, Item::Closure, fields.closure)?;
+    push_flag(&mut text, Item::Movable, fields.movable)?;
     push_stretch(
         &mut text,
         Item::Seals,

@@ -43,6 +43,7 @@ const HEADER: &[u8] = b"# a part|
 . name  full_1|.name full_1
 .stack 0001|.stack 1
 .closure 1048575|.closure 1048575
+ . movable|.movable
 .seals 0 65536|.seals 0 65536
 .linear 1048575 1|.linear 1048575 1
 .code 7|.code 7";

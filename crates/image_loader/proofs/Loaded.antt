@@ -4,9 +4,9 @@ use Rattle.std.specs.Prelude.{IsOk}
 use Rattle.cap_words.proofs.Grammar.{IsBytes}
 use Rattle.component_linker.specs.declared.fault.LinkFault.{LinkFault}
 use Rattle.component_linker.specs.declared.fault.LinkFault.TheVariants as link_faults
-use Rattle.component_linker.specs.Parts.{placed}
+use Rattle.component_linker.specs.Standing.{placed}
 use Rattle.component_linker.specs.Pairs.{NoneIsBroken}
-use Rattle.component_linker.specs.Links.{rules_l}
+use Rattle.component_linker.specs.Links.{rules_of_link}
 use Rattle.component_linker.specs.Started.{StartSeen}
 use Rattle.component_linker.specs.Answer.{Answers}
 use Rattle.image_loader.specs.declared.fault.ImageFault.{ImageFault}
@@ -58,7 +58,7 @@ loads_found bytes s fits (inl h) = by_read (image_of bytes) refl h
     by_read (Ok i) is h = by_link i is h.0 h.1 h.2
     by_read (Err e) is h = absurd cc
 
-pub loads_only : (bytes : List ℕ) (answer : Result StartSeen ImageFault) (i : Image) → Loads bytes answer → Spells bytes i → NoneIsBroken (rules_l (placed i.parts i.stack) i.stack) → IsOk answer ⊎ (answer ≡ Err NoMemory)
+pub loads_only : (bytes : List ℕ) (answer : Result StartSeen ImageFault) (i : Image) → Loads bytes answer → Spells bytes i → NoneIsBroken (rules_of_link (placed i.parts i.stack) i.stack) → IsOk answer ⊎ (answer ≡ Err NoMemory)
 loads_only bytes answer i (inr e) spelled none = inr e
 loads_only bytes answer i (inl h) spelled none =
     let read : image_of bytes ≡ Ok i = ap image_of spelled.1 ∙ read_whole i spelled.0 in

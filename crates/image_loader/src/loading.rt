@@ -1,8 +1,8 @@
 //! Loading an image.
 ghost use Rattle.std.specs.Prelude.{◌≡◌, ◌<◌, ◌^◌, ◌⊎◌, length, IsOk, IfOk, Ok, Err};
-ghost use Rattle.component_linker.specs.Parts.{placed};
+ghost use Rattle.component_linker.specs.Standing.{placed};
 ghost use Rattle.component_linker.specs.Pairs.{NoneIsBroken};
-ghost use Rattle.component_linker.specs.Links.{rules_l};
+ghost use Rattle.component_linker.specs.Links.{rules_of_link};
 ghost use Rattle.component_linker.specs.Answer.{Answers};
 ghost use Rattle.image_loader.specs.declared.fault.ImageFault.TheVariants.{NoMemory};
 ghost use Rattle.image_loader.specs.declared.reading.Image.{Image};
@@ -31,7 +31,7 @@ pub fn load_image(alloc: Global, bytes: &[u8]) -> Result<Start, ImageFault>
         (i : Image) × Spells bytes.now i × Answers i.parts i.stack (Ok s)) }
     // An image whose parts keep the rules L is loaded, unless memory is refused.
     ensures only { (i : Image) → Spells bytes.now i →
-        NoneIsBroken (rules_l (placed i.parts i.stack) i.stack) →
+        NoneIsBroken (rules_of_link (placed i.parts i.stack) i.stack) →
         IsOk result ⊎ (result ≡ Err NoMemory) }
     // Which fault it is.
     ensures exact { Loads bytes.now result }

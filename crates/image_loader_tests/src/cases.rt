@@ -133,7 +133,7 @@ pub(crate) static OWN_CASES: [Case; 26] = [
 /// The parts: their form, and their own rules.
 pub(crate) static PART_CASES: [Case; 18] = [
     (&[(17, b"R")], "part 0 has the file fault 1 at byte 0"),
-    (&[(21, b"\x02")], "part 0 has the file fault 2 at byte 0"),
+    (&[(21, b"\x03")], "part 0 has the file fault 2 at byte 0"),
     (&[(24, b"1")], "part 0 has the file fault 4 at byte 6"),
     // The code's base is the data's.
     (&[(51, b"\xc8")], "0 C2 0"),

@@ -16,7 +16,8 @@ use Rattle.component_linker.specs.declared.fault.RuleAt.{RuleAt}
 use Rattle.component_linker.specs.Parts.{PartSeen}
 use Rattle.image_loader.specs.declared.fault.ImageFault.{ImageFault}
 use Rattle.image_loader.specs.declared.fault.ImageFault.TheVariants as image
-use Rattle.overlay_machine.specs.Starting.{IsLinkedStart, overlay_at}
+use Rattle.overlay_machine.specs.Starting.{IsLinkedStart, IsStartOf, overlay_at}
+use Rattle.component_linker.specs.Standing.{placed}
 use Rattle.component_linker.specs.Started.{StartSeen}
 use Rattle.overlay_machine.specs.Seen.{OverlaySeen, IsOverlayOf, next_overlay, answer_of}
 use Rattle.trace_tool.specs.declared.run.RunEnd.{RunEnd}
@@ -191,14 +192,14 @@ Caused asked old new status.FileRefused =
     ⊎ ((f : ImageFault) × (image_status f ≡ status.FileRefused) × Wrote (refusal.Image f) old new × IsUnloaded asked old.files f new.files)
 Caused asked old new status.RuleBroken = (r : RuleAt) × Wrote (refusal.Rule r) old new × (Breaks asked old.files r new.files ⊎ IsUnloaded asked old.files (image.Rule r) new.files)
 
-run_caused : (asked : Option Command) (old new : Outside) (parts : List PartSeen) (size steps : ℕ) → Comes (plan_in asked) old.files (Ok (Run parts size steps)) new.files → (start : StartSeen) → IsLinkedStart parts size start
+run_caused : (asked : Option Command) (old new : Outside) (parts : List PartSeen) (size steps : ℕ) → Comes (plan_in asked) old.files (Ok (Run parts size steps)) new.files → (start : StartSeen) → IsStartOf parts size start
     → (step : Step) → last_step (plain steps start.state) ≡ step → Caused asked old new (end_status (end_of step))
 run_caused asked old new parts size steps c start s Went e = inl (parts, size, steps, c, start, s, e)
 run_caused asked old new parts size steps c start s Halted e = inl (parts, size, steps, c, start, s, e)
 run_caused asked old new parts size steps c start s (Failed cause at) e = inl (parts, size, steps, c, start, s, (cause, at, e))
 
 trace_caused : (asked : Option Command) (old new : Outside) (parts : List PartSeen) (size steps : ℕ) → Comes (plan_in asked) old.files (Ok (Trace parts size steps)) new.files → (start : StartSeen) (overlay : OverlaySeen)
-    → IsLinkedStart parts size start → IsOverlayOf start overlay → (end : RunEnd) → (trace_of steps overlay).end ≡ end → Caused asked old new (end_status end)
+    → IsStartOf parts size start → IsOverlayOf start overlay → (end : RunEnd) → (trace_of steps overlay).end ≡ end → Caused asked old new (end_status end)
 trace_caused asked old new parts size steps c start overlay s o run_end.Halted e = inr (inl (parts, size, steps, c, start, overlay, s, o, e))
 trace_caused asked old new parts size steps c start overlay s o run_end.Failed e = inr (parts, size, steps, c, start, overlay, s, o, e)
 trace_caused asked old new parts size steps c start overlay s o run_end.Running e = inr (parts, size, steps, c, start, overlay, s, o, e)
@@ -469,11 +470,11 @@ given_run all l steps old seen ended new (Ok (Run parts n k)) a c x g r =
     let i = m.0 in
     let came = in_made l old.files seen i m.1 in
     let s = same_run parts i.parts n i.stack k steps m.2 in
-    let start : IsLinkedStart i.parts i.stack x.0 = subst (λ z. IsLinkedStart i.parts z x.0) s.1 (subst (λ ps. IsLinkedStart ps n x.0) s.0 x.1) in
+    let start : IsStartOf i.parts i.stack x.0 = subst (λ z. IsStartOf i.parts z x.0) s.1 (subst (λ ps. IsStartOf ps n x.0) s.0 x.1) in
     let is : a ≡ ran x.0 steps = x.2 ∙ ap (ran x.0) s.2 in
     let h : GivesWhole (with_files old seen) (ran x.0 steps) ended new = subst (λ b. GivesWhole (with_files old seen) b ended new) is g in
     let p : new.files ≡ seen = h.put in
-    record { parts = i.parts; size = i.stack; came = subst (λ z. LinkedCame l old.files i.parts i.stack z) (sym p) came.0; keep = came.1; start = x.0; linked_start = start; headline = all i.parts i.stack x.0 start; status_is = h.status_is; written = h.written; kept_is = h.kept_is }
+    record { parts = i.parts; size = i.stack; came = subst (λ z. LinkedCame l old.files i.parts i.stack z) (sym p) came.0; keep = came.1; start = x.0; linked_start = start; headline = all (placed i.parts i.stack) i.stack x.0 start; status_is = h.status_is; written = h.written; kept_is = h.kept_is }
 
 same_trace : (p q : List PartSeen) (n m k l : ℕ) → Trace p n k ≡ Trace q m l → (p ≡ q) × (n ≡ m) × (k ≡ l)
 same_trace p q n m k l e = (cc, cc, cc)
@@ -494,11 +495,11 @@ given_trace all one l steps old seen ended new (Ok (Trace parts n k)) a c x g r 
     let i = m.0 in
     let came = in_made l old.files seen i m.1 in
     let s = same_trace parts i.parts n i.stack k steps m.2 in
-    let start : IsLinkedStart i.parts i.stack x.0 = subst (λ z. IsLinkedStart i.parts z x.0) s.1 (subst (λ ps. IsLinkedStart ps n x.0) s.0 x.2) in
+    let start : IsStartOf i.parts i.stack x.0 = subst (λ z. IsStartOf i.parts z x.0) s.1 (subst (λ ps. IsStartOf ps n x.0) s.0 x.2) in
     let is : a ≡ traced x.1 steps = x.4 ∙ ap (traced x.1) s.2 in
     let h : GivesWhole (with_files old seen) (traced x.1 steps) ended new = subst (λ b. GivesWhole (with_files old seen) b ended new) is g in
     let p : new.files ≡ seen = h.put in
-    record { parts = i.parts; size = i.stack; came = subst (λ z. LinkedCame l old.files i.parts i.stack z) (sym p) came.0; keep = came.1; start = x.0; linked_start = start; headline = all i.parts i.stack x.0 start; overlay = x.1; overlay_is = x.3; lines_are = (ap (λ o. (trace_of steps o).lines) ((one i.parts i.stack x.0 start x.1).0 x.3) ∙ (all i.parts i.stack x.0 start).traced steps); status_is = h.status_is; written = h.written; kept_is = h.kept_is }
+    record { parts = i.parts; size = i.stack; came = subst (λ z. LinkedCame l old.files i.parts i.stack z) (sym p) came.0; keep = came.1; start = x.0; linked_start = start; headline = all (placed i.parts i.stack) i.stack x.0 start; overlay = x.1; overlay_is = x.3; lines_are = (ap (λ o. (trace_of steps o).lines) ((one (placed i.parts i.stack) i.stack x.0 start x.1).0 x.3) ∙ (all (placed i.parts i.stack) i.stack x.0 start).traced steps); status_is = h.status_is; written = h.written; kept_is = h.kept_is }
 
 -- a whole answer to words that aren't built is of no run
 usage_none : (asked : Option Command) (old : Outside) (seen : FilesSeen) (ended : Status) (new : Outside) (due : Result Task Refusal) (a : Answer) → is_command asked ≡ false → Comes (plan_in asked) old.files due seen → IsAnswerOf due a

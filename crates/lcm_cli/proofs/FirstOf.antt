@@ -8,7 +8,8 @@ use Rattle.component_linker.specs.declared.fault.LinkFault.TheVariants.{Rule}
 use Rattle.component_linker.specs.Answer.{Answers}
 use Rattle.component_linker.specs.declared.pairs.PartPlace.{PartPlace}
 use Rattle.component_linker.specs.Pairs.{PairTest, rule_of, IsFirstIn, IsFirstBrokenIn, NoneIsBroken, by_part}
-use Rattle.component_linker.specs.Links.{rules_l, rule_at}
+use Rattle.component_linker.specs.Links.{rules_of_link, rule_at}
+use Rattle.component_linker.specs.Standing.{placed}
 use Rattle.component_linker.specs.Parts.{PartSeen}
 use Rattle.component_linker.proofs.FirstIn.{first_broken_in}
 use Rattle.lcm_cli.specs.Parts.{linked}
@@ -19,9 +20,9 @@ order p q = grind arith
 same_err : {A E : Type 0} (a b : E) → a ≡ b → (let r : Result A E = Err a in r) ≡ Err b
 same_err a b e = cc
 
-pub linked_is : (parts : List PartSeen) (size : ℕ) → IsFirstBrokenIn rule_at (rules_l parts size) (linked parts size)
+pub linked_is : (parts : List PartSeen) (size : ℕ) → IsFirstBrokenIn rule_at (rules_of_link (placed parts size) size) (linked parts size)
 unfolding linked
-linked_is parts size = first_broken_in rule_at (rules_l parts size)
+linked_is parts size = first_broken_in rule_at (rules_of_link (placed parts size) size)
 
 -- ---- rules of parts together
 
@@ -55,29 +56,21 @@ one_first_in told ts a b h k = elim (order h.number k.number) as (λ _. a ≡ b)
   ]
 ]
 
-pub linked_none : (parts : List PartSeen) (size : ℕ) → NoneIsBroken (rules_l parts size) → linked parts size ≡ Ok tt
+pub linked_none : (parts : List PartSeen) (size : ℕ) → NoneIsBroken (rules_of_link (placed parts size) size) → linked parts size ≡ Ok tt
 unfolding linked
-linked_none parts size none = by_check (check_from rule_at 1 (map by_part (rules_l parts size))) (first_broken_in rule_at (rules_l parts size))
+linked_none parts size none = by_check (check_from rule_at 1 (map by_part (rules_of_link (placed parts size) size))) (first_broken_in rule_at (rules_of_link (placed parts size) size))
   where
-    by_check : (c : Result (Unit {0}) RuleAt) → IsFirstBrokenIn rule_at (rules_l parts size) c → c ≡ Ok tt
+    by_check : (c : Result (Unit {0}) RuleAt) → IsFirstBrokenIn rule_at (rules_of_link (placed parts size) size) c → c ≡ Ok tt
     by_check (Ok u) f = refl
     by_check (Err b) f = absurd (none f.number f.part f.index f.test f.is f.broken)
 
-pub linked_first : (parts : List PartSeen) (size : ℕ) (b : RuleAt) → IsFirstIn rule_at (rules_l parts size) b → linked parts size ≡ Err b
+pub linked_first : (parts : List PartSeen) (size : ℕ) (b : RuleAt) → IsFirstIn rule_at (rules_of_link (placed parts size) size) b → linked parts size ≡ Err b
 unfolding linked
-linked_first parts size b h = by_check (check_from rule_at 1 (map by_part (rules_l parts size))) (first_broken_in rule_at (rules_l parts size))
+linked_first parts size b h = by_check (check_from rule_at 1 (map by_part (rules_of_link (placed parts size) size))) (first_broken_in rule_at (rules_of_link (placed parts size) size))
   where
-    by_check : (c : Result (Unit {0}) RuleAt) → IsFirstBrokenIn rule_at (rules_l parts size) c → c ≡ Err b
+    by_check : (c : Result (Unit {0}) RuleAt) → IsFirstBrokenIn rule_at (rules_of_link (placed parts size) size) c → c ≡ Err b
     by_check (Ok u) f = absurd (f h.number h.part h.index h.test h.is h.broken)
-    by_check (Err d) f = same_err d b (one_first_in rule_at (rules_l parts size) d b f h)
-
-pub linked_keeps : (parts : List PartSeen) (size : ℕ) → linked parts size ≡ Ok tt → NoneIsBroken (rules_l parts size)
-unfolding linked
-linked_keeps parts size e = by_check (check_from rule_at 1 (map by_part (rules_l parts size))) e (first_broken_in rule_at (rules_l parts size))
-  where
-    by_check : (c : Result (Unit {0}) RuleAt) → c ≡ Ok tt → IsFirstBrokenIn rule_at (rules_l parts size) c → NoneIsBroken (rules_l parts size)
-    by_check (Ok u) e f = f
-    by_check (Err b) e f = absurd (cc)
+    by_check (Err d) f = same_err d b (one_first_in rule_at (rules_of_link (placed parts size) size) d b f h)
 
 -- what linking refuses, as what the rules tried in their order give
 pub linked_broken : (parts : List PartSeen) (size : ℕ) (f : LinkFault) (b : RuleAt) → f ≡ Rule b → Answers parts size (Err f) → linked parts size ≡ Err b

@@ -9,6 +9,8 @@ use Rattle.component_linker.specs.declared.fault.LinkFault.TheVariants as link_f
 use Rattle.component_linker.specs.Answer.{Answers}
 use Rattle.component_linker.specs.Parts.{PartSeen}
 use Rattle.component_linker.specs.Started.{StartSeen}
+use Rattle.component_linker.proofs.DropFirst.{keeps_all}
+use Rattle.component_linker.specs.Standing.{placed}
 use Rattle.image_loader.specs.declared.fault.ImageFault.{ImageFault}
 use Rattle.image_loader.specs.declared.fault.ImageFault.TheVariants as image
 use Rattle.image_loader.specs.Fault.{not_linked}
@@ -75,8 +77,8 @@ loaded_again i fits keep = ap loaded_by (read_whole i fits) ∙ ap (linked_as i)
 -- the start that was loaded is that of the image
 pub loaded_starts : (bytes : List ℕ) (s : StartSeen) → ((i : ImageSeen) × Spells bytes i × Answers i.parts i.stack (Ok s)) → MeetsStart (unless refusal.Image (loaded bytes)) (Ok s)
 loaded_starts bytes s (i, spelled, l) =
-    let is : loaded bytes ≡ Ok i = ap loaded spelled.1 ∙ loaded_again i spelled.0 (linked_none i.parts i.stack l.rules) in
-    (i, unless_made refusal.Image (loaded bytes) i (sym is), record { accepted = l.accepted; rules = l.rules; starts = l.starts })
+    let is : loaded bytes ≡ Ok i = ap loaded spelled.1 ∙ loaded_again i spelled.0 (linked_none i.parts i.stack (keeps_all (placed i.parts i.stack) i.stack l.room l.rules)) in
+    (i, unless_made refusal.Image (loaded bytes) i (sym is), record { accepted = l.accepted; room = l.room; rules = l.rules; starts = l.starts })
 
 -- what was not loaded is refused by its first fault
 pub loaded_stops : (bytes : List ℕ) (f : ImageFault) → f ≢ image.NoMemory → Loads bytes (Err f) → (let r : Result StartSeen Stop = Err (Refused (refusal.Image f)) in MeetsStart (unless refusal.Image (loaded bytes)) r)

@@ -1,6 +1,6 @@
--- Linked parts have one start.
+-- Parts that keep the rules of linking have one start.
 use Rattle.std.proofs.Common.{◌≡◌, ◌≢◌, ℕ, zero, suc, ◌<◌, ◌≤◌, List, [], ◌∷◌, ◌++◌, length, map, Option, Some, None, get_or, refl, sym, ap, subst, ◌∙◌, arith, inl, inr}
-use Rattle.std.specs.Prelude.{Bool, true, false, ◌==◌, if◌then◌else◌, Ok}
+use Rattle.std.specs.Prelude.{Bool, true, false, ◌==◌, if◌then◌else◌}
 use Rattle.std.specs.List.{AllPairs, Contains, IsDistinct}
 use Rattle.std.proofs.lemmas.Bool.{ne_eqb, eqb-false}
 use Rattle.std.proofs.lemmas.Bool.Decides.{nat_tests}
@@ -16,8 +16,8 @@ use Rattle.component_linker.specs.Regions.{AreSpansOf, Apart, regions_of, region
 use Rattle.component_linker.proofs.RegionFacts.{stretch_of, region_cases}
 use Rattle.component_linker.proofs.LinksKept.{regions_apart}
 use Rattle.lcm_machine.specs.Regions.{Region}
-use Rattle.lcm_cli.specs.Parts.{linked}
-use Rattle.lcm_cli.proofs.FirstOf.{linked_keeps}
+use Rattle.component_linker.specs.Pairs.{NoneIsBroken}
+use Rattle.component_linker.specs.Links.{rules_l}
 use Rattle.component_linker.specs.Start.{Exported, IsStart, start_regs, main_of}
 use Rattle.component_linker.specs.declared.owners.Site.{Site}
 use Rattle.component_linker.specs.declared.owners.Owner.{Owner}
@@ -126,11 +126,12 @@ one_spans parts size ss ts pairs h k =
     (λ s c. Contains-permutation xs ts s k.same (Contains-permutation ss xs s (IsPermutation-sym xs ss h.same) c))
     (λ s c. Contains-permutation xs ss s h.same (Contains-permutation ts xs s (IsPermutation-sym xs ts k.same) c))
 
-one_run : (parts : List PartSeen) (size : ℕ) (s t : Run) → linked parts size ≡ Ok tt → IsStart parts size s → IsStart parts size t → s ≡ t
-one_run parts size s t l h k =
+one_run : (parts : List PartSeen) (size : ℕ) (s t : Run) → NoneIsBroken (rules_l parts size)
+    → IsStart parts size s → IsStart parts size t → s ≡ t
+one_run parts size s t rules h k =
     let main = one_main parts h.main k.main h.main_is k.main_is in
     same_run s t (h.regs ∙ ap (start_regs parts size) main ∙ sym k.regs) (same_cells s.maps.cells t.maps.cells (λ a. h.cells a ∙ sym (k.cells a)))
-    (one_spans parts size s.maps.spans t.maps.spans (regions_apart parts size (linked_keeps parts size l)) h.spans k.spans) (h.count ∙ sym k.count) (h.end ∙ sym k.end)
+    (one_spans parts size s.maps.spans t.maps.spans (regions_apart parts size rules) h.spans k.spans) (h.count ∙ sym k.count) (h.end ∙ sym k.end)
 
 -- ---- its sites, owners and stack
 
@@ -158,8 +159,9 @@ same_start s t a b c d =
     ap (λ x. start_with x s.sites s.owners s.stack) a ∙ ap (λ x. start_with t.state x s.owners s.stack) b
     ∙ ap (λ x. start_with t.state t.sites x s.stack) c ∙ ap (start_with t.state t.sites t.owners) d
 
--- linked parts have one start
-pub one_start : (parts : List PartSeen) (size : ℕ) (s t : StartSeen) → linked parts size ≡ Ok tt → Starts parts size s → Starts parts size t → s ≡ t
-one_start parts size s t l h k =
-    same_start s t (one_run parts size s.state t.state l h.state k.state) (one_sites parts s.sites t.sites h.sites k.sites)
+-- such parts have one start
+pub one_start : (parts : List PartSeen) (size : ℕ) (s t : StartSeen) → NoneIsBroken (rules_l parts size)
+    → Starts parts size s → Starts parts size t → s ≡ t
+one_start parts size s t rules h k =
+    same_start s t (one_run parts size s.state t.state rules h.state k.state) (one_sites parts s.sites t.sites h.sites k.sites)
     (one_owners parts s.owners t.owners h.owners k.owners) (one_stack (stack_span parts size) s.stack t.stack h.stack k.stack)

@@ -5,7 +5,7 @@ use Rattle.outside_io.specs.FilesSeen.{FilesSeen, Puts, FailsToPut}
 use Rattle.outside_io.specs.SinkSeen.{SinkSeen, Adds, FailsToWrite}
 use Rattle.outside_io.specs.Whole.{OnlyGave}
 use Rattle.lcm_machine.specs.Run.{Run as Machine, answer as last_step, plain}
-use Rattle.overlay_machine.specs.Starting.{IsLinkedStart}
+use Rattle.overlay_machine.specs.Starting.{IsStartOf}
 use Rattle.component_linker.specs.Started.{StartSeen}
 use Rattle.overlay_machine.specs.Seen.{OverlaySeen, IsOverlayOf}
 use Rattle.trace_tool.specs.declared.run.RunEnd.{RunEnd}
@@ -72,9 +72,9 @@ puts name bytes = record said { file = Some (record { name = name; bytes = bytes
 -- overlay, the file, whose bytes give again what was put, the component's text, `ok`, or the refusal's
 abbrev pub IsAnswerOf : Result Task Refusal → Answer → Type 0
 IsAnswerOf (Ok (Run parts size steps)) a =
-    (start : StartSeen) × IsLinkedStart parts size start × (a ≡ ran start steps)
+    (start : StartSeen) × IsStartOf parts size start × (a ≡ ran start steps)
 IsAnswerOf (Ok (Trace parts size steps)) a =
-    (start : StartSeen) × (overlay : OverlaySeen) × IsLinkedStart parts size start × IsOverlayOf start overlay
+    (start : StartSeen) × (overlay : OverlaySeen) × IsStartOf parts size start × IsOverlayOf start overlay
     × (a ≡ traced overlay steps)
 IsAnswerOf (Ok (Put name content)) a = IsReadAgain content × (a ≡ puts name (spelling_of content))
 IsAnswerOf (Ok (Show c)) a = a ≡ writes Done (disassembled c)

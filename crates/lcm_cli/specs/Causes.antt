@@ -20,7 +20,7 @@ use Rattle.component_linker.specs.Parts.{PartSeen}
 use Rattle.image_loader.specs.declared.fault.ImageFault.{ImageFault}
 use Rattle.image_loader.specs.declared.fault.ImageFault.TheVariants as image
 use Rattle.image_loader.specs.Reading.{image_of}
-use Rattle.overlay_machine.specs.Starting.{IsLinkedStart}
+use Rattle.overlay_machine.specs.Starting.{IsStartOf}
 use Rattle.component_linker.specs.Started.{StartSeen}
 use Rattle.overlay_machine.specs.Seen.{OverlaySeen, IsOverlayOf}
 use Rattle.trace_tool.specs.declared.run.RunEnd.{RunEnd}
@@ -137,14 +137,14 @@ abbrev pub Runs : Option Command → FilesSeen → FilesSeen → (Step → Type 
 Runs asked old new P =
     (parts : List PartSeen) × (size : ℕ) × (steps : ℕ)
     × Comes (plan_in asked) old (Ok (Run parts size steps)) new
-    × (start : StartSeen) × IsLinkedStart parts size start × P (last_step (plain steps start.state))
+    × (start : StartSeen) × IsStartOf parts size start × P (last_step (plain steps start.state))
 
 -- the parts that are linked came, and the run of their start's overlay came to this
 abbrev pub Traces : Option Command → FilesSeen → FilesSeen → RunEnd → Type 0
 Traces asked old new end =
     (parts : List PartSeen) × (size : ℕ) × (steps : ℕ)
     × Comes (plan_in asked) old (Ok (Trace parts size steps)) new
-    × (start : StartSeen) × (overlay : OverlaySeen) × IsLinkedStart parts size start × IsOverlayOf start overlay
+    × (start : StartSeen) × (overlay : OverlaySeen) × IsStartOf parts size start × IsOverlayOf start overlay
     × ((trace_of steps overlay).end ≡ end)
 
 -- `ok` was to be written, and nothing else to be done
@@ -258,7 +258,7 @@ pub record RunGiven (l : Linked) (steps : ℕ) (old : Outside) (status : Status)
   pub came : LinkedCame l old.files parts size new.files
   pub keep : linked parts size ≡ Ok tt
   pub start : StartSeen
-  pub linked_start : IsLinkedStart parts size start
+  pub linked_start : IsStartOf parts size start
   pub headline : Headline start
   pub status_is : status ≡ end_status (end_of (last_step (plain steps start.state)))
   pub written : Adds old.sink (run_text (layout start) start.state steps) new.sink
@@ -272,7 +272,7 @@ pub record TraceGiven (l : Linked) (steps : ℕ) (old : Outside) (status : Statu
   pub came : LinkedCame l old.files parts size new.files
   pub keep : linked parts size ≡ Ok tt
   pub start : StartSeen
-  pub linked_start : IsLinkedStart parts size start
+  pub linked_start : IsStartOf parts size start
   pub headline : Headline start
   pub overlay : OverlaySeen
   pub overlay_is : IsOverlayOf start overlay

@@ -1,7 +1,7 @@
 -- A job of the code, beside the task of the plan.
 use Rattle.std.specs.Prelude.{◌≡◌, Result, Ok, Err}
 use Rattle.outside_io.specs.FilesSeen.{FilesSeen}
-use Rattle.overlay_machine.specs.Starting.{IsLinkedStart}
+use Rattle.overlay_machine.specs.Starting.{IsStartOf}
 use Rattle.component_linker.specs.Started.{StartSeen}
 use Rattle.overlay_machine.specs.Seen.{IsOverlayOf}
 use Rattle.disassembler.specs.Disassembled.{disassembled}
@@ -14,9 +14,9 @@ use Rattle.lcm_cli.specs.Commands.{Task, Run, Trace, Put, Show, Say, spelling_of
 
 -- the job runs from the start of the task's parts, or from its overlay, and has the bytes of its file or its text
 abbrev pub Does : Task → Job → Type 0
-Does (Run parts size steps) (job.Run start n) = IsLinkedStart parts size start × (n ≡ steps)
+Does (Run parts size steps) (job.Run start n) = IsStartOf parts size start × (n ≡ steps)
 Does (Trace parts size steps) (job.Trace start overlay n) =
-    IsLinkedStart parts size start × IsOverlayOf start overlay × (n ≡ steps)
+    IsStartOf parts size start × IsOverlayOf start overlay × (n ≡ steps)
 Does (Put name content) (job.Put out bytes) =
     IsReadAgain content × (out ≡ name) × (bytes ≡ spelling_of content)
 Does (Show c) (job.Show text) = text ≡ disassembled c
@@ -31,12 +31,12 @@ FollowsTask plan old (Err stop) new = Follows plan old (Err stop) new
 -- a body's start is that of the parts that the plan made, with the size of their stack
 abbrev pub FollowsStart : Plan ImageSeen → FilesSeen → Result StartSeen Stop → FilesSeen → Type 0
 FollowsStart plan old (Ok start) new =
-    (i : ImageSeen) × Comes plan old (Ok i) new × IsLinkedStart i.parts i.stack start
+    (i : ImageSeen) × Comes plan old (Ok i) new × IsStartOf i.parts i.stack start
 FollowsStart plan old (Err stop) new = Follows plan old (Err stop) new
 
 -- the same of a plan that reads nothing
 abbrev pub MeetsStart : Plan ImageSeen → Result StartSeen Stop → Type 0
-MeetsStart plan (Ok start) = (i : ImageSeen) × (plan ≡ Made i) × IsLinkedStart i.parts i.stack start
+MeetsStart plan (Ok start) = (i : ImageSeen) × (plan ≡ Made i) × IsStartOf i.parts i.stack start
 MeetsStart plan (Err stop) = Meets plan (Err stop)
 
 -- an answer without what was made

@@ -13,7 +13,8 @@ use Rattle.component_check.specs.declared.rule.Broken.{Broken}
 use Rattle.component_check.specs.Verdict.{check_from}
 use Rattle.component_linker.specs.declared.fault.RuleAt.{RuleAt}
 use Rattle.component_linker.specs.Pairs.{by_part}
-use Rattle.component_linker.specs.Links.{rules_l, rule_at}
+use Rattle.component_linker.specs.Links.{rules_of_link, rule_at}
+use Rattle.component_linker.specs.Standing.{placed}
 use Rattle.component_linker.specs.Accepted.{accepted}
 use Rattle.component_linker.specs.Parts.{PartSeen}
 use Rattle.image_loader.specs.declared.fault.ImageFault.{ImageFault}
@@ -30,9 +31,9 @@ use Rattle.lcm_cli.specs.Plans.{Plan, Ends, Made, ◌>>=◌, file, unless}
 abbrev pub broken_in : ℕ → Broken → Refusal
 broken_in place b = refusal.Rule (record { rule = b.rule; part = place; place = b.place })
 
--- the first of the rules L that parts break together, where they break one
+-- the first of the rules L that parts break together where they are placed, where they break one
 unfoldable pub linked : List PartSeen → ℕ → Result (Unit {0}) RuleAt
-linked parts size = check_from rule_at 1 (map by_part (rules_l parts size))
+linked parts size = check_from rule_at 1 (map by_part (rules_of_link (placed parts size) size))
 
 -- ---- images
 

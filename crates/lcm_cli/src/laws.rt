@@ -3,7 +3,8 @@ ghost use Rattle.std.specs.Prelude.{◌≡◌, ℕ, List, Option, Ok};
 ghost use Rattle.command_words.specs.declared.command.Command.{Command};
 ghost use Rattle.component_linker.specs.Parts.{PartSeen};
 ghost use Rattle.component_linker.specs.Pairs.{IsFirstBrokenIn};
-ghost use Rattle.component_linker.specs.Links.{rules_l, rule_at};
+ghost use Rattle.component_linker.specs.Links.{rules_of_link, rule_at};
+ghost use Rattle.component_linker.specs.Standing.{placed};
 ghost use Rattle.image_loader.specs.Image.{ImageSeen, IsImage, image_bytes};
 ghost use Rattle.lcm_cli.specs.Parts.{linked, loaded};
 ghost use Rattle.lcm_cli.specs.Commands.{plan_in};
@@ -13,7 +14,7 @@ ghost use Rattle.lcm_cli.specs.Answers.{Answer, IsWritten};
 /// at the first place there, and for nothing else.
 pub fn first_rule_is_told()
     ensures { (parts : List PartSeen) (size : ℕ)
-        → IsFirstBrokenIn rule_at (rules_l parts size) (linked parts size) }
+        → IsFirstBrokenIn rule_at (rules_of_link (placed parts size) size) (linked parts size) }
 {}
 
 /// The bytes of an image whose parts keep the rules of linking are loaded as just this image.

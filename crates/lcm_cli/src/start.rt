@@ -1,7 +1,7 @@
 //! The start of what is linked: of parts, or of an image.
 ghost use Rattle.std.specs.Prelude.{◌≡◌, ◌<◌, ◌≤◌, ◌^◌, IfOk, length};
 ghost use Rattle.command_words.specs.declared.TheConstants.{MOST_PARTS};
-ghost use Rattle.overlay_machine.specs.Starting.{IsLinkedStart};
+ghost use Rattle.overlay_machine.specs.Starting.{IsStartOf};
 ghost use Rattle.lcm_cli.specs.declared.refusal.Refusal.TheVariants.{Rule, Image};
 ghost use Rattle.lcm_cli.specs.Plans.{Meets, unless};
 ghost use Rattle.lcm_cli.specs.Parts.{linked, loaded};
@@ -22,7 +22,7 @@ use std::alloc::Global;
 pub(crate) fn started(alloc: Global, parts: &Items<Part>, size: u32) -> Result<Start, Stop>
     requires { length parts.now < 2 ^ 32 }
     ensures rules { Meets (unless Rule (linked parts.now size)) (without result) }
-    ensures linked { IfOk result (IsLinkedStart parts.now size) }
+    ensures linked { IfOk result (IsStartOf parts.now size) }
 {
     match link(alloc, parts.as_slice(), size) {
         Ok(start) => Ok(start),

@@ -84,8 +84,8 @@ fn a_jump_into_a_call_is_told_of_a_trusted_part(rt: HostRuntime) -> Result<(), F
     Ok(())
 }
 
-// A trusted part: an entry at 2, and then a call of what it imports.
-const CALLER: &str = "\
+/// A trusted part: an entry at 2, and then a call of what it imports.
+pub(crate) const CALLER: &str = "\
 .name t\n\
 .stack 65536\n\
 .closure 10\n\
@@ -152,8 +152,8 @@ halt\n\
 .fail 0\n\
 .literal 1\n";
 
-// What it calls, which goes right back.
-const BACK: &str = "\
+/// What it calls, which goes right back.
+pub(crate) const BACK: &str = "\
 .name adv\n\
 .stack 65536\n\
 .closure 20\n\
@@ -163,8 +163,8 @@ xjmp rcode rdata\n\
 .int 0\n\
 .export go 0 shared\n";
 
-// The same with a second entry, which calls what its caller would go back to.
-const AGAIN: &str = "\
+/// The same with a second entry, which calls what its caller would go back to.
+pub(crate) const AGAIN: &str = "\
 .name t\n\
 .stack 65536\n\
 .closure 10\n\
@@ -282,8 +282,8 @@ halt\n\
 .fail 0\n\
 .literal 1\n";
 
-// What it calls, which goes to that entry.
-const ENTERS: &str = "\
+/// What it calls, which goes to that entry.
+pub(crate) const ENTERS: &str = "\
 .name adv\n\
 .stack 65536\n\
 .closure 20\n\

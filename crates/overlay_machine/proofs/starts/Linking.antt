@@ -18,6 +18,7 @@ links_of sites entries parts size s is =
     let apart = parts_apart parts size is.accepted is.rules in
     record {
       accepted = is.accepted;
+      room = is.room;
       rules = is.rules;
       starts = is.starts;
       parts_apart = apart;

@@ -2,12 +2,12 @@
 use Rattle.std.proofs.Common.{true, false, refl, arith}
 use Rattle.component_linker.proofs.CodeStands.{SitesStand, EntriesStand}
 use Rattle.component_linker.proofs.ExampleParts.{caller, other, pair, each, keeps}
-use Rattle.component_linker.proofs.ExampleLink.{start, links}
+use Rattle.component_linker.proofs.ExampleLink.{start, has_room, links}
 use Rattle.overlay_machine.specs.Starting.{overlay_at, IsLinkedStart, StartThere}
 use Rattle.overlay_machine.proofs.starts.OneOverlay.{is_overlay}
 
 is_linked : SitesStand → EntriesStand → IsLinkedStart pair 4 start
-is_linked sites entries = record { accepted = each; rules = keeps; starts = (links sites entries).starts }
+is_linked sites entries = record { accepted = each; room = has_room; rules = keeps; starts = (links sites entries).starts }
 
 pub start_there : SitesStand → EntriesStand → StartThere
 start_there sites entries = record {

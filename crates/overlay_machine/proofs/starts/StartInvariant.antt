@@ -90,7 +90,7 @@ module _ (site_words : SitesStand) (entry_words : EntriesStand) (parts : List Pa
 
   -- the overlay has the start's cells
   cell_plain : (a : ℕ) → cell o.state.maps.cells a ≡ option_map Plain (cell s.state.maps.cells a)
-  cell_plain a = over.cells a ∙ start_word_is parts size s (record { accepted = each; rules = link.rules; starts = link.starts }) a
+  cell_plain a = over.cells a ∙ start_word_is parts size s (record { accepted = each; room = link.room; rules = link.rules; starts = link.starts }) a
 
   start_cell_is : (a : ℕ) → cell o.state.maps.cells a ≡ option_map Plain (start_cell parts size a)
   start_cell_is a = cell_plain a ∙ ap (option_map Plain) (link.starts.state.cells a)

@@ -31,7 +31,7 @@ pub returns-clause-spelled : goal.returns-clause-spelled
 unfolding spelling
 returns-clause-spelled c = (
   subst IsComponent c.fields-fields.ensures.same c.fields-fields.ensures.within_limits,
-  rw (← c.fields-fields.ensures.same, ← c.as_slice.ensures, ← c.as_slice-2.ensures, ← c.as_slice-3.ensures, ← c.as_slice-4.ensures, ← c.as_slice-5.ensures, ← c.as_slice-6.ensures, ← c.as_slice-7.ensures, ← c.base.ensures.same, ← c.count.ensures.same)
+  rw (← c.fields-fields.ensures.same, ← c.as_slice.ensures, ← c.as_slice-2.ensures, ← c.as_slice-3.ensures, ← c.as_slice-4.ensures, ← c.as_slice-5.ensures, ← c.as_slice-6.ensures, ← c.as_slice-7.ensures, ← c.base.ensures.same, ← c.count.ensures.same, ← c.version_of.ensures)
       (rw (c.in_ok-push_long_list-3.ensures, c.in_ok-push_optional-2.ensures, c.in_ok-push_optional.ensures, c.in_ok-push_short_list-3.ensures, c.in_ok-push_short_list-2.ensures, c.in_ok-push_short_list.ensures, c.in_ok-push_long_list-2.ensures, c.in_ok-push_u32-4.ensures.bytes, c.in_ok-push_long_list.ensures, c.in_ok-push_u32-3.ensures.bytes, c.in_ok-push_stretch-2.ensures, c.in_ok-push_stretch.ensures, c.in_ok-push_u32-2.ensures.bytes, c.in_ok-push_u32.ensures.bytes, c.in_ok-push_name.ensures, c.in_ok-push_u16.ensures.bytes, c.in_ok-extend_from_slice.ensures.items, c.new-out.ensures.items)
       (simp (append_assoc, append-nil))),
 )

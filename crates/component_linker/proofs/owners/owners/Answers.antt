@@ -18,3 +18,6 @@ returns c =
     let up = IsNonDecreasingBy-from_sort_by_key (λ o. o.code.base) c.sort_by_key.new.self.items c.in_ok-sort_by_key.ensures.sorted (λ a r q k. search rules) in
     rw c.of.ensures
     (owners_sorted c.args.parts.now c.loop-number.number c.loop-number.owners.items c.sort_by_key.new.self.items n c.loop-number.invariant c.in_ok-sort_by_key.ensures.permutation up)
+
+pub named-requires : goal.named-requires
+named-requires c = c.requires.closed.kept c.loop-number.number c.part-part.result c.part-part.ensures

@@ -4,7 +4,7 @@ use Rattle.std.proofs.lemmas.Result.{err_from_is_err_and}
 use Rattle.outside_io.specs.FilesSeen.{FilesSeen}
 use Rattle.command_words.specs.declared.part.PartWord.{PartWord}
 use Rattle.component_linker.specs.Parts.{PartSeen}
-use Rattle.overlay_machine.specs.Starting.{IsLinkedStart}
+use Rattle.overlay_machine.specs.Starting.{IsStartOf}
 use Rattle.component_linker.specs.Started.{StartSeen}
 use Rattle.lcm_cli.specs.declared.refusal.Stop.{Stop}
 use Rattle.lcm_cli.specs.declared.refusal.Refusal.TheVariants.{Rule}
@@ -17,7 +17,7 @@ use Rattle.lcm_cli.proofs.start.parts_start.Goals as goal
 
 -- the parts came, and linking them gave this
 start_follows : (words : List PartWord) (size : ℕ) (parts : List PartSeen) (old new : FilesSeen) (r : Result StartSeen Stop) → Comes (each_at part_at 0 words) old (Ok parts) new
-    → Meets (unless Rule (linked parts size)) (without r) → IfOk r (IsLinkedStart parts size) → FollowsStart (linked_parts words size) old r new
+    → Meets (unless Rule (linked parts size)) (without r) → IfOk r (IsStartOf parts size) → FollowsStart (linked_parts words size) old r new
 start_follows words size parts old new (Ok s) c m links = (image_with size parts, linked_comes words size parts old new c m, links)
 start_follows words size parts old new (Err stop) c m links = linked_stops words size parts old new stop c m
 

@@ -1,10 +1,40 @@
-use Rattle.std.proofs.Common.{◌<◌, List, length, subst, sym, ap, ◌∙◌, Some}
-use Rattle.std.proofs.lemmas.Option.{slice_get-get_or}
+use Rattle.std.proofs.Common.{◌≡◌, ℕ, ◌<◌, List, map, length, Some, None, subst, sym, ap, ◌∙◌}
+use Rattle.std.specs.Prelude.{slice_get, option_map}
+use Rattle.std.proofs.lemmas.List.{length-map}
+use Rattle.std.proofs.lemmas.Option.{slice_get-get_or, slice_get-map}
 use Rattle.cap_words.specs.declared.Word.{Word}
+use Rattle.component_linker.specs.Placing.{moved_word, words_at}
+use Rattle.component_linker.specs.declared.moving.Move.{Move}
+use Rattle.component_linker.proofs.StartHeld.{each_at}
 use Rattle.component_linker.proofs.placed.Words.word.Goals as goal
 
-pub returns : goal.returns
-returns c =
-    let P : List Word → Type 0 = λ ws. c.args.index < length ws in
-    let lt = subst P (sym c.self.view_is) c.requires in
-    rw (← c.self.view_is) (slice_get-get_or c.self.inside.words.now c.args.index c.index-words-index.result lt ∙ ap Some (sym c.index-words-index.is ∙ sym c.made_anew.ensures))
+moved_at : (m : Move) (ws : List Word) (i : ℕ) {w : Word} → i < length (map (moved_word m) ws) → slice_get ws i ≡ Some w → slice_get (map (moved_word m) ws) i ≡ Some (moved_word m w)
+moved_at m ws i lt e = slice_get-map (moved_word m) ws i ∙ ap (option_map (moved_word m)) e
+
+pub returns-in-None : goal.returns-in-None
+returns-in-None c =
+    let ws = c.self.inside.words.now in
+    let is : ws ≡ c.args.self.now = sym (ap (λ m. words_at m ws) c.in-None.is) ∙ c.self.view_is in
+    let lt = subst (λ (xs : List Word). c.args.index < length xs) (sym is) c.requires in
+    subst (λ (xs : List Word). slice_get xs c.args.index ≡ Some c.made_anew.result) is
+    (slice_get-get_or ws c.args.index c.index-words-index.result lt ∙ ap Some (sym c.index-words-index.is ∙ sym c.made_anew.ensures))
+
+pub moved_word-requires : goal.moved_word-requires
+moved_word-requires c =
+    let ws = c.self.inside.words.now in
+    let m = c.in-Some.m in
+    let here : words_at c.self.inside.movement ws ≡ map (moved_word m) ws = ap (λ o. words_at o ws) c.in-Some.is in
+    let lt = subst (λ (xs : List Word). c.args.index < length xs) (sym c.self.view_is ∙ here) c.requires in
+    let less = subst (λ n. c.args.index < n) (length-map ws (moved_word m)) lt in
+    let at = moved_at m ws c.args.index lt (slice_get-get_or ws c.args.index c.index-words-index-in-Some.result less ∙ ap Some (sym c.index-words-index-in-Some.is)) in
+    (each_at (words_at c.self.inside.movement ws) None c.args.index _ c.self.invariant (ap (λ (xs : List Word). slice_get xs c.args.index) here ∙ at)).0
+
+pub returns-in-Some : goal.returns-in-Some
+returns-in-Some c =
+    let ws = c.self.inside.words.now in
+    let m = c.in-Some.m in
+    let here : words_at c.self.inside.movement ws ≡ map (moved_word m) ws = ap (λ o. words_at o ws) c.in-Some.is in
+    let lt = subst (λ (xs : List Word). c.args.index < length xs) (sym c.self.view_is ∙ here) c.requires in
+    let less = subst (λ n. c.args.index < n) (length-map ws (moved_word m)) lt in
+    let at = moved_at m ws c.args.index lt (slice_get-get_or ws c.args.index c.index-words-index-in-Some.result less ∙ ap Some (sym c.index-words-index-in-Some.is)) in
+    subst (λ (xs : List Word). slice_get xs c.args.index ≡ Some c.moved_word.result) (sym here ∙ c.self.view_is) (at ∙ ap Some (sym c.moved_word.ensures))
