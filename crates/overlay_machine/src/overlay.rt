@@ -1,6 +1,7 @@
 //! The overlay machine of a start.
 ghost use Rattle.std.specs.Prelude.{◌≡◌, ◌≤◌, ◌<◌, ◌-◌, ◌^◌, ℕ, [], IfOk, IfSome, IsSome, is_some, Some};
 ghost use Rattle.cap_words.specs.Text.{word_text_of};
+ghost use Rattle.cap_words.specs.Face.{opened_of, OpenedInOrder};
 ghost use Rattle.lcm_isa.specs.declared.Reg.{Reg as AnyReg};
 ghost use Rattle.lcm_machine.specs.Places.{reg};
 ghost use Rattle.lcm_machine.specs.Cells.{cell};
@@ -21,7 +22,7 @@ use crate::layout::{Layout, stack_cells};
 use crate::machine::{Machine, Outcome};
 use crate::words::OWord;
 use arrayvec::ArrayString;
-use cap_words::{Word, word_text};
+use cap_words::{Opened, Word, word_text};
 use component_linker::Start;
 use frame_region::Region;
 use lcm_isa::Reg;
@@ -265,5 +266,14 @@ impl Overlay {
         ensures { result.bytes ≡ word_text_of (flat self.now.layout self.now.state.frames word.now) }
     {
         word_text(&self.machine.flat(&self.layout, word))
+    }
+
+    /// The seal and the content of the word that the plain machine has where the overlay has this one,
+    /// where that is a sealed word.
+    pub fn flat_opened(&self, word: &OWord) -> Option<Opened>
+        ensures is { result ≡ opened_of (flat self.now.layout self.now.state.frames word.now) }
+        ensures in_order { OpenedInOrder result }
+    {
+        self.machine.flat(&self.layout, word).opened()
     }
 }

@@ -15,3 +15,7 @@ mod TracesAlike
 mod Agreeing
 mod LeftAlone
 pub mod alike
+pub mod fit
+mod OwnPairs
+mod OwnEntries
+mod StepTold

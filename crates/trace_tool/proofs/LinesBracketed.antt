@@ -1,5 +1,5 @@
 -- Call and ret lines are bracketed as the overlay's events are, and what they tell of is as private.
-use Rattle.std.proofs.Common.{◌≡◌, ℕ, zero, suc, ◌+◌, ◌-◌, Bool, List, [], ◌∷◌, ◌++◌, Option, Some, None, refl, sym, ap, ◌∙◌, subst, arith}
+use Rattle.std.proofs.Common.{◌≡◌, ℕ, zero, suc, ◌+◌, ◌-◌, Bool, true, false, if◌then◌else◌, List, [], ◌∷◌, ◌++◌, Option, Some, None, refl, sym, ap, ◌∙◌, subst, arith}
 use Rattle.std.specs.Prelude.{map}
 use Rattle.std.proofs.lemmas.List.{append_assoc, map-append}
 use Rattle.cap_words.specs.declared.Word.{Word}
@@ -20,7 +20,9 @@ use Rattle.overlay_machine.proofs.Marks.{flat_cell, if_there, words_at, marks_by
 use Rattle.trace_tool.proofs.ReturnLines.{ret_returns}
 use Rattle.trace_tool.specs.Layout.{part_name, site_of}
 use Rattle.trace_tool.specs.Views.{View, flat_view}
-use Rattle.trace_tool.specs.Lines.{Args, Line, call, list_of, words_from, line_of, lines_for}
+use Rattle.trace_tool.specs.declared.pairs.Pairs.{Pairs}
+use Rattle.trace_tool.specs.Pairs.{no_pairs, pairs_of}
+use Rattle.trace_tool.specs.Lines.{Args, Passed, Line, call, pass, list_of, words_from, passed_of, pass_lines, line_of, lines_for}
 use Rattle.trace_tool.specs.Told.{step_lines, Told, none_yet as nothing_yet, and_then as tells}
 use Rattle.trace_tool.specs.Brackets.{LineTold, mark_of, marks_in, line_told, lines_told, LinesAreBracketed, RangeIsPrivate, CallsArePrivate}
 
@@ -37,13 +39,21 @@ same_words v a (suc n) = ap (λ ws. ws ++ list_of (v.cell (a + n))) (same_words 
 abbrev of_marks : Layout → List (Mark FrameTold) → List (Mark LineTold)
 of_marks l ms = map (mark_map (line_told l)) ms
 
+-- a pass line is no mark
+pass_mute : (l : Layout) (p : Pairs) → marks_in (pass_lines l p) ≡ []
+pass_mute l p = by (no_pairs p) (passed_of l p.p0) (passed_of l p.p1) (passed_of l p.p2)
+  where
+    by : (b : Bool) (x y z : Passed) → marks_in (if b then [] else pass x y z ∷ []) ≡ []
+    by true x y z = refl
+    by false x y z = refl
+
 event_marks : (l : Layout) (q : OState) (e : Option Event) → marks_in (lines_for l (flat_view l q) e) ≡ of_marks l (marks_by l q e)
 event_marks l q None = refl
 event_marks l q (Some (Called inward i b e)) =
     ap (λ ws. opens (record { part = part_name l (site_of l i).part; site = (site_of l i).index; base = b; last = e; words = ws }) ∷ []) (same_words (flat_view l q) b (e + 1 - b))
 event_marks l q (Some (Returned inward i b e)) =
     ap (λ ws. closes (record { part = part_name l (site_of l i).part; site = (site_of l i).index; base = b; last = e; words = (flat_view l q).reg Dat ∷ ws }) ∷ []) (same_words (flat_view l q) (b + 1) (e - b))
-event_marks l q (Some (Entered part k back)) = refl
+event_marks l q (Some (Entered part k back)) = pass_mute l (pairs_of l (flat_view l q))
 event_marks l q (Some (Left part)) = refl
 
 marks-append : (xs ys : List Line) → marks_in (xs ++ ys) ≡ marks_in xs ++ marks_in ys

@@ -11,7 +11,7 @@ use Rattle.overlay_machine.specs.Seen.{OverlaySeen}
 use Rattle.overlay_machine.specs.Runs.{plain_run}
 use Rattle.overlay_machine.specs.Brackets.{FrameTold, Mark, opens, closes, Brackets, frames_told, Depth}
 use Rattle.trace_tool.specs.Layout.{part_name, site_of}
-use Rattle.trace_tool.specs.Lines.{Args, Line, call, ret, enter, leave}
+use Rattle.trace_tool.specs.Lines.{Args, Line, call, ret, enter, pass, leave}
 use Rattle.trace_tool.specs.Told.{step_lines, Told}
 use Rattle.trace_tool.specs.Traces.{trace_of}
 
@@ -36,6 +36,7 @@ mark_of (call inward part site base last args words) =
 mark_of (ret inward part site base last a0 words) =
     closes (record { part = part; site = site; base = base; last = last; words = words }) ∷ []
 mark_of (enter part export stk args back) = []
+mark_of (pass p0 p1 p2) = []
 mark_of (leave part a0) = []
 
 abbrev pub marks_in : List Line → List (Mark LineTold)

@@ -3,6 +3,8 @@ pub mod Views
 pub mod Gaps
 pub mod Events
 pub mod Lines
+pub mod Halves
+pub mod Pairs
 pub mod Texts
 pub mod EndLines
 pub mod Runs
@@ -11,3 +13,6 @@ pub mod Told
 pub mod Alike
 pub mod Brackets
 pub mod Headline
+pub mod Fitting
+pub mod Fits
+pub mod StepLines

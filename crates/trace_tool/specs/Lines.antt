@@ -1,5 +1,6 @@
 -- The line of an event, as a value: it knows nothing of bytes.
 use Rattle.std.specs.Prelude.{ℕ, zero, suc, ◌+◌, ◌-◌, ◌++◌, Bool, List, [], ◌∷◌, Option, Some, None}
+use Rattle.std.specs.Prelude.{if◌then◌else◌}
 use Rattle.cap_words.specs.declared.Word.{Word}
 use Rattle.lcm_isa.specs.declared.Reg.TheVariants.{Stk, Dat, A0, A1, A2, A3}
 use Rattle.overlay_machine.specs.declared.layout.Layout.{Layout}
@@ -8,6 +9,11 @@ use Rattle.overlay_machine.specs.declared.events.Back.TheVariants.{Out, Bad, Hop
 use Rattle.overlay_machine.specs.declared.events.Event.{Event}
 use Rattle.overlay_machine.specs.declared.events.Event.TheVariants.{Called, Returned, Entered, Left}
 use Rattle.trace_tool.specs.Layout.{part_name, entry_name, site_of}
+use Rattle.trace_tool.specs.declared.pairs.Pair.{Pair as PairOf}
+use Rattle.trace_tool.specs.declared.pairs.Pair.TheVariants.{Nothing, Bad as BadPair, Out as OutPair}
+use Rattle.trace_tool.specs.declared.pairs.Pair.TheVariants.{Hop as HopPair}
+use Rattle.trace_tool.specs.declared.pairs.Pairs.{Pairs}
+use Rattle.trace_tool.specs.Pairs.{pairs_of, no_pairs}
 use Rattle.trace_tool.specs.Views.{View}
 
 -- the words of a0 to a3
@@ -24,10 +30,19 @@ pub data Return : Type 0 where
   hop : (part export : List ℕ) → Return
   pair : (part : List ℕ) (site base : ℕ) → Return
 
+-- what an `xjmp` of an argument register and the next one would do, and nothing where one of the two holds no
+-- sealed word or a linear one
+pub data Passed : Type 0 where
+  nothing : Passed
+  bad_pair : Passed
+  out_pair : Passed
+  hop_pair : (part export : List ℕ) → Passed
+
 pub data Line : Type 0 where
   call : (inward : Bool) (part : List ℕ) (site base last : ℕ) (args : Args) (words : List Word) → Line
   ret : (inward : Bool) (part : List ℕ) (site base last : ℕ) (a0 : Word) (words : List Word) → Line
   enter : (part export : List ℕ) (stk : Word) (args : Args) (back : Return) → Line
+  pass : (p0 p1 p2 : Passed) → Line
   leave : (part : List ℕ) (a0 : Word) → Line
 
 abbrev pub args_of : View → Args
@@ -48,6 +63,12 @@ return_of l Bad = bad
 return_of l (Hop part k) = hop (part_name l part) (entry_name l part k)
 return_of l (Pair i base) = pair (part_name l (site_of l i).part) (site_of l i).index base
 
+abbrev pub passed_of : Layout → PairOf → Passed
+passed_of l Nothing = nothing
+passed_of l BadPair = bad_pair
+passed_of l OutPair = out_pair
+passed_of l (HopPair part k) = hop_pair (part_name l part) (entry_name l part k)
+
 -- its names are those of the start, its words are read from the state after the instruction
 abbrev pub line_of : Layout → View → Event → Line
 line_of l v (Called inward i base last) =
@@ -60,7 +81,19 @@ line_of l v (Entered part k back) =
     enter (part_name l part) (entry_name l part k) (v.reg Stk) (args_of v) (return_of l back)
 line_of l v (Left part) = leave (part_name l part) (v.reg A0)
 
+abbrev pub pass_line : Layout → Pairs → Line
+pass_line l p = pass (passed_of l p.p0) (passed_of l p.p1) (passed_of l p.p2)
+
+-- the line of the pairs of an entry, where one is more than nothing
+abbrev pub pass_lines : Layout → Pairs → List Line
+pass_lines l p = if no_pairs p then [] else pass_line l p ∷ []
+
+-- what stands behind the line of an event
+abbrev pub lines_behind : Layout → View → Event → List Line
+lines_behind l v (Entered part k back) = pass_lines l (pairs_of l v)
+lines_behind l v _ = []
+
 -- the lines of a step, by its event
 abbrev pub lines_for : Layout → View → Option Event → List Line
 lines_for l v None = []
-lines_for l v (Some e) = line_of l v e ∷ []
+lines_for l v (Some e) = line_of l v e ∷ lines_behind l v e

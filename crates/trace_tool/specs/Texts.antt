@@ -2,7 +2,9 @@
 use Rattle.std.specs.Prelude.{ℕ, ◌++◌, Bool, true, false, List, [], ◌∷◌, codes, decimal}
 use Rattle.cap_words.specs.declared.Word.{Word}
 use Rattle.cap_words.specs.Text.{word_text_of}
-use Rattle.trace_tool.specs.Lines.{Args, Return, out, bad, hop, pair, Line, call, ret, enter, leave}
+use Rattle.trace_tool.specs.Lines.{Args, Return, out, bad, hop, pair, Passed, nothing, bad_pair, out_pair}
+use Rattle.trace_tool.specs.Lines.{hop_pair}
+use Rattle.trace_tool.specs.Lines.{Line, call, ret, enter, pass, leave}
 
 abbrev pub direction : Bool → List ℕ
 direction true = codes "in "
@@ -32,6 +34,12 @@ return_text (hop part export) = codes "hop:" ++ (part ++ (codes ":" ++ export))
 return_text (pair part site base) =
     codes "pair:" ++ (part ++ (codes ":" ++ (decimal site ++ (codes ":" ++ decimal base))))
 
+abbrev pub passed_text : Passed → List ℕ
+passed_text nothing = codes "none"
+passed_text bad_pair = codes "bad"
+passed_text out_pair = codes "out"
+passed_text (hop_pair part export) = codes "hop:" ++ (part ++ (codes ":" ++ export))
+
 -- a line begins with a head, and those of calls and returns go on with words
 abbrev pub head_text : Line → List ℕ
 head_text (call inward part site base last args words) =
@@ -41,12 +49,15 @@ head_text (ret inward part site base last a0 words) =
 head_text (enter part export stk args back) =
     codes "enter " ++ (part ++ (field export ++ (field (word_text_of stk)
     ++ (args_text args ++ field (return_text back)))))
+head_text (pass p0 p1 p2) =
+    codes "pass " ++ (passed_text p0 ++ (field (passed_text p1) ++ field (passed_text p2)))
 head_text (leave part a0) = codes "leave " ++ (part ++ field (word_text_of a0))
 
 abbrev pub words_of : Line → List Word
 words_of (call inward part site base last args words) = words
 words_of (ret inward part site base last a0 words) = words
 words_of (enter part export stk args back) = []
+words_of (pass p0 p1 p2) = []
 words_of (leave part a0) = []
 
 unfoldable pub line_text : Line → List ℕ

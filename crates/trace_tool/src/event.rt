@@ -10,12 +10,13 @@ ghost use Rattle.trace_tool.specs.Views.{view_of};
 ghost use Rattle.trace_tool.specs.Events.{reaches_trusted, called, returned, entered, leapt, event_after};
 
 use crate::find::{closure_owner, site_of_seal, trusted_owner};
+use crate::halves::{goes, hop_in};
 use crate::note::{Jump, Note};
 use cap_words::{Content, Opened};
 use component_linker::{Owner, Start};
 use lcm_isa::Reg;
 use lcm_machine::LcmState;
-use overlay_machine::reach::{content_base, entry_number, hop_by};
+use overlay_machine::reach::{content_base, entry_number};
 use overlay_machine::{Back, Event};
 
 // Where an `xjmp` of two halves goes, by their seal.
@@ -23,17 +24,13 @@ fn back_under(start: &Start, code: Opened, half: Opened) -> Back
     requires { ContentInOrder code.content }
     ensures { result ≡ back_under (layout start.now) (site_of_seal (layout start.now) code.seal) code half }
 {
-    if let Some(site) = site_of_seal(start, code.seal) {
-        return Back::Pair(site, content_base(half.content));
-    }
-    match closure_owner(start, code.seal) {
-        Some(owner) => hop_by(owner, code.content),
-        None => Back::Out,
+    match site_of_seal(start, code.seal) {
+        Some(site) => Back::Pair(site, content_base(half.content)),
+        None => hop_in(start, code),
     }
 }
 
 // What `xjmp rcode rdata` would do.
-#[tactic(auto, unfolding(lcm_machine::specs::Table::need, lcm_machine::specs::Table::ask))]
 fn back_of(start: &Start) -> Back
     ensures { let regs = start.now.state.maps.regs in
         result ≡ back_of (layout start.now) (reg regs Rcode) (reg regs Rdata) }
@@ -45,21 +42,11 @@ fn back_of(start: &Start) -> Back
     let Some(half) = state.reg(Reg::Rdata).opened() else {
         return Back::Bad;
     };
-    if code.seal != half.seal {
-        return Back::Bad;
+    if goes(code, half) {
+        back_under(start, code, half)
+    } else {
+        Back::Bad
     }
-    let Content::Mem(c) = code.content else {
-        return Back::Bad;
-    };
-    if c.lin.is_linear() || !c.perm.may_run() {
-        return Back::Bad;
-    }
-    if let Content::Mem(d) = half.content {
-        if d.perm.may_run() {
-            return Back::Bad;
-        }
-    }
-    back_under(start, code, half)
 }
 
 fn reaches_trusted(start: &Start) -> bool

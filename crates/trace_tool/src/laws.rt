@@ -13,6 +13,9 @@ ghost use Rattle.trace_tool.specs.Told.{TracesSteps};
 ghost use Rattle.trace_tool.specs.Brackets.{LinesAreBracketed, TraceIsBracketed, CallsArePrivate};
 ghost use Rattle.overlay_machine.specs.Starting.{StartThere};
 ghost use Rattle.trace_tool.specs.Headline.{Headline, HeadlineHolds};
+ghost use Rattle.trace_tool.specs.Pairs.{PairsAreOwn, PassesAreOwn};
+ghost use Rattle.trace_tool.specs.StepLines.{StepsTellSo, RunsAreOfSteps, ToldAreOfSteps};
+ghost use Rattle.trace_tool.specs.Fits.{RunsFit, StartLinesFit};
 ghost use Rattle.trace_tool.specs.Alike.{LinkedLinesAgree, StartLinesAgree, TracesAlike};
 
 use overlay_machine::laws::{
@@ -93,3 +96,30 @@ pub fn start_lines_agree()
     a_start_has_one_overlay();
     linked_lines_agree();
 }
+
+/// The words that a run from a linked start comes to are words of a machine: integers and addresses of
+/// 64 bits, ranges in order, and seals that there are. So are the words of its lines, whose names are
+/// names and whose numbers have 32 bits.
+pub fn lines_fit()
+    ensures runs { RunsFit }
+    ensures lines { StartLinesFit }
+{}
+
+/// What a `pass` line tells of plain words is what the overlay's own words say.
+///
+/// There a RetCode counts as a sealed word that isn't linear, with which no `xjmp` of another such word
+/// goes, and a RetData as a linear one. So it is of any two words that untrusted code may hold, and of
+/// the argument registers at each `enter` line, where the invariant of linked parts holds.
+pub fn pairs_are_the_overlays()
+    ensures words { PairsAreOwn }
+    ensures entries { PassesAreOwn }
+{}
+
+/// A step has no line, one line that is no `pass` line, or an `enter` line with a `pass` line right
+/// behind it. The lines of a plain run are those of steps, one behind the other, and so are those of a
+/// run of the overlay.
+pub fn steps_tell_so()
+    ensures step { StepsTellSo }
+    ensures runs { RunsAreOfSteps }
+    ensures told { ToldAreOfSteps }
+{}

@@ -1,11 +1,12 @@
 //! What lines show of a machine.
 ghost use Rattle.std.specs.Prelude.{◌≡◌, None, Some, option_map, MatchOption};
 ghost use Rattle.cap_words.specs.Text.{word_text_of};
+ghost use Rattle.cap_words.specs.Face.{opened_of, OpenedInOrder};
 ghost use Rattle.lcm_isa.specs.declared.Reg.TheVariants.{Pc};
 ghost use Rattle.trace_tool.specs.EndLines.{address_in};
 
 use arrayvec::ArrayString;
-use cap_words::{Word, word_text};
+use cap_words::{Opened, Word, word_text};
 use lcm_isa::Reg;
 use lcm_machine::LcmState;
 use overlay_machine::{OWord, Overlay};
@@ -20,6 +21,11 @@ pub trait Shown {
     /// The text of a register's word.
     fn text(&self, r: Reg) -> ArrayString<128>
         ensures { result.bytes ≡ word_text_of ((view self.now).reg r) };
+
+    /// The seal and the content of a register's word, where it is a sealed one.
+    fn opened(&self, r: Reg) -> Option<Opened>
+        ensures is { result ≡ opened_of ((view self.now).reg r) }
+        ensures in_order { OpenedInOrder result };
 
     /// pc's address, where pc holds a memory capability.
     fn pc(&self) -> Option<i64>
@@ -39,6 +45,10 @@ impl Shown for LcmState {
 
     fn text(&self, r: Reg) -> ArrayString<128> {
         word_text(self.reg(r))
+    }
+
+    fn opened(&self, r: Reg) -> Option<Opened> {
+        self.reg(r).opened()
     }
 
     fn pc(&self) -> Option<i64> {
@@ -64,6 +74,10 @@ impl Shown for Overlay {
 
     fn text(&self, r: Reg) -> ArrayString<128> {
         self.flat_text(self.reg(r))
+    }
+
+    fn opened(&self, r: Reg) -> Option<Opened> {
+        self.flat_opened(self.reg(r))
     }
 
     #[tactic(auto, unfolding(overlay_machine::specs::Flat::flat))]

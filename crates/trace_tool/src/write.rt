@@ -4,10 +4,14 @@ ghost use Rattle.arrayvec.specs.ArrayVec.{array_vec_len};
 ghost use Rattle.outside_io.specs.Writes.{Writes};
 ghost use Rattle.cap_words.specs.Text.{word_text_of};
 ghost use Rattle.trace_tool.specs.Layout.{layout, part_name, site_of};
-ghost use Rattle.trace_tool.specs.Lines.{list_of, return_of, args_of, words_from, line_of, lines_for};
-ghost use Rattle.trace_tool.specs.Texts.{field, head_text, words_text, args_text, place_text, return_text, line_text, lines_text};
+ghost use Rattle.trace_tool.specs.Pairs.{pairs_of};
+ghost use Rattle.trace_tool.specs.Lines.{list_of, args_of, words_from, return_of, passed_of, line_of};
+ghost use Rattle.trace_tool.specs.Lines.{pass_line, pass_lines, lines_behind, lines_for};
+ghost use Rattle.trace_tool.specs.Texts.{field, words_text, args_text, place_text, return_text, passed_text};
+ghost use Rattle.trace_tool.specs.Texts.{head_text, line_text, lines_text};
 
 use crate::find::{entry_name, part_name, site_of};
+use crate::pairs::{Pair, Pairs, pairs_of};
 use crate::view::Shown;
 use arrayvec::ArrayVec;
 use component_linker::Start;
@@ -123,6 +127,25 @@ fn push_back(head: &mut Head, start: &Start, back: Back)
             push_number(head, site.index);
             push(head, b":");
             push_number(head, base);
+        }
+    }
+}
+
+// Appends what an `xjmp` of an argument register and the next one would do.
+fn push_pair(head: &mut Head, start: &Start, pair: Pair)
+    requires { array_vec_len head.old + 70 ≤ ROOM }
+    ensures bytes { head.new.items ≡ head.old.items ++ passed_text (passed_of (layout start.now) pair) }
+    ensures len { array_vec_len head.new ≤ array_vec_len head.old + 70 }
+{
+    match pair {
+        Pair::Nothing => push(head, b"none"),
+        Pair::Bad => push(head, b"bad"),
+        Pair::Out => push(head, b"out"),
+        Pair::Hop(part, entry) => {
+            push(head, b"hop:");
+            push(head, part_name(start, part));
+            push(head, b":");
+            push(head, entry_name(start, part, entry));
         }
     }
 }
@@ -331,7 +354,54 @@ fn write_event<V: Shown, S: Sink>(
     }
 }
 
+// Writes the line of pairs.
+#[tactic(auto, unfolding(crate::specs::Texts::line_text))]
+fn write_pairs<S: Sink>(start: &Start, pairs: Pairs, out: &mut S) -> Result<(), Failed>
+    ensures { let line = pass_line (layout start.now) pairs in
+        Writes (S.seen out.old) (line_text line) result (S.seen out.new) }
+{
+    let mut line = Head::new();
+    push(&mut line, b"pass ");
+    push_pair(&mut line, start, pairs.p0);
+    push(&mut line, b" ");
+    push_pair(&mut line, start, pairs.p1);
+    push(&mut line, b" ");
+    push_pair(&mut line, start, pairs.p2);
+    push(&mut line, b"\n");
+    write(out, line.as_slice())
+}
+
+// Writes the line of the pairs of an entry, where one is more than nothing.
+fn write_pass<V: Shown, S: Sink>(start: &Start, view: &V, out: &mut S) -> Result<(), Failed>
+    ensures { let l = layout start.now in let lines = pass_lines l (pairs_of l (V.view view.now)) in
+        Writes (S.seen out.old) (lines_text lines) result (S.seen out.new) }
+{
+    let pairs = pairs_of(start, view);
+    if pairs.are_nothing() {
+        Ok(())
+    } else {
+        write_pairs(start, pairs, out)
+    }
+}
+
+// Writes what stands behind the line of an event.
+fn write_behind<V: Shown, S: Sink>(
+    start: &Start,
+    view: &V,
+    event: Event,
+    out: &mut S,
+) -> Result<(), Failed>
+    ensures { let lines = lines_behind (layout start.now) (V.view view.now) event in
+        Writes (S.seen out.old) (lines_text lines) result (S.seen out.new) }
+{
+    match event {
+        Event::Entered { .. } => write_pass(start, view, out),
+        _ => Ok(()),
+    }
+}
+
 /// Writes the lines of a step, by its event.
+#[tactic(auto, using(outside_io::proofs::Writing::writes_behind))]
 pub(crate) fn tell<V: Shown, S: Sink>(
     start: &Start,
     view: &V,
@@ -342,7 +412,10 @@ pub(crate) fn tell<V: Shown, S: Sink>(
         Writes (S.seen out.old) (lines_text lines) result (S.seen out.new) }
 {
     match event {
-        Some(event) => write_event(start, view, event, out),
+        Some(event) => {
+            write_event(start, view, event, out)?;
+            write_behind(start, view, event, out)
+        }
         None => Ok(()),
     }
 }

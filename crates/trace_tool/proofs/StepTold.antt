@@ -1,0 +1,42 @@
+-- What lines one step has, by its event, and that the lines of runs are those of steps.
+use Rattle.std.proofs.Common.{ℕ, zero, suc, Bool, true, false, List, [], ◌∷◌, Some, None}
+use Rattle.std.specs.Prelude.{if◌then◌else◌}
+use Rattle.cap_words.specs.declared.Word.{Word}
+use Rattle.overlay_machine.specs.declared.layout.Layout.{Layout}
+use Rattle.overlay_machine.specs.declared.events.Event.TheVariants.{Called, Returned, Entered, Left}
+use Rattle.overlay_machine.specs.Events.{step_event}
+use Rattle.lcm_machine.specs.Run.{next_state}
+use Rattle.trace_tool.specs.Views.{view_of, flat_view}
+use Rattle.trace_tool.specs.Pairs.{pairs_of, no_pairs}
+use Rattle.trace_tool.specs.Lines.{Args, Return, Passed, Line, enter, pass, passed_of}
+use Rattle.trace_tool.specs.Runs.{Watched, watched, event_next, line_next}
+use Rattle.trace_tool.specs.Told.{none_yet, and_then}
+use Rattle.trace_tool.specs.StepLines.{AreOfStep, none_told, one_told, pass_told, no_step, and_step}
+use Rattle.trace_tool.specs.StepLines.{StepsTellSo, RunsAreOfSteps, ToldAreOfSteps}
+
+with_pass : (part export : List ℕ) (stk : Word) (args : Args) (back : Return) (b : Bool) (x y z : Passed)
+    → AreOfStep (enter part export stk args back ∷ (if b then [] else pass x y z ∷ []))
+with_pass part export stk args back true x y z = one_told tt
+with_pass part export stk args back false x y z = pass_told
+
+pub steps_tell_so : StepsTellSo
+steps_tell_so l v None = none_told
+steps_tell_so l v (Some (Called inward i base last)) = one_told tt
+steps_tell_so l v (Some (Returned inward i base last)) = one_told tt
+steps_tell_so l v (Some (Entered part k back)) =
+    let p = pairs_of l v in
+    with_pass _ _ _ _ _ (no_pairs p) (passed_of l p.p0) (passed_of l p.p1) (passed_of l p.p2)
+steps_tell_so l v (Some (Left part)) = one_told tt
+
+next_tells : (l : Layout) (w : Watched) → AreOfStep (line_next l w)
+unfolding line_next
+next_tells l w = steps_tell_so l (view_of (next_state w.run).maps) (event_next l w)
+
+pub runs_are_of_steps : RunsAreOfSteps
+runs_are_of_steps l w zero = no_step
+runs_are_of_steps l w (suc n) = and_step (runs_are_of_steps l w n) (next_tells l (watched l w n))
+
+pub told_are_of_steps : ToldAreOfSteps
+told_are_of_steps l o _ _ _ none_yet = no_step
+told_are_of_steps l o q _ _ (and_then {j = j} {ls = ls} {p = p} r e) =
+    and_step (told_are_of_steps l o p j ls r) (steps_tell_so l (flat_view l q) (step_event l p q))

@@ -1,0 +1,5 @@
+-- Words, names and numbers of lines are those that there are.
+pub mod WordsFit
+pub mod StartFits
+pub mod NamesFit
+pub mod LinesFitting

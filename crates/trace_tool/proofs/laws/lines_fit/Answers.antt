@@ -1,0 +1,11 @@
+use Rattle.trace_tool.proofs.fit.WordsFit.{plain_fits}
+use Rattle.trace_tool.proofs.fit.StartFits.{starts_fit}
+use Rattle.trace_tool.proofs.fit.LinesFitting.{lines_fit}
+use Rattle.trace_tool.proofs.laws.lines_fit.Goals as goal
+
+pub returns-clause-runs : goal.returns-clause-runs
+returns-clause-runs c = λ parts size s l n.
+    plain_fits n s.state (starts_fit parts size s.state l.accepted l.rules l.starts.state)
+
+pub returns-clause-lines : goal.returns-clause-lines
+returns-clause-lines c = lines_fit

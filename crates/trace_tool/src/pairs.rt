@@ -1,0 +1,103 @@
+//! What an `xjmp` of an argument register and the next one would do.
+ghost use Rattle.std.specs.Prelude.{◌≡◌};
+ghost use Rattle.cap_words.specs.Face.{ContentInOrder};
+ghost use Rattle.trace_tool.specs.Layout.{layout};
+ghost use Rattle.trace_tool.specs.Pairs.{content_linear, pair_under, pair_of, pairs_of, is_nothing, no_pairs};
+
+use crate::halves::{goes, hop_in};
+use crate::view::Shown;
+use cap_words::{Content, Opened};
+use component_linker::Start;
+use lcm_isa::Reg;
+use overlay_machine::Back;
+
+/// Of an argument register and the next one.
+#[derive(Clone, Copy)]
+pub enum Pair {
+    /// One of the two isn't a sealed word, or is linear.
+    Nothing,
+    /// It would fail.
+    Bad,
+    /// It would go, and to no entry of a trusted part.
+    Out,
+    /// It would go under the closure seal of a trusted part: the part, by its place among the parts,
+    /// and the entry, by its place among the part's.
+    Hop(u32, u32),
+}
+
+/// Of the four argument registers.
+#[derive(Clone, Copy)]
+pub struct Pairs {
+    pub p0: Pair,
+    pub p1: Pair,
+    pub p2: Pair,
+}
+
+fn is_linear(content: Content) -> bool
+    ensures { result ≡ content_linear content }
+{
+    match content {
+        Content::Mem(c) => c.lin.is_linear(),
+        Content::Seal(_) => false,
+    }
+}
+
+// Where an `xjmp` under this code half goes, by its seal.
+fn pair_under(start: &Start, code: Opened) -> Pair
+    requires { ContentInOrder code.content }
+    ensures { result ≡ pair_under (layout start.now) code }
+{
+    match hop_in(start, code) {
+        Back::Hop(part, entry) => Pair::Hop(part, entry),
+        _ => Pair::Out,
+    }
+}
+
+// What an `xjmp` of two registers would do.
+fn pair_of<V: Shown>(start: &Start, view: &V, r1: Reg, r2: Reg) -> Pair
+    ensures { let v = V.view view.now in
+        result ≡ pair_of (layout start.now) (v.reg r1) (v.reg r2) }
+{
+    let Some(code) = view.opened(r1) else {
+        return Pair::Nothing;
+    };
+    let Some(half) = view.opened(r2) else {
+        return Pair::Nothing;
+    };
+    if is_linear(code.content) || is_linear(half.content) {
+        return Pair::Nothing;
+    }
+    if goes(code, half) {
+        pair_under(start, code)
+    } else {
+        Pair::Bad
+    }
+}
+
+/// The pairs of a state.
+pub(crate) fn pairs_of<V: Shown>(start: &Start, view: &V) -> Pairs
+    ensures { result ≡ pairs_of (layout start.now) (V.view view.now) }
+{
+    Pairs {
+        p0: pair_of(start, view, Reg::A0, Reg::A1),
+        p1: pair_of(start, view, Reg::A1, Reg::A2),
+        p2: pair_of(start, view, Reg::A2, Reg::A3),
+    }
+}
+
+impl Pair {
+    fn is_nothing(self) -> bool
+        ensures { result ≡ is_nothing self }
+    {
+        matches!(self, Pair::Nothing)
+    }
+}
+
+impl Pairs {
+    /// Whether there is none.
+    pub(crate) fn are_nothing(self) -> bool
+        ensures { result ≡ no_pairs self }
+    {
+        self.p0.is_nothing() && self.p1.is_nothing() && self.p2.is_nothing()
+    }
+}
