@@ -19,3 +19,4 @@ pub mod fit
 mod OwnPairs
 mod OwnEntries
 mod StepTold
+mod FeedJoins

@@ -16,3 +16,4 @@ pub mod Headline
 pub mod Fitting
 pub mod Fits
 pub mod StepLines
+pub mod Feed

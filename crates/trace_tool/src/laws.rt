@@ -15,6 +15,7 @@ ghost use Rattle.overlay_machine.specs.Starting.{StartThere};
 ghost use Rattle.trace_tool.specs.Headline.{Headline, HeadlineHolds};
 ghost use Rattle.trace_tool.specs.Pairs.{PairsAreOwn, PassesAreOwn};
 ghost use Rattle.trace_tool.specs.StepLines.{StepsTellSo, RunsAreOfSteps, ToldAreOfSteps};
+ghost use Rattle.trace_tool.specs.Feed.{OutsJoin, ItemsJoin, EntriesAreItems};
 ghost use Rattle.trace_tool.specs.Fits.{RunsFit, StartLinesFit};
 ghost use Rattle.trace_tool.specs.Alike.{LinkedLinesAgree, StartLinesAgree, TracesAlike};
 
@@ -122,4 +123,16 @@ pub fn steps_tell_so()
     ensures step { StepsTellSo }
     ensures runs { RunsAreOfSteps }
     ensures told { ToldAreOfSteps }
+{}
+
+/// What goes out of trusted code and what comes in is told step by step.
+///
+/// What goes out by some lines and then others is what goes out by the first and then by the others.
+/// So it is of what comes in, where the others are lines of steps: no `enter` line is parted from its
+/// `pass` line. An entry comes in with the pairs of the state after its `xjmp`, whether a `pass` line
+/// tells them or not.
+pub fn lines_are_a_feed()
+    ensures outs { OutsJoin }
+    ensures items { ItemsJoin }
+    ensures entries { EntriesAreItems }
 {}

@@ -1,0 +1,119 @@
+-- What goes out and what comes in, over the lines of steps one behind the other.
+use Rattle.std.proofs.Common.{◌≡◌, ℕ, Bool, true, false, List, [], ◌∷◌, ◌++◌, refl, sym, ap, ◌∙◌}
+use Rattle.std.specs.Prelude.{if◌then◌else◌, ◌&&◌}
+use Rattle.std.proofs.lemmas.Bool.{and_parts}
+use Rattle.std.proofs.lemmas.List.{append_assoc}
+use Rattle.cap_words.specs.declared.Word.{Word}
+use Rattle.lcm_isa.specs.declared.Reg.TheVariants.{Stk}
+use Rattle.overlay_machine.specs.declared.layout.Layout.{Layout}
+use Rattle.trace_tool.specs.declared.pairs.Pair.{Pair}
+use Rattle.trace_tool.specs.declared.pairs.Pair.TheVariants.{Nothing, Bad, Out, Hop}
+use Rattle.trace_tool.specs.declared.pairs.Pairs.{Pairs}
+use Rattle.trace_tool.specs.Layout.{part_name, entry_name}
+use Rattle.trace_tool.specs.Pairs.{is_nothing, no_pairs, pairs_of}
+use Rattle.trace_tool.specs.Lines.{Args, Return, Passed, nothing, Line, call, ret, enter, pass, leave}
+use Rattle.trace_tool.specs.Lines.{args_of, return_of, passed_of}
+use Rattle.trace_tool.specs.StepLines.{IsNoPass, AreOfStep, none_told, one_told, pass_told}
+use Rattle.trace_tool.specs.StepLines.{AreOfSteps, no_step, and_step}
+use Rattle.trace_tool.specs.Feed.{integers_in, left_in, out_of, outs_of, enters, no_pair_told, pairs_in}
+use Rattle.trace_tool.specs.Feed.{pairs_behind, item_of, items_of, told_pairs}
+use Rattle.trace_tool.specs.Feed.{OutsJoin, ItemsJoin, EntriesAreItems}
+
+pub outs_join : OutsJoin
+outs_join [] ys = refl
+outs_join (x ∷ xs) ys =
+    ap (λ es. out_of x ++ es) (outs_join xs ys) ∙ sym (append_assoc (out_of x) (outs_of xs) (outs_of ys))
+
+-- ---- lines that begin with no pass line
+
+BeginsRight : List Line → Type 0
+BeginsRight [] = Unit {0}
+BeginsRight (x ∷ xs) = IsNoPass x
+
+step_right : (ls : List Line) → AreOfStep ls → BeginsRight ls
+unfolding BeginsRight
+step_right _ none_told = tt
+step_right _ (one_told h) = h
+step_right _ pass_told = tt
+
+right_append : (xs ys : List Line) → BeginsRight xs → BeginsRight ys → BeginsRight (xs ++ ys)
+unfolding BeginsRight
+right_append [] ys h k = k
+right_append (x ∷ xs) ys h k = h
+
+steps_right : (ls : List Line) → AreOfSteps ls → BeginsRight ls
+unfolding BeginsRight
+steps_right _ no_step = tt
+steps_right _ (and_step {ls = ls} {more = more} h k) =
+    right_append ls more (steps_right ls h) (step_right more k)
+
+no_pass_in : (x : Line) → IsNoPass x → pairs_in x ≡ no_pair_told
+no_pass_in (call inward part site base last args words) h = refl
+no_pass_in (ret inward part site base last a0 words) h = refl
+no_pass_in (enter part export stk args back) h = refl
+no_pass_in (pass p0 p1 p2) h = absurd h
+no_pass_in (leave part a0) h = refl
+
+none_behind : (ys : List Line) → BeginsRight ys → pairs_behind ys ≡ no_pair_told
+unfolding BeginsRight
+none_behind [] h = refl
+none_behind (y ∷ ys) h = no_pass_in y h
+
+-- ---- items
+
+same_pairs : (xs ys : List Line) → BeginsRight ys → pairs_behind (xs ++ ys) ≡ pairs_behind xs
+same_pairs [] ys h = none_behind ys h
+same_pairs (x ∷ xs) ys h = refl
+
+same_item : (base : ℕ) (x : Line) (xs ys : List Line) → BeginsRight ys
+    → item_of base x (xs ++ ys) ≡ item_of base x xs
+same_item base (call inward part site b last args words) xs ys h = refl
+same_item base (ret true part site b last a0 words) xs ys h = refl
+same_item base (ret false part site b last a0 words) xs ys h = refl
+same_item base (enter part export stk args back) xs ys h =
+    ap (λ ps. enters part export (left_in base stk) (integers_in args) ps back ∷ []) (same_pairs xs ys h)
+same_item base (pass p0 p1 p2) xs ys h = refl
+same_item base (leave part a0) xs ys h = refl
+
+join : (base : ℕ) (xs ys : List Line) → BeginsRight ys
+    → items_of base (xs ++ ys) ≡ items_of base xs ++ items_of base ys
+join base [] ys h = refl
+join base (x ∷ xs) ys h =
+    ap (λ is. is ++ items_of base (xs ++ ys)) (same_item base x xs ys h)
+    ∙ ap (λ is. item_of base x xs ++ is) (join base xs ys h)
+    ∙ sym (append_assoc (item_of base x xs) (items_of base xs) (items_of base ys))
+
+pub items_join : ItemsJoin
+items_join base xs ys h = join base xs ys (steps_right ys h)
+
+-- ---- the item of an entry
+
+untold : (l : Layout) (p : Pair) → is_nothing p ≡ true → passed_of l p ≡ nothing
+untold l Nothing e = refl
+untold l Bad e = absurd cc
+untold l Out e = absurd cc
+untold l (Hop part k) e = absurd cc
+
+all_untold : (l : Layout) (p : Pairs) → no_pairs p ≡ true → told_pairs l p ≡ no_pair_told
+all_untold l p e =
+    let first = and_parts (is_nothing p.p0) (is_nothing p.p1 && is_nothing p.p2) e in
+    let rest = and_parts (is_nothing p.p1) (is_nothing p.p2) first.1 in
+    let a : passed_of l p.p0 ≡ nothing = untold l p.p0 first.0 in
+    let b : passed_of l p.p1 ≡ nothing = untold l p.p1 rest.0 in
+    let c : passed_of l p.p2 ≡ nothing = untold l p.p2 rest.1 in
+    rw (a, b, c) refl
+
+told_or_not : (b : Bool) (base : ℕ) (l : Layout) (p : Pairs) (part export : List ℕ) (stk : Word) (args : Args)
+    (back : Return) → no_pairs p ≡ b
+    → items_of base (enter part export stk args back
+    ∷ (if b then [] else pass (passed_of l p.p0) (passed_of l p.p1) (passed_of l p.p2) ∷ []))
+    ≡ enters part export (left_in base stk) (integers_in args) (told_pairs l p) back ∷ []
+told_or_not true base l p part export stk args back e =
+    ap (λ ps. enters part export (left_in base stk) (integers_in args) ps back ∷ []) (sym (all_untold l p e))
+told_or_not false base l p part export stk args back e = refl
+
+pub entries_are_items : EntriesAreItems
+entries_are_items base l v part k back =
+    let p = pairs_of l v in
+    told_or_not (no_pairs p) base l p (part_name l part) (entry_name l part k) (v.reg Stk) (args_of v)
+    (return_of l back) refl

@@ -1,0 +1,131 @@
+-- What lines tell of trusted code as a whole: what goes out of it, and what comes in, one after another.
+use Rattle.std.specs.Prelude.{◌≡◌, ℕ, ◌+◌, ◌-◌, ◌==◌, ◌++◌, Bool, true, false, ◌&&◌, ℤ, List, [], ◌∷◌}
+use Rattle.std.specs.Prelude.{Option, Some, None, if◌then◌else◌}
+use Rattle.cap_words.specs.declared.CapFields.{CapFields}
+use Rattle.cap_words.specs.declared.Word.{Word}
+use Rattle.cap_words.specs.declared.Word.TheVariants.{Int, Mem}
+use Rattle.cap_words.specs.Faces.{perm_number}
+use Rattle.cap_words.specs.Linear.{lin_is}
+use Rattle.lcm_isa.specs.declared.Reg.TheVariants.{Stk}
+use Rattle.lcm_machine.specs.Table.{fits_64}
+use Rattle.overlay_machine.specs.declared.layout.Layout.{Layout}
+use Rattle.overlay_machine.specs.declared.events.Back.{Back}
+use Rattle.overlay_machine.specs.declared.events.Event.TheVariants.{Entered}
+use Rattle.trace_tool.specs.declared.pairs.Pairs.{Pairs}
+use Rattle.trace_tool.specs.Layout.{part_name, entry_name}
+use Rattle.trace_tool.specs.Views.{View}
+use Rattle.trace_tool.specs.Pairs.{pairs_of}
+use Rattle.trace_tool.specs.Lines.{Args, Return, Passed, nothing, Line, call, ret, enter, pass, leave}
+use Rattle.trace_tool.specs.Lines.{args_of, return_of, passed_of, lines_for}
+use Rattle.trace_tool.specs.StepLines.{AreOfSteps}
+
+-- ---- words as values
+
+-- an integer has 64 bits
+abbrev pub integer_in : Word → Option ℤ
+integer_in (Int z) = if fits_64 z then Some z else None
+integer_in _ = None
+
+abbrev pub integers_in : Args → List (Option ℤ)
+integers_in a = integer_in a.a0 ∷ integer_in a.a1 ∷ integer_in a.a2 ∷ integer_in a.a3 ∷ []
+
+-- how many words of stack are handed over: entries take a linear rw capability whose range begins at the
+-- stack's base, and refuse any other word
+abbrev pub left_by : ℕ → CapFields → Option ℕ
+left_by base c =
+    if lin_is c.lin && (perm_number c.perm == 2) && (c.base == base) then Some (c.end + 1 - c.base) else None
+
+abbrev pub left_in : ℕ → Word → Option ℕ
+left_in base (Mem c) = left_by base c
+left_in base _ = None
+
+-- ---- what goes out
+
+-- an integer, or any other word
+pub data OutArg : Type 0 where
+  integer : ℤ → OutArg
+  half : OutArg
+
+pub data OutEvent : Type 0 where
+  call_out : (part : List ℕ) (site : ℕ) (args : List OutArg) → OutEvent
+  leave_out : (part : List ℕ) (value : OutArg) → OutEvent
+
+abbrev pub out_arg : Option ℤ → OutArg
+out_arg (Some z) = integer z
+out_arg None = half
+
+abbrev pub out_args : Args → List OutArg
+out_args a =
+    out_arg (integer_in a.a0) ∷ out_arg (integer_in a.a1)
+    ∷ out_arg (integer_in a.a2) ∷ out_arg (integer_in a.a3) ∷ []
+
+-- calls and leaves to code that isn't trusted
+abbrev pub out_of : Line → List OutEvent
+out_of (call true part site base last args words) = []
+out_of (call false part site base last args words) = call_out part site (out_args args) ∷ []
+out_of (ret inward part site base last a0 words) = []
+out_of (enter part export stk args back) = []
+out_of (pass p0 p1 p2) = []
+out_of (leave part a0) = leave_out part (out_arg (integer_in a0)) ∷ []
+
+abbrev pub outs_of : List Line → List OutEvent
+outs_of [] = []
+outs_of (x ∷ xs) = out_of x ++ outs_of xs
+
+-- ---- what comes in
+
+-- an entry is entered, with so many words of stack, the argument registers as integers and as pairs, and what
+-- `xjmp rcode rdata` would do; or a call is answered, by this value
+pub data Item : Type 0 where
+  enters : (part export : List ℕ) (left : Option ℕ) (args : List (Option ℤ)) (pairs : List Passed)
+      (back : Return) → Item
+  answers : (part : List ℕ) (site base : ℕ) (value : Option ℤ) → Item
+
+abbrev pub no_pair_told : List Passed
+no_pair_told = nothing ∷ nothing ∷ nothing ∷ []
+
+abbrev pub pairs_in : Line → List Passed
+pairs_in (pass p0 p1 p2) = p0 ∷ p1 ∷ p2 ∷ []
+pairs_in _ = no_pair_told
+
+-- the pairs of an enter line, by the lines behind it
+abbrev pub pairs_behind : List Line → List Passed
+pairs_behind [] = no_pair_told
+pairs_behind (x ∷ xs) = pairs_in x
+
+-- an enter line is an item, and so is the ret line of a call that code which isn't trusted answers
+abbrev pub item_of : ℕ → Line → List Line → List Item
+item_of base (call inward part site b last args words) xs = []
+item_of base (ret true part site b last a0 words) xs = []
+item_of base (ret false part site b last a0 words) xs = answers part site b (integer_in a0) ∷ []
+item_of base (enter part export stk args back) xs =
+    enters part export (left_in base stk) (integers_in args) (pairs_behind xs) back ∷ []
+item_of base (pass p0 p1 p2) xs = []
+item_of base (leave part a0) xs = []
+
+-- where the stack begins at this base
+abbrev pub items_of : ℕ → List Line → List Item
+items_of base [] = []
+items_of base (x ∷ xs) = item_of base x xs ++ items_of base xs
+
+-- ---- laws
+
+abbrev pub OutsJoin : Type 0
+OutsJoin = (xs ys : List Line) → outs_of (xs ++ ys) ≡ outs_of xs ++ outs_of ys
+
+-- an enter line and its pass line are of one step
+abbrev pub ItemsJoin : Type 0
+ItemsJoin =
+    (base : ℕ) (xs ys : List Line) → AreOfSteps ys
+    → items_of base (xs ++ ys) ≡ items_of base xs ++ items_of base ys
+
+abbrev pub told_pairs : Layout → Pairs → List Passed
+told_pairs l p = passed_of l p.p0 ∷ passed_of l p.p1 ∷ passed_of l p.p2 ∷ []
+
+-- the item of an entry has the pairs of the state, whether a pass line tells them or not
+abbrev pub EntriesAreItems : Type 0
+EntriesAreItems =
+    (base : ℕ) (l : Layout) (v : View) (part k : ℕ) (back : Back)
+    → items_of base (lines_for l v (Some (Entered part k back)))
+    ≡ enters (part_name l part) (entry_name l part k) (left_in base (v.reg Stk)) (integers_in (args_of v))
+    (told_pairs l (pairs_of l v)) (return_of l back) ∷ []
