@@ -110,7 +110,7 @@ found (Cseal a b) h = at_parts 20 (reg_number a) (reg_number b) 0 0 0 (lit< tt) 
 found (Split a b c n) h = at_parts 21 (reg_number a) (reg_number b) (reg_number c) (mode_of n) (field_of n) (lit< tt) (reg_below a) (reg_below b) (reg_below c) (mode_below n) ∙ rw (reg_back a, reg_back b, reg_back c, operand_back n h)
 found (Splice a b c) h = at_parts 22 (reg_number a) (reg_number b) (reg_number c) 0 0 (lit< tt) (reg_below a) (reg_below b) (reg_below c) (lit< tt) ∙ rw (reg_back a, reg_back b, reg_back c)
 
-number_below : (i : Instr) → IsInstr i → number_of i < 2251799813685248
+pub number_below : (i : Instr) → IsInstr i → number_of i < 2251799813685248
 unfolding number_of
 number_below Fail h = packed_below 0 0 0 0 0 0 (lit< tt) (lit< tt) (lit< tt) (lit< tt) (lit< tt) (lit< tt)
 number_below Halt h = packed_below 1 0 0 0 0 0 (lit< tt) (lit< tt) (lit< tt) (lit< tt) (lit< tt) (lit< tt)

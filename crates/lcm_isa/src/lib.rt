@@ -10,9 +10,10 @@
 
 mod text;
 
-ghost use Rattle.std.specs.Prelude.{◌≡◌, ◌≢◌, ◌≤◌, ◌<◌, ◌+◌, ◌*◌, ◌^◌, ℕ, ℤ, pos, Some, IfSome, IfNone, find, length};
+ghost use Rattle.std.specs.Prelude.{◌≡◌, ◌≢◌, ◌≤◌, ◌<◌, ◌+◌, ◌*◌, ◌/◌, ◌%◌, ◌^◌, ℕ, ℤ, pos, Some, IfSome, IfNone, find, length};
 ghost use Rattle.std.specs.Str.{bytes_eq};
 ghost use Rattle.lcm_isa.specs.Numbers.{reg_number, reg_of, mode_of, field_of, operand_of, packed, number_of, all_with, table, decode_of, candidate, if_numbered, IsInstr};
+ghost use Rattle.lcm_isa.specs.Own.{field_fits, is_own};
 ghost use Rattle.lcm_isa.specs.Texts.{reg_name, mnemonic_of};
 
 /// One of the sixteen registers, in the order of their numbers, 0 to 15.
@@ -212,18 +213,6 @@ impl Operand {
             Operand::Imm(n) => (i64::from(n) + 2_147_483_648) as u64,
         }
     }
-
-    // The operand that a mode and a field spell.
-    fn of(mode: u64, field: u64) -> Operand
-        requires { field < 2 ^ 32 }
-        ensures { result ≡ operand_of mode field }
-    {
-        if mode == 0 {
-            Operand::R(Reg::of(field))
-        } else {
-            Operand::Imm((field as i64 - 2_147_483_648) as i32)
-        }
-    }
 }
 
 // The weight of the first register in an instruction's number, where the op's is 1.
@@ -268,7 +257,6 @@ pub fn encode(instr: &Instr) -> i64
 
 // The number, of which an instruction needs 51 bits.
 #[tactic(auto, unfolding(crate::specs::Numbers::number_of))]
-#[inline(always)]
 fn number(instr: &Instr) -> u64
     ensures value { result ≡ number_of instr.now }
     ensures below { result < 2 ^ 51 }
@@ -345,9 +333,8 @@ impl Instr {
 // this operand that it has.
 #[tactic(auto, unfolding(crate::specs::Numbers::table, crate::specs::Numbers::all_with))]
 #[inline(always)]
-fn shape(op: u64, a: Reg, b: Reg, c: Reg, mode: u64, field: u64) -> Option<Instr>
-    requires { field < 2 ^ 32 }
-    ensures { result ≡ table op a b c (operand_of mode field) }
+fn shape(op: u64, a: Reg, b: Reg, c: Reg, n: Operand) -> Option<Instr>
+    ensures { result ≡ table op a b c n }
 {
     let instr = match op {
         0 => Instr::Fail,
@@ -360,52 +347,99 @@ fn shape(op: u64, a: Reg, b: Reg, c: Reg, mode: u64, field: u64) -> Option<Instr
         7 => Instr::Gete(a, b),
         8 => Instr::Getp(a, b),
         9 => Instr::Getlin(a, b),
-        10 => Instr::Move(a, Operand::of(mode, field)),
+        10 => Instr::Move(a, n),
         11 => Instr::Store(a, b),
         12 => Instr::Load(a, b),
-        13 => Instr::Cca(a, Operand::of(mode, field)),
-        14 => Instr::Restrict(a, Operand::of(mode, field)),
-        15 => Instr::Lt(a, b, Operand::of(mode, field)),
-        16 => Instr::Plus(a, b, Operand::of(mode, field)),
-        17 => Instr::Minus(a, b, Operand::of(mode, field)),
+        13 => Instr::Cca(a, n),
+        14 => Instr::Restrict(a, n),
+        15 => Instr::Lt(a, b, n),
+        16 => Instr::Plus(a, b, n),
+        17 => Instr::Minus(a, b, n),
         18 => Instr::Seta2b(a),
         19 => Instr::Xjmp(a, b),
         20 => Instr::Cseal(a, b),
-        21 => Instr::Split(a, b, c, Operand::of(mode, field)),
+        21 => Instr::Split(a, b, c, n),
         22 => Instr::Splice(a, b, c),
         _ => return None,
     };
     Some(instr)
 }
 
-// What the parts of a number spell, if anything. Parts that it doesn't use may be other than 0.
+impl Operand {
+    // Whether a number's field is that of the operand that it spells: a register's is below 16.
+    #[inline(always)]
+    fn fits(self, n: u64) -> bool
+        ensures { result ≡ field_fits self n }
+    {
+        match self {
+            Operand::R(_) => n < 16 * FIELD,
+            Operand::Imm(_) => true,
+        }
+    }
+}
+
+// Whether a number has no parts but those of the instruction that they spell.
+#[tactic(auto, unfolding(crate::specs::Own::is_own))]
+#[inline(always)]
+fn is_own(instr: &Instr, n: u64) -> bool
+    ensures { result ≡ is_own instr.now n }
+{
+    match *instr {
+        Instr::Fail | Instr::Halt => n < FIRST,
+        Instr::Jmp(_) | Instr::Seta2b(_) => n < SECOND,
+        Instr::Jnz(_, _)
+        | Instr::Gettype(_, _)
+        | Instr::Geta(_, _)
+        | Instr::Getb(_, _)
+        | Instr::Gete(_, _)
+        | Instr::Getp(_, _)
+        | Instr::Getlin(_, _)
+        | Instr::Store(_, _)
+        | Instr::Load(_, _)
+        | Instr::Xjmp(_, _)
+        | Instr::Cseal(_, _) => n < THIRD,
+        Instr::Splice(_, _, _) => n < MODE,
+        Instr::Move(_, o) | Instr::Cca(_, o) | Instr::Restrict(_, o) => {
+            n / SECOND % 256 == 0 && o.fits(n)
+        }
+        Instr::Lt(_, _, o) | Instr::Plus(_, _, o) | Instr::Minus(_, _, o) => {
+            n / THIRD % 16 == 0 && o.fits(n)
+        }
+        Instr::Split(_, _, _, o) => o.fits(n),
+    }
+}
+
+// The instruction that the parts of a number spell with its operand, where the number is its own.
 #[tactic(auto, unfolding(crate::specs::Numbers::candidate))]
 #[inline(always)]
-fn candidate(n: u64) -> Option<Instr>
-    requires { n < 2 ^ 51 }
-    ensures { result ≡ candidate n }
+fn owned(n: u64, operand: Operand) -> Option<Instr>
+    requires small { n < 2 ^ 51 }
+    requires spelt { operand ≡ operand_of (n / MODE % 2) (n / FIELD) }
+    ensures { result ≡ if_numbered n (candidate n) }
 {
     let first = Reg::of(n / FIRST % 16);
     let second = Reg::of(n / SECOND % 16);
     let third = Reg::of(n / THIRD % 16);
-    shape(n % FIRST, first, second, third, n / MODE % 2, n / FIELD)
+    let instr = shape(n % FIRST, first, second, third, operand)?;
+    if is_own(&instr, n) { Some(instr) } else { None }
 }
 
-// The instruction that the parts spell, where the number is its own.
+// The instruction that the parts spell, where the number is its own. The two kinds of operand are
+// told apart first, so that what is done with each is compiled apart.
+#[tactic(auto, using(crate::proofs::OwnLemmas::far_candidate))]
 #[inline(always)]
 fn instr_of(n: u64) -> Option<Instr>
     requires { n < 2 ^ 51 }
     ensures { result ≡ if_numbered n (candidate n) }
 {
-    match candidate(n) {
-        None => None,
-        Some(instr) => {
-            if number(&instr) == n {
-                Some(instr)
-            } else {
-                None
-            }
+    if n / MODE % 2 == 0 {
+        if n < 16 * FIELD {
+            owned(n, Operand::R(Reg::of(n / FIELD)))
+        } else {
+            None
         }
+    } else {
+        owned(n, Operand::Imm(((n / FIELD) as i64 - 2_147_483_648) as i32))
     }
 }
 

@@ -35,10 +35,10 @@ abbrev pub StandsAt : List Span → Spot → ℕ → Type 0
 StandsAt spans spot a =
     IsSomeAnd (slice_get spans spot.part) (λ s. (s.base + spot.slot ≡ a) × (a ≤ s.end))
 
--- one of the spans, as it is remembered; or none, with a count of 0
+-- one of the spans, as it is remembered; or none, with a base and a count of 0
 abbrev pub IsNear : List Span → Near → Type 0
 IsNear spans near =
-    (near.count ≡ 0)
+    ((near.base ≡ 0) × (near.count ≡ 0))
     ⊎ IsSomeAnd (slice_get spans near.part) (λ s. (near.base ≡ s.base) × (near.base + near.count ≡ s.end + 1))
 
 -- sixteen times the same word

@@ -22,8 +22,8 @@ pub struct Spot {
     pub slot: usize,
 }
 
-/// A span as it is remembered: its first address, how many it has, and its number. A count of 0 says
-/// that none is remembered.
+/// A span as it is remembered: its first address, how many it has, and its number. A base and a
+/// count of 0 say that none is remembered.
 #[derive(Clone, Copy)]
 pub struct Near {
     pub base: u32,
@@ -72,7 +72,6 @@ impl<W> Model for Cells<W> {
 }
 
 // The span that an address lies in, found by halving.
-#[inline(never)]
 fn search(spans: &[Span], at: u32) -> Option<Near>
     requires { AreSpans 0 spans.now }
     ensures near { IfSome result (IsNear spans.now) }
@@ -93,6 +92,25 @@ fn search(spans: &[Span], at: u32) -> Option<Near>
         count: span.end - span.base + 1,
         part,
     })
+}
+
+// Remembers the span that an address lies in. Whether there is one. It is compiled apart, since the
+// span that is remembered nearly always serves.
+#[inline(never)]
+fn remember(spans: &[Span], near: &mut Near, at: u32) -> bool
+    requires spans { AreSpans 0 spans.now }
+    requires near { IsNear spans.now near.old }
+    ensures near { IsNear spans.now near.new }
+    ensures here { IsTrue result → (near.new.base ≤ at) × (at < near.new.base + near.new.count) }
+    ensures none { result ≡ false → in_spans at spans.now ≡ false }
+{
+    match search(spans, at) {
+        Some(found) => {
+            *near = found;
+            true
+        }
+        None => false,
+    }
 }
 
 impl Near {
@@ -117,19 +135,37 @@ impl Near {
     }
 }
 
-// Where an address stands. One span is tried first.
+// Where an address stands. The span that is remembered is tried first, and then that of the address
+// is remembered in its place.
 #[inline(always)]
 #[tactic(auto, using(crate::proofs::SpanLemmas::near_fits, crate::proofs::SpanLemmas::stands_near))]
-fn spot_of(spans: &[Span], near: Near, at: u32) -> Option<Spot>
+fn seek_from(spans: &[Span], near: &mut Near, at: u32) -> Option<Spot>
     requires spans { AreSpans 0 spans.now }
-    requires near { IsNear spans.now near }
+    requires near { IsNear spans.now near.old }
+    ensures near { IsNear spans.now near.new }
     ensures here { IfSome result (λ spot. StandsAt spans.now spot at) }
     ensures none { IfNone result (in_spans at spans.now ≡ false) }
 {
     if let Some(spot) = near.spot(at) {
         return Some(spot);
     }
-    search(spans, at)?.spot(at)
+    if remember(spans, near, at) {
+        near.spot(at)
+    } else {
+        None
+    }
+}
+
+// The same, with nothing remembered.
+#[inline(always)]
+fn spot_of(spans: &[Span], near: Near, at: u32) -> Option<Spot>
+    requires spans { AreSpans 0 spans.now }
+    requires near { IsNear spans.now near }
+    ensures here { IfSome result (λ spot. StandsAt spans.now spot at) }
+    ensures none { IfNone result (in_spans at spans.now ≡ false) }
+{
+    let mut near = near;
+    seek_from(spans, &mut near, at)
 }
 
 impl<W> Cells<W> {
@@ -164,32 +200,24 @@ impl<W> Cells<W> {
 
     /// Where an address stands, if it lies in a span. That span is remembered for the next look-up.
     #[inline(always)]
-    #[tactic(auto, using(crate::proofs::SpanLemmas::cell_outside, crate::proofs::SpanLemmas::near_fits, crate::proofs::SpanLemmas::stands_near))]
+    #[tactic(auto, using(crate::proofs::SpanLemmas::cell_outside))]
     pub fn seek(&mut self, at: u32) -> Option<Spot>
         ensures here { IfSome result (λ spot. StandsAt self.old.spans spot at) }
         ensures none { IfNone result (cell self.old.words at ≡ None) }
         ensures same { self.new ≡ self.old }
     {
-        if let Some(spot) = self.used.spot(at) {
-            return Some(spot);
-        }
-        self.used = search(self.spans.as_slice(), at)?;
-        self.used.spot(at)
+        seek_from(self.spans.as_slice(), &mut self.used, at)
     }
 
     /// The same, for an instruction that is fetched.
     #[inline(always)]
-    #[tactic(auto, using(crate::proofs::SpanLemmas::cell_outside, crate::proofs::SpanLemmas::near_fits, crate::proofs::SpanLemmas::stands_near))]
+    #[tactic(auto, using(crate::proofs::SpanLemmas::cell_outside))]
     pub fn seek_code(&mut self, at: u32) -> Option<Spot>
         ensures here { IfSome result (λ spot. StandsAt self.old.spans spot at) }
         ensures none { IfNone result (cell self.old.words at ≡ None) }
         ensures same { self.new ≡ self.old }
     {
-        if let Some(spot) = self.fetched.spot(at) {
-            return Some(spot);
-        }
-        self.fetched = search(self.spans.as_slice(), at)?;
-        self.fetched.spot(at)
+        seek_from(self.spans.as_slice(), &mut self.fetched, at)
     }
 
     /// The word of the cell at an address that stands there, where it has one.
@@ -211,6 +239,7 @@ impl<W> Cells<W> {
     }
 
     /// The word of the cell at an address, which has to have one.
+    #[inline(always)]
     pub fn get(&self, at: u32) -> &W
         requires { IsSome (cell self.now.words at) }
         ensures { cell self.now.words at ≡ Some result.now }

@@ -121,6 +121,7 @@ impl LcmState {
 
     // One step, unless it makes an `xjmp` and none is to be made: then nothing changes. Whether the step
     // was made.
+    #[inline(always)]
     #[tactic(auto, unfolding(crate::specs::Run::next_state, crate::specs::Run::next_jump))]
     fn advance(&mut self, on_xjmp: OnXjmp) -> bool
         requires { self.old.count < 2 ^ 63 }
@@ -200,6 +201,7 @@ impl LcmState {
     ///
     /// The count may not pass 2^63. The spans stay, and so does which addresses have cells. No linear
     /// memory comes to be held twice by a run of any length: [`State::step`] says in which sense.
+    #[inline(never)]
     #[tactic(auto, using(crate::proofs::RunLemmas::count_next, crate::proofs::RunLemmas::plain_more))]
     pub fn run(&mut self, n: u64) -> Step
         requires { self.old.count + n ≤ 2 ^ 63 }

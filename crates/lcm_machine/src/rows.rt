@@ -431,8 +431,18 @@ impl<W: MachineWord> State<W> {
         }
     }
 
+    // Carries out an `xjmp`. It is compiled apart, which makes the other rows quicker.
+    #[inline(never)]
+    #[tactic(auto, unfolding(crate::specs::Row::row))]
+    fn execute_xjmp(&mut self, r1: Reg, r2: Reg, next: Word) -> Step
+        ensures { Meets self.old (row W.look W.plain (Instr.Xjmp r1 r2) next self.old) result self.new }
+    {
+        self.carry_out(self.plan_xjmp(r1, r2, next))
+    }
+
     // Carries out one instruction, `next` being pc's word with its address raised by one. Where it
     // halts or fails the state stays as it was.
+    #[inline(always)]
     #[tactic(auto, unfolding(crate::specs::Row::row))]
     pub(crate) fn execute(&mut self, instr: Instr, next: Word) -> Step
         ensures { Meets self.old (row W.look W.plain instr next self.old) result self.new }
@@ -463,7 +473,7 @@ impl<W: MachineWord> State<W> {
             Instr::Plus(r1, r2, n) => self.carry_out(self.plan_plus(r1, r2, n, next)),
             Instr::Minus(r1, r2, n) => self.carry_out(self.plan_minus(r1, r2, n, next)),
             Instr::Seta2b(r1) => self.carry_out(self.plan_seta2b(r1, next)),
-            Instr::Xjmp(r1, r2) => self.carry_out(self.plan_xjmp(r1, r2, next)),
+            Instr::Xjmp(r1, r2) => self.execute_xjmp(r1, r2, next),
             Instr::Cseal(r1, r2) => self.carry_out(self.plan_cseal(r1, r2, next)),
             Instr::Split(r1, r2, r3, n) => self.carry_out(self.plan_split(r1, r2, r3, n, next)),
             Instr::Splice(r1, r2, r3) => self.carry_out(self.plan_splice(r1, r2, r3, next)),

@@ -109,8 +109,9 @@ impl<W: MachineWord> State<W> {
     }
 
     // Fetches an instruction and carries it out, unless that is an `xjmp` and none is to be made: then
-    // `None`, and nothing changes. What instructions do is compiled into this and into `step`, so a
-    // machine makes all its steps by one of the two.
+    // `None`, and nothing changes. What instructions do is compiled into whatever calls this, and into
+    // `step`.
+    #[inline(always)]
     #[tactic(auto, unfolding(crate::specs::Row::step_of, crate::specs::Row::jump_at))]
     pub(crate) fn advance(&mut self, on_xjmp: OnXjmp) -> Option<Step>
         ensures none { IfNone result (IsSome (jump_at W.look self.old)) }

@@ -111,11 +111,8 @@ carry_out-requires-in-Seta2b g c = (search rules, planned_fits g.W.MachineWord.l
 pub returns-in-Seta2b : goal.returns-in-Seta2b
 returns-in-Seta2b g c = planned_meets g.W.MachineWord.look g.W.MachineWord.plain c.args.self.now _ _ _ _ _ _ c.in-Seta2b.is c.plan_seta2b.ensures c.carry_out-in-Seta2b.ensures
 
-pub carry_out-requires-in-Xjmp : goal.carry_out-requires-in-Xjmp
-carry_out-requires-in-Xjmp g c = (search rules, planned_fits g.W.MachineWord.look g.W.MachineWord.plain c.args.self.now _ _ _ c.plan_xjmp.ensures)
-
 pub returns-in-Xjmp : goal.returns-in-Xjmp
-returns-in-Xjmp g c = planned_meets g.W.MachineWord.look g.W.MachineWord.plain c.args.self.now _ _ _ _ _ _ c.in-Xjmp.is c.plan_xjmp.ensures c.carry_out-in-Xjmp.ensures
+returns-in-Xjmp g c = rw c.in-Xjmp.is c.execute_xjmp.ensures
 
 pub carry_out-requires-in-Cseal : goal.carry_out-requires-in-Cseal
 carry_out-requires-in-Cseal g c = (search rules, planned_fits g.W.MachineWord.look g.W.MachineWord.plain c.args.self.now _ _ _ c.plan_cseal.ensures)
