@@ -17,6 +17,8 @@ pub mod CountLemmas
 pub mod RunLemmas
 pub mod Goes
 pub mod StepRows
+mod Altered
+pub mod BackLemmas
 pub mod Refusals
 pub mod XjmpFails
 pub mod Commute

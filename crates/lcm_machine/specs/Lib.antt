@@ -12,5 +12,6 @@ pub mod Ends
 pub mod Closed
 pub mod Run
 pub mod Runs
+pub mod Back
 pub mod Refusals
 pub mod Mapped

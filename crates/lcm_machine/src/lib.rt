@@ -23,10 +23,12 @@ pub mod regs;
 mod rows;
 pub mod state;
 mod steps;
+mod undo;
 
 pub use cells::Span;
 use lcm_isa::Reg;
 pub use machine::LcmState;
+pub use undo::Undo;
 
 /// Where a word can stand: a register, or the cell at an address.
 #[derive(Clone, Copy, PartialEq, Eq, Debug)]

@@ -1,5 +1,5 @@
 //! The plain machine: registers and memory of plain words, with a count of steps and an end.
-ghost use Rattle.std.specs.Prelude.{◌≡◌, ◌≢◌, ◌+◌, ◌<◌, ◌≤◌, ◌^◌, ℕ, IfOk, IfSome, IfNone, IsSome, is_some, IsTrue, Some, None, not, true, if◌then◌else◌, MatchResult};
+ghost use Rattle.std.specs.Prelude.{◌≡◌, ◌≢◌, ◌+◌, ◌<◌, ◌≤◌, ◌^◌, ℕ, IfOk, IfSome, IfNone, IsSome, is_some, IsTrue, Some, None, option_map, not, true, if◌then◌else◌, MatchResult};
 ghost use Rattle.lcm_machine.specs.Places.{reg};
 ghost use Rattle.lcm_machine.specs.Cells.{cell};
 ghost use Rattle.lcm_isa.specs.declared.Reg.TheVariants.{Pc};
@@ -9,11 +9,13 @@ ghost use Rattle.lcm_machine.specs.Touched.{KeepsUntouched, SameCells};
 ghost use Rattle.lcm_machine.specs.Regions.{StaysHeldOnce};
 ghost use Rattle.lcm_machine.specs.Ends.{end_answer};
 ghost use Rattle.lcm_machine.specs.Run.{next_state, next_jump, answer, plain};
+ghost use Rattle.lcm_machine.specs.Back.{back, CanUndo, notes};
 ghost use Rattle.lcm_machine.specs.Spans.{AreSpans, in_spans, slot, zero_regs};
 
 use crate::cells::Span;
 use crate::state::State;
 use crate::steps::OnXjmp;
+use crate::undo::Undo;
 use crate::{End, FailCause, Place, Step};
 use cap_words::{Held, Word};
 use lcm_isa::{Instr, Reg};
@@ -172,6 +174,55 @@ impl LcmState {
     {
         let _ = self.advance(OnXjmp::Make);
         self.last_answer()
+    }
+
+    /// How the machine ended, as each later step answers it. `None` exactly where it hasn't.
+    pub fn ended(&self) -> Option<Step>
+        ensures { result ≡ option_map end_answer self.now.end }
+    {
+        match self.end {
+            None => None,
+            Some(end) => Some(end.answer()),
+        }
+    }
+
+    /// The same step, and what takes it back. Where the machine has ended, that changes nothing.
+    #[tactic(auto, using(crate::proofs::BackLemmas::stepped_back, crate::proofs::BackLemmas::stepped_can))]
+    pub fn step_noted(&mut self) -> (Step, Undo)
+        requires { self.old.count < 2 ^ 63 }
+        ensures back { back self.new result.1 ≡ self.old }
+        ensures can { CanUndo self.new result.1 }
+        ensures after { self.new ≡ next_state self.old }
+        ensures answer { result.0 ≡ answer self.new }
+        ensures ended { IfSome self.old.end (λ e. (result.0 ≡ end_answer e) × (self.new ≡ self.old)) }
+        ensures stays { result.0 ≢ Step.Went → self.new.maps ≡ self.old.maps }
+        ensures same_cells { SameCells self.old.maps self.new.maps }
+        ensures untouched { KeepsUntouched (λ w. w) self.old.maps self.new.maps }
+        ensures held_once { StaysHeldOnce (λ w. w) self.old.maps self.new.maps }
+    {
+        let undo = self.maps.noted(self.count, self.end);
+        (self.step(), undo)
+    }
+
+    /// Puts back what was noted: registers, cell, count and end. The cell has to be there, and the
+    /// count may not be below the noted one.
+    #[tactic(auto, unfolding(crate::specs::Back::back, crate::specs::Back::CanUndo))]
+    pub fn undo(&mut self, u: Undo)
+        requires { CanUndo self.old u }
+        ensures { self.new ≡ back self.old u }
+    {
+        let Undo {
+            count,
+            end,
+            pc,
+            first,
+            second,
+            third,
+            cell,
+        } = u;
+        self.maps.put_back(pc, first, second, third, cell);
+        self.count = count;
+        self.end = end;
     }
 
     /// The same step, unless it makes an `xjmp`: then `None`, and nothing changes. An ended machine

@@ -14,7 +14,7 @@ use std::test::Fail;
 // A word as its parts. A capability is its permission's number, whether it is linear, its range and
 // its address.
 #[derive(Clone, Copy)]
-enum Parts {
+pub(crate) enum Parts {
     Int(i64),
     Mem(u8, bool, u32, u32, i64),
     Seal(u32, u32, i64),
@@ -81,7 +81,7 @@ fn put(machine: &mut LcmState, place: Place, parts: Parts) {
 }
 
 // Whether a place is there and its word has these parts.
-fn holds(machine: &LcmState, place: Place, parts: Parts) -> bool {
+pub(crate) fn holds(machine: &LcmState, place: Place, parts: Parts) -> bool {
     match place {
         Place::R(r) => is_word(machine.reg(r), parts),
         Place::Cell(at) => machine.has_cell(at) && is_word(machine.cell(at), parts),
@@ -89,7 +89,7 @@ fn holds(machine: &LcmState, place: Place, parts: Parts) -> bool {
 }
 
 // What the machine of each row holds, beside its instruction.
-static START: [(Place, Parts); 18] = [
+pub(crate) static START: [(Place, Parts); 18] = [
     (Place::Cell(105), Mem(2, true, 400, 401, 400)),
     (Place::Cell(106), Int(42)),
     (Place::Cell(107), Mem(2, true, 500, 501, 500)),
@@ -111,7 +111,7 @@ static START: [(Place, Parts); 18] = [
 ];
 
 // Cells 100 to 110, with this instruction in cell 100, and a word for most registers.
-fn start(alloc: Global, instr: Instr) -> Result<LcmState, AllocError> {
+pub(crate) fn start(alloc: Global, instr: Instr) -> Result<LcmState, AllocError> {
     let mut machine = LcmState::make(
         alloc,
         &[Span {
