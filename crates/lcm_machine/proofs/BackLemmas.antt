@@ -1,7 +1,7 @@
 -- What was noted of a state before a step, put back after it, gives that state again.
-use Rattle.std.proofs.Common.{◌≡◌, ◌≢◌, ℕ, ◌+◌, ◌≤◌, Bool, true, false, refl, sym, ap, ◌∙◌, inl, inr, ◌⊎◌}
+use Rattle.std.proofs.Common.{◌≡◌, ◌≢◌, ℕ, ◌≤◌, true, false, refl, sym, ap, ◌∙◌, inl, inr, ◌⊎◌}
 use Rattle.std.proofs.Common.{arith}
-use Rattle.std.specs.Prelude.{Option, Some, None, IsSome, is_some, if◌then◌else◌}
+use Rattle.std.specs.Prelude.{Option, Some, None, is_some}
 use Rattle.std.specs.Ordering.{nat_cmp}
 use Rattle.std.specs.FinMap.{FinMap}
 use Rattle.std.proofs.lemmas.Bool.{cases_eq}
@@ -11,12 +11,7 @@ use Rattle.lcm_isa.specs.declared.Reg.TheVariants.{Pc, Rcode, Rdata, Stk, Dat, T
 use Rattle.lcm_isa.specs.declared.Reg.TheVariants.{G0, G1, G2}
 use Rattle.lcm_isa.specs.declared.Instr.{Instr}
 use Rattle.lcm_machine.specs.declared.End.{End}
-use Rattle.lcm_machine.specs.declared.End.TheVariants.{Halted, Failed}
-use Rattle.lcm_machine.specs.declared.plan.Effect.{Effect}
 use Rattle.lcm_machine.specs.declared.undo.Changed.{Changed}
-use Rattle.lcm_machine.specs.declared.undo.OldReg.{OldReg}
-use Rattle.lcm_machine.specs.declared.undo.OldCell.{OldCell}
-use Rattle.lcm_machine.specs.declared.undo.Undo.{Undo}
 use Rattle.lcm_machine.specs.Maps.{Regs, State}
 use Rattle.lcm_machine.specs.Places.{reg, set_reg}
 use Rattle.lcm_machine.specs.Cells.{cell, set_cell}
@@ -27,12 +22,12 @@ use Rattle.lcm_machine.specs.Row.{Fetched, none, some, plan_in, outcome, perform
 use Rattle.lcm_machine.specs.Touched.{SameCells}
 use Rattle.lcm_machine.specs.Run.{Run, moved, next_by, next_state}
 use Rattle.lcm_machine.specs.Back.{old_reg, old_regs, old_cell, IsCellThere, back, CanUndo, changed_by}
-use Rattle.lcm_machine.specs.Back.{changed_in, target_in, noted_reg, noted_at, noted_cell, notes_by, notes}
+use Rattle.lcm_machine.specs.Back.{changed_in, target_in, noted_reg, noted_at, noted_cell, notes}
 use Rattle.lcm_machine.proofs.RegLemmas.{cases_reg, reg-set_same, reg-set_other}
 use Rattle.lcm_machine.proofs.CellLemmas.{cell-set_same, cell-set_other, same_cells}
 use Rattle.lcm_machine.proofs.Plans.{Gives-effect}
-use Rattle.lcm_machine.proofs.TouchLemmas.{same_as_is, there_same, row_cells, row_others}
-use Rattle.lcm_machine.proofs.Altered.{IsChanged, Names, perform_leaves, plan-Names}
+use Rattle.lcm_machine.proofs.TouchLemmas.{there_same, row_cells, row_others}
+use Rattle.lcm_machine.proofs.Altered.{IsChanged, perform_leaves, plan-Names}
 
 -- ---- registers
 

@@ -9,6 +9,7 @@ mod RowsMet
 pub mod TouchLemmas
 pub mod JumpLemmas
 pub mod WordsKept
+pub mod WordsFit
 pub mod Quiet
 pub mod RegionLemmas
 pub mod Hands

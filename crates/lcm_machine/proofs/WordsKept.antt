@@ -33,45 +33,69 @@ use Rattle.lcm_machine.specs.Ends.{After}
 use Rattle.lcm_machine.specs.Closed.{Closed, AllAre, OpensTo, StepsWithin, StepsKeepClosed}
 use Rattle.lcm_machine.proofs.RowLemmas.{look_memory, look_seals, fetch_normal}
 
-module _ {W : Type 0} (look : W → Word) (plain : Word → W) (S : W → Type 0) (Q : ℕ → Type 0) (closed : Closed look plain S) where
+-- ---- what an effect keeps
+
+-- places that aren't set apart
+abbrev pub PlaceIn : (ℕ → Type 0) → Place → Type 0
+PlaceIn Q (R r) = Unit {0}
+PlaceIn Q (Cell a) = Q a
+
+abbrev pub MoveIn : (ℕ → Type 0) → Option Moved → Type 0
+MoveIn Q None = Unit {0}
+MoveIn Q (Some m) = PlaceIn Q m.from
+
+-- the words that an effect makes have it
+abbrev MadeIs : {W : Type 0} → (Word → W) → (W → Type 0) → Option Made → Type 0
+MadeIs plain S None = Unit {0}
+MadeIs plain S (Some m) = S (plain m.word)
+
+abbrev NextIs : {W : Type 0} → (Word → W) → (W → Type 0) → Option Word → Type 0
+NextIs plain S None = Unit {0}
+NextIs plain S (Some w) = S (plain w)
+
+abbrev pub Makes : {W : Type 0} → (Word → W) → (W → Type 0) → Effect → Type 0
+Makes plain S e = MadeIs plain S e.first × MadeIs plain S e.second × NextIs plain S e.next
+
+module _ {W : Type 0} (look : W → Word) (plain : Word → W) (S : W → Type 0) (Q : ℕ → Type 0)
+    (zero_is : S (zero_word plain)) where
   put_all : (s : State W) (p : Place) (w : W) → S w → AllAre S Q s → AllAre S Q (put s p w)
   put_all s (R r) w h a = (
-    λ d. elim (cases_reg d r) as (λ _. S (reg (set_reg s.regs r w) d)) [ inl same ↦ rw same (rw (reg-set_same s.regs r w) h) | inr ne ↦ rw (reg-set_other s.regs r d w ne) (a.0 d) ],
+    λ d. elim (cases_reg d r) as (λ _. S (reg (set_reg s.regs r w) d)) [
+      | inl same ↦ rw same (rw (reg-set_same s.regs r w) h)
+      | inr ne ↦ rw (reg-set_other s.regs r d w ne) (a.0 d)
+    ],
     a.1,
   )
   put_all s (Cell b) w h a = (
     a.0,
     λ q v k e. elim (cases_eq q b) as (λ _. S v) [
-      | inl same ↦ (let m : Some w ≡ Some v = sym (ap (cell (set_cell s.cells b w)) same ∙ cell-set_same s.cells b w) ∙ e in let n : w ≡ v = cc in rw (← n) h)
+      | inl same ↦ (
+          let here = ap (cell (set_cell s.cells b w)) same ∙ cell-set_same s.cells b w in
+          let m : Some w ≡ Some v = sym here ∙ e in
+          let n : w ≡ v = cc in
+          rw (← n) h
+          )
       | inr ne ↦ a.1 q v k (sym (cell-set_other s.cells b q w ne) ∙ e)
     ],
   )
-
-  zero_is : S (zero_word plain)
-  zero_is = closed.ints (pos 0)
-
-  -- places that aren't set apart
-  abbrev PlaceIn : Place → Type 0
-  PlaceIn (R r) = Unit {0}
-  PlaceIn (Cell a) = Q a
 
   or_zero : (o : Option W) → ((w : W) → o ≡ Some w → S w) → S (unwrap_or o (zero_word plain))
   or_zero None h = zero_is
   or_zero (Some w) h = h w refl
 
-  word_is : (s : State W) (p : Place) → PlaceIn p → AllAre S Q s → S (word_in plain s p)
+  word_is : (s : State W) (p : Place) → PlaceIn Q p → AllAre S Q s → S (word_in plain s p)
   word_is s (R r) k a = a.0 r
   word_is s (Cell q) k a = or_zero (cell s.cells q) (λ w e. a.1 q w k e)
 
   clear_all : (s : State W) (p : Place) → AllAre S Q s → AllAre S Q (clear look plain s p)
   unfolding clear
-  clear_all s p a = elim (is_linear (look (word_in plain s p))) as (λ b. AllAre S Q (if b then put s p (zero_word plain) else s)) [ true ↦ put_all s p (zero_word plain) zero_is a | false ↦ a ]
+  clear_all s p a =
+      elim (is_linear (look (word_in plain s p))) as
+      (λ b. AllAre S Q (if b then put s p (zero_word plain) else s))
+      [ true ↦ put_all s p (zero_word plain) zero_is a | false ↦ a ]
 
-  abbrev MoveIn : Option Moved → Type 0
-  MoveIn None = Unit {0}
-  MoveIn (Some m) = PlaceIn m.from
-
-  move_all : (s : State W) (m : Option Moved) → MoveIn m → AllAre S Q s → AllAre S Q (move_on look plain s m)
+  move_all : (s : State W) (m : Option Moved) → MoveIn Q m → AllAre S Q s
+      → AllAre S Q (move_on look plain s m)
   move_all s None k a = a
   move_all s (Some m) k a = put_all _ m.to _ (word_is s m.from k a) (clear_all s m.from a)
 
@@ -79,30 +103,26 @@ module _ {W : Type 0} (look : W → Word) (plain : Word → W) (S : W → Type 0
   spend_all s None a = a
   spend_all s (Some r) a = clear_all s (R r) a
 
-  abbrev MadeIs : Option Made → Type 0
-  MadeIs None = Unit {0}
-  MadeIs (Some m) = S (plain m.word)
-
-  abbrev NextIs : Option Word → Type 0
-  NextIs None = Unit {0}
-  NextIs (Some w) = S (plain w)
-
-  make_all : (s : State W) (m : Option Made) → MadeIs m → AllAre S Q s → AllAre S Q (make plain s m)
+  make_all : (s : State W) (m : Option Made) → MadeIs plain S m → AllAre S Q s → AllAre S Q (make plain s m)
   make_all s None h a = a
   make_all s (Some m) h a = put_all s (R m.reg) _ h a
 
-  go_all : (s : State W) (m : Option Word) → NextIs m → AllAre S Q s → AllAre S Q (go_on plain s m)
+  go_all : (s : State W) (m : Option Word) → NextIs plain S m → AllAre S Q s → AllAre S Q (go_on plain s m)
   go_all s None h a = a
   go_all s (Some w) h a = put_all s (R Pc) _ h a
 
-  -- the words that an effect makes have it
-  abbrev Makes : Effect → Type 0
-  Makes e = MadeIs e.first × MadeIs e.second × NextIs e.next
-
-  perform_all : (s : State W) (e : Effect) → MoveIn e.moved → Makes e → AllAre S Q s → AllAre S Q (perform look plain s e)
+  pub perform_all : (s : State W) (e : Effect) → MoveIn Q e.moved → Makes plain S e → AllAre S Q s
+      → AllAre S Q (perform look plain s e)
   unfolding perform
-  perform_all s e k h a = go_all _ e.next h.2 (make_all _ e.second h.1 (make_all _ e.first h.0 (spend_all _ e.also_spent (spend_all _ e.spent (move_all s e.moved k a)))))
+  perform_all s e k h a =
+      let moved = move_all s e.moved k a in
+      let taken = spend_all _ e.also_spent (spend_all _ e.spent moved) in
+      go_all _ e.next h.2 (make_all _ e.second h.1 (make_all _ e.first h.0 taken))
 
+-- ---- closed properties
+
+module _ {W : Type 0} (look : W → Word) (plain : Word → W) (S : W → Type 0) (Q : ℕ → Type 0)
+    (closed : Closed look plain S) where
   module _ (s : State W) (all : AllAre S Q s) (next : Word) (next_is : S (plain next)) where
     there : (r : Reg) → S (reg s.regs r)
     there r = all.0 r
@@ -115,7 +135,7 @@ module _ {W : Type 0} (look : W → Word) (plain : Word → W) (S : W → Type 0
     unfolding faces
     seals_look r c e = look_seals (look (reg s.regs r)) c e
 
-    plan-Makes : (n : Instr) → OpensTo look plain S s n → (t : Option Face) → Gives Makes (plan n (faces look s) (opens look s) t next)
+    plan-Makes : (n : Instr) → OpensTo look plain S s n → (t : Option Face) → Gives (Makes plain S) (plan n (faces look s) (opens look s) t next)
     plan-Makes Fail x t = gives_fails
     plan-Makes Halt x t = gives_halts
     plan-Makes (Jmp r1) x t = gives_goes (tt, tt, tt)
@@ -151,14 +171,14 @@ module _ {W : Type 0} (look : W → Word) (plain : Word → W) (S : W → Type 0
     plan-Makes (Splice r1 r2 r3) x t = Gives-ask _ _ _ (λ _. Gives-need _ _ _ (λ a ma. Gives-need _ _ _ (λ b mb. Gives-ask _ _ _ (λ q.
         (let p = and_parts (same_kind a b) _ q in gives_goes (closed.joined (reg s.regs r2) (reg s.regs r3) a b (memory_look r2 a ma) (memory_look r3 b mb) p.0 (eqb-true _ _ p.1) (there r2) (there r3), tt, next_is))))))
 
-    move_in : (at used : Option ℕ) (cells : ℕ → Option Face) → ((a : ℕ) → at ≡ Some a → Q a) → (m : Option Moved) → ShapeMoved at used cells m → MoveIn m
+    move_in : (at used : Option ℕ) (cells : ℕ → Option Face) → ((a : ℕ) → at ≡ Some a → Q a) → (m : Option Moved) → ShapeMoved at used cells m → MoveIn Q m
     move_in at used cells k None h = tt
-    move_in at used cells k (Some m) h = elim (m.from) as (λ p. ShapePlace at used cells p → PlaceIn p) [ R r ↦ λ x. tt | Cell a ↦ λ x. k a x.0 ] h.0
+    move_in at used cells k (Some m) h = elim (m.from) as (λ p. ShapePlace at used cells p → PlaceIn Q p) [ R r ↦ λ x. tt | Cell a ↦ λ x. k a x.0 ] h.0
 
-    after : (p : Plan) (at used : Option ℕ) (cells : ℕ → Option Face) → ((a : ℕ) → at ≡ Some a → Q a) → Gives (Shape at used cells) p → Gives Makes p → After (AllAre S Q) (outcome look plain s p)
+    after : (p : Plan) (at used : Option ℕ) (cells : ℕ → Option Face) → ((a : ℕ) → at ≡ Some a → Q a) → Gives (Shape at used cells) p → Gives (Makes plain S) p → After (AllAre S Q) (outcome look plain s p)
     after (Fails f) at used cells k g h = tt
     after Halts at used cells k g h = tt
-    after (Goes e) at used cells k g h = perform_all s e (move_in at used cells k e.moved (Gives-effect g)) (Gives-effect h) all
+    after (Goes e) at used cells k g h = perform_all look plain S Q (closed.ints (pos 0)) s e (move_in at used cells k e.moved (Gives-effect g)) (Gives-effect h) all
 
     pub row_keeps : (n : Instr) → OpensTo look plain S s n → ((a : ℕ) → target n (faces look s) ≡ Some a → Q a) → After (AllAre S Q) (row look plain n next s)
     unfolding row plan_in

@@ -12,6 +12,7 @@ pub mod Ends
 pub mod Closed
 pub mod Run
 pub mod Runs
+pub mod Fitting
 pub mod Back
 pub mod Refusals
 pub mod Mapped

@@ -4,6 +4,7 @@ ghost use Rattle.lcm_machine.specs.Maps.{State};
 ghost use Rattle.lcm_machine.specs.Regions.{Region, IsLinearAt, CoveredOnce};
 ghost use Rattle.lcm_machine.specs.Counts.{cover_count};
 ghost use Rattle.lcm_machine.specs.Closed.{StepsKeepClosed};
+ghost use Rattle.lcm_machine.specs.Fitting.{StepsKeepFitting, RunsKeepFitting};
 ghost use Rattle.lcm_machine.specs.Touched.{RunsAreQuiet};
 ghost use Rattle.lcm_machine.specs.Mapped.{RowCommutes, FetchCommutes, StepCommutes};
 
@@ -37,6 +38,16 @@ pub fn covered_once_counts<W: MachineWord>()
 /// such a cell, and if it is an `xjmp`, then what it opens has the property.
 pub fn steps_keep_closed<W: MachineWord>()
     ensures { StepsKeepClosed W.look W.plain }
+{}
+
+/// The words of a plain machine stay words of a machine: integers and addresses of 64 bits, ranges in
+/// order, and seals that there are.
+///
+/// Where all words of registers and cells are so, all words are so after a step, whatever the
+/// instruction, and after any number of steps.
+pub fn steps_keep_fitting()
+    ensures step { StepsKeepFitting }
+    ensures runs { RunsKeepFitting }
 {}
 
 /// A run that goes on without a cell doesn't touch it where it is there: no step of it fetches from
