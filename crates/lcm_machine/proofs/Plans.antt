@@ -102,7 +102,7 @@ module _ (f : Reg → Face) (w : Reg → Option Opened) (cells : ℕ → Option 
   shape_cell may y c m allowed x h =
       let k = target_there y c m cells x h in (k.0, k.1, reached_there may y c m allowed cells x h)
 
-  load_cell : (r : Reg) → not (is_pc r) ≡ true → (y : Face) (c : CapFields) → memory_in y ≡ Some c → may_read c.perm ≡ true → (x : Face) → face_there cells (target_of y) ≡ Some x
+  pub load_cell : (r : Reg) → not (is_pc r) ≡ true → (y : Face) (c : CapFields) → memory_in y ≡ Some c → may_read c.perm ≡ true → (x : Face) → face_there cells (target_of y) ≡ Some x
       → ShapePlace (target_of y) (if is_pc r then None else reached may_read y cells) cells (Cell (address c.addr))
   load_cell r free y c m allowed x h =
       let k = shape_cell may_read y c m allowed x h in (k.0, k.1, ap (λ b. if b then None else reached may_read y cells) (not_true (is_pc r) free) ∙ k.2)

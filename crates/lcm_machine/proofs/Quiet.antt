@@ -59,7 +59,7 @@ plan_there f w cells next (Load r1 r2) q m = Gives-ask _ _ _ (λ _. Gives-need _
 plan_there f w cells next _ q m = cc
 
 module _ {W : Type 0} (look : W → Word) (plain : Word → W) where
-  planned : (s t : State W) (P : Type 0) (p : Plan) → Gives (λ e. P) p → outcome look plain s p ≡ went t → P
+  pub planned : (s t : State W) (P : Type 0) (p : Plan) → Gives (λ e. P) p → outcome look plain s p ≡ went t → P
   planned s t P (Fails f) g e = cc
   planned s t P Halts g e = cc
   planned s t P (Goes x) g e = Gives-effect g

@@ -261,12 +261,19 @@ module _ {W : Type 0} (look : W → Word) (plain : Word → W) where
   pub row_cells : (s t : State W) (i : Instr) (next : Word) → row look plain i next s ≡ went t → SameCells s t
   row_cells s t i next e = after_went (SameCells s) _ t (after_row (SameCells s) s i next (λ x g. perform_same s x (plan_fits look plain s i next x g))) e
 
-  -- it changes no cell but that which its instruction addresses
+  -- it changes no cell but that which its instruction uses
+  pub row_unused : (s t : State W) (i : Instr) (next : Word) → row look plain i next s ≡ went t → (q : ℕ)
+      → (cell_used i (faces look s) (cell_faces look s) ≡ Some q → ⊥) → cell t.cells q ≡ cell s.cells q
+  row_unused s t i next e q spare =
+      after_went (λ (u : State W). cell u.cells q ≡ cell s.cells q) _ t
+      (after_row (λ (u : State W). cell u.cells q ≡ cell s.cells q) s i next
+      (λ x g. perform_other s x q (plan_spares s i next x q g spare)))
+      e
+
+  -- which is that which it addresses
   pub row_others : (s t : State W) (i : Instr) (next : Word) → row look plain i next s ≡ went t → (q : ℕ) → (target i (faces look s) ≡ Some q → ⊥) → cell t.cells q ≡ cell s.cells q
   row_others s t i next e q spare =
-      after_went (λ (u : State W). cell u.cells q ≡ cell s.cells q) _ t
-      (after_row (λ (u : State W). cell u.cells q ≡ cell s.cells q) s i next (λ x g. perform_other s x q (plan_spares s i next x q g (λ h. spare (used_target i (faces look s) (cell_faces look s) q h)))))
-      e
+      row_unused s t i next e q (λ h. spare (used_target i (faces look s) (cell_faces look s) q h))
 
   -- a step that goes fetched an instruction, whose row goes there
   pub fetched_row : (s t : State W) → step_of look plain s ≡ went t → (i : Instr) × (next : Word) × (fetch (faces look s Pc) (cell_faces look s) ≡ some i next) × (row look plain i next s ≡ went t)

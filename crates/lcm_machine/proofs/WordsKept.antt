@@ -24,7 +24,8 @@ use Rattle.lcm_machine.specs.declared.plan.Made.{Made}
 use Rattle.lcm_machine.specs.Maps.{State}
 use Rattle.lcm_machine.specs.Places.{reg, set_reg}
 use Rattle.lcm_machine.specs.Cells.{cell, set_cell}
-use Rattle.lcm_machine.specs.Table.{plan, target}
+use Rattle.lcm_machine.specs.Table.{plan}
+use Rattle.lcm_machine.specs.Touched.{cell_used}
 use Rattle.lcm_machine.specs.Row.{word_in, put, clear, move_on, spend, make, go_on, perform, faces, cell_faces, opens, plan_in, outcome, row, fetch, Fetched, none, some, step_fetched, step_of}
 use Rattle.lcm_machine.proofs.Plans.{Shape, ShapeMoved, ShapePlace, plan-Shape, Gives, Gives-effect, gives_fails, gives_halts, gives_goes, Gives-ask, Gives-need, Gives-by_cap, Gives-if}
 use Rattle.lcm_machine.proofs.RegLemmas.{cases_reg, reg-set_same, reg-set_other}
@@ -171,24 +172,24 @@ module _ {W : Type 0} (look : W → Word) (plain : Word → W) (S : W → Type 0
     plan-Makes (Splice r1 r2 r3) x t = Gives-ask _ _ _ (λ _. Gives-need _ _ _ (λ a ma. Gives-need _ _ _ (λ b mb. Gives-ask _ _ _ (λ q.
         (let p = and_parts (same_kind a b) _ q in gives_goes (closed.joined (reg s.regs r2) (reg s.regs r3) a b (memory_look r2 a ma) (memory_look r3 b mb) p.0 (eqb-true _ _ p.1) (there r2) (there r3), tt, next_is))))))
 
-    move_in : (at used : Option ℕ) (cells : ℕ → Option Face) → ((a : ℕ) → at ≡ Some a → Q a) → (m : Option Moved) → ShapeMoved at used cells m → MoveIn Q m
+    move_in : (at used : Option ℕ) (cells : ℕ → Option Face) → ((a : ℕ) → used ≡ Some a → Q a) → (m : Option Moved) → ShapeMoved at used cells m → MoveIn Q m
     move_in at used cells k None h = tt
-    move_in at used cells k (Some m) h = elim (m.from) as (λ p. ShapePlace at used cells p → PlaceIn Q p) [ R r ↦ λ x. tt | Cell a ↦ λ x. k a x.0 ] h.0
+    move_in at used cells k (Some m) h = elim (m.from) as (λ p. ShapePlace at used cells p → PlaceIn Q p) [ R r ↦ λ x. tt | Cell a ↦ λ x. k a x.2 ] h.0
 
-    after : (p : Plan) (at used : Option ℕ) (cells : ℕ → Option Face) → ((a : ℕ) → at ≡ Some a → Q a) → Gives (Shape at used cells) p → Gives (Makes plain S) p → After (AllAre S Q) (outcome look plain s p)
+    after : (p : Plan) (at used : Option ℕ) (cells : ℕ → Option Face) → ((a : ℕ) → used ≡ Some a → Q a) → Gives (Shape at used cells) p → Gives (Makes plain S) p → After (AllAre S Q) (outcome look plain s p)
     after (Fails f) at used cells k g h = tt
     after Halts at used cells k g h = tt
     after (Goes e) at used cells k g h = perform_all look plain S Q (closed.ints (pos 0)) s e (move_in at used cells k e.moved (Gives-effect g)) (Gives-effect h) all
 
-    pub row_keeps : (n : Instr) → OpensTo look plain S s n → ((a : ℕ) → target n (faces look s) ≡ Some a → Q a) → After (AllAre S Q) (row look plain n next s)
+    pub row_keeps : (n : Instr) → OpensTo look plain S s n → ((a : ℕ) → cell_used n (faces look s) (cell_faces look s) ≡ Some a → Q a) → After (AllAre S Q) (row look plain n next s)
     unfolding row plan_in
-    row_keeps n x k = after _ (target n (faces look s)) _ (cell_faces look s) k (plan-Shape (faces look s) (opens look s) (cell_faces look s) next n) (plan-Makes n x _)
+    row_keeps n x k = after _ _ (cell_used n (faces look s) (cell_faces look s)) (cell_faces look s) k (plan-Shape (faces look s) (opens look s) (cell_faces look s) next n) (plan-Makes n x _)
 
   -- pc's word at the next address has it too
   next_kept : (s : State W) → AllAre S Q s → (x : Word) → look (reg s.regs Pc) ≡ x → (cells : ℕ → Option Face) (n : Instr) (next : Word) → fetch (face_of x) cells ≡ some n next → S (plain next)
   next_kept s all x e cells n next f = let k = fetch_normal x cells n next f in rw k.3 (closed.moved (reg s.regs Pc) k.0 _ (e ∙ k.1) (all.0 Pc))
 
-  fetched_keeps : (s : State W) → AllAre S Q s → (f : Fetched) → ((n : Instr) (next : Word) → f ≡ some n next → S (plain next) × (OpensTo look plain S s n × ((a : ℕ) → target n (faces look s) ≡ Some a → Q a))) → After (AllAre S Q) (step_fetched look plain s f)
+  fetched_keeps : (s : State W) → AllAre S Q s → (f : Fetched) → ((n : Instr) (next : Word) → f ≡ some n next → S (plain next) × (OpensTo look plain S s n × ((a : ℕ) → cell_used n (faces look s) (cell_faces look s) ≡ Some a → Q a))) → After (AllAre S Q) (step_fetched look plain s f)
   fetched_keeps s all (none c) k = tt
   fetched_keeps s all (some n next) k = let h = k n next refl in row_keeps s all next h.0 n h.1.0 h.1.1
 

@@ -15,8 +15,9 @@ use Rattle.lcm_isa.specs.declared.Instr.TheVariants.{Xjmp}
 use Rattle.lcm_machine.specs.Maps.{State}
 use Rattle.lcm_machine.specs.Places.{reg}
 use Rattle.lcm_machine.specs.Cells.{cell}
-use Rattle.lcm_machine.specs.Table.{target, memory_content, unsealed}
+use Rattle.lcm_machine.specs.Table.{memory_content, unsealed}
 use Rattle.lcm_machine.specs.Row.{faces, cell_faces, opens, fetch, some, step_of}
+use Rattle.lcm_machine.specs.Touched.{cell_used}
 use Rattle.lcm_machine.specs.Ends.{After}
 
 -- A property of words is closed where each word that an instruction makes of words with it has it: integers,
@@ -58,12 +59,12 @@ OpensTo look plain S s (Xjmp r1 r2) =
     → S (plain (Mem c)) × S (plain (unsealed data_half.content))
 OpensTo look plain S s _ = Unit {0}
 
--- the instruction that pc names opens words with it alone, and loads from no cell that is set apart
+-- the instruction that pc names opens words with it alone, and uses no cell that is set apart
 abbrev pub StepsWithin : {W : Type 0} → (W → Word) → (Word → W) → (W → Type 0) → (ℕ → Type 0)
     → State W → Type 0
 StepsWithin look plain S Q s =
     (i : Instr) (next : Word) → fetch (faces look s Pc) (cell_faces look s) ≡ some i next
-    → OpensTo look plain S s i × ((a : ℕ) → target i (faces look s) ≡ Some a → Q a)
+    → OpensTo look plain S s i × ((a : ℕ) → cell_used i (faces look s) (cell_faces look s) ≡ Some a → Q a)
 
 -- a step keeps a closed property, said of properties that are tests
 abbrev pub StepsKeepClosed : {W : Type 0} → (W → Word) → (Word → W) → Type 0

@@ -10,6 +10,7 @@ pub mod Regions
 pub mod Counts
 pub mod Ends
 pub mod Closed
+pub mod Acts
 pub mod Run
 pub mod Runs
 pub mod Fitting

@@ -4,6 +4,7 @@ ghost use Rattle.lcm_machine.specs.Maps.{State};
 ghost use Rattle.lcm_machine.specs.Regions.{Region, IsLinearAt, CoveredOnce};
 ghost use Rattle.lcm_machine.specs.Counts.{cover_count};
 ghost use Rattle.lcm_machine.specs.Closed.{StepsKeepClosed};
+ghost use Rattle.lcm_machine.specs.Acts.{DoesAsItMay, ChangesNoOther, WritesWhereItMay};
 ghost use Rattle.lcm_machine.specs.Fitting.{StepsKeepFitting, RunsKeepFitting};
 ghost use Rattle.lcm_machine.specs.Touched.{RunsAreQuiet};
 ghost use Rattle.lcm_machine.specs.Mapped.{RowCommutes, FetchCommutes, StepCommutes};
@@ -38,6 +39,15 @@ pub fn covered_once_counts<W: MachineWord>()
 /// such a cell, and if it is an `xjmp`, then what it opens has the property.
 pub fn steps_keep_closed<W: MachineWord>()
     ensures { StepsKeepClosed W.look W.plain }
+{}
+
+/// What a step does, the words of registers allow: the cells that it fetches, loads from, stores to
+/// and empties, and the seal by which it seals. And it changes no cell but those that it stores to or
+/// empties, so only cells that it may write.
+pub fn steps_do_as_they_may<W: MachineWord>()
+    ensures does { (s : State W) → DoesAsItMay W.look W.plain s }
+    ensures changes { (s : State W) → ChangesNoOther W.look W.plain s }
+    ensures writes { (s : State W) → WritesWhereItMay W.look W.plain s }
 {}
 
 /// The words of a plain machine stay words of a machine: integers and addresses of 64 bits, ranges in

@@ -14,7 +14,7 @@ use Rattle.lcm_machine.specs.Table.{is_pc, target, unsealed}
 use Rattle.lcm_machine.specs.Row.{faces, cell_faces, fetch, some, row, step_of, step_fetched, Outcome, went, halted, failed, plan_in}
 use Rattle.lcm_machine.specs.Closed.{AllAre, OpensTo}
 use Rattle.lcm_machine.proofs.RowLemmas.{fetch_normal}
-use Rattle.lcm_machine.proofs.TouchLemmas.{after_went, there_same, row_cells, row_others, fetched_row}
+use Rattle.lcm_machine.proofs.TouchLemmas.{after_went, there_same, row_cells, row_others, fetched_row, used_target}
 use Rattle.lcm_machine.proofs.WordsKept.{row_keeps}
 use Rattle.flow_check.proofs.Steps.{to_row, to_fail, out as goes_out}
 use Rattle.flow_check.proofs.Kept.{crosses}
@@ -142,7 +142,9 @@ module _ (g : Link) (linked : Linked g) where
               others = others_of s' (there_same o.maps s' (row_cells look Plain o.maps s' n next e)) (same_row s' n next e) (λ a w op h. inv.cells a w op (sym (ap (λ y. cell y a) cr.cells) ∙ h));
             })
         | inr never ↦ (let ns = next_safe n next f in
-            let k = after_went (AllAre (IsSafe g fs) (IsOpenAt g)) _ s' (row_keeps look Plain (IsSafe g fs) (IsOpenAt g) (safe_closed g linked fs) o.maps all next ns n (opens_none n never) (target_open n)) e in
+            let k = after_went (AllAre (IsSafe g fs) (IsOpenAt g)) _ s'
+            (row_keeps look Plain (IsSafe g fs) (IsOpenAt g) (safe_closed g linked fs) o.maps all next ns n (opens_none n never)
+            (λ a u. target_open n a (used_target n (faces look o.maps) (cell_faces look o.maps) a u))) e in
             record {
               pc = outside k.0;
               others = others_of s' (there_same o.maps s' (row_cells look Plain o.maps s' n next e)) (same_row s' n next e) k.1;
