@@ -1,5 +1,5 @@
 mod Words
-mod LawLemmas
+pub mod LawLemmas
 pub mod CallLaws
 pub mod ReturnLaws
 pub mod EntryLaws

@@ -38,7 +38,8 @@ use Rattle.component_linker.proofs.PartKept.{kept, twelfth}
 -- ---- each word
 
 -- what one item gives, and none before it
-given_at : {X Y : Type 0} (f : X → Option Y) (xs : List X) (k : ℕ) (x : X) (y : Y) → slice_get xs k ≡ Some x → f x ≡ Some y
+pub given_at : {X Y : Type 0} (f : X → Option Y) (xs : List X) (k : ℕ) (x : X) (y : Y)
+    → slice_get xs k ≡ Some x → f x ≡ Some y
     → ((j : ℕ) (z : X) (u : Y) → j < k → slice_get xs j ≡ Some z → f z ≡ Some u → ⊥) → first_given f xs ≡ Some y
 given_at f [] k x y at is none = absurd cc
 given_at f (z ∷ zs) zero x y at is none = let e : z ≡ x = cc in ap (λ o. option_or o (first_given f zs)) (ap f e ∙ is)
@@ -57,14 +58,23 @@ own_word parts p o w is =
     let here : from c.code_base (slice_get c.code) (c.code_base + o) ≡ Some w = from_yes c.code_base (slice_get c.code) (c.code_base + o) (omega arith) ∙ ap (slice_get c.code) back ∙ is in
     ap (λ x. option_or x (from c.data_base (data_word parts c) (c.code_base + o))) here
 
-pub code_stands : (parts : List PartSeen) (size : ℕ) (s : Run) → Linked parts size → IsStart parts size s → CodeInCells parts s.maps
+-- the word that a part has at an address stands there
+pub part_stands : (parts : List PartSeen) (size : ℕ) (s : Run) → Linked parts size → IsStart parts size s
+    → (k a : ℕ) (p : PartSeen) (w : Word) → slice_get parts k ≡ Some p → part_word parts a p ≡ Some w
+    → cell s.maps.cells a ≡ Some w
 unfolding start_cell
-code_stands parts size s linked start k o p w at is =
-    let a = p.component.code_base + o in
-    let here = own_word parts p o w is in
-    let apart = (separate parts size linked.closed linked.apart).apart in
-    let first : first_given (part_word parts a) parts ≡ Some w = given_at (part_word parts a) parts k p w at here (λ j q u lt at_j is_j. apart j k a q p u w lt at_j at is_j here) in
+part_stands parts size s linked start k a p w at here =
+    let first = given_at (part_word parts a) parts k p w at here before in
     start.cells a ∙ ap (λ x. option_or x (if in_regions a (regions_of parts size) then Some (Int (pos 0)) else None)) first
+  where
+    before : (j : ℕ) (q : PartSeen) (u : Word) → j < k → slice_get parts j ≡ Some q → part_word parts a q ≡ Some u → ⊥
+    before j q u lt at_j is_j =
+        (separate parts size linked.closed linked.apart).apart j k a q p u w lt at_j at is_j here
+
+pub code_stands : (parts : List PartSeen) (size : ℕ) (s : Run) → Linked parts size → IsStart parts size s
+    → CodeInCells parts s.maps
+code_stands parts size s linked start k o p w at is =
+    part_stands parts size s linked start k (p.component.code_base + o) p w at (own_word parts p o w is)
 
 -- ---- instructions
 

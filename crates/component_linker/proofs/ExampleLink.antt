@@ -216,6 +216,7 @@ owners_are : AreOwners pair (first_owner ∷ second_owner ∷ [])
 owners_are = record {
   ascend = owners_rise;
   all = λ o. (λ m. owns o m, λ is. owner_at o o.part is.of is.of_is is.is);
+  count = refl;
 }
 
 starts : Starts pair 4 start

@@ -19,6 +19,8 @@ pub mod PartKept
 pub mod LinksKept
 pub mod SealsKept
 pub mod CodeStands
+pub mod DataStands
+pub mod StartFits
 pub mod MovedFlow
 pub mod MovedRules
 pub mod MovedPart

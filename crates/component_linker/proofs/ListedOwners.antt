@@ -5,9 +5,10 @@ use Rattle.std.specs.List.{AllPairs, Contains, IsDistinct}
 use Rattle.std.specs.List.Sorted.{IsPermutation, IsNonDecreasingBy}
 use Rattle.std.proofs.lemmas.Bool.{cases_eq, ne_eqb, false≢true}
 use Rattle.std.proofs.lemmas.Option.{slice_get_within}
+use Rattle.std.proofs.lemmas.List.{length_push}
 use Rattle.std.proofs.lemmas.List.Elements.{Contains-get_or, Contains-append_left, Contains-push, Contains-push_cases}
 use Rattle.std.proofs.lemmas.List.Quantifiers.{all_pairs_push}
-use Rattle.std.proofs.lemmas.List.Sorted.{Contains-permutation, IsPermutation-sym}
+use Rattle.std.proofs.lemmas.List.Sorted.{Contains-permutation, IsPermutation-sym, length_permutation}
 use Rattle.std.proofs.lemmas.Map.Keys.{IsDistinct-IsPermutation, IsDistinct-from_apart, apart_from_distinct}
 use Rattle.component_file.specs.declared.component.Export.{Export}
 use Rattle.component_file.specs.Limits.{Chain, ExportFits, SiteFits}
@@ -182,6 +183,7 @@ sites_sorted parts n xs ys whole upto moved up = record {
 pub owners_none : (parts : List PartSeen) → OwnersUpto parts 0 []
 owners_none parts = record {
   all = λ o. (λ m. absurd (omega (arith, m.1)), λ h. absurd (let lt = h.1 in omega (arith, lt)));
+  count = refl;
   differ = λ i j d lt in'. absurd (omega (arith, in'));
 }
 
@@ -210,6 +212,7 @@ next_owner parts i p xs y closed separate upto at is = record {
     ],
     λ h. back o h.0 h.1,
   );
+  count = (let n = upto.count in length_push xs y ∙ ap (λ k. k + 1) n);
   differ = all_pairs_push (λ o q. o.code.base ≢ q.code.base) xs y upto.differ (λ k d lt. let h = (upto.all (get_or xs k d)).0 (Contains-get_or xs k d lt) in owners_differ parts i p (get_or xs k d) y closed separate at is h.0 h.1);
 }
   where
@@ -232,4 +235,5 @@ owners_sorted parts n xs ys whole upto moved up = record {
     λ m. ((upto.all o).0 (Contains-permutation ys xs o (IsPermutation-sym xs ys moved) m)).0,
     λ h. let lt = slice_get_within parts o.part h.of h.of_is in Contains-permutation xs ys o moved ((upto.all o).1 (h, omega (arith, lt, whole))),
   );
+  count = length_permutation xs ys moved ∙ upto.count ∙ whole;
 }

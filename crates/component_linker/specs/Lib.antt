@@ -13,6 +13,8 @@ pub mod Listing
 pub mod Started
 pub mod SealsApart
 pub mod TrustedCode
+pub mod DataWords
+pub mod StartFits
 pub mod Lending
 pub mod Answer
 pub mod FaultText

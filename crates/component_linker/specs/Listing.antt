@@ -1,5 +1,5 @@
 -- Sites and owners of the parts so far, before they are put in order.
-use Rattle.std.specs.Prelude.{◌≡◌, ◌≢◌, ◌⊎◌, ◌↔◌, ℕ, ◌<◌, List}
+use Rattle.std.specs.Prelude.{◌≡◌, ◌≢◌, ◌⊎◌, ◌↔◌, ℕ, ◌<◌, List, length}
 use Rattle.std.specs.List.{AllPairs, Contains}
 use Rattle.component_linker.specs.declared.owners.Site.{Site}
 use Rattle.component_linker.specs.declared.owners.Owner.{Owner}
@@ -16,4 +16,5 @@ pub record SitesUpto (parts : List PartSeen) (i j : ℕ) (sites : List Site) : T
 
 pub record OwnersUpto (parts : List PartSeen) (i : ℕ) (owners : List Owner) : Type 0 where
   pub all : (o : Owner) → Contains owners o ↔ (IsOwner parts o × (o.part < i))
+  pub count : length owners ≡ i
   pub differ : AllPairs (λ o q. o.code.base ≢ q.code.base) owners

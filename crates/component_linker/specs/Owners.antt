@@ -4,9 +4,11 @@ use Rattle.std.specs.List.{AllPairs, Contains}
 use Rattle.component_file.specs.declared.TheConstants.{LONGEST_NAME}
 use Rattle.component_file.specs.declared.component.ComponentFields.{ComponentFields}
 use Rattle.component_file.specs.declared.component.Export.{Export}
+use Rattle.component_file.specs.declared.component.Import.{Import}
 use Rattle.component_linker.specs.declared.owners.Site.{Site}
 use Rattle.component_linker.specs.declared.owners.Owner.{Owner}
 use Rattle.component_linker.specs.declared.owners.Entry.{Entry}
+use Rattle.component_linker.specs.declared.owners.Call.{Call}
 use Rattle.component_linker.specs.Parts.{PartSeen}
 use Rattle.component_linker.specs.Regions.{addresses}
 
@@ -61,6 +63,9 @@ pub record AreSites (parts : List PartSeen) (sites : List Site) : Type 0 where
 abbrev pub entry_of : ComponentFields → Export → Entry
 entry_of c e = record { name = e.name; at = c.code_base + e.offset }
 
+abbrev pub call_of : ComponentFields → Import → Call
+call_of c i = record { part = i.part; name = i.name; at = c.data_base + i.slot }
+
 -- who a part is, in its place among the parts
 unfoldable pub owner_of : ℕ → PartSeen → Owner
 owner_of index p =
@@ -72,7 +77,9 @@ owner_of index p =
       code = addresses c.code_base (length c.code);
       data_span = addresses c.data_base (length c.data_words);
       closure = c.closure;
+      seals = c.seals;
       entries = map (entry_of c) c.exports;
+      calls = map (call_of c) c.imports;
     }
 
 -- the owner of a part
@@ -81,10 +88,11 @@ pub record IsOwner (parts : List PartSeen) (o : Owner) : Type 0 where
   pub of_is : slice_get parts o.part ≡ Some of
   pub is : o ≡ owner_of o.part of
 
--- each of them, in ascending address of their code
+-- each of them, one for each part, in ascending address of their code
 pub record AreOwners (parts : List PartSeen) (owners : List Owner) : Type 0 where
   pub ascend : AllPairs (λ o q. o.code.base < q.code.base) owners
   pub all : (o : Owner) → Contains owners o ↔ IsOwner parts o
+  pub count : length owners ≡ length parts
 
 -- ---- both
 

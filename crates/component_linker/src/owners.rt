@@ -2,13 +2,13 @@
 ghost use Rattle.std.specs.Prelude.{◌≡◌, ◌≤◌, ◌<◌, ◌+◌, length, map, slice_get, Some, IfOk, OnOk, IfSome};
 ghost use Rattle.component_linker.specs.Linked.{Kept, AreClosed, AreSeparate};
 ghost use Rattle.component_linker.specs.Regions.{addresses};
-ghost use Rattle.component_linker.specs.Owners.{entry_of, owner_of, AreSites, AreOwners};
+ghost use Rattle.component_linker.specs.Owners.{entry_of, call_of, owner_of, AreSites, AreOwners};
 ghost use Rattle.component_linker.specs.Listing.{SitesUpto, OwnersUpto};
 
 use crate::MOST_PARTS;
 use crate::placed::{Placed, PlacedParts};
 use crate::site_list::SiteList;
-use cap_words::{Items, LAST_PLACE};
+use cap_words::{Items, LAST_PLACE, SealRange};
 use lcm_machine::Span;
 use std::alloc::{AllocError, Global};
 
@@ -49,8 +49,23 @@ pub struct Owner {
     pub data_span: Span,
     /// The seal of its entries.
     pub closure: u32,
+    /// The seals of its return points.
+    pub seals: SealRange,
     /// Its entries, shared or not, in the order of their names.
     pub entries: Items<Entry>,
+    /// What its slots name, in their order.
+    pub calls: Items<Call>,
+}
+
+/// What a slot of a part's data names: an entry of another part, or of the part itself.
+#[derive(Debug, Drop)]
+pub struct Call {
+    /// The name of the part that has the entry.
+    pub part: Items<u8>,
+    /// The entry's name there.
+    pub name: Items<u8>,
+    /// The address of the slot: that of the code half, behind which the data half stands.
+    pub at: u32,
 }
 
 // The sites of one part more, where it is trusted.
@@ -125,6 +140,30 @@ fn entries_of(alloc: Global, part: &Placed<'_>) -> Result<Items<Entry>, AllocErr
     Ok(Items::of(entries))
 }
 
+// What the slots of a part name, one for each import.
+fn calls_of(alloc: Global, part: &Placed<'_>) -> Result<Items<Call>, AllocError>
+    requires { Kept part.now }
+    ensures { let c = part.now.component in IfOk result (λ calls. calls ≡ map (call_of c) c.imports) }
+{
+    let base = part.data_base();
+    let mut calls = Vec::new(alloc);
+    for import in part.imports() {
+        calls.push(Call {
+            part: copy_name(alloc, import.part.as_slice())?,
+            name: copy_name(alloc, import.name.as_slice())?,
+            at: base + import.slot,
+        })?;
+    }
+    Ok(Items::of(calls))
+}
+
+// A range of seals as another is.
+fn same_seals(seals: &SealRange) -> SealRange
+    ensures { result ≡ seals.now }
+{
+    SealRange::new(seals.base(), seals.count())
+}
+
 // Who a part is, by its place among the parts.
 fn named(alloc: Global, part: &Placed<'_>, number: u32) -> Result<Owner, AllocError>
     requires { Kept part.now }
@@ -137,7 +176,9 @@ fn named(alloc: Global, part: &Placed<'_>, number: u32) -> Result<Owner, AllocEr
         code: span_of(part.code_base(), part.code().len()),
         data_span: span_of(part.data_base(), part.data_words().len()),
         closure: part.closure(),
+        seals: same_seals(part.seals()),
         entries: entries_of(alloc, part)?,
+        calls: calls_of(alloc, part)?,
     })
 }
 

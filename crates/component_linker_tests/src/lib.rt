@@ -2,6 +2,8 @@
 #![tactic(auto)]
 
 #[cfg(test)]
+mod owners;
+#[cfg(test)]
 mod parts;
 #[cfg(test)]
 mod placing;

@@ -230,7 +230,12 @@ fn push_t(rt: &impl Abort, alloc: Global, parts: &mut Vec<Part>) -> Result<(), A
     push_part(rt, alloc, parts, text.as_str(), true)
 }
 
-fn push_both(rt: &impl Abort, alloc: Global, parts: &mut Vec<Part>) -> Result<(), AsmFault> {
+/// An untrusted part, and a trusted one with a site.
+pub(crate) fn push_both(
+    rt: &impl Abort,
+    alloc: Global,
+    parts: &mut Vec<Part>,
+) -> Result<(), AsmFault> {
     push_part(rt, alloc, parts, ADV, false)?;
     push_t(rt, alloc, parts)
 }

@@ -65,14 +65,14 @@ reg_to G2 = omega arith
 number_differs : (r d : Reg) → r ≢ d → reg_number r ≢ reg_number d
 number_differs r d ne e = ne (sym (reg_back r) ∙ ap reg_of e ∙ reg_back d)
 
-kind-set_same : (row : Row) (r : Reg) (k : Kind) → length row ≡ 15 → is_pc r ≡ false → kind_of (set_kind row r k) r ≡ k
+pub kind-set_same : (row : Row) (r : Reg) (k : Kind) → length row ≡ 15 → is_pc r ≡ false → kind_of (set_kind row r k) r ≡ k
 unfolding kind_of set_kind
 kind-set_same row r k long p =
     let low = reg_from r p in
     let high = reg_to r in
     get_or-set_same row (reg_number r - 1) k kind.Top (omega arith)
 
-kind-set_other : (row : Row) (r d : Reg) (k : Kind) → is_pc r ≡ false → is_pc d ≡ false → d ≢ r → kind_of (set_kind row r k) d ≡ kind_of row d
+pub kind-set_other : (row : Row) (r d : Reg) (k : Kind) → is_pc r ≡ false → is_pc d ≡ false → d ≢ r → kind_of (set_kind row r k) d ≡ kind_of row d
 unfolding kind_of set_kind
 kind-set_other row r d k p q ne =
     let low = reg_from r p in

@@ -3,7 +3,7 @@ mod TakeLemmas
 mod GiveLemmas
 mod FrameLemmas
 mod RoomLemmas
-mod OutLemmas
+pub mod OutLemmas
 mod JumpLemmas
 mod CallLemmas
 mod FitsLemmas

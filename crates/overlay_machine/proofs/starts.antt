@@ -4,6 +4,7 @@ pub mod PartFacts
 pub mod RegionsApart
 pub mod LayoutFacts
 pub mod LinkedFacts
+pub mod NameFacts
 pub mod StartSafe
 pub mod OneOverlay
 pub mod Linking

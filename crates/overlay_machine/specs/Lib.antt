@@ -19,4 +19,5 @@ pub mod Invariant
 pub mod Keeping
 pub mod Privacy
 pub mod Starting
+pub mod Names
 pub mod Cover

@@ -56,14 +56,18 @@ pub record Linked (g : Link) : Type 0 where
   pub small : (r : Region) → Contains (regions g) r → r.end ≤ LAST_PLACE
   pub stack : stack_span g.parts g.size ≡ Some g.layout.stack
   pub stack_bases : (p : PartSeen) → IsTrusted g p → p.component.stack_base ≡ g.layout.stack.base
-  -- what untrusted code may use is of the regions, and no trusted code; so are the code and data of trusted parts
+  -- what untrusted code may use is of the regions, and no trusted code or data; so are the code and data of
+  -- trusted parts
   pub usable : (r : Region) (runs : Bool) → IsUsable g r runs → Contains (regions g) r
   pub code_closed : (r : Region) (runs : Bool) (p : PartSeen) → IsUsable g r runs → IsTrusted g p → r ≢ code_region p
+  pub data_closed : (r : Region) (runs : Bool) (p : PartSeen) → IsUsable g r runs → IsTrusted g p
+      → r ≢ data_region p
   pub code : (p : PartSeen) → IsTrusted g p → Contains (regions g) (code_region p)
   pub data_there : (p : PartSeen) → IsTrusted g p → Contains (regions g) (data_region p)
   pub data_not_code : (p q : PartSeen) → IsTrusted g p → IsTrusted g q → data_region p ≢ code_region q
-  -- trusted parts of one code are one, and so are those of one closure seal
+  -- trusted parts of one code are one, and so are those of one data and of one closure seal
   pub one_code : (p q : PartSeen) → IsTrusted g p → IsTrusted g q → code_region p ≡ code_region q → p ≡ q
+  pub one_data : (p q : PartSeen) → IsTrusted g p → IsTrusted g q → data_region p ≡ data_region q → p ≡ q
   pub one_closure : (p q : PartSeen) → IsTrusted g p → IsTrusted g q → p.component.closure ≡ q.component.closure → p ≡ q
   -- the seals of each part end within the space of seals
   pub seals_small : (p : PartSeen) → Contains g.parts p → p.component.seals.base + p.component.seals.count ≤ LAST_PLACE + 1

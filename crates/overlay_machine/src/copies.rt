@@ -11,8 +11,8 @@ ghost use Rattle.overlay_machine.specs.Copies.{plain_regs, copied, AreCopiedTo};
 use crate::flat::made_anew;
 use crate::layout::Layout;
 use crate::words::OWord;
-use cap_words::{Items, LAST_PLACE};
-use component_linker::{Entry, Owner, Start};
+use cap_words::{Items, LAST_PLACE, SealRange};
+use component_linker::{Call, Entry, Owner, Start};
 use lcm_isa::Reg;
 use lcm_machine::state::State;
 use lcm_machine::{LcmState, Place, Span};
@@ -37,6 +37,26 @@ fn copy_entries(alloc: Global, entries: &[Entry]) -> Result<Items<Entry>, AllocE
     Ok(Items::of(copies))
 }
 
+fn copy_calls(alloc: Global, calls: &[Call]) -> Result<Items<Call>, AllocError>
+    ensures { IfOk result (λ c. c ≡ calls.now) }
+{
+    let mut copies = Vec::new(alloc);
+    for call in calls {
+        copies.push(Call {
+            part: copy_name(alloc, call.part.as_slice())?,
+            name: copy_name(alloc, call.name.as_slice())?,
+            at: call.at,
+        })?;
+    }
+    Ok(Items::of(copies))
+}
+
+fn copy_seals(seals: &SealRange) -> SealRange
+    ensures { result ≡ seals.now }
+{
+    SealRange::new(seals.base(), seals.count())
+}
+
 fn copy_owner(alloc: Global, owner: &Owner) -> Result<Owner, AllocError>
     ensures { IfOk result (λ o. o ≡ owner.now) }
 {
@@ -47,7 +67,9 @@ fn copy_owner(alloc: Global, owner: &Owner) -> Result<Owner, AllocError>
         code: owner.code,
         data_span: owner.data_span,
         closure: owner.closure,
+        seals: copy_seals(&owner.seals),
         entries: copy_entries(alloc, owner.entries.as_slice())?,
+        calls: copy_calls(alloc, owner.calls.as_slice())?,
     })
 }
 

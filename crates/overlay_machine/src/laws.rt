@@ -16,6 +16,7 @@ ghost use Rattle.component_linker.specs.Parts.{PartSeen};
 ghost use Rattle.component_linker.specs.Started.{StartSeen};
 ghost use Rattle.overlay_machine.specs.Seen.{OverlaySeen, IsOverlayOf};
 ghost use Rattle.overlay_machine.specs.Starting.{IsLinkedStart, overlay_at, StartsBegin, AgreesFromStart, StartThere};
+ghost use Rattle.overlay_machine.specs.Names.{StartsTellNames};
 
 use call_sequence::laws::sequences_stand_word_by_word;
 use flow_check::laws::sequences_stand;
@@ -99,6 +100,16 @@ pub fn linked_starts_agree()
     linked_runs_agree();
     frames_are_private();
 }
+
+/// What the layout of a linked start tells of its trusted parts, their entries and their sites.
+///
+/// A trusted part has one owner, that of its closure seal and the one who runs wherever pc is over its
+/// code, and the name of its number is its component's. Where pc stands at an entry of it, the entry's
+/// number has the name of the first export there. Each site of it has a number, found by its address and
+/// by its seal; and the number of a site tells its part and its index.
+pub fn starts_tell_names()
+    ensures { StartsTellNames }
+{}
 
 /// There are such parts, with a start and its overlay: one trusted, with a site and an entry, and one
 /// that isn't.

@@ -81,11 +81,11 @@ map_get f (x ∷ xs) zero y e = (x, refl, (let q : f x ≡ y = cc in q))
 map_get f (x ∷ xs) (suc j) y e = map_get f xs j y e
 
 -- a place that was found passes
-found_at : {X : Type 0} (p : X → Bool) (xs : List X) (j : ℕ) → position p xs ≡ Some j → (x : X) × (slice_get xs j ≡ Some x) × (p x ≡ true)
+pub found_at : {X : Type 0} (p : X → Bool) (xs : List X) (j : ℕ) → position p xs ≡ Some j → (x : X) × (slice_get xs j ≡ Some x) × (p x ≡ true)
 found_at p [] j e = absurd cc
 found_at p (x ∷ xs) j e = let h = position-Some p (x ∷ xs) j x e in (get_or (x ∷ xs) j x, slice_get-get_or (x ∷ xs) j x h.0, h.1)
 
-numbered_is : (o : Option ℕ) (j : ℕ) → option_and_then numbered o ≡ Some j → o ≡ Some j
+pub numbered_is : (o : Option ℕ) (j : ℕ) → option_and_then numbered o ≡ Some j → o ≡ Some j
 numbered_is None j e = cc
 numbered_is (Some i) j e = by_test (nat_lt i (2 ^ 32)) e
   where

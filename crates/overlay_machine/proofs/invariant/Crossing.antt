@@ -1,6 +1,6 @@
 -- An `xjmp` of safe words goes onto safe code with safe data, or onto an entry of a trusted part with its data
 -- capability.
-use Rattle.std.proofs.Common.{◌≡◌, ◌≢◌, ◌⊎◌, inl, inr, ℕ, zero, suc, ℤ, pos, Bool, true, false, List, [], ◌∷◌, Some, None, refl, sym, ap, ◌∙◌, subst, arith, eqb-true, eq-eqb}
+use Rattle.std.proofs.Common.{◌≡◌, ◌≢◌, ◌⊎◌, inl, inr, ℕ, zero, suc, pos, Bool, true, false, List, [], ◌∷◌, Some, None, refl, sym, ap, ◌∙◌, subst, arith, eqb-true, eq-eqb}
 use Rattle.std.specs.Prelude.{not, ◌==◌, ◌||◌, if◌then◌else◌}
 use Rattle.std.specs.List.{Contains, list_any}
 use Rattle.cap_words.specs.declared.Word.{Word}
@@ -118,11 +118,17 @@ entry_begins p e c = any_of (λ x. x.offset == e.offset) p.component.exports e c
 pub code_is : (x : Exported) → x.part.trusted ≡ true → code_of x ≡ code_at (ranges_of x.part) x.export.offset
 code_is x t = rw t refl
 
+-- the capability over a part's data, at its base
+abbrev pub whole_data : PartSeen → CapFields
+whole_data p = data_cap (ranges_of p) (pos p.component.data_base)
+
 module _ (g : Link) (linked : Linked g) (fs : List OpenFrame) where
-  -- where a pair of safe words leads
-  pub data Leads_to (c : CapFields) (d : Word) : Type 0 where
-    to_safe : IsSafe g fs (Plain (Mem c)) → IsSafe g fs (Plain d) → Leads_to c d
-    to_entry : (p : PartSeen) (o : ℕ) (at : ℤ) → IsTrusted g p → begins_entry p.component o ≡ true → c ≡ code_at (ranges_of p) o → d ≡ Mem (data_cap (ranges_of p) at) → Leads_to c d
+  -- where a pair of safe words leads, by their seal: under one of untrusted code onto safe words, under the
+  -- closure seal of a trusted part onto one of its entries, with its data
+  pub data Leads_to (n : ℕ) (c : CapFields) (d : Word) : Type 0 where
+    to_safe : IsOpenSeal g n → IsSafe g fs (Plain (Mem c)) → IsSafe g fs (Plain d) → Leads_to n c d
+    to_entry : (p : PartSeen) (o : ℕ) → IsTrusted g p → begins_entry p.component o ≡ true
+        → n ≡ p.component.closure → c ≡ code_at (ranges_of p) o → d ≡ Mem (whole_data p) → Leads_to n c d
 
   pub seal_is : (n : ℕ) (x : Sealable) (o : Opened) → opened_of (Sealed n x) ≡ Some o → n ≡ o.seal
   seal_is n (MemIn y) o e = cc
@@ -153,18 +159,24 @@ module _ (g : Link) (linked : Linked g) (fs : List OpenFrame) where
   closed_half : (n : ℕ) (y : Sealable) → IsTrustedHalf g (Sealed n y) → IsOpenSeal g n → ⊥
   closed_half n y h op = linked.closure_closed h.0.part h.1 (subst (λ k. IsOpenSeal g k) (half_seal h.0 n y h.3) op)
 
-  by_halves : (u v : Exported) (n : ℕ) (x1 x2 : Sealable) (code half : Opened) (c : CapFields) → IsTrusted g u.part → IsTrusted g v.part → Contains u.part.component.exports u.export → IsHalf u (Sealed n x1) → IsHalf v (Sealed n x2)
-      → opened_of (Sealed n x1) ≡ Some code → opened_of (Sealed n x2) ≡ Some half → memory_content code.content ≡ Some c → may_run c.perm ≡ true → not (runs_in half.content) ≡ true → Leads_to c (unsealed half.content)
+  by_halves : (u v : Exported) (n : ℕ) (x1 x2 : Sealable) (code half : Opened) (c : CapFields)
+      → IsTrusted g u.part → IsTrusted g v.part → Contains u.part.component.exports u.export
+      → IsHalf u (Sealed n x1) → IsHalf v (Sealed n x2)
+      → opened_of (Sealed n x1) ≡ Some code → opened_of (Sealed n x2) ≡ Some half
+      → memory_content code.content ≡ Some c → may_run c.perm ≡ true → not (runs_in half.content) ≡ true
+      → Leads_to n c (unsealed half.content)
   by_halves u v n x1 x2 code half c ip iq en (inl e) (inr f) e1 e2 m run nc =
       let np : n ≡ u.part.component.closure = half_seal u n x1 (inl e) in
       let nq : n ≡ v.part.component.closure = half_seal v n x2 (inr f) in
       let same : u.part ≡ v.part = linked.one_closure u.part v.part ip iq (sym np ∙ nq) in
       let h1 : c ≡ code_of u = cap_is code n x1 c u.part.component.closure (code_of u) e e1 m in
-      let h2 : unsealed half.content ≡ Mem (data_cap (ranges_of v.part) (pos v.part.component.data_base)) = half_is half n x2 v.part.component.closure (data_cap (ranges_of v.part) (pos v.part.component.data_base)) f e2 in
-      let h3 : unsealed half.content ≡ Mem (data_cap (ranges_of u.part) (pos v.part.component.data_base)) = h2 ∙ ap (λ p. Mem (data_cap (ranges_of p) (pos v.part.component.data_base))) (sym same) in
-      to_entry u.part u.export.offset (pos v.part.component.data_base) ip (entry_begins u.part u.export en) (h1 ∙ code_is u ip.1) h3
+      let h2 : unsealed half.content ≡ Mem (whole_data v.part) =
+      half_is half n x2 v.part.component.closure (whole_data v.part) f e2 in
+      let h3 : unsealed half.content ≡ Mem (whole_data u.part) =
+      h2 ∙ ap (λ p. Mem (whole_data p)) (sym same) in
+      to_entry u.part u.export.offset ip (entry_begins u.part u.export en) np (h1 ∙ code_is u ip.1) h3
   by_halves u v n x1 x2 code half c ip iq en (inr e) h e1 e2 m run nc =
-      let h1 : c ≡ data_cap (ranges_of u.part) (pos u.part.component.data_base) = cap_is code n x1 c u.part.component.closure (data_cap (ranges_of u.part) (pos u.part.component.data_base)) e e1 m in
+      let h1 = cap_is code n x1 c u.part.component.closure (whole_data u.part) e e1 m in
       let bad : false ≡ true = ap (λ x. may_run x.perm) (sym h1) ∙ run in cc
   by_halves u v n x1 x2 code half c ip iq en (inl e) (inl f) e1 e2 m run nc =
       let h2 : half ≡ record { seal = v.part.component.closure; content = MemC (code_of v) } = opened_is half n x2 v.part.component.closure (code_of v) f e2 in
@@ -172,37 +184,44 @@ module _ (g : Link) (linked : Linked g) (fs : List OpenFrame) where
       let bad : false ≡ true = ap (λ x. not (runs_in x.content)) (sym h3) ∙ nc in cc
 
   -- an `xjmp` of two safe words
-  pub leads_to : (x1 x2 : Word) (code half : Opened) (c : CapFields) → IsSafe g fs (Plain x1) → IsSafe g fs (Plain x2) → opened_of x1 ≡ Some code → opened_of x2 ≡ Some half → code.seal ≡ half.seal → memory_content code.content ≡ Some c
-      → may_run c.perm ≡ true → not (runs_in half.content) ≡ true → Leads_to c (unsealed half.content)
+  pub leads_to : (x1 x2 : Word) (code half : Opened) (c : CapFields)
+      → IsSafe g fs (Plain x1) → IsSafe g fs (Plain x2)
+      → opened_of x1 ≡ Some code → opened_of x2 ≡ Some half → code.seal ≡ half.seal
+      → memory_content code.content ≡ Some c → may_run c.perm ≡ true → not (runs_in half.content) ≡ true
+      → Leads_to code.seal c (unsealed half.content)
   leads_to (Int z) x2 code half c s1 s2 e1 e2 q m run nc = cc
   leads_to (Mem z) x2 code half c s1 s2 e1 e2 q m run nc = cc
   leads_to (Seal z) x2 code half c s1 s2 e1 e2 q m run nc = cc
   leads_to (Sealed n a) (Int z) code half c s1 s2 e1 e2 q m run nc = cc
   leads_to (Sealed n a) (Mem z) code half c s1 s2 e1 e2 q m run nc = cc
   leads_to (Sealed n a) (Seal z) code half c s1 s2 e1 e2 q m run nc = cc
-  leads_to (Sealed n a) (Sealed k b) code half c s1 s2 e1 e2 q m run nc = by_safe s1 s2
+  leads_to (Sealed n a) (Sealed k b) code half c s1 s2 e1 e2 q m run nc =
+      subst (λ y. Leads_to y c (unsealed half.content)) (seal_is n a code e1) (by_safe s1 s2)
     where
       nk : n ≡ k
       nk = seal_is n a code e1 ∙ q ∙ sym (seal_is k b half e2)
 
-      by_safe : IsSafe g fs (Plain (Sealed n a)) → IsSafe g fs (Plain (Sealed k b)) → Leads_to c (unsealed half.content)
-      by_safe (inl h) (inl j) = to_safe (code_safe n a code c e1 m h.1) (half_safe k b half e2 j.1)
+      by_safe : IsSafe g fs (Plain (Sealed n a)) → IsSafe g fs (Plain (Sealed k b))
+          → Leads_to n c (unsealed half.content)
+      by_safe (inl h) (inl j) = to_safe h.0 (code_safe n a code c e1 m h.1) (half_safe k b half e2 j.1)
       by_safe (inl h) (inr j) = absurd (closed_half k b j (subst (λ y. IsOpenSeal g y) nk h.0))
       by_safe (inr h) (inl j) = absurd (closed_half n a h (subst (λ y. IsOpenSeal g y) (sym nk) j.0))
       by_safe (inr h) (inr j) =
           by_halves h.0 j.0 n a b code half c h.1 j.1 h.2 h.3 (subst (λ y. IsHalf j.0 (Sealed y b)) (sym nk) j.3) e1 (subst (λ y. opened_of (Sealed y b) ≡ Some half) (sym nk) e2) m run nc
 
   -- where pc and the registers stand after it
-  pub crossed_pc : (rs : Regs OWord) (c : CapFields) (d : Word) → Leads_to c d → reg rs Pc ≡ Plain (Mem c) → reg rs Dat ≡ Plain d → ((r : Reg) → r ≢ Pc → r ≢ Dat → IsSafe g fs (reg rs r)) → PcPart g fs rs
+  pub crossed_pc : {n : ℕ} (rs : Regs OWord) (c : CapFields) (d : Word) → Leads_to n c d
+      → reg rs Pc ≡ Plain (Mem c) → reg rs Dat ≡ Plain d
+      → ((r : Reg) → r ≢ Pc → r ≢ Dat → IsSafe g fs (reg rs r)) → PcPart g fs rs
   unfolding kind_of
-  crossed_pc rs c d (to_safe s1 s2) ep ed others = outside each
+  crossed_pc rs c d (to_safe under s1 s2) ep ed others = outside each
     where
       each : (r : Reg) → IsSafe g fs (reg rs r)
       each r = elim (cases_reg r Pc) as (λ _. IsSafe g fs (reg rs r)) [
         | inl e ↦ subst (λ w. IsSafe g fs w) (sym (ap (reg rs) e ∙ ep)) s1
         | inr np ↦ elim (cases_reg r Dat) as (λ _. IsSafe g fs (reg rs r)) [ inl e ↦ subst (λ w. IsSafe g fs w) (sym (ap (reg rs) e ∙ ed)) s2 | inr nd ↦ others r np nd ]
       ]
-  crossed_pc rs c d (to_entry p o at ip en ec hd) ep ed others = at_row p o ip (record {
+  crossed_pc rs c d (to_entry p o ip en under ec hd) ep ed others = at_row p o ip (record {
     there = entry_row;
     inside = (let k = (linked.entries p o ip en).inside in omega (arith, k));
     at_pc = ap look ep ∙ ap Mem ec;
@@ -212,7 +231,7 @@ module _ (g : Link) (linked : Linked g) (fs : List OpenFrame) where
     where
       each : (r : Reg) → is_pc r ≡ false → HasKind look (IsSafe g fs) (IsStackCell g fs) (ranges_of p) (kind_of entry_row r) (reg rs r)
       each Pc q = cc
-      each Dat q = (at, ap look ed ∙ hd)
+      each Dat q = (pos p.component.data_base, ap look ed ∙ hd)
       each Rcode q = others Rcode (λ x. cc) (λ x. cc)
       each Rdata q = others Rdata (λ x. cc) (λ x. cc)
       each Stk q = others Stk (λ x. cc) (λ x. cc)

@@ -56,7 +56,7 @@ none_of (Some x) e = cc
 pub gone_stays : (m m' : Cells) → ((q : ℕ) → is_some (cell m' q) ≡ is_some (cell m q)) → (q : ℕ) → cell m q ≡ None → cell m' q ≡ None
 gone_stays m m' h q e = none_of (cell m' q) (h q ∙ ap is_some e)
 
-is_xjmp : (n : Instr) → ((r1 : Reg) × (r2 : Reg) × (n ≡ Xjmp r1 r2)) ⊎ ((r1 r2 : Reg) → n ≡ Xjmp r1 r2 → ⊥)
+pub is_xjmp : (n : Instr) → ((r1 : Reg) × (r2 : Reg) × (n ≡ Xjmp r1 r2)) ⊎ ((r1 r2 : Reg) → n ≡ Xjmp r1 r2 → ⊥)
 is_xjmp (Xjmp r1 r2) = inl (r1, r2, refl)
 is_xjmp _ = inr (λ r1 r2 e. cc)
 

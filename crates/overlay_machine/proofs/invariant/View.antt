@@ -51,11 +51,11 @@ pub data View (g : Link) (fs : List OpenFrame) (s : State OWord) : Case → Type
   out : {c : Case} → ((r : Reg) → IsSafe g fs (reg s.regs r)) → c ≡ case_fetched s (fetch (faces look s Pc) (cell_faces look s)) → View g fs s c
 
 -- the word of one instruction isn't that of another
-one_word : (i j : Instr) → IsInstr i → IsInstr j → Some (Int (pos (number_of i))) ≡ Some (Int (pos (number_of j))) → Some i ≡ Some j
+pub one_word : (i j : Instr) → IsInstr i → IsInstr j → Some (Int (pos (number_of i))) ≡ Some (Int (pos (number_of j))) → Some i ≡ Some j
 one_word i j oi oj e = let n : number_of i ≡ number_of j = cc in sym (decode_of-number_of i oi) ∙ ap (λ k. decode_of (pos k)) n ∙ decode_of-number_of j oj
 
 -- the first instruction of code that stands in words
-first_stands : (words : List Word) (at : ℕ) (i : Instr) (code : List Instr) → slice_get code 0 ≡ Some i → CodeStands words at code → slice_get words at ≡ Some (Int (pos (number_of i)))
+pub first_stands : (words : List Word) (at : ℕ) (i : Instr) (code : List Instr) → slice_get code 0 ≡ Some i → CodeStands words at code → slice_get words at ≡ Some (Int (pos (number_of i)))
 first_stands words at i code e h = let z : at + 0 ≡ at = omega arith in ap (slice_get words) (sym z) ∙ h 0 i e
 
 module _ (g : Link) (linked : Linked g) where
@@ -105,7 +105,7 @@ module _ (g : Link) (linked : Linked g) where
     abbrev Got : Fetched
     Got = fetch (faces look s Pc) (cell_faces look s)
 
-    pc_trusted : (p : PartSeen) (o : ℕ) → IsTrusted g p → o < length p.component.code → PcAt look (ranges_of p) o s.regs → trusted_at g.layout (faces look s Pc) ≡ Some (p.component.code_base + o)
+    pub pc_trusted : (p : PartSeen) (o : ℕ) → IsTrusted g p → o < length p.component.code → PcAt look (ranges_of p) o s.regs → trusted_at g.layout (faces look s Pc) ≡ Some (p.component.code_base + o)
     unfolding faces
     pc_trusted p o ip lt h =
         let low : p.component.code_base ≤ p.component.code_base + o = omega arith in
@@ -125,7 +125,7 @@ module _ (g : Link) (linked : Linked g) where
               (rw (le-leb p.component.code_base (p.component.code_base + o) low, le-leb (p.component.code_base + o) (ranges_of p).code_last high) refl) w.0 (decode_of-number_of Fail tt)),
         )
 
-    fail_no_site : (p : PartSeen) (o index : ℕ) (u : SiteCode) → IsTrusted g p → p.component.fail_at ≡ Some o → (st : SiteOf p index u) → st.offset ≡ o → ⊥
+    pub fail_no_site : (p : PartSeen) (o index : ℕ) (u : SiteCode) → IsTrusted g p → p.component.fail_at ≡ Some o → (st : SiteOf p index u) → st.offset ≡ o → ⊥
     unfolding call_code
     fail_no_site p o index u ip f st eo =
         let at : slice_index p.component.sites index ≡ o = get_or_from_slice_get p.component.sites index st.offset 0 st.offset_is ∙ eo in
@@ -133,7 +133,7 @@ module _ (g : Link) (linked : Linked g) where
         let b = first_stands p.component.code (slice_index p.component.sites index) (Store Stk Dat) (call_code st.stands.literal (slice_index p.component.sites index) index) refl st.stands.call in
         let bad = one_word Fail (Store Stk Dat) tt tt (sym a ∙ ap (slice_get p.component.code) (sym at) ∙ b) in cc
 
-    fail_no_entry : (p : PartSeen) (o : ℕ) → IsTrusted g p → p.component.fail_at ≡ Some o → begins_entry p.component o ≡ true → ⊥
+    pub fail_no_entry : (p : PartSeen) (o : ℕ) → IsTrusted g p → p.component.fail_at ≡ Some o → begins_entry p.component o ≡ true → ⊥
     unfolding entry_code
     fail_no_entry p o ip f e =
         let a = first_stands p.component.code o Fail (Fail ∷ []) refl (linked.fails p o ip f).1 in

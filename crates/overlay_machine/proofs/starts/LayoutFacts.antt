@@ -1,7 +1,7 @@
 -- The sites and the owners of a start, as an overlay finds them.
 use Rattle.std.proofs.Common.{◌≡◌, inl, inr, ℕ, zero, suc, ◌+◌, ◌-◌, ◌<◌, ◌≤◌, Bool, true, false, not, List, [], ◌∷◌, length, get_or, map, Option, Some, None, refl, sym, ap, subst, ◌∙◌, arith, eq-eqb, le-leb, lt-ltb}
 use borrow.Author.Tests.{eqb-true}
-use Rattle.std.specs.Prelude.{slice_get, position, ◌==◌, ◌&&◌, nat_lt, ◌^◌, option_and_then, ℤ, if◌then◌else◌}
+use Rattle.std.specs.Prelude.{slice_get, find, position, ◌==◌, ◌&&◌, nat_lt, ◌^◌, option_and_then, ℤ, if◌then◌else◌}
 use Rattle.std.specs.List.{Contains, list_any}
 use Rattle.std.proofs.lemmas.Bool.{cases_order}
 use Rattle.std.proofs.lemmas.Option.{slice_get_within, get_or_from_slice_get}
@@ -27,6 +27,7 @@ use Rattle.overlay_machine.specs.declared.layout.Layout.{Layout}
 use Rattle.overlay_machine.specs.declared.layout.SiteCode.{SiteCode}
 use Rattle.overlay_machine.specs.Layout.{runs_in, trusted_owner, numbered, site_at, is_entry, with_code, code_in as code_among, site_code}
 use Rattle.overlay_machine.specs.Linked.{any_pc}
+use Rattle.overlay_machine.specs.Names.{declared_site}
 use Rattle.overlay_machine.proofs.starts.ListFacts.{first_is, later_is, listed_at, index_of, one_at, found_is, only_found, any_is, any_of, position_is, is_placed, place_below}
 
 -- ---- parts by their code
@@ -59,7 +60,7 @@ first_in_code parts size k p linked at = let some = (linked.closed.kept k p at).
 
 -- ---- tests
 
-and_both : (a b : Bool) → (a && b) ≡ true → (a ≡ true) × (b ≡ true)
+pub and_both : (a b : Bool) → (a && b) ≡ true → (a ≡ true) × (b ≡ true)
 and_both true b e = (refl, e)
 and_both false b e = absurd cc
 
@@ -125,9 +126,23 @@ pub record NumberedSite (parts : List PartSeen) (l : Layout) (j : ℕ) (c : Site
   pub code_is : c ≡ site_code_of site is.of
 
 module _ (parts : List PartSeen) (size : ℕ) (l : Layout) (linked : Linked parts size) (owners : AreOwners parts l.owners) where
-  owner_listed : (k : ℕ) (p : PartSeen) → slice_get parts k ≡ Some p → Contains l.owners (owner_of k p)
+  pub owner_listed : (k : ℕ) (p : PartSeen) → slice_get parts k ≡ Some p → Contains l.owners (owner_of k p)
   unfolding owner_of
   owner_listed k p at = (owners.all (owner_of k p)).1 (record { of = p; of_is = at; is = refl })
+
+  -- an owner is found by its part's number
+  pub owner_numbered : (k : ℕ) (p : PartSeen) → slice_get parts k ≡ Some p
+      → find (λ o. o.part == k) l.owners ≡ Some (owner_of k p)
+  unfolding owner_of
+  owner_numbered k p at =
+      only_found (λ o. o.part == k) l.owners (owner_of k p) (owner_listed k p at) (eq-eqb k k refl) only
+    where
+      only : (o : Owner) → Contains l.owners o → (o.part == k) ≡ true → o ≡ owner_of k p
+      only o m t =
+          let is = (owners.all o).0 m in
+          let same : o.part ≡ k = eqb-true o.part k t in
+          let part : is.of ≡ p = one_at parts o.part k is.of p is.of_is at same in
+          is.is ∙ ap (λ n. owner_of n is.of) same ∙ ap (owner_of k) part
 
   -- who may run as trusted code is one of the parts, and pc is over its whole code
   pub trusted_is : (c : CapFields) (o : Owner) → trusted_owner l (Memory c) ≡ Some o
@@ -208,20 +223,12 @@ module _ (parts : List PartSeen) (size : ℕ) (l : Layout) (linked : Linked part
     code_found : (s : Site) (p : PartSeen) → slice_get parts s.part ≡ Some p → code_among l.owners s ≡ Some (site_code_of s p)
     unfolding owner_of
     code_found s p at =
-        let found = only_found (λ o. o.part == s.part) l.owners (owner_of s.part p) (owner_listed s.part p at) (eq-eqb s.part s.part refl) only in
         let kept = linked.closed.kept s.part p at in
         let some = kept.limits.code.0.0 in
         let end = kept.code_end in
         let low = le-leb p.component.code_base (p.component.code_base + length p.component.code - 1) (omega (arith, some)) in
         let high = le-leb (p.component.code_base + length p.component.code - 1) 1048575 (omega (arith, some, end)) in
-        ap (option_and_then (with_code s)) found ∙ rw (low, high) refl
-      where
-        only : (o : Owner) → Contains l.owners o → (o.part == s.part) ≡ true → o ≡ owner_of s.part p
-        only o m t =
-            let is = (owners.all o).0 m in
-            let same : o.part ≡ s.part = eqb-true o.part s.part t in
-            let part : is.of ≡ p = one_at parts o.part s.part is.of p is.of_is at same in
-            is.is ∙ ap (λ n. owner_of n is.of) same ∙ ap (owner_of s.part) part
+        ap (option_and_then (with_code s)) (owner_numbered s.part p at) ∙ rw (low, high) refl
 
     -- a listed site has a number, and is one of a part
     pub site_has_code : (j : ℕ) (s : Site) (is : IsSite parts s) → slice_get l.sites j ≡ Some s → site_code l j ≡ Some (site_code_of s is.of)
@@ -268,16 +275,24 @@ module _ (parts : List PartSeen) (size : ℕ) (l : Layout) (linked : Linked part
             let b : (get_or l.sites j s).at ≡ t.at = ap (λ (x : Site). x.at) (get_or_from_slice_get l.sites j t s at_j) in
             omega (arith, step, a, b, e)
 
-    -- a site of a trusted part, as the start lists it
-    abbrev pub listed_site : ℕ → PartSeen → ℕ → ℕ → Site
-    listed_site k p i o = record { part = k; index = i; seal = p.component.seals.base + i; at = p.component.code_base + o }
+    -- places of sites have 32 bits
+    pub place_fits : (j : ℕ) (s : Site) → slice_get l.sites j ≡ Some s → numbered j ≡ Some j
+    place_fits j s at =
+        let is = (sites.all s).0 (listed_at l.sites j s at) in
+        let below = place_below (λ (x : Site). x.at) l.sites sites.ascend j s at in
+        let kept = linked.closed.kept s.part is.of is.of_is in
+        let within = kept.sites_in is.trusted s.index is.offset is.offset_is in
+        let end = kept.code_end in
+        let stands = is.at in
+        let small = lt-ltb j (2 ^ 32) (omega (arith, below, within, end, stands)) in
+        rw small refl
 
     -- each site of a trusted part is found at its address
     pub site_at_code : (k i o : ℕ) (p : PartSeen) → slice_get parts k ≡ Some p → p.trusted ≡ true → slice_get p.component.sites i ≡ Some o
-        → (j : ℕ) × (site_at l (p.component.code_base + o) ≡ Some j) × (slice_get l.sites j ≡ Some (listed_site k p i o))
+        → (j : ℕ) × (site_at l (p.component.code_base + o) ≡ Some j) × (slice_get l.sites j ≡ Some (declared_site k p i o))
     site_at_code k i o p at trusted is =
         let a = p.component.code_base + o in
-        let s = listed_site k p i o in
+        let s = declared_site k p i o in
         let there : Contains l.sites s = (sites.all s).1 (record { of = p; of_is = at; trusted = trusted; offset = o; offset_is = is; seal = refl; at = refl }) in
         let test = λ (x : Site). x.at == a in
         let place = is_placed test l.sites s there (eq-eqb a a refl) in
@@ -285,12 +300,7 @@ module _ (parts : List PartSeen) (size : ℕ) (l : Layout) (linked : Linked part
         let own = index_of l.sites s there in
         let same = one_place own.0 place.0 s found.0 own.1 found.1 (sym (eqb-true (found.0).at a found.2)) in
         let here : slice_get l.sites place.0 ≡ Some s = ap (slice_get l.sites) (sym same) ∙ own.1 in
-        let below = place_below (λ (x : Site). x.at) l.sites sites.ascend place.0 s here in
-        let kept = linked.closed.kept k p at in
-        let within = kept.sites_in trusted i o is in
-        let end = kept.code_end in
-        let small = lt-ltb place.0 (2 ^ 32) (omega (arith, below, within, end)) in
-        (place.0, ap (option_and_then numbered) place.1 ∙ rw small refl, here)
+        (place.0, ap (option_and_then numbered) place.1 ∙ place_fits place.0 s here, here)
 
     -- where no site is found, none begins
     pub no_site_at : (k o : ℕ) (p : PartSeen) → slice_get parts k ≡ Some p → p.trusted ≡ true → site_at l (p.component.code_base + o) ≡ None → begins_site p.component o ≡ false

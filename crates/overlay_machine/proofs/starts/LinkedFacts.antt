@@ -33,7 +33,7 @@ use Rattle.overlay_machine.proofs.starts.LayoutFacts.{NumberedSite, site_code_of
 -- ---- seals
 
 -- a closure seal is a seal of its part
-own_closure : (p : PartSeen) → IsTrue (is_seal_of p p.component.closure)
+pub own_closure : (p : PartSeen) → IsTrue (is_seal_of p p.component.closure)
 own_closure p = let t = eq-eqb p.component.closure p.component.closure refl in rw t refl
 
 no_bool : (b : Bool) → b ≡ false → b ≡ true → ⊥
@@ -84,33 +84,48 @@ module _ (site_words : SitesStand) (entry_words : EntriesStand) (parts : List Pa
 
   -- ---- regions
 
+  -- a part's regions are among all
+  in_regions : (p : PartSeen) (r : Region) → Contains parts p → Contains (part_regions p) r
+      → Contains (regions_of parts size) r
+  in_regions p r m n = let k = index_of parts p m in part_region_of parts size k.0 p r k.1 n
+
   usable_there : (r : Region) (runs : Bool) → IsUsable g r runs → Contains (regions_of parts size) r
-  usable_there r runs (own_code p q u m) = let k = index_of parts p u.0 in part_region_of parts size k.0 p r k.1 (in_code p r m)
-  usable_there r runs (own_data p q u m) = let k = index_of parts p u.0 in part_region_of parts size k.0 p r k.1 (in_data p r m)
-  usable_there r runs (own_linear p q u m) = let k = index_of parts p u.0 in part_region_of parts size k.0 p r k.1 (in_area p r m)
+  usable_there r runs (own_code p q u m) = in_regions p r u.0 (in_code p r m)
+  usable_there r runs (own_data p q u m) = in_regions p r u.0 (in_data p r m)
+  usable_there r runs (own_linear p q u m) = in_regions p r u.0 (in_area p r m)
   usable_there r runs the_stack = stack_region_of parts size (stack_region l) stack_listed
 
-  -- an untrusted part's region isn't the code of a trusted one
-  no_trusted : (p q : PartSeen) (r : Region) → IsTrusted g p → IsUntrusted g q → Contains (part_regions q) r → r ≢ code_region p
-  no_trusted p q r t u m e =
-      let k = index_of parts p t.0 in
-      let n = index_of parts q u.0 in
-      let same = one_owner parts size made n.0 k.0 q p r (code_region p) n.1 k.1 m (code_there parts size made k.0 p k.1) (ap (λ (x : Region). x.base) e) in
-      let part : q ≡ p = one_at parts n.0 k.0 q p n.1 k.1 same in
+  -- parts with a common region are one
+  one_region : (p q : PartSeen) (r s : Region) → Contains parts p → Contains parts q
+      → Contains (part_regions p) r → Contains (part_regions q) s → r ≡ s → p ≡ q
+  one_region p q r s in_p in_q m n e =
+      let k = index_of parts p in_p in
+      let j = index_of parts q in_q in
+      let base = ap (λ (x : Region). x.base) e in
+      one_at parts k.0 j.0 p q k.1 j.1 (one_owner parts size made k.0 j.0 p q r s k.1 j.1 m n base)
+
+  -- no region of an untrusted part is one of a trusted part, nor is any that untrusted code may use
+  no_trusted : (q p : PartSeen) (r s : Region) → IsUntrusted g q → IsTrusted g p
+      → Contains (part_regions q) r → Contains (part_regions p) s → r ≢ s
+  no_trusted q p r s u t n m e =
+      let part = one_region q p r s u.0 t.0 n m e in
       no_bool q.trusted u.1 (ap (λ (x : PartSeen). x.trusted) part ∙ t.1)
 
-  closed : (r : Region) (runs : Bool) (p : PartSeen) → IsUsable g r runs → IsTrusted g p → r ≢ code_region p
-  closed r runs p (own_code q x u m) t = no_trusted p q r t u (in_code q r m)
-  closed r runs p (own_data q x u m) t = no_trusted p q r t u (in_data q r m)
-  closed r runs p (own_linear q x u m) t = no_trusted p q r t u (in_area q r m)
-  closed r runs p the_stack t = λ e.
-      (let k = index_of parts p t.0 in no_owner parts size made k.0 p (code_region p) (stack_region l) k.1 (code_there parts size made k.0 p k.1) stack_listed (sym (ap (λ (x : Region). x.base) e)))
+  closed : (s : Region) (p : PartSeen) → IsTrusted g p → Contains (part_regions p) s
+      → (r : Region) (runs : Bool) → IsUsable g r runs → r ≢ s
+  closed s p t m r runs (own_code q x u n) = no_trusted q p r s u t (in_code q r n) m
+  closed s p t m r runs (own_data q x u n) = no_trusted q p r s u t (in_data q r n) m
+  closed s p t m r runs (own_linear q x u n) = no_trusted q p r s u t (in_area q r n) m
+  closed s p t m r runs the_stack = λ e.
+      (let k = index_of parts p t.0 in
+      let base = sym (ap (λ (x : Region). x.base) e) in
+      no_owner parts size made k.0 p s (stack_region l) k.1 m stack_listed base)
 
-  one_code_is : (p q : PartSeen) → IsTrusted g p → IsTrusted g q → code_region p ≡ code_region q → p ≡ q
-  one_code_is p q t u e =
-      let k = index_of parts p t.0 in
-      let n = index_of parts q u.0 in
-      one_at parts k.0 n.0 p q k.1 n.1 (one_owner parts size made k.0 n.0 p q (code_region p) (code_region q) k.1 n.1 (code_there parts size made k.0 p k.1) (code_there parts size made n.0 q n.1) (ap (λ (x : Region). x.base) e))
+  code_of : (p : PartSeen) → Contains parts p → Contains (part_regions p) (code_region p)
+  code_of p m = let k = index_of parts p m in code_there parts size made k.0 p k.1
+
+  data_of : (p : PartSeen) → Contains parts p → Contains (part_regions p) (data_region p)
+  data_of p m = let k = index_of parts p m in data_is_there parts size made k.0 p k.1
 
   -- ---- seals
 
@@ -208,11 +223,13 @@ module _ (site_words : SitesStand) (entry_words : EntriesStand) (parts : List Pa
     stack = stack_is;
     stack_bases = λ p t. (let k = index_of parts p t.0 in link.stack_base k.0 p k.1 ∙ ap (λ (x : Span). x.base) (sym stack));
     usable = usable_there;
-    code_closed = closed;
-    code = λ p t. (let k = index_of parts p t.0 in part_region_of parts size k.0 p (code_region p) k.1 (code_there parts size made k.0 p k.1));
-    data_there = λ p t. (let k = index_of parts p t.0 in part_region_of parts size k.0 p (data_region p) k.1 (data_is_there parts size made k.0 p k.1));
+    code_closed = λ r runs p u t. closed (code_region p) p t (code_of p t.0) r runs u;
+    data_closed = λ r runs p u t. closed (data_region p) p t (data_of p t.0) r runs u;
+    code = λ p t. in_regions p (code_region p) t.0 (code_of p t.0);
+    data_there = λ p t. in_regions p (data_region p) t.0 (data_of p t.0);
     data_not_code = λ p q t u. (let k = index_of parts p t.0 in let n = index_of parts q u.0 in data_no_code parts size made k.0 n.0 p q (part_of p t.0) k.1 n.1);
-    one_code = one_code_is;
+    one_code = λ p q t u e. one_region p q _ _ t.0 u.0 (code_of p t.0) (code_of q u.0) e;
+    one_data = λ p q t u e. one_region p q _ _ t.0 u.0 (data_of p t.0) (data_of q u.0) e;
     one_closure = λ p q t u e. one_of_seal p q p.component.closure t.0 u.0 (own_closure p) (subst (λ n. IsTrue (is_seal_of q n)) (sym e) (own_closure q));
     closure_closed = closed_closure;
     return_closed = closed_return;

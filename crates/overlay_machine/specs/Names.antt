@@ -1,0 +1,106 @@
+-- Names and numbers of a layout, and what they are of the trusted parts of a linked start.
+use Rattle.std.specs.Prelude.{◌≡◌, ℕ, ◌+◌, ◌-◌, ◌==◌, ℤ, true, List, [], Option, Some, None, find, length, slice_get}
+use Rattle.std.specs.List.{Contains}
+use Rattle.cap_words.specs.declared.Face.TheVariants.{Memory}
+use Rattle.component_file.specs.declared.component.Export.{Export}
+use Rattle.flow_check.specs.Holds.{code_at}
+use Rattle.flow_check.specs.Places.{begins_entry}
+use Rattle.component_linker.specs.declared.owners.Site.{Site}
+use Rattle.component_linker.specs.declared.owners.Entry.{Entry}
+use Rattle.component_linker.specs.declared.owners.Owner.{Owner}
+use Rattle.component_linker.specs.Parts.{PartSeen}
+use Rattle.component_linker.specs.Owners.{owner_of}
+use Rattle.component_linker.specs.Started.{StartSeen}
+use Rattle.overlay_machine.specs.declared.layout.Layout.{Layout}
+use Rattle.overlay_machine.specs.declared.layout.SiteCode.{SiteCode}
+use Rattle.overlay_machine.specs.Layout.{trusted_owner, site_at, site_code}
+use Rattle.overlay_machine.specs.Events.{closure_owner, entry_number, site_of_seal}
+use Rattle.overlay_machine.specs.Link.{ranges_of}
+use Rattle.overlay_machine.specs.Linked.{any_pc, SiteOf}
+use Rattle.overlay_machine.specs.Starting.{IsLinkedStart, overlay_at}
+
+-- ---- of a layout
+
+-- empty where a number is of none, which no event of a start has
+abbrev pub name_of : Option Owner → List ℕ
+name_of None = []
+name_of (Some o) = o.name
+
+abbrev pub numbered_owner : Layout → ℕ → Option Owner
+numbered_owner l part = find (λ o. o.part == part) l.owners
+
+unfoldable pub part_name : Layout → ℕ → List ℕ
+part_name l part = name_of (numbered_owner l part)
+
+abbrev pub entry_text : Option Entry → List ℕ
+entry_text None = []
+entry_text (Some e) = e.name
+
+abbrev pub entry_of : ℕ → Option Owner → Option Entry
+entry_of k None = None
+entry_of k (Some o) = slice_get o.entries k
+
+unfoldable pub entry_name : Layout → ℕ → ℕ → List ℕ
+entry_name l part k = entry_text (entry_of k (numbered_owner l part))
+
+-- the site of a number, and that of part 0 at index 0 where it is of none
+abbrev pub no_site : Site
+no_site = record { part = 0; index = 0; seal = 0; at = 0 }
+
+abbrev pub site_or : Option Site → Site
+site_or None = no_site
+site_or (Some s) = s
+
+unfoldable pub site_of : Layout → ℕ → Site
+site_of l i = site_or (slice_get l.sites i)
+
+-- ---- of the trusted parts of a linked start
+
+-- a part of a number has one owner: that of its closure seal, and the one who runs wherever pc is over its
+-- code; and the name of its number is its component's
+pub record PartNamed (l : Layout) (n : ℕ) (p : PartSeen) : Type 0 where
+  pub by_closure : closure_owner l p.component.closure ≡ Some (owner_of n p)
+  pub by_code : (z : ℤ) → trusted_owner l (Memory (any_pc p z)) ≡ Some (owner_of n p)
+  pub name : part_name l n ≡ p.component.name
+
+-- where pc stands at an entry of it, the entry has a number, whose name is that of the first export there
+pub record EntryNamed (l : Layout) (n : ℕ) (p : PartSeen) (o : ℕ) : Type 0 where
+  pub number : ℕ
+  pub number_is : entry_number (owner_of n p) (Memory (code_at (ranges_of p) o)) ≡ Some number
+  pub export : Export
+  pub first : find (λ e. e.offset == o) p.component.exports ≡ Some export
+  pub name : entry_name l n number ≡ export.name
+
+-- a site of it, of an index and at an offset
+abbrev pub declared_site : ℕ → PartSeen → ℕ → ℕ → Site
+declared_site n p index o =
+    record { part = n; index = index; seal = p.component.seals.base + index; at = p.component.code_base + o }
+
+-- it has a number: by its address, and by its seal
+pub record SiteNumbered (l : Layout) (n : ℕ) (p : PartSeen) (index o : ℕ) : Type 0 where
+  pub number : ℕ
+  pub at : site_at l (p.component.code_base + o) ≡ Some number
+  pub sealed : site_of_seal l (p.component.seals.base + index) ≡ Some number
+  pub is : site_of l number ≡ declared_site n p index o
+
+-- and whatever trusted part and index a numbered site has, its number tells these, and its seal leads back
+pub record SiteTold (parts : List PartSeen) (l : Layout) (number : ℕ)
+    (s : SiteCode) (p : PartSeen) (index : ℕ) : Type 0 where
+  pub part_is : slice_get parts (site_of l number).part ≡ Some p
+  pub index_is : (site_of l number).index ≡ index
+  pub sealed : site_of_seal l s.seal ≡ Some number
+
+pub record NamesTold (parts : List PartSeen) (l : Layout) : Type 0 where
+  pub named : (n : ℕ) (p : PartSeen) → slice_get parts n ≡ Some p → p.trusted ≡ true → PartNamed l n p
+  pub entries : (n o : ℕ) (p : PartSeen) → slice_get parts n ≡ Some p → p.trusted ≡ true
+      → begins_entry p.component o ≡ true → EntryNamed l n p o
+  pub sites : (n index o : ℕ) (p : PartSeen) → slice_get parts n ≡ Some p → p.trusted ≡ true
+      → slice_get p.component.sites index ≡ Some o → SiteNumbered l n p index o
+  pub numbers : (number index : ℕ) (s : SiteCode) (p : PartSeen) → site_code l number ≡ Some s
+      → Contains parts p → p.trusted ≡ true → SiteOf p index s → SiteTold parts l number s p index
+
+-- of every linked start
+abbrev pub StartsTellNames : Type 0
+StartsTellNames =
+    (parts : List PartSeen) (size : ℕ) (s : StartSeen) → IsLinkedStart parts size s
+    → NamesTold parts (overlay_at s).layout
