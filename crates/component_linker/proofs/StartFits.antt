@@ -1,32 +1,28 @@
 -- The words of a start fit: those that parts have, the halves of exports, and those of registers.
-use Rattle.std.proofs.Common.{◌≡◌, ◌⊎◌, inl, inr, ℕ, ◌+◌, ◌-◌, ◌≤◌, pos, List, Some, None, length, sym, ap, ◌∙◌, subst, arith}
+use Rattle.std.proofs.Common.{◌≡◌, ◌⊎◌, inl, inr, ℕ, ◌+◌, ◌-◌, ◌≤◌, List, Some, None, length, sym, ap, ◌∙◌}
+use Rattle.std.proofs.Common.{subst, arith}
 use Rattle.std.specs.Prelude.{slice_get}
-use Rattle.std.specs.Int.{w64}
-use Rattle.std.specs.Int.RustNames.{FitsSigned}
 use Rattle.std.proofs.lemmas.Option.{slice_get-get_or}
 use Rattle.cap_words.specs.declared.Word.{Word}
-use Rattle.cap_words.specs.declared.Word.TheVariants.{Int}
 use Rattle.cap_words.specs.declared.Sealable.TheVariants.{Mem as MemIn}
 use Rattle.cap_words.specs.WordBytes.{ContentFits, WordFits}
 use Rattle.lcm_isa.specs.declared.Reg.{Reg}
-use Rattle.lcm_isa.specs.declared.Reg.TheVariants.{Pc, Rcode, Rdata, Stk, Dat, T1, T2, C1, C2, A0, A1, A2, A3, G0, G1, G2}
+use Rattle.lcm_isa.specs.declared.Reg.TheVariants.{Pc, Rcode, Rdata, Stk, Dat, T1, T2, C1, C2, A0, A1, A2, A3}
+use Rattle.lcm_isa.specs.declared.Reg.TheVariants.{G0, G1, G2}
 use Rattle.lcm_machine.specs.Maps.{Regs}
 use Rattle.lcm_machine.specs.Places.{reg}
+use Rattle.lcm_machine.proofs.WordsFit.{small_fits, zero_fits}
 use Rattle.component_linker.specs.Parts.{PartSeen}
-use Rattle.component_linker.specs.Start.{Exported, code_of, data_of, code_half, data_half, stack_of, stack_base_of, start_regs}
+use Rattle.component_linker.specs.Start.{Exported, code_of, data_of, code_half, data_half, stack_of}
+use Rattle.component_linker.specs.Start.{stack_base_of, start_regs}
 use Rattle.component_linker.specs.Linked.{Kept, Linked}
 use Rattle.component_linker.specs.StartFits.{StartsFit}
 use Rattle.component_linker.proofs.ListedOwners.{export_fits}
 use Rattle.component_linker.proofs.RegionFacts.{size_bounds}
 use Rattle.component_linker.proofs.StartHeld.{word_fits, get_left, get_right}
-use Rattle.component_linker.proofs.StartWords.{IsExport, main_is_there, CellIs, of_code, of_data, of_slot, of_none, cell_is}
+use Rattle.component_linker.proofs.StartWords.{IsExport, main_is_there, CellIs, of_code, of_data, of_slot}
+use Rattle.component_linker.proofs.StartWords.{of_none, cell_is}
 use Rattle.component_linker.proofs.LinksKept.{are_linked}
-
-small_fits : (n : ℕ) → n ≤ 4294967295 → FitsSigned w64 (pos n)
-small_fits n h = record { sfits = omega (arith, h) }
-
-zero_fits : WordFits (Int (pos 0))
-zero_fits = small_fits 0 (omega arith)
 
 module _ (parts : List PartSeen) (size : ℕ) (linked : Linked parts size) where
   kept : (k : ℕ) (p : PartSeen) → slice_get parts k ≡ Some p → Kept p

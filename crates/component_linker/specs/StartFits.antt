@@ -1,21 +1,11 @@
 -- The words of a start are words of the machine, each with a spelling.
 use Rattle.std.specs.Prelude.{◌≡◌, ℕ, List, slice_get, Some}
-use Rattle.cap_words.specs.declared.Word.{Word}
-use Rattle.cap_words.specs.WordBytes.{WordFits}
-use Rattle.lcm_isa.specs.declared.Reg.{Reg}
-use Rattle.lcm_machine.specs.Maps.{State}
-use Rattle.lcm_machine.specs.Places.{reg}
-use Rattle.lcm_machine.specs.Cells.{cell}
+use Rattle.lcm_machine.specs.Fitting.{MapsFit}
 use Rattle.lcm_machine.specs.Run.{Run}
 use Rattle.component_linker.specs.Parts.{PartSeen, IsPart}
 use Rattle.component_linker.specs.Pairs.{NoneIsBroken}
 use Rattle.component_linker.specs.Links.{rules_l}
 use Rattle.component_linker.specs.Start.{IsStart}
-
--- those of all registers and all cells
-abbrev pub MapsFit : State Word → Type 0
-MapsFit s =
-    ((r : Reg) → WordFits (reg s.regs r)) × ((a : ℕ) (w : Word) → cell s.cells a ≡ Some w → WordFits w)
 
 -- of every start of parts that were accepted and keep the rules L with some size of stack
 abbrev pub StartsFit : Type 0

@@ -1,5 +1,3 @@
 -- Words, names and numbers of lines are those that there are.
-pub mod WordsFit
-pub mod StartFits
 pub mod NamesFit
 pub mod LinesFitting

@@ -13,7 +13,6 @@ pub mod Told
 pub mod Alike
 pub mod Brackets
 pub mod Headline
-pub mod Fitting
 pub mod Fits
 pub mod StepLines
 pub mod Feed

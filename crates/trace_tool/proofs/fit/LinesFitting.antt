@@ -56,11 +56,11 @@ use Rattle.trace_tool.specs.Pairs.{is_nothing, if_normal, pair_to, pair_if, pair
 use Rattle.trace_tool.specs.Lines.{Line, pass, args_of, list_of, words_from, return_of, passed_of, line_of}
 use Rattle.trace_tool.specs.Lines.{lines_behind, lines_for, pass_lines}
 use Rattle.trace_tool.specs.Runs.{Watched, begun, if_went, watched, event_next, line_next, lines_of}
-use Rattle.trace_tool.specs.Fitting.{MapsFit}
+use Rattle.lcm_machine.specs.Fitting.{MapsFit}
 use Rattle.trace_tool.specs.Fits.{IsName, IsSmall, AllFit, ArgsFit, ReturnFits, PassedFits, PlaceFits}
 use Rattle.trace_tool.specs.Fits.{LineFits, LinesFit, StartLinesFit, is_told}
-use Rattle.trace_tool.proofs.fit.WordsFit.{OpenedFits, opened_fits, next_state_fits}
-use Rattle.trace_tool.proofs.fit.StartFits.{starts_fit}
+use Rattle.lcm_machine.proofs.WordsFit.{OpenedFits, opened_fits, next_state_fits}
+use Rattle.component_linker.proofs.StartFits.{starts_fit}
 use Rattle.trace_tool.proofs.fit.NamesFit.{number_at, part_named, entry_named, site_fits}
 
 -- ---- views, and lists of words and of lines
