@@ -15,7 +15,8 @@ use Rattle.component_file.specs.declared.component.Kind.TheVariants as kind
 use Rattle.component_file.specs.declared.component.Import.{Import}
 use Rattle.component_file.specs.declared.component.Export.{Export}
 use Rattle.component_file.specs.declared.component.KindRow.{KindRow}
-use Rattle.component_file.specs.Limits.{is_name, KindFits}
+use Rattle.cap_words.specs.Names.{is_name}
+use Rattle.component_file.specs.Limits.{KindFits}
 use Rattle.asm_labels.specs.declared.labels.Section.{Section as SectionOf}
 use Rattle.asm_labels.specs.declared.labels.Section.TheVariants.{Code, Data}
 use Rattle.asm_fields.specs.declared.fault.AsmFault.TheVariants.{Unknown, Section}

@@ -5,7 +5,7 @@ use Rattle.std.specs.Fmt.{decimal}
 use Rattle.text_scan.specs.declared.token.TokenKind.TheVariants.{Number, Sign}
 use Rattle.text_scan.specs.declared.token.Token.{Token}
 use Rattle.text_scan.proofs.Printed.{Form, form_in, name_form, integer_forms}
-use Rattle.component_file.specs.Limits.{is_name}
+use Rattle.cap_words.specs.Names.{is_name}
 use Rattle.asm_fields.specs.declared.fault.AsmFault.{AsmFault}
 use Rattle.asm_fields.specs.declared.fault.AsmFault.TheVariants.{Operand, Range}
 use Rattle.asm_fields.specs.Fields.{is_sign, Lexeme, Input, Reader, goes_on, ◌>>=◌, done, place, unless_none, holds, name_or, name_at, proper_name_from, proper_name_at, number_from, sign_at, meant, signed, integer_at, natural_at, end_at, seen}

@@ -29,7 +29,7 @@ use Rattle.lcm_isa.specs.declared.Instr.TheVariants.{Fail, Halt, Jmp, Jnz, Getty
 use Rattle.lcm_isa.specs.Numbers.{IsInstr, IsOperand, all_with}
 use Rattle.lcm_isa.specs.Texts.{reg_name, mnemonic_of, operand_text, operands_of, instr_text}
 use Rattle.lcm_isa.proofs.TextLemmas.{few}
-use Rattle.component_file.specs.Limits.{is_name, is_name_byte as is_file_name_byte, is_digit as is_file_digit}
+use Rattle.cap_words.specs.Names.{is_name, is_name_byte as is_file_name_byte, is_digit as is_file_digit}
 use Rattle.component_file.specs.declared.component.Kind.{Kind}
 use Rattle.component_file.specs.declared.component.Kind.TheVariants as kind
 use Rattle.asm_fields.specs.declared.fault.AsmFault.TheVariants as fault

@@ -5,7 +5,7 @@ use Rattle.std.specs.Prelude.{ℤ, pos, neg_ℤ, nat_abs, Option, Some, None, Re
 use Rattle.text_scan.specs.declared.token.TokenKind.{TokenKind}
 use Rattle.text_scan.specs.declared.token.TokenKind.TheVariants.{Name, Number, Sign}
 use Rattle.text_scan.specs.declared.token.Token.{Token}
-use Rattle.component_file.specs.Limits.{is_name}
+use Rattle.cap_words.specs.Names.{is_name}
 use Rattle.asm_fields.specs.declared.fault.AsmFault.{AsmFault}
 use Rattle.asm_fields.specs.declared.fault.AsmFault.TheVariants.{Operand, Range}
 

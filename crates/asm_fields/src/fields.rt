@@ -8,7 +8,7 @@ ghost use Rattle.asm_fields.specs.Fields.{proper_name_from, proper_name_at, numb
 ghost use Rattle.asm_fields.specs.Fields.{natural_at, end_at, Gives, GivesAs};
 
 use crate::fault::AsmFault;
-use component_file::is_name;
+use cap_words::is_name;
 use std::marker::Model;
 use text_scan::{Token, TokenKind};
 

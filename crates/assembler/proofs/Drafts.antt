@@ -7,7 +7,7 @@ use Rattle.cap_words.specs.declared.Word.TheVariants.{Int}
 use Rattle.lcm_isa.specs.declared.Instr.{Instr}
 use Rattle.lcm_isa.specs.Numbers.{number_of}
 use Rattle.component_file.specs.declared.TheConstants.{MOST_WORDS}
-use Rattle.component_file.specs.Limits.{is_name}
+use Rattle.cap_words.specs.Names.{is_name}
 use Rattle.asm_labels.specs.declared.labels.Section.{Section as SectionOf}
 use Rattle.asm_labels.specs.declared.labels.Section.TheVariants as section
 use Rattle.asm_labels.specs.declared.labels.Label.{Label}

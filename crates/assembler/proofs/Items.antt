@@ -10,7 +10,8 @@ use Rattle.component_file.specs.declared.component.Kind.TheVariants as kind
 use Rattle.component_file.specs.declared.component.Import.{Import}
 use Rattle.component_file.specs.declared.component.Export.{Export}
 use Rattle.component_file.specs.declared.component.KindRow.{KindRow}
-use Rattle.component_file.specs.Limits.{is_name, Each, ImportFits, ExportFits, SiteFits, RowFits, KindFits, StretchFits}
+use Rattle.cap_words.specs.Names.{is_name}
+use Rattle.component_file.specs.Limits.{Each, ImportFits, ExportFits, SiteFits, RowFits, KindFits, StretchFits}
 use Rattle.asm_labels.specs.declared.labels.Section.{Section}
 use Rattle.asm_labels.specs.declared.labels.Section.TheVariants.{Code, Data}
 use Rattle.asm_labels.specs.declared.labels.Label.{Label as LabelOf}

@@ -8,7 +8,8 @@ use Rattle.lcm_isa.specs.declared.Instr.{Instr}
 use Rattle.lcm_isa.specs.Numbers.{number_of, IsInstr}
 use Rattle.lcm_isa.proofs.NumberLemmas.{decode_of-number_of}
 use Rattle.component_file.specs.declared.TheConstants.{LAST_OFFSET, MOST_WORDS, MOST_IMPORTS, MOST_EXPORTS, MOST_SITES, MOST_ROWS}
-use Rattle.component_file.specs.Limits.{is_name, Chain, Each, ImportFits, ExportFits, SiteFits, RowFits, StretchFits}
+use Rattle.cap_words.specs.Names.{is_name}
+use Rattle.component_file.specs.Limits.{Chain, Each, ImportFits, ExportFits, SiteFits, RowFits, StretchFits}
 use Rattle.asm_labels.specs.declared.labels.Label.{Label}
 use Rattle.asm_labels.specs.Labels.{AreWithin}
 use Rattle.asm_labels.specs.Patch.{instr_in, some_immediate, has_immediate, has_immediate_at}

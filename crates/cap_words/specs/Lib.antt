@@ -8,3 +8,6 @@ pub mod Reading
 pub mod Gives
 pub mod WordBytes
 pub mod WordReading
+pub mod Names
+pub mod FaultText
+pub mod formers

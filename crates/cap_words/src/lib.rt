@@ -23,11 +23,13 @@ ghost use Rattle.cap_words.specs.Text.{perm_name, lin_name};
 
 mod bytes;
 mod items;
+mod names;
 mod seal_range;
 mod text;
 
 pub use bytes::{Cursor, FieldFault, laws, push_u16, push_u32, push_word, read_word, word_bytes};
 pub use items::Items;
+pub use names::is_name;
 pub use seal_range::SealRange;
 use std::marker::Model;
 use std::mem;
@@ -38,6 +40,9 @@ pub const LAST_PLACE: u32 = 1_048_575;
 
 /// The most addresses or seals that stand together in one stretch.
 pub const LONGEST_STRETCH: u32 = 65_536;
+
+/// The most bytes of a name.
+pub const LONGEST_NAME: usize = 31;
 
 /// What a memory capability allows at the addresses of its range.
 #[derive(Clone, Copy, Debug, PartialEq, Eq)]
@@ -478,7 +483,9 @@ impl Face {
         ensures { result ≡ target_of self }
     {
         let c = self.memory()?;
-        if i64::from(c.base) <= c.addr && c.addr <= i64::from(c.end) {
+        // It is compared once: below the base the difference wraps, to more than any range has.
+        let above = c.addr.cast_unsigned().wrapping_sub(u64::from(c.base));
+        if above <= u64::from(c.end - c.base) {
             Some(c.addr as u32)
         } else {
             None

@@ -4,4 +4,8 @@
 #[cfg(test)]
 mod bytes;
 #[cfg(test)]
+mod names;
+#[cfg(test)]
+mod nested;
+#[cfg(test)]
 mod words;

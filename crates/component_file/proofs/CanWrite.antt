@@ -5,10 +5,11 @@ use Rattle.std.specs.List.{AllByRecursion}
 use Rattle.cap_words.specs.declared.Word.{Word}
 use Rattle.cap_words.specs.declared.Word.TheVariants.{Int, Mem, Seal, Sealed}
 use Rattle.cap_words.specs.WordBytes.{WordFits, IsUnsealed, SealInSpace}
-use Rattle.component_file.specs.declared.TheConstants.{LONGEST_NAME}
+use Rattle.cap_words.specs.declared.TheConstants.{LONGEST_NAME}
 use Rattle.component_file.specs.declared.component.Import.{Import}
 use Rattle.component_file.specs.declared.component.Export.{Export}
-use Rattle.component_file.specs.Limits.{is_name, Chain, Each, ImportFits, ExportFits}
+use Rattle.cap_words.specs.Names.{is_name}
+use Rattle.component_file.specs.Limits.{Chain, Each, ImportFits, ExportFits}
 use Rattle.component_file.specs.Spelling.{Always, NamesAreShort, NameIsShort}
 
 both_are : (a b : Bool) → IsTrue (a && b) → IsTrue a × IsTrue b

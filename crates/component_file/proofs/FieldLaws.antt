@@ -14,7 +14,8 @@ use Rattle.component_file.specs.declared.fault.FileFault.{FileFault}
 use Rattle.component_file.specs.declared.fault.FileFault.TheVariants.{Short}
 use Rattle.component_file.specs.declared.component.Kind.{Kind}
 use Rattle.component_file.specs.declared.component.Kind.TheVariants.{Any, Int, DataCap, Stk, Pc, Top}
-use Rattle.component_file.specs.Limits.{is_name, KindFits, last_base, StretchFits}
+use Rattle.cap_words.specs.Names.{is_name}
+use Rattle.component_file.specs.Limits.{KindFits, last_base, StretchFits}
 use Rattle.component_file.specs.Spelling.{u32_bytes, name_bytes, stretch_bytes, flag_byte, optional_bytes, kind_bytes}
 use Rattle.component_file.proofs.CanWrite.{name_is_short}
 use Rattle.component_file.specs.Reading.{as_file, field, holds, known, short_at, next_text, name_meant, next_name, next_address, next_offset, next_stretch, flag_meant, next_flag, next_optional, plain_kind, next_kind}

@@ -1,14 +1,13 @@
 -- What a component is: the limits of its numbers, and the order of its lists.
-use Rattle.std.specs.Prelude.{◌≡◌, ℕ, ◌≤◌, ◌==◌, nat_le, nat_lt, Bool, true, ◌&&◌, ◌||◌, not, IsTrue}
-use Rattle.std.specs.Prelude.{List, [], ◌∷◌, length, slice_index, Option, Some, None, option_map, IfSome}
-use Rattle.std.specs.Prelude.{if◌then◌else◌}
-use Rattle.std.specs.List.{list_all}
+use Rattle.std.specs.Prelude.{◌≡◌, ℕ, ◌≤◌, ◌==◌, nat_lt, Bool, true, IsTrue, List, [], ◌∷◌, length}
+use Rattle.std.specs.Prelude.{Option, Some, None, option_map, IfSome, if◌then◌else◌}
 use Rattle.std.specs.Ordering.{is_lt, nat_cmp}
 use Rattle.std.specs.Cmp.Lexicographic.{slice_cmp}
 use Rattle.cap_words.specs.declared.TheConstants.{LAST_PLACE, LONGEST_STRETCH}
 use Rattle.cap_words.specs.declared.Word.{Word}
 use Rattle.cap_words.specs.WordBytes.{WordFits, IsUnsealed}
-use Rattle.component_file.specs.declared.TheConstants.{LONGEST_NAME, LAST_OFFSET, MOST_WORDS}
+use Rattle.cap_words.specs.Names.{is_name}
+use Rattle.component_file.specs.declared.TheConstants.{LAST_OFFSET, MOST_WORDS}
 use Rattle.component_file.specs.declared.TheConstants.{MOST_IMPORTS, MOST_EXPORTS, MOST_SITES, MOST_ROWS}
 use Rattle.component_file.specs.declared.component.Kind.{Kind}
 use Rattle.component_file.specs.declared.component.Kind.TheVariants.{Pc}
@@ -16,21 +15,6 @@ use Rattle.component_file.specs.declared.component.Import.{Import}
 use Rattle.component_file.specs.declared.component.Export.{Export}
 use Rattle.component_file.specs.declared.component.KindRow.{KindRow}
 use Rattle.component_file.specs.declared.component.ComponentFields.{ComponentFields}
-
--- ---- names
-
-abbrev pub is_digit : ℕ → Bool
-is_digit b = nat_le 48 b && nat_le b 57
-
--- a to z, 0 to 9, and _
-abbrev pub is_name_byte : ℕ → Bool
-is_name_byte b = (nat_le 97 b && nat_le b 122) || is_digit b || (b == 95)
-
--- a number of such bytes within bounds, the first of them no digit
-unfoldable pub is_name : List ℕ → Bool
-is_name text =
-    nat_le 1 (length text) && nat_le (length text) LONGEST_NAME
-    && not (is_digit (slice_index text 0)) && list_all is_name_byte text
 
 -- ---- lists
 

@@ -21,7 +21,8 @@ use Rattle.component_file.specs.declared.component.Export.{Export}
 use Rattle.component_file.specs.declared.component.KindRow.{KindRow}
 use Rattle.component_file.specs.declared.component.ComponentFields.{ComponentFields}
 use Rattle.component_file.specs.Fault.{in_file}
-use Rattle.component_file.specs.Limits.{is_name, ascends, name_lt, last_base}
+use Rattle.cap_words.specs.Names.{is_name}
+use Rattle.component_file.specs.Limits.{ascends, name_lt, last_base}
 use Rattle.component_file.specs.Spelling.{magic}
 
 -- ---- fields

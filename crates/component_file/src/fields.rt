@@ -1,47 +1,12 @@
 //! The fields of a component file, each read from the front of bytes.
 ghost use Rattle.std.specs.Prelude.{◌≡◌, ◌≤◌, IfOk};
-ghost use Rattle.std.specs.List.{list_all};
 ghost use Rattle.cap_words.specs.Gives.{Gives, GivesAs};
-ghost use Rattle.component_file.specs.Limits.{is_digit, is_name_byte, is_name};
 ghost use Rattle.component_file.specs.Reading.{next_text, next_name, next_address, next_offset};
 ghost use Rattle.component_file.specs.Reading.{next_stretch, next_flag, next_optional, next_kind};
 
+use crate::LAST_OFFSET;
 use crate::component::Kind;
-use crate::{LAST_OFFSET, LONGEST_NAME};
-use cap_words::{Cursor, FieldFault, LAST_PLACE, LONGEST_STRETCH};
-
-fn is_digit(byte: u8) -> bool
-    ensures { result ≡ is_digit byte }
-{
-    matches!(byte, b'0'..=b'9')
-}
-
-fn is_name_byte(byte: &u8) -> bool
-    ensures { result ≡ is_name_byte byte.now }
-{
-    matches!(*byte, b'a'..=b'z' | b'0'..=b'9' | b'_')
-}
-
-fn are_name_bytes(text: &[u8]) -> bool
-    ensures { result ≡ list_all is_name_byte text.now }
-{
-    text.iter().all(is_name_byte)
-}
-
-/// Whether a text is a name: 1 to [`LONGEST_NAME`] bytes of `a` to `z`, `0` to `9` and `_`, the
-/// first no digit.
-#[tactic(auto, unfolding(crate::specs::Limits::is_name))]
-pub fn is_name(text: &[u8]) -> bool
-    ensures { result ≡ is_name text.now }
-{
-    if text.is_empty() || LONGEST_NAME < text.len() {
-        return false;
-    }
-    if is_digit(text[0]) {
-        return false;
-    }
-    are_name_bytes(text)
-}
+use cap_words::{Cursor, FieldFault, LAST_PLACE, LONGEST_STRETCH, is_name};
 
 // A byte of length, and the bytes.
 #[tactic(auto, unfolding(crate::specs::Reading::next_text))]

@@ -11,12 +11,8 @@ mod writing;
 
 pub use component::{Area, Component, ComponentFields, Export, Import, Kind, KindRow};
 pub use fault::FileFault;
-pub use fields::is_name;
 pub use reading::decode_component;
 pub use writing::encode_component;
-
-/// The most bytes of a name.
-pub const LONGEST_NAME: usize = 31;
 
 /// The last offset in code or data.
 pub const LAST_OFFSET: u32 = 65_535;

@@ -5,7 +5,7 @@ use component_file::FileFault::{BadField, Magic, NoMemory, Order, Short, Trailin
 use component_file::Kind::{Any, DataCap, Int, Pc, Stk, Top};
 use component_file::{
     Area, Component, ComponentFields, Export, FileFault, Import, Kind, KindRow, decode_component,
-    encode_component, is_name,
+    encode_component,
 };
 use std::alloc::{AllocError, Global};
 use std::process::Abort;
@@ -356,7 +356,7 @@ fn an_example_is_the_component_that_it_spells(rt: HostRuntime) -> Result<(), Fai
 }
 
 // The component that `ONE` spells, built of its fields.
-#[tactic(auto, unfolding(component_file::specs::Limits::is_name))]
+#[tactic(auto, unfolding(cap_words::specs::Names::is_name))]
 fn one(alloc: Global, movable: bool) -> Result<Component, AllocError> {
     let main = Export {
         name: Items::of(Vec::from_slice(alloc, b"main")?),
@@ -711,37 +711,6 @@ fn the_first_fault_is_found_in_its_place(rt: HostRuntime) -> Result<(), Fail> {
     have_the_faults(&rt, rt.alloc(), ONE, &ONE_CASES)?;
     have_the_faults(&rt, rt.alloc(), FULL, &FULL_CASES)?;
     Ok(())
-}
-
-// Names, and whether they may be ones.
-static NAMES: [(&[u8], bool); 20] = [
-    (b"", false),
-    (b"a", true),
-    (b"z", true),
-    (b"_", true),
-    (b"0", false),
-    (b"9", false),
-    (b"a0", true),
-    (b"_9", true),
-    (b"9a", false),
-    (b"A", false),
-    (b"aZ", false),
-    (b"a`", false),
-    (b"a{", false),
-    (b"a/", false),
-    (b"a:", false),
-    (b"a-b", false),
-    (b"a\0", false),
-    (b"a\xe1", false),
-    (b"abcdefghijklmnopqrstuvwxyz_0123", true),
-    (b"abcdefghijklmnopqrstuvwxyz_01234", false),
-];
-
-#[test]
-fn a_name_has_1_to_31_bytes_of_its_kind(rt: HostRuntime) {
-    for (name, wanted) in &NAMES {
-        assert!(rt; is_name(name) == *wanted, "{name:?}");
-    }
 }
 
 // Faults, and the number, the place and the text of each.

@@ -10,7 +10,8 @@ use Rattle.lcm_isa.specs.declared.Instr.{Instr}
 use Rattle.lcm_isa.specs.declared.Instr.TheVariants.{Fail, Halt}
 use Rattle.lcm_isa.specs.Numbers.{number_of, decode_of, candidate, table, all_with}
 use Rattle.component_file.specs.declared.component.ComponentFields.{ComponentFields}
-use Rattle.component_file.specs.Limits.{IsComponent, is_name}
+use Rattle.cap_words.specs.Names.{is_name}
+use Rattle.component_file.specs.Limits.{IsComponent}
 use Rattle.component_check.specs.declared.rule.Group.TheVariants.{C, K}
 use Rattle.component_check.specs.RuleText.{broken_at}
 use Rattle.component_check.specs.Places.{Test, BrokenAt}

@@ -20,7 +20,7 @@ use std::marker::Model;
 /// A contract sees the four.
 ///
 /// In every start the sites stand in the order of a [`SiteList`], the owners ascend by the addresses of
-/// their code, and the names of owners and entries have at most [`component_file::LONGEST_NAME`] bytes.
+/// their code, and the names of owners and entries have at most [`cap_words::LONGEST_NAME`] bytes.
 #[derive(Drop)]
 pub struct Start {
     state: LcmState,

@@ -11,7 +11,8 @@ use Rattle.cap_words.specs.declared.Word.{Word}
 use Rattle.cap_words.specs.WordBytes.{WordFits, IsUnsealed}
 use Rattle.component_file.specs.declared.component.Area.{Area}
 use Rattle.component_file.specs.declared.component.ComponentFields.{ComponentFields}
-use Rattle.component_file.specs.Limits.{is_name, Chain, WordsFit, StretchFits, IsComponent}
+use Rattle.cap_words.specs.Names.{is_name}
+use Rattle.component_file.specs.Limits.{Chain, WordsFit, StretchFits, IsComponent}
 use Rattle.asm_labels.specs.declared.labels.Section.TheVariants as section
 use Rattle.asm_labels.specs.References.{resolved}
 use Rattle.asm_fields.specs.declared.directives.Item.{Item}

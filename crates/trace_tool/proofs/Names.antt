@@ -1,7 +1,7 @@
 -- Names of parts and of entries, found by their numbers.
 use Rattle.std.proofs.Common.{◌≡◌, ◌≤◌, ℕ, suc, Bool, true, false, List, [], ◌∷◌, length, Some, None, refl, sym, ap, ◌∙◌}
 use Rattle.std.specs.Prelude.{find, slice_get, if◌then◌else◌, ◌==◌}
-use Rattle.component_file.specs.declared.TheConstants.{LONGEST_NAME}
+use Rattle.cap_words.specs.declared.TheConstants.{LONGEST_NAME}
 use Rattle.component_linker.specs.declared.owners.Site.{Site}
 use Rattle.component_linker.specs.declared.owners.Entry.{Entry}
 use Rattle.component_linker.specs.declared.owners.Owner.{Owner}

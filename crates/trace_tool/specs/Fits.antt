@@ -2,7 +2,7 @@
 use Rattle.std.specs.Prelude.{◌≡◌, ℕ, ◌≤◌, Bool, true, false, ◌||◌, IsTrue, List, [], ◌∷◌}
 use Rattle.cap_words.specs.declared.Word.{Word}
 use Rattle.cap_words.specs.WordBytes.{WordFits}
-use Rattle.component_file.specs.Limits.{is_name}
+use Rattle.cap_words.specs.Names.{is_name}
 use Rattle.lcm_machine.specs.Run.{plain}
 use Rattle.component_linker.specs.Parts.{PartSeen}
 use Rattle.component_linker.specs.Started.{StartSeen}

@@ -4,7 +4,7 @@ ghost use Rattle.std.specs.List.{AllPairs};
 ghost use Rattle.std.specs.Option.{option_copied};
 ghost use Rattle.cap_words.specs.Face.{FaceInOrder};
 ghost use Rattle.component_linker.specs.Owners.{AreLaid};
-ghost use Rattle.component_file.specs.declared.TheConstants.{LONGEST_NAME};
+ghost use Rattle.cap_words.specs.declared.TheConstants.{LONGEST_NAME};
 ghost use Rattle.overlay_machine.specs.Layout.{runs_in, trusted_owner, trusted_at, number_of, site_at};
 ghost use Rattle.overlay_machine.specs.Events.{closure_owner, site_of_seal};
 ghost use Rattle.trace_tool.specs.Layout.{layout, site_word, site_before, part_name, entry_name, site_of};

@@ -18,6 +18,11 @@ pub enum FieldFault {
 }
 
 impl fmt::Display for FieldFault {
+    ghost use Rattle.std.specs.Prelude.{Some};
+    ghost use Rattle.cap_words.specs.FaultText.{field_fault_text};
+
+    ghost output = { λ fault. Some (field_fault_text fault) };
+
     fn fmt<W: fmt::Write>(&self, f: &mut fmt::Formatter<W>) -> fmt::Result {
         match self {
             FieldFault::Short(at) => write!(f, "the bytes end within the field at byte {at}"),

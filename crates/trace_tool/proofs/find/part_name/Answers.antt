@@ -1,5 +1,5 @@
 use Rattle.std.proofs.Common.{rules, sym, subst, ◌≤◌, length}
-use Rattle.component_file.specs.declared.TheConstants.{LONGEST_NAME}
+use Rattle.cap_words.specs.declared.TheConstants.{LONGEST_NAME}
 use Rattle.trace_tool.proofs.Names.{part_is_short}
 use Rattle.trace_tool.proofs.find.part_name.Goals as goal
 

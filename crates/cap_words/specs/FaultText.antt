@@ -1,0 +1,8 @@
+-- How the faults of a field print.
+use Rattle.std.specs.Prelude.{ℕ, ◌++◌, List, codes, decimal}
+use Rattle.cap_words.specs.declared.bytes.cursor.FieldFault.{FieldFault}
+use Rattle.cap_words.specs.declared.bytes.cursor.FieldFault.TheVariants.{Short, BadField}
+
+abbrev pub field_fault_text : FieldFault → List ℕ
+field_fault_text (Short at) = codes "the bytes end within the field at byte " ++ decimal at
+field_fault_text (BadField at) = codes "the field at byte " ++ decimal at ++ codes " is not valid"
