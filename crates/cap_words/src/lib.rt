@@ -412,7 +412,16 @@ impl Word {
         if self.is_linear() {
             return None;
         }
-        Some(match self {
+        Some(self.made_anew())
+    }
+
+    /// The same word again, made as it is described, also where it is linear. It is for whoever lays
+    /// words out, or keeps notes of them.
+    #[inline(always)]
+    pub fn made_anew(&self) -> Word
+        ensures { result ≡ self.now }
+    {
+        match self {
             Word::Int(n) => Word::Int(*n),
             Word::Mem(c) => Word::Mem(Cap::of(c.fields())),
             Word::Seal(c) => Word::Seal(SealCap::of(c.fields())),
@@ -422,7 +431,7 @@ impl Word {
             Word::Sealed(seal, Sealable::Seal(c)) => {
                 Word::Sealed(*seal, Sealable::Seal(SealCap::of(c.fields())))
             }
-        })
+        }
     }
 }
 

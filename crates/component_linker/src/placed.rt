@@ -18,7 +18,7 @@ ghost use Rattle.component_linker.specs.Start.{Ascend, stack_base_of};
 use crate::moving::{Move, Shift, moved_word};
 use crate::pairs::PartPlace;
 use crate::part::Part;
-use cap_words::{Cap, LAST_PLACE, LONGEST_STRETCH, SealCap, SealRange, Sealable, Word};
+use cap_words::{LAST_PLACE, LONGEST_STRETCH, SealRange, Word};
 use component_file::{
     Area, Component, ComponentFields, Export, Import, MOST_EXPORTS, MOST_IMPORTS, MOST_SITES,
     MOST_WORDS,
@@ -503,25 +503,8 @@ impl<'a> Words<'a> {
     {
         let words = self.words;
         match self.movement {
-            None => made_anew(&words[index]),
+            None => words[index].made_anew(),
             Some(m) => moved_word(&words[index], m),
-        }
-    }
-}
-
-// A word as another is described.
-fn made_anew(word: &Word) -> Word
-    ensures { result ≡ word.now }
-{
-    match word {
-        Word::Int(n) => Word::Int(*n),
-        Word::Mem(c) => Word::Mem(Cap::of(c.fields())),
-        Word::Seal(c) => Word::Seal(SealCap::of(c.fields())),
-        Word::Sealed(seal, Sealable::Mem(c)) => {
-            Word::Sealed(*seal, Sealable::Mem(Cap::of(c.fields())))
-        }
-        Word::Sealed(seal, Sealable::Seal(c)) => {
-            Word::Sealed(*seal, Sealable::Seal(SealCap::of(c.fields())))
         }
     }
 }

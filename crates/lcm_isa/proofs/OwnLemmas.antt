@@ -187,19 +187,20 @@ spells : (n : ℕ) → Spells (operand_of (n / 262144 % 2) (n / 524288)) n
 spells n = spells_by _ n refl
 
 -- what holds of each item of a list at its place
-abbrev AllAt : (ℕ → Instr → Type 0) → ℕ → List Instr → Type 0
-AllAt P k [] = Unit {0}
-AllAt P k (i ∷ is) = P k i × AllAt P (suc k) is
+data AllAt (P : ℕ → Instr → Type 0) : ℕ → List Instr → Type 0 where
+  all_none : {k : ℕ} → AllAt P k []
+  also : {k : ℕ} {i : Instr} {is : List Instr} → P k i → AllAt P (suc k) is → AllAt P k (i ∷ is)
 
 at_place : (P : ℕ → Instr → Type 0) (xs : List Instr) (from k : ℕ) (i : Instr) → AllAt P from xs
     → slice_get xs k ≡ Some i → P (k + from) i
 at_place P [] from k i h e = cc
-at_place P (x ∷ xs) from zero i h e =
-    let same : x ≡ i = cc in let z : from ≡ zero + from = omega arith in
-    subst (λ j. P j i) z (subst (P from) same h.0)
-at_place P (x ∷ xs) from (suc k) i h e =
+at_place P (x ∷ xs) from zero i (also h hs) e =
+    let same : x ≡ i = cc in
+    let z : from ≡ zero + from = omega arith in
+    subst (λ j. P j i) z (subst (P from) same h)
+at_place P (x ∷ xs) from (suc k) i (also h hs) e =
     let z : k + suc from ≡ suc k + from = omega arith in
-    subst (λ j. P j i) z (at_place P xs (suc from) k i h.1 e)
+    subst (λ j. P j i) z (at_place P xs (suc from) k i hs e)
 
 -- at its place in the table, an instruction whose number is tried
 abbrev OwnAt : ℕ → ℕ → Instr → Type 0
@@ -208,75 +209,30 @@ OwnAt n k i = n % 64 ≡ k → is_own i n ≡ eqb (number_of i) n
 own_rows : (n : ℕ) (a b c : Reg) (o : Operand) → reg_number a ≡ n / 64 % 16 → reg_number b ≡ n / 1024 % 16
     → reg_number c ≡ n / 16384 % 16 → Spells o n → AllAt (OwnAt n) 0 (all_with a b c o)
 unfolding all_with number_of is_own
-own_rows n a b c o ea eb ec h = (
-  λ e. own0 0 n e,
-  (
-    λ e. own0 1 n e,
-    (
-      λ e.
-          own1 2 n (reg_number a) e ea,
-      (
-        λ e. own2 3 n (reg_number a) (reg_number b) e ea eb,
-        (
-          λ e. own2 4 n (reg_number a) (reg_number b) e ea eb,
-          (
-            λ e. own2 5 n (reg_number a) (reg_number b) e ea eb,
-            (
-              λ e. own2 6 n (reg_number a) (reg_number b) e ea eb,
-              (
-                λ e. own2 7 n (reg_number a) (reg_number b) e ea eb,
-                (
-                  λ e. own2 8 n (reg_number a) (reg_number b) e ea eb,
-                  (
-                    λ e. own2 9 n (reg_number a) (reg_number b) e ea eb,
-                    (
-                      λ e. own_a o 10 n (reg_number a) e ea h,
-                      (
-                        λ e. own2 11 n (reg_number a) (reg_number b) e ea eb,
-                        (
-                          λ e. own2 12 n (reg_number a) (reg_number b) e ea eb,
-                          (
-                            λ e. own_a o 13 n (reg_number a) e ea h,
-                            (
-                              λ e. own_a o 14 n (reg_number a) e ea h,
-                              (
-                                λ e. own_ab o 15 n (reg_number a) (reg_number b) e ea eb h,
-                                (
-                                  λ e. own_ab o 16 n (reg_number a) (reg_number b) e ea eb h,
-                                  (
-                                    λ e. own_ab o 17 n (reg_number a) (reg_number b) e ea eb h,
-                                    (
-                                      λ e. own1 18 n (reg_number a) e ea,
-                                      (
-                                        λ e.
-                                            own2 19 n (reg_number a) (reg_number b) e ea eb,
-                                        (
-                                          λ e. own2 20 n (reg_number a) (reg_number b) e ea eb,
-                                          (
-                                            λ e. own_abc o 21 n (reg_number a) (reg_number b) (reg_number c) e ea eb ec h,
-                                            (λ e. own3 22 n (reg_number a) (reg_number b) (reg_number c) e ea eb ec, tt),
-                                          ),
-                                        ),
-                                      ),
-                                    ),
-                                  ),
-                                ),
-                              ),
-                            ),
-                          ),
-                        ),
-                      ),
-                    ),
-                  ),
-                ),
-              ),
-            ),
-          ),
-        ),
-      ),
-    ),
-  ),
-)
+own_rows n a b c o ea eb ec h =
+    also (λ e. own0 0 n e) (
+    also (λ e. own0 1 n e) (
+    also (λ e. own1 2 n (reg_number a) e ea) (
+    also (λ e. own2 3 n (reg_number a) (reg_number b) e ea eb) (
+    also (λ e. own2 4 n (reg_number a) (reg_number b) e ea eb) (
+    also (λ e. own2 5 n (reg_number a) (reg_number b) e ea eb) (
+    also (λ e. own2 6 n (reg_number a) (reg_number b) e ea eb) (
+    also (λ e. own2 7 n (reg_number a) (reg_number b) e ea eb) (
+    also (λ e. own2 8 n (reg_number a) (reg_number b) e ea eb) (
+    also (λ e. own2 9 n (reg_number a) (reg_number b) e ea eb) (
+    also (λ e. own_a o 10 n (reg_number a) e ea h) (
+    also (λ e. own2 11 n (reg_number a) (reg_number b) e ea eb) (
+    also (λ e. own2 12 n (reg_number a) (reg_number b) e ea eb) (
+    also (λ e. own_a o 13 n (reg_number a) e ea h) (
+    also (λ e. own_a o 14 n (reg_number a) e ea h) (
+    also (λ e. own_ab o 15 n (reg_number a) (reg_number b) e ea eb h) (
+    also (λ e. own_ab o 16 n (reg_number a) (reg_number b) e ea eb h) (
+    also (λ e. own_ab o 17 n (reg_number a) (reg_number b) e ea eb h) (
+    also (λ e. own1 18 n (reg_number a) e ea) (
+    also (λ e. own2 19 n (reg_number a) (reg_number b) e ea eb) (
+    also (λ e. own2 20 n (reg_number a) (reg_number b) e ea eb) (
+    also (λ e. own_abc o 21 n (reg_number a) (reg_number b) (reg_number c) e ea eb ec h) (
+    also (λ e. own3 22 n (reg_number a) (reg_number b) (reg_number c) e ea eb ec) all_none))))))))))))))))))))))
 
 own_found : (n : ℕ) (i : Instr) → candidate n ≡ Some i → is_own i n ≡ eqb (number_of i) n
 unfolding candidate table

@@ -7,8 +7,7 @@ use Rattle.std.specs.FinMap.{FinMap}
 use Rattle.std.proofs.lemmas.Bool.{cases_eq}
 use Rattle.cap_words.specs.declared.Word.{Word}
 use Rattle.lcm_isa.specs.declared.Reg.{Reg}
-use Rattle.lcm_isa.specs.declared.Reg.TheVariants.{Pc, Rcode, Rdata, Stk, Dat, T1, T2, C1, C2, A0, A1, A2, A3}
-use Rattle.lcm_isa.specs.declared.Reg.TheVariants.{G0, G1, G2}
+use Rattle.lcm_isa.specs.declared.Reg.TheVariants.{Pc}
 use Rattle.lcm_isa.specs.declared.Instr.{Instr}
 use Rattle.lcm_machine.specs.declared.End.{End}
 use Rattle.lcm_machine.specs.declared.undo.Changed.{Changed}
@@ -23,33 +22,13 @@ use Rattle.lcm_machine.specs.Touched.{SameCells}
 use Rattle.lcm_machine.specs.Run.{Run, moved, next_by, next_state}
 use Rattle.lcm_machine.specs.Back.{old_reg, old_regs, old_cell, IsCellThere, back, CanUndo, changed_by}
 use Rattle.lcm_machine.specs.Back.{changed_in, target_in, noted_reg, noted_at, noted_cell, notes}
-use Rattle.lcm_machine.proofs.RegLemmas.{cases_reg, reg-set_same, reg-set_other}
+use Rattle.lcm_machine.proofs.RegLemmas.{cases_reg, reg-set_same, reg-set_other, same_regs}
 use Rattle.lcm_machine.proofs.CellLemmas.{cell-set_same, cell-set_other, same_cells}
 use Rattle.lcm_machine.proofs.Plans.{Gives-effect}
 use Rattle.lcm_machine.proofs.TouchLemmas.{there_same, row_cells, row_others}
 use Rattle.lcm_machine.proofs.Altered.{IsChanged, perform_leaves, plan-Names}
 
 -- ---- registers
-
-same_regs : {W : Type 0} (a b : Regs W) → ((r : Reg) → reg a r ≡ reg b r) → a ≡ b
-same_regs a b h = λ i. record {
-  pc = h Pc i;
-  rcode = h Rcode i;
-  rdata = h Rdata i;
-  stk = h Stk i;
-  dat = h Dat i;
-  t1 = h T1 i;
-  t2 = h T2 i;
-  c1 = h C1 i;
-  c2 = h C2 i;
-  a0 = h A0 i;
-  a1 = h A1 i;
-  a2 = h A2 i;
-  a3 = h A3 i;
-  g0 = h G0 i;
-  g1 = h G1 i;
-  g2 = h G2 i;
-}
 
 module _ (rs : Regs Word) where
   -- each register is as in rs, or is still to be put back

@@ -85,3 +85,24 @@ set_reg-reg rs A3 = refl
 set_reg-reg rs G0 = refl
 set_reg-reg rs G1 = refl
 set_reg-reg rs G2 = refl
+
+-- registers that hold the same words are the same
+pub same_regs : {W : Type 0} (a b : Regs W) → ((r : Reg) → reg a r ≡ reg b r) → a ≡ b
+same_regs a b h = λ i. record {
+  pc = h Pc i;
+  rcode = h Rcode i;
+  rdata = h Rdata i;
+  stk = h Stk i;
+  dat = h Dat i;
+  t1 = h T1 i;
+  t2 = h T2 i;
+  c1 = h C1 i;
+  c2 = h C2 i;
+  a0 = h A0 i;
+  a1 = h A1 i;
+  a2 = h A2 i;
+  a3 = h A3 i;
+  g0 = h G0 i;
+  g1 = h G1 i;
+  g2 = h G2 i;
+}

@@ -8,7 +8,7 @@ ghost use Rattle.lcm_machine.specs.Back.{changed_by, noted_reg, noted_cell, old_
 
 use crate::state::State;
 use crate::{End, Place};
-use cap_words::{Cap, SealCap, Sealable, Word};
+use cap_words::Word;
 use lcm_isa::{Instr, Operand, Reg};
 
 /// The registers besides pc that an instruction may change.
@@ -60,23 +60,6 @@ impl Undo {
             third: _,
             cell: _,
         } = self;
-    }
-}
-
-// The same word, as a note.
-fn noted(word: &Word) -> Word
-    ensures { result ≡ word.now }
-{
-    match word {
-        Word::Int(n) => Word::Int(*n),
-        Word::Mem(c) => Word::Mem(Cap::of(c.fields())),
-        Word::Seal(c) => Word::Seal(SealCap::of(c.fields())),
-        Word::Sealed(seal, Sealable::Mem(c)) => {
-            Word::Sealed(*seal, Sealable::Mem(Cap::of(c.fields())))
-        }
-        Word::Sealed(seal, Sealable::Seal(c)) => {
-            Word::Sealed(*seal, Sealable::Seal(SealCap::of(c.fields())))
-        }
     }
 }
 
@@ -171,7 +154,7 @@ impl State<Word> {
         let r = r?;
         Some(OldReg {
             reg: r,
-            word: noted(self.reg(r)),
+            word: self.reg(r).made_anew(),
         })
     }
 
@@ -185,7 +168,7 @@ impl State<Word> {
         }
         Some(OldCell {
             at,
-            word: noted(self.cell(at)),
+            word: self.cell(at).made_anew(),
         })
     }
 
@@ -201,7 +184,7 @@ impl State<Word> {
         Undo {
             count,
             end,
-            pc: noted(self.reg(Reg::Pc)),
+            pc: self.reg(Reg::Pc).made_anew(),
             first: self.noted_reg(changed.first),
             second: self.noted_reg(changed.second),
             third: self.noted_reg(changed.third),

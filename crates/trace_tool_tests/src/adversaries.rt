@@ -434,6 +434,138 @@ go load c1 data;cca data 3;load c2 data;xjmp c1 c2
 b call out t 0 65599 65599 0 0 0 0 : cap(rw,nor,8192,8197,8193)
 r failed 12291 F12 steps 43
 t failed 12291 steps 42
+
+= hands over a pair of the trusted part, and then one of its own
+go load a0 data;cca data 1;load a1 data;cca data 1;load a2 data;cca data 1;load a3 data;cca data -3;&
+b call out t 0 65599 65599 0 0 0 0 : cap(rw,nor,8192,8197,8193)
+b enter t again cap(rw,lin,65536,65598,65598) sealed(10,cap(rx,nor,4096,4198,4148)) \
+sealed(10,cap(rw,nor,8192,8197,8192)) sealed(20,cap(rwx,nor,12288,12300,12300)) \
+sealed(20,cap(rw,nor,16384,16389,16384)) pair:t:0:65599
+b pass hop:t:again bad out
+b call out t 1 65598 65598 sealed(10,cap(rx,nor,4096,4198,4148)) sealed(10,cap(rw,nor,8192,8197,8192)) \
+sealed(20,cap(rwx,nor,12288,12300,12300)) sealed(20,cap(rw,nor,16384,16389,16384)) : \
+cap(rw,nor,8192,8197,8195)
+b halted sealed(10,cap(rx,nor,4096,4198,4148)) steps 92
+
+= hands over one of its own, and then one of the trusted part
+go cca data 2;load a0 data;cca data 1;load a1 data;cca data -3;load a2 data;cca data 1;load a3 data;\
+cca data -1;&
+b call out t 0 65599 65599 0 0 0 0 : cap(rw,nor,8192,8197,8193)
+b enter t again cap(rw,lin,65536,65598,65598) sealed(20,cap(rwx,nor,12288,12301,12301)) \
+sealed(20,cap(rw,nor,16384,16389,16384)) sealed(10,cap(rx,nor,4096,4198,4148)) \
+sealed(10,cap(rw,nor,8192,8197,8192)) pair:t:0:65599
+b pass out bad hop:t:again
+b call out t 1 65598 65598 sealed(20,cap(rwx,nor,12288,12301,12301)) \
+sealed(20,cap(rw,nor,16384,16389,16384)) sealed(10,cap(rx,nor,4096,4198,4148)) \
+sealed(10,cap(rw,nor,8192,8197,8192)) : cap(rw,nor,8192,8197,8195)
+b halted sealed(20,cap(rwx,nor,12288,12301,12301)) steps 93
+
+= hands over a pair between two integers, and returns: the return tells of no pair
+go load a1 data;cca data 1;load a2 data;cca data -1;&
+back xjmp rcode rdata
+b call out t 0 65599 65599 0 0 0 0 : cap(rw,nor,8192,8197,8193)
+b enter t again cap(rw,lin,65536,65598,65598) 0 sealed(10,cap(rx,nor,4096,4198,4148)) \
+sealed(10,cap(rw,nor,8192,8197,8192)) 0 pair:t:0:65599
+b pass none hop:t:again none
+b call out t 1 65598 65598 0 sealed(10,cap(rx,nor,4096,4198,4148)) sealed(10,cap(rw,nor,8192,8197,8192)) \
+0 : cap(rw,nor,8192,8197,8195)
+b ret out t 1 65598 65598 0 : cap(rw,nor,8192,8197,8195)
+b halted 0 steps 99
+
+= hands over one of its own between two integers
+go cca data 2;load a1 data;cca data 1;load a2 data;cca data -3;&
+b call out t 0 65599 65599 0 0 0 0 : cap(rw,nor,8192,8197,8193)
+b enter t again cap(rw,lin,65536,65598,65598) 0 sealed(20,cap(rwx,nor,12288,12297,12297)) \
+sealed(20,cap(rw,nor,16384,16389,16384)) 0 pair:t:0:65599
+b pass none out none
+b call out t 1 65598 65598 0 sealed(20,cap(rwx,nor,12288,12297,12297)) \
+sealed(20,cap(rw,nor,16384,16389,16384)) 0 : cap(rw,nor,8192,8197,8195)
+b halted 0 steps 89
+
+= hands over halves that are parted by integers, which are no pair
+go load a0 data;cca data 1;load a2 data;cca data -1;&
+b call out t 0 65599 65599 0 0 0 0 : cap(rw,nor,8192,8197,8193)
+b enter t again cap(rw,lin,65536,65598,65598) sealed(10,cap(rx,nor,4096,4198,4148)) 0 \
+sealed(10,cap(rw,nor,8192,8197,8192)) 0 pair:t:0:65599
+b call out t 1 65598 65598 sealed(10,cap(rx,nor,4096,4198,4148)) 0 sealed(10,cap(rw,nor,8192,8197,8192)) \
+0 : cap(rw,nor,8192,8197,8195)
+b halted sealed(10,cap(rx,nor,4096,4198,4148)) steps 88
+
+= hands over halves in each other's place, and a code half twice
+go cca data 1;load a0 data;load a3 data;cca data -1;load a1 data;load a2 data;&
+b call out t 0 65599 65599 0 0 0 0 : cap(rw,nor,8192,8197,8193)
+b enter t again cap(rw,lin,65536,65598,65598) sealed(10,cap(rw,nor,8192,8197,8192)) \
+sealed(10,cap(rx,nor,4096,4198,4148)) sealed(10,cap(rx,nor,4096,4198,4148)) \
+sealed(10,cap(rw,nor,8192,8197,8192)) pair:t:0:65599
+b pass bad bad hop:t:again
+b call out t 1 65598 65598 sealed(10,cap(rw,nor,8192,8197,8192)) sealed(10,cap(rx,nor,4096,4198,4148)) \
+sealed(10,cap(rx,nor,4096,4198,4148)) sealed(10,cap(rw,nor,8192,8197,8192)) : cap(rw,nor,8192,8197,8195)
+b halted sealed(10,cap(rw,nor,8192,8197,8192)) steps 90
+
+= hands over seal capabilities that are sealed: with one in its code half's place a pair fails
+go cca data 5;load g2 data;cca data -5;move a0 g2;cseal a0 g2;move a2 a0;move a1 pc;cca a1 @back;\
+cseal a1 g2;&
+b call out t 0 65599 65599 0 0 0 0 : cap(rw,nor,8192,8197,8193)
+b enter t again cap(rw,lin,65536,65598,65598) sealed(21,seal(21,21,21)) \
+sealed(21,cap(rwx,nor,12288,12301,12301)) sealed(21,seal(21,21,21)) 0 pair:t:0:65599
+b pass bad out none
+b call out t 1 65598 65598 sealed(21,seal(21,21,21)) sealed(21,cap(rwx,nor,12288,12301,12301)) \
+sealed(21,seal(21,21,21)) 0 : cap(rw,nor,8192,8197,8195)
+b halted sealed(21,seal(21,21,21)) steps 93
+
+= hands over a pair of its own whose data half is linear, which is no pair
+go cca data 5;load g2 data;cca data -5;split stk a1 stk 65597;cseal a1 g2;move a0 pc;cca a0 @back;\
+cseal a0 g2;&
+b call out t 0 65599 65599 0 0 0 0 : cap(rw,nor,8192,8197,8193)
+b enter t again cap(rw,lin,65536,65597,65598) sealed(21,cap(rwx,nor,12288,12300,12300)) \
+sealed(21,cap(rw,lin,65598,65598,65598)) 0 0 pair:t:0:65599
+b call out t 1 65597 65597 sealed(21,cap(rwx,nor,12288,12300,12300)) \
+sealed(21,cap(rw,lin,65598,65598,65598)) 0 0 : cap(rw,nor,8192,8197,8195)
+b halted sealed(21,cap(rwx,nor,12288,12300,12300)) steps 92
+
+= hands over the code's half of its return pair among halves of others
+go load a0 data;move a1 rcode;move a2 rcode;cca data 1;load a3 data;cca data -1;&
+b call out t 0 65599 65599 0 0 0 0 : cap(rw,nor,8192,8197,8193)
+b enter t again cap(rw,lin,65536,65598,65598) sealed(10,cap(rx,nor,4096,4198,4148)) \
+sealed(11,cap(rx,nor,4096,4198,4137)) sealed(11,cap(rx,nor,4096,4198,4137)) \
+sealed(10,cap(rw,nor,8192,8197,8192)) pair:t:0:65599
+b pass bad bad bad
+b call out t 1 65598 65598 sealed(10,cap(rx,nor,4096,4198,4148)) sealed(11,cap(rx,nor,4096,4198,4137)) \
+sealed(11,cap(rx,nor,4096,4198,4137)) sealed(10,cap(rw,nor,8192,8197,8192)) : cap(rw,nor,8192,8197,8195)
+b halted sealed(10,cap(rx,nor,4096,4198,4148)) steps 90
+
+= hands over the frame's half behind that half, which is no pair
+go move a0 rcode;move a1 rcode;move a2 rdata;load a3 data;&
+b call out t 0 65599 65599 0 0 0 0 : cap(rw,nor,8192,8197,8193)
+b enter t again cap(rw,lin,65536,65598,65598) sealed(11,cap(rx,nor,4096,4198,4137)) \
+sealed(11,cap(rx,nor,4096,4198,4137)) sealed(11,cap(rw,lin,65599,65599,65599)) \
+sealed(10,cap(rx,nor,4096,4198,4148)) bad
+b pass bad none none
+b call out t 1 65598 65598 sealed(11,cap(rx,nor,4096,4198,4137)) sealed(11,cap(rx,nor,4096,4198,4137)) \
+sealed(11,cap(rw,lin,65599,65599,65599)) sealed(10,cap(rx,nor,4096,4198,4148)) : \
+cap(rw,nor,8192,8197,8195)
+b halted sealed(11,cap(rx,nor,4096,4198,4137)) steps 88
+
+= enters by the argument registers, which keep that pair
+go load a0 data;cca data 1;load a1 data;xjmp a0 a1
+b call out t 0 65599 65599 0 0 0 0 : cap(rw,nor,8192,8197,8193)
+b enter t again cap(rw,lin,65536,65598,65598) sealed(10,cap(rx,nor,4096,4198,4148)) \
+sealed(10,cap(rw,nor,8192,8197,8192)) 0 0 pair:t:0:65599
+b pass hop:t:again none none
+b call out t 1 65598 65598 sealed(10,cap(rx,nor,4096,4198,4148)) sealed(10,cap(rw,nor,8192,8197,8192)) 0 \
+0 : cap(rw,nor,8192,8197,8195)
+b halted sealed(10,cap(rx,nor,4096,4198,4148)) steps 84
+
+= hands over a pair, and the trusted part goes on to its code: the leave tells of no pair
+go load a0 data;cca data 1;load a1 data;cca data 1;load rcode data;cca data 1;load rdata data;\
+cca data -3;&
+second xjmp rcode rdata
+b call out t 0 65599 65599 0 0 0 0 : cap(rw,nor,8192,8197,8193)
+b enter t again cap(rw,lin,65536,65598,65598) sealed(10,cap(rx,nor,4096,4199,4148)) \
+sealed(10,cap(rw,nor,8192,8197,8192)) 0 0 out
+b pass hop:t:again none none
+b leave t sealed(10,cap(rx,nor,4096,4199,4148))
+b halted sealed(10,cap(rx,nor,4096,4199,4148)) steps 77
 ";
 
 // What the line says that begins with a word, and what is said where none does.

@@ -60,6 +60,12 @@ const LEAVES: &str =
     .data 24576\n.int 0\n.int 0\n.int 0\n.int 0\n.import b end 0\n.import t back 2\n\
     .export main 0 shared\n";
 
+// Enters it with the pairs of `other` and of `end` in its argument registers.
+const PASSES: &str = ".name m\n.stack 65536\n.closure 30\n.code 20480\nload a0 data\ncca data 1\n\
+    load a1 data\ncca data 1\nload c1 data\ncca data 1\nload c2 data\ncca data 1\nload a2 data\n\
+    cca data 1\nload a3 data\nxjmp c1 c2\n.data 24576\n.int 0\n.int 0\n.int 0\n.int 0\n.int 0\n.int 0\n\
+    .import t other 0\n.import t back 2\n.import b end 4\n.export main 0 shared\n";
+
 // Halts.
 const ENDS: &str = ".name b\n.stack 65536\n.closure 40\n.code 28672\nhalt\n.data 32768\n.int 0\n\
     .export end 0 shared\n";
@@ -76,6 +82,7 @@ fn template(word: &str) -> &'static str {
         "u:bare" => BARE,
         "u:hops" => HOPS,
         "u:leaves" => LEAVES,
+        "u:passes" => PASSES,
         _ => ENDS,
     }
 }

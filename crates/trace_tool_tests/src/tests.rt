@@ -80,10 +80,18 @@ b halted 0 steps 50
 b enter t aa cap(rw,lin,65536,65599,65599) 5 0 0 0 out
 b leave t 5
 b halted 5 steps 31
+
+1000 t:back u:passes u:ends
+b enter t aa cap(rw,lin,65536,65599,65599) sealed(10,cap(rx,nor,4096,4138,4118)) \
+sealed(10,cap(rw,nor,8192,8192,8192)) sealed(40,cap(rwx,nor,28672,28672,28672)) \
+sealed(40,cap(rw,nor,32768,32768,32768)) bad
+b pass hop:t:other bad out
+r failed 4117 F6 steps 33
+t failed 4117 steps 32
 ";
 
-// The pieces of the first case, each of them a write.
-static PIECES: [&str; 7] = [
+// The pieces of the first case and of the last one, each of them a write.
+static CALL_PIECES: [&str; 7] = [
     "call out t 0 65599 65599 0 0 0 0 :",
     " cap(rw,nor,8192,8193,8193)",
     "\n",
@@ -91,6 +99,14 @@ static PIECES: [&str; 7] = [
     " cap(rw,nor,8192,8193,8193)",
     "\n",
     "halted 0 steps 51\n",
+];
+
+static PASS_PIECES: [&str; 3] = [
+    "enter t aa cap(rw,lin,65536,65599,65599) sealed(10,cap(rx,nor,4096,4138,4118)) \
+     sealed(10,cap(rw,nor,8192,8192,8192)) sealed(40,cap(rwx,nor,28672,28672,28672)) \
+     sealed(40,cap(rw,nor,32768,32768,32768)) bad\n",
+    "pass hop:t:other bad out\n",
+    "failed 4117 F6 steps 33\n",
 ];
 
 // Each value that owns much goes to a function of its own: each way out of a function that has one is
@@ -250,68 +266,79 @@ fn events_and_ends_of_runs_and_traces(rt: HostRuntime) -> Result<(), Fail> {
     Ok(())
 }
 
-// A run that stops at a write that fails, with what was written before.
+// Whether a run of these parts stops at a write that fails, with what was written before.
 fn run_stops(
     rt: &impl Abort,
     alloc: Global,
+    words: &str,
     before: &str,
     out: &mut MemSink,
 ) -> Result<bool, AllocError> {
-    let end = run(rt, alloc, "t:caller u:adv", 1000, out)?;
+    let end = run(rt, alloc, words, 1000, out)?;
     Ok(end == RunEnd::WriteFault && out.bytes() == before.as_bytes() && out.faults() == 1)
 }
 
 fn trace_stops(
     rt: &impl Abort,
     alloc: Global,
+    words: &str,
     before: &str,
     out: &mut MemSink,
 ) -> Result<bool, AllocError> {
-    let end = trace(rt, alloc, "t:caller u:adv", 1000, out)?;
-    Ok(end == RunEnd::WriteFault && out.bytes() == before.as_bytes())
+    let end = trace(rt, alloc, words, 1000, out)?;
+    Ok(end == RunEnd::WriteFault && out.bytes() == before.as_bytes() && out.faults() == 1)
 }
 
 fn run_stops_at(
     rt: &impl Abort,
     alloc: Global,
+    words: &str,
     number: u32,
     before: &str,
 ) -> Result<bool, AllocError> {
     let mut out = MemSink::new(alloc)?;
     out.fail_at(number);
-    run_stops(rt, alloc, before, &mut out)
+    run_stops(rt, alloc, words, before, &mut out)
 }
 
 fn trace_stops_at(
     rt: &impl Abort,
     alloc: Global,
+    words: &str,
     number: u32,
     before: &str,
 ) -> Result<bool, AllocError> {
     let mut out = MemSink::new(alloc)?;
     out.fail_at(number);
-    trace_stops(rt, alloc, before, &mut out)
+    trace_stops(rt, alloc, words, before, &mut out)
 }
 
 fn stop_at_each_write(
     rt: &impl Abort,
     alloc: Global,
+    words: &str,
+    pieces: &[&str],
     before: &mut String,
 ) -> Result<(), AllocError> {
     let mut number = 0_u32;
-    for piece in &PIECES {
+    for piece in pieces {
         number = number.saturating_add(1);
-        let run = run_stops_at(rt, alloc, number, before.as_str())?;
-        let trace = trace_stops_at(rt, alloc, number, before.as_str())?;
-        assert_eq!(rt; (run, trace), (true, true), "write {number}");
+        let run = run_stops_at(rt, alloc, words, number, before.as_str())?;
+        let trace = trace_stops_at(rt, alloc, words, number, before.as_str())?;
+        assert_eq!(rt; (run, trace), (true, true), "{words}: write {number}");
         before.push_str(*piece)?;
     }
     Ok(())
 }
 
+fn stop(rt: &impl Abort, alloc: Global, words: &str, pieces: &[&str]) -> Result<(), AllocError> {
+    let mut before = String::new(alloc);
+    stop_at_each_write(rt, alloc, words, pieces, &mut before)
+}
+
 #[test]
 fn a_run_stops_at_each_write_that_fails(rt: HostRuntime) -> Result<(), Fail> {
-    let mut before = String::new(rt.alloc());
-    stop_at_each_write(&rt, rt.alloc(), &mut before)?;
+    stop(&rt, rt.alloc(), "t:caller u:adv", &CALL_PIECES)?;
+    stop(&rt, rt.alloc(), "t:back u:passes u:ends", &PASS_PIECES)?;
     Ok(())
 }
