@@ -6,7 +6,7 @@ ghost use Rattle.lcm_machine.specs.Table.{fits_64};
 ghost use Rattle.component_linker.specs.Placing.{shifted, shifted_int, shifted_base};
 ghost use Rattle.component_linker.specs.Placing.{moved_word, moved_cap, moved_seals};
 
-use cap_words::{Cap, CapFields, LAST_PLACE, SealCap, SealFields, Sealable, Word};
+use cap_words::{Cap, CapFields, LAST_PLACE, SealCap, SealFields, Word};
 
 /// Numbers from one on are moved to those from another on.
 #[derive(Clone, Copy, Debug)]
@@ -104,11 +104,6 @@ pub(crate) fn moved_word(word: &Word, m: Move) -> Word
         Word::Int(n) => Word::Int(*n),
         Word::Mem(c) => Word::Mem(moved_cap(c.fields(), m.addresses)),
         Word::Seal(c) => Word::Seal(moved_seals(c.fields(), m.seals)),
-        Word::Sealed(seal, Sealable::Mem(c)) => {
-            Word::Sealed(*seal, Sealable::Mem(Cap::of(c.fields())))
-        }
-        Word::Sealed(seal, Sealable::Seal(c)) => {
-            Word::Sealed(*seal, Sealable::Seal(SealCap::of(c.fields())))
-        }
+        Word::Sealed(_, _) => word.made_anew(),
     }
 }

@@ -8,7 +8,6 @@ ghost use Rattle.lcm_machine.specs.Row.{put};
 ghost use Rattle.overlay_machine.specs.Seen.{start_word};
 ghost use Rattle.overlay_machine.specs.Copies.{plain_regs, copied, AreCopiedTo};
 
-use crate::flat::made_anew;
 use crate::layout::Layout;
 use crate::words::OWord;
 use cap_words::{Items, LAST_PLACE, SealRange};
@@ -102,7 +101,7 @@ pub(crate) fn layout_of(alloc: Global, start: &Start) -> Result<Layout, AllocErr
 fn copy_reg(maps: &mut State<OWord>, state: &LcmState, r: Reg)
     ensures { maps.new ≡ put maps.old (Place.R r) (OWord.Plain (reg state.now.maps.regs r)) }
 {
-    let word = OWord::Plain(made_anew(state.reg(r)));
+    let word = OWord::Plain(state.reg(r).made_anew());
     let _ = maps.swap(Place::R(r), word);
 }
 
@@ -140,7 +139,7 @@ fn copy_cell(maps: &mut State<OWord>, state: &LcmState, at: u32)
         return;
     }
     if state.has_cell(at) {
-        let word = OWord::Plain(made_anew(state.cell(at)));
+        let word = OWord::Plain(state.cell(at).made_anew());
         let _ = maps.swap(Place::Cell(at), word);
     } else {
         let _ = maps.remove_cell(at);

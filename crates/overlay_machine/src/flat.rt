@@ -12,25 +12,8 @@ use crate::layout::{Layout, SiteCode};
 use crate::machine::Machine;
 use crate::words::OWord;
 use call_sequence::CALL_WORDS;
-use cap_words::{Cap, Lin, Perm, SealCap, Sealable, Word};
+use cap_words::{Cap, Lin, Perm, Sealable, Word};
 use frame_region::Region;
-
-/// A word as another is described.
-pub(crate) fn made_anew(word: &Word) -> Word
-    ensures { result ≡ word.now }
-{
-    match word {
-        Word::Int(n) => Word::Int(*n),
-        Word::Mem(c) => Word::Mem(Cap::of(c.fields())),
-        Word::Seal(c) => Word::Seal(SealCap::of(c.fields())),
-        Word::Sealed(seal, Sealable::Mem(c)) => {
-            Word::Sealed(*seal, Sealable::Mem(Cap::of(c.fields())))
-        }
-        Word::Sealed(seal, Sealable::Seal(c)) => {
-            Word::Sealed(*seal, Sealable::Seal(SealCap::of(c.fields())))
-        }
-    }
-}
 
 // Under the seal of a site, its part's code at the word behind the call.
 fn code_half(code: SiteCode) -> Word
@@ -87,7 +70,7 @@ impl Machine {
         ensures { result ≡ flat layout.now (frames_of self.now.frames.frames) word.now }
     {
         match word {
-            OWord::Plain(word) => made_anew(word),
+            OWord::Plain(word) => word.made_anew(),
             OWord::RetCode(site) => {
                 match layout.site_code(*site) {
                     Some(code) => code_half(code),
