@@ -1,15 +1,19 @@
 -- A step counts at most one, an ended machine stays as it is, and a run is where its instructions lead.
-use Rattle.std.proofs.Common.{◌≡◌, ℕ, zero, suc, ◌+◌, ◌≤◌, Option, Some, None, refl, sym, ap, ◌∙◌, arith, add-one, inl, inr}
-use Rattle.std.specs.Prelude.{IfSome}
+use Rattle.std.proofs.Common.{◌≡◌, ◌≢◌, ℕ, zero, suc, ◌+◌, ◌≤◌, Option, Some, None, refl, sym, ap, subst, ◌∙◌, arith, add-one, inl, inr}
+use Rattle.std.specs.Prelude.{IfSome, Bool, true, false, not, is_some}
 use Rattle.std.proofs.lemmas.Bool.{cases_lt}
 use Rattle.cap_words.specs.declared.Word.{Word}
 use Rattle.lcm_machine.specs.declared.Step.{Step}
+use Rattle.lcm_machine.specs.declared.Step.TheVariants.{Went}
 use Rattle.lcm_machine.specs.declared.End.{End}
 use Rattle.lcm_machine.specs.declared.End.TheVariants.{Halted, Failed}
+use Rattle.lcm_machine.specs.declared.steps.OnXjmp.{OnXjmp}
+use Rattle.lcm_machine.specs.declared.steps.OnXjmp.TheVariants.{Make, Stop}
 use Rattle.lcm_machine.specs.Ends.{end_answer}
 use Rattle.lcm_machine.specs.Row.{Outcome, went, halted, failed, step_of}
 use Rattle.lcm_machine.specs.Maps.{State}
-use Rattle.lcm_machine.specs.Run.{Run, moved, next_by, next_state, answer, answer_by, plain, fresh, EndsAs}
+use Rattle.lcm_machine.specs.Run.{Run, moved, next_by, next_state, jump_by, next_jump, answer, answer_by, plain}
+use Rattle.lcm_machine.specs.Run.{fresh, EndsAs}
 use Rattle.lcm_machine.specs.Runs.{and_then, run_of}
 use Rattle.lcm_machine.proofs.Goes.{run_of-add}
 use Rattle.lcm_machine.proofs.StepRows.{run_one}
@@ -26,6 +30,20 @@ count_by (Some e) s = omega arith
 pub count_next : (s : Run) → (next_state s).count ≤ s.count + 1
 unfolding next_state
 count_next s = count_by s.end s
+
+moved_stays : (o : Outcome Word) (s : Run) → answer (moved o s) ≢ Went → (moved o s).maps ≡ s.maps
+moved_stays (went t) s h = absurd (h refl)
+moved_stays halted s h = refl
+moved_stays (failed cause at) s h = refl
+
+stays_by : (e : Option End) (s : Run) → answer (next_by e s) ≢ Went → (next_by e s).maps ≡ s.maps
+stays_by None s h = moved_stays (step_of (λ w. w) (λ w. w) s.maps) s h
+stays_by (Some e) s h = refl
+
+-- a step that doesn't go leaves registers and cells
+pub next_stays : (s : Run) → answer (next_state s) ≢ Went → (next_state s).maps ≡ s.maps
+unfolding next_state
+next_stays s = stays_by s.end s
 
 pub plain_more : (n : ℕ) (s : Run) → plain (n + 1) s ≡ next_state (plain n s)
 plain_more n s = rw add-one
@@ -52,6 +70,72 @@ ended_at n s t r (Some e) h k a =
 -- an ended machine answers its end, and a run leaves it as it is
 pub run_ended : (n : ℕ) (s t : Run) (r : Step) → t ≡ plain n s → r ≡ answer t → IfSome s.end (λ e. (r ≡ end_answer e) × (t ≡ s))
 run_ended n s t r k a = ended_at n s t r s.end refl k a
+
+-- where a run comes to an end, it stays
+over_by : (n i : ℕ) (s : Run) (o : Option End) → (plain i s).end ≡ o → is_some o ≡ true → i ≤ n
+    → plain n s ≡ plain i s
+over_by n i s None e h le = absurd (cc)
+over_by n i s (Some e) is h le = plain_ended n i s e le is
+
+pub plain_over : (n i : ℕ) (s t : Run) → i ≤ n → t ≡ plain i s → is_some t.end ≡ true → t ≡ plain n s
+plain_over n i s t le at over =
+    at ∙ sym (over_by n i s (plain i s).end refl (subst (λ (r : Run). is_some r.end ≡ true) at over) le)
+
+some_ended : (o : Option End) (r : Step) (t s : Run) → IfSome o (λ e. (r ≡ end_answer e) × (t ≡ s))
+    → IfSome o (λ e. (Some r ≡ Some (end_answer e)) × (t ≡ s))
+some_ended None r t s h = tt
+some_ended (Some e) r t s h = (ap Some h.0, h.1)
+
+-- the same of a step that was made
+pub step_ended : (s t : Run) (r : Step) → t ≡ plain 1 s → r ≡ answer t
+    → IfSome s.end (λ e. (Some r ≡ Some (end_answer e)) × (t ≡ s))
+step_ended s t r k a = some_ended s.end r t s (run_ended 1 s t r k a)
+
+-- ---- an `xjmp` that may be left out
+
+-- an ended machine makes none
+no_jump : (o : Option End) (s : Run) → is_some o ≡ true → jump_by o s ≡ None
+no_jump None s h = absurd (cc)
+no_jump (Some e) s h = refl
+
+pub ended_jumps : (s : Run) → is_some s.end ≡ true → next_jump s ≡ None
+unfolding next_jump
+ended_jumps s h = no_jump s.end s h
+
+not_ended : (o : Option End) (s : Run) → is_some (jump_by o s) ≡ true → o ≡ None
+not_ended None s h = refl
+not_ended (Some e) s h = absurd (cc)
+
+pub jumps_on : (s : Run) → is_some (next_jump s) ≡ true → s.end ≡ None
+unfolding next_jump
+jumps_on s h = not_ended s.end s h
+
+no_answer : (o : Option End) (s t : Run) → o ≡ None
+    → IfSome o (λ e. ((let n : Option Step = None in n) ≡ Some (end_answer e)) × (t ≡ s))
+no_answer None s t h = tt
+no_answer (Some e) s t h = absurd (cc)
+
+-- nothing is said of the end of a machine that hasn't ended
+pub left_ended : (s t : Run) → s.end ≡ None
+    → IfSome s.end (λ e. ((let n : Option Step = None in n) ≡ Some (end_answer e)) × (t ≡ s))
+left_ended s t h = no_answer s.end s t h
+
+-- one is left out only where none is to be made
+pub left_out : (x : OnXjmp) (b : Bool) → (x ≡ Make → b ≡ true) → b ≡ false → x ≡ Stop
+left_out Make b h e = let k : true ≡ false = sym (h refl) ∙ e in absurd (cc)
+left_out Stop b h e = refl
+
+pub not_true : (b : Bool) → not b ≡ true → b ≡ false
+not_true true h = absurd (cc)
+not_true false h = refl
+
+pub not_false : (b : Bool) → not b ≡ false → b ≡ true
+not_false true h = refl
+not_false false h = absurd (cc)
+
+pub is_none : {A : Type 0} (o : Option A) → is_some o ≡ false → o ≡ None
+is_none None h = refl
+is_none (Some x) h = absurd (cc)
 
 -- ---- where the instructions lead
 

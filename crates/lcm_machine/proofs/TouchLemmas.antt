@@ -15,6 +15,7 @@ use Rattle.lcm_isa.specs.declared.Reg.TheVariants.{Pc}
 use Rattle.lcm_isa.specs.declared.Instr.{Instr}
 use Rattle.lcm_isa.specs.declared.Instr.TheVariants.{Store, Load}
 use Rattle.lcm_machine.specs.declared.Step.{Step}
+use Rattle.lcm_machine.specs.declared.Step.TheVariants.{Went}
 use Rattle.lcm_machine.specs.declared.End.{End}
 use Rattle.lcm_machine.specs.declared.Place.{Place}
 use Rattle.lcm_machine.specs.declared.Place.TheVariants.{R, Cell}
@@ -294,9 +295,26 @@ next_by_same : (s : Run) (e : Option End) → SameCells s.maps (next_by e s).map
 next_by_same s None = moved_same s _ (after_step (λ w. w) (λ w. w) s.maps (SameCells s.maps) (λ i next e f g. perform_same (λ w. w) (λ w. w) s.maps e (plan_fits (λ w. w) (λ w. w) s.maps i next e g)))
 next_by_same s (Some e) = same_as_is s.maps
 
-next_state_same : (s : Run) → SameCells s.maps (next_state s).maps
+pub next_state_same : (s : Run) → SameCells s.maps (next_state s).maps
 unfolding next_state
 next_state_same s = next_by_same s s.end
+
+moved_untouched : (s : Run) (o : Outcome Word)
+    → ((t : State Word) → o ≡ went t → KeepsUntouched (λ w. w) s.maps t)
+    → KeepsUntouched (λ w. w) s.maps (moved o s).maps
+moved_untouched s (went t) k = k t refl
+moved_untouched s halted k = untouched_as_is (λ w. w) s.maps
+moved_untouched s (failed f at) k = untouched_as_is (λ w. w) s.maps
+
+next_by_untouched : (s : Run) (e : Option End) → KeepsUntouched (λ w. w) s.maps (next_by e s).maps
+next_by_untouched s None =
+    moved_untouched s (step_of (λ w. w) (λ w. w) s.maps)
+    (λ t e. step_untouched (λ w. w) (λ w. w) s.maps t Went (rw e (refl, refl)))
+next_by_untouched s (Some e) = untouched_as_is (λ w. w) s.maps
+
+pub next_state_untouched : (s : Run) → KeepsUntouched (λ w. w) s.maps (next_state s).maps
+unfolding next_state
+next_state_untouched s = next_by_untouched s s.end
 
 -- a run of any length
 pub plain_same : (n : ℕ) (s : Run) → SameCells s.maps (plain_run n s).maps

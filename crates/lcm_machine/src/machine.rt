@@ -121,25 +121,17 @@ impl LcmState {
         self.maps.fetch()
     }
 
-    // One step, unless it makes an `xjmp` and none is to be made: then nothing changes. Whether the step
-    // was made.
+    // One step of a machine that hasn't ended, unless it makes an `xjmp` and none is to be made: then
+    // nothing changes. Whether the step was made.
     #[inline(always)]
     #[tactic(auto, unfolding(crate::specs::Run::next_state, crate::specs::Run::next_jump))]
     fn advance(&mut self, on_xjmp: OnXjmp) -> bool
-        requires { self.old.count < 2 ^ 63 }
+        requires room { self.old.count < 2 ^ 63 }
+        requires on { self.old.end ≡ None }
         ensures made { on_xjmp ≡ Make → result ≡ true }
         ensures unless { on_xjmp ≡ Stop → result ≡ not (is_some (next_jump self.old)) }
         ensures after { self.new ≡ (if result then next_state self.old else self.old) }
-        ensures ended { IfSome self.old.end (λ e.
-            (result ≡ true) × (answer self.new ≡ end_answer e) × (self.new ≡ self.old)) }
-        ensures stays { answer self.new ≢ Step.Went → self.new.maps ≡ self.old.maps }
-        ensures same_cells { SameCells self.old.maps self.new.maps }
-        ensures untouched { KeepsUntouched (λ w. w) self.old.maps self.new.maps }
-        ensures held_once { StaysHeldOnce (λ w. w) self.old.maps self.new.maps }
     {
-        if self.end.is_some() {
-            return true;
-        }
         let Some(step) = self.maps.advance(on_xjmp) else {
             return false;
         };
@@ -148,6 +140,29 @@ impl LcmState {
             Step::Went => {}
             Step::Halted => self.end = Some(End::Halted),
             Step::Failed(cause, at) => self.end = Some(End::Failed(cause, at)),
+        }
+        true
+    }
+
+    // So many steps, or up to the end where that comes first; or one, unless it makes an `xjmp` and none is
+    // to be made: then nothing changes. Whether no `xjmp` was left out.
+    //
+    // Every step of this machine is made here: what instructions do is compiled once, into this loop.
+    #[inline(never)]
+    fn go(&mut self, n: u64, on_xjmp: OnXjmp) -> bool
+        requires room { self.old.count + n ≤ 2 ^ 63 }
+        requires one { on_xjmp ≡ Stop → n ≡ 1 }
+        ensures made { on_xjmp ≡ Make → result ≡ true }
+        ensures unless { on_xjmp ≡ Stop → result ≡ not (is_some (next_jump self.old)) }
+        ensures after { self.new ≡ (if result then plain n self.old else self.old) }
+    {
+        for _i in 0..n {
+            if self.end.is_some() {
+                return true;
+            }
+            if !self.advance(on_xjmp) {
+                return false;
+            }
         }
         true
     }
@@ -172,7 +187,7 @@ impl LcmState {
         ensures untouched { KeepsUntouched (λ w. w) self.old.maps self.new.maps }
         ensures held_once { StaysHeldOnce (λ w. w) self.old.maps self.new.maps }
     {
-        let _ = self.advance(OnXjmp::Make);
+        let _ = self.go(1, OnXjmp::Make);
         self.last_answer()
     }
 
@@ -240,7 +255,7 @@ impl LcmState {
         ensures untouched { KeepsUntouched (λ w. w) self.old.maps self.new.maps }
         ensures held_once { StaysHeldOnce (λ w. w) self.old.maps self.new.maps }
     {
-        if self.advance(OnXjmp::Stop) {
+        if self.go(1, OnXjmp::Stop) {
             Some(self.last_answer())
         } else {
             None
@@ -252,8 +267,6 @@ impl LcmState {
     ///
     /// The count may not pass 2^63. The spans stay, and so does which addresses have cells. No linear
     /// memory comes to be held twice by a run of any length: [`State::step`] says in which sense.
-    #[inline(never)]
-    #[tactic(auto, using(crate::proofs::RunLemmas::count_next, crate::proofs::RunLemmas::plain_more))]
     pub fn run(&mut self, n: u64) -> Step
         requires { self.old.count + n ≤ 2 ^ 63 }
         ensures after { self.new ≡ plain n self.old }
@@ -262,12 +275,7 @@ impl LcmState {
         ensures same_cells { SameCells self.old.maps self.new.maps }
         ensures held_once { StaysHeldOnce (λ w. w) self.old.maps self.new.maps }
     {
-        for _i in 0..n {
-            if let Some(end) = self.end {
-                return end.answer();
-            }
-            let _ = self.advance(OnXjmp::Make);
-        }
+        let _ = self.go(n, OnXjmp::Make);
         self.last_answer()
     }
 
