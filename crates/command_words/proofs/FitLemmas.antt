@@ -18,7 +18,9 @@ use Rattle.command_words.specs.declared.part.PartWord.{PartWord}
 use Rattle.command_words.specs.declared.command.Linked.{Linked}
 use Rattle.command_words.specs.declared.command.Linked.TheVariants.{Parts, Image}
 use Rattle.command_words.specs.declared.command.Command.{Command}
-use Rattle.command_words.specs.declared.command.Command.TheVariants.{Run, Trace, Assemble, Compile, Disassemble, Check, Mean, Generate}
+use Rattle.command_words.specs.declared.command.LinkDeed.TheVariants.{Run, Trace}
+use Rattle.command_words.specs.declared.command.ComponentDeed.TheVariants.{Put, Show}
+use Rattle.command_words.specs.declared.command.Command.TheVariants.{Links, Takes, Checks, Mean, Generate}
 use Rattle.command_words.specs.declared.action.Action.{Action}
 use Rattle.command_words.specs.declared.action.Action.TheVariants as action
 
@@ -153,14 +155,14 @@ unfolding assemble_in
 assemble_fits t = unless _ _ Fits (
     next (one_part_in t.parts) _ FitsPart Fits (one_part_fits t.parts) (λ part p.
     next (file_of t.out) _ FitsName Fits (file_fits t.out) (λ out o.
-    where_true (is_assembler part.ending) (Some (Assemble part out)) Fits (λ e. (p, o)))))
+    where_true (is_assembler part.ending) (Some (Takes part (Put out))) Fits (λ e. (p, o)))))
 
 compile_fits : (t : Taken) → IfSome (compile_in t) Fits
 unfolding compile_in
 compile_fits t = unless _ _ Fits (
     next (one_part_in t.parts) _ FitsPart Fits (one_part_fits t.parts) (λ part p.
     next (file_of t.out) _ FitsName Fits (file_fits t.out) (λ out o.
-    where_true (is_source part.ending) (Some (Compile part out)) Fits (λ e. (p, o)))))
+    where_true (is_source part.ending) (Some (Takes part (Put out))) Fits (λ e. (p, o)))))
 
 part_alone_fits : (t : Taken) → IfSome (part_alone_in t) FitsPart
 unfolding part_alone_in
@@ -171,7 +173,7 @@ unfolding link_in
 link_fits t = unless _ _ Fits (
     next (size_in t.stack) _ FitsStack Fits (size_fits t.stack) (λ size s.
     next (file_of t.out) _ FitsName Fits (file_fits t.out) (λ out o.
-    next (some_parts_in t.parts) _ FitsParts Fits (some_parts_fit t.parts) (λ parts p. (p, s, o)))))
+    next (some_parts_in t.parts) _ FitsParts Fits (some_parts_fit t.parts) (λ parts p. ((p, s), o)))))
 
 mean_fits : (t : Taken) → IfSome (mean_in t) Fits
 unfolding mean_in
@@ -187,12 +189,12 @@ unfolding generate_in
 generate_fits t = unless _ _ Fits (made (seed_in t.seed) Generate (λ n. n ≤ GREATEST_SEED) Fits (seed_fits t.seed) (λ seed s. s))
 
 asked_of_fits : (a : Action) (t : Taken) → IfSome (asked_of a t) Fits
-asked_of_fits action.Run t = made (run_in t) (λ p. Run p.0 p.1) FitsRun Fits (run_fits t) (λ p h. h)
-asked_of_fits action.Trace t = made (run_in t) (λ p. Trace p.0 p.1) FitsRun Fits (run_fits t) (λ p h. h)
+asked_of_fits action.Run t = made (run_in t) (λ p. Links p.0 (Run p.1)) FitsRun Fits (run_fits t) (λ p h. h)
+asked_of_fits action.Trace t = made (run_in t) (λ p. Links p.0 (Trace p.1)) FitsRun Fits (run_fits t) (λ p h. h)
 asked_of_fits action.Assemble t = assemble_fits t
 asked_of_fits action.Compile t = compile_fits t
-asked_of_fits action.Disassemble t = made (part_alone_in t) Disassemble FitsPart Fits (part_alone_fits t) (λ p h. h)
-asked_of_fits action.Check t = made (part_alone_in t) Check FitsPart Fits (part_alone_fits t) (λ p h. h)
+asked_of_fits action.Disassemble t = made (part_alone_in t) (λ p. Takes p Show) FitsPart Fits (part_alone_fits t) (λ p h. (h, tt))
+asked_of_fits action.Check t = made (part_alone_in t) Checks FitsPart Fits (part_alone_fits t) (λ p h. h)
 asked_of_fits action.Link t = link_fits t
 asked_of_fits action.Mean t = mean_fits t
 asked_of_fits action.Generate t = generate_fits t

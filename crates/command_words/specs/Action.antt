@@ -15,10 +15,10 @@ use Rattle.command_words.specs.declared.part.Ending.TheVariants.{Source, Assembl
 use Rattle.command_words.specs.declared.part.PartWord.{PartWord}
 use Rattle.command_words.specs.declared.command.Linked.{Linked}
 use Rattle.command_words.specs.declared.command.Linked.TheVariants.{Parts, Image}
+use Rattle.command_words.specs.declared.command.LinkDeed.TheVariants.{Run, Trace, Store}
+use Rattle.command_words.specs.declared.command.ComponentDeed.TheVariants.{Put, Show}
 use Rattle.command_words.specs.declared.command.Command.{Command}
-use Rattle.command_words.specs.declared.command.Command.TheVariants.{Run, Trace, Assemble, Compile}
-use Rattle.command_words.specs.declared.command.Command.TheVariants.{Disassemble, Check, Link, Mean}
-use Rattle.command_words.specs.declared.command.Command.TheVariants.{Generate}
+use Rattle.command_words.specs.declared.command.Command.TheVariants.{Links, Takes, Checks, Mean, Generate}
 use Rattle.command_words.specs.declared.action.Action.{Action}
 use Rattle.command_words.specs.declared.action.Action.TheVariants as action
 
@@ -74,13 +74,13 @@ unfoldable pub assemble_in : Taken → Option Command
 assemble_in t = if any_used (t.stack ∷ t.steps ∷ t.feed ∷ t.seed ∷ []) then None else do
   part ← one_part_in t.parts
   out ← file_of t.out
-  if is_assembler part.ending then Some (Assemble part out) else None
+  if is_assembler part.ending then Some (Takes part (Put out)) else None
 
 unfoldable pub compile_in : Taken → Option Command
 compile_in t = if any_used (t.stack ∷ t.steps ∷ t.feed ∷ t.seed ∷ []) then None else do
   part ← one_part_in t.parts
   out ← file_of t.out
-  if is_source part.ending then Some (Compile part out) else None
+  if is_source part.ending then Some (Takes part (Put out)) else None
 
 -- what `dis` and `check` ask for
 unfoldable pub part_alone_in : Taken → Option PartWord
@@ -92,7 +92,7 @@ link_in t = if any_used (t.steps ∷ t.feed ∷ t.seed ∷ []) then None else do
   size ← size_in t.stack
   out ← file_of t.out
   parts ← some_parts_in t.parts
-  Some (Link parts size out)
+  Some (Links (Parts parts size) (Store out))
 
 -- `t:NAME.prc`
 abbrev pub is_module : PartWord → Bool
@@ -113,12 +113,12 @@ generate_in t =
 
 -- what an action asks for
 abbrev pub asked_of : Action → Taken → Option Command
-asked_of action.Run t = option_map (λ p. Run p.0 p.1) (run_in t)
-asked_of action.Trace t = option_map (λ p. Trace p.0 p.1) (run_in t)
+asked_of action.Run t = option_map (λ p. Links p.0 (Run p.1)) (run_in t)
+asked_of action.Trace t = option_map (λ p. Links p.0 (Trace p.1)) (run_in t)
 asked_of action.Assemble t = assemble_in t
 asked_of action.Compile t = compile_in t
-asked_of action.Disassemble t = option_map Disassemble (part_alone_in t)
-asked_of action.Check t = option_map Check (part_alone_in t)
+asked_of action.Disassemble t = option_map (λ part. Takes part Show) (part_alone_in t)
+asked_of action.Check t = option_map Checks (part_alone_in t)
 asked_of action.Link t = link_in t
 asked_of action.Mean t = mean_in t
 asked_of action.Generate t = generate_in t

@@ -7,10 +7,12 @@ use Rattle.command_words.specs.declared.TheConstants.{MOST_PARTS, MOST_STEPS, GR
 use Rattle.command_words.specs.declared.part.PartWord.{PartWord}
 use Rattle.command_words.specs.declared.command.Linked.{Linked}
 use Rattle.command_words.specs.declared.command.Linked.TheVariants.{Parts, Image}
+use Rattle.command_words.specs.declared.command.LinkDeed.{LinkDeed}
+use Rattle.command_words.specs.declared.command.LinkDeed.TheVariants.{Run, Trace, Store}
+use Rattle.command_words.specs.declared.command.ComponentDeed.{ComponentDeed}
+use Rattle.command_words.specs.declared.command.ComponentDeed.TheVariants.{Put, Show}
 use Rattle.command_words.specs.declared.command.Command.{Command}
-use Rattle.command_words.specs.declared.command.Command.TheVariants.{Run, Trace, Assemble, Compile}
-use Rattle.command_words.specs.declared.command.Command.TheVariants.{Disassemble, Check, Link, Mean}
-use Rattle.command_words.specs.declared.command.Command.TheVariants.{Generate}
+use Rattle.command_words.specs.declared.command.Command.TheVariants.{Links, Takes, Checks, Mean, Generate}
 
 -- 1 to 255 bytes, of which the first isn't `-`
 abbrev pub FitsName : Text → Type 0
@@ -35,13 +37,18 @@ abbrev pub FitsLinked : Linked → Type 0
 FitsLinked (Parts parts size) = FitsParts parts × FitsStack size
 FitsLinked (Image name) = FitsName name
 
+abbrev pub FitsLinkDeed : LinkDeed → Type 0
+FitsLinkDeed (Run steps) = FitsSteps steps
+FitsLinkDeed (Trace steps) = FitsSteps steps
+FitsLinkDeed (Store out) = FitsName out
+
+abbrev pub FitsComponentDeed : ComponentDeed → Type 0
+FitsComponentDeed (Put out) = FitsName out
+FitsComponentDeed Show = Unit {0}
+
 abbrev pub Fits : Command → Type 0
-Fits (Run what steps) = FitsLinked what × FitsSteps steps
-Fits (Trace what steps) = FitsLinked what × FitsSteps steps
-Fits (Assemble part out) = FitsPart part × FitsName out
-Fits (Compile part out) = FitsPart part × FitsName out
-Fits (Disassemble part) = FitsPart part
-Fits (Check part) = FitsPart part
-Fits (Link parts size out) = FitsParts parts × FitsStack size × FitsName out
+Fits (Links what deed) = FitsLinked what × FitsLinkDeed deed
+Fits (Takes part deed) = FitsPart part × FitsComponentDeed deed
+Fits (Checks part) = FitsPart part
 Fits (Mean modules size fuel feed) = FitsParts modules × FitsStack size × FitsSteps fuel × FitsName feed
 Fits (Generate seed) = seed ≤ GREATEST_SEED

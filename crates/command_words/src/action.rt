@@ -8,7 +8,7 @@ ghost use Rattle.command_words.specs.Action.{part_alone_in, link_in, is_module, 
 ghost use Rattle.command_words.specs.Action.{asked_of, asked_in};
 ghost use Rattle.command_words.specs.Fits.{Fits};
 
-use crate::command::{Command, Linked};
+use crate::command::{Command, ComponentDeed, LinkDeed, Linked};
 use crate::fault::WordsFault;
 use crate::line::{Taken, matches, taken_of};
 use crate::name::file_of;
@@ -111,7 +111,7 @@ fn assemble<'a>(taken: &Taken<'_, 'a>) -> Option<Command<'a>>
     let part = one_part(taken.parts)?;
     let out = file_of(taken.out)?;
     if part.ending == Ending::Assembler {
-        Some(Command::Assemble(part, out))
+        Some(Command::Takes(part, ComponentDeed::Put(out)))
     } else {
         None
     }
@@ -127,7 +127,7 @@ fn compile<'a>(taken: &Taken<'_, 'a>) -> Option<Command<'a>>
     let part = one_part(taken.parts)?;
     let out = file_of(taken.out)?;
     if part.ending == Ending::Source {
-        Some(Command::Compile(part, out))
+        Some(Command::Takes(part, ComponentDeed::Put(out)))
     } else {
         None
     }
@@ -158,7 +158,7 @@ fn link<'a>(alloc: Global, taken: &Taken<'_, 'a>) -> Result<Option<Command<'a>>,
         return Ok(None);
     };
     match some_parts(alloc, taken.parts)? {
-        Some(parts) => Ok(Some(Command::Link(parts, size, out))),
+        Some(parts) => Ok(Some(Command::Links(Linked::Parts(parts, size), LinkDeed::Store(out)))),
         None => Ok(None),
     }
 }
@@ -224,21 +224,21 @@ fn asked_of<'a>(
 {
     match action {
         Action::Run => match run(alloc, taken)? {
-            Some((what, steps)) => Ok(Some(Command::Run(what, steps))),
+            Some((what, steps)) => Ok(Some(Command::Links(what, LinkDeed::Run(steps)))),
             None => Ok(None),
         },
         Action::Trace => match run(alloc, taken)? {
-            Some((what, steps)) => Ok(Some(Command::Trace(what, steps))),
+            Some((what, steps)) => Ok(Some(Command::Links(what, LinkDeed::Trace(steps)))),
             None => Ok(None),
         },
         Action::Assemble => Ok(assemble(taken)),
         Action::Compile => Ok(compile(taken)),
         Action::Disassemble => match part_alone(taken) {
-            Some(part) => Ok(Some(Command::Disassemble(part))),
+            Some(part) => Ok(Some(Command::Takes(part, ComponentDeed::Show))),
             None => Ok(None),
         },
         Action::Check => match part_alone(taken) {
-            Some(part) => Ok(Some(Command::Check(part))),
+            Some(part) => Ok(Some(Command::Checks(part))),
             None => Ok(None),
         },
         Action::Link => link(alloc, taken),

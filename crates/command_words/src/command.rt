@@ -13,23 +13,35 @@ pub enum Linked<'a> {
     Image(FileName<'a>),
 }
 
-/// What a command line asks for.
+/// What is done with what links.
+#[derive(Debug, Drop)]
+pub enum LinkDeed<'a> {
+    /// `run`: the plain machine runs, for so many steps at most.
+    Run(Steps),
+    /// `trace`: the overlay runs, for so many steps at most.
+    Trace(Steps),
+    /// `link`: the image is put into a file.
+    Store(FileName<'a>),
+}
+
+/// What is done with one component.
+#[derive(Debug, Drop)]
+pub enum ComponentDeed<'a> {
+    /// `asm`, `compile`: it is put into a file.
+    Put(FileName<'a>),
+    /// `dis`: its text is written.
+    Show,
+}
+
+/// What a command line asks for: what is read, and what is done with it.
 #[derive(Debug, Drop)]
 pub enum Command<'a> {
-    /// `run`: the plain machine, for so many steps at most.
-    Run(Linked<'a>, Steps),
-    /// `trace`: the overlay, for so many steps at most.
-    Trace(Linked<'a>, Steps),
-    /// `asm`: the component of an assembler text, into a file.
-    Assemble(PartWord<'a>, FileName<'a>),
-    /// `compile`: the component of a source, into a file.
-    Compile(PartWord<'a>, FileName<'a>),
-    /// `dis`: the text of a part's component.
-    Disassemble(PartWord<'a>),
-    /// `check`: the rules of a part by itself.
-    Check(PartWord<'a>),
-    /// `link`: the image of parts with the size of their stack, into a file.
-    Link(PartWords<'a>, u32, FileName<'a>),
+    /// Parts that are linked, or an image.
+    Links(Linked<'a>, LinkDeed<'a>),
+    /// The component of one part, of which no rule is asked.
+    Takes(PartWord<'a>, ComponentDeed<'a>),
+    /// `check`: one part with its own rules.
+    Checks(PartWord<'a>),
     /// `mean`: what modules mean, with the size of the stack and the fuel, over the feed of a file.
     Mean(PartWords<'a>, u32, Steps, FileName<'a>),
     /// `generate`: the component of a seed.

@@ -13,7 +13,7 @@ mod number;
 mod part;
 
 pub use action::command_of;
-pub use command::{Command, Linked};
+pub use command::{Command, ComponentDeed, LinkDeed, Linked};
 pub use fault::WordsFault;
 pub use name::FileName;
 pub use number::{Seed, Steps};

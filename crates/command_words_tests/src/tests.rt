@@ -1,6 +1,9 @@
 //! Lines of words, parted by blanks, and what each asks for: that the definitions which the clauses
 //! cite mean what they should. Each was worked out by hand.
-use command_words::{Command, Ending, Linked, Mark, PartWord, PartWords, WordsFault, command_of};
+use command_words::{
+    Command, ComponentDeed, Ending, LinkDeed, Linked, Mark, PartWord, PartWords, WordsFault,
+    command_of,
+};
 use std::alloc::{AllocError, Global};
 use std::process::Abort;
 use std::test::Fail;
@@ -33,35 +36,26 @@ fn linked_text(alloc: Global, what: &Linked<'_>) -> Result<String, AllocError> {
     }
 }
 
-fn run_text(
-    alloc: Global,
-    action: &str,
-    what: &Linked<'_>,
-    steps: u64,
-) -> Result<String, AllocError> {
-    format!(in alloc; "{action} {} {steps}", linked_text(alloc, what)?)
+// An image that is stored is asked for by no words.
+fn links_text(alloc: Global, what: &Linked<'_>, deed: &LinkDeed<'_>) -> Result<String, AllocError> {
+    let what = linked_text(alloc, what)?;
+    match deed {
+        LinkDeed::Run(steps) => format!(in alloc; "run {what} {}", steps.number()),
+        LinkDeed::Trace(steps) => format!(in alloc; "trace {what} {}", steps.number()),
+        LinkDeed::Store(out) => format!(in alloc; "store {what} {}", out.as_str()),
+    }
 }
 
-fn put_text(
+fn takes_text(
     alloc: Global,
-    action: &str,
     part: &PartWord<'_>,
-    out: &str,
+    deed: &ComponentDeed<'_>,
 ) -> Result<String, AllocError> {
-    format!(in alloc; "{action} {} {out}", part_text(alloc, part)?)
-}
-
-fn one_part_text(alloc: Global, action: &str, part: &PartWord<'_>) -> Result<String, AllocError> {
-    format!(in alloc; "{action} {}", part_text(alloc, part)?)
-}
-
-fn link_text(
-    alloc: Global,
-    parts: &PartWords<'_>,
-    size: u32,
-    out: &str,
-) -> Result<String, AllocError> {
-    format!(in alloc; "link {} {size} {out}", parts_text(alloc, parts)?)
+    let part = part_text(alloc, part)?;
+    match deed {
+        ComponentDeed::Put(out) => format!(in alloc; "put {part} {}", out.as_str()),
+        ComponentDeed::Show => format!(in alloc; "show {part}"),
+    }
 }
 
 fn mean_text(
@@ -76,13 +70,9 @@ fn mean_text(
 
 fn command_text(alloc: Global, command: &Command<'_>) -> Result<String, AllocError> {
     match command {
-        Command::Run(what, steps) => run_text(alloc, "run", what, steps.number()),
-        Command::Trace(what, steps) => run_text(alloc, "trace", what, steps.number()),
-        Command::Assemble(part, out) => put_text(alloc, "asm", part, out.as_str()),
-        Command::Compile(part, out) => put_text(alloc, "compile", part, out.as_str()),
-        Command::Disassemble(part) => one_part_text(alloc, "dis", part),
-        Command::Check(part) => one_part_text(alloc, "check", part),
-        Command::Link(parts, size, out) => link_text(alloc, parts, *size, out.as_str()),
+        Command::Links(what, deed) => links_text(alloc, what, deed),
+        Command::Takes(part, deed) => takes_text(alloc, part, deed),
+        Command::Checks(part) => format!(in alloc; "check {}", part_text(alloc, part)?),
         Command::Mean(modules, size, fuel, feed) => {
             mean_text(alloc, modules, *size, fuel.number(), feed.as_str())
         }
@@ -128,20 +118,20 @@ static ACTIONS: [(&str, &str); 22] = [
         "trace t-source(a.prc)u-component(b.stc)t-asm(c.asm) 4096 1000000",
     ),
     ("trace one.img", "trace image(one.img) 1000000"),
-    ("asm u:one.asm --out one.stc", "asm u-asm(one.asm) one.stc"),
+    ("asm u:one.asm --out one.stc", "put u-asm(one.asm) one.stc"),
     ("asm u:one.asm", "usage"),
     ("asm u:one.prc --out one.stc", "usage"),
     (
         "compile t:one.prc --out one.stc",
-        "compile t-source(one.prc) one.stc",
+        "put t-source(one.prc) one.stc",
     ),
     ("compile t:one.prc", "usage"),
     ("compile t:one.asm --out one.stc", "usage"),
-    ("dis u:one.stc", "dis u-component(one.stc)"),
+    ("dis u:one.stc", "show u-component(one.stc)"),
     ("check t:one.prc", "check t-source(one.prc)"),
     (
         "link u:one.asm --out one.img",
-        "link u-asm(one.asm) 4096 one.img",
+        "store u-asm(one.asm) 4096 one.img",
     ),
     ("link u:one.asm", "usage"),
     ("link one.img --out two.img", "usage"),
@@ -176,7 +166,7 @@ static OPTIONS: [(&str, &str); 27] = [
     ("asm u:one.asm --out", "usage"),
     ("asm u:one.asm --out=", "usage"),
     ("asm u:one.asm --out ", "usage"),
-    ("asm u:one.asm --out==x", "asm u-asm(one.asm) =x"),
+    ("asm u:one.asm --out==x", "put u-asm(one.asm) =x"),
     // By their whole names.
     ("run --ste 10 u:one.asm", "usage"),
     ("run -s 10 u:one.asm", "usage"),

@@ -6,7 +6,6 @@ use Rattle.outside_io.specs.FilesSeen.{FilesSeen}
 use Rattle.command_words.specs.declared.part.Ending.{Ending}
 use Rattle.command_words.specs.declared.part.Ending.TheVariants.{Source, Assembler, Component}
 use Rattle.command_words.specs.declared.part.PartWord.{PartWord}
-use Rattle.command_words.specs.declared.command.Linked.TheVariants as what
 use Rattle.component_file.specs.declared.component.ComponentFields.{ComponentFields}
 use Rattle.component_file.specs.Reading.{decoded}
 use Rattle.assembler.specs.Assembled.{assembled}
@@ -16,31 +15,36 @@ use Rattle.component_linker.specs.Parts.{PartSeen}
 use Rattle.lcm_cli.specs.declared.refusal.Refusal.{Refusal}
 use Rattle.lcm_cli.specs.declared.refusal.Refusal.TheVariants as refusal
 use Rattle.lcm_cli.specs.Plans.{Plan, Reads, Ends, Made, ◌>>=◌, unless, whole, too_long, unread, Comes}
-use Rattle.lcm_cli.specs.Parts.{is_trusted, broken_in, linked, loaded, form_by, component_at, part_at, each_at}
-use Rattle.lcm_cli.specs.Commands.{Task, Run, Trace, Put, Show, Say, OfComponent, OfImage, is_source, is_built_form, linked_parts, linked_image, run_plan, trace_plan, assemble_plan, disassemble_plan, check_plan, link_plan}
+use Rattle.lcm_cli.specs.Parts.{is_trusted, broken_in, linked, loaded, form_by, component_at, part_at}
+use Rattle.lcm_cli.specs.Parts.{each_at}
+use Rattle.lcm_cli.specs.Commands.{is_source, is_built_form, linked_parts, linked_image}
 use Rattle.lcm_cli.proofs.BuiltParts.{and_left, and_right, no_source}
 use Rattle.lcm_cli.proofs.Linking.{image_with}
 
 -- what comes of two plans that are joined
 abbrev pub Split : {A B : Type 0} → Plan A → (A → Plan B) → FilesSeen → Result B Refusal → FilesSeen → Type 0
-Split {A} p f old due new = ((x : A) × (mid : FilesSeen) × Comes p old (Ok x) mid × Comes (f x) mid due new) ⊎ ((why : Refusal) × Comes p old (Err why) new × (due ≡ Err why))
+Split {A} p f old due new = ((x : A) × (mid : FilesSeen) × Comes p old (Ok x) mid × Comes (f x) mid due new)
+    ⊎ ((why : Refusal) × Comes p old (Err why) new × (due ≡ Err why))
 
-pub comes_split : {A B : Type 0} (p : Plan A) (f : A → Plan B) (old new : FilesSeen) (due : Result B Refusal) → Comes (p >>= f) old due new → Split p f old due new
+pub comes_split : {A B : Type 0} (p : Plan A) (f : A → Plan B) (old new : FilesSeen) (due : Result B Refusal)
+    → Comes (p >>= f) old due new → Split p f old due new
 comes_split (Made x) f old new due h = inl (x, old, (refl, refl), h)
 comes_split (Ends why) f old new due h = inr (why, (refl, h.1), h.0)
-comes_split (Reads name place next) f old new due (whole bytes mid w h) =
-    elim (comes_split (next bytes) f mid new due h) as (λ _. Split (Reads name place next) f old due new) [
+comes_split (Reads name index next) f old new due (whole bytes mid w h) =
+    elim (comes_split (next bytes) f mid new due h) as (λ _. Split (Reads name index next) f old due new) [
       | inl s ↦ inl (s.0, s.1, whole bytes mid w s.2, s.3)
       | inr s ↦ inr (s.0, whole bytes mid w s.1, s.2)
     ]
-comes_split (Reads name place next) f old new due (too_long t e) = inr (refusal.TooLong place, too_long t refl, e)
-comes_split (Reads name place next) f old new due (unread t e) = inr (refusal.ReadFault, unread t refl, e)
+comes_split (Reads name index next) f old new due (too_long t e) =
+    inr (refusal.TooLong index, too_long t refl, e)
+comes_split (Reads name index next) f old new due (unread t e) = inr (refusal.ReadFault, unread t refl, e)
 
 pub same_err : {A : Type 0} (x y : Refusal) → (let r : Result A Refusal = Err x in r) ≡ Err y → y ≡ x
 same_err x y e = cc
 
 -- what a layer below gave, where the call ended
-pub ended_unless : {A F : Type 0} (told : F → Refusal) (r : Result A F) (old new : FilesSeen) (why : Refusal) → Comes (unless told r) old (Err why) new → (f : F) × (r ≡ Err f) × (why ≡ told f) × (new ≡ old)
+pub ended_unless : {A F : Type 0} (told : F → Refusal) (r : Result A F) (old new : FilesSeen) (why : Refusal)
+    → Comes (unless told r) old (Err why) new → (f : F) × (r ≡ Err f) × (why ≡ told f) × (new ≡ old)
 ended_unless told (Ok x) old new why h = absurd (let e = h.0 in cc)
 ended_unless {A} told (Err f) old new why h = (f, refl, same_err {A = A} (told f) why (sym h.0), h.1)
 
@@ -55,27 +59,26 @@ not_made x why old new h = absurd (let e = h.0 in cc)
 never_ends : {A : Type 0} (w why : Refusal) → w ≢ why → Never (let p : Plan A = Ends w in p) why
 never_ends {A} w why differ old new h = differ (sym (same_err {A = A} w why (sym h.0)))
 
-pub never_unless : {A F : Type 0} (told : F → Refusal) (r : Result A F) (why : Refusal) → ((f : F) → told f ≢ why) → Never (unless told r) why
+pub never_unless : {A F : Type 0} (told : F → Refusal) (r : Result A F) (why : Refusal)
+    → ((f : F) → told f ≢ why) → Never (unless told r) why
 never_unless told r why differ old new h = let e = ended_unless told r old new why h in differ e.0 (sym e.2)
 
-never_bind : {A B : Type 0} (p : Plan A) (f : A → Plan B) (why : Refusal) → Never p why → ((x : A) → Never (f x) why) → Never (p >>= f) why
+never_bind : {A B : Type 0} (p : Plan A) (f : A → Plan B) (why : Refusal) → Never p why
+    → ((x : A) → Never (f x) why) → Never (p >>= f) why
 never_bind p f why first next old new h = elim (comes_split p f old new (Err why) h) as (λ _. ⊥) [
   | inl s ↦ next s.0 s.1 new s.3
   | inr s ↦ first old new (let e = same_err why s.0 s.2 in subst (λ w. Comes p old (Err w) new) e s.1)
 ]
 
-pub never_reads : {A : Type 0} (name : List ℕ) (place : ℕ) (next : List ℕ → Plan A) (why : Refusal) → refusal.TooLong place ≢ why → refusal.ReadFault ≢ why → ((bytes : List ℕ) → Never (next bytes) why)
-    → Never (let p : Plan A = Reads name place next in p) why
-never_reads {A} name place next why long fault rest = by
+pub never_reads : {A : Type 0} (name : List ℕ) (index : ℕ) (next : List ℕ → Plan A) (why : Refusal)
+    → refusal.TooLong index ≢ why → refusal.ReadFault ≢ why → ((bytes : List ℕ) → Never (next bytes) why)
+    → Never (let p : Plan A = Reads name index next in p) why
+never_reads {A} name index next why long fault rest = by
   where
-    by : Never (let p : Plan A = Reads name place next in p) why
+    by : Never (let p : Plan A = Reads name index next in p) why
     by old new (whole bytes mid w h) = rest bytes mid new h
-    by old new (too_long t e) = long (sym (same_err {A = A} (refusal.TooLong place) why (sym e)))
+    by old new (too_long t e) = long (sym (same_err {A = A} (refusal.TooLong index) why (sym e)))
     by old new (unread t e) = fault (sym (same_err {A = A} refusal.ReadFault why (sym e)))
-
--- a task that is made of what a plan made
-never_of : {A : Type 0} (p : Plan A) (f : A → Task) (why : Refusal) → Never p why → Never (p >>= (λ x. Made (f x))) why
-never_of p f why first = never_bind p (λ x. Made (f x)) why first (λ x. not_made (f x) why)
 
 -- ---- how no part of words ends, where it is built: as words that are no command, or as an image
 
@@ -87,60 +90,54 @@ Foreign _ = ⊥
 foreign : (x why : Refusal) → Foreign why → x ≡ why → Foreign x
 foreign x why h e = subst Foreign (sym e) h
 
-never_form : (why : Refusal) → Foreign why → (ending : Ending) (name : List ℕ) (place : ℕ) → is_source ending ≡ false → Never (let p : Plan _ = Reads name place (form_by ending place) in p) why
-never_form why h Source name place f = absurd (cc)
-never_form why h Assembler name place f =
-    never_reads name place (form_by Assembler place) why (foreign (refusal.TooLong place) why h) (foreign refusal.ReadFault why h) (λ bytes. never_unless (refusal.Assembly place) (assembled bytes) why (λ x. foreign (refusal.Assembly place x) why h))
-never_form why h Component name place f =
-    never_reads name place (form_by Component place) why (foreign (refusal.TooLong place) why h) (foreign refusal.ReadFault why h) (λ bytes. never_unless (refusal.File place) (decoded bytes) why (λ x. foreign (refusal.File place x) why h))
+never_form : (why : Refusal) → Foreign why → (ending : Ending) (name : List ℕ) (index : ℕ) → is_source ending
+    ≡ false → Never (let p : Plan _ = Reads name index (form_by ending index) in p) why
+never_form why h Source name index f = absurd (cc)
+never_form why h Assembler name index f =
+    never_reads name index (form_by Assembler index) why (foreign (refusal.TooLong index) why h)
+    (foreign refusal.ReadFault why h) (λ bytes. never_unless (refusal.Assembly index)
+    (assembled bytes) why (λ x. foreign (refusal.Assembly index x) why h))
+never_form why h Component name index f =
+    never_reads name index (form_by Component index) why (foreign (refusal.TooLong index) why h)
+    (foreign refusal.ReadFault why h) (λ bytes. never_unless (refusal.File index) (decoded bytes) why
+    (λ x. foreign (refusal.File index x) why h))
 
-never_component : (why : Refusal) → Foreign why → (place : ℕ) (w : PartWord) → is_built_form w ≡ true → Never (component_at place w) why
+pub never_component : (why : Refusal) → Foreign why → (index : ℕ) (w : PartWord) → is_built_form w ≡ true
+    → Never (component_at index w) why
 unfolding component_at
-never_component why h place w f = never_form why h w.ending w.name place (no_source w f)
+never_component why h index w f = never_form why h w.ending w.name index (no_source w f)
 
 abbrev part_by : ℕ → PartWord → ComponentFields → Plan PartSeen
-part_by place w c = unless (broken_in place) (accepted (record { component = c; trusted = is_trusted w.mark }))
+part_by index w c = unless (broken_in index) (accepted
+    (record { component = c; trusted = is_trusted w.mark }))
 
-never_part : (why : Refusal) → Foreign why → (place : ℕ) (w : PartWord) → is_built_form w ≡ true → Never (part_at place w) why
+pub never_part : (why : Refusal) → Foreign why → (index : ℕ) (w : PartWord) → is_built_form w ≡ true
+    → Never (part_at index w) why
 unfolding part_at
-never_part why h place w f =
-    never_bind (component_at place w) (part_by place w) why (never_component why h place w f) (λ c. never_unless (broken_in place) (accepted (record { component = c; trusted = is_trusted w.mark })) why (λ b. foreign (broken_in place b) why h))
+never_part why h index w f =
+    never_bind (component_at index w) (part_by index w) why (never_component why h index w f)
+    (λ c. never_unless (broken_in index) (accepted
+    (record { component = c; trusted = is_trusted w.mark })) why (λ b. foreign (broken_in index b) why h))
 
-never_each : (why : Refusal) → Foreign why → (place : ℕ) (ws : List PartWord) → list_all is_built_form ws ≡ true → Never (each_at part_at place ws) why
-never_each why h place [] f = not_made [] why
-never_each why h place (w ∷ ws) f =
-    never_bind (part_at place w) (λ p. each_at part_at (place + 1) ws >>= (λ ps. Made (p ∷ ps))) why (never_part why h place w (and_left (is_built_form w) (list_all is_built_form ws) f))
-    (λ p. never_bind (each_at part_at (place + 1) ws) (λ ps. Made (p ∷ ps)) why (never_each why h (place + 1) ws (and_right (is_built_form w) (list_all is_built_form ws) f)) (λ ps. not_made (p ∷ ps) why))
+never_each : (why : Refusal) → Foreign why → (index : ℕ) (ws : List PartWord) → list_all is_built_form ws
+    ≡ true → Never (each_at part_at index ws) why
+never_each why h index [] f = not_made [] why
+never_each why h index (w ∷ ws) f =
+    never_bind (part_at index w) (λ p. each_at part_at (index + 1) ws >>= (λ ps. Made (p ∷ ps))) why
+    (never_part why h index w (and_left (is_built_form w) (list_all is_built_form ws) f))
+    (λ p. never_bind (each_at part_at (index + 1) ws) (λ ps. Made (p ∷ ps)) why
+    (never_each why h (index + 1) ws (and_right (is_built_form w) (list_all is_built_form ws) f))
+    (λ ps. not_made (p ∷ ps) why))
 
-never_linked : (why : Refusal) → Foreign why → (words : List PartWord) (size : ℕ) → list_all is_built_form words ≡ true → Never (linked_parts words size) why
+pub never_linked : (why : Refusal) → Foreign why → (words : List PartWord) (size : ℕ)
+    → list_all is_built_form words ≡ true → Never (linked_parts words size) why
 unfolding linked_parts
 never_linked why h words size f =
-    never_bind (each_at part_at 0 words) (λ ps. unless refusal.Rule (linked ps size) >>= (λ _. Made (image_with size ps))) why (never_each why h 0 words f)
-    (λ ps. never_bind (unless refusal.Rule (linked ps size)) (λ _. Made (image_with size ps)) why (never_unless refusal.Rule (linked ps size) why (λ r. foreign (refusal.Rule r) why h)) (λ u. not_made (image_with size ps) why))
-
-pub never_runs : (why : Refusal) → Foreign why → (words : List PartWord) (size steps : ℕ) → list_all is_built_form words ≡ true → Never (run_plan (what.Parts words size) steps) why
-unfolding run_plan
-never_runs why h words size steps f = never_of (linked_parts words size) (λ i. Run i.parts i.stack steps) why (never_linked why h words size f)
-
-pub never_traces : (why : Refusal) → Foreign why → (words : List PartWord) (size steps : ℕ) → list_all is_built_form words ≡ true → Never (trace_plan (what.Parts words size) steps) why
-unfolding trace_plan
-never_traces why h words size steps f = never_of (linked_parts words size) (λ i. Trace i.parts i.stack steps) why (never_linked why h words size f)
-
-pub never_links : (why : Refusal) → Foreign why → (words : List PartWord) (size : ℕ) (out : List ℕ) → list_all is_built_form words ≡ true → Never (link_plan words size out) why
-unfolding link_plan
-never_links why h words size out f = never_of (linked_parts words size) (λ i. Put out (OfImage i)) why (never_linked why h words size f)
-
-pub never_assembles : (why : Refusal) → Foreign why → (word : PartWord) (out : List ℕ) → is_built_form word ≡ true → Never (assemble_plan word out) why
-unfolding assemble_plan
-never_assembles why h word out f = never_of (component_at 0 word) (λ c. Put out (OfComponent c)) why (never_component why h 0 word f)
-
-pub never_shows : (why : Refusal) → Foreign why → (word : PartWord) → is_built_form word ≡ true → Never (disassemble_plan word) why
-unfolding disassemble_plan
-never_shows why h word f = never_of (component_at 0 word) Show why (never_component why h 0 word f)
-
-pub never_checks : (why : Refusal) → Foreign why → (word : PartWord) → is_built_form word ≡ true → Never (check_plan word) why
-unfolding check_plan
-never_checks why h word f = never_of (part_at 0 word) (λ p. Say) why (never_part why h 0 word f)
+    never_bind (each_at part_at 0 words) (λ ps. unless refusal.Rule (linked ps size) >>=
+    (λ _. Made (image_with size ps))) why (never_each why h 0 words f)
+    (λ ps. never_bind (unless refusal.Rule (linked ps size)) (λ _. Made (image_with size ps)) why
+    (never_unless refusal.Rule (linked ps size) why (λ r. foreign (refusal.Rule r) why h))
+    (λ u. not_made (image_with size ps) why))
 
 -- ---- how no image ends
 
@@ -152,26 +149,26 @@ NotOfImage _ = ⊥
 not_of_image : (x why : Refusal) → NotOfImage why → x ≡ why → NotOfImage x
 not_of_image x why h e = subst NotOfImage (sym e) h
 
-never_image : (why : Refusal) → NotOfImage why → (name : List ℕ) → Never (linked_image name) why
+pub never_image : (why : Refusal) → NotOfImage why → (name : List ℕ) → Never (linked_image name) why
 unfolding linked_image
 never_image why h name =
-    never_reads name 0 (λ bytes. unless refusal.Image (loaded bytes)) why (not_of_image (refusal.TooLong 0) why h) (not_of_image refusal.ReadFault why h) (λ bytes. never_unless refusal.Image (loaded bytes) why (λ x. not_of_image (refusal.Image x) why h))
-
-pub never_image_runs : (why : Refusal) → NotOfImage why → (name : List ℕ) (steps : ℕ) → Never (run_plan (what.Image name) steps) why
-unfolding run_plan
-never_image_runs why h name steps = never_of (linked_image name) (λ i. Run i.parts i.stack steps) why (never_image why h name)
-
-pub never_image_traces : (why : Refusal) → NotOfImage why → (name : List ℕ) (steps : ℕ) → Never (trace_plan (what.Image name) steps) why
-unfolding trace_plan
-never_image_traces why h name steps = never_of (linked_image name) (λ i. Trace i.parts i.stack steps) why (never_image why h name)
+    never_reads name 0 (λ bytes. unless refusal.Image (loaded bytes)) why
+    (not_of_image (refusal.TooLong 0) why h) (not_of_image refusal.ReadFault why h)
+    (λ bytes. never_unless refusal.Image (loaded bytes) why (λ x. not_of_image (refusal.Image x) why h))
 
 -- ---- a component never ends by a rule
 
-no_rule_form : (ending : Ending) (name : List ℕ) (place : ℕ) (r : RuleAt) → Never (let p : Plan _ = Reads name place (form_by ending place) in p) (refusal.Rule r)
-no_rule_form Source name place r = never_reads name place (form_by Source place) (refusal.Rule r) (λ e. cc) (λ e. cc) (λ bytes. never_ends refusal.Usage (refusal.Rule r) (λ e. cc))
-no_rule_form Assembler name place r = never_reads name place (form_by Assembler place) (refusal.Rule r) (λ e. cc) (λ e. cc) (λ bytes. never_unless (refusal.Assembly place) (assembled bytes) (refusal.Rule r) (λ f e. cc))
-no_rule_form Component name place r = never_reads name place (form_by Component place) (refusal.Rule r) (λ e. cc) (λ e. cc) (λ bytes. never_unless (refusal.File place) (decoded bytes) (refusal.Rule r) (λ f e. cc))
+no_rule_form : (ending : Ending) (name : List ℕ) (index : ℕ) (r : RuleAt)
+    → Never (let p : Plan _ = Reads name index (form_by ending index) in p) (refusal.Rule r)
+no_rule_form Source name index r = never_reads name index (form_by Source index) (refusal.Rule r) (λ e. cc)
+    (λ e. cc) (λ bytes. never_ends refusal.Usage (refusal.Rule r) (λ e. cc))
+no_rule_form Assembler name index r = never_reads name index (form_by Assembler index) (refusal.Rule r)
+    (λ e. cc) (λ e. cc) (λ bytes. never_unless (refusal.Assembly index) (assembled bytes) (refusal.Rule r)
+    (λ f e. cc))
+no_rule_form Component name index r = never_reads name index (form_by Component index) (refusal.Rule r)
+    (λ e. cc) (λ e. cc) (λ bytes. never_unless (refusal.File index) (decoded bytes) (refusal.Rule r)
+    (λ f e. cc))
 
-pub no_rule : (place : ℕ) (w : PartWord) (r : RuleAt) → Never (component_at place w) (refusal.Rule r)
+pub no_rule : (index : ℕ) (w : PartWord) (r : RuleAt) → Never (component_at index w) (refusal.Rule r)
 unfolding component_at
-no_rule place w r = no_rule_form w.ending w.name place r
+no_rule index w r = no_rule_form w.ending w.name index r

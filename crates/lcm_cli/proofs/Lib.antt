@@ -1,5 +1,4 @@
 pub mod Follow
-pub mod Tasks
 pub mod Sinks
 pub mod Each
 pub mod FirstOf
@@ -7,9 +6,13 @@ pub mod Given
 pub mod BuiltParts
 pub mod Linking
 pub mod Ends
+pub mod Tasks
 pub mod Reasons
 pub mod Settled
+pub mod Why
+pub mod Put
 pub mod Caused
+pub mod RunsMade
 pub mod Rising
 pub mod OneStart
 pub mod OneOverlay

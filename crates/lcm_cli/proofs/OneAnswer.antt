@@ -1,5 +1,6 @@
 -- The words and the bytes of the files determine the answer.
-use Rattle.std.proofs.Common.{◌≡◌, ℕ, ◌<◌, ◌≤◌, ◌⊎◌, List, length, Option, Some, None, sym, ap, subst, ◌∙◌, arith, inl, inr}
+use Rattle.std.proofs.Common.{◌≡◌, ℕ, ◌<◌, ◌≤◌, ◌⊎◌, List, length, Option, Some, None, sym, ap, subst, ◌∙◌}
+use Rattle.std.proofs.Common.{arith, inl, inr}
 use Rattle.std.specs.Prelude.{Result, Ok, Err}
 use Rattle.command_words.specs.declared.command.Command.{Command}
 use Rattle.component_linker.specs.Standing.{placed}
@@ -9,48 +10,60 @@ use Rattle.lcm_cli.specs.declared.TheConstants.{LONGEST_FILE}
 use Rattle.lcm_cli.specs.declared.refusal.Refusal.{Refusal}
 use Rattle.lcm_cli.specs.declared.refusal.Refusal.TheVariants as refusal
 use Rattle.lcm_cli.specs.Plans.{Plan, Reads, Ends, Made}
-use Rattle.lcm_cli.specs.Commands.{Task, Run, Trace, Put, Show, Say, plan_in}
+use Rattle.lcm_cli.specs.Commands.{Task, Run, Trace, Put, Write, plan_in}
 use Rattle.lcm_cli.specs.Answers.{Answer, IsAnswerOf, ran, traced, Settles, IsWritten}
 use Rattle.lcm_cli.proofs.OneStart.{one_start}
 use Rattle.lcm_cli.proofs.OneOverlay.{one_overlay}
 
 -- ---- files settle one due
 
-one_read : (held : List ℕ → Option (List ℕ)) (name b d : List ℕ) → held name ≡ Some b → held name ≡ Some d → b ≡ d
+one_read : (held : List ℕ → Option (List ℕ)) (name b d : List ℕ) → held name ≡ Some b → held name ≡ Some d → b
+    ≡ d
 one_read held name b d h k = let e : Some b ≡ Some d = sym h ∙ k in cc
 
 -- what is due to the bytes of a file
-abbrev AtBytes : {A : Type 0} → (List ℕ → Option (List ℕ)) → ℕ → (List ℕ → Plan A) → Result A Refusal → List ℕ → Type 0
-AtBytes held place next due b = ((length b ≤ LONGEST_FILE) × Settles held (next b) due) ⊎ ((LONGEST_FILE < length b) × (due ≡ Err (refusal.TooLong place)))
+abbrev AtBytes : {A : Type 0} → (List ℕ → Option (List ℕ)) → ℕ → (List ℕ → Plan A) → Result A Refusal → List ℕ
+    → Type 0
+AtBytes held index next due b = ((length b ≤ LONGEST_FILE) × Settles held (next b) due)
+    ⊎ ((LONGEST_FILE < length b) × (due ≡ Err (refusal.TooLong index)))
 
-at_same : {A : Type 0} (held : List ℕ → Option (List ℕ)) (place : ℕ) (next : List ℕ → Plan A) (due last : Result A Refusal) → ((x : List ℕ) → Settles held (next x) due → Settles held (next x) last → due ≡ last)
-    → (b : List ℕ) → AtBytes held place next due b → AtBytes held place next last b → due ≡ last
-at_same held place next due last f b (inl u) (inl v) = f b u.1 v.1
-at_same held place next due last f b (inl u) (inr v) = absurd (let n = u.0 in let m = v.0 in omega (arith, n, m))
-at_same held place next due last f b (inr u) (inl v) = absurd (let n = u.0 in let m = v.0 in omega (arith, n, m))
-at_same held place next due last f b (inr u) (inr v) = u.1 ∙ sym v.1
+at_same : {A : Type 0} (held : List ℕ → Option (List ℕ)) (index : ℕ) (next : List ℕ → Plan A)
+    (due last : Result A Refusal) → ((x : List ℕ) → Settles held (next x) due → Settles held (next x) last
+    → due ≡ last)
+    → (b : List ℕ) → AtBytes held index next due b → AtBytes held index next last b → due ≡ last
+at_same held index next due last f b (inl u) (inl v) = f b u.1 v.1
+at_same held index next due last f b (inl u) (inr v) =
+    absurd (let n = u.0 in let m = v.0 in omega (arith, n, m))
+at_same held index next due last f b (inr u) (inl v) =
+    absurd (let n = u.0 in let m = v.0 in omega (arith, n, m))
+at_same held index next due last f b (inr u) (inr v) = u.1 ∙ sym v.1
 
-at_bytes : {A : Type 0} (held : List ℕ → Option (List ℕ)) (place : ℕ) (next : List ℕ → Plan A) (due last : Result A Refusal) → ((x : List ℕ) → Settles held (next x) due → Settles held (next x) last → due ≡ last)
-    → (b d : List ℕ) → b ≡ d → AtBytes held place next due b → AtBytes held place next last d → due ≡ last
-at_bytes held place next due last f b d e h k = at_same held place next due last f d (subst (AtBytes held place next due) e h) k
+at_bytes : {A : Type 0} (held : List ℕ → Option (List ℕ)) (index : ℕ) (next : List ℕ → Plan A)
+    (due last : Result A Refusal) → ((x : List ℕ) → Settles held (next x) due → Settles held (next x) last
+    → due ≡ last)
+    → (b d : List ℕ) → b ≡ d → AtBytes held index next due b → AtBytes held index next last d → due ≡ last
+at_bytes held index next due last f b d e h k =
+    at_same held index next due last f d (subst (AtBytes held index next due) e h) k
 
-one_due : {A : Type 0} (held : List ℕ → Option (List ℕ)) (plan : Plan A) (due last : Result A Refusal) → Settles held plan due → Settles held plan last → due ≡ last
+one_due : {A : Type 0} (held : List ℕ → Option (List ℕ)) (plan : Plan A) (due last : Result A Refusal)
+    → Settles held plan due → Settles held plan last → due ≡ last
 one_due held (Made x) due last h k = h ∙ sym k
 one_due held (Ends why) due last h k = h ∙ sym k
-one_due held (Reads name place next) due last (b, e, h) (d, f, k) = at_bytes held place next due last (λ x. one_due held (next x) due last) b d (one_read held name b d e f) h k
+one_due held (Reads name index next) due last (b, e, h) (d, f, k) =
+    at_bytes held index next due last (λ x. one_due held (next x) due last) b d
+    (one_read held name b d e f) h k
 
 -- ---- and so one answer
 
 one_of : (due : Result Task Refusal) (a b : Answer) → IsAnswerOf due a → IsAnswerOf due b → a ≡ b
 one_of (Err why) a b h k = h ∙ sym k
 one_of (Ok (Put name c)) a b h k = h.1 ∙ sym k.1
-one_of (Ok (Show c)) a b h k = h ∙ sym k
-one_of (Ok Say) a b h k = h ∙ sym k
-one_of (Ok (Run parts size steps)) a b h k =
-    let e = one_start (placed parts size) size h.0 k.0 h.1.rules h.1.starts k.1.starts in
+one_of (Ok (Write text)) a b h k = h ∙ sym k
+one_of (Ok (Run i steps)) a b h k =
+    let e = one_start (placed i.parts i.stack) i.stack h.0 k.0 h.1.rules h.1.starts k.1.starts in
     h.2 ∙ ap (λ (m : StartSeen). ran m steps) e ∙ sym k.2
-one_of (Ok (Trace parts size steps)) a b h k =
-    let e = one_start (placed parts size) size h.0 k.0 h.2.rules h.2.starts k.2.starts in
+one_of (Ok (Trace i steps)) a b h k =
+    let e = one_start (placed i.parts i.stack) i.stack h.0 k.0 h.2.rules h.2.starts k.2.starts in
     h.4 ∙ ap (λ (o : OverlaySeen). traced o steps)
     (one_overlay k.0 h.1 k.1 (subst (λ m. IsOverlayOf m h.1) e h.3) k.3) ∙ sym k.4
 

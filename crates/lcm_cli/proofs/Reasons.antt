@@ -20,227 +20,273 @@ use Rattle.lcm_cli.specs.declared.refusal.Refusal.{Refusal}
 use Rattle.lcm_cli.specs.declared.refusal.Refusal.TheVariants as refusal
 use Rattle.lcm_cli.specs.Plans.{Plan, Reads, Ends, Made, ◌>>=◌, unless, whole, too_long, unread, Comes}
 use Rattle.component_linker.specs.Accepted.{accepted}
-use Rattle.lcm_cli.specs.Parts.{is_trusted, broken_in, linked, loaded, form_by, component_at, part_at, each_at}
-use Rattle.lcm_cli.specs.Commands.{Task, Run, Trace, Put, Show, Say, OfComponent, OfImage, linked_parts, linked_image, linked_in, run_plan, trace_plan, assemble_plan, disassemble_plan, check_plan, link_plan}
-use Rattle.lcm_cli.specs.Causes.{IsTurn, IsUnread, IsLong, IsUndecoded, IsUnassembled, PartBreaks, SomeBreaks, AllBreak, LinkBreaks, LinkedCame}
+use Rattle.lcm_cli.specs.Parts.{is_trusted, broken_in, linked, loaded, form_by, component_at, part_at}
+use Rattle.lcm_cli.specs.Parts.{each_at}
+use Rattle.lcm_cli.specs.Commands.{linked_parts, linked_image, linked_in}
+use Rattle.lcm_cli.specs.Causes.{IsTurn, IsUnread, IsLong, IsUndecoded, IsUnassembled, PartBreaks, SomeBreaks}
+use Rattle.lcm_cli.specs.Causes.{AllBreak, LinkBreaks, LinkedCame}
 use Rattle.lcm_cli.proofs.Ends.{Never, comes_split, same_err, ended_unless, not_made, no_rule}
 use Rattle.lcm_cli.proofs.Linking.{image_with, loaded_read}
 
 -- ---- the turns of files
 
-turn_first : {A B : Type 0} (p : Plan A) (f : A → Plan B) (old seen : FilesSeen) (name : List ℕ) (place : ℕ) → IsTurn p old name place seen → IsTurn (p >>= f) old name place seen
-turn_first (Made x) f old seen name place h = absurd h
-turn_first (Ends why) f old seen name place h = absurd h
-turn_first (Reads n k next) f old seen name place (inl h) = inl h
-turn_first (Reads n k next) f old seen name place (inr h) = inr (h.0, h.1, h.2, turn_first (next h.0) f h.1 seen name place h.3)
+turn_first : {A B : Type 0} (p : Plan A) (f : A → Plan B) (old seen : FilesSeen) (name : List ℕ) (index : ℕ)
+    → IsTurn p old name index seen → IsTurn (p >>= f) old name index seen
+turn_first (Made x) f old seen name index h = absurd h
+turn_first (Ends why) f old seen name index h = absurd h
+turn_first (Reads n k next) f old seen name index (inl h) = inl h
+turn_first (Reads n k next) f old seen name index (inr h) =
+    inr (h.0, h.1, h.2, turn_first (next h.0) f h.1 seen name index h.3)
 
-turn_next : {A B : Type 0} (p : Plan A) (f : A → Plan B) (old mid seen : FilesSeen) (x : A) (name : List ℕ) (place : ℕ) → Comes p old (Ok x) mid → IsTurn (f x) mid name place seen → IsTurn (p >>= f) old name place seen
-turn_next (Made y) f old mid seen x name place h g = turn_at f x y old mid seen name place (same_ok x y h.0) h.1 g
+turn_next : {A B : Type 0} (p : Plan A) (f : A → Plan B) (old mid seen : FilesSeen) (x : A) (name : List ℕ)
+    (index : ℕ) → Comes p old (Ok x) mid → IsTurn (f x) mid name index seen
+    → IsTurn (p >>= f) old name index seen
+turn_next (Made y) f old mid seen x name index h g =
+    turn_at f x y old mid seen name index (same_ok x y h.0) h.1 g
   where
     same_ok : {A : Type 0} (x y : A) → (let r : Result A Refusal = Ok x in r) ≡ Ok y → x ≡ y
     same_ok x y e = cc
 
-    turn_at : {A B : Type 0} (f : A → Plan B) (x y : A) (old mid seen : FilesSeen) (name : List ℕ) (place : ℕ) → x ≡ y → mid ≡ old → IsTurn (f x) mid name place seen → IsTurn (f y) old name place seen
-    turn_at f x y old mid seen name place e h g = rw (← e, ← h) g
-turn_next (Ends why) f old mid seen x name place h g = absurd (let e = h.0 in cc)
-turn_next (Reads n k next) f old mid seen x name place (whole bytes m w h) g = inr (bytes, m, w, turn_next (next bytes) f m mid seen x name place h g)
-turn_next (Reads n k next) f old mid seen x name place (too_long t e) g = absurd (cc)
-turn_next (Reads n k next) f old mid seen x name place (unread t e) g = absurd (cc)
+    turn_at : {A B : Type 0} (f : A → Plan B) (x y : A) (old mid seen : FilesSeen) (name : List ℕ) (index : ℕ)
+        → x ≡ y → mid ≡ old → IsTurn (f x) mid name index seen → IsTurn (f y) old name index seen
+    turn_at f x y old mid seen name index e h g = rw (← e, ← h) g
+turn_next (Ends why) f old mid seen x name index h g = absurd (let e = h.0 in cc)
+turn_next (Reads n k next) f old mid seen x name index (whole bytes m w h) g =
+    inr (bytes, m, w, turn_next (next bytes) f m mid seen x name index h g)
+turn_next (Reads n k next) f old mid seen x name index (too_long t e) g = absurd (cc)
+turn_next (Reads n k next) f old mid seen x name index (unread t e) g = absurd (cc)
 
 -- ---- why a plan ends, where a file alone says it
 
 abbrev pub FileReason : {A : Type 0} → Plan A → FilesSeen → Refusal → FilesSeen → Type 0
 FileReason plan old refusal.Usage new = ⊤
 FileReason plan old refusal.ReadFault new = IsUnread plan old new
-FileReason plan old (refusal.TooLong place) new = IsLong plan old place new
-FileReason plan old (refusal.Assembly place f) new = IsUnassembled plan old place f new
-FileReason plan old (refusal.File place f) new = IsUndecoded plan old place f new
+FileReason plan old (refusal.TooLong index) new = IsLong plan old index new
+FileReason plan old (refusal.Assembly index f) new = IsUnassembled plan old index f new
+FileReason plan old (refusal.File index f) new = IsUndecoded plan old index f new
 FileReason plan old (refusal.Rule r) new = ⊤
 FileReason plan old (refusal.Image f) new = ⊤
 
-reason_first : {A B : Type 0} (p : Plan A) (f : A → Plan B) (old new : FilesSeen) (why : Refusal) → FileReason p old why new → FileReason (p >>= f) old why new
+pub reason_first : {A B : Type 0} (p : Plan A) (f : A → Plan B) (old new : FilesSeen) (why : Refusal)
+    → FileReason p old why new → FileReason (p >>= f) old why new
 reason_first p f old new refusal.Usage h = tt
 reason_first p f old new refusal.ReadFault h = (h.0, h.1, h.2, turn_first p f old h.2 h.0 h.1 h.3, h.4)
-reason_first p f old new (refusal.TooLong place) h = (h.0, h.1, turn_first p f old h.1 h.0 place h.2, h.3)
-reason_first p f old new (refusal.Assembly place x) h = (h.0, h.1, turn_first p f old h.1 h.0 place h.2, h.3, h.4, h.5)
-reason_first p f old new (refusal.File place x) h = (h.0, h.1, turn_first p f old h.1 h.0 place h.2, h.3, h.4, h.5)
+reason_first p f old new (refusal.TooLong index) h = (h.0, h.1, turn_first p f old h.1 h.0 index h.2, h.3)
+reason_first p f old new (refusal.Assembly index x) h =
+    (h.0, h.1, turn_first p f old h.1 h.0 index h.2, h.3, h.4, h.5)
+reason_first p f old new (refusal.File index x) h =
+    (h.0, h.1, turn_first p f old h.1 h.0 index h.2, h.3, h.4, h.5)
 reason_first p f old new (refusal.Rule r) h = tt
 reason_first p f old new (refusal.Image x) h = tt
 
-reason_next : {A B : Type 0} (p : Plan A) (f : A → Plan B) (old mid new : FilesSeen) (x : A) (why : Refusal) → Comes p old (Ok x) mid → FileReason (f x) mid why new → FileReason (p >>= f) old why new
+reason_next : {A B : Type 0} (p : Plan A) (f : A → Plan B) (old mid new : FilesSeen) (x : A) (why : Refusal)
+    → Comes p old (Ok x) mid → FileReason (f x) mid why new → FileReason (p >>= f) old why new
 reason_next p f old mid new x refusal.Usage c h = tt
-reason_next p f old mid new x refusal.ReadFault c h = (h.0, h.1, h.2, turn_next p f old mid h.2 x h.0 h.1 c h.3, h.4)
-reason_next p f old mid new x (refusal.TooLong place) c h = (h.0, h.1, turn_next p f old mid h.1 x h.0 place c h.2, h.3)
-reason_next p f old mid new x (refusal.Assembly place y) c h = (h.0, h.1, turn_next p f old mid h.1 x h.0 place c h.2, h.3, h.4, h.5)
-reason_next p f old mid new x (refusal.File place y) c h = (h.0, h.1, turn_next p f old mid h.1 x h.0 place c h.2, h.3, h.4, h.5)
+reason_next p f old mid new x refusal.ReadFault c h =
+    (h.0, h.1, h.2, turn_next p f old mid h.2 x h.0 h.1 c h.3, h.4)
+reason_next p f old mid new x (refusal.TooLong index) c h =
+    (h.0, h.1, turn_next p f old mid h.1 x h.0 index c h.2, h.3)
+reason_next p f old mid new x (refusal.Assembly index y) c h =
+    (h.0, h.1, turn_next p f old mid h.1 x h.0 index c h.2, h.3, h.4, h.5)
+reason_next p f old mid new x (refusal.File index y) c h =
+    (h.0, h.1, turn_next p f old mid h.1 x h.0 index c h.2, h.3, h.4, h.5)
 reason_next p f old mid new x (refusal.Rule r) c h = tt
 reason_next p f old mid new x (refusal.Image y) c h = tt
 
 -- wherever a plan ends the call, it has a reason
 pub record Reasoned {A : Type 0} (plan : Plan A) : Type 0 where
-  pub gives : (old new : FilesSeen) (why : Refusal) → Comes plan old (Err why) new → FileReason plan old why new
+  pub gives : (old new : FilesSeen) (why : Refusal) → Comes plan old (Err why) new
+      → FileReason plan old why new
 
-reasoned_bind : {A B : Type 0} (p : Plan A) (f : A → Plan B) → Reasoned p → ((x : A) → Reasoned (f x)) → Reasoned (p >>= f)
+reasoned_bind : {A B : Type 0} (p : Plan A) (f : A → Plan B) → Reasoned p → ((x : A) → Reasoned (f x))
+    → Reasoned (p >>= f)
 reasoned_bind p f a b = record {
-  gives = λ old new why h. elim (comes_split p f old new (Err why) h) as (λ _. FileReason (p >>= f) old why new) [
-    | inl s ↦ reason_next p f old s.1 new s.0 why s.2 ((b s.0).gives s.1 new why s.3)
-    | inr s ↦ reason_first p f old new why (let e = same_err why s.0 s.2 in rw (← e) ((a.gives old new s.0 s.1)))
-  ];
+  gives = λ old new why h. elim (comes_split p f old new (Err why) h) as (λ _. FileReason
+      (p >>= f) old why new) [
+        | inl s ↦ reason_next p f old s.1 new s.0 why s.2 ((b s.0).gives s.1 new why s.3)
+        | inr s ↦ reason_first p f old new why (let e = same_err why s.0 s.2 in
+            rw (← e) ((a.gives old new s.0 s.1)))
+      ];
 }
 
 reasoned_made : {A : Type 0} (x : A) → Reasoned (Made x)
 reasoned_made x = record { gives = λ old new why h. absurd (let e = h.0 in cc) }
 
 reasoned_usage : {A : Type 0} → Reasoned (let p : Plan A = Ends refusal.Usage in p)
-reasoned_usage {A} = record { gives = λ old new why h. (let e = same_err {A = A} refusal.Usage why (sym h.0) in rw e tt) }
+reasoned_usage {A} = record {
+  gives = λ old new why h.
+      (let e = same_err {A = A} refusal.Usage why (sym h.0) in rw e tt);
+}
 
 -- its own rules and those of the link are no reason of a file
-reasoned_rule : {A F : Type 0} (told : F → Refusal) (r : Result A F) → ((f : F) (old new : FilesSeen) → FileReason (unless told r) old (told f) new) → Reasoned (unless told r)
-reasoned_rule told r k = record { gives = λ old new why h. let e = ended_unless told r old new why h in let s = e.2 in rw s (k e.0 old new) }
+reasoned_rule : {A F : Type 0} (told : F → Refusal) (r : Result A F)
+    → ((f : F) (old new : FilesSeen) → FileReason (unless told r) old (told f) new) → Reasoned (unless told r)
+reasoned_rule told r k = record {
+  gives = λ old new why h. let e = ended_unless told r old new why h in
+      let s = e.2 in rw s (k e.0 old new);
+}
 
 -- a file is read, and then its bytes alone say how the plan goes on: it ends since the file is too long or unread, or by its bytes
 abbrev ByBytes : {A : Type 0} → List ℕ → ℕ → (List ℕ → Plan A) → Type 0
-ByBytes {A} name place next = (old mid new : FilesSeen) (bytes : List ℕ) (why : Refusal) → GivesWhole old name LONGEST_FILE bytes mid → Comes (next bytes) mid (Err why) new
-    → FileReason (let p : Plan A = Reads name place next in p) old why new
+ByBytes {A} name index next = (old mid new : FilesSeen) (bytes : List ℕ) (why : Refusal)
+    → GivesWhole old name LONGEST_FILE bytes mid → Comes (next bytes) mid (Err why) new
+    → FileReason (let p : Plan A = Reads name index next in p) old why new
 
-reads_reasoned : {A : Type 0} (name : List ℕ) (place : ℕ) (next : List ℕ → Plan A) → ByBytes name place next → Reasoned (let p : Plan A = Reads name place next in p)
-reads_reasoned {A} name place next k = record { gives = by }
+reads_reasoned : {A : Type 0} (name : List ℕ) (index : ℕ) (next : List ℕ → Plan A) → ByBytes name index next
+    → Reasoned (let p : Plan A = Reads name index next in p)
+reads_reasoned {A} name index next k = record { gives = by }
   where
-    by : (old new : FilesSeen) (why : Refusal) → Comes (let p : Plan A = Reads name place next in p) old (Err why) new → FileReason (let p : Plan A = Reads name place next in p) old why new
+    by : (old new : FilesSeen) (why : Refusal)
+        → Comes (let p : Plan A = Reads name index next in p) old (Err why) new
+        → FileReason (let p : Plan A = Reads name index next in p) old why new
     by old new why (whole bytes mid w h) = k old mid new bytes why w h
-    by old new why (too_long t e) = let s = same_err {A = A} (refusal.TooLong place) why (sym e) in rw s (name, old, inl (refl, refl, refl), t)
-    by old new why (unread t e) = let s = same_err {A = A} refusal.ReadFault why (sym e) in rw s (name, place, old, inl (refl, refl, refl), t)
+    by old new why (too_long t e) = let s = same_err {A = A} (refusal.TooLong index) why (sym e) in
+        rw s (name, old, inl (refl, refl, refl), t)
+    by old new why (unread t e) = let s = same_err {A = A} refusal.ReadFault why (sym e) in
+        rw s (name, index, old, inl (refl, refl, refl), t)
 
-usage_by : (name : List ℕ) (place : ℕ) → ByBytes name place (form_by Source place)
-usage_by name place old mid new bytes why w h = let e = same_err {A = ComponentFields} refusal.Usage why (sym h.0) in rw e tt
+usage_by : (name : List ℕ) (index : ℕ) → ByBytes name index (form_by Source index)
+usage_by name index old mid new bytes why w h = let e =
+    same_err {A = ComponentFields} refusal.Usage why (sym h.0) in rw e tt
 
-text_by : (name : List ℕ) (place : ℕ) → ByBytes name place (form_by Assembler place)
-text_by name place old mid new bytes why w h =
-    let e = ended_unless (refusal.Assembly place) (assembled bytes) mid new why h in
-    let P : Refusal → FilesSeen → Type 0 = λ v z. FileReason (Reads name place (form_by Assembler place)) old v z in
-    subst (P why) (sym e.3) (subst (λ v. P v mid) (sym e.2) (name, old, inl (refl, refl, refl), bytes, w, e.1))
+text_by : (name : List ℕ) (index : ℕ) → ByBytes name index (form_by Assembler index)
+text_by name index old mid new bytes why w h =
+    let e = ended_unless (refusal.Assembly index) (assembled bytes) mid new why h in
+    let P : Refusal → FilesSeen → Type 0 = λ v z. FileReason
+    (Reads name index (form_by Assembler index)) old v z in
+    subst (P why) (sym e.3) (subst (λ v. P v mid) (sym e.2) (
+      name,
+      old,
+      inl (refl, refl, refl),
+      bytes,
+      w,
+      e.1,
+    ))
 
-file_by : (name : List ℕ) (place : ℕ) → ByBytes name place (form_by Component place)
-file_by name place old mid new bytes why w h =
-    let e = ended_unless (refusal.File place) (decoded bytes) mid new why h in
-    let P : Refusal → FilesSeen → Type 0 = λ v z. FileReason (Reads name place (form_by Component place)) old v z in
-    subst (P why) (sym e.3) (subst (λ v. P v mid) (sym e.2) (name, old, inl (refl, refl, refl), bytes, w, e.1))
+file_by : (name : List ℕ) (index : ℕ) → ByBytes name index (form_by Component index)
+file_by name index old mid new bytes why w h =
+    let e = ended_unless (refusal.File index) (decoded bytes) mid new why h in
+    let P : Refusal → FilesSeen → Type 0 = λ v z. FileReason
+    (Reads name index (form_by Component index)) old v z in
+    subst (P why) (sym e.3) (subst (λ v. P v mid) (sym e.2) (
+      name,
+      old,
+      inl (refl, refl, refl),
+      bytes,
+      w,
+      e.1,
+    ))
 
-form_by_bytes : (ending : Ending) (name : List ℕ) (place : ℕ) → ByBytes name place (form_by ending place)
-form_by_bytes Source name place = usage_by name place
-form_by_bytes Assembler name place = text_by name place
-form_by_bytes Component name place = file_by name place
+form_by_bytes : (ending : Ending) (name : List ℕ) (index : ℕ) → ByBytes name index (form_by ending index)
+form_by_bytes Source name index = usage_by name index
+form_by_bytes Assembler name index = text_by name index
+form_by_bytes Component name index = file_by name index
 
-component_reasoned : (place : ℕ) (w : PartWord) → Reasoned (component_at place w)
+pub component_reasoned : (index : ℕ) (w : PartWord) → Reasoned (component_at index w)
 unfolding component_at
-component_reasoned place w = reads_reasoned w.name place (form_by w.ending place) (form_by_bytes w.ending w.name place)
+component_reasoned index w = reads_reasoned w.name index (form_by w.ending index)
+    (form_by_bytes w.ending w.name index)
 
-pub part_reasoned : (place : ℕ) (w : PartWord) → Reasoned (part_at place w)
+pub part_reasoned : (index : ℕ) (w : PartWord) → Reasoned (part_at index w)
 unfolding part_at
-part_reasoned place w = reasoned_bind (component_at place w) _ (component_reasoned place w) (λ c. reasoned_rule (broken_in place) (accepted (record { component = c; trusted = is_trusted w.mark })) (λ f old new. tt))
+part_reasoned index w = reasoned_bind (component_at index w) _ (component_reasoned index w)
+    (λ c. reasoned_rule (broken_in index) (accepted (record { component = c; trusted = is_trusted w.mark }))
+    (λ f old new. tt))
 
-each_reasoned : {A : Type 0} (item : ℕ → PartWord → Plan A) → ((place : ℕ) (w : PartWord) → Reasoned (item place w)) → (place : ℕ) (ws : List PartWord) → Reasoned (each_at item place ws)
-each_reasoned item h place [] = reasoned_made []
-each_reasoned item h place (w ∷ ws) = reasoned_bind (item place w) _ (h place w) (λ x. reasoned_bind (each_at item (place + 1) ws) _ (each_reasoned item h (place + 1) ws) (λ xs. reasoned_made (x ∷ xs)))
+each_reasoned : {A : Type 0} (item : ℕ → PartWord → Plan A)
+    → ((index : ℕ) (w : PartWord) → Reasoned (item index w)) → (index : ℕ) (ws : List PartWord)
+    → Reasoned (each_at item index ws)
+each_reasoned item h index [] = reasoned_made []
+each_reasoned item h index (w ∷ ws) = reasoned_bind (item index w) _ (h index w)
+    (λ x. reasoned_bind (each_at item (index + 1) ws) _ (each_reasoned item h (index + 1) ws)
+    (λ xs. reasoned_made (x ∷ xs)))
 
 linked_reasoned : (words : List PartWord) (size : ℕ) → Reasoned (linked_parts words size)
 unfolding linked_parts
 linked_reasoned words size =
-    reasoned_bind (each_at part_at 0 words) _ (each_reasoned part_at part_reasoned 0 words) (λ parts. reasoned_bind (unless refusal.Rule (linked parts size)) _ (reasoned_rule refusal.Rule (linked parts size) (λ f old new. tt)) (λ u. reasoned_made (image_with size parts)))
+    reasoned_bind (each_at part_at 0 words) _ (each_reasoned part_at part_reasoned 0 words)
+    (λ parts. reasoned_bind (unless refusal.Rule (linked parts size)) _
+    (reasoned_rule refusal.Rule (linked parts size) (λ f old new. tt))
+    (λ u. reasoned_made (image_with size parts)))
 
 image_by : (name : List ℕ) → ByBytes name 0 (λ bytes. unless refusal.Image (loaded bytes))
-image_by name old mid new bytes why w h = let e = (ended_unless refusal.Image (loaded bytes) mid new why h).2 in rw e tt
+image_by name old mid new bytes why w h = let e =
+    (ended_unless refusal.Image (loaded bytes) mid new why h).2 in rw e tt
 
 image_reasoned : (name : List ℕ) → Reasoned (linked_image name)
 unfolding linked_image
 image_reasoned name = reads_reasoned name 0 (λ bytes. unless refusal.Image (loaded bytes)) (image_by name)
 
-in_reasoned : (l : Linked) → Reasoned (linked_in l)
+pub in_reasoned : (l : Linked) → Reasoned (linked_in l)
 in_reasoned (what.Parts words size) = linked_reasoned words size
 in_reasoned (what.Image name) = image_reasoned name
-
--- a task that is made of what a plan made
-reasoned_of : {A : Type 0} (p : Plan A) (f : A → Task) → Reasoned p → Reasoned (p >>= (λ x. Made (f x)))
-reasoned_of p f k = reasoned_bind p _ k (λ x. reasoned_made (f x))
-
-pub runs_reasoned : (l : Linked) (steps : ℕ) → Reasoned (run_plan l steps)
-unfolding run_plan
-runs_reasoned l steps = reasoned_of (linked_in l) (λ i. Run i.parts i.stack steps) (in_reasoned l)
-
-pub traces_reasoned : (l : Linked) (steps : ℕ) → Reasoned (trace_plan l steps)
-unfolding trace_plan
-traces_reasoned l steps = reasoned_of (linked_in l) (λ i. Trace i.parts i.stack steps) (in_reasoned l)
-
-pub links_reasoned : (words : List PartWord) (size : ℕ) (out : List ℕ) → Reasoned (link_plan words size out)
-unfolding link_plan
-links_reasoned words size out = reasoned_of (linked_parts words size) (λ i. Put out (OfImage i)) (linked_reasoned words size)
-
-pub assembles_reasoned : (word : PartWord) (out : List ℕ) → Reasoned (assemble_plan word out)
-unfolding assemble_plan
-assembles_reasoned word out = reasoned_of (component_at 0 word) (λ c. Put out (OfComponent c)) (component_reasoned 0 word)
-
-pub shows_reasoned : (word : PartWord) → Reasoned (disassemble_plan word)
-unfolding disassemble_plan
-shows_reasoned word = reasoned_of (component_at 0 word) Show (component_reasoned 0 word)
-
-pub checks_reasoned : (word : PartWord) → Reasoned (check_plan word)
-unfolding check_plan
-checks_reasoned word = reasoned_of (part_at 0 word) (λ p. Say) (part_reasoned 0 word)
 
 -- ---- rules
 
 same_rule : (r s : RuleAt) → refusal.Rule r ≡ refusal.Rule s → r ≡ s
 same_rule r s e = cc
 
-pub part_breaks : (place : ℕ) (w : PartWord) (old new : FilesSeen) (r : RuleAt) → Comes (part_at place w) old (Err (refusal.Rule r)) new → PartBreaks old place w r new
+pub part_breaks : (index : ℕ) (w : PartWord) (old new : FilesSeen) (r : RuleAt)
+    → Comes (part_at index w) old (Err (refusal.Rule r)) new → PartBreaks old index w r new
 unfolding part_at
-part_breaks place w old new r h = elim (comes_split (component_at place w) _ old new (Err (refusal.Rule r)) h) as (λ _. PartBreaks old place w r new) [
-  | inl s ↦ (
-      let e = ended_unless (broken_in place) (accepted (record { component = s.0; trusted = is_trusted w.mark })) s.1 new (refusal.Rule r) s.3 in
-      let q = e.3 in
-      (s.0, rw q s.2, e.0, e.1, same_rule r _ e.2)
-      )
-  | inr s ↦ absurd (no_rule place w r old new (let e = same_err (refusal.Rule r) s.0 s.2 in rw (← e) s.1))
-]
+part_breaks index w old new r h = elim (comes_split (component_at index w) _ old new
+    (Err (refusal.Rule r)) h) as (λ _. PartBreaks old index w r new) [
+      | inl s ↦ (
+          let e = ended_unless (broken_in index) (accepted
+          (record { component = s.0; trusted = is_trusted w.mark })) s.1 new (refusal.Rule r) s.3 in
+          let q = e.3 in
+          (s.0, rw q s.2, e.0, e.1, same_rule r _ e.2)
+          )
+      | inr s ↦ absurd (no_rule index w r old new (let e = same_err (refusal.Rule r) s.0 s.2 in rw (← e) s.1))
+    ]
 
-pub each_breaks : (place : ℕ) (ws : List PartWord) (old new : FilesSeen) (r : RuleAt) → Comes (each_at part_at place ws) old (Err (refusal.Rule r)) new → SomeBreaks old place ws r new
-each_breaks place [] old new r h = not_made [] (refusal.Rule r) old new h
-each_breaks place (w ∷ ws) old new r h = elim (comes_split (part_at place w) _ old new (Err (refusal.Rule r)) h) as (λ _. SomeBreaks old place (w ∷ ws) r new) [
-  | inl s ↦ inr (
-    s.0,
-    s.1,
-    s.2,
-    elim (comes_split (each_at part_at (place + 1) ws) _ s.1 new (Err (refusal.Rule r)) s.3) as (λ _. SomeBreaks s.1 (place + 1) ws r new) [
-      | inl t ↦ absurd (not_made _ (refusal.Rule r) t.1 new t.3)
-      | inr t ↦ each_breaks (place + 1) ws s.1 new r (let e = same_err (refusal.Rule r) t.0 t.2 in rw (← e) t.1)
-    ],
-  )
-  | inr s ↦ inl (part_breaks place w old new r (let e = same_err (refusal.Rule r) s.0 s.2 in rw (← e) s.1))
-]
+pub each_breaks : (index : ℕ) (ws : List PartWord) (old new : FilesSeen) (r : RuleAt)
+    → Comes (each_at part_at index ws) old (Err (refusal.Rule r)) new → SomeBreaks old index ws r new
+each_breaks index [] old new r h = not_made [] (refusal.Rule r) old new h
+each_breaks index (w ∷ ws) old new r h = elim
+    (comes_split (part_at index w) _ old new (Err (refusal.Rule r)) h) as (λ _. SomeBreaks old index
+    (w ∷ ws) r new) [
+      | inl s ↦ inr (
+        s.0,
+        s.1,
+        s.2,
+        elim (comes_split (each_at part_at (index + 1) ws) _ s.1 new (Err (refusal.Rule r)) s.3) as (λ _.
+            SomeBreaks s.1 (index + 1) ws r new) [
+              | inl t ↦ absurd (not_made _ (refusal.Rule r) t.1 new t.3)
+              | inr t ↦ each_breaks (index + 1) ws s.1 new r (let e = same_err (refusal.Rule r) t.0 t.2 in
+                  rw (← e) t.1)
+            ],
+      )
+      | inr s ↦ inl (part_breaks index w old new r (let e = same_err (refusal.Rule r) s.0 s.2 in rw (← e) s.1))
+    ]
 
 err_same : {A : Type 0} {x y : RuleAt} → x ≡ y → (let q : Result A RuleAt = Err x in q) ≡ Err y
 err_same e = cc
 
-linked_break : (words : List PartWord) (size : ℕ) (old new : FilesSeen) (r : RuleAt) → Comes (linked_parts words size) old (Err (refusal.Rule r)) new → LinkBreaks old words size r new
+pub linked_break : (words : List PartWord) (size : ℕ) (old new : FilesSeen) (r : RuleAt)
+    → Comes (linked_parts words size) old (Err (refusal.Rule r)) new → LinkBreaks old words size r new
 unfolding linked_parts
-linked_break words size old new r h = elim (comes_split (each_at part_at 0 words) _ old new (Err (refusal.Rule r)) h) as (λ _. LinkBreaks old words size r new) [
-  | inl s ↦ inr (elim (comes_split (unless refusal.Rule (linked s.0 size)) _ s.1 new (Err (refusal.Rule r)) s.3) as (λ _. AllBreak old words size r new) [
-    | inl t ↦ absurd (not_made _ (refusal.Rule r) t.1 new t.3)
-    | inr t ↦ (
-        let e = ended_unless refusal.Rule (linked s.0 size) s.1 new t.0 t.1 in
-        let q = e.3 in
-        let k = same_rule e.0 r (sym e.2 ∙ same_err {A = ImageSeen} (refusal.Rule r) t.0 t.2) in
-        (s.0, rw q s.2, e.1 ∙ err_same k)
-        )
-  ])
-  | inr s ↦ inl (each_breaks 0 words old new r (let e = same_err (refusal.Rule r) s.0 s.2 in rw (← e) s.1))
-]
+linked_break words size old new r h = elim (comes_split (each_at part_at 0 words) _ old new
+    (Err (refusal.Rule r)) h) as (λ _. LinkBreaks old words size r new) [
+      | inl s ↦ inr (elim (comes_split (unless refusal.Rule (linked s.0 size)) _ s.1 new
+          (Err (refusal.Rule r)) s.3) as (λ _. AllBreak old words size r new) [
+            | inl t ↦ absurd (not_made _ (refusal.Rule r) t.1 new t.3)
+            | inr t ↦ (
+                let e = ended_unless refusal.Rule (linked s.0 size) s.1 new t.0 t.1 in
+                let q = e.3 in
+                let k = same_rule e.0 r (sym e.2 ∙ same_err {A = ImageSeen} (refusal.Rule r) t.0 t.2) in
+                (s.0, rw q s.2, e.1 ∙ err_same k)
+                )
+          ])
+      | inr s ↦ inl (each_breaks 0 words old new r (let e = same_err (refusal.Rule r) s.0 s.2 in rw (← e) s.1))
+    ]
 
 -- ---- images
 
 -- the file of an image came whole, and its bytes are not loaded, with this first fault
 abbrev pub ImageFails : FilesSeen → List ℕ → ImageFault → FilesSeen → Type 0
-ImageFails old name f new = (bytes : List ℕ) × GivesWhole old name LONGEST_FILE bytes new × (loaded bytes ≡ Err f)
+ImageFails old name f new = (bytes : List ℕ) × GivesWhole old name LONGEST_FILE bytes new
+    × (loaded bytes ≡ Err f)
 
 same_fault : (f g : ImageFault) → refusal.Image f ≡ refusal.Image g → f ≡ g
 same_fault f g e = cc
@@ -248,7 +294,8 @@ same_fault f g e = cc
 fault_same : {A : Type 0} {x y : ImageFault} → x ≡ y → (let q : Result A ImageFault = Err x in q) ≡ Err y
 fault_same e = cc
 
-image_fails : (name : List ℕ) (old new : FilesSeen) (f : ImageFault) → Comes (linked_image name) old (Err (refusal.Image f)) new → ImageFails old name f new
+pub image_fails : (name : List ℕ) (old new : FilesSeen) (f : ImageFault)
+    → Comes (linked_image name) old (Err (refusal.Image f)) new → ImageFails old name f new
 unfolding linked_image
 image_fails name old new f (whole bytes mid w h) =
     let e = ended_unless refusal.Image (loaded bytes) mid new (refusal.Image f) h in
@@ -257,98 +304,7 @@ image_fails name old new f (whole bytes mid w h) =
 image_fails name old new f (too_long t e) = absurd (cc)
 image_fails name old new f (unread t e) = absurd (cc)
 
--- ---- a task that is made of what a plan made
-
--- where the call ends, it was the plan that ended it
-err_of : {A : Type 0} (p : Plan A) (f : A → Task) (old new : FilesSeen) (why : Refusal) → Comes (p >>= (λ x. Made (f x))) old (Err why) new → Comes p old (Err why) new
-err_of p f old new why h = elim (comes_split p (λ x. Made (f x)) old new (Err why) h) as (λ _. Comes p old (Err why) new) [
-  | inl s ↦ absurd (not_made (f s.0) why s.1 new s.3)
-  | inr s ↦ (let e = same_err why s.0 s.2 in rw (← e) s.1)
-]
-
-same_task : (x y : Task) → (let r : Result Task Refusal = Ok x in r) ≡ Ok y → x ≡ y
-same_task x y e = cc
-
--- the task is of what the plan made
-made_of : {A : Type 0} (p : Plan A) (f : A → Task) (old new : FilesSeen) (task : Task) → Comes (p >>= (λ x. Made (f x))) old (Ok task) new → (x : A) × Comes p old (Ok x) new × (task ≡ f x)
-made_of {A} p f old new task h = elim (comes_split p (λ x. Made (f x)) old new (Ok task) h) as (λ _. (x : A) × Comes p old (Ok x) new × (task ≡ f x)) [
-  | inl s ↦ (let q = s.3.1 in (s.0, rw q s.2, same_task task (f s.0) s.3.0))
-  | inr s ↦ absurd (let e = s.2 in cc)
-]
-
-runs_end : (l : Linked) (steps : ℕ) (old new : FilesSeen) (why : Refusal) → Comes (run_plan l steps) old (Err why) new → Comes (linked_in l) old (Err why) new
-unfolding run_plan
-runs_end l steps old new why h = err_of (linked_in l) (λ i. Run i.parts i.stack steps) old new why h
-
-traces_end : (l : Linked) (steps : ℕ) (old new : FilesSeen) (why : Refusal) → Comes (trace_plan l steps) old (Err why) new → Comes (linked_in l) old (Err why) new
-unfolding trace_plan
-traces_end l steps old new why h = err_of (linked_in l) (λ i. Trace i.parts i.stack steps) old new why h
-
-links_end : (words : List PartWord) (size : ℕ) (out : List ℕ) (old new : FilesSeen) (why : Refusal) → Comes (link_plan words size out) old (Err why) new → Comes (linked_parts words size) old (Err why) new
-unfolding link_plan
-links_end words size out old new why h = err_of (linked_parts words size) (λ i. Put out (OfImage i)) old new why h
-
-assembles_end : (word : PartWord) (out : List ℕ) (old new : FilesSeen) (why : Refusal) → Comes (assemble_plan word out) old (Err why) new → Comes (component_at 0 word) old (Err why) new
-unfolding assemble_plan
-assembles_end word out old new why h = err_of (component_at 0 word) (λ c. Put out (OfComponent c)) old new why h
-
-shows_end : (word : PartWord) (old new : FilesSeen) (why : Refusal) → Comes (disassemble_plan word) old (Err why) new → Comes (component_at 0 word) old (Err why) new
-unfolding disassemble_plan
-shows_end word old new why h = err_of (component_at 0 word) Show old new why h
-
-checks_end : (word : PartWord) (old new : FilesSeen) (why : Refusal) → Comes (check_plan word) old (Err why) new → Comes (part_at 0 word) old (Err why) new
-unfolding check_plan
-checks_end word old new why h = err_of (part_at 0 word) (λ p. Say) old new why h
-
-pub runs_break : (words : List PartWord) (size steps : ℕ) (old new : FilesSeen) (r : RuleAt) → Comes (run_plan (what.Parts words size) steps) old (Err (refusal.Rule r)) new → LinkBreaks old words size r new
-runs_break words size steps old new r h = linked_break words size old new r (runs_end (what.Parts words size) steps old new (refusal.Rule r) h)
-
-pub traces_break : (words : List PartWord) (size steps : ℕ) (old new : FilesSeen) (r : RuleAt) → Comes (trace_plan (what.Parts words size) steps) old (Err (refusal.Rule r)) new → LinkBreaks old words size r new
-traces_break words size steps old new r h = linked_break words size old new r (traces_end (what.Parts words size) steps old new (refusal.Rule r) h)
-
-pub links_break : (words : List PartWord) (size : ℕ) (out : List ℕ) (old new : FilesSeen) (r : RuleAt) → Comes (link_plan words size out) old (Err (refusal.Rule r)) new → LinkBreaks old words size r new
-links_break words size out old new r h = linked_break words size old new r (links_end words size out old new (refusal.Rule r) h)
-
-pub run_fails : (name : List ℕ) (steps : ℕ) (old new : FilesSeen) (f : ImageFault) → Comes (run_plan (what.Image name) steps) old (Err (refusal.Image f)) new → ImageFails old name f new
-run_fails name steps old new f h = image_fails name old new f (runs_end (what.Image name) steps old new (refusal.Image f) h)
-
-pub trace_fails : (name : List ℕ) (steps : ℕ) (old new : FilesSeen) (f : ImageFault) → Comes (trace_plan (what.Image name) steps) old (Err (refusal.Image f)) new → ImageFails old name f new
-trace_fails name steps old new f h = image_fails name old new f (traces_end (what.Image name) steps old new (refusal.Image f) h)
-
-pub checks_break : (word : PartWord) (old new : FilesSeen) (r : RuleAt) → Comes (check_plan word) old (Err (refusal.Rule r)) new → PartBreaks old 0 word r new
-checks_break word old new r h = part_breaks 0 word old new r (checks_end word old new (refusal.Rule r) h)
-
-pub assembles_no_rule : (word : PartWord) (out : List ℕ) (r : RuleAt) → Never (assemble_plan word out) (refusal.Rule r)
-assembles_no_rule word out r old new h = no_rule 0 word r old new (assembles_end word out old new (refusal.Rule r) h)
-
-pub shows_no_rule : (word : PartWord) (r : RuleAt) → Never (disassemble_plan word) (refusal.Rule r)
-shows_no_rule word r old new h = no_rule 0 word r old new (shows_end word old new (refusal.Rule r) h)
-
--- ---- tasks
-
-pub runs_made : (l : Linked) (steps : ℕ) (old new : FilesSeen) (task : Task) → Comes (run_plan l steps) old (Ok task) new → (i : ImageSeen) × Comes (linked_in l) old (Ok i) new × (task ≡ Run i.parts i.stack steps)
-unfolding run_plan
-runs_made l steps old new task h = made_of (linked_in l) (λ i. Run i.parts i.stack steps) old new task h
-
-pub traces_made : (l : Linked) (steps : ℕ) (old new : FilesSeen) (task : Task) → Comes (trace_plan l steps) old (Ok task) new → (i : ImageSeen) × Comes (linked_in l) old (Ok i) new × (task ≡ Trace i.parts i.stack steps)
-unfolding trace_plan
-traces_made l steps old new task h = made_of (linked_in l) (λ i. Trace i.parts i.stack steps) old new task h
-
-pub links_made : (words : List PartWord) (size : ℕ) (out : List ℕ) (old new : FilesSeen) (task : Task) → Comes (link_plan words size out) old (Ok task) new → (i : ImageSeen) × Comes (linked_parts words size) old (Ok i) new × (task ≡ Put out (OfImage i))
-unfolding link_plan
-links_made words size out old new task h = made_of (linked_parts words size) (λ i. Put out (OfImage i)) old new task h
-
-pub assembles_made : (word : PartWord) (out : List ℕ) (old new : FilesSeen) (task : Task) → Comes (assemble_plan word out) old (Ok task) new → (c : ComponentFields) × Comes (component_at 0 word) old (Ok c) new × (task ≡ Put out (OfComponent c))
-unfolding assemble_plan
-assembles_made word out old new task h = made_of (component_at 0 word) (λ c. Put out (OfComponent c)) old new task h
-
-pub shows_made : (word : PartWord) (old new : FilesSeen) (task : Task) → Comes (disassemble_plan word) old (Ok task) new → (c : ComponentFields) × Comes (component_at 0 word) old (Ok c) new × (task ≡ Show c)
-unfolding disassemble_plan
-shows_made word old new task h = made_of (component_at 0 word) Show old new task h
-
-pub checks_made : (word : PartWord) (old new : FilesSeen) (task : Task) → Comes (check_plan word) old (Ok task) new → task ≡ Say
-unfolding check_plan
-checks_made word old new task h = (made_of (part_at 0 word) (λ p. Say) old new task h).2
+-- ---- what came
 
 same_image : (x y : ImageSeen) → (let r : Result ImageSeen Refusal = Ok x in r) ≡ Ok y → y ≡ x
 same_image x y e = cc
@@ -357,14 +313,18 @@ same_image x y e = cc
 abbrev pub KeptBy : Linked → FilesSeen → ImageSeen → FilesSeen → Type 0
 KeptBy l old i new = LinkedCame l old i.parts i.stack new × (linked i.parts i.stack ≡ Ok tt)
 
-linked_made : (words : List PartWord) (size : ℕ) (old new : FilesSeen) (i : ImageSeen) → Comes (linked_parts words size) old (Ok i) new → KeptBy (what.Parts words size) old i new
+linked_made : (words : List PartWord) (size : ℕ) (old new : FilesSeen) (i : ImageSeen)
+    → Comes (linked_parts words size) old (Ok i) new → KeptBy (what.Parts words size) old i new
 unfolding linked_parts
-linked_made words size old new i h = elim (comes_split (each_at part_at 0 words) _ old new (Ok i) h) as (λ _. KeptBy (what.Parts words size) old i new) [
-  | inl s ↦ made s.0 (linked s.0 size) refl s.1 s.2 s.3
-  | inr s ↦ absurd (let e = s.2 in cc)
-]
+linked_made words size old new i h = elim (comes_split (each_at part_at 0 words) _ old new (Ok i) h) as (λ _.
+    KeptBy (what.Parts words size) old i new) [
+      | inl s ↦ made s.0 (linked s.0 size) refl s.1 s.2 s.3
+      | inr s ↦ absurd (let e = s.2 in cc)
+    ]
   where
-    made : (ps : List PartSeen) (r : Result (Unit {0}) RuleAt) → linked ps size ≡ r → (mid : FilesSeen) → Comes (each_at part_at 0 words) old (Ok ps) mid → Comes (unless refusal.Rule r >>= (λ _. Made (image_with size ps))) mid (Ok i) new
+    made : (ps : List PartSeen) (r : Result (Unit {0}) RuleAt) → linked ps size ≡ r → (mid : FilesSeen)
+        → Comes (each_at part_at 0 words) old (Ok ps) mid
+        → Comes (unless refusal.Rule r >>= (λ _. Made (image_with size ps))) mid (Ok i) new
         → KeptBy (what.Parts words size) old i new
     made ps (Ok u) e mid c h =
         let q = h.1 in
@@ -372,19 +332,23 @@ linked_made words size old new i h = elim (comes_split (each_at part_at 0 words)
         subst (λ (j : ImageSeen). KeptBy (what.Parts words size) old j new) same ((rw q c, refl), e)
     made ps (Err b) e mid c h = absurd (let q = h.0 in cc)
 
-image_made : (name : List ℕ) (old new : FilesSeen) (i : ImageSeen) → Comes (linked_image name) old (Ok i) new → KeptBy (what.Image name) old i new
+image_made : (name : List ℕ) (old new : FilesSeen) (i : ImageSeen) → Comes (linked_image name) old (Ok i) new
+    → KeptBy (what.Image name) old i new
 unfolding linked_image
 image_made name old new i (whole bytes mid w h) = made (loaded bytes) refl h
   where
-    made : (r : Result ImageSeen ImageFault) → loaded bytes ≡ r → Comes (unless refusal.Image r) mid (Ok i) new → KeptBy (what.Image name) old i new
+    made : (r : Result ImageSeen ImageFault) → loaded bytes ≡ r
+        → Comes (unless refusal.Image r) mid (Ok i) new → KeptBy (what.Image name) old i new
     made (Ok j) e h =
         let q = h.1 in
         let same : j ≡ i = same_image i j h.0 in
-        subst (λ (k : ImageSeen). KeptBy (what.Image name) old k new) same (let l = loaded_read bytes j e in ((bytes, rw q w, l.0), l.1))
+        subst (λ (k : ImageSeen). KeptBy (what.Image name) old k new) same (let l = loaded_read bytes j e in
+        ((bytes, rw q w, l.0), l.1))
     made (Err f) e h = absurd (let q = h.0 in cc)
 image_made name old new i (too_long t e) = absurd (cc)
 image_made name old new i (unread t e) = absurd (cc)
 
-pub in_made : (l : Linked) (old new : FilesSeen) (i : ImageSeen) → Comes (linked_in l) old (Ok i) new → KeptBy l old i new
+pub in_made : (l : Linked) (old new : FilesSeen) (i : ImageSeen) → Comes (linked_in l) old (Ok i) new
+    → KeptBy l old i new
 in_made (what.Parts words size) old new i h = linked_made words size old new i h
 in_made (what.Image name) old new i h = image_made name old new i h

@@ -8,11 +8,14 @@ pub record Behind (old : SinkSeen) (text : List ℕ) (now : SinkSeen) (rest : Li
   pub adds : (new : SinkSeen) → Adds now rest new → Adds old text new
   pub fails : (new : SinkSeen) → FailsToWrite now rest new → FailsToWrite old text new
 
-pub behind_line : (old now mid : SinkSeen) (text rest line more : List ℕ) → line ++ more ≡ rest → Behind old text now rest → Adds now line mid → Behind old text mid more
+pub behind_line : (old now mid : SinkSeen) (text rest line more : List ℕ) → line ++ more ≡ rest
+    → Behind old text now rest → Adds now line mid → Behind old text mid more
 behind_line old now mid text rest line more e b h = record {
   adds = λ new g. b.adds new (subst (λ t. Adds now t new) e (adds_then now mid new line more h g));
   fails = λ new g. b.fails new (subst (λ t. FailsToWrite now t new) e (adds_fails now mid new line more h g));
 }
 
-pub behind_fails : (old now new : SinkSeen) (text rest line more : List ℕ) → line ++ more ≡ rest → Behind old text now rest → FailsToWrite now line new → FailsToWrite old text new
-behind_fails old now new text rest line more e b h = b.fails new (subst (λ t. FailsToWrite now t new) e (fails_more now new line more h))
+pub behind_fails : (old now new : SinkSeen) (text rest line more : List ℕ) → line ++ more ≡ rest
+    → Behind old text now rest → FailsToWrite now line new → FailsToWrite old text new
+behind_fails old now new text rest line more e b h =
+    b.fails new (subst (λ t. FailsToWrite now t new) e (fails_more now new line more h))

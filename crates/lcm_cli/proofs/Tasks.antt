@@ -1,25 +1,61 @@
 -- The task of a plan, and the job that a body makes of what came.
-use Rattle.std.proofs.Common.{◌≡◌}
+use Rattle.std.proofs.Common.{◌≡◌, inl, inr}
 use Rattle.std.specs.Prelude.{Result, Ok, Err, IfOk, IfErr, IsErrAnd}
 use Rattle.std.proofs.lemmas.Result.{err_from_is_err_and}
 use Rattle.outside_io.specs.FilesSeen.{FilesSeen}
 use Rattle.lcm_cli.specs.declared.job.Job.{Job}
+use Rattle.lcm_cli.specs.declared.refusal.Refusal.{Refusal}
 use Rattle.lcm_cli.specs.declared.refusal.Stop.{Stop}
 use Rattle.lcm_cli.specs.declared.refusal.Stop.TheVariants.{NoMemory}
 use Rattle.lcm_cli.specs.Plans.{Plan, Made, ◌>>=◌, Comes, Follows}
-use Rattle.lcm_cli.specs.Commands.{Task}
+use Rattle.lcm_cli.specs.Commands.{Task, for_task}
 use Rattle.lcm_cli.specs.Jobs.{Does, FollowsTask}
 use Rattle.lcm_cli.proofs.Follow.{comes_made, comes_quiet, follows_end}
+use Rattle.lcm_cli.proofs.Ends.{comes_split, same_err, not_made}
 
--- the job of what came does the task that is made of it; or memory was refused
-pub task_follows : {A : Type 0} (p : Plan A) (f : A → Task) (old new : FilesSeen) (x : A) (r : Result Job Stop)
-    → Comes p old (Ok x) new → IfOk r (Does (f x)) → IfErr r (λ s. s ≡ NoMemory) → FollowsTask (p >>= (λ y. Made (f y))) old r new
-task_follows p f old new x (Ok job) h d n = (f x, comes_made p f old new x h, d)
+-- ---- bodies
+
+-- the job of what came does the task that is made of it
+pub task_done : {A : Type 0} (p : Plan A) (f : A → Task) (old new : FilesSeen) (x : A) (job : Job)
+    → Comes p old (Ok x) new → Does (f x) job → FollowsTask (for_task p f) old (Ok job) new
+task_done p f old new x job h d = (f x, comes_made p f old new x h, d)
+
+-- or memory was refused
+pub task_follows : {A : Type 0} (p : Plan A) (f : A → Task) (old new : FilesSeen) (x : A)
+    (r : Result Job Stop)
+    → Comes p old (Ok x) new → IfOk r (Does (f x)) → IfErr r (λ s. s ≡ NoMemory)
+    → FollowsTask (for_task p f) old r new
+task_follows p f old new x (Ok job) h d n = task_done p f old new x job h d
 task_follows p f old new x (Err stop) h d n = rw n (comes_quiet p old new x h)
 
 -- nothing came for a task, and the body stops by that
-pub task_stops : {A : Type 0} (p : Plan A) (f : A → Task) (old new : FilesSeen) (s : Stop) (r : Result Job Stop) → IsErrAnd r (λ e. e ≡ s) → Follows p old (Err s) new
-    → FollowsTask (p >>= (λ y. Made (f y))) old r new
+pub task_stops : {A : Type 0} (p : Plan A) (f : A → Task) (old new : FilesSeen) (s : Stop)
+    (r : Result Job Stop)
+    → IsErrAnd r (λ e. e ≡ s) → Follows p old (Err s) new → FollowsTask (for_task p f) old r new
 task_stops p f old new s r is h =
     let q = err_from_is_err_and r is in
     rw (q.1, q.2) (follows_end p (λ y. Made (f y)) old new s h)
+
+-- ---- plans
+
+-- where the call ends, it was what is read that ended it
+pub err_of : {A : Type 0} (p : Plan A) (f : A → Task) (old new : FilesSeen) (why : Refusal)
+    → Comes (for_task p f) old (Err why) new → Comes p old (Err why) new
+err_of p f old new why h =
+    elim (comes_split p (λ x. Made (f x)) old new (Err why) h) as (λ _. Comes p old (Err why) new) [
+      | inl s ↦ absurd (not_made (f s.0) why s.1 new s.3)
+      | inr s ↦ (let e = same_err why s.0 s.2 in rw (← e) s.1)
+    ]
+
+same_task : (x y : Task) → (let r : Result Task Refusal = Ok x in r) ≡ Ok y → x ≡ y
+same_task x y e = cc
+
+-- the task is of what came
+pub made_of : {A : Type 0} (p : Plan A) (f : A → Task) (old new : FilesSeen) (task : Task)
+    → Comes (for_task p f) old (Ok task) new → (x : A) × Comes p old (Ok x) new × (task ≡ f x)
+made_of {A} p f old new task h =
+    elim (comes_split p (λ x. Made (f x)) old new (Ok task) h)
+    as (λ _. (x : A) × Comes p old (Ok x) new × (task ≡ f x)) [
+      | inl s ↦ (let q = s.3.1 in (s.0, rw q s.2, same_task task (f s.0) s.3.0))
+      | inr s ↦ absurd (let e = s.2 in cc)
+    ]

@@ -1,5 +1,5 @@
 -- What a call of the program answers.
-use Rattle.std.specs.Prelude.{◌≡◌, ◌⊎◌, ℕ, ◌<◌, ◌≤◌, List, length, codes, Option, Some, None, Result, Ok, Err}
+use Rattle.std.specs.Prelude.{◌≡◌, ◌⊎◌, ℕ, ◌<◌, ◌≤◌, List, length, Option, Some, None, Result, Ok, Err}
 use Rattle.outside_io.specs.Counts.{Rose}
 use Rattle.outside_io.specs.FilesSeen.{FilesSeen, Puts, FailsToPut}
 use Rattle.outside_io.specs.SinkSeen.{SinkSeen, Adds, FailsToWrite}
@@ -13,7 +13,6 @@ use Rattle.trace_tool.specs.declared.run.RunEnd.TheVariants as run_end
 use Rattle.trace_tool.specs.Layout.{layout}
 use Rattle.trace_tool.specs.Runs.{run_text, end_of}
 use Rattle.trace_tool.specs.Traces.{trace_of, trace_text}
-use Rattle.disassembler.specs.Disassembled.{disassembled}
 use Rattle.lcm_cli.specs.declared.TheConstants.{LONGEST_FILE}
 use Rattle.lcm_cli.specs.declared.status.Status.{Status}
 use Rattle.lcm_cli.specs.declared.status.Status.TheVariants.{Done, MachineFailed, StepsUsed}
@@ -24,7 +23,7 @@ use Rattle.lcm_cli.specs.declared.job.Job.{Job}
 use Rattle.lcm_cli.specs.declared.job.Job.TheVariants as job
 use Rattle.lcm_cli.specs.Refusals.{refusal_text, refusal_status}
 use Rattle.lcm_cli.specs.Plans.{Plan, Reads, Ends, Made, Comes}
-use Rattle.lcm_cli.specs.Commands.{Task, Run, Trace, Put, Show, Say, spelling_of, IsReadAgain}
+use Rattle.lcm_cli.specs.Commands.{Task, Run, Trace, Put, Write, spelling_of, IsReadAgain, ok_text}
 
 -- a file that is put, by its name and its bytes
 pub record NewFile : Type 0 where
@@ -63,22 +62,21 @@ abbrev pub traced : OverlaySeen → ℕ → Answer
 traced overlay steps = writes (end_status (trace_of steps overlay).end) (trace_text steps overlay)
 
 abbrev pub said : Answer
-said = writes Done (codes "ok\n")
+said = writes Done ok_text
 
 abbrev pub puts : List ℕ → List ℕ → Answer
 puts name bytes = record said { file = Some (record { name = name; bytes = bytes }) }
 
--- the answer to what came of a plan: that of the plain run of the start that the parts link to or of its
--- overlay, the file, whose bytes give again what was put, the component's text, `ok`, or the refusal's
+-- the answer to what came of a plan: that of the plain run of the start that the image's parts link to or of its
+-- overlay, the file, whose bytes give again what was put, the text, or the refusal's
 abbrev pub IsAnswerOf : Result Task Refusal → Answer → Type 0
-IsAnswerOf (Ok (Run parts size steps)) a =
-    (start : StartSeen) × IsStartOf parts size start × (a ≡ ran start steps)
-IsAnswerOf (Ok (Trace parts size steps)) a =
-    (start : StartSeen) × (overlay : OverlaySeen) × IsStartOf parts size start × IsOverlayOf start overlay
+IsAnswerOf (Ok (Run i steps)) a =
+    (start : StartSeen) × IsStartOf i.parts i.stack start × (a ≡ ran start steps)
+IsAnswerOf (Ok (Trace i steps)) a =
+    (start : StartSeen) × (overlay : OverlaySeen) × IsStartOf i.parts i.stack start × IsOverlayOf start overlay
     × (a ≡ traced overlay steps)
 IsAnswerOf (Ok (Put name content)) a = IsReadAgain content × (a ≡ puts name (spelling_of content))
-IsAnswerOf (Ok (Show c)) a = a ≡ writes Done (disassembled c)
-IsAnswerOf (Ok Say) a = a ≡ said
+IsAnswerOf (Ok (Write text)) a = a ≡ writes Done text
 IsAnswerOf (Err why) a = a ≡ refused why
 
 -- ---- calls
@@ -140,10 +138,10 @@ pub data Answers (plan : Plan Task) (old : Outside) (status : Status) (new : Out
 abbrev pub Settles : {A : Type 0} → (List ℕ → Option (List ℕ)) → Plan A → Result A Refusal → Type 0
 Settles held (Made x) due = due ≡ Ok x
 Settles held (Ends why) due = due ≡ Err why
-Settles held (Reads name place next) due =
+Settles held (Reads name index next) due =
     (bytes : List ℕ) × (held name ≡ Some bytes)
     × (((length bytes ≤ LONGEST_FILE) × Settles held (next bytes) due)
-    ⊎ ((LONGEST_FILE < length bytes) × (due ≡ Err (TooLong place))))
+    ⊎ ((LONGEST_FILE < length bytes) × (due ≡ Err (TooLong index))))
 
 -- what is put, written, answered and handed over, by the plan and the bytes of the files
 abbrev pub IsWritten : (List ℕ → Option (List ℕ)) → Plan Task → Answer → Type 0
@@ -174,7 +172,7 @@ abbrev pub job_answer : Job → Answer
 job_answer (job.Run start steps) = ran start steps
 job_answer (job.Trace start overlay steps) = traced overlay steps
 job_answer (job.Put out bytes) = puts out bytes
-job_answer (job.Show text) = writes Done text
+job_answer (job.Write text) = writes Done text
 job_answer job.Say = said
 
 -- the machine of a job made no step yet, and its overlay is that of its start

@@ -2,13 +2,17 @@
 use Rattle.std.specs.Prelude.{◌≡◌, ◌⊎◌, ℕ, ◌+◌, ℤ, false, List, [], ◌∷◌, Option, Some, None, Ok, Err}
 use Rattle.outside_io.specs.Counts.{Rose}
 use Rattle.outside_io.specs.FilesSeen.{FilesSeen, Puts, KeepsOthers}
-use Rattle.outside_io.specs.SinkSeen.{Adds}
+use Rattle.outside_io.specs.SinkSeen.{Adds, FailsToWrite}
 use Rattle.outside_io.specs.Whole.{GivesWhole as ComesWhole, IsTooLong, Faults, OnlyGave}
 use Rattle.command_words.specs.declared.part.PartWord.{PartWord}
 use Rattle.command_words.specs.declared.command.Linked.{Linked}
 use Rattle.command_words.specs.declared.command.Linked.TheVariants as what
+use Rattle.command_words.specs.declared.command.LinkDeed.{LinkDeed}
+use Rattle.command_words.specs.declared.command.LinkDeed.TheVariants as link_deed
+use Rattle.command_words.specs.declared.command.ComponentDeed.{ComponentDeed}
+use Rattle.command_words.specs.declared.command.ComponentDeed.TheVariants as component_deed
 use Rattle.command_words.specs.declared.command.Command.{Command}
-use Rattle.command_words.specs.declared.command.Command.TheVariants as command
+use Rattle.command_words.specs.declared.command.Command.TheVariants.{Links, Takes, Checks}
 use Rattle.asm_fields.specs.declared.fault.AsmFault.{AsmFault}
 use Rattle.assembler.specs.Assembled.{assembled}
 use Rattle.component_file.specs.declared.fault.FileFault.{FileFault}
@@ -19,6 +23,7 @@ use Rattle.component_linker.specs.declared.fault.RuleAt.{RuleAt}
 use Rattle.component_linker.specs.Parts.{PartSeen}
 use Rattle.image_loader.specs.declared.fault.ImageFault.{ImageFault}
 use Rattle.image_loader.specs.declared.fault.ImageFault.TheVariants as image
+use Rattle.image_loader.specs.Image.{ImageSeen}
 use Rattle.image_loader.specs.Reading.{image_of}
 use Rattle.overlay_machine.specs.Starting.{IsStartOf}
 use Rattle.component_linker.specs.Started.{StartSeen}
@@ -44,50 +49,49 @@ use Rattle.lcm_cli.specs.Refusals.{refusal_text, image_status}
 use Rattle.lcm_cli.specs.Plans.{Plan, Reads, Ends, Made, Comes}
 use Rattle.component_linker.specs.Accepted.{accepted}
 use Rattle.lcm_cli.specs.Parts.{is_trusted, linked, loaded, component_at, part_at, each_at}
-use Rattle.lcm_cli.specs.Commands.{Content, spelling_of, IsReadAgain, Run, Trace, Put, Show, Say, is_command, plan_in}
+use Rattle.lcm_cli.specs.Commands.{Content, spelling_of, IsReadAgain, Run, Trace, Put, Write, is_command, plan_in}
 use Rattle.lcm_cli.specs.Answers.{Outside, Answers, IsComplete, end_status}
 
 -- ---- files
 
 -- the turn of a file came, each before it having come whole; `seen` is what the files tell then
 abbrev pub IsTurn : {A : Type 0} → Plan A → FilesSeen → List ℕ → ℕ → FilesSeen → Type 0
-IsTurn (Made x) old name place seen = ⊥
-IsTurn (Ends why) old name place seen = ⊥
-IsTurn (Reads n p next) old name place seen =
-    ((n ≡ name) × (p ≡ place) × (seen ≡ old))
+IsTurn (Made x) old name index seen = ⊥
+IsTurn (Ends why) old name index seen = ⊥
+IsTurn (Reads n p next) old name index seen =
+    ((n ≡ name) × (p ≡ index) × (seen ≡ old))
     ⊎ ((bytes : List ℕ) × (mid : FilesSeen) × ComesWhole old n LONGEST_FILE bytes mid
-    × IsTurn (next bytes) mid name place seen)
+    × IsTurn (next bytes) mid name index seen)
 
 -- a read failed of a file whose turn it was, and it is the last failed one
 abbrev pub IsUnread : {A : Type 0} → Plan A → FilesSeen → FilesSeen → Type 0
 IsUnread plan old new =
-    (name : List ℕ) × (place : ℕ) × (seen : FilesSeen) × IsTurn plan old name place seen
+    (name : List ℕ) × (index : ℕ) × (seen : FilesSeen) × IsTurn plan old name index seen
     × Faults seen name LONGEST_FILE new
 
--- the file of this place, whose turn it was, is too long
+-- the file of this index, whose turn it was, is too long
 abbrev pub IsLong : {A : Type 0} → Plan A → FilesSeen → ℕ → FilesSeen → Type 0
-IsLong plan old place new =
-    (name : List ℕ) × (seen : FilesSeen) × IsTurn plan old name place seen
+IsLong plan old index new =
+    (name : List ℕ) × (seen : FilesSeen) × IsTurn plan old name index seen
     × IsTooLong seen name LONGEST_FILE new
 
--- the file of this place came last, whole, and its bytes are such
+-- the file of this index came last, whole, and its bytes are such
 abbrev pub Holds : {A : Type 0} → Plan A → FilesSeen → ℕ → FilesSeen → (List ℕ → Type 0) → Type 0
-Holds plan old place new P =
-    (name : List ℕ) × (seen : FilesSeen) × IsTurn plan old name place seen
+Holds plan old index new P =
+    (name : List ℕ) × (seen : FilesSeen) × IsTurn plan old name index seen
     × (bytes : List ℕ) × ComesWhole seen name LONGEST_FILE bytes new × P bytes
 
--- the bytes of the file of this place spell no component, with this first fault
+-- the bytes of the file of this index spell no component, with this first fault
 abbrev pub IsUndecoded : {A : Type 0} → Plan A → FilesSeen → ℕ → FileFault → FilesSeen → Type 0
-IsUndecoded plan old place f new = Holds plan old place new (λ bytes. decoded bytes ≡ Err f)
+IsUndecoded plan old index f new = Holds plan old index new (λ bytes. decoded bytes ≡ Err f)
 
--- the text in the file of this place spells no component, with this first fault
+-- the text in the file of this index spells no component, with this first fault
 abbrev pub IsUnassembled : {A : Type 0} → Plan A → FilesSeen → ℕ → AsmFault → FilesSeen → Type 0
-IsUnassembled plan old place f new = Holds plan old place new (λ text. assembled text ≡ Err f)
+IsUnassembled plan old index f new = Holds plan old index new (λ text. assembled text ≡ Err f)
 
 -- the name of an image word
 abbrev pub image_in : Option Command → Option (List ℕ)
-image_in (Some (command.Run (what.Image name) steps)) = Some name
-image_in (Some (command.Trace (what.Image name) steps)) = Some name
+image_in (Some (Links (what.Image name) deed)) = Some name
 image_in _ = None
 
 -- the file of the image word came whole, and its bytes are no image whose parts link, with this first fault
@@ -100,18 +104,18 @@ IsUnloaded asked old f new =
 
 -- the word's part breaks a rule by itself
 abbrev pub PartBreaks : FilesSeen → ℕ → PartWord → RuleAt → FilesSeen → Type 0
-PartBreaks old place word r new =
-    (c : ComponentFields) × Comes (component_at place word) old (Ok c) new
+PartBreaks old index word r new =
+    (c : ComponentFields) × Comes (component_at index word) old (Ok c) new
     × (b : Broken) × (accepted (record { component = c; trusted = is_trusted word.mark }) ≡ Err b)
-    × (r ≡ record { rule = b.rule; part = place; place = b.place })
+    × (r ≡ record { rule = b.rule; part = index; place = b.place })
 
 -- the first words made parts, and the next one's part breaks a rule by itself
 abbrev pub SomeBreaks : FilesSeen → ℕ → List PartWord → RuleAt → FilesSeen → Type 0
-SomeBreaks old place [] r new = ⊥
-SomeBreaks old place (word ∷ words) r new =
-    PartBreaks old place word r new
-    ⊎ ((p : PartSeen) × (mid : FilesSeen) × Comes (part_at place word) old (Ok p) mid
-    × SomeBreaks mid (place + 1) words r new)
+SomeBreaks old index [] r new = ⊥
+SomeBreaks old index (word ∷ words) r new =
+    PartBreaks old index word r new
+    ⊎ ((p : PartSeen) × (mid : FilesSeen) × Comes (part_at index word) old (Ok p) mid
+    × SomeBreaks mid (index + 1) words r new)
 
 -- all words made parts, which together break a rule
 abbrev pub AllBreak : FilesSeen → List PartWord → ℕ → RuleAt → FilesSeen → Type 0
@@ -124,34 +128,26 @@ LinkBreaks old words size r new = SomeBreaks old 0 words r new ⊎ AllBreak old 
 
 -- a rule that the command asks for is broken by the parts of its words
 abbrev pub Breaks : Option Command → FilesSeen → RuleAt → FilesSeen → Type 0
-Breaks (Some (command.Run (what.Parts words size) steps)) old r new = LinkBreaks old words size r new
-Breaks (Some (command.Trace (what.Parts words size) steps)) old r new = LinkBreaks old words size r new
-Breaks (Some (command.Check word)) old r new = PartBreaks old 0 word r new
-Breaks (Some (command.Link words size out)) old r new = LinkBreaks old words size r new
+Breaks (Some (Links (what.Parts words size) deed)) old r new = LinkBreaks old words size r new
+Breaks (Some (Checks word)) old r new = PartBreaks old 0 word r new
 Breaks _ old r new = ⊥
 
 -- ---- runs
 
--- the parts that are linked came, and the plain run of their start came to this
+-- the image came, and the plain run of its start came to this
 abbrev pub Runs : Option Command → FilesSeen → FilesSeen → (Step → Type 0) → Type 0
 Runs asked old new P =
-    (parts : List PartSeen) × (size : ℕ) × (steps : ℕ)
-    × Comes (plan_in asked) old (Ok (Run parts size steps)) new
-    × (start : StartSeen) × IsStartOf parts size start × P (last_step (plain steps start.state))
+    (i : ImageSeen) × (steps : ℕ) × Comes (plan_in asked) old (Ok (Run i steps)) new
+    × (start : StartSeen) × IsStartOf i.parts i.stack start × P (last_step (plain steps start.state))
 
--- the parts that are linked came, and the run of their start's overlay came to this
+-- the image came, and the run of its start's overlay came to this
 abbrev pub Traces : Option Command → FilesSeen → FilesSeen → RunEnd → Type 0
 Traces asked old new end =
-    (parts : List PartSeen) × (size : ℕ) × (steps : ℕ)
-    × Comes (plan_in asked) old (Ok (Trace parts size steps)) new
-    × (start : StartSeen) × (overlay : OverlaySeen) × IsStartOf parts size start × IsOverlayOf start overlay
-    × ((trace_of steps overlay).end ≡ end)
+    (i : ImageSeen) × (steps : ℕ) × Comes (plan_in asked) old (Ok (Trace i steps)) new
+    × (start : StartSeen) × (overlay : OverlaySeen) × IsStartOf i.parts i.stack start
+    × IsOverlayOf start overlay × ((trace_of steps overlay).end ≡ end)
 
--- `ok` was to be written, and nothing else to be done
-abbrev pub Says : Option Command → FilesSeen → FilesSeen → Type 0
-Says asked old new = Comes (plan_in asked) old (Ok Say) new
-
--- ---- files that are put, and components that are shown
+-- ---- files that are put, and texts that are written
 
 -- the component or the image that the words ask for came, and its file was put under the name of `--out`, whose
 -- bytes give just this component or image again
@@ -161,14 +157,22 @@ PutsFile asked old new =
     × Comes (plan_in asked) old (Ok (Put name content)) seen × IsReadAgain content
     × Puts seen new name (spelling_of content)
 
--- the word's component came, and its text was to be written
-abbrev pub Shows : Option Command → FilesSeen → FilesSeen → Type 0
-Shows asked old new = (c : ComponentFields) × Comes (plan_in asked) old (Ok (Show c)) new
+-- what is read came, and this text was to be written, and nothing else to be done
+abbrev pub Tells : Option Command → FilesSeen → FilesSeen → Type 0
+Tells asked old new = (text : List ℕ) × Comes (plan_in asked) old (Ok (Write text)) new
 
 -- the name of `--out`
+abbrev pub link_out : LinkDeed → Option (List ℕ)
+link_out (link_deed.Store out) = Some out
+link_out _ = None
+
+abbrev pub component_out : ComponentDeed → Option (List ℕ)
+component_out (component_deed.Put out) = Some out
+component_out component_deed.Show = None
+
 abbrev pub out_of : Option Command → Option (List ℕ)
-out_of (Some (command.Assemble word out)) = Some out
-out_of (Some (command.Link words size out)) = Some out
+out_of (Some (Links l deed)) = link_out deed
+out_of (Some (Takes word deed)) = component_out deed
 out_of _ = None
 
 -- the refusal's line was written
@@ -178,10 +182,10 @@ Wrote why old new = Adds old.sink (refusal_text why) new.sink
 -- ---- the causes, a law for each status
 
 pub record Causes (asked : Option Command) (old : Outside) (status : Status) (new : Outside) : Type 0 where
-  -- the run halted, the file was put, the component's text or `ok` was to be written
+  -- the run halted, the file was put, or the text was to be written
   pub done : status ≡ Done → Runs asked old.files new.files (λ step. step ≡ Halted)
       ⊎ (Traces asked old.files new.files run_end.Halted ⊎ (PutsFile asked old.files new.files
-      ⊎ (Shows asked old.files new.files ⊎ Says asked old.files new.files)))
+      ⊎ Tells asked old.files new.files))
   pub machine_failed : status ≡ MachineFailed → Runs asked old.files new.files
       (λ step. (cause : FailCause) × (at : ℤ) × (step ≡ Failed cause at))
       ⊎ Traces asked old.files new.files run_end.Failed
@@ -195,13 +199,13 @@ pub record Causes (asked : Option Command) (old : Outside) (status : Status) (ne
       ⊎ (Rose old.files.failed_puts new.files.failed_puts × (out_of asked ≡ Some new.files.last_failed_put))
   pub no_memory : status ≡ NoMemory
       → OnlyGave old.files new.files × (new.sink ≡ old.sink) × (new.kept ≡ old.kept)
-  pub too_long : status ≡ TooLong → (place : ℕ) × Wrote (refusal.TooLong place) old new
-      × IsLong (plan_in asked) old.files place new.files
-  pub asm_refused : status ≡ AsmRefused → (place : ℕ) × (f : AsmFault)
-      × Wrote (refusal.Assembly place f) old new × IsUnassembled (plan_in asked) old.files place f new.files
+  pub too_long : status ≡ TooLong → (index : ℕ) × Wrote (refusal.TooLong index) old new
+      × IsLong (plan_in asked) old.files index new.files
+  pub asm_refused : status ≡ AsmRefused → (index : ℕ) × (f : AsmFault)
+      × Wrote (refusal.Assembly index f) old new × IsUnassembled (plan_in asked) old.files index f new.files
   -- the bytes of a part's file are no component, or those of an image's file no image
-  pub file_refused : status ≡ FileRefused → ((place : ℕ) × (f : FileFault)
-      × Wrote (refusal.File place f) old new × IsUndecoded (plan_in asked) old.files place f new.files)
+  pub file_refused : status ≡ FileRefused → ((index : ℕ) × (f : FileFault)
+      × Wrote (refusal.File index f) old new × IsUndecoded (plan_in asked) old.files index f new.files)
       ⊎ ((f : ImageFault) × (image_status f ≡ FileRefused) × Wrote (refusal.Image f) old new
       × IsUnloaded asked old.files f new.files)
   -- parts of words break a rule, or those of an image do
@@ -248,38 +252,54 @@ LinkedCame (what.Image name) old parts size new =
     (bytes : List ℕ) × ComesWhole old name LONGEST_FILE bytes new
     × (image_of bytes ≡ Ok (record { stack = size; parts = parts }))
 
--- the words or the image made parts that keep the rules, and the plain run of the start that they link to gave
--- the status, the text, which is its lines and its end line, and the machine. That start has the headline: the
--- plain run agrees with the run of the start's overlay, its calls and returns are bracketed, and its frames are
--- private.
-pub record RunGiven (l : Linked) (steps : ℕ) (old : Outside) (status : Status) (new : Outside) : Type 0 where
+-- the words or the image made parts that keep the rules, and this is the start that they link to. It has the
+-- headline: the plain run agrees with the run of the start's overlay, its calls and returns are bracketed, and
+-- its frames are private.
+pub record Started (l : Linked) (old new : FilesSeen) : Type 0 where
   pub parts : List PartSeen
   pub size : ℕ
-  pub came : LinkedCame l old.files parts size new.files
+  pub came : LinkedCame l old parts size new
   pub keep : linked parts size ≡ Ok tt
   pub start : StartSeen
   pub linked_start : IsStartOf parts size start
   pub headline : Headline start
-  pub status_is : status ≡ end_status (end_of (last_step (plain steps start.state)))
-  pub written : Adds old.sink (run_text (layout start) start.state steps) new.sink
-  pub kept_is : new.kept ≡ Some (plain steps start.state)
 
--- the same of the run of that start's overlay, which hands no machine over. Its lines are those that a plain run
--- of as many instructions writes.
+-- the text of the plain run from a start: its lines and its end line
+abbrev pub text_of_run : StartSeen → ℕ → List ℕ
+text_of_run start steps = run_text (layout start) start.state steps
+
+-- the plain run of the start gave the status, the text and the machine
+pub record RunGiven (l : Linked) (steps : ℕ) (old : Outside) (status : Status) (new : Outside) : Type 0 where
+  pub from : Started l old.files new.files
+  pub status_is : status ≡ end_status (end_of (last_step (plain steps from.start.state)))
+  pub written : Adds old.sink (text_of_run from.start steps) new.sink
+  pub kept_is : new.kept ≡ Some (plain steps from.start.state)
+
+-- the run of the start's overlay gave the status and the text, and no machine. Its lines are those that a plain
+-- run of as many instructions writes.
 pub record TraceGiven (l : Linked) (steps : ℕ) (old : Outside) (status : Status) (new : Outside) : Type 0 where
-  pub parts : List PartSeen
-  pub size : ℕ
-  pub came : LinkedCame l old.files parts size new.files
-  pub keep : linked parts size ≡ Ok tt
-  pub start : StartSeen
-  pub linked_start : IsStartOf parts size start
-  pub headline : Headline start
+  pub from : Started l old.files new.files
   pub overlay : OverlaySeen
-  pub overlay_is : IsOverlayOf start overlay
-  pub lines_are : (trace_of steps overlay).lines ≡ written start steps
+  pub overlay_is : IsOverlayOf from.start overlay
+  pub lines_are : (trace_of steps overlay).lines ≡ written from.start steps
   pub status_is : status ≡ end_status (trace_of steps overlay).end
   pub written : Adds old.sink (trace_text steps overlay) new.sink
   pub kept_is : new.kept ≡ old.kept
+
+-- the sink failed at a refusal's line, or at the text of such a start's run
+abbrev pub IsCut : (l : Linked) → (StartSeen → List ℕ → Type 0) → Outside → Outside → Type 0
+IsCut l IsText old new =
+    ((why : Refusal) × FailsToWrite old.sink (refusal_text why) new.sink)
+    ⊎ ((from : Started l old.files new.files) × (text : List ℕ) × IsText from.start text
+    × FailsToWrite old.sink text new.sink)
+
+abbrev pub RunCut : Linked → ℕ → Outside → Outside → Type 0
+RunCut l steps = IsCut l (λ start text. text ≡ text_of_run start steps)
+
+-- of a trace, the text is that of the overlay's run
+abbrev pub TraceCut : Linked → ℕ → Outside → Outside → Type 0
+TraceCut l steps = IsCut l (λ start text.
+    (overlay : OverlaySeen) × IsOverlayOf start overlay × (text ≡ trace_text steps overlay))
 
 -- what the top call promises: the answer that was due, the cause of its status, and that no other answer is
 -- given where nothing outside fails

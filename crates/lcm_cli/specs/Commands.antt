@@ -1,17 +1,22 @@
--- What each command does: its files in the order of refusals, and then its task.
-use Rattle.std.specs.Prelude.{◌≡◌, ℕ, Bool, true, false, not, List, Option, Some, None, Ok, if◌then◌else◌}
+-- What each command does: it reads, with its files in the order of refusals, and what came is for a task.
+use Rattle.std.specs.Prelude.{◌≡◌, ℕ, Bool, true, false, not, List, codes, Option, Some, None, Ok}
+use Rattle.std.specs.Prelude.{if◌then◌else◌}
 use Rattle.std.specs.List.{list_all}
 use Rattle.command_words.specs.declared.part.Ending.{Ending}
 use Rattle.command_words.specs.declared.part.Ending.TheVariants.{Source}
 use Rattle.command_words.specs.declared.part.PartWord.{PartWord}
 use Rattle.command_words.specs.declared.command.Linked.{Linked}
 use Rattle.command_words.specs.declared.command.Linked.TheVariants as what
+use Rattle.command_words.specs.declared.command.LinkDeed.{LinkDeed}
+use Rattle.command_words.specs.declared.command.LinkDeed.TheVariants as link_deed
+use Rattle.command_words.specs.declared.command.ComponentDeed.{ComponentDeed}
+use Rattle.command_words.specs.declared.command.ComponentDeed.TheVariants as component_deed
 use Rattle.command_words.specs.declared.command.Command.{Command}
-use Rattle.command_words.specs.declared.command.Command.TheVariants as command
+use Rattle.command_words.specs.declared.command.Command.TheVariants.{Links, Takes, Checks}
 use Rattle.component_file.specs.declared.component.ComponentFields.{ComponentFields}
 use Rattle.component_file.specs.Spelling.{spelling}
 use Rattle.component_file.specs.Reading.{decoded}
-use Rattle.component_linker.specs.Parts.{PartSeen}
+use Rattle.disassembler.specs.Disassembled.{disassembled}
 use Rattle.image_loader.specs.Image.{ImageSeen, image_bytes}
 use Rattle.lcm_cli.specs.declared.refusal.Refusal.TheVariants as refusal
 use Rattle.lcm_cli.specs.Plans.{Plan, Ends, Made, ◌>>=◌, file, unless}
@@ -32,16 +37,18 @@ abbrev pub IsReadAgain : Content → Type 0
 IsReadAgain (OfComponent c) = decoded (spelling c) ≡ Ok c
 IsReadAgain (OfImage i) = loaded (image_bytes i) ≡ Ok i
 
--- what is left to do once the files came: to run the start of parts with a stack of a size, or its overlay; to
--- put a file under a name, and then to write `ok`; to write the text of a component; or to write `ok`
+-- what is left to do once the files came: to run the start of an image, or its overlay; to put a file under a
+-- name, and then to write `ok`; or to write a text
 pub data Task : Type 0 where
-  Run : (parts : List PartSeen) (size steps : ℕ) → Task
-  Trace : (parts : List PartSeen) (size steps : ℕ) → Task
+  Run : (image : ImageSeen) (steps : ℕ) → Task
+  Trace : (image : ImageSeen) (steps : ℕ) → Task
   Put : (name : List ℕ) (content : Content) → Task
-  Show : (component : ComponentFields) → Task
-  Say : Task
+  Write : (text : List ℕ) → Task
 
--- ---- what is built: `run` and `trace` of parts and of images, `asm`, `dis`, `check` and `link`; of no sources
+abbrev pub ok_text : List ℕ
+ok_text = codes "ok\n"
+
+-- ---- what is built: all that reads parts which are no sources, and images
 
 abbrev pub is_source : Ending → Bool
 is_source Source = true
@@ -55,12 +62,9 @@ is_built_linked (what.Parts words size) = list_all is_built_form words
 is_built_linked (what.Image name) = true
 
 abbrev pub is_built : Command → Bool
-is_built (command.Run l steps) = is_built_linked l
-is_built (command.Trace l steps) = is_built_linked l
-is_built (command.Assemble word out) = is_built_form word
-is_built (command.Disassemble word) = is_built_form word
-is_built (command.Check word) = is_built_form word
-is_built (command.Link words size out) = list_all is_built_form words
+is_built (Links l deed) = is_built_linked l
+is_built (Takes word deed) = is_built_form word
+is_built (Checks word) = is_built_form word
 is_built _ = false
 
 -- ---- parts that link, with the size of their stack
@@ -82,50 +86,30 @@ abbrev pub linked_in : Linked → Plan ImageSeen
 linked_in (what.Parts words size) = linked_parts words size
 linked_in (what.Image name) = linked_image name
 
+-- ---- what is done with what came
+
+abbrev pub link_task : LinkDeed → ImageSeen → Task
+link_task (link_deed.Run steps) i = Run i steps
+link_task (link_deed.Trace steps) i = Trace i steps
+link_task (link_deed.Store out) i = Put out (OfImage i)
+
+abbrev pub component_task : ComponentDeed → ComponentFields → Task
+component_task (component_deed.Put out) c = Put out (OfComponent c)
+component_task component_deed.Show c = Write (disassembled c)
+
 -- ---- what each command comes to
 
--- their run
-unfoldable pub run_plan : Linked → ℕ → Plan Task
-run_plan l steps = do
-  i ← linked_in l
-  Made (Run i.parts i.stack steps)
+-- a plan, and the task of what it makes
+abbrev pub for_task : {A : Type 0} → Plan A → (A → Task) → Plan Task
+for_task plan task = do
+  x ← plan
+  Made (task x)
 
--- or that of their overlay
-unfoldable pub trace_plan : Linked → ℕ → Plan Task
-trace_plan l steps = do
-  i ← linked_in l
-  Made (Trace i.parts i.stack steps)
-
--- or their image, whose file is put under this name
-unfoldable pub link_plan : List PartWord → ℕ → List ℕ → Plan Task
-link_plan words size out = do
-  i ← linked_parts words size
-  Made (Put out (OfImage i))
-
--- the component, whose file is put under this name; no rule is asked
-unfoldable pub assemble_plan : PartWord → List ℕ → Plan Task
-assemble_plan word out = do
-  c ← component_at 0 word
-  Made (Put out (OfComponent c))
-
--- the component, which is shown; no rule is asked
-unfoldable pub disassemble_plan : PartWord → Plan Task
-disassemble_plan word = do
-  c ← component_at 0 word
-  Made (Show c)
-
-unfoldable pub check_plan : PartWord → Plan Task
-check_plan word = do
-  _ ← part_at 0 word
-  Made Say
-
+-- parts that link, or an image; one component, of which no rule is asked; or one part with its own rules
 abbrev pub built_plan : Command → Plan Task
-built_plan (command.Run l steps) = run_plan l steps
-built_plan (command.Trace l steps) = trace_plan l steps
-built_plan (command.Assemble word out) = assemble_plan word out
-built_plan (command.Disassemble word) = disassemble_plan word
-built_plan (command.Check word) = check_plan word
-built_plan (command.Link words size out) = link_plan words size out
+built_plan (Links l deed) = for_task (linked_in l) (link_task deed)
+built_plan (Takes word deed) = for_task (component_at 0 word) (component_task deed)
+built_plan (Checks word) = for_task (part_at 0 word) (λ part. Write ok_text)
 built_plan _ = Ends refusal.Usage
 
 -- ---- what words ask for: what isn't built is refused as what is no command

@@ -1,40 +1,46 @@
 -- A job of the code, beside the task of the plan.
-use Rattle.std.specs.Prelude.{◌≡◌, Result, Ok, Err}
+use Rattle.std.specs.Prelude.{◌≡◌, ℕ, List, Result, Ok, Err}
 use Rattle.outside_io.specs.FilesSeen.{FilesSeen}
 use Rattle.overlay_machine.specs.Starting.{IsStartOf}
 use Rattle.component_linker.specs.Started.{StartSeen}
 use Rattle.overlay_machine.specs.Seen.{IsOverlayOf}
-use Rattle.disassembler.specs.Disassembled.{disassembled}
-use Rattle.image_loader.specs.Image.{ImageSeen}
+use Rattle.image_loader.specs.Image.{ImageSeen, image_bytes}
 use Rattle.lcm_cli.specs.declared.job.Job.{Job}
 use Rattle.lcm_cli.specs.declared.job.Job.TheVariants as job
 use Rattle.lcm_cli.specs.declared.refusal.Stop.{Stop}
 use Rattle.lcm_cli.specs.Plans.{Plan, Made, Comes, Follows, Meets}
-use Rattle.lcm_cli.specs.Commands.{Task, Run, Trace, Put, Show, Say, spelling_of, IsReadAgain}
+use Rattle.lcm_cli.specs.Commands.{Task, Run, Trace, Put, Write, Content, OfImage, spelling_of, IsReadAgain, ok_text}
 
--- the job runs from the start of the task's parts, or from its overlay, and has the bytes of its file or its text
+-- the job runs from the start of the task's image, or from its overlay, or has the bytes of its file or its text
 abbrev pub Does : Task → Job → Type 0
-Does (Run parts size steps) (job.Run start n) = IsStartOf parts size start × (n ≡ steps)
-Does (Trace parts size steps) (job.Trace start overlay n) =
-    IsStartOf parts size start × IsOverlayOf start overlay × (n ≡ steps)
-Does (Put name content) (job.Put out bytes) =
-    IsReadAgain content × (out ≡ name) × (bytes ≡ spelling_of content)
-Does (Show c) (job.Show text) = text ≡ disassembled c
-Does Say job.Say = Unit {0}
-Does _ _ = ⊥
+Does task (job.Run start steps) =
+    (i : ImageSeen) × (task ≡ Run i steps) × IsStartOf i.parts i.stack start
+Does task (job.Trace start overlay steps) =
+    (i : ImageSeen) × (task ≡ Trace i steps) × IsStartOf i.parts i.stack start × IsOverlayOf start overlay
+Does task (job.Put out bytes) =
+    (content : Content) × (task ≡ Put out content) × IsReadAgain content × (bytes ≡ spelling_of content)
+Does task (job.Write text) = task ≡ Write text
+Does task job.Say = task ≡ Write ok_text
 
--- a body's job does what came of the plan
+-- a body's answer is made of what came of the plan: `P` says how
+abbrev pub FollowsAs : {A B : Type 0}
+    → (A → B → Type 0) → Plan A → FilesSeen → Result B Stop → FilesSeen → Type 0
+FollowsAs {A} P plan old (Ok y) new = (x : A) × Comes plan old (Ok x) new × P x y
+FollowsAs P plan old (Err stop) new = Follows plan old (Err stop) new
+
+-- a job that does the task
 abbrev pub FollowsTask : Plan Task → FilesSeen → Result Job Stop → FilesSeen → Type 0
-FollowsTask plan old (Ok job) new = (task : Task) × Comes plan old (Ok task) new × Does task job
-FollowsTask plan old (Err stop) new = Follows plan old (Err stop) new
+FollowsTask = FollowsAs Does
 
--- a body's start is that of the parts that the plan made, with the size of their stack
+-- the start of the image
 abbrev pub FollowsStart : Plan ImageSeen → FilesSeen → Result StartSeen Stop → FilesSeen → Type 0
-FollowsStart plan old (Ok start) new =
-    (i : ImageSeen) × Comes plan old (Ok i) new × IsStartOf i.parts i.stack start
-FollowsStart plan old (Err stop) new = Follows plan old (Err stop) new
+FollowsStart = FollowsAs (λ i start. IsStartOf i.parts i.stack start)
 
--- the same of a plan that reads nothing
+-- the bytes of the image, which are loaded as just this image
+abbrev pub FollowsImage : Plan ImageSeen → FilesSeen → Result (List ℕ) Stop → FilesSeen → Type 0
+FollowsImage = FollowsAs (λ i bytes. IsReadAgain (OfImage i) × (bytes ≡ image_bytes i))
+
+-- the start, of a plan that reads nothing
 abbrev pub MeetsStart : Plan ImageSeen → Result StartSeen Stop → Type 0
 MeetsStart plan (Ok start) = (i : ImageSeen) × (plan ≡ Made i) × IsStartOf i.parts i.stack start
 MeetsStart plan (Err stop) = Meets plan (Err stop)

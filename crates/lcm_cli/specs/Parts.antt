@@ -29,7 +29,7 @@ use Rattle.lcm_cli.specs.Plans.{Plan, Ends, Made, ◌>>=◌, file, unless}
 
 -- a rule that a part breaks by itself
 abbrev pub broken_in : ℕ → Broken → Refusal
-broken_in place b = refusal.Rule (record { rule = b.rule; part = place; place = b.place })
+broken_in index b = refusal.Rule (record { rule = b.rule; part = index; place = b.place })
 
 -- the first of the rules L that parts break together where they are placed, where they break one
 unfoldable pub linked : List PartSeen → ℕ → Result (Unit {0}) RuleAt
@@ -59,26 +59,26 @@ is_trusted Untrusted = false
 
 -- the component that bytes are in their form; no command that is built has a source
 abbrev pub form_by : Ending → ℕ → List ℕ → Plan ComponentFields
-form_by Source place text = Ends refusal.Usage
-form_by Assembler place text = unless (refusal.Assembly place) (assembled text)
-form_by Component place bytes = unless (refusal.File place) (decoded bytes)
+form_by Source index text = Ends refusal.Usage
+form_by Assembler index text = unless (refusal.Assembly index) (assembled text)
+form_by Component index bytes = unless (refusal.File index) (decoded bytes)
 
 -- read, length, form
 unfoldable pub component_at : ℕ → PartWord → Plan ComponentFields
-component_at place word = do
-  bytes ← file word.name place
-  form_by word.ending place bytes
+component_at index word = do
+  bytes ← file word.name index
+  form_by word.ending index bytes
 
 -- and its own rules
 unfoldable pub part_at : ℕ → PartWord → Plan PartSeen
-part_at place word = do
-  c ← component_at place word
-  unless (broken_in place) (accepted (record { component = c; trusted = is_trusted word.mark }))
+part_at index word = do
+  c ← component_at index word
+  unless (broken_in index) (accepted (record { component = c; trusted = is_trusted word.mark }))
 
--- each word's part in its order, the first of them at a place
+-- each word's part in its order, the first of them at an index
 abbrev pub each_at : {A : Type 0} → (ℕ → PartWord → Plan A) → ℕ → List PartWord → Plan (List A)
-each_at item place [] = Made []
-each_at item place (word ∷ words) = do
-  first ← item place word
-  others ← each_at item (place + 1) words
+each_at item index [] = Made []
+each_at item index (word ∷ words) = do
+  first ← item index word
+  others ← each_at item (index + 1) words
   Made (first ∷ others)

@@ -9,21 +9,21 @@ use Rattle.lcm_cli.specs.declared.refusal.Refusal.TheVariants.{ReadFault, TooLon
 use Rattle.lcm_cli.specs.declared.refusal.Stop.{Stop}
 use Rattle.lcm_cli.specs.declared.refusal.Stop.TheVariants.{Refused, NoMemory}
 
--- `place` is the index of the file's part, which a refusal tells
+-- `index` is the index of the file's part, which a refusal tells
 pub data Plan (A : Type 0) : Type 0 where
-  Reads : (name : List ℕ) (place : ℕ) (next : List ℕ → Plan A) → Plan A
+  Reads : (name : List ℕ) (index : ℕ) (next : List ℕ → Plan A) → Plan A
   Ends : (why : Refusal) → Plan A
   Made : (made : A) → Plan A
 
 infixl 10 ◌>>=◌
 abbrev pub ◌>>=◌ : {A B : Type 0} → Plan A → (A → Plan B) → Plan B
-(Reads name place next) >>= f = Reads name place (λ bytes. next bytes >>= f)
+(Reads name index next) >>= f = Reads name index (λ bytes. next bytes >>= f)
 (Ends why) >>= f = Ends why
 (Made x) >>= f = f x
 
 -- the turn of a file
 abbrev pub file : List ℕ → ℕ → Plan (List ℕ)
-file name place = Reads name place Made
+file name index = Reads name index Made
 
 -- what a layer below gives, or the call ends with its fault told
 abbrev pub unless : {A F : Type 0} → (F → Refusal) → Result A F → Plan A
@@ -33,20 +33,20 @@ unless told (Err f) = Ends (told f)
 -- ---- what comes of a plan
 
 -- a file came whole, and the plan goes on; or the call ends, since it is too long or a read failed
-pub data ReadCame (old : FilesSeen) (name : List ℕ) (place : ℕ) (goes : List ℕ → FilesSeen → Type 0)
+pub data ReadCame (old : FilesSeen) (name : List ℕ) (index : ℕ) (goes : List ℕ → FilesSeen → Type 0)
     (ends : Refusal → Type 0) (new : FilesSeen) : Type 0 where
   whole : (bytes : List ℕ) (mid : FilesSeen) → GivesWhole old name LONGEST_FILE bytes mid → goes bytes mid
-      → ReadCame old name place goes ends new
-  too_long : IsTooLong old name LONGEST_FILE new → ends (TooLong place)
-      → ReadCame old name place goes ends new
-  unread : Faults old name LONGEST_FILE new → ends ReadFault → ReadCame old name place goes ends new
+      → ReadCame old name index goes ends new
+  too_long : IsTooLong old name LONGEST_FILE new → ends (TooLong index)
+      → ReadCame old name index goes ends new
+  unread : Faults old name LONGEST_FILE new → ends ReadFault → ReadCame old name index goes ends new
 
 -- what comes of a plan, from files that tell `old` to files that tell `new`: what it made, or why it ends
 abbrev pub Comes : {A : Type 0} → Plan A → FilesSeen → Result A Refusal → FilesSeen → Type 0
 Comes (Made x) old due new = (due ≡ Ok x) × (new ≡ old)
 Comes (Ends why) old due new = (due ≡ Err why) × (new ≡ old)
-Comes (Reads name place next) old due new =
-    ReadCame old name place (λ bytes mid. Comes (next bytes) mid due new) (λ why. due ≡ Err why) new
+Comes (Reads name index next) old due new =
+    ReadCame old name index (λ bytes mid. Comes (next bytes) mid due new) (λ why. due ≡ Err why) new
 
 -- ---- bodies
 

@@ -53,7 +53,7 @@ image_status f = status.FileRefused
 abbrev pub refusal_text : Refusal → List ℕ
 refusal_text refusal.Usage = codes "usage\n"
 refusal_text refusal.ReadFault = codes "read fault\n"
-refusal_text (refusal.TooLong place) = codes "too long " ++ decimal place ++ codes "\n"
+refusal_text (refusal.TooLong index) = codes "too long " ++ decimal index ++ codes "\n"
 refusal_text (refusal.Assembly part f) = assembly_text part f
 refusal_text (refusal.File part f) = file_text part f
 refusal_text (refusal.Rule broken) = rule_line broken
@@ -62,7 +62,7 @@ refusal_text (refusal.Image f) = image_text f
 abbrev pub refusal_status : Refusal → Status
 refusal_status refusal.Usage = status.Usage
 refusal_status refusal.ReadFault = status.ReadFault
-refusal_status (refusal.TooLong place) = status.TooLong
+refusal_status (refusal.TooLong index) = status.TooLong
 refusal_status (refusal.Assembly part f) = status.AsmRefused
 refusal_status (refusal.File part f) = status.FileRefused
 refusal_status (refusal.Rule broken) = status.RuleBroken

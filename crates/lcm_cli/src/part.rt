@@ -18,38 +18,38 @@ use outside_io::Files;
 use std::alloc::Global;
 
 // The component that the bytes of a file spell.
-fn decoded(alloc: Global, place: u32, bytes: &[u8]) -> Result<Component, Stop>
+fn decode_at(alloc: Global, index: u32, bytes: &[u8]) -> Result<Component, Stop>
     requires { length bytes.now < 2 ^ 32 }
-    ensures { Meets (unless (Refusal.File place) (decoded bytes.now)) result }
+    ensures { Meets (unless (Refusal.File index) (decoded bytes.now)) result }
 {
     match decode_component(alloc, bytes) {
         Ok(component) => Ok(component),
         Err(FileFault::NoMemory) => Err(Stop::NoMemory),
-        Err(fault) => Err(Stop::Refused(Refusal::File(place, fault))),
+        Err(fault) => Err(Stop::Refused(Refusal::File(index, fault))),
     }
 }
 
 // The component that an assembler text spells.
-fn assembled(alloc: Global, place: u32, text: &[u8]) -> Result<Component, Stop>
+fn assemble_at(alloc: Global, index: u32, text: &[u8]) -> Result<Component, Stop>
     requires { length text.now < 2 ^ 32 }
-    ensures { Meets (unless (Refusal.Assembly place) (assembled text.now)) result }
+    ensures { Meets (unless (Refusal.Assembly index) (assembled text.now)) result }
 {
     match assemble(alloc, text) {
         Ok(component) => Ok(component),
         Err(AsmFault::NoMemory) => Err(Stop::NoMemory),
-        Err(fault) => Err(Stop::Refused(Refusal::Assembly(place, fault))),
+        Err(fault) => Err(Stop::Refused(Refusal::Assembly(index, fault))),
     }
 }
 
 // The component that the bytes of a part are in their form. No command that is built has a source.
-fn form(alloc: Global, ending: Ending, place: u32, bytes: &[u8]) -> Result<Component, Stop>
+fn form(alloc: Global, ending: Ending, index: u32, bytes: &[u8]) -> Result<Component, Stop>
     requires { length bytes.now < 2 ^ 32 }
-    ensures { Meets (form_by ending place bytes.now) result }
+    ensures { Meets (form_by ending index bytes.now) result }
 {
     match ending {
         Ending::Source => Err(Stop::Refused(Refusal::Usage)),
-        Ending::Assembler => assembled(alloc, place, bytes),
-        Ending::Component => decoded(alloc, place, bytes),
+        Ending::Assembler => assemble_at(alloc, index, bytes),
+        Ending::Component => decode_at(alloc, index, bytes),
     }
 }
 
@@ -58,13 +58,13 @@ fn form(alloc: Global, ending: Ending, place: u32, bytes: &[u8]) -> Result<Compo
 pub(crate) fn component<F: Files>(
     alloc: Global,
     files: &mut F,
-    place: u32,
+    index: u32,
     word: &PartWord<'_>,
 ) -> Result<Component, Stop>
-    ensures { Follows (component_at place word.now) (F.seen files.old) result (F.seen files.new) }
+    ensures { Follows (component_at index word.now) (F.seen files.old) result (F.seen files.new) }
 {
-    let bytes = read(alloc, files, &word.name, place)?;
-    form(alloc, word.ending, place, bytes.as_slice())
+    let bytes = read(alloc, files, &word.name, index)?;
+    form(alloc, word.ending, index, bytes.as_slice())
 }
 
 fn is_trusted(mark: Mark) -> bool
@@ -74,15 +74,15 @@ fn is_trusted(mark: Mark) -> bool
 }
 
 // The part of a component that keeps its own rules.
-fn accepted(component: Component, place: u32, trusted: bool) -> Result<Part, Stop>
-    ensures { Meets (unless (broken_in place) (accepted (record { component = component; trusted = trusted })))
+fn accept_at(component: Component, index: u32, trusted: bool) -> Result<Part, Stop>
+    ensures { Meets (unless (broken_in index) (accepted (record { component = component; trusted = trusted })))
         result }
 {
     match accept(component, trusted) {
         Ok(part) => Ok(part),
         Err(broken) => Err(Stop::Refused(Refusal::Rule(RuleAt {
             rule: broken.rule,
-            part: place,
+            part: index,
             place: broken.place,
         }))),
     }
@@ -93,13 +93,13 @@ fn accepted(component: Component, place: u32, trusted: bool) -> Result<Part, Sto
 pub(crate) fn part<F: Files>(
     alloc: Global,
     files: &mut F,
-    place: u32,
+    index: u32,
     word: &PartWord<'_>,
 ) -> Result<Part, Stop>
-    ensures { Follows (part_at place word.now) (F.seen files.old) result (F.seen files.new) }
+    ensures { Follows (part_at index word.now) (F.seen files.old) result (F.seen files.new) }
 {
-    let component = component(alloc, files, place, word)?;
-    accepted(component, place, is_trusted(word.mark))
+    let component = component(alloc, files, index, word)?;
+    accept_at(component, index, is_trusted(word.mark))
 }
 
 /// The parts of part words, one after another.
@@ -113,11 +113,11 @@ pub(crate) fn parts<F: Files>(
     ensures count { IfOk result (λ parts. length parts ≡ length words.now) }
 {
     let mut parts = Vec::new(alloc);
-    let mut place = 0;
+    let mut index = 0;
     for word in words {
-        let part = part(alloc, files, place, word)?;
+        let part = part(alloc, files, index, word)?;
         parts.push(part)?;
-        place += 1;
+        index += 1;
     }
     Ok(Items::of(parts))
 }

@@ -9,21 +9,21 @@ use command_words::FileName;
 use outside_io::{Files, ReadEnd, read_whole};
 use std::alloc::Global;
 
-/// The bytes of a file whose turn it is. `place` is the index of its part, and 0 for an
+/// The bytes of a file whose turn it is. `index` is the index of its part, and 0 for an
 /// image.
 pub(crate) fn read<F: Files>(
     alloc: Global,
     files: &mut F,
     name: &FileName<'_>,
-    place: u32,
+    index: u32,
 ) -> Result<Items<u8>, Stop>
-    ensures came { Follows (file name.now place) (F.seen files.old) result (F.seen files.new) }
+    ensures came { Follows (file name.now index) (F.seen files.old) result (F.seen files.new) }
     ensures short { IfOk result (λ bytes. length bytes ≤ LONGEST_FILE) }
 {
     match read_whole(alloc, files, name.as_str(), LONGEST_FILE) {
         Ok(bytes) => Ok(Items::of(bytes)),
         Err(ReadEnd::Fault) => Err(Stop::Refused(Refusal::ReadFault)),
-        Err(ReadEnd::TooLong) => Err(Stop::Refused(Refusal::TooLong(place))),
+        Err(ReadEnd::TooLong) => Err(Stop::Refused(Refusal::TooLong(index))),
         Err(ReadEnd::NoMemory) => Err(Stop::NoMemory),
     }
 }

@@ -109,9 +109,9 @@ pub(crate) fn refusal_line(why: Refusal) -> ArrayString<64>
     match why {
         Refusal::Usage => line.push_str("usage\n"),
         Refusal::ReadFault => line.push_str("read fault\n"),
-        Refusal::TooLong(place) => {
+        Refusal::TooLong(index) => {
             line.push_str("too long ");
-            push_number(&mut line, place);
+            push_number(&mut line, index);
             line.push_str("\n");
         }
         Refusal::Assembly(part, fault) => push_assembly(&mut line, part, fault),

@@ -1,12 +1,13 @@
-//! The start of what is linked: of parts, or of an image.
-ghost use Rattle.std.specs.Prelude.{◌≡◌, ◌<◌, ◌≤◌, ◌^◌, IfOk, length};
+//! What links: its start, or its image, of parts or of an image's file.
+ghost use Rattle.std.specs.Prelude.{◌≡◌, ◌<◌, ◌≤◌, ◌^◌, Ok, IfOk, length};
 ghost use Rattle.command_words.specs.declared.TheConstants.{MOST_PARTS};
 ghost use Rattle.overlay_machine.specs.Starting.{IsStartOf};
+ghost use Rattle.image_loader.specs.Image.{ImageSeen, Spells};
 ghost use Rattle.lcm_cli.specs.declared.refusal.Refusal.TheVariants.{Rule, Image};
 ghost use Rattle.lcm_cli.specs.Plans.{Meets, unless};
 ghost use Rattle.lcm_cli.specs.Parts.{linked, loaded};
 ghost use Rattle.lcm_cli.specs.Commands.{linked_parts, linked_image, linked_in};
-ghost use Rattle.lcm_cli.specs.Jobs.{without, FollowsStart, MeetsStart};
+ghost use Rattle.lcm_cli.specs.Jobs.{without, FollowsStart, FollowsImage, MeetsStart};
 
 use crate::part::parts;
 use crate::read::read;
@@ -14,12 +15,12 @@ use crate::refusal::{Refusal, Stop};
 use cap_words::Items;
 use command_words::{FileName, Linked, PartWord};
 use component_linker::{LinkFault, Part, Start, link};
-use image_loader::{ImageFault, load_image};
+use image_loader::{ImageFault, load_image, write_image};
 use outside_io::Files;
 use std::alloc::Global;
 
-/// The start of parts that keep the rules of linking.
-pub(crate) fn started(alloc: Global, parts: &Items<Part>, size: u32) -> Result<Start, Stop>
+// The start of parts that keep the rules of linking.
+fn start_of(alloc: Global, parts: &Items<Part>, size: u32) -> Result<Start, Stop>
     requires { length parts.now < 2 ^ 32 }
     ensures rules { Meets (unless Rule (linked parts.now size)) (without result) }
     ensures linked { IfOk result (IsStartOf parts.now size) }
@@ -42,13 +43,14 @@ fn parts_start<F: Files>(
     ensures { FollowsStart (linked_parts words.now size) (F.seen files.old) result (F.seen files.new) }
 {
     let parts = parts(alloc, files, words)?;
-    started(alloc, &parts, size)
+    start_of(alloc, &parts, size)
 }
 
 // The start of the image that these bytes spell.
-fn loaded(alloc: Global, bytes: &[u8]) -> Result<Start, Stop>
+fn load(alloc: Global, bytes: &[u8]) -> Result<Start, Stop>
     requires { length bytes.now < 2 ^ 32 }
-    ensures { MeetsStart (unless Image (loaded bytes.now)) result }
+    ensures start { MeetsStart (unless Image (loaded bytes.now)) result }
+    ensures spelled { IfOk result (λ _. (i : ImageSeen) × (loaded bytes.now ≡ Ok i) × Spells bytes.now i) }
 {
     match load_image(alloc, bytes) {
         Ok(start) => Ok(start),
@@ -63,7 +65,7 @@ fn image_start<F: Files>(alloc: Global, files: &mut F, name: &FileName<'_>) -> R
     ensures { FollowsStart (linked_image name.now) (F.seen files.old) result (F.seen files.new) }
 {
     let bytes = read(alloc, files, name, 0)?;
-    loaded(alloc, bytes.as_slice())
+    load(alloc, bytes.as_slice())
 }
 
 /// Reads what is to run, and links it.
@@ -77,5 +79,60 @@ pub(crate) fn start<F: Files>(
     match what {
         Linked::Parts(words, size) => parts_start(alloc, files, words.as_slice(), *size),
         Linked::Image(name) => image_start(alloc, files, name),
+    }
+}
+
+// The bytes of the image of parts that keep the rules of linking. Their start is made and let go.
+fn linked_bytes(alloc: Global, parts: &Items<Part>, size: u32) -> Result<Items<u8>, Stop>
+    requires some { 1 ≤ length parts.now }
+    requires few { length parts.now ≤ MOST_PARTS }
+    ensures rules { Meets (unless Rule (linked parts.now size)) (without result) }
+    ensures bytes { IfOk result (λ bytes. Spells bytes (record { stack = size; parts = parts.now })) }
+{
+    start_of(alloc, parts, size)?;
+    let bytes = write_image(alloc, parts.as_slice(), size)?;
+    Ok(Items::of(bytes))
+}
+
+// Reads the parts, and makes their image.
+fn parts_bytes<F: Files>(
+    alloc: Global,
+    files: &mut F,
+    words: &[PartWord<'_>],
+    size: u32,
+) -> Result<Items<u8>, Stop>
+    requires some { 1 ≤ length words.now }
+    requires few { length words.now ≤ MOST_PARTS }
+    ensures { FollowsImage (linked_parts words.now size) (F.seen files.old) result (F.seen files.new) }
+{
+    let parts = parts(alloc, files, words)?;
+    linked_bytes(alloc, &parts, size)
+}
+
+// Reads the image: its bytes are its own spelling.
+#[tactic(auto, using(crate::proofs::Follow::follows_end), unfolding(crate::specs::Commands::linked_image))]
+fn file_bytes<F: Files>(
+    alloc: Global,
+    files: &mut F,
+    name: &FileName<'_>,
+) -> Result<Items<u8>, Stop>
+    ensures { FollowsImage (linked_image name.now) (F.seen files.old) result (F.seen files.new) }
+{
+    let bytes = read(alloc, files, name, 0)?;
+    load(alloc, bytes.as_slice())?;
+    Ok(bytes)
+}
+
+/// Reads what links, and makes its image.
+pub(crate) fn image_bytes<F: Files>(
+    alloc: Global,
+    files: &mut F,
+    what: &Linked<'_>,
+) -> Result<Items<u8>, Stop>
+    ensures { FollowsImage (linked_in what.now) (F.seen files.old) result (F.seen files.new) }
+{
+    match what {
+        Linked::Parts(words, size) => parts_bytes(alloc, files, words.as_slice(), *size),
+        Linked::Image(name) => file_bytes(alloc, files, name),
     }
 }

@@ -1,6 +1,7 @@
 //! The top call.
 ghost use Rattle.std.specs.Prelude.{◌≡◌, ◌⊎◌, ◌<◌, ℕ, Some, None, false, length};
-ghost use Rattle.command_words.specs.declared.command.Command.TheVariants as command;
+ghost use Rattle.command_words.specs.declared.command.LinkDeed.TheVariants as link_deed;
+ghost use Rattle.command_words.specs.declared.command.Command.TheVariants.{Links};
 ghost use Rattle.command_words.specs.declared.command.Linked.{Linked};
 ghost use Rattle.command_words.specs.Action.{asked_in};
 ghost use Rattle.command_words.specs.Texts.{texts};
@@ -10,7 +11,8 @@ ghost use Rattle.lcm_cli.specs.Jobs.{FollowsTask};
 ghost use Rattle.overlay_machine.specs.Seen.{IsOverlayOf};
 ghost use Rattle.lcm_cli.specs.Answers.{Answers, Gives, Tells, outside, end_status, refused};
 ghost use Rattle.lcm_cli.specs.Answers.{job_answer, IsReady};
-ghost use Rattle.lcm_cli.specs.Causes.{Promised, IsRunStatus, RunGiven, TraceGiven, StayAt, PutsWhole};
+ghost use Rattle.lcm_cli.specs.Causes.{Promised, IsRunStatus, RunGiven, TraceGiven, RunCut, TraceCut};
+ghost use Rattle.lcm_cli.specs.Causes.{StayAt, PutsWhole};
 
 use crate::job::{Job, job_of};
 use crate::lines::write_lines;
@@ -119,7 +121,7 @@ fn give<F: Files, S: Sink>(
         Job::Run(start, steps) => give_run(start, steps, out, kept),
         Job::Trace(start, overlay, steps) => give_trace(&start, overlay, steps, out),
         Job::Put(name, bytes) => give_file(&name, &bytes, files, out),
-        Job::Show(text) => give_text(&text, out),
+        Job::Write(text) => give_text(&text, out),
         Job::Say => tell(out, "ok\n", Status::Done),
     }
 }
@@ -193,17 +195,29 @@ pub fn stk_main<F: Files, S: Sink>(
     // What a run writes, answers and hands over, and that its start has the headline: the plain machine
     // agrees with the overlay, returns are bracketed, frames are private.
     ensures ran { (l : Linked) (steps : ℕ)
-        → asked_in (texts words.now.items) ≡ Some (command.Run l steps)
+        → asked_in (texts words.now.items) ≡ Some (Links l (link_deed.Run steps))
         → IsRunStatus result → RunGiven l steps
         (outside (F.seen files.old) (S.seen out.old) kept.old)
         result (outside (F.seen files.new) (S.seen out.new) kept.new) }
 
     // What a run of the overlay writes and answers: its lines are those of a plain run.
     ensures traced { (l : Linked) (steps : ℕ)
-        → asked_in (texts words.now.items) ≡ Some (command.Trace l steps)
+        → asked_in (texts words.now.items) ≡ Some (Links l (link_deed.Trace steps))
         → IsRunStatus result → TraceGiven l steps
         (outside (F.seen files.old) (S.seen out.old) kept.old)
         result (outside (F.seen files.new) (S.seen out.new) kept.new) }
+
+    // Where the sink failed at a run's text, or at a trace's, the start has the headline all the same.
+    ensures run_cut { (l : Linked) (steps : ℕ)
+        → asked_in (texts words.now.items) ≡ Some (Links l (link_deed.Run steps))
+        → result ≡ Status.WriteFault → RunCut l steps
+        (outside (F.seen files.old) (S.seen out.old) kept.old)
+        (outside (F.seen files.new) (S.seen out.new) kept.new) }
+    ensures trace_cut { (l : Linked) (steps : ℕ)
+        → asked_in (texts words.now.items) ≡ Some (Links l (link_deed.Trace steps))
+        → result ≡ Status.WriteFault → TraceCut l steps
+        (outside (F.seen files.old) (S.seen out.old) kept.old)
+        (outside (F.seen files.new) (S.seen out.new) kept.new) }
 
     // Words that are no command that is built are refused, unless the sink fails or memory is refused.
     ensures usage { is_command (asked_in (texts words.now.items)) ≡ false

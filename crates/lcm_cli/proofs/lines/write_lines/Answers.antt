@@ -13,7 +13,10 @@ on_err (Err e) P p = p
 pub returns-in_err-write-clause-err : goal.returns-in_err-write-clause-err
 returns-in_err-write-clause-err g c =
     on_err c.from_residual.result _
-    (behind_fails _ _ _ _ _ _ _ (joined _ _ _ _ c.split_at.ensures.front c.split_at.ensures.back) c.loop-rest.invariant c.in_err-write.ensures.err)
+    (behind_fails _ _ _ _ _ _ _ (joined _ _ _ _ c.split_at.ensures.front c.split_at.ensures.back)
+    c.loop-rest.invariant c.in_err-write.ensures.err)
 
 pub loop-rest-preserved : goal.loop-rest-preserved
-loop-rest-preserved g c = behind_line _ _ _ _ _ _ _ (joined _ _ _ _ c.split_at.ensures.front c.split_at.ensures.back) c.loop-rest.invariant c.in_ok-write.ensures.ok
+loop-rest-preserved g c = behind_line _ _ _ _ _ _ _
+    (joined _ _ _ _ c.split_at.ensures.front c.split_at.ensures.back) c.loop-rest.invariant
+    c.in_ok-write.ensures.ok

@@ -6,4 +6,6 @@ use Rattle.lcm_cli.proofs.part.component.Goals as goal
 pub returns : goal.returns
 unfolding component_at
 returns g c =
-    follows_meets (file c.args.word.now.name c.args.place) (form_by c.args.word.now.ending c.args.place) _ _ c.in_ok-bytes.bytes c.form.result c.in_ok-bytes.ensures.came (rw c.as_slice.ensures at c.form.ensures)
+    follows_meets (file c.args.word.now.name c.args.index)
+    (form_by c.args.word.now.ending c.args.index) _ _ c.in_ok-bytes.bytes c.form.result
+    c.in_ok-bytes.ensures.came (rw c.as_slice.ensures at c.form.ensures)

@@ -8,5 +8,10 @@ use Rattle.lcm_cli.proofs.part.part.Goals as goal
 pub returns : goal.returns
 unfolding part_at
 returns g c =
-    follows_meets (component_at c.args.place c.args.word.now) (λ x. unless (broken_in c.args.place) (accepted (record { component = x; trusted = is_trusted c.args.word.now.mark }))) _ _ c.in_ok-component.component c.accepted.result c.in_ok-component.ensures
-    (subst (λ b. Meets (unless (broken_in c.args.place) (accepted (record { component = c.in_ok-component.component; trusted = b }))) c.accepted.result) c.is_trusted.ensures c.accepted.ensures)
+    follows_meets (component_at c.args.index c.args.word.now)
+    (λ x. unless (broken_in c.args.index)
+    (accepted (record { component = x; trusted = is_trusted c.args.word.now.mark }))) _ _
+    c.in_ok-component.component c.accept_at.result c.in_ok-component.ensures
+    (subst (λ b. Meets (unless (broken_in c.args.index)
+    (accepted (record { component = c.in_ok-component.component; trusted = b }))) c.accept_at.result)
+    c.is_trusted.ensures c.accept_at.ensures)

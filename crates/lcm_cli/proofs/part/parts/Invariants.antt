@@ -6,7 +6,8 @@ use Rattle.lcm_cli.proofs.part.parts.Given as goal
 
 abbrev pub invariant-loop-word : goal.invariant-loop-word
 invariant-loop-word g l = record {
-  place : l.place ≡ l.word-index;
+  index : l.index ≡ l.word-index;
   count : length l.parts.items ≡ l.word-index;
-  so_far : SoFar part_at l.words (g.F.Files.seen l.fn.files) l.word-index l.parts.items (g.F.Files.seen l.files);
+  so_far : SoFar part_at l.words (g.F.Files.seen l.fn.files) l.word-index l.parts.items
+      (g.F.Files.seen l.files);
 }

@@ -12,10 +12,15 @@ use Rattle.lcm_cli.proofs.Follow.{follows_meets}
 use Rattle.lcm_cli.proofs.start.image_start.Goals as goal
 
 -- the file came, and loading it gave this
-start_follows : (name bytes : List ℕ) (old new : FilesSeen) (r : Result StartSeen Stop) → Comes (file name 0) old (Ok bytes) new → MeetsStart (unless Image (loaded bytes)) r → FollowsStart (linked_image name) old r new
+start_follows : (name bytes : List ℕ) (old new : FilesSeen) (r : Result StartSeen Stop)
+    → Comes (file name 0) old (Ok bytes) new → MeetsStart (unless Image (loaded bytes)) r
+    → FollowsStart (linked_image name) old r new
 unfolding linked_image
-start_follows name bytes old new (Ok s) c m = (m.0, follows_meets (file name 0) (λ b. unless Image (loaded b)) old new bytes (Ok m.0) c m.1, m.2)
-start_follows name bytes old new (Err stop) c m = follows_meets (file name 0) (λ b. unless Image (loaded b)) old new bytes (Err stop) c m
+start_follows name bytes old new (Ok s) c m =
+    (m.0, follows_meets (file name 0) (λ b. unless Image (loaded b)) old new bytes (Ok m.0) c m.1, m.2)
+start_follows name bytes old new (Err stop) c m =
+    follows_meets (file name 0) (λ b. unless Image (loaded b)) old new bytes (Err stop) c m
 
 pub returns : goal.returns
-returns g c = start_follows c.args.name.now c.in_ok-bytes.bytes _ _ c.loaded.result c.in_ok-bytes.ensures.came (rw c.as_slice.ensures at c.loaded.ensures)
+returns g c = start_follows c.args.name.now c.in_ok-bytes.bytes _ _ c.load.result c.in_ok-bytes.ensures.came
+    (rw c.as_slice.ensures at c.load.ensures.start)

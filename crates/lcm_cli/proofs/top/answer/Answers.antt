@@ -11,4 +11,5 @@ pub returns-in-Ok : goal.returns-in-Ok
 returns-in-Ok g c = answered _ _ c.in-Ok.job _ _ _ c.in-Ok.ensures c.give.ensures
 
 pub returns-in-Err-Refused : goal.returns-in-Err-Refused
-returns-in-Err-Refused g c = answer (Err c.in-Err-Refused.why) _ _ (rw c.in-Err-Refused.field-0-is at c.in-Err-Refused.ensures) refl (c.refuse.ensures _ _)
+returns-in-Err-Refused g c = answer (Err c.in-Err-Refused.why) _ _
+    (rw c.in-Err-Refused.field-0-is at c.in-Err-Refused.ensures) refl (c.refuse.ensures _ _)

@@ -1,23 +1,39 @@
 -- All of it follows from the answer that was given.
 use Rattle.command_words.specs.Action.{asked_in}
 use Rattle.command_words.specs.Texts.{texts}
-use Rattle.lcm_cli.proofs.Caused.{promised, usage, files_stay, put_whole, runs, traces}
+use Rattle.lcm_cli.proofs.Caused.{promised, usage}
+use Rattle.lcm_cli.proofs.Put.{files_stay, put_whole}
+use Rattle.lcm_cli.proofs.RunsMade.{runs, traces, run_cut, trace_cut}
 use Rattle.lcm_cli.proofs.top.stk_main.Goals as goal
 
 pub returns-clause-promised : goal.returns-clause-promised
-returns-clause-promised g c = promised (asked_in (texts c.args.words.now.items)) _ _ _ (rw c.as_slice.ensures.value at c.answer.ensures)
+returns-clause-promised g c = promised (asked_in (texts c.args.words.now.items)) _ _ _
+    (rw c.as_slice.ensures.value at c.answer.ensures)
 
 pub returns-clause-ran : goal.returns-clause-ran
-returns-clause-ran g c = runs c.the_headline.ensures.holds (asked_in (texts c.args.words.now.items)) _ _ _ (rw c.as_slice.ensures.value at c.answer.ensures)
+returns-clause-ran g c = runs c.the_headline.ensures.holds (asked_in (texts c.args.words.now.items)) _ _ _
+    (rw c.as_slice.ensures.value at c.answer.ensures)
 
 pub returns-clause-traced : goal.returns-clause-traced
-returns-clause-traced g c = traces c.the_headline.ensures.holds c.a_start_has_one_overlay.ensures (asked_in (texts c.args.words.now.items)) _ _ _ (rw c.as_slice.ensures.value at c.answer.ensures)
+returns-clause-traced g c = traces c.the_headline.ensures.holds c.a_start_has_one_overlay.ensures
+    (asked_in (texts c.args.words.now.items)) _ _ _ (rw c.as_slice.ensures.value at c.answer.ensures)
+
+pub returns-clause-run_cut : goal.returns-clause-run_cut
+returns-clause-run_cut g c = run_cut c.the_headline.ensures.holds
+    (asked_in (texts c.args.words.now.items)) _ _ _ (rw c.as_slice.ensures.value at c.answer.ensures)
+
+pub returns-clause-trace_cut : goal.returns-clause-trace_cut
+returns-clause-trace_cut g c = trace_cut c.the_headline.ensures.holds
+    (asked_in (texts c.args.words.now.items)) _ _ _ (rw c.as_slice.ensures.value at c.answer.ensures)
 
 pub returns-clause-usage : goal.returns-clause-usage
-returns-clause-usage g c = usage (asked_in (texts c.args.words.now.items)) _ _ _ (rw c.as_slice.ensures.value at c.answer.ensures)
+returns-clause-usage g c = usage (asked_in (texts c.args.words.now.items)) _ _ _
+    (rw c.as_slice.ensures.value at c.answer.ensures)
 
 pub returns-clause-files_stay : goal.returns-clause-files_stay
-returns-clause-files_stay g c = files_stay (asked_in (texts c.args.words.now.items)) _ _ _ (rw c.as_slice.ensures.value at c.answer.ensures)
+returns-clause-files_stay g c = files_stay (asked_in (texts c.args.words.now.items)) _ _ _
+    (rw c.as_slice.ensures.value at c.answer.ensures)
 
 pub returns-clause-put_whole : goal.returns-clause-put_whole
-returns-clause-put_whole g c = put_whole (asked_in (texts c.args.words.now.items)) _ _ _ (rw c.as_slice.ensures.value at c.answer.ensures)
+returns-clause-put_whole g c = put_whole (asked_in (texts c.args.words.now.items)) _ _ _
+    (rw c.as_slice.ensures.value at c.answer.ensures)

@@ -1,0 +1,330 @@
+-- What a run or a trace was given from, and what it wrote.
+use Rattle.std.proofs.Common.{◌≡◌, ◌≢◌, ℕ, List, Option, Some, None, refl, sym, ap, subst, ◌∙◌, inl, inr}
+use Rattle.std.proofs.Common.{true, false}
+use Rattle.std.specs.Prelude.{◌↔◌, Result, Ok, Err, Bool}
+use Rattle.outside_io.specs.FilesSeen.{FilesSeen}
+use Rattle.outside_io.specs.SinkSeen.{FailsToWrite}
+use Rattle.command_words.specs.declared.command.Linked.{Linked}
+use Rattle.command_words.specs.declared.command.LinkDeed.{LinkDeed}
+use Rattle.command_words.specs.declared.command.LinkDeed.TheVariants as link_deed
+use Rattle.command_words.specs.declared.command.Command.{Command}
+use Rattle.command_words.specs.declared.command.Command.TheVariants.{Links}
+use Rattle.component_linker.specs.Parts.{PartSeen}
+use Rattle.image_loader.specs.declared.fault.ImageFault.{ImageFault}
+use Rattle.image_loader.specs.declared.fault.ImageFault.TheVariants as image
+use Rattle.image_loader.specs.Image.{ImageSeen}
+use Rattle.overlay_machine.specs.Starting.{IsLinkedStart, IsStartOf, overlay_at}
+use Rattle.component_linker.specs.Standing.{placed}
+use Rattle.component_linker.specs.Started.{StartSeen}
+use Rattle.overlay_machine.specs.Seen.{OverlaySeen, IsOverlayOf}
+use Rattle.trace_tool.specs.Headline.{HeadlineHolds}
+use Rattle.trace_tool.specs.declared.run.RunEnd.{RunEnd}
+use Rattle.trace_tool.specs.declared.run.RunEnd.TheVariants as run_end
+use Rattle.trace_tool.specs.Runs.{end_of}
+use Rattle.trace_tool.specs.Traces.{trace_of, trace_text}
+use Rattle.lcm_machine.specs.declared.Step.{Step}
+use Rattle.lcm_machine.specs.declared.Step.TheVariants.{Went, Halted, Failed}
+use Rattle.lcm_machine.specs.Run.{answer as last_step, plain}
+use Rattle.lcm_cli.specs.declared.refusal.Refusal.{Refusal}
+use Rattle.lcm_cli.specs.declared.refusal.Refusal.TheVariants as refusal
+use Rattle.lcm_cli.specs.declared.status.Status.{Status}
+use Rattle.lcm_cli.specs.declared.status.Status.TheVariants as status
+use Rattle.lcm_cli.specs.Refusals.{refusal_text, refusal_status, image_status}
+use Rattle.lcm_cli.specs.Plans.{Plan, Comes}
+use Rattle.lcm_cli.specs.Commands.{Task, Run, Trace, is_built_linked, linked_in, link_task, for_task, plan_in}
+use Rattle.lcm_cli.specs.Answers.{Answer, NewFile, Outside, with_files, end_status, ran, traced, refused}
+use Rattle.lcm_cli.specs.Answers.{IsPut, IsAnswerOf}
+use Rattle.lcm_cli.specs.Answers.{GivesWhole, whole, unput, unwritten, Answers, answer, nothing}
+use Rattle.lcm_cli.specs.Causes.{IsRunStatus, LinkedCame, Started, text_of_run, RunGiven, TraceGiven, IsCut}
+use Rattle.lcm_cli.specs.Causes.{RunCut, TraceCut}
+use Rattle.lcm_cli.proofs.Why.{planned, unplanned}
+use Rattle.lcm_cli.proofs.Tasks.{made_of}
+use Rattle.lcm_cli.proofs.Reasons.{in_made}
+use Rattle.lcm_cli.proofs.Caused.{writes_none}
+
+no_image_run : (f : ImageFault) → IsRunStatus (image_status f) → ⊥
+no_image_run (image.Rule r) h = h
+no_image_run image.Magic h = h
+no_image_run image.Version h = h
+no_image_run (image.Short at) h = h
+no_image_run (image.BadField at) h = h
+no_image_run (image.Trailing at) h = h
+no_image_run (image.File part f) h = h
+no_image_run image.NoMemory h = h
+
+no_run : (why : Refusal) → IsRunStatus (refusal_status why) → ⊥
+no_run refusal.Usage h = h
+no_run refusal.ReadFault h = h
+no_run (refusal.TooLong index) h = h
+no_run (refusal.Assembly index f) h = h
+no_run (refusal.File index f) h = h
+no_run (refusal.Rule r) h = h
+no_run (refusal.Image f) h = no_image_run f h
+
+-- a status of a run is of no refusal
+refused_none : (why : Refusal) (a : Answer) (ended : Status) → a ≡ refused why → ended ≡ a.status
+    → IsRunStatus ended → ⊥
+refused_none why a ended x e r = no_run why (subst IsRunStatus (e ∙ ap (λ (b : Answer). b.status) x) r)
+
+-- ---- the start of what is linked
+
+-- what came of the image, and the start of its parts
+abbrev started : HeadlineHolds → (l : Linked) (old seen : FilesSeen) (i : ImageSeen) (start : StartSeen)
+    → Comes (linked_in l) old (Ok i) seen → IsStartOf i.parts i.stack start → Started l old seen
+started all l old seen i start c s =
+    let came = in_made l old seen i c in
+    record {
+      parts = i.parts;
+      size = i.stack;
+      came = came.0;
+      keep = came.1;
+      start = start;
+      linked_start = s;
+      headline = all (placed i.parts i.stack) i.stack start s;
+    }
+
+-- what was due to a deed: a refusal, or what is done with the image that came
+data DeedDue (l : Linked) (deed : LinkDeed) (old seen : FilesSeen) (a : Answer) : Type 0 where
+  told : (why : Refusal) → a ≡ refused why → DeedDue l deed old seen a
+  made : (i : ImageSeen) → Comes (linked_in l) old (Ok i) seen → IsAnswerOf (Ok (link_task deed i)) a
+      → DeedDue l deed old seen a
+
+due_of : (l : Linked) (deed : LinkDeed) (old seen : FilesSeen) (due : Result Task Refusal) (a : Answer)
+    → Comes (for_task (linked_in l) (link_task deed)) old due seen → IsAnswerOf due a
+    → DeedDue l deed old seen a
+due_of l deed old seen (Err why) a c x = told why x
+due_of l deed old seen (Ok task) a c x =
+    let m = made_of (linked_in l) (link_task deed) old seen task c in
+    made m.0 m.1 (subst (λ t. IsAnswerOf (Ok t) a) m.2 x)
+
+deed_due : (l : Linked) (deed : LinkDeed) (b : Bool) → is_built_linked l ≡ b → (old seen : FilesSeen)
+    (due : Result Task Refusal) (a : Answer) → Comes (plan_in (Some (Links l deed))) old due seen
+    → IsAnswerOf due a → DeedDue l deed old seen a
+deed_due l deed true f old seen due a c x =
+    due_of l deed old seen due a (subst (λ p. Comes p old due seen) (planned (Links l deed) f) c) x
+deed_due l deed false f old seen due a c x =
+    told refusal.Usage (subst (λ d. IsAnswerOf d a)
+    (subst (λ p. Comes p old due seen) (unplanned (Some (Links l deed)) f) c).0 x)
+
+asked_due : (asked : Option Command) (l : Linked) (deed : LinkDeed) → asked ≡ Some (Links l deed)
+    → (old seen : FilesSeen) (due : Result Task Refusal) (a : Answer) → Comes (plan_in asked) old due seen
+    → IsAnswerOf due a → DeedDue l deed old seen a
+asked_due asked l deed e old seen due a c x =
+    deed_due l deed (is_built_linked l) refl old seen due a
+    (subst (λ q. Comes (plan_in q) old due seen) e c) x
+
+-- ---- what was written whole
+
+-- an answer with the status of a run is given whole
+record WholeRun (plan : Plan Task) (old : Outside) (ended : Status) (new : Outside) : Type 0 where
+  due : Result Task Refusal
+  gives : Answer
+  seen : FilesSeen
+  came : Comes plan old.files due seen
+  is : IsAnswerOf due gives
+  given : GivesWhole (with_files old seen) gives ended new
+
+whole_run : (plan : Plan Task) (old : Outside) (ended : Status) (new : Outside) → Answers plan old ended new
+    → IsRunStatus ended → WholeRun plan old ended new
+whole_run plan old ended new (nothing n) r = absurd (subst IsRunStatus n.status_is r)
+whole_run plan old ended new (answer due a seen c x (unput f i w u k s)) r = absurd (subst IsRunStatus s r)
+whole_run plan old ended new (answer due a seen c x (unwritten p f k s)) r = absurd (subst IsRunStatus s r)
+whole_run plan old ended new (answer due a seen c x (whole g)) r =
+    record { due = due; gives = a; seen = seen; came = c; is = x; given = g }
+
+given_run : HeadlineHolds → (l : Linked) (steps : ℕ) (old : Outside) (seen : FilesSeen) (ended : Status)
+    (new : Outside) (a : Answer) → DeedDue l (link_deed.Run steps) old.files seen a
+    → GivesWhole (with_files old seen) a ended new → IsRunStatus ended → RunGiven l steps old ended new
+given_run all l steps old seen ended new a (told why e) g r =
+    absurd (refused_none why a ended e g.status_is r)
+given_run all l steps old seen ended new a (made i c x) g r =
+    let h : GivesWhole (with_files old seen) (ran x.0 steps) ended new =
+    subst (λ b. GivesWhole (with_files old seen) b ended new) x.2 g in
+    let p : new.files ≡ seen = h.put in
+    record {
+      from = started all l old.files new.files i x.0
+          (subst (λ z. Comes (linked_in l) old.files (Ok i) z) (sym p) c) x.1;
+      status_is = h.status_is;
+      written = h.written;
+      kept_is = h.kept_is;
+    }
+
+pub runs : HeadlineHolds → (asked : Option Command) (old : Outside) (ended : Status) (new : Outside)
+    → Answers (plan_in asked) old ended new → (l : Linked) (steps : ℕ)
+    → asked ≡ Some (Links l (link_deed.Run steps)) → IsRunStatus ended → RunGiven l steps old ended new
+runs all asked old ended new a l steps e r =
+    let w = whole_run (plan_in asked) old ended new a r in
+    given_run all l steps old w.seen ended new w.gives
+    (asked_due asked l (link_deed.Run steps) e old.files w.seen w.due w.gives w.came w.is) w.given r
+
+-- a linked start has one overlay
+abbrev pub OverlaysAreOne : Type 0
+OverlaysAreOne =
+    (parts : List PartSeen) (size : ℕ) (s : StartSeen) → IsLinkedStart parts size s
+    → (o : OverlaySeen) → IsOverlayOf s o ↔ (o ≡ overlay_at s)
+
+given_trace : HeadlineHolds → OverlaysAreOne → (l : Linked) (steps : ℕ) (old : Outside) (seen : FilesSeen)
+    (ended : Status) (new : Outside) (a : Answer) → DeedDue l (link_deed.Trace steps) old.files seen a
+    → GivesWhole (with_files old seen) a ended new → IsRunStatus ended → TraceGiven l steps old ended new
+given_trace all one l steps old seen ended new a (told why e) g r =
+    absurd (refused_none why a ended e g.status_is r)
+given_trace all one l steps old seen ended new a (made i c x) g r =
+    let h : GivesWhole (with_files old seen) (traced x.1 steps) ended new =
+    subst (λ b. GivesWhole (with_files old seen) b ended new) x.4 g in
+    let p : new.files ≡ seen = h.put in
+    let f = started all l old.files new.files i x.0
+    (subst (λ z. Comes (linked_in l) old.files (Ok i) z) (sym p) c) x.2 in
+    record {
+      from = f;
+      overlay = x.1;
+      overlay_is = x.3;
+      lines_are = (ap (λ o. (trace_of steps o).lines)
+          ((one (placed i.parts i.stack) i.stack x.0 x.2 x.1).0 x.3)
+          ∙ f.headline.traced steps);
+      status_is = h.status_is;
+      written = h.written;
+      kept_is = h.kept_is;
+    }
+
+pub traces : HeadlineHolds → OverlaysAreOne → (asked : Option Command) (old : Outside) (ended : Status)
+    (new : Outside) → Answers (plan_in asked) old ended new → (l : Linked) (steps : ℕ)
+    → asked ≡ Some (Links l (link_deed.Trace steps)) → IsRunStatus ended → TraceGiven l steps old ended new
+traces all one asked old ended new a l steps e r =
+    let w = whole_run (plan_in asked) old ended new a r in
+    given_trace all one l steps old w.seen ended new w.gives
+    (asked_due asked l (link_deed.Trace steps) e old.files w.seen w.due w.gives w.came w.is) w.given r
+
+-- ---- what was cut
+
+-- the status of no refusal is WriteFault
+no_image_cut : (f : ImageFault) → status.WriteFault ≡ image_status f → ⊥
+no_image_cut (image.Rule r) e = cc
+no_image_cut image.Magic e = cc
+no_image_cut image.Version e = cc
+no_image_cut (image.Short at) e = cc
+no_image_cut (image.BadField at) e = cc
+no_image_cut (image.Trailing at) e = cc
+no_image_cut (image.File part f) e = cc
+no_image_cut image.NoMemory e = cc
+
+no_cut : (why : Refusal) → status.WriteFault ≡ refusal_status why → ⊥
+no_cut refusal.Usage e = cc
+no_cut refusal.ReadFault e = cc
+no_cut (refusal.TooLong index) e = cc
+no_cut (refusal.Assembly index f) e = cc
+no_cut (refusal.File index f) e = cc
+no_cut (refusal.Rule r) e = cc
+no_cut (refusal.Image f) e = no_image_cut f e
+
+never_cut : (end : RunEnd) → end ≢ run_end.WriteFault → end_status end ≢ status.WriteFault
+never_cut run_end.Halted n e = absurd (cc)
+never_cut run_end.Failed n e = absurd (cc)
+never_cut run_end.Running n e = absurd (cc)
+never_cut run_end.WriteFault n e = n refl
+
+run_never : (step : Step) → end_of step ≢ run_end.WriteFault
+run_never Went e = cc
+run_never Halted e = cc
+run_never (Failed cause at) e = cc
+
+-- the answer that was due where a write failed: of one without a file, and with another status, the text failed
+record Cut (plan : Plan Task) (old new : Outside) : Type 0 where
+  due : Result Task Refusal
+  gives : Answer
+  seen : FilesSeen
+  came : Comes plan old.files due seen
+  is : IsAnswerOf due gives
+  fails : gives.file ≡ None → gives.status ≢ status.WriteFault
+      → (new.files ≡ seen) × FailsToWrite old.sink gives.text new.sink
+
+cut_of : (plan : Plan Task) (old : Outside) (ended : Status) (new : Outside) → Answers plan old ended new
+    → ended ≡ status.WriteFault → Cut plan old new
+cut_of plan old ended new (nothing n) e = absurd (let q : status.NoMemory
+    ≡ status.WriteFault = sym n.status_is ∙ e in cc)
+cut_of plan old ended new (answer due a seen c x (whole g)) e = record {
+  due = due;
+  gives = a;
+  seen = seen;
+  came = c;
+  is = x;
+  fails = λ n w. absurd (w (sym g.status_is ∙ e));
+}
+cut_of plan old ended new (answer due a seen c x (unput f i w u k s)) e = record {
+  due = due;
+  gives = a;
+  seen = seen;
+  came = c;
+  is = x;
+  fails = λ n w. absurd (let q : (let o : Option NewFile = None in o) ≡ Some f = sym n ∙ i in cc);
+}
+cut_of plan old ended new (answer due a seen c x (unwritten p f k s)) e = record {
+  due = due;
+  gives = a;
+  seen = seen;
+  came = c;
+  is = x;
+  fails = λ n w. (subst (λ o. IsPut seen o new.files) n p, f);
+}
+
+-- the text of an answer, by another name of it
+cut_text : (old new : Outside) (a b : Answer) → a ≡ b → FailsToWrite old.sink a.text new.sink
+    → FailsToWrite old.sink b.text new.sink
+cut_text old new a b e f = subst (λ (x : Answer). FailsToWrite old.sink x.text new.sink) e f
+
+-- what a cut says of an answer that is another by name
+cut_by : {plan : Plan Task} {old new : Outside} (k : Cut plan old new) (b : Answer) → k.gives ≡ b → b.file
+    ≡ None
+    → b.status ≢ status.WriteFault → (new.files ≡ k.seen) × FailsToWrite old.sink b.text new.sink
+cut_by {old = old} {new = new} k b e n w =
+    let f = k.fails (ap (λ (a : Answer). a.file) e ∙ n)
+    (λ q. w (sym (ap (λ (a : Answer). a.status) e) ∙ q)) in
+    (f.0, cut_text old new k.gives b e f.1)
+
+refused_cut : {plan : Plan Task} {old new : Outside} (k : Cut plan old new) (why : Refusal) → k.gives
+    ≡ refused why
+    → FailsToWrite old.sink (refusal_text why) new.sink
+refused_cut k why e = (cut_by k (refused why) e refl (λ q. no_cut why (sym q))).1
+
+cut_run : HeadlineHolds → (l : Linked) (steps : ℕ) (plan : Plan Task) (old new : Outside)
+    (k : Cut plan old new)
+    → DeedDue l (link_deed.Run steps) old.files k.seen k.gives → RunCut l steps old new
+cut_run all l steps plan old new k (told why e) = inl (why, refused_cut k why e)
+cut_run all l steps plan old new k (made i c x) =
+    let f = cut_by k (ran x.0 steps) x.2 refl (never_cut _ (run_never (last_step (plain steps x.0.state)))) in
+    inr (
+      started all l old.files new.files i x.0
+          (subst (λ z. Comes (linked_in l) old.files (Ok i) z) (sym f.0) c) x.1,
+      text_of_run x.0 steps,
+      refl,
+      f.1,
+    )
+
+cut_trace : HeadlineHolds → (l : Linked) (steps : ℕ) (plan : Plan Task) (old new : Outside)
+    (k : Cut plan old new)
+    → DeedDue l (link_deed.Trace steps) old.files k.seen k.gives → TraceCut l steps old new
+cut_trace all l steps plan old new k (told why e) = inl (why, refused_cut k why e)
+cut_trace all l steps plan old new k (made i c x) =
+    let f = cut_by k (traced x.1 steps) x.4 refl (never_cut _ (writes_none steps x.1)) in
+    inr (
+      started all l old.files new.files i x.0
+          (subst (λ z. Comes (linked_in l) old.files (Ok i) z) (sym f.0) c) x.2,
+      trace_text steps x.1,
+      (x.1, x.3, refl),
+      f.1,
+    )
+
+pub run_cut : HeadlineHolds → (asked : Option Command) (old : Outside) (ended : Status) (new : Outside)
+    → Answers (plan_in asked) old ended new → (l : Linked) (steps : ℕ)
+    → asked ≡ Some (Links l (link_deed.Run steps)) → ended ≡ status.WriteFault → RunCut l steps old new
+run_cut all asked old ended new a l steps e r =
+    let k = cut_of (plan_in asked) old ended new a r in
+    cut_run all l steps (plan_in asked) old new k
+    (asked_due asked l (link_deed.Run steps) e old.files k.seen k.due k.gives k.came k.is)
+
+pub trace_cut : HeadlineHolds → (asked : Option Command) (old : Outside) (ended : Status) (new : Outside)
+    → Answers (plan_in asked) old ended new → (l : Linked) (steps : ℕ)
+    → asked ≡ Some (Links l (link_deed.Trace steps)) → ended ≡ status.WriteFault → TraceCut l steps old new
+trace_cut all asked old ended new a l steps e r =
+    let k = cut_of (plan_in asked) old ended new a r in
+    cut_trace all l steps (plan_in asked) old new k
+    (asked_due asked l (link_deed.Trace steps) e old.files k.seen k.due k.gives k.came k.is)

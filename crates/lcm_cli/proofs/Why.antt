@@ -1,0 +1,152 @@
+-- Why plans of words end.
+use Rattle.std.proofs.Common.{◌≡◌, ℕ, List, Option, Some, None, refl, sym, subst, true, false}
+use Rattle.std.specs.Prelude.{Bool, Err, ⊤}
+use Rattle.std.specs.List.{list_all}
+use Rattle.outside_io.specs.FilesSeen.{FilesSeen}
+use Rattle.command_words.specs.declared.command.Linked.{Linked}
+use Rattle.command_words.specs.declared.command.Linked.TheVariants as what
+use Rattle.command_words.specs.declared.command.LinkDeed.{LinkDeed}
+use Rattle.command_words.specs.declared.command.ComponentDeed.{ComponentDeed}
+use Rattle.command_words.specs.declared.command.Command.{Command}
+use Rattle.command_words.specs.declared.command.Command.TheVariants.{Links, Takes, Checks, Mean, Generate}
+use Rattle.command_words.specs.declared.part.PartWord.{PartWord}
+use Rattle.component_linker.specs.declared.fault.RuleAt.{RuleAt}
+use Rattle.image_loader.specs.declared.fault.ImageFault.{ImageFault}
+use Rattle.lcm_cli.specs.declared.refusal.Refusal.{Refusal}
+use Rattle.lcm_cli.specs.declared.refusal.Refusal.TheVariants as refusal
+use Rattle.lcm_cli.specs.Plans.{Plan, Ends, Made, Comes}
+use Rattle.lcm_cli.specs.Parts.{component_at, part_at}
+use Rattle.lcm_cli.specs.Commands.{Task, is_built_form, is_built_linked, is_built, linked_in, for_task}
+use Rattle.lcm_cli.specs.Commands.{link_task, component_task, built_plan, plan_in, is_command}
+use Rattle.lcm_cli.specs.Causes.{IsUnread, IsLong, IsUndecoded, IsUnassembled, IsUnloaded, Breaks}
+use Rattle.lcm_cli.proofs.Ends.{Never, same_err, never_linked, never_image, never_component, never_part}
+use Rattle.lcm_cli.proofs.Ends.{no_rule}
+use Rattle.lcm_cli.proofs.Reasons.{FileReason, reason_first, Reasoned, in_reasoned, component_reasoned}
+use Rattle.lcm_cli.proofs.Reasons.{part_reasoned, linked_break, part_breaks, image_fails}
+use Rattle.lcm_cli.proofs.Tasks.{err_of}
+
+-- words that are a command that is built have its plan, and all others are refused at once
+pub planned : (c : Command) → is_built c ≡ true → plan_in (Some c) ≡ built_plan c
+planned c e = rw e refl
+
+pub unplanned : (asked : Option Command) → is_command asked ≡ false → plan_in asked ≡ Ends refusal.Usage
+unplanned None e = refl
+unplanned (Some c) e = rw e refl
+
+-- ---- why a plan of the words ends
+
+abbrev pub WhyIs : {A : Type 0} → Option Command → Plan A → FilesSeen → Refusal → FilesSeen → Type 0
+WhyIs asked plan old refusal.Usage new = is_command asked ≡ false
+WhyIs asked plan old refusal.ReadFault new = IsUnread plan old new
+WhyIs asked plan old (refusal.TooLong index) new = IsLong plan old index new
+WhyIs asked plan old (refusal.Assembly index f) new = IsUnassembled plan old index f new
+WhyIs asked plan old (refusal.File index f) new = IsUndecoded plan old index f new
+WhyIs asked plan old (refusal.Rule r) new = Breaks asked old r new
+WhyIs asked plan old (refusal.Image f) new = IsUnloaded asked old f new
+
+-- what a plan says of its ends, where it is part of what the words ask for
+record Explains {A : Type 0} (asked : Option Command) (plan : Plan A) (old new : FilesSeen) : Type 0 where
+  reasoned : Reasoned plan
+  no_usage : Never plan refusal.Usage
+  breaks : (r : RuleAt) → Comes plan old (Err (refusal.Rule r)) new → Breaks asked old r new
+  unloaded : (f : ImageFault) → Comes plan old (Err (refusal.Image f)) new → IsUnloaded asked old f new
+
+why_from : {A : Type 0} (asked : Option Command) (plan : Plan A) (old new : FilesSeen) (why : Refusal)
+    → Explains asked plan old new → Comes plan old (Err why) new → WhyIs asked plan old why new
+why_from asked plan old new refusal.Usage t h = absurd (t.no_usage old new h)
+why_from asked plan old new refusal.ReadFault t h = t.reasoned.gives old new refusal.ReadFault h
+why_from asked plan old new (refusal.TooLong index) t h = t.reasoned.gives old new (refusal.TooLong index) h
+why_from asked plan old new (refusal.Assembly index f) t h =
+    t.reasoned.gives old new (refusal.Assembly index f) h
+why_from asked plan old new (refusal.File index f) t h = t.reasoned.gives old new (refusal.File index f) h
+why_from asked plan old new (refusal.Rule r) t h = t.breaks r h
+why_from asked plan old new (refusal.Image f) t h = t.unloaded f h
+
+-- what is read says why a task doesn't come
+why_first : {A : Type 0} (asked : Option Command) (p : Plan A) (f : A → Task) (old new : FilesSeen)
+    (why : Refusal) → WhyIs asked p old why new → WhyIs asked (for_task p f) old why new
+why_first asked p f old new refusal.Usage h = h
+why_first asked p f old new refusal.ReadFault h =
+    reason_first p (λ x. Made (f x)) old new refusal.ReadFault h
+why_first asked p f old new (refusal.TooLong index) h =
+    reason_first p (λ x. Made (f x)) old new (refusal.TooLong index) h
+why_first asked p f old new (refusal.Assembly index y) h =
+    reason_first p (λ x. Made (f x)) old new (refusal.Assembly index y) h
+why_first asked p f old new (refusal.File index y) h =
+    reason_first p (λ x. Made (f x)) old new (refusal.File index y) h
+why_first asked p f old new (refusal.Rule r) h = h
+why_first asked p f old new (refusal.Image y) h = h
+
+why_task : {A : Type 0} (asked : Option Command) (p : Plan A) (f : A → Task) (old new : FilesSeen)
+    (why : Refusal) → Explains asked p old new → Comes (for_task p f) old (Err why) new
+    → WhyIs asked (for_task p f) old why new
+why_task asked p f old new why t h =
+    why_first asked p f old new why (why_from asked p old new why t (err_of p f old new why h))
+
+-- ---- what is read: parts that link, or an image; one component; one part
+
+links_explain : (l : Linked) (deed : LinkDeed) (old new : FilesSeen) → is_built_linked l ≡ true
+    → Explains (Some (Links l deed)) (linked_in l) old new
+links_explain (what.Parts words size) deed old new e = record {
+  reasoned = in_reasoned (what.Parts words size);
+  no_usage = never_linked refusal.Usage tt words size e;
+  breaks = linked_break words size old new;
+  unloaded = λ f h. absurd (never_linked (refusal.Image f) tt words size e old new h);
+}
+links_explain (what.Image name) deed old new e = record {
+  reasoned = in_reasoned (what.Image name);
+  no_usage = never_image refusal.Usage tt name;
+  breaks = λ r h. never_image (refusal.Rule r) tt name old new h;
+  unloaded = λ f h. (let g = image_fails name old new f h in (name, refl, g.0, g.1, g.2));
+}
+
+component_explains : (word : PartWord) (deed : ComponentDeed) (old new : FilesSeen)
+    → is_built_form word ≡ true → Explains (Some (Takes word deed)) (component_at 0 word) old new
+component_explains word deed old new e = record {
+  reasoned = component_reasoned 0 word;
+  no_usage = never_component refusal.Usage tt 0 word e;
+  breaks = λ r h. no_rule 0 word r old new h;
+  unloaded = λ f h. absurd (never_component (refusal.Image f) tt 0 word e old new h);
+}
+
+part_explains : (word : PartWord) (old new : FilesSeen)
+    → is_built_form word ≡ true → Explains (Some (Checks word)) (part_at 0 word) old new
+part_explains word old new e = record {
+  reasoned = part_reasoned 0 word;
+  no_usage = never_part refusal.Usage tt 0 word e;
+  breaks = part_breaks 0 word old new;
+  unloaded = λ f h. absurd (never_part (refusal.Image f) tt 0 word e old new h);
+}
+
+-- ---- and so of the words' plan
+
+built_why : (c : Command) (old new : FilesSeen) (why : Refusal) → is_built c ≡ true
+    → Comes (built_plan c) old (Err why) new → WhyIs (Some c) (built_plan c) old why new
+built_why (Links l deed) old new why e h =
+    why_task (Some (Links l deed)) (linked_in l) (link_task deed) old new why
+    (links_explain l deed old new e) h
+built_why (Takes word deed) old new why e h =
+    why_task (Some (Takes word deed)) (component_at 0 word) (component_task deed) old new why
+    (component_explains word deed old new e) h
+built_why (Checks word) old new why e h =
+    why_task (Some (Checks word)) (part_at 0 word) _ old new why (part_explains word old new e) h
+built_why (Mean words size fuel feed) old new why e h = absurd (cc)
+built_why (Generate seed) old new why e h = absurd (cc)
+
+why_usage : (asked : Option Command) (old new : FilesSeen) (why : Refusal) → is_command asked ≡ false
+    → Comes (let p : Plan Task = Ends refusal.Usage in p) old (Err why) new
+    → WhyIs asked (plan_in asked) old why new
+why_usage asked old new why f h =
+    let e = same_err {A = Task} refusal.Usage why (sym h.0) in
+    subst (λ w. WhyIs asked (plan_in asked) old w new) (sym e) f
+
+pub why_is : (asked : Option Command) (b : Bool) → is_command asked ≡ b
+    → (old new : FilesSeen) (why : Refusal)
+    → Comes (plan_in asked) old (Err why) new → WhyIs asked (plan_in asked) old why new
+why_is asked false f old new why h =
+    why_usage asked old new why f (subst (λ p. Comes p old (Err why) new) (unplanned asked f) h)
+why_is None true f old new why h = absurd (cc)
+why_is (Some c) true f old new why h =
+    let p = planned c f in
+    subst (λ q. WhyIs (Some c) q old why new) (sym p)
+    (built_why c old new why f (subst (λ q. Comes q old (Err why) new) p h))
