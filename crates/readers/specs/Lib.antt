@@ -1,0 +1,3 @@
+pub mod Readers
+pub mod Answers
+pub mod Places
