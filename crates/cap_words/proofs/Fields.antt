@@ -7,13 +7,15 @@ use Rattle.std.proofs.lemmas.List.{take_at, drop_at, take-append-drop, length-ta
 use Rattle.std.proofs.lemmas.Int.{of_z-to_z, to_z-of_z}
 use Rattle.std.proofs.Math.Facts.{sfits_to_z, Fits-of_z}
 use Rattle.cap_words.specs.declared.bytes.cursor.FieldFault.{FieldFault}
-use Rattle.cap_words.specs.declared.bytes.cursor.FieldFault.TheVariants.{Short}
-use Rattle.cap_words.specs.Reading.{Input, Reader, goes_on, ◌>>=◌, done, next_bytes, unless_none, meant, next_byte, next_number, next_signed, within}
+use Rattle.cap_words.specs.declared.bytes.cursor.FieldFault.TheVariants.{Short, BadField}
+use Rattle.readers.specs.Readers.{Reader, goes_on, ◌>>=◌, done, unless_none}
+use Rattle.cap_words.specs.Reading.{Input, next_bytes, meant, next_byte, next_number, next_signed, within}
 use Rattle.cap_words.specs.WordBytes.{number_bytes, signed_bytes}
 use Rattle.byteorder.specs.Endian.{little_number, little_bytes}
 use Rattle.byteorder.specs.Numbers.{little_from-lt, length-bytes_low_first}
 use Rattle.cap_words.proofs.Numbers.{read_again, spelled_again}
-use Rattle.cap_words.proofs.Grammar.{IsBytes, Took, after, before, IsCut, cut_goes_on, Reads, All, goes_on_ok, ok_value, reads_placed}
+use Rattle.readers.proofs.Grammar.{after, before, IsCut, cut_goes_on, All, goes_on_ok, ok_value, some_ok, reads_placed}
+use Rattle.cap_words.proofs.ByteReads.{IsBytes, Took, Reads}
 
 is_bytes_drop : (n : ℕ) (bytes : List ℕ) → IsBytes bytes → IsBytes (drop n bytes)
 is_bytes_drop n bytes h i = rw get_or-drop (h (n + i))
@@ -40,7 +42,7 @@ bytes_take n i text j bytes e =
     let took : Took i (take n i.rest) (record { at = i.at + n; rest = drop n i.rest }) = record {
       parts = sym (take-append-drop n i.rest);
       at = omega (arith, len);
-      bytes = is_bytes_drop n i.rest bytes;
+      good = is_bytes_drop n i.rest bytes;
     } in
     subst (λ t. (length t ≡ n) × IsBytes t × Took i t j) g.1 (len, is_bytes_take n i.rest bytes, subst (λ k. Took i (take n i.rest) k) g.2 took)
 
@@ -117,29 +119,25 @@ signed_reads = record {
 
 -- ---- what a field means
 
-pub unless_none_ok : {A : Type 0} (at : ℕ) (o : Option A) (i : Input) (y : A) (j : Input) → unless_none at o i ≡ Ok (y, j) → (o ≡ Some y) × (i ≡ j)
-unless_none_ok at None i y j e = absurd cc
-unless_none_ok at (Some x) i y j e = let both = ok_value x y i j e in (ap Some both.0, both.1)
-
 -- of the values with P those mean something that stand for one with Q
-pub meant_reads : {A B : Type 0} {P : A → Type 0} {Q : B → Type 0} {text : A → List ℕ} (meaning : A → Option B) (stands : B → A) (r : Reader FieldFault A)
+pub meant_reads : {A B : Type 0} {P : A → Type 0} {Q : B → Type 0} {text : A → List ℕ} (meaning : A → Option B) (stands : B → A) (r : Reader Input FieldFault A)
     → Reads Short All P text r
     → ((a : A) (b : B) → P a → meaning a ≡ Some b → Q b × (stands b ≡ a))
     → ((b : B) → Q b → P (stands b) × (meaning (stands b) ≡ Some b))
     → Reads Short All Q (λ b. text (stands b)) (meant meaning r)
 unfolding meant
-meant_reads {Q = Q} {text = text} meaning stands r h there back = reads_placed (λ at. r >>= λ x. unless_none at (meaning x)) (λ at. record {
+meant_reads {Q = Q} {text = text} meaning stands r h there back = reads_placed (λ at. r >>= λ x. unless_none (BadField at) (meaning x)) (λ at. record {
   takes = λ i b j bytes e.
-      let x = goes_on_ok (r i) (λ a. unless_none at (meaning a)) (b, j) e in
+      let x = goes_on_ok (r i) (λ a. unless_none (BadField at) (meaning a)) (b, j) e in
       let t = h.takes i x.0.0 x.0.1 bytes x.1 in
-      let v = unless_none_ok at (meaning x.0.0) x.0.1 b j x.2 in
+      let v = some_ok (BadField at) (meaning x.0.0) x.0.1 b j x.2 in
       let q = there x.0.0 b t.1 v.0 in
       (tt, q.0, subst (λ a. Took i (text a) j) (sym q.1) (subst (λ k. Took i (text x.0.0) k) v.1 t.2));
   again = λ b start rest known fits.
       let g = back b fits in
-      ap (λ q. goes_on q (λ a. unless_none at (meaning a))) (h.again (stands b) start rest tt g.0)
-      ∙ ap (λ o. unless_none at o (after start (text (stands b)) rest)) g.1;
-  cut = λ b start n known fits lt. cut_goes_on (λ a. unless_none at (meaning a)) (h.cut (stands b) start n tt (back b fits).0 lt);
+      ap (λ q. goes_on q (λ a. unless_none (BadField at) (meaning a))) (h.again (stands b) start rest tt g.0)
+      ∙ ap (λ o. unless_none (BadField at) o (after start (text (stands b)) rest)) g.1;
+  cut = λ b start n known fits lt. cut_goes_on (λ a. unless_none (BadField at) (meaning a)) (h.cut (stands b) start n tt (back b fits).0 lt);
 })
 
 within_is : (low high n m : ℕ) → within low high n ≡ Some m → (low ≤ m) × (m ≤ high) × (m ≡ n)

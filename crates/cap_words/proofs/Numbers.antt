@@ -4,7 +4,7 @@ use Rattle.std.proofs.Math.Nat.{div-div-eq-div-mul, div-one, pow-succ'}
 use Rattle.std.specs.Int.{byte_at, bytes_low_first}
 use Rattle.byteorder.specs.Endian.{little_from, little_number, little_bytes}
 use Rattle.byteorder.specs.Numbers.{little_from-cons, little_number-reads_back}
-use Rattle.cap_words.proofs.Grammar.{IsBytes}
+use Rattle.cap_words.proofs.ByteReads.{IsBytes}
 
 -- a byte of a number, by its place
 byte_is : (k x : ℕ) → byte_at k x ≡ x / 256 ^ k % 256

@@ -19,10 +19,12 @@ use Rattle.cap_words.specs.declared.bytes.cursor.FieldFault.TheVariants.{Short, 
 use Rattle.cap_words.specs.Ranges.{IsRange}
 use Rattle.cap_words.specs.Face.{CapInOrder, SealsInOrder}
 use Rattle.cap_words.specs.Faces.{perm_number}
-use Rattle.cap_words.specs.Reading.{Input, ◌>>=◌, next_byte, next_signed, meant}
+use Rattle.readers.specs.Readers.{◌>>=◌}
+use Rattle.cap_words.specs.Reading.{Input, next_byte, next_signed, meant}
 use Rattle.cap_words.specs.WordBytes.{number_bytes, signed_bytes, lin_number, cap_bytes, seal_bytes, content_bytes, word_bytes_of, ContentFits, WordFits, IsUnsealed, Spells}
 use Rattle.cap_words.specs.WordReading.{perm_meant, lin_meant, next_in_space, next_cap, next_seal_cap, content_tagged, next_content, as_word, unsealed_tagged, next_unsealed, next_sealed, next_word}
-use Rattle.cap_words.proofs.Grammar.{IsBytes, after, Reads, All, reads_then, reads_last, reads_as, reads_placed, reads_known, reads_text, reads_case, reads_if, reads_none}
+use Rattle.readers.proofs.Grammar.{after, All, reads_then, reads_last, reads_as, reads_placed, reads_known, reads_text, reads_case, reads_if, reads_none}
+use Rattle.cap_words.proofs.ByteReads.{IsBytes, Reads}
 use Rattle.cap_words.proofs.Fields.{byte_reads, signed_reads, meant_reads, within_reads}
 
 -- ---- fields of a capability

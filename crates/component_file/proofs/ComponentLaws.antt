@@ -6,17 +6,20 @@ use Rattle.std.proofs.lemmas.List.{nil_from_length}
 use Rattle.std.proofs.lemmas.Slice.Eq.{bytes_eq-Decides}
 use Rattle.cap_words.specs.Stretch.{Stretch}
 use Rattle.cap_words.specs.Reading.{Input, next_bytes, next_number}
-use Rattle.cap_words.proofs.Grammar.{IsBytes, Reads, All, reads_then, reads_done, reads_as, reads_text}
+use Rattle.readers.specs.Answers.{Fails}
+use Rattle.readers.proofs.Grammar.{All, reads_then, reads_done, reads_as, reads_text, reads_tells, reads_meaning}
+use Rattle.readers.proofs.Wholes as whole
+use Rattle.cap_words.proofs.ByteReads.{IsBytes, Reads}
 use Rattle.cap_words.proofs.Fields.{number_reads}
 use Rattle.component_file.specs.declared.TheConstants.{MOST_IMPORTS, MOST_EXPORTS, MOST_SITES, MOST_ROWS, FIXED_VERSION, MOVABLE_VERSION}
 use Rattle.component_file.specs.declared.fault.FileFault.{FileFault}
 use Rattle.component_file.specs.declared.fault.FileFault.TheVariants.{Magic, Version, Short, BadField, Order, Trailing, NoMemory}
 use Rattle.component_file.specs.declared.component.ComponentFields.{ComponentFields}
-use Rattle.component_file.specs.Fault.{Fails}
+use Rattle.component_file.specs.Fault.{is_refusal}
 use Rattle.component_file.specs.Limits.{IsComponent}
 use Rattle.component_file.specs.Spelling.{u16_bytes, version_of, magic, spelling, Spells}
-use Rattle.component_file.specs.Reading.{field, version_meant, next_name, next_address, next_stretch, next_optional, next_list, next_import, next_export, next_site, next_row, next_header, next_words, next_component, finished, decoded}
-use Rattle.component_file.proofs.FieldLaws.{reads_field, reads_tells, reads_meaning, four_read, name_reads, address_reads, stretch_reads, optional_reads}
+use Rattle.component_file.specs.Reading.{field, version_meant, next_name, next_address, next_stretch, next_optional, next_list, next_import, next_export, next_site, next_row, next_header, next_words, next_component, decoded}
+use Rattle.component_file.proofs.FieldLaws.{reads_field, four_read, name_reads, address_reads, stretch_reads, optional_reads}
 use Rattle.component_file.proofs.ListLaws.{list_read, import_reads, export_reads, site_reads, row_reads, words_reads}
 
 -- ---- magic and version
@@ -94,63 +97,37 @@ component_reads = reads_as next_component
 
 -- ---- whole files
 
-ended_ok : (b : Bool) (x c : ComponentFields) (at : ℕ) → cond b (Ok x) (Err (Trailing at)) ≡ Ok c → (b ≡ true) × (x ≡ c)
-ended_ok true x c at e = (refl, cc)
-ended_ok false x c at e = absurd cc
-
--- what was read with nothing behind it
-finished_ok : (r : Result (ComponentFields × Input) FileFault) (c : ComponentFields) → finished r ≡ Ok c → (j : Input) × (r ≡ Ok (c, j)) × (length j.rest ≡ 0)
-finished_ok (Err e) c h = absurd cc
-finished_ok (Ok x) c h = let g = ended_ok (eqb (length x.1.rest) 0) x.0 c x.1.at h in (x.1, ap (λ y. Ok (y, x.1)) g.1, eqb-true _ _ g.0)
-
-pub found_whole : (bytes : List ℕ) (c : ComponentFields) → IsBytes bytes → decoded bytes ≡ Ok c → IsComponent c × (bytes ≡ spelling c)
+pub found_whole : (bytes : List ℕ) (c : ComponentFields) → IsBytes bytes → decoded bytes ≡ Ok c
+    → IsComponent c × (bytes ≡ spelling c)
 unfolding decoded
-found_whole bytes c fits e =
-    let f = finished_ok (next_component (record { at = 0; rest = bytes })) c e in
-    let g = component_reads.takes (record { at = 0; rest = bytes }) c f.0 fits f.1 in
-    let nothing : f.0.rest ≡ [] = nil_from_length f.0.rest f.2 in
-    (g.1, g.2.parts ∙ ap (λ l. spelling c ++ l) nothing ∙ append-nil (spelling c))
+found_whole = whole.found_whole component_reads Trailing
 
 pub read_whole : (c : ComponentFields) → IsComponent c → decoded (spelling c) ≡ Ok c
 unfolding decoded
-read_whole c fits = ap (λ l. finished (next_component (record { at = 0; rest = l }))) (sym (append-nil (spelling c))) ∙ ap finished (component_reads.again c 0 [] tt fits)
+read_whole = whole.again_whole component_reads Trailing
 
 -- a component that was cut is short somewhere
-pub read_cut : (c : ComponentFields) (n : ℕ) → IsComponent c → n < length (spelling c) → (at : ℕ) × (at ≤ n) × (decoded (take n (spelling c)) ≡ Err (Short at))
+pub read_cut : (c : ComponentFields) (n : ℕ) → IsComponent c → n < length (spelling c)
+    → (at : ℕ) × (at ≤ n) × (decoded (take n (spelling c)) ≡ Err (Short at))
 unfolding decoded
-read_cut c n fits lt =
-    let g = component_reads.cut c 0 n tt fits lt in
-    (0 + g.inside, omega (arith, g.within), ap finished g.is)
+read_cut = whole.cut_whole component_reads Trailing
 
 -- what stands behind a component is too much
-pub read_past : (c : ComponentFields) (b : ℕ) (more : List ℕ) → IsComponent c → decoded (spelling c ++ b ∷ more) ≡ Err (Trailing (length (spelling c)))
+pub read_past : (c : ComponentFields) (b : ℕ) (more : List ℕ) → IsComponent c
+    → decoded (spelling c ++ b ∷ more) ≡ Err (Trailing (length (spelling c)))
 unfolding decoded
-read_past c b more fits =
-    let some : eqb (length (b ∷ more)) 0 ≡ false = ne_eqb _ _ (λ e. omega (arith, e)) in
-    let same : 0 + length (spelling c) ≡ length (spelling c) = omega arith in
-    ap finished (component_reads.again c 0 (b ∷ more) tt fits) ∙ rw some (ap (λ n. Err (Trailing n)) same)
+read_past = whole.past_whole component_reads Trailing
 
-abbrev ok_of : ComponentFields → Result ComponentFields FileFault
-ok_of c = Ok c
-
-apart : (c : ComponentFields) (e : FileFault) → ok_of c ≡ Err e → ⊥
-apart c e h = absurd cc
-
-ok_is : (c d : ComponentFields) → ok_of c ≡ ok_of d → c ≡ d
-ok_is c d h = cc
+refusal_is : (e : FileFault) → is_refusal e ≡ true → e ≡ NoMemory
+refusal_is NoMemory is = refl
+refusal_is e is = absurd cc
 
 -- only memory keeps a component from being read
-fails_memory : (e : FileFault) (c : ComponentFields) (read : Result ComponentFields FileFault) → Fails e read → read ≡ Ok c → e ≡ NoMemory
-fails_memory NoMemory c read f h = refl
-fails_memory Magic c read f h = absurd (apart c Magic (sym h ∙ f))
-fails_memory Version c read f h = absurd (apart c Version (sym h ∙ f))
-fails_memory (Short at) c read f h = absurd (apart c (Short at) (sym h ∙ f))
-fails_memory (BadField at) c read f h = absurd (apart c (BadField at) (sym h ∙ f))
-fails_memory (Order at) c read f h = absurd (apart c (Order at) (sym h ∙ f))
-fails_memory (Trailing at) c read f h = absurd (apart c (Trailing at) (sym h ∙ f))
-
-pub only_memory : (bytes : List ℕ) (e : FileFault) (c : ComponentFields) → Fails e (decoded bytes) → Spells bytes c → e ≡ NoMemory
-only_memory bytes e c f s = fails_memory e c (decoded bytes) f (ap decoded s.1 ∙ read_whole c s.0)
+pub only_memory : (bytes : List ℕ) (e : FileFault) (c : ComponentFields) → Fails is_refusal e (decoded bytes)
+    → Spells bytes c → e ≡ NoMemory
+unfolding decoded
+only_memory bytes e c f s = refusal_is e (whole.refused_whole component_reads Trailing is_refusal bytes e c f s)
 
 pub only_one : (bytes : List ℕ) (c d : ComponentFields) → decoded bytes ≡ Ok c → Spells bytes d → c ≡ d
-only_one bytes c d read s = ok_is c d (sym read ∙ ap decoded s.1 ∙ read_whole d s.0)
+unfolding decoded
+only_one = whole.one_whole component_reads Trailing

@@ -6,88 +6,28 @@ use Rattle.cap_words.specs.declared.TheConstants.{LAST_PLACE, LONGEST_STRETCH}
 use Rattle.cap_words.specs.declared.bytes.cursor.FieldFault.{FieldFault}
 use Rattle.cap_words.specs.declared.bytes.cursor.FieldFault.TheVariants as field_faults
 use Rattle.cap_words.specs.Stretch.{Stretch}
-use Rattle.cap_words.specs.Reading.{Input, Reader, goes_on, ◌>>=◌, done, next_bytes, unless_none, meant, next_byte, next_number, within}
-use Rattle.cap_words.proofs.Grammar.{before, ok_value, Took, took_nothing, Reads, All, reads_then, reads_last, reads_done, reads_as, reads_text, reads_placed, reads_known, reads_learned, reads_case, reads_if}
-use Rattle.cap_words.proofs.Fields.{unless_none_ok, bytes_take, bytes_again, bytes_cut, byte_reads, meant_reads, within_reads}
+use Rattle.readers.specs.Readers.{Reader, goes_on, ◌>>=◌, done, unless_none}
+use Rattle.cap_words.specs.Reading.{Input, next_bytes, meant, next_byte, next_number, within}
+use Rattle.readers.proofs.Grammar.{before, took_nothing, some_ok, reads_telling, All, reads_then, reads_last, reads_done, reads_as, reads_text, reads_placed, reads_known, reads_learned, reads_case, reads_if}
+use Rattle.cap_words.proofs.ByteReads.{Took, Reads}
+use Rattle.cap_words.proofs.Fields.{bytes_take, bytes_again, bytes_cut, byte_reads, meant_reads, within_reads}
 use Rattle.component_file.specs.declared.TheConstants.{LAST_OFFSET}
 use Rattle.component_file.specs.declared.fault.FileFault.{FileFault}
 use Rattle.component_file.specs.declared.fault.FileFault.TheVariants.{Short}
 use Rattle.component_file.specs.declared.component.Kind.{Kind}
 use Rattle.component_file.specs.declared.component.Kind.TheVariants.{Any, Int, DataCap, Stk, Pc, Top}
 use Rattle.cap_words.specs.Names.{is_name}
+use Rattle.component_file.specs.Fault.{in_file}
 use Rattle.component_file.specs.Limits.{KindFits, last_base, StretchFits}
 use Rattle.component_file.specs.Spelling.{u32_bytes, name_bytes, stretch_bytes, flag_byte, optional_bytes, kind_bytes}
 use Rattle.component_file.proofs.CanWrite.{name_is_short}
-use Rattle.component_file.specs.Reading.{as_file, field, holds, known, short_at, next_text, name_meant, next_name, next_address, next_offset, next_stretch, flag_meant, next_flag, next_optional, plain_kind, next_kind}
+use Rattle.component_file.specs.Reading.{field, short_at, next_text, name_meant, next_name, next_address, next_offset, next_stretch, flag_meant, next_flag, next_optional, plain_kind, next_kind}
 
 -- ---- fields of the file
 
-as_file_ok : {A : Type 0} (r : Result (A × Input) FieldFault) (x : A × Input) → as_file r ≡ Ok x → r ≡ Ok x
-as_file_ok (Ok y) x e = let is : y ≡ x = cc in ap Ok is
-as_file_ok (Err e) x h = absurd cc
-
-pub reads_field : {A : Type 0} {K P : A → Type 0} {t : A → List ℕ} {r : Reader FieldFault A} → Reads field_faults.Short K P t r → Reads Short K P t (field r)
-unfolding field
-reads_field {r = r} h = record {
-  takes = λ i x j bytes e. h.takes i x j bytes (as_file_ok (r i) (x, j) e);
-  again = λ x at rest k p. ap as_file (h.again x at rest k p);
-  cut = λ x at n k p lt. let c = h.cut x at n k p lt in record { inside = c.inside; within = c.within; is = ap as_file c.is };
-}
-
-holds_ok : {B : Type 0} (b : Bool) (fault : FileFault) (f : Unit {0} → Reader FileFault B) (i : Input) (y : B × Input) → goes_on (holds b fault i) f ≡ Ok y → (b ≡ true) × (f tt i ≡ Ok y)
-holds_ok true fault f i y e = (refl, e)
-holds_ok false fault f i y e = absurd cc
-
--- a test of what is read
-pub reads_holds : {B : Type 0} {K P : B → Type 0} {t : B → List ℕ} (b : Bool) (fault : FileFault) (test : B → Bool) (f : Unit {0} → Reader FileFault B)
-    → ((c : B) → K c → test c ≡ b) → Reads Short K P t (f tt) → Reads Short K (λ c. IsTrue (test c) × P c) t (holds b fault >>= f)
-reads_holds b fault test f is h = record {
-  takes = λ i c j bytes e.
-      let x = holds_ok b fault f i (c, j) e in
-      let g = h.takes i c j bytes x.1 in
-      (g.0, (is c g.0 ∙ x.0, g.1), g.2);
-  again = λ c at rest k p.
-      let passed : b ≡ true = sym (is c k) ∙ p.0 in
-      rw passed (h.again c at rest k p.1);
-  cut = λ c at n k p lt.
-      let passed : b ≡ true = sym (is c k) ∙ p.0 in
-      rw passed (h.cut c at n k p.1 lt);
-}
-
--- a test that tells what is read
-pub reads_tells : {B : Type 0} {K P : B → Type 0} {E : Type 0} {t : B → List ℕ} (b : Bool) (fault : FileFault) (f : Unit {0} → Reader FileFault B)
-    → (b ≡ true → E) → (E → b ≡ true) → Reads Short K P t (f tt) → Reads Short (λ c. K c × E) P t (holds b fault >>= f)
-reads_tells b fault f tells told h = record {
-  takes = λ i c j bytes e.
-      let x = holds_ok b fault f i (c, j) e in
-      let g = h.takes i c j bytes x.1 in
-      ((g.0, tells x.0), g.1, g.2);
-  again = λ c at rest k p.
-      let passed : b ≡ true = told k.1 in
-      rw passed (h.again c at rest k.0 p);
-  cut = λ c at n k p lt.
-      let passed : b ≡ true = told k.1 in
-      rw passed (h.cut c at n k.0 p lt);
-}
-
-known_ok : {A : Type 0} (o : Option A) (fault : FileFault) (i : Input) (y : A) (j : Input) → known o fault i ≡ Ok (y, j) → (o ≡ Some y) × (i ≡ j)
-known_ok None fault i y j e = absurd cc
-known_ok (Some x) fault i y j e = let both = ok_value x y i j e in (ap Some both.0, both.1)
-
--- a number that was read, as what it means
-pub reads_meaning : {A B : Type 0} {K : B → Type 0} (meaning : A → Option B) (stands : B → A) (fault : FileFault) (a : A)
-    → ((a : A) (b : B) → meaning a ≡ Some b → stands b ≡ a) → ((b : B) → meaning (stands b) ≡ Some b)
-    → ((b : B) → stands b ≡ a → K b) → ((b : B) → K b → stands b ≡ a)
-    → Reads Short K All (λ b. []) (known (meaning a) fault)
-reads_meaning meaning stands fault a there back known_of of_known = record {
-  takes = λ i b j bytes e.
-      let v = known_ok (meaning a) fault i b j e in
-      (known_of b (there a b v.0), tt, subst (λ k. Took i [] k) v.1 (took_nothing i bytes));
-  again = λ b at rest k fits.
-      let is : meaning a ≡ Some b = ap meaning (sym (of_known b k)) ∙ back b in
-      ap (λ o. known o fault (before at [] rest)) is ∙ ap (λ n. Ok (b, record { at = n; rest = rest })) (let e : at ≡ at + 0 = omega arith in e);
-  cut = λ b at n k fits lt. absurd (omega arith);
-}
+pub reads_field : {A : Type 0} {K P : A → Type 0} {t : A → List ℕ} {r : Reader Input FieldFault A}
+    → Reads field_faults.Short K P t r → Reads Short K P t (field r)
+reads_field {r = r} h = reads_telling in_file r (λ n. refl) h
 
 -- ---- names
 
@@ -269,11 +209,11 @@ plain_back tag Stk e not = (subst (λ n. plain_kind n ≡ Some Stk) e refl, refl
 plain_back tag (Pc offset) e not = absurd (eqb-false _ _ not (sym e))
 plain_back tag Top e not = (subst (λ n. plain_kind n ≡ Some Top) e refl, refl)
 
-plain_reads : (at tag : ℕ) → eqb tag 4 ≡ false → Reads field_faults.Short (λ k. kind_tag k ≡ tag) KindFits kind_tail (unless_none at (plain_kind tag))
+plain_reads : (at tag : ℕ) → eqb tag 4 ≡ false → Reads field_faults.Short (λ k. kind_tag k ≡ tag) KindFits kind_tail (unless_none (field_faults.BadField at) (plain_kind tag))
 unfolding IsPlain
 plain_reads at tag not = record {
   takes = λ i k j bytes e.
-      let g = unless_none_ok at (plain_kind tag) i k j e in
+      let g = some_ok (field_faults.BadField at) (plain_kind tag) i k j e in
       let is = plain_there tag k g.0 in
       (is.0, is.1, subst (λ l. Took i l j) (sym is.2) (subst (λ n. Took i [] n) g.1 (took_nothing i bytes)));
   again = λ k start rest known p.
@@ -284,7 +224,7 @@ plain_reads at tag not = record {
 
 pub kind_reads : Reads field_faults.Short All KindFits kind_bytes next_kind
 unfolding next_kind kind_tag kind_tail
-kind_reads = reads_placed (λ at. next_byte >>= λ tag. cond (eqb tag 4) (next_offset >>= λ offset. done (Pc offset)) (unless_none at (plain_kind tag))) (λ at.
+kind_reads = reads_placed (λ at. next_byte >>= λ tag. cond (eqb tag 4) (next_offset >>= λ offset. done (Pc offset)) (unless_none (field_faults.BadField at) (plain_kind tag))) (λ at.
     reads_as _
     (reads_text _ (λ k known. kind_is k)
     (reads_then kind_tag next_byte _ byte_reads (λ tag p. reads_known (reads_if (eqb tag 4) _ _

@@ -1,6 +1,6 @@
 //! The fields of a component file, each read from the front of bytes.
 ghost use Rattle.std.specs.Prelude.{◌≡◌, ◌≤◌, IfOk};
-ghost use Rattle.cap_words.specs.Gives.{Gives, GivesAs};
+ghost use Rattle.readers.specs.Answers.{Gives, GivesAs};
 ghost use Rattle.component_file.specs.Reading.{next_text, next_name, next_address, next_offset};
 ghost use Rattle.component_file.specs.Reading.{next_stretch, next_flag, next_optional, next_kind};
 

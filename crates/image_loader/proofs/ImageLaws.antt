@@ -6,7 +6,8 @@ use Rattle.std.proofs.lemmas.Bool.{eqb-true, eq-eqb, ne_eqb}
 use Rattle.std.proofs.lemmas.List.{nil_from_length}
 use Rattle.std.proofs.lemmas.Slice.Eq.{bytes_eq-Decides}
 use Rattle.cap_words.specs.Reading.{Input, next_bytes, next_number}
-use Rattle.cap_words.proofs.Grammar.{IsBytes, Reads, All, reads_then, reads_last, reads_done, reads_as, reads_text, reads_learned}
+use Rattle.readers.proofs.Grammar.{All, reads_then, reads_last, reads_done, reads_as, reads_text, reads_learned}
+use Rattle.cap_words.proofs.ByteReads.{IsBytes, Reads}
 use Rattle.cap_words.proofs.Fields.{number_reads, within_reads}
 use Rattle.component_file.specs.Spelling.{u16_bytes, list_bytes}
 use Rattle.component_file.proofs.FieldLaws.{four_read}

@@ -1,7 +1,7 @@
 -- What loading answers, from what reading gives and linking answers.
 use Rattle.std.proofs.Common.{◌≡◌, ◌⊎◌, inl, inr, List, ℕ, Result, Ok, Err, refl, sym, ap, subst, ◌∙◌}
 use Rattle.std.specs.Prelude.{IsOk}
-use Rattle.cap_words.proofs.Grammar.{IsBytes}
+use Rattle.cap_words.proofs.ByteReads.{IsBytes}
 use Rattle.component_linker.specs.declared.fault.LinkFault.{LinkFault}
 use Rattle.component_linker.specs.declared.fault.LinkFault.TheVariants as link_faults
 use Rattle.component_linker.specs.Standing.{placed}

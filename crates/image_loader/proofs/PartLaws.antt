@@ -4,8 +4,10 @@ use Rattle.std.specs.List.{flat_map, AllByRecursion}
 use Rattle.std.proofs.lemmas.Bool.{cases_lt}
 use Rattle.std.proofs.lemmas.List.{take-append-le}
 use Rattle.std.proofs.Math.Seq.{take-append-add}
-use Rattle.cap_words.specs.Reading.{Input, Reader, goes_on, ◌>>=◌, done, next_bytes, next_number}
-use Rattle.cap_words.proofs.Grammar.{IsBytes, Took, took_nothing, took_then, after, before, IsCut, cut_goes_on, Reads, All, goes_on_ok, ok_value, reads_then, reads_as}
+use Rattle.readers.specs.Readers.{Reader, goes_on, ◌>>=◌, done}
+use Rattle.cap_words.specs.Reading.{Input, next_bytes, next_number}
+use Rattle.readers.proofs.Grammar.{took_nothing, took_then, after, before, IsCut, cut_goes_on, All, goes_on_ok, ok_value, reads_then, reads_as}
+use Rattle.cap_words.proofs.ByteReads.{IsBytes, Took, Reads}
 use Rattle.cap_words.proofs.Fields.{bytes_take, bytes_again, bytes_cut, number_reads}
 use Rattle.component_file.specs.declared.component.ComponentFields.{ComponentFields}
 use Rattle.component_file.specs.Spelling.{spelling}
@@ -105,7 +107,7 @@ parts_again (suc n) index (p ∷ ps) at rest len all =
     let two = parts_again n (index + 1) ps (at + length t) rest (omega (arith, len)) all.1 in
     let near : before at (t ++ u) rest ≡ before at t (u ++ rest) = ap (λ l. record { at = at; rest = l }) (append_assoc t u rest) in
     let there : after (at + length t) u rest ≡ after at (t ++ u) rest = ap (λ m. record { at = m; rest = rest }) (omega (arith, length-append t u)) in
-    let f : PartSeen → Reader ImageFault (List PartSeen) = λ first. next_parts (index + 1) n >>= λ others. done (first ∷ others) in
+    let f : PartSeen → Reader Input ImageFault (List PartSeen) = λ first. next_parts (index + 1) n >>= λ others. done (first ∷ others) in
     ap (λ i. goes_on (next_part index i) f) near ∙ ap (λ q. goes_on q f) one ∙ ap (λ q. goes_on q (λ others. done (p ∷ others))) two ∙ ap (λ k. Ok (p ∷ ps, k)) there
 
 parts_cut : (n index : ℕ) (ps : List PartSeen) (at k : ℕ) → length ps ≡ n → AllByRecursion IsPart ps → k < length (flat_map part_bytes ps) → IsCut Short at k (next_parts index n (record { at = at; rest = take k (flat_map part_bytes ps) }))
@@ -116,7 +118,7 @@ parts_cut (suc n) index [] at k len all lt = absurd (omega arith)
 parts_cut (suc n) index (p ∷ ps) at k len all lt =
     let t = part_bytes p in
     let u = flat_map part_bytes ps in
-    let f : PartSeen → Reader ImageFault (List PartSeen) = λ first. next_parts (index + 1) n >>= λ others. done (first ∷ others) in
+    let f : PartSeen → Reader Input ImageFault (List PartSeen) = λ first. next_parts (index + 1) n >>= λ others. done (first ∷ others) in
     elim (cases_lt k (length t)) [
       | inl less ↦ subst (λ l. IsCut Short at k (goes_on (next_part index (record { at = at; rest = l })) f)) (sym (take-append-le k t u (omega arith))) (cut_goes_on f ((part_reads index).cut p at k tt all.0 less))
       | inr more ↦

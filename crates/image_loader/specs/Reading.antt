@@ -4,7 +4,8 @@ use Rattle.std.specs.Prelude.{ℕ, zero, suc, ◌+◌, ◌==◌, Bool, true, fal
 use Rattle.std.specs.Prelude.{Result, Ok, Err, if◌then◌else◌}
 use Rattle.std.specs.Str.{bytes_eq}
 use Rattle.cap_words.specs.declared.bytes.cursor.FieldFault.{FieldFault}
-use Rattle.cap_words.specs.Reading.{Input, Reader, ◌>>=◌, done, meant, within, next_bytes, next_number}
+use Rattle.readers.specs.Readers.{Reader, ◌>>=◌, done}
+use Rattle.cap_words.specs.Reading.{Input, meant, within, next_bytes, next_number}
 use Rattle.component_file.specs.declared.component.ComponentFields.{ComponentFields}
 use Rattle.component_file.specs.Reading.{next_flag, decoded}
 use Rattle.component_linker.specs.declared.TheConstants.{MOST_PARTS}
@@ -25,11 +26,11 @@ told_by told (Err e) = Err (told e)
 -- ---- fields
 
 -- a field of the image
-unfoldable pub field : {A : Type 0} → Reader FieldFault A → Reader ImageFault A
+unfoldable pub field : {A : Type 0} → Reader Input FieldFault A → Reader Input ImageFault A
 field r i = told_by in_image (r i)
 
 -- an answer for which nothing is read
-abbrev pub given : {A : Type 0} → Result A ImageFault → Reader ImageFault A
+abbrev pub given : {A : Type 0} → Result A ImageFault → Reader Input ImageFault A
 given (Ok x) i = Ok (x, i)
 given (Err e) i = Err e
 
@@ -38,7 +39,7 @@ abbrev pub holds : Bool → ImageFault → Result (Unit {0}) ImageFault
 holds true fault = Ok tt
 holds false fault = Err fault
 
-unfoldable pub next_header : Reader ImageFault (Unit {0})
+unfoldable pub next_header : Reader Input ImageFault (Unit {0})
 next_header = do
   four ← field (next_bytes 4)
   _ ← given (holds (bytes_eq four magic) Magic)
@@ -47,7 +48,7 @@ next_header = do
   done tt
 
 -- from 1 to the most that are linked together
-abbrev pub next_count : Reader FieldFault ℕ
+abbrev pub next_count : Reader Input FieldFault ℕ
 next_count = meant (within 1 MOST_PARTS) (next_number 2)
 
 -- ---- parts
@@ -61,7 +62,7 @@ kept_by index trusted (Err e) = Err e
 unfoldable pub part_of : ℕ → Bool → List ℕ → Result PartSeen ImageFault
 part_of index trusted bytes = kept_by index trusted (told_by (in_part index) (decoded bytes))
 
-unfoldable pub next_part : ℕ → Reader ImageFault PartSeen
+unfoldable pub next_part : ℕ → Reader Input ImageFault PartSeen
 next_part index = do
   trusted ← field next_flag
   len ← field (next_number 4)
@@ -69,7 +70,7 @@ next_part index = do
   given (part_of index trusted bytes)
 
 -- so many parts one after another, the first of them with this index
-unfoldable pub next_parts : ℕ → ℕ → Reader ImageFault (List PartSeen)
+unfoldable pub next_parts : ℕ → ℕ → Reader Input ImageFault (List PartSeen)
 next_parts index zero = done []
 next_parts index (suc n) = do
   first ← next_part index
@@ -78,7 +79,7 @@ next_parts index (suc n) = do
 
 -- ---- the image
 
-unfoldable pub next_image : Reader ImageFault Image
+unfoldable pub next_image : Reader Input ImageFault Image
 next_image = do
   _ ← next_header
   stack ← field (next_number 4)

@@ -1,6 +1,6 @@
 //! Images from bytes: parts in their form, each by its own rules.
 ghost use Rattle.std.specs.Prelude.{◌≡◌, ◌<◌, ◌^◌, length};
-ghost use Rattle.cap_words.specs.Gives.{Gives};
+ghost use Rattle.readers.specs.Answers.{Gives};
 ghost use Rattle.component_file.specs.Reading.{next_flag, decoded};
 ghost use Rattle.component_linker.specs.Accepted.{accepted};
 ghost use Rattle.image_loader.specs.Fault.{in_part, broken_in, Meets, GivesUnlessRefused};

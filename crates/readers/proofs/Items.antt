@@ -2,7 +2,7 @@
 use Rattle.std.proofs.Common.{◌≡◌, ℕ, zero, suc, ◌+◌, ◌-◌, ◌<◌, ◌≤◌, Bool, List, [], ◌∷◌, ◌++◌, length, take}
 use Rattle.std.proofs.Common.{Result, Ok, Err, refl, sym, ap, subst, ◌∙◌, append_assoc, append-nil, arith, length-append}
 use Rattle.std.specs.List.{flat_map}
-use Rattle.readers.specs.Readers.{Reader, goes_on, ◌>>=◌, done, items_from}
+use Rattle.readers.specs.Readers.{Reader, goes_on, ◌>>=◌, done, items_from, Chained}
 use Rattle.readers.specs.Answers.{Fails}
 use Rattle.readers.specs.Places.{Ahead}
 use Rattle.readers.proofs.Faults.{still_fails}
@@ -10,11 +10,6 @@ use Rattle.readers.proofs.Grammar.{Took, took_nothing, took_then, after, before,
 use Rattle.readers.proofs.Grammar.{goes_on_ok, ok_value, cut_then, again_then}
 
 -- ---- the law
-
--- each item is right behind those before it
-abbrev pub Chained : {A B : Type 0} → (B → A → B) → (B → A → Type 0) → B → List A → Type 0
-Chained next P b [] = Unit {0}
-Chained next P b (x ∷ xs) = P b x × Chained next P (next b x) xs
 
 module _ {S F A B : Type 0} {Good : List S → Type 0} {short : ℕ → F} {P : B → A → Type 0} {t : A → List S}
     (next : B → A → B) (item : B → Reader (Ahead S) F A)

@@ -55,3 +55,8 @@ items_from next item (suc n) before = do
   first ← item before
   others ← items_from next item n (next before first)
   done (first ∷ others)
+
+-- each item is right behind those before it
+abbrev pub Chained : {A B : Type 0} → (B → A → B) → (B → A → Type 0) → B → List A → Type 0
+Chained next P before [] = Unit {0}
+Chained next P before (x ∷ xs) = P before x × Chained next P (next before x) xs

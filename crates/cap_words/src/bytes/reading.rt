@@ -1,7 +1,7 @@
 //! Words from bytes.
 ghost use Rattle.std.specs.Prelude.{◌≡◌, ◌≤◌, ◌<◌, ◌^◌, ◌++◌, List, ℕ, length, take, IfSome, Some};
 ghost use Rattle.cap_words.specs.Reading.{next_byte, meant};
-ghost use Rattle.cap_words.specs.Gives.{Gives};
+ghost use Rattle.readers.specs.Answers.{Gives};
 ghost use Rattle.cap_words.specs.WordBytes.{Spells};
 ghost use Rattle.cap_words.specs.WordReading.{perm_meant, lin_meant, next_cap, next_seal_cap};
 ghost use Rattle.cap_words.specs.WordReading.{content_tagged, next_content, unsealed_tagged};

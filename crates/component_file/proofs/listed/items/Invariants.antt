@@ -1,6 +1,7 @@
 use Rattle.std.proofs.Common.{◌≡◌, ◌-◌, None}
+use Rattle.readers.proofs.Items.{with_front}
 use Rattle.component_file.specs.Reading.{next_items}
-use Rattle.component_file.proofs.Lists.{with_front, newest}
+use Rattle.component_file.proofs.Lists.{newest}
 use Rattle.component_file.proofs.listed.items.Given as goal
 
 abbrev pub invariant-loop : goal.invariant-loop

@@ -1,5 +1,5 @@
 use Rattle.std.proofs.Common.{◌≡◌, ◌++◌, ◌∙◌, ap, sym}
-use Rattle.cap_words.proofs.Grammar.{one_spelling}
+use Rattle.readers.proofs.Grammar.{one_spelling}
 use Rattle.image_loader.specs.Image.{image_bytes}
 use Rattle.image_loader.proofs.ImageLaws.{image_reads}
 use Rattle.image_loader.proofs.laws.one_spelling.Goals as goal
