@@ -10,5 +10,6 @@ IsBytes bytes = (i : ℕ) → get_or bytes i 0 < 256
 abbrev pub Took : Input → List ℕ → Input → Type 0
 Took i text j = TookOf IsBytes i text j
 
-abbrev pub Reads : {F A : Type 0} → (ℕ → F) → (A → Type 0) → (A → Type 0) → (A → List ℕ) → Reader Input F A → Type 0
+abbrev pub Reads : {F A : Type 0} → (ℕ → F) → (A → Type 0) → (A → Type 0) → (A → List ℕ) → Reader Input F A
+    → Type 0
 Reads short K P text r = ReadsOf IsBytes short K P text r

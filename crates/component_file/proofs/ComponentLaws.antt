@@ -1,26 +1,35 @@
 -- A component is read where it is spelled, and spelled where it was read.
-use Rattle.std.proofs.Common.{◌≡◌, ℕ, ◌+◌, ◌^◌, Option, Some, None, ◌<◌, ◌≤◌, Bool, true, false, cond, eqb, List, [], ◌∷◌, ◌++◌, length, Result, Ok, Err, refl, sym, ap, ◌∙◌, append-nil, arith, take}
+use Rattle.std.proofs.Common.{◌≡◌, ℕ, ◌+◌, ◌^◌, Some, None, ◌<◌, ◌≤◌, Bool, true, false, cond, eqb}
+use Rattle.std.proofs.Common.{List, ◌∷◌, ◌++◌, length, Ok, Err, refl, sym, ap, ◌∙◌, append-nil}
+use Rattle.std.proofs.Common.{arith, take}
 use Rattle.std.specs.Str.{bytes_eq}
-use Rattle.std.proofs.lemmas.Bool.{eqb-true, eq-eqb, ne_eqb}
-use Rattle.std.proofs.lemmas.List.{nil_from_length}
+use Rattle.std.proofs.lemmas.Bool.{eqb-true}
+
 use Rattle.std.proofs.lemmas.Slice.Eq.{bytes_eq-Decides}
 use Rattle.cap_words.specs.Stretch.{Stretch}
-use Rattle.cap_words.specs.Reading.{Input, next_bytes, next_number}
+use Rattle.cap_words.specs.Reading.{next_bytes, next_number}
 use Rattle.readers.specs.Answers.{Fails}
-use Rattle.readers.proofs.Grammar.{All, reads_then, reads_done, reads_as, reads_text, reads_tells, reads_meaning}
+use Rattle.readers.proofs.Grammar.{All, reads_then, reads_done, reads_as, reads_text, reads_tells}
+use Rattle.readers.proofs.Grammar.{reads_meaning}
 use Rattle.readers.proofs.Wholes as whole
 use Rattle.cap_words.proofs.ByteReads.{IsBytes, Reads}
 use Rattle.cap_words.proofs.Fields.{number_reads}
-use Rattle.component_file.specs.declared.TheConstants.{MOST_IMPORTS, MOST_EXPORTS, MOST_SITES, MOST_ROWS, FIXED_VERSION, MOVABLE_VERSION}
+use Rattle.component_file.specs.declared.TheConstants.{MOST_IMPORTS, MOST_EXPORTS, MOST_SITES, MOST_ROWS}
+
 use Rattle.component_file.specs.declared.fault.FileFault.{FileFault}
-use Rattle.component_file.specs.declared.fault.FileFault.TheVariants.{Magic, Version, Short, BadField, Order, Trailing, NoMemory}
+use Rattle.component_file.specs.declared.fault.FileFault.TheVariants.{Magic, Version, Short}
+use Rattle.component_file.specs.declared.fault.FileFault.TheVariants.{Trailing, NoMemory}
 use Rattle.component_file.specs.declared.component.ComponentFields.{ComponentFields}
 use Rattle.component_file.specs.Fault.{is_refusal}
 use Rattle.component_file.specs.Limits.{IsComponent}
 use Rattle.component_file.specs.Spelling.{u16_bytes, version_of, magic, spelling, Spells}
-use Rattle.component_file.specs.Reading.{field, version_meant, next_name, next_address, next_stretch, next_optional, next_list, next_import, next_export, next_site, next_row, next_header, next_words, next_component, decoded}
-use Rattle.component_file.proofs.FieldLaws.{reads_field, four_read, name_reads, address_reads, stretch_reads, optional_reads}
-use Rattle.component_file.proofs.ListLaws.{list_read, import_reads, export_reads, site_reads, row_reads, words_reads}
+use Rattle.component_file.specs.Reading.{field, version_meant, next_name, next_address, next_stretch}
+use Rattle.component_file.specs.Reading.{next_optional, next_list, next_import, next_export, next_site}
+use Rattle.component_file.specs.Reading.{next_row, next_header, next_words, next_component, decoded}
+use Rattle.component_file.proofs.FieldLaws.{reads_field, four_read, name_reads, address_reads, stretch_reads}
+use Rattle.component_file.proofs.FieldLaws.{optional_reads}
+use Rattle.component_file.proofs.ListLaws.{list_read, import_reads, export_reads, site_reads, row_reads}
+use Rattle.component_file.proofs.ListLaws.{words_reads}
 
 -- ---- magic and version
 
@@ -28,8 +37,15 @@ version_there : (n : ℕ) (b : Bool) → version_meant n ≡ Some b → version_
 version_there n b e = by_tests (eqb n 1) (eqb n 2) refl refl
   where
     by_tests : (s t : Bool) → eqb n 1 ≡ s → eqb n 2 ≡ t → version_of b ≡ n
-    by_tests true t f g = let is : Some false ≡ Some b = sym (ap (λ v. cond v (Some false) (cond (eqb n 2) (Some true) None)) f) ∙ e in let same : false ≡ b = cc in ap version_of (sym same) ∙ sym (eqb-true n 1 f)
-    by_tests false true f g = let is : Some true ≡ Some b = sym (rw (f, g) refl) ∙ e in let same : true ≡ b = cc in ap version_of (sym same) ∙ sym (eqb-true n 2 g)
+    by_tests true t f g =
+        let is : Some false ≡ Some b =
+        sym (ap (λ v. cond v (Some false) (cond (eqb n 2) (Some true) None)) f) ∙ e in
+        let same : false ≡ b = cc in
+        ap version_of (sym same) ∙ sym (eqb-true n 1 f)
+    by_tests false true f g =
+        let is : Some true ≡ Some b = sym (rw (f, g) refl) ∙ e in
+        let same : true ≡ b = cc in
+        ap version_of (sym same) ∙ sym (eqb-true n 2 g)
     by_tests false false f g = let is : None ≡ Some b = sym (rw (f, g) refl) ∙ e in absurd cc
 
 version_back : (b : Bool) → version_meant (version_of b) ≡ Some b
@@ -40,14 +56,17 @@ version_small : (b : Bool) → version_of b < 2 ^ 16
 version_small false = omega arith
 version_small true = omega arith
 
-header_reads : Reads Short All (All {A = Bool}) (λ movable. magic ++ u16_bytes (version_of movable)) next_header
+header_reads : Reads Short All (All {A = Bool}) (λ movable. magic ++ u16_bytes (version_of movable))
+    next_header
 unfolding next_header
 header_reads = reads_as next_header
     (reads_text _ (λ c k. ap (λ l. magic ++ l) (append-nil (u16_bytes (version_of c))))
     (reads_then (λ (c : Bool). magic) (field (next_bytes 4)) _ (reads_field four_read) (λ four p0.
-    reads_tells (bytes_eq four magic) Magic _ (λ e. sym ((bytes_eq-Decides four magic).0 e)) (λ e. (bytes_eq-Decides four magic).1 (sym e))
+    reads_tells (bytes_eq four magic) Magic _ (λ e. sym ((bytes_eq-Decides four magic).0 e))
+    (λ e. (bytes_eq-Decides four magic).1 (sym e))
     (reads_then version_of (field (next_number 2)) _ (reads_field (number_reads 2)) (λ version p1.
-    reads_meaning version_meant version_of Version version version_there version_back (λ b e. (tt, e)) (λ b k. k.1))))))
+    reads_meaning version_meant version_of Version version version_there version_back (λ b e. (tt, e))
+    (λ b k. k.1))))))
     (λ c k p. tt)
     (λ c k p. (refl, (version_small c, tt)))
 
@@ -58,20 +77,33 @@ unfolding next_component spelling
 component_reads = reads_as next_component
     (reads_then (λ (c : ComponentFields). c.movable) next_header _ header_reads (λ movable p0.
     reads_then (λ (c : ComponentFields). c.name) (field next_name) _ (reads_field name_reads) (λ name p1.
-    reads_then (λ (c : ComponentFields). c.stack_base) (field next_address) _ (reads_field address_reads) (λ stack_base p2.
-    reads_then (λ (c : ComponentFields). c.closure) (field next_address) _ (reads_field address_reads) (λ closure p3.
-    reads_then (λ (c : ComponentFields). c.seals) (field next_stretch) _ (reads_field stretch_reads) (λ seals p4.
-    reads_then {A = Stretch} (λ (c : ComponentFields). record { base = c.linear.base; count = c.linear.count }) (field next_stretch) _ (reads_field stretch_reads) (λ linear p5.
-    reads_then (λ (c : ComponentFields). c.code_base) (field next_address) _ (reads_field address_reads) (λ code_base p6.
+    reads_then (λ (c : ComponentFields). c.stack_base) (field next_address) _ (reads_field address_reads)
+    (λ stack_base p2.
+    reads_then (λ (c : ComponentFields). c.closure) (field next_address) _ (reads_field address_reads)
+    (λ closure p3.
+    reads_then (λ (c : ComponentFields). c.seals) (field next_stretch) _ (reads_field stretch_reads)
+    (λ seals p4.
+    reads_then {A = Stretch}
+    (λ (c : ComponentFields). record { base = c.linear.base; count = c.linear.count })
+    (field next_stretch) _ (reads_field stretch_reads) (λ linear p5.
+    reads_then (λ (c : ComponentFields). c.code_base) (field next_address) _ (reads_field address_reads)
+    (λ code_base p6.
     reads_then (λ (c : ComponentFields). c.code) next_words _ words_reads (λ code p7.
-    reads_then (λ (c : ComponentFields). c.data_base) (field next_address) _ (reads_field address_reads) (λ data_base p8.
+    reads_then (λ (c : ComponentFields). c.data_base) (field next_address) _ (reads_field address_reads)
+    (λ data_base p8.
     reads_then (λ (c : ComponentFields). c.data_words) next_words _ words_reads (λ data_words p9.
-    reads_then (λ (c : ComponentFields). c.imports) (next_list 2 0 MOST_IMPORTS next_import) _ (list_read next_import import_reads 2 0 MOST_IMPORTS (omega arith)) (λ imports p10.
-    reads_then (λ (c : ComponentFields). c.exports) (next_list 2 0 MOST_EXPORTS next_export) _ (list_read next_export export_reads 2 0 MOST_EXPORTS (omega arith)) (λ exports p11.
-    reads_then (λ (c : ComponentFields). c.sites) (next_list 2 0 MOST_SITES next_site) _ (list_read next_site site_reads 2 0 MOST_SITES (omega arith)) (λ sites p12.
-    reads_then (λ (c : ComponentFields). c.fail_at) (field next_optional) _ (reads_field optional_reads) (λ fail_at p13.
-    reads_then (λ (c : ComponentFields). c.literal_at) (field next_optional) _ (reads_field optional_reads) (λ literal_at p14.
-    reads_then (λ (c : ComponentFields). c.rows) (next_list 4 0 MOST_ROWS next_row) _ (list_read next_row row_reads 4 0 MOST_ROWS (omega arith)) (λ rows p15.
+    reads_then (λ (c : ComponentFields). c.imports) (next_list 2 0 MOST_IMPORTS next_import) _
+    (list_read next_import import_reads 2 0 MOST_IMPORTS (omega arith)) (λ imports p10.
+    reads_then (λ (c : ComponentFields). c.exports) (next_list 2 0 MOST_EXPORTS next_export) _
+    (list_read next_export export_reads 2 0 MOST_EXPORTS (omega arith)) (λ exports p11.
+    reads_then (λ (c : ComponentFields). c.sites) (next_list 2 0 MOST_SITES next_site) _
+    (list_read next_site site_reads 2 0 MOST_SITES (omega arith)) (λ sites p12.
+    reads_then (λ (c : ComponentFields). c.fail_at) (field next_optional) _ (reads_field optional_reads)
+    (λ fail_at p13.
+    reads_then (λ (c : ComponentFields). c.literal_at) (field next_optional) _ (reads_field optional_reads)
+    (λ literal_at p14.
+    reads_then (λ (c : ComponentFields). c.rows) (next_list 4 0 MOST_ROWS next_row) _
+    (list_read next_row row_reads 4 0 MOST_ROWS (omega arith)) (λ rows p15.
     reads_done (record {
       name = name;
       stack_base = stack_base;
@@ -90,10 +122,96 @@ component_reads = reads_as next_component
       rows = rows;
       movable = movable;
     })
-    (λ c k. rw (← k.1, ← k.0.1, ← k.0.0.1, ← k.0.0.0.1, ← k.0.0.0.0.1, ← k.0.0.0.0.0.1, ← k.0.0.0.0.0.0.1, ← k.0.0.0.0.0.0.0.1, ← k.0.0.0.0.0.0.0.0.1, ← k.0.0.0.0.0.0.0.0.0.1, ← k.0.0.0.0.0.0.0.0.0.0.1, ← k.0.0.0.0.0.0.0.0.0.0.0.1, ← k.0.0.0.0.0.0.0.0.0.0.0.0.1, ← k.0.0.0.0.0.0.0.0.0.0.0.0.0.1, ← k.0.0.0.0.0.0.0.0.0.0.0.0.0.0.1, ← k.0.0.0.0.0.0.0.0.0.0.0.0.0.0.0.1) refl)
-    ((((((((((((((((tt, refl), refl), refl), refl), refl), refl), refl), refl), refl), refl), refl), refl), refl), refl), refl), refl))))))))))))))))))
-    (λ c k p. record { name = p.1.0; stack_base = p.1.1.0; closure = p.1.1.1.0; seals = p.1.1.1.1.0; linear = p.1.1.1.1.1.0; code_base = p.1.1.1.1.1.1.0; code = p.1.1.1.1.1.1.1.0; data_base = p.1.1.1.1.1.1.1.1.0; data_words = p.1.1.1.1.1.1.1.1.1.0; imports = (p.1.1.1.1.1.1.1.1.1.1.0.0.1, p.1.1.1.1.1.1.1.1.1.1.0.1); exports = (p.1.1.1.1.1.1.1.1.1.1.1.0.0.1, p.1.1.1.1.1.1.1.1.1.1.1.0.1); sites = (p.1.1.1.1.1.1.1.1.1.1.1.1.0.0.1, p.1.1.1.1.1.1.1.1.1.1.1.1.0.1); fail_at = p.1.1.1.1.1.1.1.1.1.1.1.1.1.0; literal_at = p.1.1.1.1.1.1.1.1.1.1.1.1.1.1.0; rows = (p.1.1.1.1.1.1.1.1.1.1.1.1.1.1.1.0.0.1, p.1.1.1.1.1.1.1.1.1.1.1.1.1.1.1.0.1) })
-    (λ c k p. (tt, (p.name, (p.stack_base, (p.closure, (p.seals, (p.linear, (p.code_base, (p.code, (p.data_base, (p.data_words, (((omega arith, p.imports.0), p.imports.1), (((omega arith, p.exports.0), p.exports.1), (((omega arith, p.sites.0), p.sites.1), (p.fail_at, (p.literal_at, (((omega arith, p.rows.0), p.rows.1), tt)))))))))))))))))
+    (λ c k. rw (
+      ← k.1,
+      ← k.0.1,
+      ← k.0.0.1,
+      ← k.0.0.0.1,
+      ← k.0.0.0.0.1,
+      ← k.0.0.0.0.0.1,
+      ← k.0.0.0.0.0.0.1,
+      ← k.0.0.0.0.0.0.0.1,
+      ← k.0.0.0.0.0.0.0.0.1,
+      ← k.0.0.0.0.0.0.0.0.0.1,
+      ← k.0.0.0.0.0.0.0.0.0.0.1,
+      ← k.0.0.0.0.0.0.0.0.0.0.0.1,
+      ← k.0.0.0.0.0.0.0.0.0.0.0.0.1,
+      ← k.0.0.0.0.0.0.0.0.0.0.0.0.0.1,
+      ← k.0.0.0.0.0.0.0.0.0.0.0.0.0.0.1,
+      ← k.0.0.0.0.0.0.0.0.0.0.0.0.0.0.0.1,
+    ) refl) (
+      (
+        (
+          (
+            (
+              (((((((((((tt, refl), refl), refl), refl), refl), refl), refl), refl), refl), refl), refl),
+              refl,
+            ),
+            refl,
+          ),
+          refl,
+        ),
+        refl,
+      ),
+      refl,
+    ))))))))))))))))))
+    (λ c k p. record {
+      name = p.1.0;
+      stack_base = p.1.1.0;
+      closure = p.1.1.1.0;
+      seals = p.1.1.1.1.0;
+      linear = p.1.1.1.1.1.0;
+      code_base = p.1.1.1.1.1.1.0;
+      code = p.1.1.1.1.1.1.1.0;
+      data_base = p.1.1.1.1.1.1.1.1.0;
+      data_words = p.1.1.1.1.1.1.1.1.1.0;
+      imports = (p.1.1.1.1.1.1.1.1.1.1.0.0.1, p.1.1.1.1.1.1.1.1.1.1.0.1);
+      exports = (p.1.1.1.1.1.1.1.1.1.1.1.0.0.1, p.1.1.1.1.1.1.1.1.1.1.1.0.1);
+      sites = (p.1.1.1.1.1.1.1.1.1.1.1.1.0.0.1, p.1.1.1.1.1.1.1.1.1.1.1.1.0.1);
+      fail_at = p.1.1.1.1.1.1.1.1.1.1.1.1.1.0;
+      literal_at = p.1.1.1.1.1.1.1.1.1.1.1.1.1.1.0;
+      rows = (p.1.1.1.1.1.1.1.1.1.1.1.1.1.1.1.0.0.1, p.1.1.1.1.1.1.1.1.1.1.1.1.1.1.1.0.1);
+    })
+    (λ c k p. (
+      tt,
+      (
+        p.name,
+        (
+          p.stack_base,
+          (
+            p.closure,
+            (
+              p.seals,
+              (
+                p.linear,
+                (
+                  p.code_base,
+                  (
+                    p.code,
+                    (
+                      p.data_base,
+                      (
+                        p.data_words,
+                        (
+                          ((omega arith, p.imports.0), p.imports.1),
+                          (
+                            ((omega arith, p.exports.0), p.exports.1),
+                            (
+                              ((omega arith, p.sites.0), p.sites.1),
+                              (p.fail_at, (p.literal_at, (((omega arith, p.rows.0), p.rows.1), tt))),
+                            ),
+                          ),
+                        ),
+                      ),
+                    ),
+                  ),
+                ),
+              ),
+            ),
+          ),
+        ),
+      ),
+    ))
 
 -- ---- whole files
 
@@ -126,7 +244,8 @@ refusal_is e is = absurd cc
 pub only_memory : (bytes : List ℕ) (e : FileFault) (c : ComponentFields) → Fails is_refusal e (decoded bytes)
     → Spells bytes c → e ≡ NoMemory
 unfolding decoded
-only_memory bytes e c f s = refusal_is e (whole.refused_whole component_reads Trailing is_refusal bytes e c f s)
+only_memory bytes e c f s =
+    refusal_is e (whole.refused_whole component_reads Trailing is_refusal bytes e c f s)
 
 pub only_one : (bytes : List ℕ) (c d : ComponentFields) → decoded bytes ≡ Ok c → Spells bytes d → c ≡ d
 unfolding decoded

@@ -1,11 +1,12 @@
 -- Lists that are read one item after another, each told the one before it.
-use Rattle.std.proofs.Common.{◌≡◌, ℕ, zero, suc, ◌+◌, ◌-◌, ◌<◌, ◌≤◌, List, [], ◌∷◌, ◌++◌, length, Option, Some, None}
+use Rattle.std.proofs.Common.{◌≡◌, ℕ, zero, suc, ◌+◌, ◌-◌, ◌<◌, ◌≤◌, List, [], ◌∷◌, ◌++◌, length, Option}
+use Rattle.std.proofs.Common.{Some, None}
 use Rattle.std.proofs.Common.{Result, Ok, refl, ap, ◌∙◌, arith, length-append}
 use Rattle.std.specs.Prelude.{slice_get, take, set}
 use Rattle.std.proofs.lemmas.List.{take_more_set, take_all}
 use Rattle.readers.specs.Readers.{Reader, items_from}
 use Rattle.readers.proofs.Items.{with_front, read_one, read_all}
-use Rattle.cap_words.specs.declared.bytes.cursor.FieldFault.{FieldFault}
+
 use Rattle.cap_words.specs.Reading.{Input}
 use Rattle.component_file.specs.declared.fault.FileFault.{FileFault}
 use Rattle.component_file.specs.Reading.{next_items}
@@ -14,7 +15,7 @@ use Rattle.component_file.specs.Reading.{next_items}
 abbrev pub newest : {A : Type 0} → List A → Option A
 newest items = slice_get items (length items - 1)
 
-get_pushed : {A : Type 0} (items : List A) (x : A) → slice_get (items ++ x ∷ []) (length items) ≡ Some x
+pub get_pushed : {A : Type 0} (items : List A) (x : A) → slice_get (items ++ x ∷ []) (length items) ≡ Some x
 get_pushed [] x = refl
 get_pushed (y ∷ items) x = get_pushed items x
 
@@ -31,17 +32,20 @@ any_before r zero before i = refl
 any_before r (suc n) before i = refl
 
 -- a list of so many places that is filled one place after another
-pub read_place : {A : Type 0} (r : Reader Input FileFault A) (items : List A) (count i : ℕ) (bytes after : Input) (x : A)
+pub read_place : {A : Type 0} (r : Reader Input FileFault A) (items : List A) (count i : ℕ)
+    (bytes after : Input) (x : A)
     (total : Result (List A × Input) FileFault) → i < count → i < length items → r bytes ≡ Ok (x, after)
     → with_front (take i items) (next_items (λ _. r) (count - i) None bytes) ≡ total
     → with_front (take (i + 1) (set items i x)) (next_items (λ _. r) (count - (i + 1)) None after) ≡ total
 read_place r items count i bytes after x total lt long read so_far =
-    let one = read_one (λ _ y. Some y) (λ _. r) (take i items) None count i bytes after x total lt read so_far in
+    let one = read_one (λ _ y. Some y) (λ _. r) (take i items) None count i bytes after x total lt read
+    so_far in
     rw (take_more_set items i x long, ← any_before r (count - (i + 1)) (Some x) after) one
 
 pub read_places : {A : Type 0} (r : Reader Input FileFault A) (items : List A) (count i : ℕ) (bytes : Input)
     (total : Result (List A × Input) FileFault) → count ≤ i → length items ≡ count
-    → with_front (take i items) (next_items (λ _. r) (count - i) None bytes) ≡ total → total ≡ Ok (items, bytes)
+    → with_front (take i items) (next_items (λ _. r) (count - i) None bytes) ≡ total
+    → total ≡ Ok (items, bytes)
 read_places r items count i bytes total le len so_far =
     read_all (λ _ y. Some y) (λ _. r) (take i items) None count i bytes total le so_far
     ∙ ap (λ l. Ok (l, bytes)) (take_all i items (omega (arith, len)))

@@ -7,7 +7,6 @@ use Rattle.cap_words.specs.declared.TheConstants.{LAST_PLACE, LONGEST_STRETCH}
 use Rattle.cap_words.specs.declared.Word.{Word}
 use Rattle.cap_words.specs.WordBytes.{WordFits, IsUnsealed}
 use Rattle.cap_words.specs.Names.{is_name}
-use Rattle.readers.specs.Readers.{Chained}
 use Rattle.component_file.specs.declared.TheConstants.{LAST_OFFSET, MOST_WORDS}
 use Rattle.component_file.specs.declared.TheConstants.{MOST_IMPORTS, MOST_EXPORTS, MOST_SITES, MOST_ROWS}
 use Rattle.component_file.specs.declared.component.Kind.{Kind}
@@ -29,7 +28,8 @@ name_lt a b = is_lt (slice_cmp nat_cmp a b)
 
 -- each item stands rightly behind the one before it
 abbrev pub Chain : {A : Type 0} → (Option A → A → Type 0) → Option A → List A → Type 0
-Chain P before items = Chained (λ _ x. Some x) P before items
+Chain P before [] = Unit {0}
+Chain P before (x ∷ xs) = P before x × Chain P (Some x) xs
 
 -- items whose order is free
 abbrev pub Each : {A : Type 0} → (A → Type 0) → List A → Type 0

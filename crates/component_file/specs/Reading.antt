@@ -12,7 +12,8 @@ use Rattle.readers.specs.Places.{here, read_whole}
 use Rattle.cap_words.specs.Reading.{Input, meant, within}
 use Rattle.cap_words.specs.Reading.{next_bytes, next_byte, next_number}
 use Rattle.cap_words.specs.WordReading.{next_in_space, next_unsealed}
-use Rattle.component_file.specs.declared.TheConstants.{LAST_OFFSET, MOST_WORDS, FIXED_VERSION, MOVABLE_VERSION}
+use Rattle.component_file.specs.declared.TheConstants.{LAST_OFFSET, MOST_WORDS, FIXED_VERSION}
+use Rattle.component_file.specs.declared.TheConstants.{MOVABLE_VERSION}
 use Rattle.component_file.specs.declared.TheConstants.{MOST_IMPORTS, MOST_EXPORTS, MOST_SITES, MOST_ROWS}
 use Rattle.component_file.specs.declared.fault.FileFault.{FileFault}
 use Rattle.component_file.specs.declared.fault.FileFault.TheVariants.{Magic, Version, Order, Trailing}
@@ -83,7 +84,8 @@ unfoldable pub next_kind : Reader Input FieldFault Kind
 next_kind = do
   at ← here
   tag ← next_byte
-  if tag == 4 then (next_offset >>= λ offset. done (Pc offset)) else unless_none (field_faults.BadField at) (plain_kind tag)
+  if tag == 4 then (next_offset >>= λ offset. done (Pc offset)) else unless_none (field_faults.BadField at)
+      (plain_kind tag)
 
 -- ---- lists
 

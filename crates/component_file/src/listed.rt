@@ -23,7 +23,8 @@ pub(crate) trait Listed: Drop {
 
     // The next item, behind the one before it.
     fn read(alloc: Global, before: Option<&Self>, bytes: &mut Cursor<'_>) -> Result<Self, FileFault>
-        ensures { GivesUnlessRefused is_refusal result bytes.new (next_item (option_copied before.entry) bytes.old) };
+        ensures { GivesUnlessRefused is_refusal result bytes.new
+            (next_item (option_copied before.entry) bytes.old) };
 }
 
 // A name, in memory of its own.
@@ -129,7 +130,8 @@ impl Listed for u32 {
 
 // The kinds of the registers 1 to 15.
 fn kinds(bytes: &mut Cursor<'_>) -> Result<[Kind; 15], FileFault>
-    ensures { GivesUnlessRefused is_refusal result bytes.new (next_items (λ _. field next_kind) 15 None bytes.old) }
+    ensures { GivesUnlessRefused is_refusal result bytes.new
+        (next_items (λ _. field next_kind) 15 None bytes.old) }
 {
     let mut kinds = [Kind::Any; 15];
     for kind in &mut kinds {

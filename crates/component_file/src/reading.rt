@@ -5,7 +5,8 @@ ghost use Rattle.component_file.specs.Spelling.{Spells};
 ghost use Rattle.component_file.specs.declared.component.ComponentFields.{ComponentFields};
 ghost use Rattle.component_file.specs.Fault.{is_refusal};
 ghost use Rattle.readers.specs.Answers.{GivesUnlessRefused, AnswersUnlessRefused};
-ghost use Rattle.component_file.specs.Reading.{field, next_header, version_meant, next_words, next_component, decoded};
+ghost use Rattle.component_file.specs.Reading.{field, next_header, version_meant, next_words, next_component};
+ghost use Rattle.component_file.specs.Reading.{decoded};
 
 use crate::component::{Area, Component, ComponentFields};
 use crate::fault::FileFault;

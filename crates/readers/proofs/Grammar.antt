@@ -1,4 +1,5 @@
--- Readers that take just what a spelling has, put together from readers of its parts. What is read from is Good, and
+-- Readers that take just what a spelling has, put together from readers of its parts. What is read from is
+-- Good, and
 -- so is what is left of it: bytes, say, are all below 256.
 use Rattle.std.proofs.Common.{◌≡◌, Bool, true, false, cond, ℕ, ◌+◌, ◌-◌, ◌<◌, ◌≤◌, take, inl, inr}
 use Rattle.std.proofs.Common.{List, [], ◌++◌, length, Option, Some, None, Result, Ok, Err}
@@ -12,7 +13,8 @@ use Rattle.readers.specs.Places.{Ahead, here}
 use Rattle.readers.proofs.Faults.{told_ok}
 
 -- a text was taken from the front
-pub record Took {S : Type 0} (Good : List S → Type 0) (i : Ahead S) (text : List S) (j : Ahead S) : Type 0 where
+pub record Took {S : Type 0} (Good : List S → Type 0) (i : Ahead S) (text : List S)
+    (j : Ahead S) : Type 0 where
   pub parts : i.rest ≡ text ++ j.rest
   pub at : j.at ≡ i.at + length text
   pub good : Good j.rest
@@ -32,26 +34,29 @@ pub record IsCut {S F A : Type 0} (short : ℕ → F) (at n : ℕ) (answer : Res
 
 -- Of a value of which K is known the reader reads the text. What it reads has P and is spelled so,
 -- and what has P and is spelled so it reads, whatever follows. Where the text is cut, it is short.
-pub record Reads {S F A : Type 0} (Good : List S → Type 0) (short : ℕ → F) (K P : A → Type 0) (text : A → List S)
+pub record Reads {S F A : Type 0} (Good : List S → Type 0) (short : ℕ → F) (K P : A → Type 0)
+    (text : A → List S)
     (r : Reader (Ahead S) F A) : Type 0 where
   pub takes : (i : Ahead S) (x : A) (j : Ahead S) → Good i.rest → r i ≡ Ok (x, j)
-    → K x × P x × Took Good i (text x) j
+      → K x × P x × Took Good i (text x) j
   pub again : (x : A) (at : ℕ) (rest : List S) → K x → P x
-    → r (before at (text x) rest) ≡ Ok (x, after at (text x) rest)
+      → r (before at (text x) rest) ≡ Ok (x, after at (text x) rest)
   pub cut : (x : A) (at n : ℕ) → K x → P x → n < length (text x)
-    → IsCut short at n (r (record { at = at; rest = take n (text x) }))
+      → IsCut short at n (r (record { at = at; rest = take n (text x) }))
 
 -- the whole of a value
 abbrev pub All : {A : Type 0} → A → Type 0
 All x = Unit {0}
 
 -- a read that went well went well before
-pub goes_on_ok : {I F A B : Type 0} (r : Result (A × I) F) (f : A → Reader I F B) (y : B × I) → goes_on r f ≡ Ok y
+pub goes_on_ok : {I F A B : Type 0} (r : Result (A × I) F) (f : A → Reader I F B) (y : B × I)
+    → goes_on r f ≡ Ok y
     → (x : A × I) × (r ≡ Ok x) × (f x.0 x.1 ≡ Ok y)
 goes_on_ok (Ok x) f y e = (x, refl, e)
 goes_on_ok (Err d) f y e = absurd cc
 
-pub ok_value : {I F A : Type 0} (x y : A) (i j : I) (e : (let r : Result (A × I) F = Ok (x, i) in r) ≡ Ok (y, j))
+pub ok_value : {I F A : Type 0} (x y : A) (i j : I)
+    (e : (let r : Result (A × I) F = Ok (x, i) in r) ≡ Ok (y, j))
     → (x ≡ y) × (i ≡ j)
 ok_value x y i j e =
     let both : (x, i) ≡ (y, j) = cc in
@@ -62,7 +67,8 @@ pub some_ok : {I F A : Type 0} (fault : F) (o : Option A) (i : I) (y : A) (j : I
 some_ok fault None i y j e = absurd cc
 some_ok fault (Some x) i y j e = let both = ok_value x y i j e in (ap Some both.0, both.1)
 
-pub given_ok : {I F A : Type 0} (r : Result A F) (i j : I) (x : A) → given r i ≡ Ok (x, j) → (r ≡ Ok x) × (i ≡ j)
+pub given_ok : {I F A : Type 0} (r : Result A F) (i j : I) (x : A) → given r i ≡ Ok (x, j)
+    → (r ≡ Ok x) × (i ≡ j)
 given_ok (Ok y) i j x e = let both = ok_value y x i j e in (ap Ok both.0, both.1)
 given_ok (Err e) i j x h = absurd cc
 
@@ -77,7 +83,8 @@ module _ {S : Type 0} {Good : List S → Type 0} where
   pub took_nothing : (i : Ahead S) → Good i.rest → Took Good i [] i
   took_nothing i good = record { parts = refl; at = omega arith; good = good }
 
-  pub took_then : (i j k : Ahead S) (s t : List S) → Took Good i s j → Took Good j t k → Took Good i (s ++ t) k
+  pub took_then : (i j k : Ahead S) (s t : List S) → Took Good i s j → Took Good j t k
+      → Took Good i (s ++ t) k
   took_then i j k s t p q = record {
     parts = p.parts ∙ ap (λ (x : List S). s ++ x) q.parts ∙ sym (append_assoc s t k.rest);
     at = omega (arith, p.at, q.at, length-append s t);
@@ -90,10 +97,12 @@ pub cut_goes_on : {S F A B : Type 0} {short : ℕ → F} {at n : ℕ} {answer : 
 cut_goes_on f c = record { inside = c.inside; within = c.within; is = ap (λ q. goes_on q f) c.is }
 
 -- two texts one behind the other, where the first may tell what the second is
-pub cut_then : {S F A B : Type 0} {short : ℕ → F} (r : Reader (Ahead S) F A) (f : A → Reader (Ahead S) F B) (a : A) (s t : List S)
+pub cut_then : {S F A B : Type 0} {short : ℕ → F} (r : Reader (Ahead S) F A) (f : A → Reader (Ahead S) F B)
+    (a : A) (s t : List S)
     (at n : ℕ) → (n < length s → IsCut short at n (r (record { at = at; rest = take n s })))
     → ((rest : List S) → r (before at s rest) ≡ Ok (a, after at s rest))
-    → ((k : ℕ) → k < length t → IsCut short (at + length s) k (f a (record { at = at + length s; rest = take k t })))
+    → ((k : ℕ) → k < length t → IsCut short (at + length s) k
+    (f a (record { at = at + length s; rest = take k t })))
     → n < length (s ++ t) → IsCut short at n (goes_on (r (record { at = at; rest = take n (s ++ t) })) f)
 cut_then {short = short} r f a s t at n first again second lt =
     elim (cases_lt n (length s)) [
@@ -103,7 +112,8 @@ cut_then {short = short} r f a s t at n first again second lt =
       | inr more ↦
           let k = n - length s in
           let text : take n (s ++ t) ≡ s ++ take k t =
-              ap (λ m. take m (s ++ t)) (let m : n ≡ length s + k = omega arith in m) ∙ take-append-add s t k in
+          ap (λ m. take m (s ++ t)) (let m : n ≡ length s + k = omega arith in m)
+          ∙ take-append-add s t k in
           let two = second k (omega (arith, length-append s t)) in
           record {
             inside = length s + two.inside;
@@ -119,9 +129,9 @@ pub again_then : {S F A B : Type 0} (r : Reader (Ahead S) F A) (f : A → Reader
     → goes_on (r (before at (s ++ t) rest)) f ≡ Ok (b, after at (s ++ t) rest)
 again_then r f a b s t at rest one two =
     let near : before at (s ++ t) rest ≡ before at s (t ++ rest) =
-        ap (λ l. record { at = at; rest = l }) (append_assoc s t rest) in
+    ap (λ l. record { at = at; rest = l }) (append_assoc s t rest) in
     let there : after (at + length s) t rest ≡ after at (s ++ t) rest =
-        ap (λ n. record { at = n; rest = rest }) (omega (arith, length-append s t)) in
+    ap (λ n. record { at = n; rest = rest }) (omega (arith, length-append s t)) in
     ap (λ i. goes_on (r i) f) near ∙ ap (λ q. goes_on q f) one ∙ two ∙ ap (λ j. Ok (b, j)) there
 
 -- ---- ways to join readers
@@ -141,12 +151,14 @@ module _ {S F : Type 0} {Good : List S → Type 0} {short : ℕ → F} where
         let took = took_then i x.0.1 k (s x.0.0) (t c) a.2 b.2 in
         (b.0.0, (subst PA is a.1, b.1), subst (λ v. Took Good i (s v ++ t c) k) is took);
     again = λ c at rest known fits.
-        again_then r f (field c) c (s (field c)) (t c) at rest (first.again (field c) at (t c ++ rest) tt fits.0)
+        again_then r f (field c) c (s (field c)) (t c) at rest
+        (first.again (field c) at (t c ++ rest) tt fits.0)
         ((second (field c) fits.0).again c (at + length (s (field c))) rest (known, refl) fits.1);
     cut = λ c at n known fits lt.
         cut_then r f (field c) (s (field c)) (t c) at n (λ less. first.cut (field c) at n tt fits.0 less)
         (λ rest. first.again (field c) at rest tt fits.0)
-        (λ k less. (second (field c) fits.0).cut c (at + length (s (field c))) k (known, refl) fits.1 less) lt;
+        (λ k less. (second (field c) fits.0).cut c (at + length (s (field c))) k (known, refl) fits.1 less)
+        lt;
   }
 
   -- all of it is known
@@ -245,7 +257,7 @@ module _ {S F : Type 0} {Good : List S → Type 0} {short : ℕ → F} where
         let g = there a.0 a.2 a.3 in
         let R = r >>= λ a. done (made a) in
         let read : R (before at (s a.0) rest) ≡ Ok (made a.0, after at (s a.0) rest) =
-            ap (λ o. goes_on o (λ a. done (made a))) (h.again a.0 at rest a.2 a.3) in
+        ap (λ o. goes_on o (λ a. done (made a))) (h.again a.0 at rest a.2 a.3) in
         subst (λ c. R (before at (t c) rest) ≡ Ok (c, after at (t c) rest)) a.1
         (subst (λ l. R (before at l rest) ≡ Ok (made a.0, after at l rest)) (sym g.2) read);
     cut = λ b at n k q.
@@ -253,9 +265,10 @@ module _ {S F : Type 0} {Good : List S → Type 0} {short : ℕ → F} where
         let g = there a.0 a.2 a.3 in
         let R = r >>= λ a. done (made a) in
         let one : n < length (s a.0) → IsCut short at n (R (record { at = at; rest = take n (s a.0) })) =
-            λ lt. cut_goes_on (λ a. done (made a)) (h.cut a.0 at n a.2 a.3 lt) in
+        λ lt. cut_goes_on (λ a. done (made a)) (h.cut a.0 at n a.2 a.3 lt) in
         subst (λ c. n < length (t c) → IsCut short at n (R (record { at = at; rest = take n (t c) }))) a.1
-        (subst (λ l. n < length l → IsCut short at n (R (record { at = at; rest = take n l }))) (sym g.2) one);
+        (subst (λ l. n < length l → IsCut short at n (R (record { at = at; rest = take n l })))
+        (sym g.2) one);
   }
 
   -- a choice by a test
@@ -285,7 +298,8 @@ module _ {S F : Type 0} {Good : List S → Type 0} {short : ℕ → F} where
         let x = holds_ok b fault f i (c, j) e in
         let g = h.takes i c j good x.1 in
         (g.0, (is c g.0 ∙ x.0, g.1), g.2);
-    again = λ c at rest k p. let passed : b ≡ true = sym (is c k) ∙ p.0 in rw passed (h.again c at rest k p.1);
+    again = λ c at rest k p. let passed : b ≡ true = sym (is c k) ∙ p.0 in
+        rw passed (h.again c at rest k p.1);
     cut = λ c at n k p lt. let passed : b ≡ true = sym (is c k) ∙ p.0 in rw passed (h.cut c at n k p.1 lt);
   }
 
@@ -303,7 +317,8 @@ module _ {S F : Type 0} {Good : List S → Type 0} {short : ℕ → F} where
   }
 
   -- what was read, as what it means
-  pub reads_meaning : {A B : Type 0} {K : B → Type 0} (meaning : A → Option B) (stands : B → A) (fault : F) (a : A)
+  pub reads_meaning : {A B : Type 0} {K : B → Type 0} (meaning : A → Option B) (stands : B → A) (fault : F)
+      (a : A)
       → ((a : A) (b : B) → meaning a ≡ Some b → stands b ≡ a) → ((b : B) → meaning (stands b) ≡ Some b)
       → ((b : B) → stands b ≡ a → K b) → ((b : B) → K b → stands b ≡ a)
       → Reads Good short K All (λ b. []) (unless_none fault (meaning a))
@@ -320,7 +335,8 @@ module _ {S F : Type 0} {Good : List S → Type 0} {short : ℕ → F} where
 
 -- ---- faults of another layer
 
-pub reads_telling : {S E F A : Type 0} {Good : List S → Type 0} {early : ℕ → E} {short : ℕ → F} {K P : A → Type 0}
+pub reads_telling : {S E F A : Type 0} {Good : List S → Type 0} {early : ℕ → E} {short : ℕ → F} {K P : A
+    → Type 0}
     {t : A → List S} (told : E → F) (r : Reader (Ahead S) E A) → ((n : ℕ) → told (early n) ≡ short n)
     → Reads Good early K P t r → Reads Good short K P t (telling told r)
 unfolding telling

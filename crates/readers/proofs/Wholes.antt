@@ -1,5 +1,6 @@
 -- Texts that are read whole.
-use Rattle.std.proofs.Common.{◌≡◌, ℕ, ◌+◌, ◌<◌, ◌≤◌, Bool, true, false, cond, eqb, List, [], ◌∷◌, ◌++◌, length, take}
+use Rattle.std.proofs.Common.{◌≡◌, ℕ, ◌+◌, ◌<◌, ◌≤◌, Bool, true, false, cond, eqb, List, [], ◌∷◌, ◌++◌}
+use Rattle.std.proofs.Common.{length, take}
 use Rattle.std.proofs.Common.{Result, Ok, Err, refl, sym, ap, ◌∙◌, append-nil, arith}
 use Rattle.std.proofs.lemmas.Bool.{eqb-true, ne_eqb}
 use Rattle.std.proofs.lemmas.List.{nil_from_length}
@@ -9,12 +10,14 @@ use Rattle.readers.specs.Places.{Ahead, finished, read_whole}
 use Rattle.readers.proofs.Faults.{only_refusal}
 use Rattle.readers.proofs.Grammar.{Reads, All}
 
-ended_ok : {F A : Type 0} (b : Bool) (x y : A) (fault : F) → cond b (Ok x) (Err fault) ≡ Ok y → (b ≡ true) × (x ≡ y)
+ended_ok : {F A : Type 0} (b : Bool) (x y : A) (fault : F) → cond b (Ok x) (Err fault) ≡ Ok y
+    → (b ≡ true) × (x ≡ y)
 ended_ok true x y fault e = (refl, cc)
 ended_ok false x y fault e = absurd cc
 
 -- what was read with nothing behind it
-finished_ok : {S F A : Type 0} (trailing : ℕ → F) (r : Result (A × Ahead S) F) (x : A) → finished trailing r ≡ Ok x
+finished_ok : {S F A : Type 0} (trailing : ℕ → F) (r : Result (A × Ahead S) F) (x : A)
+    → finished trailing r ≡ Ok x
     → (j : Ahead S) × (r ≡ Ok (x, j)) × (length j.rest ≡ 0)
 finished_ok trailing (Err e) x h = absurd cc
 finished_ok trailing (Ok y) x h =
@@ -24,7 +27,8 @@ finished_ok trailing (Ok y) x h =
 module _ {S F A : Type 0} {Good : List S → Type 0} {short : ℕ → F} {P : A → Type 0} {t : A → List S}
     {r : Reader (Ahead S) F A} (h : Reads Good short All P t r) (trailing : ℕ → F) where
   -- what is read is spelled so
-  pub found_whole : (text : List S) (x : A) → Good text → read_whole trailing r text ≡ Ok x → P x × (text ≡ t x)
+  pub found_whole : (text : List S) (x : A) → Good text → read_whole trailing r text ≡ Ok x
+      → P x × (text ≡ t x)
   found_whole text x good e =
       let f = finished_ok trailing (r (record { at = 0; rest = text })) x e in
       let g = h.takes (record { at = 0; rest = text }) x f.0 good f.1 in

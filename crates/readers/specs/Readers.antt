@@ -1,4 +1,5 @@
--- Reading from left to right: a reader takes something from the front of an input, or says what is wrong with it.
+-- Reading from left to right: a reader takes something from the front of an input, or says what is wrong with
+-- it.
 use Rattle.std.specs.Prelude.{ℕ, zero, suc, Bool, true, false, List, [], ◌∷◌, Option, Some, None}
 use Rattle.std.specs.Prelude.{Result, Ok, Err}
 
@@ -49,14 +50,10 @@ telling told r i = told_by told (r i)
 -- ---- lists
 
 -- so many items one after another; each is told what came of those before it
-unfoldable pub items_from : {I F A B : Type 0} → (B → A → B) → (B → Reader I F A) → ℕ → B → Reader I F (List A)
+unfoldable pub items_from : {I F A B : Type 0} → (B → A → B) → (B → Reader I F A) → ℕ → B
+    → Reader I F (List A)
 items_from next item zero before = done []
 items_from next item (suc n) before = do
   first ← item before
   others ← items_from next item n (next before first)
   done (first ∷ others)
-
--- each item is right behind those before it
-abbrev pub Chained : {A B : Type 0} → (B → A → B) → (B → A → Type 0) → B → List A → Type 0
-Chained next P before [] = Unit {0}
-Chained next P before (x ∷ xs) = P before x × Chained next P (next before x) xs

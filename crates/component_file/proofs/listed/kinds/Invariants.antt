@@ -6,4 +6,6 @@ use Rattle.component_file.proofs.listed.kinds.Given as goal
 abbrev pub invariant-loop-kind : goal.invariant-loop-kind
 invariant-loop-kind l =
     (length l.kind-items ≡ 15)
-    × (with_front (take l.kind-index l.kind-items) (next_items (λ _. field next_kind) (15 - l.kind-index) None l.bytes) ≡ next_items (λ _. field next_kind) 15 None l.fn.bytes)
+    × (with_front (take l.kind-index l.kind-items)
+    (next_items (λ _. field next_kind) (15 - l.kind-index) None l.bytes) ≡ next_items
+    (λ _. field next_kind) 15 None l.fn.bytes)
