@@ -21,7 +21,6 @@ use Rattle.component_file.specs.Limits.{Each, IsComponent}
 use Rattle.asm_labels.specs.declared.labels.Section.{Section}
 use Rattle.asm_labels.specs.declared.labels.Section.TheVariants.{Code, Data}
 use Rattle.asm_labels.specs.declared.labels.Label.{Label}
-
 use Rattle.asm_labels.specs.Labels.{AreWithin, label_of, is_in, offset_in}
 use Rattle.asm_labels.specs.Patch.{with_immediate, instr_in, with_instr_at}
 use Rattle.asm_labels.specs.References.{Reference, value_of, word_resolved, resolved, IsReady, AreReady}

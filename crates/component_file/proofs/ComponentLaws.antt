@@ -4,7 +4,6 @@ use Rattle.std.proofs.Common.{List, ◌∷◌, ◌++◌, length, Ok, Err, refl, 
 use Rattle.std.proofs.Common.{arith, take}
 use Rattle.std.specs.Str.{bytes_eq}
 use Rattle.std.proofs.lemmas.Bool.{eqb-true}
-
 use Rattle.std.proofs.lemmas.Slice.Eq.{bytes_eq-Decides}
 use Rattle.cap_words.specs.Stretch.{Stretch}
 use Rattle.cap_words.specs.Reading.{next_bytes, next_number}
@@ -15,7 +14,6 @@ use Rattle.readers.proofs.Wholes as whole
 use Rattle.cap_words.proofs.ByteReads.{IsBytes, Reads}
 use Rattle.cap_words.proofs.Fields.{number_reads}
 use Rattle.component_file.specs.declared.TheConstants.{MOST_IMPORTS, MOST_EXPORTS, MOST_SITES, MOST_ROWS}
-
 use Rattle.component_file.specs.declared.fault.FileFault.{FileFault}
 use Rattle.component_file.specs.declared.fault.FileFault.TheVariants.{Magic, Version, Short}
 use Rattle.component_file.specs.declared.fault.FileFault.TheVariants.{Trailing, NoMemory}

@@ -17,7 +17,6 @@ use Rattle.readers.proofs.Grammar.{reads_case, reads_if}
 use Rattle.cap_words.proofs.ByteReads.{Took, Reads}
 use Rattle.cap_words.proofs.Fields.{bytes_take, bytes_again, bytes_cut, byte_reads, meant_reads, within_reads}
 use Rattle.component_file.specs.declared.TheConstants.{LAST_OFFSET}
-
 use Rattle.component_file.specs.declared.fault.FileFault.TheVariants.{Short}
 use Rattle.component_file.specs.declared.component.Kind.{Kind}
 use Rattle.component_file.specs.declared.component.Kind.TheVariants.{Any, Int, DataCap, Stk, Pc, Top}

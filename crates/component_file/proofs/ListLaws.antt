@@ -4,7 +4,6 @@ use Rattle.std.proofs.Common.{length, Option, Some, None, refl, ap}
 use Rattle.std.proofs.Common.{append-nil, arith}
 use Rattle.std.specs.Prelude.{IsTrue, nat_lt, option_map}
 use Rattle.std.specs.List.{flat_map}
-
 use Rattle.cap_words.specs.declared.Word.{Word}
 use Rattle.cap_words.specs.WordBytes.{word_bytes_of, WordFits, IsUnsealed}
 use Rattle.readers.specs.Readers.{Reader, ◌>>=◌}

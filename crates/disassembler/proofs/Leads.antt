@@ -4,7 +4,6 @@ use Rattle.std.proofs.Common.{drop, Ok, refl, sym, ap, ◌∙◌, subst, append_
 use Rattle.std.proofs.Common.{length-append, lit≤}
 use Rattle.std.specs.Prelude.{◌==◌}
 use Rattle.std.specs.List.{slice_split, flat_map}
-
 use Rattle.std.proofs.lemmas.List.{map-append}
 use Rattle.std.proofs.lemmas.List.Splits.{slice_split_at, length-slice_split}
 use Rattle.std.proofs.lemmas.Bool.{ne_eqb}

@@ -4,7 +4,6 @@ use Rattle.std.proofs.Common.{Option, Some, None, refl, sym, ap, ◌∙◌, subs
 use Rattle.std.proofs.Common.{length-append, lit≤}
 use Rattle.std.specs.Prelude.{pos, nat_lt, decimal, IfSome}
 use Rattle.std.specs.List.{flat_map, AllByRecursion}
-
 use Rattle.std.proofs.lemmas.Bool.{lt-ltb}
 use Rattle.text_scan.proofs.Printed.{Form, name_form, integer_forms, IsRest, rest_none, rest_more}
 use Rattle.cap_words.specs.declared.Word.{Word}

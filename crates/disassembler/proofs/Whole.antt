@@ -5,7 +5,6 @@ use Rattle.std.proofs.Common.{arith, lit≤, lit<}
 use Rattle.std.specs.Prelude.{Bool, pos, ◌==◌, nat_lt, nat_le, not, ◌&&◌, decimal}
 use Rattle.std.specs.List.{flat_map}
 use Rattle.std.proofs.lemmas.Bool.{le-leb, ne_eqb}
-
 use Rattle.text_scan.specs.Tokens.{scanned}
 use Rattle.text_scan.proofs.Printed.{name_form, integer_forms, rest_none, rest_more}
 use Rattle.cap_words.specs.Stretch.{Stretch}

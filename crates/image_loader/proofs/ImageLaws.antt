@@ -4,7 +4,6 @@ use Rattle.std.proofs.Common.{length, Ok, Err, refl, sym, ap, append-nil, arith,
 use Rattle.std.specs.List.{AllByRecursion}
 use Rattle.std.specs.Str.{bytes_eq}
 use Rattle.std.proofs.lemmas.Bool.{eqb-true, eq-eqb}
-
 use Rattle.std.proofs.lemmas.Slice.Eq.{bytes_eq-Decides}
 use Rattle.cap_words.specs.Reading.{next_bytes, next_number}
 use Rattle.readers.proofs.Grammar.{All, reads_then, reads_last, reads_done, reads_as, reads_text}
@@ -17,7 +16,6 @@ use Rattle.component_file.proofs.FieldLaws.{four_read}
 use Rattle.component_linker.specs.declared.TheConstants.{MOST_PARTS}
 use Rattle.component_linker.specs.Parts.{IsPart}
 use Rattle.image_loader.specs.declared.TheConstants.{VERSION}
-
 use Rattle.image_loader.specs.declared.fault.ImageFault.TheVariants.{Magic, Version, Short, Trailing}
 use Rattle.image_loader.specs.declared.reading.Image.{Image}
 use Rattle.image_loader.specs.Image.{IsImage, magic, image_bytes}

@@ -1,6 +1,5 @@
 -- Readers that take just what a spelling has, put together from readers of its parts. What is read from is
--- Good, and
--- so is what is left of it: bytes, say, are all below 256.
+-- Good, and so is what is left of it: bytes, say, are all below 256.
 use Rattle.std.proofs.Common.{◌≡◌, Bool, true, false, cond, ℕ, ◌+◌, ◌-◌, ◌<◌, ◌≤◌, take, inl, inr}
 use Rattle.std.proofs.Common.{List, [], ◌++◌, length, Option, Some, None, Result, Ok, Err}
 use Rattle.std.proofs.Common.{refl, sym, ap, subst, ◌∙◌, append_assoc, arith, length-append, append-nil}
@@ -35,8 +34,7 @@ pub record IsCut {S F A : Type 0} (short : ℕ → F) (at n : ℕ) (answer : Res
 -- Of a value of which K is known the reader reads the text. What it reads has P and is spelled so,
 -- and what has P and is spelled so it reads, whatever follows. Where the text is cut, it is short.
 pub record Reads {S F A : Type 0} (Good : List S → Type 0) (short : ℕ → F) (K P : A → Type 0)
-    (text : A → List S)
-    (r : Reader (Ahead S) F A) : Type 0 where
+    (text : A → List S) (r : Reader (Ahead S) F A) : Type 0 where
   pub takes : (i : Ahead S) (x : A) (j : Ahead S) → Good i.rest → r i ≡ Ok (x, j)
       → K x × P x × Took Good i (text x) j
   pub again : (x : A) (at : ℕ) (rest : List S) → K x → P x
@@ -50,14 +48,12 @@ All x = Unit {0}
 
 -- a read that went well went well before
 pub goes_on_ok : {I F A B : Type 0} (r : Result (A × I) F) (f : A → Reader I F B) (y : B × I)
-    → goes_on r f ≡ Ok y
-    → (x : A × I) × (r ≡ Ok x) × (f x.0 x.1 ≡ Ok y)
+    → goes_on r f ≡ Ok y → (x : A × I) × (r ≡ Ok x) × (f x.0 x.1 ≡ Ok y)
 goes_on_ok (Ok x) f y e = (x, refl, e)
 goes_on_ok (Err d) f y e = absurd cc
 
 pub ok_value : {I F A : Type 0} (x y : A) (i j : I)
-    (e : (let r : Result (A × I) F = Ok (x, i) in r) ≡ Ok (y, j))
-    → (x ≡ y) × (i ≡ j)
+    (e : (let r : Result (A × I) F = Ok (x, i) in r) ≡ Ok (y, j)) → (x ≡ y) × (i ≡ j)
 ok_value x y i j e =
     let both : (x, i) ≡ (y, j) = cc in
     (ap (λ (p : _ × _). p.0) both, ap (λ (p : _ × _). p.1) both)

@@ -1,7 +1,6 @@
 -- Items that are read one after another, and a loop that reads them.
 use Rattle.std.proofs.Common.{◌≡◌, ℕ, zero, suc, ◌+◌, ◌-◌, ◌<◌, ◌≤◌, Bool, List, [], ◌∷◌, ◌++◌, length, take}
 use Rattle.std.proofs.Common.{Result, Ok, Err, refl, sym, ap, subst, ◌∙◌, append_assoc, append-nil, arith}
-
 use Rattle.std.specs.List.{flat_map}
 use Rattle.readers.specs.Readers.{Reader, goes_on, ◌>>=◌, done, items_from}
 use Rattle.readers.specs.Answers.{Fails}

@@ -1,4 +1,4 @@
-use Rattle.std.proofs.Common.{◌≡◌, subst, arith, rules, Ok}
+use Rattle.std.proofs.Common.{◌≡◌, ◌+◌, subst, arith, rules, Ok}
 use Rattle.std.proofs.lemmas.Result.{err_from_is_err_and}
 use Rattle.readers.specs.Answers.{Fails}
 use Rattle.readers.proofs.Items.{read_one, read_none, read_all}
