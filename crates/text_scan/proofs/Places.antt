@@ -73,7 +73,7 @@ slice_here whole first rest at h =
     let n : at + length first - at ≡ length first = omega arith in
     ap (λ k. take k (drop at whole)) n ∙ ap (take (length first)) h ∙ take-append_seam first rest
 
-next_here : (whole first rest : List ℕ) (at : ℕ) → drop at whole ≡ first ++ rest
+pub next_here : (whole first rest : List ℕ) (at : ℕ) → drop at whole ≡ first ++ rest
     → drop (at + length first) whole ≡ rest
 next_here whole first rest at h = sym (drop-drop (length first) at whole) ∙ ap (drop (length first)) h
     ∙ drop-append_seam first rest
