@@ -1,4 +1,3 @@
-mod FaultLemmas
 mod KindLemmas
 mod LineLemmas
 pub mod Again

@@ -10,8 +10,10 @@ use Rattle.asm_fields.specs.declared.directives.Item.{Item}
 use Rattle.asm_fields.specs.declared.directives.WordKind.{WordKind}
 use Rattle.asm_fields.specs.declared.directives.Directive.{Directive}
 use Rattle.asm_fields.specs.declared.directives.Directive.TheVariants.{Of, Word}
-use Rattle.asm_fields.specs.Fault.{AnswersAs}
-use Rattle.asm_fields.specs.Fields.{Input, Reader, ◌>>=◌, done, place, unless_none, holds, kind_next}
+use Rattle.readers.specs.Answers.{AnswersAs}
+use Rattle.asm_fields.specs.Fault.{is_refusal}
+use Rattle.readers.specs.Readers.{Reader, ◌>>=◌, done, unless_none, holds}
+use Rattle.asm_fields.specs.Fields.{Input, place, kind_next}
 use Rattle.asm_fields.specs.Fields.{is_name_token, is_labelled, is_empty, name_or, name_at, proper_name_at}
 use Rattle.asm_fields.specs.Fields.{sign_at, dot, colon, end_at}
 use Rattle.asm_fields.specs.Directives.{directive_named}
@@ -26,7 +28,7 @@ use Rattle.asm_draft.specs.Operands.{operands_in}
 
 -- a label and its colon, in code or data, of a name that no label has yet; a word must follow it. Of two
 -- faults at one place the one of the lower number is told
-unfoldable pub label_in : Draft → Reader Draft
+unfoldable pub label_in : Draft → Reader Input AsmFault Draft
 label_in d = do
   at ← place
   name ← proper_name_at
@@ -39,7 +41,7 @@ label_in d = do
   _ ← holds (not none) (Operand end)
   done (with_label name section d)
 
-abbrev pub label_if : Bool → Draft → Reader Draft
+abbrev pub label_if : Bool → Draft → Reader Input AsmFault Draft
 label_if labelled d = if labelled then label_in d else done d
 
 -- ---- words
@@ -49,7 +51,7 @@ is_code (Some Code) = true
 is_code _ = false
 
 -- an instruction, which stands in the code alone
-unfoldable pub instr_in : Draft → Reader Draft
+unfoldable pub instr_in : Draft → Reader Input AsmFault Draft
 instr_in d = do
   at ← place
   name ← name_at
@@ -59,7 +61,7 @@ instr_in d = do
   done (with_instr x.0 x.1 d)
 
 -- a word that a directive writes, which stands at this place
-unfoldable pub word_in : ℕ → WordKind → Draft → Reader Draft
+unfoldable pub word_in : ℕ → WordKind → Draft → Reader Input AsmFault Draft
 word_in at kind d = do
   section ← unless_none (Section at) (section_of d.last)
   _ ← holds (has_word_room section d) (Section at)
@@ -74,7 +76,7 @@ abbrev pub may_stand : Bool → Item → Draft → Bool
 may_stand labelled item d = not labelled && may_follow d.last item && may_end d && has_room item d.tables
 
 -- an item that stands at this place
-unfoldable pub item_in : ℕ → Bool → Item → Draft → Reader Draft
+unfoldable pub item_in : ℕ → Bool → Item → Draft → Reader Input AsmFault Draft
 item_in at labelled item d = do
   _ ← holds (may_stand labelled item d) (Section at)
   new ← operands_in at item (record d { last = Some item })
@@ -83,18 +85,18 @@ item_in at labelled item d = do
 
 -- a `.` and the name of a directive; what begins a line, behind its label, and is neither that nor the name
 -- of an instruction is unknown
-unfoldable pub directive_from : ℕ → Reader Directive
+unfoldable pub directive_from : ℕ → Reader Input AsmFault Directive
 directive_from at = do
   dotted ← sign_at dot
   _ ← holds dotted (Unknown at)
   name ← name_or (Unknown at)
   unless_none (Unknown at) (directive_named name)
 
-abbrev pub directed : ℕ → Bool → Directive → Draft → Reader Draft
+abbrev pub directed : ℕ → Bool → Directive → Draft → Reader Input AsmFault Draft
 directed at labelled (Word kind) d = word_in at kind d
 directed at labelled (Of item) d = item_in at labelled item d
 
-unfoldable pub directive_in : Bool → Draft → Reader Draft
+unfoldable pub directive_in : Bool → Draft → Reader Input AsmFault Draft
 directive_in labelled d = do
   at ← place
   directive ← directive_from at
@@ -102,12 +104,12 @@ directive_in labelled d = do
 
 -- ---- lines
 
-unfoldable pub behind_label : Bool → Draft → Reader Draft
+unfoldable pub behind_label : Bool → Draft → Reader Input AsmFault Draft
 behind_label labelled d i =
     (if is_name_token (kind_next i.rest) then instr_in d else directive_in labelled d) i
 
 -- a line that isn't empty
-unfoldable pub line_in : Draft → Reader Draft
+unfoldable pub line_in : Draft → Reader Input AsmFault Draft
 line_in d i = (label_if (is_labelled i) d >>= behind_label (is_labelled i)) i
 
 -- ---- what a call answers
@@ -115,7 +117,7 @@ line_in d i = (label_if (is_labelled i) d >>= behind_label (is_labelled i)) i
 -- the value that is read, the new draft, and what is left of the line, unless memory was refused
 abbrev pub MakesAs : {A : Type 0}
     → Result A AsmFault → Draft → Input → Result ((A × Draft) × Input) AsmFault → Type 0
-MakesAs answer new left read = AnswersAs (λ x. ((x, new), left)) answer read
+MakesAs answer new left read = AnswersAs is_refusal (λ x. ((x, new), left)) answer read
 
 abbrev pub Makes : Result (Unit {0}) AsmFault → Draft → Input → Result (Draft × Input) AsmFault → Type 0
-Makes answer new left read = AnswersAs (λ x. (new, left)) answer read
+Makes answer new left read = AnswersAs is_refusal (λ x. (new, left)) answer read

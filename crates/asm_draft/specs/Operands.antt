@@ -7,9 +7,11 @@ use Rattle.component_file.specs.declared.component.Kind.TheVariants as kind
 use Rattle.asm_labels.specs.declared.labels.Section.{Section}
 use Rattle.asm_labels.specs.declared.labels.Section.TheVariants.{Code, Data}
 use Rattle.asm_labels.specs.Labels.{offset_of}
+use Rattle.asm_fields.specs.declared.fault.AsmFault.{AsmFault}
 use Rattle.asm_fields.specs.declared.directives.Item.{Item}
 use Rattle.asm_fields.specs.declared.directives.Item.TheVariants as item
-use Rattle.asm_fields.specs.Fields.{Reader, ◌>>=◌, done, proper_name_at}
+use Rattle.readers.specs.Readers.{Reader, ◌>>=◌, done}
+use Rattle.asm_fields.specs.Fields.{Input, proper_name_at}
 use Rattle.asm_fields.specs.Operands.{address_at, stretch_at, Offset, Number, Label, offset_at, shared_at}
 use Rattle.asm_fields.specs.Operands.{KindField, Plain, Pc, kind_at}
 use Rattle.asm_draft.specs.Tables.{with_import, with_export, with_site, with_row}
@@ -17,7 +19,8 @@ use Rattle.asm_draft.specs.Draft.{Draft, with_header, with_tables}
 
 -- ---- offsets
 
--- the number of an offset. All labels stand before the tables, so a label there is known, or missing: then it
+-- the number of an offset. All labels stand before the tables, so a label there is known, or missing: then
+-- it
 -- is 0 for now. Either way the reference is kept
 abbrev pub offset_found : Section → Offset → Draft → ℕ × Draft
 offset_found section (Number n) d = (n, d)
@@ -28,7 +31,7 @@ offset_found section (Label at name) d = (
   },
 )
 
-unfoldable pub offset_in : Section → Draft → Reader (ℕ × Draft)
+unfoldable pub offset_in : Section → Draft → Reader Input AsmFault (ℕ × Draft)
 offset_in section d = offset_at >>= λ o. done (offset_found section o d)
 
 -- ---- rows
@@ -37,11 +40,11 @@ abbrev pub kind_found : KindField → Draft → Kind × Draft
 kind_found (Plain k) d = (k, d)
 kind_found (Pc o) d = (kind.Pc (offset_found Code o d).0, (offset_found Code o d).1)
 
-unfoldable pub kind_in : Draft → Reader (Kind × Draft)
+unfoldable pub kind_in : Draft → Reader Input AsmFault (Kind × Draft)
 kind_in d = kind_at >>= λ k. done (kind_found k d)
 
 -- so many kinds
-unfoldable pub kinds_in : ℕ → Draft → Reader (List Kind × Draft)
+unfoldable pub kinds_in : ℕ → Draft → Reader Input AsmFault (List Kind × Draft)
 kinds_in zero d = done ([], d)
 kinds_in (suc n) d = do
   first ← kind_in d
@@ -54,7 +57,7 @@ abbrev pub seals_of : Area → Stretch
 seals_of a = record { base = a.base; count = a.count }
 
 -- PART NAME SLOT
-unfoldable pub import_in : ℕ → Draft → Reader Draft
+unfoldable pub import_in : ℕ → Draft → Reader Input AsmFault Draft
 import_in at d = do
   part ← proper_name_at
   name ← proper_name_at
@@ -63,7 +66,7 @@ import_in at d = do
       done (with_tables new slot.1)
 
 -- NAME OFF shared, or NAME OFF own
-unfoldable pub export_in : ℕ → Draft → Reader Draft
+unfoldable pub export_in : ℕ → Draft → Reader Input AsmFault Draft
 export_in at d = do
   name ← proper_name_at
   off ← offset_in Code d
@@ -72,33 +75,34 @@ export_in at d = do
       done (with_tables new off.1)
 
 -- OFF
-unfoldable pub site_in : ℕ → Draft → Reader Draft
+unfoldable pub site_in : ℕ → Draft → Reader Input AsmFault Draft
 site_in at d = do
   off ← offset_in Code d
   done (with_tables (with_site at off.0 off.1.tables) off.1)
 
 -- OFF
-unfoldable pub fail_in : Draft → Reader Draft
+unfoldable pub fail_in : Draft → Reader Input AsmFault Draft
 fail_in d = do
   off ← offset_in Code d
   done (with_tables (record off.1.tables { fail_at = Some off.0 }) off.1)
 
 -- OFF
-unfoldable pub literal_in : Draft → Reader Draft
+unfoldable pub literal_in : Draft → Reader Input AsmFault Draft
 literal_in d = do
   off ← offset_in Code d
   done (with_tables (record off.1.tables { literal_at = Some off.0 }) off.1)
 
 -- OFF, and the kinds of the registers 1 to 15
-unfoldable pub row_in : ℕ → Draft → Reader Draft
+unfoldable pub row_in : ℕ → Draft → Reader Input AsmFault Draft
 row_in at d = do
   off ← offset_in Code d
   kinds ← kinds_in 15 off.1
   done (with_tables (with_row at (record { offset = off.0; kinds = kinds.0 }) kinds.1.tables) kinds.1)
 
 -- what an item says
-abbrev pub operands_in : ℕ → Item → Draft → Reader Draft
-operands_in at item.Name d = proper_name_at >>= λ name. done (with_header (record d.header { name = name }) d)
+abbrev pub operands_in : ℕ → Item → Draft → Reader Input AsmFault Draft
+operands_in at item.Name d = proper_name_at >>= λ name.
+    done (with_header (record d.header { name = name }) d)
 operands_in at item.Stack d = address_at >>= λ n. done (with_header (record d.header { stack_base = n }) d)
 operands_in at item.Closure d = address_at >>= λ n. done (with_header (record d.header { closure = n }) d)
 operands_in at item.Movable d = done (with_header (record d.header { movable = true }) d)

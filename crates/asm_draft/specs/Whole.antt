@@ -6,7 +6,8 @@ use Rattle.text_scan.specs.declared.token.TokenKind.TheVariants.{NewLine}
 use Rattle.text_scan.specs.declared.token.Token.{Token}
 use Rattle.asm_fields.specs.declared.fault.AsmFault.{AsmFault}
 use Rattle.asm_fields.specs.declared.fault.AsmFault.TheVariants.{Section}
-use Rattle.asm_fields.specs.Fault.{Fails}
+use Rattle.readers.specs.Answers.{Fails}
+use Rattle.asm_fields.specs.Fault.{is_refusal}
 use Rattle.asm_fields.specs.Fields.{Lexeme, Input, seen}
 use Rattle.asm_draft.specs.Order.{reaches_data}
 use Rattle.asm_draft.specs.Draft.{Draft, nothing, may_end}
@@ -60,4 +61,4 @@ draft_of_text text tokens =
 -- the draft that a line makes; what is left of the line doesn't matter
 abbrev pub MakesLine : Result (Unit {0}) AsmFault → Draft → Result (Draft × Input) AsmFault → Type 0
 MakesLine (Ok x) new read = goes_to read (λ d. Ok d) ≡ Ok new
-MakesLine (Err e) new read = Fails e read
+MakesLine (Err e) new read = Fails is_refusal e read

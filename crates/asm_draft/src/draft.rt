@@ -1,9 +1,11 @@
 //! What the lines of a text have made so far.
 ghost use Rattle.std.specs.Prelude.{◌≡◌, ◌<◌, ◌&&◌, length, OnOk, IfOk, None};
 ghost use Rattle.component_file.specs.declared.TheConstants.{MOST_WORDS};
-ghost use Rattle.asm_fields.specs.Fault.{AnswersAs};
+ghost use Rattle.readers.specs.Answers.{AnswersAs};
+ghost use Rattle.asm_fields.specs.Fault.{is_refusal};
 ghost use Rattle.asm_labels.specs.Labels.{label_of};
-ghost use Rattle.asm_fields.specs.Fields.{Gives, proper_name_at};
+ghost use Rattle.readers.specs.Answers.{Gives};
+ghost use Rattle.asm_fields.specs.Fields.{proper_name_at};
 ghost use Rattle.asm_fields.specs.Instrs.{last_seen};
 ghost use Rattle.asm_fields.specs.Operands.{offset_seen, kind_seen};
 ghost use Rattle.asm_draft.specs.Order.{reaches_data};
@@ -14,7 +16,8 @@ ghost use Rattle.asm_draft.specs.Operands.{offset_found, offset_in, kind_found, 
 ghost use Rattle.asm_draft.specs.Operands.{import_in, export_in, site_in, fail_in, literal_in, row_in};
 ghost use Rattle.asm_draft.specs.Operands.{operands_in};
 ghost use Rattle.asm_draft.specs.Lines.{label_in, label_if, is_code, instr_in, word_in, may_stand, item_in};
-ghost use Rattle.asm_draft.specs.Lines.{directive_from, directive_in, behind_label, line_in, MakesAs, Makes};
+ghost use Rattle.asm_draft.specs.Lines.{directive_from, directive_in, behind_label, line_in, MakesAs};
+ghost use Rattle.asm_draft.specs.Lines.{Makes};
 
 use crate::header::Header;
 use crate::order::{may_follow, reaches_data, section_of};
@@ -509,7 +512,7 @@ fn is_code(section: Option<Section>) -> bool
 
 // A name, in memory of its own.
 fn name(alloc: Global, fields: &mut Fields<'_, '_>) -> Result<Items<u8>, AsmFault>
-    ensures { AnswersAs (λ t. (t, fields.new)) result (proper_name_at fields.old) }
+    ensures { AnswersAs is_refusal (λ t. (t, fields.new)) result (proper_name_at fields.old) }
 {
     let text = fields.proper_name()?;
     Ok(Items::of(Vec::from_slice(alloc, text)?))
@@ -524,5 +527,5 @@ fn directive_from(at: u32, fields: &mut Fields<'_, '_>) -> Result<Directive, Asm
         return Err(AsmFault::Unknown(at));
     }
     let name = fields.name_or(AsmFault::Unknown(at))?;
-    Directive::named(name).ok_or(AsmFault::Unknown(at))
+    Directive::of_name(name).ok_or(AsmFault::Unknown(at))
 }

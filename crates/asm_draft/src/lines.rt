@@ -1,7 +1,8 @@
 //! All lines of a text.
 ghost use Rattle.std.specs.Prelude.{◌≡◌, ◌<◌, ◌^◌, length, map};
 ghost use Rattle.text_scan.specs.Grammar.{Placed};
-ghost use Rattle.asm_fields.specs.Fault.{AnswersAs};
+ghost use Rattle.readers.specs.Answers.{AnswersUnlessRefused};
+ghost use Rattle.asm_fields.specs.Fault.{is_refusal};
 ghost use Rattle.asm_fields.specs.Fields.{InText, seen};
 ghost use Rattle.asm_draft.specs.Draft.{nothing};
 ghost use Rattle.asm_draft.specs.Whole.{is_newline, line_or_none, lines_of, drafted, draft_of_text};
@@ -43,10 +44,14 @@ fn take_line<'a>(
 }
 
 // The draft that all lines make, whether or not the text may end behind them.
-fn drafted<'a>(alloc: Global, text: &'a [u8], tokens: &[Token]) -> Result<Draft<'a>, AsmFault>
+fn draft_of_lines<'a>(
+    alloc: Global,
+    text: &'a [u8],
+    tokens: &[Token],
+) -> Result<Draft<'a>, AsmFault>
     requires slices { InText text.now tokens.now }
     requires short { length text.now < 2 ^ 32 }
-    ensures { AnswersAs (λ d. d) result
+    ensures { AnswersUnlessRefused is_refusal result
         (drafted nothing (lines_of (map (seen text.now) tokens.now) (length text.now))) }
 {
     let mut draft = Draft::new(alloc);
@@ -79,9 +84,9 @@ fn drafted<'a>(alloc: Global, text: &'a [u8], tokens: &[Token]) -> Result<Draft<
 pub fn draft_of<'a>(alloc: Global, text: &'a [u8], tokens: &[Token]) -> Result<Draft<'a>, AsmFault>
     requires short { length text.now < 2 ^ 32 }
     requires placed { Placed 0 (length text.now) tokens.now }
-    ensures { AnswersAs (λ d. d) result (draft_of_text text.now tokens.now) }
+    ensures { AnswersUnlessRefused is_refusal result (draft_of_text text.now tokens.now) }
 {
-    let draft = drafted(alloc, text, tokens)?;
+    let draft = draft_of_lines(alloc, text, tokens)?;
     if draft.may_be_whole() {
         Ok(draft)
     } else {

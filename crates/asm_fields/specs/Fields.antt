@@ -1,11 +1,12 @@
 -- The fields of a line, read from left to right up to the first fault.
-use Rattle.std.specs.Prelude.{◌≡◌, ℕ, ◌+◌, ◌≤◌, ◌==◌, int_le, Bool, true, false, ◌&&◌}
+use Rattle.std.specs.Prelude.{ℕ, ◌+◌, ◌≤◌, ◌==◌, int_le, Bool, true, false, ◌&&◌}
 use Rattle.std.specs.Prelude.{if◌then◌else◌, List, [], ◌∷◌, length, drop, slice_range}
-use Rattle.std.specs.Prelude.{ℤ, pos, neg_ℤ, nat_abs, Option, Some, None, Result, Ok, Err}
+use Rattle.std.specs.Prelude.{ℤ, pos, neg_ℤ, nat_abs, Option, Some, None, Ok, Err}
 use Rattle.text_scan.specs.declared.token.TokenKind.{TokenKind}
 use Rattle.text_scan.specs.declared.token.TokenKind.TheVariants.{Name, Number, Sign}
 use Rattle.text_scan.specs.declared.token.Token.{Token}
 use Rattle.cap_words.specs.Names.{is_name}
+use Rattle.readers.specs.Readers.{Reader, ◌>>=◌, done, unless_none, holds}
 use Rattle.asm_fields.specs.declared.fault.AsmFault.{AsmFault}
 use Rattle.asm_fields.specs.declared.fault.AsmFault.TheVariants.{Operand, Range}
 
@@ -45,38 +46,12 @@ behind i = record { rest = drop 1 i.rest; end = i.end }
 
 -- ---- readers
 
--- what is read and what is left, or the first fault
-abbrev pub Reader : Type 0 → Type 0
-Reader A = Input → Result (A × Input) AsmFault
-
-abbrev pub goes_on : {A B : Type 0}
-    → Result (A × Input) AsmFault → (A → Reader B) → Result (B × Input) AsmFault
-goes_on (Ok x) f = f x.0 x.1
-goes_on (Err e) f = Err e
-
-infixl 10 ◌>>=◌
-abbrev pub ◌>>=◌ : {A B : Type 0} → Reader A → (A → Reader B) → Reader B
-(r >>= f) i = goes_on (r i) f
-
--- the value itself, with nothing read
-abbrev pub done : {A : Type 0} → A → Reader A
-done x i = Ok (x, i)
-
 -- the place of what stands next
-abbrev pub place : Reader ℕ
+abbrev pub place : Reader Input AsmFault ℕ
 place i = Ok (place_of i, i)
 
-abbrev pub unless_none : {A : Type 0} → AsmFault → Option A → Reader A
-unless_none fault None i = Err fault
-unless_none fault (Some x) i = Ok (x, i)
-
--- a test that has to hold here
-abbrev pub holds : Bool → AsmFault → Reader (Unit {0})
-holds true fault i = Ok (tt, i)
-holds false fault i = Err fault
-
 -- the next field is taken where it is what is wanted
-abbrev pub taken : {A : Type 0} → AsmFault → Option A → Reader A
+abbrev pub taken : {A : Type 0} → AsmFault → Option A → Reader Input AsmFault A
 taken fault None i = Err fault
 taken fault (Some x) i = Ok (x, behind i)
 
@@ -132,45 +107,45 @@ is_empty i = length i.rest == 0
 -- ---- names and signs
 
 -- a name, or the fault
-unfoldable pub name_or : AsmFault → Reader (List ℕ)
+unfoldable pub name_or : AsmFault → Reader Input AsmFault (List ℕ)
 name_or fault i = taken fault (name_of (kind_next i.rest) (text_next i.rest)) i
 
-abbrev pub name_at : Reader (List ℕ)
+abbrev pub name_at : Reader Input AsmFault (List ℕ)
 name_at i = name_or (Operand (place_of i)) i
 
 -- a name as components have them, for a label or an operand: one of more than 31 bytes is none. Its field
 -- begins at this place, which may be that of a sign
-unfoldable pub proper_name_from : ℕ → Reader (List ℕ)
+unfoldable pub proper_name_from : ℕ → Reader Input AsmFault (List ℕ)
 proper_name_from at = do
   name ← name_or (Operand at)
   _ ← holds (is_name name) (Operand at)
   done name
 
-abbrev pub proper_name_at : Reader (List ℕ)
+abbrev pub proper_name_at : Reader Input AsmFault (List ℕ)
 proper_name_at i = proper_name_from (place_of i) i
 
 -- a name that means something
-unfoldable pub meant : {A : Type 0} → (List ℕ → Option A) → Reader A
+unfoldable pub meant : {A : Type 0} → (List ℕ → Option A) → Reader Input AsmFault A
 meant meaning = do
   at ← place
   name ← name_at
   unless_none (Operand at) (meaning name)
 
 -- whether the sign stands next; if so it is taken
-unfoldable pub sign_at : ℕ → Reader Bool
+unfoldable pub sign_at : ℕ → Reader Input AsmFault Bool
 sign_at sign i = if is_sign sign (kind_next i.rest) then Ok (true, behind i) else Ok (false, i)
 
 -- ---- numbers
 
 -- a number; the field to which it belongs begins at this place
-unfoldable pub number_from : ℕ → Reader ℕ
+unfoldable pub number_from : ℕ → Reader Input AsmFault ℕ
 number_from at i = taken (Operand at) (number_of_kind (kind_next i.rest)) i
 
 abbrev pub signed : Bool → ℕ → ℤ
 signed negative n = if negative then neg_ℤ (pos n) else pos n
 
 -- a number with an optional `-` before it, from low to high
-unfoldable pub integer_at : ℤ → ℤ → Reader ℤ
+unfoldable pub integer_at : ℤ → ℤ → Reader Input AsmFault ℤ
 integer_at low high = do
   at ← place
   negative ← sign_at minus
@@ -179,7 +154,7 @@ integer_at low high = do
   done (signed negative n)
 
 -- the same where no number below 0 is right; 0 may be written `-0`
-unfoldable pub natural_at : ℕ → ℕ → Reader ℕ
+unfoldable pub natural_at : ℕ → ℕ → Reader Input AsmFault ℕ
 natural_at low high = do
   n ← integer_at (pos low) (pos high)
   done (nat_abs n)
@@ -187,16 +162,5 @@ natural_at low high = do
 -- ---- the end
 
 -- the line ends here
-unfoldable pub end_at : Reader (Unit {0})
+unfoldable pub end_at : Reader Input AsmFault (Unit {0})
 end_at i = holds (is_empty i) (Operand (place_of i)) i
-
--- ---- what a call answers
-
--- what the reader reads, the value seen by view; after a fault, what is left isn't said
-abbrev pub GivesAs : {X A : Type 0}
-    → (X → A) → Result X AsmFault → Input → Result (A × Input) AsmFault → Type 0
-GivesAs view (Ok x) left read = read ≡ Ok (view x, left)
-GivesAs view (Err e) left read = read ≡ Err e
-
-abbrev pub Gives : {A : Type 0} → Result A AsmFault → Input → Result (A × Input) AsmFault → Type 0
-Gives answer left read = GivesAs (λ x. x) answer left read

@@ -8,11 +8,13 @@ use Rattle.lcm_isa.specs.declared.Operand.TheVariants.{R, Imm}
 use Rattle.lcm_isa.specs.declared.Instr.{Instr}
 use Rattle.lcm_isa.specs.Numbers.{all_with}
 use Rattle.lcm_isa.specs.Texts.{mnemonic_of, operands_of}
+use Rattle.asm_fields.specs.declared.fault.AsmFault.{AsmFault}
 use Rattle.asm_fields.specs.declared.fault.AsmFault.TheVariants as fault
 use Rattle.asm_fields.specs.declared.instrs.Last.{Last as LastInCode}
 use Rattle.asm_fields.specs.declared.instrs.Last.TheVariants as in_code
 use Rattle.asm_fields.specs.declared.instrs.Shape.{Shape}
-use Rattle.asm_fields.specs.Fields.{Reader, ◌>>=◌, done, place, unless_none, kind_next, is_name_token}
+use Rattle.readers.specs.Readers.{Reader, ◌>>=◌, done, unless_none}
+use Rattle.asm_fields.specs.Fields.{Input, place, kind_next, is_name_token}
 use Rattle.asm_fields.specs.Fields.{at_sign, percent, meant, proper_name_from, sign_at, integer_at, end_at}
 use Rattle.asm_fields.specs.Names.{named, reg_named}
 
@@ -36,20 +38,20 @@ plain (Plain o) = o
 plain (Code at name) = Imm (pos 0)
 plain (Data at name) = Imm (pos 0)
 
-abbrev pub reg_at : Reader Reg
+abbrev pub reg_at : Reader Input AsmFault Reg
 reg_at = meant reg_named
 
 -- an immediate, a number of 32 bits
-abbrev pub i32_at : Reader ℤ
+abbrev pub i32_at : Reader Input AsmFault ℤ
 i32_at = integer_at (negsuc 2147483647) (pos 2147483647)
 
-unfoldable pub plain_at : Reader Operand
+unfoldable pub plain_at : Reader Input AsmFault Operand
 plain_at i =
     (if is_name_token (kind_next i.rest) then (reg_at >>= λ r. done (R r))
     else (i32_at >>= λ n. done (Imm n))) i
 
 -- `@LABEL`, `%LABEL`, a register or an immediate
-unfoldable pub last_at : Reader Last
+unfoldable pub last_at : Reader Input AsmFault Last
 last_at = do
   at ← place
   code ← sign_at at_sign
@@ -77,15 +79,16 @@ shape_of i = record { regs = count_by is_reg (operands_of i); last = list_any is
 abbrev pub row_named : List ℕ → Option Instr
 row_named name = named mnemonic_of (all_with Pc Pc Pc (Imm (pos 0))) name
 
-abbrev pub reg_if : Bool → Reader Reg
+abbrev pub reg_if : Bool → Reader Input AsmFault Reg
 reg_if wanted = if wanted then reg_at else done Pc
 
-abbrev pub last_if : Bool → Reader Last
+abbrev pub last_if : Bool → Reader Input AsmFault Last
 last_if wanted = if wanted then last_at else done (Plain (Imm (pos 0)))
 
--- the operands of an instruction of this name and shape, whose name stands at this place, and the end of its
+-- the operands of an instruction of this name and shape, whose name stands at this place, and the end of
+-- its
 -- line. A label in place of its last operand stands there as 0
-unfoldable pub operands_at : ℕ → List ℕ → Shape → Reader (Instr × Last)
+unfoldable pub operands_at : ℕ → List ℕ → Shape → Reader Input AsmFault (Instr × Last)
 operands_at at name shape = do
   a ← reg_if (nat_le 1 shape.regs)
   b ← reg_if (nat_le 2 shape.regs)

@@ -104,7 +104,7 @@ impl Directive {
     }
 
     /// The directive of this name.
-    pub fn named(name: &[u8]) -> Option<Directive>
+    pub fn of_name(name: &[u8]) -> Option<Directive>
         ensures { result ≡ directive_named name.now }
     {
         [

@@ -1,11 +1,14 @@
 //! The fields of a line, read from left to right.
-ghost use Rattle.std.specs.Prelude.{◌≡◌, ◌<◌, ◌≤◌, ◌≤ℤ◌, length, drop, FitsSigned, IfSome, IfNone, IfOk, Ok};
+ghost use Rattle.std.specs.Prelude.{◌≡◌, ◌<◌, ◌≤◌, ◌≤ℤ◌, length, drop, FitsSigned, IfSome, IfNone, IfOk};
+ghost use Rattle.std.specs.Prelude.{Ok};
 ghost use Rattle.std.specs.Int.{w64};
 ghost use Rattle.asm_fields.specs.Fields.{InText, seen, kind_next, text_next, behind, place_of};
 ghost use Rattle.asm_fields.specs.Fields.{is_name_token};
 ghost use Rattle.asm_fields.specs.Fields.{is_sign, is_empty, is_labelled, colon, signed, name_or, name_at};
-ghost use Rattle.asm_fields.specs.Fields.{proper_name_from, proper_name_at, number_from, sign_at, integer_at};
-ghost use Rattle.asm_fields.specs.Fields.{natural_at, end_at, Gives, GivesAs};
+ghost use Rattle.asm_fields.specs.Fields.{proper_name_from, proper_name_at, number_from, sign_at};
+ghost use Rattle.asm_fields.specs.Fields.{integer_at};
+ghost use Rattle.readers.specs.Answers.{Gives, GivesAs};
+ghost use Rattle.asm_fields.specs.Fields.{natural_at, end_at};
 
 use crate::fault::AsmFault;
 use cap_words::is_name;
@@ -13,7 +16,7 @@ use std::marker::Model;
 use text_scan::{Token, TokenKind};
 
 // The number with its sign, and `None` exactly where it isn't one of 64 bits.
-fn signed(negative: bool, number: u64) -> Option<i64>
+fn with_sign(negative: bool, number: u64) -> Option<i64>
     ensures some { IfSome result (λ z. z ≡ signed negative number) }
     ensures none { IfNone result (¬ FitsSigned w64 (signed negative number)) }
 {
@@ -215,7 +218,7 @@ impl<'a, 'b> Fields<'a, 'b> {
         let at = self.place();
         let negative = self.sign(b'-');
         let number = self.number(at)?;
-        let Some(value) = signed(negative, number) else {
+        let Some(value) = with_sign(negative, number) else {
             return Err(AsmFault::Range(at));
         };
         if low <= value && value <= high {

@@ -1,7 +1,7 @@
 //! Instructions, as a line has them.
 ghost use Rattle.std.specs.Prelude.{◌≡◌, ◌+◌, ◌<◌, true, false, if◌then◌else◌};
 ghost use Rattle.lcm_isa.specs.Texts.{mnemonic_of};
-ghost use Rattle.asm_fields.specs.Fields.{Gives, GivesAs};
+ghost use Rattle.readers.specs.Answers.{Gives, GivesAs};
 ghost use Rattle.asm_fields.specs.Names.{named};
 ghost use Rattle.asm_fields.specs.Instrs.{last_seen, plain, reg_at, plain_at, last_at, reg_if, last_if};
 ghost use Rattle.asm_fields.specs.Instrs.{shape_of, is_imm, row_named, operands_at};
@@ -133,7 +133,7 @@ pub fn shape_of(instr: &Instr) -> Shape
 }
 
 // The instruction of this name among rows of the table.
-fn named(rows: &[Instr], name: &[u8]) -> Option<Instr>
+fn row_of_name(rows: &[Instr], name: &[u8]) -> Option<Instr>
     ensures { result ≡ named mnemonic_of rows.now name.now }
 {
     rows.iter()
@@ -147,7 +147,7 @@ pub fn row_named(name: &[u8]) -> Option<Instr>
     ensures { result ≡ row_named name.now }
 {
     let rows = Instr::all_with(Reg::Pc, Reg::Pc, Reg::Pc, Operand::Imm(0));
-    named(&rows, name)
+    row_of_name(&rows, name)
 }
 
 /// The operands of an instruction of this name and shape, whose name stands at this place, and the end of
@@ -168,7 +168,7 @@ pub fn instr_operands<'a>(
     let n = last_if(shape.last, fields)?;
     fields.end()?;
     let rows = Instr::all_with(a, b, c, n.plain());
-    let Some(instr) = named(&rows, name) else {
+    let Some(instr) = row_of_name(&rows, name) else {
         return Err(AsmFault::Unknown(at));
     };
     Ok((instr, n))

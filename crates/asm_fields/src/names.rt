@@ -28,7 +28,7 @@ pub(crate) fn lin_named(name: &[u8]) -> Option<Lin>
 pub(crate) fn reg_named(name: &[u8]) -> Option<Reg>
     ensures { result ≡ reg_named name.now }
 {
-    Reg::named(name)
+    Reg::of_name(name)
 }
 
 /// The name of a kind in a row: `any`, `int`, `data`, `stk`, `pc` or `top`. An offset follows `pc`.

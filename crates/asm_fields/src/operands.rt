@@ -1,7 +1,8 @@
 //! The operands of items.
 ghost use Rattle.std.specs.Prelude.{◌≡◌, ◌≤◌, IfOk};
 ghost use Rattle.cap_words.specs.declared.TheConstants.{LAST_PLACE, LONGEST_STRETCH};
-ghost use Rattle.asm_fields.specs.Fields.{meant, Gives, GivesAs};
+ghost use Rattle.readers.specs.Answers.{Gives, GivesAs};
+ghost use Rattle.asm_fields.specs.Fields.{meant};
 ghost use Rattle.asm_fields.specs.Names.{kind_named, shared_named};
 ghost use Rattle.asm_fields.specs.Operands.{address_at, stretch_at, offset_at, label_at, offset_seen};
 ghost use Rattle.asm_fields.specs.Operands.{shared_at, kind_at, kind_behind, kind_seen};

@@ -1,6 +1,7 @@
 //! Words, as a line has them behind their directive.
 ghost use Rattle.std.specs.Prelude.{◌≡◌};
-ghost use Rattle.asm_fields.specs.Fields.{meant, Gives};
+ghost use Rattle.readers.specs.Answers.{Gives};
+ghost use Rattle.asm_fields.specs.Fields.{meant};
 ghost use Rattle.asm_fields.specs.Names.{perm_named, lin_named};
 ghost use Rattle.asm_fields.specs.Words.{i64_at, cap_at, seals_at, word_behind, word_line};
 

@@ -1,15 +1,19 @@
 -- What lines make is a component.
-use Rattle.std.proofs.Common.{◌≡◌, ℕ, ◌+◌, ◌-◌, ◌<◌, ◌≤◌, zero, suc, Bool, true, false, cond, List, [], ◌∷◌, length, Option, Some, None, Result, Ok, Err, refl, sym, ap, ◌∙◌, subst, arith}
+use Rattle.std.proofs.Common.{◌≡◌, ℕ, ◌+◌, ◌-◌, ◌<◌, ◌≤◌, zero, suc, Bool, true, false, cond, List, [], ◌∷◌}
+use Rattle.std.proofs.Common.{length, Option, Some, None, Result, Ok, Err, refl, sym, ap, ◌∙◌, subst, arith}
 use Rattle.std.specs.Prelude.{ℤ, pos, negsuc, IfSome, slice_get, ◌&&◌, FitsSigned, option_map}
 use Rattle.std.specs.Int.{w32}
 use Rattle.std.proofs.lemmas.Bool.Decides.{nat_tests}
+use Rattle.std.proofs.lemmas.Bool.{and_parts}
 use Rattle.text_scan.specs.declared.token.Token.{Token}
 use Rattle.text_scan.specs.Tokens.{scanned}
 use Rattle.cap_words.specs.declared.Word.{Word}
 use Rattle.cap_words.specs.declared.Word.TheVariants.{Int, Mem, Seal, Sealed}
 use Rattle.lcm_isa.specs.declared.Operand.TheVariants.{R, Imm}
 use Rattle.lcm_isa.specs.declared.Instr.{Instr}
-use Rattle.lcm_isa.specs.declared.Instr.TheVariants.{Fail, Halt, Jmp, Jnz, Gettype, Geta, Getb, Gete, Getp, Getlin, Move, Store, Load, Cca, Restrict, Lt, Plus, Minus, Seta2b, Xjmp, Cseal, Split, Splice}
+use Rattle.lcm_isa.specs.declared.Instr.TheVariants.{Fail, Halt, Jmp, Jnz, Gettype, Geta, Getb, Gete, Getp}
+use Rattle.lcm_isa.specs.declared.Instr.TheVariants.{Getlin, Move, Store, Load, Cca, Restrict, Lt, Plus}
+use Rattle.lcm_isa.specs.declared.Instr.TheVariants.{Minus, Seta2b, Xjmp, Cseal, Split, Splice}
 use Rattle.lcm_isa.specs.Numbers.{IsInstr}
 use Rattle.lcm_isa.proofs.NumberLemmas.{decode_of-fits}
 use Rattle.component_file.specs.declared.component.ComponentFields.{ComponentFields}
@@ -17,19 +21,23 @@ use Rattle.component_file.specs.Limits.{Each, IsComponent}
 use Rattle.asm_labels.specs.declared.labels.Section.{Section}
 use Rattle.asm_labels.specs.declared.labels.Section.TheVariants.{Code, Data}
 use Rattle.asm_labels.specs.declared.labels.Label.{Label}
-use Rattle.asm_labels.specs.declared.references.MissingLabel.{MissingLabel}
 use Rattle.asm_labels.specs.Labels.{AreWithin, label_of, is_in, offset_in}
 use Rattle.asm_labels.specs.Patch.{with_immediate, instr_in, with_instr_at}
-use Rattle.asm_labels.specs.References.{Reference, value_of, word_resolved, resolved, IsReady, AreReady, behind}
+use Rattle.asm_labels.specs.References.{Reference, value_of, word_resolved, resolved, IsReady, AreReady}
+use Rattle.asm_labels.specs.References.{behind}
 use Rattle.asm_labels.proofs.Tables.{within}
 use Rattle.asm_labels.proofs.Resolved.{first_of, last, rest_ready, word_len, as_many}
 use Rattle.asm_fields.specs.declared.fault.AsmFault.{AsmFault}
+use Rattle.asm_fields.specs.declared.fault.AsmFault.TheVariants.{LabelMissing}
+use Rattle.asm_fields.specs.Fault.{of_scan}
 use Rattle.asm_fields.specs.declared.directives.Item.TheVariants as item
 use Rattle.asm_draft.specs.Order.{rank, rank_of, reaches_data}
 use Rattle.asm_draft.specs.Draft.{Draft, nothing, may_end}
 use Rattle.asm_draft.specs.Whole.{drafted, ended_all, draft_of_text}
-use Rattle.assembler.specs.Assembled.{scan_told, assembled, missing_told, none_missing, in_order, component_of, finished, ◌>>=◌}
-use Rattle.assembler.proofs.Gets.{both}
+use Rattle.assembler.specs.Assembled.{assembled, none_missing, in_order, component_of, finished}
+use Rattle.readers.specs.Readers.{told_by}
+use Rattle.readers.specs.Results.{◌>>=◌}
+use Rattle.readers.proofs.Faults.{told_ok}
 use Rattle.assembler.proofs.Chains.{each_set}
 use Rattle.assembler.proofs.Words.{IsPartWord, instr_fits}
 use Rattle.assembler.proofs.Kept.{IsDraft, word_within}
@@ -69,58 +77,70 @@ other_fits z fits (Split a b c (R r)) h = h
 other_fits z fits (Split a b c (Imm n)) h = fits
 other_fits z fits (Splice a b c) h = h
 
-put_fits : (code : List Word) (at : ℕ) (z : ℤ) → FitsSigned w32 z → (o : Option Word) → Each IsPartWord code → Each IsPartWord (with_instr_at code at (option_map (with_immediate z) (instr_in o)))
+put_fits : (code : List Word) (at : ℕ) (z : ℤ) → FitsSigned w32 z → (o : Option Word)
+    → Each IsPartWord code
+    → Each IsPartWord (with_instr_at code at (option_map (with_immediate z) (instr_in o)))
 put_fits code at z fits None each = each
 put_fits code at z fits (Some (Mem c)) each = each
 put_fits code at z fits (Some (Seal s)) each = each
 put_fits code at z fits (Some (Sealed s c)) each = each
-put_fits code at z fits (Some (Int n)) each = by_instr (instr_in (Some (Int n))) (λ i h. decode_of-fits n i h)
+put_fits code at z fits (Some (Int n)) each = by_instr (instr_in (Some (Int n)))
+    (λ i h. decode_of-fits n i h)
   where
-    by_instr : (o : Option Instr) → ((i : Instr) → o ≡ Some i → IsInstr i) → Each IsPartWord (with_instr_at code at (option_map (with_immediate z) o))
+    by_instr : (o : Option Instr) → ((i : Instr) → o ≡ Some i → IsInstr i)
+        → Each IsPartWord (with_instr_at code at (option_map (with_immediate z) o))
     by_instr None is = each
-    by_instr (Some i) is = each_set IsPartWord None code at _ each (instr_fits (with_immediate z i) (other_fits z fits i (is i refl)))
+    by_instr (Some i) is = each_set IsPartWord None code at _ each
+        (instr_fits (with_immediate z i) (other_fits z fits i (is i refl)))
 
-by_side : (b : Bool) (x y : ℕ) → x < 2147483648 → y < 2147483648 → FitsSigned w32 (cond b (negsuc x) (pos y))
+by_side : (b : Bool) (x y : ℕ) → x < 2147483648 → y < 2147483648
+    → FitsSigned w32 (cond b (negsuc x) (pos y))
 by_side true x y lt _ = record { sfits = lt }
 by_side false x y _ lt = record { sfits = lt }
 
-value_fits : (word : ℕ) (section : Section) (offset : ℕ) → word < 65536 → offset < 65536 → FitsSigned w32 (value_of word section offset)
+value_fits : (word : ℕ) (section : Section) (offset : ℕ) → word < 65536 → offset < 65536
+    → FitsSigned w32 (value_of word section offset)
 value_fits zero Code offset w o = record { sfits = omega (arith, o) }
-value_fits (suc n) Code offset w o = by_side _ (suc n - suc (offset + 1)) (offset + 1 - suc n) (omega (arith, w)) (omega (arith, o))
+value_fits (suc n) Code offset w o = by_side _ (suc n - suc (offset + 1)) (offset + 1 - suc n)
+    (omega (arith, w)) (omega (arith, o))
 value_fits word Data offset w o = record { sfits = omega (arith, o) }
 
-resolved_fits : (word : Option ℕ) (section : Section) (offset : ℕ) (code : List Word) → IsReady code word → length code ≤ 65536 → offset < 65536 → Each IsPartWord code
+resolved_fits : (word : Option ℕ) (section : Section) (offset : ℕ) (code : List Word) → IsReady code word
+    → length code ≤ 65536 → offset < 65536 → Each IsPartWord code
     → Each IsPartWord (word_resolved word section offset code)
 resolved_fits None section offset code ready few o each = each
 resolved_fits (Some word) section offset code ready few o each =
     let w = word_within code word ready in
-    put_fits code word (value_of word section offset) (value_fits word section offset (omega (arith, w, few)) o) (slice_get code word) each
+    put_fits code word (value_of word section offset)
+    (value_fits word section offset (omega (arith, w, few)) o) (slice_get code word) each
 
 if_within : (b : Bool) (n m : ℕ) → n < 65536 → cond b (Some n) None ≡ Some m → m < 65536
 if_within true n m lt h = let e : n ≡ m = cc in omega (arith, lt, e)
 if_within false n m lt h = absurd cc
 
-some_within : (section : Section) (o : Option Label) (n : ℕ) → IfSome o (λ l. l.offset < 65536) → offset_in section o ≡ Some n → n < 65536
+some_within : (section : Section) (o : Option Label) (n : ℕ) → IfSome o (λ l. l.offset < 65536)
+    → offset_in section o ≡ Some n → n < 65536
 some_within section None n h is = absurd cc
 some_within section (Some l) n h is = if_within (is_in section l) l.offset n h is
 
-code_fits : (labels : List (List ℕ × Label)) (low : ℕ) (references : List Reference) (code new : List Word) → AreWithin labels → AreReady low code references → length code ≤ 65536
+code_fits : (labels : List (List ℕ × Label)) (low : ℕ) (references : List Reference) (code new : List Word)
+    → AreWithin labels → AreReady low code references → length code ≤ 65536
     → Each IsPartWord code → resolved labels references code ≡ Ok new → Each IsPartWord new
-code_fits labels low [] code new wi ready few each h = subst (Each IsPartWord) (sym (last labels code new h)) each
+code_fits labels low [] code new wi ready few each h = subst (Each IsPartWord)
+    (sym (last labels code new h)) each
 code_fits labels low (r ∷ references) code new wi ready few each h =
     let p = first_of labels r references code new h in
-    let o : p.0 < 65536 = some_within r.section (label_of r.name labels) p.0 (within r.name labels wi) p.1 in
+    let o : p.0 < 65536 = some_within r.section (label_of r.name labels) p.0
+    (within r.name labels wi) p.1 in
     let len = word_len r.word r.section p.0 code in
-    code_fits labels (behind low r.word) references (word_resolved r.word r.section p.0 code) new wi (rest_ready low code r references p.0 ready)
+    code_fits labels (behind low r.word) references (word_resolved r.word r.section p.0 code) new wi
+    (rest_ready low code r references p.0 ready)
     (omega (arith, len, few)) (resolved_fits r.word r.section p.0 code ready.1 few o each) p.2
 
 -- ---- the component
 
-missing_gone : (r : Result (List Word) MissingLabel) (code : List Word) → missing_told r ≡ Ok code → r ≡ Ok code
-missing_gone (Ok x) code h = let e : x ≡ code = cc in ap Ok e
-missing_gone (Err m) code h = absurd cc
-
-bound : {A B : Type 0} (r : Result A AsmFault) (f : A → Result B AsmFault) (y : B) → (r >>= f) ≡ Ok y → (x : A) × (r ≡ Ok x) × (f x ≡ Ok y)
+bound : {A B : Type 0} (r : Result A AsmFault) (f : A → Result B AsmFault) (y : B) → (r >>= f) ≡ Ok y
+    → (x : A) × (r ≡ Ok x) × (f x ≡ Ok y)
 bound (Ok x) f y h = (x, refl, h)
 bound (Err e) f y h = absurd cc
 
@@ -144,11 +164,14 @@ pub complete : (d : Draft) (c : ComponentFields) → MayEnd d → finished d ≡
 unfolding finished
 complete d c m h =
     let k = m.0 in
-    let p = bound (none_missing d) (λ code. in_order d.tables.out_of_order >>= λ _. Ok (component_of d code)) c h in
+    let p = bound (none_missing d)
+    (λ code. in_order d.tables.out_of_order >>= λ _. Ok (component_of d code)) c h in
     let code = p.0 in
     let q = bound (in_order d.tables.out_of_order) (λ _. Ok (component_of d code)) c p.2 in
-    let made : component_of d code ≡ c = ok_same (component_of d code) c (Ok (component_of d code)) refl q.2 in
-    let found : resolved d.labels d.references d.code ≡ Ok code = missing_gone (resolved d.labels d.references d.code) code p.1 in
+    let made : component_of d code ≡ c = ok_same (component_of d code) c
+    (Ok (component_of d code)) refl q.2 in
+    let found : resolved d.labels d.references d.code ≡ Ok code = told_ok (λ m. LabelMissing m.at)
+    (resolved d.labels d.references d.code) code p.1 in
     let le : rank item.Data ≤ rank_of d.last = grind (arith, nat_tests, m.1) in
     let some = ended_some d k le m.2 in
     let many = as_many d.labels d.references d.code code found in
@@ -164,7 +187,8 @@ complete d c m h =
       code_base = k.header.code_base;
       code = (
         (omega (arith, many, first), omega (arith, many, few)),
-        code_fits d.labels 0 d.references d.code code k.words.labels_within k.words.ready few k.words.code_fits.1 found,
+        code_fits d.labels 0 d.references d.code code k.words.labels_within k.words.ready few
+            k.words.code_fits.1 found,
       );
       data_base = k.header.data_base;
       data_words = ((some.1, k.words.data_fits.0), k.words.data_fits.1);
@@ -177,20 +201,23 @@ complete d c m h =
     } in
     subst IsComponent made whole
 
-may_go : (b : Bool) (d e : Draft) (fault : AsmFault) → cond b (Ok d) (Err fault) ≡ Ok e → (b ≡ true) × (d ≡ e)
+may_go : (b : Bool) (d e : Draft) (fault : AsmFault) → cond b (Ok d) (Err fault) ≡ Ok e
+    → (b ≡ true) × (d ≡ e)
 may_go true d e fault h = (refl, cc)
 may_go false d e fault h = absurd cc
 
-ended_gives : (r : Result Draft AsmFault) (end : ℕ) (e : Draft) → ended_all end r ≡ Ok e → (r ≡ Ok e) × (reaches_data e.last ≡ true) × (may_end e ≡ true)
+ended_gives : (r : Result Draft AsmFault) (end : ℕ) (e : Draft) → ended_all end r ≡ Ok e
+    → (r ≡ Ok e) × (reaches_data e.last ≡ true) × (may_end e ≡ true)
 ended_gives (Err x) end e h = absurd cc
 ended_gives (Ok d) end e h =
     let p = may_go (reaches_data d.last && may_end d) d e _ h in
-    let q = both (reaches_data d.last) (may_end d) p.0 in
+    let q = and_parts (reaches_data d.last) (may_end d) p.0 in
     let P : Draft → Type 0 = λ x. (reaches_data x.last ≡ true) × (may_end x ≡ true) in
     let t : P e = subst P p.1 (q.0, q.1) in
     (ap Ok p.1, t.0, t.1)
 
-pub whole_draft : (text : List ℕ) (tokens : List Token) (e : Draft) → draft_of_text text tokens ≡ Ok e → MayEnd e
+pub whole_draft : (text : List ℕ) (tokens : List Token) (e : Draft) → draft_of_text text tokens ≡ Ok e
+    → MayEnd e
 unfolding draft_of_text
 whole_draft text tokens e h =
     let p = ended_gives (drafted nothing _) (length text) e h in
@@ -199,6 +226,7 @@ whole_draft text tokens e h =
 pub spelled_fits : (text : List ℕ) (c : ComponentFields) → assembled text ≡ Ok c → IsComponent c
 unfolding assembled
 spelled_fits text c h =
-    let p = bound (scan_told (scanned text)) (λ tokens. draft_of_text text tokens >>= λ draft. finished draft) c h in
+    let p = bound (told_by of_scan (scanned text))
+    (λ tokens. draft_of_text text tokens >>= λ draft. finished draft) c h in
     let q = bound (draft_of_text text p.0) (λ draft. finished draft) c p.2 in
     complete q.0 c (whole_draft text p.0 q.0 q.1) q.2

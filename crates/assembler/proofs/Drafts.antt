@@ -1,7 +1,11 @@
 -- The lines of a text keep the limits.
-use Rattle.std.proofs.Common.{◌≡◌, ℕ, ◌<◌, ◌≤◌, zero, suc, Bool, true, false, cond, List, [], ◌∷◌, ◌++◌, length, Option, Some, None, Result, Ok, Err, refl, sym, ap, ◌∙◌, subst, arith, append-nil, ◌⊎◌, inl, inr}
+use Rattle.std.proofs.Common.{◌≡◌, ℕ, ◌<◌, ◌≤◌, zero, suc, Bool, true, false, cond, List, [], ◌∷◌, ◌++◌}
+use Rattle.std.proofs.Common.{length, Option, Some, None, Result, Ok, Err, refl, sym, ap, ◌∙◌, subst, arith}
+use Rattle.std.proofs.Common.{append-nil, ◌⊎◌, inl, inr}
 use Rattle.std.specs.Prelude.{IsTrue, nat_lt, nat_le, ◌==◌, not, ◌&&◌, ◌||◌, is_some, pos}
 use Rattle.std.proofs.lemmas.Bool.Decides.{nat_tests}
+use Rattle.std.proofs.lemmas.List.{length_push}
+use Rattle.std.proofs.lemmas.Bool.{and_parts}
 use Rattle.cap_words.specs.declared.Word.{Word}
 use Rattle.cap_words.specs.declared.Word.TheVariants.{Int}
 use Rattle.lcm_isa.specs.declared.Instr.{Instr}
@@ -21,24 +25,31 @@ use Rattle.asm_fields.specs.declared.directives.Directive.{Directive}
 use Rattle.asm_fields.specs.declared.directives.Directive.TheVariants.{Of, Word as WordOf}
 use Rattle.asm_fields.specs.declared.fault.AsmFault.{AsmFault}
 use Rattle.asm_fields.specs.declared.fault.AsmFault.TheVariants.{Unknown, Operand, LabelTwice, Section}
-use Rattle.asm_fields.specs.Fields.{Input, ◌>>=◌, place, unless_none, holds, is_empty, is_labelled, name_at, proper_name_at, sign_at, colon, end_at}
+use Rattle.readers.specs.Readers.{◌>>=◌, unless_none, holds}
+use Rattle.asm_fields.specs.Fields.{Input, place, is_empty, is_labelled, name_at, proper_name_at, sign_at}
+use Rattle.asm_fields.specs.Fields.{colon, end_at}
 use Rattle.asm_fields.specs.Instrs.{Last, Plain, Code as CodeLabel, Data as DataLabel, row_named}
 use Rattle.asm_draft.specs.declared.header.Header.{Header}
 use Rattle.asm_draft.specs.Order.{rank, rank_of, repeats, furthest, may_follow, section_of}
 use Rattle.asm_draft.specs.Tables.{has_room}
-use Rattle.asm_draft.specs.Draft.{Draft, nothing, words_in, has_word_room, with_word, may_end, may_end_in, with_label, reference_of, with_instr}
+use Rattle.asm_draft.specs.Draft.{Draft, nothing, words_in, has_word_room, with_word, may_end, may_end_in}
+use Rattle.asm_draft.specs.Draft.{with_label, reference_of, with_instr}
 use Rattle.asm_draft.specs.Operands.{seals_of, operands_in}
-use Rattle.asm_draft.specs.Lines.{label_in, label_if, is_code, instr_in, word_in, may_stand, item_in, directive_from, directed, directive_in, behind_label, line_in}
+use Rattle.asm_draft.specs.Lines.{label_in, label_if, is_code, instr_in, word_in, may_stand, item_in}
+use Rattle.asm_draft.specs.Lines.{directive_from, directed, directive_in, behind_label, line_in}
 use Rattle.asm_draft.specs.Whole.{goes_to, line_or_none, drafted}
-use Rattle.assembler.proofs.Gets.{Gets, Any, gets_any, gets_then, gets_done, gets_holds, gets_some, gets_if, gets_looking, both}
+use Rattle.assembler.proofs.Gets.{Gets, Any, gets_any, gets_then, gets_done, gets_holds, gets_some, gets_if}
+use Rattle.assembler.proofs.Gets.{gets_looking}
 use Rattle.assembler.proofs.Chains.{each_onto}
 use Rattle.assembler.proofs.Words.{IsPartWord, line_fits, IsLine, operands_fit, instr_fits}
-use Rattle.assembler.proofs.Kept.{AreWords, HeaderKept, IsDraft, longer, ready_longer, ready_instr}
-use Rattle.assembler.proofs.Items.{name_is, address_is, stretch_is, import_is, export_is, site_is, fail_is, literal_is, row_is}
+use Rattle.assembler.proofs.Kept.{AreWords, HeaderKept, IsDraft, ready_longer, ready_instr}
+use Rattle.assembler.proofs.Items.{name_is, address_is, stretch_is, import_is, export_is, site_is, fail_is}
+use Rattle.assembler.proofs.Items.{literal_is, row_is}
 
 -- ---- labels
 
-label_kept : (name : List ℕ) (s : SectionOf) (d : Draft) → IsDraft d → has_word_room s d ≡ true → IsDraft (with_label name s d)
+label_kept : (name : List ℕ) (s : SectionOf) (d : Draft) → IsDraft d → has_word_room s d ≡ true
+    → IsDraft (with_label name s d)
 label_kept name s d k room =
     let l : Label = record { section = s; offset = length (words_in s d) } in
     let lt : length (words_in s d) < 65536 = grind (arith, nat_tests, room) in
@@ -61,7 +72,8 @@ label_is d k =
     gets_then Any IsDraft _ _ (gets_any proper_name_at) (λ name _.
     gets_then Any IsDraft _ _ (gets_any (sign_at colon)) (λ _ _.
     gets_then Any IsDraft _ _ (gets_any (unless_none (Section at) (section_of d.last))) (λ s _.
-    gets_then Any IsDraft _ _ (gets_any (holds (not (is_some (label_of name d.labels))) (LabelTwice at))) (λ _ _.
+    gets_then Any IsDraft _ _ (gets_any (holds (not (is_some (label_of name d.labels))) (LabelTwice at)))
+    (λ _ _.
     gets_then _ IsDraft _ _ (gets_holds (has_word_room s d) (Section at)) (λ _ room.
     gets_then Any IsDraft _ _ (gets_any place) (λ end _.
     gets_then Any IsDraft _ _ (gets_any (λ i. Ok (is_empty i, i))) (λ none _.
@@ -73,14 +85,18 @@ label_if_is labelled d k = gets_if IsDraft labelled _ _ (λ _. label_is d k) (λ
 
 -- ---- words
 
-one_word : (words : List Word) (w : Word) → AreWords words → nat_lt (length words) MOST_WORDS ≡ true → IsPartWord w → AreWords (words ++ w ∷ [])
-one_word words w kept room fits =
-    (let n = longer words w in grind (arith, nat_tests, n, room), each_onto IsPartWord None words w kept.1 fits)
+one_word : (words : List Word) (w : Word) → AreWords words → nat_lt (length words) MOST_WORDS ≡ true
+    → IsPartWord w → AreWords (words ++ w ∷ [])
+one_word words w kept room fits = (
+  let n = length_push words w in grind (arith, nat_tests, n, room),
+  each_onto IsPartWord None words w kept.1 fits,
+)
 
 some_word : (words : List Word) (w : Word) → 1 ≤ length (words ++ w ∷ [])
-some_word words w = let n = longer words w in omega (arith, n)
+some_word words w = let n = length_push words w in omega (arith, n)
 
-word_kept : (s : SectionOf) (w : Word) (d : Draft) → IsDraft d → has_word_room s d ≡ true → IsPartWord w → IsDraft (with_word s w d)
+word_kept : (s : SectionOf) (w : Word) (d : Draft) → IsDraft d → has_word_room s d ≡ true → IsPartWord w
+    → IsDraft (with_word s w d)
 word_kept section.Code w d k room fits = record {
   words = record {
     labels_within = k.words.labels_within;
@@ -90,7 +106,11 @@ word_kept section.Code w d k room fits = record {
   };
   header = k.header;
   tables = k.tables;
-  came = record { name_came = k.came.name_came; code_came = λ _. some_word d.code w; data_came = k.came.data_came };
+  came = record {
+    name_came = k.came.name_came;
+    code_came = λ _. some_word d.code w;
+    data_came = k.came.data_came;
+  };
 }
 word_kept section.Data w d k room fits = record {
   words = record {
@@ -101,7 +121,12 @@ word_kept section.Data w d k room fits = record {
   };
   header = k.header;
   tables = k.tables;
-  came = record { name_came = k.came.name_came; code_came = k.came.code_came; data_came = λ _. some_word d.data_words w };
+  came = record {
+    name_came = k.came.name_came;
+    code_came = k.came.code_came;
+    data_came = λ _.
+        some_word d.data_words w;
+  };
 }
 
 word_is : (at : ℕ) (kind : WordKind) (d : Draft) → IsDraft d → Gets IsDraft (word_in at kind d)
@@ -112,15 +137,20 @@ word_is at kind d k =
     gets_then _ IsDraft _ _ (line_fits kind) (λ w fits.
     gets_done IsDraft (with_word s w d) (word_kept s w d k room fits))))
 
-refers_ready : (code : List Word) (references : List Reference) (i : Instr) (n : Last) → IsLine (i, n) → AreReady 0 code references
+refers_ready : (code : List Word) (references : List Reference) (i : Instr) (n : Last) → IsLine (i, n)
+    → AreReady 0 code references
     → AreReady 0 (code ++ Int (pos (number_of i)) ∷ []) (references ++ reference_of (length code) n)
 refers_ready code references i (Plain o) line ready =
-    subst (λ (l : List _). AreReady 0 (code ++ Int (pos (number_of i)) ∷ []) l) (sym (append-nil references))
+    subst (λ (l : List _). AreReady 0 (code ++ Int (pos (number_of i)) ∷ []) l)
+    (sym (append-nil references))
     (ready_longer 0 code (Int (pos (number_of i))) references ready)
-refers_ready code references i (CodeLabel at name) line ready = ready_instr code references i _ line.0 (line.1 tt) refl ready
-refers_ready code references i (DataLabel at name) line ready = ready_instr code references i _ line.0 (line.1 tt) refl ready
+refers_ready code references i (CodeLabel at name) line ready = ready_instr code references i _ line.0
+    (line.1 tt) refl ready
+refers_ready code references i (DataLabel at name) line ready = ready_instr code references i _ line.0
+    (line.1 tt) refl ready
 
-instr_kept : (i : Instr) (n : Last) (d : Draft) → IsDraft d → has_word_room section.Code d ≡ true → IsLine (i, n) → IsDraft (with_instr i n d)
+instr_kept : (i : Instr) (n : Last) (d : Draft) → IsDraft d → has_word_room section.Code d ≡ true
+    → IsLine (i, n) → IsDraft (with_instr i n d)
 instr_kept i n d k room line = record {
   words = record {
     labels_within = k.words.labels_within;
@@ -143,9 +173,12 @@ instr_is d k =
     gets_then Any IsDraft _ _ (gets_any place) (λ at _.
     gets_then Any IsDraft _ _ (gets_any name_at) (λ name _.
     gets_then _ IsDraft _ _ (gets_some (Unknown at) (row_named name)) (λ row is.
-    gets_then _ IsDraft _ _ (gets_holds (is_code (section_of d.last) && has_word_room section.Code d) (Section at)) (λ _ room.
+    gets_then _ IsDraft _ _
+    (gets_holds (is_code (section_of d.last) && has_word_room section.Code d) (Section at)) (λ _ room.
     gets_then _ IsDraft _ _ (operands_fit at name row is) (λ x line.
-    gets_done IsDraft (with_instr x.0 x.1 d) (instr_kept x.0 x.1 d k (both (is_code (section_of d.last)) (has_word_room section.Code d) room).1 line))))))
+    gets_done IsDraft (with_instr x.0 x.1 d)
+    (instr_kept x.0 x.1 d k
+    (and_parts (is_code (section_of d.last)) (has_word_room section.Code d) room).1 line))))))
 
 -- ---- the order of items
 
@@ -212,7 +245,8 @@ data_some : (last : Option Item) (d : Draft) → (rank item.Import ≤ rank_of l
     → may_end_in (section_of last) d ≡ true → rank item.Data ≤ rank_of last → 1 ≤ length d.data_words
 data_some last d came ends le = by_last (data_last last le)
   where
-    by_last : (section_of last ≡ Some section.Data) ⊎ (rank item.Import ≤ rank_of last) → 1 ≤ length d.data_words
+    by_last : (section_of last ≡ Some section.Data) ⊎ (rank item.Import ≤ rank_of last)
+        → 1 ≤ length d.data_words
     by_last (inl is) = not_none d.data_words (ap (λ o. may_end_in o d) (sym is) ∙ ends)
     by_last (inr past) = came past
 
@@ -220,14 +254,16 @@ data_some last d came ends le = by_last (data_last last le)
 abbrev begun : Item → Draft → Draft
 begun i d = record d { last = Some i }
 
-others_begun : (labelled : Bool) (i : Item) (d : Draft) → IsDraft d → may_stand labelled i d ≡ true → 2 ≤ rank i → IsDraft (begun i d)
+others_begun : (labelled : Bool) (i : Item) (d : Draft) → IsDraft d → may_stand labelled i d ≡ true
+    → 2 ≤ rank i → IsDraft (begun i d)
 others_begun labelled i d k stands behind =
     let follows = may_follow d.last i in
-    let first = both (not labelled && follows && may_end d) (has_room i d.tables) stands in
-    let second = both (not labelled && follows) (may_end d) first.0 in
-    let third = both (not labelled) follows second.0 in
+    let first = and_parts (not labelled && follows && may_end d) (has_room i d.tables) stands in
+    let second = and_parts (not labelled && follows) (may_end d) first.0 in
+    let third = and_parts (not labelled) follows second.0 in
     let near : IsTrue (nat_le (rank i) (furthest (rank_of d.last))) =
-    (both (nat_lt (rank_of d.last) (rank i) || ((rank i == rank_of d.last) && repeats i)) (nat_le (rank i) (furthest (rank_of d.last))) third.1).1 in
+    (and_parts (nat_lt (rank_of d.last) (rank i) || ((rank i == rank_of d.last) && repeats i))
+    (nat_le (rank i) (furthest (rank_of d.last))) third.1).1 in
     let le : rank i ≤ furthest (rank_of d.last) = grind (arith, nat_tests, near) in
     record {
       words = k.words;
@@ -235,17 +271,22 @@ others_begun labelled i d k stands behind =
       tables = k.tables;
       came = record {
         name_came = λ _. k.came.name_came (far_from_1 (rank_of d.last) (rank i) le behind);
-        code_came = λ far. code_some d.last d k.came.code_came second.1 (far_from_code (rank_of d.last) (rank i) le far);
-        data_came = λ far. data_some d.last d k.came.data_came second.1 (far_from_data (rank_of d.last) (rank i) le far);
+        code_came = λ far. code_some d.last d k.came.code_came second.1
+            (far_from_code (rank_of d.last) (rank i) le far);
+        data_came = λ far. data_some d.last d k.came.data_came second.1
+            (far_from_data (rank_of d.last) (rank i) le far);
       };
     }
 
-room_in : (labelled : Bool) (i : Item) (d : Draft) → may_stand labelled i d ≡ true → has_room i d.tables ≡ true
-room_in labelled i d stands = (both (not labelled && may_follow d.last i && may_end d) (has_room i d.tables) stands).1
+room_in : (labelled : Bool) (i : Item) (d : Draft) → may_stand labelled i d ≡ true
+    → has_room i d.tables ≡ true
+room_in labelled i d stands =
+    (and_parts (not labelled && may_follow d.last i && may_end d) (has_room i d.tables) stands).1
 
 -- ---- what items say
 
-other_header : (d : Draft) (h : Header) → IsDraft d → HeaderKept h → h.name ≡ d.header.name → IsDraft (record d { header = h })
+other_header : (d : Draft) (h : Header) → IsDraft d → HeaderKept h → h.name ≡ d.header.name
+    → IsDraft (record d { header = h })
 other_header d h k kept same = record {
   words = k.words;
   header = kept;
@@ -257,10 +298,12 @@ other_header d h k kept same = record {
   };
 }
 
-operands_are : (at : ℕ) (i : Item) (d : Draft) → 2 ≤ rank i → IsDraft d → has_room i d.tables ≡ true → Gets IsDraft (operands_in at i d)
+operands_are : (at : ℕ) (i : Item) (d : Draft) → 2 ≤ rank i → IsDraft d → has_room i d.tables ≡ true
+    → Gets IsDraft (operands_in at i d)
 operands_are at item.Name d le k room = absurd (omega (arith, le))
 operands_are at item.Stack d le k room =
-    gets_then _ IsDraft _ _ address_is (λ n fits. gets_done IsDraft _ (other_header d (record d.header { stack_base = n }) k (record {
+    gets_then _ IsDraft _ _ address_is
+    (λ n fits. gets_done IsDraft _ (other_header d (record d.header { stack_base = n }) k (record {
       stack_base = fits;
       closure = k.header.closure;
       seals = k.header.seals;
@@ -269,7 +312,8 @@ operands_are at item.Stack d le k room =
       data_base = k.header.data_base;
     }) refl))
 operands_are at item.Closure d le k room =
-    gets_then _ IsDraft _ _ address_is (λ n fits. gets_done IsDraft _ (other_header d (record d.header { closure = n }) k (record {
+    gets_then _ IsDraft _ _ address_is
+    (λ n fits. gets_done IsDraft _ (other_header d (record d.header { closure = n }) k (record {
       stack_base = k.header.stack_base;
       closure = fits;
       seals = k.header.seals;
@@ -287,7 +331,8 @@ operands_are at item.Movable d le k room =
       data_base = k.header.data_base;
     }) refl)
 operands_are at item.Seals d le k room =
-    gets_then _ IsDraft _ _ stretch_is (λ s fits. gets_done IsDraft _ (other_header d (record d.header { seals = seals_of s }) k (record {
+    gets_then _ IsDraft _ _ stretch_is
+    (λ s fits. gets_done IsDraft _ (other_header d (record d.header { seals = seals_of s }) k (record {
       stack_base = k.header.stack_base;
       closure = k.header.closure;
       seals = fits;
@@ -296,7 +341,8 @@ operands_are at item.Seals d le k room =
       data_base = k.header.data_base;
     }) refl))
 operands_are at item.Linear d le k room =
-    gets_then _ IsDraft _ _ stretch_is (λ s fits. gets_done IsDraft _ (other_header d (record d.header { linear = s }) k (record {
+    gets_then _ IsDraft _ _ stretch_is
+    (λ s fits. gets_done IsDraft _ (other_header d (record d.header { linear = s }) k (record {
       stack_base = k.header.stack_base;
       closure = k.header.closure;
       seals = k.header.seals;
@@ -305,7 +351,8 @@ operands_are at item.Linear d le k room =
       data_base = k.header.data_base;
     }) refl))
 operands_are at item.Code d le k room =
-    gets_then _ IsDraft _ _ address_is (λ n fits. gets_done IsDraft _ (other_header d (record d.header { code_base = n }) k (record {
+    gets_then _ IsDraft _ _ address_is
+    (λ n fits. gets_done IsDraft _ (other_header d (record d.header { code_base = n }) k (record {
       stack_base = k.header.stack_base;
       closure = k.header.closure;
       seals = k.header.seals;
@@ -314,7 +361,8 @@ operands_are at item.Code d le k room =
       data_base = k.header.data_base;
     }) refl))
 operands_are at item.Data d le k room =
-    gets_then _ IsDraft _ _ address_is (λ n fits. gets_done IsDraft _ (other_header d (record d.header { data_base = n }) k (record {
+    gets_then _ IsDraft _ _ address_is
+    (λ n fits. gets_done IsDraft _ (other_header d (record d.header { data_base = n }) k (record {
       stack_base = k.header.stack_base;
       closure = k.header.closure;
       seals = k.header.seals;
@@ -343,7 +391,12 @@ name_item at d k =
         data_base = k.header.data_base;
       };
       tables = k.tables;
-      came = record { name_came = λ _. is; code_came = λ le. absurd (omega (arith, le)); data_came = λ le. absurd (omega (arith, le)) };
+      came = record {
+        name_came = λ _. is;
+        code_came = λ le. absurd (omega (arith, le));
+        data_came = λ le.
+            absurd (omega (arith, le));
+      };
     }))
 
 name_or_other : (i : Item) → (i ≡ item.Name) ⊎ (2 ≤ rank i)
@@ -362,14 +415,18 @@ name_or_other item.Fail = inr (omega arith)
 name_or_other item.Literal = inr (omega arith)
 name_or_other item.Row = inr (omega arith)
 
-begins : (at : ℕ) (labelled : Bool) (i : Item) (d : Draft) → IsDraft d → may_stand labelled i d ≡ true → Gets IsDraft (operands_in at i (begun i d))
+begins : (at : ℕ) (labelled : Bool) (i : Item) (d : Draft) → IsDraft d → may_stand labelled i d ≡ true
+    → Gets IsDraft (operands_in at i (begun i d))
 begins at labelled i d k stands = by_item (name_or_other i)
   where
     by_item : (i ≡ item.Name) ⊎ (2 ≤ rank i) → Gets IsDraft (operands_in at i (begun i d))
-    by_item (inl is) = subst (λ (j : Item). Gets IsDraft (operands_in at j (begun j d))) (sym is) (name_item at d k)
-    by_item (inr le) = operands_are at i (begun i d) le (others_begun labelled i d k stands le) (room_in labelled i d stands)
+    by_item (inl is) = subst (λ (j : Item). Gets IsDraft (operands_in at j (begun j d))) (sym is)
+        (name_item at d k)
+    by_item (inr le) = operands_are at i (begun i d) le (others_begun labelled i d k stands le)
+        (room_in labelled i d stands)
 
-item_is : (at : ℕ) (labelled : Bool) (i : Item) (d : Draft) → IsDraft d → Gets IsDraft (item_in at labelled i d)
+item_is : (at : ℕ) (labelled : Bool) (i : Item) (d : Draft) → IsDraft d
+    → Gets IsDraft (item_in at labelled i d)
 unfolding item_in
 item_is at labelled i d k =
     gets_then _ IsDraft _ _ (gets_holds (may_stand labelled i d) (Section at)) (λ _ stands.
@@ -379,7 +436,8 @@ item_is at labelled i d k =
 
 -- ---- lines
 
-directed_is : (at : ℕ) (labelled : Bool) (directive : Directive) (d : Draft) → IsDraft d → Gets IsDraft (directed at labelled directive d)
+directed_is : (at : ℕ) (labelled : Bool) (directive : Directive) (d : Draft) → IsDraft d
+    → Gets IsDraft (directed at labelled directive d)
 directed_is at labelled (WordOf kind) d k = word_is at kind d k
 directed_is at labelled (Of i) d k = item_is at labelled i d k
 
@@ -392,7 +450,8 @@ directive_is labelled d k =
 
 behind_is : (labelled : Bool) (d : Draft) → IsDraft d → Gets IsDraft (behind_label labelled d)
 unfolding behind_label
-behind_is labelled d k = gets_looking IsDraft _ (λ i. gets_if IsDraft _ _ _ (λ _. instr_is d k) (λ _. directive_is labelled d k))
+behind_is labelled d k = gets_looking IsDraft _
+    (λ i. gets_if IsDraft _ _ _ (λ _. instr_is d k) (λ _. directive_is labelled d k))
 
 line_is : (d : Draft) → IsDraft d → Gets IsDraft (line_in d)
 unfolding line_in
@@ -403,11 +462,13 @@ line_or_none_is : (d : Draft) → IsDraft d → Gets IsDraft (line_or_none d)
 unfolding line_or_none
 line_or_none_is d k = record { gets = λ i x j h. by_length i x j (length i.rest == 0) h }
   where
-    by_length : (i : Input) (x : Draft) (j : Input) (b : Bool) → cond b (Ok (d, i)) (line_in d i) ≡ Ok (x, j) → IsDraft x
+    by_length : (i : Input) (x : Draft) (j : Input) (b : Bool) → cond b (Ok (d, i)) (line_in d i) ≡ Ok
+        (x, j) → IsDraft x
     by_length i x j true h = (gets_done IsDraft d k).gets i x j h
     by_length i x j false h = (line_is d k).gets i x j h
 
-went : (o : Result (Draft × Input) AsmFault) (f : Draft → Result Draft AsmFault) (e : Draft) → goes_to o f ≡ Ok e
+went : (o : Result (Draft × Input) AsmFault) (f : Draft → Result Draft AsmFault) (e : Draft)
+    → goes_to o f ≡ Ok e
     → (x : Draft × Input) × (o ≡ Ok x) × (f x.0 ≡ Ok e)
 went (Ok x) f e h = (x, refl, h)
 went (Err x) f e h = absurd cc
@@ -421,7 +482,12 @@ lines_are d e (line ∷ lines) k h =
 
 nothing_is : IsDraft nothing
 nothing_is = record {
-  words = record { labels_within = tt; ready = tt; code_fits = (omega arith, tt); data_fits = (omega arith, tt) };
+  words = record {
+    labels_within = tt;
+    ready = tt;
+    code_fits = (omega arith, tt);
+    data_fits = (omega arith, tt);
+  };
   header = record {
     stack_base = omega arith;
     closure = omega arith;
@@ -439,12 +505,18 @@ nothing_is = record {
     literal_at = tt;
     ordered = λ _. (tt, tt, tt, tt);
   };
-  came = record { name_came = λ le. absurd (omega (arith, le)); code_came = λ le. absurd (omega (arith, le)); data_came = λ le. absurd (omega (arith, le)) };
+  came =
+      record {
+        name_came = λ le. absurd (omega (arith, le));
+        code_came = λ le. absurd (omega (arith, le));
+        data_came = λ le. absurd (omega (arith, le));
+      };
 }
 
 pub drafted_is : (e : Draft) (lines : List Input) → drafted nothing lines ≡ Ok e → IsDraft e
 drafted_is e lines h = lines_are nothing e lines nothing_is h
 
--- where the text may end, both sections have words
-pub ended_some : (d : Draft) → IsDraft d → rank item.Data ≤ rank_of d.last → may_end d ≡ true → (1 ≤ length d.code) × (1 ≤ length d.data_words)
+-- where the text may end, and_parts sections have words
+pub ended_some : (d : Draft) → IsDraft d → rank item.Data ≤ rank_of d.last → may_end d ≡ true
+    → (1 ≤ length d.code) × (1 ≤ length d.data_words)
 ended_some d k le ends = (k.came.code_came le, data_some d.last d k.came.data_came ends le)

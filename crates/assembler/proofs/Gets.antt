@@ -1,66 +1,61 @@
 -- What readers read: facts of every value that a reader gives.
-use Rattle.std.proofs.Common.{◌≡◌, ℕ, ◌≤◌, Bool, true, false, cond, Option, Some, None, Result, Ok, Err, refl, ap, subst, arith}
+use Rattle.std.proofs.Common.{◌≡◌, ℕ, ◌≤◌, Bool, true, false, cond, Option, Some, Ok}
+use Rattle.std.proofs.Common.{refl, subst, arith}
 use Rattle.std.proofs.lemmas.Bool.Decides.{nat_tests}
-use Rattle.std.specs.Prelude.{ℤ, pos, negsuc, nat_abs, int_le, ◌&&◌, IsTrue, FitsSigned}
+use Rattle.std.specs.Prelude.{ℤ, pos, negsuc, nat_abs, int_le, IsTrue, FitsSigned}
 use Rattle.std.specs.Int.{w32, w64}
+use Rattle.std.proofs.lemmas.Bool.{and_parts}
+use Rattle.readers.proofs.Grammar.{goes_on_ok, ok_value, some_ok}
 use Rattle.asm_fields.specs.declared.fault.AsmFault.{AsmFault}
 use Rattle.asm_fields.specs.declared.fault.AsmFault.TheVariants.{Range}
-use Rattle.asm_fields.specs.Fields.{Input, Reader, goes_on, ◌>>=◌, done, place, unless_none, holds}
+use Rattle.readers.specs.Readers.{Reader, ◌>>=◌, done, unless_none, holds}
+use Rattle.asm_fields.specs.Fields.{Input, place}
 use Rattle.asm_fields.specs.Fields.{sign_at, number_from, signed, minus, integer_at, natural_at}
 
 -- whatever the reader gives keeps the fact
-pub record Gets {A : Type 0} (P : A → Type 0) (r : Reader A) : Type 0 where
+pub record Gets {A : Type 0} (P : A → Type 0) (r : Reader Input AsmFault A) : Type 0 where
   pub gets : (i : Input) (x : A) (j : Input) → r i ≡ Ok (x, j) → P x
 
 abbrev pub Any : {A : Type 0} → A → Type 0
 Any x = Unit {0}
 
-pub gets_any : {A : Type 0} (r : Reader A) → Gets Any r
+pub gets_any : {A : Type 0} (r : Reader Input AsmFault A) → Gets Any r
 gets_any r = record { gets = λ i x j h. tt }
 
-on_result : {A B : Type 0} (P : A → Type 0) (Q : B → Type 0) (r : Reader A) (f : A → Reader B) (i : Input) → Gets P r → ((x : A) → P x → Gets Q (f x))
-    → (o : Result (A × Input) AsmFault) → r i ≡ o → (y : B) (k : Input) → goes_on o f ≡ Ok (y, k) → Q y
-on_result P Q r f i first then (Ok x) is y k h = (then x.0 (first.gets i x.0 x.1 is)).gets x.1 y k h
-on_result P Q r f i first then (Err e) is y k h = absurd cc
-
-pub gets_then : {A B : Type 0} (P : A → Type 0) (Q : B → Type 0) (r : Reader A) (f : A → Reader B) → Gets P r → ((x : A) → P x → Gets Q (f x)) → Gets Q (r >>= f)
-gets_then P Q r f first then = record { gets = λ i y k h. on_result P Q r f i first then (r i) refl y k h }
-
-abbrev value : {A : Type 0} → A → Result (A × Input) AsmFault → A
-value x (Ok y) = y.0
-value x (Err e) = x
+pub gets_then : {A B : Type 0} (P : A → Type 0) (Q : B → Type 0) (r : Reader Input AsmFault A)
+    (f : A → Reader Input AsmFault B) → Gets P r → ((x : A) → P x → Gets Q (f x)) → Gets Q (r >>= f)
+gets_then P Q r f first then = record {
+  gets = λ i y k h.
+      let x = goes_on_ok (r i) f (y, k) h in
+      (then x.0.0 (first.gets i x.0.0 x.0.1 x.1)).gets x.0.1 y k x.2;
+}
 
 pub gets_done : {A : Type 0} (P : A → Type 0) (x : A) → P x → Gets P (done x)
-gets_done P x p = record { gets = λ i y k h. subst P (ap (value x) h) p }
+gets_done P x p = record { gets = λ i y k h. subst P (ok_value x y i k h).0 p }
 
-on_holds : (b : Bool) (fault : AsmFault) (i : Input) (x : Unit {0}) (j : Input) → holds b fault i ≡ Ok (x, j) → b ≡ true
+on_holds : (b : Bool) (fault : AsmFault) (i : Input) (x : Unit {0}) (j : Input)
+    → holds b fault i ≡ Ok (x, j) → b ≡ true
 on_holds true fault i x j h = refl
 on_holds false fault i x j h = absurd cc
 
 pub gets_holds : (b : Bool) (fault : AsmFault) → Gets (λ _. b ≡ true) (holds b fault)
 gets_holds b fault = record { gets = on_holds b fault }
 
-on_some : {A : Type 0} (fault : AsmFault) (o : Option A) (i : Input) (x : A) (j : Input) → unless_none fault o i ≡ Ok (x, j) → o ≡ Some x
-on_some fault (Some y) i x j h = ap (λ r. Some (value y r)) h
-on_some fault None i x j h = absurd cc
+pub gets_some : {A : Type 0} (fault : AsmFault) (o : Option A)
+    → Gets (λ x. o ≡ Some x) (unless_none fault o)
+gets_some fault o = record { gets = λ i x j h. (some_ok fault o i x j h).0 }
 
-pub gets_some : {A : Type 0} (fault : AsmFault) (o : Option A) → Gets (λ x. o ≡ Some x) (unless_none fault o)
-gets_some fault o = record { gets = on_some fault o }
-
-pub gets_if : {A : Type 0} (P : A → Type 0) (b : Bool) (r s : Reader A) → (b ≡ true → Gets P r) → (b ≡ false → Gets P s) → Gets P (cond b r s)
+pub gets_if : {A : Type 0} (P : A → Type 0) (b : Bool) (r s : Reader Input AsmFault A)
+    → (b ≡ true → Gets P r) → (b ≡ false → Gets P s) → Gets P (cond b r s)
 gets_if P true r s holding failing = holding refl
 gets_if P false r s holding failing = failing refl
 
 -- a reader that looks at its input first
-pub gets_looking : {A : Type 0} (P : A → Type 0) (r : Input → Reader A) → ((i : Input) → Gets P (r i)) → Gets P (λ i. r i i)
+pub gets_looking : {A : Type 0} (P : A → Type 0) (r : Input → Reader Input AsmFault A)
+    → ((i : Input) → Gets P (r i)) → Gets P (λ i. r i i)
 gets_looking P r each = record { gets = λ i x j h. (each i).gets i x j h }
 
 -- ---- numbers
-
-pub both : (a b : Bool) → (a && b) ≡ true → IsTrue a × IsTrue b
-both true true h = (refl, refl)
-both true false h = absurd cc
-both false b h = absurd cc
 
 abbrev pub Within : ℤ → ℤ → ℤ → Type 0
 Within low high z = IsTrue (int_le low z) × IsTrue (int_le z high)
@@ -72,7 +67,7 @@ integer_within low high =
     gets_then Any (Within low high) _ _ (gets_any (sign_at minus)) (λ negative _.
     gets_then Any (Within low high) _ _ (gets_any (number_from at)) (λ n _.
     gets_then _ (Within low high) _ _ (gets_holds _ (Range at)) (λ _ h.
-    gets_done (Within low high) (signed negative n) (both _ _ h)))))
+    gets_done (Within low high) (signed negative n) (and_parts _ _ h)))))
 
 abs_within : (low high : ℕ) (z : ℤ) → Within (pos low) (pos high) z → (low ≤ nat_abs z) × (nat_abs z ≤ high)
 abs_within low high (pos n) h = (grind (arith, nat_tests, h.0), grind (arith, nat_tests, h.1))

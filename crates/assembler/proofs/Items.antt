@@ -1,9 +1,12 @@
 -- The operands of items keep the limits.
-use Rattle.std.proofs.Common.{◌≡◌, ℕ, ◌<◌, ◌≤◌, zero, suc, Bool, true, false, cond, List, [], ◌∷◌, ◌++◌, length, Option, Some, None, refl, sym, ap, ◌∙◌, subst, arith}
+use Rattle.std.proofs.Common.{◌≡◌, ℕ, ◌<◌, ◌≤◌, zero, suc, Bool, true, false, cond, List, [], ◌∷◌, ◌++◌}
+use Rattle.std.proofs.Common.{length, Option, Some, None, refl, sym, ap, ◌∙◌, subst, arith}
 use Rattle.std.specs.Prelude.{IsTrue, IfSome, nat_lt, ◌==◌, unwrap_or}
 use Rattle.std.proofs.lemmas.Bool.Decides.{nat_tests}
+use Rattle.std.proofs.lemmas.List.{length_push}
 use Rattle.cap_words.specs.declared.TheConstants.{LAST_PLACE, LONGEST_STRETCH}
-use Rattle.component_file.specs.declared.TheConstants.{LAST_OFFSET, MOST_IMPORTS, MOST_EXPORTS, MOST_SITES, MOST_ROWS}
+use Rattle.component_file.specs.declared.TheConstants.{LAST_OFFSET, MOST_IMPORTS, MOST_EXPORTS, MOST_SITES}
+use Rattle.component_file.specs.declared.TheConstants.{MOST_ROWS}
 use Rattle.component_file.specs.declared.component.Area.{Area}
 use Rattle.component_file.specs.declared.component.Kind.{Kind}
 use Rattle.component_file.specs.declared.component.Kind.TheVariants as kind
@@ -11,7 +14,8 @@ use Rattle.component_file.specs.declared.component.Import.{Import}
 use Rattle.component_file.specs.declared.component.Export.{Export}
 use Rattle.component_file.specs.declared.component.KindRow.{KindRow}
 use Rattle.cap_words.specs.Names.{is_name}
-use Rattle.component_file.specs.Limits.{Each, ImportFits, ExportFits, SiteFits, RowFits, KindFits, StretchFits}
+use Rattle.component_file.specs.Limits.{Each, ImportFits, ExportFits, SiteFits, RowFits, KindFits}
+use Rattle.component_file.specs.Limits.{StretchFits}
 use Rattle.asm_labels.specs.declared.labels.Section.{Section}
 use Rattle.asm_labels.specs.declared.labels.Section.TheVariants.{Code, Data}
 use Rattle.asm_labels.specs.declared.labels.Label.{Label as LabelOf}
@@ -25,12 +29,15 @@ use Rattle.asm_fields.specs.Fields.{meant, proper_name_from, proper_name_at}
 use Rattle.asm_fields.specs.Names.{kind_named}
 use Rattle.asm_fields.specs.Operands.{address_at, stretch_at, Offset, Number, Label, offset_at, shared_at}
 use Rattle.asm_fields.specs.Operands.{KindField, Plain, Pc, kind_behind, kind_at}
-use Rattle.asm_draft.specs.Tables.{Tables, first_out_of_order, with_import, with_export, with_site, with_row}
+use Rattle.asm_draft.specs.Tables.{Tables, first_out_of_order, with_import, with_export, with_site}
+use Rattle.asm_draft.specs.Tables.{with_row}
 use Rattle.asm_draft.specs.Draft.{Draft}
-use Rattle.asm_draft.specs.Operands.{offset_found, offset_in, kind_found, kind_in, kinds_in, import_in, export_in, site_in, fail_in, literal_in, row_in}
-use Rattle.assembler.proofs.Gets.{Gets, Any, gets_any, gets_then, gets_done, gets_holds, gets_if, gets_looking, natural_within}
+use Rattle.asm_draft.specs.Operands.{offset_found, offset_in, kind_found, kind_in, kinds_in, import_in}
+use Rattle.asm_draft.specs.Operands.{export_in, site_in, fail_in, literal_in, row_in}
+use Rattle.assembler.proofs.Gets.{Gets, Any, gets_any, gets_then, gets_done, gets_holds, gets_if}
+use Rattle.assembler.proofs.Gets.{gets_looking, natural_within}
 use Rattle.assembler.proofs.Chains.{one_behind, each_free}
-use Rattle.assembler.proofs.Kept.{TablesKept, IsDraft, longer, ready_table}
+use Rattle.assembler.proofs.Kept.{TablesKept, IsDraft, ready_table}
 
 -- ---- names and stretches
 
@@ -48,11 +55,13 @@ name_is = record { gets = λ i x j h. (name_from_is (place_of i)).gets i x j h }
 pub address_is : Gets (λ n. n ≤ LAST_PLACE) address_at
 address_is = record { gets = λ i x j h. ((natural_within 0 LAST_PLACE).gets i x j h).1 }
 
-by_zero : (b : Bool) (base count : ℕ) → (count == 0) ≡ b → base ≤ LAST_PLACE → 1 ≤ count → base ≤ cond b 0 LAST_PLACE
+by_zero : (b : Bool) (base count : ℕ) → (count == 0) ≡ b → base ≤ LAST_PLACE → 1 ≤ count
+    → base ≤ cond b 0 LAST_PLACE
 by_zero true base count is in_space some = absurd (grind (arith, nat_tests, is, some))
 by_zero false base count is in_space some = in_space
 
-some_fit : (base count : ℕ) → base ≤ LAST_PLACE → 1 ≤ count → count ≤ LONGEST_STRETCH → StretchFits base count
+some_fit : (base count : ℕ) → base ≤ LAST_PLACE → 1 ≤ count → count ≤ LONGEST_STRETCH
+    → StretchFits base count
 some_fit base count in_space some few = (few, by_zero (count == 0) base count refl in_space some)
 
 pub stretch_is : Gets (λ s. StretchFits s.base s.count) stretch_at
@@ -76,17 +85,20 @@ offset_fits = gets_looking OffsetFits _ (λ i.
     (λ _. gets_then Any OffsetFits _ _ (gets_any place) (λ at _.
     gets_then Any OffsetFits _ _ (gets_any proper_name_at) (λ name _.
     gets_done OffsetFits (Label at name) tt)))
-    (λ _. gets_then _ OffsetFits _ _ (natural_within 0 LAST_OFFSET) (λ n h. gets_done OffsetFits (Number n) h.1)))
+    (λ _. gets_then _ OffsetFits _ _ (natural_within 0 LAST_OFFSET)
+    (λ n h. gets_done OffsetFits (Number n) h.1)))
 
 -- the draft has other references, and is as before else
 abbrev pub Refers : Draft → Draft → Type 0
-Refers d e = (references : List Reference) × (e ≡ record d { references = references }) × AreReady 0 d.code references
+Refers d e = (references : List Reference) × (e ≡ record d { references = references })
+    × AreReady 0 d.code references
 
 if_in : (b : Bool) (n : ℕ) → n < 65536 → unwrap_or (cond b (Some n) None) 0 ≤ LAST_OFFSET
 if_in true n lt = omega (arith, lt)
 if_in false n lt = omega arith
 
-label_within : (section : Section) (o : Option LabelOf) → IfSome o (λ l. l.offset < 65536) → unwrap_or (label_offset section o) 0 ≤ LAST_OFFSET
+label_within : (section : Section) (o : Option LabelOf) → IfSome o (λ l. l.offset < 65536)
+    → unwrap_or (label_offset section o) 0 ≤ LAST_OFFSET
 label_within section None h = omega arith
 label_within section (Some l) h = if_in (is_in section l) l.offset h
 
@@ -105,9 +117,11 @@ OffsetFound d x = (x.0 ≤ LAST_OFFSET) × Refers d x.1
 offset_is : (section : Section) (d : Draft) → IsDraft d → Gets (OffsetFound d) (offset_in section d)
 unfolding offset_in
 offset_is section d k =
-    gets_then _ (OffsetFound d) _ _ offset_fits (λ o fits. gets_done (OffsetFound d) (offset_found section o d) (found section o d k fits))
+    gets_then _ (OffsetFound d) _ _ offset_fits
+    (λ o fits. gets_done (OffsetFound d) (offset_found section o d) (found section o d k fits))
 
-with_references : (d : Draft) → IsDraft d → (references : List Reference) → AreReady 0 d.code references → IsDraft (record d { references = references })
+with_references : (d : Draft) → IsDraft d → (references : List Reference) → AreReady 0 d.code references
+    → IsDraft (record d { references = references })
 with_references d k references ready = record {
   words = record {
     labels_within = k.words.labels_within;
@@ -125,8 +139,11 @@ refers_kept d e k r = subst IsDraft (sym r.1) (with_references d k r.0 r.2)
 
 refers_on : (d e f : Draft) → Refers d e → Refers e f → Refers d f
 refers_on d e f r s =
-    let first = r.1 in
-    (s.0, s.1 ∙ ap (λ (x : Draft). record x { references = s.0 }) first, subst (λ (c : List _). AreReady 0 c s.0) (ap (λ (x : Draft). x.code) first) s.2)
+    let first = r.1 in (
+      s.0,
+      s.1 ∙ ap (λ (x : Draft). record x { references = s.0 }) first,
+      subst (λ (c : List _). AreReady 0 c s.0) (ap (λ (x : Draft). x.code) first) s.2,
+    )
 
 -- ---- kinds
 
@@ -135,7 +152,8 @@ KindFieldFits (Plain k) = KindFits k
 KindFieldFits (Pc o) = OffsetFits o
 
 behind_fits : (k : Kind) → Gets KindFieldFits (kind_behind k)
-behind_fits (kind.Pc offset) = gets_then _ KindFieldFits _ _ offset_fits (λ o fits. gets_done KindFieldFits (Pc o) fits)
+behind_fits (kind.Pc offset) = gets_then _ KindFieldFits _ _ offset_fits
+    (λ o fits. gets_done KindFieldFits (Pc o) fits)
 behind_fits kind.Any = gets_done KindFieldFits (Plain kind.Any) tt
 behind_fits kind.Int = gets_done KindFieldFits (Plain kind.Int) tt
 behind_fits kind.DataCap = gets_done KindFieldFits (Plain kind.DataCap) tt
@@ -156,7 +174,8 @@ kind_found_fits (Pc o) d kept fits = found Code o d kept fits
 kind_is : (d : Draft) → IsDraft d → Gets (KindFound d) (kind_in d)
 unfolding kind_in
 kind_is d k =
-    gets_then _ (KindFound d) _ _ kind_fits (λ f fits. gets_done (KindFound d) (kind_found f d) (kind_found_fits f d k fits))
+    gets_then _ (KindFound d) _ _ kind_fits
+    (λ f fits. gets_done (KindFound d) (kind_found f d) (kind_found_fits f d k fits))
 
 abbrev KindsFound : ℕ → Draft → List Kind × Draft → Type 0
 KindsFound n d x = ((length x.0 ≡ n) × Each KindFits x.0) × Refers d x.1
@@ -168,20 +187,25 @@ kinds_are (suc n) d k =
     let P = KindsFound (suc n) d in
     gets_then _ P _ _ (kind_is d k) (λ first f.
     gets_then _ P _ _ (kinds_are n first.1 (refers_kept d first.1 k f.1)) (λ others o.
-    gets_done P (first.0 ∷ others.0, others.1)
-    ((ap suc o.0.0, (f.0, each_free KindFits None (Some first.0) others.0 o.0.1)), refers_on d first.1 others.1 f.1 o.1)))
+    gets_done P (first.0 ∷ others.0, others.1) (
+      (ap suc o.0.0, (f.0, each_free KindFits None (Some first.0) others.0 o.0.1)),
+      refers_on d first.1 others.1 f.1 o.1,
+    )))
 
 -- ---- tables
 
-none_before : (before : Option ℕ) (b : Bool) (at : ℕ) → first_out_of_order before b at ≡ None → (before ≡ None) × (b ≡ true)
+none_before : (before : Option ℕ) (b : Bool) (at : ℕ) → first_out_of_order before b at ≡ None
+    → (before ≡ None) × (b ≡ true)
 none_before (Some p) b at h = absurd cc
 none_before None true at h = (refl, refl)
 none_before None false at h = absurd cc
 
-import_kept : (at : ℕ) (i : Import) (t : Tables) → TablesKept t → nat_lt (length t.imports) MOST_IMPORTS ≡ true
-    → IsTrue (is_name i.part) → IsTrue (is_name i.name) → i.slot ≤ LAST_OFFSET → TablesKept (with_import at i t)
+import_kept : (at : ℕ) (i : Import) (t : Tables) → TablesKept t
+    → nat_lt (length t.imports) MOST_IMPORTS ≡ true
+    → IsTrue (is_name i.part) → IsTrue (is_name i.name) → i.slot ≤ LAST_OFFSET
+    → TablesKept (with_import at i t)
 import_kept at i t k room part name slot = record {
-  imports = let n = longer t.imports i in grind (arith, nat_tests, n, room);
+  imports = let n = length_push t.imports i in grind (arith, nat_tests, n, room);
   exports = k.exports;
   sites = k.sites;
   rows = k.rows;
@@ -193,10 +217,11 @@ import_kept at i t k room part name slot = record {
       (one_behind ImportFits t.imports i before.0 (part, name, slot, p.1), before.1, before.2, before.3);
 }
 
-export_kept : (at : ℕ) (e : Export) (t : Tables) → TablesKept t → nat_lt (length t.exports) MOST_EXPORTS ≡ true
+export_kept : (at : ℕ) (e : Export) (t : Tables) → TablesKept t
+    → nat_lt (length t.exports) MOST_EXPORTS ≡ true
     → IsTrue (is_name e.name) → e.offset ≤ LAST_OFFSET → TablesKept (with_export at e t)
 export_kept at e t k room name offset = record {
-  exports = let n = longer t.exports e in grind (arith, nat_tests, n, room);
+  exports = let n = length_push t.exports e in grind (arith, nat_tests, n, room);
   imports = k.imports;
   sites = k.sites;
   rows = k.rows;
@@ -208,9 +233,10 @@ export_kept at e t k room name offset = record {
       (before.0, one_behind ExportFits t.exports e before.1 (name, p.1, offset), before.2, before.3);
 }
 
-site_kept : (at site : ℕ) (t : Tables) → TablesKept t → nat_lt (length t.sites) MOST_SITES ≡ true → site ≤ LAST_OFFSET → TablesKept (with_site at site t)
+site_kept : (at site : ℕ) (t : Tables) → TablesKept t → nat_lt (length t.sites) MOST_SITES ≡ true
+    → site ≤ LAST_OFFSET → TablesKept (with_site at site t)
 site_kept at site t k room offset = record {
-  sites = let n = longer t.sites site in grind (arith, nat_tests, n, room);
+  sites = let n = length_push t.sites site in grind (arith, nat_tests, n, room);
   imports = k.imports;
   exports = k.exports;
   rows = k.rows;
@@ -225,7 +251,7 @@ site_kept at site t k room offset = record {
 row_kept : (at : ℕ) (r : KindRow) (t : Tables) → TablesKept t → nat_lt (length t.rows) MOST_ROWS ≡ true
     → r.offset ≤ LAST_OFFSET → (length r.kinds ≡ 15) × Each KindFits r.kinds → TablesKept (with_row at r t)
 row_kept at r t k room offset kinds = record {
-  rows = let n = longer t.rows r in grind (arith, nat_tests, n, room);
+  rows = let n = length_push t.rows r in grind (arith, nat_tests, n, room);
   imports = k.imports;
   exports = k.exports;
   sites = k.sites;
@@ -238,7 +264,8 @@ row_kept at r t k room offset kinds = record {
 }
 
 -- other tables, and other references
-other_tables : (d e : Draft) (change : Tables → Tables) → IsDraft d → Refers d e → TablesKept (change d.tables) → IsDraft (record e { tables = change e.tables })
+other_tables : (d e : Draft) (change : Tables → Tables) → IsDraft d → Refers d e
+    → TablesKept (change d.tables) → IsDraft (record e { tables = change e.tables })
 other_tables d e change k r tables =
     let kept : IsDraft (record d { references = r.0; tables = change d.tables }) = record {
       words = record {
@@ -253,7 +280,8 @@ other_tables d e change k r tables =
     } in
     subst (λ (x : Draft). IsDraft (record x { tables = change x.tables })) (sym r.1) kept
 
-pub import_is : (at : ℕ) (d : Draft) → IsDraft d → nat_lt (length d.tables.imports) MOST_IMPORTS ≡ true → Gets IsDraft (import_in at d)
+pub import_is : (at : ℕ) (d : Draft) → IsDraft d → nat_lt (length d.tables.imports) MOST_IMPORTS ≡ true
+    → Gets IsDraft (import_in at d)
 unfolding import_in
 import_is at d k room =
     gets_then _ IsDraft _ _ name_is (λ part part_is.
@@ -261,9 +289,11 @@ import_is at d k room =
     gets_then _ IsDraft _ _ (offset_is Data d k) (λ slot s.
     gets_done IsDraft _ (
     let i : Import = record { part = part; name = name; slot = slot.0 } in
-    other_tables d slot.1 (with_import at i) k s.1 (import_kept at i d.tables k.tables room part_is its_name s.0)))))
+    other_tables d slot.1 (with_import at i) k s.1
+    (import_kept at i d.tables k.tables room part_is its_name s.0)))))
 
-pub export_is : (at : ℕ) (d : Draft) → IsDraft d → nat_lt (length d.tables.exports) MOST_EXPORTS ≡ true → Gets IsDraft (export_in at d)
+pub export_is : (at : ℕ) (d : Draft) → IsDraft d → nat_lt (length d.tables.exports) MOST_EXPORTS ≡ true
+    → Gets IsDraft (export_in at d)
 unfolding export_in
 export_is at d k room =
     gets_then _ IsDraft _ _ name_is (λ name its_name.
@@ -271,27 +301,35 @@ export_is at d k room =
     gets_then Any IsDraft _ _ (gets_any shared_at) (λ shared _.
     gets_done IsDraft _ (
     let e : Export = record { name = name; offset = offset.0; shared = shared } in
-    other_tables d offset.1 (with_export at e) k o.1 (export_kept at e d.tables k.tables room its_name o.0)))))
+    other_tables d offset.1 (with_export at e) k o.1
+    (export_kept at e d.tables k.tables room its_name o.0)))))
 
-pub site_is : (at : ℕ) (d : Draft) → IsDraft d → nat_lt (length d.tables.sites) MOST_SITES ≡ true → Gets IsDraft (site_in at d)
+pub site_is : (at : ℕ) (d : Draft) → IsDraft d → nat_lt (length d.tables.sites) MOST_SITES ≡ true
+    → Gets IsDraft (site_in at d)
 unfolding site_in
 site_is at d k room =
     gets_then _ IsDraft _ _ (offset_is Code d k) (λ site s.
-    gets_done IsDraft _ (other_tables d site.1 (with_site at site.0) k s.1 (site_kept at site.0 d.tables k.tables room s.0)))
+    gets_done IsDraft _
+    (other_tables d site.1 (with_site at site.0) k s.1
+    (site_kept at site.0 d.tables k.tables room s.0)))
 
-pub row_is : (at : ℕ) (d : Draft) → IsDraft d → nat_lt (length d.tables.rows) MOST_ROWS ≡ true → Gets IsDraft (row_in at d)
+pub row_is : (at : ℕ) (d : Draft) → IsDraft d → nat_lt (length d.tables.rows) MOST_ROWS ≡ true
+    → Gets IsDraft (row_in at d)
 unfolding row_in
 row_is at d k room =
     gets_then _ IsDraft _ _ (offset_is Code d k) (λ offset o.
     gets_then _ IsDraft _ _ (kinds_are 15 offset.1 (refers_kept d offset.1 k o.1)) (λ kinds s.
     gets_done IsDraft _ (
     let r : KindRow = record { offset = offset.0; kinds = kinds.0 } in
-    other_tables d kinds.1 (with_row at r) k (refers_on d offset.1 kinds.1 o.1 s.1) (row_kept at r d.tables k.tables room o.0 s.0))))
+    other_tables d kinds.1 (with_row at r) k (refers_on d offset.1 kinds.1 o.1 s.1)
+    (row_kept at r d.tables k.tables room o.0 s.0))))
 
 pub fail_is : (d : Draft) → IsDraft d → Gets IsDraft (fail_in d)
 unfolding fail_in
 fail_is d k =
-    gets_then _ IsDraft _ _ (offset_is Code d k) (λ o fits. gets_done IsDraft _ (other_tables d o.1 (λ (t : Tables). record t { fail_at = Some o.0 }) k fits.1 (record {
+    gets_then _ IsDraft _ _ (offset_is Code d k)
+    (λ o fits. gets_done IsDraft _
+    (other_tables d o.1 (λ (t : Tables). record t { fail_at = Some o.0 }) k fits.1 (record {
       imports = k.tables.imports;
       exports = k.tables.exports;
       sites = k.tables.sites;
@@ -304,7 +342,9 @@ fail_is d k =
 pub literal_is : (d : Draft) → IsDraft d → Gets IsDraft (literal_in d)
 unfolding literal_in
 literal_is d k =
-    gets_then _ IsDraft _ _ (offset_is Code d k) (λ o fits. gets_done IsDraft _ (other_tables d o.1 (λ (t : Tables). record t { literal_at = Some o.0 }) k fits.1 (record {
+    gets_then _ IsDraft _ _ (offset_is Code d k)
+    (λ o fits. gets_done IsDraft _
+    (other_tables d o.1 (λ (t : Tables). record t { literal_at = Some o.0 }) k fits.1 (record {
       imports = k.tables.imports;
       exports = k.tables.exports;
       sites = k.tables.sites;

@@ -1,10 +1,10 @@
 -- The component that a text spells, or its first fault.
 use Rattle.std.specs.Prelude.{ℕ, List, Option, Some, None, Result, Ok, Err}
-use Rattle.text_scan.specs.declared.fault.ScanFault.{ScanFault}
+use Rattle.readers.specs.Readers.{told_by}
+use Rattle.readers.specs.Results.{◌>>=◌}
 use Rattle.text_scan.specs.Tokens.{scanned}
 use Rattle.cap_words.specs.declared.Word.{Word}
 use Rattle.component_file.specs.declared.component.ComponentFields.{ComponentFields}
-use Rattle.asm_labels.specs.declared.references.MissingLabel.{MissingLabel}
 use Rattle.asm_labels.specs.References.{resolved}
 use Rattle.asm_fields.specs.declared.fault.AsmFault.{AsmFault}
 use Rattle.asm_fields.specs.declared.fault.AsmFault.TheVariants.{LabelMissing, Section}
@@ -13,22 +13,10 @@ use Rattle.asm_draft.specs.Draft.{Draft}
 use Rattle.asm_draft.specs.Whole.{draft_of_text}
 
 -- A text is read in four passes. The first pass that finds a fault tells its first one.
-infixl 10 ◌>>=◌
-abbrev pub ◌>>=◌ : {A B : Type 0} → Result A AsmFault → (A → Result B AsmFault) → Result B AsmFault
-(Ok x) >>= f = f x
-(Err e) >>= f = Err e
-
-abbrev pub scan_told : {A : Type 0} → Result A ScanFault → Result A AsmFault
-scan_told (Ok x) = Ok x
-scan_told (Err fault) = Err (of_scan fault)
-
-abbrev pub missing_told : {A : Type 0} → Result A MissingLabel → Result A AsmFault
-missing_told (Ok x) = Ok x
-missing_told (Err missing) = Err (LabelMissing missing.at)
 
 -- each reference has its label: the code, in which each word has what it waits for
 abbrev pub none_missing : Draft → Result (List Word) AsmFault
-none_missing d = missing_told (resolved d.labels d.references d.code)
+none_missing d = told_by (λ m. LabelMissing m.at) (resolved d.labels d.references d.code)
 
 -- no item of a table is out of order
 abbrev pub in_order : Option ℕ → Result (Unit {0}) AsmFault
@@ -65,6 +53,6 @@ finished d = do
 -- tokens, lines, labels that are missing, tables out of order
 unfoldable pub assembled : List ℕ → Result ComponentFields AsmFault
 assembled text = do
-  tokens ← scan_told (scanned text)
+  tokens ← told_by of_scan (scanned text)
   draft ← draft_of_text text tokens
   finished draft

@@ -2,7 +2,8 @@
 ghost use Rattle.std.specs.Prelude.{◌≡◌, ◌≤◌, ◌<◌, ◌^◌, length};
 ghost use Rattle.component_file.specs.declared.TheConstants.{MOST_WORDS};
 ghost use Rattle.asm_labels.specs.References.{AreReady};
-ghost use Rattle.asm_fields.specs.Fault.{AnswersAs};
+ghost use Rattle.readers.specs.Answers.{AnswersUnlessRefused};
+ghost use Rattle.asm_fields.specs.Fault.{is_refusal};
 ghost use Rattle.assembler.specs.Assembled.{finished, assembled};
 
 use asm_draft::{Draft, Parts, draft_of};
@@ -14,7 +15,7 @@ use text_scan::scan;
 
 // What a draft says, once each reference has its label and no item is out of order. It takes no memory.
 #[tactic(auto, unfolding(crate::specs::Assembled::finished))]
-fn finished(draft: Draft<'_>) -> Result<ComponentFields, AsmFault>
+fn component_of(draft: Draft<'_>) -> Result<ComponentFields, AsmFault>
     requires ready { AreReady 0 draft.code draft.references }
     requires few { length draft.code ≤ MOST_WORDS }
     ensures { result ≡ finished draft.entry }
@@ -62,10 +63,10 @@ fn finished(draft: Draft<'_>) -> Result<ComponentFields, AsmFault>
 pub fn assemble(alloc: Global, text: &[u8]) -> Result<Component, AsmFault>
     requires { length text.now < 2 ^ 32 }
     // Which component, or which fault.
-    ensures { AnswersAs (λ c. c) result (assembled text.now) }
+    ensures { AnswersUnlessRefused is_refusal result (assembled text.now) }
 {
     let tokens = scan(alloc, text)?;
     let draft = draft_of(alloc, text, tokens.as_slice())?;
-    let fields = finished(draft)?;
+    let fields = component_of(draft)?;
     Ok(Component::of(fields))
 }

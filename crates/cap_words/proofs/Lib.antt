@@ -1,4 +1,4 @@
-pub mod Grammar
+pub mod ByteReads
 pub mod Numbers
 pub mod Fields
 pub mod Words

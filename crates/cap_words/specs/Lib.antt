@@ -5,7 +5,6 @@ pub mod Faces
 pub mod Text
 pub mod Stretch
 pub mod Reading
-pub mod Gives
 pub mod WordBytes
 pub mod WordReading
 pub mod Names

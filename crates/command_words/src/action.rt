@@ -62,7 +62,7 @@ fn any_used(options: &[Option<&str>]) -> bool
 
 // One image word and no size of a stack, or part words.
 #[tactic(auto, unfolding(crate::specs::Action::linked_in))]
-fn linked<'a>(
+fn linked_of<'a>(
     alloc: Global,
     words: Option<&[&'a str]>,
     stack: Option<&str>,
@@ -95,7 +95,7 @@ fn run<'a>(alloc: Global, taken: &Taken<'_, 'a>) -> Result<Option<(Linked<'a>, S
     let Some(steps) = steps_of(taken.steps) else {
         return Ok(None);
     };
-    match linked(alloc, taken.parts, taken.stack)? {
+    match linked_of(alloc, taken.parts, taken.stack)? {
         Some(what) => Ok(Some((what, steps))),
         None => Ok(None),
     }
@@ -248,7 +248,7 @@ fn asked_of<'a>(
 }
 
 // What the words ask for.
-fn asked<'a>(alloc: Global, words: &'a [String]) -> Result<Option<Command<'a>>, AllocError>
+fn command_asked<'a>(alloc: Global, words: &'a [String]) -> Result<Option<Command<'a>>, AllocError>
     ensures { IfOk result (λ r. r ≡ asked_in (texts words.now)) }
 {
     let Some(matches) = matches(alloc, words)? else {
@@ -275,7 +275,7 @@ pub fn command_of<'a>(alloc: Global, words: &'a [String]) -> Result<Command<'a>,
     // Names, numbers and counts are within their bounds.
     ensures fits { IfOk result Fits }
 {
-    match asked(alloc, words)? {
+    match command_asked(alloc, words)? {
         Some(command) => Ok(command),
         None => Err(WordsFault::Usage),
     }

@@ -1,5 +1,6 @@
 -- A table of 65,536 bits, and the linear area's addresses that are marked in it.
-use Rattle.std.specs.Prelude.{◌≡◌, ℕ, ◌+◌, ◌/◌, ◌%◌, ◌<◌, ◌≤◌, ◌==◌, nat_le, nat_lt, Bool, false, ◌&&◌, ◌||◌, List, slice_index, Option, Some, None, is_some}
+use Rattle.std.specs.Prelude.{◌≡◌, ℕ, ◌+◌, ◌/◌, ◌%◌, ◌<◌, ◌≤◌, ◌==◌, nat_le, nat_lt, Bool, false, ◌&&◌, ◌||◌}
+use Rattle.std.specs.Prelude.{List, slice_index, Option, Some, None, is_some}
 use Rattle.std.specs.Int.{bit_at}
 use Rattle.cap_words.specs.declared.TheConstants.{LONGEST_STRETCH}
 use Rattle.cap_words.specs.declared.CapFields.{CapFields}

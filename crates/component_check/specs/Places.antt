@@ -1,5 +1,6 @@
 -- Rules that are broken at places, and the first place of a rule.
-use Rattle.std.specs.Prelude.{◌≡◌, ℕ, zero, suc, ◌<◌, Bool, true, false, List, length, slice_index_or, Option, Some, None, option_map, if◌then◌else◌}
+use Rattle.std.specs.Prelude.{◌≡◌, ℕ, zero, suc, ◌<◌, Bool, true, false, List, length, slice_index_or, Option}
+use Rattle.std.specs.Prelude.{Some, None, option_map, if◌then◌else◌}
 
 -- a rule: how many places it is tried at, whether it is broken at the one of each index, and what a
 -- report names as that place

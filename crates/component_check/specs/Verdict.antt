@@ -1,5 +1,6 @@
 -- The first rule of a list that is broken, and its first place.
-use Rattle.std.specs.Prelude.{◌≡◌, ℕ, zero, suc, ◌+◌, ◌<◌, ◌⊎◌, List, [], ◌∷◌, Option, Some, None, Result, Ok, Err, slice_get}
+use Rattle.std.specs.Prelude.{◌≡◌, ℕ, zero, suc, ◌+◌, ◌<◌, ◌⊎◌, List, [], ◌∷◌, Option, Some, None, Result, Ok}
+use Rattle.std.specs.Prelude.{Err, slice_get}
 use Rattle.component_check.specs.Places.{Test, BrokenAt, first_place}
 
 -- rule number n of a list, counted from 1

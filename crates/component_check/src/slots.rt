@@ -2,7 +2,8 @@
 ghost use Rattle.std.specs.Prelude.{◌≡◌, ◌<◌, ◌^◌, length, slice_get};
 ghost use Rattle.component_file.specs.Limits.{IsComponent};
 ghost use Rattle.component_check.specs.Places.{first_place};
-ghost use Rattle.component_check.specs.Rules.{c4, c5, c6, slot_is_bad, slot_is_free, export_offset, is_zero_word};
+ghost use Rattle.component_check.specs.Rules.{c4, c5, c6, slot_is_bad, slot_is_free, export_offset};
+ghost use Rattle.component_check.specs.Rules.{is_zero_word};
 
 use crate::places::first_place;
 use cap_words::Word;

@@ -3,7 +3,8 @@ ghost use Rattle.std.specs.Prelude.{◌≡◌, ◌<◌, ◌+◌, ◌^◌, length
 ghost use Rattle.std.specs.Option.{option_copied};
 ghost use Rattle.component_file.specs.Limits.{IsComponent};
 ghost use Rattle.component_check.specs.Places.{first_place, first_of};
-ghost use Rattle.component_check.specs.Rules.{c10, c11, c12, holds_of, is_no_int, is_at, is_zero_word, code_at, is_over_seals};
+ghost use Rattle.component_check.specs.Rules.{c10, c11, c12, holds_of, is_no_int, is_at, is_zero_word};
+ghost use Rattle.component_check.specs.Rules.{code_at, is_over_seals};
 
 use crate::places::{each_of, first_place};
 use crate::slots::is_zero_word;

@@ -1,5 +1,6 @@
 //! The rules of the words one by one: C7 and C9.
-ghost use Rattle.std.specs.Prelude.{◌≡◌, ◌<◌, ◌≤◌, ◌+◌, ◌-◌, ◌^◌, length, slice_get, option_map, IfSome, Some, None};
+ghost use Rattle.std.specs.Prelude.{◌≡◌, ◌<◌, ◌≤◌, ◌+◌, ◌-◌, ◌^◌, length, slice_get, option_map, IfSome};
+ghost use Rattle.std.specs.Prelude.{Some, None};
 ghost use Rattle.std.specs.Option.{option_copied};
 ghost use Rattle.component_file.specs.Limits.{IsComponent};
 ghost use Rattle.component_check.specs.Places.{first_place};

@@ -1,7 +1,9 @@
 -- What is within the limits can be written.
-use Rattle.std.proofs.Common.{ℕ, ◌<◌, Bool, true, false, ◌&&◌, leb, List, [], ◌∷◌, length, Option, Some, None, arith}
+use Rattle.std.proofs.Common.{ℕ, ◌<◌, true, false, leb, List, [], ◌∷◌, length, Option, Some, None}
+use Rattle.std.proofs.Common.{arith}
 use Rattle.std.specs.Prelude.{IsTrue}
 use Rattle.std.specs.List.{AllByRecursion}
+use Rattle.std.proofs.lemmas.Bool.{and_parts}
 use Rattle.cap_words.specs.declared.Word.{Word}
 use Rattle.cap_words.specs.declared.Word.TheVariants.{Int, Mem, Seal, Sealed}
 use Rattle.cap_words.specs.WordBytes.{WordFits, IsUnsealed, SealInSpace}
@@ -12,18 +14,15 @@ use Rattle.cap_words.specs.Names.{is_name}
 use Rattle.component_file.specs.Limits.{Chain, Each, ImportFits, ExportFits}
 use Rattle.component_file.specs.Spelling.{Always, NamesAreShort, NameIsShort}
 
-both_are : (a b : Bool) → IsTrue (a && b) → IsTrue a × IsTrue b
-both_are true true h = (h, h)
-both_are true false h = absurd cc
-both_are false b h = absurd cc
-
 pub name_is_short : (text : List ℕ) → IsTrue (is_name text) → length text < 256
 unfolding is_name
 name_is_short text h =
-    let short = both_are (leb 1 (length text)) (leb (length text) LONGEST_NAME) (both_are _ _ (both_are _ _ h).0).0 in
+    let short = and_parts (leb 1 (length text)) (leb (length text) LONGEST_NAME)
+    (and_parts _ _ (and_parts _ _ h).0).0 in
     grind (arith, short.1)
 
-pub chain_all : {A : Type 0} {P : Option A → A → Type 0} {Q : A → Type 0} → ((b : Option A) (x : A) → P b x → Q x) → (b : Option A) (xs : List A) → Chain P b xs → AllByRecursion Q xs
+chain_all : {A : Type 0} {P : Option A → A → Type 0} {Q : A → Type 0} → ((b : Option A) (x : A) → P b x → Q x)
+    → (b : Option A) (xs : List A) → Chain P b xs → AllByRecursion Q xs
 chain_all h b [] c = tt
 chain_all h b (x ∷ xs) c = (h b x c.0, chain_all h (Some x) xs c.1)
 

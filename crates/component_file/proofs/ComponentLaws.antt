@@ -1,23 +1,33 @@
 -- A component is read where it is spelled, and spelled where it was read.
-use Rattle.std.proofs.Common.{◌≡◌, ℕ, ◌+◌, ◌^◌, Option, Some, None, ◌<◌, ◌≤◌, Bool, true, false, cond, eqb, List, [], ◌∷◌, ◌++◌, length, Result, Ok, Err, refl, sym, ap, ◌∙◌, append-nil, arith, take}
+use Rattle.std.proofs.Common.{◌≡◌, ℕ, ◌+◌, ◌^◌, Some, None, ◌<◌, ◌≤◌, Bool, true, false, cond, eqb}
+use Rattle.std.proofs.Common.{List, ◌∷◌, ◌++◌, length, Ok, Err, refl, sym, ap, ◌∙◌, append-nil}
+use Rattle.std.proofs.Common.{arith, take}
 use Rattle.std.specs.Str.{bytes_eq}
-use Rattle.std.proofs.lemmas.Bool.{eqb-true, eq-eqb, ne_eqb}
-use Rattle.std.proofs.lemmas.List.{nil_from_length}
+use Rattle.std.proofs.lemmas.Bool.{eqb-true}
 use Rattle.std.proofs.lemmas.Slice.Eq.{bytes_eq-Decides}
 use Rattle.cap_words.specs.Stretch.{Stretch}
-use Rattle.cap_words.specs.Reading.{Input, next_bytes, next_number}
-use Rattle.cap_words.proofs.Grammar.{IsBytes, Reads, All, reads_then, reads_done, reads_as, reads_text}
+use Rattle.cap_words.specs.Reading.{next_bytes, next_number}
+use Rattle.readers.specs.Answers.{Fails}
+use Rattle.readers.proofs.Grammar.{All, reads_then, reads_done, reads_as, reads_text, reads_tells}
+use Rattle.readers.proofs.Grammar.{reads_meaning}
+use Rattle.readers.proofs.Wholes as whole
+use Rattle.cap_words.proofs.ByteReads.{IsBytes, Reads}
 use Rattle.cap_words.proofs.Fields.{number_reads}
-use Rattle.component_file.specs.declared.TheConstants.{MOST_IMPORTS, MOST_EXPORTS, MOST_SITES, MOST_ROWS, FIXED_VERSION, MOVABLE_VERSION}
+use Rattle.component_file.specs.declared.TheConstants.{MOST_IMPORTS, MOST_EXPORTS, MOST_SITES, MOST_ROWS}
 use Rattle.component_file.specs.declared.fault.FileFault.{FileFault}
-use Rattle.component_file.specs.declared.fault.FileFault.TheVariants.{Magic, Version, Short, BadField, Order, Trailing, NoMemory}
+use Rattle.component_file.specs.declared.fault.FileFault.TheVariants.{Magic, Version, Short}
+use Rattle.component_file.specs.declared.fault.FileFault.TheVariants.{Trailing, NoMemory}
 use Rattle.component_file.specs.declared.component.ComponentFields.{ComponentFields}
-use Rattle.component_file.specs.Fault.{Fails}
+use Rattle.component_file.specs.Fault.{is_refusal}
 use Rattle.component_file.specs.Limits.{IsComponent}
 use Rattle.component_file.specs.Spelling.{u16_bytes, version_of, magic, spelling, Spells}
-use Rattle.component_file.specs.Reading.{field, version_meant, next_name, next_address, next_stretch, next_optional, next_list, next_import, next_export, next_site, next_row, next_header, next_words, next_component, finished, decoded}
-use Rattle.component_file.proofs.FieldLaws.{reads_field, reads_tells, reads_meaning, four_read, name_reads, address_reads, stretch_reads, optional_reads}
-use Rattle.component_file.proofs.ListLaws.{list_read, import_reads, export_reads, site_reads, row_reads, words_reads}
+use Rattle.component_file.specs.Reading.{field, version_meant, next_name, next_address, next_stretch}
+use Rattle.component_file.specs.Reading.{next_optional, next_list, next_import, next_export, next_site}
+use Rattle.component_file.specs.Reading.{next_row, next_header, next_words, next_component, decoded}
+use Rattle.component_file.proofs.FieldLaws.{reads_field, four_read, name_reads, address_reads, stretch_reads}
+use Rattle.component_file.proofs.FieldLaws.{optional_reads}
+use Rattle.component_file.proofs.ListLaws.{list_read, import_reads, export_reads, site_reads, row_reads}
+use Rattle.component_file.proofs.ListLaws.{words_reads}
 
 -- ---- magic and version
 
@@ -25,8 +35,15 @@ version_there : (n : ℕ) (b : Bool) → version_meant n ≡ Some b → version_
 version_there n b e = by_tests (eqb n 1) (eqb n 2) refl refl
   where
     by_tests : (s t : Bool) → eqb n 1 ≡ s → eqb n 2 ≡ t → version_of b ≡ n
-    by_tests true t f g = let is : Some false ≡ Some b = sym (ap (λ v. cond v (Some false) (cond (eqb n 2) (Some true) None)) f) ∙ e in let same : false ≡ b = cc in ap version_of (sym same) ∙ sym (eqb-true n 1 f)
-    by_tests false true f g = let is : Some true ≡ Some b = sym (rw (f, g) refl) ∙ e in let same : true ≡ b = cc in ap version_of (sym same) ∙ sym (eqb-true n 2 g)
+    by_tests true t f g =
+        let is : Some false ≡ Some b =
+        sym (ap (λ v. cond v (Some false) (cond (eqb n 2) (Some true) None)) f) ∙ e in
+        let same : false ≡ b = cc in
+        ap version_of (sym same) ∙ sym (eqb-true n 1 f)
+    by_tests false true f g =
+        let is : Some true ≡ Some b = sym (rw (f, g) refl) ∙ e in
+        let same : true ≡ b = cc in
+        ap version_of (sym same) ∙ sym (eqb-true n 2 g)
     by_tests false false f g = let is : None ≡ Some b = sym (rw (f, g) refl) ∙ e in absurd cc
 
 version_back : (b : Bool) → version_meant (version_of b) ≡ Some b
@@ -37,14 +54,17 @@ version_small : (b : Bool) → version_of b < 2 ^ 16
 version_small false = omega arith
 version_small true = omega arith
 
-header_reads : Reads Short All (All {A = Bool}) (λ movable. magic ++ u16_bytes (version_of movable)) next_header
+header_reads : Reads Short All (All {A = Bool}) (λ movable. magic ++ u16_bytes (version_of movable))
+    next_header
 unfolding next_header
 header_reads = reads_as next_header
     (reads_text _ (λ c k. ap (λ l. magic ++ l) (append-nil (u16_bytes (version_of c))))
     (reads_then (λ (c : Bool). magic) (field (next_bytes 4)) _ (reads_field four_read) (λ four p0.
-    reads_tells (bytes_eq four magic) Magic _ (λ e. sym ((bytes_eq-Decides four magic).0 e)) (λ e. (bytes_eq-Decides four magic).1 (sym e))
+    reads_tells (bytes_eq four magic) Magic _ (λ e. sym ((bytes_eq-Decides four magic).0 e))
+    (λ e. (bytes_eq-Decides four magic).1 (sym e))
     (reads_then version_of (field (next_number 2)) _ (reads_field (number_reads 2)) (λ version p1.
-    reads_meaning version_meant version_of Version version version_there version_back (λ b e. (tt, e)) (λ b k. k.1))))))
+    reads_meaning version_meant version_of Version version version_there version_back (λ b e. (tt, e))
+    (λ b k. k.1))))))
     (λ c k p. tt)
     (λ c k p. (refl, (version_small c, tt)))
 
@@ -55,20 +75,33 @@ unfolding next_component spelling
 component_reads = reads_as next_component
     (reads_then (λ (c : ComponentFields). c.movable) next_header _ header_reads (λ movable p0.
     reads_then (λ (c : ComponentFields). c.name) (field next_name) _ (reads_field name_reads) (λ name p1.
-    reads_then (λ (c : ComponentFields). c.stack_base) (field next_address) _ (reads_field address_reads) (λ stack_base p2.
-    reads_then (λ (c : ComponentFields). c.closure) (field next_address) _ (reads_field address_reads) (λ closure p3.
-    reads_then (λ (c : ComponentFields). c.seals) (field next_stretch) _ (reads_field stretch_reads) (λ seals p4.
-    reads_then {A = Stretch} (λ (c : ComponentFields). record { base = c.linear.base; count = c.linear.count }) (field next_stretch) _ (reads_field stretch_reads) (λ linear p5.
-    reads_then (λ (c : ComponentFields). c.code_base) (field next_address) _ (reads_field address_reads) (λ code_base p6.
+    reads_then (λ (c : ComponentFields). c.stack_base) (field next_address) _ (reads_field address_reads)
+    (λ stack_base p2.
+    reads_then (λ (c : ComponentFields). c.closure) (field next_address) _ (reads_field address_reads)
+    (λ closure p3.
+    reads_then (λ (c : ComponentFields). c.seals) (field next_stretch) _ (reads_field stretch_reads)
+    (λ seals p4.
+    reads_then {A = Stretch}
+    (λ (c : ComponentFields). record { base = c.linear.base; count = c.linear.count })
+    (field next_stretch) _ (reads_field stretch_reads) (λ linear p5.
+    reads_then (λ (c : ComponentFields). c.code_base) (field next_address) _ (reads_field address_reads)
+    (λ code_base p6.
     reads_then (λ (c : ComponentFields). c.code) next_words _ words_reads (λ code p7.
-    reads_then (λ (c : ComponentFields). c.data_base) (field next_address) _ (reads_field address_reads) (λ data_base p8.
+    reads_then (λ (c : ComponentFields). c.data_base) (field next_address) _ (reads_field address_reads)
+    (λ data_base p8.
     reads_then (λ (c : ComponentFields). c.data_words) next_words _ words_reads (λ data_words p9.
-    reads_then (λ (c : ComponentFields). c.imports) (next_list 2 0 MOST_IMPORTS next_import) _ (list_read next_import import_reads 2 0 MOST_IMPORTS (omega arith)) (λ imports p10.
-    reads_then (λ (c : ComponentFields). c.exports) (next_list 2 0 MOST_EXPORTS next_export) _ (list_read next_export export_reads 2 0 MOST_EXPORTS (omega arith)) (λ exports p11.
-    reads_then (λ (c : ComponentFields). c.sites) (next_list 2 0 MOST_SITES next_site) _ (list_read next_site site_reads 2 0 MOST_SITES (omega arith)) (λ sites p12.
-    reads_then (λ (c : ComponentFields). c.fail_at) (field next_optional) _ (reads_field optional_reads) (λ fail_at p13.
-    reads_then (λ (c : ComponentFields). c.literal_at) (field next_optional) _ (reads_field optional_reads) (λ literal_at p14.
-    reads_then (λ (c : ComponentFields). c.rows) (next_list 4 0 MOST_ROWS next_row) _ (list_read next_row row_reads 4 0 MOST_ROWS (omega arith)) (λ rows p15.
+    reads_then (λ (c : ComponentFields). c.imports) (next_list 2 0 MOST_IMPORTS next_import) _
+    (list_read next_import import_reads 2 0 MOST_IMPORTS (omega arith)) (λ imports p10.
+    reads_then (λ (c : ComponentFields). c.exports) (next_list 2 0 MOST_EXPORTS next_export) _
+    (list_read next_export export_reads 2 0 MOST_EXPORTS (omega arith)) (λ exports p11.
+    reads_then (λ (c : ComponentFields). c.sites) (next_list 2 0 MOST_SITES next_site) _
+    (list_read next_site site_reads 2 0 MOST_SITES (omega arith)) (λ sites p12.
+    reads_then (λ (c : ComponentFields). c.fail_at) (field next_optional) _ (reads_field optional_reads)
+    (λ fail_at p13.
+    reads_then (λ (c : ComponentFields). c.literal_at) (field next_optional) _ (reads_field optional_reads)
+    (λ literal_at p14.
+    reads_then (λ (c : ComponentFields). c.rows) (next_list 4 0 MOST_ROWS next_row) _
+    (list_read next_row row_reads 4 0 MOST_ROWS (omega arith)) (λ rows p15.
     reads_done (record {
       name = name;
       stack_base = stack_base;
@@ -87,70 +120,131 @@ component_reads = reads_as next_component
       rows = rows;
       movable = movable;
     })
-    (λ c k. rw (← k.1, ← k.0.1, ← k.0.0.1, ← k.0.0.0.1, ← k.0.0.0.0.1, ← k.0.0.0.0.0.1, ← k.0.0.0.0.0.0.1, ← k.0.0.0.0.0.0.0.1, ← k.0.0.0.0.0.0.0.0.1, ← k.0.0.0.0.0.0.0.0.0.1, ← k.0.0.0.0.0.0.0.0.0.0.1, ← k.0.0.0.0.0.0.0.0.0.0.0.1, ← k.0.0.0.0.0.0.0.0.0.0.0.0.1, ← k.0.0.0.0.0.0.0.0.0.0.0.0.0.1, ← k.0.0.0.0.0.0.0.0.0.0.0.0.0.0.1, ← k.0.0.0.0.0.0.0.0.0.0.0.0.0.0.0.1) refl)
-    ((((((((((((((((tt, refl), refl), refl), refl), refl), refl), refl), refl), refl), refl), refl), refl), refl), refl), refl), refl))))))))))))))))))
-    (λ c k p. record { name = p.1.0; stack_base = p.1.1.0; closure = p.1.1.1.0; seals = p.1.1.1.1.0; linear = p.1.1.1.1.1.0; code_base = p.1.1.1.1.1.1.0; code = p.1.1.1.1.1.1.1.0; data_base = p.1.1.1.1.1.1.1.1.0; data_words = p.1.1.1.1.1.1.1.1.1.0; imports = (p.1.1.1.1.1.1.1.1.1.1.0.0.1, p.1.1.1.1.1.1.1.1.1.1.0.1); exports = (p.1.1.1.1.1.1.1.1.1.1.1.0.0.1, p.1.1.1.1.1.1.1.1.1.1.1.0.1); sites = (p.1.1.1.1.1.1.1.1.1.1.1.1.0.0.1, p.1.1.1.1.1.1.1.1.1.1.1.1.0.1); fail_at = p.1.1.1.1.1.1.1.1.1.1.1.1.1.0; literal_at = p.1.1.1.1.1.1.1.1.1.1.1.1.1.1.0; rows = (p.1.1.1.1.1.1.1.1.1.1.1.1.1.1.1.0.0.1, p.1.1.1.1.1.1.1.1.1.1.1.1.1.1.1.0.1) })
-    (λ c k p. (tt, (p.name, (p.stack_base, (p.closure, (p.seals, (p.linear, (p.code_base, (p.code, (p.data_base, (p.data_words, (((omega arith, p.imports.0), p.imports.1), (((omega arith, p.exports.0), p.exports.1), (((omega arith, p.sites.0), p.sites.1), (p.fail_at, (p.literal_at, (((omega arith, p.rows.0), p.rows.1), tt)))))))))))))))))
+    (λ c k. rw (
+      ← k.1,
+      ← k.0.1,
+      ← k.0.0.1,
+      ← k.0.0.0.1,
+      ← k.0.0.0.0.1,
+      ← k.0.0.0.0.0.1,
+      ← k.0.0.0.0.0.0.1,
+      ← k.0.0.0.0.0.0.0.1,
+      ← k.0.0.0.0.0.0.0.0.1,
+      ← k.0.0.0.0.0.0.0.0.0.1,
+      ← k.0.0.0.0.0.0.0.0.0.0.1,
+      ← k.0.0.0.0.0.0.0.0.0.0.0.1,
+      ← k.0.0.0.0.0.0.0.0.0.0.0.0.1,
+      ← k.0.0.0.0.0.0.0.0.0.0.0.0.0.1,
+      ← k.0.0.0.0.0.0.0.0.0.0.0.0.0.0.1,
+      ← k.0.0.0.0.0.0.0.0.0.0.0.0.0.0.0.1,
+    ) refl) (
+      (
+        (
+          (
+            (
+              (((((((((((tt, refl), refl), refl), refl), refl), refl), refl), refl), refl), refl), refl),
+              refl,
+            ),
+            refl,
+          ),
+          refl,
+        ),
+        refl,
+      ),
+      refl,
+    ))))))))))))))))))
+    (λ c k p. record {
+      name = p.1.0;
+      stack_base = p.1.1.0;
+      closure = p.1.1.1.0;
+      seals = p.1.1.1.1.0;
+      linear = p.1.1.1.1.1.0;
+      code_base = p.1.1.1.1.1.1.0;
+      code = p.1.1.1.1.1.1.1.0;
+      data_base = p.1.1.1.1.1.1.1.1.0;
+      data_words = p.1.1.1.1.1.1.1.1.1.0;
+      imports = (p.1.1.1.1.1.1.1.1.1.1.0.0.1, p.1.1.1.1.1.1.1.1.1.1.0.1);
+      exports = (p.1.1.1.1.1.1.1.1.1.1.1.0.0.1, p.1.1.1.1.1.1.1.1.1.1.1.0.1);
+      sites = (p.1.1.1.1.1.1.1.1.1.1.1.1.0.0.1, p.1.1.1.1.1.1.1.1.1.1.1.1.0.1);
+      fail_at = p.1.1.1.1.1.1.1.1.1.1.1.1.1.0;
+      literal_at = p.1.1.1.1.1.1.1.1.1.1.1.1.1.1.0;
+      rows = (p.1.1.1.1.1.1.1.1.1.1.1.1.1.1.1.0.0.1, p.1.1.1.1.1.1.1.1.1.1.1.1.1.1.1.0.1);
+    })
+    (λ c k p. (
+      tt,
+      (
+        p.name,
+        (
+          p.stack_base,
+          (
+            p.closure,
+            (
+              p.seals,
+              (
+                p.linear,
+                (
+                  p.code_base,
+                  (
+                    p.code,
+                    (
+                      p.data_base,
+                      (
+                        p.data_words,
+                        (
+                          ((omega arith, p.imports.0), p.imports.1),
+                          (
+                            ((omega arith, p.exports.0), p.exports.1),
+                            (
+                              ((omega arith, p.sites.0), p.sites.1),
+                              (p.fail_at, (p.literal_at, (((omega arith, p.rows.0), p.rows.1), tt))),
+                            ),
+                          ),
+                        ),
+                      ),
+                    ),
+                  ),
+                ),
+              ),
+            ),
+          ),
+        ),
+      ),
+    ))
 
 -- ---- whole files
 
-ended_ok : (b : Bool) (x c : ComponentFields) (at : ℕ) → cond b (Ok x) (Err (Trailing at)) ≡ Ok c → (b ≡ true) × (x ≡ c)
-ended_ok true x c at e = (refl, cc)
-ended_ok false x c at e = absurd cc
-
--- what was read with nothing behind it
-finished_ok : (r : Result (ComponentFields × Input) FileFault) (c : ComponentFields) → finished r ≡ Ok c → (j : Input) × (r ≡ Ok (c, j)) × (length j.rest ≡ 0)
-finished_ok (Err e) c h = absurd cc
-finished_ok (Ok x) c h = let g = ended_ok (eqb (length x.1.rest) 0) x.0 c x.1.at h in (x.1, ap (λ y. Ok (y, x.1)) g.1, eqb-true _ _ g.0)
-
-pub found_whole : (bytes : List ℕ) (c : ComponentFields) → IsBytes bytes → decoded bytes ≡ Ok c → IsComponent c × (bytes ≡ spelling c)
+pub found_whole : (bytes : List ℕ) (c : ComponentFields) → IsBytes bytes → decoded bytes ≡ Ok c
+    → IsComponent c × (bytes ≡ spelling c)
 unfolding decoded
-found_whole bytes c fits e =
-    let f = finished_ok (next_component (record { at = 0; rest = bytes })) c e in
-    let g = component_reads.takes (record { at = 0; rest = bytes }) c f.0 fits f.1 in
-    let nothing : f.0.rest ≡ [] = nil_from_length f.0.rest f.2 in
-    (g.1, g.2.parts ∙ ap (λ l. spelling c ++ l) nothing ∙ append-nil (spelling c))
+found_whole = whole.found_whole component_reads Trailing
 
 pub read_whole : (c : ComponentFields) → IsComponent c → decoded (spelling c) ≡ Ok c
 unfolding decoded
-read_whole c fits = ap (λ l. finished (next_component (record { at = 0; rest = l }))) (sym (append-nil (spelling c))) ∙ ap finished (component_reads.again c 0 [] tt fits)
+read_whole = whole.again_whole component_reads Trailing
 
 -- a component that was cut is short somewhere
-pub read_cut : (c : ComponentFields) (n : ℕ) → IsComponent c → n < length (spelling c) → (at : ℕ) × (at ≤ n) × (decoded (take n (spelling c)) ≡ Err (Short at))
+pub read_cut : (c : ComponentFields) (n : ℕ) → IsComponent c → n < length (spelling c)
+    → (at : ℕ) × (at ≤ n) × (decoded (take n (spelling c)) ≡ Err (Short at))
 unfolding decoded
-read_cut c n fits lt =
-    let g = component_reads.cut c 0 n tt fits lt in
-    (0 + g.inside, omega (arith, g.within), ap finished g.is)
+read_cut = whole.cut_whole component_reads Trailing
 
 -- what stands behind a component is too much
-pub read_past : (c : ComponentFields) (b : ℕ) (more : List ℕ) → IsComponent c → decoded (spelling c ++ b ∷ more) ≡ Err (Trailing (length (spelling c)))
+pub read_past : (c : ComponentFields) (b : ℕ) (more : List ℕ) → IsComponent c
+    → decoded (spelling c ++ b ∷ more) ≡ Err (Trailing (length (spelling c)))
 unfolding decoded
-read_past c b more fits =
-    let some : eqb (length (b ∷ more)) 0 ≡ false = ne_eqb _ _ (λ e. omega (arith, e)) in
-    let same : 0 + length (spelling c) ≡ length (spelling c) = omega arith in
-    ap finished (component_reads.again c 0 (b ∷ more) tt fits) ∙ rw some (ap (λ n. Err (Trailing n)) same)
+read_past = whole.past_whole component_reads Trailing
 
-abbrev ok_of : ComponentFields → Result ComponentFields FileFault
-ok_of c = Ok c
-
-apart : (c : ComponentFields) (e : FileFault) → ok_of c ≡ Err e → ⊥
-apart c e h = absurd cc
-
-ok_is : (c d : ComponentFields) → ok_of c ≡ ok_of d → c ≡ d
-ok_is c d h = cc
+refusal_is : (e : FileFault) → is_refusal e ≡ true → e ≡ NoMemory
+refusal_is NoMemory is = refl
+refusal_is e is = absurd cc
 
 -- only memory keeps a component from being read
-fails_memory : (e : FileFault) (c : ComponentFields) (read : Result ComponentFields FileFault) → Fails e read → read ≡ Ok c → e ≡ NoMemory
-fails_memory NoMemory c read f h = refl
-fails_memory Magic c read f h = absurd (apart c Magic (sym h ∙ f))
-fails_memory Version c read f h = absurd (apart c Version (sym h ∙ f))
-fails_memory (Short at) c read f h = absurd (apart c (Short at) (sym h ∙ f))
-fails_memory (BadField at) c read f h = absurd (apart c (BadField at) (sym h ∙ f))
-fails_memory (Order at) c read f h = absurd (apart c (Order at) (sym h ∙ f))
-fails_memory (Trailing at) c read f h = absurd (apart c (Trailing at) (sym h ∙ f))
-
-pub only_memory : (bytes : List ℕ) (e : FileFault) (c : ComponentFields) → Fails e (decoded bytes) → Spells bytes c → e ≡ NoMemory
-only_memory bytes e c f s = fails_memory e c (decoded bytes) f (ap decoded s.1 ∙ read_whole c s.0)
+pub only_memory : (bytes : List ℕ) (e : FileFault) (c : ComponentFields) → Fails is_refusal e (decoded bytes)
+    → Spells bytes c → e ≡ NoMemory
+unfolding decoded
+only_memory bytes e c f s =
+    refusal_is e (whole.refused_whole component_reads Trailing is_refusal bytes e c f s)
 
 pub only_one : (bytes : List ℕ) (c d : ComponentFields) → decoded bytes ≡ Ok c → Spells bytes d → c ≡ d
-only_one bytes c d read s = ok_is c d (sym read ∙ ap decoded s.1 ∙ read_whole d s.0)
+unfolding decoded
+only_one = whole.one_whole component_reads Trailing

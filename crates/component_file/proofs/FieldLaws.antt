@@ -1,93 +1,40 @@
 -- The readers of a component's fields.
-use Rattle.std.proofs.Common.{◌≡◌, ℕ, zero, suc, ◌+◌, ◌^◌, ◌<◌, ◌≤◌, Bool, true, false, cond, eqb, List, [], ◌∷◌, length, Option, Some, None, Result, Ok, Err, refl, sym, ap, subst, ◌∙◌, arith}
+use Rattle.std.proofs.Common.{◌≡◌, ℕ, zero, suc, ◌+◌, ◌^◌, ◌<◌, ◌≤◌, Bool, true, false, cond, eqb, List, []}
+use Rattle.std.proofs.Common.{◌∷◌, length, Option, Some, None, Result, Ok, Err, refl, sym, ap, subst, ◌∙◌}
+use Rattle.std.proofs.Common.{arith}
 use Rattle.std.specs.Prelude.{IsTrue, IfSome}
 use Rattle.std.proofs.lemmas.Bool.{eqb-true, eqb-false, ne_eqb}
+use Rattle.std.proofs.lemmas.Option.{cond_some}
 use Rattle.cap_words.specs.declared.TheConstants.{LAST_PLACE, LONGEST_STRETCH}
 use Rattle.cap_words.specs.declared.bytes.cursor.FieldFault.{FieldFault}
 use Rattle.cap_words.specs.declared.bytes.cursor.FieldFault.TheVariants as field_faults
 use Rattle.cap_words.specs.Stretch.{Stretch}
-use Rattle.cap_words.specs.Reading.{Input, Reader, goes_on, ◌>>=◌, done, next_bytes, unless_none, meant, next_byte, next_number, within}
-use Rattle.cap_words.proofs.Grammar.{before, ok_value, Took, took_nothing, Reads, All, reads_then, reads_last, reads_done, reads_as, reads_text, reads_placed, reads_known, reads_learned, reads_case, reads_if}
-use Rattle.cap_words.proofs.Fields.{unless_none_ok, bytes_take, bytes_again, bytes_cut, byte_reads, meant_reads, within_reads}
+use Rattle.readers.specs.Readers.{Reader, ◌>>=◌, done, unless_none}
+use Rattle.cap_words.specs.Reading.{Input, next_bytes, meant, next_byte, next_number, within}
+use Rattle.readers.proofs.Grammar.{took_nothing, some_ok, reads_telling, All, reads_then, reads_last}
+use Rattle.readers.proofs.Grammar.{reads_done, reads_as, reads_text, reads_placed, reads_known, reads_learned}
+use Rattle.readers.proofs.Grammar.{reads_case, reads_if}
+use Rattle.cap_words.proofs.ByteReads.{Took, Reads}
+use Rattle.cap_words.proofs.Fields.{bytes_take, bytes_again, bytes_cut, byte_reads, meant_reads, within_reads}
 use Rattle.component_file.specs.declared.TheConstants.{LAST_OFFSET}
-use Rattle.component_file.specs.declared.fault.FileFault.{FileFault}
 use Rattle.component_file.specs.declared.fault.FileFault.TheVariants.{Short}
 use Rattle.component_file.specs.declared.component.Kind.{Kind}
 use Rattle.component_file.specs.declared.component.Kind.TheVariants.{Any, Int, DataCap, Stk, Pc, Top}
 use Rattle.cap_words.specs.Names.{is_name}
+use Rattle.component_file.specs.Fault.{in_file}
 use Rattle.component_file.specs.Limits.{KindFits, last_base, StretchFits}
-use Rattle.component_file.specs.Spelling.{u32_bytes, name_bytes, stretch_bytes, flag_byte, optional_bytes, kind_bytes}
+use Rattle.component_file.specs.Spelling.{u32_bytes, name_bytes, stretch_bytes, flag_byte, optional_bytes}
+use Rattle.component_file.specs.Spelling.{kind_bytes}
 use Rattle.component_file.proofs.CanWrite.{name_is_short}
-use Rattle.component_file.specs.Reading.{as_file, field, holds, known, short_at, next_text, name_meant, next_name, next_address, next_offset, next_stretch, flag_meant, next_flag, next_optional, plain_kind, next_kind}
+use Rattle.component_file.specs.Reading.{field, short_at, next_text, name_meant, next_name, next_address}
+use Rattle.component_file.specs.Reading.{next_offset, next_stretch, flag_meant, next_flag, next_optional}
+use Rattle.component_file.specs.Reading.{plain_kind, next_kind}
 
 -- ---- fields of the file
 
-as_file_ok : {A : Type 0} (r : Result (A × Input) FieldFault) (x : A × Input) → as_file r ≡ Ok x → r ≡ Ok x
-as_file_ok (Ok y) x e = let is : y ≡ x = cc in ap Ok is
-as_file_ok (Err e) x h = absurd cc
-
-pub reads_field : {A : Type 0} {K P : A → Type 0} {t : A → List ℕ} {r : Reader FieldFault A} → Reads field_faults.Short K P t r → Reads Short K P t (field r)
-unfolding field
-reads_field {r = r} h = record {
-  takes = λ i x j bytes e. h.takes i x j bytes (as_file_ok (r i) (x, j) e);
-  again = λ x at rest k p. ap as_file (h.again x at rest k p);
-  cut = λ x at n k p lt. let c = h.cut x at n k p lt in record { inside = c.inside; within = c.within; is = ap as_file c.is };
-}
-
-holds_ok : {B : Type 0} (b : Bool) (fault : FileFault) (f : Unit {0} → Reader FileFault B) (i : Input) (y : B × Input) → goes_on (holds b fault i) f ≡ Ok y → (b ≡ true) × (f tt i ≡ Ok y)
-holds_ok true fault f i y e = (refl, e)
-holds_ok false fault f i y e = absurd cc
-
--- a test of what is read
-pub reads_holds : {B : Type 0} {K P : B → Type 0} {t : B → List ℕ} (b : Bool) (fault : FileFault) (test : B → Bool) (f : Unit {0} → Reader FileFault B)
-    → ((c : B) → K c → test c ≡ b) → Reads Short K P t (f tt) → Reads Short K (λ c. IsTrue (test c) × P c) t (holds b fault >>= f)
-reads_holds b fault test f is h = record {
-  takes = λ i c j bytes e.
-      let x = holds_ok b fault f i (c, j) e in
-      let g = h.takes i c j bytes x.1 in
-      (g.0, (is c g.0 ∙ x.0, g.1), g.2);
-  again = λ c at rest k p.
-      let passed : b ≡ true = sym (is c k) ∙ p.0 in
-      rw passed (h.again c at rest k p.1);
-  cut = λ c at n k p lt.
-      let passed : b ≡ true = sym (is c k) ∙ p.0 in
-      rw passed (h.cut c at n k p.1 lt);
-}
-
--- a test that tells what is read
-pub reads_tells : {B : Type 0} {K P : B → Type 0} {E : Type 0} {t : B → List ℕ} (b : Bool) (fault : FileFault) (f : Unit {0} → Reader FileFault B)
-    → (b ≡ true → E) → (E → b ≡ true) → Reads Short K P t (f tt) → Reads Short (λ c. K c × E) P t (holds b fault >>= f)
-reads_tells b fault f tells told h = record {
-  takes = λ i c j bytes e.
-      let x = holds_ok b fault f i (c, j) e in
-      let g = h.takes i c j bytes x.1 in
-      ((g.0, tells x.0), g.1, g.2);
-  again = λ c at rest k p.
-      let passed : b ≡ true = told k.1 in
-      rw passed (h.again c at rest k.0 p);
-  cut = λ c at n k p lt.
-      let passed : b ≡ true = told k.1 in
-      rw passed (h.cut c at n k.0 p lt);
-}
-
-known_ok : {A : Type 0} (o : Option A) (fault : FileFault) (i : Input) (y : A) (j : Input) → known o fault i ≡ Ok (y, j) → (o ≡ Some y) × (i ≡ j)
-known_ok None fault i y j e = absurd cc
-known_ok (Some x) fault i y j e = let both = ok_value x y i j e in (ap Some both.0, both.1)
-
--- a number that was read, as what it means
-pub reads_meaning : {A B : Type 0} {K : B → Type 0} (meaning : A → Option B) (stands : B → A) (fault : FileFault) (a : A)
-    → ((a : A) (b : B) → meaning a ≡ Some b → stands b ≡ a) → ((b : B) → meaning (stands b) ≡ Some b)
-    → ((b : B) → stands b ≡ a → K b) → ((b : B) → K b → stands b ≡ a)
-    → Reads Short K All (λ b. []) (known (meaning a) fault)
-reads_meaning meaning stands fault a there back known_of of_known = record {
-  takes = λ i b j bytes e.
-      let v = known_ok (meaning a) fault i b j e in
-      (known_of b (there a b v.0), tt, subst (λ k. Took i [] k) v.1 (took_nothing i bytes));
-  again = λ b at rest k fits.
-      let is : meaning a ≡ Some b = ap meaning (sym (of_known b k)) ∙ back b in
-      ap (λ o. known o fault (before at [] rest)) is ∙ ap (λ n. Ok (b, record { at = n; rest = rest })) (let e : at ≡ at + 0 = omega arith in e);
-  cut = λ b at n k fits lt. absurd (omega arith);
-}
+pub reads_field : {A : Type 0} {K P : A → Type 0} {t : A → List ℕ} {r : Reader Input FieldFault A}
+    → Reads field_faults.Short K P t r → Reads Short K P t (field r)
+reads_field {r = r} h = reads_telling in_file r (λ n. refl) h
 
 -- ---- names
 
@@ -95,7 +42,8 @@ short_at_ok : {A : Type 0} (at : ℕ) (r : Result A FieldFault) (x : A) → shor
 short_at_ok at (Ok y) x e = let is : y ≡ x = cc in ap Ok is
 short_at_ok at (Err e) x h = absurd cc
 
-pub bytes_read : (n : ℕ) → Reads field_faults.Short (λ text. All text × (length text ≡ n)) All (λ text. text) (next_bytes n)
+pub bytes_read : (n : ℕ) → Reads field_faults.Short (λ text. All text × (length text ≡ n)) All (λ text. text)
+    (next_bytes n)
 bytes_read n = record {
   takes = λ i text j bytes e. let g = bytes_take n i text j bytes e in ((tt, g.0), tt, g.2);
   again = λ text at rest k p. bytes_again n text at rest k.1;
@@ -110,27 +58,32 @@ unfolding next_text
 text_reads =
     let both = reads_then {K = All} {P = All} length next_byte next_bytes byte_reads (λ n p. bytes_read n) in
     record {
-      takes = λ i text j bytes e. let g = both.takes i text j bytes (short_at_ok i.at ((next_byte >>= next_bytes) i) (text, j) e) in (tt, g.1.0, g.2);
+      takes = λ i text j bytes e. let g = both.takes i text j bytes
+          (short_at_ok i.at ((next_byte >>= next_bytes) i) (text, j) e) in (tt, g.1.0, g.2);
       again = λ text at rest k p. ap (short_at at) (both.again text at rest tt (p, tt));
-      cut = λ text at n k p lt. let c = both.cut text at n tt (p, tt) lt in record { inside = 0; within = omega arith; is = ap (short_at at) c.is ∙ ap (λ m. Err (field_faults.Short m)) (omega arith) };
+      cut = λ text at n k p lt. let c = both.cut text at n tt (p, tt) lt in
+          record {
+            inside = 0;
+            within = omega arith;
+            is = ap (short_at at) c.is
+                ∙ ap (λ m. Err (field_faults.Short m)) (omega arith);
+          };
     }
-
-name_meant_is : (b : Bool) (text name : List ℕ) → cond b (Some text) None ≡ Some name → (b ≡ true) × (name ≡ text)
-name_meant_is true text name e = let is : text ≡ name = cc in (refl, sym is)
-name_meant_is false text name e = absurd cc
 
 pub name_reads : Reads field_faults.Short All (λ text. IsTrue (is_name text)) name_bytes next_name
 name_reads = meant_reads name_meant (λ name. name) next_text text_reads
-    (λ text name p e. let g = name_meant_is (is_name text) text name e in (rw g.1 g.0, g.1))
+    (λ text name p e. let g = cond_some (is_name text) text name e in (rw (sym g.1) g.0, sym g.1))
     (λ name q. (name_is_short name q, rw q refl))
 
 -- ---- numbers
 
 pub address_reads : Reads field_faults.Short All (λ n. n ≤ LAST_PLACE) u32_bytes next_address
-address_reads = reads_as next_address (within_reads 4 0 LAST_PLACE (omega arith)) (λ n k p. p.1) (λ n k p. (omega arith, p))
+address_reads = reads_as next_address (within_reads 4 0 LAST_PLACE (omega arith)) (λ n k p. p.1)
+    (λ n k p. (omega arith, p))
 
 pub offset_reads : Reads field_faults.Short All (λ n. n ≤ LAST_OFFSET) u32_bytes next_offset
-offset_reads = reads_as next_offset (within_reads 4 0 LAST_OFFSET (omega arith)) (λ n k p. p.1) (λ n k p. (omega arith, p))
+offset_reads = reads_as next_offset (within_reads 4 0 LAST_OFFSET (omega arith)) (λ n k p. p.1)
+    (λ n k p. (omega arith, p))
 
 last_base_fits : (count : ℕ) → last_base count < 256 ^ 4
 last_base_fits count = go (eqb count 0)
@@ -139,12 +92,18 @@ last_base_fits count = go (eqb count 0)
     go true = omega arith
     go false = omega arith
 
-pub stretch_reads : Reads field_faults.Short All (λ s. StretchFits s.base s.count) (λ s. stretch_bytes s.base s.count) next_stretch
+pub stretch_reads : Reads field_faults.Short All (λ s. StretchFits s.base s.count)
+    (λ s. stretch_bytes s.base s.count) next_stretch
 unfolding next_stretch stretch_bytes
 stretch_reads = reads_as next_stretch
-    (reads_then {P = λ s. s.base ≤ last_base s.count} (λ (s : Stretch). s.count) (meant (within 0 LONGEST_STRETCH) (next_number 4)) _ (within_reads 4 0 LONGEST_STRETCH (omega arith)) (λ count p.
+    (reads_then {P = λ s. s.base ≤ last_base s.count} (λ (s : Stretch). s.count)
+    (meant (within 0 LONGEST_STRETCH) (next_number 4)) _ (within_reads 4 0 LONGEST_STRETCH (omega arith))
+    (λ count p.
     reads_as _
-    (reads_last (λ (s : Stretch). s.base) (meant (within 0 (last_base count)) (next_number 4)) (λ base. record { base = base; count = count }) (within_reads 4 0 (last_base count) (last_base_fits count)) (λ s k. rw (← k.1) refl) (λ base q. ((tt, refl), refl)))
+    (reads_last (λ (s : Stretch). s.base) (meant (within 0 (last_base count)) (next_number 4))
+    (λ base. record { base = base; count = count })
+    (within_reads 4 0 (last_base count) (last_base_fits count)) (λ s k. rw (← k.1) refl)
+    (λ base q. ((tt, refl), refl)))
     (λ s k q. subst (λ n. s.base ≤ last_base n) (sym k.1) q.1)
     (λ s k q. (omega arith, subst (λ n. s.base ≤ last_base n) k.1 q))))
     (λ s k p. (p.0.1, p.1))
@@ -162,7 +121,8 @@ flag_back false = (omega arith, refl)
 flag_back true = (omega arith, refl)
 
 pub flag_reads : Reads field_faults.Short All (All {A = Bool}) (λ b. flag_byte b ∷ []) next_flag
-flag_reads = meant_reads flag_meant flag_byte next_byte byte_reads (λ n b p e. (tt, flag_there n b e)) (λ b q. flag_back b)
+flag_reads = meant_reads flag_meant flag_byte next_byte byte_reads (λ n b p e. (tt, flag_there n b e))
+    (λ b q. flag_back b)
 
 given : Option ℕ → Bool
 given None = false
@@ -177,7 +137,8 @@ unfolding given optional_tail
 optional_is None = refl
 optional_is (Some n) = refl
 
-as_given : (o : Option ℕ) → given o ≡ true → IfSome o (λ n. n ≤ LAST_OFFSET) → (n : ℕ) × (Some n ≡ o) × All n × (n ≤ LAST_OFFSET)
+as_given : (o : Option ℕ) → given o ≡ true → IfSome o (λ n. n ≤ LAST_OFFSET) → (n : ℕ) × (Some n ≡ o) × All n
+    × (n ≤ LAST_OFFSET)
 unfolding given
 as_given None e p = absurd cc
 as_given (Some n) e p = (n, refl, tt, p)
@@ -187,7 +148,8 @@ unfolding given
 is_none None e = refl
 is_none (Some n) e = absurd cc
 
-pub optional_reads : Reads field_faults.Short All (λ o. IfSome o (λ n. n ≤ LAST_OFFSET)) optional_bytes next_optional
+pub optional_reads : Reads field_faults.Short All (λ o. IfSome o (λ n. n ≤ LAST_OFFSET)) optional_bytes
+    next_optional
 unfolding next_optional given optional_tail
 optional_reads = reads_as next_optional
     (reads_text _ (λ o k. optional_is o)
@@ -195,9 +157,16 @@ optional_reads = reads_as next_optional
     (λ o k p. p.1)
     (λ o k p. (tt, p))
   where
-    choice : (b : Bool) → Reads field_faults.Short (λ o. given o ≡ b) (λ o. IfSome o (λ n. n ≤ LAST_OFFSET)) optional_tail (cond b (next_offset >>= λ n. done (Some n)) (done None))
-    choice true = reads_case next_offset Some offset_reads (λ n j p. (refl, p, refl)) (λ o k q. as_given o k q)
-    choice false = reads_as _ (reads_text _ (λ o k. ap optional_tail (sym (is_none o k))) (reads_done None (λ o k. is_none o k) refl)) (λ o k p. subst (λ x. IfSome x (λ n. n ≤ LAST_OFFSET)) (sym (is_none o k)) tt) (λ o k p. tt)
+    choice : (b : Bool) → Reads field_faults.Short (λ o. given o ≡ b)
+        (λ o. IfSome o (λ n. n ≤ LAST_OFFSET)) optional_tail
+        (cond b (next_offset >>= λ n. done (Some n)) (done None))
+    choice true = reads_case next_offset Some offset_reads (λ n j p. (refl, p, refl))
+        (λ o k q. as_given o k q)
+    choice false =
+        reads_as _
+        (reads_text _ (λ o k. ap optional_tail (sym (is_none o k)))
+        (reads_done None (λ o k. is_none o k) refl))
+        (λ o k p. subst (λ x. IfSome x (λ n. n ≤ LAST_OFFSET)) (sym (is_none o k)) tt) (λ o k p. tt)
 
 -- ---- kinds
 
@@ -248,7 +217,13 @@ none_is_not : (k : Kind) → None ≡ Some k → ⊥
 none_is_not k e = absurd cc
 
 plain_past : (tag : ℕ) → 6 ≤ tag → plain_kind tag ≡ None
-plain_past tag h = rw (ne_eqb tag 0 (λ e. omega (arith, e)), ne_eqb tag 1 (λ e. omega (arith, e)), ne_eqb tag 2 (λ e. omega (arith, e)), ne_eqb tag 3 (λ e. omega (arith, e)), ne_eqb tag 5 (λ e. omega (arith, e))) refl
+plain_past tag h = rw (
+  ne_eqb tag 0 (λ e. omega (arith, e)),
+  ne_eqb tag 1 (λ e. omega (arith, e)),
+  ne_eqb tag 2 (λ e. omega (arith, e)),
+  ne_eqb tag 3 (λ e. omega (arith, e)),
+  ne_eqb tag 5 (λ e. omega (arith, e)),
+) refl
 
 plain_there : (tag : ℕ) (k : Kind) → plain_kind tag ≡ Some k → IsPlain tag k
 unfolding IsPlain kind_tag kind_tail
@@ -257,10 +232,13 @@ plain_there (suc zero) k e = let is : Int ≡ k = cc in subst (IsPlain 1) is (re
 plain_there (suc (suc zero)) k e = let is : DataCap ≡ k = cc in subst (IsPlain 2) is (refl, tt, refl)
 plain_there (suc (suc (suc zero))) k e = let is : Stk ≡ k = cc in subst (IsPlain 3) is (refl, tt, refl)
 plain_there (suc (suc (suc (suc zero)))) k e = absurd cc
-plain_there (suc (suc (suc (suc (suc zero))))) k e = let is : Top ≡ k = cc in subst (IsPlain 5) is (refl, tt, refl)
-plain_there (suc (suc (suc (suc (suc (suc tag)))))) k e = let past = plain_past (suc (suc (suc (suc (suc (suc tag)))))) (omega arith) in absurd (none_is_not k (sym past ∙ e))
+plain_there (suc (suc (suc (suc (suc zero))))) k e = let is : Top ≡ k = cc in
+    subst (IsPlain 5) is (refl, tt, refl)
+plain_there (suc (suc (suc (suc (suc (suc tag)))))) k e = let past =
+    plain_past (suc (suc (suc (suc (suc (suc tag)))))) (omega arith) in absurd (none_is_not k (sym past ∙ e))
 
-plain_back : (tag : ℕ) (k : Kind) → kind_tag k ≡ tag → eqb tag 4 ≡ false → (plain_kind tag ≡ Some k) × (kind_tail k ≡ [])
+plain_back : (tag : ℕ) (k : Kind) → kind_tag k ≡ tag → eqb tag 4 ≡ false → (plain_kind tag ≡ Some k)
+    × (kind_tail k ≡ [])
 unfolding kind_tag kind_tail
 plain_back tag Any e not = (subst (λ n. plain_kind n ≡ Some Any) e refl, refl)
 plain_back tag Int e not = (subst (λ n. plain_kind n ≡ Some Int) e refl, refl)
@@ -269,26 +247,33 @@ plain_back tag Stk e not = (subst (λ n. plain_kind n ≡ Some Stk) e refl, refl
 plain_back tag (Pc offset) e not = absurd (eqb-false _ _ not (sym e))
 plain_back tag Top e not = (subst (λ n. plain_kind n ≡ Some Top) e refl, refl)
 
-plain_reads : (at tag : ℕ) → eqb tag 4 ≡ false → Reads field_faults.Short (λ k. kind_tag k ≡ tag) KindFits kind_tail (unless_none at (plain_kind tag))
+plain_reads : (at tag : ℕ) → eqb tag 4 ≡ false
+    → Reads field_faults.Short (λ k. kind_tag k ≡ tag) KindFits kind_tail
+    (unless_none (field_faults.BadField at) (plain_kind tag))
 unfolding IsPlain
 plain_reads at tag not = record {
   takes = λ i k j bytes e.
-      let g = unless_none_ok at (plain_kind tag) i k j e in
+      let g = some_ok (field_faults.BadField at) (plain_kind tag) i k j e in
       let is = plain_there tag k g.0 in
       (is.0, is.1, subst (λ l. Took i l j) (sym is.2) (subst (λ n. Took i [] n) g.1 (took_nothing i bytes)));
   again = λ k start rest known p.
       let g = plain_back tag k known not in
-      rw (g.0, g.1) (ap (λ n. Ok (k, record { at = n; rest = rest })) (let same : start ≡ start + 0 = omega arith in same));
+      rw (g.0, g.1)
+      (ap (λ n. Ok (k, record { at = n; rest = rest })) (let same : start ≡ start + 0 = omega arith in
+      same));
   cut = λ k start n known p lt. absurd (omega (arith, ap length (plain_back tag k known not).1));
 }
 
 pub kind_reads : Reads field_faults.Short All KindFits kind_bytes next_kind
 unfolding next_kind kind_tag kind_tail
-kind_reads = reads_placed (λ at. next_byte >>= λ tag. cond (eqb tag 4) (next_offset >>= λ offset. done (Pc offset)) (unless_none at (plain_kind tag))) (λ at.
+kind_reads =
+    reads_placed (λ at. next_byte >>= λ tag. cond (eqb tag 4) (next_offset >>= λ offset. done (Pc offset))
+    (unless_none (field_faults.BadField at) (plain_kind tag))) (λ at.
     reads_as _
     (reads_text _ (λ k known. kind_is k)
     (reads_then kind_tag next_byte _ byte_reads (λ tag p. reads_known (reads_if (eqb tag 4) _ _
-    (λ is. reads_case next_offset Pc offset_reads (λ n j q. (sym (eqb-true _ _ is), q, refl)) (λ k known q. as_pc k (known ∙ eqb-true _ _ is) q))
+    (λ is. reads_case next_offset Pc offset_reads (λ n j q. (sym (eqb-true _ _ is), q, refl))
+    (λ k known q. as_pc k (known ∙ eqb-true _ _ is) q))
     (λ not. plain_reads at tag not)))))
     (λ k known p. p.1)
     (λ k known p. (kind_tag_in_byte k, p)))

@@ -1,8 +1,7 @@
 -- The faults of a file.
-use Rattle.std.specs.Prelude.{◌≡◌, ℕ, Result, Ok, Err}
+use Rattle.std.specs.Prelude.{ℕ, Bool, true, false}
 use Rattle.cap_words.specs.declared.bytes.cursor.FieldFault.{FieldFault}
 use Rattle.cap_words.specs.declared.bytes.cursor.FieldFault.TheVariants as field
-use Rattle.cap_words.specs.Reading.{Input}
 use Rattle.component_file.specs.declared.fault.FileFault.{FileFault}
 use Rattle.component_file.specs.declared.fault.FileFault.TheVariants.{Magic, Version, Short, BadField}
 use Rattle.component_file.specs.declared.fault.FileFault.TheVariants.{Order, Trailing, NoMemory}
@@ -30,21 +29,7 @@ fault_place (Order at) = at
 fault_place (Trailing at) = at
 fault_place _ = 0
 
--- the fault is what reading gives, unless memory was refused
-abbrev pub Fails : {A : Type 0} → FileFault → Result A FileFault → Type 0
-Fails NoMemory read = Unit {0}
-Fails e read = read ≡ Err e
-
--- the answer, seen by view, is what reading gives, unless memory was refused
-abbrev pub AnswersAs : {A B : Type 0} → (A → B) → Result A FileFault → Result B FileFault → Type 0
-AnswersAs view (Ok x) read = read ≡ Ok (view x)
-AnswersAs view (Err e) read = Fails e read
-
--- the answer of a call on a cursor, and what it left
-abbrev pub GivesUnlessRefused : {A : Type 0}
-    → Result A FileFault → Input → Result (A × Input) FileFault → Type 0
-GivesUnlessRefused answer left read = AnswersAs (λ x. (x, left)) answer read
-
--- the answer to whole bytes
-abbrev pub Decodes : {A : Type 0} → Result A FileFault → Result A FileFault → Type 0
-Decodes answer read = AnswersAs (λ x. x) answer read
+-- memory was refused
+abbrev pub is_refusal : FileFault → Bool
+is_refusal NoMemory = true
+is_refusal _ = false

@@ -1,5 +1,5 @@
 -- Reading a component field after field, with the first fault that is met.
-use Rattle.std.specs.Prelude.{ℕ, zero, suc, ◌==◌, nat_lt, Bool, true, false, List, [], ◌∷◌, length, slice_get}
+use Rattle.std.specs.Prelude.{ℕ, ◌==◌, nat_lt, Bool, true, false, List, [], ◌∷◌, slice_get}
 use Rattle.std.specs.Prelude.{Option, Some, None, option_map, Result, Ok, Err, if◌then◌else◌}
 use Rattle.std.specs.Str.{bytes_eq}
 use Rattle.cap_words.specs.declared.TheConstants.{LONGEST_STRETCH}
@@ -7,10 +7,13 @@ use Rattle.cap_words.specs.declared.Word.{Word}
 use Rattle.cap_words.specs.declared.bytes.cursor.FieldFault.{FieldFault}
 use Rattle.cap_words.specs.declared.bytes.cursor.FieldFault.TheVariants as field_faults
 use Rattle.cap_words.specs.Stretch.{Stretch}
-use Rattle.cap_words.specs.Reading.{Input, Reader, ◌>>=◌, done, here, unless_none, meant, within}
+use Rattle.readers.specs.Readers.{Reader, ◌>>=◌, done, unless_none, holds, telling, items_from}
+use Rattle.readers.specs.Places.{here, read_whole}
+use Rattle.cap_words.specs.Reading.{Input, meant, within}
 use Rattle.cap_words.specs.Reading.{next_bytes, next_byte, next_number}
 use Rattle.cap_words.specs.WordReading.{next_in_space, next_unsealed}
-use Rattle.component_file.specs.declared.TheConstants.{LAST_OFFSET, MOST_WORDS, FIXED_VERSION, MOVABLE_VERSION}
+use Rattle.component_file.specs.declared.TheConstants.{LAST_OFFSET, MOST_WORDS, FIXED_VERSION}
+use Rattle.component_file.specs.declared.TheConstants.{MOVABLE_VERSION}
 use Rattle.component_file.specs.declared.TheConstants.{MOST_IMPORTS, MOST_EXPORTS, MOST_SITES, MOST_ROWS}
 use Rattle.component_file.specs.declared.fault.FileFault.{FileFault}
 use Rattle.component_file.specs.declared.fault.FileFault.TheVariants.{Magic, Version, Order, Trailing}
@@ -28,47 +31,33 @@ use Rattle.component_file.specs.Spelling.{magic}
 -- ---- fields
 
 -- a field of the file
-abbrev pub as_file : {A : Type 0} → Result A FieldFault → Result A FileFault
-as_file (Ok x) = Ok x
-as_file (Err e) = Err (in_file e)
-
-unfoldable pub field : {A : Type 0} → Reader FieldFault A → Reader FileFault A
-field r i = as_file (r i)
-
--- a test that has to hold here
-abbrev pub holds : Bool → FileFault → Reader FileFault (Unit {0})
-holds true fault i = Ok (tt, i)
-holds false fault i = Err fault
-
--- what a field means, where it means something
-abbrev pub known : {A : Type 0} → Option A → FileFault → Reader FileFault A
-known (Some x) fault i = Ok (x, i)
-known None fault i = Err fault
+abbrev pub field : {A : Type 0} → Reader Input FieldFault A → Reader Input FileFault A
+field r = telling in_file r
 
 -- a field in parts, of which each can only be short, is short at its first byte
 abbrev pub short_at : {A : Type 0} → ℕ → Result A FieldFault → Result A FieldFault
 short_at at (Ok x) = Ok x
 short_at at (Err e) = Err (field_faults.Short at)
 
-unfoldable pub next_text : Reader FieldFault (List ℕ)
+unfoldable pub next_text : Reader Input FieldFault (List ℕ)
 next_text i = short_at i.at ((next_byte >>= next_bytes) i)
 
 abbrev pub name_meant : List ℕ → Option (List ℕ)
 name_meant text = if is_name text then Some text else None
 
-abbrev pub next_name : Reader FieldFault (List ℕ)
+abbrev pub next_name : Reader Input FieldFault (List ℕ)
 next_name = meant name_meant next_text
 
 -- an address, or a seal
-abbrev pub next_address : Reader FieldFault ℕ
+abbrev pub next_address : Reader Input FieldFault ℕ
 next_address = next_in_space 0
 
 -- an offset in code or data
-abbrev pub next_offset : Reader FieldFault ℕ
+abbrev pub next_offset : Reader Input FieldFault ℕ
 next_offset = meant (within 0 LAST_OFFSET) (next_number 4)
 
 -- a count, and the base, which is 0 where nothing is counted
-unfoldable pub next_stretch : Reader FieldFault Stretch
+unfoldable pub next_stretch : Reader Input FieldFault Stretch
 next_stretch = do
   count ← meant (within 0 LONGEST_STRETCH) (next_number 4)
   base ← meant (within 0 (last_base count)) (next_number 4)
@@ -77,10 +66,10 @@ next_stretch = do
 abbrev pub flag_meant : ℕ → Option Bool
 flag_meant n = slice_get (false ∷ true ∷ []) n
 
-abbrev pub next_flag : Reader FieldFault Bool
+abbrev pub next_flag : Reader Input FieldFault Bool
 next_flag = meant flag_meant next_byte
 
-unfoldable pub next_optional : Reader FieldFault (Option ℕ)
+unfoldable pub next_optional : Reader Input FieldFault (Option ℕ)
 next_optional = do
   given ← next_flag
   if given then (next_offset >>= λ n. done (Some n)) else done None
@@ -91,36 +80,33 @@ plain_kind tag =
     if tag == 0 then Some Any else if tag == 1 then Some Int else if tag == 2 then Some DataCap
     else if tag == 3 then Some Stk else if tag == 5 then Some Top else None
 
-unfoldable pub next_kind : Reader FieldFault Kind
+unfoldable pub next_kind : Reader Input FieldFault Kind
 next_kind = do
   at ← here
   tag ← next_byte
-  if tag == 4 then (next_offset >>= λ offset. done (Pc offset)) else unless_none at (plain_kind tag)
+  if tag == 4 then (next_offset >>= λ offset. done (Pc offset)) else unless_none (field_faults.BadField at)
+      (plain_kind tag)
 
 -- ---- lists
 
 -- so many items one after another, each told the one before it
-unfoldable pub next_items : {A : Type 0}
-    → (Option A → Reader FileFault A) → ℕ → Option A → Reader FileFault (List A)
-next_items item zero before = done []
-next_items item (suc n) before = do
-  first ← item before
-  others ← next_items item n (Some first)
-  done (first ∷ others)
+abbrev pub next_items : {A : Type 0}
+    → (Option A → Reader Input FileFault A) → ℕ → Option A → Reader Input FileFault (List A)
+next_items item n before = items_from (λ _ x. Some x) item n before
 
 -- a count from low to high, a number of len bytes, and that many items
 unfoldable pub next_list : {A : Type 0}
-    → ℕ → ℕ → ℕ → (Option A → Reader FileFault A) → Reader FileFault (List A)
+    → ℕ → ℕ → ℕ → (Option A → Reader Input FileFault A) → Reader Input FileFault (List A)
 next_list len low high item = do
   count ← field (meant (within low high) (next_number len))
   next_items item count None
 
 -- a word of the code or the data
-unfoldable pub next_part_word : Option Word → Reader FileFault Word
+unfoldable pub next_part_word : Option Word → Reader Input FileFault Word
 next_part_word before = field next_unsealed
 
 -- slots ascend
-unfoldable pub next_import : Option Import → Reader FileFault Import
+unfoldable pub next_import : Option Import → Reader Input FileFault Import
 next_import before = do
   at ← here
   part ← field next_name
@@ -130,7 +116,7 @@ next_import before = do
   done (record { part = part; name = name; slot = slot })
 
 -- names ascend
-unfoldable pub next_export : Option Export → Reader FileFault Export
+unfoldable pub next_export : Option Export → Reader Input FileFault Export
 next_export before = do
   at ← here
   name ← field next_name
@@ -140,7 +126,7 @@ next_export before = do
   done (record { name = name; offset = offset; shared = shared })
 
 -- sites ascend
-unfoldable pub next_site : Option ℕ → Reader FileFault ℕ
+unfoldable pub next_site : Option ℕ → Reader Input FileFault ℕ
 next_site before = do
   at ← here
   site ← field next_offset
@@ -148,7 +134,7 @@ next_site before = do
   done site
 
 -- offsets ascend
-unfoldable pub next_row : Option KindRow → Reader FileFault KindRow
+unfoldable pub next_row : Option KindRow → Reader Input FileFault KindRow
 next_row before = do
   at ← here
   offset ← field next_offset
@@ -163,17 +149,17 @@ abbrev pub version_meant : ℕ → Option Bool
 version_meant n = if n == FIXED_VERSION then Some false else if n == MOVABLE_VERSION then Some true else None
 
 -- the magic and the version, which tells whether it is movable
-unfoldable pub next_header : Reader FileFault Bool
+unfoldable pub next_header : Reader Input FileFault Bool
 next_header = do
   four ← field (next_bytes 4)
   _ ← holds (bytes_eq four magic) Magic
   version ← field (next_number 2)
-  known (version_meant version) Version
+  unless_none Version (version_meant version)
 
-unfoldable pub next_words : Reader FileFault (List Word)
+unfoldable pub next_words : Reader Input FileFault (List Word)
 next_words = next_list 4 1 MOST_WORDS next_part_word
 
-unfoldable pub next_component : Reader FileFault ComponentFields
+unfoldable pub next_component : Reader Input FileFault ComponentFields
 next_component = do
   movable ← next_header
   name ← field next_name
@@ -210,11 +196,6 @@ next_component = do
     movable = movable;
   })
 
--- nothing may follow the component
-abbrev pub finished : Result (ComponentFields × Input) FileFault → Result ComponentFields FileFault
-finished (Ok x) = if length x.1.rest == 0 then Ok x.0 else Err (Trailing x.1.at)
-finished (Err e) = Err e
-
--- the component that the bytes spell, or their first fault
+-- the component that the bytes spell, or their first fault; nothing may follow it
 unfoldable pub decoded : List ℕ → Result ComponentFields FileFault
-decoded bytes = finished (next_component (record { at = 0; rest = bytes }))
+decoded bytes = read_whole Trailing next_component bytes

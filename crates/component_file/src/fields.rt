@@ -1,6 +1,6 @@
 //! The fields of a component file, each read from the front of bytes.
 ghost use Rattle.std.specs.Prelude.{◌≡◌, ◌≤◌, IfOk};
-ghost use Rattle.cap_words.specs.Gives.{Gives, GivesAs};
+ghost use Rattle.readers.specs.Answers.{Gives, GivesAs};
 ghost use Rattle.component_file.specs.Reading.{next_text, next_name, next_address, next_offset};
 ghost use Rattle.component_file.specs.Reading.{next_stretch, next_flag, next_optional, next_kind};
 
@@ -53,7 +53,8 @@ pub(crate) fn offset(bytes: &mut Cursor<'_>) -> Result<u32, FieldFault>
 // A count, and then a base, which is 0 where nothing is counted. It gives the base and the count.
 #[tactic(auto, unfolding(crate::specs::Reading::next_stretch))]
 pub(crate) fn stretch(bytes: &mut Cursor<'_>) -> Result<(u32, u32), FieldFault>
-    ensures exact { GivesAs (λ s. record { base = s.0; count = s.1 }) result bytes.new (next_stretch bytes.old) }
+    ensures exact { GivesAs (λ s. record { base = s.0; count = s.1 }) result bytes.new
+        (next_stretch bytes.old) }
     ensures within { IfOk result (λ s. (s.0 ≤ LAST_PLACE) × (s.1 ≤ LONGEST_STRETCH)) }
 {
     let count = bytes.u32_within(0, LONGEST_STRETCH)?;

@@ -1,9 +1,11 @@
 //! What stands in the lists of a component file: each kind of item, as it is read.
 ghost use Rattle.std.specs.Prelude.{◌≡◌, Option, None, option_map};
 ghost use Rattle.std.specs.Option.{option_copied};
-ghost use Rattle.cap_words.specs.Reading.{Reader};
+ghost use Rattle.readers.specs.Readers.{Reader};
+ghost use Rattle.cap_words.specs.Reading.{Input};
 ghost use Rattle.component_file.specs.declared.fault.FileFault.{FileFault};
-ghost use Rattle.component_file.specs.Fault.{GivesUnlessRefused};
+ghost use Rattle.component_file.specs.Fault.{is_refusal};
+ghost use Rattle.readers.specs.Answers.{GivesUnlessRefused};
 ghost use Rattle.component_file.specs.Limits.{ascends, name_lt};
 ghost use Rattle.component_file.specs.Reading.{field, next_name, next_part_word, next_import, next_export};
 ghost use Rattle.component_file.specs.Reading.{next_site, next_row, next_kind, next_items, next_list};
@@ -17,17 +19,18 @@ use std::alloc::Global;
 // An item of a list. Some lists have an order, so an item is told the one before it.
 pub(crate) trait Listed: Drop {
     // reading an item behind another, or the first
-    ghost next_item: { Option Self → Reader FileFault Self };
+    ghost next_item: { Option Self → Reader Input FileFault Self };
 
     // The next item, behind the one before it.
     fn read(alloc: Global, before: Option<&Self>, bytes: &mut Cursor<'_>) -> Result<Self, FileFault>
-        ensures { GivesUnlessRefused result bytes.new (next_item (option_copied before.entry) bytes.old) };
+        ensures { GivesUnlessRefused is_refusal result bytes.new
+            (next_item (option_copied before.entry) bytes.old) };
 }
 
 // A name, in memory of its own.
-#[tactic(auto, unfolding(crate::specs::Reading::field))]
+#[tactic(auto, unfolding(readers::specs::Readers::telling))]
 pub(crate) fn name(alloc: Global, bytes: &mut Cursor<'_>) -> Result<Items<u8>, FileFault>
-    ensures { GivesUnlessRefused result bytes.new (field next_name bytes.old) }
+    ensures { GivesUnlessRefused is_refusal result bytes.new (field next_name bytes.old) }
 {
     let text = fields::name(bytes)?;
     Ok(Items::of(Vec::from_slice(alloc, text)?))
@@ -36,7 +39,7 @@ pub(crate) fn name(alloc: Global, bytes: &mut Cursor<'_>) -> Result<Items<u8>, F
 impl Listed for Word {
     ghost next_item = { next_part_word };
 
-    #[tactic(auto, unfolding(crate::specs::Reading::next_part_word, crate::specs::Reading::field))]
+    #[tactic(auto, unfolding(crate::specs::Reading::next_part_word, readers::specs::Readers::telling))]
     fn read(
         _alloc: Global,
         _before: Option<&Word>,
@@ -49,7 +52,7 @@ impl Listed for Word {
 impl Listed for Import {
     ghost next_item = { next_import };
 
-    #[tactic(auto, unfolding(crate::specs::Reading::next_import, crate::specs::Reading::field))]
+    #[tactic(auto, unfolding(crate::specs::Reading::next_import, readers::specs::Readers::telling))]
     fn read(
         alloc: Global,
         before: Option<&Import>,
@@ -85,7 +88,7 @@ fn rises(before: Option<&Export>, name: &[u8]) -> bool
 impl Listed for Export {
     ghost next_item = { next_export };
 
-    #[tactic(auto, unfolding(crate::specs::Reading::next_export, crate::specs::Reading::field))]
+    #[tactic(auto, unfolding(crate::specs::Reading::next_export, readers::specs::Readers::telling))]
     fn read(
         alloc: Global,
         before: Option<&Export>,
@@ -110,7 +113,7 @@ impl Listed for Export {
 impl Listed for u32 {
     ghost next_item = { next_site };
 
-    #[tactic(auto, unfolding(crate::specs::Reading::next_site, crate::specs::Reading::field))]
+    #[tactic(auto, unfolding(crate::specs::Reading::next_site, readers::specs::Readers::telling))]
     fn read(
         _alloc: Global,
         before: Option<&u32>,
@@ -127,7 +130,8 @@ impl Listed for u32 {
 
 // The kinds of the registers 1 to 15.
 fn kinds(bytes: &mut Cursor<'_>) -> Result<[Kind; 15], FileFault>
-    ensures { GivesUnlessRefused result bytes.new (next_items (λ _. field next_kind) 15 None bytes.old) }
+    ensures { GivesUnlessRefused is_refusal result bytes.new
+        (next_items (λ _. field next_kind) 15 None bytes.old) }
 {
     let mut kinds = [Kind::Any; 15];
     for kind in &mut kinds {
@@ -139,7 +143,7 @@ fn kinds(bytes: &mut Cursor<'_>) -> Result<[Kind; 15], FileFault>
 impl Listed for KindRow {
     ghost next_item = { next_row };
 
-    #[tactic(auto, unfolding(crate::specs::Reading::next_row, crate::specs::Reading::field))]
+    #[tactic(auto, unfolding(crate::specs::Reading::next_row, readers::specs::Readers::telling))]
     fn read(
         _alloc: Global,
         before: Option<&KindRow>,
@@ -161,7 +165,7 @@ fn items<T: Listed>(
     count: u32,
     bytes: &mut Cursor<'_>,
 ) -> Result<Items<T>, FileFault>
-    ensures { GivesUnlessRefused result bytes.new (next_items T.next_item count None bytes.old) }
+    ensures { GivesUnlessRefused is_refusal result bytes.new (next_items T.next_item count None bytes.old) }
 {
     let mut items = Vec::new(alloc);
     for _ in 0..count {
@@ -172,13 +176,13 @@ fn items<T: Listed>(
 }
 
 // A list with a count of 16 bits, which is at most `most`.
-#[tactic(auto, unfolding(crate::specs::Reading::next_list, crate::specs::Reading::field, cap_words::specs::Reading::meant))]
+#[tactic(auto, unfolding(crate::specs::Reading::next_list, readers::specs::Readers::telling, cap_words::specs::Reading::meant))]
 pub(crate) fn short_list<T: Listed>(
     alloc: Global,
     most: u16,
     bytes: &mut Cursor<'_>,
 ) -> Result<Items<T>, FileFault>
-    ensures { GivesUnlessRefused result bytes.new (next_list 2 0 most T.next_item bytes.old) }
+    ensures { GivesUnlessRefused is_refusal result bytes.new (next_list 2 0 most T.next_item bytes.old) }
 {
     let at = bytes.at();
     let count = bytes.u16()?;
@@ -189,14 +193,14 @@ pub(crate) fn short_list<T: Listed>(
 }
 
 // A list with a count of 32 bits, which is from `least` to `most`.
-#[tactic(auto, unfolding(crate::specs::Reading::next_list, crate::specs::Reading::field))]
+#[tactic(auto, unfolding(crate::specs::Reading::next_list, readers::specs::Readers::telling))]
 pub(crate) fn long_list<T: Listed>(
     alloc: Global,
     least: u32,
     most: u32,
     bytes: &mut Cursor<'_>,
 ) -> Result<Items<T>, FileFault>
-    ensures { GivesUnlessRefused result bytes.new (next_list 4 least most T.next_item bytes.old) }
+    ensures { GivesUnlessRefused is_refusal result bytes.new (next_list 4 least most T.next_item bytes.old) }
 {
     let count = bytes.u32_within(least, most)?;
     items(alloc, count, bytes)

@@ -3,8 +3,10 @@ ghost use Rattle.std.specs.Prelude.{◌≡◌, ◌<◌, ◌^◌, ◌⊎◌, leng
 ghost use Rattle.component_file.specs.declared.fault.FileFault.TheVariants.{NoMemory};
 ghost use Rattle.component_file.specs.Spelling.{Spells};
 ghost use Rattle.component_file.specs.declared.component.ComponentFields.{ComponentFields};
-ghost use Rattle.component_file.specs.Fault.{GivesUnlessRefused, Decodes};
-ghost use Rattle.component_file.specs.Reading.{field, next_header, version_meant, next_words, next_component, decoded};
+ghost use Rattle.component_file.specs.Fault.{is_refusal};
+ghost use Rattle.readers.specs.Answers.{GivesUnlessRefused, AnswersUnlessRefused};
+ghost use Rattle.component_file.specs.Reading.{field, next_header, version_meant, next_words, next_component};
+ghost use Rattle.component_file.specs.Reading.{decoded};
 
 use crate::component::{Area, Component, ComponentFields};
 use crate::fault::FileFault;
@@ -28,9 +30,9 @@ fn version_meant(version: u16) -> Option<bool>
 }
 
 // `STKC`, and the version, which tells whether the component is movable.
-#[tactic(auto, unfolding(crate::specs::Reading::next_header, crate::specs::Reading::field))]
+#[tactic(auto, unfolding(crate::specs::Reading::next_header, readers::specs::Readers::telling))]
 fn header(bytes: &mut Cursor<'_>) -> Result<bool, FileFault>
-    ensures { GivesUnlessRefused result bytes.new (next_header bytes.old) }
+    ensures { GivesUnlessRefused is_refusal result bytes.new (next_header bytes.old) }
 {
     if bytes.bytes(4)? != b"STKC".as_slice() {
         return Err(FileFault::Magic);
@@ -43,15 +45,15 @@ fn header(bytes: &mut Cursor<'_>) -> Result<bool, FileFault>
 
 #[tactic(auto, unfolding(crate::specs::Reading::next_words))]
 fn words(alloc: Global, bytes: &mut Cursor<'_>) -> Result<Items<Word>, FileFault>
-    ensures { GivesUnlessRefused result bytes.new (next_words bytes.old) }
+    ensures { GivesUnlessRefused is_refusal result bytes.new (next_words bytes.old) }
 {
     long_list(alloc, 1, MOST_WORDS, bytes)
 }
 
 // Each field in its turn.
-#[tactic(auto, unfolding(crate::specs::Reading::next_component, crate::specs::Reading::field))]
+#[tactic(auto, unfolding(crate::specs::Reading::next_component, readers::specs::Readers::telling))]
 fn component(alloc: Global, bytes: &mut Cursor<'_>) -> Result<ComponentFields, FileFault>
-    ensures { GivesUnlessRefused result bytes.new (next_component bytes.old) }
+    ensures { GivesUnlessRefused is_refusal result bytes.new (next_component bytes.old) }
 {
     let movable = header(bytes)?;
     let name = name(alloc, bytes)?;
@@ -95,7 +97,7 @@ fn component(alloc: Global, bytes: &mut Cursor<'_>) -> Result<ComponentFields, F
 #[tactic(auto, unfolding(crate::specs::Reading::decoded))]
 fn whole(alloc: Global, bytes: &[u8]) -> Result<ComponentFields, FileFault>
     requires { length bytes.now < 2 ^ 32 }
-    ensures { Decodes result (decoded bytes.now) }
+    ensures { AnswersUnlessRefused is_refusal result (decoded bytes.now) }
 {
     let mut cursor = Cursor::of(bytes);
     let component = component(alloc, &mut cursor)?;
@@ -119,7 +121,7 @@ pub fn decode_component(alloc: Global, bytes: &[u8]) -> Result<Component, FileFa
     // What is spelled so is read, unless memory is refused.
     ensures only { (c : ComponentFields) → Spells bytes.now c → (result ≡ Ok c) ⊎ (result ≡ Err NoMemory) }
     // Which fault it is.
-    ensures exact { Decodes result (decoded bytes.now) }
+    ensures exact { AnswersUnlessRefused is_refusal result (decoded bytes.now) }
 {
     let fields = whole(alloc, bytes)?;
     Ok(Component::of(fields))

@@ -1,25 +1,26 @@
 -- An image is read where it is spelled, and spelled where it was read.
-use Rattle.std.proofs.Common.{◌≡◌, ℕ, ◌+◌, ◌<◌, ◌≤◌, Bool, true, false, cond, eqb, List, [], ◌∷◌, ◌++◌, length, Result, Ok, Err, refl, sym, ap, ◌∙◌, append-nil, arith, take}
+use Rattle.std.proofs.Common.{◌≡◌, ℕ, ◌+◌, ◌<◌, ◌≤◌, true, false, eqb, List, ◌∷◌, ◌++◌}
+use Rattle.std.proofs.Common.{length, Ok, Err, refl, sym, ap, append-nil, arith, take}
 use Rattle.std.specs.List.{AllByRecursion}
 use Rattle.std.specs.Str.{bytes_eq}
-use Rattle.std.proofs.lemmas.Bool.{eqb-true, eq-eqb, ne_eqb}
-use Rattle.std.proofs.lemmas.List.{nil_from_length}
+use Rattle.std.proofs.lemmas.Bool.{eqb-true, eq-eqb}
 use Rattle.std.proofs.lemmas.Slice.Eq.{bytes_eq-Decides}
-use Rattle.cap_words.specs.Reading.{Input, next_bytes, next_number}
-use Rattle.cap_words.proofs.Grammar.{IsBytes, Reads, All, reads_then, reads_last, reads_done, reads_as, reads_text, reads_learned}
+use Rattle.cap_words.specs.Reading.{next_bytes, next_number}
+use Rattle.readers.proofs.Grammar.{All, reads_then, reads_last, reads_done, reads_as, reads_text}
+use Rattle.readers.proofs.Grammar.{reads_learned, reads_tells}
+use Rattle.readers.proofs.Wholes as whole
+use Rattle.cap_words.proofs.ByteReads.{IsBytes, Reads}
 use Rattle.cap_words.proofs.Fields.{number_reads, within_reads}
 use Rattle.component_file.specs.Spelling.{u16_bytes, list_bytes}
 use Rattle.component_file.proofs.FieldLaws.{four_read}
 use Rattle.component_linker.specs.declared.TheConstants.{MOST_PARTS}
 use Rattle.component_linker.specs.Parts.{IsPart}
 use Rattle.image_loader.specs.declared.TheConstants.{VERSION}
-use Rattle.image_loader.specs.declared.fault.ImageFault.{ImageFault}
 use Rattle.image_loader.specs.declared.fault.ImageFault.TheVariants.{Magic, Version, Short, Trailing}
 use Rattle.image_loader.specs.declared.reading.Image.{Image}
 use Rattle.image_loader.specs.Image.{IsImage, magic, image_bytes}
-use Rattle.image_loader.specs.Reading.{field, next_header, next_count, next_parts, next_image, finished, image_of}
-use Rattle.image_loader.proofs.FieldLaws.{reads_field, reads_tells}
-use Rattle.image_loader.proofs.PartLaws.{parts_read}
+use Rattle.image_loader.specs.Reading.{field, next_header, next_count, next_parts, next_image, image_of}
+use Rattle.image_loader.proofs.PartLaws.{reads_field, parts_read}
 
 -- ---- magic and version
 
@@ -28,9 +29,12 @@ unfolding next_header
 header_reads = reads_as next_header
     (reads_text _ (λ c k. ap (λ l. magic ++ l) (append-nil (u16_bytes VERSION)))
     (reads_then (λ (c : Unit {0}). magic) (field (next_bytes 4)) _ (reads_field four_read) (λ four p0.
-    reads_tells (bytes_eq four magic) Magic _ (λ e. sym ((bytes_eq-Decides four magic).0 e)) (λ e. (bytes_eq-Decides four magic).1 (sym e))
-    (reads_then (λ (c : Unit {0}). VERSION) (field (next_number 2)) _ (reads_field (number_reads 2)) (λ version p1.
-    reads_tells (eqb version VERSION) Version _ (λ e. sym (eqb-true _ _ e)) (λ e. eq-eqb version VERSION (sym e))
+    reads_tells (bytes_eq four magic) Magic _ (λ e. sym ((bytes_eq-Decides four magic).0 e))
+    (λ e. (bytes_eq-Decides four magic).1 (sym e))
+    (reads_then (λ (c : Unit {0}). VERSION) (field (next_number 2)) _ (reads_field (number_reads 2))
+    (λ version p1.
+    reads_tells (eqb version VERSION) Version _ (λ e. sym (eqb-true _ _ e))
+    (λ e. eq-eqb version VERSION (sym e))
     (reads_done tt (λ c k. refl) tt))))))
     (λ c k p. tt)
     (λ c k p. (refl, (omega arith, tt)))
@@ -42,9 +46,11 @@ unfolding next_image image_bytes list_bytes
 image_reads = reads_as next_image
     (reads_then {A = Unit {0}} (λ (i : Image). tt) next_header _ header_reads (λ header p0.
     reads_then (λ (i : Image). i.stack) (field (next_number 4)) _ (reads_field (number_reads 4)) (λ stack p1.
-    reads_then {P = λ (i : Image). AllByRecursion IsPart i.parts} (λ (i : Image). length i.parts) (field next_count) _ (reads_field (within_reads 2 1 MOST_PARTS (omega arith))) (λ count p2.
+    reads_then {P = λ (i : Image). AllByRecursion IsPart i.parts} (λ (i : Image). length i.parts)
+    (field next_count) _ (reads_field (within_reads 2 1 MOST_PARTS (omega arith))) (λ count p2.
     reads_as _
-    (reads_last (λ (i : Image). i.parts) (next_parts 0 count) (λ parts. record { stack = stack; parts = parts })
+    (reads_last (λ (i : Image). i.parts) (next_parts 0 count)
+    (λ parts. record { stack = stack; parts = parts })
     (reads_learned (parts_read 0 count))
     (λ i k. rw (← k.0.1) refl)
     (λ parts p3. ((((tt, refl), refl), p3.0), refl)))
@@ -55,38 +61,23 @@ image_reads = reads_as next_image
 
 -- ---- whole files
 
-ended_ok : (b : Bool) (x i : Image) (at : ℕ) → cond b (Ok x) (Err (Trailing at)) ≡ Ok i → (b ≡ true) × (x ≡ i)
-ended_ok true x i at e = (refl, cc)
-ended_ok false x i at e = absurd cc
-
--- what was read with nothing behind it
-finished_ok : (r : Result (Image × Input) ImageFault) (i : Image) → finished r ≡ Ok i → (j : Input) × (r ≡ Ok (i, j)) × (length j.rest ≡ 0)
-finished_ok (Err e) i h = absurd cc
-finished_ok (Ok x) i h = let g = ended_ok (eqb (length x.1.rest) 0) x.0 i x.1.at h in (x.1, ap (λ y. Ok (y, x.1)) g.1, eqb-true _ _ g.0)
-
-pub found_whole : (bytes : List ℕ) (i : Image) → IsBytes bytes → image_of bytes ≡ Ok i → IsImage i × (bytes ≡ image_bytes i)
+pub found_whole : (bytes : List ℕ) (i : Image) → IsBytes bytes → image_of bytes ≡ Ok i
+    → IsImage i × (bytes ≡ image_bytes i)
 unfolding image_of
-found_whole bytes i fits e =
-    let f = finished_ok (next_image (record { at = 0; rest = bytes })) i e in
-    let g = image_reads.takes (record { at = 0; rest = bytes }) i f.0 fits f.1 in
-    let nothing : f.0.rest ≡ [] = nil_from_length f.0.rest f.2 in
-    (g.1, g.2.parts ∙ ap (λ l. image_bytes i ++ l) nothing ∙ append-nil (image_bytes i))
+found_whole = whole.found_whole image_reads Trailing
 
 pub read_whole : (i : Image) → IsImage i → image_of (image_bytes i) ≡ Ok i
 unfolding image_of
-read_whole i fits = ap (λ l. finished (next_image (record { at = 0; rest = l }))) (sym (append-nil (image_bytes i))) ∙ ap finished (image_reads.again i 0 [] tt fits)
+read_whole = whole.again_whole image_reads Trailing
 
 -- an image that was cut is short somewhere
-pub read_cut : (i : Image) (n : ℕ) → IsImage i → n < length (image_bytes i) → (at : ℕ) × (at ≤ n) × (image_of (take n (image_bytes i)) ≡ Err (Short at))
+pub read_cut : (i : Image) (n : ℕ) → IsImage i → n < length (image_bytes i)
+    → (at : ℕ) × (at ≤ n) × (image_of (take n (image_bytes i)) ≡ Err (Short at))
 unfolding image_of
-read_cut i n fits lt =
-    let g = image_reads.cut i 0 n tt fits lt in
-    (0 + g.inside, omega (arith, g.within), ap finished g.is)
+read_cut = whole.cut_whole image_reads Trailing
 
 -- what stands behind an image is too much
-pub read_past : (i : Image) (b : ℕ) (more : List ℕ) → IsImage i → image_of (image_bytes i ++ b ∷ more) ≡ Err (Trailing (length (image_bytes i)))
+pub read_past : (i : Image) (b : ℕ) (more : List ℕ) → IsImage i
+    → image_of (image_bytes i ++ b ∷ more) ≡ Err (Trailing (length (image_bytes i)))
 unfolding image_of
-read_past i b more fits =
-    let some : eqb (length (b ∷ more)) 0 ≡ false = ne_eqb _ _ (λ e. omega (arith, e)) in
-    let same : 0 + length (image_bytes i) ≡ length (image_bytes i) = omega arith in
-    ap finished (image_reads.again i 0 (b ∷ more) tt fits) ∙ rw some (ap (λ n. Err (Trailing n)) same)
+read_past = whole.past_whole image_reads Trailing

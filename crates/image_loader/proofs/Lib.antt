@@ -1,5 +1,3 @@
-pub mod FieldLaws
 pub mod PartLaws
 pub mod ImageLaws
-pub mod OneByOne
 pub mod Loaded

@@ -1,7 +1,9 @@
 -- What loading answers, from what reading gives and linking answers.
 use Rattle.std.proofs.Common.{◌≡◌, ◌⊎◌, inl, inr, List, ℕ, Result, Ok, Err, refl, sym, ap, subst, ◌∙◌}
 use Rattle.std.specs.Prelude.{IsOk}
-use Rattle.cap_words.proofs.Grammar.{IsBytes}
+use Rattle.cap_words.proofs.ByteReads.{IsBytes}
+use Rattle.readers.specs.Readers.{told_by}
+use Rattle.readers.specs.Answers.{Fails}
 use Rattle.component_linker.specs.declared.fault.LinkFault.{LinkFault}
 use Rattle.component_linker.specs.declared.fault.LinkFault.TheVariants as link_faults
 use Rattle.component_linker.specs.Standing.{placed}
@@ -10,34 +12,30 @@ use Rattle.component_linker.specs.Links.{rules_of_link}
 use Rattle.component_linker.specs.Started.{StartSeen}
 use Rattle.component_linker.specs.Answer.{Answers}
 use Rattle.image_loader.specs.declared.fault.ImageFault.{ImageFault}
-use Rattle.image_loader.specs.declared.fault.ImageFault.TheVariants.{Magic, Version, Short, BadField, Trailing, File, Rule, NoMemory}
+use Rattle.image_loader.specs.declared.fault.ImageFault.TheVariants.{NoMemory}
 use Rattle.image_loader.specs.declared.reading.Image.{Image}
-use Rattle.image_loader.specs.Fault.{Fails, not_linked}
+use Rattle.image_loader.specs.Fault.{is_refusal, not_linked}
 use Rattle.image_loader.specs.Image.{IsImage, image_bytes, Spells}
-use Rattle.image_loader.specs.Reading.{told_by, image_of}
+use Rattle.image_loader.specs.Reading.{image_of}
 use Rattle.image_loader.specs.Answer.{LinksRead, Loads}
 use Rattle.image_loader.proofs.ImageLaws.{found_whole, read_whole}
 
 -- ---- the answer is right
 
-pub fault_told : (bytes : List ℕ) (e : ImageFault) → Fails e (image_of bytes) → Loads bytes (Err e)
+pub fault_told : (bytes : List ℕ) (e : ImageFault) → Fails is_refusal e (image_of bytes) → Loads bytes (Err e)
 fault_told bytes e f = by_fault e f
   where
     told : (e : ImageFault) → image_of bytes ≡ Err e → Loads bytes (Err e)
     told e is = inl (subst (λ read. LinksRead read (Err e)) (sym is) refl)
 
-    by_fault : (e : ImageFault) → Fails e (image_of bytes) → Loads bytes (Err e)
+    by_fault : (e : ImageFault) → Fails is_refusal e (image_of bytes) → Loads bytes (Err e)
     by_fault NoMemory f = inr refl
-    by_fault Magic f = told Magic f
-    by_fault Version f = told Version f
-    by_fault (Short at) f = told (Short at) f
-    by_fault (BadField at) f = told (BadField at) f
-    by_fault (Trailing at) f = told (Trailing at) f
-    by_fault (File part fault) f = told (File part fault) f
-    by_fault (Rule at) f = told (Rule at) f
+    by_fault e f = told e f
 
-pub linking_told : (bytes : List ℕ) (i : Image) (r : Result StartSeen LinkFault) → image_of bytes ≡ Ok i → Answers i.parts i.stack r → Loads bytes (told_by not_linked r)
-linking_told bytes i r is answers = inl (subst (λ read. LinksRead read (told_by not_linked r)) (sym is) (r, answers, refl))
+pub linking_told : (bytes : List ℕ) (i : Image) (r : Result StartSeen LinkFault) → image_of bytes ≡ Ok i
+    → Answers i.parts i.stack r → Loads bytes (told_by not_linked r)
+linking_told bytes i r is answers =
+    inl (subst (λ read. LinksRead read (told_by not_linked r)) (sym is) (r, answers, refl))
 
 -- ---- what a right answer says
 
@@ -48,7 +46,8 @@ pub loads_found : (bytes : List ℕ) (s : StartSeen) → IsBytes bytes → Loads
 loads_found bytes s fits (inr e) = absurd cc
 loads_found bytes s fits (inl h) = by_read (image_of bytes) refl h
   where
-    by_link : (i : Image) → image_of bytes ≡ Ok i → (r : Result StartSeen LinkFault) → Answers i.parts i.stack r → Ok s ≡ told_by not_linked r → Found bytes s
+    by_link : (i : Image) → image_of bytes ≡ Ok i → (r : Result StartSeen LinkFault)
+        → Answers i.parts i.stack r → Ok s ≡ told_by not_linked r → Found bytes s
     by_link i is (Ok t) answers e =
         let same : t ≡ s = cc in
         (i, found_whole bytes i fits is, subst (λ t. Answers i.parts i.stack (Ok t)) same answers)
@@ -58,18 +57,23 @@ loads_found bytes s fits (inl h) = by_read (image_of bytes) refl h
     by_read (Ok i) is h = by_link i is h.0 h.1 h.2
     by_read (Err e) is h = absurd cc
 
-pub loads_only : (bytes : List ℕ) (answer : Result StartSeen ImageFault) (i : Image) → Loads bytes answer → Spells bytes i → NoneIsBroken (rules_of_link (placed i.parts i.stack) i.stack) → IsOk answer ⊎ (answer ≡ Err NoMemory)
+pub loads_only : (bytes : List ℕ) (answer : Result StartSeen ImageFault) (i : Image) → Loads bytes answer
+    → Spells bytes i → NoneIsBroken (rules_of_link (placed i.parts i.stack) i.stack)
+    → IsOk answer ⊎ (answer ≡ Err NoMemory)
 loads_only bytes answer i (inr e) spelled none = inr e
 loads_only bytes answer i (inl h) spelled none =
     let read : image_of bytes ≡ Ok i = ap image_of spelled.1 ∙ read_whole i spelled.0 in
     let g : LinksRead (Ok i) answer = subst (λ q. LinksRead q answer) read h in
     by_link g.0 g.1 g.2
   where
-    by_link : (r : Result StartSeen LinkFault) → Answers i.parts i.stack r → answer ≡ told_by not_linked r → IsOk answer ⊎ (answer ≡ Err NoMemory)
+    by_link : (r : Result StartSeen LinkFault) → Answers i.parts i.stack r → answer ≡ told_by not_linked r
+        → IsOk answer ⊎ (answer ≡ Err NoMemory)
     by_link (Ok s) answers e = inl (subst IsOk (sym e) refl)
-    by_link (Err (link_faults.Rule at)) answers e = absurd (none answers.number answers.part answers.index answers.test answers.is answers.broken)
+    by_link (Err (link_faults.Rule at)) answers e =
+        absurd (none answers.number answers.part answers.index answers.test answers.is answers.broken)
     by_link (Err link_faults.NoMemory) answers e = inr e
 
-pub written_links : (i : Image) (answer : Result StartSeen ImageFault) → IsImage i → Loads (image_bytes i) answer → LinksRead (Ok i) answer ⊎ (answer ≡ Err NoMemory)
+pub written_links : (i : Image) (answer : Result StartSeen ImageFault) → IsImage i
+    → Loads (image_bytes i) answer → LinksRead (Ok i) answer ⊎ (answer ≡ Err NoMemory)
 written_links i answer fits (inr e) = inr e
 written_links i answer fits (inl h) = inl (subst (λ read. LinksRead read answer) (read_whole i fits) h)

@@ -7,7 +7,8 @@ use Rattle.image_loader.specs.declared.fault.ImageFault.{ImageFault}
 use Rattle.image_loader.specs.declared.fault.ImageFault.TheVariants.{NoMemory}
 use Rattle.image_loader.specs.declared.reading.Image.{Image}
 use Rattle.image_loader.specs.Fault.{not_linked}
-use Rattle.image_loader.specs.Reading.{told_by, image_of}
+use Rattle.readers.specs.Readers.{told_by}
+use Rattle.image_loader.specs.Reading.{image_of}
 
 -- the first fault; or of an image what linking answers of its parts and the size of its stack
 abbrev pub LinksRead : Result Image ImageFault → Result StartSeen ImageFault → Type 0

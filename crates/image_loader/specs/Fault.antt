@@ -1,8 +1,7 @@
 -- The faults of an image.
-use Rattle.std.specs.Prelude.{◌≡◌, ℕ, Result, Ok, Err}
+use Rattle.std.specs.Prelude.{ℕ, Bool, true, false}
 use Rattle.cap_words.specs.declared.bytes.cursor.FieldFault.{FieldFault}
 use Rattle.cap_words.specs.declared.bytes.cursor.FieldFault.TheVariants as field_faults
-use Rattle.cap_words.specs.Reading.{Input}
 use Rattle.component_file.specs.declared.fault.FileFault.{FileFault}
 use Rattle.component_file.specs.declared.fault.FileFault.TheVariants as file_faults
 use Rattle.component_check.specs.declared.rule.Broken.{Broken}
@@ -51,20 +50,7 @@ abbrev pub not_linked : LinkFault → ImageFault
 not_linked (link_faults.Rule at) = Rule at
 not_linked link_faults.NoMemory = NoMemory
 
--- ---- answers
-
--- the fault is what reading gives, unless memory was refused
-abbrev pub Fails : {A : Type 0} → ImageFault → Result A ImageFault → Type 0
-Fails NoMemory read = Unit {0}
-Fails e read = read ≡ Err e
-
--- the answer is what reading gives, unless memory was refused
-abbrev pub Meets : {A : Type 0} → Result A ImageFault → Result A ImageFault → Type 0
-Meets (Ok x) read = read ≡ Ok x
-Meets (Err e) read = Fails e read
-
--- the answer of a call on a cursor, and what it left
-abbrev pub GivesUnlessRefused : {A : Type 0}
-    → Result A ImageFault → Input → Result (A × Input) ImageFault → Type 0
-GivesUnlessRefused (Ok x) left read = read ≡ Ok (x, left)
-GivesUnlessRefused (Err e) left read = Fails e read
+-- memory was refused
+abbrev pub is_refusal : ImageFault → Bool
+is_refusal NoMemory = true
+is_refusal _ = false

@@ -11,7 +11,8 @@ use Rattle.image_loader.specs.declared.reading.Image.{Image}
 abbrev pub ImageSeen : Type 0
 ImageSeen = Image
 
--- as many parts as may be linked, each a component within its limits that keeps the rules of a part; and the size
+-- as many parts as may be linked, each a component within its limits that keeps the rules of a part; and the
+-- size
 -- of their stack
 pub record IsImage (i : Image) : Type 0 where
   pub stack : i.stack < 2 ^ 32

@@ -73,7 +73,6 @@ impl fmt::Display for ImageFault {
 
     ghost output = { λ fault. Some (image_fault_text fault) };
 
-    #[tactic(auto, unfolding(crate::specs::FaultText::file_fault_text))]
     fn fmt<W: fmt::Write>(&self, f: &mut fmt::Formatter<W>) -> fmt::Result {
         match self {
             ImageFault::Magic => write!(f, "the image does not begin with STKI"),
@@ -81,11 +80,7 @@ impl fmt::Display for ImageFault {
             ImageFault::Short(at) => write!(f, "the image ends within the field at byte {at}"),
             ImageFault::BadField(at) => write!(f, "the field at byte {at} is not valid"),
             ImageFault::Trailing(at) => write!(f, "the image ends before byte {at}"),
-            ImageFault::File(part, fault) => {
-                let number = fault.number();
-                let place = fault.place();
-                write!(f, "part {part} has the file fault {number} at byte {place}")
-            }
+            ImageFault::File(part, fault) => write!(f, "part {part}: {fault}"),
             ImageFault::Rule(at) => write!(f, "{at}"),
             ImageFault::NoMemory => write!(f, "out of memory"),
         }

@@ -1,10 +1,11 @@
 //! Images from bytes: parts in their form, each by its own rules.
 ghost use Rattle.std.specs.Prelude.{◌≡◌, ◌<◌, ◌^◌, length};
-ghost use Rattle.cap_words.specs.Gives.{Gives};
+ghost use Rattle.readers.specs.Answers.{Gives, AnswersUnlessRefused, GivesUnlessRefused};
+ghost use Rattle.readers.specs.Readers.{told_by};
 ghost use Rattle.component_file.specs.Reading.{next_flag, decoded};
 ghost use Rattle.component_linker.specs.Accepted.{accepted};
-ghost use Rattle.image_loader.specs.Fault.{in_part, broken_in, Meets, GivesUnlessRefused};
-ghost use Rattle.image_loader.specs.Reading.{told_by, next_header, next_count, part_of, next_part};
+ghost use Rattle.image_loader.specs.Fault.{in_part, broken_in, is_refusal};
+ghost use Rattle.image_loader.specs.Reading.{next_header, next_count, part_of, next_part};
 ghost use Rattle.image_loader.specs.Reading.{next_parts, next_image, image_of};
 
 use crate::VERSION;
@@ -23,9 +24,9 @@ pub(crate) struct Image {
 }
 
 // `STKI`, and version 1 of the form.
-#[tactic(auto, unfolding(crate::specs::Reading::next_header, crate::specs::Reading::field))]
+#[tactic(auto, unfolding(crate::specs::Reading::next_header, readers::specs::Readers::telling))]
 fn header(bytes: &mut Cursor<'_>) -> Result<(), ImageFault>
-    ensures { GivesUnlessRefused result bytes.new (next_header bytes.old) }
+    ensures { GivesUnlessRefused is_refusal result bytes.new (next_header bytes.old) }
 {
     if bytes.bytes(4)? != b"STKI".as_slice() {
         return Err(ImageFault::Magic);
@@ -66,7 +67,7 @@ fn count(bytes: &mut Cursor<'_>) -> Result<u16, FieldFault>
 // The component of a part in its form.
 fn component(alloc: Global, index: u32, bytes: &[u8]) -> Result<Component, ImageFault>
     requires { length bytes.now < 2 ^ 32 }
-    ensures { Meets result (told_by (in_part index) (decoded bytes.now)) }
+    ensures { AnswersUnlessRefused is_refusal result (told_by (in_part index) (decoded bytes.now)) }
 {
     match decode_component(alloc, bytes) {
         Ok(component) => Ok(component),
@@ -76,7 +77,7 @@ fn component(alloc: Global, index: u32, bytes: &[u8]) -> Result<Component, Image
 }
 
 // The part of a component that keeps its own rules.
-fn kept(component: Component, index: u32, trusted: bool) -> Result<Part, ImageFault>
+fn part_by_rules(component: Component, index: u32, trusted: bool) -> Result<Part, ImageFault>
     ensures { result ≡ told_by (broken_in index)
         (accepted (record { component = component; trusted = trusted })) }
 {
@@ -93,17 +94,17 @@ fn kept(component: Component, index: u32, trusted: bool) -> Result<Part, ImageFa
 #[tactic(auto, unfolding(crate::specs::Reading::part_of))]
 fn part_of(alloc: Global, index: u32, trusted: bool, bytes: &[u8]) -> Result<Part, ImageFault>
     requires { length bytes.now < 2 ^ 32 }
-    ensures { Meets result (part_of index trusted bytes.now) }
+    ensures { AnswersUnlessRefused is_refusal result (part_of index trusted bytes.now) }
 {
     let component = component(alloc, index, bytes)?;
-    kept(component, index, trusted)
+    part_by_rules(component, index, trusted)
 }
 
 // The part with this index: its header, its form and its own rules. Its bytes are taken as they
 // stand in the image, so no memory is asked for by the length that is told.
-#[tactic(auto, unfolding(crate::specs::Reading::next_part, crate::specs::Reading::field))]
+#[tactic(auto, unfolding(crate::specs::Reading::next_part, readers::specs::Readers::telling))]
 fn part(alloc: Global, index: u32, bytes: &mut Cursor<'_>) -> Result<Part, ImageFault>
-    ensures { GivesUnlessRefused result bytes.new (next_part index bytes.old) }
+    ensures { GivesUnlessRefused is_refusal result bytes.new (next_part index bytes.old) }
 {
     let trusted = mark(bytes)?;
     let len = bytes.u32()?;
@@ -112,7 +113,7 @@ fn part(alloc: Global, index: u32, bytes: &mut Cursor<'_>) -> Result<Part, Image
 }
 
 fn parts(alloc: Global, count: u16, bytes: &mut Cursor<'_>) -> Result<Items<Part>, ImageFault>
-    ensures { GivesUnlessRefused result bytes.new (next_parts 0 count bytes.old) }
+    ensures { GivesUnlessRefused is_refusal result bytes.new (next_parts 0 count bytes.old) }
 {
     let mut parts = Vec::new(alloc);
     for index in 0..count {
@@ -122,9 +123,9 @@ fn parts(alloc: Global, count: u16, bytes: &mut Cursor<'_>) -> Result<Items<Part
     Ok(Items::of(parts))
 }
 
-#[tactic(auto, unfolding(crate::specs::Reading::next_image, crate::specs::Reading::field))]
+#[tactic(auto, unfolding(crate::specs::Reading::next_image, readers::specs::Readers::telling))]
 fn next_image(alloc: Global, bytes: &mut Cursor<'_>) -> Result<Image, ImageFault>
-    ensures { GivesUnlessRefused result bytes.new (next_image bytes.old) }
+    ensures { GivesUnlessRefused is_refusal result bytes.new (next_image bytes.old) }
 {
     header(bytes)?;
     let stack = bytes.u32()?;
@@ -137,7 +138,7 @@ fn next_image(alloc: Global, bytes: &mut Cursor<'_>) -> Result<Image, ImageFault
 #[tactic(auto, unfolding(crate::specs::Reading::image_of))]
 pub(crate) fn whole(alloc: Global, bytes: &[u8]) -> Result<Image, ImageFault>
     requires { length bytes.now < 2 ^ 32 }
-    ensures { Meets result (image_of bytes.now) }
+    ensures { AnswersUnlessRefused is_refusal result (image_of bytes.now) }
 {
     let mut cursor = Cursor::of(bytes);
     let image = next_image(alloc, &mut cursor)?;

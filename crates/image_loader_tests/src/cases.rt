@@ -116,11 +116,17 @@ pub(crate) static OWN_CASES: [Case; 26] = [
         &[(16, b"\xff")],
         "the image ends within the field at byte 17",
     ),
-    (&[(13, b"\x59")], "part 0 has the file fault 3 at byte 86"),
-    (&[(13, b"\0")], "part 0 has the file fault 3 at byte 0"),
+    (
+        &[(13, b"\x59")],
+        "part 0: the file ends within the field at byte 86",
+    ),
+    (
+        &[(13, b"\0")],
+        "part 0: the file ends within the field at byte 0",
+    ),
     (
         &[(13, b"\x5b"), (107, b"\0")],
-        "part 0 has the file fault 6 at byte 90",
+        "part 0: the component ends before byte 90",
     ),
     // The end, which comes before the rules L.
     (&[(107, b"\0")], "the image ends before byte 107"),
@@ -132,9 +138,9 @@ pub(crate) static OWN_CASES: [Case; 26] = [
 
 /// The parts: their form, and their own rules.
 pub(crate) static PART_CASES: [Case; 18] = [
-    (&[(17, b"R")], "part 0 has the file fault 1 at byte 0"),
-    (&[(21, b"\x03")], "part 0 has the file fault 2 at byte 0"),
-    (&[(24, b"1")], "part 0 has the file fault 4 at byte 6"),
+    (&[(17, b"R")], "part 0: the file does not begin with STKC"),
+    (&[(21, b"\x03")], "part 0: the version is neither 1 nor 2"),
+    (&[(24, b"1")], "part 0: the field at byte 6 is not valid"),
     // The code's base is the data's.
     (&[(51, b"\xc8")], "0 C2 0"),
     // Of a trusted part it is asked where its `fail` is; and so before the image's end.
@@ -142,7 +148,7 @@ pub(crate) static PART_CASES: [Case; 18] = [
     (&[(12, b"\x01"), (107, b"\0")], "0 C12 1"),
     (
         &[(12, b"\x01"), (17, b"R")],
-        "part 0 has the file fault 1 at byte 0",
+        "part 0: the file does not begin with STKC",
     ),
     // With `fail` at 0 there is no entry where `main` is said to be. Untrusted it may be so.
     (
@@ -175,11 +181,11 @@ pub(crate) static PART_CASES: [Case; 18] = [
     ),
     (
         &[(10, b"\x02"), (107, b"\0\x04\0\0\0STKC")],
-        "part 1 has the file fault 3 at byte 4",
+        "part 1: the file ends within the field at byte 4",
     ),
     (
         &[(10, b"\x02"), (107, b"\0\x04\0\0\0RTKC")],
-        "part 1 has the file fault 1 at byte 0",
+        "part 1: the file does not begin with STKC",
     ),
     // The first part comes before the second.
     (
@@ -188,6 +194,6 @@ pub(crate) static PART_CASES: [Case; 18] = [
     ),
     (
         &[(10, b"\x02"), (24, b"1"), (107, b"\0\x04\0\0\0RTKC")],
-        "part 0 has the file fault 4 at byte 6",
+        "part 0: the field at byte 6 is not valid",
     ),
 ];

@@ -269,7 +269,7 @@ static FAULTS: [(ImageFault, &str); 8] = [
     (Trailing(107), "5 107 the image ends before byte 107"),
     (
         File(3, FileFault::Order(9)),
-        "6 0 part 3 has the file fault 5 at byte 9",
+        "6 0 part 3: the item at byte 9 is out of order",
     ),
     (RuleFault(L4_AT_2), "7 0 1 L4 2"),
     (NoMemory, "8 0 out of memory"),

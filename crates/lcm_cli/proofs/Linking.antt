@@ -15,7 +15,8 @@ use Rattle.image_loader.specs.declared.fault.ImageFault.{ImageFault}
 use Rattle.image_loader.specs.declared.fault.ImageFault.TheVariants as image
 use Rattle.image_loader.specs.Fault.{not_linked}
 use Rattle.image_loader.specs.Image.{ImageSeen, IsImage, image_bytes, Spells}
-use Rattle.image_loader.specs.Reading.{told_by, image_of}
+use Rattle.readers.specs.Readers.{told_by}
+use Rattle.image_loader.specs.Reading.{image_of}
 use Rattle.image_loader.specs.Answer.{LinksRead, Loads}
 use Rattle.image_loader.proofs.ImageLaws.{read_whole}
 use Rattle.lcm_cli.specs.declared.refusal.Refusal.TheVariants as refusal

@@ -1,13 +1,13 @@
 -- A number has only the parts of the instruction that they spell exactly where it is that instruction's
 -- number.
-use Rattle.std.proofs.Common.{◌≡◌, ℕ, ◌+◌, ◌*◌, ◌/◌, ◌%◌, ◌<◌, ◌≤◌, ℤ, pos, negsuc, ◌-ℤ◌, Option, Some, None}
-use Rattle.std.proofs.Common.{refl, sym, ap, ◌∙◌, ◌-◌, ◌&&◌, eq-eqb, eqb-true, eqb, cond, Bool, true, false}
+use Rattle.std.proofs.Common.{◌≡◌, ℕ, ◌+◌, ◌/◌, ◌%◌, ◌<◌, ◌≤◌, pos, negsuc, ◌-ℤ◌, Option, Some, None}
+use Rattle.std.proofs.Common.{refl, sym, ap, ◌∙◌, ◌-◌, ◌&&◌, eq-eqb, eqb-true, eqb, Bool, true, false}
 use Rattle.std.proofs.Common.{lt-ltb, ltb, ltb-true, ltb-false, ne_eqb, lit<, arith, zero, suc, subst, List}
 use Rattle.std.proofs.Common.{[], ◌∷◌, slice_get}
-use Rattle.std.proofs.lemmas.Bool.{eqb-false}
+use Rattle.std.proofs.lemmas.Bool.{eqb-false, and_parts}
 use Rattle.std.specs.Cmp.{both_ways}
 use Rattle.std.specs.Cmp.Derive.{both_true}
-use Rattle.std.specs.Prelude.{◌==◌, if◌then◌else◌}
+use Rattle.std.specs.Prelude.{if◌then◌else◌}
 use Rattle.std.proofs.lemmas.Int.{ints}
 use Rattle.lcm_isa.specs.declared.Reg.{Reg}
 use Rattle.lcm_isa.specs.declared.Operand.{Operand}
@@ -64,10 +64,6 @@ biased_by false f h = biased_high f h
 biased_back : (f : ℕ) → biased (pos f -ℤ pos 2147483648) ≡ f
 biased_back f = biased_by _ f refl
 
-and_from : (s t : Bool) → (s && t) ≡ true → (s ≡ true) × (t ≡ true)
-and_from true t h = (refl, h)
-and_from false t h = cc
-
 -- ---- the test of an instruction, for each number of registers: whether the number is made of op and them
 
 own0 : (op n : ℕ) → n % 64 ≡ op → ltb n 64 ≡ eqb (packed op 0 0 0 0 0) n
@@ -107,7 +103,7 @@ own_a_reg : (op n a g : ℕ) → n % 64 ≡ op → a ≡ n / 64 % 16 → n / 262
     → (n < 8388608 → g ≡ n / 524288) → (eqb (n / 1024 % 256) 0 && ltb n 8388608) ≡ eqb (packed op a 0 0 0 g) n
 own_a_reg op n a g e ea em below back =
     both_ways _ _
-    (λ t. let p = and_from _ _ t in let z = eqb-true (n / 1024 % 256) 0 p.0 in
+    (λ t. let p = and_parts _ _ t in let z = eqb-true (n / 1024 % 256) 0 p.0 in
     let l = ltb-true n 8388608 p.1 in let q = back l in eq-eqb (packed op a 0 0 0 g) n (omega arith))
     (λ t. let l = eqb-true (packed op a 0 0 0 g) n t in
     both_true (eq-eqb (n / 1024 % 256) 0 (omega arith)) (lt-ltb n 8388608 (omega arith)))
@@ -116,7 +112,7 @@ own_a_imm : (op n a g : ℕ) → n % 64 ≡ op → a ≡ n / 64 % 16 → n / 262
     → (eqb (n / 1024 % 256) 0 && true) ≡ eqb (packed op a 0 0 1 g) n
 own_a_imm op n a g e ea em eg =
     both_ways _ _
-    (λ t. let p = and_from _ _ t in let z = eqb-true (n / 1024 % 256) 0 p.0 in
+    (λ t. let p = and_parts _ _ t in let z = eqb-true (n / 1024 % 256) 0 p.0 in
     eq-eqb (packed op a 0 0 1 g) n (omega arith))
     (λ t. let l = eqb-true (packed op a 0 0 1 g) n t in
     both_true (eq-eqb (n / 1024 % 256) 0 (omega arith)) refl)
@@ -131,7 +127,7 @@ own_ab_reg : (op n a b g : ℕ) → n % 64 ≡ op → a ≡ n / 64 % 16 → b �
     → (eqb (n / 16384 % 16) 0 && ltb n 8388608) ≡ eqb (packed op a b 0 0 g) n
 own_ab_reg op n a b g e ea eb em below back =
     both_ways _ _
-    (λ t. let p = and_from _ _ t in let z = eqb-true (n / 16384 % 16) 0 p.0 in
+    (λ t. let p = and_parts _ _ t in let z = eqb-true (n / 16384 % 16) 0 p.0 in
     let l = ltb-true n 8388608 p.1 in let q = back l in eq-eqb (packed op a b 0 0 g) n (omega arith))
     (λ t. let l = eqb-true (packed op a b 0 0 g) n t in
     both_true (eq-eqb (n / 16384 % 16) 0 (omega arith)) (lt-ltb n 8388608 (omega arith)))
@@ -140,7 +136,7 @@ own_ab_imm : (op n a b g : ℕ) → n % 64 ≡ op → a ≡ n / 64 % 16 → b �
     → g ≡ n / 524288 → (eqb (n / 16384 % 16) 0 && true) ≡ eqb (packed op a b 0 1 g) n
 own_ab_imm op n a b g e ea eb em eg =
     both_ways _ _
-    (λ t. let p = and_from _ _ t in let z = eqb-true (n / 16384 % 16) 0 p.0 in
+    (λ t. let p = and_parts _ _ t in let z = eqb-true (n / 16384 % 16) 0 p.0 in
     eq-eqb (packed op a b 0 1 g) n (omega arith))
     (λ t. let l = eqb-true (packed op a b 0 1 g) n t in
     both_true (eq-eqb (n / 16384 % 16) 0 (omega arith)) refl)
@@ -232,7 +228,8 @@ own_rows n a b c o ea eb ec h =
     also (λ e. own2 19 n (reg_number a) (reg_number b) e ea eb) (
     also (λ e. own2 20 n (reg_number a) (reg_number b) e ea eb) (
     also (λ e. own_abc o 21 n (reg_number a) (reg_number b) (reg_number c) e ea eb ec h) (
-    also (λ e. own3 22 n (reg_number a) (reg_number b) (reg_number c) e ea eb ec) all_none))))))))))))))))))))))
+    also (λ e. own3 22 n (reg_number a) (reg_number b) (reg_number c) e ea eb ec)
+    all_none))))))))))))))))))))))
 
 own_found : (n : ℕ) (i : Instr) → candidate n ≡ Some i → is_own i n ≡ eqb (number_of i) n
 unfolding candidate table

@@ -1,14 +1,19 @@
 -- The text of an instruction, piece by piece.
-use Rattle.std.proofs.Common.{◌≡◌, ℕ, ◌≤◌, List, [], ◌∷◌, ◌++◌, map, length, append_assoc, append-nil, arith, lit≤}
+use Rattle.std.proofs.Common.{◌≡◌, ℕ, ◌≤◌, List, [], ◌∷◌, ◌++◌, map, length, append_assoc, append-nil, arith}
+use Rattle.std.proofs.Common.{lit≤}
 use Rattle.std.specs.Prelude.{slice_get}
 use Rattle.std.specs.List.{join_with_byte}
 use Rattle.lcm_isa.specs.declared.Operand.{Operand}
 use Rattle.lcm_isa.specs.declared.Instr.{Instr}
-use Rattle.lcm_isa.specs.declared.Instr.TheVariants.{Fail, Halt, Jmp, Jnz, Gettype, Geta, Getb, Gete, Getp, Getlin, Move, Store, Load, Cca, Restrict, Lt, Plus, Minus, Seta2b, Xjmp, Cseal, Split, Splice}
+use Rattle.lcm_isa.specs.declared.Instr.TheVariants.{Fail, Halt, Jmp, Jnz, Gettype, Geta, Getb, Gete, Getp}
+use Rattle.lcm_isa.specs.declared.Instr.TheVariants.{Getlin, Move, Store, Load, Cca, Restrict, Lt, Plus}
+use Rattle.lcm_isa.specs.declared.Instr.TheVariants.{Minus, Seta2b, Xjmp, Cseal, Split, Splice}
 use Rattle.lcm_isa.specs.Texts.{instr_text, mnemonic_of, operands_of, operand_text, after_blank}
 
 joined : (m : List ℕ) (os : List Operand) → length os ≤ 4
-    → join_with_byte 32 (m ∷ map operand_text os) ≡ (((m ++ after_blank (slice_get os 0)) ++ after_blank (slice_get os 1)) ++ after_blank (slice_get os 2)) ++ after_blank (slice_get os 3)
+    → join_with_byte 32 (m ∷ map operand_text os)
+    ≡ (((m ++ after_blank (slice_get os 0)) ++ after_blank (slice_get os 1)) ++ after_blank
+    (slice_get os 2)) ++ after_blank (slice_get os 3)
 joined m [] h = simp append-nil
 joined m (a ∷ []) h = simp append-nil
 joined m (a ∷ b ∷ []) h = simp (append-nil, append_assoc)
@@ -41,6 +46,10 @@ few (Cseal a b) = lit≤ tt
 few (Split a b c n) = lit≤ tt
 few (Splice a b c) = lit≤ tt
 
-pub instr_text_joined : (i : Instr) → instr_text i ≡ (((mnemonic_of i ++ after_blank (slice_get (operands_of i) 0)) ++ after_blank (slice_get (operands_of i) 1)) ++ after_blank (slice_get (operands_of i) 2)) ++ after_blank (slice_get (operands_of i) 3)
+pub instr_text_joined : (i : Instr)
+    → instr_text i
+    ≡ (((mnemonic_of i ++ after_blank (slice_get (operands_of i) 0)) ++ after_blank
+    (slice_get (operands_of i) 1)) ++ after_blank (slice_get (operands_of i) 2)) ++ after_blank
+    (slice_get (operands_of i) 3)
 unfolding instr_text
 instr_text_joined i = joined (mnemonic_of i) (operands_of i) (few i)

@@ -10,9 +10,11 @@
 
 mod text;
 
-ghost use Rattle.std.specs.Prelude.{◌≡◌, ◌≢◌, ◌≤◌, ◌<◌, ◌+◌, ◌*◌, ◌/◌, ◌%◌, ◌^◌, ℕ, ℤ, pos, Some, IfSome, IfNone, find, length};
+ghost use Rattle.std.specs.Prelude.{◌≡◌, ◌≢◌, ◌≤◌, ◌<◌, ◌+◌, ◌*◌, ◌/◌, ◌%◌, ◌^◌, ℕ, ℤ, pos, Some, IfSome};
+ghost use Rattle.std.specs.Prelude.{IfNone, find, length};
 ghost use Rattle.std.specs.Str.{bytes_eq};
-ghost use Rattle.lcm_isa.specs.Numbers.{reg_number, reg_of, mode_of, field_of, operand_of, packed, number_of, all_with, table, decode_of, candidate, if_numbered, IsInstr};
+ghost use Rattle.lcm_isa.specs.Numbers.{reg_number, reg_of, mode_of, field_of, operand_of, packed, number_of};
+ghost use Rattle.lcm_isa.specs.Numbers.{all_with, table, decode_of, candidate, if_numbered, IsInstr};
 ghost use Rattle.lcm_isa.specs.Own.{field_fits, is_own};
 ghost use Rattle.lcm_isa.specs.Texts.{reg_name, mnemonic_of};
 
@@ -123,7 +125,7 @@ impl Reg {
     }
 
     /// The register of this name, and None exactly where no register has it.
-    pub fn named(name: &[u8]) -> Option<Reg>
+    pub fn of_name(name: &[u8]) -> Option<Reg>
         ensures found { IfSome result (λ r. name.now ≡ reg_name r) }
         ensures back { (r : Reg) → name.now ≡ reg_name r → result ≡ Some r }
         ensures none { IfNone result ((r : Reg) → name.now ≢ reg_name r) }
@@ -231,7 +233,7 @@ const MODE: u64 = 262_144;
 const FIELD: u64 = 524_288;
 
 // The parts of an instruction in one number.
-fn packed(op: u64, first: u64, second: u64, third: u64, mode: u64, field: u64) -> u64
+fn number_of_parts(op: u64, first: u64, second: u64, third: u64, mode: u64, field: u64) -> u64
     requires op_fits { op < 64 }
     requires first_fits { first < 16 }
     requires second_fits { second < 16 }
@@ -262,28 +264,35 @@ fn number(instr: &Instr) -> u64
     ensures below { result < 2 ^ 51 }
 {
     match *instr {
-        Instr::Fail => packed(0, 0, 0, 0, 0, 0),
-        Instr::Halt => packed(1, 0, 0, 0, 0, 0),
-        Instr::Jmp(a) => packed(2, a.number(), 0, 0, 0, 0),
-        Instr::Jnz(a, b) => packed(3, a.number(), b.number(), 0, 0, 0),
-        Instr::Gettype(a, b) => packed(4, a.number(), b.number(), 0, 0, 0),
-        Instr::Geta(a, b) => packed(5, a.number(), b.number(), 0, 0, 0),
-        Instr::Getb(a, b) => packed(6, a.number(), b.number(), 0, 0, 0),
-        Instr::Gete(a, b) => packed(7, a.number(), b.number(), 0, 0, 0),
-        Instr::Getp(a, b) => packed(8, a.number(), b.number(), 0, 0, 0),
-        Instr::Getlin(a, b) => packed(9, a.number(), b.number(), 0, 0, 0),
-        Instr::Move(a, n) => packed(10, a.number(), 0, 0, n.mode(), n.field()),
-        Instr::Store(a, b) => packed(11, a.number(), b.number(), 0, 0, 0),
-        Instr::Load(a, b) => packed(12, a.number(), b.number(), 0, 0, 0),
-        Instr::Cca(a, n) => packed(13, a.number(), 0, 0, n.mode(), n.field()),
-        Instr::Restrict(a, n) => packed(14, a.number(), 0, 0, n.mode(), n.field()),
-        Instr::Lt(a, b, n) => packed(15, a.number(), b.number(), 0, n.mode(), n.field()),
-        Instr::Plus(a, b, n) => packed(16, a.number(), b.number(), 0, n.mode(), n.field()),
-        Instr::Minus(a, b, n) => packed(17, a.number(), b.number(), 0, n.mode(), n.field()),
-        Instr::Seta2b(a) => packed(18, a.number(), 0, 0, 0, 0),
-        Instr::Xjmp(a, b) => packed(19, a.number(), b.number(), 0, 0, 0),
-        Instr::Cseal(a, b) => packed(20, a.number(), b.number(), 0, 0, 0),
-        Instr::Split(a, b, c, n) => packed(
+        Instr::Fail => number_of_parts(0, 0, 0, 0, 0, 0),
+        Instr::Halt => number_of_parts(1, 0, 0, 0, 0, 0),
+        Instr::Jmp(a) => number_of_parts(2, a.number(), 0, 0, 0, 0),
+        Instr::Jnz(a, b) => number_of_parts(3, a.number(), b.number(), 0, 0, 0),
+        Instr::Gettype(a, b) => number_of_parts(4, a.number(), b.number(), 0, 0, 0),
+        Instr::Geta(a, b) => number_of_parts(5, a.number(), b.number(), 0, 0, 0),
+        Instr::Getb(a, b) => number_of_parts(6, a.number(), b.number(), 0, 0, 0),
+        Instr::Gete(a, b) => number_of_parts(7, a.number(), b.number(), 0, 0, 0),
+        Instr::Getp(a, b) => number_of_parts(8, a.number(), b.number(), 0, 0, 0),
+        Instr::Getlin(a, b) => number_of_parts(9, a.number(), b.number(), 0, 0, 0),
+        Instr::Move(a, n) => number_of_parts(10, a.number(), 0, 0, n.mode(), n.field()),
+        Instr::Store(a, b) => number_of_parts(11, a.number(), b.number(), 0, 0, 0),
+        Instr::Load(a, b) => number_of_parts(12, a.number(), b.number(), 0, 0, 0),
+        Instr::Cca(a, n) => number_of_parts(13, a.number(), 0, 0, n.mode(), n.field()),
+        Instr::Restrict(a, n) => number_of_parts(14, a.number(), 0, 0, n.mode(), n.field()),
+        Instr::Lt(a, b, n) => number_of_parts(15, a.number(), b.number(), 0, n.mode(), n.field()),
+        Instr::Plus(a, b, n) => number_of_parts(16, a.number(), b.number(), 0, n.mode(), n.field()),
+        Instr::Minus(a, b, n) => number_of_parts(
+            17,
+            a.number(),
+            b.number(),
+            0,
+            n.mode(),
+            n.field(),
+        ),
+        Instr::Seta2b(a) => number_of_parts(18, a.number(), 0, 0, 0, 0),
+        Instr::Xjmp(a, b) => number_of_parts(19, a.number(), b.number(), 0, 0, 0),
+        Instr::Cseal(a, b) => number_of_parts(20, a.number(), b.number(), 0, 0, 0),
+        Instr::Split(a, b, c, n) => number_of_parts(
             21,
             a.number(),
             b.number(),
@@ -291,7 +300,7 @@ fn number(instr: &Instr) -> u64
             n.mode(),
             n.field(),
         ),
-        Instr::Splice(a, b, c) => packed(22, a.number(), b.number(), c.number(), 0, 0),
+        Instr::Splice(a, b, c) => number_of_parts(22, a.number(), b.number(), c.number(), 0, 0),
     }
 }
 

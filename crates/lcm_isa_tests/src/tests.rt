@@ -45,8 +45,8 @@ fn other_numbers_are_no_instruction(rt: HostRuntime) {
 
 #[test]
 fn names_lead_back(rt: HostRuntime) {
-    assert_eq!(rt; Reg::named(b"data"), Some(Reg::Dat));
-    assert_eq!(rt; Reg::named(b"dat"), None);
+    assert_eq!(rt; Reg::of_name(b"data"), Some(Reg::Dat));
+    assert_eq!(rt; Reg::of_name(b"dat"), None);
     assert_eq!(rt; Reg::Rcode.name(), "rcode");
     assert_eq!(rt; Instr::Seta2b(Reg::Pc).mnemonic(), "seta2b");
 }

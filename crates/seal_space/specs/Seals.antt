@@ -1,5 +1,6 @@
 -- Seals of a range, and ranges that have none in common.
-use Rattle.std.specs.Prelude.{ℕ, zero, suc, ◌+◌, ◌-◌, ◌==◌, nat_le, nat_lt, Bool, IsTrue, ◌&&◌, ◌||◌, Option, Some, None, if◌then◌else◌}
+use Rattle.std.specs.Prelude.{ℕ, zero, suc, ◌+◌, ◌-◌, ◌==◌, nat_le, nat_lt, Bool, IsTrue, ◌&&◌, ◌||◌, Option}
+use Rattle.std.specs.Prelude.{Some, None, if◌then◌else◌}
 use Rattle.cap_words.specs.Stretch.{Stretch}
 
 -- a seal is one of the range

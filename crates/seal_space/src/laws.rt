@@ -6,6 +6,7 @@ ghost use Rattle.seal_space.specs.Seals.{next_of, after_draws};
 /// A lot gives its first seal, the one after it, and so on: after n draws that number more, as many
 /// as it counts, and then none. So no two draws from a lot give one seal.
 pub fn draws_ascend()
-    ensures gives { (lot : Stretch) (n : ℕ) → n < lot.count → next_of (after_draws n lot) ≡ Some (lot.base + n) }
+    ensures gives { (lot : Stretch) (n : ℕ) →
+        n < lot.count → next_of (after_draws n lot) ≡ Some (lot.base + n) }
     ensures ends { (lot : Stretch) (n : ℕ) → lot.count ≤ n → next_of (after_draws n lot) ≡ None }
 {}

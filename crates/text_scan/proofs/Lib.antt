@@ -3,6 +3,6 @@ mod Lines
 mod Pieces
 mod Cuts
 mod Texts
-mod Places
+pub mod Places
 mod Faults
 pub mod Printed

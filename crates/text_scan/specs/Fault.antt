@@ -1,5 +1,5 @@
 -- The faults of a text.
-use Rattle.std.specs.Prelude.{◌≡◌, ℕ, Result, Ok, Err}
+use Rattle.std.specs.Prelude.{ℕ, Bool, true, false}
 use Rattle.text_scan.specs.declared.fault.ScanFault.{ScanFault}
 use Rattle.text_scan.specs.declared.fault.ScanFault.TheVariants.{BadByte, NumberTooLarge}
 use Rattle.text_scan.specs.declared.fault.ScanFault.TheVariants.{LineTooLong, NoMemory}
@@ -18,12 +18,7 @@ fault_place (NumberTooLarge at) = at
 fault_place (LineTooLong line) = line
 fault_place NoMemory = 0
 
--- the fault is what reading gives, unless memory was refused
-abbrev pub Fails : {A : Type 0} → ScanFault → Result A ScanFault → Type 0
-Fails NoMemory read = Unit {0}
-Fails e read = read ≡ Err e
-
--- the answer, seen by view, is what reading gives, unless memory was refused
-abbrev pub AnswersAs : {A B : Type 0} → (A → B) → Result A ScanFault → Result B ScanFault → Type 0
-AnswersAs view (Ok x) read = read ≡ Ok (view x)
-AnswersAs view (Err e) read = Fails e read
+-- memory was refused
+abbrev pub is_refusal : ScanFault → Bool
+is_refusal NoMemory = true
+is_refusal _ = false

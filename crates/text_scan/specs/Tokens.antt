@@ -3,6 +3,8 @@ use Rattle.std.specs.Prelude.{◌≡◌, ℕ, zero, suc, ◌+◌, ◌-◌, ◌==
 use Rattle.std.specs.Prelude.{List, [], ◌∷◌, ◌++◌, length, slice_index, Option, Some, None, Result, Ok, Err}
 use Rattle.std.specs.List.{prefix_len, take_while, slice_split, list_all}
 use Rattle.std.specs.Str.Parse.{digits_value}
+use Rattle.readers.specs.Answers.{Fails}
+use Rattle.readers.specs.Results.{◌>>=◌}
 use Rattle.text_scan.specs.declared.TheConstants.{LONGEST_LINE, LARGEST_NUMBER}
 use Rattle.text_scan.specs.declared.token.TokenKind.{TokenKind}
 use Rattle.text_scan.specs.declared.token.TokenKind.TheVariants.{Name, Number, Sign, Equal, NewLine}
@@ -12,7 +14,7 @@ use Rattle.text_scan.specs.declared.fault.ScanFault.TheVariants.{BadByte, Number
 use Rattle.text_scan.specs.declared.piece.Piece.{Piece}
 use Rattle.text_scan.specs.Bytes.{hash, equals, is_newline}
 use Rattle.text_scan.specs.Bytes.{is_digit, is_name_start, is_name_byte, is_blank, is_sign}
-use Rattle.text_scan.specs.Fault.{Fails}
+use Rattle.text_scan.specs.Fault.{is_refusal}
 
 -- A text is lines, and a line is pieces. A piece is a token, or a blank or a comment, which are no tokens.
 
@@ -48,12 +50,6 @@ piece_at at text =
     else Err (BadByte at)
 
 -- ---- lines
-
--- the first fault wins
-infixl 10 ◌>>=◌
-abbrev pub ◌>>=◌ : {A B : Type 0} → Result A ScanFault → (A → Result B ScanFault) → Result B ScanFault
-(Ok x) >>= f = f x
-(Err e) >>= f = Err e
 
 -- the token of a piece that is one
 abbrev pub token_of : ℕ → Option TokenKind → ℕ → List Token
@@ -111,7 +107,7 @@ with_front front read = read >>= λ tokens. Ok (front ++ tokens)
 abbrev pub Appends : {A : Type 0}
     → Result A ScanFault → List Token → List Token → Result (List Token) ScanFault → Type 0
 Appends (Ok x) old new read = with_front old read ≡ Ok new
-Appends (Err e) old new read = Fails e read
+Appends (Err e) old new read = Fails is_refusal e read
 
 -- the lines behind a newline, where there is one
 abbrev pub lines_behind : Option (List ℕ) → List (List ℕ)

@@ -6,7 +6,8 @@ ghost use Rattle.text_scan.specs.declared.token.Token.{Token};
 ghost use Rattle.text_scan.specs.declared.fault.ScanFault.{ScanFault};
 ghost use Rattle.text_scan.specs.declared.fault.ScanFault.TheVariants.{NoMemory};
 ghost use Rattle.text_scan.specs.Bytes.{is_newline};
-ghost use Rattle.text_scan.specs.Fault.{AnswersAs};
+ghost use Rattle.readers.specs.Answers.{AnswersAs};
+ghost use Rattle.text_scan.specs.Fault.{is_refusal};
 ghost use Rattle.text_scan.specs.Tokens.{scanned, lines_behind};
 ghost use Rattle.text_scan.specs.Grammar.{HasTokens, HasFault, Placed, IsSpelled};
 
@@ -51,7 +52,7 @@ fn first_line(text: &[u8]) -> (&[u8], Option<&[u8]>)
 pub fn scan(alloc: Global, text: &[u8]) -> Result<Vec<Token>, ScanFault>
     requires { length text.now < 2 ^ 32 }
     // Which tokens, or which fault.
-    ensures exact { AnswersAs (λ v. v.items) result (scanned text.now) }
+    ensures exact { AnswersAs is_refusal (λ v. v.items) result (scanned text.now) }
     // What is given are tokens of the text.
     ensures found { IfOk result (λ v. HasTokens text.now v.items) }
     // What the text has as tokens is given, unless memory is refused.

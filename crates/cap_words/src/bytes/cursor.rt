@@ -1,7 +1,7 @@
 //! Reading numbers from the front of bytes.
 ghost use Rattle.std.specs.Prelude.{◌≡◌, ◌<◌, ◌≤◌, ◌^◌, ◌==◌, length, IfOk};
 ghost use Rattle.cap_words.specs.Reading.{next_bytes, next_byte, next_number, next_signed, within, meant};
-ghost use Rattle.cap_words.specs.Gives.{Gives, GivesAs};
+ghost use Rattle.readers.specs.Answers.{Gives, GivesAs};
 
 use byteorder::{ByteOrder, LittleEndian};
 use std::error::Error;

@@ -1,7 +1,7 @@
 //! Words from bytes.
 ghost use Rattle.std.specs.Prelude.{◌≡◌, ◌≤◌, ◌<◌, ◌^◌, ◌++◌, List, ℕ, length, take, IfSome, Some};
 ghost use Rattle.cap_words.specs.Reading.{next_byte, meant};
-ghost use Rattle.cap_words.specs.Gives.{Gives};
+ghost use Rattle.readers.specs.Answers.{Gives};
 ghost use Rattle.cap_words.specs.WordBytes.{Spells};
 ghost use Rattle.cap_words.specs.WordReading.{perm_meant, lin_meant, next_cap, next_seal_cap};
 ghost use Rattle.cap_words.specs.WordReading.{content_tagged, next_content, unsealed_tagged};
@@ -87,7 +87,7 @@ fn unsealed_tagged(bytes: &mut Cursor<'_>, at: u32, tag: u8) -> Result<Word, Fie
 
 // A seal, and what is under it.
 #[tactic(auto, unfolding(crate::specs::WordReading::next_sealed, crate::specs::WordReading::next_content))]
-fn sealed(bytes: &mut Cursor<'_>) -> Result<Word, FieldFault>
+fn sealed_word(bytes: &mut Cursor<'_>) -> Result<Word, FieldFault>
     ensures { Gives result bytes.new (next_sealed bytes.old) }
 {
     let seal = bytes.u32_within(0, LAST_PLACE)?;
@@ -104,7 +104,7 @@ impl<'a> Cursor<'a> {
     {
         let at = self.at();
         match self.byte()? {
-            3 => sealed(self),
+            3 => sealed_word(self),
             tag => unsealed_tagged(self, at, tag),
         }
     }

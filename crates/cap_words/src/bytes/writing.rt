@@ -116,7 +116,7 @@ fn put_content(out: &mut ArrayVec<u8, LONGEST_WORD>, content: &Sealable)
 }
 
 // The bytes of a word, in no memory.
-fn spelled(word: &Word) -> ArrayVec<u8, LONGEST_WORD>
+fn bytes_of(word: &Word) -> ArrayVec<u8, LONGEST_WORD>
     requires { SealInSpace word.now }
     ensures bytes { result.items ≡ word_bytes_of word.now }
     ensures fits { WordFits word.now }
@@ -153,7 +153,7 @@ pub fn push_word(out: &mut Vec<u8>, word: &Word) -> Result<(), AllocError>
     ensures fits { OnOk result (WordFits word.now) }
     ensures err { OnErr result (out.new.items ≡ out.old.items) }
 {
-    out.extend_from_slice(spelled(word).as_slice())
+    out.extend_from_slice(bytes_of(word).as_slice())
 }
 
 /// The bytes of a word, which are its one spelling: docs/FORMATS.md has the form. The seal of a

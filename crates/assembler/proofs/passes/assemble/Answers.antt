@@ -2,13 +2,15 @@ use Rattle.std.proofs.Common.{sym}
 use Rattle.assembler.proofs.Complete.{whole_draft, complete}
 use Rattle.assembler.proofs.passes.assemble.Goals as goal
 
-pub finished-requires-clause-ready : goal.finished-requires-clause-ready
-finished-requires-clause-ready c =
-    (whole_draft c.args.text.now c.as_slice.result.now c.in_ok-draft.draft c.in_ok-draft.ensures).0.words.ready
+pub component_of-requires-clause-ready : goal.component_of-requires-clause-ready
+component_of-requires-clause-ready c =
+    (whole_draft c.args.text.now c.as_slice.result.now c.in_ok-draft.draft
+    c.in_ok-draft.ensures).0.words.ready
 
-pub finished-requires-clause-few : goal.finished-requires-clause-few
-finished-requires-clause-few c =
-    (whole_draft c.args.text.now c.as_slice.result.now c.in_ok-draft.draft c.in_ok-draft.ensures).0.words.code_fits.0
+pub component_of-requires-clause-few : goal.component_of-requires-clause-few
+component_of-requires-clause-few c =
+    (whole_draft c.args.text.now c.as_slice.result.now c.in_ok-draft.draft
+    c.in_ok-draft.ensures).0.words.code_fits.0
 
 pub of-requires : goal.of-requires
 of-requires c =

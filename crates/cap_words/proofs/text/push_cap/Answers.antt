@@ -38,7 +38,8 @@ cap_text_ascii : (cap : CapFields) → IsAscii (range_text cap.base cap.end cap.
 unfolding cap_text
 cap_text_ascii cap range =
     let whole = IsAscii-append (kind cap) (range_text cap.base cap.end cap.addr) (kind_ascii cap) range in
-    IsAscii-append (kind cap ++ range_text cap.base cap.end cap.addr) (codes ")") whole (IsAscii-cons 41 [] (omega arith) IsAscii-nil)
+    IsAscii-append (kind cap ++ range_text cap.base cap.end cap.addr) (codes ")") whole
+    (IsAscii-cons 41 [] (omega arith) IsAscii-nil)
 
 pub returns-clause-ascii : goal.returns-clause-ascii
 returns-clause-ascii c = cap_text_ascii c.args.cap (search (rules, c.push_range.ensures.ascii))

@@ -5,4 +5,5 @@ use Rattle.component_check.proofs.slots.c4.Goals as goal
 
 pub returns : goal.returns
 unfolding c4
-returns c = plain_first (length c.args.c.now.imports) (slot_is_bad c.args.c.now) c.first_place.ensures.first (search rules) (λ i b lt h. search rules)
+returns c = plain_first (length c.args.c.now.imports) (slot_is_bad c.args.c.now) c.first_place.ensures.first
+    (search rules) (λ i b lt h. search rules)

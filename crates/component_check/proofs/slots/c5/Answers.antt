@@ -6,4 +6,6 @@ use Rattle.component_check.proofs.slots.c5.Goals as goal
 
 pub returns : goal.returns
 unfolding c5
-returns c = plain_first (length c.args.c.now.imports) (λ i. not (slot_is_free c.args.c.now i)) c.first_place.ensures.first (search rules) (λ i b lt h. search rules)
+returns c = plain_first (length c.args.c.now.imports)
+    (λ i. not (slot_is_free c.args.c.now i)) c.first_place.ensures.first (search rules)
+    (λ i b lt h. search rules)

@@ -6,4 +6,6 @@ use Rattle.component_check.proofs.slots.c6.Goals as goal
 
 pub returns : goal.returns
 unfolding c6
-returns c = plain_first (length c.args.c.now.exports) (λ i. nat_le (length c.args.c.now.code) (export_offset c.args.c.now i)) c.first_place.ensures.first (search rules) (λ i b lt h. search rules)
+returns c = plain_first (length c.args.c.now.exports)
+    (λ i. nat_le (length c.args.c.now.code) (export_offset c.args.c.now i)) c.first_place.ensures.first
+    (search rules) (λ i b lt h. search rules)

@@ -6,4 +6,6 @@ use Rattle.component_check.proofs.trusted.c10.Goals as goal
 
 pub returns : goal.returns
 unfolding c10
-returns c = plain_first (length c.args.c.now.code) (λ i. holds_of is_no_int (slice_get c.args.c.now.code i) && not (is_at c.args.c.now.literal_at i)) c.first_place.ensures.first (search rules) (λ i b lt h. search rules)
+returns c = plain_first (length c.args.c.now.code)
+    (λ i. holds_of is_no_int (slice_get c.args.c.now.code i) && not (is_at c.args.c.now.literal_at i))
+    c.first_place.ensures.first (search rules) (λ i b lt h. search rules)

@@ -6,4 +6,6 @@ use Rattle.component_check.proofs.words.c9.Goals as goal
 
 pub returns : goal.returns
 unfolding c9
-returns c = plain_first (length (words c.args.c.now)) (λ i. holds_of (is_foreign_seal c.args.c.now) (slice_get (words c.args.c.now) i)) c.first_place.ensures.first (search rules) (λ i b lt h. search rules)
+returns c = plain_first (length (words c.args.c.now))
+    (λ i. holds_of (is_foreign_seal c.args.c.now) (slice_get (words c.args.c.now) i))
+    c.first_place.ensures.first (search rules) (λ i b lt h. search rules)

@@ -3,4 +3,5 @@ use Rattle.std.specs.List.{flat_map}
 use Rattle.component_file.proofs.writing.push_items.Given as goal
 
 abbrev pub invariant-loop-item : goal.invariant-loop-item
-invariant-loop-item g l = l.out.items ≡ l.fn.out.items ++ flat_map g.T.Spelled.spelled (take l.item-index l.items)
+invariant-loop-item g l = l.out.items ≡ l.fn.out.items ++ flat_map g.T.Spelled.spelled
+    (take l.item-index l.items)

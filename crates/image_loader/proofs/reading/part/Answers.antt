@@ -1,5 +1,5 @@
 use Rattle.std.proofs.Common.{arith}
-use Rattle.image_loader.proofs.OneByOne.{taken_length}
+use Rattle.image_loader.proofs.PartLaws.{taken_length}
 use Rattle.image_loader.proofs.reading.part.Goals as goal
 
 pub part_of-requires : goal.part_of-requires

@@ -7,6 +7,18 @@ use Rattle.image_loader.proofs.writing.write_image.Goals as goal
 pub returns : goal.returns
 unfolding image_bytes list_bytes
 returns c = (
-  record { stack = omega arith; count = (c.requires.some, c.requires.few); parts = c.in_ok-push_parts.ensures.kept },
-  rw (c.in_ok-push_parts.ensures.spelled, c.in_ok-push_u16-2.ensures.bytes, c.in_ok-push_u32.ensures.bytes, c.in_ok-push_u16.ensures.bytes, c.in_ok-extend_from_slice.ensures.items, c.new-out.ensures.items) (simp append_assoc),
+  record {
+    stack = omega arith;
+    count = (c.requires.some, c.requires.few);
+    parts = c.in_ok-push_parts.ensures.kept;
+  },
+  rw (
+    c.in_ok-push_parts.ensures.spelled,
+    c.in_ok-push_u16-2.ensures.bytes,
+    c.in_ok-push_u32.ensures.bytes,
+    c.in_ok-push_u16.ensures.bytes,
+    c.in_ok-extend_from_slice.ensures.items,
+    c.new-out.ensures.items,
+  )
+      (simp append_assoc),
 )

@@ -16,14 +16,21 @@ returns-in_err-push_line c =
     let front = c.loop-tokens.tokens.items in
     let number = c.loop-tokens.number in
     let at = c.loop-tokens.at in
-    let so_far = ap (λ l. with_front front (lines_from number at l)) (sym c.first_line.ensures.parts) ∙ c.loop-tokens.invariant.so_far in
-    let fails = line_fails front number at _ _ c.in_err-push_line.field-0.0 _ c.in_err-push_line.ensures so_far in
+    let so_far = ap (λ l. with_front front (lines_from number at l)) (sym c.first_line.ensures.parts)
+    ∙ c.loop-tokens.invariant.so_far in
+    let fails = line_fails front number at _ _ c.in_err-push_line.field-0.0 _ c.in_err-push_line.ensures
+    so_far in
     rw (p.1, p.2) (record {
       exact = fails;
       found = tt;
-      only = λ tokens has. inr (ap Err (no_fault c.args.text.now c.in_err-push_line.field-0.0 tokens fails has));
+      only = λ tokens has.
+          inr (ap Err (no_fault c.args.text.now c.in_err-push_line.field-0.0 tokens fails has));
       fails = told_fault c.args.text.now c.in_err-push_line.field-0.0 fails;
-      first = λ e has. elim (one_fault c.args.text.now c.in_err-push_line.field-0.0 e fails has) [ inl x ↦ inl (ap Err x) | inr x ↦ inr (ap Err x) ];
+      first = λ e has. elim (one_fault c.args.text.now c.in_err-push_line.field-0.0 e fails has) [
+        | inl x ↦
+            inl (ap Err x)
+        | inr x ↦ inr (ap Err x)
+      ];
       placed = tt;
       spelled = tt;
     })
@@ -34,8 +41,10 @@ returns-in_default c =
     let number = c.loop-tokens.number in
     let at = c.loop-tokens.at in
     let line = c.first_line.result.0.now in
-    let parts = c.first_line.ensures.parts ∙ ap (λ o. line ∷ lines_behind (option_map (λ r. r.now) o)) c.in_default.is in
-    let so_far = ap (λ l. with_front front (lines_from number at l)) (sym parts) ∙ c.loop-tokens.invariant.so_far in
+    let parts = c.first_line.ensures.parts
+    ∙ ap (λ o. line ∷ lines_behind (option_map (λ r. r.now) o)) c.in_default.is in
+    let so_far = ap (λ l. with_front front (lines_from number at l)) (sym parts)
+    ∙ c.loop-tokens.invariant.so_far in
     let text = c.args.text.now in
     let tokens = c.push_line.new.tokens.items in
     let read = last_line front tokens number at line _ c.in_ok-push_line.ensures so_far in
@@ -63,10 +72,14 @@ loop-tokens-preserved c =
     let line = c.first_line.result.0.now in
     let next = c.in-Some.next.now in
     let len = rw c.in-Some.is at c.first_line.ensures.len in
-    let parts = c.first_line.ensures.parts ∙ ap (λ o. line ∷ lines_behind (option_map (λ r. r.now) o)) c.in-Some.is in
-    let so_far = ap (λ l. with_front front (lines_from number at l)) (sym parts) ∙ c.loop-tokens.invariant.so_far in
+    let parts = c.first_line.ensures.parts
+    ∙ ap (λ o. line ∷ lines_behind (option_map (λ r. r.now) o)) c.in-Some.is in
+    let so_far = ap (λ l. with_front front (lines_from number at l)) (sym parts)
+    ∙ c.loop-tokens.invariant.so_far in
     record {
       place = omega (arith, len, c.loop-tokens.invariant.place);
       number = omega (arith, c.loop-tokens.invariant.number);
-      so_far = rw c.in_ok-push.ensures.items (next_line front c.push_line.new.tokens.items number at (at + length line) line (slice_split is_newline next) _ (some_line next) c.in_ok-push_line.ensures refl so_far);
+      so_far = rw c.in_ok-push.ensures.items
+          (next_line front c.push_line.new.tokens.items number at (at + length line) line
+          (slice_split is_newline next) _ (some_line next) c.in_ok-push_line.ensures refl so_far);
     }

@@ -7,5 +7,8 @@ use Rattle.component_check.proofs.marks.Marks.has_any.Goals as goal
 
 pub returns : goal.returns
 returns c =
-    let first = first_of_is (plainly (c.args.to - c.args.from) (λ i. is_marked c.args.self.now.bits (c.args.from + i))) c.first_place.ensures.first (search rules) (λ i b lt h. search rules) in
+    let first =
+    first_of_is
+    (plainly (c.args.to - c.args.from) (λ i. is_marked c.args.self.now.bits (c.args.from + i)))
+    c.first_place.ensures.first (search rules) (λ i b lt h. search rules) in
     c.is_some.ensures ∙ ap is_some first

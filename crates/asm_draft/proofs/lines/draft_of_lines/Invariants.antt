@@ -3,11 +3,12 @@ use Rattle.asm_fields.specs.Fields.{seen, InText}
 use Rattle.asm_draft.specs.Draft.{nothing}
 use Rattle.asm_draft.specs.Whole.{lines_of, drafted}
 use Rattle.asm_draft.proofs.LineLemmas.{InLine, rest_drafted}
-use Rattle.asm_draft.proofs.lines.drafted.Given as goal
+use Rattle.asm_draft.proofs.lines.draft_of_lines.Given as goal
 
 abbrev pub invariant-loop-token : goal.invariant-loop-token
 invariant-loop-token l = record {
   slices : InText l.text l.line.items;
   in_line : InLine (map (seen l.text) l.line.items);
-  so_far : rest_drafted l.text l.tokens l.token-index l.line.items l.draft ≡ drafted nothing (lines_of (map (seen l.text) l.fn.tokens) (length l.text));
+  so_far : rest_drafted l.text l.tokens l.token-index l.line.items l.draft ≡ drafted nothing
+      (lines_of (map (seen l.text) l.fn.tokens) (length l.text));
 }

@@ -1,5 +1,5 @@
 use Rattle.lcm_isa.proofs.NameLemmas.{first_named, named_found, named_back, named_none}
-use Rattle.lcm_isa.proofs.Reg.named.Goals as goal
+use Rattle.lcm_isa.proofs.Reg.of_name.Goals as goal
 
 pub returns-clause-found : goal.returns-clause-found
 unfolding first_named
