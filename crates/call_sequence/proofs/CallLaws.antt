@@ -1,13 +1,13 @@
 -- What the words of a call do, for words of any kind.
-use Rattle.std.proofs.Common.{◌≡◌, ℕ, zero, suc, ◌+◌, ◌-◌, ◌<◌, ◌≤◌, pos, negsuc, ℤ, ◌+ℤ◌, ◌-ℤ◌, true, false, List, [], ◌∷◌, Some, refl, ap, sym, ◌∙◌, arith, rules, FitsSigned, w32}
-use Rattle.std.specs.Prelude.{nat_le}
+use Rattle.std.proofs.Common.{◌≡◌, ℕ, zero, suc, ◌+◌, ◌-◌, ◌≤◌, pos, negsuc, ℤ, ◌+ℤ◌, ◌-ℤ◌, true, false, Some}
+use Rattle.std.proofs.Common.{refl, ap, ◌∙◌, arith, rules, FitsSigned, w32}
 use Rattle.std.proofs.lemmas.Int.{ints}
 use Rattle.std.proofs.lemmas.Bool.{lt-leb}
 use Rattle.std.specs.Ordering.{nat_cmp}
 use Rattle.std.specs.FinMap.{FinMap}
 use Rattle.cap_words.specs.declared.Word.{Word}
-use Rattle.cap_words.specs.declared.Word.TheVariants.{Int, Mem, Seal, Sealed}
-use Rattle.cap_words.specs.Linear.{is_linear, zero_word}
+use Rattle.cap_words.specs.declared.Word.TheVariants.{Int, Mem, Seal}
+use Rattle.cap_words.specs.Linear.{is_linear}
 use Rattle.cap_words.specs.Faces.{can_split}
 use Rattle.cap_words.specs.declared.Face.TheVariants.{Number}
 use Rattle.lcm_isa.specs.declared.Reg.TheVariants.{Rdata, Stk, Dat, T1, C1, C2}
@@ -19,13 +19,15 @@ use Rattle.lcm_machine.specs.Cells.{cell, set_cell}
 use Rattle.lcm_machine.specs.Table.{fits_64}
 use Rattle.lcm_machine.specs.Row.{look_face, row, went}
 use Rattle.lcm_machine.specs.Runs.{run_of, Stands, code_cap}
-use Rattle.lcm_machine.proofs.CellLemmas.{cell-set_other}
-use Rattle.lcm_machine.proofs.Goes.{go, ran, stays, leaves, number_in, move_goes, set_goes, store_goes, load_goes, cca_goes, cca_seal_goes, geta_goes, minus_goes, split_goes, cseal_goes, run_then}
-use Rattle.lcm_machine.proofs.StepRows.{step_row, run_one}
-use Rattle.lcm_machine.proofs.Refusals.{store_fails, split_fails, stops, then_failed}
+use Rattle.lcm_machine.proofs.Offers.{cell-set_other, go, ran, stays, leaves, number_in, move_goes, set_goes}
+use Rattle.lcm_machine.proofs.Offers.{store_goes, load_goes, cca_goes, cca_seal_goes, geta_goes, minus_goes}
+use Rattle.lcm_machine.proofs.Offers.{split_goes, cseal_goes, run_then, step_row, run_one, store_fails}
+use Rattle.lcm_machine.proofs.Offers.{split_fails, stops, then_failed}
 use Rattle.call_sequence.specs.Sequences.{call_code, distance}
-use Rattle.call_sequence.specs.SequenceRuns.{stack_cap, Outside, HasCall, at_xjmp, CallRuns, CallJumps, CallAtBaseFails, CallOutsideFails}
-use Rattle.call_sequence.proofs.LawLemmas.{fits_small, small_operand, near_operand, leads, fits_less, Stands-outside, differs}
+use Rattle.call_sequence.specs.SequenceRuns.{stack_cap, Outside, HasCall, at_xjmp, CallRuns, CallJumps}
+use Rattle.call_sequence.specs.SequenceRuns.{CallAtBaseFails, CallOutsideFails}
+use Rattle.call_sequence.proofs.LawLemmas.{fits_small, small_operand, near_operand, leads, fits_less}
+use Rattle.call_sequence.proofs.LawLemmas.{Stands-outside, differs}
 
 -- the stack can't be split below its base
 below_base : (sb se : ℕ) (z : ℤ) → pos sb -ℤ pos 1 ≡ z → can_split (stack_cap sb se sb) z ≡ false
@@ -90,7 +92,8 @@ module _ {W : Type 0} (look : W → Word) (plain : Word → W) (seen : (x : Word
       ∙ ran look plain _ ∙ ap (λ k. went (record s { regs = record (at_xjmp plain s base last at seal sb se b).regs { pc = plain (Mem (code_cap base last k)) }; cells = m' })) ends
 
   -- the call's last word, once a cell outside the code was set
-  xjmp_stands : (m : FinMap nat_cmp W) (base last at seal a : ℕ) (w : W) → HasCall look m base last at seal → Outside a base last
+  xjmp_stands : (m : FinMap nat_cmp W) (base last at seal a : ℕ) (w : W) → HasCall look m base last at seal
+      → Outside a base last
       → look_face look (cell (set_cell m a w) (at + 15)) ≡ Some (Number (pos (number_of (Xjmp C1 C2))))
   unfolding call_code
   xjmp_stands m base last at seal a w h out =

@@ -1,5 +1,6 @@
 -- What the words of an entry do, for words of any kind.
-use Rattle.std.proofs.Common.{◌≡◌, ◌≢◌, inl, inr, ℕ, ◌+◌, ◌-◌, ◌<◌, ◌≤◌, pos, ℤ, ◌+ℤ◌, ◌-ℤ◌, true, false, [], ◌∷◌, refl, ap, ◌∙◌, arith, rules, FitsSigned, w32, eqb-true}
+use Rattle.std.proofs.Common.{◌≡◌, ◌≢◌, inl, inr, ℕ, ◌+◌, ◌-◌, ◌≤◌, pos, ℤ, ◌+ℤ◌, ◌-ℤ◌, true, false, [], ◌∷◌}
+use Rattle.std.proofs.Common.{refl, ap, ◌∙◌, arith, rules, FitsSigned, w32, eqb-true}
 use Rattle.std.specs.Prelude.{◌==◌}
 use Rattle.std.proofs.lemmas.Int.{ints}
 use Rattle.std.proofs.lemmas.Bool.{cases_Bool, eqb-false}
@@ -25,11 +26,14 @@ use Rattle.lcm_machine.specs.Table.{fits_64, is_zero, bit}
 use Rattle.lcm_machine.specs.Row.{put, row, went, failed}
 use Rattle.lcm_machine.specs.Runs.{run_of, Stands, code_cap}
 use Rattle.lcm_machine.specs.Refusals.{HasFailed}
-use Rattle.lcm_machine.proofs.Goes.{go, ran, stop, stays, number_in, fail_fails, move_goes, set_goes, cca_goes, gettype_goes, getlin_goes, getp_goes, getb_goes, gete_goes, minus_goes, jnz_goes, jnz_jumps, seta2b_goes, run_then}
-use Rattle.lcm_machine.proofs.Refusals.{failed_more, then_failed}
+use Rattle.lcm_machine.proofs.Offers.{go, ran, stop, stays, number_in, fail_fails, move_goes, set_goes}
+use Rattle.lcm_machine.proofs.Offers.{cca_goes, gettype_goes, getlin_goes, getp_goes, getb_goes, gete_goes}
+use Rattle.lcm_machine.proofs.Offers.{minus_goes, jnz_goes, jnz_jumps, seta2b_goes, run_then, failed_more}
+use Rattle.lcm_machine.proofs.Offers.{then_failed}
 use Rattle.call_sequence.specs.Sequences.{entry_code, distance}
 use Rattle.call_sequence.specs.SequenceRuns.{HasEntry, EntryRuns, EntryFails, is_stack_at}
-use Rattle.call_sequence.proofs.LawLemmas.{fits_small, small_operand, near_operand, leads, not_zero, fits_less}
+use Rattle.call_sequence.proofs.LawLemmas.{fits_small, small_operand, near_operand, leads, not_zero}
+use Rattle.call_sequence.proofs.LawLemmas.{fits_less}
 
 perm_fits : (p : Perm) → fits_64 (pos (perm_number p) -ℤ pos 2) ≡ true
 perm_fits No = refl
@@ -47,9 +51,12 @@ module _ {W : Type 0} (look : W → Word) (plain : Word → W) (seen : (x : Word
   begun s base last at fail = record s { regs = record s.regs { pc = plain (Mem (code_cap base last at)); t2 = plain (Mem (code_cap base last fail)) } }
 
   -- a test that holds: three words
-  test_goes : (s : State W) (base last at fail : ℕ) (i : Instr) (v c : ℤ) → look s.regs.pc ≡ Mem (code_cap base last at) → look s.regs.t2 ≡ Mem (code_cap base last fail)
-      → Stands look s.cells at (i ∷ Minus T1 T1 (Imm c) ∷ Jnz T2 T1 ∷ []) → base ≤ at → at + 3 ≤ last + 1 → IsInstr i → FitsSigned w32 c
-      → ((next : Word) → row look plain i next s ≡ went (put (put s (R T1) (plain (Int v))) (R Pc) (plain next))) → v -ℤ c ≡ pos 0
+  test_goes : (s : State W) (base last at fail : ℕ) (i : Instr) (v c : ℤ)
+      → look s.regs.pc ≡ Mem (code_cap base last at) → look s.regs.t2 ≡ Mem (code_cap base last fail)
+      → Stands look s.cells at (i ∷ Minus T1 T1 (Imm c) ∷ Jnz T2 T1 ∷ []) → base ≤ at → at + 3 ≤ last + 1
+      → IsInstr i → FitsSigned w32 c
+      → ((next : Word) → row look plain i next s ≡ went (put (put s (R T1) (plain (Int v))) (R Pc) (plain next)))
+      → v -ℤ c ≡ pos 0
       → run_of look plain 3 s ≡ went (record s { regs = record s.regs { pc = plain (Mem (code_cap base last (at + 1 + 1 + 1))); t1 = plain (Int (pos 0)) } })
   test_goes s base last at fail i v c hpc ht code low high ok fc does e =
       go look plain _ _ _ base last at _ hpc low (omega arith) code.0 ok (does _)
@@ -58,9 +65,13 @@ module _ {W : Type 0} (look : W → Word) (plain : Word → W) (seen : (x : Word
       ∙ ran look plain _
 
   -- a test that doesn't: the part's fail
-  test_fails : (s : State W) (base last at fail : ℕ) (i : Instr) (v c : ℤ) → look s.regs.pc ≡ Mem (code_cap base last at) → look s.regs.t2 ≡ Mem (code_cap base last fail)
-      → Stands look s.cells at (i ∷ Minus T1 T1 (Imm c) ∷ Jnz T2 T1 ∷ []) → Stands look s.cells fail (Fail ∷ []) → base ≤ at → at + 3 ≤ last + 1 → base ≤ fail → fail ≤ last → IsInstr i → FitsSigned w32 c
-      → ((next : Word) → row look plain i next s ≡ went (put (put s (R T1) (plain (Int v))) (R Pc) (plain next))) → fits_64 (v -ℤ c) ≡ true → is_zero (v -ℤ c) ≡ false
+  test_fails : (s : State W) (base last at fail : ℕ) (i : Instr) (v c : ℤ)
+      → look s.regs.pc ≡ Mem (code_cap base last at) → look s.regs.t2 ≡ Mem (code_cap base last fail)
+      → Stands look s.cells at (i ∷ Minus T1 T1 (Imm c) ∷ Jnz T2 T1 ∷ [])
+      → Stands look s.cells fail (Fail ∷ []) → base ≤ at → at + 3 ≤ last + 1 → base ≤ fail → fail ≤ last
+      → IsInstr i → FitsSigned w32 c
+      → ((next : Word) → row look plain i next s ≡ went (put (put s (R T1) (plain (Int v))) (R Pc) (plain next)))
+      → fits_64 (v -ℤ c) ≡ true → is_zero (v -ℤ c) ≡ false
       → HasFailed (run_of look plain 4 s)
   test_fails s base last at fail i v c hpc ht code f low high fl fh ok fc does fit e =
       let ran4 : run_of look plain 4 s ≡ failed F4 (pos fail) =
@@ -87,7 +98,8 @@ module _ {W : Type 0} (look : W → Word) (plain : Word → W) (seen : (x : Word
 
     module _ (high_fail : base ≤ fail) (end_fail : fail ≤ last) (stops : Stands look s.cells fail (Fail ∷ [])) where
       -- stk is no memory capability
-      no_memory : (x : Word) → look s.regs.stk ≡ x → is_zero (face_number (face_of x) -ℤ pos 1) ≡ false → fits_64 (face_number (face_of x) -ℤ pos 1) ≡ true → HasFailed (run_of look plain 20 s)
+      no_memory : (x : Word) → look s.regs.stk ≡ x → is_zero (face_number (face_of x) -ℤ pos 1) ≡ false
+          → fits_64 (face_number (face_of x) -ℤ pos 1) ≡ true → HasFailed (run_of look plain 20 s)
       unfolding entry_code
       no_memory x hx e f =
           failed_more look plain 6 14 s (then_failed look plain 2 4 s b2 begins
@@ -101,26 +113,31 @@ module _ {W : Type 0} (look : W → Word) (plain : Word → W) (seen : (x : Word
           run_then look plain 2 3 s b2 _ begins
           (test_goes b2 base last (at + 1 + 1) fail (Gettype T1 Stk) (pos 1) (pos 1) (seen _) (seen _) (code.1.1.0, (code.1.1.1.0, (code.1.1.1.1.0, tt))) (omega arith) (omega arith) tt (search rules) (λ next. gettype_goes look plain T1 Stk next b2 (Mem c) refl hstk) refl)
 
-      up2 : lin_is c.lin ≡ true → run_of look plain 8 s ≡ went (tested s base last (at + 1 + 1 + 1 + 1 + 1 + 1 + 1 + 1) fail (pos 0))
+      up2 : lin_is c.lin ≡ true
+          → run_of look plain 8 s ≡ went (tested s base last (at + 1 + 1 + 1 + 1 + 1 + 1 + 1 + 1) fail (pos 0))
       unfolding entry_code
       up2 lin =
           run_then look plain 5 3 s (tested s base last (at + 1 + 1 + 1 + 1 + 1) fail (pos 0)) _ (up1)
           (test_goes (tested s base last (at + 1 + 1 + 1 + 1 + 1) fail (pos 0)) base last (at + 1 + 1 + 1 + 1 + 1) fail (Getlin T1 Stk) (bit (lin_is c.lin)) (pos 1) (seen _) (seen _) (code.1.1.1.1.1.0, (code.1.1.1.1.1.1.0, (code.1.1.1.1.1.1.1.0, tt))) (omega arith) (omega arith) tt (search rules) (λ next. getlin_goes look plain T1 Stk next (tested s base last (at + 1 + 1 + 1 + 1 + 1) fail (pos 0)) (Mem c) refl hstk) (ap (λ b. bit b -ℤ pos 1) lin))
 
-      up3 : lin_is c.lin ≡ true → (perm_number c.perm == 2) ≡ true → run_of look plain 11 s ≡ went (tested s base last (at + 1 + 1 + 1 + 1 + 1 + 1 + 1 + 1 + 1 + 1 + 1) fail (pos 0))
+      up3 : lin_is c.lin ≡ true → (perm_number c.perm == 2) ≡ true
+          → run_of look plain 11 s ≡ went (tested s base last (at + 1 + 1 + 1 + 1 + 1 + 1 + 1 + 1 + 1 + 1 + 1) fail (pos 0))
       unfolding entry_code
       up3 lin perm =
           run_then look plain 8 3 s (tested s base last (at + 1 + 1 + 1 + 1 + 1 + 1 + 1 + 1) fail (pos 0)) _ (up2 lin)
           (test_goes (tested s base last (at + 1 + 1 + 1 + 1 + 1 + 1 + 1 + 1) fail (pos 0)) base last (at + 1 + 1 + 1 + 1 + 1 + 1 + 1 + 1) fail (Getp T1 Stk) (pos (perm_number c.perm)) (pos 2) (seen _) (seen _) (code.1.1.1.1.1.1.1.1.0, (code.1.1.1.1.1.1.1.1.1.0, (code.1.1.1.1.1.1.1.1.1.1.0, tt))) (omega arith) (omega arith) tt (search rules) (λ next. getp_goes look plain T1 Stk next (tested s base last (at + 1 + 1 + 1 + 1 + 1 + 1 + 1 + 1) fail (pos 0)) (Mem c) refl hstk) (ap (λ p. pos p -ℤ pos 2) (eqb-true (perm_number c.perm) 2 perm)))
 
-      up4 : lin_is c.lin ≡ true → (perm_number c.perm == 2) ≡ true → c.base ≡ sb → sb ≤ LAST_PLACE → run_of look plain 14 s ≡ went (tested s base last (at + 1 + 1 + 1 + 1 + 1 + 1 + 1 + 1 + 1 + 1 + 1 + 1 + 1 + 1) fail (pos 0))
+      up4 : lin_is c.lin ≡ true → (perm_number c.perm == 2) ≡ true → c.base ≡ sb → sb ≤ LAST_PLACE
+          → run_of look plain 14 s ≡ went (tested s base last (at + 1 + 1 + 1 + 1 + 1 + 1 + 1 + 1 + 1 + 1 + 1 + 1 + 1 + 1) fail (pos 0))
       unfolding entry_code
       up4 lin perm is_base small_sb =
           let same : pos c.base -ℤ pos sb ≡ pos 0 = omega (arith, ints) in
           run_then look plain 11 3 s (tested s base last (at + 1 + 1 + 1 + 1 + 1 + 1 + 1 + 1 + 1 + 1 + 1) fail (pos 0)) _ (up3 lin perm)
           (test_goes (tested s base last (at + 1 + 1 + 1 + 1 + 1 + 1 + 1 + 1 + 1 + 1 + 1) fail (pos 0)) base last (at + 1 + 1 + 1 + 1 + 1 + 1 + 1 + 1 + 1 + 1 + 1) fail (Getb T1 Stk) (pos c.base) (pos sb) (seen _) (seen _) (code.1.1.1.1.1.1.1.1.1.1.1.0, (code.1.1.1.1.1.1.1.1.1.1.1.1.0, (code.1.1.1.1.1.1.1.1.1.1.1.1.1.0, tt))) (omega arith) (omega arith) tt (small_operand sb small_sb) (λ next. getb_goes look plain T1 Stk next (tested s base last (at + 1 + 1 + 1 + 1 + 1 + 1 + 1 + 1 + 1 + 1 + 1) fail (pos 0)) (Mem c) refl hstk) same)
 
-      pub runs : lin_is c.lin ≡ true → (perm_number c.perm == 2) ≡ true → c.base ≡ sb → sb ≤ c.end → c.end ≤ LAST_PLACE → run_of look plain 20 s ≡ went (record s { regs = record s.regs { pc = plain (Mem (code_cap base last (at + 20))); stk = plain (Mem (record c { addr = pos c.end })); t1 = zero_word plain; t2 = zero_word plain } })
+      pub runs : lin_is c.lin ≡ true → (perm_number c.perm == 2) ≡ true → c.base ≡ sb → sb ≤ c.end
+          → c.end ≤ LAST_PLACE
+          → run_of look plain 20 s ≡ went (record s { regs = record s.regs { pc = plain (Mem (code_cap base last (at + 20))); stk = plain (Mem (record c { addr = pos c.end })); t1 = zero_word plain; t2 = zero_word plain } })
       unfolding entry_code
       runs lin perm is_base order small_end =
           let small_sb : sb ≤ LAST_PLACE = omega arith in
@@ -145,14 +162,16 @@ module _ {W : Type 0} (look : W → Word) (plain : Word → W) (seen : (x : Word
             (test_fails (tested s base last (at + 1 + 1 + 1 + 1 + 1) fail (pos 0)) base last (at + 1 + 1 + 1 + 1 + 1) fail (Getlin T1 Stk) (pos 0) (pos 1) (seen _) (seen _) (code.1.1.1.1.1.0, (code.1.1.1.1.1.1.0, (code.1.1.1.1.1.1.1.0, tt))) stops (omega arith) (omega arith) high_fail end_fail tt (search rules)
             (λ next. getlin_goes look plain T1 Stk next (tested s base last (at + 1 + 1 + 1 + 1 + 1) fail (pos 0)) (Mem c) refl hstk ∙ ap (λ z. went (put (put (tested s base last (at + 1 + 1 + 1 + 1 + 1) fail (pos 0)) (R T1) (plain (Int z))) (R Pc) (plain next))) v) refl refl))
 
-        perm_fails : lin_is c.lin ≡ true → (perm_number c.perm == 2) ≡ false → HasFailed (run_of look plain 20 s)
+        perm_fails : lin_is c.lin ≡ true → (perm_number c.perm == 2) ≡ false
+            → HasFailed (run_of look plain 20 s)
         unfolding entry_code
         perm_fails lin e =
             failed_more look plain 12 8 s (then_failed look plain 8 4 s (tested s base last (at + 1 + 1 + 1 + 1 + 1 + 1 + 1 + 1) fail (pos 0)) (up2 lin)
             (test_fails (tested s base last (at + 1 + 1 + 1 + 1 + 1 + 1 + 1 + 1) fail (pos 0)) base last (at + 1 + 1 + 1 + 1 + 1 + 1 + 1 + 1) fail (Getp T1 Stk) (pos (perm_number c.perm)) (pos 2) (seen _) (seen _) (code.1.1.1.1.1.1.1.1.0, (code.1.1.1.1.1.1.1.1.1.0, (code.1.1.1.1.1.1.1.1.1.1.0, tt))) stops (omega arith) (omega arith) high_fail end_fail tt (search rules)
             (λ next. getp_goes look plain T1 Stk next (tested s base last (at + 1 + 1 + 1 + 1 + 1 + 1 + 1 + 1) fail (pos 0)) (Mem c) refl hstk) (perm_fits c.perm) (not_zero (perm_number c.perm) 2 (eqb-false (perm_number c.perm) 2 e))))
 
-        base_fails : lin_is c.lin ≡ true → (perm_number c.perm == 2) ≡ true → c.base ≢ sb → c.base ≤ LAST_PLACE → sb ≤ LAST_PLACE → HasFailed (run_of look plain 20 s)
+        base_fails : lin_is c.lin ≡ true → (perm_number c.perm == 2) ≡ true → c.base ≢ sb
+            → c.base ≤ LAST_PLACE → sb ≤ LAST_PLACE → HasFailed (run_of look plain 20 s)
         unfolding entry_code
         base_fails lin perm ne small_base small_sb =
             failed_more look plain 15 5 s (then_failed look plain 11 4 s (tested s base last (at + 1 + 1 + 1 + 1 + 1 + 1 + 1 + 1 + 1 + 1 + 1) fail (pos 0)) (up3 lin perm)
@@ -186,7 +205,8 @@ module _ {W : Type 0} (look : W → Word) (plain : Word → W) (seen : (x : Word
     from : base ≤ fail
     from = omega arith
 
-    by_word : (x : Word) → look s.regs.stk ≡ x → FaceInOrder (face_of x) → is_stack_at sb (face_of x) ≡ false → HasFailed (run_of look plain 20 s)
+    by_word : (x : Word) → look s.regs.stk ≡ x → FaceInOrder (face_of x) → is_stack_at sb (face_of x) ≡ false
+        → HasFailed (run_of look plain 20 s)
     by_word (Int z) e q o = no_memory s base last at sb fail h.offset h.fail hpc h.code (begins_in s base last at sb h) h.ends (leads_there s base last at sb h) (fail_small s base last at sb h) (is_operand s base last at sb h) from h.fails.1 h.fails.0 (Int z) e refl refl
     by_word (Seal z) e q o = no_memory s base last at sb fail h.offset h.fail hpc h.code (begins_in s base last at sb h) h.ends (leads_there s base last at sb h) (fail_small s base last at sb h) (is_operand s base last at sb h) from h.fails.1 h.fails.0 (Seal z) e refl refl
     by_word (Sealed n (MemIn z)) e q o = no_memory s base last at sb fail h.offset h.fail hpc h.code (begins_in s base last at sb h) h.ends (leads_there s base last at sb h) (fail_small s base last at sb h) (is_operand s base last at sb h) from h.fails.1 h.fails.0 (Sealed n (MemIn z)) e refl refl

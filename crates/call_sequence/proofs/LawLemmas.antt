@@ -1,5 +1,6 @@
 -- Numbers that sequences reckon with, and code that stands as before where a cell outside it is set.
-use Rattle.std.proofs.Common.{◌≡◌, ◌≢◌, ◌⊎◌, inl, inr, ℕ, suc, ◌+◌, ◌-◌, ◌^◌, ◌<◌, ◌≤◌, pos, negsuc, ℤ, ◌+ℤ◌, ◌-ℤ◌, true, false, List, length, ap, arith, lt-ltb, ne_eqb, refl, FitsSigned, w32}
+use Rattle.std.proofs.Common.{◌≡◌, ◌≢◌, inl, inr, ℕ, ◌+◌, ◌-◌, ◌^◌, ◌≤◌, pos, negsuc, ℤ, ◌+ℤ◌, ◌-ℤ◌, true}
+use Rattle.std.proofs.Common.{false, List, length, ap, arith, lt-ltb, ne_eqb, refl, FitsSigned, w32}
 use Rattle.std.proofs.lemmas.Int.{ints}
 use Rattle.std.proofs.lemmas.Bool.{cases_lt}
 use Rattle.std.specs.Ordering.{nat_cmp}
@@ -10,7 +11,7 @@ use Rattle.lcm_isa.specs.declared.Instr.{Instr}
 use Rattle.lcm_machine.specs.Cells.{set_cell}
 use Rattle.lcm_machine.specs.Table.{fits_64, is_zero}
 use Rattle.lcm_machine.specs.Runs.{Stands}
-use Rattle.lcm_machine.proofs.Goes.{Stands-set, Stands-set_below}
+use Rattle.lcm_machine.proofs.Offers.{Stands-set, Stands-set_below}
 use Rattle.call_sequence.specs.Sequences.{distance}
 use Rattle.call_sequence.specs.SequenceRuns.{Outside}
 
@@ -45,7 +46,8 @@ fits_less a b h g = elim (cases_lt a b) as (λ _. fits_64 (pos a -ℤ pos b) ≡
 
 -- code within a range stands as before where a cell outside is set
 pub Stands-outside : {W : Type 0} (look : W → Word) (m : FinMap nat_cmp W) (a : ℕ) (w : W) (base last at : ℕ) (is : List Instr)
-    → Outside a base last → base ≤ at → at + length is ≤ last + 1 → Stands look m at is → Stands look (set_cell m a w) at is
+    → Outside a base last → base ≤ at → at + length is ≤ last + 1 → Stands look m at is
+    → Stands look (set_cell m a w) at is
 Stands-outside look m a w base last at is (inl below) low high h = Stands-set_below look m a w at is (omega (arith, below, low)) h
 Stands-outside look m a w base last at is (inr above) low high h = Stands-set look m a w at is (omega (arith, above, high)) h
 

@@ -1,25 +1,26 @@
 -- What the words of a return do, for words of any kind.
-use Rattle.std.proofs.Common.{◌≡◌, ◌≢◌, ℕ, ◌+◌, ◌≤◌, pos, ℤ, ◌+ℤ◌, ◌-ℤ◌, true, false, [], ◌∷◌, Some, refl, ap, sym, ◌∙◌, arith, rules, FitsSigned, w32}
+use Rattle.std.proofs.Common.{◌≡◌, ℕ, ◌+◌, ◌≤◌, pos, ℤ, ◌+ℤ◌, ◌-ℤ◌, true, false, [], ◌∷◌, refl, ap, sym, ◌∙◌}
+use Rattle.std.proofs.Common.{arith, rules, FitsSigned, w32}
 use Rattle.std.proofs.lemmas.Int.{ints}
 use Rattle.std.specs.Ordering.{nat_cmp}
 use Rattle.std.specs.FinMap.{FinMap}
 use Rattle.cap_words.specs.declared.Word.{Word}
-use Rattle.cap_words.specs.declared.Word.TheVariants.{Int, Mem}
+use Rattle.cap_words.specs.declared.Word.TheVariants.{Mem}
 use Rattle.cap_words.specs.Linear.{is_linear, zero_word}
-use Rattle.cap_words.specs.Face.{face_of}
-use Rattle.cap_words.specs.Faces.{face_linear}
 use Rattle.lcm_isa.specs.declared.Reg.TheVariants.{Stk, Dat}
 use Rattle.lcm_isa.specs.declared.Instr.TheVariants.{Splice, Fail}
 use Rattle.lcm_machine.specs.declared.FailCause.TheVariants.{F4}
 use Rattle.lcm_machine.specs.Cells.{cell, set_cell}
 use Rattle.lcm_machine.specs.Row.{went, faces}
 use Rattle.lcm_machine.specs.Runs.{Stands, code_cap}
-use Rattle.lcm_machine.proofs.Commute.{is_linear-face}
-use Rattle.lcm_machine.proofs.Goes.{go, ran, stop, stays, leaves, fail_fails, move_goes, set_goes, store_goes, load_goes, cca_goes, getb_goes, minus_goes, splice_goes, jnz_goes, jnz_jumps}
-use Rattle.lcm_machine.proofs.Refusals.{splice_fails, stops}
+use Rattle.lcm_machine.proofs.Offers.{is_linear-face, go, ran, stop, stays, leaves, fail_fails, move_goes}
+use Rattle.lcm_machine.proofs.Offers.{set_goes, store_goes, load_goes, cca_goes, getb_goes, minus_goes}
+use Rattle.lcm_machine.proofs.Offers.{splice_goes, jnz_goes, jnz_jumps, splice_fails, stops}
 use Rattle.call_sequence.specs.Sequences.{return_code, distance}
-use Rattle.call_sequence.specs.SequenceRuns.{stack_cap, Outside, HasReturn, ReturnRuns, ReturnApartFails, ReturnOffBaseFails}
-use Rattle.call_sequence.proofs.LawLemmas.{fits_small, small_operand, near_operand, leads, not_zero, fits_less, Stands-outside}
+use Rattle.call_sequence.specs.SequenceRuns.{stack_cap, Outside, HasReturn, ReturnRuns, ReturnApartFails}
+use Rattle.call_sequence.specs.SequenceRuns.{ReturnOffBaseFails}
+use Rattle.call_sequence.proofs.LawLemmas.{fits_small, small_operand, near_operand, leads, not_zero}
+use Rattle.call_sequence.proofs.LawLemmas.{fits_less, Stands-outside}
 
 module _ {W : Type 0} (look : W → Word) (plain : Word → W) where
   pub return_apart : ReturnApartFails look plain
@@ -83,7 +84,8 @@ module _ {W : Type 0} (look : W → Word) (plain : Word → W) (seen : (x : Word
       ∙ stop look plain _ _ base last fail Fail F4 (seen _) fl fh h.fails.0.0 tt (fail_fails look plain _ _)
 
 -- a return stands as before where a cell outside its code is set
-pub HasReturn-set : {W : Type 0} (look : W → Word) (m : FinMap nat_cmp W) (base last at sb a : ℕ) (w : W) → Outside a base last → HasReturn look m base last at sb → HasReturn look (set_cell m a w) base last at sb
+pub HasReturn-set : {W : Type 0} (look : W → Word) (m : FinMap nat_cmp W) (base last at sb a : ℕ) (w : W)
+    → Outside a base last → HasReturn look m base last at sb → HasReturn look (set_cell m a w) base last at sb
 unfolding return_code
 HasReturn-set look m base last at sb a w out h =
     let ai = h.at_is in

@@ -1,8 +1,10 @@
 -- What doesn't differ from some code is that code, word by word.
-use Rattle.std.proofs.Common.{◌≡◌, ℕ, zero, suc, ◌+◌, Bool, true, false, List, [], ◌∷◌, Option, Some, None, refl, ap, arith}
-use Rattle.std.specs.Prelude.{ℤ, pos, slice_get, slice_index, nat_le, not, is_some, ◌&&◌, if◌then◌else◌, length}
+use Rattle.std.proofs.Common.{◌≡◌, ℕ, zero, suc, ◌+◌, Bool, true, false, List, [], ◌∷◌, Option, Some, None}
+use Rattle.std.proofs.Common.{refl, ap, arith}
+use Rattle.std.specs.Prelude.{ℤ, pos, slice_get, slice_index, nat_le, is_some, if◌then◌else◌, length}
 use Rattle.std.specs.Option.{option_or}
 use Rattle.std.proofs.lemmas.Bool.Decides.{Decides-int_eq}
+use Rattle.std.proofs.lemmas.Bool.{and_parts, not-true}
 use Rattle.cap_words.specs.declared.Word.{Word}
 use Rattle.cap_words.specs.declared.Word.TheVariants.{Int, Mem, Seal, Sealed}
 use Rattle.lcm_isa.specs.declared.Instr.{Instr}
@@ -10,7 +12,8 @@ use Rattle.lcm_isa.specs.Numbers.{number_of}
 use Rattle.component_file.specs.declared.component.ComponentFields.{ComponentFields}
 use Rattle.call_sequence.specs.declared.TheConstants.{CALL_WORDS, SITE_WORDS, ENTRY_WORDS}
 use Rattle.call_sequence.specs.Sequences.{call_code, return_code, entry_code}
-use Rattle.call_sequence.specs.Standing.{is_int, code_difference, sequence_difference, site_difference, is_site, is_entry, CodeStands, SiteStands, EntryStands}
+use Rattle.call_sequence.specs.Standing.{is_int, code_difference, sequence_difference, site_difference}
+use Rattle.call_sequence.specs.Standing.{is_site, is_entry, CodeStands, SiteStands, EntryStands}
 
 int_is : (o : Option Word) (z : ℤ) → is_int o z ≡ true → o ≡ Some (Int z)
 int_is None z e = cc
@@ -19,15 +22,20 @@ int_is (Some (Mem m)) z e = cc
 int_is (Some (Seal s)) z e = cc
 int_is (Some (Sealed s x)) z e = cc
 
-some_none : (b : Bool) (x : ℕ) (o : Option ℕ) → is_some (if b then o else Some x) ≡ false → (b ≡ true) × (is_some o ≡ false)
+some_none : (b : Bool) (x : ℕ) (o : Option ℕ) → is_some (if b then o else Some x) ≡ false
+    → (b ≡ true) × (is_some o ≡ false)
 some_none true x o e = (refl, e)
 some_none false x o e = cc
 
-stands : (words : List Word) (at : ℕ) (code : List Instr) → is_some (code_difference words at code) ≡ false → CodeStands words at code
+stands : (words : List Word) (at : ℕ) (code : List Instr) → is_some (code_difference words at code) ≡ false
+    → CodeStands words at code
 stands words at [] e = λ k i h. cc
 stands words at (x ∷ xs) e = by_place (some_none (is_int (slice_get words at) (pos (number_of x))) at (code_difference words (at + 1) xs) e) (stands words (at + 1) xs)
   where
-    by_place : (is_int (slice_get words at) (pos (number_of x)) ≡ true) × (is_some (code_difference words (at + 1) xs) ≡ false) → (is_some (code_difference words (at + 1) xs) ≡ false → CodeStands words (at + 1) xs) → (k : ℕ) (i : Instr) → slice_get (x ∷ xs) k ≡ Some i → slice_get words (at + k) ≡ Some (Int (pos (number_of i)))
+    by_place : (is_int (slice_get words at) (pos (number_of x)) ≡ true) × (is_some (code_difference words (at + 1) xs) ≡ false)
+        → (is_some (code_difference words (at + 1) xs) ≡ false → CodeStands words (at + 1) xs)
+        → (k : ℕ) (i : Instr) → slice_get (x ∷ xs) k ≡ Some i
+        → slice_get words (at + k) ≡ Some (Int (pos (number_of i)))
     by_place d more zero i h =
         let same : x ≡ i = cc in
         let e : at + 0 ≡ at = omega arith in
@@ -36,23 +44,16 @@ stands words at (x ∷ xs) e = by_place (some_none (is_int (slice_get words at) 
         let e : at + suc k ≡ at + 1 + k = omega arith in
         rw e (more d.1 k i h)
 
-both_of : (a b : Bool) → (a && b) ≡ true → (a ≡ true) × (b ≡ true)
-both_of true b e = (refl, e)
-both_of false b e = cc
-
-not_true : (b : Bool) → not b ≡ true → b ≡ false
-not_true true e = cc
-not_true false e = refl
-
 neither : (a b : Option ℕ) → is_some (option_or a b) ≡ false → (is_some a ≡ false) × (is_some b ≡ false)
 neither None b e = (refl, e)
 neither (Some x) b e = cc
 
 pub site_code : (c : ComponentFields) (index : ℕ) → is_site c index ≡ true → SiteStands c index
 unfolding is_site sequence_difference
-site_code c index e = by_offsets c.fail_at c.literal_at refl refl (not_true (is_some (site_difference c index)) (both_of (nat_le (slice_index c.sites index + SITE_WORDS) (length c.code)) _ e).1)
+site_code c index e = by_offsets c.fail_at c.literal_at refl refl (not-true (is_some (site_difference c index)) (and_parts (nat_le (slice_index c.sites index + SITE_WORDS) (length c.code)) _ e).1)
   where
-    by_code : (fail literal : ℕ) → c.fail_at ≡ Some fail → c.literal_at ≡ Some literal → is_some (sequence_difference c index fail literal) ≡ false → SiteStands c index
+    by_code : (fail literal : ℕ) → c.fail_at ≡ Some fail → c.literal_at ≡ Some literal
+        → is_some (sequence_difference c index fail literal) ≡ false → SiteStands c index
     by_code fail literal f l d =
         let at = slice_index c.sites index in
         let n = neither (code_difference c.code at (call_code literal at index)) (code_difference c.code (at + CALL_WORDS) (return_code fail (at + CALL_WORDS) c.stack_base)) d in
@@ -65,7 +66,8 @@ site_code c index e = by_offsets c.fail_at c.literal_at refl refl (not_true (is_
           back = stands c.code (at + CALL_WORDS) (return_code fail (at + CALL_WORDS) c.stack_base) n.1;
         }
 
-    by_offsets : (f l : Option ℕ) → c.fail_at ≡ f → c.literal_at ≡ l → is_some (site_difference c index) ≡ false → SiteStands c index
+    by_offsets : (f l : Option ℕ) → c.fail_at ≡ f → c.literal_at ≡ l
+        → is_some (site_difference c index) ≡ false → SiteStands c index
     by_offsets None l e m d = cc (rw e at d)
     by_offsets (Some fail) None e m d = cc (rw (e, m) at d)
     by_offsets (Some fail) (Some literal) e m d = by_code fail literal e m (rw (e, m) at d)
@@ -77,9 +79,9 @@ entry_words_stand c at e = by_fail c.fail_at refl e
     by_fail : (f : Option ℕ) → c.fail_at ≡ f → is_entry c at ≡ true → EntryStands c at
     by_fail None m e = cc (rw m at e)
     by_fail (Some fail) m e =
-        let b = both_of (nat_le (at + ENTRY_WORDS) (length c.code)) _ (rw m at e) in
+        let b = and_parts (nat_le (at + ENTRY_WORDS) (length c.code)) _ (rw m at e) in
         record {
           fail = fail;
           fail_is = m;
-          entry = stands c.code at (entry_code fail at c.stack_base) (not_true (is_some (code_difference c.code at (entry_code fail at c.stack_base))) b.1);
+          entry = stands c.code at (entry_code fail at c.stack_base) (not-true (is_some (code_difference c.code at (entry_code fail at c.stack_base))) b.1);
         }

@@ -1,13 +1,15 @@
 -- The code of a start: each part's words, and in a trusted part's its sequences.
-use Rattle.std.proofs.Common.{◌≡◌, ℕ, zero, suc, ◌+◌, ◌-◌, ◌<◌, Bool, true, false, not, List, [], ◌∷◌, length, Option, Some, None, refl, sym, ap, subst, ◌∙◌, arith, eq-eqb, lt-ltb}
+use Rattle.std.proofs.Common.{◌≡◌, ℕ, zero, suc, ◌+◌, ◌-◌, ◌<◌, Bool, true, false, not, List, [], ◌∷◌, length}
+use Rattle.std.proofs.Common.{Option, Some, None, refl, sym, ap, subst, ◌∙◌, arith, eq-eqb, lt-ltb}
 use borrow.Author.Tests.{eqb-true}
-use Rattle.std.specs.Prelude.{slice_get, slice_index, ◌==◌, ◌&&◌, ◌||◌, pos, if◌then◌else◌}
+use Rattle.std.specs.Prelude.{slice_get, slice_index, ◌==◌, ◌&&◌, pos, if◌then◌else◌}
 use Rattle.std.specs.Option.{option_or}
 use Rattle.std.specs.Ordering.{int_eq, nat_cmp}
 use Rattle.std.specs.FinMap.{FinMap}
 use Rattle.std.specs.List.{Contains, list_any}
 use Rattle.std.proofs.lemmas.Bool.Decides.{Decides-int_eq}
 use Rattle.std.proofs.lemmas.Option.{slice_get_within, get_or_from_slice_get}
+use Rattle.std.proofs.lemmas.Bool.{not-false, or_right}
 use Rattle.cap_words.specs.declared.Word.{Word}
 use Rattle.cap_words.specs.declared.Word.TheVariants.{Int, Mem, Seal, Sealed}
 use Rattle.cap_words.specs.declared.SealFields.{SealFields}
@@ -40,7 +42,8 @@ use Rattle.component_linker.proofs.PartKept.{kept, twelfth}
 -- what one item gives, and none before it
 pub given_at : {X Y : Type 0} (f : X → Option Y) (xs : List X) (k : ℕ) (x : X) (y : Y)
     → slice_get xs k ≡ Some x → f x ≡ Some y
-    → ((j : ℕ) (z : X) (u : Y) → j < k → slice_get xs j ≡ Some z → f z ≡ Some u → ⊥) → first_given f xs ≡ Some y
+    → ((j : ℕ) (z : X) (u : Y) → j < k → slice_get xs j ≡ Some z → f z ≡ Some u → ⊥)
+    → first_given f xs ≡ Some y
 given_at f [] k x y at is none = absurd cc
 given_at f (z ∷ zs) zero x y at is none = let e : z ≡ x = cc in ap (λ o. option_or o (first_given f zs)) (ap f e ∙ is)
 given_at f (z ∷ zs) (suc k) x y at is none =
@@ -50,7 +53,8 @@ given_at f (z ∷ zs) (suc k) x y at is none =
     by_first None e more = more
     by_first (Some u) e more = absurd (none 0 z u (omega arith) refl e)
 
-own_word : (parts : List PartSeen) (p : PartSeen) (o : ℕ) (w : Word) → slice_get p.component.code o ≡ Some w → part_word parts (p.component.code_base + o) p ≡ Some w
+own_word : (parts : List PartSeen) (p : PartSeen) (o : ℕ) (w : Word) → slice_get p.component.code o ≡ Some w
+    → part_word parts (p.component.code_base + o) p ≡ Some w
 unfolding part_word
 own_word parts p o w is =
     let c = p.component in
@@ -67,7 +71,8 @@ part_stands parts size s linked start k a p w at here =
     let first = given_at (part_word parts a) parts k p w at here before in
     start.cells a ∙ ap (λ x. option_or x (if in_regions a (regions_of parts size) then Some (Int (pos 0)) else None)) first
   where
-    before : (j : ℕ) (q : PartSeen) (u : Word) → j < k → slice_get parts j ≡ Some q → part_word parts a q ≡ Some u → ⊥
+    before : (j : ℕ) (q : PartSeen) (u : Word) → j < k → slice_get parts j ≡ Some q
+        → part_word parts a q ≡ Some u → ⊥
     before j q u lt at_j is_j =
         (separate parts size linked.closed linked.apart).apart j k a q p u w lt at_j at is_j here
 
@@ -79,7 +84,8 @@ code_stands parts size s linked start k o p w at is =
 -- ---- instructions
 
 -- code that stands in the words of a part stands in cells that have them
-stands_in : (cells : FinMap nat_cmp Word) (base : ℕ) (words : List Word) → ((o : ℕ) (w : Word) → slice_get words o ≡ Some w → cell cells (base + o) ≡ Some w)
+stands_in : (cells : FinMap nat_cmp Word) (base : ℕ) (words : List Word)
+    → ((o : ℕ) (w : Word) → slice_get words o ≡ Some w → cell cells (base + o) ≡ Some w)
     → (at : ℕ) (code : List Instr) → seq.CodeStands words at code → Stands (λ w. w) cells (base + at) code
 stands_in cells base words each at [] h = tt
 stands_in cells base words each at (i ∷ is) h =
@@ -101,10 +107,6 @@ pub record FailAt (c : ComponentFields) : Type 0 where
   pub is : c.fail_at ≡ Some offset
   pub word : slice_get c.code offset ≡ Some (Int (pos 0))
 
-not_not : (b : Bool) → not b ≡ false → b ≡ true
-not_not true e = refl
-not_not false e = absurd cc
-
 zero_is : (o : Option Word) → is_zero_word o ≡ true → o ≡ Some (Int (pos 0))
 zero_is (Some (Int n)) e = let z : n ≡ pos 0 = (Decides-int_eq n (pos 0)).0 e in ap (λ x. Some (Int x)) z
 zero_is (Some (Mem m)) e = absurd cc
@@ -114,9 +116,10 @@ zero_is None e = absurd cc
 
 pub fail_of : (p : PartSeen) → IsPart p → p.trusted ≡ true → FailAt p.component
 unfolding c12
-fail_of p h trusted = by_offset p.component.fail_at refl (not_not _ (kept p h 12 1 (c12 p.component) (twelfth p trusted) (omega arith)))
+fail_of p h trusted = by_offset p.component.fail_at refl (not-false _ (kept p h 12 1 (c12 p.component) (twelfth p trusted) (omega arith)))
   where
-    by_offset : (o : Option ℕ) → p.component.fail_at ≡ o → is_zero_word (code_at p.component p.component.fail_at) ≡ true → FailAt p.component
+    by_offset : (o : Option ℕ) → p.component.fail_at ≡ o
+        → is_zero_word (code_at p.component p.component.fail_at) ≡ true → FailAt p.component
     by_offset None e z = let f : false ≡ true = sym (ap (λ o. is_zero_word (code_at p.component o)) e) ∙ z in absurd cc
     by_offset (Some o) e z = record { offset = o; is = e; word = zero_is (slice_get p.component.code o) (sym (ap (λ o. is_zero_word (code_at p.component o)) e) ∙ z) }
 
@@ -135,7 +138,8 @@ tests true true false e = absurd cc
 tests true false c e = absurd cc
 tests false b c e = absurd cc
 
-over_seals : (c : ComponentFields) (o : Option Word) → is_over_seals c o ≡ true → o ≡ Some (Seal (all_seals c))
+over_seals : (c : ComponentFields) (o : Option Word) → is_over_seals c o ≡ true
+    → o ≡ Some (Seal (all_seals c))
 over_seals c (Some (Seal s)) e =
     let t = tests (s.base == c.seals.base) (s.end + 1 == c.seals.base + c.seals.count) (int_eq s.cur (pos c.seals.base)) e in
     let base = eqb-true s.base c.seals.base t.0 in
@@ -148,17 +152,20 @@ over_seals c (Some (Mem m)) e = absurd cc
 over_seals c (Some (Sealed m x)) e = absurd cc
 over_seals c None e = absurd cc
 
-pub literal_of : (p : PartSeen) → IsPart p → p.trusted ≡ true → 0 < length p.component.sites → LiteralAt p.component
+pub literal_of : (p : PartSeen) → IsPart p → p.trusted ≡ true → 0 < length p.component.sites
+    → LiteralAt p.component
 unfolding c12
 literal_of p h trusted some =
     let fine : (has_sites p.component && not (is_over_seals p.component (code_at p.component p.component.literal_at))) ≡ false = kept p h 12 3 (c12 p.component) (twelfth p trusted) (omega arith) in
     by_offset p.component.literal_at refl (asked _ _ (lt-ltb 0 (length p.component.sites) some) fine)
   where
     asked : (a b : Bool) → a ≡ true → (a && not b) ≡ false → b ≡ true
-    asked true b e f = not_not b f
+    asked true b e f = not-false b f
     asked false b e f = absurd cc
 
-    by_offset : (o : Option ℕ) → p.component.literal_at ≡ o → is_over_seals p.component (code_at p.component p.component.literal_at) ≡ true → LiteralAt p.component
+    by_offset : (o : Option ℕ) → p.component.literal_at ≡ o
+        → is_over_seals p.component (code_at p.component p.component.literal_at) ≡ true
+        → LiteralAt p.component
     by_offset None e z = let f : false ≡ true = sym (ap (λ o. is_over_seals p.component (code_at p.component o)) e) ∙ z in absurd cc
     by_offset (Some o) e z = record {
       offset = o;
@@ -178,14 +185,11 @@ EntriesStand = (c : ComponentFields) → IsComponent c → IsKept c → (o : ℕ
 one : {x y : ℕ} (o : Option ℕ) → o ≡ Some x → o ≡ Some y → x ≡ y
 one {x} {y} o e f = let g : Some x ≡ Some y = sym e ∙ f in cc
 
-any_of : {A : Type 0} (f : A → Bool) (xs : List A) (x : A) → Contains xs x → f x ≡ true → list_any f xs ≡ true
+pub any_of : {A : Type 0} (f : A → Bool) (xs : List A) (x : A) → Contains xs x → f x ≡ true
+    → list_any f xs ≡ true
 any_of f [] x m t = absurd (omega (arith, m.1))
 any_of f (y ∷ ys) x (zero, lt, e) t = let h : f y ≡ true = ap f e ∙ t in rw h refl
-any_of f (y ∷ ys) x (suc k, lt, e) t = let h : list_any f ys ≡ true = any_of f ys x (k, omega (arith, lt), e) t in rw h (or_true (f y))
-  where
-    or_true : (b : Bool) → (b || true) ≡ true
-    or_true true = refl
-    or_true false = refl
+any_of f (y ∷ ys) x (suc k, lt, e) t = let h : list_any f ys ≡ true = any_of f ys x (k, omega (arith, lt), e) t in rw h (or_right (f y) true refl)
 
 entry_begins : (c : ComponentFields) (e : Export) → Contains c.exports e → begins_entry c e.offset ≡ true
 unfolding begins_entry
@@ -195,7 +199,8 @@ fail_number : number_of Fail ≡ 0
 unfolding number_of
 fail_number = refl
 
-pub trusted_stand : SitesStand → EntriesStand → (parts : List PartSeen) (size : ℕ) (s : Run) → ((k : ℕ) (p : PartSeen) → slice_get parts k ≡ Some p → IsPart p)
+pub trusted_stand : SitesStand → EntriesStand → (parts : List PartSeen) (size : ℕ) (s : Run)
+    → ((k : ℕ) (p : PartSeen) → slice_get parts k ≡ Some p → IsPart p)
     → Linked parts size → IsStart parts size s → TrustedInCells parts s.maps
 trusted_stand sites entries parts size s each linked start k p at trusted =
     record { fail = fail.offset; fail_is = fail.is; fails = fails; entries = at_entry; sites = at_site }
@@ -209,22 +214,26 @@ trusted_stand sites entries parts size s each linked start k p at trusted =
     fail : FailAt p.component
     fail = fail_of p (each k p at) trusted
 
-    word : (o : ℕ) (w : Word) → slice_get p.component.code o ≡ Some w → cell s.maps.cells (p.component.code_base + o) ≡ Some w
+    word : (o : ℕ) (w : Word) → slice_get p.component.code o ≡ Some w
+        → cell s.maps.cells (p.component.code_base + o) ≡ Some w
     word o w is = code_stands parts size s linked start k o p w at is
 
-    stands : (o : ℕ) (code : List Instr) → seq.CodeStands p.component.code o code → StandsIn s.maps p.component o code
+    stands : (o : ℕ) (code : List Instr) → seq.CodeStands p.component.code o code
+        → StandsIn s.maps p.component o code
     stands = stands_in s.maps.cells p.component.code_base p.component.code word
 
     fails : StandsIn s.maps p.component fail.offset (Fail ∷ [])
     fails = (ap (look_face (λ w. w)) (word fail.offset (Int (pos 0)) fail.word) ∙ ap (λ n. Some (Number (pos n))) (sym fail_number), tt)
 
-    at_entry : (e : Export) → Contains p.component.exports e → StandsIn s.maps p.component e.offset (entry_code fail.offset e.offset p.component.stack_base)
+    at_entry : (e : Export) → Contains p.component.exports e
+        → StandsIn s.maps p.component e.offset (entry_code fail.offset e.offset p.component.stack_base)
     at_entry e m =
         let x = entries p.component part.limits (part.flow trusted) e.offset (entry_begins p.component e m) in
         let same : x.fail ≡ fail.offset = one p.component.fail_at x.fail_is fail.is in
         subst (λ f. StandsIn s.maps p.component e.offset (entry_code f e.offset p.component.stack_base)) same (stands e.offset (entry_code x.fail e.offset p.component.stack_base) x.entry)
 
-    at_site : (index offset : ℕ) → slice_get p.component.sites index ≡ Some offset → SiteInCells s.maps p.component fail.offset index offset
+    at_site : (index offset : ℕ) → slice_get p.component.sites index ≡ Some offset
+        → SiteInCells s.maps p.component fail.offset index offset
     at_site index offset is =
         let within = slice_get_within p.component.sites index offset is in
         let x = sites p.component part.limits (part.flow trusted) index within in

@@ -1,6 +1,7 @@
 -- Where the data of parts stands at a start: an import's slot has the halves of what it names.
-use Rattle.std.proofs.Common.{◌≡◌, inl, inr, ℕ, ◌+◌, ◌-◌, ◌<◌, ◌≤◌, false, true, ◌++◌, length, Option, Some, None, refl, sym, ap, subst, ◌∙◌, arith, append_assoc, eq-eqb}
-use Rattle.std.specs.Prelude.{List, slice_get, ◌==◌}
+use Rattle.std.proofs.Common.{◌≡◌, inl, inr, ℕ, ◌+◌, ◌-◌, ◌<◌, ◌≤◌, false, true, ◌++◌, length, Option, Some}
+use Rattle.std.proofs.Common.{None, refl, sym, ap, subst, ◌∙◌, arith, append_assoc, eq-eqb}
+use Rattle.std.specs.Prelude.{List, slice_get}
 use Rattle.std.specs.Option.{option_or}
 use Rattle.std.specs.List.{AllPairs}
 use Rattle.std.proofs.lemmas.Bool.{ne_eqb}
@@ -13,7 +14,8 @@ use Rattle.lcm_machine.specs.Cells.{cell}
 use Rattle.lcm_machine.specs.Run.{Run}
 use Rattle.component_linker.specs.Parts.{PartSeen}
 use Rattle.component_linker.specs.Regions.{Apart, part_regions, region, code_span, data_span, linear_span}
-use Rattle.component_linker.specs.Start.{first_given, Exported, imported, code_half, data_half, slot_word, data_word, from, part_word, IsStart}
+use Rattle.component_linker.specs.Start.{first_given, Exported, imported, code_half, data_half, slot_word}
+use Rattle.component_linker.specs.Start.{data_word, from, part_word, IsStart}
 use Rattle.component_linker.specs.Linked.{Kept, Linked}
 use Rattle.component_linker.specs.DataWords.{HalvesStand, IsOwnData, DataStands}
 use Rattle.component_linker.proofs.Found.{given}

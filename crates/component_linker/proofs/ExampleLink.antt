@@ -1,10 +1,10 @@
--- A start of the instance, so that what is said of linked parts and their start is said of something.
-use Rattle.std.proofs.Common.{◌≡◌, ℕ, zero, suc, ◌+◌, ◌<◌, ◌≤◌, inl, inr, Bool, true, false, List, [], ◌∷◌, map, Option, Some, None, refl, sym, ap, ◌∙◌, arith, subst}
+-- The start of the instance.
+use Rattle.std.proofs.Common.{◌≡◌, ℕ, zero, suc, ◌<◌, ◌≤◌, inl, inr, Bool, true, false, List, [], ◌∷◌, map}
+use Rattle.std.proofs.Common.{Option, Some, None, refl, sym, ap, ◌∙◌, arith, subst}
 use Rattle.std.specs.Prelude.{slice_get, nat_le, ◌||◌}
 use Rattle.std.specs.Ordering.{nat_cmp}
 use Rattle.std.specs.FinMap as maps
 use Rattle.std.specs.List.{Contains, AllPairs}
-use Rattle.std.specs.List.Sorted.{IsNonDecreasingBy}
 use Rattle.lcm_isa.specs.Numbers.{number_of}
 use Rattle.call_sequence.specs.Sequences.{call_code, return_code, entry_code}
 use Rattle.std.proofs.lemmas.Bool.{cases_eq, cases_lt, leb-true, and_parts}
@@ -13,9 +13,7 @@ use Rattle.cap_words.specs.declared.Word.{Word}
 use Rattle.lcm_machine.specs.declared.cells.Span.{Span}
 use Rattle.lcm_machine.specs.Cells.{cell, set_slot}
 use Rattle.lcm_machine.specs.Regions.{Region}
-use Rattle.lcm_machine.proofs.CellLemmas.{slot_same, slot_other}
-use Rattle.lcm_machine.proofs.RegionLemmas.{contains_cases}
-use Rattle.lcm_machine.proofs.SpanLemmas.{bases_from}
+use Rattle.lcm_machine.proofs.Offers.{slot_same, slot_other, contains_cases, bases_rise}
 use Rattle.lcm_machine.specs.Spans.{AreSpans}
 use Rattle.component_linker.specs.declared.owners.Site.{Site}
 use Rattle.component_linker.specs.declared.owners.Owner.{Owner}
@@ -26,14 +24,11 @@ use Rattle.component_linker.specs.Regions.{regions_of, region_span, in_region, i
 use Rattle.component_linker.specs.Start.{Exported, main_of, start_cell, start_regs, IsStart}
 use Rattle.component_linker.specs.Owners.{IsSite, AreSites, IsOwner, AreOwners, owner_of}
 use Rattle.component_linker.specs.Started.{StartSeen, Starts}
-use Rattle.component_linker.specs.Answer.{LinksTo}
 use Rattle.component_linker.specs.Linked.{Linked}
-use Rattle.component_linker.proofs.LinksKept.{are_linked, stack_bases}
-use Rattle.component_linker.proofs.RegionFacts.{apart_all, all_within}
-use Rattle.component_linker.proofs.SealsKept.{parts_apart, sites_apart, same_site}
-use Rattle.component_linker.proofs.StartIs.{started_once}
+use Rattle.component_linker.proofs.LinksKept.{are_linked}
+use Rattle.component_linker.proofs.RegionFacts.{all_within}
+use Rattle.component_linker.proofs.SealsKept.{same_site}
 use Rattle.component_linker.proofs.StartCells.{cell_in_region}
-use Rattle.component_linker.proofs.CodeStands.{SitesStand, EntriesStand, code_stands, trusted_stand}
 use Rattle.component_linker.proofs.ExampleParts.{caller, other, pair, each, keeps}
 
 -- ---- memory that has what a function says of each address below a number
@@ -57,14 +52,14 @@ filled_below f (suc n) a lt = elim (cases_eq a n) as (λ _. cell (set_slot (fill
 
 -- ---- the start
 
-abbrev main : Exported
+abbrev pub main : Exported
 main = record { part = record { component = caller; trusted = true }; export = record { name = 109 ∷ 97 ∷ 105 ∷ 110 ∷ []; offset = 0; shared = true } }
 
-abbrev spans : List Span
+abbrev pub spans : List Span
 spans = map region_span (regions_of pair 4)
 
 abbrev site : Site
-site = record { part = 0; index = 0; seal = 12; at = 21 }
+site = record { part = 0; index = 0; seal = 12; at = 24 }
 
 abbrev first_owner : Owner
 first_owner = owner_of 0 (record { component = caller; trusted = true })
@@ -81,17 +76,20 @@ start = record {
   };
   sites = site ∷ [];
   owners = first_owner ∷ second_owner ∷ [];
-  stack = record { base = 64; end = 67 };
+  stack = record { base = 67; end = 70 };
 }
 
 made : Linked pair 4
 made = are_linked pair 4 each keeps
 
-any_of : (a : ℕ) (rs : List Region) → in_regions a rs ≡ true → (r : Region) × Contains rs r × (in_region a r ≡ true)
+any_of : (a : ℕ) (rs : List Region) → in_regions a rs ≡ true
+    → (r : Region) × Contains rs r × (in_region a r ≡ true)
 any_of a [] e = absurd cc
 any_of a (r ∷ rs) e = by_head (in_region a r) refl e (any_of a rs)
   where
-    by_head : (b : Bool) → in_region a r ≡ b → (b || in_regions a rs) ≡ true → (in_regions a rs ≡ true → (q : Region) × Contains rs q × (in_region a q ≡ true)) → (q : Region) × Contains (r ∷ rs) q × (in_region a q ≡ true)
+    by_head : (b : Bool) → in_region a r ≡ b → (b || in_regions a rs) ≡ true
+        → (in_regions a rs ≡ true → (q : Region) × Contains rs q × (in_region a q ≡ true))
+        → (q : Region) × Contains (r ∷ rs) q × (in_region a q ≡ true)
     by_head true h e more = (r, (0, omega arith, refl), h)
     by_head false h e more = let k = more e in (k.0, (suc (k.1).0, omega (arith, (k.1).1), (k.1).2), k.2)
 
@@ -106,19 +104,11 @@ none_if : (o : Option Word) → ((w : Word) → o ≡ Some w → ⊥) → o ≡ 
 none_if None h = refl
 none_if (Some w) h = absurd (h w refl)
 
-cells_are : (a : ℕ) → cell (filled (start_cell pair 4) 1048576) a ≡ start_cell pair 4 a
+pub cells_are : (a : ℕ) → cell (filled (start_cell pair 4) 1048576) a ≡ start_cell pair 4 a
 cells_are a = elim (cases_lt a 1048576) as (λ _. cell (filled (start_cell pair 4) 1048576) a ≡ start_cell pair 4 a) [
   | inl lt ↦ filled_below (start_cell pair 4) 1048576 a lt
   | inr ge ↦ filled_past (start_cell pair 4) 1048576 a ge ∙ sym (none_if (start_cell pair 4 a) (λ w e. (let lt = in_bounds a w e in omega (arith, lt, ge))))
 ]
-
--- spans one behind another rise
-rises : (from : ℕ) (ss : List Span) → AreSpans from ss → IsNonDecreasingBy (λ (s : Span). s.base) ss
-rises from [] h i j d le lt = absurd (omega (arith, lt))
-rises from (s ∷ ss) h zero zero d le lt = omega arith
-rises from (s ∷ ss) h zero (suc j) d le lt = let order = h.1 in let k = bases_from (s.end + 1) ss j d h.3 (omega (arith, lt)) in let low = k.0 in omega (arith, order, low)
-rises from (s ∷ ss) h (suc i) zero d le lt = absurd (omega (arith, le))
-rises from (s ∷ ss) h (suc i) (suc j) d le lt = rises (s.end + 1) ss h.3 i j d (omega (arith, le)) (omega (arith, lt))
 
 -- the regions stand in ascending order already
 spans_rise : AreSpans 0 spans
@@ -135,7 +125,7 @@ is_start = record {
   main_is = main_found;
   regs = refl;
   cells = cells_are;
-  spans = record { same = IsPermutation-refl spans; ascend = rises 0 spans spans_rise };
+  spans = record { same = IsPermutation-refl spans; ascend = bases_rise 0 spans spans_rise };
   count = refl;
   end = refl;
 }
@@ -158,17 +148,17 @@ trusted_first zero p at t = (refl, cc)
 trusted_first (suc zero) p at t = absurd (let is : second ≡ p = cc in let n : false ≡ true = ap (λ (x : PartSeen). x.trusted) is ∙ t in cc)
 trusted_first (suc (suc k)) p at t = absurd cc
 
-site_first : (k o : ℕ) → slice_get (20 ∷ []) k ≡ Some o → (k ≡ 0) × (o ≡ 20)
-site_first zero o e = (refl, (let h : 20 ≡ o = cc in sym h))
+site_first : (k o : ℕ) → slice_get (23 ∷ []) k ≡ Some o → (k ≡ 0) × (o ≡ 23)
+site_first zero o e = (refl, (let h : 23 ≡ o = cc in sym h))
 site_first (suc k) o e = absurd cc
 
 is_site : IsSite pair site
-is_site = record { of = first; of_is = refl; trusted = refl; offset = 20; offset_is = refl; seal = refl; at = refl }
+is_site = record { of = first; of_is = refl; trusted = refl; offset = 23; offset_is = refl; seal = refl; at = refl }
 
 site_only : (s : Site) → IsSite pair s → Contains (site ∷ []) s
 site_only s is =
     let p = trusted_first s.part is.of is.of_is is.trusted in
-    let sites : (20 ∷ []) ≡ is.of.component.sites = ap (λ (x : PartSeen). x.component.sites) p.1 in
+    let sites : (23 ∷ []) ≡ is.of.component.sites = ap (λ (x : PartSeen). x.component.sites) p.1 in
     let k = site_first s.index is.offset (ap (λ xs. slice_get xs s.index) sites ∙ is.offset_is) in
     let seals : 12 ≡ is.of.component.seals.base = ap (λ (x : PartSeen). x.component.seals.base) p.1 in
     let code : 1 ≡ is.of.component.code_base = ap (λ (x : PartSeen). x.component.code_base) p.1 in
@@ -200,7 +190,8 @@ owns o m = elim (contains_cases first_owner (second_owner ∷ []) o m) as (λ _.
   | inr n ↦ subst (IsOwner pair) (only second_owner o n) second_owns
 ]
 
-owner_at : (o : Owner) (k : ℕ) (p : PartSeen) → slice_get pair k ≡ Some p → o ≡ owner_of k p → Contains (first_owner ∷ second_owner ∷ []) o
+owner_at : (o : Owner) (k : ℕ) (p : PartSeen) → slice_get pair k ≡ Some p → o ≡ owner_of k p
+    → Contains (first_owner ∷ second_owner ∷ []) o
 owner_at o zero p at e = let is : first ≡ p = cc in (0, omega arith, ap (owner_of 0) is ∙ sym e)
 owner_at o (suc zero) p at e = let is : second ≡ p = cc in (1, omega arith, ap (owner_of 1) is ∙ sym e)
 owner_at o (suc (suc k)) p at e = absurd cc
@@ -219,7 +210,7 @@ owners_are = record {
   count = refl;
 }
 
-starts : Starts pair 4 start
+pub starts : Starts pair 4 start
 starts = record { state = is_start; sites = sites_are; owners = owners_are; stack = refl }
 
 -- neither of them is movable
@@ -230,18 +221,3 @@ has_room (suc zero) zero i t e b = let is : l10 pair ≡ t = cc in let here = su
 has_room (suc zero) (suc zero) i t e b = let is : l10 pair ≡ t = cc in let here = subst (λ u. BrokenIn u 1 i) (sym is) b in absurd (omega (arith, here.1.0))
 has_room (suc zero) (suc (suc p)) i t e b = let is : l10 pair ≡ t = cc in let here = subst (λ u. BrokenIn u (suc (suc p)) i) (sym is) b in absurd (omega (arith, here.0))
 has_room (suc (suc n)) p i t e b = cc
-
-pub links : SitesStand → EntriesStand → LinksTo pair 4 start
-links sites entries = record {
-  accepted = each;
-  room = has_room;
-  rules = keeps;
-  starts = starts;
-  parts_apart = parts_apart pair 4 each keeps;
-  sites_apart = sites_apart pair (site ∷ []) each (parts_apart pair 4 each keeps) sites_are;
-  regions = apart_all (regions_of pair 4) made.apart;
-  held_once = started_once pair 4 start.state made is_start;
-  stack_base = λ k p at. stack_bases pair 4 keeps k p at;
-  code = code_stands pair 4 start.state made is_start;
-  trusted = trusted_stand sites entries pair 4 start.state each made is_start;
-}

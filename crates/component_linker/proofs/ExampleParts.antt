@@ -1,17 +1,23 @@
--- An instance: a trusted part with an entry and a site, and an adversary. They keep the rules.
-use Rattle.std.proofs.Common.{◌≡◌, ℕ, zero, suc, inl, inr, pos, Bool, true, false, List, [], ◌∷◌, ◌++◌, map, Some, None, Ok, refl, sym, ap, ◌∙◌, arith, subst, rules, ne_eqb}
-use Rattle.std.specs.Prelude.{◌==◌, ◌||◌, ◌&&◌, slice_get}
-use Rattle.std.proofs.lemmas.Bool.{cases_eq}
+-- An instance: a trusted part with an entry and a site, whose import is what it calls, and an adversary that
+-- goes right back. They keep the rules.
+use Rattle.std.proofs.Common.{◌≡◌, ℕ, zero, suc, inl, inr, pos, Bool, true, false, List, [], ◌∷◌, ◌++◌, map}
+use Rattle.std.proofs.Common.{Some, None, Ok, refl, sym, ap, ◌∙◌, arith, subst, rules, ne_eqb}
+use Rattle.std.specs.Prelude.{◌==◌, ◌<◌, ◌||◌, ◌&&◌, nat_lt, slice_get, Option, ◌^◌}
+use Rattle.std.specs.List.{list_all}
+use Rattle.std.proofs.lemmas.Bool.{cases_eq, and_parts, ltb-true}
+use Rattle.cap_words.specs.WordBytes.{WordFits, IsUnsealed}
 use Rattle.cap_words.specs.declared.Word.{Word}
 use Rattle.cap_words.specs.declared.Word.TheVariants.{Int, Mem, Seal}
 use Rattle.cap_words.specs.declared.Perm.TheVariants.{Rw, Rwx}
 use Rattle.cap_words.specs.declared.Lin.TheVariants.{Normal, Linear}
 use Rattle.lcm_isa.specs.declared.Instr.{Instr}
-use Rattle.lcm_isa.specs.declared.Instr.TheVariants.{Fail, Halt}
+use Rattle.lcm_isa.specs.declared.Instr.TheVariants.{Fail, Halt, Load, Cca, Xjmp}
+use Rattle.lcm_isa.specs.declared.Operand.TheVariants.{Imm}
+use Rattle.lcm_isa.specs.declared.Reg.TheVariants.{Rcode, Rdata, Dat, C1, C2}
 use Rattle.lcm_isa.specs.Numbers.{number_of, decode_of, candidate, table, all_with}
 use Rattle.component_file.specs.declared.component.ComponentFields.{ComponentFields}
 use Rattle.cap_words.specs.Names.{is_name}
-use Rattle.component_file.specs.Limits.{IsComponent}
+use Rattle.component_file.specs.Limits.{IsComponent, Chain}
 use Rattle.component_check.specs.declared.rule.Group.TheVariants.{C, K}
 use Rattle.component_check.specs.RuleText.{broken_at}
 use Rattle.component_check.specs.Places.{Test, BrokenAt}
@@ -20,9 +26,9 @@ use Rattle.component_check.specs.Rules.{rules_c, c1, c2, c3, c4, c5, c6, c7, c8,
 use Rattle.component_check.proofs.First.{first_broken}
 use Rattle.call_sequence.specs.Sequences.{call_code, return_code, entry_code}
 use Rattle.call_sequence.specs.Standing.{sequence_difference, is_entry}
-use Rattle.flow_check.specs.Kinds.{kind_of}
+use Rattle.flow_check.specs.Kinds.{kind_of, set_kind}
 use Rattle.flow_check.specs.Places.{begins_entry, begins_site, declared}
-use Rattle.flow_check.specs.Flow.{flow}
+use Rattle.flow_check.specs.Flow.{flow, ask}
 use Rattle.flow_check.specs.Lists.{k1, k2, k3, k4, lists, entry_is_bad}
 use Rattle.flow_check.specs.declared.walking.Walk.TheVariants.{Ended as ended}
 use Rattle.flow_check.specs.Walk.{instr_at, keep, site_ready, at_row, past, at_word, next_from, Comes}
@@ -33,29 +39,38 @@ use Rattle.component_linker.proofs.FirstIn.{first_broken_in}
 
 -- ---- the trusted part
 
-abbrev as_word : Instr → Word
+abbrev pub as_word : Instr → Word
 as_word i = Int (pos (number_of i))
 
--- the entry at 0, the site at 20, `halt` at 46, `fail` at 47, the seals at 48
+-- the entry at 0, the slot's halves loaded from 20 on, the site at 23, `halt` at 49, `fail` at 50, the seals
+-- at 51
+abbrev caller_instrs : List Instr
+caller_instrs =
+    entry_code 50 0 67 ++ (Load C1 Dat ∷ Cca Dat (Imm (pos 1)) ∷ Load C2 Dat ∷ []) ++ call_code 51 23 0
+    ++ return_code 50 39 67 ++ Halt ∷ Fail ∷ []
+
+abbrev caller_seals : Word
+caller_seals = Seal (record { base = 12; end = 12; cur = pos 12 })
+
 abbrev pub caller_code : List Word
-caller_code = map as_word (entry_code 47 0 64 ++ call_code 48 20 0 ++ return_code 47 36 64 ++ Halt ∷ Fail ∷ []) ++ Seal (record { base = 12; end = 12; cur = pos 12 }) ∷ []
+caller_code = map as_word caller_instrs ++ caller_seals ∷ []
 
 abbrev pub caller : ComponentFields
 caller = record {
   name = 116 ∷ [];
-  stack_base = 64;
+  stack_base = 67;
   closure = 10;
   seals = record { base = 12; count = 1 };
   linear = record { base = 0; count = 0 };
   code_base = 1;
   code = caller_code;
-  data_base = 51;
+  data_base = 54;
   data_words = Int (pos 0) ∷ Int (pos 0) ∷ [];
   imports = record { part = 117 ∷ []; name = 102 ∷ []; slot = 0 } ∷ [];
   exports = record { name = 109 ∷ 97 ∷ 105 ∷ 110 ∷ []; offset = 0; shared = true } ∷ [];
-  sites = 20 ∷ [];
-  fail_at = Some 47;
-  literal_at = Some 48;
+  sites = 23 ∷ [];
+  fail_at = Some 50;
+  literal_at = Some 51;
   rows = [];
   movable = false;
 }
@@ -102,8 +117,21 @@ placed (suc (suc (suc (suc zero)))) i t e b = others_kept 3 i t e b
 placed (suc (suc (suc (suc (suc n))))) i t e b = cc
 
 walked : Comes caller ended
-unfolding next_from at_word at_row past keep begins_entry begins_site declared site_ready flow kind_of instr_at decode_of candidate table all_with number_of entry_code call_code return_code
-walked = (6, refl)
+unfolding next_from at_word at_row past keep begins_entry begins_site declared site_ready flow ask kind_of set_kind instr_at decode_of candidate table all_with number_of entry_code call_code return_code
+walked = (9, refl)
+
+-- words of instructions fit, and some behind them
+abbrev is_small : Instr → Bool
+is_small i = nat_lt (number_of i) (2 ^ 63)
+
+each_fits : (before : Option Word) (is : List Instr) (more : List Word) → list_all is_small is ≡ true
+    → ((b : Option Word) → Chain (λ _ w. WordFits w × IsUnsealed w) b more)
+    → Chain (λ _ w. WordFits w × IsUnsealed w) before (map as_word is ++ more)
+each_fits before [] more h k = k before
+each_fits before (i ∷ is) more h k =
+    let both = and_parts (is_small i) (list_all is_small is) h in
+    let small : number_of i < 2 ^ 63 = ltb-true (number_of i) (2 ^ 63) both.0 in
+    (((let fits : WordFits (as_word i) = search (rules, small) in fits), tt), each_fits (Some (as_word i)) is more both.1 k)
 
 caller_fits : IsComponent caller
 unfolding is_name number_of entry_code call_code return_code
@@ -114,7 +142,7 @@ caller_fits = record {
   seals = (omega arith, omega arith);
   linear = (omega arith, omega arith);
   code_base = omega arith;
-  code = ((omega arith, omega arith), ((search rules, tt), ((search rules, tt), ((search rules, tt), ((search rules, tt), ((search rules, tt), ((search rules, tt), ((search rules, tt), ((search rules, tt), ((search rules, tt), ((search rules, tt), ((search rules, tt), ((search rules, tt), ((search rules, tt), ((search rules, tt), ((search rules, tt), ((search rules, tt), ((search rules, tt), ((search rules, tt), ((search rules, tt), ((search rules, tt), ((search rules, tt), ((search rules, tt), ((search rules, tt), ((search rules, tt), ((search rules, tt), ((search rules, tt), ((search rules, tt), ((search rules, tt), ((search rules, tt), ((search rules, tt), ((search rules, tt), ((search rules, tt), ((search rules, tt), ((search rules, tt), ((search rules, tt), ((search rules, tt), ((search rules, tt), ((search rules, tt), ((search rules, tt), ((search rules, tt), ((search rules, tt), ((search rules, tt), ((search rules, tt), ((search rules, tt), ((search rules, tt), ((search rules, tt), ((search rules, tt), ((search rules, tt), ((((omega arith, omega arith), search rules), tt), tt))))))))))))))))))))))))))))))))))))))))))))))))));
+  code = ((omega arith, omega arith), each_fits None caller_instrs (caller_seals ∷ []) refl (λ before. (((omega arith, omega arith), search rules), tt)));
   data_base = omega arith;
   data_words = ((omega arith, omega arith), ((search rules, tt), ((search rules, tt), tt)));
   imports = (omega arith, ((refl, refl, omega arith, refl), tt));
@@ -127,18 +155,19 @@ caller_fits = record {
 
 -- ---- the other
 
--- an adversary: it imports the caller's main, and has capabilities over its own code and linear area
+-- an adversary: it goes right back, imports the caller's main, and has capabilities over its own code and
+-- linear area
 abbrev pub other : ComponentFields
 other = record {
   name = 117 ∷ [];
-  stack_base = 64;
+  stack_base = 67;
   closure = 30;
   seals = record { base = 20; count = 2 };
-  linear = record { base = 61; count = 2 };
-  code_base = 54;
-  code = Int (pos 0) ∷ Mem (record { perm = Rwx; lin = Normal; base = 54; end = 55; addr = pos 54 }) ∷ [];
-  data_base = 57;
-  data_words = Int (pos 0) ∷ Int (pos 0) ∷ Mem (record { perm = Rw; lin = Linear; base = 61; end = 62; addr = pos 61 }) ∷ [];
+  linear = record { base = 64; count = 2 };
+  code_base = 57;
+  code = as_word (Xjmp Rcode Rdata) ∷ Mem (record { perm = Rwx; lin = Normal; base = 57; end = 58; addr = pos 57 }) ∷ [];
+  data_base = 60;
+  data_words = Int (pos 0) ∷ Int (pos 0) ∷ Mem (record { perm = Rw; lin = Linear; base = 64; end = 65; addr = pos 64 }) ∷ [];
   imports = record { part = 116 ∷ []; name = 109 ∷ 97 ∷ 105 ∷ 110 ∷ []; slot = 0 } ∷ [];
   exports = record { name = 102 ∷ []; offset = 0; shared = true } ∷ [];
   sites = [];
@@ -149,11 +178,11 @@ other = record {
 }
 
 other_checked : check_from (broken_at C) 1 (rules_c other false) ≡ Ok tt
-unfolding c1 c2 c3 c4 c5 c6 c7 c8 c9
+unfolding c1 c2 c3 c4 c5 c6 c7 c8 c9 number_of
 other_checked = refl
 
 other_fits : IsComponent other
-unfolding is_name
+unfolding is_name number_of
 other_fits = record {
   name = refl;
   stack_base = omega arith;
@@ -174,7 +203,8 @@ other_fits = record {
 
 -- ---- both
 
-no_rule : (c : ComponentFields) (trusted : Bool) → check_from (broken_at C) 1 (rules_c c trusted) ≡ Ok tt → NoneBroken (rules_c c trusted)
+no_rule : (c : ComponentFields) (trusted : Bool) → check_from (broken_at C) 1 (rules_c c trusted) ≡ Ok tt
+    → NoneBroken (rules_c c trusted)
 no_rule c trusted e = subst (IsFirstBroken (broken_at C) (rules_c c trusted)) e (first_broken (broken_at C) (rules_c c trusted))
 
 abbrev pub pair : List PartSeen

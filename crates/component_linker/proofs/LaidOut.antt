@@ -1,9 +1,11 @@
 -- What a start keeps: its sites are in order, its owners ascend, and their names are short.
-use Rattle.std.proofs.Common.{◌≡◌, ℕ, zero, suc, ◌≤◌, Bool, true, false, List, [], ◌∷◌, length, leb, Option, Some, None, refl, sym, ap, subst, ◌∙◌, arith}
+use Rattle.std.proofs.Common.{◌≡◌, ℕ, zero, suc, ◌≤◌, Bool, true, false, List, [], ◌∷◌, length, leb, Option}
+use Rattle.std.proofs.Common.{Some, None, sym, ap, subst, ◌∙◌, arith}
 use Rattle.std.specs.Prelude.{slice_get, option_map, IsTrue, ◌&&◌}
 use Rattle.std.specs.List.{Contains}
 use Rattle.std.proofs.lemmas.Option.{slice_get_within, get_or_from_slice_get, slice_get-map}
 use Rattle.std.proofs.lemmas.List.Elements.{Contains-get_or}
+use Rattle.component_linker.proofs.Found.{map_inv}
 use Rattle.cap_words.specs.declared.TheConstants.{LONGEST_NAME}
 use Rattle.component_file.specs.declared.component.ComponentFields.{ComponentFields}
 use Rattle.component_file.specs.declared.component.Export.{Export}
@@ -27,14 +29,11 @@ name_is_short text h =
     let short = both_are (leb 1 (length text)) (leb (length text) LONGEST_NAME) (both_are _ _ (both_are _ _ h).0).0 in
     grind (arith, short.1)
 
-export_name : (xs : List Export) (b : Option Export) (k : ℕ) (e : Export) → Chain ExportFits b xs → slice_get xs k ≡ Some e → length e.name ≤ LONGEST_NAME
+export_name : (xs : List Export) (b : Option Export) (k : ℕ) (e : Export) → Chain ExportFits b xs
+    → slice_get xs k ≡ Some e → length e.name ≤ LONGEST_NAME
 export_name [] b k e h at = absurd cc
 export_name (x ∷ xs) b zero e h at = let same : x ≡ e = cc in subst (λ y. length y.name ≤ LONGEST_NAME) same (name_is_short x.name h.0.0)
 export_name (x ∷ xs) b (suc k) e h at = export_name xs (Some x) k e h.1 at
-
-given : {A B : Type 0} (f : A → B) (o : Option A) (y : B) → option_map f o ≡ Some y → (x : A) × (o ≡ Some x) × (f x ≡ y)
-given f None y e = absurd cc
-given f (Some x) y e = (x, refl, cc)
 
 module _ (parts : List PartSeen) (closed : AreClosed parts) (owners : List Owner) (are : AreOwners parts owners) where
   owner_at : (k : ℕ) (o : Owner) → slice_get owners k ≡ Some o → IsOwner parts o
@@ -48,13 +47,14 @@ module _ (parts : List PartSeen) (closed : AreClosed parts) (owners : List Owner
   unfolding owner_of
   name_of o is = subst (λ (n : List ℕ). length n ≤ LONGEST_NAME) (sym (ap (λ (q : Owner). q.name) is.is)) (name_is_short is.of.component.name (kept_of o is).limits.name)
 
-  entry_name : (o : Owner) (is : IsOwner parts o) (n : ℕ) (e : Entry) → slice_get o.entries n ≡ Some e → length e.name ≤ LONGEST_NAME
+  entry_name : (o : Owner) (is : IsOwner parts o) (n : ℕ) (e : Entry) → slice_get o.entries n ≡ Some e
+      → length e.name ≤ LONGEST_NAME
   unfolding owner_of
   entry_name o is n e at =
       let c : ComponentFields = is.of.component in
       let there : option_map (entry_of c) (slice_get c.exports n) ≡ Some e =
       sym (slice_get-map (entry_of c) c.exports n) ∙ ap (λ (q : Owner). slice_get q.entries n) (sym is.is) ∙ at in
-      let x = given (entry_of c) (slice_get c.exports n) e there in
+      let x = map_inv (entry_of c) (slice_get c.exports n) e there in
       subst (λ (y : Entry). length y.name ≤ LONGEST_NAME) x.2 (export_name c.exports None n x.0 (kept_of o is).limits.exports.1 x.1)
 
   pub are_laid : {sites : List Site} → AreInOrder sites → AreLaid sites owners

@@ -1,21 +1,28 @@
 -- What the rules L say of parts, as the start rests on it.
-use Rattle.std.proofs.Common.{◌≡◌, ℕ, zero, suc, ◌+◌, ◌-◌, ◌<◌, ◌≤◌, ◌⊎◌, inl, inr, Bool, true, false, not, List, [], ◌∷◌, ◌++◌, length, get_or, take, length-append, Option, Some, None, refl, sym, ap, subst, ◌∙◌, arith}
-use Rattle.std.specs.Prelude.{slice_get, slice_index_or, nat_le, nat_lt, ◌==◌, ◌&&◌, ◌||◌, is_some, is_none, IsSome, find, option_map, if◌then◌else◌}
+use Rattle.std.proofs.Common.{◌≡◌, ℕ, zero, suc, ◌+◌, ◌-◌, ◌<◌, ◌≤◌, ◌⊎◌, inl, inr, Bool, true, false, not}
+use Rattle.std.proofs.Common.{List, [], ◌∷◌, ◌++◌, length, get_or, take, length-append, Option, Some, None}
+use Rattle.std.proofs.Common.{refl, sym, ap, subst, ◌∙◌, arith}
+use Rattle.std.specs.Prelude.{slice_get, slice_index_or, nat_le, nat_lt, ◌==◌, ◌&&◌, ◌||◌, is_some, is_none}
+use Rattle.std.specs.Prelude.{IsSome, find, option_map, if◌then◌else◌}
 use Rattle.std.specs.Option.{option_or}
 use Rattle.std.specs.List.{list_any, AllPairs, Contains, flat_map}
 use Rattle.std.proofs.lemmas.Bool.Decides.{nat_tests}
 use Rattle.std.proofs.lemmas.Option.{slice_get_within, slice_get_past, get_or_from_slice_get}
 use Rattle.std.proofs.lemmas.List.{get_or_append_left, get_or-append-add, get_or_default}
 use Rattle.std.proofs.lemmas.List.Elements.{Contains-append_cases}
+use Rattle.std.proofs.lemmas.Bool.{and_parts, not-false, or_parts}
 use Rattle.component_file.specs.declared.component.Import.{Import}
 use Rattle.component_check.specs.Places.{Test, BrokenAt, plainly}
 use Rattle.lcm_machine.specs.declared.cells.Span.{Span}
 use Rattle.lcm_machine.specs.Regions.{Region}
 use Rattle.component_linker.specs.Parts.{PartSeen, IsPart}
-use Rattle.component_linker.specs.Regions.{Apart, part_regions, regions_of, region, stack_span, is_stack_size, addresses, span_of, code_span, data_span, linear_span}
-use Rattle.component_linker.specs.Start.{imported, is_main, main_of, stack_base_of, export_that, first_given, Exported}
+use Rattle.component_linker.specs.Regions.{Apart, part_regions, regions_of, region, stack_span, is_stack_size}
+use Rattle.component_linker.specs.Regions.{addresses, span_of, code_span, data_span, linear_span}
+use Rattle.component_linker.specs.Start.{imported, is_main, main_of, stack_base_of, export_that, first_given}
+use Rattle.component_linker.specs.Start.{Exported}
 use Rattle.component_linker.specs.Pairs.{NoneIsBroken, within_or, at_each, once, passes, never}
-use Rattle.component_linker.specs.Links.{rules_l, l1, l4, l6, l7, l8, l9, has_main, are_few, sites_upto, near, near_part, near_before, part_spans}
+use Rattle.component_linker.specs.Links.{rules_l, l1, l4, l6, l7, l8, l9, has_main, are_few, sites_upto, near}
+use Rattle.component_linker.specs.Links.{near_part, near_before, part_spans}
 use Rattle.component_linker.specs.Linked.{Linked}
 use Rattle.component_linker.proofs.RuleLemmas.{inside, slice_get-take}
 use Rattle.component_linker.proofs.RegionFacts.{of_part}
@@ -32,28 +39,20 @@ not_broken t i h lt = by_test (t.broken i) refl
     by_test false e = e
 
 -- the same, for the test of a part
-pub in_part : (parts : List PartSeen) (test : ℕ → PartSeen → Test ℕ) (all : Test ℕ) (k : ℕ) (p : PartSeen) (i : ℕ) → slice_get parts k ≡ Some p → (BrokenAt (within_or test all k (slice_get parts k)) i → ⊥) → i < (test k p).count → (test k p).broken i ≡ false
+pub in_part : (parts : List PartSeen) (test : ℕ → PartSeen → Test ℕ) (all : Test ℕ) (k : ℕ) (p : PartSeen) (i : ℕ)
+    → slice_get parts k ≡ Some p → (BrokenAt (within_or test all k (slice_get parts k)) i → ⊥)
+    → i < (test k p).count → (test k p).broken i ≡ false
 in_part parts test all k p i is h lt =
     not_broken (test k p) i (λ b. h (subst (λ o. BrokenAt (within_or test all k o) i) (sym is) b)) lt
 
 -- and for that of all parts
-behind : (parts : List PartSeen) (test : ℕ → PartSeen → Test ℕ) (all : Test ℕ) (i : ℕ) → (BrokenAt (within_or test all (length parts) (slice_get parts (length parts))) i → ⊥) → i < all.count → all.broken i ≡ false
+behind : (parts : List PartSeen) (test : ℕ → PartSeen → Test ℕ) (all : Test ℕ) (i : ℕ)
+    → (BrokenAt (within_or test all (length parts) (slice_get parts (length parts))) i → ⊥) → i < all.count
+    → all.broken i ≡ false
 behind parts test all i h lt =
     not_broken all i (λ b. h (subst (λ o. BrokenAt (within_or test all (length parts) o) i) (sym (slice_get_past parts (length parts) (omega arith))) b)) lt
 
 -- ---- tests
-
-or_none : (a b : Bool) → (a || b) ≡ false → (a ≡ false) × (b ≡ false)
-or_none true b e = absurd cc
-or_none false b e = (refl, e)
-
-not_not : (b : Bool) → not b ≡ false → b ≡ true
-not_not true e = refl
-not_not false e = absurd cc
-
-and_both : (a b : Bool) → (a && b) ≡ true → (a ≡ true) × (b ≡ true)
-and_both true b e = (refl, e)
-and_both false b e = absurd cc
 
 -- ---- L9
 
@@ -76,41 +75,48 @@ few parts size h = by_test (are_few parts) refl
 
 -- ---- L8
 
-pub stack_fits : (parts : List PartSeen) (size : ℕ) → NoneIsBroken (rules_l parts size) → (is_stack_size size && nat_le (stack_base_of parts + size) 1048576) ≡ true
+pub stack_fits : (parts : List PartSeen) (size : ℕ) → NoneIsBroken (rules_l parts size)
+    → (is_stack_size size && nat_le (stack_base_of parts + size) 1048576) ≡ true
 unfolding l8
 stack_fits parts size h =
-    not_not _ (behind parts (λ i p. never) (once (not (is_stack_size size && nat_le (stack_base_of parts + size) 1048576)) size) 0 (λ b. h 8 (length parts) 0 (l8 parts size) refl (omega arith, b)) (omega arith))
+    not-false _ (behind parts (λ i p. never) (once (not (is_stack_size size && nat_le (stack_base_of parts + size) 1048576)) size) 0 (λ b. h 8 (length parts) 0 (l8 parts size) refl (omega arith, b)) (omega arith))
 
 -- ---- L7
 
-pub stack_bases : (parts : List PartSeen) (size : ℕ) → NoneIsBroken (rules_l parts size) → (k : ℕ) (p : PartSeen) → slice_get parts k ≡ Some p → p.component.stack_base ≡ stack_base_of parts
+pub stack_bases : (parts : List PartSeen) (size : ℕ) → NoneIsBroken (rules_l parts size)
+    → (k : ℕ) (p : PartSeen) → slice_get parts k ≡ Some p → p.component.stack_base ≡ stack_base_of parts
 unfolding l7
 stack_bases parts size h k p is =
     let same : (p.component.stack_base == stack_base_of parts) ≡ true
-    = not_not _ (in_part parts (λ i q. once (not (q.component.stack_base == stack_base_of parts)) q.component.stack_base) never k p 0 is (λ b. h 7 k 0 (l7 parts) refl (slice_get_within parts k p is, b)) (omega arith)) in
+    = not-false _ (in_part parts (λ i q. once (not (q.component.stack_base == stack_base_of parts)) q.component.stack_base) never k p 0 is (λ b. h 7 k 0 (l7 parts) refl (slice_get_within parts k p is, b)) (omega arith)) in
     grind (arith, nat_tests)
 
 -- where the stack's span is, it begins there
-pub stack_begins : (parts : List PartSeen) (size : ℕ) (stack : Span) → stack_span parts size ≡ Some stack → stack_base_of parts ≡ stack.base
+pub stack_begins : (parts : List PartSeen) (size : ℕ) (stack : Span) → stack_span parts size ≡ Some stack
+    → stack_base_of parts ≡ stack.base
 stack_begins [] size stack e = absurd cc
 stack_begins (p ∷ ps) size stack e = by_size (is_stack_size size) e
   where
-    by_count : (b : Bool) → (if b then None else Some (addresses p.component.stack_base size)) ≡ Some stack → p.component.stack_base ≡ stack.base
+    by_count : (b : Bool) → (if b then None else Some (addresses p.component.stack_base size)) ≡ Some stack
+        → p.component.stack_base ≡ stack.base
     by_count true f = absurd cc
     by_count false f = let g : addresses p.component.stack_base size ≡ stack = cc in ap (λ (s : Span). s.base) g
 
-    by_size : (b : Bool) → (if b then span_of p.component.stack_base size else None) ≡ Some stack → p.component.stack_base ≡ stack.base
+    by_size : (b : Bool) → (if b then span_of p.component.stack_base size else None) ≡ Some stack
+        → p.component.stack_base ≡ stack.base
     by_size true f = by_count (size == 0) f
     by_size false f = absurd cc
 
 -- ---- L4
 
-pub imports_found : (parts : List PartSeen) (size : ℕ) → NoneIsBroken (rules_l parts size) → (k n : ℕ) (p : PartSeen) (i : Import) → slice_get parts k ≡ Some p → slice_get p.component.imports n ≡ Some i → IsSome (imported parts i)
+pub imports_found : (parts : List PartSeen) (size : ℕ) → NoneIsBroken (rules_l parts size)
+    → (k n : ℕ) (p : PartSeen) (i : Import) → slice_get parts k ≡ Some p
+    → slice_get p.component.imports n ≡ Some i → IsSome (imported parts i)
 unfolding l4
 imports_found parts size h k n p i is im =
     let none : passes (λ x. is_none (imported parts x)) (slice_get p.component.imports n) ≡ false
     = in_part parts (λ j q. at_each q.component.imports (λ x. is_none (imported parts x))) never k p n is (λ b. h 4 k n (l4 parts) refl (slice_get_within parts k p is, b)) (slice_get_within p.component.imports n i im) in
-    not_not _ (sym (ap (passes (λ x. is_none (imported parts x))) im) ∙ none)
+    not-false _ (sym (ap (passes (λ x. is_none (imported parts x))) im) ∙ none)
 
 -- ---- L6
 
@@ -118,7 +124,8 @@ found_any : {A : Type 0} (f : A → Bool) (xs : List A) → list_any f xs ≡ tr
 found_any f [] e = absurd cc
 found_any f (x ∷ xs) e = by_test (f x) refl (found_any f xs)
   where
-    by_test : (b : Bool) → f x ≡ b → (list_any f xs ≡ true → is_some (find f xs) ≡ true) → is_some (find f (x ∷ xs)) ≡ true
+    by_test : (b : Bool) → f x ≡ b → (list_any f xs ≡ true → is_some (find f xs) ≡ true)
+        → is_some (find f (x ∷ xs)) ≡ true
     by_test true is more = rw is refl
     by_test false is more = rw is (more (sym (ap (λ b. b || list_any f xs) is) ∙ e))
 
@@ -126,40 +133,49 @@ mapped : {A B : Type 0} (f : A → B) (o : Option A) → is_some o ≡ true → 
 mapped f None e = absurd cc
 mapped f (Some x) e = refl
 
-given_by_one : (parts : List PartSeen) → list_any has_main parts ≡ true → is_some (first_given (export_that is_main) parts) ≡ true
+given_by_one : (parts : List PartSeen) → list_any has_main parts ≡ true
+    → is_some (first_given (export_that is_main) parts) ≡ true
 given_by_one [] e = absurd cc
 given_by_one (p ∷ ps) e = by_test (has_main p) refl (given_by_one ps)
   where
-    first_is : (o : Option Exported) → is_some o ≡ true → is_some (option_or o (first_given (export_that is_main) ps)) ≡ true
+    first_is : (o : Option Exported) → is_some o ≡ true
+        → is_some (option_or o (first_given (export_that is_main) ps)) ≡ true
     first_is None f = absurd cc
     first_is (Some x) f = refl
 
-    others : (o : Option Exported) → is_some (first_given (export_that is_main) ps) ≡ true → is_some (option_or o (first_given (export_that is_main) ps)) ≡ true
+    others : (o : Option Exported) → is_some (first_given (export_that is_main) ps) ≡ true
+        → is_some (option_or o (first_given (export_that is_main) ps)) ≡ true
     others None f = f
     others (Some x) f = refl
 
-    by_test : (b : Bool) → has_main p ≡ b → (list_any has_main ps ≡ true → is_some (first_given (export_that is_main) ps) ≡ true) → is_some (first_given (export_that is_main) (p ∷ ps)) ≡ true
+    by_test : (b : Bool) → has_main p ≡ b
+        → (list_any has_main ps ≡ true → is_some (first_given (export_that is_main) ps) ≡ true)
+        → is_some (first_given (export_that is_main) (p ∷ ps)) ≡ true
     by_test true is more = first_is (export_that is_main p) (mapped _ (find is_main p.component.exports) (found_any is_main p.component.exports is))
     by_test false is more = others (export_that is_main p) (more (sym (ap (λ b. b || list_any has_main ps) is) ∙ e))
 
-pub main_there : (parts : List PartSeen) (size : ℕ) → NoneIsBroken (rules_l parts size) → IsSome (main_of parts)
+pub main_there : (parts : List PartSeen) (size : ℕ) → NoneIsBroken (rules_l parts size)
+    → IsSome (main_of parts)
 unfolding l6
 main_there parts size h =
-    given_by_one parts (not_not _ (behind parts (λ i p. at_each p.component.exports (λ e. is_main e && list_any has_main (take i parts))) (once (not (list_any has_main parts)) 0) 0
+    given_by_one parts (not-false _ (behind parts (λ i p. at_each p.component.exports (λ e. is_main e && list_any has_main (take i parts))) (once (not (list_any has_main parts)) 0) 0
     (λ b. h 6 (length parts) 0 (l6 parts) refl (omega arith, b)) (omega arith)))
 
 -- ---- L1
 
 -- what is near none of some is not near one of them
-none_at : {A : Type 0} (f : A → Bool) (xs : List A) (k : ℕ) (x : A) → list_any f xs ≡ false → slice_get xs k ≡ Some x → f x ≡ false
+none_at : {A : Type 0} (f : A → Bool) (xs : List A) (k : ℕ) (x : A) → list_any f xs ≡ false
+    → slice_get xs k ≡ Some x → f x ≡ false
 none_at f [] k x e is = absurd cc
-none_at f (y ∷ ys) zero x e is = let same : y ≡ x = cc in subst (λ z. f z ≡ false) same (or_none (f y) (list_any f ys) e).0
-none_at f (y ∷ ys) (suc k) x e is = none_at f ys k x (or_none (f y) (list_any f ys) e).1 is
+none_at f (y ∷ ys) zero x e is = let same : y ≡ x = cc in subst (λ z. f z ≡ false) same (or_parts (f y) (list_any f ys) e).0
+none_at f (y ∷ ys) (suc k) x e is = none_at f ys k x (or_parts (f y) (list_any f ys) e).1 is
 
-spans_apart : (a b : Span) → (nat_le a.base (b.end + 1) && nat_le b.base (a.end + 1)) ≡ false → (b.end + 2 ≤ a.base) ⊎ (a.end + 2 ≤ b.base)
+spans_apart : (a b : Span) → (nat_le a.base (b.end + 1) && nat_le b.base (a.end + 1)) ≡ false
+    → (b.end + 2 ≤ a.base) ⊎ (a.end + 2 ≤ b.base)
 spans_apart a b e = grind (arith, nat_tests)
 
-in_span : (linear : Bool) (o : Option Span) (r : Region) → Contains (region linear o) r → (s : Span) × (o ≡ Some s) × (s.base ≡ r.base) × (s.end ≡ r.end)
+in_span : (linear : Bool) (o : Option Span) (r : Region) → Contains (region linear o) r
+    → (s : Span) × (o ≡ Some s) × (s.base ≡ r.base) × (s.end ≡ r.end)
 in_span linear None r h = absurd (let lt = h.1 in omega (arith, lt))
 in_span linear (Some s) r h =
     let first : h.0 ≡ 0 = let lt = h.1 in omega (arith, lt) in
@@ -167,7 +183,8 @@ in_span linear (Some s) r h =
     (s, refl, ap (λ x. x.base) is, ap (λ x. x.end) is)
 
 -- of a span and one before it
-pub far : (a b : Option Span) (la lb : Bool) (r s : Region) → near a b ≡ false → Contains (region lb b) s → Contains (region la a) r → Apart s r
+pub far : (a b : Option Span) (la lb : Bool) (r s : Region) → near a b ≡ false → Contains (region lb b) s
+    → Contains (region la a) r → Apart s r
 far a b la lb r s e in_b in_a =
     let x = in_span la a r in_a in
     let y = in_span lb b s in_b in
@@ -175,7 +192,8 @@ far a b la lb r s e in_b in_a =
     elim apart as (λ _. Apart s r) [ inl l ↦ inl (omega (arith, l, x.2, y.3)) | inr l ↦ inr (omega (arith, l, x.3, y.2)) ]
 
 -- of a list of two pieces
-behind_it : {X : Type 0} (xs ys : List X) (i : ℕ) (d : X) → length xs ≤ i → get_or (xs ++ ys) i d ≡ get_or ys (i - length xs) d
+behind_it : {X : Type 0} (xs ys : List X) (i : ℕ) (d : X) → length xs ≤ i
+    → get_or (xs ++ ys) i d ≡ get_or ys (i - length xs) d
 behind_it xs ys i d le =
     let back : i ≡ length xs + (i - length xs) = omega (arith, le) in
     ap (λ k. get_or (xs ++ ys) k d) back ∙ get_or-append-add xs ys (i - length xs) d
@@ -183,7 +201,8 @@ behind_it xs ys i d le =
 contained : {X : Type 0} (xs : List X) (i : ℕ) (d : X) → i < length xs → Contains xs (get_or xs i d)
 contained xs i d lt = (i, lt, get_or_default xs i (get_or xs i d) d lt)
 
-pub pairs_append : {X : Type 0} (R : X → X → Type 0) (xs ys : List X) → AllPairs R xs → AllPairs R ys → ((x y : X) → Contains xs x → Contains ys y → R x y) → AllPairs R (xs ++ ys)
+pub pairs_append : {X : Type 0} (R : X → X → Type 0) (xs ys : List X) → AllPairs R xs → AllPairs R ys
+    → ((x y : X) → Contains xs x → Contains ys y → R x y) → AllPairs R (xs ++ ys)
 pairs_append {X} R xs ys left right across i j d lt le = elim (order i) as (λ _. R (get_or (xs ++ ys) i d) (get_or (xs ++ ys) j d)) [
   | inl a ↦ elim (order j) as (λ _. R (get_or (xs ++ ys) i d) (get_or (xs ++ ys) j d)) [
     | inl b ↦ at (get_or_append_left xs ys d i a) (get_or_append_left xs ys d j b) (left i j d lt b)
@@ -227,7 +246,9 @@ span_of_region p r m = elim (Contains-append_cases (region false (code_span p) +
 ]
 
 -- a span is near no span before it
-alone : (parts : List PartSeen) (size : ℕ) → NoneIsBroken (rules_l parts size) → (k i : ℕ) (p : PartSeen) (s : Option Span) → slice_get parts k ≡ Some p → slice_get (part_spans p) i ≡ Some s → i < 3
+alone : (parts : List PartSeen) (size : ℕ) → NoneIsBroken (rules_l parts size)
+    → (k i : ℕ) (p : PartSeen) (s : Option Span) → slice_get parts k ≡ Some p
+    → slice_get (part_spans p) i ≡ Some s → i < 3
     → (list_any (near_part s) (take k parts) ≡ false) × (list_any (near s) (take i (part_spans p)) ≡ false)
 unfolding l1
 alone parts size h k i p s at is lt =
@@ -235,9 +256,10 @@ alone parts size h k i p s at is lt =
     = in_part parts (λ j q. plainly 3 (λ n. near_before (take j parts) (take n (part_spans q)) (slice_index_or (part_spans q) n None)))
     (once (near_before parts [] (stack_span parts size)) 0) k p i at (λ b. h 1 k i (l1 parts size) refl (let w = slice_get_within parts k p at in omega (arith, w), b)) lt in
     let here : slice_index_or (part_spans p) i None ≡ s = get_or_from_slice_get (part_spans p) i s None is in
-    or_none _ _ (sym (ap (near_before (take k parts) (take i (part_spans p))) here) ∙ none)
+    or_parts _ _ (sym (ap (near_before (take k parts) (take i (part_spans p))) here) ∙ none)
 
-pub apart_within : (parts : List PartSeen) (size : ℕ) → NoneIsBroken (rules_l parts size) → (k : ℕ) (p : PartSeen) → slice_get parts k ≡ Some p → AllPairs Apart (part_regions p)
+pub apart_within : (parts : List PartSeen) (size : ℕ) → NoneIsBroken (rules_l parts size)
+    → (k : ℕ) (p : PartSeen) → slice_get parts k ≡ Some p → AllPairs Apart (part_regions p)
 apart_within parts size h k p at =
     let first = none_at (near (data_span p)) (code_span p ∷ []) 0 (code_span p) (alone parts size h k 1 p (data_span p) at refl (omega arith)).1 refl in
     let others = (alone parts size h k 2 p (linear_span p) at refl (omega arith)).1 in
@@ -251,7 +273,8 @@ apart_within parts size h k p at =
       | inr d ↦ far (linear_span p) (data_span p) true false s r third d n
     ])
 
-apart_across : (parts : List PartSeen) (size : ℕ) → NoneIsBroken (rules_l parts size) → (k n : ℕ) (p q : PartSeen) → k < n → slice_get parts k ≡ Some p → slice_get parts n ≡ Some q
+apart_across : (parts : List PartSeen) (size : ℕ) → NoneIsBroken (rules_l parts size)
+    → (k n : ℕ) (p q : PartSeen) → k < n → slice_get parts k ≡ Some p → slice_get parts n ≡ Some q
     → (r s : Region) → Contains (part_regions p) r → Contains (part_regions q) s → Apart r s
 apart_across parts size h k n p q lt at_k at_n r s m l =
     let x = span_of_region p r m in
@@ -260,19 +283,22 @@ apart_across parts size h k n p q lt at_k at_n r s m l =
     let with_p = none_at (near_part y.span) (take n parts) k p none (slice_get-take parts n k lt ∙ at_k) in
     far y.span x.span y.linear x.linear s r (none_at (near y.span) (part_spans p) x.index x.span with_p x.at) x.is y.is
 
-apart_from_stack : (parts : List PartSeen) (size : ℕ) → NoneIsBroken (rules_l parts size) → (k : ℕ) (p : PartSeen) → slice_get parts k ≡ Some p
-    → (r s : Region) → Contains (part_regions p) r → Contains (region true (stack_span parts size)) s → Apart r s
+apart_from_stack : (parts : List PartSeen) (size : ℕ) → NoneIsBroken (rules_l parts size)
+    → (k : ℕ) (p : PartSeen) → slice_get parts k ≡ Some p
+    → (r s : Region) → Contains (part_regions p) r → Contains (region true (stack_span parts size)) s
+    → Apart r s
 unfolding l1
 apart_from_stack parts size h k p at r s m l =
     let x = span_of_region p r m in
     let none : near_before parts [] (stack_span parts size) ≡ false
     = behind parts (λ j q. plainly 3 (λ n. near_before (take j parts) (take n (part_spans q)) (slice_index_or (part_spans q) n None)))
     (once (near_before parts [] (stack_span parts size)) 0) 0 (λ b. h 1 (length parts) 0 (l1 parts size) refl (omega arith, b)) (omega arith) in
-    let with_p = none_at (near_part (stack_span parts size)) parts k p (or_none _ _ none).0 at in
+    let with_p = none_at (near_part (stack_span parts size)) parts k p (or_parts _ _ none).0 at in
     far (stack_span parts size) x.span true x.linear s r (none_at (near (stack_span parts size)) (part_spans p) x.index x.span with_p x.at) x.is l
 
 -- of all parts, one after another
-apart_parts : (parts : List PartSeen) → ((k : ℕ) (p : PartSeen) → slice_get parts k ≡ Some p → AllPairs Apart (part_regions p))
+apart_parts : (parts : List PartSeen)
+    → ((k : ℕ) (p : PartSeen) → slice_get parts k ≡ Some p → AllPairs Apart (part_regions p))
     → ((k n : ℕ) (p q : PartSeen) → k < n → slice_get parts k ≡ Some p → slice_get parts n ≡ Some q → (r s : Region) → Contains (part_regions p) r → Contains (part_regions q) s → Apart r s)
     → AllPairs Apart (flat_map part_regions parts)
 apart_parts [] own across = λ i j d lt le. absurd (omega (arith, le))
@@ -281,7 +307,8 @@ apart_parts (x ∷ xs) own across =
     (apart_parts xs (λ k p at. own (suc k) p at) (λ k n p q lt at_k at_n. across (suc k) (suc n) p q (omega (arith, lt)) at_k at_n))
     (λ r s m l. (let o = of_part xs s l in across 0 (suc o.index) x o.part (omega arith) refl o.at r s m o.is))
 
-pub regions_apart : (parts : List PartSeen) (size : ℕ) → NoneIsBroken (rules_l parts size) → AllPairs Apart (regions_of parts size)
+pub regions_apart : (parts : List PartSeen) (size : ℕ) → NoneIsBroken (rules_l parts size)
+    → AllPairs Apart (regions_of parts size)
 unfolding regions_of
 regions_apart parts size h =
     pairs_append Apart (flat_map part_regions parts) (region true (stack_span parts size))
@@ -291,9 +318,11 @@ regions_apart parts size h =
 
 -- ---- all of them
 
-pub are_linked : (parts : List PartSeen) (size : ℕ) → ((k : ℕ) (p : PartSeen) → slice_get parts k ≡ Some p → IsPart p) → NoneIsBroken (rules_l parts size) → Linked parts size
+pub are_linked : (parts : List PartSeen) (size : ℕ)
+    → ((k : ℕ) (p : PartSeen) → slice_get parts k ≡ Some p → IsPart p) → NoneIsBroken (rules_l parts size)
+    → Linked parts size
 are_linked parts size each h =
-    let stack = and_both (is_stack_size size) _ (stack_fits parts size h) in
+    let stack = and_parts (is_stack_size size) _ (stack_fits parts size h) in
     record {
       few = few parts size h;
       closed = record { kept = λ k p at. is_kept p (each k p at); found = imports_found parts size h };

@@ -1,15 +1,19 @@
 -- Sites and owners as they are listed, one after another, and put in order.
-use Rattle.std.proofs.Common.{◌≡◌, ◌≢◌, ℕ, zero, suc, ◌+◌, ◌<◌, ◌≤◌, Bool, false, List, [], ◌∷◌, ◌++◌, length, get_or, eqb, Option, Some, None, refl, sym, ap, subst, ◌∙◌, arith, inl, inr, ltb-true, eq-eqb}
+use Rattle.std.proofs.Common.{◌≡◌, ◌≢◌, ℕ, zero, suc, ◌+◌, ◌<◌, ◌≤◌, Bool, false, List, [], ◌∷◌, ◌++◌, length}
+use Rattle.std.proofs.Common.{get_or, eqb, Option, Some, None, refl, sym, ap, subst, ◌∙◌, arith, inl, inr}
+use Rattle.std.proofs.Common.{ltb-true, eq-eqb}
 use Rattle.std.specs.Prelude.{slice_get}
 use Rattle.std.specs.List.{AllPairs, Contains, IsDistinct}
 use Rattle.std.specs.List.Sorted.{IsPermutation, IsNonDecreasingBy}
 use Rattle.std.proofs.lemmas.Bool.{cases_eq, ne_eqb, false≢true}
 use Rattle.std.proofs.lemmas.Option.{slice_get_within}
 use Rattle.std.proofs.lemmas.List.{length_push}
-use Rattle.std.proofs.lemmas.List.Elements.{Contains-get_or, Contains-append_left, Contains-push, Contains-push_cases}
+use Rattle.std.proofs.lemmas.List.Elements.{Contains-get_or, Contains-append_left, Contains-push}
+use Rattle.std.proofs.lemmas.List.Elements.{Contains-push_cases}
 use Rattle.std.proofs.lemmas.List.Quantifiers.{all_pairs_push}
 use Rattle.std.proofs.lemmas.List.Sorted.{Contains-permutation, IsPermutation-sym, length_permutation}
 use Rattle.std.proofs.lemmas.Map.Keys.{IsDistinct-IsPermutation, IsDistinct-from_apart, apart_from_distinct}
+use Rattle.component_linker.proofs.SealsKept.{same_site}
 use Rattle.component_file.specs.declared.component.Export.{Export}
 use Rattle.component_file.specs.Limits.{Chain, ExportFits, SiteFits}
 use Rattle.component_linker.specs.declared.owners.Site.{Site}
@@ -23,7 +27,8 @@ use Rattle.component_linker.proofs.LaySteps.{with_some, code_there}
 
 -- ---- in order
 
-pub rising_keys : {X : Type 0} (key : X → ℕ) (xs ys : List X) → AllPairs (λ x y. key x ≢ key y) xs → IsPermutation xs ys → IsNonDecreasingBy key ys → AllPairs (λ x y. key x < key y) ys
+pub rising_keys : {X : Type 0} (key : X → ℕ) (xs ys : List X) → AllPairs (λ x y. key x ≢ key y) xs
+    → IsPermutation xs ys → IsNonDecreasingBy key ys → AllPairs (λ x y. key x < key y) ys
 rising_keys {X} key xs ys differ moved up i j d lt in' =
     let same : X → X → Bool = λ x y. eqb (key x) (key y) in
     let before : IsDistinct same xs = IsDistinct-from_apart same xs (λ k n e less within. ne_eqb (key (get_or xs k e)) (key (get_or xs n e)) (differ k n e less within)) in
@@ -43,12 +48,14 @@ rising_keys {X} key xs ys differ moved up i j d lt in' =
 
 -- ---- what the limits of components say
 
-pub export_fits : (xs : List Export) (b : Option Export) (k : ℕ) (e : Export) → Chain ExportFits b xs → slice_get xs k ≡ Some e → e.offset ≤ 65535
+pub export_fits : (xs : List Export) (b : Option Export) (k : ℕ) (e : Export) → Chain ExportFits b xs
+    → slice_get xs k ≡ Some e → e.offset ≤ 65535
 export_fits [] b k e h at = absurd cc
 export_fits (x ∷ xs) b zero e h at = let same : x ≡ e = cc in subst (λ y. y.offset ≤ 65535) same h.0.2
 export_fits (x ∷ xs) b (suc k) e h at = export_fits xs (Some x) k e h.1 at
 
-pub site_fits : (xs : List ℕ) (b : Option ℕ) (k o : ℕ) → Chain SiteFits b xs → slice_get xs k ≡ Some o → o ≤ 65535
+pub site_fits : (xs : List ℕ) (b : Option ℕ) (k o : ℕ) → Chain SiteFits b xs → slice_get xs k ≡ Some o
+    → o ≤ 65535
 site_fits [] b k o h at = absurd cc
 site_fits (x ∷ xs) b zero o h at = let same : x ≡ o = cc in let le = h.0.0 in omega (arith, same, le)
 site_fits (x ∷ xs) b (suc k) o h at = site_fits xs (Some x) k o h.1 at
@@ -58,7 +65,8 @@ above [] b k o h at = absurd cc
 above (x ∷ xs) b zero o h at = let same : x ≡ o = cc in let lt = ltb-true b x h.0.1 in omega (arith, same, lt)
 above (x ∷ xs) b (suc k) o h at = let low = ltb-true b x h.0.1 in let high = above xs x k o h.1 at in omega (arith, low, high)
 
-pub sites_rise : (xs : List ℕ) (b : Option ℕ) (k n o q : ℕ) → Chain SiteFits b xs → k < n → slice_get xs k ≡ Some o → slice_get xs n ≡ Some q → o < q
+pub sites_rise : (xs : List ℕ) (b : Option ℕ) (k n o q : ℕ) → Chain SiteFits b xs → k < n
+    → slice_get xs k ≡ Some o → slice_get xs n ≡ Some q → o < q
 sites_rise [] b k n o q h lt at_k at_n = absurd cc
 sites_rise (x ∷ xs) b k zero o q h lt at_k at_n = absurd (omega (arith, lt))
 sites_rise (x ∷ xs) b zero (suc n) o q h lt at_k at_n = let same : x ≡ o = cc in let high = above xs x n q h.1 at_n in omega (arith, same, high)
@@ -67,19 +75,23 @@ sites_rise (x ∷ xs) b (suc k) (suc n) o q h lt at_k at_n = sites_rise xs (Some
 -- ---- sites
 
 -- parts with a code word at one address are one
-pub meet_not : (parts : List PartSeen) (k n a : ℕ) (p q : PartSeen) → AreSeparate parts → k < n → slice_get parts k ≡ Some p → slice_get parts n ≡ Some q
-    → p.component.code_base ≤ a → a < p.component.code_base + length p.component.code → q.component.code_base ≤ a → a < q.component.code_base + length q.component.code → ⊥
+pub meet_not : (parts : List PartSeen) (k n a : ℕ) (p q : PartSeen) → AreSeparate parts → k < n
+    → slice_get parts k ≡ Some p → slice_get parts n ≡ Some q
+    → p.component.code_base ≤ a → a < p.component.code_base + length p.component.code
+    → q.component.code_base ≤ a → a < q.component.code_base + length q.component.code → ⊥
 meet_not parts k n a p q separate lt at_k at_n low high below above' =
     with_some (part_word parts a p) ⊥ (code_there parts p a low high)
     (λ w h. with_some (part_word parts a q) ⊥ (code_there parts q a below above') (λ v g. separate.apart k n a p q w v lt at_k at_n h g))
 
-pub site_in : (parts : List PartSeen) (s : Site) (a : ℕ) → AreClosed parts → (h : IsSite parts s) → s.at ≡ a → (h.of.component.code_base ≤ a) × (a < h.of.component.code_base + length h.of.component.code)
+pub site_in : (parts : List PartSeen) (s : Site) (a : ℕ) → AreClosed parts → (h : IsSite parts s) → s.at ≡ a
+    → (h.of.component.code_base ≤ a) × (a < h.of.component.code_base + length h.of.component.code)
 site_in parts s a closed h is =
     let lt = (closed.kept s.part h.of h.of_is).sites_in h.trusted s.index h.offset h.offset_is in
     let at = h.at in
     (omega (arith, at, is), omega (arith, at, is, lt))
 
-sites_differ : (parts : List PartSeen) (i j : ℕ) (s t : Site) → AreClosed parts → AreSeparate parts → IsSite parts s → IsSite parts t → t.part ≡ i → t.index ≡ j → ComesBefore i j s → s.at ≢ t.at
+sites_differ : (parts : List PartSeen) (i j : ℕ) (s t : Site) → AreClosed parts → AreSeparate parts
+    → IsSite parts s → IsSite parts t → t.part ≡ i → t.index ≡ j → ComesBefore i j s → s.at ≢ t.at
 sites_differ parts i j s t closed separate h g part_is index_is (inl lt) same =
     let a = site_in parts s t.at closed h same in
     let b = site_in parts t t.at closed g refl in
@@ -94,16 +106,9 @@ sites_differ parts i j s t closed separate h g part_is index_is (inr (eq, lt)) s
     let there = g.at in
     omega (arith, rise, base, here, there, same)
 
-same_site : (s t : Site) → s.part ≡ t.part → s.index ≡ t.index → s.seal ≡ t.seal → s.at ≡ t.at → s ≡ t
-same_site s t a b c d =
-    let p : Site → Site = λ x. x in
-    ap (λ (x : ℕ). p (record { part = x; index = s.index; seal = s.seal; at = s.at })) a
-    ∙ ap (λ (x : ℕ). p (record { part = t.part; index = x; seal = s.seal; at = s.at })) b
-    ∙ ap (λ (x : ℕ). p (record { part = t.part; index = t.index; seal = x; at = s.at })) c
-    ∙ ap (λ (x : ℕ). p (record { part = t.part; index = t.index; seal = t.seal; at = x })) d
-
 -- a site is told by its part and its index
-pub one_site : (parts : List PartSeen) (s t : Site) → IsSite parts s → IsSite parts t → s.part ≡ t.part → s.index ≡ t.index → s ≡ t
+pub one_site : (parts : List PartSeen) (s t : Site) → IsSite parts s → IsSite parts t → s.part ≡ t.part
+    → s.index ≡ t.index → s ≡ t
 one_site parts s t h g part_is index_is =
     let e : Some h.of ≡ Some g.of = sym h.of_is ∙ ap (slice_get parts) part_is ∙ g.of_is in
     let one : h.of ≡ g.of = cc in
@@ -127,7 +132,9 @@ before_next : (i j : ℕ) (s : Site) → ComesBefore i j s → ComesBefore i (j 
 before_next i j s (inl lt) = inl lt
 before_next i j s (inr e) = let lt = e.1 in inr (e.0, omega (arith, lt))
 
-pub next_site : (parts : List PartSeen) (i j : ℕ) (xs : List Site) (y : Site) → AreClosed parts → AreSeparate parts → SitesUpto parts i j xs → IsSite parts y → y.part ≡ i → y.index ≡ j → SitesUpto parts i (j + 1) (xs ++ y ∷ [])
+pub next_site : (parts : List PartSeen) (i j : ℕ) (xs : List Site) (y : Site) → AreClosed parts
+    → AreSeparate parts → SitesUpto parts i j xs → IsSite parts y → y.part ≡ i → y.index ≡ j
+    → SitesUpto parts i (j + 1) (xs ++ y ∷ [])
 next_site parts i j xs y closed separate upto this part_is index_is = record {
   all = λ s. (
     λ m. elim (Contains-push_cases xs y s m) as (λ _. IsSite parts s × ComesBefore i (j + 1) s) [
@@ -147,7 +154,8 @@ next_site parts i j xs y closed separate upto this part_is index_is = record {
     ]
 
 -- a part's sites are done: it has no more, or they don't count
-next_part : (parts : List PartSeen) (i j : ℕ) (xs : List Site) → SitesUpto parts i j xs → ((s : Site) → IsSite parts s → s.part ≡ i → s.index < j) → SitesUpto parts (i + 1) 0 xs
+next_part : (parts : List PartSeen) (i j : ℕ) (xs : List Site) → SitesUpto parts i j xs
+    → ((s : Site) → IsSite parts s → s.part ≡ i → s.index < j) → SitesUpto parts (i + 1) 0 xs
 next_part parts i j xs upto done = record { all = λ s. (λ m. (let h = (upto.all s).0 m in (h.0, forth s h.1)), λ h. back s h.0 h.1); differ = upto.differ }
   where
     forth : (s : Site) → ComesBefore i j s → ComesBefore (i + 1) 0 s
@@ -158,18 +166,22 @@ next_part parts i j xs upto done = record { all = λ s. (λ m. (let h = (upto.al
     back s h (inr e) = let lt = e.1 in absurd (omega (arith, lt))
     back s h (inl lt) = elim (cases_eq s.part i) as (λ _. Contains xs s) [ inl same ↦ (upto.all s).1 (h, inr (same, done s h same)) | inr ne ↦ (upto.all s).1 (h, inl (omega (arith, lt, ne))) ]
 
-pub part_at : (parts : List PartSeen) (p q : PartSeen) (k i : ℕ) → slice_get parts k ≡ Some q → k ≡ i → slice_get parts i ≡ Some p → q ≡ p
+pub part_at : (parts : List PartSeen) (p q : PartSeen) (k i : ℕ) → slice_get parts k ≡ Some q → k ≡ i
+    → slice_get parts i ≡ Some p → q ≡ p
 part_at parts p q k i at_k e at = let h : Some q ≡ Some p = sym at_k ∙ ap (slice_get parts) e ∙ at in cc
 
-pub untrusted_done : (parts : List PartSeen) (i : ℕ) (p : PartSeen) (xs : List Site) → SitesUpto parts i 0 xs → slice_get parts i ≡ Some p → p.trusted ≡ false → SitesUpto parts (i + 1) 0 xs
+pub untrusted_done : (parts : List PartSeen) (i : ℕ) (p : PartSeen) (xs : List Site) → SitesUpto parts i 0 xs
+    → slice_get parts i ≡ Some p → p.trusted ≡ false → SitesUpto parts (i + 1) 0 xs
 untrusted_done parts i p xs upto at not_it =
     next_part parts i 0 xs upto (λ s h same. absurd (let e = part_at parts p h.of s.part i h.of_is same at in false≢true (sym not_it ∙ ap (λ (x : PartSeen). x.trusted) (sym e) ∙ h.trusted)))
 
-pub sites_done : (parts : List PartSeen) (i j : ℕ) (p : PartSeen) (xs : List Site) → SitesUpto parts i j xs → slice_get parts i ≡ Some p → length p.component.sites ≤ j → SitesUpto parts (i + 1) 0 xs
+pub sites_done : (parts : List PartSeen) (i j : ℕ) (p : PartSeen) (xs : List Site) → SitesUpto parts i j xs
+    → slice_get parts i ≡ Some p → length p.component.sites ≤ j → SitesUpto parts (i + 1) 0 xs
 sites_done parts i j p xs upto at end =
     next_part parts i j xs upto (λ s h same. let e = ap (λ (x : PartSeen). length x.component.sites) (part_at parts p h.of s.part i h.of_is same at) in let lt = slice_get_within h.of.component.sites s.index h.offset h.offset_is in omega (arith, e, lt, end))
 
-pub sites_sorted : (parts : List PartSeen) (n : ℕ) (xs ys : List Site) → n ≡ length parts → SitesUpto parts n 0 xs → IsPermutation xs ys → IsNonDecreasingBy (λ s. s.at) ys → AreSites parts ys
+pub sites_sorted : (parts : List PartSeen) (n : ℕ) (xs ys : List Site) → n ≡ length parts
+    → SitesUpto parts n 0 xs → IsPermutation xs ys → IsNonDecreasingBy (λ s. s.at) ys → AreSites parts ys
 sites_sorted parts n xs ys whole upto moved up = record {
   ascend = rising_keys (λ s. s.at) xs ys upto.differ moved up;
   all = λ s. (
@@ -195,7 +207,9 @@ part_of : (i : ℕ) (p : PartSeen) → (owner_of i p).part ≡ i
 unfolding owner_of
 part_of i p = refl
 
-owners_differ : (parts : List PartSeen) (i : ℕ) (p : PartSeen) (o y : Owner) → AreClosed parts → AreSeparate parts → slice_get parts i ≡ Some p → y ≡ owner_of i p → IsOwner parts o → o.part < i → o.code.base ≢ y.code.base
+owners_differ : (parts : List PartSeen) (i : ℕ) (p : PartSeen) (o y : Owner) → AreClosed parts
+    → AreSeparate parts → slice_get parts i ≡ Some p → y ≡ owner_of i p → IsOwner parts o → o.part < i
+    → o.code.base ≢ y.code.base
 owners_differ parts i p o y closed separate at is h lt same =
     let a : o.code.base ≡ h.of.component.code_base = ap (λ (x : Owner). x.code.base) h.is ∙ base_of o.part h.of in
     let b : y.code.base ≡ p.component.code_base = ap (λ (x : Owner). x.code.base) is ∙ base_of i p in
@@ -203,7 +217,9 @@ owners_differ parts i p o y closed separate at is h lt same =
     let two = (closed.kept i p at).limits.code.0.0 in
     meet_not parts o.part i y.code.base h.of p separate lt h.of_is at (omega (arith, a, same)) (omega (arith, a, same, one)) (omega (arith, b)) (omega (arith, b, two))
 
-pub next_owner : (parts : List PartSeen) (i : ℕ) (p : PartSeen) (xs : List Owner) (y : Owner) → AreClosed parts → AreSeparate parts → OwnersUpto parts i xs → slice_get parts i ≡ Some p → y ≡ owner_of i p → OwnersUpto parts (i + 1) (xs ++ y ∷ [])
+pub next_owner : (parts : List PartSeen) (i : ℕ) (p : PartSeen) (xs : List Owner) (y : Owner)
+    → AreClosed parts → AreSeparate parts → OwnersUpto parts i xs → slice_get parts i ≡ Some p
+    → y ≡ owner_of i p → OwnersUpto parts (i + 1) (xs ++ y ∷ [])
 next_owner parts i p xs y closed separate upto at is = record {
   all = λ o. (
     λ m. elim (Contains-push_cases xs y o m) as (λ _. IsOwner parts o × (o.part < i + 1)) [
@@ -228,7 +244,9 @@ next_owner parts i p xs y closed separate upto at is = record {
       | inr ne ↦ Contains-append_left xs (y ∷ []) o ((upto.all o).1 (h, omega (arith, lt, ne)))
     ]
 
-pub owners_sorted : (parts : List PartSeen) (n : ℕ) (xs ys : List Owner) → n ≡ length parts → OwnersUpto parts n xs → IsPermutation xs ys → IsNonDecreasingBy (λ o. o.code.base) ys → AreOwners parts ys
+pub owners_sorted : (parts : List PartSeen) (n : ℕ) (xs ys : List Owner) → n ≡ length parts
+    → OwnersUpto parts n xs → IsPermutation xs ys → IsNonDecreasingBy (λ o. o.code.base) ys
+    → AreOwners parts ys
 owners_sorted parts n xs ys whole upto moved up = record {
   ascend = rising_keys (λ o. o.code.base) xs ys upto.differ moved up;
   all = λ o. (

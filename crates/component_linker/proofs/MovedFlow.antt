@@ -1,16 +1,15 @@
 -- The rules of the flow look at no address: a moved part keeps them.
-use Rattle.std.proofs.Common.{◌≡◌, ℕ, zero, suc, ℤ, Bool, true, false, List, [], ◌∷◌, length, map, Option}
+use Rattle.std.proofs.Common.{◌≡◌, ℕ, zero, suc, ℤ, true, false, List, [], ◌∷◌, length, map, Option}
 use Rattle.std.proofs.Common.{Some, None, refl, sym, ap, subst, ◌∙◌}
-use Rattle.std.specs.Prelude.{slice_get, option_map, ◌+◌, if◌then◌else◌}
+use Rattle.std.specs.Prelude.{slice_get, option_map, ◌+◌}
 use Rattle.std.proofs.lemmas.List.{length-map}
 use Rattle.std.proofs.lemmas.Option.{slice_get-map}
 use Rattle.cap_words.specs.declared.Word.{Word}
 use Rattle.cap_words.specs.declared.Word.TheVariants.{Int, Mem, Seal, Sealed}
-use Rattle.lcm_isa.specs.declared.Instr.{Instr}
 use Rattle.component_file.specs.declared.component.ComponentFields.{ComponentFields}
 use Rattle.component_check.specs.Places.{Test, BrokenAt}
 use Rattle.component_check.specs.Verdict.{NoneBroken}
-use Rattle.call_sequence.specs.Standing.{is_int, difference, code_difference, sequence_difference}
+use Rattle.call_sequence.specs.Standing.{is_int, difference, sequence_difference}
 use Rattle.call_sequence.specs.Standing.{site_difference, is_entry}
 use Rattle.flow_check.specs.Kinds.{Row}
 use Rattle.flow_check.specs.Places.{begins_entry, begins_site, in_site, declared}
@@ -19,7 +18,7 @@ use Rattle.flow_check.specs.declared.walking.Walk.{Walk}
 use Rattle.flow_check.specs.declared.walking.Walk.TheVariants.{Before as before, Ended as ended}
 use Rattle.flow_check.specs.declared.walking.Walk.TheVariants.{Broken as broken}
 use Rattle.flow_check.specs.Walk.{instr_in, instr_at, good_target, at_row, past, at_word, next_from, next}
-use Rattle.flow_check.specs.Walk.{walk, Comes}
+use Rattle.flow_check.specs.Walk.{walk}
 use Rattle.flow_check.specs.Verdict.{IsKept}
 use Rattle.component_linker.specs.Placing.{moved, moved_word}
 use Rattle.component_linker.specs.declared.moving.Move.{Move}

@@ -1,14 +1,13 @@
 -- A moved part is a part, where it has addresses and seals that there are, and integers of the machine.
-use Rattle.std.proofs.Common.{◌≡◌, ℕ, zero, suc, ◌+◌, ◌<◌, ◌≤◌, ℤ, pos, negsuc, Bool, true, false, not, List}
-use Rattle.std.proofs.Common.{[], ◌∷◌, ◌++◌, length, map, Option, Some, None, refl, sym, ap, subst, ◌∙◌}
+use Rattle.std.proofs.Common.{◌≡◌, ℕ, zero, suc, ◌+◌, ◌<◌, ◌≤◌, Bool, true, false, List}
+use Rattle.std.proofs.Common.{[], ◌∷◌, length, map, Option, Some, None, refl, ap, subst, ◌∙◌}
 use Rattle.std.proofs.Common.{arith}
-use Rattle.std.specs.Prelude.{slice_get, option_map, nat_le, nat_lt, ◌&&◌, ◌||◌}
+use Rattle.std.specs.Prelude.{slice_get, option_map, nat_lt}
 use Rattle.std.specs.List.{list_all}
-use Rattle.std.specs.Int.{w64}
-use Rattle.std.specs.Int.RustNames.{FitsSigned}
 use Rattle.std.proofs.lemmas.Bool.Decides.{nat_tests}
 use Rattle.std.proofs.lemmas.List.{length-map}
-use Rattle.std.proofs.lemmas.Option.{slice_get-map}
+use Rattle.std.proofs.lemmas.Bool.{and_parts, not-false, or_parts}
+use Rattle.lcm_machine.proofs.Offers.{tested_fits}
 use Rattle.cap_words.specs.declared.Word.{Word}
 use Rattle.cap_words.specs.declared.Word.TheVariants.{Int, Mem, Seal, Sealed}
 use Rattle.cap_words.specs.declared.CapFields.{CapFields}
@@ -18,14 +17,13 @@ use Rattle.component_file.specs.declared.component.ComponentFields.{ComponentFie
 use Rattle.component_file.specs.Limits.{IsComponent, Chain, StretchFits, WordsFit, last_base}
 use Rattle.component_check.specs.Areas.{is_past_end}
 use Rattle.component_check.specs.Rules.{words}
-use Rattle.lcm_machine.specs.Table.{fits_64}
 use Rattle.component_linker.specs.declared.moving.Shift.{Shift}
 use Rattle.component_linker.specs.declared.moving.Move.{Move}
 use Rattle.component_linker.specs.Parts.{PartSeen, IsPart}
 use Rattle.component_linker.specs.Placing.{shifted, shifted_base, moved_word, moved, areas_end_late}
 use Rattle.component_linker.specs.Placing.{seals_end_late, points_in_range, points_too_far}
 use Rattle.component_linker.proofs.StartHeld.{get_left, get_right, word_fits}
-use Rattle.component_linker.proofs.PartKept.{is_kept}
+use Rattle.component_linker.proofs.PartKept.{is_kept, ends}
 use Rattle.component_linker.proofs.OwnWords.{OwnCap, over_code, over_data, over_linear, OwnWord, own_word}
 use Rattle.component_linker.proofs.MovedRules.{Lowest, words_moved, rules_kept}
 use Rattle.component_linker.proofs.MovedFlow.{flow_kept}
@@ -36,30 +34,11 @@ pub record HasRoom (m : Move) (c : ComponentFields) : Type 0 where
   pub seals : seals_end_late (moved m c) ≡ false
   pub points : points_too_far (moved m c) ≡ false
 
-neither : (a b : Bool) → (a || b) ≡ false → (a ≡ false) × (b ≡ false)
-neither true b e = absurd cc
-neither false b e = (refl, e)
-
-both_of : (a b : Bool) → (a && b) ≡ true → (a ≡ true) × (b ≡ true)
-both_of true b e = (refl, e)
-both_of false b e = absurd cc
-
-not_not : (b : Bool) → not b ≡ false → b ≡ true
-not_not true e = refl
-not_not false e = absurd cc
-
-signed : (z : ℤ) → fits_64 z ≡ true → FitsSigned w64 z
-signed (pos n) e = record { sfits = grind (arith, nat_tests) }
-signed (negsuc n) e = record { sfits = grind (arith, nat_tests) }
-
-ends : (base count : ℕ) → is_past_end base count ≡ false → 1 ≤ count → base + count ≤ 1048576
-ends base count e some = grind (arith, nat_tests)
-
 all_at : {A : Type 0} (f : A → Bool) (xs : List A) (k : ℕ) (x : A) → list_all f xs ≡ true
     → slice_get xs k ≡ Some x → f x ≡ true
 all_at f [] k x h e = absurd cc
-all_at f (y ∷ ys) zero x h e = let same : y ≡ x = cc in subst (λ z. f z ≡ true) same (both_of _ _ h).0
-all_at f (y ∷ ys) (suc k) x h e = all_at f ys k x (both_of _ _ h).1 e
+all_at f (y ∷ ys) zero x h e = let same : y ≡ x = cc in subst (λ z. f z ≡ true) same (and_parts _ _ h).0
+all_at f (y ∷ ys) (suc k) x h e = all_at f ys k x (and_parts _ _ h).1 e
 
 module _ (c : ComponentFields) (trusted : Bool) (part : IsPart (record { component = c; trusted = trusted }))
     (m : Move) (lowest : Lowest m c) (room : HasRoom m c) where
@@ -67,12 +46,12 @@ module _ (c : ComponentFields) (trusted : Bool) (part : IsPart (record { compone
       × (is_past_end (moved m c).data_base (length (moved m c).data_words) ≡ false)
       × (is_past_end (moved m c).linear.base (moved m c).linear.count ≡ false)
   areas_end =
-      let linear = neither _ _ room.areas in let others = neither _ _ linear.0 in
+      let linear = or_parts _ _ room.areas in let others = or_parts _ _ linear.0 in
       (others.0, others.1, linear.1)
 
   seals_end : (nat_lt 1048575 (shifted m.seals c.closure) ≡ false)
       × (is_past_end (moved m c).seals.base (moved m c).seals.count ≡ false)
-  seals_end = neither _ _ room.seals
+  seals_end = or_parts _ _ room.seals
 
   size : (ws : List Word) → length (map (moved_word m) ws) ≡ length ws
   size ws = length-map ws (moved_word m)
@@ -127,9 +106,9 @@ module _ (c : ComponentFields) (trusted : Bool) (part : IsPart (record { compone
       → WordFits (moved_word m w) × IsUnsealed (moved_word m w)
   fits_moved (Int n) own fits e = fits
   fits_moved (Mem k) own fits e =
-      (((let o = own.0 in omega (arith, o), cap_end k own.0 own.1), signed _ e), tt)
+      (((let o = own.0 in omega (arith, o), cap_end k own.0 own.1), tested_fits _ e), tt)
   fits_moved (Seal s) own fits e =
-      (((let o = own.0 in omega (arith, o), seals_within s own.0 own.1.0 own.1.1), signed _ e), tt)
+      (((let o = own.0 in omega (arith, o), seals_within s own.0 own.1.0 own.1.1), tested_fits _ e), tt)
   fits_moved (Sealed o x) own fits e = fits
 
   word_moved : (k : ℕ) (w : Word) → slice_get (words c) k ≡ Some w → WordFits (moved_word m w)
@@ -137,7 +116,7 @@ module _ (c : ComponentFields) (trusted : Bool) (part : IsPart (record { compone
   word_moved k w e =
       let p : PartSeen = record { component = c; trusted = trusted } in
       fits_moved w (own_word p part k w e) (word_fits p k w (is_kept p part) e)
-      (all_at points_in_range (words (moved m c)) k (moved_word m w) (not_not _ room.points)
+      (all_at points_in_range (words (moved m c)) k (moved_word m w) (not-false _ room.points)
       (words_moved m c k ∙ ap (option_map (moved_word m)) e))
 
   chain_moved : (ws : List Word) (b : Option Word)

@@ -1,33 +1,31 @@
 -- The rules C of a moved part: it keeps them where its addresses and seals are some that there are.
-use Rattle.std.proofs.Common.{◌≡◌, ℕ, zero, suc, ◌+◌, ◌-◌, ◌<◌, ◌≤◌, ℤ, pos, negsuc, Bool, true, false, not}
-use Rattle.std.proofs.Common.{List, [], ◌∷◌, ◌++◌, length, map, Option, Some, None, refl, sym, ap, subst, ◌∙◌}
+use Rattle.std.proofs.Common.{◌≡◌, ℕ, zero, suc, ◌+◌, ◌-◌, ◌<◌, ◌≤◌, ℤ, pos, Bool, true, false, not}
+use Rattle.std.proofs.Common.{List, [], ◌∷◌, length, map, Option, Some, None, refl, sym, ap, subst, ◌∙◌}
 use Rattle.std.proofs.Common.{arith}
 use Rattle.std.specs.Prelude.{slice_get, slice_index_or, option_map, nat_le, nat_lt, ◌==◌, ◌&&◌, ◌||◌}
-use Rattle.std.specs.Prelude.{is_some, if◌then◌else◌}
+use Rattle.std.specs.Prelude.{is_some}
 use Rattle.std.proofs.lemmas.Bool.Decides.{nat_tests, Decides-int_eq}
 use Rattle.std.proofs.lemmas.Int.{ints}
 use Rattle.std.specs.Ordering.{int_eq}
 use Rattle.std.proofs.lemmas.List.{length-map, map-append}
-use Rattle.std.proofs.lemmas.Option.{slice_get-map, slice_get_within}
+use Rattle.std.proofs.lemmas.Option.{slice_get-map}
+use Rattle.std.proofs.lemmas.Bool.{and_parts, or_parts}
 use Rattle.cap_words.specs.declared.Word.{Word}
 use Rattle.cap_words.specs.declared.Word.TheVariants.{Int, Mem, Seal, Sealed}
 use Rattle.cap_words.specs.declared.CapFields.{CapFields}
-use Rattle.cap_words.specs.declared.SealFields.{SealFields}
 use Rattle.cap_words.specs.Linear.{lin_is}
-use Rattle.cap_words.specs.Faces.{may_run}
 use Rattle.seal_space.specs.Seals.{has_seal}
 use Rattle.component_file.specs.declared.component.ComponentFields.{ComponentFields}
 use Rattle.component_check.specs.Places.{Test, BrokenAt, first_below}
 use Rattle.component_check.specs.Verdict.{rule, NoneBroken}
-use Rattle.component_check.specs.Areas.{is_past_end, are_near, code_area, data_area, has_all}
+use Rattle.component_check.specs.Areas.{are_near, has_all}
 use Rattle.component_check.specs.Rules.{c1, c2, c3, c4, c5, c6, c7, c8, c9, c10, c11, c12, rules_c, words}
-use Rattle.component_check.specs.Rules.{holds_of, is_foreign, is_own, is_foreign_seal, is_zero_word, slot_of}
-use Rattle.component_check.specs.Rules.{slot_is_free, linear_in, linear_at, meet, meets_before, is_no_int}
+use Rattle.component_check.specs.Rules.{holds_of, is_foreign, is_foreign_seal, is_zero_word, slot_of}
+use Rattle.component_check.specs.Rules.{linear_in, linear_at, meet, is_no_int}
 use Rattle.component_check.specs.Rules.{code_at, is_over_seals, has_sites, rules_of_trusted}
 use Rattle.component_linker.specs.declared.moving.Shift.{Shift}
 use Rattle.component_linker.specs.declared.moving.Move.{Move}
-use Rattle.component_linker.specs.Parts.{PartSeen, IsPart, rules_of}
-use Rattle.component_linker.specs.Linked.{HasRange}
+use Rattle.component_linker.specs.Parts.{IsPart}
 use Rattle.component_linker.specs.Placing.{shifted, shifted_int, shifted_base, moved_word, moved}
 use Rattle.component_linker.specs.Placing.{areas_end_late, seals_end_late}
 use Rattle.component_linker.proofs.PartKept.{kept}
@@ -51,10 +49,6 @@ pub none_at : {t u : Test ℕ} {i : ℕ} → t ≡ u → Unbroken t → BrokenAt
 none_at {t} {u} {i} is h b =
     let here = subst (λ v. BrokenAt v i) (sym is) b in
     let e : true ≡ false = sym here.1 ∙ h.at i here.0 in cc
-
-neither : (a b : Bool) → (a || b) ≡ false → (a ≡ false) × (b ≡ false)
-neither true b e = absurd cc
-neither false b e = (refl, e)
 
 three : (a b c : Bool) → a ≡ false → b ≡ false → c ≡ false → (i : ℕ)
     → slice_index_or (a ∷ b ∷ c ∷ []) i false ≡ false
@@ -128,8 +122,8 @@ module _ (c : ComponentFields) (trusted : Bool) (part : IsPart (record { compone
   c1_moved : areas_end_late (moved m c) ≡ false → Unbroken (c1 (moved m c))
   unfolding c1
   c1_moved fits =
-      let linear = neither _ _ fits in
-      let others = neither _ _ linear.0 in
+      let linear = or_parts _ _ fits in
+      let others = or_parts _ _ linear.0 in
       record { at = λ i lt. three _ _ _ others.0 others.1 linear.1 i }
 
   c2_moved : Unbroken (c2 (moved m c))
@@ -152,9 +146,9 @@ module _ (c : ComponentFields) (trusted : Bool) (part : IsPart (record { compone
   c3_moved : seals_end_late (moved m c) ≡ false → Unbroken (c3 (moved m c))
   unfolding c3
   c3_moved fits =
-      let was = neither _ _ ((unbroken 3 (c3 c) refl).at 0 (omega arith)) in
+      let was = or_parts _ _ ((unbroken 3 (c3 c) refl).at 0 (omega arith)) in
       record {
-        at = λ i lt. one _ (both (neither _ _ fits).1
+        at = λ i lt. one _ (both (or_parts _ _ fits).1
             (no_seal m.seals c.seals.base c.seals.count c.closure lowest.seals lowest.closure was.1)) i;
       }
     where
@@ -397,10 +391,6 @@ module _ (c : ComponentFields) (trusted : Bool) (part : IsPart (record { compone
         both : {a b : Bool} → a ≡ true → b ≡ true → (a && b) ≡ true
         both e f = rw (e, f) refl
 
-        both_of : (a b : Bool) → (a && b) ≡ true → (a ≡ true) × (b ≡ true)
-        both_of true b e = (refl, e)
-        both_of false b e = absurd cc
-
         same : (t : Shift) (x base : ℕ) → (x == base) ≡ true → (shifted t x == shifted t base) ≡ true
         same t x base e = grind (arith, nat_tests)
 
@@ -422,8 +412,8 @@ module _ (c : ComponentFields) (trusted : Bool) (part : IsPart (record { compone
         by_count zero some low h = absurd (omega (arith, some))
         by_count (suc n) some low h =
             let le = low some in
-            let outer = both_of _ _ h in
-            let inner = both_of _ _ outer.0 in
+            let outer = and_parts _ _ h in
+            let inner = and_parts _ _ outer.0 in
             both (both (same m.seals s.base c.seals.base inner.0)
             (end_same m.seals s.end c.seals.base (suc n) le some inner.1))
             ((Decides-int_eq (shifted_int m.seals s.cur) (pos (shifted m.seals c.seals.base))).1

@@ -1,8 +1,11 @@
 -- What the rules C say of a part, as the start rests on it.
-use Rattle.std.proofs.Common.{◌≡◌, ℕ, zero, suc, ◌+◌, ◌-◌, ◌<◌, ◌≤◌, ◌⊎◌, inl, inr, Bool, true, false, not, List, length, Option, Some, None, refl, sym, ap, subst, ◌∙◌, arith, map}
-use Rattle.std.specs.Prelude.{slice_get, slice_index, nat_le, nat_lt, ◌&&◌, ◌||◌, is_some, option_map, if◌then◌else◌}
+use Rattle.std.proofs.Common.{◌≡◌, ℕ, zero, suc, ◌+◌, ◌-◌, ◌<◌, ◌≤◌, ◌⊎◌, inl, inr, Bool, true, false, not}
+use Rattle.std.proofs.Common.{List, length, Option, Some, None, refl, sym, ap, subst, ◌∙◌, arith, map}
+use Rattle.std.specs.Prelude.{slice_get, slice_index, nat_le, nat_lt, ◌&&◌, ◌||◌, is_some, option_map}
+use Rattle.std.specs.Prelude.{if◌then◌else◌}
 use Rattle.std.proofs.lemmas.Bool.Decides.{nat_tests}
 use Rattle.std.proofs.lemmas.Option.{slice_get_within, get_or_from_slice_get, slice_get-map}
+use Rattle.std.proofs.lemmas.Bool.{not-false, and_parts}
 use Rattle.cap_words.specs.declared.Word.TheVariants.{Mem}
 use Rattle.cap_words.specs.declared.CapFields.{CapFields}
 use Rattle.cap_words.specs.Linear.{lin_is}
@@ -14,14 +17,16 @@ use Rattle.component_check.specs.Places.{Test, first_below}
 use Rattle.component_check.specs.Verdict.{rule, NoneBroken}
 use Rattle.component_check.specs.Areas.{is_past_end, are_near, code_area, data_area, has_all}
 use Rattle.seal_space.specs.Seals.{has_seal}
-use Rattle.component_check.specs.Rules.{c1, c2, c3, c4, c7, c8, c12, slot_of, slot_is_bad, words, holds_of, is_foreign, is_own, linear_at, linear_in, meet, meets_before, rules_c}
+use Rattle.component_check.specs.Rules.{c1, c2, c3, c4, c7, c8, c12, slot_of, slot_is_bad, words, holds_of}
+use Rattle.component_check.specs.Rules.{is_foreign, is_own, linear_at, linear_in, meet, meets_before, rules_c}
 use Rattle.component_check.proofs.First.{first_below_is, IsFirstIn}
 use Rattle.flow_check.specs.Lists.{k1, site_is_bad, lists}
 use Rattle.component_linker.specs.Parts.{PartSeen, IsPart, rules_of}
 use Rattle.component_linker.specs.Linked.{Kept, IsOwn, HasRange}
 
 -- a rule of some is broken nowhere
-nowhere : (rules : List (Test ℕ)) → NoneBroken rules → (n i : ℕ) (t : Test ℕ) → rule rules n ≡ Some t → i < t.count → t.broken i ≡ false
+nowhere : (rules : List (Test ℕ)) → NoneBroken rules → (n i : ℕ) (t : Test ℕ) → rule rules n ≡ Some t
+    → i < t.count → t.broken i ≡ false
 nowhere rules h n i t is lt = by_test (t.broken i) refl
   where
     by_test : (b : Bool) → t.broken i ≡ b → t.broken i ≡ false
@@ -29,12 +34,13 @@ nowhere rules h n i t is lt = by_test (t.broken i) refl
     by_test false e = e
 
 -- a rule C of a part
-pub kept : (p : PartSeen) → IsPart p → (n i : ℕ) (t : Test ℕ) → rule (rules_of p) n ≡ Some t → i < t.count → t.broken i ≡ false
+pub kept : (p : PartSeen) → IsPart p → (n i : ℕ) (t : Test ℕ) → rule (rules_of p) n ≡ Some t → i < t.count
+    → t.broken i ≡ false
 kept p h = nowhere (rules_of p) h.rules
 
 -- ---- areas
 
-ends : (base count : ℕ) → is_past_end base count ≡ false → 1 ≤ count → base + count ≤ 1048576
+pub ends : (base count : ℕ) → is_past_end base count ≡ false → 1 ≤ count → base + count ≤ 1048576
 ends base count e some = grind (arith, nat_tests)
 
 pub code_ends : (p : PartSeen) → IsPart p → p.component.code_base + length p.component.code ≤ 1048576
@@ -49,7 +55,8 @@ pub linear_ends : (p : PartSeen) → IsPart p → p.component.linear.base + p.co
 unfolding c1
 linear_ends p h = by_count p.component.linear.count refl
   where
-    by_count : (n : ℕ) → p.component.linear.count ≡ n → p.component.linear.base + p.component.linear.count ≤ 1048576
+    by_count : (n : ℕ) → p.component.linear.count ≡ n
+        → p.component.linear.base + p.component.linear.count ≤ 1048576
     by_count zero e =
         let P : ℕ → Type 0 = λ n. p.component.linear.base ≤ last_base n in
         let base : p.component.linear.base ≤ 0 = subst P e h.limits.linear.1 in
@@ -62,7 +69,8 @@ unfolding c2
 code_no_data p h =
     meet p.component.code_base (length p.component.code) p.component.data_base (length p.component.data_words) (kept p h 2 0 (c2 p.component) refl (omega arith)) h.limits.code.0.0 h.limits.data_words.0.0
   where
-    meet : (a n b m : ℕ) → are_near (record { base = a; count = n }) (record { base = b; count = m }) ≡ false → 1 ≤ n → 1 ≤ m → a ≡ b → ⊥
+    meet : (a n b m : ℕ) → are_near (record { base = a; count = n }) (record { base = b; count = m }) ≡ false
+        → 1 ≤ n → 1 ≤ m → a ≡ b → ⊥
     meet a n b m e some many same = grind (arith, nat_tests)
 
 -- ---- slots
@@ -70,7 +78,8 @@ code_no_data p h =
 slot_is : (c : ComponentFields) (k : ℕ) (i : Import) → slice_get c.imports k ≡ Some i → slot_of c k ≡ i.slot
 slot_is c k i e = get_or_from_slice_get (map (λ x. x.slot) c.imports) k i.slot 0 (slice_get-map (λ x. x.slot) c.imports k ∙ ap (option_map (λ x. x.slot)) e)
 
-slot_fits : (p : PartSeen) → IsPart p → (k : ℕ) (i : Import) → slice_get p.component.imports k ≡ Some i → slot_is_bad p.component k ≡ false
+slot_fits : (p : PartSeen) → IsPart p → (k : ℕ) (i : Import) → slice_get p.component.imports k ≡ Some i
+    → slot_is_bad p.component k ≡ false
 unfolding c4
 slot_fits p h k i e = kept p h 4 k (c4 p.component) refl (slice_get_within p.component.imports k i e)
 
@@ -81,7 +90,8 @@ in_data n s b e = by_test (nat_le n (s + 1)) refl
     by_test true f = let g : true ≡ false = sym (ap (λ t. t || b) f) ∙ e in cc
     by_test false f = grind (arith, nat_tests)
 
-pub slots_in : (p : PartSeen) → IsPart p → (k : ℕ) (i : Import) → slice_get p.component.imports k ≡ Some i → i.slot + 1 < length p.component.data_words
+pub slots_in : (p : PartSeen) → IsPart p → (k : ℕ) (i : Import) → slice_get p.component.imports k ≡ Some i
+    → i.slot + 1 < length p.component.data_words
 slots_in p h k i e =
     let P : ℕ → Type 0 = λ s. s + 1 < length p.component.data_words in
     subst P (slot_is p.component k i e) (in_data (length p.component.data_words) (slot_of p.component k) _ (slot_fits p h k i e))
@@ -89,7 +99,9 @@ slots_in p h k i e =
 behind : (n s r k : ℕ) → (nat_le n (s + 1) || (nat_lt 0 (k + 1) && nat_lt s (r + 2))) ≡ false → r + 2 ≤ s
 behind n s r k e = grind (arith, nat_tests)
 
-pub slots_apart : (p : PartSeen) → IsPart p → (k : ℕ) (i j : Import) → slice_get p.component.imports k ≡ Some i → slice_get p.component.imports (k + 1) ≡ Some j → i.slot + 2 ≤ j.slot
+pub slots_apart : (p : PartSeen) → IsPart p → (k : ℕ) (i j : Import)
+    → slice_get p.component.imports k ≡ Some i → slice_get p.component.imports (k + 1) ≡ Some j
+    → i.slot + 2 ≤ j.slot
 slots_apart p h k i j e f =
     let before : slot_of p.component (k + 1 - 1) ≡ i.slot = ap (slot_of p.component) (let n : k + 1 - 1 ≡ k = omega arith in n) ∙ slot_is p.component k i e in
     let fits = slot_fits p h (k + 1) j f in
@@ -98,13 +110,9 @@ slots_apart p h k i j e f =
 
 -- ---- capabilities
 
-pub range_in : (base count : ℕ) (m : CapFields) → has_all (record { base = base; count = count }) m.base m.end ≡ true → HasRange base count m
+pub range_in : (base count : ℕ) (m : CapFields)
+    → has_all (record { base = base; count = count }) m.base m.end ≡ true → HasRange base count m
 range_in base count m e = (grind (arith, nat_tests), grind (arith, nat_tests))
-
--- both hold, or one of them does
-both : (a b : Bool) → (a && b) ≡ true → b ≡ true
-both true b e = e
-both false b e = absurd cc
 
 either : (a b : Bool) → (a || b) ≡ true → (a ≡ true) ⊎ (b ≡ true)
 either true b e = inl refl
@@ -114,41 +122,42 @@ either false b e = inr e
 own_range : (c : ComponentFields) (m : CapFields) → is_own c m ≡ true → IsOwn c m
 own_range c m e = by_lin (lin_is m.lin) refl
   where
-    normal : (a b : Bool) → lin_is m.lin ≡ false → (a ≡ true → HasRange c.code_base (length c.code) m) → (b ≡ true → HasRange c.data_base (length c.data_words) m)
+    normal : (a b : Bool) → lin_is m.lin ≡ false → (a ≡ true → HasRange c.code_base (length c.code) m)
+        → (b ≡ true → HasRange c.data_base (length c.data_words) m)
         → (a ≡ true) ⊎ (b ≡ true) → IsOwn c m
     normal a b lin in_code in_words h = elim h as (λ _. IsOwn c m) [ inl x ↦ inl (lin, in_code x) | inr x ↦ inr (inl (lin, in_words x)) ]
 
     by_lin : (b : Bool) → lin_is m.lin ≡ b → IsOwn c m
     by_lin true lin =
         let own : (not (may_run m.perm) && has_all c.linear m.base m.end) ≡ true = sym (ap (λ b. if b then (not (may_run m.perm) && has_all c.linear m.base m.end) else (has_all (code_area c) m.base m.end || (not (may_run m.perm) && has_all (data_area c) m.base m.end))) lin) ∙ e in
-        inr (inr (lin, range_in c.linear.base c.linear.count m (both _ _ own)))
+        inr (inr (lin, range_in c.linear.base c.linear.count m (and_parts _ _ own).1))
     by_lin false lin =
         let own : (has_all (code_area c) m.base m.end || (not (may_run m.perm) && has_all (data_area c) m.base m.end)) ≡ true = sym (ap (λ b. if b then (not (may_run m.perm) && has_all c.linear m.base m.end) else (has_all (code_area c) m.base m.end || (not (may_run m.perm) && has_all (data_area c) m.base m.end))) lin) ∙ e in
-        normal _ _ lin (range_in c.code_base (length c.code) m) (λ x. range_in c.data_base (length c.data_words) m (both _ _ x)) (either _ _ own)
+        normal _ _ lin (range_in c.code_base (length c.code) m) (λ x. range_in c.data_base (length c.data_words) m (and_parts _ _ x).1) (either _ _ own)
 
-pub owns : (p : PartSeen) → IsPart p → (k : ℕ) (m : CapFields) → slice_get (words p.component) k ≡ Some (Mem m) → IsOwn p.component m
+pub owns : (p : PartSeen) → IsPart p → (k : ℕ) (m : CapFields)
+    → slice_get (words p.component) k ≡ Some (Mem m) → IsOwn p.component m
 unfolding c7
 owns p h k m e =
     let fine : holds_of (is_foreign p.component) (slice_get (words p.component) k) ≡ false = kept p h 7 k (c7 p.component) refl (slice_get_within (words p.component) k (Mem m) e) in
     let own : not (is_own p.component m) ≡ false = sym (ap (holds_of (is_foreign p.component)) e) ∙ fine in
-    own_range p.component m (not_not (is_own p.component m) own)
-  where
-    not_not : (b : Bool) → not b ≡ false → b ≡ true
-    not_not true e = refl
-    not_not false e = absurd cc
+    own_range p.component m (not-false (is_own p.component m) own)
 
 -- C8, as the start rests on it
-meets_none : (test : ℕ → Bool) (n : ℕ) → is_some (first_below test n) ≡ false → (i : ℕ) → i < n → test i ≡ false
+meets_none : (test : ℕ → Bool) (n : ℕ) → is_some (first_below test n) ≡ false → (i : ℕ) → i < n
+    → test i ≡ false
 meets_none test n e = by_first (first_below test n) refl (first_below_is test n)
   where
     by_first : (o : Option ℕ) → first_below test n ≡ o → IsFirstIn test n o → (i : ℕ) → i < n → test i ≡ false
     by_first None is h = h
     by_first (Some i) is h = let f : true ≡ false = sym (ap is_some is) ∙ e in absurd cc
 
-linear_of : (c : ComponentFields) (k : ℕ) (m : CapFields) → slice_get (words c) k ≡ Some (Mem m) → lin_is m.lin ≡ true → linear_at c k ≡ Some m
+linear_of : (c : ComponentFields) (k : ℕ) (m : CapFields) → slice_get (words c) k ≡ Some (Mem m)
+    → lin_is m.lin ≡ true → linear_at c k ≡ Some m
 linear_of c k m e lin = ap linear_in e ∙ rw lin refl
 
-pub once : (p : PartSeen) → IsPart p → (k n : ℕ) (m l : CapFields) → k < n → slice_get (words p.component) k ≡ Some (Mem m) → slice_get (words p.component) n ≡ Some (Mem l)
+pub once : (p : PartSeen) → IsPart p → (k n : ℕ) (m l : CapFields) → k < n
+    → slice_get (words p.component) k ≡ Some (Mem m) → slice_get (words p.component) n ≡ Some (Mem l)
     → lin_is m.lin ≡ true → lin_is l.lin ≡ true → (m.end < l.base) ⊎ (l.end < m.base)
 unfolding c8
 once p h k n m l lt e f m_lin l_lin =
@@ -158,7 +167,8 @@ once p h k n m l lt e f m_lin l_lin =
     let both : meet (Some m) (Some l) ≡ false = sym (ap (λ o. meet o (linear_at c n)) (linear_of c k m e m_lin) ∙ ap (meet (Some m)) (linear_of c n l f l_lin)) ∙ apart in
     lie_apart m l both
   where
-    lie_apart : (a b : CapFields) → (nat_le a.base b.end && nat_le b.base a.end) ≡ false → (a.end < b.base) ⊎ (b.end < a.base)
+    lie_apart : (a b : CapFields) → (nat_le a.base b.end && nat_le b.base a.end) ≡ false
+        → (a.end < b.base) ⊎ (b.end < a.base)
     lie_apart a b e = grind (arith, nat_tests)
 
 -- ---- seals
@@ -181,7 +191,8 @@ seals_end p h = by_count p.component.seals.count refl
     first true b e = absurd cc
     first false b e = refl
 
-    by_count : (n : ℕ) → p.component.seals.count ≡ n → p.component.seals.base + p.component.seals.count ≤ 1048576
+    by_count : (n : ℕ) → p.component.seals.count ≡ n
+        → p.component.seals.base + p.component.seals.count ≤ 1048576
     by_count zero e =
         let P : ℕ → Type 0 = λ n. p.component.seals.base ≤ last_base n in
         let base : p.component.seals.base ≤ 0 = subst P e h.limits.seals.1 in
@@ -195,7 +206,8 @@ seals_end p h = by_count p.component.seals.count refl
 pub twelfth : (p : PartSeen) → p.trusted ≡ true → rule (rules_of p) 12 ≡ Some (c12 p.component)
 twelfth p trusted = ap (λ b. rule (rules_c p.component b) 12) trusted
 
-pub few_sites : (p : PartSeen) → IsPart p → p.trusted ≡ true → length p.component.sites ≤ p.component.seals.count
+pub few_sites : (p : PartSeen) → IsPart p → p.trusted ≡ true
+    → length p.component.sites ≤ p.component.seals.count
 unfolding c12
 few_sites p h trusted =
     let fine : nat_lt p.component.seals.count (length p.component.sites) ≡ false = kept p h 12 2 (c12 p.component) (twelfth p trusted) (omega arith) in
@@ -204,7 +216,8 @@ few_sites p h trusted =
 -- ---- sites
 
 -- K1: they lie within the code
-pub sites_in : (p : PartSeen) → IsPart p → p.trusted ≡ true → (k o : ℕ) → slice_get p.component.sites k ≡ Some o → o < length p.component.code
+pub sites_in : (p : PartSeen) → IsPart p → p.trusted ≡ true → (k o : ℕ)
+    → slice_get p.component.sites k ≡ Some o → o < length p.component.code
 unfolding k1
 sites_in p h trusted k o e =
     let fits : site_is_bad p.component k ≡ false = nowhere (lists p.component) (h.flow trusted).placed 1 k (k1 p.component) refl (slice_get_within p.component.sites k o e) in

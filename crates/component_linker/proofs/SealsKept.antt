@@ -1,7 +1,8 @@
 -- What the rules C and L say of seals: none is of two parts, and none is of two sites.
-use Rattle.std.proofs.Common.{◌≡◌, ℕ, ◌+◌, ◌<◌, ◌≤◌, ◌⊎◌, inl, inr, Bool, true, false, not, List, length, take, Some, refl, sym, ap, subst, ◌∙◌, arith, eq-eqb}
+use Rattle.std.proofs.Common.{◌≡◌, ℕ, ◌+◌, ◌<◌, ◌≤◌, ◌⊎◌, inl, inr, Bool, true, false, not, List, length}
+use Rattle.std.proofs.Common.{take, Some, refl, sym, ap, subst, ◌∙◌, arith, eq-eqb}
 use Rattle.std.specs.Prelude.{slice_get, ◌==◌, ◌||◌, IsTrue}
-use Rattle.std.proofs.lemmas.Bool.{cases_eq}
+use Rattle.std.proofs.lemmas.Bool.{cases_eq, or_right}
 use Rattle.std.proofs.lemmas.Bool.Decides.{nat_tests}
 use Rattle.std.proofs.lemmas.Option.{slice_get_within}
 use Rattle.cap_words.specs.Stretch.{Stretch}
@@ -17,11 +18,13 @@ use Rattle.component_linker.proofs.PartKept.{closure_apart, few_sites}
 use Rattle.component_linker.proofs.LinksKept.{in_part}
 
 -- two parts that share no seal
-no_common : (a b : Stretch) (ca cb seal : ℕ) → ((ca == cb) || has_seal a cb || has_seal b ca || not (are_disjoint a b)) ≡ false
+no_common : (a b : Stretch) (ca cb seal : ℕ)
+    → ((ca == cb) || has_seal a cb || has_seal b ca || not (are_disjoint a b)) ≡ false
     → ((ca == seal) || has_seal a seal) ≡ true → ((cb == seal) || has_seal b seal) ≡ true → ⊥
 no_common a b ca cb seal none in_a in_b = grind (arith, nat_tests)
 
-earlier : (parts : List PartSeen) (size : ℕ) → NoneIsBroken (rules_l parts size) → (i j : ℕ) (p q : PartSeen) → i < j → slice_get parts i ≡ Some p → slice_get parts j ≡ Some q → share_seals q p ≡ false
+earlier : (parts : List PartSeen) (size : ℕ) → NoneIsBroken (rules_l parts size) → (i j : ℕ) (p q : PartSeen)
+    → i < j → slice_get parts i ≡ Some p → slice_get parts j ≡ Some q → share_seals q p ≡ false
 unfolding l2
 earlier parts size h i j p q lt is_p is_q =
     let there : slice_get (take j parts) i ≡ Some p = slice_get-take parts j i lt ∙ is_p in
@@ -30,7 +33,9 @@ earlier parts size h i j p q lt is_p is_q =
     sym (ap (passes (share_seals q)) there) ∙ none
 
 -- no seal is of two parts
-between : (parts : List PartSeen) (size : ℕ) → NoneIsBroken (rules_l parts size) → (i j seal : ℕ) (p q : PartSeen) → slice_get parts i ≡ Some p → slice_get parts j ≡ Some q → IsTrue (is_seal_of p seal) → IsTrue (is_seal_of q seal) → i ≡ j
+between : (parts : List PartSeen) (size : ℕ) → NoneIsBroken (rules_l parts size)
+    → (i j seal : ℕ) (p q : PartSeen) → slice_get parts i ≡ Some p → slice_get parts j ≡ Some q
+    → IsTrue (is_seal_of p seal) → IsTrue (is_seal_of q seal) → i ≡ j
 between parts size h i j seal p q is_p is_q in_p in_q = elim (cases_eq i j) as (λ _. i ≡ j) [
   | inl e ↦ e
   | inr ne ↦ elim (order i j ne) as (λ _. i ≡ j) [
@@ -42,10 +47,13 @@ between parts size h i j seal p q is_p is_q in_p in_q = elim (cases_eq i j) as (
     order : (a b : ℕ) → (a ≡ b → ⊥) → (a < b) ⊎ (b < a)
     order a b ne = grind arith
 
-    apart : (x y : PartSeen) → share_seals x y ≡ false → IsTrue (is_seal_of x seal) → IsTrue (is_seal_of y seal) → ⊥
+    apart : (x y : PartSeen) → share_seals x y ≡ false → IsTrue (is_seal_of x seal)
+        → IsTrue (is_seal_of y seal) → ⊥
     apart x y none in_x in_y = no_common x.component.seals y.component.seals x.component.closure y.component.closure seal none in_x in_y
 
-pub parts_apart : (parts : List PartSeen) (size : ℕ) → ((k : ℕ) (p : PartSeen) → slice_get parts k ≡ Some p → IsPart p) → NoneIsBroken (rules_l parts size) → PartsApart parts
+pub parts_apart : (parts : List PartSeen) (size : ℕ)
+    → ((k : ℕ) (p : PartSeen) → slice_get parts k ≡ Some p → IsPart p) → NoneIsBroken (rules_l parts size)
+    → PartsApart parts
 parts_apart parts size kept h = record {
   between = between parts size h;
   within = λ i p is. closure_apart p (kept i p is);
@@ -63,17 +71,16 @@ of_first : (a b : Bool) → a ≡ true → (a || b) ≡ true
 of_first true b e = refl
 of_first false b e = absurd cc
 
-of_either : (a b : Bool) → b ≡ true → (a || b) ≡ true
-of_either true b e = refl
-of_either false b e = e
-
-own_seal : (parts : List PartSeen) → ((k : ℕ) (p : PartSeen) → slice_get parts k ≡ Some p → IsPart p) → (s : Site) (is : IsSite parts s) → has_seal is.of.component.seals s.seal ≡ true
+own_seal : (parts : List PartSeen) → ((k : ℕ) (p : PartSeen) → slice_get parts k ≡ Some p → IsPart p)
+    → (s : Site) (is : IsSite parts s) → has_seal is.of.component.seals s.seal ≡ true
 own_seal parts kept s is =
     let within : s.index < length is.of.component.sites = slice_get_within is.of.component.sites s.index is.offset is.offset_is in
     let few : length is.of.component.sites ≤ is.of.component.seals.count = few_sites is.of (kept s.part is.of is.of_is) is.trusted in
     of_range is.of.component.seals s.index s.seal is.seal (omega arith)
 
-pub sites_apart : (parts : List PartSeen) (sites : List Site) → ((k : ℕ) (p : PartSeen) → slice_get parts k ≡ Some p → IsPart p) → PartsApart parts → AreSites parts sites → SitesApart parts sites
+pub sites_apart : (parts : List PartSeen) (sites : List Site)
+    → ((k : ℕ) (p : PartSeen) → slice_get parts k ≡ Some p → IsPart p) → PartsApart parts
+    → AreSites parts sites → SitesApart parts sites
 sites_apart parts sites kept apart are = record {
   own = λ s in_s. let is = (are.all s).0 in_s in (is.of, is.of_is, own_seal parts kept s is);
   once = λ s t in_s in_t e. one s t ((are.all s).0 in_s) ((are.all t).0 in_t) e;
@@ -82,16 +89,18 @@ sites_apart parts sites kept apart are = record {
 }
   where
     seal_of : (s : Site) (is : IsSite parts s) → IsTrue (is_seal_of is.of s.seal)
-    seal_of s is = of_either (is.of.component.closure == s.seal) (has_seal is.of.component.seals s.seal) (own_seal parts kept s is)
+    seal_of s is = or_right (is.of.component.closure == s.seal) (has_seal is.of.component.seals s.seal) (own_seal parts kept s is)
 
     -- who has a site's seal is its part
-    one_part : (s : Site) (is : IsSite parts s) (k : ℕ) (p : PartSeen) → slice_get parts k ≡ Some p → IsTrue (is_seal_of p s.seal) → is.of ≡ p
+    one_part : (s : Site) (is : IsSite parts s) (k : ℕ) (p : PartSeen) → slice_get parts k ≡ Some p
+        → IsTrue (is_seal_of p s.seal) → is.of ≡ p
     one_part s is k p at has =
         let part : s.part ≡ k = apart.between s.part k s.seal is.of p is.of_is at (seal_of s is) has in
         let f : Some is.of ≡ Some p = sym is.of_is ∙ ap (slice_get parts) part ∙ at in
         cc
 
-    closed : (s : Site) (is : IsSite parts s) (k : ℕ) (p : PartSeen) → slice_get parts k ≡ Some p → s.seal ≡ p.component.closure → ⊥
+    closed : (s : Site) (is : IsSite parts s) (k : ℕ) (p : PartSeen) → slice_get parts k ≡ Some p
+        → s.seal ≡ p.component.closure → ⊥
     closed s is k p at e =
         let has : IsTrue (is_seal_of p s.seal) = of_first (p.component.closure == s.seal) (has_seal p.component.seals s.seal) (eq-eqb p.component.closure s.seal (sym e)) in
         let same = one_part s is k p at has in
@@ -99,7 +108,8 @@ sites_apart parts sites kept apart are = record {
         let none : false ≡ true = sym (apart.within k p at) ∙ own in
         cc
 
-    foreign : (s : Site) (is : IsSite parts s) (k : ℕ) (p : PartSeen) → slice_get parts k ≡ Some p → p.trusted ≡ false → is_seal_of p s.seal ≡ false
+    foreign : (s : Site) (is : IsSite parts s) (k : ℕ) (p : PartSeen) → slice_get parts k ≡ Some p
+        → p.trusted ≡ false → is_seal_of p s.seal ≡ false
     foreign s is k p at untrusted = by_test (is_seal_of p s.seal) refl
       where
         by_test : (b : Bool) → is_seal_of p s.seal ≡ b → is_seal_of p s.seal ≡ false

@@ -1,30 +1,25 @@
 -- Parts that are placed are parts, where there is room for them.
 use Rattle.std.proofs.Common.{◌≡◌, ℕ, zero, suc, ◌+◌, ◌<◌, ◌≤◌, Bool, true, false, not, List, [], ◌∷◌, ◌++◌}
 use Rattle.std.proofs.Common.{map, length, Option, Some, None, refl, sym, ap, subst, ◌∙◌, arith}
-use Rattle.std.specs.Prelude.{slice_get, slice_index_or, option_map, nat_lt, ◌||◌, if◌then◌else◌, min, ◌==◌}
+use Rattle.std.specs.Prelude.{slice_get, option_map, if◌then◌else◌, min}
 use Rattle.std.specs.Prelude.{◌&&◌}
 use Rattle.std.proofs.lemmas.Bool.Decides.{nat_tests}
-use Rattle.std.proofs.lemmas.List.{length-map}
-use Rattle.std.proofs.lemmas.Option.{slice_get_within}
-use Rattle.cap_words.specs.declared.TheConstants.{LAST_PLACE}
-use Rattle.component_check.specs.Areas.{is_past_end}
 use Rattle.component_file.specs.declared.component.ComponentFields.{ComponentFields}
 use Rattle.std.specs.List.{list_all}
+use Rattle.std.proofs.lemmas.Bool.{false_from_ne_true}
 use Rattle.cap_words.specs.declared.Word.{Word}
 use Rattle.component_check.specs.Places.{Test, BrokenAt, FoundBy, each_of, first_of, first_place}
 use Rattle.component_check.proofs.First.{first_below_is}
 use Rattle.component_linker.proofs.RuleLemmas.{told_in}
 use Rattle.component_linker.proofs.FirstIn.{first_in_is}
-use Rattle.component_linker.specs.declared.moving.Shift.{Shift}
 use Rattle.component_linker.specs.declared.moving.Move.{Move}
 use Rattle.component_linker.specs.declared.placed.Free.{Free}
 use Rattle.component_linker.specs.Parts.{PartSeen, IsPart}
-use Rattle.component_linker.specs.Placing.{shifted, shifted_base, moved, moved_by, moved_word}
-use Rattle.component_linker.specs.Placing.{points_in_range, base_or, lowest_address, lowest_seal}
+use Rattle.component_linker.specs.Placing.{moved, moved_by, moved_word}
+use Rattle.component_linker.specs.Placing.{points_in_range, base_or}
 use Rattle.component_linker.specs.Placing.{areas_end_late, seals_end_late, points_too_far}
 use Rattle.component_linker.specs.Standing.{move_to, move_of, settled, part_at, past, placed_from, placed}
-use Rattle.component_linker.specs.Standing.{free_of}
-use Rattle.component_linker.specs.Pairs.{NoneIsBroken, within_or, never, first_in}
+use Rattle.component_linker.specs.Pairs.{never, first_in}
 use Rattle.component_linker.specs.Links.{l10, lacks_room, room_test}
 use Rattle.component_linker.proofs.MovedRules.{Lowest}
 use Rattle.component_linker.proofs.MovedPart.{HasRoom, part_kept}
@@ -53,20 +48,12 @@ lowest_of f c =
 
 -- ---- one part
 
--- where it breaks nothing
-NoneIn : Test ℕ → Type 0
-NoneIn t = (i : ℕ) → BrokenAt t i → ⊥
-
-not_true : (b : Bool) → (b ≡ true → ⊥) → b ≡ false
-not_true true h = absurd (h refl)
-not_true false h = refl
-
 has_room : (m : Move) (c : ComponentFields) → ((i : ℕ) → BrokenAt (lacks_room (moved m c)) i → ⊥)
     → HasRoom m c
 has_room m c h = record {
-  areas = not_true _ (λ e. h 0 (omega arith, e));
-  seals = not_true _ (λ e. h 1 (omega arith, e));
-  points = not_true _ (λ e. h 2 (omega arith, e));
+  areas = false_from_ne_true _ (λ e. h 0 (omega arith, e));
+  seals = false_from_ne_true _ (λ e. h 1 (omega arith, e));
+  points = false_from_ne_true _ (λ e. h 2 (omega arith, e));
 }
 
 pub settled_part : (f : Free) (p : PartSeen) → IsPart p → ((i : ℕ) → BrokenAt (room_test (part_at f p)) i → ⊥)
@@ -102,18 +89,6 @@ all_settled f (p ∷ ps) are room zero q e =
     subst IsPart here (settled_part f p (are 0 p refl) (λ i b. room 0 i (part_at f p) refl b))
 all_settled f (p ∷ ps) are room (suc k) q e =
     all_settled (past f p) ps (λ n r g. are (suc n) r g) (λ n i r g. room (suc n) i r g) k q e
-
-pub placed_are_parts : (parts : List PartSeen) (size : ℕ)
-    → ((k : ℕ) (p : PartSeen) → slice_get parts k ≡ Some p → IsPart p)
-    → NoneIsBroken (l10 (placed parts size) ∷ [])
-    → (k : ℕ) (q : PartSeen) → slice_get (placed parts size) k ≡ Some q → IsPart q
-unfolding l10
-placed_are_parts parts size are none = all_settled (free_of parts size) parts are (λ k i q e b.
-    none 1 k i (l10 (placed parts size)) refl (slice_get_within (placed parts size) k q e, in_part k i q e b))
-  where
-    in_part : (k i : ℕ) (q : PartSeen) → slice_get (placed parts size) k ≡ Some q → BrokenAt (room_test q) i
-        → BrokenAt (within_or (λ j r. room_test r) never k (slice_get (placed parts size) k)) i
-    in_part k i q e b = subst (λ o. BrokenAt (within_or (λ j r. room_test r) never k o) i) (sym e) b
 
 -- a part by its index, at what is free there
 abbrev pub free_at : Free → List PartSeen → ℕ → Free
@@ -202,20 +177,6 @@ room_of f p m e = by_case p.component.movable refl
         ∙ first_three (areas_end_late (moved m p.component)) (seals_end_late (moved m p.component))
         (points_too_far (moved m p.component))
 
--- a part that stays
-pub room_stays : (f : Free) (p : PartSeen) → move_of f p.component ≡ None
-    → first_place (room_test (part_at f p)) ≡ None
-room_stays f p e = by_case p.component.movable refl
-  where
-    by_case : (b : Bool) → p.component.movable ≡ b → first_place (room_test (part_at f p)) ≡ None
-    by_case true g =
-        let no : Some (move_to f p.component) ≡ None = sym
-        (ap (λ b. if b then Some (move_to f p.component) else None) g) ∙ e in absurd cc
-    by_case false g =
-        let same : settled f p.component ≡ p.component = ap (λ o. moved_by o p.component) e in
-        ap (λ c. first_place (if c.movable then lacks_room c else never)) same
-        ∙ ap (λ b. first_place (if b then lacks_room p.component else never)) g
-
 -- where nothing is told, it is a part there
 pub told_part : (f : Free) (p : PartSeen) → IsPart p → first_place (room_test (part_at f p)) ≡ None
     → IsPart (part_at f p)
@@ -253,13 +214,6 @@ points_of m c a b e f =
         (λ w. points_in_range (moved_word m w)) ws
     each [] = refl
     each (w ∷ ws) = rw (each ws) refl
-
--- how many words there are stays
-pub areas_same : (m : Move) (c : ComponentFields) → areas_end_late (moved m c)
-    ≡ ((is_past_end (shifted m.addresses c.code_base) (length c.code)
-    || is_past_end (shifted m.addresses c.data_base) (length c.data_words))
-    || is_past_end (shifted_base m.addresses c.linear.base c.linear.count) c.linear.count)
-areas_same m c = rw (length-map c.code (moved_word m), length-map c.data_words (moved_word m)) refl
 
 -- what is told of a part that moves, by the three tests, where the component is this
 pub room_told : (f : Free) (p : PartSeen) (m : Move) (c : ComponentFields) (a s u : Bool) → c ≡ p.component

@@ -1,9 +1,9 @@
 //! Where movable parts stand, and rule L10. Each answer was worked out by hand from docs/RULES.md.
 use crate::parts::{numbered, push_part};
-use crate::rules::case_of;
+use crate::rules::{Of, each_is_told};
 use crate::start::{cells_are, linked};
 use assembler::AsmFault;
-use component_linker::{LinkFault, Owner, Part, Start, link};
+use component_linker::{Owner, Part, Start};
 use std::alloc::{AllocError, Global};
 use std::process::Abort;
 use std::str;
@@ -118,7 +118,8 @@ fn push_owner(text: &mut String, alloc: Global, owner: &Owner) -> Result<(), All
     text.push_str(owner.as_str())
 }
 
-fn owners_told(alloc: Global, start: &Start) -> Result<String, AllocError> {
+/// Of each owner in its order the name, code, data and closure seal.
+pub(crate) fn owners_told(alloc: Global, start: &Start) -> Result<String, AllocError> {
     let mut text = String::new(alloc);
     for owner in start.owners() {
         push_owner(&mut text, alloc, owner)?;
@@ -126,55 +127,11 @@ fn owners_told(alloc: Global, start: &Start) -> Result<String, AllocError> {
     Ok(text)
 }
 
-fn told(rt: &impl Abort, alloc: Global, parts: &[Part], stack: u32) -> Result<String, AllocError> {
-    assert!(rt; parts.len() < 100);
-    match link(alloc, parts, stack) {
-        Ok(start) => owners_told(alloc, &start),
-        Err(LinkFault::Rule(at)) => format!(in alloc; "{at}"),
-        Err(LinkFault::NoMemory) => Err(AllocError),
-    }
-}
-
-fn push_parts(
-    rt: &impl Abort,
-    alloc: Global,
-    parts: &mut Vec<Part>,
-    changes: &str,
-) -> Result<(), AsmFault> {
-    for (text, number) in [FIXED, FIRST, SECOND].iter().zip(["0 ", "1 ", "2 "]) {
-        let text = numbered(alloc, text, number, changes)?;
-        push_part(rt, alloc, parts, text.as_str(), false)?;
-    }
-    Ok(())
-}
-
-fn case_told(
-    rt: &impl Abort,
-    alloc: Global,
-    changes: &str,
-    stack: u32,
-) -> Result<String, AsmFault> {
-    let mut parts = Vec::new(alloc);
-    push_parts(rt, alloc, &mut parts, changes)?;
-    let text = told(rt, alloc, &parts, stack)?;
-    Ok(text)
-}
-
-fn each_is_told(rt: &impl Abort, alloc: Global, cases: &str) -> Result<(), AsmFault> {
-    for case in cases.split('\n') {
-        let Some((changes, stack, wanted)) = case_of(case) else {
-            panic!(rt; "no case: {case}");
-        };
-        let told = case_told(rt, alloc, changes, stack)?;
-        assert_eq!(rt; told.as_str(), wanted, "{case}");
-    }
-    Ok(())
-}
-
 #[test]
 fn movable_parts_stand_behind_the_others(rt: HostRuntime) -> Result<(), Fail> {
-    each_is_told(&rt, rt.alloc(), PLACES)?;
-    each_is_told(&rt, rt.alloc(), ROOM)?;
+    let texts = [FIXED, FIRST, SECOND];
+    each_is_told(&rt, rt.alloc(), &texts, PLACES, Of::Owners)?;
+    each_is_told(&rt, rt.alloc(), &texts, ROOM, Of::Owners)?;
     Ok(())
 }
 

@@ -3,8 +3,9 @@
 //!
 //! Many cases stand in one text, one a line: a constant of many parts would be proved slowly.
 use crate::parts::{AUX, LIB, ONE, changed, judgement, numbered, part_of, push_part};
+use crate::placing::owners_told;
 use assembler::AsmFault;
-use component_linker::{LinkFault, Part, link};
+use component_linker::{LinkFault, Part, Start, link};
 use std::alloc::{AllocError, Global};
 use std::process::Abort;
 use std::test::Fail;
@@ -112,16 +113,31 @@ const WHOLE_CASES: &str = "\
 0 .stack 1048512, 1 .stack 1048512, 2 .stack 1048512 | 64 | ok
 0 .stack 1048513, 1 .stack 1048513, 2 .stack 1048513 | 64 | 3 L8 64";
 
-// What linking these parts tells.
+/// What is told of a start: `ok`, or each of its owners.
+#[derive(Clone, Copy)]
+pub(crate) enum Of {
+    Start,
+    Owners,
+}
+
+fn start_told(alloc: Global, start: &Start, of: Of) -> Result<String, AllocError> {
+    match of {
+        Of::Start => String::from_str(alloc, "ok"),
+        Of::Owners => owners_told(alloc, start),
+    }
+}
+
+/// What linking these parts tells: of the start, or the broken rule.
 pub(crate) fn told(
     rt: &impl Abort,
     alloc: Global,
     parts: &[Part],
     stack: u32,
+    of: Of,
 ) -> Result<String, AllocError> {
     assert!(rt; parts.len() < 100);
     match link(alloc, parts, stack) {
-        Ok(_) => String::from_str(alloc, "ok"),
+        Ok(start) => start_told(alloc, &start, of),
         Err(LinkFault::Rule(at)) => format!(in alloc; "{at}"),
         Err(LinkFault::NoMemory) => Err(AllocError),
     }
@@ -148,33 +164,35 @@ fn texts_told(
     texts: &[&str],
     changes: &str,
     stack: u32,
+    of: Of,
 ) -> Result<String, AsmFault> {
     let mut parts = Vec::new(alloc);
     push_parts(rt, alloc, &mut parts, texts, changes)?;
-    let text = told(rt, alloc, &parts, stack)?;
+    let text = told(rt, alloc, &parts, stack, of)?;
     Ok(text)
 }
 
-/// What is changed, the stack's size, and what is told.
-pub(crate) fn case_of(line: &str) -> Option<(&str, u32, &str)> {
+// What is changed, the stack's size, and what is told.
+fn case_of(line: &str) -> Option<(&str, u32, &str)> {
     let (changes, rest) = line.split_once('|')?;
     let (size, wanted) = rest.split_once('|')?;
     let size = size.trim().parse::<u32>().ok()?;
     Some((changes, size, wanted.trim()))
 }
 
-// Each line of cases over these texts.
-fn each_is_told(
+/// Each line of cases over these texts.
+pub(crate) fn each_is_told(
     rt: &impl Abort,
     alloc: Global,
     texts: &[&str],
     cases: &str,
+    of: Of,
 ) -> Result<(), AsmFault> {
     for case in cases.split('\n') {
         let Some((changes, size, wanted)) = case_of(case) else {
             panic!(rt; "no case: {case}");
         };
-        let told = texts_told(rt, alloc, texts, changes, size)?;
+        let told = texts_told(rt, alloc, texts, changes, size, of)?;
         assert_eq!(rt; told.as_str(), wanted, "{case}");
     }
     Ok(())
@@ -183,11 +201,11 @@ fn each_is_told(
 #[test]
 fn lists_of_parts_are_judged(rt: HostRuntime) -> Result<(), Fail> {
     let texts = [ONE, LIB, AUX];
-    each_is_told(&rt, rt.alloc(), &texts, REGION_CASES)?;
-    each_is_told(&rt, rt.alloc(), &texts, STACK_REGION_CASES)?;
-    each_is_told(&rt, rt.alloc(), &texts, PAIR_CASES)?;
-    each_is_told(&rt, rt.alloc(), &texts, IMPORT_CASES)?;
-    each_is_told(&rt, rt.alloc(), &texts, WHOLE_CASES)?;
+    each_is_told(&rt, rt.alloc(), &texts, REGION_CASES, Of::Start)?;
+    each_is_told(&rt, rt.alloc(), &texts, STACK_REGION_CASES, Of::Start)?;
+    each_is_told(&rt, rt.alloc(), &texts, PAIR_CASES, Of::Start)?;
+    each_is_told(&rt, rt.alloc(), &texts, IMPORT_CASES, Of::Start)?;
+    each_is_told(&rt, rt.alloc(), &texts, WHOLE_CASES, Of::Start)?;
     Ok(())
 }
 
@@ -229,9 +247,15 @@ const TWO_CASES: &str = "\
 
 #[test]
 fn no_part_and_one_and_two(rt: HostRuntime) -> Result<(), Fail> {
-    each_is_told(&rt, rt.alloc(), &[], "| 64 | 0 L6 0\n| 1 | 0 L6 0")?;
-    each_is_told(&rt, rt.alloc(), &[ALONE], ALONE_CASES)?;
-    each_is_told(&rt, rt.alloc(), &[ALONE, TWO], TWO_CASES)?;
+    each_is_told(
+        &rt,
+        rt.alloc(),
+        &[],
+        "| 64 | 0 L6 0\n| 1 | 0 L6 0",
+        Of::Start,
+    )?;
+    each_is_told(&rt, rt.alloc(), &[ALONE], ALONE_CASES, Of::Start)?;
+    each_is_told(&rt, rt.alloc(), &[ALONE, TWO], TWO_CASES, Of::Start)?;
     Ok(())
 }
 
@@ -263,7 +287,7 @@ fn is_told(
     stack: u32,
     wanted: &str,
 ) -> Result<(), AllocError> {
-    assert_eq!(rt; told(rt, alloc, parts, stack)?.as_str(), wanted);
+    assert_eq!(rt; told(rt, alloc, parts, stack, Of::Start)?.as_str(), wanted);
     Ok(())
 }
 

@@ -1,6 +1,6 @@
 //! Trusted parts: which are accepted, what they start with, and how their sites are counted.
 use crate::parts::{judgement, numbered, push_line, push_part};
-use crate::rules::told;
+use crate::rules::{Of, told};
 use crate::start::{cells_are, linked};
 use assembler::AsmFault;
 use cap_words::word_text;
@@ -9,9 +9,11 @@ use lcm_isa::Reg;
 use std::alloc::{AllocError, Global};
 use std::process::Abort;
 use std::test::Fail;
+use worked_parts::{CALL, CALL_ON, ENTRY, RETURN};
 
-/// Its code begins with the instruction `fail` at 0, at 1 the literal, and an entry at 2. From 22 on
-/// stand its calls, one behind another, in place of the line `#calls`, and then `halt`. Code from 4096
+/// Its code begins with the instruction `fail` at 0, at 1 the literal, and an entry at 2, in place of the
+/// line `#entry`. From 22 on stand its calls, one behind another, in place of the line `#calls`, and then
+/// `halt`. Code from 4096
 /// on, data 8192 and 8193, seals 10 and 11.
 const T: &str = "\
 .name t
@@ -19,28 +21,9 @@ const T: &str = "\
 .closure 10
 .seals 11 1
 .code 4096
-no: fail
-right: .seal 11 11 11
-move t2 pc
-cca t2 @no
-gettype t1 stk
-minus t1 t1 1
-jnz t2 t1
-getlin t1 stk
-minus t1 t1 1
-jnz t2 t1
-getp t1 stk
-minus t1 t1 2
-jnz t2 t1
-getb t1 stk
-minus t1 t1 65536
-jnz t2 t1
-seta2b stk
-gete t1 stk
-minus t1 t1 65536
-cca stk t1
-move t1 0
-move t2 0
+stop: fail
+lit: .seal 11 11 11
+#entry
 #calls
 halt
 .data 8192
@@ -49,41 +32,8 @@ halt
 .import adv go 0
 .export main 2 shared
 #sites
-.fail no
-.literal right";
-
-/// A call up to the number of its site, and from there on with its return.
-const CALL: [&str; 2] = [
-    "\
-store stk data
-move t1 pc
-cca t1 @right
-load t2 t1
-cca t2",
-    "
-geta t1 stk
-minus t1 t1 1
-split stk rdata stk t1
-cca stk -1
-cseal rdata t2
-move rcode pc
-cca rcode 6
-cseal rcode t2
-move t1 0
-move t2 0
-xjmp c1 c2
-splice stk stk data
-getb t1 stk
-minus t1 t1 65536
-move t2 pc
-cca t2 @no
-jnz t2 t1
-load data stk
-move t1 0
-store stk t1
-move t2 0
-",
-];
+.fail stop
+.literal lit";
 
 /// Code 12,288, data 16,384 and 16,385, seal 20.
 const ADV: &str = "\
@@ -99,9 +49,8 @@ const ADV: &str = "\
 .export go 0 shared";
 
 fn push_calls(alloc: Global, code: &mut String, calls: u32) -> Result<(), AllocError> {
-    let [front, back] = CALL;
     for number in 0..calls {
-        code.push_str(format!(in alloc; "{front} {number}{back}")?.as_str())?;
+        code.push_str(format!(in alloc; "{CALL}{number}{CALL_ON}{RETURN}")?.as_str())?;
     }
     Ok(())
 }
@@ -114,10 +63,9 @@ fn push_sites(alloc: Global, sites: &mut String, declared: u32) -> Result<(), Al
     Ok(())
 }
 
-fn push_inserted(new: &mut String, text: &str, lines: &str) -> Result<(), AllocError> {
-    let first = lines.split('\n').next();
+fn push_inserted(new: &mut String, text: &str, place: &str, lines: &str) -> Result<(), AllocError> {
     for line in text.split('\n') {
-        let more = if Some(line) == first {
+        let more = if line == place {
             lines.trim_end()
         } else {
             line
@@ -127,28 +75,29 @@ fn push_inserted(new: &mut String, text: &str, lines: &str) -> Result<(), AllocE
     Ok(())
 }
 
-// The text with more lines behind the one that is the first of these.
-fn inserted(alloc: Global, text: &str, lines: &str) -> Result<String, AllocError> {
+// The text with lines in place of one.
+fn inserted(alloc: Global, text: &str, place: &str, lines: &str) -> Result<String, AllocError> {
     let mut new = String::new(alloc);
-    push_inserted(&mut new, text, lines)?;
+    push_inserted(&mut new, text, place, lines)?;
     Ok(new)
 }
 
 fn calls_inserted(alloc: Global, part: &str, calls: u32) -> Result<String, AllocError> {
-    let mut code = String::from_str(alloc, "#calls\n")?;
+    let mut code = String::new(alloc);
     push_calls(alloc, &mut code, calls)?;
-    inserted(alloc, part, code.as_str())
+    inserted(alloc, part, "#calls", code.as_str())
 }
 
 fn sites_inserted(alloc: Global, part: &str, declared: u32) -> Result<String, AllocError> {
-    let mut sites = String::from_str(alloc, "#sites\n")?;
+    let mut sites = String::new(alloc);
     push_sites(alloc, &mut sites, declared)?;
-    inserted(alloc, part, sites.as_str())
+    inserted(alloc, part, "#sites", sites.as_str())
 }
 
 // The text of a trusted part with calls, of which so many are declared as sites.
 fn with_calls(alloc: Global, part: &str, calls: u32, declared: u32) -> Result<String, AllocError> {
-    let text = calls_inserted(alloc, part, calls)?;
+    let text = inserted(alloc, part, "#entry", ENTRY)?;
+    let text = calls_inserted(alloc, text.as_str(), calls)?;
     sites_inserted(alloc, text.as_str(), declared)
 }
 
@@ -156,11 +105,11 @@ fn with_calls(alloc: Global, part: &str, calls: u32, declared: u32) -> Result<St
 // breaks.
 static FLOW_CASES: [(&str, u32, bool, &str); 5] = [
     ("", 1, true, "ok"),
-    ("0 .seals 11 2, 0 right: .seal 11 12 11", 2, true, "K1 48"),
-    ("0 .seals 11 2, 0 right: .seal 11 12 11", 2, false, "ok"),
+    ("0 .seals 11 2, 0 lit: .seal 11 12 11", 2, true, "K1 48"),
+    ("0 .seals 11 2, 0 lit: .seal 11 12 11", 2, false, "ok"),
     ("0 .export main 3 shared", 1, true, "K3 3"),
     (
-        "0 .seals 11 2, 0 right: .seal 11 12 11, 0 .export main 100 shared",
+        "0 .seals 11 2, 0 lit: .seal 11 12 11, 0 .export main 100 shared",
         2,
         true,
         "C6 0",
@@ -262,7 +211,7 @@ const MORE: &str =
 fn with_seals(alloc: Global, changes: &str, first: u32, seals: u32) -> Result<String, AllocError> {
     let last = first.saturating_add(seals).saturating_sub(1);
     let changes = format!(in alloc;
-        "{changes}, 0 .seals {first} {seals}, 0 right: .seal {first} {last} {first}"
+        "{changes}, 0 .seals {first} {seals}, 0 lit: .seal {first} {last} {first}"
     )?;
     numbered(alloc, T, "0 ", changes.as_str())
 }
@@ -340,7 +289,7 @@ fn sites_told(
 ) -> Result<String, AsmFault> {
     let mut parts = Vec::new(alloc);
     push_one_and_more(rt, alloc, &mut parts, one, more)?;
-    let told = told(rt, alloc, &parts, 64)?;
+    let told = told(rt, alloc, &parts, 64, Of::Start)?;
     Ok(told)
 }
 

@@ -1,5 +1,6 @@
 -- Lists that ascend by a key, and what a search by halving finds in them.
-use Rattle.std.proofs.Common.{◌≡◌, ℕ, zero, suc, ◌<◌, ◌≤◌, ◌⊎◌, inl, inr, Bool, true, false, List, [], ◌∷◌, length, get_or, Option, Some, None, refl, sym, ◌∙◌, arith}
+use Rattle.std.proofs.Common.{◌≡◌, ℕ, zero, suc, ◌<◌, ◌≤◌, ◌⊎◌, inl, inr, Bool, true, false, List, [], ◌∷◌}
+use Rattle.std.proofs.Common.{length, get_or, Option, Some, None, refl, sym, ◌∙◌, arith, lt-ltb}
 use Rattle.std.specs.Prelude.{◌==◌, nat_lt, IsTrue}
 use Rattle.std.specs.List.{find, list_any}
 use Rattle.std.specs.List.Sorted.{IsPartitionedBy, IsPartitionPoint}
@@ -17,9 +18,6 @@ lt_true a b h = grind (arith, nat_tests)
 
 pub lt_of : (a b : ℕ) → nat_lt a b ≡ true → a < b
 lt_of a b h = grind (arith, nat_tests)
-
-pub lt_is : (a b : ℕ) → a < b → nat_lt a b ≡ true
-lt_is a b h = grind (arith, nat_tests)
 
 pub le_of : (a b : ℕ) → nat_lt a b ≡ false → b ≤ a
 le_of a b h = grind (arith, nat_tests)
@@ -44,7 +42,8 @@ module _ {A : Type 0} (key : A → ℕ) where
   -- ---- from the order of a component's lists
 
   module _ (P : Option A → A → Type 0) (rises : (b x : A) → P (Some b) x → key b < key x) where
-    above : (x : A) (xs : List A) → Chain P (Some x) xs → (j : ℕ) (d : A) → j < length xs → key x < key (get_or xs j d)
+    above : (x : A) (xs : List A) → Chain P (Some x) xs → (j : ℕ) (d : A) → j < length xs
+        → key x < key (get_or xs j d)
     above x [] h j d lt = absurd (omega arith)
     above x (y ∷ ys) h zero d lt = rises x y h.0
     above x (y ∷ ys) h (suc j) d lt =
@@ -55,7 +54,8 @@ module _ {A : Type 0} (key : A → ℕ) where
     joined : (x : A) (xs : List A) → Chain P (Some x) xs → Ascends xs → Ascends (x ∷ xs)
     joined x xs h more = record { up = go }
       where
-        go : (i j : ℕ) (d : A) → i < j → j < length (x ∷ xs) → key (get_or (x ∷ xs) i d) < key (get_or (x ∷ xs) j d)
+        go : (i j : ℕ) (d : A) → i < j → j < length (x ∷ xs)
+            → key (get_or (x ∷ xs) i d) < key (get_or (x ∷ xs) j d)
         go i zero d lt le = absurd (omega arith)
         go zero (suc j) d lt le = above x xs h j d (omega arith)
         go (suc i) (suc j) d lt le = more.up i j d (omega arith) (omega arith)
@@ -66,7 +66,8 @@ module _ {A : Type 0} (key : A → ℕ) where
 
   -- ---- where they pass a bound
 
-  up_eq : (xs : List A) → Ascends xs → (i j : ℕ) (d : A) → i ≤ j → j < length xs → key (get_or xs i d) ≤ key (get_or xs j d)
+  up_eq : (xs : List A) → Ascends xs → (i j : ℕ) (d : A) → i ≤ j → j < length xs
+      → key (get_or xs i d) ≤ key (get_or xs j d)
   up_eq xs h i j d le lt = elim (cases_eq i j) as (λ _. key (get_or xs i d) ≤ key (get_or xs j d)) [
     | inl e ↦ rw e (omega arith)
     | inr ne ↦ (let up : key (get_or xs i d) < key (get_or xs j d) = h.up i j d (omega arith) lt in omega arith)
@@ -76,7 +77,7 @@ module _ {A : Type 0} (key : A → ℕ) where
   parted xs bound h i j d le lt e =
       let up : key (get_or xs i d) ≤ key (get_or xs j d) = up_eq xs h i j d le lt in
       let high : key (get_or xs j d) < bound = lt_of _ bound e in
-      lt_is _ bound (omega arith)
+      lt-ltb _ bound (omega arith)
 
   pub split_is : (xs : List A) (bound i : ℕ) → i ≤ length xs
       → IsPartitionPoint (λ x. nat_lt (key x) bound ≡ true) (λ x. nat_lt (key x) bound ≡ false) xs i
@@ -88,19 +89,22 @@ module _ {A : Type 0} (key : A → ℕ) where
   }
 
   -- an item whose key this is stands at the split, if there is one
-  found_at : (xs : List A) (o i : ℕ) (d : A) → Ascends xs → i < length xs → key (get_or xs i d) ≡ o → find (λ x. key x == o) xs ≡ Some (get_or xs i d)
+  found_at : (xs : List A) (o i : ℕ) (d : A) → Ascends xs → i < length xs → key (get_or xs i d) ≡ o
+      → find (λ x. key x == o) xs ≡ Some (get_or xs i d)
   found_at [] o i d h lt e = absurd (omega arith)
   found_at (x ∷ xs) o zero d h lt e = rw (eq_is (key x) o e) refl
   found_at (x ∷ xs) o (suc i) d h lt e =
       let low : key x < key (get_or xs i d) = h.up 0 (suc i) d (omega arith) lt in
       rw (eq_not (key x) o (λ k. omega (arith, e))) (found_at xs o i d (tail_up x xs h) (omega arith) e)
 
-  none_found : (xs : List A) (o : ℕ) (d : A) → ((i : ℕ) → i < length xs → key (get_or xs i d) ≡ o → ⊥) → find (λ x. key x == o) xs ≡ None
+  none_found : (xs : List A) (o : ℕ) (d : A) → ((i : ℕ) → i < length xs → key (get_or xs i d) ≡ o → ⊥)
+      → find (λ x. key x == o) xs ≡ None
   none_found [] o d h = refl
   none_found (x ∷ xs) o d h = rw (eq_not (key x) o (λ k. h 0 (omega arith) k)) (none_found xs o d (λ i lt e. h (suc i) (omega arith) e))
 
   -- an item with another key at the split: none has this one
-  split_lacks : (xs : List A) (o i : ℕ) (d : A) → Ascends xs → IsSplitAt key o xs i → (i < length xs → key (get_or xs i d) ≡ o → ⊥) → (j : ℕ) → j < length xs → key (get_or xs j d) ≡ o → ⊥
+  split_lacks : (xs : List A) (o i : ℕ) (d : A) → Ascends xs → IsSplitAt key o xs i
+      → (i < length xs → key (get_or xs i d) ≡ o → ⊥) → (j : ℕ) → j < length xs → key (get_or xs j d) ≡ o → ⊥
   split_lacks xs o i d h s ne j lt e = elim (side j) as (λ _. ⊥) [
     | inl low ↦ (let k : key (get_or xs j d) < o = s.below j d low in omega arith)
     | inr high ↦ elim (cases_eq i j) as (λ _. ⊥) [
@@ -116,10 +120,12 @@ module _ {A : Type 0} (key : A → ℕ) where
       side : (j : ℕ) → (j < i) ⊎ (i ≤ j)
       side j = grind arith
 
-  pub find_here : (xs : List A) (o i : ℕ) (d : A) → Ascends xs → i < length xs → key (get_or xs i d) ≡ o → find (λ x. key x == o) xs ≡ Some (get_or xs i d)
+  pub find_here : (xs : List A) (o i : ℕ) (d : A) → Ascends xs → i < length xs → key (get_or xs i d) ≡ o
+      → find (λ x. key x == o) xs ≡ Some (get_or xs i d)
   find_here xs o i d h lt e = found_at xs o i d h lt e
 
-  pub find_none : (xs : List A) (o i : ℕ) (d : A) → Ascends xs → IsSplitAt key o xs i → (i < length xs → key (get_or xs i d) ≡ o → ⊥) → find (λ x. key x == o) xs ≡ None
+  pub find_none : (xs : List A) (o i : ℕ) (d : A) → Ascends xs → IsSplitAt key o xs i
+      → (i < length xs → key (get_or xs i d) ≡ o → ⊥) → find (λ x. key x == o) xs ≡ None
   find_none xs o i d h s ne = none_found xs o d (λ j lt e. split_lacks xs o i d h s ne j lt e)
 
 -- ---- the two lists
@@ -130,16 +136,19 @@ sites_up c h = chain_up (λ s. s) SiteFits (λ b x p. lt_true b x p.1) None c.si
 pub rows_up : (c : ComponentFields) → IsComponent c → Ascends (λ (r : KindRow). r.offset) c.rows
 rows_up c h = chain_up (λ (r : KindRow). r.offset) RowFits (λ b x p. lt_true b.offset x.offset p.1) None c.rows h.rows.1
 
-pub any_none : {A : Type 0} (p : A → Bool) (xs : List A) (d : A) → ((j : ℕ) → j < length xs → p (get_or xs j d) ≡ false) → list_any p xs ≡ false
+pub any_none : {A : Type 0} (p : A → Bool) (xs : List A) (d : A)
+    → ((j : ℕ) → j < length xs → p (get_or xs j d) ≡ false) → list_any p xs ≡ false
 any_none p [] d h = refl
 any_none p (x ∷ xs) d h = rw (h 0 (omega arith)) (any_none p xs d (λ j lt. h (suc j) (omega arith)))
 
 -- no site begins here, where none does at the split
-pub no_site : (xs : List ℕ) (o i : ℕ) → Ascends (λ s. s) xs → IsSplitAt (λ s. s) o xs i → (i < length xs → get_or xs i 0 ≡ o → ⊥) → list_any (λ s. s == o) xs ≡ false
+pub no_site : (xs : List ℕ) (o i : ℕ) → Ascends (λ s. s) xs → IsSplitAt (λ s. s) o xs i
+    → (i < length xs → get_or xs i 0 ≡ o → ⊥) → list_any (λ s. s == o) xs ≡ false
 no_site xs o i up split ne = any_none (λ s. s == o) xs 0 (λ j lt. eq_not (get_or xs j 0) o (λ e. split_lacks (λ s. s) xs o i 0 up split ne j lt e))
 
 -- a site begins here, where it begins at the split
-pub site_begins : (xs : List ℕ) (o i : ℕ) → Ascends (λ s. s) xs → IsSplitAt (λ s. s) o xs i → i < length xs → (get_or xs i 0 == o) ≡ list_any (λ s. s == o) xs
+pub site_begins : (xs : List ℕ) (o i : ℕ) → Ascends (λ s. s) xs → IsSplitAt (λ s. s) o xs i → i < length xs
+    → (get_or xs i 0 == o) ≡ list_any (λ s. s == o) xs
 site_begins xs o i up split lt = by_test (get_or xs i 0 == o) refl
   where
     by_test : (b : Bool) → (get_or xs i 0 == o) ≡ b → b ≡ list_any (λ s. s == o) xs
@@ -153,11 +162,13 @@ behind_less : (r s n o : ℕ) → r ≤ s → s < o → is_behind s n o ≡ fals
 behind_less r s n o le lt e = grind (arith, nat_tests)
 
 -- within no site, where all begin here or later
-pub before_sites : (xs : List ℕ) (n o : ℕ) → IsSplitAt (λ s. s) o xs 0 → list_any (λ s. is_behind s n o) xs ≡ false
+pub before_sites : (xs : List ℕ) (n o : ℕ) → IsSplitAt (λ s. s) o xs 0
+    → list_any (λ s. is_behind s n o) xs ≡ false
 before_sites xs n o split = any_none (λ s. is_behind s n o) xs 0 (λ j lt. behind_later (get_or xs j 0) n o (split.others j 0 (omega arith) lt))
 
 -- within a site, where it is within the last that begins before
-pub within_last : (xs : List ℕ) (n o i : ℕ) → Ascends (λ s. s) xs → IsSplitAt (λ s. s) o xs (suc i) → is_behind (get_or xs i 0) n o ≡ list_any (λ s. is_behind s n o) xs
+pub within_last : (xs : List ℕ) (n o i : ℕ) → Ascends (λ s. s) xs → IsSplitAt (λ s. s) o xs (suc i)
+    → is_behind (get_or xs i 0) n o ≡ list_any (λ s. is_behind s n o) xs
 within_last xs n o i up split = by_test (is_behind (get_or xs i 0) n o) refl
   where
     lt : i < length xs

@@ -1,8 +1,9 @@
 -- The least offset of an entry that is bad.
-use Rattle.std.proofs.Common.{◌≡◌, ℕ, zero, suc, ◌+◌, ◌<◌, ◌≤◌, ◌⊎◌, inl, inr, Bool, true, false, List, [], ◌∷◌, length, get_or, Option, Some, None, refl, sym, ap, ◌∙◌, arith}
+use Rattle.std.proofs.Common.{◌≡◌, ℕ, zero, suc, ◌+◌, ◌<◌, ◌≤◌, ◌⊎◌, inl, inr, Bool, true, false, List, []}
+use Rattle.std.proofs.Common.{◌∷◌, length, get_or, Option, Some, None, refl, sym, ap, ◌∙◌, arith}
 use Rattle.std.specs.Prelude.{◌==◌, ◌&&◌, ◌||◌, min}
 use Rattle.std.specs.List.{list_any}
-use Rattle.std.proofs.lemmas.Bool.{cases_eq, eqb-true}
+use Rattle.std.proofs.lemmas.Bool.{cases_eq, eqb-true, false_from_ne_true}
 use Rattle.std.proofs.lemmas.List.Folds.{list_any_at}
 use Rattle.std.proofs.lemmas.List.{get_or_default}
 use Rattle.component_file.specs.declared.TheConstants.{LAST_OFFSET}
@@ -15,26 +16,32 @@ use Rattle.flow_check.specs.Places.{begins_entry}
 use Rattle.flow_check.specs.Lists.{entry_is_bad, least_of, k3}
 use Rattle.flow_check.proofs.Ascending.{eq_is}
 
-pub any_index : {A : Type 0} (p : A → Bool) (xs : List A) (d : A) → list_any p xs ≡ true → (j : ℕ) × (j < length xs) × (p (get_or xs j d) ≡ true)
+pub any_index : {A : Type 0} (p : A → Bool) (xs : List A) (d : A) → list_any p xs ≡ true
+    → (j : ℕ) × (j < length xs) × (p (get_or xs j d) ≡ true)
 any_index p [] d e = cc
 any_index p (x ∷ xs) d e = by_head (p x) refl e (any_index p xs d)
   where
-    by_head : (b : Bool) → p x ≡ b → (b || list_any p xs) ≡ true → (list_any p xs ≡ true → (j : ℕ) × (j < length xs) × (p (get_or xs j d) ≡ true)) → (j : ℕ) × (j < length (x ∷ xs)) × (p (get_or (x ∷ xs) j d) ≡ true)
+    by_head : (b : Bool) → p x ≡ b → (b || list_any p xs) ≡ true
+        → (list_any p xs ≡ true → (j : ℕ) × (j < length xs) × (p (get_or xs j d) ≡ true))
+        → (j : ℕ) × (j < length (x ∷ xs)) × (p (get_or (x ∷ xs) j d) ≡ true)
     by_head true h e more = (0, omega arith, h)
     by_head false h e more = let k = more e in (suc k.0, (let l : k.0 < length xs = k.1 in omega arith), k.2)
 
 -- the offset of an export
-pub entry_of : (c : ComponentFields) (o : ℕ) (d : Export) → begins_entry c o ≡ true → (j : ℕ) × (j < length c.exports) × ((get_or c.exports j d).offset ≡ o)
+pub entry_of : (c : ComponentFields) (o : ℕ) (d : Export) → begins_entry c o ≡ true
+    → (j : ℕ) × (j < length c.exports) × ((get_or c.exports j d).offset ≡ o)
 unfolding begins_entry
 entry_of c o d e =
     let k = any_index (λ (x : Export). x.offset == o) c.exports d e in
     (k.0, k.1, eqb-true (get_or c.exports k.0 d).offset o k.2)
 
-pub entry_at : (c : ComponentFields) (j : ℕ) (d : Export) → j < length c.exports → begins_entry c (get_or c.exports j d).offset ≡ true
+pub entry_at : (c : ComponentFields) (j : ℕ) (d : Export) → j < length c.exports
+    → begins_entry c (get_or c.exports j d).offset ≡ true
 unfolding begins_entry
 entry_at c j d lt = list_any_at (λ (x : Export). x.offset == (get_or c.exports j d).offset) c.exports j d lt (eq_is (get_or c.exports j d).offset (get_or c.exports j d).offset refl)
 
-pub export_fits : (b : Option Export) (es : List Export) → Chain ExportFits b es → (j : ℕ) (d : Export) → j < length es → (get_or es j d).offset ≤ LAST_OFFSET
+pub export_fits : (b : Option Export) (es : List Export) → Chain ExportFits b es → (j : ℕ) (d : Export)
+    → j < length es → (get_or es j d).offset ≤ LAST_OFFSET
 export_fits b [] h j d lt = absurd (omega arith)
 export_fits b (e ∷ es) h zero d lt = h.0.2
 export_fits b (e ∷ es) h (suc j) d lt = export_fits (Some e) es h.1 j d (omega arith)
@@ -58,12 +65,14 @@ module _ (c : ComponentFields) (es : List Export) (i : ℕ) (lt : i < length es)
   any_offset j d e l = ap (λ (x : Export). x.offset) (get_or_default es j d e l)
 
   -- one more export, which isn't bad
-  pub least_same : (least : Option ℕ) (x : Export) → x ≡ get_or es i x → entry_is_bad c x.offset ≡ false → LeastOf c es i least → LeastOf c es (i + 1) least
+  pub least_same : (least : Option ℕ) (x : Export) → x ≡ get_or es i x → entry_is_bad c x.offset ≡ false
+      → LeastOf c es i least → LeastOf c es (i + 1) least
   least_same None x is b h = λ j d l. or_last (λ j. entry_is_bad c (get_or es j d).offset ≡ false) (λ j l. h j d l) (let e : x.offset ≡ (get_or es i d).offset = ap (λ (x : Export). x.offset) is ∙ any_offset i x d lt in rw (← e) b) j l
   least_same (Some p) x is b h = (h.0, h.1, λ j d l. or_last (λ j. entry_is_bad c (get_or es j d).offset ≡ true → p ≤ (get_or es j d).offset) (λ j l. h.2 j d l) (λ t. absurd (let e : x.offset ≡ (get_or es i d).offset = ap (λ (x : Export). x.offset) is ∙ any_offset i x d lt in let f : true ≡ false = sym t ∙ ap (entry_is_bad c) (sym e) ∙ b in cc)) j l)
 
   -- one more, which is
-  pub least_more : (least : Option ℕ) (x : Export) → x ≡ get_or es i x → entry_is_bad c x.offset ≡ true → LeastOf c es i least → LeastOf c es (i + 1) (Some (least_of least x.offset))
+  pub least_more : (least : Option ℕ) (x : Export) → x ≡ get_or es i x → entry_is_bad c x.offset ≡ true
+      → LeastOf c es i least → LeastOf c es (i + 1) (Some (least_of least x.offset))
   least_more None x is b h =
       let e : (d : Export) → x.offset ≡ (get_or es i d).offset = λ d. ap (λ (x : Export). x.offset) is ∙ any_offset i x d lt in
       ((i, lt, λ d. sym (e d)), b, λ j d l. or_last (λ j. entry_is_bad c (get_or es j d).offset ≡ true → x.offset ≤ (get_or es j d).offset) (λ j l t. absurd (let f : true ≡ false = sym t ∙ h j d l in cc)) (λ t. rw (← e d) (omega arith)) j l)
@@ -75,17 +84,14 @@ module _ (c : ComponentFields) (es : List Export) (i : ℕ) (lt : i < length es)
       e : (d : Export) → x.offset ≡ (get_or es i d).offset
       e d = ap (λ (x : Export). x.offset) is ∙ any_offset i x d lt
 
-      by_order : ((p ≤ x.offset) × (min p x.offset ≡ p)) ⊎ ((x.offset ≤ p) × (min p x.offset ≡ x.offset)) → LeastOf c es (i + 1) (Some (min p x.offset))
+      by_order : ((p ≤ x.offset) × (min p x.offset ≡ p)) ⊎ ((x.offset ≤ p) × (min p x.offset ≡ x.offset))
+          → LeastOf c es (i + 1) (Some (min p x.offset))
       by_order (inl k) = rw k.1 (h.0, h.1, λ j d l. or_last (λ j. entry_is_bad c (get_or es j d).offset ≡ true → p ≤ (get_or es j d).offset) (λ j l. h.2 j d l) (λ t. rw (← e d) k.0) j l)
       by_order (inr k) = rw k.1 ((i, lt, λ d. sym (e d)), b, λ j d l. or_last (λ j. entry_is_bad c (get_or es j d).offset ≡ true → x.offset ≤ (get_or es j d).offset) (λ j l t. (let low : p ≤ (get_or es j d).offset = h.2 j d l t in let high : x.offset ≤ p = k.0 in omega arith)) (λ t. rw (← e d) (omega arith)) j l)
 
 and_false : (a b : Bool) → (a ≡ true → b ≡ false) → (a && b) ≡ false
 and_false true b h = h refl
 and_false false b h = refl
-
-false_of : (b : Bool) → (b ≡ true → ⊥) → b ≡ false
-false_of true h = absurd (h refl)
-false_of false h = refl
 
 pub no_export : Export
 no_export = record { name = []; offset = 0; shared = false }
@@ -94,7 +100,8 @@ module _ (c : ComponentFields) (fits : IsComponent c) where
   abbrev broken : ℕ → Bool
   broken o = begins_entry c o && entry_is_bad c o
 
-  least_first : (least : Option ℕ) → LeastOf c c.exports (length c.exports) least → IsFirstIn broken (LAST_OFFSET + 1) least
+  least_first : (least : Option ℕ) → LeastOf c c.exports (length c.exports) least
+      → IsFirstIn broken (LAST_OFFSET + 1) least
   least_first None h = λ o l. and_false (begins_entry c o) (entry_is_bad c o) (λ t.
       let k = entry_of c o no_export t in
       ap (entry_is_bad c) (sym k.2) ∙ h k.0 no_export k.1)
@@ -105,7 +112,7 @@ module _ (c : ComponentFields) (fits : IsComponent c) where
       let here : begins_entry c p ≡ true = ap (begins_entry c) (sym is) ∙ entry_at c j no_export h.0.1 in (
         omega arith,
         rw (here, h.1) refl,
-        λ o l. and_false (begins_entry c o) (entry_is_bad c o) (λ t. false_of (entry_is_bad c o) (λ b.
+        λ o l. and_false (begins_entry c o) (entry_is_bad c o) (λ t. false_from_ne_true (entry_is_bad c o) (λ b.
             let k = entry_of c o no_export t in
             let low : p ≤ (get_or c.exports k.0 no_export).offset = h.2 k.0 no_export k.1 (ap (entry_is_bad c) k.2 ∙ b) in
             let e : (get_or c.exports k.0 no_export).offset ≡ o = k.2 in

@@ -1,30 +1,23 @@
 -- Rows after a kind was set, and words whose kind is below another.
-use Rattle.std.proofs.Common.{◌≡◌, ◌≢◌, ℕ, zero, suc, ◌-◌, ◌≤◌, inl, inr, Bool, true, false, [], ◌∷◌, length, get_or, refl, sym, ap, ◌∙◌, arith, ℤ, get_or-set_same, get_or-set_other}
+use Rattle.std.proofs.Common.{◌≡◌, ◌≢◌, ℕ, zero, suc, ◌-◌, ◌≤◌, inl, inr, true, false, [], ◌∷◌, length}
+use Rattle.std.proofs.Common.{get_or, refl, sym, ap, ◌∙◌, arith, ℤ, get_or-set_same, get_or-set_other}
 use Rattle.std.proofs.Math.ListN.{length-set}
-use Rattle.std.specs.Prelude.{◌&&◌}
-use Rattle.std.proofs.lemmas.Bool.{eqb-true}
+use Rattle.std.proofs.lemmas.Bool.{eqb-true, and_parts}
 use Rattle.cap_words.specs.declared.Word.{Word}
 use Rattle.cap_words.specs.declared.Word.TheVariants.{Int, Mem}
 use Rattle.component_file.specs.declared.component.Kind.{Kind}
 use Rattle.component_file.specs.declared.component.Kind.TheVariants as kind
 use Rattle.lcm_isa.specs.declared.Reg.{Reg}
-use Rattle.lcm_isa.specs.declared.Reg.TheVariants.{Pc, Rcode, Rdata, Stk, Dat, T1, T2, C1, C2, A0, A1, A2, A3, G0, G1, G2}
+use Rattle.lcm_isa.specs.declared.Reg.TheVariants.{Pc, Rcode, Rdata, Stk, Dat, T1, T2, C1, C2, A0, A1, A2, A3}
+use Rattle.lcm_isa.specs.declared.Reg.TheVariants.{G0, G1, G2}
 use Rattle.lcm_isa.specs.Numbers.{reg_number, reg_of}
 use Rattle.lcm_isa.proofs.NumberLemmas.{reg_back}
 use Rattle.lcm_machine.specs.Maps.{Regs}
 use Rattle.lcm_machine.specs.Places.{reg, set_reg}
 use Rattle.lcm_machine.specs.Table.{is_pc}
-use Rattle.lcm_machine.proofs.RegLemmas.{cases_reg, reg-set_same, reg-set_other}
+use Rattle.lcm_machine.proofs.Offers.{cases_reg, reg-set_same, reg-set_other}
 use Rattle.flow_check.specs.Kinds.{Row, kind_of, set_kind, below_any, kind_below, row_below}
 use Rattle.flow_check.specs.Holds.{Ranges, stack_cap, Up, HasKind, Fits}
-
-pub and_left : (a b : Bool) → (a && b) ≡ true → a ≡ true
-and_left true b e = refl
-and_left false b e = cc
-
-pub and_right : (a b : Bool) → (a && b) ≡ true → b ≡ true
-and_right true b e = e
-and_right false b e = cc
 
 reg_from : (r : Reg) → is_pc r ≡ false → 1 ≤ reg_number r
 reg_from Pc e = cc
@@ -65,14 +58,16 @@ reg_to G2 = omega arith
 number_differs : (r d : Reg) → r ≢ d → reg_number r ≢ reg_number d
 number_differs r d ne e = ne (sym (reg_back r) ∙ ap reg_of e ∙ reg_back d)
 
-pub kind-set_same : (row : Row) (r : Reg) (k : Kind) → length row ≡ 15 → is_pc r ≡ false → kind_of (set_kind row r k) r ≡ k
+pub kind-set_same : (row : Row) (r : Reg) (k : Kind) → length row ≡ 15 → is_pc r ≡ false
+    → kind_of (set_kind row r k) r ≡ k
 unfolding kind_of set_kind
 kind-set_same row r k long p =
     let low = reg_from r p in
     let high = reg_to r in
     get_or-set_same row (reg_number r - 1) k kind.Top (omega arith)
 
-pub kind-set_other : (row : Row) (r d : Reg) (k : Kind) → is_pc r ≡ false → is_pc d ≡ false → d ≢ r → kind_of (set_kind row r k) d ≡ kind_of row d
+pub kind-set_other : (row : Row) (r d : Reg) (k : Kind) → is_pc r ≡ false → is_pc d ≡ false → d ≢ r
+    → kind_of (set_kind row r k) d ≡ kind_of row d
 unfolding kind_of set_kind
 kind-set_other row r d k p q ne =
     let low = reg_from r p in
@@ -89,7 +84,9 @@ module _ {W : Type 0} (look : W → Word) (Safe : W → Type 0) (Has : ℕ → T
   FitsRow row rs = Fits look Safe Has part row rs
 
   -- registers of which one has a new word
-  pub fits_new : (row : Row) (rs rs' : Regs W) (r : Reg) (k : Kind) → is_pc r ≡ false → FitsRow row rs → ((d : Reg) → is_pc d ≡ false → d ≢ r → reg rs' d ≡ reg rs d) → Kinded k (reg rs' r) → FitsRow (set_kind row r k) rs'
+  pub fits_new : (row : Row) (rs rs' : Regs W) (r : Reg) (k : Kind) → is_pc r ≡ false → FitsRow row rs
+      → ((d : Reg) → is_pc d ≡ false → d ≢ r → reg rs' d ≡ reg rs d) → Kinded k (reg rs' r)
+      → FitsRow (set_kind row r k) rs'
   unfolding set_kind
   fits_new row rs rs' r k p f others h = record {
     long = length-set row (reg_number r - 1) k ∙ f.long;
@@ -100,7 +97,9 @@ module _ {W : Type 0} (look : W → Word) (Safe : W → Type 0) (Has : ℕ → T
   }
 
   -- a register that keeps its kind
-  pub fits_kept : (row : Row) (rs rs' : Regs W) (r : Reg) → FitsRow row rs → ((d : Reg) → is_pc d ≡ false → d ≢ r → reg rs' d ≡ reg rs d) → (is_pc r ≡ false → Kinded (kind_of row r) (reg rs' r)) → FitsRow row rs'
+  pub fits_kept : (row : Row) (rs rs' : Regs W) (r : Reg) → FitsRow row rs
+      → ((d : Reg) → is_pc d ≡ false → d ≢ r → reg rs' d ≡ reg rs d)
+      → (is_pc r ≡ false → Kinded (kind_of row r) (reg rs' r)) → FitsRow row rs'
   fits_kept row rs rs' r f others h = record {
     long = f.long;
     each = λ d q. elim (cases_reg d r) as (λ _. Kinded (kind_of row d) (reg rs' d)) [
@@ -109,11 +108,13 @@ module _ {W : Type 0} (look : W → Word) (Safe : W → Type 0) (Has : ℕ → T
     ];
   }
 
-  pub fits_set : (row : Row) (rs : Regs W) (r : Reg) (k : Kind) (w : W) → is_pc r ≡ false → FitsRow row rs → Kinded k w → FitsRow (set_kind row r k) (set_reg rs r w)
+  pub fits_set : (row : Row) (rs : Regs W) (r : Reg) (k : Kind) (w : W) → is_pc r ≡ false → FitsRow row rs
+      → Kinded k w → FitsRow (set_kind row r k) (set_reg rs r w)
   fits_set row rs r k w p f h =
       fits_new row rs (set_reg rs r w) r k p f (λ d q ne. reg-set_other rs r d w ne) (rw (reg-set_same rs r w) h)
 
-  pub fits_keep : (row : Row) (rs : Regs W) (r : Reg) (w : W) → FitsRow row rs → (is_pc r ≡ false → Kinded (kind_of row r) w) → FitsRow row (set_reg rs r w)
+  pub fits_keep : (row : Row) (rs : Regs W) (r : Reg) (w : W) → FitsRow row rs
+      → (is_pc r ≡ false → Kinded (kind_of row r) w) → FitsRow row (set_reg rs r w)
   fits_keep row rs r w f h =
       fits_kept row rs (set_reg rs r w) r f (λ d q ne. reg-set_other rs r d w ne) (λ p. rw (reg-set_same rs r w) (h p))
 
@@ -165,7 +166,7 @@ module _ {W : Type 0} (look : W → Word) (Safe : W → Type 0) (Has : ℕ → T
     same_length [] [] b = refl
     same_length [] (l ∷ ls) b = cc
     same_length (k ∷ ks) [] b = cc
-    same_length (k ∷ ks) (l ∷ ls) b = ap suc (same_length ks ls (and_right (kind_below k l) (row_below ks ls) b))
+    same_length (k ∷ ks) (l ∷ ls) b = ap suc (same_length ks ls ((and_parts (kind_below k l) (row_below ks ls) b).1))
 
     -- a row that is below another: what fits it fits the other
     pub row_fits : (p q : Row) (rs : Regs W) → row_below p q ≡ true → FitsRow p rs → FitsRow q rs
@@ -175,9 +176,10 @@ module _ {W : Type 0} (look : W → Word) (Safe : W → Type 0) (Has : ℕ → T
       each = λ r e. kind_fits (get_or p (reg_number r - 1) kind.Top) (get_or q (reg_number r - 1) kind.Top) (reg rs r) (at_place p q (reg_number r - 1) (same_length p q b) b) (f.each r e);
     }
       where
-        at_place : (p q : Row) (i : ℕ) → length p ≡ length q → row_below p q ≡ true → kind_below (get_or p i kind.Top) (get_or q i kind.Top) ≡ true
+        at_place : (p q : Row) (i : ℕ) → length p ≡ length q → row_below p q ≡ true
+            → kind_below (get_or p i kind.Top) (get_or q i kind.Top) ≡ true
         at_place [] [] i e b = refl
         at_place [] (l ∷ ls) i e b = cc
         at_place (k ∷ ks) [] i e b = cc
-        at_place (k ∷ ks) (l ∷ ls) zero e b = and_left (kind_below k l) (row_below ks ls) b
-        at_place (k ∷ ks) (l ∷ ls) (suc i) e b = at_place ks ls i (omega arith) (and_right (kind_below k l) (row_below ks ls) b)
+        at_place (k ∷ ks) (l ∷ ls) zero e b = (and_parts (kind_below k l) (row_below ks ls) b).0
+        at_place (k ∷ ks) (l ∷ ls) (suc i) e b = at_place ks ls i (omega arith) ((and_parts (kind_below k l) (row_below ks ls) b).1)

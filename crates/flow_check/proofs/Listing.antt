@@ -1,6 +1,7 @@
 -- The rules of the lists: what they say of each item.
-use Rattle.std.proofs.Common.{◌≡◌, ℕ, ◌+◌, ◌<◌, ◌≤◌, Bool, true, false, length, Option, Some, None, refl, ap, ◌∙◌}
-use Rattle.std.specs.Prelude.{nat_lt, ◌||◌, option_map, unwrap_or, is_some}
+use Rattle.std.proofs.Common.{◌≡◌, ℕ, ◌+◌, ◌<◌, ◌≤◌, true, false, length, Option, Some, None, refl, ap, ◌∙◌}
+use Rattle.std.specs.Prelude.{nat_lt, option_map, unwrap_or, is_some}
+use Rattle.std.proofs.lemmas.Bool.{or_parts}
 use Rattle.component_file.specs.declared.component.ComponentFields.{ComponentFields}
 use Rattle.component_check.specs.Places.{Test, first_of, first_place}
 use Rattle.component_check.proofs.First.{IsFirstIn, first_below_is}
@@ -9,15 +10,12 @@ use Rattle.call_sequence.specs.Standing.{site_difference}
 use Rattle.flow_check.specs.Lists.{site_of, site_is_bad, k1, k2}
 use Rattle.flow_check.proofs.Ascending.{le_of}
 
-pub or_false : (a b : Bool) → (a || b) ≡ false → (a ≡ false) × (b ≡ false)
-or_false true b e = cc
-or_false false b e = (refl, e)
-
 -- a rule that has no first place is broken nowhere
 pub each_kept : {P : Type 0} (t : Test P) → first_place t ≡ None → (i : ℕ) → i < t.count → t.broken i ≡ false
 each_kept t e = by_first (first_of t) (first_below_is t.broken t.count) e
   where
-    by_first : (o : Option ℕ) → IsFirstIn t.broken t.count o → option_map t.place o ≡ None → (i : ℕ) → i < t.count → t.broken i ≡ false
+    by_first : (o : Option ℕ) → IsFirstIn t.broken t.count o → option_map t.place o ≡ None → (i : ℕ)
+        → i < t.count → t.broken i ≡ false
     by_first None h e = h
     by_first (Some p) h e = cc
 
@@ -29,16 +27,19 @@ broken_first t p e = by_first (first_of t) (first_below_is t.broken t.count) e
     by_first None h e = cc
     by_first (Some q) h e = let same : q ≡ p = cc in rw same at h.1
 
-pub site_room : (c : ComponentFields) (i : ℕ) → site_is_bad c i ≡ false → site_of c i + SITE_WORDS ≤ length c.code
-site_room c i e = le_of (length c.code) (site_of c i + SITE_WORDS) (or_false (nat_lt (length c.code) (site_of c i + SITE_WORDS)) _ e).0
+pub site_room : (c : ComponentFields) (i : ℕ) → site_is_bad c i ≡ false
+    → site_of c i + SITE_WORDS ≤ length c.code
+site_room c i e = le_of (length c.code) (site_of c i + SITE_WORDS) (or_parts (nat_lt (length c.code) (site_of c i + SITE_WORDS)) _ e).0
 
 -- where K1 is kept, the code has room for each site
-pub has_room : (c : ComponentFields) (i : ℕ) → first_place (k1 c) ≡ None → i < length c.sites → site_of c i + SITE_WORDS ≤ length c.code
+pub has_room : (c : ComponentFields) (i : ℕ) → first_place (k1 c) ≡ None → i < length c.sites
+    → site_of c i + SITE_WORDS ≤ length c.code
 unfolding k1
 has_room c i e lt = site_room c i (each_kept (k1 c) e i lt)
 
 -- the place of K2 is the first word of the first site that differs
-pub difference_first : (c : ComponentFields) (i : ℕ) → Some i ≡ first_of (k2 c) → site_difference c i ≡ first_place (k2 c)
+pub difference_first : (c : ComponentFields) (i : ℕ) → Some i ≡ first_of (k2 c)
+    → site_difference c i ≡ first_place (k2 c)
 unfolding k2
 difference_first c i e =
     by_difference (site_difference c i) refl (broken_first (k2 c) i e)

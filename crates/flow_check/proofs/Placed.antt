@@ -1,8 +1,11 @@
 -- What the rules of the lists say of the code's offsets.
-use Rattle.std.proofs.Common.{◌≡◌, ℕ, zero, suc, ◌+◌, ◌-◌, ◌<◌, ◌≤◌, ◌⊎◌, inl, inr, Bool, true, false, List, [], ◌∷◌, length, get_or, Option, Some, None, refl, sym, ap, ◌∙◌, arith, le-leb}
-use Rattle.std.specs.Prelude.{◌==◌, nat_le, nat_lt, slice_get, not, ◌&&◌, ◌||◌, cond, map, is_some, option_map}
+use Rattle.std.proofs.Common.{◌≡◌, ℕ, zero, suc, ◌+◌, ◌-◌, ◌<◌, ◌≤◌, ◌⊎◌, inl, inr, Bool, true, false, List}
+use Rattle.std.proofs.Common.{[], ◌∷◌, length, get_or, Option, Some, None, refl, sym, ap, ◌∙◌, arith, le-leb}
+use Rattle.std.proofs.Common.{lt-ltb}
+use Rattle.std.specs.Prelude.{◌==◌, nat_le, nat_lt, slice_get, not, ◌&&◌, ◌||◌, cond, map, is_some}
+use Rattle.std.specs.Prelude.{option_map}
 use Rattle.std.specs.List.{find}
-use Rattle.std.proofs.lemmas.Bool.{eqb-true}
+use Rattle.std.proofs.lemmas.Bool.{eqb-true, and_parts, not-false, or_parts, false_from_ne_true, and_from}
 use Rattle.std.proofs.lemmas.Bool.Decides.{nat_tests}
 use Rattle.std.proofs.lemmas.Option.{slice_get_within, get_or_from_slice_get}
 use Rattle.std.proofs.lemmas.List.Folds.{list_any_at}
@@ -17,50 +20,40 @@ use Rattle.call_sequence.specs.declared.TheConstants.{SITE_WORDS, ENTRY_WORDS}
 use Rattle.call_sequence.specs.Standing.{site_difference, is_entry, is_site}
 use Rattle.flow_check.specs.Kinds.{Row}
 use Rattle.flow_check.specs.Places.{begins_entry, begins_site, in_entry, in_site, is_inside, declared}
-use Rattle.flow_check.specs.Lists.{site_of, site_is_bad, overlap, meets_entry, meets_site, entry_is_bad, row_offset, of_entry, is_misplaced, k1, k2, k3, k4, lists}
-use Rattle.flow_check.proofs.Ascending.{lt_of, lt_is, le_of, eq_is, eq_not}
-use Rattle.flow_check.proofs.Listing.{or_false, site_room}
+use Rattle.flow_check.specs.Lists.{site_of, site_is_bad, overlap, meets_entry, meets_site, entry_is_bad}
+use Rattle.flow_check.specs.Lists.{row_offset, of_entry, is_misplaced, k1, k2, k3, k4, lists}
+use Rattle.flow_check.proofs.Ascending.{lt_of, le_of, eq_is, eq_not}
+use Rattle.flow_check.proofs.Listing.{site_room}
 use Rattle.flow_check.proofs.Entries.{any_index, no_export, entry_of, entry_at, export_fits}
 use Rattle.flow_check.proofs.Walks.{Inside, ListsKept}
 
-pub not_true : (b : Bool) → (b ≡ true → ⊥) → b ≡ false
-not_true true h = absurd (h refl)
-not_true false h = refl
-
 no_contradiction : (b : Bool) → b ≡ true → b ≡ false → ⊥
 no_contradiction b t f = let e : true ≡ false = sym t ∙ f in cc
-
-both : (a b : Bool) → a ≡ true → b ≡ true → (a && b) ≡ true
-both a b e f = rw (e, f) refl
-
-both_of : (a b : Bool) → (a && b) ≡ true → (a ≡ true) × (b ≡ true)
-both_of true b e = (refl, e)
-both_of false b e = cc
 
 second_false : (a b : Bool) → a ≡ true → (a && b) ≡ false → b ≡ false
 second_false true b e h = h
 second_false false b e h = cc
 
-not_false : (b : Bool) → not b ≡ false → b ≡ true
-not_false true e = refl
-not_false false e = cc
-
-find_index : {A : Type 0} (p : A → Bool) (xs : List A) (x d : A) → find p xs ≡ Some x → (j : ℕ) × (j < length xs) × (p (get_or xs j d) ≡ true)
+find_index : {A : Type 0} (p : A → Bool) (xs : List A) (x d : A) → find p xs ≡ Some x
+    → (j : ℕ) × (j < length xs) × (p (get_or xs j d) ≡ true)
 find_index p [] x d e = cc
 find_index p (y ∷ ys) x d e = by_head (p y) refl e (find_index p ys x d)
   where
-    by_head : (b : Bool) → p y ≡ b → cond b (Some y) (find p ys) ≡ Some x → (find p ys ≡ Some x → (j : ℕ) × (j < length ys) × (p (get_or ys j d) ≡ true)) → (j : ℕ) × (j < length (y ∷ ys)) × (p (get_or (y ∷ ys) j d) ≡ true)
+    by_head : (b : Bool) → p y ≡ b → cond b (Some y) (find p ys) ≡ Some x
+        → (find p ys ≡ Some x → (j : ℕ) × (j < length ys) × (p (get_or ys j d) ≡ true))
+        → (j : ℕ) × (j < length (y ∷ ys)) × (p (get_or (y ∷ ys) j d) ≡ true)
     by_head true h e more = (0, omega arith, h)
     by_head false h e more = let k = more e in (suc k.0, (let l : k.0 < length ys = k.1 in omega arith), k.2)
 
-get_map : {A : Type 0} (f : A → ℕ) (xs : List A) (j e : ℕ) (d : A) → j < length xs → get_or (map f xs) j e ≡ f (get_or xs j d)
+get_map : {A : Type 0} (f : A → ℕ) (xs : List A) (j e : ℕ) (d : A) → j < length xs
+    → get_or (map f xs) j e ≡ f (get_or xs j d)
 get_map f [] j e d lt = absurd (omega arith)
 get_map f (x ∷ xs) zero e d lt = refl
 get_map f (x ∷ xs) (suc j) e d lt = get_map f xs j e d (omega arith)
 
 module _ (c : ComponentFields) (placed : NoneBroken (lists c)) where
   unbroken : (n : ℕ) (t : Test ℕ) → rule (lists c) n ≡ Some t → (i : ℕ) → i < t.count → t.broken i ≡ false
-  unbroken n t is i lt = not_true (t.broken i) (λ b. placed n i t is (lt, b))
+  unbroken n t is i lt = false_from_ne_true (t.broken i) (λ b. placed n i t is (lt, b))
 
   -- ---- sites
 
@@ -81,8 +74,8 @@ module _ (c : ComponentFields) (placed : NoneBroken (lists c)) where
   next_apart : (i : ℕ) → suc i < length c.sites → site_of c i + SITE_WORDS ≤ site_of c (suc i)
   next_apart i lt =
       let before : suc i - 1 ≡ i = omega arith in
-      let h = (or_false (nat_lt (length c.code) (site_of c (suc i) + SITE_WORDS)) _ (k1_kept (suc i) lt)).1 in
-      le_of (site_of c (suc i)) (site_of c i + SITE_WORDS) (second_false (nat_lt 0 (suc i)) _ (lt_is 0 (suc i) (omega arith)) (rw before at h))
+      let h = (or_parts (nat_lt (length c.code) (site_of c (suc i) + SITE_WORDS)) _ (k1_kept (suc i) lt)).1 in
+      le_of (site_of c (suc i)) (site_of c i + SITE_WORDS) (second_false (nat_lt 0 (suc i)) _ (lt-ltb 0 (suc i) (omega arith)) (rw before at h))
 
   apart : (i k : ℕ) → suc (k + i) < length c.sites → site_of c i + SITE_WORDS ≤ site_of c (suc (k + i))
   apart i zero lt = let e : suc (0 + i) ≡ suc i = omega arith in rw e (next_apart i (rw e at lt))
@@ -105,7 +98,7 @@ module _ (c : ComponentFields) (placed : NoneBroken (lists c)) where
 
   pub site_stands : (i : ℕ) → i < length c.sites → is_site c i ≡ true
   unfolding is_site
-  site_stands i lt = rw (k2_kept i lt) (both (nat_le (site_of c i + SITE_WORDS) (length c.code)) true (le-leb (site_of c i + SITE_WORDS) (length c.code) (room i lt)) refl)
+  site_stands i lt = rw (k2_kept i lt) (and_from (nat_le (site_of c i + SITE_WORDS) (length c.code)) true (le-leb (site_of c i + SITE_WORDS) (length c.code) (room i lt)) refl)
 
   -- ---- entries
 
@@ -121,14 +114,15 @@ module _ (c : ComponentFields) (placed : NoneBroken (lists c)) where
     unfolding k3
     k3_kept o e =
         let h : (begins_entry c o && entry_is_bad c o) ≡ false = unbroken 3 (k3 c) refl o (small o e) in
-        not_true (entry_is_bad c o) (λ b. no_contradiction (begins_entry c o && entry_is_bad c o) (both (begins_entry c o) (entry_is_bad c o) e b) h)
+        false_from_ne_true (entry_is_bad c o) (λ b. no_contradiction (begins_entry c o && entry_is_bad c o) (and_from (begins_entry c o) (entry_is_bad c o) e b) h)
 
-    entry_good : (o : ℕ) → begins_entry c o ≡ true → (is_entry c o ≡ true) × (meets_entry c o ≡ false) × (meets_site c o ≡ false)
+    entry_good : (o : ℕ) → begins_entry c o ≡ true
+        → (is_entry c o ≡ true) × (meets_entry c o ≡ false) × (meets_site c o ≡ false)
     unfolding entry_is_bad
     entry_good o e =
-        let h = or_false (not (is_entry c o)) (meets_entry c o || meets_site c o) (k3_kept o e) in
-        let m = or_false (meets_entry c o) (meets_site c o) h.1 in
-        (not_false (is_entry c o) h.0, m.0, m.1)
+        let h = or_parts (not (is_entry c o)) (meets_entry c o || meets_site c o) (k3_kept o e) in
+        let m = or_parts (meets_entry c o) (meets_site c o) h.1 in
+        (not-false (is_entry c o) h.0, m.0, m.1)
 
     pub entry_stands : (o : ℕ) → begins_entry c o ≡ true → is_entry c o ≡ true
     entry_stands o e = (entry_good o e).0
@@ -142,25 +136,27 @@ module _ (c : ComponentFields) (placed : NoneBroken (lists c)) where
 
         by_fail : (f : Option ℕ) → c.fail_at ≡ f → o + ENTRY_WORDS ≤ length c.code
         by_fail None m = cc (rw m at e)
-        by_fail (Some f) m = le_true (o + ENTRY_WORDS) (length c.code) (both_of _ _ (rw m at e)).0
+        by_fail (Some f) m = le_true (o + ENTRY_WORDS) (length c.code) (and_parts _ _ (rw m at e)).0
 
     pub entry_within : (o : ℕ) → begins_entry c o ≡ true → o + ENTRY_WORDS ≤ length c.code
     entry_within o e = entry_room o (entry_stands o e)
 
     -- a site and an entry have no word in common
-    no_common : (s o : ℕ) → begins_site c s ≡ true → begins_entry c o ≡ true → s < o + ENTRY_WORDS → o < s + SITE_WORDS → ⊥
+    no_common : (s o : ℕ) → begins_site c s ≡ true → begins_entry c o ≡ true → s < o + ENTRY_WORDS
+        → o < s + SITE_WORDS → ⊥
     no_common s o e f low high =
         let k = site_index s e in
         no_contradiction (meets_site c o)
-        (list_any_at (λ x. overlap x SITE_WORDS o ENTRY_WORDS) c.sites k.0 0 k.1 (rw k.2 (both (nat_lt s (o + ENTRY_WORDS)) (nat_lt o (s + SITE_WORDS)) (lt_is s (o + ENTRY_WORDS) low) (lt_is o (s + SITE_WORDS) high))))
+        (list_any_at (λ x. overlap x SITE_WORDS o ENTRY_WORDS) c.sites k.0 0 k.1 (rw k.2 (and_from (nat_lt s (o + ENTRY_WORDS)) (nat_lt o (s + SITE_WORDS)) (lt-ltb s (o + ENTRY_WORDS) low) (lt-ltb o (s + SITE_WORDS) high))))
         (entry_good o f).2
 
     -- nor have two entries
-    entries_apart : (a o : ℕ) → begins_entry c a ≡ true → begins_entry c o ≡ true → a < o → o < a + ENTRY_WORDS → ⊥
+    entries_apart : (a o : ℕ) → begins_entry c a ≡ true → begins_entry c o ≡ true → a < o
+        → o < a + ENTRY_WORDS → ⊥
     entries_apart a o e f low high =
         let k = entry_of c a no_export e in
         no_contradiction (meets_entry c o)
-        (list_any_at (λ (x : Export). not (x.offset == o) && overlap x.offset ENTRY_WORDS o ENTRY_WORDS) c.exports k.0 no_export k.1 (rw k.2 (both (not (a == o)) (overlap a ENTRY_WORDS o ENTRY_WORDS) (other a o low) (both (nat_lt a (o + ENTRY_WORDS)) (nat_lt o (a + ENTRY_WORDS)) (lt_is a (o + ENTRY_WORDS) (omega arith)) (lt_is o (a + ENTRY_WORDS) high)))))
+        (list_any_at (λ (x : Export). not (x.offset == o) && overlap x.offset ENTRY_WORDS o ENTRY_WORDS) c.exports k.0 no_export k.1 (rw k.2 (and_from (not (a == o)) (overlap a ENTRY_WORDS o ENTRY_WORDS) (other a o low) (and_from (nat_lt a (o + ENTRY_WORDS)) (nat_lt o (a + ENTRY_WORDS)) (lt-ltb a (o + ENTRY_WORDS) (omega arith)) (lt-ltb o (a + ENTRY_WORDS) high)))))
         (entry_good o f).1
       where
         other : (a o : ℕ) → a < o → not (a == o) ≡ true
@@ -175,7 +171,8 @@ module _ (c : ComponentFields) (placed : NoneBroken (lists c)) where
         order : (p q : ℕ) → (p < q) ⊎ ((p ≡ q) ⊎ (q < p))
         order p q = grind arith
 
-        by_order : (i j : ℕ) → (i < j) ⊎ ((i ≡ j) ⊎ (j < i)) → i < length c.sites → j < length c.sites → site_of c i ≡ s → site_of c j ≡ t → ⊥
+        by_order : (i j : ℕ) → (i < j) ⊎ ((i ≡ j) ⊎ (j < i)) → i < length c.sites → j < length c.sites
+            → site_of c i ≡ s → site_of c j ≡ t → ⊥
         by_order i j (inl l) a b p q = let far : site_of c i + SITE_WORDS ≤ site_of c j = apart_at i j l b in omega arith
         by_order i j (inr (inl e)) a b p q = let same : site_of c i ≡ site_of c j = ap (site_of c) e in omega arith
         by_order i j (inr (inr l)) a b p q = let far : site_of c j + SITE_WORDS ≤ site_of c i = apart_at j i l a in omega arith
@@ -184,12 +181,13 @@ module _ (c : ComponentFields) (placed : NoneBroken (lists c)) where
 
     pub outside : (o : ℕ) → is_inside c o ≡ false → Inside c o → ⊥
     unfolding begins_entry begins_site in_entry in_site
-    outside o h i = by_seq i.seq (or_false (in_entry c o) (in_site c o) h)
+    outside o h i = by_seq i.seq (or_parts (in_entry c o) (in_site c o) h)
       where
         behind : (s n : ℕ) → s < o → o < s + n → (nat_lt s o && nat_lt o (s + n)) ≡ true
-        behind s n low high = both (nat_lt s o) (nat_lt o (s + n)) (lt_is s o low) (lt_is o (s + n) high)
+        behind s n low high = and_from (nat_lt s o) (nat_lt o (s + n)) (lt-ltb s o low) (lt-ltb o (s + n) high)
 
-        by_seq : ((begins_entry c i.start ≡ true) × (i.size ≡ ENTRY_WORDS)) ⊎ ((begins_site c i.start ≡ true) × (i.size ≡ SITE_WORDS)) → (in_entry c o ≡ false) × (in_site c o ≡ false) → ⊥
+        by_seq : ((begins_entry c i.start ≡ true) × (i.size ≡ ENTRY_WORDS)) ⊎ ((begins_site c i.start ≡ true) × (i.size ≡ SITE_WORDS))
+            → (in_entry c o ≡ false) × (in_site c o ≡ false) → ⊥
         by_seq (inl e) none =
             let k = entry_of c i.start no_export e.0 in
             let high : o < i.start + ENTRY_WORDS = (let a = i.before_end in let b = e.1 in omega arith) in
@@ -209,7 +207,7 @@ module _ (c : ComponentFields) (placed : NoneBroken (lists c)) where
         by_entry : (b : Bool) → in_entry c o ≡ b → (b || in_site c o) ≡ true → Inside c o
         by_entry true e t =
             let k = any_index (λ (x : Export). nat_lt x.offset o && nat_lt o (x.offset + ENTRY_WORDS)) c.exports no_export e in
-            let m = both_of _ _ k.2 in
+            let m = and_parts _ _ k.2 in
             record {
               start = (get_or c.exports k.0 no_export).offset;
               size = ENTRY_WORDS;
@@ -219,7 +217,7 @@ module _ (c : ComponentFields) (placed : NoneBroken (lists c)) where
             }
         by_entry false e t =
             let k = any_index (λ s. nat_lt s o && nat_lt o (s + SITE_WORDS)) c.sites 0 t in
-            let m = both_of _ _ k.2 in
+            let m = and_parts _ _ k.2 in
             record {
               start = get_or c.sites k.0 0;
               size = SITE_WORDS;
@@ -240,38 +238,42 @@ module _ (c : ComponentFields) (placed : NoneBroken (lists c)) where
     within_entry o a e low high =
         let k = entry_of c a no_export e in
         list_any_at (λ (x : Export). nat_le x.offset o && nat_lt o (x.offset + ENTRY_WORDS)) c.exports k.0 no_export k.1
-        (rw k.2 (both (nat_le a o) (nat_lt o (a + ENTRY_WORDS)) (le-leb a o low) (lt_is o (a + ENTRY_WORDS) high)))
+        (rw k.2 (and_from (nat_le a o) (nat_lt o (a + ENTRY_WORDS)) (le-leb a o low) (lt-ltb o (a + ENTRY_WORDS) high)))
 
     free_of_entry : (o : ℕ) → of_entry c o ≡ false → (begins_entry c o ≡ false) × (in_entry c o ≡ false)
     unfolding in_entry
     free_of_entry o h = (
-      not_true (begins_entry c o) (λ e. no_contradiction (of_entry c o) (within_entry o o e (omega arith) (omega arith)) h),
-      not_true (in_entry c o) (λ e.
+      false_from_ne_true (begins_entry c o) (λ e. no_contradiction (of_entry c o) (within_entry o o e (omega arith) (omega arith)) h),
+      false_from_ne_true (in_entry c o) (λ e.
           let k = any_index (λ (x : Export). nat_lt x.offset o && nat_lt o (x.offset + ENTRY_WORDS)) c.exports no_export e in
-          let m = both_of _ _ k.2 in
+          let m = and_parts _ _ k.2 in
           let low : (get_or c.exports k.0 no_export).offset < o = lt_of _ o m.0 in
           no_contradiction (of_entry c o) (within_entry o (get_or c.exports k.0 no_export).offset (entry_at c k.0 no_export k.1) (omega arith) (lt_of o _ m.1)) h),
     )
 
-    free_row : (o : ℕ) → is_misplaced c o ≡ false → (o < length c.code) × (begins_entry c o ≡ false) × (Inside c o → ⊥)
+    free_row : (o : ℕ) → is_misplaced c o ≡ false
+        → (o < length c.code) × (begins_entry c o ≡ false) × (Inside c o → ⊥)
     unfolding is_misplaced
     free_row o h =
-        let a = or_false (nat_le (length c.code) o) _ h in
-        let b = or_false (of_entry c o) (in_site c o) a.1 in
+        let a = or_parts (nat_le (length c.code) o) _ h in
+        let b = or_parts (of_entry c o) (in_site c o) a.1 in
         let e = free_of_entry o b.0 in
         (within (length c.code) o a.0, e.0, outside o (rw (e.1, b.1) refl))
       where
         within : (n o : ℕ) → nat_le n o ≡ false → o < n
         within n o e = grind (arith, nat_tests)
 
-    row_index : (o : ℕ) (d : Row) → declared c o ≡ Some d → (i : ℕ) × (i < length c.rows) × (row_offset c i ≡ o)
+    row_index : (o : ℕ) (d : Row) → declared c o ≡ Some d
+        → (i : ℕ) × (i < length c.rows) × (row_offset c i ≡ o)
     unfolding declared
     row_index o d e = by_row (find (λ (r : KindRow). r.offset == o) c.rows) refl e
       where
         no_row : KindRow
         no_row = record { offset = 0; kinds = [] }
 
-        by_row : (r : Option KindRow) → find (λ (r : KindRow). r.offset == o) c.rows ≡ r → option_map (λ (r : KindRow). r.kinds) r ≡ Some d → (i : ℕ) × (i < length c.rows) × (row_offset c i ≡ o)
+        by_row : (r : Option KindRow) → find (λ (r : KindRow). r.offset == o) c.rows ≡ r
+            → option_map (λ (r : KindRow). r.kinds) r ≡ Some d
+            → (i : ℕ) × (i < length c.rows) × (row_offset c i ≡ o)
         by_row None m e = cc
         by_row (Some r) m e =
             let k = find_index (λ (r : KindRow). r.offset == o) c.rows r no_row m in
@@ -279,18 +281,22 @@ module _ (c : ComponentFields) (placed : NoneBroken (lists c)) where
 
     pub placed_lists : ListsKept c
     placed_lists = record {
-      entries = λ o e. (entry_room o (entry_stands o e), not_true (begins_site c o) (λ s. no_common o o s e (omega arith) (omega arith)), λ i. in_seq_e o e i i.seq);
-      sites = λ o s. (site_fits o s, not_true (begins_entry c o) (λ e. no_common o o s e (omega arith) (omega arith)), λ i. in_seq_s o s i i.seq);
+      entries = λ o e. (entry_room o (entry_stands o e), false_from_ne_true (begins_site c o) (λ s. no_common o o s e (omega arith) (omega arith)), λ i. in_seq_e o e i i.seq);
+      sites = λ o s. (site_fits o s, false_from_ne_true (begins_entry c o) (λ e. no_common o o s e (omega arith) (omega arith)), λ i. in_seq_s o s i i.seq);
       rows = λ o d e. (let k = row_index o d e in free_row o (rw k.2 at (k4_kept k.0 k.1)));
     }
       where
         site_fits : (o : ℕ) → begins_site c o ≡ true → o + SITE_WORDS ≤ length c.code
         site_fits o s = let k = site_index o s in rw k.2 at (room k.0 k.1)
 
-        in_seq_e : (o : ℕ) → begins_entry c o ≡ true → (i : Inside c o) → ((begins_entry c i.start ≡ true) × (i.size ≡ ENTRY_WORDS)) ⊎ ((begins_site c i.start ≡ true) × (i.size ≡ SITE_WORDS)) → ⊥
+        in_seq_e : (o : ℕ) → begins_entry c o ≡ true → (i : Inside c o)
+            → ((begins_entry c i.start ≡ true) × (i.size ≡ ENTRY_WORDS)) ⊎ ((begins_site c i.start ≡ true) × (i.size ≡ SITE_WORDS))
+            → ⊥
         in_seq_e o e i (inl h) = entries_apart i.start o h.0 e i.after (let a = i.before_end in let b = h.1 in omega arith)
         in_seq_e o e i (inr h) = no_common i.start o h.0 e (let a = i.after in omega arith) (let a = i.before_end in let b = h.1 in omega arith)
 
-        in_seq_s : (o : ℕ) → begins_site c o ≡ true → (i : Inside c o) → ((begins_entry c i.start ≡ true) × (i.size ≡ ENTRY_WORDS)) ⊎ ((begins_site c i.start ≡ true) × (i.size ≡ SITE_WORDS)) → ⊥
+        in_seq_s : (o : ℕ) → begins_site c o ≡ true → (i : Inside c o)
+            → ((begins_entry c i.start ≡ true) × (i.size ≡ ENTRY_WORDS)) ⊎ ((begins_site c i.start ≡ true) × (i.size ≡ SITE_WORDS))
+            → ⊥
         in_seq_s o s i (inl h) = no_common o i.start s h.0 (let a = i.before_end in let b = h.1 in omega arith) (let a = i.after in omega arith)
         in_seq_s o s i (inr h) = sites_apart i.start o h.0 s i.after (let a = i.before_end in let b = h.1 in omega arith)

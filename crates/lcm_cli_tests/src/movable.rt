@@ -1,10 +1,10 @@
 //! Parts that the linker places. Each answer was worked out by hand from docs/RULES.md.
 use crate::call::is_told;
-use crate::trusted::{AGAIN, BACK, CALLER, ENTERS};
 use lcm_cli::Status;
 use outside_io::MemFiles;
 use std::alloc::{AllocError, Global};
 use std::test::Fail;
+use worked_parts::{AGAIN, BACK, CALLER, ENTERS, text};
 
 const ONE: &str = "\
 .name one\n\
@@ -172,8 +172,8 @@ fn add_files(alloc: Global, files: &mut MemFiles) -> Result<(), AllocError> {
     files.add("one.asm", ONE.as_bytes())?;
     files.add("far.asm", FAR.as_bytes())?;
     files.add("back.asm", BACK.as_bytes())?;
-    add_movable(alloc, files, "t.asm", CALLER)?;
-    add_movable(alloc, files, "again.asm", AGAIN)?;
+    add_movable(alloc, files, "t.asm", text(alloc, &CALLER)?.as_str())?;
+    add_movable(alloc, files, "again.asm", text(alloc, &AGAIN)?.as_str())?;
     add_movable(alloc, files, "enters.asm", ENTERS)
 }
 

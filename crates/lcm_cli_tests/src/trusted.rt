@@ -2,74 +2,22 @@
 use crate::call::{Case, are_told, is_told, is_told_unwritten};
 use lcm_cli::Status;
 use outside_io::MemFiles;
-use std::alloc::AllocError;
+use std::alloc::{AllocError, Global};
 use std::test::Fail;
+use worked_parts::{AGAIN, BACK, CALLER, ENTERS, Piece, text};
 
 // An entry at 2, a call at 25, and three words before it that jump into it.
-const PART: &str = "\
-.name t\n\
-.stack 65536\n\
-.closure 10\n\
-.seals 11 1\n\
-.code 4096\n\
-fail\n\
-.seal 11 11 11\n\
-move t2 pc\n\
-cca t2 -2\n\
-gettype t1 stk\n\
-minus t1 t1 1\n\
-jnz t2 t1\n\
-getlin t1 stk\n\
-minus t1 t1 1\n\
-jnz t2 t1\n\
-getp t1 stk\n\
-minus t1 t1 2\n\
-jnz t2 t1\n\
-getb t1 stk\n\
-minus t1 t1 65536\n\
-jnz t2 t1\n\
-seta2b stk\n\
-gete t1 stk\n\
-minus t1 t1 65536\n\
-cca stk t1\n\
-move t1 0\n\
-move t2 0\n\
-move t2 pc\n\
-cca t2 9\n\
-jmp t2\n\
-store stk data\n\
-move t1 pc\n\
-cca t1 -25\n\
-load t2 t1\n\
-cca t2 0\n\
-geta t1 stk\n\
-minus t1 t1 1\n\
-split stk rdata stk t1\n\
-cca stk -1\n\
-cseal rdata t2\n\
-move rcode pc\n\
-cca rcode 6\n\
-cseal rcode t2\n\
-move t1 0\n\
-move t2 0\n\
-xjmp c1 c2\n\
-splice stk stk data\n\
-getb t1 stk\n\
-minus t1 t1 65536\n\
-move t2 pc\n\
-cca t2 -44\n\
-jnz t2 t1\n\
-load data stk\n\
-move t1 0\n\
-store stk t1\n\
-move t2 0\n\
-halt\n\
-.data 8192\n\
-.int 0\n\
-.export main 2 shared\n\
-.site 25\n\
-.fail 0\n\
-.literal 1\n";
+static PART: [Piece; 5] = [
+    Piece::Lines(
+        ".name t\n.stack 65536\n.closure 10\n.seals 11 1\n.code 4096\nstop: fail\nlit: .seal 11 11 11\n",
+    ),
+    Piece::Entry("main"),
+    Piece::Lines("move t2 pc\ncca t2 9\njmp t2\n"),
+    Piece::Site("one", "0"),
+    Piece::Lines(
+        "halt\n.data 8192\n.int 0\n.export main main shared\n.site one\n.fail stop\n.literal lit\n",
+    ),
+];
 
 static CHECKS: [Case<'static>; 2] = [
     ("check t:t.asm", Status::RuleBroken, "rule 0 K7 24\n", None),
@@ -79,224 +27,10 @@ static CHECKS: [Case<'static>; 2] = [
 #[test]
 fn a_jump_into_a_call_is_told_of_a_trusted_part(rt: HostRuntime) -> Result<(), Fail> {
     let mut files = MemFiles::new(rt.alloc())?;
-    files.add("t.asm", PART.as_bytes())?;
+    files.add("t.asm", text(rt.alloc(), &PART)?.as_bytes())?;
     are_told(&rt, rt.alloc(), &mut files, &CHECKS)?;
     Ok(())
 }
-
-/// A trusted part: an entry at 2, and then a call of what it imports.
-pub(crate) const CALLER: &str = "\
-.name t\n\
-.stack 65536\n\
-.closure 10\n\
-.seals 11 1\n\
-.code 4096\n\
-fail\n\
-.seal 11 11 11\n\
-move t2 pc\n\
-cca t2 -2\n\
-gettype t1 stk\n\
-minus t1 t1 1\n\
-jnz t2 t1\n\
-getlin t1 stk\n\
-minus t1 t1 1\n\
-jnz t2 t1\n\
-getp t1 stk\n\
-minus t1 t1 2\n\
-jnz t2 t1\n\
-getb t1 stk\n\
-minus t1 t1 65536\n\
-jnz t2 t1\n\
-seta2b stk\n\
-gete t1 stk\n\
-minus t1 t1 65536\n\
-cca stk t1\n\
-move t1 0\n\
-move t2 0\n\
-load c1 data\n\
-cca data 1\n\
-load c2 data\n\
-store stk data\n\
-move t1 pc\n\
-cca t1 -25\n\
-load t2 t1\n\
-cca t2 0\n\
-geta t1 stk\n\
-minus t1 t1 1\n\
-split stk rdata stk t1\n\
-cca stk -1\n\
-cseal rdata t2\n\
-move rcode pc\n\
-cca rcode 6\n\
-cseal rcode t2\n\
-move t1 0\n\
-move t2 0\n\
-xjmp c1 c2\n\
-splice stk stk data\n\
-getb t1 stk\n\
-minus t1 t1 65536\n\
-move t2 pc\n\
-cca t2 -44\n\
-jnz t2 t1\n\
-load data stk\n\
-move t1 0\n\
-store stk t1\n\
-move t2 0\n\
-halt\n\
-.data 8192\n\
-.int 0\n\
-.int 0\n\
-.import adv go 0\n\
-.export main 2 shared\n\
-.site 25\n\
-.fail 0\n\
-.literal 1\n";
-
-/// What it calls, which goes right back.
-pub(crate) const BACK: &str = "\
-.name adv\n\
-.stack 65536\n\
-.closure 20\n\
-.code 12288\n\
-xjmp rcode rdata\n\
-.data 16384\n\
-.int 0\n\
-.export go 0 shared\n";
-
-/// The same with a second entry, which calls what its caller would go back to.
-pub(crate) const AGAIN: &str = "\
-.name t\n\
-.stack 65536\n\
-.closure 10\n\
-.seals 11 2\n\
-.code 4096\n\
-fail\n\
-.seal 11 12 11\n\
-move t2 pc\n\
-cca t2 -2\n\
-gettype t1 stk\n\
-minus t1 t1 1\n\
-jnz t2 t1\n\
-getlin t1 stk\n\
-minus t1 t1 1\n\
-jnz t2 t1\n\
-getp t1 stk\n\
-minus t1 t1 2\n\
-jnz t2 t1\n\
-getb t1 stk\n\
-minus t1 t1 65536\n\
-jnz t2 t1\n\
-seta2b stk\n\
-gete t1 stk\n\
-minus t1 t1 65536\n\
-cca stk t1\n\
-move t1 0\n\
-move t2 0\n\
-load c1 data\n\
-cca data 1\n\
-load c2 data\n\
-store stk data\n\
-move t1 pc\n\
-cca t1 -25\n\
-load t2 t1\n\
-cca t2 0\n\
-geta t1 stk\n\
-minus t1 t1 1\n\
-split stk rdata stk t1\n\
-cca stk -1\n\
-cseal rdata t2\n\
-move rcode pc\n\
-cca rcode 6\n\
-cseal rcode t2\n\
-move t1 0\n\
-move t2 0\n\
-xjmp c1 c2\n\
-splice stk stk data\n\
-getb t1 stk\n\
-minus t1 t1 65536\n\
-move t2 pc\n\
-cca t2 -44\n\
-jnz t2 t1\n\
-load data stk\n\
-move t1 0\n\
-store stk t1\n\
-move t2 0\n\
-halt\n\
-move t2 pc\n\
-cca t2 -52\n\
-gettype t1 stk\n\
-minus t1 t1 1\n\
-jnz t2 t1\n\
-getlin t1 stk\n\
-minus t1 t1 1\n\
-jnz t2 t1\n\
-getp t1 stk\n\
-minus t1 t1 2\n\
-jnz t2 t1\n\
-getb t1 stk\n\
-minus t1 t1 65536\n\
-jnz t2 t1\n\
-seta2b stk\n\
-gete t1 stk\n\
-minus t1 t1 65536\n\
-cca stk t1\n\
-move t1 0\n\
-move t2 0\n\
-move c1 rcode\n\
-move c2 rdata\n\
-store stk data\n\
-move t1 pc\n\
-cca t1 -74\n\
-load t2 t1\n\
-cca t2 1\n\
-geta t1 stk\n\
-minus t1 t1 1\n\
-split stk rdata stk t1\n\
-cca stk -1\n\
-cseal rdata t2\n\
-move rcode pc\n\
-cca rcode 6\n\
-cseal rcode t2\n\
-move t1 0\n\
-move t2 0\n\
-xjmp c1 c2\n\
-splice stk stk data\n\
-getb t1 stk\n\
-minus t1 t1 65536\n\
-move t2 pc\n\
-cca t2 -93\n\
-jnz t2 t1\n\
-load data stk\n\
-move t1 0\n\
-store stk t1\n\
-move t2 0\n\
-halt\n\
-.data 8192\n\
-.int 0\n\
-.int 0\n\
-.import adv go 0\n\
-.export again 52 shared\n\
-.export main 2 shared\n\
-.site 25\n\
-.site 74\n\
-.fail 0\n\
-.literal 1\n";
-
-/// What it calls, which goes to that entry.
-pub(crate) const ENTERS: &str = "\
-.name adv\n\
-.stack 65536\n\
-.closure 20\n\
-.code 12288\n\
-load c1 data\n\
-cca data 1\n\
-load c2 data\n\
-xjmp c1 c2\n\
-.data 16384\n\
-.int 0\n\
-.int 0\n\
-.import t again 0\n\
-.export go 0 shared\n";
 
 const CALLED: &str = "call out t 0 65599 65599 0 0 0 0 : cap(rw,nor,8192,8193,8193)\n";
 
@@ -396,10 +130,10 @@ static EVENTS: [(&str, &str, &str, &str, Status, Option<u64>); 11] = [
     ),
 ];
 
-fn add_files(files: &mut MemFiles) -> Result<(), AllocError> {
-    files.add("t.asm", CALLER.as_bytes())?;
+fn add_files(alloc: Global, files: &mut MemFiles) -> Result<(), AllocError> {
+    files.add("t.asm", text(alloc, &CALLER)?.as_bytes())?;
     files.add("back.asm", BACK.as_bytes())?;
-    files.add("again.asm", AGAIN.as_bytes())?;
+    files.add("again.asm", text(alloc, &AGAIN)?.as_bytes())?;
     files.add("enters.asm", ENTERS.as_bytes())?;
     Ok(())
 }
@@ -407,7 +141,7 @@ fn add_files(files: &mut MemFiles) -> Result<(), AllocError> {
 #[test]
 fn runs_and_traces_of_trusted_parts_write_their_events(rt: HostRuntime) -> Result<(), Fail> {
     let mut files = MemFiles::new(rt.alloc())?;
-    add_files(&mut files)?;
+    add_files(rt.alloc(), &mut files)?;
     for (line, first, second, end, status, count) in &EVENTS {
         let text = format!(in rt.alloc(); "{first}{second}{end}")?;
         is_told(
@@ -437,7 +171,7 @@ static UNWRITTEN: [(u32, &str, &str); 4] = [
 #[test]
 fn a_write_of_an_event_that_fails_is_the_last_one(rt: HostRuntime) -> Result<(), Fail> {
     let mut files = MemFiles::new(rt.alloc())?;
-    add_files(&mut files)?;
+    add_files(rt.alloc(), &mut files)?;
     for line in &LINES {
         for (unwritten, first, second) in &UNWRITTEN {
             let text = format!(in rt.alloc(); "{first}{second}")?;

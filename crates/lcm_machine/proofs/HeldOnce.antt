@@ -1,12 +1,16 @@
--- Each instruction, and each step, keeps that no linear memory is held twice: a short composition of what hands do.
-use Rattle.std.proofs.Common.{◌≡◌, ◌≢◌, ◌⊎◌, inl, inr, ℕ, zero, suc, ◌+◌, ◌<◌, ◌≤◌, ℤ, pos, negsuc, Bool, true, false, not, List, [], ◌∷◌, refl, sym, ap, subst, ◌∙◌, arith}
+-- Each instruction, and each step, keeps that no linear memory is held twice: a short composition of what
+-- hands do.
+use Rattle.std.proofs.Common.{◌≡◌, ◌≢◌, ◌⊎◌, inl, inr, ℕ, zero, suc, ◌+◌, ◌<◌, ◌≤◌, ℤ, pos, negsuc, Bool}
+use Rattle.std.proofs.Common.{true, false, not, List, [], ◌∷◌, refl, sym, ap, subst, ◌∙◌, arith}
 use Rattle.std.specs.Prelude.{Option, Some, None, IsTrue, if◌then◌else◌, nat_lt, nat_le, ◌+ℤ◌, ◌-ℤ◌}
 use Rattle.std.proofs.lemmas.Bool.{not-true, eqb-true, leb-true, ltb-true, and_parts, cases_lt}
 use Rattle.lcm_isa.specs.declared.Reg.{Reg}
 use Rattle.lcm_isa.specs.declared.Reg.TheVariants.{Pc, Dat}
 use Rattle.lcm_isa.specs.declared.Operand.TheVariants.{R as InReg, Imm}
 use Rattle.lcm_isa.specs.declared.Instr.{Instr}
-use Rattle.lcm_isa.specs.declared.Instr.TheVariants.{Fail, Halt, Jmp, Jnz, Gettype, Geta, Getb, Gete, Getp, Getlin, Move, Store, Load, Cca, Restrict, Lt, Plus, Minus, Seta2b, Xjmp, Cseal, Split, Splice}
+use Rattle.lcm_isa.specs.declared.Instr.TheVariants.{Fail, Halt, Jmp, Jnz, Gettype, Geta, Getb, Gete, Getp}
+use Rattle.lcm_isa.specs.declared.Instr.TheVariants.{Getlin, Move, Store, Load, Cca, Restrict, Lt, Plus}
+use Rattle.lcm_isa.specs.declared.Instr.TheVariants.{Minus, Seta2b, Xjmp, Cseal, Split, Splice}
 use Rattle.cap_words.specs.declared.CapFields.{CapFields}
 use Rattle.cap_words.specs.declared.Word.{Word}
 use Rattle.cap_words.specs.declared.Word.TheVariants.{Int, Mem, Seal, Sealed as SealedWord}
@@ -25,18 +29,23 @@ use Rattle.lcm_machine.specs.declared.plan.Effect.{Effect}
 use Rattle.lcm_machine.specs.Maps.{State}
 use Rattle.lcm_machine.specs.Places.{reg}
 use Rattle.lcm_machine.specs.Table.{plan, unsealed, memory_content, no_effect, made as made_at}
-use Rattle.lcm_machine.specs.Row.{word_at, word_in, put, clear, perform, faces, opens, cell_faces, plan_in, outcome, row, Outcome, went, halted, failed, Fetched, none, some, fetch, step_fetched, step_of}
+use Rattle.lcm_machine.specs.Row.{word_at, word_in, put, clear, perform, faces, opens, cell_faces, plan_in}
+use Rattle.lcm_machine.specs.Row.{outcome, row, Outcome, went, halted, failed, Fetched, none, some, fetch}
+use Rattle.lcm_machine.specs.Row.{step_fetched, step_of}
 use Rattle.lcm_machine.specs.declared.Step.{Step}
 use Rattle.lcm_machine.specs.declared.End.{End}
 use Rattle.lcm_machine.specs.Ends.{Meets, After}
 use Rattle.lcm_machine.specs.Runs.{and_then, run_of}
 use Rattle.lcm_machine.specs.Run.{Run, moved, next_by, next_state, plain as plain_run}
-use Rattle.lcm_machine.specs.Regions.{Region, AreApart, IsLinearAt, InOneRegion, memory_of, is_over, word_over, HeldOnce, StaysHeldOnce}
-use Rattle.lcm_machine.proofs.Plans.{Gives, Gives-effect, gives_fails, gives_halts, gives_goes, Gives-ask, Gives-need, Gives-by_cap, Gives-if}
+use Rattle.lcm_machine.specs.Regions.{Region, AreApart, IsLinearAt, InOneRegion, memory_of, is_over}
+use Rattle.lcm_machine.specs.Regions.{word_over, HeldOnce, StaysHeldOnce}
+use Rattle.lcm_machine.proofs.Plans.{Gives, Gives-effect, gives_fails, gives_halts, gives_goes, Gives-ask}
+use Rattle.lcm_machine.proofs.Plans.{Gives-need, Gives-by_cap, Gives-if}
 use Rattle.lcm_machine.proofs.StateLemmas.{word_at-other}
 use Rattle.lcm_machine.proofs.RowLemmas.{step_at, look_memory, fetch_normal}
 use Rattle.lcm_machine.proofs.RegionLemmas.{over_bounds, bounds_over, normal_apart, joined_in, linear_of}
-use Rattle.lcm_machine.proofs.Hands.{Inv, Disjoint, OwnsAt, shrink, made, split_hand, splice_hands, put_hand, replace_word, take_hand}
+use Rattle.lcm_machine.proofs.Hands.{Inv, Disjoint, OwnsAt, shrink, made, split_hand, splice_hands, put_hand}
+use Rattle.lcm_machine.proofs.Hands.{replace_word, take_hand}
 
 content_is : (x : Content) (c : CapFields) → memory_content x ≡ Some c → unsealed x ≡ Mem c
 content_is (MemC b) c e = cc
@@ -49,7 +58,7 @@ opened_content (Seal t) o e = cc
 opened_content (SealedWord q (MemIn c)) o e = let k : record { seal = q; content = MemC c } ≡ o = cc in rw (← k) refl
 opened_content (SealedWord q (SealIn t)) o e = let k : record { seal = q; content = SealC t } ≡ o = cc in rw (← k) refl
 
-split_bounds : (c : CapFields) (z : ℤ) → can_split c z ≡ true → (c.base ≤ address z) × (address z < c.end)
+pub split_bounds : (c : CapFields) (z : ℤ) → can_split c z ≡ true → (c.base ≤ address z) × (address z < c.end)
 split_bounds c (pos n) e = let k = and_parts (nat_le c.base n) (nat_lt n c.end) e in (leb-true c.base n k.0, ltb-true n c.end k.1)
 split_bounds c (negsuc n) e = cc
 
@@ -80,7 +89,8 @@ module _ {W : Type 0} (look : W → Word) (plain : Word → W) (seen : (x : Word
   abbrev Free : Word → Type 0
   Free x = FitsIn x × ((a : ℕ) → Over x a → ⊥)
 
-  over_at : (x : Word) (c : CapFields) (a : ℕ) → memory_of x ≡ Some c → IsTrue (is_over (memory_of x) a) → IsTrue (covers c (pos a))
+  over_at : (x : Word) (c : CapFields) (a : ℕ) → memory_of x ≡ Some c → IsTrue (is_over (memory_of x) a)
+      → IsTrue (covers c (pos a))
   over_at x c a e h = rw e at h
 
   over_some : (x : Word) (a : ℕ) → IsTrue (is_over (memory_of x) a) → (c : CapFields) × (memory_of x ≡ Some c)
@@ -121,17 +131,20 @@ module _ {W : Type 0} (look : W → Word) (plain : Word → W) (seen : (x : Word
   zero_free = free_empty (Int (pos 0)) refl
 
   -- what hands do, at these words
-  take : {s : State W} {hs : List W} (p : Place) → Good s hs → Good (clear look plain s p) (word_in plain s p ∷ hs)
+  take : {s : State W} {hs : List W} (p : Place) → Good s hs
+      → Good (clear look plain s p) (word_in plain s p ∷ hs)
   take p i = take_hand Owns Safe look plain (safe_plain (Int (pos 0)) zero_free.0) (λ a o. zero_free.1 a (owns_plain (Int (pos 0)) a o)) (λ w f l a o. (free_normal (look w) f l).1 a o) p i
 
   give : {s : State W} {hs : List W} (p : Place) (w : W) → Good s (w ∷ hs) → Good (put s p w) hs
   give p w i = put_hand Owns Safe p w i
 
   -- a word that owns nothing goes to a place
-  give_free : {s : State W} {hs : List W} (p : Place) (x : Word) → Free x → Good s hs → Good (put s p (plain x)) hs
+  give_free : {s : State W} {hs : List W} (p : Place) (x : Word) → Free x → Good s hs
+      → Good (put s p (plain x)) hs
   give_free p x f i = give p (plain x) (made Owns Safe (plain x) (safe_plain x f.0) (λ a o. f.1 a (owns_plain x a o)) i)
 
-  word-put_at : (b : Bool) (s : State W) (d r : Reg) → R d ≢ R r → reg (if b then put s (R r) (zero_word plain) else s).regs d ≡ reg s.regs d
+  word-put_at : (b : Bool) (s : State W) (d r : Reg) → R d ≢ R r
+      → reg (if b then put s (R r) (zero_word plain) else s).regs d ≡ reg s.regs d
   word-put_at true s d r ne = some_same _ _ (word_at-other s (R r) (R d) (zero_word plain) ne)
   word-put_at false s d r ne = refl
 
@@ -144,11 +157,13 @@ module _ {W : Type 0} (look : W → Word) (plain : Word → W) (seen : (x : Word
     abbrev Keeps : Effect → Type 0
     Keeps e = Good (perform look plain s e) []
 
-    keeps-moves : (p q : Place) → Keeps (record no_effect { moved = Some (record { from = p; to = q }); next = Some next })
+    keeps-moves : (p q : Place)
+        → Keeps (record no_effect { moved = Some (record { from = p; to = q }); next = Some next })
     unfolding perform
     keeps-moves p q = give_free (R Pc) next next_free (give q _ (take p i))
 
-    keeps-jumps : (p q : Place) → Keeps (record no_effect { moved = Some (record { from = p; to = q }); next = None })
+    keeps-jumps : (p q : Place)
+        → Keeps (record no_effect { moved = Some (record { from = p; to = q }); next = None })
     unfolding perform
     keeps-jumps p q = give q _ (take p i)
 
@@ -156,19 +171,22 @@ module _ {W : Type 0} (look : W → Word) (plain : Word → W) (seen : (x : Word
     unfolding perform
     keeps-goes_on = give_free (R Pc) next next_free i
 
-    keeps-makes : (r : Reg) (x : Word) → memory_of x ≡ None → Keeps (record no_effect { first = made_at r x; next = Some next })
+    keeps-makes : (r : Reg) (x : Word) → memory_of x ≡ None
+        → Keeps (record no_effect { first = made_at r x; next = Some next })
     unfolding perform
     keeps-makes r x e = give_free (R Pc) next next_free (give_free (R r) x (free_empty x e) i)
 
     -- a capability changes in its register
-    keeps-in_place : (r : Reg) (x : Word) → Within x (look (reg s.regs r)) → Keeps (record no_effect { first = made_at r x; next = Some next })
+    keeps-in_place : (r : Reg) (x : Word) → Within x (look (reg s.regs r))
+        → Keeps (record no_effect { first = made_at r x; next = Some next })
     unfolding perform
     keeps-in_place r x l =
         let w = reg s.regs r in
         let f = i.safe_places (R r) w refl in
         give_free (R Pc) next next_free (replace_word Owns Safe (R r) w (plain x) refl (safe_plain x (within_fits x (look w) l f)) (λ a o. within_over x (look w) l a (owns_plain x a o)) i)
 
-    keeps-split : (r1 r2 r3 : Reg) (c : CapFields) (z : ℤ) → look (reg s.regs r3) ≡ Mem c → (c.base ≤ address z) × (address z < c.end)
+    keeps-split : (r1 r2 r3 : Reg) (c : CapFields) (z : ℤ) → look (reg s.regs r3) ≡ Mem c
+        → (c.base ≤ address z) × (address z < c.end)
         → Keeps (record no_effect { spent = Some r3; first = made_at r1 (Mem (record c { end = address z })); second = made_at r2 (Mem (record c { base = address z + 1 })); next = Some next })
     unfolding perform
     keeps-split r1 r2 r3 c z e k =
@@ -186,7 +204,8 @@ module _ {W : Type 0} (look : W → Word) (plain : Word → W) (seen : (x : Word
         (λ a o. within_over (Mem cut) (look w) low a (owns_plain (Mem cut) a o)) (λ a o. within_over (Mem rest) (look w) high a (owns_plain (Mem rest) a o)) apart (take (R r3) i))))
 
     -- a range that isn't empty is not adjacent to itself
-    two_registers : (r2 r3 : Reg) (a b : CapFields) → look (reg s.regs r2) ≡ Mem a → look (reg s.regs r3) ≡ Mem b → a.end + 1 ≡ b.base → R r3 ≢ R r2
+    two_registers : (r2 r3 : Reg) (a b : CapFields) → look (reg s.regs r2) ≡ Mem a
+        → look (reg s.regs r3) ≡ Mem b → a.end + 1 ≡ b.base → R r3 ≢ R r2
     two_registers r2 r3 a b ea eb meet t =
         let d : r3 ≡ r2 = cc in
         let same : Mem a ≡ Mem b = sym ea ∙ ap (λ r. look (reg s.regs r)) (sym d) ∙ eb in
@@ -195,7 +214,8 @@ module _ {W : Type 0} (look : W → Word) (plain : Word → W) (seen : (x : Word
         let g : a.end + 1 ≡ a.base = meet ∙ ap (λ c. c.base) (sym f) in
         omega (arith, k.3, g)
 
-    keeps-splice : (r1 r2 r3 : Reg) (a b : CapFields) → look (reg s.regs r2) ≡ Mem a → look (reg s.regs r3) ≡ Mem b → a.end + 1 ≡ b.base
+    keeps-splice : (r1 r2 r3 : Reg) (a b : CapFields) → look (reg s.regs r2) ≡ Mem a
+        → look (reg s.regs r3) ≡ Mem b → a.end + 1 ≡ b.base
         → Keeps (record no_effect { spent = Some r2; also_spent = Some r3; first = made_at r1 (Mem (record b { base = a.base })); next = Some next })
     unfolding perform
     keeps-splice r1 r2 r3 a b ea eb meet =
@@ -214,7 +234,8 @@ module _ {W : Type 0} (look : W → Word) (plain : Word → W) (seen : (x : Word
         ] in
         give_free (R Pc) next next_free (give (R r1) _ (splice_hands Owns Safe v u (plain (Mem both)) (safe_plain (Mem both) fits) parts j))
 
-    -- the code half is normal, so its content owns nothing; the data half goes from its register to the data register
+    -- the code half is normal, so its content owns nothing; the data half goes from its register to the data
+    -- register
     keeps-xjmp : (r2 : Reg) (c : CapFields) (x : Word) → Free (Mem c) → Within x (look (reg s.regs r2))
         → Keeps (record no_effect { spent = Some r2; first = made_at Pc (Mem c); second = made_at Dat x })
     unfolding perform
@@ -223,32 +244,41 @@ module _ {W : Type 0} (look : W → Word) (plain : Word → W) (seen : (x : Word
         let f = i.safe_places (R r2) w refl in
         give (R Dat) (plain x) (give_free (R Pc) (Mem c) free (shrink Owns Safe w (plain x) (safe_plain x (within_fits x (look w) l f)) (λ a o. within_over x (look w) l a (owns_plain x a o)) (take (R r2) i)))
 
-    memory_look : (r : Reg) (c : CapFields) → memory_in (faces look s r) ≡ Some c → look (reg s.regs r) ≡ Mem c
+    memory_look : (r : Reg) (c : CapFields) → memory_in (faces look s r) ≡ Some c
+        → look (reg s.regs r) ≡ Mem c
     unfolding faces
     memory_look r c e = look_memory (look (reg s.regs r)) c e
 
     -- a word with the range of a register's capability, and as linear
-    same_range : (r : Reg) (c d : CapFields) (x : Word) → memory_in (faces look s r) ≡ Some c → memory_of x ≡ Some d → d.base ≡ c.base → d.end ≡ c.end → lin_is d.lin ≡ lin_is c.lin → Within x (look (reg s.regs r))
+    same_range : (r : Reg) (c d : CapFields) (x : Word) → memory_in (faces look s r) ≡ Some c
+        → memory_of x ≡ Some d → d.base ≡ c.base → d.end ≡ c.end → lin_is d.lin ≡ lin_is c.lin
+        → Within x (look (reg s.regs r))
     same_range r c d x m e eb ee el = λ q h.
         let same : d ≡ q = some_same d q (sym e ∙ h) in
         rw (← same) (c, ap memory_of (memory_look r c m), omega (arith, eb), λ o. omega (arith, eb, ee, o), omega (arith, ee), el)
 
-    keeps-changed : (r : Reg) (c d : CapFields) → memory_in (faces look s r) ≡ Some c → d.base ≡ c.base → d.end ≡ c.end → lin_is d.lin ≡ lin_is c.lin → Keeps (record no_effect { first = made_at r (Mem d); next = Some next })
+    keeps-changed : (r : Reg) (c d : CapFields) → memory_in (faces look s r) ≡ Some c → d.base ≡ c.base
+        → d.end ≡ c.end → lin_is d.lin ≡ lin_is c.lin
+        → Keeps (record no_effect { first = made_at r (Mem d); next = Some next })
     keeps-changed r c d m eb ee el = keeps-in_place r (Mem d) (same_range r c d (Mem d) m refl eb ee el)
 
-    opened_same : (r : Reg) (o : Opened) → opens look s r ≡ Some o → memory_of (unsealed o.content) ≡ memory_of (look (reg s.regs r))
+    opened_same : (r : Reg) (o : Opened) → opens look s r ≡ Some o
+        → memory_of (unsealed o.content) ≡ memory_of (look (reg s.regs r))
     unfolding opens
     opened_same r o e = opened_content (look (reg s.regs r)) o e
 
-    opened_within : (r : Reg) (o : Opened) → opens look s r ≡ Some o → Within (unsealed o.content) (look (reg s.regs r))
+    opened_within : (r : Reg) (o : Opened) → opens look s r ≡ Some o
+        → Within (unsealed o.content) (look (reg s.regs r))
     opened_within r o e = λ d m. (d, sym (opened_same r o e) ∙ m, omega arith, λ h. h, omega arith, refl)
 
-    code_free : (r : Reg) (o : Opened) (c : CapFields) → opens look s r ≡ Some o → memory_content o.content ≡ Some c → not (lin_is c.lin) ≡ true → Free (Mem c)
+    code_free : (r : Reg) (o : Opened) (c : CapFields) → opens look s r ≡ Some o
+        → memory_content o.content ≡ Some c → not (lin_is c.lin) ≡ true → Free (Mem c)
     code_free r o c e m l =
         let k : memory_of (look (reg s.regs r)) ≡ Some c = sym (opened_same r o e) ∙ ap memory_of (content_is o.content c m) in
         free_normal (Mem c) (λ d h. rw (← some_same c d h) (i.safe_places (R r) (reg s.regs r) refl c k)) (not-true (lin_is c.lin) l)
 
-    pub plan-Keeps : (n : Instr) (there : Option Face) → Gives Keeps (plan n (faces look s) (opens look s) there next)
+    pub plan-Keeps : (n : Instr) (there : Option Face)
+        → Gives Keeps (plan n (faces look s) (opens look s) there next)
     plan-Keeps Fail there = gives_fails
     plan-Keeps Halt there = gives_halts
     plan-Keeps (Jmp r1) there = gives_goes (keeps-jumps (R r1) (R Pc))
@@ -292,16 +322,19 @@ module _ {W : Type 0} (look : W → Word) (plain : Word → W) (seen : (x : Word
   abbrev KeepsOutcome : Outcome W → Type 0
   KeepsOutcome = After (λ t. Good t [])
 
-  keeps-outcome : (s : State W) (p : Plan) → Gives (λ e. Good (perform look plain s e) []) p → KeepsOutcome (outcome look plain s p)
+  keeps-outcome : (s : State W) (p : Plan) → Gives (λ e. Good (perform look plain s e) []) p
+      → KeepsOutcome (outcome look plain s p)
   keeps-outcome s (Fails f) h = tt
   keeps-outcome s Halts h = tt
   keeps-outcome s (Goes e) h = Gives-effect h
 
   -- pc's word at the next address is normal
-  next_free : (s : State W) → Good s [] → (c : CapFields) → look (reg s.regs Pc) ≡ Mem c → lin_is c.lin ≡ false → Free (Mem (record c { addr = c.addr +ℤ pos 1 }))
+  next_free : (s : State W) → Good s [] → (c : CapFields) → look (reg s.regs Pc) ≡ Mem c
+      → lin_is c.lin ≡ false → Free (Mem (record c { addr = c.addr +ℤ pos 1 }))
   next_free s i c e l = free_normal (Mem (record c { addr = c.addr +ℤ pos 1 })) (λ d h. rw (← some_same (record c { addr = c.addr +ℤ pos 1 }) d h) (i.safe_places (R Pc) (reg s.regs Pc) refl c (ap memory_of e))) l
 
-  keeps-fetched : (s : State W) → Good s [] → (f : Fetched) → ((n : Instr) (next : Word) → f ≡ some n next → Free next) → KeepsOutcome (step_fetched look plain s f)
+  keeps-fetched : (s : State W) → Good s [] → (f : Fetched)
+      → ((n : Instr) (next : Word) → f ≡ some n next → Free next) → KeepsOutcome (step_fetched look plain s f)
   unfolding row plan_in
   keeps-fetched s i (none f) h = tt
   keeps-fetched s i (some n next) h = keeps-outcome s _ (plan-Keeps s i next (h n next refl) n _)
@@ -345,17 +378,21 @@ module _ {W : Type 0} (look : W → Word) (plain : Word → W) (seen : (x : Word
   held-step s h = held-outcome (step_of look plain s) (keeps-step s (good_of s h))
 
 module _ {W : Type 0} (look : W → Word) (plain : Word → W) (seen : (x : Word) → look (plain x) ≡ x) where
-  stays_by : (rs : List Region) (regions : AreApart rs) (s t : State W) (end : Step) (o : Outcome W) → HeldAfter look plain seen rs regions o → HeldOnce look rs s → Meets s o end t → HeldOnce look rs t
+  stays_by : (rs : List Region) (regions : AreApart rs) (s t : State W) (end : Step) (o : Outcome W)
+      → HeldAfter look plain seen rs regions o → HeldOnce look rs s → Meets s o end t → HeldOnce look rs t
   stays_by rs regions s t end (went u) k h m = rw m.1 k
   stays_by rs regions s t end halted k h m = rw m.1 h
   stays_by rs regions s t end (failed f at) k h m = rw m.1 h
 
   -- whatever a step answers and leaves
-  pub step_stays : (s t : State W) (end : Step) → Meets s (step_of look plain s) end t → StaysHeldOnce look s t
+  pub step_stays : (s t : State W) (end : Step) → Meets s (step_of look plain s) end t
+      → StaysHeldOnce look s t
   unfolding StaysHeldOnce
   step_stays s t end m rs regions h = stays_by rs regions s t end (step_of look plain s) (held-step look plain seen rs regions s h) h m
 
-  pub row_stays : (s t : State W) (n : Instr) (next : Word) (end : Step) → fetch (faces look s Pc) (cell_faces look s) ≡ some n next → Meets s (row look plain n next s) end t → StaysHeldOnce look s t
+  pub row_stays : (s t : State W) (n : Instr) (next : Word) (end : Step)
+      → fetch (faces look s Pc) (cell_faces look s) ≡ some n next → Meets s (row look plain n next s) end t
+      → StaysHeldOnce look s t
   row_stays s t n next end f m = step_stays s t end (rw (step_at look plain s n next f) m)
 
   -- whatever a run goes to
@@ -364,7 +401,10 @@ module _ {W : Type 0} (look : W → Word) (plain : Word → W) (seen : (x : Word
   run_stays zero s t e rs regions h = let same : s ≡ t = cc in subst (HeldOnce look rs) same h
   run_stays (suc n) s t e rs regions h = by_step (step_of look plain s) (held-step look plain seen rs regions s h) e (λ u g f. run_stays n u t f rs regions g)
     where
-      by_step : (o : Outcome W) → HeldAfter look plain seen rs regions o → and_then o (run_of look plain n) ≡ went t → ((u : State W) → HeldOnce look rs u → run_of look plain n u ≡ went t → HeldOnce look rs t) → HeldOnce look rs t
+      by_step : (o : Outcome W) → HeldAfter look plain seen rs regions o
+          → and_then o (run_of look plain n) ≡ went t
+          → ((u : State W) → HeldOnce look rs u → run_of look plain n u ≡ went t → HeldOnce look rs t)
+          → HeldOnce look rs t
       by_step (went u) g f more = more u g f
       by_step halted g f more = cc
       by_step (failed c at) g f more = cc
@@ -374,12 +414,15 @@ unfolding StaysHeldOnce
 unchanged_stays look s rs regions h = h
 
 -- the plain machine
-moved_stays : (rs : List Region) (regions : AreApart rs) (s : Run) (o : Outcome Word) → HeldAfter {W = Word} (λ w. w) (λ w. w) (λ x. refl) rs regions o → HeldOnce (λ w. w) rs s.maps → HeldOnce (λ w. w) rs (moved o s).maps
+moved_stays : (rs : List Region) (regions : AreApart rs) (s : Run) (o : Outcome Word)
+    → HeldAfter {W = Word} (λ w. w) (λ w. w) (λ x. refl) rs regions o → HeldOnce (λ w. w) rs s.maps
+    → HeldOnce (λ w. w) rs (moved o s).maps
 moved_stays rs regions s (went t) k h = k
 moved_stays rs regions s halted k h = h
 moved_stays rs regions s (failed f at) k h = h
 
-next_stays : (rs : List Region) (regions : AreApart rs) (s : Run) (e : Option End) → HeldOnce (λ w. w) rs s.maps → HeldOnce (λ w. w) rs (next_by e s).maps
+next_stays : (rs : List Region) (regions : AreApart rs) (s : Run) (e : Option End)
+    → HeldOnce (λ w. w) rs s.maps → HeldOnce (λ w. w) rs (next_by e s).maps
 next_stays rs regions s None h = moved_stays rs regions s (step_of (λ w. w) (λ w. w) s.maps) (held-step (λ w. w) (λ w. w) (λ x. refl) rs regions s.maps h) h
 next_stays rs regions s (Some e) h = h
 

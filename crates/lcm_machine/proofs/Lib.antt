@@ -24,3 +24,4 @@ pub mod BackLemmas
 pub mod Refusals
 pub mod XjmpFails
 pub mod Commute
+pub mod Offers

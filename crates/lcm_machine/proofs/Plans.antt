@@ -1,6 +1,7 @@
 -- What holds of the effect of a plan, by the shape of the plan.
 use Rattle.std.proofs.Common.{◌≡◌, ℕ, Bool, true, false, refl, sym, ap, ◌∙◌}
 use Rattle.std.specs.Prelude.{Option, Some, None, if◌then◌else◌, IsSome, is_some, not, ◌&&◌}
+use Rattle.std.proofs.lemmas.Bool.{not-true}
 use Rattle.lcm_isa.specs.declared.Reg.{Reg}
 use Rattle.lcm_isa.specs.declared.Operand.TheVariants.{R as InReg, Imm}
 use Rattle.lcm_machine.specs.declared.FailCause.{FailCause}
@@ -14,7 +15,9 @@ use Rattle.lcm_machine.specs.declared.plan.Effect.{Effect}
 use Rattle.lcm_machine.specs.declared.Place.{Place}
 use Rattle.lcm_machine.specs.declared.Place.TheVariants.{R, Cell}
 use Rattle.lcm_isa.specs.declared.Instr.{Instr}
-use Rattle.lcm_isa.specs.declared.Instr.TheVariants.{Fail, Halt, Jmp, Jnz, Gettype, Geta, Getb, Gete, Getp, Getlin, Move, Store, Load, Cca, Restrict, Lt, Plus, Minus, Seta2b, Xjmp, Cseal, Split, Splice}
+use Rattle.lcm_isa.specs.declared.Instr.TheVariants.{Fail, Halt, Jmp, Jnz, Gettype, Geta, Getb, Gete, Getp}
+use Rattle.lcm_isa.specs.declared.Instr.TheVariants.{Getlin, Move, Store, Load, Cca, Restrict, Lt, Plus}
+use Rattle.lcm_isa.specs.declared.Instr.TheVariants.{Minus, Seta2b, Xjmp, Cseal, Split, Splice}
 use Rattle.cap_words.specs.declared.Opened.{Opened}
 use Rattle.lcm_machine.specs.declared.plan.Moved.{Moved}
 use Rattle.cap_words.specs.declared.Perm.{Perm}
@@ -38,12 +41,15 @@ module _ {P : Effect → Type 0} where
   Gives-ask f true p h = h refl
   Gives-ask f false p h = gives_fails
 
-  pub Gives-need : {A : Type 0} (f : FailCause) (o : Option A) (k : A → Plan) → ((a : A) → o ≡ Some a → Gives P (k a)) → Gives P (need f o k)
+  pub Gives-need : {A : Type 0} (f : FailCause) (o : Option A) (k : A → Plan)
+      → ((a : A) → o ≡ Some a → Gives P (k a)) → Gives P (need f o k)
   unfolding need
   Gives-need f None k h = gives_fails
   Gives-need f (Some a) k h = h a refl
 
-  pub Gives-by_cap : (x : Face) (k : CapFields → Plan) (m : SealFields → Plan) → ((c : CapFields) → x ≡ Memory c → Gives P (k c)) → ((s : SealFields) → x ≡ Seals s → Gives P (m s)) → Gives P (by_cap x k m)
+  pub Gives-by_cap : (x : Face) (k : CapFields → Plan) (m : SealFields → Plan)
+      → ((c : CapFields) → x ≡ Memory c → Gives P (k c)) → ((s : SealFields) → x ≡ Seals s → Gives P (m s))
+      → Gives P (by_cap x k m)
   unfolding by_cap
   Gives-by_cap (Memory c) k m h g = h c refl
   Gives-by_cap (Number c) k m h g = gives_fails
@@ -60,18 +66,24 @@ memory_is (Number b) c e = cc
 memory_is (Seals b) c e = cc
 memory_is (Sealed b) c e = cc
 
-target_there_at : (c : CapFields) (cells : ℕ → Option Face) (x : Face) → face_there cells (target_of (Memory c)) ≡ Some x → (target_of (Memory c) ≡ Some (address c.addr)) × IsSome (cells (address c.addr))
+target_there_at : (c : CapFields) (cells : ℕ → Option Face) (x : Face)
+    → face_there cells (target_of (Memory c)) ≡ Some x
+    → (target_of (Memory c) ≡ Some (address c.addr)) × IsSome (cells (address c.addr))
 target_there_at c cells x =
     elim (covers c c.addr) as (λ b. face_there cells (if b then Some (address c.addr) else None) ≡ Some x → ((if b then Some (address c.addr) else None) ≡ Some (address c.addr)) × IsSome (cells (address c.addr))) [ true ↦ λ e. (refl, ap is_some e) | false ↦ λ e. cc ]
 
 -- what a load or store addresses, where something is there
-target_there : (y : Face) (c : CapFields) → memory_in y ≡ Some c → (cells : ℕ → Option Face) (x : Face) → face_there cells (target_of y) ≡ Some x → (target_of y ≡ Some (address c.addr)) × IsSome (cells (address c.addr))
+target_there : (y : Face) (c : CapFields) → memory_in y ≡ Some c → (cells : ℕ → Option Face) (x : Face)
+    → face_there cells (target_of y) ≡ Some x
+    → (target_of y ≡ Some (address c.addr)) × IsSome (cells (address c.addr))
 target_there y c m cells x h =
     let e : y ≡ Memory c = memory_is y c m in
     let k = target_there_at c cells x (ap (λ z. face_there cells (target_of z)) (sym e) ∙ h) in (ap target_of e ∙ k.0, k.1)
 
 -- and that the instruction reaches it
-reached_there : (may : Perm → Bool) (y : Face) (c : CapFields) → memory_in y ≡ Some c → may c.perm ≡ true → (cells : ℕ → Option Face) (x : Face) → face_there cells (target_of y) ≡ Some x → reached may y cells ≡ Some (address c.addr)
+reached_there : (may : Perm → Bool) (y : Face) (c : CapFields) → memory_in y ≡ Some c → may c.perm ≡ true
+    → (cells : ℕ → Option Face) (x : Face) → face_there cells (target_of y) ≡ Some x
+    → reached may y cells ≡ Some (address c.addr)
 reached_there may y c m allowed cells x h =
     let e : y ≡ Memory c = memory_is y c m in
     let k : face_there cells (target_of (Memory c)) ≡ Some x = ap (λ z. face_there cells (target_of z)) (sym e) ∙ h in
@@ -80,7 +92,8 @@ reached_there may y c m allowed cells x h =
     ∙ ap (λ o. if is_some o then target_of (Memory c) else None) k
     ∙ (target_there_at c cells x k).0
 
--- a place that an effect moves a word from or to: a register, or the cell that the instruction addresses, and reaches
+-- a place that an effect moves a word from or to: a register, or the cell that the instruction addresses, and
+-- reaches
 abbrev pub ShapePlace : Option ℕ → Option ℕ → (ℕ → Option Face) → Place → Type 0
 ShapePlace t u cells (R r) = Unit {0}
 ShapePlace t u cells (Cell a) = (t ≡ Some a) × IsSome (cells a) × (u ≡ Some a)
@@ -92,22 +105,21 @@ ShapeMoved t u cells (Some m) = ShapePlace t u cells m.from × ShapePlace t u ce
 abbrev pub Shape : Option ℕ → Option ℕ → (ℕ → Option Face) → Effect → Type 0
 Shape t u cells e = ShapeMoved t u cells e.moved
 
-not_true : (b : Bool) → not b ≡ true → b ≡ false
-not_true true e = cc
-not_true false e = refl
-
 module _ (f : Reg → Face) (w : Reg → Option Opened) (cells : ℕ → Option Face) (next : Word) where
-  shape_cell : (may : Perm → Bool) (y : Face) (c : CapFields) → memory_in y ≡ Some c → may c.perm ≡ true → (x : Face) → face_there cells (target_of y) ≡ Some x
+  shape_cell : (may : Perm → Bool) (y : Face) (c : CapFields) → memory_in y ≡ Some c → may c.perm ≡ true
+      → (x : Face) → face_there cells (target_of y) ≡ Some x
       → ShapePlace (target_of y) (reached may y cells) cells (Cell (address c.addr))
   shape_cell may y c m allowed x h =
       let k = target_there y c m cells x h in (k.0, k.1, reached_there may y c m allowed cells x h)
 
-  pub load_cell : (r : Reg) → not (is_pc r) ≡ true → (y : Face) (c : CapFields) → memory_in y ≡ Some c → may_read c.perm ≡ true → (x : Face) → face_there cells (target_of y) ≡ Some x
+  pub load_cell : (r : Reg) → not (is_pc r) ≡ true → (y : Face) (c : CapFields) → memory_in y ≡ Some c
+      → may_read c.perm ≡ true → (x : Face) → face_there cells (target_of y) ≡ Some x
       → ShapePlace (target_of y) (if is_pc r then None else reached may_read y cells) cells (Cell (address c.addr))
   load_cell r free y c m allowed x h =
-      let k = shape_cell may_read y c m allowed x h in (k.0, k.1, ap (λ b. if b then None else reached may_read y cells) (not_true (is_pc r) free) ∙ k.2)
+      let k = shape_cell may_read y c m allowed x h in (k.0, k.1, ap (λ b. if b then None else reached may_read y cells) (not-true (is_pc r) free) ∙ k.2)
 
-  pub plan-Shape : (i : Instr) → Gives (Shape (target i f) (cell_used i f cells) cells) (plan i f w (face_there cells (target i f)) next)
+  pub plan-Shape : (i : Instr)
+      → Gives (Shape (target i f) (cell_used i f cells) cells) (plan i f w (face_there cells (target i f)) next)
   plan-Shape Fail = gives_fails
   plan-Shape Halt = gives_halts
   plan-Shape (Jmp r1) = gives_goes (tt, tt)

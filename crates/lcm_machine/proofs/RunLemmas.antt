@@ -1,6 +1,7 @@
 -- A step counts at most one, an ended machine stays as it is, and a run is where its instructions lead.
-use Rattle.std.proofs.Common.{◌≡◌, ◌≢◌, ℕ, zero, suc, ◌+◌, ◌≤◌, Option, Some, None, refl, sym, ap, subst, ◌∙◌, arith, add-one, inl, inr}
-use Rattle.std.specs.Prelude.{IfSome, Bool, true, false, not, is_some}
+use Rattle.std.proofs.Common.{◌≡◌, ◌≢◌, ℕ, zero, suc, ◌+◌, ◌≤◌, Option, Some, None, refl, sym, ap, subst, ◌∙◌}
+use Rattle.std.proofs.Common.{arith, add-one, inl, inr}
+use Rattle.std.specs.Prelude.{IfSome, Bool, true, false, is_some}
 use Rattle.std.proofs.lemmas.Bool.{cases_lt}
 use Rattle.cap_words.specs.declared.Word.{Word}
 use Rattle.lcm_machine.specs.declared.Step.{Step}
@@ -12,7 +13,8 @@ use Rattle.lcm_machine.specs.declared.steps.OnXjmp.TheVariants.{Make, Stop}
 use Rattle.lcm_machine.specs.Ends.{end_answer}
 use Rattle.lcm_machine.specs.Row.{Outcome, went, halted, failed, step_of}
 use Rattle.lcm_machine.specs.Maps.{State}
-use Rattle.lcm_machine.specs.Run.{Run, moved, next_by, next_state, jump_by, next_jump, answer, answer_by, plain}
+use Rattle.lcm_machine.specs.Run.{Run, moved, next_by, next_state, jump_by, next_jump, answer, answer_by}
+use Rattle.lcm_machine.specs.Run.{plain}
 use Rattle.lcm_machine.specs.Run.{fresh, EndsAs}
 use Rattle.lcm_machine.specs.Runs.{and_then, run_of}
 use Rattle.lcm_machine.proofs.Goes.{run_of-add}
@@ -61,14 +63,16 @@ plain_ended (suc n) i s e le h = elim (cases_lt n i) as (λ _. plain (suc n) s �
   | inr below ↦ ap next_state (plain_ended n i s e below h) ∙ next_state-ended (plain i s) e h
 ]
 
-ended_at : (n : ℕ) (s t : Run) (r : Step) (o : Option End) → s.end ≡ o → t ≡ plain n s → r ≡ answer t → IfSome o (λ e. (r ≡ end_answer e) × (t ≡ s))
+ended_at : (n : ℕ) (s t : Run) (r : Step) (o : Option End) → s.end ≡ o → t ≡ plain n s → r ≡ answer t
+    → IfSome o (λ e. (r ≡ end_answer e) × (t ≡ s))
 ended_at n s t r None h k a = tt
 ended_at n s t r (Some e) h k a =
     let same : t ≡ s = k ∙ plain_ended n 0 s e (omega arith) h in
     (a ∙ ap answer same ∙ ap answer_by h, same)
 
 -- an ended machine answers its end, and a run leaves it as it is
-pub run_ended : (n : ℕ) (s t : Run) (r : Step) → t ≡ plain n s → r ≡ answer t → IfSome s.end (λ e. (r ≡ end_answer e) × (t ≡ s))
+pub run_ended : (n : ℕ) (s t : Run) (r : Step) → t ≡ plain n s → r ≡ answer t
+    → IfSome s.end (λ e. (r ≡ end_answer e) × (t ≡ s))
 run_ended n s t r k a = ended_at n s t r s.end refl k a
 
 -- where a run comes to an end, it stays
@@ -125,14 +129,6 @@ pub left_out : (x : OnXjmp) (b : Bool) → (x ≡ Make → b ≡ true) → b ≡
 left_out Make b h e = let k : true ≡ false = sym (h refl) ∙ e in absurd (cc)
 left_out Stop b h e = refl
 
-pub not_true : (b : Bool) → not b ≡ true → b ≡ false
-not_true true h = absurd (cc)
-not_true false h = refl
-
-pub not_false : (b : Bool) → not b ≡ false → b ≡ true
-not_false true h = refl
-not_false false h = absurd (cc)
-
 pub is_none : {A : Type 0} (o : Option A) → is_some o ≡ false → o ≡ None
 is_none None h = refl
 is_none (Some x) h = absurd (cc)
@@ -140,19 +136,22 @@ is_none (Some x) h = absurd (cc)
 -- ---- where the instructions lead
 
 -- one step more
-moved_ends : (n : ℕ) (t : State Word) (o : Outcome Word) → EndsAs (suc n) o (moved o (record { maps = t; count = n; end = None }))
+moved_ends : (n : ℕ) (t : State Word) (o : Outcome Word)
+    → EndsAs (suc n) o (moved o (record { maps = t; count = n; end = None }))
 moved_ends n t (went u) = let e : n + 1 ≡ suc n = omega arith in ap (λ k. record { maps = u; count = k; end = None }) e
 moved_ends n t halted = refl
 moved_ends n t (failed c at) = refl
 
-went_next : (n : ℕ) (t : State Word) (r : Run) → r ≡ record { maps = t; count = n; end = None } → EndsAs (suc n) (step_of (λ w. w) (λ w. w) t) (next_state r)
+went_next : (n : ℕ) (t : State Word) (r : Run) → r ≡ record { maps = t; count = n; end = None }
+    → EndsAs (suc n) (step_of (λ w. w) (λ w. w) t) (next_state r)
 unfolding next_state
 went_next n t r e = rw e (moved_ends n t (step_of (λ w. w) (λ w. w) t))
 
 ended_next : (r : Run) (e : End) → r.end ≡ Some e → (next_state r).end ≡ Some e
 ended_next r e h = ap (λ x. x.end) (next_state-ended r e h) ∙ h
 
-ends_next : (n : ℕ) (o : Outcome Word) (r : Run) → EndsAs n o r → EndsAs (suc n) (and_then o (run_of (λ w. w) (λ w. w) 1)) (next_state r)
+ends_next : (n : ℕ) (o : Outcome Word) (r : Run) → EndsAs n o r
+    → EndsAs (suc n) (and_then o (run_of (λ w. w) (λ w. w) 1)) (next_state r)
 ends_next n (went t) r h = rw (run_one (λ w. w) (λ w. w) t) (went_next n t r h)
 ends_next n halted r h = ended_next r Halted h
 ends_next n (failed c at) r h = ended_next r (Failed c at) h

@@ -38,7 +38,7 @@ use Rattle.lcm_machine.proofs.Quiet.{planned}
 -- ---- which cell a word leads to
 
 -- the address that a capability leads to is in its range
-covered : (c : CapFields) (a : ℕ) → target_of (Memory c) ≡ Some a → (c.base ≤ a) × (a ≤ c.end)
+pub covered : (c : CapFields) (a : ℕ) → target_of (Memory c) ≡ Some a → (c.base ≤ a) × (a ≤ c.end)
 covered c a e = by_addr c.addr (covers c c.addr) refl e
   where
     by_addr : (z : ℤ) (b : Bool) → covers c z ≡ b → (if b then Some (address z) else None) ≡ Some a
@@ -90,7 +90,7 @@ seals_is (Memory z) q e = cc
 seals_is (Seals z) q e = cc
 seals_is (Sealed z) q e = cc
 
-in_seals : (q : SealFields) (z : ℤ) → seals_at q z ≡ true → (q.base ≤ address z) × (address z ≤ q.end)
+pub in_seals : (q : SealFields) (z : ℤ) → seals_at q z ≡ true → (q.base ≤ address z) × (address z ≤ q.end)
 in_seals q (pos n) e =
     let k = and_parts (nat_le q.base n) (nat_le n q.end) e in (leb-true q.base n k.0, leb-true n q.end k.1)
 in_seals q (negsuc n) e = cc

@@ -70,7 +70,7 @@ minus_fits = record { sfits = omega arith }
 pub zero_fits : WordFits (Int (pos 0))
 zero_fits = small_fits 0 (omega arith)
 
-tested_fits : (z : ℤ) → fits_64 z ≡ true → FitsSigned w64 z
+pub tested_fits : (z : ℤ) → fits_64 z ≡ true → FitsSigned w64 z
 tested_fits (pos n) e = let k = ltb-true n (2 ^ 63) e in record { sfits = omega (arith, k) }
 tested_fits (negsuc n) e = let k = ltb-true n (2 ^ 63) e in record { sfits = omega (arith, k) }
 

@@ -1,5 +1,6 @@
 //! Memory: a cell at some of the addresses 0 to 1,048,575, kept by spans.
-ghost use Rattle.std.specs.Prelude.{◌≡◌, ◌≤◌, ◌<◌, ◌+◌, ◌^◌, IfOk, IfSome, IfNone, IsTrue, IsSome, is_some, Some, None, option_copied, map, false, ℕ};
+ghost use Rattle.std.specs.Prelude.{◌≡◌, ◌≤◌, ◌<◌, ◌+◌, ◌^◌, IfOk, IfSome, IfNone, IsTrue, IsSome, is_some};
+ghost use Rattle.std.specs.Prelude.{Some, None, option_copied, map, false, ℕ};
 ghost use Rattle.lcm_machine.specs.Cells.{cell, set_cell, drop_cell, set_slot, cells_of, AreParts};
 ghost use Rattle.lcm_machine.specs.Spans.{in_spans, AreSpans, IsNear, StandsAt, slot, zero_part};
 
@@ -222,7 +223,7 @@ impl<W> Cells<W> {
 
     /// The word of the cell at an address that stands there, where it has one.
     #[inline(always)]
-    #[tactic(auto, using(crate::proofs::SpanLemmas::part_within, crate::proofs::SpanLemmas::slot_within, crate::proofs::SpanLemmas::cell_here))]
+    #[tactic(auto, using(crate::proofs::SpanLemmas::slot_rules))]
     pub fn find_in(&self, spot: Spot, at: u32) -> Option<&W>
         requires { StandsAt self.now.spans spot at }
         ensures { option_copied result ≡ cell self.now.words at }
@@ -249,7 +250,7 @@ impl<W> Cells<W> {
 
     // Sets the slot of an address, which has a cell or lies in a span, and gives what it had.
     #[inline(always)]
-    #[tactic(auto, using(crate::proofs::SpanLemmas::cell_outside, crate::proofs::SpanLemmas::stands_in_spans, crate::proofs::SpanLemmas::part_within, crate::proofs::SpanLemmas::slot_within, crate::proofs::SpanLemmas::cell_here, crate::proofs::SpanLemmas::cells_set, crate::proofs::SpanLemmas::parts_set))]
+    #[tactic(auto, using(crate::proofs::SpanLemmas::slot_rules))]
     fn swap_slot(&mut self, at: u32, slot: Option<W>) -> Option<W>
         requires { cell self.old.words at ≡ None → IsTrue (in_spans at self.old.spans) }
         ensures in_span { IsTrue (in_spans at self.old.spans) }

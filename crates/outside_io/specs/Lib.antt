@@ -6,3 +6,4 @@ pub mod Host
 pub mod Whole
 pub mod Memory
 pub mod Writes
+pub mod FaultTexts

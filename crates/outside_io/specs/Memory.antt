@@ -107,4 +107,4 @@ after_failed_write held = record held { calls = with_call held.calls; faults = r
 
 -- a sink in memory tells all that it took
 abbrev pub seen_of_bytes : HeldBytes → SinkSeen
-seen_of_bytes held = record { written = Some held.bytes; faults = held.faults }
+seen_of_bytes held = record { written = Some held.bytes; writes = held.calls.made; faults = held.faults }

@@ -38,6 +38,13 @@ impl Calls {
         self.failing = Some(number);
     }
 
+    /// How many calls there were.
+    pub fn made(&self) -> u64
+        ensures { result ≡ self.now.made }
+    {
+        self.made
+    }
+
     /// Counts the call that begins, and says whether it is the one that is to fail.
     pub fn begin(&mut self) -> bool
         ensures fails { IsTrue result ↔ NextFails self.old }

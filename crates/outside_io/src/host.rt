@@ -1,10 +1,10 @@
 //! The files and the standard output of the system, of whose contents nothing is told.
 ghost use Rattle.std.specs.Prelude.{◌≡◌, ◌<◌, ◌≤◌, length, None, IfOk, OnOk, OnErr, MatchResult};
-ghost use Rattle.outside_io.specs.Counts.{raised};
 ghost use Rattle.outside_io.specs.FilesSeen.{IsFileName, GivesPart, FailsToRead, Puts, FailsToPut};
-ghost use Rattle.outside_io.specs.SinkSeen.{Adds, FailsToWrite};
+ghost use Rattle.outside_io.specs.SinkSeen.{Adds, FailsToWrite, IsOneWrite};
 ghost use Rattle.outside_io.specs.FileCounts.{no_counts, with_given, with_failed_read, with_failed_put};
-ghost use Rattle.outside_io.specs.Host.{seen_of_host_files, seen_of_host_sink};
+ghost use Rattle.outside_io.specs.Host.{seen_of_host_files, no_writes, seen_of_host_sink};
+ghost use Rattle.outside_io.specs.Host.{with_write, with_failed_write};
 
 use crate::counts::Counts;
 use crate::outside::{Failed, Files, Sink};
@@ -106,28 +106,41 @@ impl<R: rt::Files> Files for HostFiles<R> {
 #[derive(Drop)]
 pub struct HostSink<R> {
     rt: R,
+    writes: u64,
     faults: u64,
 }
 
 impl<R> Model for HostSink<R> {
-    ghost use Rattle.std.specs.Prelude.{ℕ};
+    ghost use Rattle.outside_io.specs.Host.{SinkCounts};
 
-    ghost Value = { ℕ };
+    ghost Value = { SinkCounts };
 
-    ghost view = { λ h. h.faults };
+    ghost view = { λ h. record { writes = h.writes; faults = h.faults } };
 }
 
 impl<R: Print> HostSink<R> {
-    /// The standard output of this runtime, which may be a reference to one. No write failed yet.
+    /// The standard output of this runtime, which may be a reference to one. No write yet.
     pub fn new(rt: R) -> Self
-        ensures { result ≡ 0 }
+        ensures { result ≡ no_writes }
     {
-        HostSink { rt, faults: 0 }
+        HostSink {
+            rt,
+            writes: 0,
+            faults: 0,
+        }
+    }
+
+    /// How many writes there were, those that failed too. The count stands still at the greatest
+    /// `u64`.
+    pub fn writes(&self) -> u64
+        ensures { result ≡ self.now.writes }
+    {
+        self.writes
     }
 
     /// How many writes failed. The count stands still at the greatest `u64`.
     pub fn faults(&self) -> u64
-        ensures { result ≡ self.now }
+        ensures { result ≡ self.now.faults }
     {
         self.faults
     }
@@ -150,9 +163,11 @@ impl<R: Print> Sink for HostSink<R> {
             (Adds (seen_of_host_sink self.old) piece.now (seen_of_host_sink self.new)) }
         ensures err { OnErr result
             (FailsToWrite (seen_of_host_sink self.old) piece.now (seen_of_host_sink self.new)) }
-        ensures after { MatchResult result (λ _. self.new ≡ self.old)
-            (λ _. self.new ≡ raised self.old 1) }
+        ensures counted { IsOneWrite (seen_of_host_sink self.old) (seen_of_host_sink self.new) }
+        ensures after { MatchResult result (λ _. self.new ≡ with_write self.old)
+            (λ _. self.new ≡ with_failed_write self.old) }
     {
+        self.writes = self.writes.saturating_add(1);
         match write_whole(&self.rt, piece) {
             Ok(()) => Ok(()),
             Err(_) => {

@@ -2,7 +2,7 @@
 ghost use Rattle.std.specs.Prelude.{◌≡◌, ◌⊎◌, ◌↔◌, ◌-◌, ◌<◌, length, min, take, drop};
 ghost use Rattle.std.specs.Prelude.{IfOk, IsErr, OnOk, OnErr, IsNone, IsOkAnd, MatchResult};
 ghost use Rattle.outside_io.specs.FilesSeen.{IsFileName, GivesPart, FailsToRead, Puts, FailsToPut};
-ghost use Rattle.outside_io.specs.SinkSeen.{Adds, FailsToWrite};
+ghost use Rattle.outside_io.specs.SinkSeen.{Adds, FailsToWrite, IsOneWrite};
 ghost use Rattle.outside_io.specs.Memory.{with_failing, NextFails, no_files, file_named, with_file};
 ghost use Rattle.outside_io.specs.Memory.{after_read, after_failed_read, after_put, after_failed_put};
 ghost use Rattle.outside_io.specs.Memory.{GivesAll, seen_of_files};
@@ -188,6 +188,14 @@ impl MemSink {
         &self.bytes
     }
 
+    /// How many writes there were, those that failed too. The count stands still at the greatest
+    /// `u64`.
+    pub fn writes(&self) -> u64
+        ensures { result ≡ self.now.calls.made }
+    {
+        self.calls.made()
+    }
+
     /// How many writes failed. The count stands still at the greatest `u64`.
     pub fn faults(&self) -> u64
         ensures { result ≡ self.now.faults }
@@ -206,6 +214,7 @@ impl Sink for MemSink {
             (Adds (seen_of_bytes self.old) piece.now (seen_of_bytes self.new)) }
         ensures err { OnErr result
             (FailsToWrite (seen_of_bytes self.old) piece.now (seen_of_bytes self.new)) }
+        ensures counted { IsOneWrite (seen_of_bytes self.old) (seen_of_bytes self.new) }
         ensures fails { NextFails self.old.calls → IsErr result }
         ensures after { MatchResult result (λ _. self.new ≡ after_write self.old piece.now)
             (λ _. self.new ≡ after_failed_write self.old) }

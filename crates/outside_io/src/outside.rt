@@ -1,7 +1,7 @@
 //! What the program asks of files and of a sink, whoever keeps them.
 ghost use Rattle.std.specs.Prelude.{◌<◌, length, IfOk, OnOk, OnErr};
 ghost use Rattle.outside_io.specs.FilesSeen.{FilesSeen, IsFileName, GivesPart, FailsToRead, Puts, FailsToPut};
-ghost use Rattle.outside_io.specs.SinkSeen.{SinkSeen, Adds, FailsToWrite};
+ghost use Rattle.outside_io.specs.SinkSeen.{SinkSeen, Adds, FailsToWrite, IsOneWrite};
 
 use std::error::Error;
 use std::fmt;
@@ -11,6 +11,11 @@ use std::fmt;
 pub struct Failed;
 
 impl fmt::Display for Failed {
+    ghost use Rattle.std.specs.Prelude.{Some};
+    ghost use Rattle.outside_io.specs.FaultTexts.{failed_text};
+
+    ghost output = { λ f. Some (failed_text f) };
+
     fn fmt<W: fmt::Write>(&self, f: &mut fmt::Formatter<W>) -> fmt::Result {
         write!(f, "a call to the outside failed")
     }
@@ -50,14 +55,16 @@ pub trait Files {
 
 /// Where output goes.
 pub trait Sink {
-    /// What the sink tells of itself: the bytes that it took or nothing of them, and how many
-    /// writes failed. The count stands still at the greatest number of 64 bits.
+    /// What the sink tells of itself: the bytes that it took or nothing of them, how many writes
+    /// there were, those that failed too, and how many failed. Each count stands still at the
+    /// greatest number of 64 bits.
     ghost seen: { Self → SinkSeen };
 
-    /// Writes the whole piece behind what was written. An error is counted, and may leave some
-    /// front of the piece written.
+    /// Writes the whole piece behind what was written. Each write is counted, and an error also as
+    /// a failed one; it may leave some front of the piece written.
     fn write(&mut self, piece: &[u8]) -> Result<(), Failed>
         requires { 0 < length piece.now }
         ensures ok { OnOk result (Adds (seen self.old) piece.now (seen self.new)) }
-        ensures err { OnErr result (FailsToWrite (seen self.old) piece.now (seen self.new)) };
+        ensures err { OnErr result (FailsToWrite (seen self.old) piece.now (seen self.new)) }
+        ensures counted { IsOneWrite (seen self.old) (seen self.new) };
 }

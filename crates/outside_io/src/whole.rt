@@ -24,6 +24,11 @@ pub enum ReadEnd {
 }
 
 impl fmt::Display for ReadEnd {
+    ghost use Rattle.std.specs.Prelude.{Some};
+    ghost use Rattle.outside_io.specs.FaultTexts.{read_end_text};
+
+    ghost output = { λ e. Some (read_end_text e) };
+
     fn fmt<W: fmt::Write>(&self, f: &mut fmt::Formatter<W>) -> fmt::Result {
         match self {
             ReadEnd::Fault => write!(f, "the file could not be read"),

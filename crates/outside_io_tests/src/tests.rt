@@ -82,7 +82,7 @@ fn second_write_fails(rt: &impl Abort, sink: &mut MemSink) {
     let writes = (sink.write(b"ab"), sink.write(b"z"), sink.write(b"c"));
     assert_eq!(rt; writes, (Ok(()), Err(Failed), Ok(())));
     assert_eq!(rt; sink.bytes(), b"abc".as_slice());
-    assert_eq!(rt; sink.faults(), 1);
+    assert_eq!(rt; (sink.writes(), sink.faults()), (3, 1));
 }
 
 #[test]
@@ -253,7 +253,7 @@ fn takes_what_fits(
     sink.write(b"f")?;
     holds(rt, paper, "abcdef")?;
     assert_eq!(rt; sink.write(b"ghi"), Err(Failed));
-    assert_eq!(rt; sink.faults(), 1);
+    assert_eq!(rt; (sink.writes(), sink.faults()), (3, 1));
     holds(rt, paper, "abcdefgh")
 }
 
@@ -269,6 +269,6 @@ fn the_standard_output_gets_each_piece_whole(rt: HostRuntime) -> Result<(), Fail
 fn a_line_goes_to_the_standard_output(rt: HostRuntime) -> Result<(), Fail> {
     let mut sink = HostSink::new(&rt);
     sink.write(b"written\n")?;
-    assert_eq!(rt; sink.faults(), 0);
+    assert_eq!(rt; (sink.writes(), sink.faults()), (1, 0));
     Ok(())
 }

@@ -1,5 +1,6 @@
 -- A call of two plain words is one overlay step and sixteen plain ones.
-use Rattle.std.proofs.Common.{◌≡◌, ℕ, ◌+◌, ◌-◌, ◌≤◌, ℤ, pos, true, false, ◌∷◌, Some, refl, ap, sym, ◌∙◌, arith, le-leb, lt-ltb, eq-eqb}
+use Rattle.std.proofs.Common.{◌≡◌, ℕ, ◌+◌, ◌-◌, ◌≤◌, ℤ, pos, true, false, ◌∷◌, Some, refl, ap, sym, ◌∙◌}
+use Rattle.std.proofs.Common.{arith, le-leb, lt-ltb, eq-eqb}
 use Rattle.cap_words.specs.declared.Word.{Word}
 use Rattle.cap_words.specs.declared.Word.TheVariants.{Int, Mem}
 use Rattle.cap_words.specs.Face.{face_of}
@@ -12,7 +13,7 @@ use Rattle.lcm_machine.specs.Maps.{State}
 use Rattle.lcm_machine.specs.Cells.{cell, all_there}
 use Rattle.lcm_machine.specs.Row.{faces, row, plan_in}
 use Rattle.lcm_machine.specs.Runs.{run_of, code_cap}
-use Rattle.lcm_machine.proofs.Commute.{row_mapped, is_linear-face}
+use Rattle.lcm_machine.proofs.Offers.{row_mapped, is_linear-face}
 use Rattle.call_sequence.specs.SequenceRuns.{stack_cap, at_xjmp}
 use Rattle.call_sequence.proofs.CallLaws.{call_jumps}
 use Rattle.overlay_machine.specs.declared.layout.Layout.{Layout}
@@ -24,7 +25,8 @@ use Rattle.overlay_machine.specs.State.{OState}
 use Rattle.overlay_machine.specs.Step.{new_frame, at_call, call_step, need, ask, with_frames, own_stack}
 use Rattle.overlay_machine.specs.Flat.{flat, beside, IsFlat}
 use Rattle.overlay_machine.specs.Agree.{Agrees, Looks, HasSite, AtSite}
-use Rattle.overlay_machine.proofs.FlatLemmas.{flat-mem, flat-opened, flat-plain, cell-flat, HasCall-flat, row_agrees}
+use Rattle.overlay_machine.proofs.FlatLemmas.{flat-mem, flat-opened, flat-plain, cell-flat, HasCall-flat}
+use Rattle.overlay_machine.proofs.FlatLemmas.{row_agrees}
 use Rattle.overlay_machine.proofs.FrameWords.{all_there-from, some_of}
 use Rattle.overlay_machine.proofs.CallFlat.{called_flat, called_shows, called_frames}
 
@@ -40,7 +42,8 @@ module _ (l : Layout) (i : ℕ) (o : OState) (t : State Word) (at_site : AtSite 
   pub its_site : HasSite l o.maps.cells site
   its_site = at_site.sites i site at_site.is_site
 
-  pub owns : (c : ℤ) → at_site.to ≡ c → own_stack l o.maps ≡ Some (record (stack_cap l.stack.base at_site.end 0) { addr = c })
+  pub owns : (c : ℤ) → at_site.to ≡ c
+      → own_stack l o.maps ≡ Some (record (stack_cap l.stack.base at_site.end 0) { addr = c })
   unfolding own_stack faces
   owns c e = rw (at_site.stk, eq-eqb l.stack.base l.stack.base refl, e) refl
 
@@ -71,7 +74,8 @@ module _ (l : Layout) (i : ℕ) (o : OState) (t : State Word) (at_site : AtSite 
         (its_site.apart (b + 1) (omega arith) (omega (arith, e)))
         (cell-flat l o t (b + 1) _ m (some_of (cell o.maps.cells (b + 1)) (Plain (Int (pos 0))) (at_site.owned (b + 1) (omega arith) high)))
 
-    pub call_agrees : is_plain o.maps.regs.c1 ≡ true → is_plain o.maps.regs.c2 ≡ true → Agrees l (call_step l i o) (run_of (λ w. w) (λ w. w) 16 t)
+    pub call_agrees : is_plain o.maps.regs.c1 ≡ true → is_plain o.maps.regs.c2 ≡ true
+        → Agrees l (call_step l i o) (run_of (λ w. w) (λ w. w) 16 t)
     call_agrees p1 p2 =
         let fs = new_frame i (b + 1) at_site.end o ∷ o.frames in
         let s' = at_call i site (stack_cap l.stack.base at_site.end (b + 1)) o in

@@ -1,5 +1,6 @@
 -- The plain state before a call's `xjmp` is the flattening of the overlay's.
-use Rattle.std.proofs.Common.{◌≡◌, ◌≢◌, ◌⊎◌, inl, inr, ℕ, suc, ◌+◌, ◌-◌, ◌<◌, ◌≤◌, pos, ◌∷◌, Some, None, IsSome, refl, ap, sym, ◌∙◌, arith}
+use Rattle.std.proofs.Common.{◌≡◌, ◌≢◌, ◌⊎◌, inl, inr, ℕ, suc, ◌+◌, ◌-◌, ◌<◌, ◌≤◌, pos, ◌∷◌, Some, None}
+use Rattle.std.proofs.Common.{IsSome, refl, ap, sym, ◌∙◌, arith}
 use Rattle.std.specs.Prelude.{slice_get, unwrap_or}
 use Rattle.std.specs.Option.{option_or}
 use Rattle.std.proofs.lemmas.Bool.{cases_lt, cases_eq}
@@ -9,7 +10,8 @@ use Rattle.cap_words.specs.declared.Sealable.TheVariants.{Mem as MemIn}
 use Rattle.cap_words.specs.Face.{face_of}
 use Rattle.cap_words.specs.Linear.{zero_word}
 use Rattle.lcm_isa.specs.declared.Reg.{Reg}
-use Rattle.lcm_isa.specs.declared.Reg.TheVariants.{Pc, Rcode, Rdata, Stk, Dat, T1, T2, C1, C2, A0, A1, A2, A3, G0, G1, G2}
+use Rattle.lcm_isa.specs.declared.Reg.TheVariants.{Pc, Rcode, Rdata, Stk, Dat, T1, T2, C1, C2, A0, A1, A2, A3}
+use Rattle.lcm_isa.specs.declared.Reg.TheVariants.{G0, G1, G2}
 use Rattle.lcm_machine.specs.declared.Place.{Place}
 use Rattle.lcm_machine.specs.declared.Place.TheVariants.{R, Cell}
 use Rattle.lcm_machine.specs.Maps.{State}
@@ -18,7 +20,7 @@ use Rattle.lcm_machine.specs.Cells.{cell}
 use Rattle.lcm_machine.specs.Row.{word_at}
 use Rattle.lcm_machine.specs.Runs.{code_cap}
 use Rattle.lcm_machine.specs.Mapped.{mapped_or, IsMapped, SameFaces}
-use Rattle.lcm_machine.proofs.CellLemmas.{cell-set_other, cell-set_same}
+use Rattle.lcm_machine.proofs.Offers.{cell-set_other, cell-set_same, cell-without_in, cell-without_out}
 use Rattle.call_sequence.specs.SequenceRuns.{stack_cap, at_xjmp}
 use Rattle.overlay_machine.specs.declared.layout.Layout.{Layout}
 use Rattle.overlay_machine.specs.declared.layout.SiteCode.{SiteCode}
@@ -30,8 +32,8 @@ use Rattle.overlay_machine.specs.State.{OpenFrame, OState, word_of, framed}
 use Rattle.overlay_machine.specs.Step.{new_frame, at_call}
 use Rattle.overlay_machine.specs.Flat.{flat, flat_code, flat_data, flat_range, beside, IsFlat}
 use Rattle.overlay_machine.specs.Agree.{FramesLook, Looks, AllKnown}
-use Rattle.lcm_machine.proofs.Stretches.{cell-without_in, cell-without_out}
-use Rattle.overlay_machine.proofs.FrameWords.{words_from-at, words_from-past, word_of-below, word_of-within, frame_of-newest, flat-other, known-other, mapped-same, some_of}
+use Rattle.overlay_machine.proofs.FrameWords.{words_from-at, words_from-past, word_of-below, word_of-within}
+use Rattle.overlay_machine.proofs.FrameWords.{frame_of-newest, flat-other, known-other, mapped-same, some_of}
 
 module _ (l : Layout) (i : ℕ) (o : OState) (t : State Word) (sc : SiteCode) (se b : ℕ)
     (is_site : site_code l i ≡ Some sc) (there : (q : ℕ) → l.stack.base ≤ q → q ≤ se → IsSome (cell o.maps.cells q)) (low : l.stack.base ≤ b) (high : b + 1 ≤ se)
@@ -93,15 +95,18 @@ module _ (l : Layout) (i : ℕ) (o : OState) (t : State Word) (sc : SiteCode) (s
   regs G1 = kept G1
   regs G2 = kept G2
 
-  beside_none : (q : ℕ) → word_of frame q ≡ None → beside l (frame ∷ o.frames) q ≡ mapped_or now_flat (framed o.frames q) None
+  beside_none : (q : ℕ) → word_of frame q ≡ None
+      → beside l (frame ∷ o.frames) q ≡ mapped_or now_flat (framed o.frames q) None
   unfolding beside
   beside_none q e = ap (λ x. mapped_or now_flat (option_or x (framed o.frames q)) None) e
 
-  beside_some : (q : ℕ) (w : OWord) → word_of frame q ≡ Some w → beside l (frame ∷ o.frames) q ≡ Some (now_flat w)
+  beside_some : (q : ℕ) (w : OWord) → word_of frame q ≡ Some w
+      → beside l (frame ∷ o.frames) q ≡ Some (now_flat w)
   unfolding beside
   beside_some q w e = ap (λ x. mapped_or now_flat (option_or x (framed o.frames q)) None) e
 
-  before : (q : ℕ) → cell t.cells q ≡ mapped_or now_flat (cell o.maps.cells q) (mapped_or now_flat (framed o.frames q) None)
+  before : (q : ℕ)
+      → cell t.cells q ≡ mapped_or now_flat (cell o.maps.cells q) (mapped_or now_flat (framed o.frames q) None)
   unfolding beside
   before q = m.cells q ∙ mapped-same old_flat now_flat (cell o.maps.cells q) _ _ (λ w e. sym (old (Cell q) w e)) (mapped-same old_flat now_flat (framed o.frames q) None None (λ w e. sym (old_framed q w e)) refl)
 
@@ -111,13 +116,15 @@ module _ (l : Layout) (i : ℕ) (o : OState) (t : State Word) (sc : SiteCode) (s
       let more : q - (b + 1) ≡ suc (q - (b + 2)) = omega arith in
       word_of-within frame q (omega arith) ∙ ap (slice_get frame.words) more ∙ words_from-past o.maps.cells (b + 1 + 1) (se - (b + 1)) (q - (b + 2)) (omega arith)
 
-  cell_out : (q : ℕ) → (q < b + 1) ⊎ (se < q) → q ≢ b + 1 → cell t'.cells q ≡ mapped_or now_flat (cell s'.cells q) (beside l (frame ∷ o.frames) q)
+  cell_out : (q : ℕ) → (q < b + 1) ⊎ (se < q) → q ≢ b + 1
+      → cell t'.cells q ≡ mapped_or now_flat (cell s'.cells q) (beside l (frame ∷ o.frames) q)
   cell_out q h ne =
       cell-set_other t.cells (b + 1) q t.regs.dat ne ∙ before q
       ∙ ap (λ x. mapped_or now_flat (cell o.maps.cells q) x) (sym (beside_none q (none_out q h)))
       ∙ ap (λ x. mapped_or now_flat x (beside l (frame ∷ o.frames) q)) (sym (cell-without_out o.maps.cells (b + 1) se q h))
 
-  gone : (q : ℕ) → b + 1 ≤ q → q ≤ se → mapped_or now_flat (cell s'.cells q) (beside l (frame ∷ o.frames) q) ≡ beside l (frame ∷ o.frames) q
+  gone : (q : ℕ) → b + 1 ≤ q → q ≤ se
+      → mapped_or now_flat (cell s'.cells q) (beside l (frame ∷ o.frames) q) ≡ beside l (frame ∷ o.frames) q
   gone q h g = ap (λ x. mapped_or now_flat x (beside l (frame ∷ o.frames) q)) (cell-without_in o.maps.cells (b + 1) se q h g)
 
   first_is : word_of frame (b + 1) ≡ Some (reg o.maps.regs Dat)
@@ -135,7 +142,8 @@ module _ (l : Layout) (i : ℕ) (o : OState) (t : State Word) (sc : SiteCode) (s
       ∙ ap (λ n. Some (unwrap_or (cell o.maps.cells n) (zero_word Plain))) back
       ∙ sym (some_of (cell o.maps.cells q) (zero_word Plain) (there q (omega arith) g))
 
-  cell_next : (q : ℕ) → b + 1 < q → q ≤ se → q ≢ b + 1 → cell t'.cells q ≡ mapped_or now_flat (cell s'.cells q) (beside l (frame ∷ o.frames) q)
+  cell_next : (q : ℕ) → b + 1 < q → q ≤ se → q ≢ b + 1
+      → cell t'.cells q ≡ mapped_or now_flat (cell s'.cells q) (beside l (frame ∷ o.frames) q)
   cell_next q h g ne =
       let e = some_of (cell o.maps.cells q) (zero_word Plain) (there q (omega arith) g) in
       cell-set_other t.cells (b + 1) q t.regs.dat ne ∙ before q

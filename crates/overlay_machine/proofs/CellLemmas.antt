@@ -1,7 +1,7 @@
 -- Cells that leave memory one by one.
 use Rattle.std.proofs.Common.{◌≡◌, ℕ, zero, suc, ◌+◌, refl, sym, ◌∙◌, arith}
 use Rattle.lcm_machine.specs.Cells.{drop_cell, without}
-use Rattle.lcm_machine.proofs.Stretches.{without-empty, without-step}
+use Rattle.lcm_machine.proofs.Offers.{without-empty, without-step}
 use Rattle.overlay_machine.specs.State.{Cells}
 use Rattle.overlay_machine.specs.Moves.{dropped}
 

@@ -1,5 +1,7 @@
 -- The room is kept.
-use Rattle.std.proofs.Common.{◌≡◌, ◌≤◌, ◌<◌, ℕ, zero, suc, ◌+◌, ◌-◌, List, [], ◌∷◌, length, refl, sym, ap, subst, arith, Some, IsTrue}
+use Rattle.std.proofs.Common.{◌≡◌, ◌≤◌, ◌<◌, ℕ, ◌+◌, ◌-◌, List, [], ◌∷◌, length, refl, sym, ap, subst, arith}
+use Rattle.std.proofs.Common.{Some, IsTrue}
+use Rattle.overlay_machine.proofs.invariant.FramesKept.{length-words_from}
 use Rattle.cap_words.specs.declared.CapFields.{CapFields}
 use Rattle.cap_words.specs.Linear.{zero_word}
 use Rattle.lcm_isa.specs.declared.Reg.{Reg}
@@ -10,7 +12,7 @@ use Rattle.lcm_machine.specs.Maps.{State}
 use Rattle.lcm_machine.specs.Spans.{in_spans}
 use Rattle.lcm_machine.specs.Touched.{SameCells}
 use Rattle.lcm_machine.specs.Row.{perform}
-use Rattle.frame_region.specs.Frames.{FrameSeen, RegionSeen, sizes, IsNewestFull, newest_head, older}
+use Rattle.frame_region.specs.Frames.{FrameSeen, RegionSeen, sizes, newest_head, older}
 use Rattle.overlay_machine.specs.declared.words.OWord.{OWord}
 use Rattle.overlay_machine.specs.declared.words.OWord.TheVariants.{Plain}
 use Rattle.overlay_machine.specs.declared.layout.Layout.{Layout}
@@ -19,26 +21,18 @@ use Rattle.overlay_machine.specs.declared.frames.Frame.{Frame}
 use Rattle.overlay_machine.specs.declared.machine.Machine.{Machine}
 use Rattle.overlay_machine.specs.Words.{look}
 use Rattle.overlay_machine.specs.State.{Cells}
-use Rattle.lcm_machine.specs.Cells.{words_from, all_there, without, put_back}
+use Rattle.lcm_machine.specs.Cells.{all_there, without, put_back}
 use Rattle.overlay_machine.specs.Step.{rest_words}
 use Rattle.overlay_machine.specs.Moves.{newest_items, IsNewest, opened}
 use Rattle.overlay_machine.specs.Machine.{Fits, AreWhole, AreOut, Fall, here, called, returned, jumping}
 use Rattle.lcm_machine.specs.Plan.{IsJump}
 use Rattle.overlay_machine.proofs.RoomLemmas.{here-without, here-put_back, here-same, here-most}
-use Rattle.lcm_machine.proofs.JumpLemmas.{jump-cells}
+use Rattle.lcm_machine.proofs.Offers.{jump-cells}
 use Rattle.overlay_machine.proofs.OutLemmas.{out-same, out-called, out-returned}
 
-length-words : (m : Cells) (a n : ℕ) → length (words_from Plain m a n) ≡ n
-unfolding words_from
-length-words m a zero = refl
-length-words m a (suc n) = ap suc (length-words m (a + 1) n)
-
-pub whole-full : (l : Layout) (ss : List Span) (fs : List (FrameSeen Frame OWord)) → AreWhole l ss fs → IsNewestFull fs
-whole-full l ss [] h = tt
-whole-full l ss (f ∷ fs) h = h.0.words
-
 -- a call has room
-pub fits-room : (l : Layout) (m : Machine) (at e : ℕ) → Fits l m → l.stack.base < at → at ≤ e → e ≤ l.stack.end
+pub fits-room : (l : Layout) (m : Machine) (at e : ℕ) → Fits l m → l.stack.base < at → at ≤ e
+    → e ≤ l.stack.end
     → IsTrue (all_there m.maps.cells at (e + 1 - at)) → sizes m.frames.frames + (e + 1 - at) ≤ m.frames.cells
 fits-room l m at e f a b c t =
     let h = here-without m.maps.cells at e (l.stack.base + 1) (l.stack.end - l.stack.base) (omega (arith, a)) b (omega (arith, c, a, b)) t in
@@ -46,8 +40,10 @@ fits-room l m at e f a b c t =
     let r = f.cells in
     omega (arith, h, k, r)
 
-pub fits-called : (l : Layout) (m : Machine) (i : ℕ) (s : SiteCode) (c : CapFields) (at : ℕ) (e : Effect) → Fits l m → l.stack.base < at → at ≤ c.end
-    → c.end ≤ l.stack.end → c.end ≤ 1048575 → ((q : ℕ) → at ≤ q → q ≤ c.end → IsTrue (in_spans q m.maps.spans))
+pub fits-called : (l : Layout) (m : Machine) (i : ℕ) (s : SiteCode) (c : CapFields) (at : ℕ) (e : Effect)
+    → Fits l m → l.stack.base < at → at ≤ c.end
+    → c.end ≤ l.stack.end → c.end ≤ 1048575
+    → ((q : ℕ) → at ≤ q → q ≤ c.end → IsTrue (in_spans q m.maps.spans))
     → IsTrue (all_there m.maps.cells at (c.end + 1 - at)) → IsJump C2 e → Fits l (called m i s c at e)
 fits-called l m i s c at e f a b d last spanned t j =
     let q = jump-cells look Plain (jumping m i s c at) C2 e j in
@@ -60,7 +56,7 @@ fits-called l m i s c at e f a b d last spanned t j =
       kept = omega (arith, h, k, same);
       whole = subst (λ x. AreWhole l x.spans (called m i s c at e).frames.frames) (sym q) (
         record {
-          words = (let n = length-words m.maps.cells (at + 1) (c.end - at) in omega (arith, n, b));
+          words = (let n = length-words_from m.maps.cells (at + 1) (c.end - at) in omega (arith, n, b));
           size = omega (arith, b);
           some = omega (arith, b);
           below = d;
@@ -80,7 +76,8 @@ pub record NewestIs (l : Layout) (ss : List Span) (fs : List (FrameSeen Frame OW
   pub last : h.end ≤ 1048575
   pub spanned : (q : ℕ) → h.base ≤ q → q ≤ h.end → IsTrue (in_spans q ss)
 
-pub newest-whole : (l : Layout) (ss : List Span) (fs : List (FrameSeen Frame OWord)) (h : Frame) → AreWhole l ss fs → newest_head fs ≡ Some h → NewestIs l ss fs h
+pub newest-whole : (l : Layout) (ss : List Span) (fs : List (FrameSeen Frame OWord)) (h : Frame)
+    → AreWhole l ss fs → newest_head fs ≡ Some h → NewestIs l ss fs h
 newest-whole l ss [] h w e = cc
 newest-whole l ss (f ∷ fs) h w e =
     let same : f.head ≡ h = cc in
@@ -97,7 +94,8 @@ put-length : (w : OWord) (is : List OWord) → 1 ≤ length is → length (w ∷
 put-length w [] h = absurd (omega (arith, h))
 put-length w (x ∷ is) h = refl
 
-kept-back : (l : Layout) (ss : List Span) (m : Cells) (fs : List (FrameSeen Frame OWord)) (base : ℕ) (k : ℕ) → AreWhole l ss fs → (h : Frame) → IsNewest fs h → here m (l.stack.base + 1) k + sizes fs ≤ k
+kept-back : (l : Layout) (ss : List Span) (m : Cells) (fs : List (FrameSeen Frame OWord)) (base : ℕ) (k : ℕ)
+    → AreWhole l ss fs → (h : Frame) → IsNewest fs h → here m (l.stack.base + 1) k + sizes fs ≤ k
     → here (put_back m base (zero_word Plain ∷ rest_words (newest_items fs))) (l.stack.base + 1) k + sizes (older fs) ≤ k
 kept-back l ss m [] base k w h n p = absurd n
 kept-back l ss m (f ∷ fs) base k w h n p =
@@ -107,11 +105,13 @@ kept-back l ss m (f ∷ fs) base k w h n p =
     let q = put-length (zero_word Plain) f.items (omega (arith, a, s)) in
     omega (arith, r, q, a, p)
 
-older-whole : (l : Layout) (ss : List Span) (fs : List (FrameSeen Frame OWord)) → AreWhole l ss fs → AreWhole l ss (older fs)
+older-whole : (l : Layout) (ss : List Span) (fs : List (FrameSeen Frame OWord)) → AreWhole l ss fs
+    → AreWhole l ss (older fs)
 older-whole l ss [] w = tt
 older-whole l ss (f ∷ fs) w = w.1
 
-back-length : (fs : List (FrameSeen Frame OWord)) (h : Frame) → IsNewest fs h → h.base + length (zero_word Plain ∷ rest_words (newest_items fs)) ≡ h.end + 1
+back-length : (fs : List (FrameSeen Frame OWord)) (h : Frame) → IsNewest fs h
+    → h.base + length (zero_word Plain ∷ rest_words (newest_items fs)) ≡ h.end + 1
 back-length [] h n = absurd n
 back-length (f ∷ fs) h n = let a = n.0 in let b = n.1 in let q = put-length (zero_word Plain) f.items (omega (arith, a, b)) in omega (arith, q, a, b)
 
@@ -120,7 +120,8 @@ older-fall n [] h = tt
 older-fall n (f ∷ []) h = tt
 older-fall n (f ∷ g ∷ fs) h = let a = h.0 in let b = h.1.0 in (omega (arith, a, b), h.1.1)
 
-pub fits-returned : (l : Layout) (m : Machine) (r2 : Reg) (s : SiteCode) (c : CapFields) (h : Frame) → Fits l m → IsNewest m.frames.frames h
+pub fits-returned : (l : Layout) (m : Machine) (r2 : Reg) (s : SiteCode) (c : CapFields) (h : Frame)
+    → Fits l m → IsNewest m.frames.frames h
     → newest_head m.frames.frames ≡ Some h → Fits l (returned m r2 s c h)
 fits-returned l m r2 s c h f n e = record {
   cells = f.cells;
@@ -131,7 +132,8 @@ fits-returned l m r2 s c h f n e = record {
 }
 
 -- an ordinary step, and one that sets registers alone
-pub fits-same : (l : Layout) (m : Machine) (t : State OWord) → Fits l m → SameCells m.maps t → Fits l (record m { maps = t })
+pub fits-same : (l : Layout) (m : Machine) (t : State OWord) → Fits l m → SameCells m.maps t
+    → Fits l (record m { maps = t })
 unfolding SameCells
 fits-same l m t f k =
     let h = here-same t.cells m.maps.cells (l.stack.base + 1) (l.stack.end - l.stack.base) k.1 in
@@ -144,10 +146,8 @@ fits-same l m t f k =
       calls = f.calls;
     }
 
-pub fits-regs : (l : Layout) (m new : Machine) → Fits l m → new ≡ record m { maps = record m.maps { regs = new.maps.regs } } → Fits l new
-fits-regs l m new f e = subst (Fits l) (sym e) (record { cells = f.cells; kept = f.kept; whole = f.whole; out = f.out; calls = f.calls })
-
-pub fits_fresh : (l : Layout) (maps : State OWord) (region : RegionSeen Frame OWord) (calls : ℕ) → region.frames ≡ [] → l.stack.end - l.stack.base ≤ region.cells
+pub fits_fresh : (l : Layout) (maps : State OWord) (region : RegionSeen Frame OWord) (calls : ℕ)
+    → region.frames ≡ [] → l.stack.end - l.stack.base ≤ region.cells
     → Fits l (record { maps = maps; frames = region; calls = calls })
 fits_fresh l maps region calls e r =
     let h = here-most maps.cells (l.stack.base + 1) (l.stack.end - l.stack.base) in

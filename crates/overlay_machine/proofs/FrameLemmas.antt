@@ -1,5 +1,6 @@
 -- A frame opened and closed.
-use Rattle.std.proofs.Common.{◌≡◌, ◌≤◌, ℕ, suc, ◌+◌, ◌-◌, List, [], ◌∷◌, ◌++◌, length, sym, ap, subst, ◌∙◌, arith, IsSome, IsTrue}
+use Rattle.std.proofs.Common.{◌≡◌, ◌≤◌, ℕ, suc, ◌+◌, ◌-◌, List, [], ◌∷◌, ◌++◌, length, sym, ap, subst, ◌∙◌}
+use Rattle.std.proofs.Common.{arith, IsSome, IsTrue}
 use Rattle.std.proofs.lemmas.List.{length-append}
 use Rattle.cap_words.specs.Linear.{zero_word}
 use Rattle.lcm_machine.specs.Maps.{State}
@@ -10,20 +11,24 @@ use Rattle.overlay_machine.specs.declared.words.OWord.TheVariants.{Plain}
 use Rattle.overlay_machine.specs.State.{Cells}
 use Rattle.overlay_machine.specs.Step.{first_word, rest_words}
 use Rattle.overlay_machine.specs.declared.frames.Frame.{Frame}
-use Rattle.overlay_machine.specs.Moves.{newest_items, set_items, with_items, dropped, left_by, opened, given, IsNewest}
+use Rattle.overlay_machine.specs.Moves.{newest_items, set_items, with_items, dropped, left_by, opened, given}
+use Rattle.overlay_machine.specs.Moves.{IsNewest}
 use Rattle.overlay_machine.proofs.CellLemmas.{dropped-first, dropped-without}
-use Rattle.lcm_machine.proofs.Stretches.{there-first, all_there-drop, words_from-drop}
+use Rattle.lcm_machine.proofs.Offers.{there-first, all_there-drop, words_from-drop}
 
 pub first-there : (m : Cells) (a e : ℕ) → a ≤ e → IsTrue (all_there m a (e + 1 - a)) → IsSome (cell m a)
 first-there m a e h t = let k : e + 1 - a ≡ suc (e - a) = omega (arith, h) in (there-first m a (e - a) (subst (λ n. IsTrue (all_there m a n)) k t)).0
 
-pub rest-there : (m : Cells) (a e : ℕ) → a ≤ e → IsTrue (all_there m a (e + 1 - a)) → IsTrue (all_there (drop_cell m a) (a + 1) (e - a))
+pub rest-there : (m : Cells) (a e : ℕ) → a ≤ e → IsTrue (all_there m a (e + 1 - a))
+    → IsTrue (all_there (drop_cell m a) (a + 1) (e - a))
 rest-there m a e h t =
     let k : e + 1 - a ≡ suc (e - a) = omega (arith, h) in
     subst IsTrue (sym (all_there-drop m a (a + 1) (e - a) (omega arith))) (there-first m a (e - a) (subst (λ n. IsTrue (all_there m a n)) k t)).1
 
 pub opened-maps : (old sw tk new : State OWord) (f : Frame) → f.base ≤ f.end
-    → sw ≡ record old { regs = record old.regs { dat = zero_word Plain } } → tk ≡ record sw { cells = drop_cell sw.cells f.base } → new ≡ record tk { cells = dropped tk.cells (f.base + 1) (f.end - f.base) }
+    → sw ≡ record old { regs = record old.regs { dat = zero_word Plain } }
+    → tk ≡ record sw { cells = drop_cell sw.cells f.base }
+    → new ≡ record tk { cells = dropped tk.cells (f.base + 1) (f.end - f.base) }
     → new ≡ left_by old f
 opened-maps old sw tk new f h s t n =
     let c : dropped (drop_cell old.cells f.base) (f.base + 1) (f.end - f.base) ≡ without old.cells f.base f.end
@@ -35,7 +40,8 @@ opened-maps old sw tk new f h s t n =
     n1 ∙ (let over : Cells → State OWord = λ m. record old { regs = record old.regs { dat = zero_word Plain }; cells = m } in ap over c)
 
 pub opened-frames : (old : State OWord) (sw tk : State OWord) (region f1 f2 f3 : RegionSeen Frame OWord) (f : Frame) (first : OWord)
-    → sw ≡ record old { regs = record old.regs { dat = zero_word Plain } } → tk ≡ record sw { cells = drop_cell sw.cells f.base } → first ≡ old.regs.dat
+    → sw ≡ record old { regs = record old.regs { dat = zero_word Plain } }
+    → tk ≡ record sw { cells = drop_cell sw.cells f.base } → first ≡ old.regs.dat
     → f1 ≡ record region { frames = record { head = f; size = f.end + 1 - f.base; items = [] } ∷ region.frames }
     → f2 ≡ record f1 { frames = with_item f1.frames first }
     → f3 ≡ record f2 { frames = with_items f2.frames (words_from Plain tk.cells (f.base + 1) (f.end - f.base)) }
@@ -52,7 +58,8 @@ opened-frames old sw tk region f1 f2 f3 f first s t d a b c =
     ap (λ w. over w (words_from Plain tk.cells (f.base + 1) (f.end - f.base))) d ∙ ap (over old.regs.dat) ws)
 
 -- the word that is popped last is the first one
-popped-word : (fs gs : List (FrameSeen Frame OWord)) (w v : OWord) (h : Frame) → IsNewest fs h → set_items fs (v ∷ []) ≡ with_item gs w → w ≡ v
+popped-word : (fs gs : List (FrameSeen Frame OWord)) (w v : OWord) (h : Frame) → IsNewest fs h
+    → set_items fs (v ∷ []) ≡ with_item gs w → w ≡ v
 popped-word [] gs w v h n e = absurd n
 popped-word (f ∷ fs) [] w v h n e = absurd (let k = ap length e in omega (arith, k))
 popped-word (f ∷ fs) (g ∷ gs) w v h n e = alone g.items (ap newest_items e)
@@ -61,7 +68,8 @@ popped-word (f ∷ fs) (g ∷ gs) w v h n e = alone g.items (ap newest_items e)
     alone [] q = sym (ap first_word q)
     alone (x ∷ is) q = absurd (let k = ap length q in let l = length-append is (w ∷ []) in omega (arith, k, l))
 
-pub closed-maps : (old put giv new : State OWord) (region region1 region2 : RegionSeen Frame OWord) (f : Frame) (w : OWord) → IsNewest region.frames f
+pub closed-maps : (old put giv new : State OWord) (region region1 region2 : RegionSeen Frame OWord) (f : Frame) (w : OWord)
+    → IsNewest region.frames f
     → put ≡ record old { cells = set_cell old.cells f.base (zero_word Plain) }
     → giv ≡ record put { cells = put_back put.cells (f.base + 1) (rest_words (newest_items region.frames)) }
     → region1 ≡ record region { frames = set_items region.frames (first_word (newest_items region.frames) ∷ []) }

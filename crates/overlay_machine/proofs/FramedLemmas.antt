@@ -1,6 +1,8 @@
 -- The word that a frame has at an address, found from the newest frame on.
-use Rattle.std.proofs.Common.{◌≡◌, ◌≤◌, ◌<◌, ◌⊎◌, inl, inr, ℕ, zero, suc, ◌+◌, ◌-◌, Bool, true, false, List, [], ◌∷◌, length, drop, refl, ap, subst, arith, Some, None, Option, IsSome, lt-ltb, ltb-true}
-use Rattle.std.specs.Prelude.{slice_get, nat_lt}
+use Rattle.std.proofs.Common.{◌≡◌, ◌≤◌, ◌<◌, ◌⊎◌, inl, inr, ℕ, zero, suc, ◌+◌, ◌-◌, true, false, List, []}
+use Rattle.std.proofs.Common.{◌∷◌, length, drop, refl, ap, subst, arith, Some, None, Option, IsSome, lt-ltb}
+use Rattle.std.proofs.Common.{le-ltb}
+use Rattle.std.specs.Prelude.{slice_get}
 use Rattle.std.specs.Option.{option_or}
 use Rattle.std.proofs.lemmas.Option.{slice_get_past, slice_get-get_or}
 use Rattle.lcm_machine.specs.declared.cells.Span.{Span}
@@ -20,25 +22,20 @@ pub whole_full : (l : Layout) (ss : List Span) (fs : Frames) → AreWhole l ss f
 whole_full l ss [] w = tt
 whole_full l ss (f ∷ fs) w = (let a = w.0.words in let b = w.0.size in omega (arith, a, b), whole_full l ss fs w.1)
 
--- no word below the base, and none past the end
-not_below : (a b : ℕ) → b ≤ a → nat_lt a b ≡ false
-not_below a b le = by_test (nat_lt a b) refl
-  where
-    by_test : (t : Bool) → nat_lt a b ≡ t → t ≡ false
-    by_test true e = absurd (let l : a < b = ltb-true a b e in omega (arith, le))
-    by_test false e = refl
-
-outside : (f : FrameSeen Frame OWord) (a : ℕ) → f.head.base + length f.items ≡ f.head.end + 1 → (a < f.head.base) ⊎ (f.head.end < a) → word_of (frame_seen f) a ≡ None
+outside : (f : FrameSeen Frame OWord) (a : ℕ) → f.head.base + length f.items ≡ f.head.end + 1
+    → (a < f.head.base) ⊎ (f.head.end < a) → word_of (frame_seen f) a ≡ None
 unfolding word_of
 outside f a full (inl low) = rw (lt-ltb a f.head.base low) refl
-outside f a full (inr high) = rw (not_below a f.head.base (omega (arith, full, high))) (slice_get_past f.items (a - f.head.base) (omega (arith, full, high)))
+outside f a full (inr high) = rw (le-ltb a f.head.base (omega (arith, full, high))) (slice_get_past f.items (a - f.head.base) (omega (arith, full, high)))
 
-inside : (f : FrameSeen Frame OWord) (a : ℕ) (w : OWord) → f.head.base ≤ a → slice_get f.items (a - f.head.base) ≡ Some w → word_of (frame_seen f) a ≡ Some w
+inside : (f : FrameSeen Frame OWord) (a : ℕ) (w : OWord) → f.head.base ≤ a
+    → slice_get f.items (a - f.head.base) ≡ Some w → word_of (frame_seen f) a ≡ Some w
 unfolding word_of
-inside f a w low e = rw (not_below a f.head.base low) e
+inside f a w low e = rw (le-ltb a f.head.base low) e
 
 -- a frame that doesn't have the address is passed
-pub framed_step : (fs : Frames) (i a : ℕ) (h : Frame) → AreFull fs → head_of fs i ≡ Some h → (a < h.base) ⊎ (h.end < a) → framed (frames_of (drop i fs)) a ≡ framed (frames_of (drop (i + 1) fs)) a
+pub framed_step : (fs : Frames) (i a : ℕ) (h : Frame) → AreFull fs → head_of fs i ≡ Some h
+    → (a < h.base) ⊎ (h.end < a) → framed (frames_of (drop i fs)) a ≡ framed (frames_of (drop (i + 1) fs)) a
 framed_step [] i a h full e out = cc
 framed_step (g ∷ fs) zero a h full e out =
     let same : h ≡ g.head = cc in
@@ -49,7 +46,8 @@ framed_step (g ∷ fs) (suc i) a h full e out = let n : suc i + 1 ≡ suc (i + 1
 some_is : {A : Type 0} (o : Option A) (x : A) → o ≡ Some x → IsSome o
 some_is o x e = rw e refl
 
-pub item_there_is : (fs : Frames) (i a : ℕ) (h : Frame) → AreFull fs → head_of fs i ≡ Some h → h.base ≤ a → a ≤ h.end → IsSome (item_at fs i (a - h.base))
+pub item_there_is : (fs : Frames) (i a : ℕ) (h : Frame) → AreFull fs → head_of fs i ≡ Some h → h.base ≤ a
+    → a ≤ h.end → IsSome (item_at fs i (a - h.base))
 item_there_is [] i a h full e low high = cc
 item_there_is (g ∷ fs) zero a h full e low high =
     let same : g.head ≡ h = cc in
@@ -57,15 +55,10 @@ item_there_is (g ∷ fs) zero a h full e low high =
     some_is _ _ (slice_get-get_or g.items (a - h.base) (zero_word Plain) n)
 item_there_is (g ∷ fs) (suc i) a h full e low high = item_there_is fs i a h full.1 e low high
 
-pub framed_here : (fs : Frames) (i a : ℕ) (h : Frame) (w : OWord) → head_of fs i ≡ Some h → h.base ≤ a → item_at fs i (a - h.base) ≡ Some w → framed (frames_of (drop i fs)) a ≡ Some w
+pub framed_here : (fs : Frames) (i a : ℕ) (h : Frame) (w : OWord) → head_of fs i ≡ Some h → h.base ≤ a
+    → item_at fs i (a - h.base) ≡ Some w → framed (frames_of (drop i fs)) a ≡ Some w
 framed_here [] i a h w e low at = cc
 framed_here (g ∷ fs) zero a h w e low at =
     let same : h ≡ g.head = cc in
     ap (λ o. option_or o (framed (frames_of fs) a)) (inside g a w (subst (λ x. x.base ≤ a) same low) (subst (λ x. slice_get g.items (a - x.base) ≡ Some w) same at))
 framed_here (g ∷ fs) (suc i) a h w e low at = framed_here fs i a h w e low at
-
-pub framed_end : (fs : Frames) (i a : ℕ) → length fs ≤ i → framed (frames_of (drop i fs)) a ≡ None
-framed_end [] zero a h = refl
-framed_end [] (suc i) a h = refl
-framed_end (g ∷ fs) zero a h = absurd (omega (arith, h))
-framed_end (g ∷ fs) (suc i) a h = framed_end fs i a (omega (arith, h))

@@ -9,8 +9,10 @@ mod CallLemmas
 mod FitsLemmas
 mod HeadLemmas
 mod CopyLemmas
+mod Mapping
 mod StepLemmas
 pub mod FlatLemmas
+mod Flattened
 pub mod FrameWords
 pub mod PairsOpened
 pub mod OwnStack
@@ -28,3 +30,4 @@ pub mod Marks
 pub mod invariant
 pub mod starts
 mod FramedLemmas
+pub mod Offers

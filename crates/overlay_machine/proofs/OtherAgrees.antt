@@ -1,5 +1,5 @@
 -- Every other step is one plain step.
-use Rattle.std.proofs.Common.{◌≡◌, ℕ, true, Some, None, refl, ap, inl, inr}
+use Rattle.std.proofs.Common.{◌≡◌, ℕ, true, Some, None, refl, inl, inr}
 use Rattle.std.specs.Prelude.{Option, ◌&&◌}
 use Rattle.std.proofs.lemmas.Bool.{and_parts, cases_Bool}
 use Rattle.cap_words.specs.declared.Word.{Word}
@@ -12,9 +12,8 @@ use Rattle.lcm_machine.specs.Maps.{State}
 use Rattle.lcm_machine.specs.Places.{reg}
 use Rattle.lcm_machine.specs.Row.{faces, cell_faces, fetch, some}
 use Rattle.lcm_machine.specs.Runs.{run_of}
-use Rattle.lcm_machine.specs.Mapped.{mapped_or, IsFree, SameContents}
-use Rattle.lcm_machine.proofs.Commute.{step_mapped}
-use Rattle.lcm_machine.proofs.StepRows.{run_one}
+use Rattle.lcm_machine.specs.Mapped.{IsFree, SameContents}
+use Rattle.lcm_machine.proofs.Offers.{step_mapped, run_one}
 use Rattle.overlay_machine.specs.declared.layout.Layout.{Layout}
 use Rattle.overlay_machine.specs.declared.words.OWord.{OWord}
 use Rattle.overlay_machine.specs.declared.words.OWord.TheVariants.{Plain}
@@ -22,11 +21,11 @@ use Rattle.overlay_machine.specs.declared.cases.Case.{Case}
 use Rattle.overlay_machine.specs.declared.cases.Case.TheVariants.{Call, Entry, Back, Other}
 use Rattle.overlay_machine.specs.Words.{look, is_plain}
 use Rattle.overlay_machine.specs.Layout.{trusted_at, site_at, is_entry}
-use Rattle.overlay_machine.specs.State.{OState, framed}
+use Rattle.overlay_machine.specs.State.{OState}
 use Rattle.overlay_machine.specs.Step.{case_at, case_trusted, case_fetched, case_of, other_step}
 use Rattle.overlay_machine.specs.Flat.{flat, beside, IsFlat}
 use Rattle.overlay_machine.specs.Agree.{Agrees, Looks, FramesFree}
-use Rattle.overlay_machine.proofs.FlatLemmas.{flat-plain, flat-opened, row_agrees}
+use Rattle.overlay_machine.proofs.FlatLemmas.{flat-plain, flat-opened, row_agrees, beside-none}
 
 -- a case that is read off the instruction at pc
 abbrev pub IsFetched : Case → Type 0
@@ -56,25 +55,25 @@ case_trusted-fetched : (l : Layout) (p : Option ℕ) (c d : Case) → IsFetched 
 case_trusted-fetched l None c d f e = e
 case_trusted-fetched l (Some a) c d f e = case_at-fetched l a (site_at l a) c d f e
 
-pub fetched_case : (l : Layout) (s : State OWord) (d : Case) → IsFetched d → case_of l s ≡ d → case_fetched s (fetch (faces look s Pc) (cell_faces look s)) ≡ d
+pub fetched_case : (l : Layout) (s : State OWord) (d : Case) → IsFetched d → case_of l s ≡ d
+    → case_fetched s (fetch (faces look s Pc) (cell_faces look s)) ≡ d
 unfolding case_of
 fetched_case l s d f e = case_trusted-fetched l (trusted_at l (faces look s Pc)) _ d f e
 
-pub plain_both : (s : State OWord) (r1 r2 : Reg) (next : Word) → case_fetched s (some (Xjmp r1 r2) next) ≡ Other → (is_plain (reg s.regs r1) ≡ true) × (is_plain (reg s.regs r2) ≡ true)
+pub plain_both : (s : State OWord) (r1 r2 : Reg) (next : Word)
+    → case_fetched s (some (Xjmp r1 r2) next) ≡ Other
+    → (is_plain (reg s.regs r1) ≡ true) × (is_plain (reg s.regs r2) ≡ true)
 plain_both s r1 r2 next e = elim (cases_Bool (is_plain (reg s.regs r1) && is_plain (reg s.regs r2))) as (λ _. (is_plain (reg s.regs r1) ≡ true) × (is_plain (reg s.regs r2) ≡ true)) [
   | inl t ↦ and_parts _ _ t
   | inr t ↦ (let k : Back r1 r2 ≡ Other = rw t at e in cc)
 ]
 
 module _ (l : Layout) (o : OState) (t : State Word) (m : IsFlat l o t) (k : Looks l o) (free : FramesFree o) where
-  beside_free : (a : ℕ) → framed o.frames a ≡ None → beside l o.frames a ≡ None
-  unfolding beside
-  beside_free a e = ap (λ x. mapped_or (flat l o.frames) x None) e
-
   pub free_pc : IsFree (beside l o.frames) (target_of (faces look o.maps Pc))
-  free_pc a e = beside_free a (free.at_pc a e)
+  free_pc a e = beside-none l o.frames a (free.at_pc a e)
 
-  contents : (i : Instr) (next : Word) → case_fetched o.maps (some i next) ≡ Other → SameContents look (λ w. w) (flat l o.frames) o.maps i
+  contents : (i : Instr) (next : Word) → case_fetched o.maps (some i next) ≡ Other
+      → SameContents look (λ w. w) (flat l o.frames) o.maps i
   contents (Xjmp r1 r2) next e = let p = plain_both o.maps r1 r2 next e in (flat-opened l o.frames (reg o.maps.regs r1) p.0, flat-opened l o.frames (reg o.maps.regs r2) p.1)
   contents _ next e = tt
 
@@ -83,5 +82,5 @@ module _ (l : Layout) (o : OState) (t : State Word) (m : IsFlat l o t) (k : Look
   other_agrees e =
       let c = fetched_case l o.maps Other tt e in
       let ends = step_mapped look (λ w. w) (flat l o.frames) (beside l o.frames) Plain (λ w. w) (λ x. refl) (λ x. refl) (flat-plain l o.frames) o.maps t m (k.0) free_pc
-      (λ i next f. (contents i next (rw f at c), λ a g. beside_free a (free.at_target i next a f g))) in
+      (λ i next f. (contents i next (rw f at c), λ a g. beside-none l o.frames a (free.at_target i next a f g))) in
       rw (run_one (λ w. w) (λ w. w) t) (row_agrees l o.frames o.calls (k.1) _ _ ends)

@@ -1,8 +1,10 @@
 -- An `xjmp` of a return word: one overlay step against as many plain ones as it weighs.
-use Rattle.std.proofs.Common.{◌≡◌, ◌≢◌, inl, inr, ℕ, ◌+◌, ◌-◌, ◌≤◌, pos, true, false, List, [], ◌∷◌, Some, None, refl, ap, sym, subst, ◌∙◌, arith, eq-eqb, eqb-true}
+use Rattle.std.proofs.Common.{◌≡◌, ◌≢◌, inl, inr, ℕ, ◌+◌, ◌-◌, ◌≤◌, pos, true, false, List, [], ◌∷◌, Some}
+use Rattle.std.proofs.Common.{None, refl, ap, sym, subst, ◌∙◌, arith, eq-eqb, eqb-true}
 use Rattle.std.specs.Prelude.{Option, slice_get, ◌&&◌, ◌==◌, if◌then◌else◌}
 use Rattle.std.specs.Option.{option_or}
 use Rattle.std.proofs.lemmas.Bool.{cases_eq, cases_Bool, and_parts}
+use Rattle.std.proofs.lemmas.Option.{same_Some}
 use Rattle.cap_words.specs.declared.TheConstants.{LAST_PLACE}
 use Rattle.cap_words.specs.declared.Word.{Word}
 use Rattle.cap_words.specs.declared.Word.TheVariants.{Int, Mem, Seal, Sealed}
@@ -26,12 +28,9 @@ use Rattle.lcm_machine.specs.Row.{put, faces, row, step_fetched, step_of, went, 
 use Rattle.lcm_machine.specs.Runs.{run_of, code_cap}
 use Rattle.lcm_machine.specs.Mapped.{mapped_or}
 use Rattle.lcm_machine.specs.Refusals.{HasFailed, CannotJoin, Refuses}
-use Rattle.lcm_machine.proofs.Goes.{xjmp_goes, left, run_then}
-use Rattle.lcm_machine.proofs.Commute.{fetch_mapped}
-use Rattle.lcm_machine.proofs.RegLemmas.{cases_reg, reg-set_same, reg-set_other}
-use Rattle.lcm_machine.proofs.StepRows.{run_one}
-use Rattle.lcm_machine.proofs.Refusals.{failed_more, then_failed}
-use Rattle.lcm_machine.proofs.XjmpFails.{xjmp_fails, xjmp_runs_fails}
+use Rattle.lcm_machine.proofs.Offers.{xjmp_goes, left, run_then, fetch_mapped, cases_reg, reg-set_same}
+use Rattle.lcm_machine.proofs.Offers.{reg-set_other, run_one, failed_more, then_failed, xjmp_fails}
+use Rattle.lcm_machine.proofs.Offers.{xjmp_runs_fails}
 use Rattle.call_sequence.specs.SequenceRuns.{stack_cap, HasReturn}
 use Rattle.call_sequence.proofs.ReturnLaws.{return_runs, return_apart, return_off_base}
 use Rattle.overlay_machine.specs.declared.layout.Layout.{Layout}
@@ -42,13 +41,17 @@ use Rattle.overlay_machine.specs.declared.cases.Case.TheVariants.{Back}
 use Rattle.overlay_machine.specs.Words.{look, is_plain, is_ret_code}
 use Rattle.overlay_machine.specs.Layout.{site_code}
 use Rattle.overlay_machine.specs.State.{OpenFrame, OState, word_of, framed, frame_of}
-use Rattle.overlay_machine.specs.Step.{goes, fails, weight_by, ask, need, own_stack, resumed, return_by, return_step}
+use Rattle.overlay_machine.specs.Step.{goes, fails, weight_by, ask, need, own_stack, resumed, return_by}
+use Rattle.overlay_machine.specs.Step.{return_step}
 use Rattle.overlay_machine.specs.Flat.{flat, flat_code, flat_data, flat_range, beside, IsFlat}
 use Rattle.overlay_machine.specs.Agree.{Agrees, Looks, HasSite, IsOther, AtReturn}
 use Rattle.overlay_machine.proofs.FlatLemmas.{flat-mem, mem_of_face, HasReturn-flat, both_fail, both_go}
+use Rattle.overlay_machine.proofs.FlatLemmas.{beside-none}
 use Rattle.overlay_machine.proofs.FrameWords.{frame_of-newest, word_of-within}
-use Rattle.overlay_machine.proofs.PairsOpened.{OneSite, code_site, data_site, data_refuses, foreign_refuses, opened-code, opened-data}
-use Rattle.overlay_machine.proofs.OwnStack.{stack_of, same_lin_true, face_of_own, own_true, own_parts, own_joins, own_from}
+use Rattle.overlay_machine.proofs.PairsOpened.{OneSite, code_site, data_site, data_refuses, foreign_refuses}
+use Rattle.overlay_machine.proofs.PairsOpened.{opened-code, opened-data}
+use Rattle.overlay_machine.proofs.OwnStack.{stack_of, same_lin_true, face_of_own, own_true, own_parts}
+use Rattle.overlay_machine.proofs.OwnStack.{own_joins, own_from}
 use Rattle.overlay_machine.proofs.ReturnFlat.{resumed_flat, resumed_looks}
 
 abbrev id : Word → Word
@@ -65,14 +68,16 @@ return_fails l i k r2 (f ∷ fs) o h = elim (cases_Bool ((k == f.call) && (i == 
   | inl holds ↦ (let p = and_parts _ _ holds in rw holds (by_site (site_code l i) refl (eqb-true k f.call p.0) (eqb-true i f.site p.1)))
 ]
   where
-    joint : (c : CapFields) (s : SiteCode) → site_code l i ≡ Some s → own_stack l o.maps ≡ Some c → k ≡ f.call → i ≡ f.site
+    joint : (c : CapFields) (s : SiteCode) → site_code l i ≡ Some s → own_stack l o.maps ≡ Some c → k ≡ f.call
+        → i ≡ f.site
         → ask (c.end + 1 == f.base) (goes (resumed s c f fs (put o.maps (R r2) (zero_word Plain)) o)) ≡ fails
     joint c s es ec ek ei = elim (cases_Bool (c.end + 1 == f.base)) as (λ _. ask (c.end + 1 == f.base) (goes (resumed s c f fs (put o.maps (R r2) (zero_word Plain)) o)) ≡ fails) [
       | inr lacks ↦ rw lacks refl
       | inl holds ↦ absurd (h f fs s c refl ek ei es ec (eqb-true (c.end + 1) f.base holds))
     ]
 
-    by_stack : (s : SiteCode) (x : Option CapFields) → site_code l i ≡ Some s → own_stack l o.maps ≡ x → k ≡ f.call → i ≡ f.site
+    by_stack : (s : SiteCode) (x : Option CapFields) → site_code l i ≡ Some s → own_stack l o.maps ≡ x
+        → k ≡ f.call → i ≡ f.site
         → need x (λ c. ask (c.end + 1 == f.base) (goes (resumed s c f fs (put o.maps (R r2) (zero_word Plain)) o))) ≡ fails
     by_stack s None es ec ek ei = refl
     by_stack s (Some c) es ec ek ei = joint c s es ec ek ei
@@ -85,9 +90,6 @@ return_fails l i k r2 (f ∷ fs) o h = elim (cases_Bool ((k == f.call) && (i == 
 some_frame : (f g : OpenFrame) → Some f ≡ Some g → f ≡ g
 some_frame f g e = cc
 
-some_site : (s u : SiteCode) → Some s ≡ Some u → s ≡ u
-some_site s u e = cc
-
 module _ (l : Layout) (r1 r2 : Reg) (o : OState) (t : State Word) (at_return : AtReturn l r1 r2 o) (m : IsFlat l o t) (k : Looks l o) where
   abbrev x1 : OWord
   x1 = reg o.maps.regs r1
@@ -98,26 +100,24 @@ module _ (l : Layout) (r1 r2 : Reg) (o : OState) (t : State Word) (at_return : A
   abbrev fl : OWord → Word
   fl = flat l o.frames
 
-  beside_free : (a : ℕ) → framed o.frames a ≡ None → beside l o.frames a ≡ None
-  unfolding beside
-  beside_free a e = ap (λ x. mapped_or fl x None) e
-
   plain_row : run_of id id 1 t ≡ row id id (Xjmp r1 r2) at_return.next t
   unfolding step_of
   plain_row =
-      let f = fetch_mapped look id fl (beside l o.frames) o.maps t m (k.0) (λ a e. beside_free a (at_return.free a e)) in
+      let f = fetch_mapped look id fl (beside l o.frames) o.maps t m (k.0) (λ a e. beside-none l o.frames a (at_return.free a e)) in
       run_one id id t ∙ ap (step_fetched id id t) (f ∙ at_return.fetched)
 
   row_fails : HasFailed (row id id (Xjmp r1 r2) at_return.next t) → HasFailed (run_of id id 1 t)
   row_fails h = rw plain_row h
 
-  refuses : (x y : Option Opened) → opened_of (fl x1) ≡ x → opened_of (fl x2) ≡ y → Refuses x y → HasFailed (run_of id id 1 t)
+  refuses : (x y : Option Opened) → opened_of (fl x1) ≡ x → opened_of (fl x2) ≡ y → Refuses x y
+      → HasFailed (run_of id id 1 t)
   refuses x y ex ey h = row_fails (xjmp_fails id id r1 r2 at_return.next t x y (ap opened_of (m.regs r1) ∙ ex) (ap opened_of (m.regs r2) ∙ ey) h)
 
   more : HasFailed (run_of id id 1 t) → HasFailed (run_of id id 11 t)
   more h = failed_more id id 1 10 t h
 
-  plain_opened : (r : Reg) (w : Word) → reg o.maps.regs r ≡ Plain w → opened_of (fl (reg o.maps.regs r)) ≡ opened_of w
+  plain_opened : (r : Reg) (w : Word) → reg o.maps.regs r ≡ Plain w
+      → opened_of (fl (reg o.maps.regs r)) ≡ opened_of w
   unfolding flat
   plain_opened r w e = ap (λ x. opened_of (flat l o.frames x)) e
 
@@ -160,16 +160,18 @@ module _ (l : Layout) (r1 r2 : Reg) (o : OState) (t : State Word) (at_return : A
       its_frame f fs ef en = some_frame f g (sym (frame_of-newest f fs) ∙ ap (frame_of (f ∷ fs)) (sym en) ∙ ap (λ x. frame_of x n) (sym ef) ∙ eg)
 
       -- under another seal
-      other_seal : (u : SiteCode) → site_code l g.site ≡ Some u → s.seal ≢ u.seal → opened_of (fl x2) ≡ Some (record { seal = u.seal; content = MemC half })
+      other_seal : (u : SiteCode) → site_code l g.site ≡ Some u → s.seal ≢ u.seal
+          → opened_of (fl x2) ≡ Some (record { seal = u.seal; content = MemC half })
           → Agrees l (return_by l (RetCode i) (RetData n) r2 o.frames o) (run_of id id 11 t)
       other_seal u eu ne ey =
           both_fail l _ _ (return_fails l i n r2 o.frames o (λ f fs s' c ef en ei es' ec ej.
           let q : f ≡ g = its_frame f fs ef en in
           let w : site_code l i ≡ Some u = ap (site_code l) (ei ∙ ap (λ x. x.site) q) ∙ eu in
-          ne (ap (λ x. x.seal) (some_site s u (sym es ∙ w)))))
+          ne (ap (λ x. x.seal) (same_Some s u (sym es ∙ w)))))
           (more (refuses _ _ ex ey (inl ne)))
 
-      no_site : site_code l g.site ≡ None → opened_of (fl x2) ≡ None → Agrees l (return_by l (RetCode i) (RetData n) r2 o.frames o) (run_of id id 11 t)
+      no_site : site_code l g.site ≡ None → opened_of (fl x2) ≡ None
+          → Agrees l (return_by l (RetCode i) (RetData n) r2 o.frames o) (run_of id id 11 t)
       no_site eu ey =
           both_fail l _ _ (return_fails l i n r2 o.frames o (λ f fs s' c ef en ei es' ec ej.
           let q : f ≡ g = its_frame f fs ef en in
@@ -221,7 +223,8 @@ module _ (l : Layout) (r1 r2 : Reg) (o : OState) (t : State Word) (at_return : A
         ]
 
         -- stk can't be joined: the overlay fails too
-        not_joint : (x : Word) → s1.regs.stk ≡ x → CannotJoin (face_of x) (Memory half) → Agrees l (return_by l (RetCode i) (RetData n) r2 o.frames o) (run_of id id 11 t)
+        not_joint : (x : Word) → s1.regs.stk ≡ x → CannotJoin (face_of x) (Memory half)
+            → Agrees l (return_by l (RetCode i) (RetData n) r2 o.frames o) (run_of id id 11 t)
         not_joint x e h =
             both_fail l _ _ (return_fails l i n r2 o.frames o (λ f fs s' c ef en ei es' ec ej.
             let q : f ≡ g = its_frame f fs ef en in
@@ -231,7 +234,9 @@ module _ (l : Layout) (r1 r2 : Reg) (o : OState) (t : State Word) (at_return : A
             (cannot_join (rw e h))
 
         -- they join, but not from the stack's base
-        off : (c : CapFields) → s1.regs.stk ≡ Mem c → (same_kind c half && (c.end + 1 == g.base)) ≡ true → c.base ≢ l.stack.base → c.base ≤ LAST_PLACE → Agrees l (return_by l (RetCode i) (RetData n) r2 o.frames o) (run_of id id 11 t)
+        off : (c : CapFields) → s1.regs.stk ≡ Mem c → (same_kind c half && (c.end + 1 == g.base)) ≡ true
+            → c.base ≢ l.stack.base → c.base ≤ LAST_PLACE
+            → Agrees l (return_by l (RetCode i) (RetData n) r2 o.frames o) (run_of id id 11 t)
         off c e h ne small =
             let p = and_parts _ _ h in
             let q = and_parts _ _ p.0 in
@@ -242,19 +247,23 @@ module _ (l : Layout) (r1 r2 : Reg) (o : OState) (t : State Word) (at_return : A
             (then_failed id id 1 10 t s1 jumps (failed_more id id 7 3 s1 (rw (return_off_base id id (λ x. refl) s1 s.base s.end (s.at + 16) l.stack.base c half code_is
             refl e refl (same_lin_true (lin_is c.lin) q.1) refl p.0 (eqb-true (c.end + 1) g.base p.1) small at_return.small_base ne) tt)))
 
-        overlay_goes : (c : CapFields) (fs : List OpenFrame) → n ≡ g.call → c.end + 1 ≡ g.base → own_stack l o.maps ≡ Some c
+        overlay_goes : (c : CapFields) (fs : List OpenFrame) → n ≡ g.call → c.end + 1 ≡ g.base
+            → own_stack l o.maps ≡ Some c
             → return_by l (RetCode i) (RetData n) r2 (g ∷ fs) (record o { frames = g ∷ fs }) ≡ goes (resumed s c g fs (put o.maps (R r2) (zero_word Plain)) (record o { frames = g ∷ fs }))
         unfolding ask need
         overlay_goes c fs en joint own = rw (eq-eqb n g.call en, eq-eqb i g.site site_is, es, own, eq-eqb (c.end + 1) g.base joint) refl
 
-        beside_first : (fs : List OpenFrame) (w : Word) (ws : List OWord) → g.words ≡ Plain w ∷ ws → beside l (g ∷ fs) g.base ≡ Some w
+        beside_first : (fs : List OpenFrame) (w : Word) (ws : List OWord) → g.words ≡ Plain w ∷ ws
+            → beside l (g ∷ fs) g.base ≡ Some w
         unfolding beside flat
         beside_first fs w ws e =
             let z : g.base - g.base ≡ 0 = omega arith in
             let there : word_of g g.base ≡ Some (Plain w) = word_of-within g g.base (omega arith) ∙ ap (λ x. slice_get x (g.base - g.base)) e ∙ ap (slice_get (Plain w ∷ ws)) z in
             ap (λ x. mapped_or (flat l (g ∷ fs)) (option_or x (framed fs g.base)) None) there
 
-        finish : (c : CapFields) → s1.regs.stk ≡ Mem c → same_kind c half ≡ true → c.end + 1 ≡ g.base → c.base ≡ l.stack.base → (fs : List OpenFrame) → o.frames ≡ g ∷ fs → n ≡ g.call → own_stack l o.maps ≡ Some c
+        finish : (c : CapFields) → s1.regs.stk ≡ Mem c → same_kind c half ≡ true → c.end + 1 ≡ g.base
+            → c.base ≡ l.stack.base → (fs : List OpenFrame) → o.frames ≡ g ∷ fs → n ≡ g.call
+            → own_stack l o.maps ≡ Some c
             → Agrees l (return_by l (RetCode i) (RetData n) r2 o.frames o) (run_of id id 11 t)
         finish c e kind joint low fs ef en own =
             let sound = at_return.frames g fs ef in
@@ -285,7 +294,9 @@ module _ (l : Layout) (r1 r2 : Reg) (o : OState) (t : State Word) (at_return : A
             (resumed_looks l o.maps g fs o.calls t r2 s c sound m1 k1 other framed_other apart))
 
         -- they join from the stack's base: the call is the newest, and the overlay resumes it
-        resumes : (c : CapFields) → s1.regs.stk ≡ Mem c → (same_kind c half && (c.end + 1 == g.base)) ≡ true → c.base ≡ l.stack.base → Agrees l (return_by l (RetCode i) (RetData n) r2 o.frames o) (run_of id id 11 t)
+        resumes : (c : CapFields) → s1.regs.stk ≡ Mem c → (same_kind c half && (c.end + 1 == g.base)) ≡ true
+            → c.base ≡ l.stack.base
+            → Agrees l (return_by l (RetCode i) (RetData n) r2 o.frames o) (run_of id id 11 t)
         resumes c e h low =
             let p = and_parts _ _ h in
             let q = and_parts _ _ p.0 in
@@ -296,7 +307,8 @@ module _ (l : Layout) (r1 r2 : Reg) (o : OState) (t : State Word) (at_return : A
             finish c e p.0 joint low newest.0 newest.1 newest.2 own
 
         -- whatever stk is
-        by_stack : (x : Word) → s1.regs.stk ≡ x → Agrees l (return_by l (RetCode i) (RetData n) r2 o.frames o) (run_of id id 11 t)
+        by_stack : (x : Word) → s1.regs.stk ≡ x
+            → Agrees l (return_by l (RetCode i) (RetData n) r2 o.frames o) (run_of id id 11 t)
         by_stack (Int z) e = not_joint (Int z) e tt
         by_stack (Seal z) e = not_joint (Seal z) e tt
         by_stack (Sealed q (MemIn z)) e = not_joint (Sealed q (MemIn z)) e tt
@@ -319,7 +331,8 @@ module _ (l : Layout) (r1 r2 : Reg) (o : OState) (t : State Word) (at_return : A
   unfolding flat
   code_none i e q = ap (λ x. opened_of (fl x)) e ∙ ap (λ x. opened_of (flat_code x)) q
 
-  pub code_some : (i : ℕ) (s : SiteCode) → x1 ≡ RetCode i → site_code l i ≡ Some s → opened_of (fl x1) ≡ Some (record { seal = s.seal; content = MemC (code_cap s.base s.end (s.at + 16)) })
+  pub code_some : (i : ℕ) (s : SiteCode) → x1 ≡ RetCode i → site_code l i ≡ Some s
+      → opened_of (fl x1) ≡ Some (record { seal = s.seal; content = MemC (code_cap s.base s.end (s.at + 16)) })
   unfolding flat
   code_some i s e q = ap (λ x. opened_of (fl x)) e ∙ ap (λ x. opened_of (flat_code x)) q
 
@@ -327,15 +340,18 @@ module _ (l : Layout) (r1 r2 : Reg) (o : OState) (t : State Word) (at_return : A
   unfolding flat
   data_none n e q = ap (λ x. opened_of (fl x)) e ∙ ap (λ x. opened_of (flat_data l x)) q
 
-  pub data_is : (n : ℕ) (g : OpenFrame) (z : Option SiteCode) → x2 ≡ RetData n → frame_of o.frames n ≡ Some g → site_code l g.site ≡ z → fl x2 ≡ flat_range g z
+  pub data_is : (n : ℕ) (g : OpenFrame) (z : Option SiteCode) → x2 ≡ RetData n → frame_of o.frames n ≡ Some g
+      → site_code l g.site ≡ z → fl x2 ≡ flat_range g z
   unfolding flat
   data_is n g z e q w = ap fl e ∙ ap (flat_data l) q ∙ ap (flat_range g) w
 
-  as_code : (i : ℕ) → x1 ≡ RetCode i → Agrees l (return_by l (RetCode i) x2 r2 o.frames o) (run_of id id 11 t) → Both
+  as_code : (i : ℕ) → x1 ≡ RetCode i → Agrees l (return_by l (RetCode i) x2 r2 o.frames o) (run_of id id 11 t)
+      → Both
   as_code i e h = rw e h
 
   -- the first word is a RetCode
-  code_first : (i : ℕ) (x : Option SiteCode) → x1 ≡ RetCode i → site_code l i ≡ x → (y : OWord) → x2 ≡ y → Agrees l (return_by l (RetCode i) x2 r2 o.frames o) (run_of id id 11 t)
+  code_first : (i : ℕ) (x : Option SiteCode) → x1 ≡ RetCode i → site_code l i ≡ x → (y : OWord) → x2 ≡ y
+      → Agrees l (return_by l (RetCode i) x2 r2 o.frames o) (run_of id id 11 t)
   code_first i None e es (Plain w) e2 = rw e2 (both_fail l _ _ refl (more (refuses None _ (code_none i e es) refl tt)))
   code_first i None e es (RetCode j) e2 = rw e2 (both_fail l _ _ refl (more (refuses None _ (code_none i e es) refl tt)))
   code_first i None e es (RetData n) e2 = rw e2 (both_fail l _ _ (return_fails l i n r2 o.frames o (λ f fs s c ef en ei es' ec ej. let w : None ≡ Some s = sym es ∙ es' in cc)) (more (refuses None _ (code_none i e es) refl tt)))
@@ -343,7 +359,8 @@ module _ (l : Layout) (r1 r2 : Reg) (o : OState) (t : State Word) (at_return : A
   code_first i (Some s) e es (RetCode j) e2 = rw e2 (both_fail l _ _ refl (more (code_second i e s es (code_some i s e es) j e2)))
   code_first i (Some s) e es (RetData n) e2 = rw e2 (by_frame (frame_of o.frames n) refl)
     where
-      by_seal : (g : OpenFrame) (z : Option SiteCode) → frame_of o.frames n ≡ Some g → site_code l g.site ≡ z → Agrees l (return_by l (RetCode i) (RetData n) r2 o.frames o) (run_of id id 11 t)
+      by_seal : (g : OpenFrame) (z : Option SiteCode) → frame_of o.frames n ≡ Some g → site_code l g.site ≡ z
+          → Agrees l (return_by l (RetCode i) (RetData n) r2 o.frames o) (run_of id id 11 t)
       by_seal g None eg eu = no_site i e s es (code_some i s e es) n e2 g eg eu (ap opened_of (data_is n g None e2 eg eu))
       by_seal g (Some u) eg eu = elim (cases_eq s.seal u.seal) as (λ _. Agrees l (return_by l (RetCode i) (RetData n) r2 o.frames o) (run_of id id 11 t)) [
         | inr ne ↦ other_seal i e s es (code_some i s e es) n e2 g eg u eu ne (ap opened_of (data_is n g (Some u) e2 eg eu))
@@ -353,7 +370,8 @@ module _ (l : Layout) (r1 r2 : Reg) (o : OState) (t : State Word) (at_return : A
             its i e s es (code_some i s e es) n e2 g eg eu' (ap opened_of flat_is) flat_is site_is)
       ]
 
-      by_frame : (z : Option OpenFrame) → frame_of o.frames n ≡ z → Agrees l (return_by l (RetCode i) (RetData n) r2 o.frames o) (run_of id id 11 t)
+      by_frame : (z : Option OpenFrame) → frame_of o.frames n ≡ z
+          → Agrees l (return_by l (RetCode i) (RetData n) r2 o.frames o) (run_of id id 11 t)
       by_frame None eg = both_fail l _ _ (return_fails l i n r2 o.frames o (λ f fs s' c ef en ei es' ec ej.
           let w : Some f ≡ None = sym (frame_of-newest f fs) ∙ ap (frame_of (f ∷ fs)) (sym en) ∙ ap (λ x. frame_of x n) (sym ef) ∙ eg in cc))
           (more (refuses _ None (code_some i s e es) (data_none n e2 eg) tt))
@@ -366,6 +384,7 @@ module _ (l : Layout) (r1 r2 : Reg) (o : OState) (t : State Word) (at_return : A
   first (RetData n) y e1 e2 h = (let f = data_first n e1 in rw e1 (both_fail l _ _ refl f))
   first (RetCode i) y e1 e2 h = as_code i e1 (code_first i (site_code l i) e1 refl y e2)
 
-  pub return_agrees : (is_plain x1 && is_plain x2) ≡ false → Agrees l (return_step l r1 r2 o) (run_of id id (weight_by o.maps (Back r1 r2)) t)
+  pub return_agrees : (is_plain x1 && is_plain x2) ≡ false
+      → Agrees l (return_step l r1 r2 o) (run_of id id (weight_by o.maps (Back r1 r2)) t)
   unfolding return_step
   return_agrees h = first x1 x2 refl refl h

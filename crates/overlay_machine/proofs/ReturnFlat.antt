@@ -1,5 +1,6 @@
 -- The plain state after a return is the flattening of the overlay's.
-use Rattle.std.proofs.Common.{◌≡◌, ◌≢◌, ◌⊎◌, inl, inr, ℕ, zero, suc, ◌+◌, ◌-◌, ◌<◌, ◌≤◌, pos, List, ◌∷◌, length, Some, None, refl, ap, sym, ◌∙◌, arith}
+use Rattle.std.proofs.Common.{◌≡◌, ◌≢◌, ◌⊎◌, inl, inr, ℕ, zero, suc, ◌+◌, ◌-◌, ◌<◌, ◌≤◌, pos, List, ◌∷◌}
+use Rattle.std.proofs.Common.{length, Some, None, refl, ap, sym, ◌∙◌, arith}
 use Rattle.std.specs.Prelude.{slice_get, Option}
 use Rattle.std.specs.Option.{option_or}
 use Rattle.std.proofs.lemmas.Bool.{cases_lt, cases_eq}
@@ -10,7 +11,8 @@ use Rattle.cap_words.specs.declared.CapFields.{CapFields}
 use Rattle.cap_words.specs.Face.{face_of}
 use Rattle.cap_words.specs.Linear.{zero_word}
 use Rattle.lcm_isa.specs.declared.Reg.{Reg}
-use Rattle.lcm_isa.specs.declared.Reg.TheVariants.{Pc, Rcode, Rdata, Stk, Dat, T1, T2, C1, C2, A0, A1, A2, A3, G0, G1, G2}
+use Rattle.lcm_isa.specs.declared.Reg.TheVariants.{Pc, Rcode, Rdata, Stk, Dat, T1, T2, C1, C2, A0, A1, A2, A3}
+use Rattle.lcm_isa.specs.declared.Reg.TheVariants.{G0, G1, G2}
 use Rattle.lcm_machine.specs.declared.Place.{Place}
 use Rattle.lcm_machine.specs.declared.Place.TheVariants.{R, Cell}
 use Rattle.lcm_machine.specs.Maps.{State}
@@ -19,8 +21,7 @@ use Rattle.lcm_machine.specs.Cells.{cell, set_cell, put_back}
 use Rattle.lcm_machine.specs.Row.{word_at, put}
 use Rattle.lcm_machine.specs.Runs.{code_cap}
 use Rattle.lcm_machine.specs.Mapped.{mapped_or, SameFaces}
-use Rattle.lcm_machine.proofs.RegLemmas.{cases_reg, reg-set_same, reg-set_other}
-use Rattle.lcm_machine.proofs.CellLemmas.{cell-set_other, cell-set_same}
+use Rattle.lcm_machine.proofs.Offers.{cases_reg, reg-set_same, reg-set_other, cell-set_other, cell-set_same}
 use Rattle.call_sequence.specs.SequenceRuns.{stack_cap}
 use Rattle.overlay_machine.specs.declared.layout.Layout.{Layout}
 use Rattle.overlay_machine.specs.declared.layout.SiteCode.{SiteCode}
@@ -32,7 +33,8 @@ use Rattle.overlay_machine.specs.Step.{resumed}
 use Rattle.overlay_machine.specs.Flat.{flat, beside, IsFlat}
 use Rattle.overlay_machine.specs.Agree.{Looks, IsOther, FrameSound}
 use Rattle.overlay_machine.proofs.OutLemmas.{put_back-other}
-use Rattle.overlay_machine.proofs.FrameWords.{word_of-below, word_of-within, flat-other, mapped-same, put_back-in, some_at}
+use Rattle.overlay_machine.proofs.FrameWords.{word_of-below, word_of-within, flat-other, mapped-same}
+use Rattle.overlay_machine.proofs.FrameWords.{put_back-in, some_at}
 
 module _ (l : Layout) (s : State OWord) (f : OpenFrame) (fs : List OpenFrame) (n : ℕ) (t : State Word) (r2 : Reg) (sc : SiteCode) (c : CapFields)
     (sound : FrameSound l s.cells f)
@@ -72,7 +74,8 @@ module _ (l : Layout) (s : State OWord) (f : OpenFrame) (fs : List OpenFrame) (n
   old p w e ne = flat-other l f fs w (one_place p w e ne)
 
   -- registers that the return leaves, but for r2
-  kept : (r : Reg) → reg (set_reg t.regs r2 (Int (pos 0))) r ≡ now_flat (reg (set_reg s.regs r2 (zero_word Plain)) r)
+  kept : (r : Reg)
+      → reg (set_reg t.regs r2 (Int (pos 0))) r ≡ now_flat (reg (set_reg s.regs r2 (zero_word Plain)) r)
   kept r = elim (cases_reg r r2) as (λ _. reg (set_reg t.regs r2 (Int (pos 0))) r ≡ now_flat (reg (set_reg s.regs r2 (zero_word Plain)) r)) [
     | inl same ↦ rw same (rw (reg-set_same t.regs r2 (Int (pos 0)), reg-set_same s.regs r2 (zero_word Plain)) (sym (plain_is _)))
     | inr ne ↦ rw (reg-set_other t.regs r2 r (Int (pos 0)) ne, reg-set_other s.regs r2 r (zero_word Plain) ne) (m.regs r ∙ old (R r) _ refl (λ e. ne (let q : r ≡ r2 = cc in q)))
@@ -103,7 +106,8 @@ module _ (l : Layout) (s : State OWord) (f : OpenFrame) (fs : List OpenFrame) (n
   cells_are = rw sound.words refl
 
   -- what lies beside, before and after
-  old_beside : (q : ℕ) (x : Option OWord) → word_of f q ≡ x → beside l (f ∷ fs) q ≡ mapped_or old_flat (option_or x (framed fs q)) None
+  old_beside : (q : ℕ) (x : Option OWord) → word_of f q ≡ x
+      → beside l (f ∷ fs) q ≡ mapped_or old_flat (option_or x (framed fs q)) None
   unfolding beside
   old_beside q x e = ap (λ y. mapped_or old_flat (option_or y (framed fs q)) None) e
 
@@ -121,7 +125,8 @@ module _ (l : Layout) (s : State OWord) (f : OpenFrame) (fs : List OpenFrame) (n
   framed_out : (q : ℕ) → word_of f q ≡ None → framed (f ∷ fs) q ≡ framed fs q
   framed_out q e = ap (λ y. option_or y (framed fs q)) e
 
-  cell_out : (q : ℕ) → (q < f.base) ⊎ (f.end < q) → q ≢ f.base → cell t'.cells q ≡ mapped_or now_flat (cell o'.maps.cells q) (beside l fs q)
+  cell_out : (q : ℕ) → (q < f.base) ⊎ (f.end < q) → q ≢ f.base
+      → cell t'.cells q ≡ mapped_or now_flat (cell o'.maps.cells q) (beside l fs q)
   cell_out q h ne =
       let h1 = sound.order in
       let h2 = sound.as_long in
@@ -137,7 +142,8 @@ module _ (l : Layout) (s : State OWord) (f : OpenFrame) (fs : List OpenFrame) (n
       let back : cell o'.maps.cells f.base ≡ Some (zero_word Plain) = ap (λ y. cell y f.base) cells_are ∙ ap (cell (put_back s.cells f.base (zero_word Plain ∷ sound.rest))) (sym e) ∙ put_back-in s.cells f.base (zero_word Plain ∷ sound.rest) 0 (omega arith) in
       cell-set_same t.cells f.base (Int (pos 0)) ∙ sym (ap (λ x. mapped_or now_flat x (beside l fs f.base)) back ∙ ap Some (plain_is _))
 
-  cell_next : (j : ℕ) → j < length sound.rest → cell t'.cells (f.base + suc j) ≡ mapped_or now_flat (cell o'.maps.cells (f.base + suc j)) (beside l fs (f.base + suc j))
+  cell_next : (j : ℕ) → j < length sound.rest
+      → cell t'.cells (f.base + suc j) ≡ mapped_or now_flat (cell o'.maps.cells (f.base + suc j)) (beside l fs (f.base + suc j))
   cell_next j h =
       let h1 = sound.order in
       let h2 = sound.as_long in
@@ -211,7 +217,8 @@ module _ (l : Layout) (s : State OWord) (f : OpenFrame) (fs : List OpenFrame) (n
   reg_shows G2 = shows_kept G2
 
   -- a word that was put back: 0, or a word of the frame
-  shows_back : (j : ℕ) → j < length (zero_word Plain ∷ sound.rest) → (w : OWord) → slice_get (zero_word Plain ∷ sound.rest) j ≡ Some w → Shows w
+  shows_back : (j : ℕ) → j < length (zero_word Plain ∷ sound.rest) → (w : OWord)
+      → slice_get (zero_word Plain ∷ sound.rest) j ≡ Some w → Shows w
   shows_back zero h w e = one_word (zero_word Plain) w (some_word _ w e) (ap face_of (plain_is _))
   shows_back (suc j) h w e =
       let h1 = sound.order in

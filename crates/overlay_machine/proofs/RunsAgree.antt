@@ -1,5 +1,6 @@
 -- The run of the overlay and the plain one agree, from one step on.
-use Rattle.std.proofs.Common.{◌≡◌, ◌⊎◌, inl, inr, ℕ, zero, suc, ◌+◌, ◌-◌, ◌<◌, ◌≤◌, ℤ, Bool, true, false, List, [], ◌∷◌, Some, None, refl, ap, sym, subst, ◌∙◌, arith}
+use Rattle.std.proofs.Common.{◌≡◌, ◌⊎◌, inl, inr, ℕ, zero, suc, ◌+◌, ◌-◌, ◌<◌, ◌≤◌, ℤ, Bool, true, false}
+use Rattle.std.proofs.Common.{List, [], ◌∷◌, Some, None, refl, ap, sym, subst, ◌∙◌, arith}
 use Rattle.std.specs.Prelude.{Option, if◌then◌else◌}
 use Rattle.std.proofs.lemmas.Bool.{cases_lt}
 use Rattle.cap_words.specs.declared.Word.{Word}
@@ -13,8 +14,7 @@ use Rattle.lcm_machine.specs.Places.{reg}
 use Rattle.lcm_machine.specs.Table.{ask as plan_ask, need as plan_need}
 use Rattle.lcm_machine.specs.Row.{Outcome, went, halted, failed, step_of, row, outcome, plan_in}
 use Rattle.lcm_machine.specs.Runs.{and_then, run_of}
-use Rattle.lcm_machine.proofs.Goes.{run_of-add, run_then}
-use Rattle.lcm_machine.proofs.StepRows.{run_one}
+use Rattle.lcm_machine.proofs.Offers.{run_of-add, run_then, run_one}
 use Rattle.overlay_machine.specs.declared.layout.Layout.{Layout}
 use Rattle.overlay_machine.specs.declared.words.OWord.{OWord}
 use Rattle.overlay_machine.specs.declared.words.OWord.TheVariants.{Plain, RetCode, RetData}
@@ -22,11 +22,28 @@ use Rattle.overlay_machine.specs.declared.cases.Case.{Case}
 use Rattle.overlay_machine.specs.declared.cases.Case.TheVariants.{Call, Entry, Back, Other}
 use Rattle.overlay_machine.specs.Words.{look, is_ret_code}
 use Rattle.overlay_machine.specs.State.{OpenFrame, OState}
-use Rattle.overlay_machine.specs.Step.{Ending, goes, halts, fails, ask, need, with_frames, call_step, entry_step, return_by, return_step, case_of, step_by, weight_by, overlay_step, weight_of}
+use Rattle.overlay_machine.specs.Step.{Ending, goes, halts, fails, ask, need, with_frames, call_step}
+use Rattle.overlay_machine.specs.Step.{entry_step, return_by, return_step, case_of, step_by, weight_by}
+use Rattle.overlay_machine.specs.Step.{overlay_step, weight_of}
 use Rattle.overlay_machine.specs.Flat.{IsFlat}
-use Rattle.overlay_machine.specs.Agree.{EndAlike, Agrees}
-use Rattle.overlay_machine.specs.Runs.{Reached, begins, goes_on, plain_run, HaltsBehind, FailsBehind, RunsAgree, Simulates, Carries}
+use Rattle.overlay_machine.specs.Agree.{EndAlike, Agrees, Looks, ReadyFor}
+use Rattle.overlay_machine.specs.Runs.{Reached, begins, goes_on, plain_run, HaltsBehind, FailsBehind}
+use Rattle.overlay_machine.specs.Runs.{RunsAgree}
 use Rattle.overlay_machine.proofs.OneStep.{one_step}
+
+-- a property that each step carries on to, with as many plain instructions as it weighs
+abbrev pub Simulates : Layout → (OState → State Word → Type 0) → Type 0
+Simulates l Good =
+    (o : OState) (t : State Word) → Good o t → EndAlike Good (overlay_step l o) (plain_run (weight_of l o) t)
+
+-- a property under which the plain state is the overlay flattened and the next step is ready, and which each
+-- step that goes keeps
+pub record Carries (l : Layout) (Good : OState → State Word → Type 0) : Type 0 where
+  pub flat : (o : OState) (t : State Word) → Good o t → IsFlat l o t
+  pub looks : (o : OState) (t : State Word) → Good o t → Looks l o
+  pub ready : (o : OState) (t : State Word) → Good o t → ReadyFor l o (case_of l o.maps)
+  pub kept : (o q : OState) (t u : State Word) → Good o t → overlay_step l o ≡ goes q
+      → plain_run (weight_of l o) t ≡ went u → IsFlat l q u → Looks l q → Good q u
 
 abbrev id : Word → Word
 id w = w
@@ -74,7 +91,8 @@ unfolding plan_ask
 plan_asked c true p h = h
 plan_asked c false p h = tt
 
-plan_needed : {A : Type 0} (c : FailCause) (x : Option A) (k : A → Plan) → ((a : A) → NeverHalts (k a)) → NeverHalts (plan_need c x k)
+plan_needed : {A : Type 0} (c : FailCause) (x : Option A) (k : A → Plan) → ((a : A) → NeverHalts (k a))
+    → NeverHalts (plan_need c x k)
 unfolding plan_need
 plan_needed c None k h = tt
 plan_needed c (Some a) k h = h a
@@ -83,12 +101,14 @@ xjmp_plan : (s : State OWord) (next : Word) → NeverHalts (plan_in look s (Xjmp
 unfolding plan_in
 xjmp_plan s next = plan_needed _ _ _ (λ a. plan_needed _ _ _ (λ b. plan_asked _ _ _ (plan_needed _ _ _ (λ c. plan_asked _ _ _ (plan_asked _ _ _ (plan_asked _ _ _ tt))))))
 
-planned : (fs : List OpenFrame) (n : ℕ) (s : State OWord) (p : Plan) → NeverHalts p → GoesOrFails (with_frames fs n (outcome look Plain s p))
+planned : (fs : List OpenFrame) (n : ℕ) (s : State OWord) (p : Plan) → NeverHalts p
+    → GoesOrFails (with_frames fs n (outcome look Plain s p))
 planned fs n s (Fails c) h = tt
 planned fs n s Halts h = absurd h
 planned fs n s (Goes e) h = tt
 
-xjmp_goes_or_fails : (fs : List OpenFrame) (n : ℕ) (next : Word) (s : State OWord) → GoesOrFails (with_frames fs n (row look Plain (Xjmp C1 C2) next s))
+xjmp_goes_or_fails : (fs : List OpenFrame) (n : ℕ) (next : Word) (s : State OWord)
+    → GoesOrFails (with_frames fs n (row look Plain (Xjmp C1 C2) next s))
 unfolding row
 xjmp_goes_or_fails fs n next s = planned fs n s (plan_in look s (Xjmp C1 C2) next) (xjmp_plan s next)
 
@@ -100,7 +120,8 @@ entry_goes_or_fails : (l : Layout) (a : ℕ) (o : OState) → GoesOrFails (entry
 unfolding entry_step
 entry_goes_or_fails l a o = needed _ _ (λ p. needed _ _ (λ c. tt))
 
-return_goes_or_fails : (l : Layout) (x y : OWord) (r2 : Reg) (fs : List OpenFrame) (o : OState) → GoesOrFails (return_by l x y r2 fs o)
+return_goes_or_fails : (l : Layout) (x y : OWord) (r2 : Reg) (fs : List OpenFrame) (o : OState)
+    → GoesOrFails (return_by l x y r2 fs o)
 return_goes_or_fails l (RetCode i) (RetData k) r2 (f ∷ fs) o = asked _ _ (needed _ _ (λ s. needed _ _ (λ c. asked _ _ tt)))
 return_goes_or_fails l (RetCode i) (RetData k) r2 [] o = tt
 return_goes_or_fails l (RetCode i) (RetCode k) r2 fs o = tt
@@ -130,28 +151,35 @@ halts_alone l o e = halt_weight l o (case_of l o.maps) e
 stays_halted : (n m : ℕ) (t : State Word) → plain_run n t ≡ halted → plain_run (n + m) t ≡ halted
 stays_halted n m t e = run_of-add id id n m t ∙ ap (λ r. and_then r (run_of id id m)) e
 
-stays_failed : (n m : ℕ) (t : State Word) (c : FailCause) (at : ℤ) → plain_run n t ≡ failed c at → plain_run (n + m) t ≡ failed c at
+stays_failed : (n m : ℕ) (t : State Word) (c : FailCause) (at : ℤ) → plain_run n t ≡ failed c at
+    → plain_run (n + m) t ≡ failed c at
 stays_failed n m t c at e = run_of-add id id n m t ∙ ap (λ r. and_then r (run_of id id m)) e
 
 up_halted : (t : State Word) (n k : ℕ) → n ≤ k → plain_run n t ≡ halted → plain_run k t ≡ halted
 up_halted t n k h e = let m : n + (k - n) ≡ k = omega arith in rw (← m) (stays_halted n (k - n) t e)
 
-up_failed : (t : State Word) (n k : ℕ) (c : FailCause) (at : ℤ) → n ≤ k → plain_run n t ≡ failed c at → plain_run k t ≡ failed c at
+up_failed : (t : State Word) (n k : ℕ) (c : FailCause) (at : ℤ) → n ≤ k → plain_run n t ≡ failed c at
+    → plain_run k t ≡ failed c at
 up_failed t n k c at h e = let m : n + (k - n) ≡ k = omega arith in rw (← m) (stays_failed n (k - n) t c at e)
 
 -- the instruction behind those that went
-next_is : (t u : State Word) (n : ℕ) (r : Outcome Word) → plain_run n t ≡ went u → step_of id id u ≡ r → plain_run (n + 1) t ≡ r
+next_is : (t u : State Word) (n : ℕ) (r : Outcome Word) → plain_run n t ≡ went u → step_of id id u ≡ r
+    → plain_run (n + 1) t ≡ r
 next_is t u n r e f = run_then id id n 1 t u r e (run_one id id u ∙ f)
 
-step_after : (t u : State Word) (n : ℕ) (r : Outcome Word) → plain_run n t ≡ went u → plain_run (n + 1) t ≡ r → step_of id id u ≡ r
+step_after : (t u : State Word) (n : ℕ) (r : Outcome Word) → plain_run n t ≡ went u → plain_run (n + 1) t ≡ r
+    → step_of id id u ≡ r
 step_after t u n r e f = sym (next_is t u n _ e refl) ∙ f
 
 -- a run that failed by n, and that went at j, failed at one instruction between
-first_failure : (t : State Word) (j w : ℕ) (v : State Word) (c : FailCause) (at : ℤ) → plain_run j t ≡ went v → plain_run (j + w) t ≡ failed c at → (n : ℕ) × (j ≤ n) × (n < j + w) × FailsBehind n t
+first_failure : (t : State Word) (j w : ℕ) (v : State Word) (c : FailCause) (at : ℤ) → plain_run j t ≡ went v
+    → plain_run (j + w) t ≡ failed c at → (n : ℕ) × (j ≤ n) × (n < j + w) × FailsBehind n t
 first_failure t j zero v c at e f = let same : j + 0 ≡ j = omega arith in let bad : went v ≡ failed c at = sym e ∙ ap (λ k. plain_run k t) (sym same) ∙ f in cc
 first_failure t j (suc w) v c at e f = by_next (plain_run (j + w) t) refl (first_failure t j w v)
   where
-    by_next : (r : Outcome Word) → plain_run (j + w) t ≡ r → ((d : FailCause) (a : ℤ) → plain_run j t ≡ went v → plain_run (j + w) t ≡ failed d a → (n : ℕ) × (j ≤ n) × (n < j + w) × FailsBehind n t) → (n : ℕ) × (j ≤ n) × (n < j + suc w) × FailsBehind n t
+    by_next : (r : Outcome Word) → plain_run (j + w) t ≡ r
+        → ((d : FailCause) (a : ℤ) → plain_run j t ≡ went v → plain_run (j + w) t ≡ failed d a → (n : ℕ) × (j ≤ n) × (n < j + w) × FailsBehind n t)
+        → (n : ℕ) × (j ≤ n) × (n < j + suc w) × FailsBehind n t
     by_next (went u) g more =
         let one : j + suc w ≡ j + w + 1 = omega arith in
         (j + w, omega arith, omega arith, (u, c, at, g, step_after t u (j + w) (failed c at) g (ap (λ k. plain_run k t) (sym one) ∙ f)))
@@ -174,7 +202,9 @@ record Greatest (l : Layout) (o : OState) (n : ℕ) : Type 0 where
   pub rest : (n < at + weight_of l state) ⊎ ((at + weight_of l state ≤ n) × HasEnded (overlay_step l state))
 
 module _ (l : Layout) (o : OState) where
-  greatest_on : (n j : ℕ) (p : OState) → Reached l o j p → j ≤ n → (e : Ending) → overlay_step l p ≡ e → j + weight_of l p ≤ n → ((q : OState) → Reached l o (j + weight_of l p) q → Greatest l o n) → Greatest l o n
+  greatest_on : (n j : ℕ) (p : OState) → Reached l o j p → j ≤ n → (e : Ending) → overlay_step l p ≡ e
+      → j + weight_of l p ≤ n → ((q : OState) → Reached l o (j + weight_of l p) q → Greatest l o n)
+      → Greatest l o n
   greatest_on n j p r le (goes q) e ge more = more q (goes_on r e)
   greatest_on n j p r le halts e ge more = record { at = j; state = p; reached = r; within = le; rest = inr (ge, rw e tt) }
   greatest_on n j p r le fails e ge more = record { at = j; state = p; reached = r; within = le; rest = inr (ge, rw e tt) }
@@ -193,7 +223,8 @@ module _ (l : Layout) (o : OState) where
 
 -- what makes steps ready and is kept is carried on
 module _ (l : Layout) (Good : OState → State Word → Type 0) (carries : Carries l Good) where
-  carried : (o : OState) (t : State Word) → Good o t → (e : Ending) (r : Outcome Word) → overlay_step l o ≡ e → plain_run (weight_of l o) t ≡ r → Agrees l e r → EndAlike Good e r
+  carried : (o : OState) (t : State Word) → Good o t → (e : Ending) (r : Outcome Word) → overlay_step l o ≡ e
+      → plain_run (weight_of l o) t ≡ r → Agrees l e r → EndAlike Good e r
   carried o t g (goes q) (went u) ee er h = carries.kept o q t u g ee er h.0 h.1
   carried o t g halts halted ee er h = tt
   carried o t g fails (failed c at) ee er h = tt
@@ -211,7 +242,8 @@ module _ (l : Layout) (Good : OState → State Word → Type 0) (flat : (p : OSt
   abbrev At : ℕ → OState → Type 0
   At j p = (u : State Word) × (plain_run j t ≡ went u) × Good p u
 
-  next : (j : ℕ) (p q : OState) (u : State Word) (e : Ending) (r : Outcome Word) → plain_run j t ≡ went u → e ≡ goes q → plain_run (weight_of l p) u ≡ r → EndAlike Good e r → At (j + weight_of l p) q
+  next : (j : ℕ) (p q : OState) (u : State Word) (e : Ending) (r : Outcome Word) → plain_run j t ≡ went u
+      → e ≡ goes q → plain_run (weight_of l p) u ≡ r → EndAlike Good e r → At (j + weight_of l p) q
   next j p q u e (went v) ej eq er h = let k : EndAlike Good (goes q) (went v) = rw eq at h in (v, run_then id id j (weight_of l p) t u _ ej er, k)
   next j p q u e halted ej eq er h = absurd (let k : EndAlike Good (goes q) halted = rw eq at h in k)
   next j p q u e (failed c at) ej eq er h = absurd (let k : EndAlike Good (goes q) (failed c at) = rw eq at h in k)
@@ -225,7 +257,8 @@ module _ (l : Layout) (Good : OState → State Word → Type 0) (flat : (p : OSt
   good_at _ _ begins = start_at
   good_at _ q (goes_on {j = j} {p = p} r e) = let h = good_at j p r in next j p q h.0 _ _ h.1 e refl (sim p h.0 h.2)
 
-  flat_at : (j : ℕ) (p : OState) → Reached l o j p → (u : State Word) × (plain_run j t ≡ went u) × IsFlat l p u
+  flat_at : (j : ℕ) (p : OState) → Reached l o j p
+      → (u : State Word) × (plain_run j t ≡ went u) × IsFlat l p u
   flat_at j p r = let h = good_at j p r in (h.0, h.1, flat p h.0 h.2)
 
   halting : (e : Ending) (r : Outcome Word) → e ≡ halts → EndAlike Good e r → r ≡ halted
@@ -242,18 +275,21 @@ module _ (l : Layout) (Good : OState → State Word → Type 0) (flat : (p : OSt
   halted_by : (j : ℕ) (p : OState) → Reached l o j p → overlay_step l p ≡ halts → plain_run (j + 1) t ≡ halted
   halted_by j p r e = let h = overlay_halts j p r e in next_is t h.0 j halted h.1 h.2
 
-  failing : (e : Ending) (r : Outcome Word) → e ≡ fails → EndAlike Good e r → (c : FailCause) × (at : ℤ) × (r ≡ failed c at)
+  failing : (e : Ending) (r : Outcome Word) → e ≡ fails → EndAlike Good e r
+      → (c : FailCause) × (at : ℤ) × (r ≡ failed c at)
   failing e (failed c at) ee h = (c, at, refl)
   failing e (went v) ee h = absurd (let k : EndAlike Good fails (went v) = rw ee at h in k)
   failing e halted ee h = absurd (let k : EndAlike Good fails halted = rw ee at h in k)
 
-  failed_by : (j : ℕ) (p : OState) → Reached l o j p → overlay_step l p ≡ fails → (c : FailCause) × (at : ℤ) × (plain_run (j + weight_of l p) t ≡ failed c at)
+  failed_by : (j : ℕ) (p : OState) → Reached l o j p → overlay_step l p ≡ fails
+      → (c : FailCause) × (at : ℤ) × (plain_run (j + weight_of l p) t ≡ failed c at)
   failed_by j p r e =
       let h = good_at j p r in
       let f = failing _ _ e (sim p h.0 h.2) in
       (f.0, f.1, run_then id id j (weight_of l p) t h.0 _ h.1 f.2)
 
-  overlay_fails : (j : ℕ) (p : OState) → Reached l o j p → overlay_step l p ≡ fails → (n : ℕ) × (j ≤ n) × (n < j + weight_of l p) × FailsBehind n t
+  overlay_fails : (j : ℕ) (p : OState) → Reached l o j p → overlay_step l p ≡ fails
+      → (n : ℕ) × (j ≤ n) × (n < j + weight_of l p) × FailsBehind n t
   overlay_fails j p r e =
       let h = good_at j p r in
       let f = failed_by j p r e in
@@ -263,7 +299,8 @@ module _ (l : Layout) (Good : OState → State Word → Type 0) (flat : (p : OSt
   not_halted : (n k : ℕ) (u : State Word) → plain_run n t ≡ halted → plain_run k t ≡ went u → k < n
   not_halted n k u e f = elim (cases_lt k n) as (λ _. k < n) [ inl lt ↦ lt | inr ge ↦ (let bad : halted ≡ went u = sym (up_halted t n k ge e) ∙ f in cc) ]
 
-  not_failed : (n k : ℕ) (u : State Word) (c : FailCause) (at : ℤ) → plain_run n t ≡ failed c at → plain_run k t ≡ went u → k < n
+  not_failed : (n k : ℕ) (u : State Word) (c : FailCause) (at : ℤ) → plain_run n t ≡ failed c at
+      → plain_run k t ≡ went u → k < n
   not_failed n k u c at e f = elim (cases_lt k n) as (λ _. k < n) [ inl lt ↦ lt | inr ge ↦ (let bad : failed c at ≡ went u = sym (up_failed t n k c at ge e) ∙ f in cc) ]
 
   one_end : (n k : ℕ) (c : FailCause) (at : ℤ) → plain_run n t ≡ halted → plain_run k t ≡ failed c at → ⊥
@@ -273,7 +310,8 @@ module _ (l : Layout) (Good : OState → State Word → Type 0) (flat : (p : OSt
   ]
 
   -- what goes on passes the number
-  passes : (n : ℕ) (g : Greatest l o n) (q : OState) → overlay_step l g.state ≡ goes q → n < g.at + weight_of l g.state
+  passes : (n : ℕ) (g : Greatest l o n) (q : OState) → overlay_step l g.state ≡ goes q
+      → n < g.at + weight_of l g.state
   passes n g q ex = elim g.rest as (λ _. n < g.at + weight_of l g.state) [
     | inl before ↦ before
     | inr after ↦ absurd (let k : HasEnded (goes q) = rw ex at after.1 in k)
@@ -282,7 +320,8 @@ module _ (l : Layout) (Good : OState → State Word → Type 0) (flat : (p : OSt
   abbrev Halting : ℕ → Type 0
   Halting n = (p : OState) × Reached l o n p × (overlay_step l p ≡ halts)
 
-  halts_at : (n : ℕ) (g : Greatest l o n) (x : Ending) → overlay_step l g.state ≡ x → (u : State Word) → plain_run n t ≡ went u → plain_run (n + 1) t ≡ halted → Halting n
+  halts_at : (n : ℕ) (g : Greatest l o n) (x : Ending) → overlay_step l g.state ≡ x → (u : State Word)
+      → plain_run n t ≡ went u → plain_run (n + 1) t ≡ halted → Halting n
   halts_at n g (goes q) ex u e f =
       let h = good_at (g.at + weight_of l g.state) q (goes_on g.reached ex) in
       let lt = not_halted (n + 1) (g.at + weight_of l g.state) h.0 f h.1 in
@@ -301,7 +340,9 @@ module _ (l : Layout) (Good : OState → State Word → Type 0) (flat : (p : OSt
   abbrev Failing : ℕ → Type 0
   Failing n = (j : ℕ) × (p : OState) × Reached l o j p × (j ≤ n) × (n < j + weight_of l p) × (overlay_step l p ≡ fails)
 
-  fails_at : (n : ℕ) (g : Greatest l o n) (x : Ending) → overlay_step l g.state ≡ x → (u : State Word) (c : FailCause) (at : ℤ) → plain_run n t ≡ went u → plain_run (n + 1) t ≡ failed c at → Failing n
+  fails_at : (n : ℕ) (g : Greatest l o n) (x : Ending) → overlay_step l g.state ≡ x
+      → (u : State Word) (c : FailCause) (at : ℤ) → plain_run n t ≡ went u → plain_run (n + 1) t ≡ failed c at
+      → Failing n
   fails_at n g (goes q) ex u c at e f =
       let h = good_at (g.at + weight_of l g.state) q (goes_on g.reached ex) in
       let lt = not_failed (n + 1) (g.at + weight_of l g.state) h.0 c at f h.1 in
@@ -318,7 +359,8 @@ module _ (l : Layout) (Good : OState → State Word → Type 0) (flat : (p : OSt
   abbrev Going : ℕ → Type 0
   Going n = (j : ℕ) × (p : OState) × Reached l o j p × (j ≤ n) × (n < j + weight_of l p)
 
-  goes_past : (n : ℕ) (g : Greatest l o n) (x : Ending) → overlay_step l g.state ≡ x → (u : State Word) → plain_run n t ≡ went u → n < g.at + weight_of l g.state
+  goes_past : (n : ℕ) (g : Greatest l o n) (x : Ending) → overlay_step l g.state ≡ x → (u : State Word)
+      → plain_run n t ≡ went u → n < g.at + weight_of l g.state
   goes_past n g (goes q) ex u e = passes n g q ex
   goes_past n g halts ex u e = let w = halts_alone l g.state ex in let lt = not_halted (g.at + 1) n u (halted_by g.at g.state g.reached ex) e in omega (arith, w, lt)
   goes_past n g fails ex u e = let b = failed_by g.at g.state g.reached ex in not_failed (g.at + weight_of l g.state) n u b.0 b.1 b.2 e

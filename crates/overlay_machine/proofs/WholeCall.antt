@@ -1,5 +1,6 @@
 -- A call and all its failures: one overlay step against as many plain ones as it weighs.
-use Rattle.std.proofs.Common.{◌≡◌, ◌≢◌, inl, inr, ℕ, ◌+◌, ◌-◌, ◌≤◌, ℤ, pos, negsuc, Bool, true, false, Some, None, refl, ap, sym, ◌∙◌, arith, le-leb, lt-ltb, le-ltb, ne_eqb}
+use Rattle.std.proofs.Common.{◌≡◌, ◌≢◌, inl, inr, ℕ, ◌+◌, ◌-◌, ◌≤◌, ℤ, pos, negsuc, Bool, true, false, Some}
+use Rattle.std.proofs.Common.{None, refl, ap, sym, ◌∙◌, arith, le-leb, lt-ltb, le-ltb, ne_eqb}
 use Rattle.std.specs.Prelude.{Option, nat_le, ◌&&◌, int_lt, ◌==◌, if◌then◌else◌}
 use Rattle.std.proofs.lemmas.Bool.{cases_lt, cases_eq, lt-leb, and_right, and_left}
 use Rattle.cap_words.specs.declared.Word.{Word}
@@ -21,9 +22,8 @@ use Rattle.lcm_machine.specs.Cells.{cell, all_there}
 use Rattle.lcm_machine.specs.Row.{put, row, went}
 use Rattle.lcm_machine.specs.Runs.{run_of, code_cap}
 use Rattle.lcm_machine.specs.Refusals.{HasFailed, CannotJoin, Refuses}
-use Rattle.lcm_machine.proofs.Goes.{xjmp_goes, left}
-use Rattle.lcm_machine.proofs.Refusals.{failed_more, then_failed}
-use Rattle.lcm_machine.proofs.XjmpFails.{xjmp_fails, xjmp_runs_fails, opened-memory}
+use Rattle.lcm_machine.proofs.Offers.{xjmp_goes, left, failed_more, then_failed, xjmp_fails, xjmp_runs_fails}
+use Rattle.lcm_machine.proofs.Offers.{opened-memory}
 use Rattle.call_sequence.specs.SequenceRuns.{stack_cap, HasCall}
 use Rattle.call_sequence.proofs.CallLaws.{call_at_base, call_outside}
 use Rattle.call_sequence.proofs.ReturnLaws.{return_apart, HasReturn-set}
@@ -40,14 +40,16 @@ use Rattle.overlay_machine.specs.Flat.{flat, IsFlat}
 use Rattle.overlay_machine.specs.Agree.{Agrees, Looks, AtSite}
 use Rattle.overlay_machine.proofs.FlatLemmas.{flat-mem, cell-flat, HasCall-flat, HasReturn-flat, both_fail}
 use Rattle.overlay_machine.proofs.FrameWords.{all_there-from, some_of}
-use Rattle.overlay_machine.proofs.PairsOpened.{OneSite, code_site, data_site, data_refuses, foreign_refuses, opened-code, opened-data}
+use Rattle.overlay_machine.proofs.PairsOpened.{OneSite, code_site, data_site, data_refuses, foreign_refuses}
+use Rattle.overlay_machine.proofs.PairsOpened.{opened-code, opened-data}
 use Rattle.overlay_machine.proofs.CallAgrees.{its_site, owns, dat_normal, t15, plain_row, call_agrees}
 
 abbrev id : Word → Word
 id w = w
 
 -- what fails within sixteen fails within a call's weight
-within : (t : State Word) (n m : ℕ) (b : Bool) → n + m ≡ 16 → HasFailed (run_of id id n t) → HasFailed (run_of id id (if b then 17 else 16) t)
+within : (t : State Word) (n m : ℕ) (b : Bool) → n + m ≡ 16 → HasFailed (run_of id id n t)
+    → HasFailed (run_of id id (if b then 17 else 16) t)
 within t n m true e h = let f : n + (m + 1) ≡ 17 = omega (arith, e) in rw (← f) (failed_more id id n (m + 1) t h)
 within t n m false e h = rw (← e) (failed_more id id n m t h)
 
@@ -59,7 +61,8 @@ module _ (l : Layout) (i : ℕ) (o : OState) (t : State Word) (at_site : AtSite 
   stack z = record (stack_cap l.stack.base at_site.end 0) { addr = z }
 
   -- the overlay fails where stk's address isn't above the base and in the range
-  off : (z : ℤ) → at_site.to ≡ z → (int_lt (pos l.stack.base) z && covers (stack z) z) ≡ false → call_step l i o ≡ fails
+  off : (z : ℤ) → at_site.to ≡ z → (int_lt (pos l.stack.base) z && covers (stack z) z) ≡ false
+      → call_step l i o ≡ fails
   unfolding call_step need ask
   off z e h = rw (at_site.is_site, owns l i o t at_site m k z e, h) refl
 
@@ -106,14 +109,16 @@ module _ (l : Layout) (i : ℕ) (o : OState) (t : State Word) (at_site : AtSite 
     row_fails h = rw (plain_row l i o t at_site m k b cursor low high) h
 
     -- `xjmp` refuses the two words
-    refuses : (x y : Option Opened) → opened_of (flat l o.frames x1) ≡ x → opened_of (flat l o.frames x2) ≡ y → Refuses x y → HasFailed (run_of id id 16 t)
+    refuses : (x y : Option Opened) → opened_of (flat l o.frames x1) ≡ x → opened_of (flat l o.frames x2) ≡ y
+        → Refuses x y → HasFailed (run_of id id 16 t)
     refuses x y ex ey h = row_fails (xjmp_fails id id C1 C2 next s15 x y (ap opened_of (m.regs C1) ∙ ex) (ap opened_of (m.regs C2) ∙ ey) h)
 
     plain_opened : (w : Word) → x1 ≡ Plain w → opened_of (flat l o.frames x1) ≡ opened_of w
     unfolding flat
     plain_opened w e = ap (λ x. opened_of (flat l o.frames x)) e
 
-    foreign_fails : (w : Word) → x1 ≡ Plain w → OneSite l (opened_of (flat l o.frames x2)) → HasFailed (run_of id id 16 t)
+    foreign_fails : (w : Word) → x1 ≡ Plain w → OneSite l (opened_of (flat l o.frames x2))
+        → HasFailed (run_of id id 16 t)
     foreign_fails w e1 h = refuses (opened_of w) _ (plain_opened w e1) refl (foreign_refuses l w (opened_of w) _ (at_site.foreign w e1) refl h)
 
     data_fails : (n : ℕ) → x1 ≡ RetData n → HasFailed (run_of id id 16 t)
@@ -123,32 +128,41 @@ module _ (l : Layout) (i : ℕ) (o : OState) (t : State Word) (at_site : AtSite 
     abbrev joint : SiteCode → Content → State Word
     joint s x = put (put (put s15 (R C2) (left_of id id s15.regs.c2)) (R Pc) (Mem (code_cap s.base s.end (s.at + 16)))) (R Dat) (unsealed x)
 
-    cannot : (s : SiteCode) (x : Content) → opened_of (flat l o.frames x2) ≡ Some (record { seal = s.seal; content = x }) → CannotJoin (Memory (stack_cap l.stack.base b b)) (face_of (unsealed x))
+    cannot : (s : SiteCode) (x : Content)
+        → opened_of (flat l o.frames x2) ≡ Some (record { seal = s.seal; content = x })
+        → CannotJoin (Memory (stack_cap l.stack.base b b)) (face_of (unsealed x))
     cannot s (MemC d) e =
         let ne : b + 1 ≢ d.base = λ q. at_site.apart d (opened-memory (flat l o.frames x2) s.seal d e) (cursor ∙ ap pos q) (omega arith) (omega arith) in
         and_right (same_kind (stack_cap l.stack.base b b) d) (b + 1 == d.base) (ne_eqb (b + 1) d.base ne)
     cannot s (SealC q) e = tt
 
-    splice_refused : (s : SiteCode) (j : ℕ) (x : Content) → site_code l j ≡ Some s → opened_of (flat l o.frames x2) ≡ Some (record { seal = s.seal; content = x }) → HasFailed (run_of id id 1 (joint s x))
+    splice_refused : (s : SiteCode) (j : ℕ) (x : Content) → site_code l j ≡ Some s
+        → opened_of (flat l o.frames x2) ≡ Some (record { seal = s.seal; content = x })
+        → HasFailed (run_of id id 1 (joint s x))
     splice_refused s j x es e =
         let r = at_site.sites j s es in
         let f = HasReturn-flat l o t m k s.base s.end (s.at + 16) l.stack.base r.back in
         let h = at_site.in_stack in
         return_apart id id (joint s x) s.base s.end (s.at + 16) l.stack.base (HasReturn-set id t.cells s.base s.end (s.at + 16) l.stack.base (b + 1) t.regs.dat (r.apart (b + 1) (omega arith) (omega (arith, high, h))) f) refl (cannot s x e)
 
-    joins : (s : SiteCode) (x : Content) → opened_of (flat l o.frames x1) ≡ Some (record { seal = s.seal; content = MemC (code_cap s.base s.end (s.at + 16)) })
-        → opened_of (flat l o.frames x2) ≡ Some (record { seal = s.seal; content = x }) → runs_in x ≡ false → run_of id id 16 t ≡ went (joint s x)
+    joins : (s : SiteCode) (x : Content)
+        → opened_of (flat l o.frames x1) ≡ Some (record { seal = s.seal; content = MemC (code_cap s.base s.end (s.at + 16)) })
+        → opened_of (flat l o.frames x2) ≡ Some (record { seal = s.seal; content = x }) → runs_in x ≡ false
+        → run_of id id 16 t ≡ went (joint s x)
     joins s x e1 e2 h =
         plain_row l i o t at_site m k b cursor low high
         ∙ xjmp_goes id id C1 C2 next s15 (put s15 (R C2) (left_of id id s15.regs.c2)) s.seal (code_cap s.base s.end (s.at + 16)) x (ap opened_of (m.regs C1) ∙ e1) (ap opened_of (m.regs C2) ∙ e2) refl refl h (left id id s15 C2)
 
-    code_same : (s : SiteCode) (j : ℕ) (x : Content) (r : Bool) → site_code l j ≡ Some s → opened_of (flat l o.frames x1) ≡ Some (record { seal = s.seal; content = MemC (code_cap s.base s.end (s.at + 16)) })
-        → opened_of (flat l o.frames x2) ≡ Some (record { seal = s.seal; content = x }) → runs_in x ≡ r → HasFailed (run_of id id 17 t)
+    code_same : (s : SiteCode) (j : ℕ) (x : Content) (r : Bool) → site_code l j ≡ Some s
+        → opened_of (flat l o.frames x1) ≡ Some (record { seal = s.seal; content = MemC (code_cap s.base s.end (s.at + 16)) })
+        → opened_of (flat l o.frames x2) ≡ Some (record { seal = s.seal; content = x }) → runs_in x ≡ r
+        → HasFailed (run_of id id 17 t)
     code_same s j x true es e1 e2 h =
         failed_more id id 16 1 t (row_fails (xjmp_runs_fails id id C1 C2 next s15 _ _ (code_cap s.base s.end (s.at + 16)) (ap opened_of (m.regs C1) ∙ e1) (ap opened_of (m.regs C2) ∙ e2) refl refl refl refl h))
     code_same s j x false es e1 e2 h = then_failed id id 16 1 t (joint s x) (joins s x e1 e2 h) (splice_refused s j x es e2)
 
-    code_second : (s : SiteCode) (j : ℕ) (y : Option Opened) → site_code l j ≡ Some s → opened_of (flat l o.frames x1) ≡ Some (record { seal = s.seal; content = MemC (code_cap s.base s.end (s.at + 16)) })
+    code_second : (s : SiteCode) (j : ℕ) (y : Option Opened) → site_code l j ≡ Some s
+        → opened_of (flat l o.frames x1) ≡ Some (record { seal = s.seal; content = MemC (code_cap s.base s.end (s.at + 16)) })
         → opened_of (flat l o.frames x2) ≡ y → HasFailed (run_of id id 17 t)
     code_second s j None es e1 e2 = failed_more id id 16 1 t (refuses _ None e1 e2 tt)
     code_second s j (Some y) es e1 e2 = elim (cases_eq s.seal y.seal) as (λ _. HasFailed (run_of id id 17 t)) [
@@ -179,7 +193,8 @@ module _ (l : Layout) (i : ℕ) (o : OState) (t : State Word) (at_site : AtSite 
     above : CallOf
     above = first x1 refl
 
-  at_address : (a : ℕ) → at_site.to ≡ pos a → Agrees l (call_step l i o) (run_of id id (weight_by o.maps (Call i)) t)
+  at_address : (a : ℕ) → at_site.to ≡ pos a
+      → Agrees l (call_step l i o) (run_of id id (weight_by o.maps (Call i)) t)
   at_address a e = elim (cases_lt at_site.end a) as (λ _. Agrees l (call_step l i o) (run_of id id (weight_by o.maps (Call i)) t)) [
     | inl past ↦ (let out : covers (stack (pos a)) (pos a) ≡ false = and_right (nat_le l.stack.base a) (nat_le a at_site.end) (lt-leb a at_site.end past) in
         both_fail l _ _ (off (pos a) e (and_right (int_lt (pos l.stack.base) (pos a)) _ out)) (within t 1 15 (is_ret_code o.maps.regs.c1) refl (outside (pos a) e out)))
@@ -193,7 +208,8 @@ module _ (l : Layout) (i : ℕ) (o : OState) (t : State Word) (at_site : AtSite 
     ]
   ]
 
-  by_address : (z : ℤ) → at_site.to ≡ z → Agrees l (call_step l i o) (run_of id id (weight_by o.maps (Call i)) t)
+  by_address : (z : ℤ) → at_site.to ≡ z
+      → Agrees l (call_step l i o) (run_of id id (weight_by o.maps (Call i)) t)
   by_address (pos a) e = at_address a e
   by_address (negsuc a) e = both_fail l _ _ (off (negsuc a) e refl) (within t 1 15 (is_ret_code o.maps.regs.c1) refl (outside (negsuc a) e refl))
 

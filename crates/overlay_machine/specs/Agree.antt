@@ -39,8 +39,8 @@ use Rattle.overlay_machine.specs.Flat.{flat, IsFlat}
 
 -- ---- that they agree
 
--- each RetCode is of a site and each RetData of an open call: what they stand for looks to the table as they do,
--- also in frames
+-- each RetCode is of a site and each RetData of an open call: what they stand for looks to the table as they
+-- do, also in frames
 abbrev pub FramesLook : Layout → List OpenFrame → Type 0
 FramesLook l fs = (a : ℕ) (w : OWord) → framed fs a ≡ Some w → face_of (flat l fs w) ≡ face_of (look w)
 
@@ -181,9 +181,3 @@ ReadyFor l o (Call i) = AtSite l i o
 ReadyFor l o (Entry a) = AtEntry l a o
 ReadyFor l o (Back r1 r2) = AtReturn l r1 r2 o
 ReadyFor l o Other = FramesFree o
-
--- one overlay step is as many plain instructions as it weighs
-abbrev pub OneStep : Type 0
-OneStep =
-    (l : Layout) (o : OState) (t : State Word) → ReadyFor l o (case_of l o.maps) → IsFlat l o t → Looks l o
-    → Agrees l (overlay_step l o) (run_of (λ w. w) (λ w. w) (weight_of l o) t)

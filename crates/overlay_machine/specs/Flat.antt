@@ -1,5 +1,5 @@
 -- The plain state that an overlay state stands for.
-use Rattle.std.specs.Prelude.{ℕ, ◌+◌, pos, List, Option, Some, None}
+use Rattle.std.specs.Prelude.{◌≡◌, ℕ, ◌+◌, pos, List, Option, Some, None}
 use Rattle.cap_words.specs.declared.Word.{Word}
 use Rattle.cap_words.specs.declared.Word.TheVariants.{Int, Sealed}
 use Rattle.cap_words.specs.declared.Sealable.TheVariants.{Mem}
@@ -43,3 +43,7 @@ beside l fs a = mapped_or (flat l fs) (framed fs a) None
 -- the plain state has the registers and cells flattened, and the frames' words at their addresses
 abbrev pub IsFlat : Layout → OState → State Word → Type 0
 IsFlat l o t = IsMapped (flat l o.frames) (beside l o.frames) o.maps t
+
+-- there is such a plain state, and only one
+abbrev pub StandsForOne : Layout → OState → Type 0
+StandsForOne l o = (t : State Word) × IsFlat l o t × ((u : State Word) → IsFlat l o u → u ≡ t)

@@ -15,14 +15,14 @@ use Rattle.overlay_machine.specs.declared.layout.Layout.{Layout}
 use Rattle.overlay_machine.specs.declared.layout.SiteCode.{SiteCode}
 
 -- normal, with rx, over the whole code of a trusted part
-abbrev pub runs_in : CapFields → Owner → Bool
-runs_in c o =
+abbrev pub runs_part : CapFields → Owner → Bool
+runs_part c o =
     o.trusted && (perm_number c.perm == 3) && not (lin_is c.lin)
     && (c.base == o.code.base) && (c.end == o.code.end)
 
 -- the trusted part whose code pc runs: pc is trusted where there is one
 abbrev pub trusted_owner : Layout → Face → Option Owner
-trusted_owner l (Memory c) = find (runs_in c) l.owners
+trusted_owner l (Memory c) = find (runs_part c) l.owners
 trusted_owner l _ = None
 
 -- where pc is trusted, the address at which it stands, if that is in its range

@@ -1,5 +1,6 @@
 -- What linked parts have, as far as a step of the overlay rests on it.
-use Rattle.std.specs.Prelude.{◌≡◌, ◌≢◌, ℕ, ◌+◌, ◌≤◌, ◌<◌, Bool, true, false, is_some, ℤ, [], ◌∷◌, find, length, slice_get, Some, None}
+use Rattle.std.specs.Prelude.{◌≡◌, ◌≢◌, ℕ, ◌+◌, ◌≤◌, ◌<◌, Bool, true, false, is_some, ℤ, [], ◌∷◌, find}
+use Rattle.std.specs.Prelude.{length, slice_get, Some, None}
 use Rattle.std.specs.List.{Contains}
 use Rattle.cap_words.specs.declared.TheConstants.{LAST_PLACE}
 use Rattle.cap_words.specs.declared.CapFields.{CapFields}
@@ -16,8 +17,9 @@ use Rattle.component_linker.specs.Parts.{PartSeen, IsPart}
 use Rattle.component_linker.specs.Regions.{stack_span}
 use Rattle.component_linker.specs.TrustedCode.{all_seals}
 use Rattle.overlay_machine.specs.declared.layout.SiteCode.{SiteCode}
-use Rattle.overlay_machine.specs.Layout.{runs_in, site_at, site_code, is_entry}
-use Rattle.overlay_machine.specs.Link.{Link, IsTrusted, IsUsable, regions, ranges_of, code_region, data_region}
+use Rattle.overlay_machine.specs.Layout.{runs_part, site_at, site_code, is_entry}
+use Rattle.overlay_machine.specs.Link.{Link, IsTrusted, IsUsable, regions, ranges_of, code_region}
+use Rattle.overlay_machine.specs.Link.{data_region}
 use Rattle.overlay_machine.specs.Safe.{IsOpenSeal}
 
 -- a pc over the whole code of a part, at any address
@@ -25,8 +27,8 @@ abbrev pub any_pc : PartSeen → ℤ → CapFields
 any_pc p z = record (code_at (ranges_of p) 0) { addr = z }
 
 -- site number `index` of a part: its seal and its place, that a call and a return stand there with the number
--- of the site, that the literal from which the call takes its seal is the capability over the part's seals, and
--- that no entry begins there
+-- of the site, that the literal from which the call takes its seal is the capability over the part's seals,
+-- and that no entry begins there
 pub record SiteOf (p : PartSeen) (index : ℕ) (s : SiteCode) : Type 0 where
   pub offset : ℕ
   pub offset_is : slice_get p.component.sites index ≡ Some offset
@@ -59,7 +61,8 @@ pub record Linked (g : Link) : Type 0 where
   -- what untrusted code may use is of the regions, and no trusted code or data; so are the code and data of
   -- trusted parts
   pub usable : (r : Region) (runs : Bool) → IsUsable g r runs → Contains (regions g) r
-  pub code_closed : (r : Region) (runs : Bool) (p : PartSeen) → IsUsable g r runs → IsTrusted g p → r ≢ code_region p
+  pub code_closed : (r : Region) (runs : Bool) (p : PartSeen) → IsUsable g r runs → IsTrusted g p
+      → r ≢ code_region p
   pub data_closed : (r : Region) (runs : Bool) (p : PartSeen) → IsUsable g r runs → IsTrusted g p
       → r ≢ data_region p
   pub code : (p : PartSeen) → IsTrusted g p → Contains (regions g) (code_region p)
@@ -68,11 +71,13 @@ pub record Linked (g : Link) : Type 0 where
   -- trusted parts of one code are one, and so are those of one data and of one closure seal
   pub one_code : (p q : PartSeen) → IsTrusted g p → IsTrusted g q → code_region p ≡ code_region q → p ≡ q
   pub one_data : (p q : PartSeen) → IsTrusted g p → IsTrusted g q → data_region p ≡ data_region q → p ≡ q
-  pub one_closure : (p q : PartSeen) → IsTrusted g p → IsTrusted g q → p.component.closure ≡ q.component.closure → p ≡ q
+  pub one_closure : (p q : PartSeen) → IsTrusted g p → IsTrusted g q
+      → p.component.closure ≡ q.component.closure → p ≡ q
   -- the seals of each part end within the space of seals
-  pub seals_small : (p : PartSeen) → Contains g.parts p → p.component.seals.base + p.component.seals.count ≤ LAST_PLACE + 1
-  -- no seal of untrusted code is a closure seal of a trusted part or the seal of a site, no site has a closure
-  -- seal, and no two sites have one seal
+  pub seals_small : (p : PartSeen) → Contains g.parts p
+      → p.component.seals.base + p.component.seals.count ≤ LAST_PLACE + 1
+  -- no seal of untrusted code is a closure seal of a trusted part or the seal of a site, no site has a
+  -- closure seal, and no two sites have one seal
   pub closure_closed : (p : PartSeen) → IsTrusted g p → IsOpenSeal g p.component.closure → ⊥
   pub return_closed : (j : ℕ) (s : SiteCode) → site_code g.layout j ≡ Some s → IsOpenSeal g s.seal → ⊥
   pub return_other : (j : ℕ) (s : SiteCode) (p : PartSeen) → site_code g.layout j ≡ Some s → IsTrusted g p
@@ -80,16 +85,18 @@ pub record Linked (g : Link) : Type 0 where
   pub one_seal : (i j : ℕ) (s u : SiteCode) → site_code g.layout i ≡ Some s → site_code g.layout j ≡ Some u
       → s.seal ≡ u.seal → i ≡ j
   -- the code whose owner is trusted is a trusted part's, and each trusted part owns its code
-  pub owners : (c : CapFields) (o : Owner) → find (runs_in c) g.layout.owners ≡ Some o
+  pub owners : (c : CapFields) (o : Owner) → find (runs_part c) g.layout.owners ≡ Some o
       → (p : PartSeen) × IsTrusted g p × (c ≡ any_pc p c.addr)
-  pub owned : (p : PartSeen) (z : ℤ) → IsTrusted g p → is_some (find (runs_in (any_pc p z)) g.layout.owners) ≡ true
+  pub owned : (p : PartSeen) (z : ℤ) → IsTrusted g p
+      → is_some (find (runs_part (any_pc p z)) g.layout.owners) ≡ true
   -- and each trusted owner has the closure seal of one
   pub closures : (o : Owner) → Contains g.layout.owners o → o.trusted ≡ true
       → (p : PartSeen) × IsTrusted g p × (p.component.closure ≡ o.closure)
   -- the layout's sites and entries are those of the trusted parts
   pub sites : (j : ℕ) (s : SiteCode) → site_code g.layout j ≡ Some s
       → (p : PartSeen) × (index : ℕ) × IsTrusted g p × SiteOf p index s
-  pub site_found : (j a : ℕ) → site_at g.layout a ≡ Some j → (s : SiteCode) × (site_code g.layout j ≡ Some s) × (s.at ≡ a)
+  pub site_found : (j a : ℕ) → site_at g.layout a ≡ Some j
+      → (s : SiteCode) × (site_code g.layout j ≡ Some s) × (s.at ≡ a)
   pub listed : (j : ℕ) (s : Site) → slice_get g.layout.sites j ≡ Some s
       → (u : SiteCode) × (site_code g.layout j ≡ Some u) × (u.seal ≡ s.seal)
   pub no_site : (p : PartSeen) (o : ℕ) → IsTrusted g p → o < length p.component.code

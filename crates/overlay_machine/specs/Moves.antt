@@ -36,31 +36,6 @@ unfoldable pub dropped : Cells → ℕ → ℕ → Cells
 dropped m a zero = m
 dropped m a (suc n) = dropped (drop_cell m a) (a + 1) n
 
--- what is left to take gives what there was to take
-pub record Taking (maps : State OWord) (region : RegionSeen Frame OWord) (from n : ℕ) (maps' : State OWord)
-    (region' : RegionSeen Frame OWord) (at left : ℕ) : Type 0 where
-  pub place : at + left ≡ from + n
-  pub there : IsTrue (all_there maps'.cells at left)
-  pub room : HasRoom region'.frames left
-  pub cells : dropped maps'.cells at left ≡ dropped maps.cells from n
-  pub others : record maps' { cells = maps.cells } ≡ maps
-  pub words : with_items region'.frames (words_from Plain maps'.cells at left)
-      ≡ with_items region.frames (words_from Plain maps.cells from n)
-  pub region_cells : region'.cells ≡ region.cells
-
--- what is left to give gives what there was to give
-pub record Giving (maps : State OWord) (region : RegionSeen Frame OWord) (base n : ℕ) (maps' : State OWord)
-    (region' : RegionSeen Frame OWord) (left : ℕ) : Type 0 where
-  pub count : length (newest_items region'.frames) ≡ left + 1
-  pub first : first_word (newest_items region'.frames) ≡ first_word (newest_items region.frames)
-  pub cells : put_back maps'.cells base (rest_words (newest_items region'.frames))
-      ≡ put_back maps.cells base (rest_words (newest_items region.frames))
-  pub others : record maps' { cells = maps.cells } ≡ maps
-  pub frames : set_items region'.frames [] ≡ set_items region.frames []
-  pub region_cells : region'.cells ≡ region.cells
-  pub below : left ≤ n
-  pub none : (q : ℕ) → base ≤ q → q < base + left → cell maps'.cells q ≡ None
-
 -- the newest frame is that one, and has all its words
 abbrev pub IsNewest : List (FrameSeen Frame OWord) → Frame → Type 0
 IsNewest [] h = ⊥

@@ -50,17 +50,3 @@ pub record RunsAgree (l : Layout) (o : OState) (t : State Word) : Type 0 where
       → (j : ℕ) × (p : OState) × Reached l o j p × (j ≤ n) × (n < j + weight_of l p)
 
 -- ---- from one step to runs
-
--- a property that each step carries on to, with as many plain instructions as it weighs
-abbrev pub Simulates : Layout → (OState → State Word → Type 0) → Type 0
-Simulates l Good =
-    (o : OState) (t : State Word) → Good o t → EndAlike Good (overlay_step l o) (plain_run (weight_of l o) t)
-
--- a property under which the plain state is the overlay flattened and the next step is ready, and which each
--- step that goes keeps
-pub record Carries (l : Layout) (Good : OState → State Word → Type 0) : Type 0 where
-  pub flat : (o : OState) (t : State Word) → Good o t → IsFlat l o t
-  pub looks : (o : OState) (t : State Word) → Good o t → Looks l o
-  pub ready : (o : OState) (t : State Word) → Good o t → ReadyFor l o (case_of l o.maps)
-  pub kept : (o q : OState) (t u : State Word) → Good o t → overlay_step l o ≡ goes q
-      → plain_run (weight_of l o) t ≡ went u → IsFlat l q u → Looks l q → Good q u

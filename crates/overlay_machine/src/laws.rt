@@ -6,6 +6,7 @@ ghost use Rattle.lcm_machine.specs.Row.{went};
 ghost use Rattle.overlay_machine.specs.declared.layout.Layout.{Layout};
 ghost use Rattle.overlay_machine.specs.State.{OState};
 ghost use Rattle.overlay_machine.specs.Step.{halts, overlay_step, weight_of};
+ghost use Rattle.overlay_machine.specs.Flat.{StandsForOne};
 ghost use Rattle.overlay_machine.specs.Runs.{Reached, plain_run, RunsAgree};
 ghost use Rattle.overlay_machine.specs.Link.{Link};
 ghost use Rattle.overlay_machine.specs.Linked.{Linked};
@@ -15,11 +16,17 @@ ghost use Rattle.overlay_machine.specs.Privacy.{AllFramesArePrivate};
 ghost use Rattle.component_linker.specs.Parts.{PartSeen};
 ghost use Rattle.component_linker.specs.Started.{StartSeen};
 ghost use Rattle.overlay_machine.specs.Seen.{OverlaySeen, IsOverlayOf};
-ghost use Rattle.overlay_machine.specs.Starting.{IsLinkedStart, overlay_at, StartsBegin, AgreesFromStart, StartThere};
+ghost use Rattle.overlay_machine.specs.Starting.{IsLinkedStart, overlay_at, StartsBegin, AgreesFromStart};
+ghost use Rattle.overlay_machine.specs.Starting.{StartThere};
 ghost use Rattle.overlay_machine.specs.Names.{StartsTellNames};
 
 use call_sequence::laws::sequences_stand_word_by_word;
 use flow_check::laws::sequences_stand;
+
+/// Each state of the overlay stands for exactly one plain state, whatever the layout.
+pub fn each_state_stands_for_one()
+    ensures { (l : Layout) (o : OState) → StandsForOne l o }
+{}
 
 /// A step of the overlay that halts stands for one plain instruction.
 pub fn a_halt_weighs_one()
@@ -69,8 +76,8 @@ pub fn frames_are_private()
 /// The overlay of each linked start begins with the invariant.
 ///
 /// Let an overlay be that of a start, and let the start be that of some accepted parts, which keep the
-/// rules L with some size of stack. Then the parts are linked in the overlay's layout, and the invariant holds
-/// of the overlay and of the start's own registers and cells.
+/// rules L with some size of stack. Then the parts are linked in the overlay's layout, and the invariant
+/// holds of the overlay and of the start's own registers and cells.
 pub fn starts_begin()
     ensures { StartsBegin }
 {
@@ -115,7 +122,4 @@ pub fn starts_tell_names()
 /// that isn't.
 pub fn a_linked_start_may_come()
     ensures { StartThere }
-{
-    sequences_stand();
-    sequences_stand_word_by_word();
-}
+{}

@@ -4,10 +4,10 @@ ghost use Rattle.std.specs.List.{list_any};
 ghost use Rattle.std.specs.Option.{option_copied};
 ghost use Rattle.cap_words.specs.Face.{FaceInOrder};
 ghost use Rattle.cap_words.specs.Ranges.{IsRange};
-ghost use Rattle.overlay_machine.specs.Layout.{runs_in, trusted_owner, trusted_at, numbered, site_at};
+ghost use Rattle.overlay_machine.specs.Layout.{runs_part, trusted_owner, trusted_at, numbered, site_at};
 ghost use Rattle.overlay_machine.specs.Layout.{is_entry, is_code, with_code, code_in, site_code};
 
-use crate::reach::numbered;
+use crate::reach::{numbered, runs_part};
 use cap_words::{CapFields, Face, Items, LAST_PLACE};
 use component_linker::{Entry, Owner, Site, SiteList};
 use lcm_machine::Span;
@@ -27,17 +27,6 @@ pub struct SiteCode {
     pub base: u32,
     pub end: u32,
     pub at: u32,
-}
-
-// Whether a capability is the normal one with rx over the whole code of a trusted part.
-fn runs_in(c: &CapFields, owner: &Owner) -> bool
-    ensures { result ≡ runs_in c.now owner.now }
-{
-    owner.trusted
-        && c.perm.number() == 3
-        && !c.lin.is_linear()
-        && c.base == owner.code.base
-        && c.end == owner.code.end
 }
 
 fn has_entry(entries: &[Entry], at: u32) -> bool
@@ -97,9 +86,9 @@ fn numbered_site(sites: &[Site], number: u32) -> Option<Site>
 
 // The trusted part whose code a capability runs.
 fn owner_running(owners: &[Owner], c: CapFields) -> Option<&Owner>
-    ensures { option_copied result ≡ find (runs_in c) owners.now }
+    ensures { option_copied result ≡ find (runs_part c) owners.now }
 {
-    owners.iter().find(|owner| runs_in(&c, owner))
+    owners.iter().find(|owner| runs_part(&c, owner))
 }
 
 // Whether an entry of a trusted part is at an address.

@@ -2,11 +2,11 @@
 ghost use Rattle.std.specs.Prelude.{◌≡◌, ◌==◌, ◌&&◌, position, find};
 ghost use Rattle.std.specs.Option.{option_copied};
 ghost use Rattle.cap_words.specs.Face.{FaceInOrder, ContentInOrder};
-ghost use Rattle.overlay_machine.specs.Layout.{numbered, number_of};
+ghost use Rattle.overlay_machine.specs.Layout.{runs_part, numbered, number_of};
 ghost use Rattle.overlay_machine.specs.Events.{entry_number, content_base, hop_by};
 
 use crate::events::Back;
-use cap_words::{Content, Face};
+use cap_words::{CapFields, Content, Face};
 use component_linker::{Entry, Owner, SiteList};
 
 /// The number of a place, where it has 32 bits.
@@ -18,6 +18,17 @@ pub fn numbered(place: usize) -> Option<u32>
     } else {
         None
     }
+}
+
+/// Whether a capability is the normal one with rx over the whole code of a trusted part.
+pub fn runs_part(c: &CapFields, owner: &Owner) -> bool
+    ensures { result ≡ runs_part c.now owner.now }
+{
+    owner.trusted
+        && c.perm.number() == 3
+        && !c.lin.is_linear()
+        && c.base == owner.code.base
+        && c.end == owner.code.end
 }
 
 fn entry_place(entries: &[Entry], at: u32) -> Option<usize>

@@ -11,6 +11,7 @@ use overlay_machine::{Back, Event, OStep, Overlay};
 use std::alloc::{AllocError, Global};
 use std::process::Abort;
 use std::test::Fail;
+use worked_parts::{CALL, CALL_ON, ENTRY, RETURN};
 
 // The trusted part `t`. Its code is from 4096 on: `fail`, the literal, the entry `main` at offset 2, and a
 // call; the entry `again` and a second call. Behind the calls it halts. Data is from 8192 on: the words of
@@ -25,29 +26,6 @@ stop: fail
 lit: .seal 11 12 11
 main: ";
 
-const ENTRY: &[u8] = b"\
-move t2 pc
-cca t2 @stop
-gettype t1 stk
-minus t1 t1 1
-jnz t2 t1
-getlin t1 stk
-minus t1 t1 1
-jnz t2 t1
-getp t1 stk
-minus t1 t1 2
-jnz t2 t1
-getb t1 stk
-minus t1 t1 65536
-jnz t2 t1
-seta2b stk
-gete t1 stk
-minus t1 t1 65536
-cca stk t1
-move t1 0
-move t2 0
-";
-
 const LOAD_GO: &[u8] = b"\
 load c1 data
 cca data 1
@@ -59,41 +37,6 @@ cca data 2
 load c1 data
 cca data 1
 load c2 data
-";
-
-// A call up to its index, from there on, and a return.
-const CALL: &[u8] = b"\
-store stk data
-move t1 pc
-cca t1 @lit
-load t2 t1
-cca t2 ";
-
-const CALL_ON: &[u8] = b"
-geta t1 stk
-minus t1 t1 1
-split stk rdata stk t1
-cca stk -1
-cseal rdata t2
-move rcode pc
-cca rcode 6
-cseal rcode t2
-move t1 0
-move t2 0
-xjmp c1 c2
-";
-
-const RETURN: &[u8] = b"\
-splice stk stk data
-getb t1 stk
-minus t1 t1 65536
-move t2 pc
-cca t2 @stop
-jnz t2 t1
-load data stk
-move t1 0
-store stk t1
-move t2 0
 ";
 
 const T_END: &[u8] = b"\
@@ -219,14 +162,14 @@ fn push_lines(text: &mut Vec<u8>, lines: &[u8]) -> Result<(), AllocError> {
 }
 
 fn push_call(text: &mut Vec<u8>, index: &[u8]) -> Result<(), AllocError> {
-    text.extend_from_slice(CALL)?;
+    text.extend_from_slice(CALL.as_bytes())?;
     text.extend_from_slice(index)?;
-    text.extend_from_slice(CALL_ON)?;
-    text.extend_from_slice(RETURN)
+    text.extend_from_slice(CALL_ON.as_bytes())?;
+    text.extend_from_slice(RETURN.as_bytes())
 }
 
 fn push_entry(text: &mut Vec<u8>, load: &[u8], lines: &[u8]) -> Result<(), AllocError> {
-    text.extend_from_slice(ENTRY)?;
+    text.extend_from_slice(ENTRY.as_bytes())?;
     text.extend_from_slice(load)?;
     push_lines(text, lines)
 }

@@ -9,7 +9,7 @@ use Rattle.lcm_machine.specs.Maps.{State}
 use Rattle.lcm_machine.specs.Places.{reg}
 use Rattle.lcm_machine.specs.Row.{Outcome, went, halted, failed, step_of}
 use Rattle.lcm_machine.specs.Run.{Run, moved, next_state, plain, fresh, EndsAs}
-use Rattle.lcm_machine.proofs.RunLemmas.{plain_more, plain_ends}
+use Rattle.lcm_machine.proofs.Offers.{plain_more, plain_ends}
 use Rattle.component_linker.specs.Started.{StartSeen}
 use Rattle.overlay_machine.specs.declared.layout.Layout.{Layout}
 use Rattle.overlay_machine.specs.State.{OState}
@@ -36,27 +36,33 @@ module _ (t : State Word) where
   has_gone : (n : ℕ) → (plain n (fresh t)).end ≡ None → (u : State Word) × (plain_run n t ≡ went u)
   has_gone n h = by_outcome (plain_run n t) refl (plain_ends n t)
     where
-      by_outcome : (o : Outcome Word) → plain_run n t ≡ o → EndsAs n o (plain n (fresh t)) → (u : State Word) × (plain_run n t ≡ went u)
+      by_outcome : (o : Outcome Word) → plain_run n t ≡ o → EndsAs n o (plain n (fresh t))
+          → (u : State Word) × (plain_run n t ≡ went u)
       by_outcome (went u) e k = (u, e)
       by_outcome halted e k = absurd (ended_none Halted (plain n (fresh t)).end k h)
       by_outcome (failed c at) e k = absurd (ended_none (Failed c at) (plain n (fresh t)).end k h)
 
-  next_is : (n : ℕ) (u : State Word) → plain_run n t ≡ went u → plain (n + 1) (fresh t) ≡ moved (step_of (λ w. w) (λ w. w) u) (gone u n)
+  next_is : (n : ℕ) (u : State Word) → plain_run n t ≡ went u
+      → plain (n + 1) (fresh t) ≡ moved (step_of (λ w. w) (λ w. w) u) (gone u n)
   unfolding next_state
   next_is n u e = plain_more n (fresh t) ∙ ap next_state (at_state n u e)
 
-  halts_there : (n : ℕ) → HaltsBehind n t → ((plain n (fresh t)).end ≡ None) × ((plain (n + 1) (fresh t)).end ≡ Some Halted)
+  halts_there : (n : ℕ) → HaltsBehind n t
+      → ((plain n (fresh t)).end ≡ None) × ((plain (n + 1) (fresh t)).end ≡ Some Halted)
   halts_there n (u, e, h) = (
     ap (λ (r : Run). r.end) (at_state n u e),
     ap (λ (r : Run). r.end) (next_is n u e ∙ ap (λ o. moved o (gone u n)) h),
   )
 
-  there_halts : (n : ℕ) → (plain n (fresh t)).end ≡ None → (plain (n + 1) (fresh t)).end ≡ Some Halted → HaltsBehind n t
+  there_halts : (n : ℕ) → (plain n (fresh t)).end ≡ None → (plain (n + 1) (fresh t)).end ≡ Some Halted
+      → HaltsBehind n t
   there_halts n goes ends =
       let k = has_gone n goes in
       (k.0, k.1, by_step k.0 (step_of (λ w. w) (λ w. w) k.0) refl (sym (ap (λ (r : Run). r.end) (next_is n k.0 k.1)) ∙ ends))
     where
-      by_step : (u : State Word) → (o : Outcome Word) → step_of (λ w. w) (λ w. w) u ≡ o → (moved (step_of (λ w. w) (λ w. w) u) (gone u n)).end ≡ Some Halted → step_of (λ w. w) (λ w. w) u ≡ halted
+      by_step : (u : State Word) → (o : Outcome Word) → step_of (λ w. w) (λ w. w) u ≡ o
+          → (moved (step_of (λ w. w) (λ w. w) u) (gone u n)).end ≡ Some Halted
+          → step_of (λ w. w) (λ w. w) u ≡ halted
       by_step u (went v) e h = absurd (let bad : None ≡ Some Halted = sym (ap (λ o. (moved o (gone u n)).end) e) ∙ h in cc)
       by_step u halted e h = e
       by_step u (failed c at) e h = absurd (let bad : Some (Failed c at) ≡ Some Halted = sym (ap (λ o. (moved o (gone u n)).end) e) ∙ h in cc)
@@ -70,13 +76,15 @@ module _ (t : State Word) where
     ap (λ (r : Run). r.end) (next_is n u e ∙ ap (λ o. moved o (gone u n)) h),
   )
 
-  there_fails : (n : ℕ) (cause : FailCause) (at : ℤ) → (plain n (fresh t)).end ≡ None → (plain (n + 1) (fresh t)).end ≡ Some (Failed cause at) → FailsBehind n t
+  there_fails : (n : ℕ) (cause : FailCause) (at : ℤ) → (plain n (fresh t)).end ≡ None
+      → (plain (n + 1) (fresh t)).end ≡ Some (Failed cause at) → FailsBehind n t
   there_fails n cause at goes ends =
       let k = has_gone n goes in
       let f = by_step k.0 (step_of (λ w. w) (λ w. w) k.0) refl (sym (ap (λ (r : Run). r.end) (next_is n k.0 k.1)) ∙ ends) in
       (k.0, f.0, f.1, k.1, f.2)
     where
-      by_step : (u : State Word) → (o : Outcome Word) → step_of (λ w. w) (λ w. w) u ≡ o → (moved (step_of (λ w. w) (λ w. w) u) (gone u n)).end ≡ Some (Failed cause at)
+      by_step : (u : State Word) → (o : Outcome Word) → step_of (λ w. w) (λ w. w) u ≡ o
+          → (moved (step_of (λ w. w) (λ w. w) u) (gone u n)).end ≡ Some (Failed cause at)
           → (c : FailCause) × (a : ℤ) × (step_of (λ w. w) (λ w. w) u ≡ failed c a)
       by_step u (went v) e h = absurd (let bad : None ≡ Some (Failed cause at) = sym (ap (λ o. (moved o (gone u n)).end) e) ∙ h in cc)
       by_step u halted e h = absurd (let bad : Some Halted ≡ Some (Failed cause at) = sym (ap (λ o. (moved o (gone u n)).end) e) ∙ h in cc)
@@ -95,10 +103,12 @@ module _ (s : StartSeen) (is : s.state ≡ fresh s.state.maps) (alone : HaltsAlo
   pub state_is : (n : ℕ) (u : State Word) → plain_run n s.state.maps ≡ went u → plain n s.state ≡ gone u n
   state_is n u e = ap (plain n) is ∙ at_state s.state.maps n u e
 
-  ends_is : (n : ℕ) (e : End) → (plain n (fresh s.state.maps)).end ≡ None → (plain (n + 1) (fresh s.state.maps)).end ≡ Some e → PlainEnds s n e
+  ends_is : (n : ℕ) (e : End) → (plain n (fresh s.state.maps)).end ≡ None
+      → (plain (n + 1) (fresh s.state.maps)).end ≡ Some e → PlainEnds s n e
   ends_is n e goes ends = record { goes = end_is n ∙ goes; ends = end_is (n + 1) ∙ ends }
 
-  matched_is : (j : ℕ) (p : OState) → Matched s j p → ((plain j s.state).end ≡ None) × IsFlat (layout s) p (plain j s.state).maps
+  matched_is : (j : ℕ) (p : OState) → Matched s j p
+      → ((plain j s.state).end ≡ None) × IsFlat (layout s) p (plain j s.state).maps
   matched_is j p m =
       let k = runs.matched j p m in
       let here = state_is j k.0 k.1 in

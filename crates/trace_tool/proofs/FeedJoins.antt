@@ -11,7 +11,7 @@ use Rattle.trace_tool.specs.declared.pairs.Pair.TheVariants.{Nothing, Bad, Out, 
 use Rattle.trace_tool.specs.declared.pairs.Pairs.{Pairs}
 use Rattle.trace_tool.specs.Layout.{part_name, entry_name}
 use Rattle.trace_tool.specs.Pairs.{is_nothing, no_pairs, pairs_of}
-use Rattle.trace_tool.specs.Lines.{Args, Return, Passed, nothing, Line, call, ret, enter, pass, leave}
+use Rattle.trace_tool.specs.Lines.{Args, Return, nothing, Line, call, ret, enter, pass, leave}
 use Rattle.trace_tool.specs.Lines.{args_of, return_of, passed_of}
 use Rattle.trace_tool.specs.StepLines.{IsNoPass, AreOfStep, none_told, one_told, pass_told}
 use Rattle.trace_tool.specs.StepLines.{AreOfSteps, no_step, and_step}

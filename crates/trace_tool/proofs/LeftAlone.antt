@@ -18,17 +18,21 @@ use Rattle.trace_tool.specs.Runs.{begun, lines_of}
 use Rattle.trace_tool.specs.Told.{Told, none_yet, and_then, step_lines}
 use Rattle.trace_tool.specs.Brackets.{marks_in, IsRet, CallsArePrivate}
 use Rattle.trace_tool.specs.Alike.{LinesAgree}
-use Rattle.trace_tool.specs.Headline.{written, FramesAreLeftAlone}
+use Rattle.trace_tool.specs.Headline.{written, LinesOfSteps, FramesAreLeftAlone, EachCallIsPrivate}
+use Rattle.trace_tool.proofs.StepTold.{reached_by}
+use Rattle.trace_tool.proofs.CallLines.{one_tells}
 use Rattle.trace_tool.proofs.Agreeing.{HaltsAlone, state_is}
 
 -- ---- lines of steps
 
-told_of : (l : Layout) (o : OState) (j : ℕ) (p : OState) → Reached l o j p → (ls : List Line) × Told l o j ls p
+told_of : (l : Layout) (o : OState) (j : ℕ) (p : OState) → Reached l o j p
+    → (ls : List Line) × Told l o j ls p
 told_of l o _ _ begins = ([], none_yet)
 told_of l o _ q (goes_on {j = j} {p = p} r e) = let k = told_of l o j p r in (k.0 ++ step_lines l p q, and_then k.1 e)
 
 -- one run of steps behind another
-then_told : (l : Layout) (o p : OState) (j : ℕ) (ls : List Line) → Told l o j ls p → (m : ℕ) (more : List Line) (r : OState) → Told l p m more r → Told l o (j + m) (ls ++ more) r
+then_told : (l : Layout) (o p : OState) (j : ℕ) (ls : List Line) → Told l o j ls p
+    → (m : ℕ) (more : List Line) (r : OState) → Told l p m more r → Told l o (j + m) (ls ++ more) r
 then_told l o p j ls t _ _ _ none_yet =
     let here : j ≡ j + 0 = omega arith in
     subst (λ n. Told l o n (ls ++ []) p) here (subst (λ xs. Told l o j xs p) (sym (append-nil ls)) t)
@@ -41,11 +45,13 @@ then_told l o p j ls t _ _ q (and_then {j = m} {ls = more} {p = r} k e) =
 
 module _ (s : StartSeen) (is : s.state ≡ fresh s.state.maps) (alone : HaltsAlone) (runs : RunsAgree (layout s) (overlay_at s).state s.state.maps)
     (agree : LinesAgree (layout s) (overlay_at s).state s.state.maps) (private_lines : CallsArePrivate (layout s) (overlay_at s).state s.state.maps) where
-  written_is : (j : ℕ) (ls : List Line) (p : OState) → Told (layout s) (overlay_at s).state j ls p → written s j ≡ ls
+  written_is : (j : ℕ) (ls : List Line) (p : OState) → Told (layout s) (overlay_at s).state j ls p
+      → written s j ≡ ls
   written_is j ls p t = ap (λ (r : Run). lines_of (layout s) (begun r) j) is ∙ agree.matched j ls p t
 
   -- what is written behind the lines of some steps is what further steps tell
-  behind_is : (j k : ℕ) (ls more new : List Line) (p r : OState) → Told (layout s) (overlay_at s).state j ls p → Told (layout s) (overlay_at s).state k (ls ++ new) r
+  behind_is : (j k : ℕ) (ls more new : List Line) (p r : OState) → Told (layout s) (overlay_at s).state j ls p
+      → Told (layout s) (overlay_at s).state k (ls ++ new) r
       → written s k ≡ written s j ++ more → more ≡ new
   behind_is j k ls more new p r t u e =
       append_cancel_left ls more new (sym (ap (λ xs. xs ++ more) (written_is j ls p t)) ∙ sym e ∙ written_is k (ls ++ new) r u)
@@ -75,4 +81,28 @@ module _ (s : StartSeen) (is : s.state ≡ fresh s.state.maps) (alone : HaltsAlo
             let ret_is = behind_is (j + w + n) (j + w + n + weight_of l r) ((t.0 ++ step_lines l p q) ++ k.0) lines (step_lines l r after) r after whole (and_then whole steps) written_ret in
             subst (λ (u : State Word). Untouched (λ x. x) (λ x. x) a (n + 1) u) (sym here)
             (range.up_to_ret n e a k.0 r after k.1 (subst (λ (xs : List Line). Depth (marks_in xs) 0 e) same depth) (subst IsRet ret_is is_ret) low high));
+      }
+
+  pub each_call : ((n : ℕ) → LinesOfSteps s n) → EachCallIsPrivate s
+  each_call lines n before after inward part site base last args words e =
+      let l = layout s in
+      let o = (overlay_at s).state in
+      let line = call inward part site base last args words in
+      let k = lines n in
+      let one = one_tells l o inward part site base last args words k.0 (written s n) before after k.1 k.2 e in
+      let m = reached_by l o one.at before one.caller one.told in
+      let here = written_is one.at before one.caller one.told in
+      let behind = written_is (one.at + weight_of l one.caller) (before ++ step_lines l one.caller one.called) one.called (and_then one.told one.moved)
+      ∙ ap (λ ls. before ++ ls) one.only in
+      let more = behind ∙ ap (λ ls. ls ++ line ∷ []) (sym here) in
+      record {
+        at = one.at;
+        caller = one.caller;
+        called = one.called;
+        matched = m;
+        goes = one.moved;
+        within = (let le = one.within in let stops = k.3.0 in omega (arith, le, stops));
+        before_it = here;
+        with_it = behind;
+        alone = left_alone one.at one.caller one.called m one.moved inward part site base last args words more;
       }

@@ -13,6 +13,7 @@ mod LinesBracketed
 mod TraceTold
 mod TracesAlike
 mod Agreeing
+mod CallLines
 mod LeftAlone
 pub mod alike
 pub mod fit
@@ -20,3 +21,4 @@ mod OwnPairs
 mod OwnEntries
 mod StepTold
 mod FeedJoins
+mod InstanceRun

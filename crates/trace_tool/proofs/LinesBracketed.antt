@@ -1,12 +1,13 @@
 -- Call and ret lines are bracketed as the overlay's events are, and what they tell of is as private.
-use Rattle.std.proofs.Common.{◌≡◌, ℕ, zero, suc, ◌+◌, ◌-◌, Bool, true, false, if◌then◌else◌, List, [], ◌∷◌, ◌++◌, Option, Some, None, refl, sym, ap, ◌∙◌, subst, arith}
+use Rattle.std.proofs.Common.{◌≡◌, ℕ, zero, suc, ◌+◌, ◌-◌, Bool, true, false, if◌then◌else◌, List, [], ◌∷◌}
+use Rattle.std.proofs.Common.{◌++◌, Option, Some, None, refl, sym, ap, ◌∙◌, subst, arith}
 use Rattle.std.specs.Prelude.{map}
 use Rattle.std.proofs.lemmas.List.{append_assoc, map-append}
 use Rattle.cap_words.specs.declared.Word.{Word}
 use Rattle.lcm_isa.specs.declared.Reg.TheVariants.{Dat}
 use Rattle.lcm_machine.specs.Maps.{State}
 use Rattle.lcm_machine.specs.Row.{went}
-use Rattle.lcm_machine.proofs.Goes.{run_then}
+use Rattle.lcm_machine.proofs.Offers.{run_then}
 use Rattle.overlay_machine.specs.declared.layout.Layout.{Layout}
 use Rattle.overlay_machine.specs.declared.events.Event.{Event}
 use Rattle.overlay_machine.specs.declared.events.Event.TheVariants.{Called, Returned, Entered, Left}
@@ -15,16 +16,19 @@ use Rattle.overlay_machine.specs.Events.{step_event}
 use Rattle.overlay_machine.specs.Step.{goes, overlay_step, weight_of}
 use Rattle.overlay_machine.specs.Runs.{plain_run}
 use Rattle.overlay_machine.specs.Brackets.{FrameTold, Mark, opens, closes, Brackets, Depth}
-use Rattle.overlay_machine.proofs.BracketLemmas.{mark_map, mapped, depth_unmapped}
-use Rattle.overlay_machine.proofs.Marks.{flat_cell, if_there, words_at, marks_by, marks_of, Marked, none_yet, and_then, AreBracketed, StaysPrivate, OpenedArePrivate}
+use Rattle.overlay_machine.proofs.Offers.{mark_map, mapped, depth_unmapped, flat_cell, if_there, words_at}
+use Rattle.overlay_machine.proofs.Offers.{marks_by, marks_of, Marked, none_yet, and_then, AreBracketed}
+use Rattle.overlay_machine.proofs.Offers.{StaysPrivate, OpenedArePrivate}
 use Rattle.trace_tool.proofs.ReturnLines.{ret_returns}
 use Rattle.trace_tool.specs.Layout.{part_name, site_of}
 use Rattle.trace_tool.specs.Views.{View, flat_view}
 use Rattle.trace_tool.specs.declared.pairs.Pairs.{Pairs}
 use Rattle.trace_tool.specs.Pairs.{no_pairs, pairs_of}
-use Rattle.trace_tool.specs.Lines.{Args, Passed, Line, call, pass, list_of, words_from, passed_of, pass_lines, line_of, lines_for}
+use Rattle.trace_tool.specs.Lines.{Args, Passed, Line, call, pass, list_of, words_from, passed_of, pass_lines}
+use Rattle.trace_tool.specs.Lines.{line_of, lines_for}
 use Rattle.trace_tool.specs.Told.{step_lines, Told, none_yet as nothing_yet, and_then as tells}
-use Rattle.trace_tool.specs.Brackets.{LineTold, mark_of, marks_in, line_told, lines_told, LinesAreBracketed, RangeIsPrivate, CallsArePrivate}
+use Rattle.trace_tool.specs.Brackets.{LineTold, mark_of, marks_in, line_told, lines_told, LinesAreBracketed}
+use Rattle.trace_tool.specs.Brackets.{RangeIsPrivate, CallsArePrivate}
 
 -- the words of lines are those of marks
 listed : {A : Type 0} (o : Option A) → list_of o ≡ if_there o
@@ -47,7 +51,8 @@ pass_mute l p = by (no_pairs p) (passed_of l p.p0) (passed_of l p.p1) (passed_of
     by true x y z = refl
     by false x y z = refl
 
-event_marks : (l : Layout) (q : OState) (e : Option Event) → marks_in (lines_for l (flat_view l q) e) ≡ of_marks l (marks_by l q e)
+event_marks : (l : Layout) (q : OState) (e : Option Event)
+    → marks_in (lines_for l (flat_view l q) e) ≡ of_marks l (marks_by l q e)
 event_marks l q None = refl
 event_marks l q (Some (Called inward i b e)) =
     ap (λ ws. opens (record { part = part_name l (site_of l i).part; site = (site_of l i).index; base = b; last = e; words = ws }) ∷ []) (same_words (flat_view l q) b (e + 1 - b))
@@ -61,7 +66,8 @@ marks-append [] ys = refl
 marks-append (x ∷ xs) ys = ap (λ ms. mark_of x ++ ms) (marks-append xs ys) ∙ sym (append_assoc (mark_of x) (marks_in xs) (marks_in ys))
 
 -- a run that is told by lines is one that is told by marks
-pub as_marked : (l : Layout) (o : OState) (j : ℕ) (ls : List Line) (p : OState) → Told l o j ls p → (ms : List (Mark FrameTold)) × Marked l o j ms p × (marks_in ls ≡ of_marks l ms)
+pub as_marked : (l : Layout) (o : OState) (j : ℕ) (ls : List Line) (p : OState) → Told l o j ls p
+    → (ms : List (Mark FrameTold)) × Marked l o j ms p × (marks_in ls ≡ of_marks l ms)
 as_marked l o _ _ _ nothing_yet = ([], none_yet, refl)
 as_marked l o _ _ q (tells {j = j} {ls = ls} {p = p} r e) =
     let k = as_marked l o j ls p r in (
@@ -78,7 +84,8 @@ lines_bracketed l o h j ls p r =
 
 -- ---- privacy
 
-opened_by : (l : Layout) (q : OState) (e : Option Event) (inward : Bool) (part : List ℕ) (site base last : ℕ) (args : Args) (words : List Word) → lines_for l (flat_view l q) e ≡ call inward part site base last args words ∷ []
+opened_by : (l : Layout) (q : OState) (e : Option Event) (inward : Bool) (part : List ℕ) (site base last : ℕ) (args : Args) (words : List Word)
+    → lines_for l (flat_view l q) e ≡ call inward part site base last args words ∷ []
     → (x : FrameTold) × (marks_by l q e ≡ opens x ∷ []) × (x.base ≡ base) × (x.end ≡ last)
 opened_by l q None inward part site base last args words h = cc
 opened_by l q (Some (Called i s b e)) inward part site base last args words h =
@@ -98,7 +105,8 @@ opened_by l q (Some (Left p)) inward part site base last args words h = cc
 
 module _ (l : Layout) (o : OState) (t : State Word) (h : OpenedArePrivate l o t) where
   call_private : (q : OState) (u : State Word) (inward : Bool) (part : List ℕ) (site base last : ℕ) (args : Args) (words : List Word)
-      → overlay_step l o ≡ goes q → plain_run (weight_of l o) t ≡ went u → step_lines l o q ≡ call inward part site base last args words ∷ [] → RangeIsPrivate l q u base last
+      → overlay_step l o ≡ goes q → plain_run (weight_of l o) t ≡ went u
+      → step_lines l o q ≡ call inward part site base last args words ∷ [] → RangeIsPrivate l q u base last
   call_private q u inward part site base last args words step ran line =
       let x = opened_by l q (step_event l o q) inward part site base last args words line in
       let p : StaysPrivate l q u x.0 = h q u x.0 step ran x.1 in

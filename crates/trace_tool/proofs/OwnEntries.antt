@@ -43,8 +43,7 @@ use Rattle.overlay_machine.specs.Link.{Link, IsTrusted, IsStackCell, ranges_of}
 use Rattle.overlay_machine.specs.Linked.{Linked}
 use Rattle.overlay_machine.specs.Safe.{IsSafe}
 use Rattle.overlay_machine.specs.Invariant.{PcPart, at_fail, at_row, outside, Invariant}
-use Rattle.overlay_machine.proofs.invariant.Ready.{entry_kind}
-use Rattle.overlay_machine.proofs.starts.ListFacts.{listed_at, found_is, any_is, position_is}
+use Rattle.overlay_machine.proofs.Offers.{entry_kind, listed_at, found_is, any_is, position_is}
 use Rattle.trace_tool.specs.Views.{flat_view}
 use Rattle.trace_tool.specs.Pairs.{pairs_of, own_pairs_of, PassesAreOwn}
 use Rattle.trace_tool.proofs.OwnPairs.{pairs_are_own}

@@ -6,11 +6,13 @@ use Rattle.overlay_machine.specs.declared.layout.Layout.{Layout}
 use Rattle.overlay_machine.specs.declared.events.Event.TheVariants.{Called, Returned, Entered, Left}
 use Rattle.overlay_machine.specs.Events.{step_event}
 use Rattle.lcm_machine.specs.Run.{next_state}
+use Rattle.overlay_machine.specs.State.{OState}
+use Rattle.overlay_machine.specs.Runs.{Reached, begins, goes_on}
 use Rattle.trace_tool.specs.Views.{view_of, flat_view}
 use Rattle.trace_tool.specs.Pairs.{pairs_of, no_pairs}
 use Rattle.trace_tool.specs.Lines.{Args, Return, Passed, Line, enter, pass, passed_of}
 use Rattle.trace_tool.specs.Runs.{Watched, watched, event_next, line_next}
-use Rattle.trace_tool.specs.Told.{none_yet, and_then}
+use Rattle.trace_tool.specs.Told.{Told, none_yet, and_then}
 use Rattle.trace_tool.specs.StepLines.{AreOfStep, none_told, one_told, pass_told, no_step, and_step}
 use Rattle.trace_tool.specs.StepLines.{StepsTellSo, RunsAreOfSteps, ToldAreOfSteps}
 
@@ -40,3 +42,9 @@ pub told_are_of_steps : ToldAreOfSteps
 told_are_of_steps l o _ _ _ none_yet = no_step
 told_are_of_steps l o q _ _ (and_then {j = j} {ls = ls} {p = p} r e) =
     and_step (told_are_of_steps l o p j ls r) (steps_tell_so l (flat_view l q) (step_event l p q))
+
+-- a run that is told is reached
+pub reached_by : (l : Layout) (o : OState) (j : ℕ) (ls : List Line) (p : OState) → Told l o j ls p
+    → Reached l o j p
+reached_by l o _ _ _ none_yet = begins
+reached_by l o _ _ _ (and_then {j = j} {ls = ls} {p = p} t e) = goes_on (reached_by l o j ls p t) e

@@ -1,8 +1,10 @@
 -- The lines that a trace writes are those of the steps that it makes, up to where it is to stop.
-use Rattle.std.proofs.Common.{◌≡◌, inl, inr, ℕ, zero, suc, ◌+◌, ◌<◌, ◌≤◌, Bool, true, false, List, [], ◌++◌, Option, Some, None, refl, sym, ap, ◌∙◌, arith, subst}
+use Rattle.std.proofs.Common.{◌≡◌, inl, inr, ℕ, zero, suc, ◌+◌, ◌<◌, ◌≤◌, Bool, true, false, List, [], ◌++◌}
+use Rattle.std.proofs.Common.{Option, Some, None, refl, sym, ap, ◌∙◌, arith, subst}
 use Rattle.std.specs.Prelude.{nat_lt, if◌then◌else◌}
 use Rattle.std.proofs.lemmas.Bool.{ltb-true, ltb-false}
 use Rattle.std.proofs.lemmas.List.{append_assoc, append-nil}
+use Rattle.overlay_machine.proofs.Offers.{weight_some}
 use Rattle.overlay_machine.specs.declared.layout.Layout.{Layout}
 use Rattle.overlay_machine.specs.declared.overlay.OStep.{OStep}
 use Rattle.overlay_machine.specs.declared.overlay.OStep.TheVariants.{Went, Halted, Failed}
@@ -11,18 +13,20 @@ use Rattle.overlay_machine.specs.declared.overlay.OEnd.TheVariants.{Halted as At
 use Rattle.overlay_machine.specs.State.{OState}
 use Rattle.overlay_machine.specs.Step.{Ending, goes, halts, fails, overlay_step, weight_of}
 use Rattle.overlay_machine.specs.Events.{step_event}
-use Rattle.overlay_machine.specs.Seen.{OverlaySeen, moved, next_by, next_overlay, ending_answer, answer_by, answer_of}
+use Rattle.overlay_machine.specs.Seen.{OverlaySeen, moved, next_by, next_overlay, ending_answer, answer_by}
+use Rattle.overlay_machine.specs.Seen.{answer_of}
 use Rattle.trace_tool.specs.declared.run.RunEnd.TheVariants.{Halted as RunHalted, Failed as RunFailed}
 use Rattle.trace_tool.specs.Views.{overlay_view}
 use Rattle.trace_tool.specs.Lines.{Line}
 use Rattle.trace_tool.specs.EndLines.{halted_text, failed_text}
-use Rattle.trace_tool.specs.Traces.{weight_with, lines_after, Traced, ended, behind, stopped, traced_by, traced, trace_of}
+use Rattle.trace_tool.specs.Traces.{weight_with, lines_after, Traced, ended, behind, stopped, traced_by}
+use Rattle.trace_tool.specs.Traces.{traced, trace_of}
 use Rattle.trace_tool.specs.Told.{step_lines, Told, none_yet, and_then, EndsOverlay, StopsAt, TracesSteps}
-use Rattle.trace_tool.proofs.Tracing.{weight_some}
 use Rattle.trace_tool.specs.Brackets.{LinesAreBracketed, TraceIsBracketed}
 
 -- one run behind another
-told_then : (l : Layout) (o p q : OState) (j k : ℕ) (ls ms : List Line) → Told l o j ls p → Told l p k ms q → Told l o (j + k) (ls ++ ms) q
+told_then : (l : Layout) (o p q : OState) (j k : ℕ) (ls ms : List Line) → Told l o j ls p → Told l p k ms q
+    → Told l o (j + k) (ls ++ ms) q
 told_then l o p _ j _ ls _ h none_yet =
     let at : j ≡ j + 0 = omega arith in
     subst (λ i. Told l o i (ls ++ []) p) at (subst (λ x. Told l o j x p) (sym (append-nil ls)) h)
@@ -33,11 +37,15 @@ told_then l o p q j _ ls _ h (and_then {j = k} {ls = ms} {p = r} more e) =
 
 -- what a step of a seen overlay is
 data StepIs (o : OverlaySeen) : OStep → OverlaySeen → Type 0 where
-  it_went : (q : OState) → overlay_step o.layout o.state ≡ goes q → StepIs o (Went (step_event o.layout o.state q)) (record o { state = q; weight = o.weight + weight_of o.layout o.state })
-  it_halted : (p : OverlaySeen) → p.state ≡ o.state → (o.end ≡ None → EndsOverlay o.layout o.state) → StepIs o Halted p
-  it_failed : (p : OverlaySeen) → p.state ≡ o.state → (o.end ≡ None → EndsOverlay o.layout o.state) → StepIs o Failed p
+  it_went : (q : OState) → overlay_step o.layout o.state ≡ goes q
+      → StepIs o (Went (step_event o.layout o.state q)) (record o { state = q; weight = o.weight + weight_of o.layout o.state })
+  it_halted : (p : OverlaySeen) → p.state ≡ o.state → (o.end ≡ None → EndsOverlay o.layout o.state)
+      → StepIs o Halted p
+  it_failed : (p : OverlaySeen) → p.state ≡ o.state → (o.end ≡ None → EndsOverlay o.layout o.state)
+      → StepIs o Failed p
 
-by_ending : (o : OverlaySeen) (e : Ending) → overlay_step o.layout o.state ≡ e → StepIs o (ending_answer o e) (moved e o)
+by_ending : (o : OverlaySeen) (e : Ending) → overlay_step o.layout o.state ≡ e
+    → StepIs o (ending_answer o e) (moved e o)
 by_ending o (goes q) h = it_went q h
 by_ending o halts h = it_halted _ refl (λ _. inl h)
 by_ending o fails h = it_failed _ refl (λ _. inr h)
@@ -58,7 +66,9 @@ ToldFrom l limit n o t =
     (j : ℕ) × Told l o.state j t.lines t.overlay.state
     × (o.end ≡ None → o.weight ≤ limit → limit < o.weight + n → StopsAt l limit (o.weight + j) t.overlay.state)
 
-stays_told : (l : Layout) (limit n : ℕ) (o p : OverlaySeen) → o.layout ≡ l → p.state ≡ o.state → (o.end ≡ None → EndsOverlay o.layout o.state) → (j : ℕ) × Told l o.state j [] p.state × (o.end ≡ None → o.weight ≤ limit → limit < o.weight + n → StopsAt l limit (o.weight + j) p.state)
+stays_told : (l : Layout) (limit n : ℕ) (o p : OverlaySeen) → o.layout ≡ l → p.state ≡ o.state
+    → (o.end ≡ None → EndsOverlay o.layout o.state)
+    → (j : ℕ) × Told l o.state j [] p.state × (o.end ≡ None → o.weight ≤ limit → limit < o.weight + n → StopsAt l limit (o.weight + j) p.state)
 stays_told l limit n o p same e ends = (
   0,
   subst (λ y. Told l o.state 0 [] y) (sym e) none_yet,
@@ -71,12 +81,15 @@ traced_with (Went event) o next more = behind (lines_after next event) (more nex
 traced_with Halted o next more = ended RunHalted next (halted_text (overlay_view next) (weight_with o))
 traced_with Failed o next more = ended RunFailed next (failed_text (overlay_view next) o.weight)
 
-with_next : (a : OStep) (o : OverlaySeen) (more : OverlaySeen → Traced) → traced_by a o more ≡ traced_with a o (next_overlay o) more
+with_next : (a : OStep) (o : OverlaySeen) (more : OverlaySeen → Traced)
+    → traced_by a o more ≡ traced_with a o (next_overlay o) more
 with_next (Went event) o more = refl
 with_next Halted o more = refl
 with_next Failed o more = refl
 
-told_with : (l : Layout) (limit n : ℕ) (o : OverlaySeen) (a : OStep) (next : OverlaySeen) → o.layout ≡ l → weight_with o ≤ limit → StepIs o a next → ((p : OverlaySeen) → p.layout ≡ l → ToldFrom l limit n p (traced limit n p))
+told_with : (l : Layout) (limit n : ℕ) (o : OverlaySeen) (a : OStep) (next : OverlaySeen) → o.layout ≡ l
+    → weight_with o ≤ limit → StepIs o a next
+    → ((p : OverlaySeen) → p.layout ≡ l → ToldFrom l limit n p (traced limit n p))
     → ToldFrom l limit (suc n) o (traced_with a o next (traced limit n))
 told_with l limit n o _ _ same within (it_went q e) h =
     let p : OverlaySeen = record o { state = q; weight = o.weight + weight_of o.layout o.state } in
@@ -94,7 +107,8 @@ told_with l limit n o _ _ same within (it_went q e) h =
 told_with l limit n o _ _ same within (it_halted p e ends) h = stays_told l limit (suc n) o p same e ends
 told_with l limit n o _ _ same within (it_failed p e ends) h = stays_told l limit (suc n) o p same e ends
 
-told_by_limit : (l : Layout) (limit n : ℕ) (o : OverlaySeen) (b : Bool) → nat_lt limit (weight_with o) ≡ b → o.layout ≡ l → ((p : OverlaySeen) → p.layout ≡ l → ToldFrom l limit n p (traced limit n p))
+told_by_limit : (l : Layout) (limit n : ℕ) (o : OverlaySeen) (b : Bool) → nat_lt limit (weight_with o) ≡ b
+    → o.layout ≡ l → ((p : OverlaySeen) → p.layout ≡ l → ToldFrom l limit n p (traced limit n p))
     → ToldFrom l limit (suc n) o (if b then stopped o else traced_by (answer_of o) o (traced limit n))
 told_by_limit l limit n o true over same more =
     let past = ltb-true limit (weight_with o) over in
@@ -103,7 +117,8 @@ told_by_limit l limit n o true over same more =
 told_by_limit l limit n o false over same more =
     subst (ToldFrom l limit (suc n) o) (sym (with_next (answer_of o) o (traced limit n))) (told_with l limit n o (answer_of o) (next_overlay o) same (ltb-false limit (weight_with o) over) (step_is o) more)
 
-traced_told : (l : Layout) (limit n : ℕ) (o : OverlaySeen) → o.layout ≡ l → ToldFrom l limit n o (traced limit n o)
+traced_told : (l : Layout) (limit n : ℕ) (o : OverlaySeen) → o.layout ≡ l
+    → ToldFrom l limit n o (traced limit n o)
 traced_told l limit zero o same = (0, none_yet, λ none low high. absurd (omega (arith, low, high)))
 traced_told l limit (suc n) o same = told_by_limit l limit n o (nat_lt limit (weight_with o)) refl same (λ p e. traced_told l limit n p e)
 

@@ -1,8 +1,10 @@
 -- Where no part is trusted, no instruction has an event.
-use Rattle.std.proofs.Common.{◌≡◌, ℕ, zero, suc, Bool, true, false, List, [], ◌∷◌, ◌++◌, Option, Some, None, refl, sym, ap, ◌∙◌, arith, subst}
-use Rattle.std.specs.Prelude.{find, option_and_then, is_some}
-use Rattle.outside_io.specs.SinkSeen.{SinkSeen, Adds}
-use Rattle.outside_io.proofs.Writing.{adds_none}
+use Rattle.std.proofs.Common.{◌≡◌, ℕ, zero, suc, Bool, true, false, List, [], ◌∷◌, ◌++◌, Option, Some, None}
+use Rattle.std.proofs.Common.{refl, sym, ap, ◌∙◌, arith, subst}
+use Rattle.std.specs.Prelude.{find, option_and_then}
+use Rattle.outside_io.specs.SinkSeen.{SinkSeen}
+use Rattle.outside_io.specs.Writes.{AddsPieces}
+use Rattle.outside_io.proofs.Writing.{pieces_none}
 use Rattle.std.specs.List.{list_any}
 use Rattle.cap_words.specs.declared.Face.{Face}
 use Rattle.cap_words.specs.declared.Face.TheVariants.{Number, Memory, Seals, Sealed}
@@ -16,7 +18,7 @@ use Rattle.lcm_machine.specs.Run.{next_state, plain, answer}
 use Rattle.component_linker.specs.declared.owners.Owner.{Owner}
 use Rattle.overlay_machine.specs.declared.layout.Layout.{Layout}
 use Rattle.overlay_machine.specs.declared.events.Event.{Event}
-use Rattle.overlay_machine.specs.Layout.{runs_in, trusted_owner}
+use Rattle.overlay_machine.specs.Layout.{runs_part, trusted_owner}
 use Rattle.overlay_machine.specs.Events.{closure_owner}
 use Rattle.component_linker.specs.Started.{StartSeen}
 use Rattle.trace_tool.specs.declared.run.RunEnd.{RunEnd}
@@ -24,7 +26,7 @@ use Rattle.trace_tool.specs.Layout.{layout, site_word}
 use Rattle.trace_tool.specs.Views.{View, view_of}
 use Rattle.trace_tool.specs.Events.{noted_by, noted, entered, event_after}
 use Rattle.trace_tool.specs.Lines.{lines_for}
-use Rattle.trace_tool.specs.Texts.{lines_text}
+use Rattle.trace_tool.specs.Texts.{lines_pieces}
 use Rattle.trace_tool.specs.EndLines.{end_line}
 use Rattle.trace_tool.specs.Runs.{Watched, begun, if_went, watched, line_next, lines_of, end_of, Runs, EndsBy}
 use Rattle.trace_tool.proofs.Going.{ends}
@@ -37,13 +39,14 @@ neither : (a b : Bool) → Rattle.std.specs.Prelude.◌||◌ a b ≡ false → (
 neither true b e = absurd cc
 neither false b e = (refl, e)
 
-none_found : (p : Owner → Bool) (os : List Owner) → ((o : Owner) → o.trusted ≡ false → p o ≡ false) → list_any (λ o. o.trusted) os ≡ false → find p os ≡ None
+none_found : (p : Owner → Bool) (os : List Owner) → ((o : Owner) → o.trusted ≡ false → p o ≡ false)
+    → list_any (λ o. o.trusted) os ≡ false → find p os ≡ None
 none_found p [] h e = refl
 none_found p (x ∷ xs) h e = let k = neither x.trusted (list_any (λ o. o.trusted) xs) e in rw (h x k.0) (none_found p xs h k.1)
 
 module _ (l : Layout) (none : NoneTrusted l) where
   no_owner : (pc : Face) → trusted_owner l pc ≡ None
-  no_owner (Memory c) = none_found (runs_in c) l.owners (λ o e. rw e refl) none
+  no_owner (Memory c) = none_found (runs_part c) l.owners (λ o e. rw e refl) none
   no_owner (Number z) = refl
   no_owner (Seals s) = refl
   no_owner (Sealed s) = refl
@@ -56,7 +59,8 @@ module _ (l : Layout) (none : NoneTrusted l) where
   no_closure None = refl
   no_closure (Some s) = none_found _ l.owners (λ o e. rw e refl) none
 
-  no_event_by : (s : State Word) (o : Option Reg) (inward : Bool) (v : View) → event_after l (noted_by l s o) inward v ≡ None
+  no_event_by : (s : State Word) (o : Option Reg) (inward : Bool) (v : View)
+      → event_after l (noted_by l s o) inward v ≡ None
   unfolding event_after
   no_event_by s None inward v = rw (no_site _ _) refl
   no_event_by s (Some r1) inward v = rw (no_owner _) (ap (option_and_then (entered l v)) (no_closure _))
@@ -82,8 +86,11 @@ module _ (l : Layout) (none : NoneTrusted l) where
   no_lines w (suc n) = ap (λ x. x ++ line_next l (watched l w n)) (no_lines w n) ∙ no_line (watched l w n)
 
 -- so the end line is the whole text
-pub ends_untrusted : (init : StartSeen) (sink : SinkSeen) (steps : ℕ) (start : StartSeen) (after : SinkSeen) (step : Step) (line : List ℕ) (result : RunEnd) → NoneTrusted (layout init)
-    → start ≡ record init { state = plain steps init.state } → step ≡ answer start.state → line ≡ end_line start.state → EndsBy sink line (end_of step) after result → Runs init steps sink start after result
+pub ends_untrusted : (init : StartSeen) (sink : SinkSeen) (steps : ℕ) (start : StartSeen) (after : SinkSeen) (step : Step) (line : List ℕ) (result : RunEnd)
+    → NoneTrusted (layout init)
+    → start ≡ record init { state = plain steps init.state } → step ≡ answer start.state
+    → line ≡ end_line start.state → EndsBy sink line (end_of step) after result
+    → Runs init steps sink start after result
 ends_untrusted init sink steps start after step line result none same is last e =
     ends init sink steps steps start sink after step line result (omega arith) same refl refl
-    (subst (λ ls. Adds sink (lines_text ls) sink) (sym (no_lines (layout init) none (begun init.state) steps)) (adds_none sink)) is last e
+    (subst (λ ls. AddsPieces sink (lines_pieces ls) sink) (sym (no_lines (layout init) none (begun init.state) steps)) (pieces_none sink)) is last e

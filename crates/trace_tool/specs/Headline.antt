@@ -1,7 +1,8 @@
--- The headline. For all trusted parts that keep the rules and every untrusted part that links with them: at each
--- matched point the plain machine halts, fails or goes on as the overlay does, each return resumes the newest open
--- call, and no instruction between touches that call's private frame. docs/THEOREMS.md has it in words.
-use Rattle.std.specs.Prelude.{◌≡◌, ◌↔◌, ℕ, ◌+◌, ◌≤◌, ◌<◌, ◌++◌, ℤ, Bool, List, [], ◌∷◌, Some, None}
+-- The headline. For all trusted parts that keep the rules and every untrusted part that links with them: at
+-- each matched point the plain machine halts, fails or goes on as the overlay does, each return resumes the
+-- newest open call, and no instruction between touches that call's private frame. docs/THEOREMS.md has it in
+-- words.
+use Rattle.std.specs.Prelude.{◌≡◌, ◌↔◌, ℕ, ◌+◌, ◌≤◌, ◌<◌, ◌++◌, ℤ, Bool, false, List, [], ◌∷◌, Some, None}
 use Rattle.cap_words.specs.declared.Word.{Word}
 use Rattle.lcm_isa.specs.declared.Reg.TheVariants.{A0}
 use Rattle.lcm_machine.specs.declared.FailCause.{FailCause}
@@ -17,10 +18,10 @@ use Rattle.overlay_machine.specs.Step.{goes, halts, fails, overlay_step, weight_
 use Rattle.overlay_machine.specs.Flat.{IsFlat}
 use Rattle.overlay_machine.specs.Runs.{Reached}
 use Rattle.overlay_machine.specs.Brackets.{Brackets, Depth}
-use Rattle.overlay_machine.specs.Starting.{IsLinkedStart, overlay_at}
+use Rattle.overlay_machine.specs.Starting.{IsLinkedStart, StartThere, overlay_at}
 use Rattle.trace_tool.specs.Layout.{layout}
 use Rattle.trace_tool.specs.Views.{flat_view}
-use Rattle.trace_tool.specs.Lines.{Line, Args, call}
+use Rattle.trace_tool.specs.Lines.{Line, Args, call, ret}
 use Rattle.trace_tool.specs.Runs.{begun, lines_of}
 use Rattle.trace_tool.specs.Told.{Told, StopsAt}
 use Rattle.trace_tool.specs.Traces.{trace_of}
@@ -28,8 +29,8 @@ use Rattle.trace_tool.specs.Brackets.{LineTold, marks_in, IsRet}
 
 -- ---- the words of it
 
--- a matched point is the sum of the weights of the first steps that go from the overlay of the start, and there
--- stands the overlay after them
+-- a matched point is the sum of the weights of the first steps that go from the overlay of the start, and
+-- there stands the overlay after them
 abbrev pub Matched : StartSeen → ℕ → OState → Type 0
 Matched s j p = Reached (layout s) (overlay_at s).state j p
 
@@ -60,13 +61,14 @@ pub record Agrees (s : StartSeen) : Type 0 where
   pub alike : (n : ℕ) (p : OState) → Matched s n p → OverlayHalts s p
       → (weight_of (layout s) p ≡ 1)
       × (reg (plain (n + 1) s.state).maps.regs A0 ≡ (flat_view (layout s) p).reg A0)
-  -- where it fails, the overlay stands at a matched point and fails, and the instruction lies within the weight of
-  -- that step; where the overlay fails, so does the plain machine, within that weight
+  -- where it fails, the overlay stands at a matched point and fails, and the instruction lies within the
+  -- weight of that step; where the overlay fails, so does the plain machine, within that weight
   pub plain_fails : (n : ℕ) (cause : FailCause) (at : ℤ) → PlainEnds s n (Failed cause at)
       → (j : ℕ) × (p : OState) × Within s n j p × OverlayFails s p
   pub overlay_fails : (j : ℕ) (p : OState) → Matched s j p → OverlayFails s p
       → (n : ℕ) × (cause : FailCause) × (at : ℤ) × Within s n j p × PlainEnds s n (Failed cause at)
-  -- where it has gone on, it stands less than the next weight behind a matched point, which is the greatest so far
+  -- where it has gone on, it stands less than the next weight behind a matched point, which is the greatest
+  -- so far
   pub goes : (n : ℕ) → (plain n s.state).end ≡ None → (j : ℕ) × (p : OState) × Within s n j p
 
 -- ---- what is written
@@ -81,8 +83,8 @@ abbrev pub LinesOfSteps : StartSeen → ℕ → Type 0
 LinesOfSteps s n =
     (j : ℕ) × (p : OState) × Told (layout s) (overlay_at s).state j (written s n) p × StopsAt (layout s) n j p
 
--- a call line is open until a ret line closes it, and each ret line closes the newest open one, with its part, site,
--- base, last and words; at first none is open
+-- a call line is open until a ret line closes it, and each ret line closes the newest open one, with its
+-- part, site, base, last and words; at first none is open
 abbrev pub AreBracketed : List Line → Type 0
 AreBracketed lines = (open_now : List LineTold) × Brackets LineTold [] (marks_in lines) open_now
 
@@ -90,26 +92,48 @@ AreBracketed lines = (open_now : List LineTold) × Brackets LineTold [] (marks_i
 
 -- a range, from a matched point on that lies behind n instructions and at which the overlay is q
 pub record RangeIsLeftAlone (s : StartSeen) (n : ℕ) (q : OState) (base last : ℕ) : Type 0 where
-  -- up to each matched point m instructions later, where the lines up to it close no call line that was open before
-  -- them, no instruction touches an address of the range
+  -- up to each matched point m instructions later, where the lines up to it close no call line that was open
+  -- before them, no instruction touches an address of the range
   pub while_open : (m e a : ℕ) (r : OState) (more : List Line) → Reached (layout s) q m r
       → written s (n + m) ≡ written s n ++ more → Depth (marks_in more) 0 e
       → base ≤ a → a ≤ last → Untouched (λ w. w) (λ w. w) a m (plain n s.state).maps
-  -- and where the step from there on brings a ret line, neither does its first instruction, the `xjmp` that reaches
-  -- the return sequence
+  -- and where the step from there on brings a ret line, neither does its first instruction, the `xjmp` that
+  -- reaches the return sequence
   pub up_to_ret : (m e a : ℕ) (r next : OState) (more line : List Line) → Reached (layout s) q m r
       → written s (n + m) ≡ written s n ++ more → Depth (marks_in more) 0 e
       → overlay_step (layout s) r ≡ goes next
       → written s (n + m + weight_of (layout s) r) ≡ written s (n + m) ++ line → IsRet line
       → base ≤ a → a ≤ last → Untouched (λ w. w) (λ w. w) a (m + 1) (plain n s.state).maps
 
--- so it is of the range of each call line that is written, from behind the `xjmp` of its call on
+-- so it is of the range of each step that writes a call line, from behind the `xjmp` of its call on
 abbrev pub FramesAreLeftAlone : StartSeen → Type 0
 FramesAreLeftAlone s =
     (j : ℕ) (p q : OState) → Matched s j p → overlay_step (layout s) p ≡ goes q
     → (inward : Bool) (part : List ℕ) (site base last : ℕ) (args : Args) (words : List Word)
     → written s (j + weight_of (layout s) p) ≡ written s j ++ call inward part site base last args words ∷ []
     → RangeIsLeftAlone s (j + weight_of (layout s) p) q base last
+
+-- A call line stands in the lines of n instructions: from a matched point on, at which just the lines before
+-- it are written, one step within these instructions writes it and nothing else, and its range is left alone
+-- from behind that step's `xjmp` on.
+pub record LineIsPrivate (s : StartSeen) (n : ℕ) (before : List Line) (line : Line) (base last : ℕ) : Type 0 where
+  pub at : ℕ
+  pub caller : OState
+  pub called : OState
+  pub matched : Matched s at caller
+  pub goes : overlay_step (layout s) caller ≡ goes called
+  pub within : at + weight_of (layout s) caller ≤ n
+  pub before_it : written s at ≡ before
+  pub with_it : written s (at + weight_of (layout s) caller) ≡ before ++ line ∷ []
+  pub alone : RangeIsLeftAlone s (at + weight_of (layout s) caller) called base last
+
+-- so it is of each call line that is written
+abbrev pub EachCallIsPrivate : StartSeen → Type 0
+EachCallIsPrivate s =
+    (n : ℕ) (before after : List Line)
+    → (inward : Bool) (part : List ℕ) (site base last : ℕ) (args : Args) (words : List Word)
+    → written s n ≡ before ++ call inward part site base last args words ∷ after
+    → LineIsPrivate s n before (call inward part site base last args words) base last
 
 -- ---- all of it
 
@@ -120,8 +144,27 @@ pub record Headline (s : StartSeen) : Type 0 where
   pub traced : (n : ℕ) → (trace_of n (overlay_at s)).lines ≡ written s n
   -- each return resumes the newest open call
   pub bracketed : (n : ℕ) → AreBracketed (written s n)
+  -- no instruction between touches a call's private frame: of each step that writes a call line, and of each
+  -- call line that is written
   pub private : FramesAreLeftAlone s
+  pub each_call : EachCallIsPrivate s
 
 -- of every linked start
 abbrev pub HeadlineHolds : Type 0
 HeadlineHolds = (parts : List PartSeen) (size : ℕ) (s : StartSeen) → IsLinkedStart parts size s → Headline s
+
+-- ---- that it speaks of something
+
+-- a start of a trusted part and of one that isn't, whose run writes a call line and then its ret line
+pub record CallThere : Type 0 where
+  pub there : StartThere
+  pub n : ℕ
+  pub part : List ℕ
+  pub site : ℕ
+  pub base : ℕ
+  pub last : ℕ
+  pub args : Args
+  pub a0 : Word
+  pub words : List Word
+  pub lines : written there.start n
+      ≡ call false part site base last args words ∷ ret false part site base last a0 words ∷ []

@@ -1,6 +1,7 @@
 -- The lines and the text of a plain run.
-use Rattle.std.specs.Prelude.{◌≡◌, ◌⊎◌, ◌≤◌, ℕ, zero, suc, ◌++◌, Bool, false, List, [], Option, None}
+use Rattle.std.specs.Prelude.{◌≡◌, ◌⊎◌, ◌≤◌, ℕ, zero, suc, ◌++◌, Bool, false, List, [], ◌∷◌, Option, None}
 use Rattle.outside_io.specs.SinkSeen.{SinkSeen, Adds, FailsToWrite}
+use Rattle.outside_io.specs.Writes.{AddsPieces, FailsAtPiece}
 use Rattle.lcm_machine.specs.declared.Step.{Step}
 use Rattle.lcm_machine.specs.declared.Step.TheVariants.{Went, Halted, Failed}
 use Rattle.lcm_machine.specs.Run.{Run, next_state, plain, answer}
@@ -8,12 +9,13 @@ use Rattle.component_linker.specs.Started.{StartSeen}
 use Rattle.overlay_machine.specs.declared.layout.Layout.{Layout}
 use Rattle.overlay_machine.specs.declared.events.Event.{Event}
 use Rattle.trace_tool.specs.declared.run.RunEnd.{RunEnd}
-use Rattle.trace_tool.specs.declared.run.RunEnd.TheVariants.{Halted as RunHalted, Failed as RunFailed, Running, WriteFault}
+use Rattle.trace_tool.specs.declared.run.RunEnd.TheVariants.{Halted as RunHalted, Failed as RunFailed}
+use Rattle.trace_tool.specs.declared.run.RunEnd.TheVariants.{Running, WriteFault}
 use Rattle.trace_tool.specs.Layout.{layout}
 use Rattle.trace_tool.specs.Views.{view_of}
 use Rattle.trace_tool.specs.Events.{noted, inward_after, event_after}
 use Rattle.trace_tool.specs.Lines.{Line, lines_for}
-use Rattle.trace_tool.specs.Texts.{lines_text}
+use Rattle.trace_tool.specs.Texts.{lines_text, lines_pieces}
 use Rattle.trace_tool.specs.EndLines.{end_line}
 
 -- ---- lines
@@ -64,6 +66,10 @@ lines_of l w (suc n) = lines_of l w n ++ line_next l (watched l w n)
 unfoldable pub run_text : Layout → Run → ℕ → List ℕ
 run_text l r n = lines_text (lines_of l (begun r) n) ++ end_line (plain n r)
 
+-- and the pieces in which it is written: those of its lines, and the end line
+unfoldable pub run_pieces : Layout → Run → ℕ → List (List ℕ)
+run_pieces l r n = lines_pieces (lines_of l (begun r) n) ++ end_line (plain n r) ∷ []
+
 -- ---- what `run_plain` does
 
 abbrev pub end_of : Step → RunEnd
@@ -71,25 +77,27 @@ end_of Went = Running
 end_of Halted = RunHalted
 end_of (Failed cause at) = RunFailed
 
--- all instructions were made, or all up to the end, and the whole text is written
+-- all instructions were made, or all up to the end, and the whole text is written, piece by piece
 pub record RunsTo (old : StartSeen) (steps : ℕ) (sink : SinkSeen) (new : StartSeen) (after : SinkSeen)
     (result : RunEnd) : Type 0 where
   pub is : result ≡ end_of (answer (plain steps old.state))
   pub state : new ≡ record old { state = plain steps old.state }
   pub text : Adds sink (run_text (layout old) old.state steps) after
+  pub pieces : AddsPieces sink (run_pieces (layout old) old.state steps) after
 
--- a text was written whole, and then, behind it, the write of another failed
-abbrev pub FailsBehind : SinkSeen → List ℕ → List ℕ → SinkSeen → Type 0
-FailsBehind old text piece new = (mid : SinkSeen) × Adds old text mid × FailsToWrite mid piece new
+-- some pieces were written, and then, behind them, one of others failed
+abbrev pub FailsBehind : SinkSeen → List (List ℕ) → List (List ℕ) → SinkSeen → Type 0
+FailsBehind old pieces more new = (mid : SinkSeen) × AddsPieces old pieces mid × FailsAtPiece mid more new
 
 -- after n instructions: those before the last one have their lines, and the write of its own failed; or all
 -- lines stand, there are no more instructions to make, and the write of the end line failed
 abbrev pub FaultAt : Layout → Run → ℕ → SinkSeen → ℕ → SinkSeen → Type 0
 FaultAt l r steps sink n after =
     ((k : ℕ) × (n ≡ suc k)
-    × FailsBehind sink (lines_text (lines_of l (begun r) k)) (lines_text (line_next l (watched l (begun r) k))) after)
+    × FailsBehind sink (lines_pieces (lines_of l (begun r) k))
+    (lines_pieces (line_next l (watched l (begun r) k))) after)
     ⊎ ((plain n r ≡ plain steps r)
-    × FailsBehind sink (lines_text (lines_of l (begun r) steps)) (end_line (plain steps r)) after)
+    × FailsBehind sink (lines_pieces (lines_of l (begun r) steps)) (end_line (plain steps r) ∷ []) after)
 
 -- a write failed: the run stopped there, after some of the instructions, and a front of the text stands
 pub record RunFaults (old : StartSeen) (steps : ℕ) (sink : SinkSeen) (new : StartSeen) (after : SinkSeen)
@@ -102,7 +110,7 @@ abbrev pub Runs : StartSeen → ℕ → SinkSeen → StartSeen → SinkSeen → 
 Runs old steps sink new after WriteFault = RunFaults old steps sink new after
 Runs old steps sink new after result = RunsTo old steps sink new after result
 
--- a last line was written, with this end, or its write failed
+-- a last line was written in one piece, with this end, or its write failed
 abbrev pub EndsBy : SinkSeen → List ℕ → RunEnd → SinkSeen → RunEnd → Type 0
 EndsBy old line end new result =
-    ((result ≡ end) × Adds old line new) ⊎ ((result ≡ WriteFault) × FailsToWrite old line new)
+    ((result ≡ end) × AddsPieces old (line ∷ []) new) ⊎ ((result ≡ WriteFault) × FailsAtPiece old (line ∷ []) new)

@@ -66,3 +66,24 @@ line_text l = head_text l ++ (words_text (words_of l) ++ codes "\n")
 abbrev pub lines_text : List Line → List ℕ
 lines_text [] = []
 lines_text (l ∷ ls) = line_text l ++ lines_text ls
+
+-- ---- the pieces in which a line is written, each by one write
+
+-- each word behind its blank
+abbrev pub words_pieces : List Word → List (List ℕ)
+words_pieces [] = []
+words_pieces (w ∷ ws) = field (word_text_of w) ∷ words_pieces ws
+
+abbrev pub head_and_words : Line → List (List ℕ)
+head_and_words l = head_text l ∷ (words_pieces (words_of l) ++ codes "\n" ∷ [])
+
+-- those of calls and returns in their head, each word and the newline, and every other line in one
+abbrev pub line_pieces : Line → List (List ℕ)
+line_pieces (call inward part site base last args words) =
+    head_and_words (call inward part site base last args words)
+line_pieces (ret inward part site base last a0 words) = head_and_words (ret inward part site base last a0 words)
+line_pieces l = line_text l ∷ []
+
+abbrev pub lines_pieces : List Line → List (List ℕ)
+lines_pieces [] = []
+lines_pieces (l ∷ ls) = line_pieces l ++ lines_pieces ls

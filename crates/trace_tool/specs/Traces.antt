@@ -1,17 +1,20 @@
 -- The lines and the text of an overlay's run.
-use Rattle.std.specs.Prelude.{◌≡◌, ◌⊎◌, ◌≤◌, ℕ, zero, suc, ◌+◌, ◌++◌, nat_lt, List, [], Option, if◌then◌else◌, None}
+use Rattle.std.specs.Prelude.{◌≡◌, ◌⊎◌, ◌≤◌, ℕ, zero, suc, ◌+◌, ◌++◌, nat_lt, List, [], ◌∷◌, Option}
+use Rattle.std.specs.Prelude.{if◌then◌else◌, None}
 use Rattle.outside_io.specs.SinkSeen.{SinkSeen, Adds, FailsToWrite}
+use Rattle.outside_io.specs.Writes.{AddsPieces}
 use Rattle.overlay_machine.specs.declared.events.Event.{Event}
 use Rattle.overlay_machine.specs.declared.overlay.OStep.{OStep}
 use Rattle.overlay_machine.specs.declared.overlay.OStep.TheVariants.{Went, Halted, Failed}
 use Rattle.overlay_machine.specs.Step.{weight_of}
 use Rattle.overlay_machine.specs.Seen.{OverlaySeen, next_overlay, answer_of}
 use Rattle.trace_tool.specs.declared.run.RunEnd.{RunEnd}
-use Rattle.trace_tool.specs.declared.run.RunEnd.TheVariants.{Halted as RunHalted, Failed as RunFailed, Running, WriteFault}
+use Rattle.trace_tool.specs.declared.run.RunEnd.TheVariants.{Halted as RunHalted, Failed as RunFailed}
+use Rattle.trace_tool.specs.declared.run.RunEnd.TheVariants.{Running, WriteFault}
 use Rattle.trace_tool.specs.Runs.{FailsBehind}
 use Rattle.trace_tool.specs.Views.{overlay_view}
 use Rattle.trace_tool.specs.Lines.{Line, lines_for}
-use Rattle.trace_tool.specs.Texts.{lines_text}
+use Rattle.trace_tool.specs.Texts.{lines_text, lines_pieces}
 use Rattle.trace_tool.specs.EndLines.{halted_text, failed_text, running_text}
 
 -- ---- a run
@@ -65,6 +68,13 @@ text_of t = lines_text t.lines ++ t.last
 abbrev pub trace_text : ℕ → OverlaySeen → List ℕ
 trace_text limit o = text_of (trace_of limit o)
 
+-- and the pieces in which it is written
+abbrev pub pieces_of : Traced → List (List ℕ)
+pieces_of t = lines_pieces t.lines ++ t.last ∷ []
+
+abbrev pub trace_pieces : ℕ → OverlaySeen → List (List ℕ)
+trace_pieces limit o = pieces_of (trace_of limit o)
+
 -- after n steps, and the lines of these
 abbrev pub steps_on : ℕ → OverlaySeen → OverlaySeen
 steps_on zero o = o
@@ -84,21 +94,22 @@ steps_lines (suc n) o = steps_lines n o ++ step_lines (steps_on n o)
 
 -- ---- what `run_overlay` does
 
--- the run was made, and the whole text is written
+-- the run was made, and the whole text is written, piece by piece
 pub record TracesTo (limit : ℕ) (old : OverlaySeen) (sink : SinkSeen) (new : OverlaySeen) (after : SinkSeen)
     (result : RunEnd) : Type 0 where
   pub is : result ≡ (trace_of limit old).end
   pub overlay : new ≡ (trace_of limit old).overlay
   pub text : Adds sink (trace_text limit old) after
+  pub pieces : AddsPieces sink (trace_pieces limit old) after
 
 -- after n steps: those before the last one have their lines, and the write of its own failed; or the run was
 -- made, all lines stand, and the write of the last one failed
 abbrev pub TraceFaultAt : ℕ → OverlaySeen → SinkSeen → ℕ → SinkSeen → Type 0
 TraceFaultAt limit o sink n after =
     ((k : ℕ) × (n ≡ suc k)
-    × FailsBehind sink (lines_text (steps_lines k o)) (lines_text (step_lines (steps_on k o))) after)
+    × FailsBehind sink (lines_pieces (steps_lines k o)) (lines_pieces (step_lines (steps_on k o))) after)
     ⊎ ((steps_on n o ≡ (trace_of limit o).overlay)
-    × FailsBehind sink (lines_text (trace_of limit o).lines) (trace_of limit o).last after)
+    × FailsBehind sink (lines_pieces (trace_of limit o).lines) ((trace_of limit o).last ∷ []) after)
 
 -- a write failed: the run stopped there, after some steps within the limit, and a front of the text stands
 pub record TraceFaults (limit : ℕ) (old : OverlaySeen) (sink : SinkSeen) (new : OverlaySeen) (after : SinkSeen)

@@ -5,13 +5,13 @@ ghost use Rattle.std.specs.Option.{option_copied};
 ghost use Rattle.cap_words.specs.Face.{FaceInOrder};
 ghost use Rattle.component_linker.specs.Owners.{AreLaid};
 ghost use Rattle.cap_words.specs.declared.TheConstants.{LONGEST_NAME};
-ghost use Rattle.overlay_machine.specs.Layout.{runs_in, trusted_owner, trusted_at, number_of, site_at};
+ghost use Rattle.overlay_machine.specs.Layout.{runs_part, trusted_owner, trusted_at, number_of, site_at};
 ghost use Rattle.overlay_machine.specs.Events.{closure_owner, site_of_seal};
 ghost use Rattle.trace_tool.specs.Layout.{layout, site_word, site_before, part_name, entry_name, site_of};
 
 use cap_words::{CapFields, Face};
 use component_linker::{Entry, Owner, Site, Start};
-use overlay_machine::reach::{numbered, owner_closed, site_sealed};
+use overlay_machine::reach::{numbered, owner_closed, runs_part, site_sealed};
 
 // The number of the site whose call begins at an address.
 fn site_at(start: &Start, at: u32) -> Option<u32>
@@ -30,26 +30,15 @@ fn site_before(start: &Start, offset: u32, at: u32) -> Option<u32>
     }
 }
 
-// Whether a capability is the normal one with rx over the whole code of a trusted part.
-fn runs_in(c: &CapFields, owner: &Owner) -> bool
-    ensures { result ≡ runs_in c.now owner.now }
-{
-    owner.trusted
-        && c.perm.number() == 3
-        && !c.lin.is_linear()
-        && c.base == owner.code.base
-        && c.end == owner.code.end
-}
-
 // The trusted part whose code a capability runs, by halving.
 fn owner_running(owners: &[Owner], c: CapFields) -> Option<&Owner>
     requires { AllPairs (λ o q. o.code.base < q.code.base) owners.now }
-    ensures { option_copied result ≡ find (runs_in c) owners.now }
+    ensures { option_copied result ≡ find (runs_part c) owners.now }
 {
     match owners.binary_search_by_key(&c.base, |owner| owner.code.base) {
         Ok(place) => {
             let owner = &owners[place];
-            if runs_in(&c, owner) {
+            if runs_part(&c, owner) {
                 Some(owner)
             } else {
                 None

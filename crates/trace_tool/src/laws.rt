@@ -11,8 +11,7 @@ ghost use Rattle.overlay_machine.specs.Invariant.{Invariant};
 ghost use Rattle.overlay_machine.specs.Keeping.{HoldsFor};
 ghost use Rattle.trace_tool.specs.Told.{TracesSteps};
 ghost use Rattle.trace_tool.specs.Brackets.{LinesAreBracketed, TraceIsBracketed, CallsArePrivate};
-ghost use Rattle.overlay_machine.specs.Starting.{StartThere};
-ghost use Rattle.trace_tool.specs.Headline.{Headline, HeadlineHolds};
+ghost use Rattle.trace_tool.specs.Headline.{Headline, HeadlineHolds, CallThere};
 ghost use Rattle.trace_tool.specs.Pairs.{PairsAreOwn, PassesAreOwn};
 ghost use Rattle.trace_tool.specs.StepLines.{StepsTellSo, RunsAreOfSteps, ToldAreOfSteps};
 ghost use Rattle.trace_tool.specs.Feed.{OutsJoin, ItemsJoin, EntriesAreItems};
@@ -20,8 +19,7 @@ ghost use Rattle.trace_tool.specs.Fits.{RunsFit, StartLinesFit};
 ghost use Rattle.trace_tool.specs.Alike.{LinkedLinesAgree, StartLinesAgree, TracesAlike};
 
 use overlay_machine::laws::{
-    a_halt_weighs_one, a_linked_start_may_come, a_start_has_one_overlay, linked_starts_agree,
-    starts_begin,
+    a_halt_weighs_one, a_start_has_one_overlay, linked_starts_agree, starts_begin,
 };
 
 /// The lines that a trace writes are those of the overlay's steps up to the greatest matched point that is
@@ -60,12 +58,12 @@ pub fn call_lines_are_private()
 /// newest open call; and up to each matched point before that, and at the `xjmp` of the return, no
 /// instruction touches that call's private frame.
 ///
-/// There are such parts: of some, one of them trusted with a site and an entry and one not, it holds.
+/// There are such parts: it holds of some, one of them trusted with a site and an entry and one not,
+/// whose run calls code that isn't trusted and comes back, with the lines of both.
 pub fn the_headline()
     ensures holds { HeadlineHolds }
-    ensures of_some { (there : StartThere) × Headline there.start }
+    ensures of_some { (made : CallThere) × Headline made.there.start }
 {
-    a_linked_start_may_come();
     starts_begin();
     a_start_has_one_overlay();
     linked_starts_agree();

@@ -9,7 +9,7 @@ ghost use Rattle.outside_io.specs.Writes.{Writes};
 ghost use Rattle.lcm_machine.specs.Run.{next_state, answer};
 ghost use Rattle.trace_tool.specs.Layout.{layout};
 ghost use Rattle.trace_tool.specs.Gaps.{IsGap};
-ghost use Rattle.trace_tool.specs.Texts.{lines_text};
+ghost use Rattle.trace_tool.specs.Texts.{lines_pieces};
 ghost use Rattle.trace_tool.specs.Runs.{watching, watched_next, line_next, end_of, Runs, EndsBy};
 
 use crate::end_line::end_line;
@@ -17,7 +17,7 @@ use crate::event::event_after;
 use crate::gap::{Gap, gap_around};
 use crate::laws::the_headline;
 use crate::note::{inward_after, noted};
-use crate::write::tell;
+use crate::write::{tell, write};
 use component_linker::Start;
 use lcm_machine::Step;
 use outside_io::{Failed, Sink};
@@ -45,7 +45,7 @@ fn noted_turn<S: Sink>(start: &mut Start, inward: &mut bool, out: &mut S) -> Res
         inward.new ≡ (watched_next (layout start.old) w).inward }
     ensures answer { IfOk result (λ s. s ≡ answer (next_state start.old.state)) }
     ensures line { let lines = line_next (layout start.old) (watching start.old inward.old) in
-        Writes (S.seen out.old) (lines_text lines) result (S.seen out.new) }
+        Writes (S.seen out.old) (lines_pieces lines) result (S.seen out.new) }
 {
     let note = noted(start);
     let step = start.state_mut().step();
@@ -75,7 +75,7 @@ fn turn<S: Sink>(
         inward.new ≡ (watched_next (layout start.old) w).inward }
     ensures answer { IfOk result (λ s. s ≡ answer (next_state start.old.state)) }
     ensures line { let lines = line_next (layout start.old) (watching start.old inward.old) in
-        Writes (S.seen out.old) (lines_text lines) result (S.seen out.new) }
+        Writes (S.seen out.old) (lines_pieces lines) result (S.seen out.new) }
 {
     if !gap.has(start.state().pc_at()) {
         *gap = gap_around(start);
@@ -85,12 +85,12 @@ fn turn<S: Sink>(
     noted_turn(start, inward, out)
 }
 
-/// Writes a last line, and answers the end, or that the write failed.
+/// Writes a last line, in one piece, and answers the end, or that the write failed.
 pub(crate) fn finish<S: Sink>(out: &mut S, line: &str, end: RunEnd) -> RunEnd
     requires { 0 < length line.now }
     ensures { EndsBy (S.seen out.old) line.now end (S.seen out.new) result }
 {
-    match out.write(line.as_bytes()) {
+    match write(out, line.as_bytes()) {
         Ok(()) => end,
         Err(_) => RunEnd::WriteFault,
     }

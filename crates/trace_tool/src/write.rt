@@ -1,5 +1,7 @@
-//! The text of a line, written in pieces: its head, each word behind a blank, and the newline.
-ghost use Rattle.std.specs.Prelude.{◌≡◌, ◌+◌, ◌-◌, ◌^◌, ◌<◌, ◌≤◌, ◌++◌, length, codes, decimal};
+//! The text of a line, written in pieces, one write for each: those of calls and returns in their head, each
+//! word behind a blank, and the newline, and every other line in one.
+ghost use Rattle.std.specs.Prelude.{◌≡◌, ◌+◌, ◌-◌, ◌^◌, ◌<◌, ◌≤◌, ◌++◌, List, [], ◌∷◌, length, codes};
+ghost use Rattle.std.specs.Prelude.{decimal};
 ghost use Rattle.arrayvec.specs.ArrayVec.{array_vec_len};
 ghost use Rattle.outside_io.specs.Writes.{Writes};
 ghost use Rattle.cap_words.specs.Text.{word_text_of};
@@ -7,8 +9,8 @@ ghost use Rattle.trace_tool.specs.Layout.{layout, part_name, site_of};
 ghost use Rattle.trace_tool.specs.Pairs.{pairs_of};
 ghost use Rattle.trace_tool.specs.Lines.{list_of, args_of, words_from, return_of, passed_of, line_of};
 ghost use Rattle.trace_tool.specs.Lines.{pass_line, pass_lines, lines_behind, lines_for};
-ghost use Rattle.trace_tool.specs.Texts.{field, words_text, args_text, place_text, return_text, passed_text};
-ghost use Rattle.trace_tool.specs.Texts.{head_text, line_text, lines_text};
+ghost use Rattle.trace_tool.specs.Texts.{field, args_text, place_text, return_text, passed_text, head_text};
+ghost use Rattle.trace_tool.specs.Texts.{words_pieces, line_pieces, lines_pieces};
 
 use crate::find::{entry_name, part_name, site_of};
 use crate::pairs::{Pair, Pairs, pairs_of};
@@ -90,7 +92,8 @@ fn push_args<V: Shown>(head: &mut Head, view: &V)
 fn push_place(head: &mut Head, start: &Start, call: Call)
     requires { array_vec_len head.old + 68 ≤ ROOM }
     ensures bytes { let l = layout start.now in let s = site_of l call.site in
-        head.new.items ≡ head.old.items ++ place_text call.inward (part_name l s.part) s.index call.base call.end }
+        head.new.items
+        ≡ head.old.items ++ place_text call.inward (part_name l s.part) s.index call.base call.end }
     ensures len { array_vec_len head.new ≤ array_vec_len head.old + 68 }
 {
     push(head, if call.inward { b"in " } else { b"out " });
@@ -150,10 +153,10 @@ fn push_pair(head: &mut Head, start: &Start, pair: Pair)
     }
 }
 
-// Writes a piece.
-fn write<S: Sink>(out: &mut S, piece: &[u8]) -> Result<(), Failed>
+/// Writes a piece.
+pub(crate) fn write<S: Sink>(out: &mut S, piece: &[u8]) -> Result<(), Failed>
     requires { 0 < length piece.now }
-    ensures { Writes (S.seen out.old) piece.now result (S.seen out.new) }
+    ensures { Writes (S.seen out.old) (piece.now ∷ []) result (S.seen out.new) }
 {
     out.write(piece)
 }
@@ -161,16 +164,17 @@ fn write<S: Sink>(out: &mut S, piece: &[u8]) -> Result<(), Failed>
 // Writes a word's text as a piece, behind a blank.
 fn write_word<S: Sink>(out: &mut S, text: &[u8]) -> Result<(), Failed>
     requires { length text.now ≤ 128 }
-    ensures { Writes (S.seen out.old) (field text.now) result (S.seen out.new) }
+    ensures { Writes (S.seen out.old) (field text.now ∷ []) result (S.seen out.new) }
 {
     let mut piece = Head::new();
     push_field(&mut piece, text);
-    out.write(piece.as_slice())
+    write(out, piece.as_slice())
 }
 
 // Writes the word of a cell, where there is one.
 fn write_cell<V: Shown, S: Sink>(view: &V, at: u32, out: &mut S) -> Result<(), Failed>
-    ensures { Writes (S.seen out.old) (words_text (list_of ((V.view view.now).cell at))) result (S.seen out.new) }
+    ensures { let words = list_of ((V.view view.now).cell at) in
+        Writes (S.seen out.old) (words_pieces words) result (S.seen out.new) }
 {
     match view.text_at(at) {
         Some(text) => write_word(out, text.as_str().as_bytes()),
@@ -186,7 +190,8 @@ fn write_cells<V: Shown, S: Sink>(
     out: &mut S,
 ) -> Result<(), Failed>
     requires { from + count ≤ 2 ^ 32 }
-    ensures { Writes (S.seen out.old) (words_text (words_from (V.view view.now) from count)) result (S.seen out.new) }
+    ensures { let words = words_from (V.view view.now) from count in
+        Writes (S.seen out.old) (words_pieces words) result (S.seen out.new) }
 {
     for i in 0..count {
         write_cell(view, (from + i) as u32, out)?;
@@ -197,7 +202,8 @@ fn write_cells<V: Shown, S: Sink>(
 // Writes the words of cells, and the newline.
 fn write_rest<V: Shown, S: Sink>(view: &V, from: u64, count: u64, out: &mut S) -> Result<(), Failed>
     requires { from + count ≤ 2 ^ 32 }
-    ensures { Writes (S.seen out.old) (words_text (words_from (V.view view.now) from count) ++ codes "\n") result (S.seen out.new) }
+    ensures { let words = words_from (V.view view.now) from count in
+        Writes (S.seen out.old) (words_pieces words ++ codes "\n" ∷ []) result (S.seen out.new) }
 {
     write_cells(view, from, count, out)?;
     write(out, b"\n")
@@ -240,7 +246,7 @@ fn write_call<V: Shown, S: Sink>(
 ) -> Result<(), Failed>
     ensures { let event = Event.Called call.inward call.site call.base call.end in
         let line = line_of (layout start.now) (V.view view.now) event in
-        Writes (S.seen out.old) (line_text line) result (S.seen out.new) }
+        Writes (S.seen out.old) (line_pieces line) result (S.seen out.new) }
 {
     let head = call_head(start, view, call);
     write(out, head.as_slice())?;
@@ -257,7 +263,7 @@ fn write_ret<V: Shown, S: Sink>(
 ) -> Result<(), Failed>
     ensures { let event = Event.Returned call.inward call.site call.base call.end in
         let line = line_of (layout start.now) (V.view view.now) event in
-        Writes (S.seen out.old) (line_text line) result (S.seen out.new) }
+        Writes (S.seen out.old) (line_pieces line) result (S.seen out.new) }
 {
     let head = ret_head(start, view, call);
     write(out, head.as_slice())?;
@@ -277,7 +283,7 @@ fn write_enter<V: Shown, S: Sink>(
     out: &mut S,
 ) -> Result<(), Failed>
     ensures { let line = line_of (layout start.now) (V.view view.now) (Event.Entered part entry back) in
-        Writes (S.seen out.old) (line_text line) result (S.seen out.new) }
+        Writes (S.seen out.old) (line_pieces line) result (S.seen out.new) }
 {
     let mut line = Head::new();
     push(&mut line, b"enter ");
@@ -300,14 +306,14 @@ fn write_leave<V: Shown, S: Sink>(
     out: &mut S,
 ) -> Result<(), Failed>
     ensures { let line = line_of (layout start.now) (V.view view.now) (Event.Left part) in
-        Writes (S.seen out.old) (line_text line) result (S.seen out.new) }
+        Writes (S.seen out.old) (line_pieces line) result (S.seen out.new) }
 {
     let mut line = Head::new();
     push(&mut line, b"leave ");
     push(&mut line, part_name(start, part));
     push_word(&mut line, view, Reg::A0);
     push(&mut line, b"\n");
-    out.write(line.as_slice())
+    write(out, line.as_slice())
 }
 
 // Writes the line of an event, whose words are read from the state after it.
@@ -318,7 +324,7 @@ fn write_event<V: Shown, S: Sink>(
     out: &mut S,
 ) -> Result<(), Failed>
     ensures { let line = line_of (layout start.now) (V.view view.now) event in
-        Writes (S.seen out.old) (line_text line) result (S.seen out.new) }
+        Writes (S.seen out.old) (line_pieces line) result (S.seen out.new) }
 {
     match event {
         Event::Called {
@@ -358,7 +364,7 @@ fn write_event<V: Shown, S: Sink>(
 #[tactic(auto, unfolding(crate::specs::Texts::line_text))]
 fn write_pairs<S: Sink>(start: &Start, pairs: Pairs, out: &mut S) -> Result<(), Failed>
     ensures { let line = pass_line (layout start.now) pairs in
-        Writes (S.seen out.old) (line_text line) result (S.seen out.new) }
+        Writes (S.seen out.old) (line_pieces line) result (S.seen out.new) }
 {
     let mut line = Head::new();
     push(&mut line, b"pass ");
@@ -374,7 +380,7 @@ fn write_pairs<S: Sink>(start: &Start, pairs: Pairs, out: &mut S) -> Result<(), 
 // Writes the line of the pairs of an entry, where one is more than nothing.
 fn write_pass<V: Shown, S: Sink>(start: &Start, view: &V, out: &mut S) -> Result<(), Failed>
     ensures { let l = layout start.now in let lines = pass_lines l (pairs_of l (V.view view.now)) in
-        Writes (S.seen out.old) (lines_text lines) result (S.seen out.new) }
+        Writes (S.seen out.old) (lines_pieces lines) result (S.seen out.new) }
 {
     let pairs = pairs_of(start, view);
     if pairs.are_nothing() {
@@ -392,7 +398,7 @@ fn write_behind<V: Shown, S: Sink>(
     out: &mut S,
 ) -> Result<(), Failed>
     ensures { let lines = lines_behind (layout start.now) (V.view view.now) event in
-        Writes (S.seen out.old) (lines_text lines) result (S.seen out.new) }
+        Writes (S.seen out.old) (lines_pieces lines) result (S.seen out.new) }
 {
     match event {
         Event::Entered { .. } => write_pass(start, view, out),
@@ -400,7 +406,7 @@ fn write_behind<V: Shown, S: Sink>(
     }
 }
 
-/// Writes the lines of a step, by its event.
+/// Writes the lines of a step, by its event, piece by piece.
 #[tactic(auto, using(outside_io::proofs::Writing::writes_behind))]
 pub(crate) fn tell<V: Shown, S: Sink>(
     start: &Start,
@@ -409,7 +415,7 @@ pub(crate) fn tell<V: Shown, S: Sink>(
     out: &mut S,
 ) -> Result<(), Failed>
     ensures { let lines = lines_for (layout start.now) (V.view view.now) event in
-        Writes (S.seen out.old) (lines_text lines) result (S.seen out.new) }
+        Writes (S.seen out.old) (lines_pieces lines) result (S.seen out.new) }
 {
     match event {
         Some(event) => {

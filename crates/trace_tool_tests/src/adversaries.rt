@@ -10,6 +10,7 @@ use std::alloc::{AllocError, Global};
 use std::process::Abort;
 use std::test::Fail;
 use trace_tool::run_plain;
+use worked_parts::{CALL, CALL_ON, ENTRY, RETURN};
 
 // The trusted part. Its `main` calls `go` at offset 25 and halts; `again`, at 52, calls `back` at 76. It is
 // 103 words where a case has no lines before its calls (`first`, `second`) and one behind them (`last`).
@@ -74,61 +75,6 @@ proc back
 .import adv back 2
 .export back back shared
 .export go go shared
-";
-
-const ENTRY: &str = "\
-move t2 pc
-cca t2 @stop
-gettype t1 stk
-minus t1 t1 1
-jnz t2 t1
-getlin t1 stk
-minus t1 t1 1
-jnz t2 t1
-getp t1 stk
-minus t1 t1 2
-jnz t2 t1
-getb t1 stk
-minus t1 t1 65536
-jnz t2 t1
-seta2b stk
-gete t1 stk
-minus t1 t1 65536
-cca stk t1
-move t1 0
-move t2 0
-";
-
-// A site up to its number, and from there on.
-const SITE: &str = "\
-store stk data
-move t1 pc
-cca t1 @lit
-load t2 t1
-cca t2 ";
-
-const SITE_ON: &str = "
-geta t1 stk
-minus t1 t1 1
-split stk rdata stk t1
-cca stk -1
-cseal rdata t2
-move rcode pc
-cca rcode 6
-cseal rcode t2
-move t1 0
-move t2 0
-xjmp c1 c2
-splice stk stk data
-getb t1 stk
-minus t1 t1 65536
-move t2 pc
-cca t2 @stop
-jnz t2 t1
-load data stk
-move t1 0
-store stk t1
-move t2 0
 ";
 
 // Enters `again`.
@@ -601,9 +547,10 @@ fn push_code(text: &mut String, code: &str) -> Result<(), AllocError> {
 }
 
 fn push_site(text: &mut String, number: &str) -> Result<(), AllocError> {
-    text.push_str(SITE)?;
+    text.push_str(CALL)?;
     text.push_str(number)?;
-    text.push_str(SITE_ON)
+    text.push_str(CALL_ON)?;
+    text.push_str(RETURN)
 }
 
 // A template's line, with the words of a sequence or the lines of a case for what it names.

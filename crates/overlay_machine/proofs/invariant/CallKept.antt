@@ -1,9 +1,12 @@
 -- The invariant is kept by a call that goes on.
-use Rattle.std.proofs.Common.{◌≡◌, ◌≢◌, ◌⊎◌, inl, inr, ℕ, suc, ◌+◌, ◌-◌, ◌<◌, ◌≤◌, ℤ, pos, negsuc, Bool, true, false, List, ◌∷◌, length, Option, Some, None, refl, sym, ap, ◌∙◌, subst, arith, is_some, IsSome, leb-true, ltb-true}
+use Rattle.std.proofs.Common.{◌≡◌, ◌≢◌, ◌⊎◌, inl, inr, ℕ, suc, ◌+◌, ◌-◌, ◌<◌, ◌≤◌, ℤ, pos, negsuc, Bool, true}
+use Rattle.std.proofs.Common.{false, List, ◌∷◌, length, Option, Some, None, refl, sym, ap, ◌∙◌, subst, arith}
+use Rattle.std.proofs.Common.{is_some, IsSome, leb-true, ltb-true}
 use Rattle.std.specs.Prelude.{◌&&◌, not, int_lt, nat_le, slice_get, unwrap_or}
 use Rattle.std.specs.Option.{option_or}
 use Rattle.std.specs.List.{Contains}
-use Rattle.std.proofs.lemmas.Bool.{and_parts}
+use Rattle.std.proofs.lemmas.Bool.{and_parts, and_right}
+use Rattle.std.proofs.lemmas.Option.{slice_get_within}
 use Rattle.cap_words.specs.declared.Word.{Word}
 use Rattle.cap_words.specs.declared.Word.TheVariants.{Int, Mem, Seal, Sealed}
 use Rattle.cap_words.specs.declared.Sealable.TheVariants.{Mem as MemIn, Seal as SealIn}
@@ -13,7 +16,8 @@ use Rattle.cap_words.specs.declared.Lin.TheVariants.{Linear}
 use Rattle.cap_words.specs.Faces.{covers, address}
 use Rattle.cap_words.specs.Linear.{zero_word}
 use Rattle.lcm_isa.specs.declared.Reg.{Reg}
-use Rattle.lcm_isa.specs.declared.Reg.TheVariants.{Pc, Rcode, Rdata, Stk, Dat, T1, T2, C1, C2, A0, A1, A2, A3, G0, G1, G2}
+use Rattle.lcm_isa.specs.declared.Reg.TheVariants.{Pc, Rcode, Rdata, Stk, Dat, T1, T2, C1, C2, A0, A1, A2, A3}
+use Rattle.lcm_isa.specs.declared.Reg.TheVariants.{G0, G1, G2}
 use Rattle.lcm_isa.specs.declared.Instr.TheVariants.{Xjmp}
 use Rattle.lcm_machine.specs.declared.Place.{Place}
 use Rattle.lcm_machine.specs.declared.Place.TheVariants.{R, Cell}
@@ -22,7 +26,7 @@ use Rattle.lcm_machine.specs.Places.{reg}
 use Rattle.lcm_machine.specs.Cells.{cell, without}
 use Rattle.lcm_machine.specs.Regions.{memory_of}
 use Rattle.lcm_machine.specs.Row.{word_at, row, went}
-use Rattle.lcm_machine.proofs.RegionLemmas.{contains_cases}
+use Rattle.lcm_machine.proofs.Offers.{contains_cases, cell-without_in, cell-without_out}
 use Rattle.flow_check.specs.Kinds.{kind_of, below_any}
 use Rattle.flow_check.specs.Holds.{data_cap, HasKind}
 use Rattle.flow_check.proofs.Fitting.{is_safe}
@@ -42,10 +46,10 @@ use Rattle.overlay_machine.specs.Link.{Link, IsTrusted, ranges_of, regions, has_
 use Rattle.overlay_machine.specs.Linked.{Linked, SiteOf}
 use Rattle.overlay_machine.specs.Safe.{IsSafeCap, IsSafe}
 use Rattle.overlay_machine.specs.Invariant.{StandsAt, PcPart, FrameLies, FramesLie, FrameFits, Invariant}
-use Rattle.lcm_machine.proofs.Stretches.{cell-without_in, cell-without_out}
 use Rattle.overlay_machine.proofs.FlatLemmas.{flat-mem}
 use Rattle.overlay_machine.proofs.FrameWords.{words_from-at, word_of-within, frame_of-later, frame_of-newest}
-use Rattle.overlay_machine.proofs.invariant.Facts.{there_is, safe_int, safe_stk, mem_safe, in_code, closed, stack_cells, open_stack_at, in_stack}
+use Rattle.overlay_machine.proofs.invariant.Facts.{safe_int, safe_stk, mem_safe, in_code, closed, stack_cells}
+use Rattle.overlay_machine.proofs.invariant.Facts.{open_stack_at, in_stack}
 use Rattle.overlay_machine.proofs.invariant.HeldFlat.{one_holder, place_flat, framed_flat}
 use Rattle.overlay_machine.proofs.invariant.Ready.{own_dat, dat_is, stk_is, passes_on, linear, known}
 use Rattle.overlay_machine.proofs.OwnStack.{own_is}
@@ -57,10 +61,6 @@ use Rattle.overlay_machine.proofs.invariant.FramesKept.{call_keeps}
 use Rattle.overlay_machine.proofs.invariant.FrameFacts.{lies_of, word_in_frame, word_out, has_word}
 use Rattle.overlay_machine.proofs.invariant.Popped.{framed_at}
 use Rattle.overlay_machine.proofs.invariant.Crossing.{Crossed, xjmp_crossed}
-
-and_false : (b : Bool) → (b && false) ≡ false
-and_false true = refl
-and_false false = refl
 
 -- what a call that goes on was
 pub record Called (l : Layout) (i : ℕ) (o q : OState) : Type 0 where
@@ -76,7 +76,8 @@ pub record Called (l : Layout) (i : ℕ) (o q : OState) : Type 0 where
   pub row_is : row look Plain (Xjmp C1 C2) (Int (pos 0)) (at_call i site cap o) ≡ went maps
   pub result : q ≡ record { maps = maps; frames = new_frame i (address cap.addr) cap.end o ∷ o.frames; calls = o.calls + 1 }
 
-cursor : (low : ℕ) (c : CapFields) (z : ℤ) → (int_lt (pos low) z && covers c z) ≡ true → (low < address z) × (address z ≤ c.end)
+cursor : (low : ℕ) (c : CapFields) (z : ℤ) → (int_lt (pos low) z && covers c z) ≡ true
+    → (low < address z) × (address z ≤ c.end)
 cursor low c (pos n) h = let p = and_parts (int_lt (pos low) (pos n)) (covers c (pos n)) h in let b = and_parts (nat_le c.base n) (nat_le n c.end) p.1 in (ltb-true low n p.0, leb-true n c.end b.1)
 cursor low c (negsuc n) h = let p = and_parts (int_lt (pos low) (negsuc n)) (covers c (negsuc n)) h in let bad : false ≡ true = p.1 in cc
 
@@ -99,7 +100,9 @@ mem_plain (RetCode i) c e = cc
 mem_plain (RetData k) c e = cc
 
 -- the registers that a call passes on
-passed_at : (b1 b2 b3 b4 b5 b6 b7 b8 b9 : Bool) → (b1 && (b2 && (b3 && (b4 && (b5 && (b6 && (b7 && (b8 && (b9 && true))))))))) ≡ true → (b1 ≡ true) × (b2 ≡ true) × (b3 ≡ true) × (b4 ≡ true) × (b5 ≡ true) × (b6 ≡ true) × (b7 ≡ true) × (b8 ≡ true) × (b9 ≡ true)
+passed_at : (b1 b2 b3 b4 b5 b6 b7 b8 b9 : Bool)
+    → (b1 && (b2 && (b3 && (b4 && (b5 && (b6 && (b7 && (b8 && (b9 && true))))))))) ≡ true
+    → (b1 ≡ true) × (b2 ≡ true) × (b3 ≡ true) × (b4 ≡ true) × (b5 ≡ true) × (b6 ≡ true) × (b7 ≡ true) × (b8 ≡ true) × (b9 ≡ true)
 passed_at true true true true true true true true true h = (refl, refl, refl, refl, refl, refl, refl, refl, refl)
 passed_at false b2 b3 b4 b5 b6 b7 b8 b9 h = cc
 passed_at true false b3 b4 b5 b6 b7 b8 b9 h = cc
@@ -134,7 +137,9 @@ module _ (g : Link) (linked : Linked g) (o : OState) (t : State Word) (inv : Inv
   base_is : c.base ≡ g.layout.stack.base
   base_is = ap (λ y. y.base) own.1
 
-  kind_safe : (d : Reg) → below_any (kind_of at.there d) ≡ true → HasKind look (IsSafe g fs) (IsStackCell g fs) (ranges_of p) (kind_of at.there d) (reg o.maps.regs d) → IsSafe g fs (reg o.maps.regs d)
+  kind_safe : (d : Reg) → below_any (kind_of at.there d) ≡ true
+      → HasKind look (IsSafe g fs) (IsStackCell g fs) (ranges_of p) (kind_of at.there d) (reg o.maps.regs d)
+      → IsSafe g fs (reg o.maps.regs d)
   kind_safe d b h = is_safe look (IsSafe g fs) (IsStackCell g fs) (ranges_of p) (safe_int g fs) (safe_stk g linked fs p ip) (kind_of at.there d) (reg o.maps.regs d) b h
 
   stk_safe : IsSafe g fs o.maps.regs.stk
@@ -166,7 +171,8 @@ module _ (g : Link) (linked : Linked g) (o : OState) (t : State Word) (inv : Inv
   at_stk : memory_of (reg t.regs Stk) ≡ Some c
   at_stk = ap memory_of (inv.flat.regs Stk ∙ flat-mem g.layout fs o.maps.regs.stk c own.0)
 
-  holder : (r : Place) (w : Word) (d : CapFields) (a : ℕ) → word_at t r ≡ Some w → memory_of w ≡ Some d → d.base ≤ a → a ≤ d.end → A ≤ a → a ≤ c.end → r ≡ R Stk
+  holder : (r : Place) (w : Word) (d : CapFields) (a : ℕ) → word_at t r ≡ Some w → memory_of w ≡ Some d
+      → d.base ≤ a → a ≤ d.end → A ≤ a → a ≤ c.end → r ≡ R Stk
   holder r w d a er ed b1 b2 b3 b4 =
       let ab = x.above in
       let b = base_is in
@@ -190,7 +196,8 @@ module _ (g : Link) (linked : Linked g) (o : OState) (t : State Word) (inv : Inv
   both_none : (a : ℕ) → word_of F a ≡ None → framed fs a ≡ None → framed (F ∷ fs) a ≡ None
   both_none a e h = ap (λ y. option_or y (framed fs a)) e ∙ h
 
-  cap_pushed : (d : CapFields) → ((a : ℕ) → d.base ≤ a → a ≤ d.end → A ≤ a → a ≤ c.end → ⊥) → IsSafeCap g fs d → IsSafeCap g (F ∷ fs) d
+  cap_pushed : (d : CapFields) → ((a : ℕ) → d.base ≤ a → a ≤ d.end → A ≤ a → a ≤ c.end → ⊥) → IsSafeCap g fs d
+      → IsSafeCap g (F ∷ fs) d
   cap_pushed d never h = record { area = h.area; runs = h.runs; usable = h.usable; low = h.low; order = h.order; high = h.high; lin = h.lin; may = h.may; free = λ a low high. both_none a (out_of_frame a (never a low high)) (h.free a low high) }
 
   pushed : (w : OWord) → IsSafe g fs w → IsKnown o.calls w → Off w → IsSafe g (F ∷ fs) w
@@ -207,7 +214,8 @@ module _ (g : Link) (linked : Linked g) (o : OState) (t : State Word) (inv : Inv
   all_known : AllKnown o
   all_known = known g linked o t inv
 
-  pushed_at : (r : Place) (w : OWord) → word_at o.maps r ≡ Some w → r ≢ R Stk → IsSafe g fs w → IsSafe g (F ∷ fs) w
+  pushed_at : (r : Place) (w : OWord) → word_at o.maps r ≡ Some w → r ≢ R Stk → IsSafe g fs w
+      → IsSafe g (F ∷ fs) w
   pushed_at r w er ne h = pushed w h (all_known.places r w er) (off_place r w er ne)
 
   -- ---- the registers at the call's `xjmp`
@@ -219,7 +227,9 @@ module _ (g : Link) (linked : Linked g) (o : OState) (t : State Word) (inv : Inv
       × (below_any (kind_of at.there A3) ≡ true) × (below_any (kind_of at.there G0) ≡ true) × (below_any (kind_of at.there G1) ≡ true) × (below_any (kind_of at.there G2) ≡ true)
   below = passed_at _ _ _ _ _ _ _ _ _ (passes_on g linked o t inv i p index u ip eu st at)
 
-  passed : (d : Reg) → R d ≢ R Stk → below_any (kind_of at.there d) ≡ true → HasKind look (IsSafe g fs) (IsStackCell g fs) (ranges_of p) (kind_of at.there d) (reg o.maps.regs d) → IsSafe g (F ∷ fs) (reg o.maps.regs d)
+  passed : (d : Reg) → R d ≢ R Stk → below_any (kind_of at.there d) ≡ true
+      → HasKind look (IsSafe g fs) (IsStackCell g fs) (ranges_of p) (kind_of at.there d) (reg o.maps.regs d)
+      → IsSafe g (F ∷ fs) (reg o.maps.regs d)
   passed d ne b h = pushed_at (R d) (reg o.maps.regs d) refl ne (kind_safe d b h)
 
   stk_after : IsSafeCap g (F ∷ fs) (record c { end = A - 1; addr = pos (A - 1) })
@@ -274,10 +284,11 @@ module _ (g : Link) (linked : Linked g) (o : OState) (t : State Word) (inv : Inv
     | inl out ↦ ap is_some (cell_is a ∙ cell-without_out m A c.end a out) ∙ inv.there a ∙ ap (λ y. in_regions a (regions g) && not (is_some (option_or y (framed fs a)))) (sym (word_out g.layout (without m A c.end) F a lies out))
     | inr inn ↦ (let v = has_word g.layout (without m A c.end) F a lies inn.0 inn.1 in
         ap is_some (cell_is a ∙ cell-without_in m A c.end a inn.0 inn.1)
-        ∙ sym (ap (λ y. in_regions a (regions g) && not (is_some (option_or y (framed fs a)))) v.1 ∙ and_false (in_regions a (regions g))))
+        ∙ sym (ap (λ y. in_regions a (regions g) && not (is_some (option_or y (framed fs a)))) v.1 ∙ and_right (in_regions a (regions g)) false refl))
   ]
 
-  code_out : (r : PartSeen) (n : ℕ) → IsTrusted g r → n < length r.component.code → (r.component.code_base + n < A) ⊎ (c.end < r.component.code_base + n)
+  code_out : (r : PartSeen) (n : ℕ) → IsTrusted g r → n < length r.component.code
+      → (r.component.code_base + n < A) ⊎ (c.end < r.component.code_base + n)
   code_out r n ir lt = elim (where_in (r.component.code_base + n) A c.end) as (λ _. (r.component.code_base + n < A) ⊎ (c.end < r.component.code_base + n)) [
     | inl out ↦ out
     | inr inn ↦ absurd (closed g linked r ir (r.component.code_base + n) (omega arith) (in_code g linked r n ir lt)
@@ -302,7 +313,8 @@ module _ (g : Link) (linked : Linked g) (o : OState) (t : State Word) (inv : Inv
       let r = word_in_frame g.layout (without m A c.end) F a w lies e in
       at_index (a - A - 1) (omega (arith, lt)) r.1
     where
-      by_cell : (v : Option OWord) → cell m a ≡ v → IsSome v → w ≡ unwrap_or v (zero_word Plain) → a ≤ c.end → IsSafe g (F ∷ fs) w
+      by_cell : (v : Option OWord) → cell m a ≡ v → IsSome v → w ≡ unwrap_or v (zero_word Plain) → a ≤ c.end
+          → IsSafe g (F ∷ fs) w
       by_cell None k h q high = cc
       by_cell (Some v) k h q high =
           let ab = x.above in let tp = top in
@@ -345,7 +357,7 @@ module _ (g : Link) (linked : Linked g) (o : OState) (t : State Word) (inv : Inv
   call_kept = subst (λ y. Stand g y) (sym x.result) (record {
     pc = pc_after;
     there = there_after;
-    code = λ r ir n w e. cell_is (r.component.code_base + n) ∙ cell-without_out m A c.end (r.component.code_base + n) (code_out r n ir (there_is r.component.code n w e)) ∙ inv.code r ir n w e;
+    code = λ r ir n w e. cell_is (r.component.code_base + n) ∙ cell-without_out m A c.end (r.component.code_base + n) (code_out r n ir (slice_get_within r.component.code n w e)) ∙ inv.code r ir n w e;
     cells = cells_after;
     frames = subst (λ y. FramesLie g.layout y (o.calls + 1) (F ∷ fs)) (sym crossed.cells) frames_after;
     frames_fit = λ h k. elim (contains_cases F fs h k) as (λ _. FrameFits g (F ∷ fs) h) [ inl e ↦ subst (λ y. FrameFits g (F ∷ fs) y) e new_fits | inr k2 ↦ old_fits h k2 ];

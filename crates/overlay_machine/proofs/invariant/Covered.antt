@@ -1,5 +1,6 @@
 -- That no address is held twice in the plain state, told by a count over the overlay.
-use Rattle.std.proofs.Common.{◌≡◌, ◌⊎◌, inl, inr, ℕ, zero, suc, ◌+◌, ◌<◌, ◌≤◌, true, List, [], ◌∷◌, ◌++◌, length, Option, Some, None, refl, sym, ap, ◌∙◌, subst, arith}
+use Rattle.std.proofs.Common.{◌≡◌, ◌⊎◌, inl, inr, ℕ, zero, suc, ◌+◌, ◌<◌, ◌≤◌, true, List, [], ◌∷◌, ◌++◌}
+use Rattle.std.proofs.Common.{length, Option, Some, None, refl, sym, ap, ◌∙◌, subst, arith}
 use Rattle.std.specs.List.{Contains, count_by}
 use Rattle.std.proofs.lemmas.Bool.{cases_eq}
 use Rattle.std.proofs.lemmas.List.Elements.{Contains-append_left, Contains-append_right}
@@ -12,8 +13,8 @@ use Rattle.lcm_machine.specs.Row.{word_at}
 use Rattle.lcm_machine.specs.Mapped.{mapped_or}
 use Rattle.lcm_machine.specs.Regions.{Region, IsLinearAt, memory_of, is_over, word_over, CoveredOnce}
 use Rattle.lcm_machine.specs.Counts.{places, cover_count}
-use Rattle.lcm_machine.proofs.RegionLemmas.{contains_cases, contains_none}
-use Rattle.lcm_machine.proofs.CountLemmas.{count_some, counted, once_counts, counts_once, has_place, covered_counts}
+use Rattle.lcm_machine.proofs.Offers.{contains_cases, contains_none, count_some, counted, once_counts}
+use Rattle.lcm_machine.proofs.Offers.{counts_once, has_place, covered_counts}
 use Rattle.overlay_machine.specs.declared.words.OWord.{OWord}
 use Rattle.overlay_machine.specs.declared.layout.Layout.{Layout}
 use Rattle.overlay_machine.specs.State.{OpenFrame, OState, Cells, framed}
@@ -42,7 +43,8 @@ abbrev StartFrom : ℕ → List OpenFrame → Type 0
 StartFrom b [] = Unit {0}
 StartFrom b (f ∷ fs) = b ≤ f.base
 
-frames_rise : (l : Layout) (m : Cells) (n b : ℕ) (fs : List OpenFrame) → FramesLie l m n fs → StartFrom b fs → Rises b (framed_addresses fs)
+frames_rise : (l : Layout) (m : Cells) (n b : ℕ) (fs : List OpenFrame) → FramesLie l m n fs → StartFrom b fs
+    → Rises b (framed_addresses fs)
 frames_rise l m n b [] h low = tt
 frames_rise l m n b (f ∷ fs) h low =
     lower b f.base (addresses f.base (length f.words) ++ framed_addresses fs) low
@@ -59,7 +61,8 @@ in_addresses a (suc n) b low high = elim (cases_eq b a) as (λ _. Contains (addr
   | inr ne ↦ (let k = in_addresses (a + 1) n b (omega (arith, low, ne)) (omega (arith, high)) in (suc k.0, (let lt = k.1 in omega (arith, lt)), k.2))
 ]
 
-in_framed : (fs : List OpenFrame) (f : OpenFrame) (b : ℕ) → Contains fs f → f.base ≤ b → b < f.base + length f.words → Contains (framed_addresses fs) b
+in_framed : (fs : List OpenFrame) (f : OpenFrame) (b : ℕ) → Contains fs f → f.base ≤ b
+    → b < f.base + length f.words → Contains (framed_addresses fs) b
 in_framed [] f b m low high = absurd (contains_none f m)
 in_framed (g ∷ gs) f b m low high = elim (contains_cases g gs f m) as (λ _. Contains (framed_addresses (g ∷ gs)) b) [
   | inl e ↦ Contains-append_left (addresses g.base (length g.words)) (framed_addresses gs) b (subst (λ h. Contains (addresses h.base (length h.words)) b) (sym e) (in_addresses f.base (length f.words) b low high))
@@ -101,7 +104,8 @@ module _ (l : Layout) (o : OState) (t : State Word) (m : IsFlat l o t) (lies : F
   cell_over (R r) a h = ap (λ w. is_over (memory_of w) a) (m.regs r) ∙ h
   cell_over (Cell b) a h = by_cell (cell o.maps.cells b) refl h
     where
-      by_cell : (x : Option OWord) → cell o.maps.cells b ≡ x → word_over (flat l fs) x a ≡ true → Over (Cell b) a
+      by_cell : (x : Option OWord) → cell o.maps.cells b ≡ x → word_over (flat l fs) x a ≡ true
+          → Over (Cell b) a
       by_cell None e h = absurd (none_over a h)
       by_cell (Some w) e h = ap (λ x. word_over (λ w. w) x a) (cell-flat l o t b w m e) ∙ h
 
@@ -132,7 +136,9 @@ module _ (l : Layout) (o : OState) (t : State Word) (m : IsFlat l o t) (lies : F
   which (R r) a h = inl (ap (λ w. is_over (memory_of w) a) (sym (m.regs r)) ∙ h)
   which (Cell b) a h = by_cell (cell o.maps.cells b) refl (framed fs b) refl (sym (ap (λ x. word_over (λ w. w) x a) (m.cells b)) ∙ h)
     where
-      by_cell : (x : Option OWord) → cell o.maps.cells b ≡ x → (y : Option OWord) → framed fs b ≡ y → word_over (λ w. w) (mapped_or (flat l fs) x (mapped_or (flat l fs) y None)) a ≡ true → OverCell (Cell b) a ⊎ InFrame (Cell b) a
+      by_cell : (x : Option OWord) → cell o.maps.cells b ≡ x → (y : Option OWord) → framed fs b ≡ y
+          → word_over (λ w. w) (mapped_or (flat l fs) x (mapped_or (flat l fs) y None)) a ≡ true
+          → OverCell (Cell b) a ⊎ InFrame (Cell b) a
       by_cell (Some w) e y f k = inl (ap (λ x. word_over (flat l fs) x a) e ∙ k)
       by_cell None e (Some w) f k = inr (b, refl, (framed_is b w f).listed, ap (λ x. word_over (flat l fs) x a) f ∙ k)
       by_cell None e None f k = cc

@@ -1,8 +1,10 @@
--- An `xjmp` of safe words goes onto safe code with safe data, or onto an entry of a trusted part with its data
--- capability.
-use Rattle.std.proofs.Common.{◌≡◌, ◌≢◌, ◌⊎◌, inl, inr, ℕ, zero, suc, pos, Bool, true, false, List, [], ◌∷◌, Some, None, refl, sym, ap, ◌∙◌, subst, arith, eqb-true, eq-eqb}
-use Rattle.std.specs.Prelude.{not, ◌==◌, ◌||◌, if◌then◌else◌}
-use Rattle.std.specs.List.{Contains, list_any}
+-- An `xjmp` of safe words goes onto safe code with safe data, or onto an entry of a trusted part with its
+-- data capability.
+use Rattle.std.proofs.Common.{◌≡◌, ◌≢◌, ◌⊎◌, inl, inr, ℕ, pos, Bool, true, false, List, Some, None, refl, sym}
+use Rattle.std.proofs.Common.{ap, ◌∙◌, subst, arith, eqb-true, eq-eqb}
+use Rattle.std.specs.Prelude.{not, ◌==◌, if◌then◌else◌}
+use Rattle.std.specs.List.{Contains}
+use Rattle.component_linker.proofs.CodeStands.{any_of}
 use Rattle.cap_words.specs.declared.Word.{Word}
 use Rattle.cap_words.specs.declared.Word.TheVariants.{Int, Mem, Seal, Sealed}
 use Rattle.cap_words.specs.declared.Sealable.{Sealable}
@@ -15,7 +17,8 @@ use Rattle.cap_words.specs.Faces.{may_run}
 use Rattle.cap_words.specs.Linear.{is_linear, zero_word}
 use Rattle.component_file.specs.declared.component.Export.{Export}
 use Rattle.lcm_isa.specs.declared.Reg.{Reg}
-use Rattle.lcm_isa.specs.declared.Reg.TheVariants.{Pc, Rcode, Rdata, Stk, Dat, T1, T2, C1, C2, A0, A1, A2, A3, G0, G1, G2}
+use Rattle.lcm_isa.specs.declared.Reg.TheVariants.{Pc, Rcode, Rdata, Stk, Dat, T1, T2, C1, C2, A0, A1, A2, A3}
+use Rattle.lcm_isa.specs.declared.Reg.TheVariants.{G0, G1, G2}
 use Rattle.lcm_isa.specs.declared.Instr.TheVariants.{Xjmp}
 use Rattle.lcm_machine.specs.Plan.{Plan, Fails, Halts, Goes}
 use Rattle.lcm_machine.specs.declared.Place.TheVariants.{R}
@@ -23,8 +26,8 @@ use Rattle.lcm_machine.specs.Maps.{Regs, State}
 use Rattle.lcm_machine.specs.Places.{reg, set_reg}
 use Rattle.lcm_machine.specs.Table.{is_pc, memory_content, unsealed, runs_in, no_effect, made}
 use Rattle.lcm_machine.specs.Row.{put, clear, perform, opens, plan_in, outcome, row, went}
-use Rattle.lcm_machine.proofs.Plans.{Gives, gives_goes, Gives-effect, Gives-ask, Gives-need}
-use Rattle.lcm_machine.proofs.RegLemmas.{cases_reg, reg-set_same, reg-set_other}
+use Rattle.lcm_machine.proofs.Offers.{Gives, gives_goes, Gives-effect, Gives-ask, Gives-need, cases_reg}
+use Rattle.lcm_machine.proofs.Offers.{reg-set_same, reg-set_other}
 use Rattle.flow_check.specs.Kinds.{kind_of, entry_row}
 use Rattle.flow_check.specs.Holds.{data_cap, code_at, HasKind}
 use Rattle.flow_check.specs.Places.{begins_entry}
@@ -52,22 +55,28 @@ pub record Crossed (r1 r2 : Reg) (s s' : State OWord) : Type 0 where
   pub no_code : not (runs_in half.content) ≡ true
   pub pc : reg s'.regs Pc ≡ Plain (Mem cap)
   pub dat : reg s'.regs Dat ≡ Plain (unsealed half.content)
-  pub others : (d : Reg) → d ≢ Pc → d ≢ Dat → (reg s'.regs d ≡ reg s.regs d) ⊎ (reg s'.regs d ≡ zero_word Plain)
+  pub others : (d : Reg) → d ≢ Pc → d ≢ Dat
+      → (reg s'.regs d ≡ reg s.regs d) ⊎ (reg s'.regs d ≡ zero_word Plain)
   pub cells : s'.cells ≡ s.cells
 
-cleared : (s : State OWord) (r : Reg) (b : Bool) (d : Reg) → (reg (if b then put s (R r) (zero_word Plain) else s).regs d ≡ reg s.regs d) ⊎ (reg (if b then put s (R r) (zero_word Plain) else s).regs d ≡ zero_word Plain)
+cleared : (s : State OWord) (r : Reg) (b : Bool) (d : Reg)
+    → (reg (if b then put s (R r) (zero_word Plain) else s).regs d ≡ reg s.regs d) ⊎ (reg (if b then put s (R r) (zero_word Plain) else s).regs d ≡ zero_word Plain)
 cleared s r false d = inl refl
 cleared s r true d = elim (cases_reg d r) as (λ _. (reg (set_reg s.regs r (zero_word Plain)) d ≡ reg s.regs d) ⊎ (reg (set_reg s.regs r (zero_word Plain)) d ≡ zero_word Plain)) [
   | inl e ↦ inr (rw e (reg-set_same s.regs r (zero_word Plain)))
   | inr ne ↦ inl (reg-set_other s.regs r d (zero_word Plain) ne)
 ]
 
-cleared_cells : (s : State OWord) (r : Reg) (b : Bool) → (if b then put s (R r) (zero_word Plain) else s).cells ≡ s.cells
+cleared_cells : (s : State OWord) (r : Reg) (b : Bool)
+    → (if b then put s (R r) (zero_word Plain) else s).cells ≡ s.cells
 cleared_cells s r true = refl
 cleared_cells s r false = refl
 
-crossed_effect : (s : State OWord) (r1 r2 : Reg) (code half : Opened) (c : CapFields) → opened_of (look (reg s.regs r1)) ≡ Some code → opened_of (look (reg s.regs r2)) ≡ Some half → code.seal ≡ half.seal → memory_content code.content ≡ Some c
-    → may_run c.perm ≡ true → not (runs_in half.content) ≡ true → Crossed r1 r2 s (perform look Plain s (record no_effect { spent = Some r2; first = made Pc (Mem c); second = made Dat (unsealed half.content) }))
+crossed_effect : (s : State OWord) (r1 r2 : Reg) (code half : Opened) (c : CapFields)
+    → opened_of (look (reg s.regs r1)) ≡ Some code → opened_of (look (reg s.regs r2)) ≡ Some half
+    → code.seal ≡ half.seal → memory_content code.content ≡ Some c
+    → may_run c.perm ≡ true → not (runs_in half.content) ≡ true
+    → Crossed r1 r2 s (perform look Plain s (record no_effect { spent = Some r2; first = made Pc (Mem c); second = made Dat (unsealed half.content) }))
 unfolding perform clear
 crossed_effect s r1 r2 code half c e1 e2 q m run nc =
     let b = is_linear (look (reg s.regs r2)) in
@@ -88,12 +97,15 @@ crossed_effect s r1 r2 code half c e1 e2 q m run nc =
       cells = cleared_cells s r2 b;
     }
 
-crossed_plan : (s s' : State OWord) (r1 r2 : Reg) (p : Plan) → Gives (λ e. Crossed r1 r2 s (perform look Plain s e)) p → outcome look Plain s p ≡ went s' → Crossed r1 r2 s s'
+crossed_plan : (s s' : State OWord) (r1 r2 : Reg) (p : Plan)
+    → Gives (λ e. Crossed r1 r2 s (perform look Plain s e)) p → outcome look Plain s p ≡ went s'
+    → Crossed r1 r2 s s'
 crossed_plan s s' r1 r2 (Fails f) g e = cc
 crossed_plan s s' r1 r2 Halts g e = cc
 crossed_plan s s' r1 r2 (Goes x) g e = let m : perform look Plain s x ≡ s' = cc in subst (Crossed r1 r2 s) m (Gives-effect g)
 
-pub xjmp_crossed : (s s' : State OWord) (r1 r2 : Reg) (next : Word) → row look Plain (Xjmp r1 r2) next s ≡ went s' → Crossed r1 r2 s s'
+pub xjmp_crossed : (s s' : State OWord) (r1 r2 : Reg) (next : Word)
+    → row look Plain (Xjmp r1 r2) next s ≡ went s' → Crossed r1 r2 s s'
 unfolding row plan_in opens
 xjmp_crossed s s' r1 r2 next e = crossed_plan s s' r1 r2 _
     (Gives-need _ _ _ (λ code e1. Gives-need _ _ _ (λ half e2. Gives-ask _ _ _ (λ q. Gives-need _ _ _ (λ c m. Gives-ask _ _ _ (λ _. Gives-ask _ _ _ (λ run. Gives-ask _ _ _ (λ nc.
@@ -102,16 +114,8 @@ xjmp_crossed s s' r1 r2 next e = crossed_plan s s' r1 r2 _
 
 -- ---- halves
 
-any_of : {A : Type 0} (test : A → Bool) (xs : List A) (x : A) → Contains xs x → test x ≡ true → list_any test xs ≡ true
-any_of test [] x c e = absurd (omega (arith, c.1))
-any_of test (y ∷ ys) x (zero, lt, q) e = rw (ap test q ∙ e) refl
-any_of test (y ∷ ys) x (suc k, lt, q) e = or_true (test y) (any_of test ys x (k, omega (arith, lt), q) e)
-  where
-    or_true : (b : Bool) → list_any test ys ≡ true → (b || list_any test ys) ≡ true
-    or_true true h = refl
-    or_true false h = h
-
-pub entry_begins : (p : PartSeen) (e : Export) → Contains p.component.exports e → begins_entry p.component e.offset ≡ true
+pub entry_begins : (p : PartSeen) (e : Export) → Contains p.component.exports e
+    → begins_entry p.component e.offset ≡ true
 unfolding begins_entry
 entry_begins p e c = any_of (λ x. x.offset == e.offset) p.component.exports e c (eq-eqb e.offset e.offset refl)
 
@@ -134,20 +138,26 @@ module _ (g : Link) (linked : Linked g) (fs : List OpenFrame) where
   seal_is n (MemIn y) o e = cc
   seal_is n (SealIn y) o e = cc
 
-  opened_is : (o : Opened) (n : ℕ) (x : Sealable) (k : ℕ) (d : CapFields) → Sealed n x ≡ Sealed k (MemIn d) → opened_of (Sealed n x) ≡ Some o → o ≡ record { seal = k; content = MemC d }
+  opened_is : (o : Opened) (n : ℕ) (x : Sealable) (k : ℕ) (d : CapFields) → Sealed n x ≡ Sealed k (MemIn d)
+      → opened_of (Sealed n x) ≡ Some o → o ≡ record { seal = k; content = MemC d }
   opened_is o n x k d e f = let h : Some o ≡ Some (record { seal = k; content = MemC d }) = sym f ∙ ap opened_of e in cc
 
-  cap_is : (o : Opened) (n : ℕ) (x : Sealable) (c : CapFields) (k : ℕ) (d : CapFields) → Sealed n x ≡ Sealed k (MemIn d) → opened_of (Sealed n x) ≡ Some o → memory_content o.content ≡ Some c → c ≡ d
+  cap_is : (o : Opened) (n : ℕ) (x : Sealable) (c : CapFields) (k : ℕ) (d : CapFields)
+      → Sealed n x ≡ Sealed k (MemIn d) → opened_of (Sealed n x) ≡ Some o → memory_content o.content ≡ Some c
+      → c ≡ d
   cap_is o n x c k d e f m = let h : Some c ≡ Some d = sym m ∙ ap (λ y. memory_content y.content) (opened_is o n x k d e f) in cc
 
-  half_is : (o : Opened) (n : ℕ) (x : Sealable) (k : ℕ) (d : CapFields) → Sealed n x ≡ Sealed k (MemIn d) → opened_of (Sealed n x) ≡ Some o → unsealed o.content ≡ Mem d
+  half_is : (o : Opened) (n : ℕ) (x : Sealable) (k : ℕ) (d : CapFields) → Sealed n x ≡ Sealed k (MemIn d)
+      → opened_of (Sealed n x) ≡ Some o → unsealed o.content ≡ Mem d
   half_is o n x k d e f = ap (λ y. unsealed y.content) (opened_is o n x k d e f)
 
-  code_safe : (n : ℕ) (x : Sealable) (o : Opened) (c : CapFields) → opened_of (Sealed n x) ≡ Some o → memory_content o.content ≡ Some c → IsSafeIn g fs x → IsSafe g fs (Plain (Mem c))
+  code_safe : (n : ℕ) (x : Sealable) (o : Opened) (c : CapFields) → opened_of (Sealed n x) ≡ Some o
+      → memory_content o.content ≡ Some c → IsSafeIn g fs x → IsSafe g fs (Plain (Mem c))
   code_safe n (MemIn y) o c e m h = let u : o ≡ record { seal = n; content = MemC y } = cc in let k : Some y ≡ Some c = ap (λ z. memory_content z.content) (sym u) ∙ m in let q : y ≡ c = cc in subst (λ z. IsSafe g fs (Plain (Mem z))) q h
   code_safe n (SealIn y) o c e m h = let u : o ≡ record { seal = n; content = SealC y } = cc in let k : None ≡ Some c = ap (λ z. memory_content z.content) (sym u) ∙ m in cc
 
-  half_safe : (n : ℕ) (x : Sealable) (o : Opened) → opened_of (Sealed n x) ≡ Some o → IsSafeIn g fs x → IsSafe g fs (Plain (unsealed o.content))
+  half_safe : (n : ℕ) (x : Sealable) (o : Opened) → opened_of (Sealed n x) ≡ Some o → IsSafeIn g fs x
+      → IsSafe g fs (Plain (unsealed o.content))
   half_safe n (MemIn y) o e h = let u : o ≡ record { seal = n; content = MemC y } = cc in subst (λ z. IsSafe g fs (Plain (unsealed z.content))) (sym u) h
   half_safe n (SealIn y) o e h = let u : o ≡ record { seal = n; content = SealC y } = cc in subst (λ z. IsSafe g fs (Plain (unsealed z.content))) (sym u) h
 
@@ -229,7 +239,8 @@ module _ (g : Link) (linked : Linked g) (fs : List OpenFrame) where
     fits = record { long = refl; each = each };
   })
     where
-      each : (r : Reg) → is_pc r ≡ false → HasKind look (IsSafe g fs) (IsStackCell g fs) (ranges_of p) (kind_of entry_row r) (reg rs r)
+      each : (r : Reg) → is_pc r ≡ false
+          → HasKind look (IsSafe g fs) (IsStackCell g fs) (ranges_of p) (kind_of entry_row r) (reg rs r)
       each Pc q = cc
       each Dat q = (pos p.component.data_base, ap look ed ∙ hd)
       each Rcode q = others Rcode (λ x. cc) (λ x. cc)

@@ -1,5 +1,6 @@
 -- While a call is open, no plain instruction touches its frame.
-use Rattle.std.proofs.Common.{◌≡◌, ◌≢◌, inl, inr, ℕ, ◌+◌, ◌-◌, ◌<◌, ◌≤◌, ℤ, pos, negsuc, true, false, ◌∷◌, Some, None, refl, sym, ap, ◌∙◌, subst, arith}
+use Rattle.std.proofs.Common.{◌≡◌, ◌≢◌, inl, inr, ℕ, ◌+◌, ◌-◌, ◌<◌, ◌≤◌, ℤ, pos, negsuc, true, false, ◌∷◌}
+use Rattle.std.proofs.Common.{Some, None, refl, sym, ap, ◌∙◌, subst, arith}
 use Rattle.std.specs.Prelude.{if◌then◌else◌}
 use Rattle.cap_words.specs.declared.Word.{Word}
 use Rattle.cap_words.specs.declared.Word.TheVariants.{Mem}
@@ -11,7 +12,7 @@ use Rattle.lcm_machine.specs.Cells.{cell}
 use Rattle.lcm_machine.specs.Row.{Outcome, went, halted, failed, step_of}
 use Rattle.lcm_machine.specs.Runs.{run_of, code_cap}
 use Rattle.lcm_machine.specs.Touched.{Untouched}
-use Rattle.lcm_machine.proofs.Quiet.{untouched_then}
+use Rattle.lcm_machine.proofs.Offers.{untouched_then}
 use Rattle.call_sequence.specs.SequenceRuns.{stack_cap, Outside}
 use Rattle.flow_check.specs.Holds.{code_at}
 use Rattle.overlay_machine.specs.declared.words.OWord.{OWord}
@@ -21,7 +22,8 @@ use Rattle.overlay_machine.specs.declared.cases.Case.{Case}
 use Rattle.overlay_machine.specs.declared.cases.Case.TheVariants.{Call, Entry, Back, Other}
 use Rattle.overlay_machine.specs.Words.{look, is_plain, is_ret_code}
 use Rattle.overlay_machine.specs.State.{OpenFrame, OState, framed, frame_of, word_of}
-use Rattle.overlay_machine.specs.Step.{goes, case_of, step_by, weight_by, overlay_step, weight_of, other_step, new_frame}
+use Rattle.overlay_machine.specs.Step.{goes, case_of, step_by, weight_by, overlay_step, weight_of, other_step}
+use Rattle.overlay_machine.specs.Step.{new_frame}
 use Rattle.overlay_machine.specs.Flat.{IsFlat}
 use Rattle.overlay_machine.specs.Agree.{Looks, ReadyFor, AtSite, AtEntry}
 use Rattle.overlay_machine.specs.Link.{Link, ranges_of}
@@ -33,7 +35,8 @@ use Rattle.overlay_machine.proofs.FrameWords.{frame_of-later}
 use Rattle.overlay_machine.proofs.invariant.Facts.{stack_apart}
 use Rattle.overlay_machine.proofs.invariant.View.{View, at_entry, in_part, out, view}
 use Rattle.overlay_machine.proofs.invariant.Ready.{ready, looks}
-use Rattle.overlay_machine.proofs.invariant.FrameFacts.{frame_in, frame_known, lies_of, framed_by, word_in_frame, has_word, frames_apart}
+use Rattle.overlay_machine.proofs.invariant.FrameFacts.{frame_in, frame_known, lies_of, framed_by}
+use Rattle.overlay_machine.proofs.invariant.FrameFacts.{word_in_frame, has_word, frames_apart}
 use Rattle.overlay_machine.proofs.invariant.Popped.{framed_at}
 use Rattle.overlay_machine.proofs.OwnStack.{own_is}
 use Rattle.overlay_machine.proofs.invariant.EntryKept.{entered, never_entry}
@@ -42,25 +45,28 @@ use Rattle.overlay_machine.proofs.invariant.CallKept.{Called, called}
 use Rattle.overlay_machine.proofs.invariant.ReturnKept.{Returned, returned}
 use Rattle.overlay_machine.proofs.invariant.Kept.{kept}
 use Rattle.overlay_machine.proofs.RunsAgree.{good_at}
-use Rattle.overlay_machine.proofs.invariant.StepQuiet.{other_quiet, call_quiet, entry_quiet, back_first, return_quiet}
+use Rattle.overlay_machine.proofs.invariant.StepQuiet.{other_quiet, call_quiet, entry_quiet, back_first}
+use Rattle.overlay_machine.proofs.invariant.StepQuiet.{return_quiet}
 
 above_zero : (low : ℕ) (z : ℤ) → low < address z → (b : ℕ) × (z ≡ pos (b + 1)) × (low ≤ b)
 above_zero low (pos n) h = (n - 1, (let e : n ≡ n - 1 + 1 = omega (arith, h) in ap pos e), omega (arith, h))
 above_zero low (negsuc n) h = absurd (omega (arith, h))
 
-no_ret_code : (w : OWord) → is_plain w ≡ true → is_ret_code w ≡ false
+pub no_ret_code : (w : OWord) → is_plain w ≡ true → is_ret_code w ≡ false
 no_ret_code (Plain x) e = refl
 no_ret_code (RetCode i) e = cc
 no_ret_code (RetData k) e = cc
 
 -- the same, with a number of instructions that is another
-untouched_by : (a n k : ℕ) (t : State Word) → n ≡ k → Untouched (λ w. w) (λ w. w) a k t → Untouched (λ w. w) (λ w. w) a n t
+untouched_by : (a n k : ℕ) (t : State Word) → n ≡ k → Untouched (λ w. w) (λ w. w) a k t
+    → Untouched (λ w. w) (λ w. w) a n t
 untouched_by a n k t e h = subst (λ y. Untouched (λ w. w) (λ w. w) a y t) (sym e) h
 
 goes_by : (n k : ℕ) (t u : State Word) → n ≡ k → plain_run n t ≡ went u → plain_run k t ≡ went u
 goes_by n k t u e h = subst (λ y. plain_run y t ≡ went u) e h
 
-went_on : (g : Link) (q : OState) (r : Outcome Word) → KeepsAgreeing g (goes q) r → (u : State Word) × (r ≡ went u)
+went_on : (g : Link) (q : OState) (r : Outcome Word) → KeepsAgreeing g (goes q) r
+    → (u : State Word) × (r ≡ went u)
 went_on g q (went u) h = (u, refl)
 went_on g q halted h = absurd h
 went_on g q (failed c at) h = absurd h
@@ -89,7 +95,9 @@ module _ (g : Link) (linked : Linked g) where
           let hi = r.1 in
           ((let x = s.above in omega (arith, x, lo)), (let x = s.within in omega (arith, x, hi)), s.gone a r.0 r.1)
 
-      call_by : (i : ℕ) (r : AtSite l i o) (u : State Word) → run_of (λ w. w) (λ w. w) (weight_by o.maps (Call i)) t ≡ went u → Called l i o q → Untouched (λ w. w) (λ w. w) a (weight_by o.maps (Call i)) t
+      call_by : (i : ℕ) (r : AtSite l i o) (u : State Word)
+          → run_of (λ w. w) (λ w. w) (weight_by o.maps (Call i)) t ≡ went u → Called l i o q
+          → Untouched (λ w. w) (λ w. w) a (weight_by o.maps (Call i)) t
       call_by i r u ran x =
           let own = own_is l o.maps x.cap x.own in
           let e : Mem x.cap ≡ Mem (record (stack_cap l.stack.base r.end 0) { addr = r.to }) = sym own.0 ∙ r.stk in
@@ -102,7 +110,8 @@ module _ (g : Link) (linked : Linked g) where
           untouched_by a (weight_by o.maps (Call i)) 16 t n
           (call_quiet l o t m k a where_is.0 where_is.1 w fa where_is.2 i r b.0 to b.2 le u (goes_by (weight_by o.maps (Call i)) 16 t u n ran))
 
-      entry_by : (at : ℕ) → View g o.frames o.maps (Entry at) → (r : AtEntry l at o) → step_by l (Entry at) o ≡ goes q → Untouched (λ w. w) (λ w. w) a 20 t
+      entry_by : (at : ℕ) → View g o.frames o.maps (Entry at) → (r : AtEntry l at o)
+          → step_by l (Entry at) o ≡ goes q → Untouched (λ w. w) (λ w. w) a 20 t
       entry_by at (at_entry p off ip ea en st) r e =
           let n = entered g linked o t inv q at (code_cap r.base r.end at) r.pc e in
           let s : Mem (code_cap r.base r.end at) ≡ Mem (code_at (ranges_of p) off) = sym r.pc ∙ st.at_pc in
@@ -114,7 +123,8 @@ module _ (g : Link) (linked : Linked g) where
       entry_by at (in_part p off ip ne ns st ec) r e = absurd (never_entry o.maps _ at ec)
       entry_by at (out h ec) r e = absurd (never_entry o.maps _ at ec)
 
-      back_by : (r1 r2 : Reg) (r : ReadyFor l o (Back r1 r2)) → Returned l r1 r2 o q → Untouched (λ w. w) (λ w. w) a (weight_by o.maps (Back r1 r2)) t
+      back_by : (r1 r2 : Reg) (r : ReadyFor l o (Back r1 r2)) → Returned l r1 r2 o q
+          → Untouched (λ w. w) (λ w. w) a (weight_by o.maps (Back r1 r2)) t
       back_by r1 r2 r x =
           let older : framed x.older a ≡ Some v = sym (ap (λ y. framed y.frames a) x.result) ∙ fq in
           let fr : FramesLie l o.maps.cells o.calls (x.frame ∷ x.older) = subst (λ y. FramesLie l o.maps.cells o.calls y) x.frames_are inv.frames in
@@ -123,10 +133,13 @@ module _ (g : Link) (linked : Linked g) where
           untouched_by a (weight_by o.maps (Back r1 r2)) 11 t n (return_quiet l o t m k a where_is.0 where_is.1 w fa where_is.2 r1 r2 r q x
           (λ e. not_base x fr.0 (ap (word_of x.frame) e ∙ gone)))
         where
-          not_base : (x : Returned l r1 r2 o q) → FrameLies l o.maps.cells x.frame → word_of x.frame x.frame.base ≡ None → ⊥
+          not_base : (x : Returned l r1 r2 o q) → FrameLies l o.maps.cells x.frame
+              → word_of x.frame x.frame.base ≡ None → ⊥
           not_base x s n = (let u = has_word l o.maps.cells x.frame x.frame.base s (omega arith) s.order in let bad : Some u.0 ≡ None = sym u.1 ∙ n in cc)
 
-      quiet_by : (c : Case) → View g o.frames o.maps c → ReadyFor l o c → (u : State Word) → run_of (λ w. w) (λ w. w) (weight_by o.maps c) t ≡ went u → step_by l c o ≡ goes q → Untouched (λ w. w) (λ w. w) a (weight_by o.maps c) t
+      quiet_by : (c : Case) → View g o.frames o.maps c → ReadyFor l o c → (u : State Word)
+          → run_of (λ w. w) (λ w. w) (weight_by o.maps c) t ≡ went u → step_by l c o ≡ goes q
+          → Untouched (λ w. w) (λ w. w) a (weight_by o.maps c) t
       quiet_by (Call i) x r u ran e = call_by i r u ran (called l i o q e)
       quiet_by (Entry at) x r u ran e = entry_by at x r e
       quiet_by (Back r1 r2) x r u ran e = back_by r1 r2 r (returned l r1 r2 o q e)
@@ -180,14 +193,17 @@ module _ (g : Link) (linked : Linked g) where
   -- ---- runs
 
   module _ (o : OState) (t : State Word) (inv : Invariant g o t) where
-    matched : (j : ℕ) (p : OState) → Reached l o j p → (u : State Word) × (plain_run j t ≡ went u) × Invariant g p u
+    matched : (j : ℕ) (p : OState) → Reached l o j p
+        → (u : State Word) × (plain_run j t ≡ went u) × Invariant g p u
     matched j p r = good_at l (Invariant g) (λ q u i. i.flat) (λ q u i. kept g linked q u i) o t inv j p r
 
     calls_rise : (j : ℕ) (p : OState) → Reached l o j p → o.calls ≤ p.calls
     calls_rise _ _ begins = omega arith
     calls_rise _ q (goes_on {j = j} {p = p} r e) = let up = calls_rise j p r in let s = matched j p r in let n = (stays_open p s.0 s.2 q e).0 in omega (arith, up, n)
 
-    framed_of : (p : OState) (u : State Word) → Invariant g p u → (n : ℕ) (f : OpenFrame) → frame_of p.frames n ≡ Some f → (a : ℕ) → f.base ≤ a → a ≤ f.end → (w : OWord) × (framed p.frames a ≡ Some w)
+    framed_of : (p : OState) (u : State Word) → Invariant g p u → (n : ℕ) (f : OpenFrame)
+        → frame_of p.frames n ≡ Some f → (a : ℕ) → f.base ≤ a → a ≤ f.end
+        → (w : OWord) × (framed p.frames a ≡ Some w)
     framed_of p u h n f e a low high =
         let c = (frame_in p.frames n f e).0 in
         let s = lies_of l p.maps.cells p.calls p.frames f h.frames c in
@@ -195,7 +211,8 @@ module _ (g : Link) (linked : Linked g) where
         (v.0, framed_at l p.maps.cells p.calls p.frames f a v.0 h.frames c v.1)
 
     -- up to each matched point at which a call of before is open, its frame isn't touched
-    private : (n : ℕ) (f : OpenFrame) (a : ℕ) → n < o.calls → f.base ≤ a → a ≤ f.end → (j : ℕ) (p : OState) → Reached l o j p → frame_of p.frames n ≡ Some f → Untouched (λ w. w) (λ w. w) a j t
+    private : (n : ℕ) (f : OpenFrame) (a : ℕ) → n < o.calls → f.base ≤ a → a ≤ f.end → (j : ℕ) (p : OState)
+        → Reached l o j p → frame_of p.frames n ≡ Some f → Untouched (λ w. w) (λ w. w) a j t
     private n f a lt low high _ _ begins e = tt
     private n f a lt low high _ q (goes_on {j = j} {p = p} r step) e =
         let s = matched j p r in
@@ -207,7 +224,8 @@ module _ (g : Link) (linked : Linked g) where
         untouched_then (λ w. w) (λ w. w) a j (weight_of l p) t s.0 (private n f a lt low high j p r before) s.1 (step_quiet p s.0 s.2 q step a w.0 v.0 w.1 v.1)
 
     -- nor does the `xjmp` that reaches its return sequence touch it
-    private_return : (n : ℕ) (f : OpenFrame) (a : ℕ) → n < o.calls → f.base ≤ a → a ≤ f.end → (j : ℕ) (p : OState) → Reached l o j p → frame_of p.frames n ≡ Some f
+    private_return : (n : ℕ) (f : OpenFrame) (a : ℕ) → n < o.calls → f.base ≤ a → a ≤ f.end
+        → (j : ℕ) (p : OState) → Reached l o j p → frame_of p.frames n ≡ Some f
         → (r1 r2 : Reg) → case_of l p.maps ≡ Back r1 r2 → Untouched (λ w. w) (λ w. w) a (j + 1) t
     private_return n f a lt low high j p r e r1 r2 c =
         let s = matched j p r in

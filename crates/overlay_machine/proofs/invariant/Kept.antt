@@ -9,7 +9,7 @@ use Rattle.lcm_machine.specs.Table.{is_pc}
 use Rattle.lcm_machine.specs.Row.{Outcome, went, halted, failed}
 use Rattle.lcm_machine.specs.Runs.{run_of}
 use Rattle.lcm_machine.specs.Regions.{StaysHeldOnce}
-use Rattle.lcm_machine.proofs.HeldOnce.{run_stays}
+use Rattle.lcm_machine.proofs.Offers.{run_stays}
 use Rattle.overlay_machine.specs.declared.cases.Case.{Case}
 use Rattle.overlay_machine.specs.declared.cases.Case.TheVariants.{Call, Entry, Back, Other}
 use Rattle.overlay_machine.specs.State.{OState}
@@ -43,12 +43,14 @@ module _ (g : Link) (linked : Linked g) (o : OState) (t : State Word) (inv : Inv
       not_other : Back r1 r2 ≡ Other → ⊥
       not_other e = cc
 
-  call_stands : (i : ℕ) (q : OState) → View g o.frames o.maps (Call i) → step_by g.layout (Call i) o ≡ goes q → Stand g q
+  call_stands : (i : ℕ) (q : OState) → View g o.frames o.maps (Call i) → step_by g.layout (Call i) o ≡ goes q
+      → Stand g q
   call_stands i q (at_site p index u ip eu st at) e = call_kept g linked o t inv i p index u ip eu st at q (called g.layout i o q e)
   call_stands i q (in_part p off ip ne ns at c) e = absurd (never_call o.maps _ i c)
   call_stands i q (out h c) e = absurd (never_call o.maps _ i c)
 
-  by_case : (c : Case) → View g o.frames o.maps c → ReadyFor g.layout o c → (q : OState) → step_by g.layout c o ≡ goes q → Stand g q
+  by_case : (c : Case) → View g o.frames o.maps c → ReadyFor g.layout o c → (q : OState)
+      → step_by g.layout c o ≡ goes q → Stand g q
   by_case (Call i) v r q e = call_stands i q v e
   by_case (Entry a) v r q e = entry_kept g linked o t inv a q v e
   by_case (Back r1 r2) v r q e = return_kept g linked o t inv r1 r2 q (returned g.layout r1 r2 o q e) r (shown r1 r2 v)
@@ -59,10 +61,12 @@ module _ (g : Link) (linked : Linked g) (o : OState) (t : State Word) (inv : Inv
   unfolding overlay_step
   stands_after q e = by_case (case_of g.layout o.maps) (view g linked o.frames o.maps inv.code inv.pc) (ready g linked o t inv) q e
 
-  once_after : (u : State Word) → run_of (λ w. w) (λ w. w) (weight_of g.layout o) t ≡ went u → StaysHeldOnce (λ w. w) t u
+  once_after : (u : State Word) → run_of (λ w. w) (λ w. w) (weight_of g.layout o) t ≡ went u
+      → StaysHeldOnce (λ w. w) t u
   once_after u e = run_stays (λ w. w) (λ w. w) (λ x. refl) (weight_of g.layout o) t u e
 
-  by_ends : (e : Ending) (r : Outcome Word) → overlay_step g.layout o ≡ e → run_of (λ w. w) (λ w. w) (weight_of g.layout o) t ≡ r → Agrees g.layout e r → KeepsAgreeing g e r
+  by_ends : (e : Ending) (r : Outcome Word) → overlay_step g.layout o ≡ e
+      → run_of (λ w. w) (λ w. w) (weight_of g.layout o) t ≡ r → Agrees g.layout e r → KeepsAgreeing g e r
   unfolding StaysHeldOnce
   by_ends (goes q) (went u) ee er a = whole g q u (stands_after q ee) a.0 a.1 (once_after u er (regions g) linked.apart inv.once)
   by_ends halts halted ee er a = tt

@@ -1,6 +1,10 @@
--- The invariant is kept by each step that is a row of the table: of untrusted code, and of trusted code outside
--- sequences.
-use Rattle.std.proofs.Common.{◌≡◌, ◌≢◌, ◌⊎◌, inl, inr, ℕ, ◌+◌, pos, ◌+ℤ◌, true, false, List, Option, Some, None, refl, sym, ap, ◌∙◌, subst, arith, is_some, eqb-true}
+-- The invariant is kept by each step that is a row of the table: of untrusted code, and of trusted code
+-- outside sequences.
+use Rattle.std.proofs.Common.{◌≡◌, ◌≢◌, ◌⊎◌, inl, inr, ℕ, ◌+◌, pos, ◌+ℤ◌, true, false, List, Some, None, refl}
+use Rattle.std.proofs.Common.{sym, ap, ◌∙◌, subst, arith, is_some, eqb-true}
+use Rattle.std.proofs.lemmas.Option.{slice_get_within}
+use Rattle.lcm_machine.proofs.Offers.{is_none, fetch_normal, after_went, there_same, row_cells, row_others}
+use Rattle.lcm_machine.proofs.Offers.{fetched_row, used_target, row_keeps}
 use Rattle.cap_words.specs.declared.Word.{Word}
 use Rattle.cap_words.specs.Face.{face_of, opened_of}
 use Rattle.lcm_isa.specs.declared.Reg.{Reg}
@@ -11,11 +15,9 @@ use Rattle.lcm_machine.specs.Maps.{State}
 use Rattle.lcm_machine.specs.Places.{reg}
 use Rattle.lcm_machine.specs.Cells.{cell}
 use Rattle.lcm_machine.specs.Table.{is_pc, target, unsealed}
-use Rattle.lcm_machine.specs.Row.{faces, cell_faces, fetch, some, row, step_of, step_fetched, Outcome, went, halted, failed, plan_in}
+use Rattle.lcm_machine.specs.Row.{faces, cell_faces, fetch, some, row, step_of, step_fetched, Outcome, went}
+use Rattle.lcm_machine.specs.Row.{halted, failed, plan_in}
 use Rattle.lcm_machine.specs.Closed.{AllAre, OpensTo}
-use Rattle.lcm_machine.proofs.RowLemmas.{fetch_normal}
-use Rattle.lcm_machine.proofs.TouchLemmas.{after_went, there_same, row_cells, row_others, fetched_row, used_target}
-use Rattle.lcm_machine.proofs.WordsKept.{row_keeps}
 use Rattle.flow_check.proofs.Steps.{to_row, to_fail, out as goes_out}
 use Rattle.flow_check.proofs.Kept.{crosses}
 use Rattle.component_linker.specs.Parts.{PartSeen}
@@ -32,7 +34,7 @@ use Rattle.overlay_machine.specs.Invariant.{PcPart, at_fail, at_row, outside, Fr
 use Rattle.overlay_machine.proofs.FlatLemmas.{mem_of_face}
 use Rattle.overlay_machine.proofs.OtherAgrees.{plain_both}
 use Rattle.overlay_machine.proofs.invariant.Targets.{target_bounds, target_reg}
-use Rattle.overlay_machine.proofs.invariant.Facts.{there_is, in_code, closed, open_safe, mem_safe}
+use Rattle.overlay_machine.proofs.invariant.Facts.{in_code, closed, open_safe, mem_safe}
 use Rattle.overlay_machine.proofs.invariant.FrameFacts.{frames_same}
 use Rattle.overlay_machine.proofs.invariant.SafeClosed.{safe_closed}
 use Rattle.overlay_machine.proofs.invariant.View.{View, in_part, failing, out}
@@ -49,26 +51,26 @@ pub pc_false : (d : Reg) → d ≢ Pc → is_pc d ≡ false
 pc_false Pc ne = absurd (ne refl)
 pc_false _ ne = refl
 
-none_of : {A : Type 0} (o : Option A) → is_some o ≡ false → o ≡ None
-none_of None e = refl
-none_of (Some x) e = cc
+pub gone_stays : (m m' : Cells) → ((q : ℕ) → is_some (cell m' q) ≡ is_some (cell m q)) → (q : ℕ)
+    → cell m q ≡ None → cell m' q ≡ None
+gone_stays m m' h q e = is_none (cell m' q) (h q ∙ ap is_some e)
 
-pub gone_stays : (m m' : Cells) → ((q : ℕ) → is_some (cell m' q) ≡ is_some (cell m q)) → (q : ℕ) → cell m q ≡ None → cell m' q ≡ None
-gone_stays m m' h q e = none_of (cell m' q) (h q ∙ ap is_some e)
-
-pub is_xjmp : (n : Instr) → ((r1 : Reg) × (r2 : Reg) × (n ≡ Xjmp r1 r2)) ⊎ ((r1 r2 : Reg) → n ≡ Xjmp r1 r2 → ⊥)
+pub is_xjmp : (n : Instr)
+    → ((r1 : Reg) × (r2 : Reg) × (n ≡ Xjmp r1 r2)) ⊎ ((r1 r2 : Reg) → n ≡ Xjmp r1 r2 → ⊥)
 is_xjmp (Xjmp r1 r2) = inl (r1, r2, refl)
 is_xjmp _ = inr (λ r1 r2 e. cc)
 
 -- a step that goes by the table
-pub went_other : (fs : List OpenFrame) (n : ℕ) (r : Outcome OWord) (q : OState) → with_frames fs n r ≡ goes q → (s : State OWord) × (r ≡ went s) × (q ≡ record { maps = s; frames = fs; calls = n })
+pub went_other : (fs : List OpenFrame) (n : ℕ) (r : Outcome OWord) (q : OState) → with_frames fs n r ≡ goes q
+    → (s : State OWord) × (r ≡ went s) × (q ≡ record { maps = s; frames = fs; calls = n })
 went_other fs n (went s) q e = (s, refl, cc)
 went_other fs n halted q e = cc
 went_other fs n (failed c at) q e = cc
 
 module _ (g : Link) (linked : Linked g) where
   -- an `xjmp` of plain safe words by which all other registers are safe
-  pub cross_safe : (fs : List OpenFrame) (s s' : State OWord) (r1 r2 : Reg) → is_plain (reg s.regs r1) ≡ true → is_plain (reg s.regs r2) ≡ true → IsSafe g fs (reg s.regs r1) → IsSafe g fs (reg s.regs r2)
+  pub cross_safe : (fs : List OpenFrame) (s s' : State OWord) (r1 r2 : Reg) → is_plain (reg s.regs r1) ≡ true
+      → is_plain (reg s.regs r2) ≡ true → IsSafe g fs (reg s.regs r1) → IsSafe g fs (reg s.regs r2)
       → ((d : Reg) → d ≢ Pc → d ≢ Dat → IsSafe g fs (reg s.regs d)) → Crossed r1 r2 s s' → PcPart g fs s'.regs
   cross_safe fs s s' r1 r2 p1 p2 s1 s2 shown x =
       let a = plain_is (reg s.regs r1) p1 in
@@ -90,11 +92,12 @@ module _ (g : Link) (linked : Linked g) where
       pub cells : (a : ℕ) (w : OWord) → IsOpenAt g a → cell s'.cells a ≡ Some w → IsSafe g fs w
       pub frames : FramesLie g.layout s'.cells o.calls fs
 
-    others_of : (s' : State OWord) → ((q : ℕ) → is_some (cell s'.cells q) ≡ is_some (cell o.maps.cells q)) → ((a : ℕ) → (IsOpenAt g a → ⊥) → cell s'.cells a ≡ cell o.maps.cells a)
+    others_of : (s' : State OWord) → ((q : ℕ) → is_some (cell s'.cells q) ≡ is_some (cell o.maps.cells q))
+        → ((a : ℕ) → (IsOpenAt g a → ⊥) → cell s'.cells a ≡ cell o.maps.cells a)
         → ((a : ℕ) (w : OWord) → IsOpenAt g a → cell s'.cells a ≡ Some w → IsSafe g fs w) → Others s'
     others_of s' there same safe = record {
       there = λ a. there a ∙ inv.there a;
-      code = λ p ip off w e. same (p.component.code_base + off) (closed g linked p ip (p.component.code_base + off) (omega arith) (in_code g linked p off ip (there_is p.component.code off w e))) ∙ inv.code p ip off w e;
+      code = λ p ip off w e. same (p.component.code_base + off) (closed g linked p ip (p.component.code_base + off) (omega arith) (in_code g linked p off ip (slice_get_within p.component.code off w e))) ∙ inv.code p ip off w e;
       cells = safe;
       frames = frames_same g.layout o.maps.cells s'.cells o.calls fs (gone_stays o.maps.cells s'.cells there) inv.frames;
     }
@@ -117,21 +120,25 @@ module _ (g : Link) (linked : Linked g) where
           let b = target_bounds (face_of (look (reg o.maps.regs r.0))) a r.1 in
           open_safe g linked fs b.0 a (mem_safe g fs (reg o.maps.regs r.0) b.0 (mem_of_face (look (reg o.maps.regs r.0)) b.0 b.1) (safe r.0)) b.2 b.3
 
-      next_safe : (n : Instr) (next : Word) → fetch (faces look o.maps Pc) (cell_faces look o.maps) ≡ some n next → IsSafe g fs (Plain next)
+      next_safe : (n : Instr) (next : Word)
+          → fetch (faces look o.maps Pc) (cell_faces look o.maps) ≡ some n next → IsSafe g fs (Plain next)
       unfolding faces
       next_safe n next e =
           let k = fetch_normal (look o.maps.regs.pc) (cell_faces look o.maps) n next e in
           let h = (safe_closed g linked fs).moved o.maps.regs.pc k.0 (k.0.addr +ℤ pos 1) k.1 (safe Pc) in
           subst (λ w. IsSafe g fs (Plain w)) (sym k.3) h
 
-      opens_none : (n : Instr) → ((r1 r2 : Reg) → n ≡ Xjmp r1 r2 → ⊥) → OpensTo look Plain (IsSafe g fs) o.maps n
+      opens_none : (n : Instr) → ((r1 r2 : Reg) → n ≡ Xjmp r1 r2 → ⊥)
+          → OpensTo look Plain (IsSafe g fs) o.maps n
       opens_none (Xjmp r1 r2) h = absurd (h r1 r2 refl)
       opens_none _ h = tt
 
-      same_row : (s' : State OWord) (n : Instr) (next : Word) → row look Plain n next o.maps ≡ went s' → (a : ℕ) → (IsOpenAt g a → ⊥) → cell s'.cells a ≡ cell o.maps.cells a
+      same_row : (s' : State OWord) (n : Instr) (next : Word) → row look Plain n next o.maps ≡ went s'
+          → (a : ℕ) → (IsOpenAt g a → ⊥) → cell s'.cells a ≡ cell o.maps.cells a
       same_row s' n next e a never = row_others look Plain o.maps s' n next e a (λ q. never (target_open n a q))
 
-      untrusted : (s' : State OWord) (n : Instr) (next : Word) → fetch (faces look o.maps Pc) (cell_faces look o.maps) ≡ some n next
+      untrusted : (s' : State OWord) (n : Instr) (next : Word)
+          → fetch (faces look o.maps Pc) (cell_faces look o.maps) ≡ some n next
           → row look Plain n next o.maps ≡ went s' → Other ≡ case_fetched o.maps (some n next) → RowKept s'
       untrusted s' n next f e c = elim (is_xjmp n) as (λ _. RowKept s') [
         | inl x ↦ (let ex : row look Plain (Xjmp x.0 x.1) next o.maps ≡ went s' = sym (ap (λ i. row look Plain i next o.maps) x.2) ∙ e in
@@ -153,7 +160,8 @@ module _ (g : Link) (linked : Linked g) where
 
     -- ---- trusted code outside sequences
 
-    led_pc : (p : PartSeen) (ip : IsTrusted g p) (s' : State OWord) → Other ≡ case_fetched o.maps (fetch (faces look o.maps Pc) (cell_faces look o.maps))
+    led_pc : (p : PartSeen) (ip : IsTrusted g p) (s' : State OWord)
+        → Other ≡ case_fetched o.maps (fetch (faces look o.maps Pc) (cell_faces look o.maps))
         → Led g linked fs o.maps p ip (inv.code p ip) inv.cells s' → PcPart g fs s'.regs
     led_pc p ip s' c (to_row off at) = at_row p off ip (record { there = at.there; inside = at.inside; at_pc = at.at_pc; row = at.row; fits = at.fits })
     led_pc p ip s' c (to_fail off f h) = at_fail p off ip f h
@@ -166,7 +174,9 @@ module _ (g : Link) (linked : Linked g) where
         (sym (ap (λ w. opened_of (look w)) a.1) ∙ e1) (sym (ap (λ w. opened_of (look w)) b.1) ∙ e2) (eqb-true code.seal half.seal same) mc run nc)
         pc dat (λ d np nd. others d (pc_false d np) nd)
 
-    fails_not : (next : Word) (s' : State OWord) → fetch (faces look o.maps Pc) (cell_faces look o.maps) ≡ some Fail next → step_of look Plain o.maps ≡ went s' → ⊥
+    fails_not : (next : Word) (s' : State OWord)
+        → fetch (faces look o.maps Pc) (cell_faces look o.maps) ≡ some Fail next
+        → step_of look Plain o.maps ≡ went s' → ⊥
     unfolding step_of row plan_in
     fails_not next s' f e = let k : step_fetched look Plain o.maps (some Fail next) ≡ went s' = ap (step_fetched look Plain o.maps) (sym f) ∙ e in cc
 

@@ -1,8 +1,10 @@
 -- The invariant makes the next step ready, whatever its kind.
-use Rattle.std.proofs.Common.{◌≡◌, ◌≢◌, ◌⊎◌, inl, inr, ℕ, ◌+◌, ◌-◌, ◌≤◌, ℤ, Bool, true, false, List, [], ◌∷◌, length, Option, Some, None, refl, sym, ap, ◌∙◌, subst, arith}
+use Rattle.std.proofs.Common.{◌≡◌, ◌≢◌, ◌⊎◌, inl, inr, ℕ, ◌+◌, ◌-◌, ◌≤◌, ℤ, Bool, true, false, List, [], ◌∷◌}
+use Rattle.std.proofs.Common.{length, Option, Some, None, refl, sym, ap, ◌∙◌, subst, arith}
 use Rattle.std.specs.Prelude.{slice_get, slice_index, if◌then◌else◌, ◌&&◌}
 use Rattle.std.specs.List.{Contains}
-use Rattle.std.proofs.lemmas.Option.{get_or_from_slice_get}
+use Rattle.std.proofs.lemmas.Option.{get_or_from_slice_get, slice_get_within}
+use Rattle.std.proofs.lemmas.Bool.{and_parts}
 use Rattle.cap_words.specs.declared.Word.{Word}
 use Rattle.cap_words.specs.declared.Word.TheVariants.{Int, Mem, Seal, Sealed}
 use Rattle.cap_words.specs.declared.Sealable.TheVariants.{Mem as MemIn, Seal as SealIn}
@@ -30,7 +32,7 @@ use Rattle.flow_check.specs.Flow.{is_stk}
 use Rattle.flow_check.specs.Holds.{data_cap, code_at, PcAt, HasKind, Up}
 use Rattle.flow_check.specs.Places.{begins_entry}
 use Rattle.flow_check.specs.Walk.{is_data, passes, site_ready, RowAt}
-use Rattle.flow_check.proofs.Fitting.{is_safe, and_left, and_right}
+use Rattle.flow_check.proofs.Fitting.{is_safe}
 use Rattle.flow_check.proofs.LocalFacts.{site_flows}
 use Rattle.component_linker.specs.Parts.{PartSeen}
 use Rattle.component_linker.specs.TrustedCode.{all_seals}
@@ -44,18 +46,24 @@ use Rattle.overlay_machine.specs.Layout.{site_code}
 use Rattle.overlay_machine.specs.State.{OpenFrame, OState, Cells, framed, frame_of}
 use Rattle.overlay_machine.specs.Step.{case_fetched, case_of, rest_words}
 use Rattle.overlay_machine.specs.Flat.{flat, flat_code, flat_data, flat_range}
-use Rattle.overlay_machine.specs.Agree.{Looks, HasSite, SitesStand, IsForeign, IsKnown, AllKnown, AtSite, AtEntry, AtReturn, FrameSound, ReadyFor}
-use Rattle.overlay_machine.specs.Link.{Link, IsTrusted, ranges_of, data_region, stack_region, regions, IsStackCell, CodeIn}
+use Rattle.overlay_machine.specs.Agree.{Looks, HasSite, SitesStand, IsForeign, IsKnown, AllKnown, AtSite}
+use Rattle.overlay_machine.specs.Agree.{AtEntry, AtReturn, FrameSound, ReadyFor}
+use Rattle.overlay_machine.specs.Link.{Link, IsTrusted, ranges_of, data_region, stack_region, regions}
+use Rattle.overlay_machine.specs.Link.{IsStackCell, CodeIn}
 use Rattle.overlay_machine.specs.Linked.{Linked, SiteOf}
 use Rattle.overlay_machine.specs.Safe.{IsSafeCap, IsSafe, IsMet, IsTrustedHalf, IsOpenSeal}
 use Rattle.overlay_machine.specs.Invariant.{StandsAt, FramesLie, Invariant}
-use Rattle.overlay_machine.proofs.invariant.Facts.{there_is, in_code, length_is, stands, safe_int, safe_stk, mem_safe, code_small, stack_small, stack_order, stack_apart, same_region, stack_there, stack_cells}
+use Rattle.overlay_machine.proofs.invariant.Facts.{in_code, length_is, stands, safe_int, safe_stk, mem_safe}
+use Rattle.overlay_machine.proofs.invariant.Facts.{code_small, stack_small, stack_order, stack_apart}
+use Rattle.overlay_machine.proofs.invariant.Facts.{same_region, stack_there, stack_cells}
 use Rattle.overlay_machine.proofs.invariant.View.{View, at_site, at_entry, in_part, failing, out, view}
 use Rattle.overlay_machine.proofs.invariant.Glue.{glue_shows, glue_area}
 use Rattle.overlay_machine.proofs.invariant.Crossing.{half_seal, seal_is}
 use Rattle.overlay_machine.proofs.FlatLemmas.{mem_of_face}
 use Rattle.overlay_machine.proofs.invariant.Targets.{target_bounds, target_reg}
-use Rattle.overlay_machine.proofs.invariant.FrameFacts.{frame_known, lies_of, framed_in, framed_by, word_in_frame, unframed, frames_apart, frame_in, frame_none, frame_of-cons, contains_first, below_all}
+use Rattle.overlay_machine.proofs.invariant.FrameFacts.{frame_known, lies_of, framed_in, framed_by}
+use Rattle.overlay_machine.proofs.invariant.FrameFacts.{word_in_frame, unframed, frames_apart, frame_in}
+use Rattle.overlay_machine.proofs.invariant.FrameFacts.{frame_none, frame_of-cons, contains_first, below_all}
 use Rattle.overlay_machine.proofs.FrameWords.{word_of-within}
 use Rattle.overlay_machine.proofs.invariant.HeldFlat.{pair_apart, one_place, in_no_frame}
 
@@ -77,16 +85,19 @@ data_kind (kind.Pc o) e = cc
 data_kind kind.Top e = cc
 
 -- a case that is read off the fetched instruction
-pub fetched_case : (s : State OWord) (f : Fetched) (c : Case) → c ≡ case_fetched s f → (c ≡ Other) ⊎ ((r1 : Reg) × (r2 : Reg) × (next : Word) × (c ≡ Back r1 r2) × (f ≡ some (Xjmp r1 r2) next))
+pub fetched_case : (s : State OWord) (f : Fetched) (c : Case) → c ≡ case_fetched s f
+    → (c ≡ Other) ⊎ ((r1 : Reg) × (r2 : Reg) × (next : Word) × (c ≡ Back r1 r2) × (f ≡ some (Xjmp r1 r2) next))
 fetched_case s (none x) c e = inl e
 fetched_case s (some (Xjmp r1 r2) next) c e = by_plain (is_plain (reg s.regs r1) && is_plain (reg s.regs r2)) e
   where
-    by_plain : (b : Bool) → c ≡ (if b then Other else Back r1 r2) → (c ≡ Other) ⊎ ((q1 : Reg) × (q2 : Reg) × (n : Word) × (c ≡ Back q1 q2) × (some (Xjmp r1 r2) next ≡ some (Xjmp q1 q2) n))
+    by_plain : (b : Bool) → c ≡ (if b then Other else Back r1 r2)
+        → (c ≡ Other) ⊎ ((q1 : Reg) × (q2 : Reg) × (n : Word) × (c ≡ Back q1 q2) × (some (Xjmp r1 r2) next ≡ some (Xjmp q1 q2) n))
     by_plain true h = inl h
     by_plain false h = inr (r1, r2, next, h, refl)
 fetched_case s (some _ next) c e = inl e
 
-pub entry_kind : (p : PartSeen) (off : ℕ) (r : Row) → begins_entry p.component off ≡ true → RowAt p.component off r → r ≡ entry_row
+pub entry_kind : (p : PartSeen) (off : ℕ) (r : Row) → begins_entry p.component off ≡ true
+    → RowAt p.component off r → r ≡ entry_row
 entry_kind p off r e (inl h) = h.1
 entry_kind p off r e (inr h) = let bad : true ≡ false = sym e ∙ h.0 in cc
 
@@ -121,12 +132,14 @@ module _ (g : Link) (linked : Linked g) where
 
   -- ---- code that stands
 
-  pub fails_at : (p : PartSeen) (m : Cells) (fail : ℕ) → IsTrusted g p → CodeIn p m → p.component.fail_at ≡ Some fail → FailsAt look m (ranges_of p).code_base (ranges_of p).code_last fail
+  pub fails_at : (p : PartSeen) (m : Cells) (fail : ℕ) → IsTrusted g p → CodeIn p m
+      → p.component.fail_at ≡ Some fail → FailsAt look m (ranges_of p).code_base (ranges_of p).code_last fail
   fails_at p m fail ip code e =
       let f = linked.fails p fail ip e in
       (stands p m code (p.component.code_base + fail) fail refl (Fail ∷ []) f.1, in_code g linked p fail ip f.0)
 
-  site_stands : (p : PartSeen) (index : ℕ) (s : SiteCode) (m : Cells) → IsTrusted g p → CodeIn p m → SiteOf p index s → HasSite g.layout m s
+  site_stands : (p : PartSeen) (index : ℕ) (s : SiteCode) (m : Cells) → IsTrusted g p → CodeIn p m
+      → SiteOf p index s → HasSite g.layout m s
   site_stands p index s m ip code st =
       let c = p.component in
       let off = st.offset in
@@ -138,7 +151,7 @@ module _ (g : Link) (linked : Linked g) where
       let len = length_is g linked p ip in
       let si = st.seal_is in
       let sn = st.seal_in in
-      let ll = there_is c.code st.stands.literal _ st.seals_are in
+      let ll = slice_get_within c.code st.stands.literal _ st.seals_are in
       let sb = linked.stack_bases p ip in
       let call : CodeStands c.code off (call_code st.stands.literal off index) = subst (λ k. CodeStands c.code k (call_code st.stands.literal k index)) at st.stands.call in
       let back : CodeStands c.code (off + 16) (return_code st.stands.fail (off + 16) c.stack_base) = subst (λ k. CodeStands c.code (k + 16) (return_code st.stands.fail (k + 16) c.stack_base)) at st.stands.back in
@@ -184,13 +197,16 @@ module _ (g : Link) (linked : Linked g) where
     linear a low high = (stack_region g.layout, stack_there g linked, refl, low, high)
 
     -- the stack's capability and the data capability of a row
-    own_stk : (p : PartSeen) (off : ℕ) (ip : IsTrusted g p) (at : StandsAt g fs p off o.maps.regs) → kind_of at.there Stk ≡ kind.Stk
+    own_stk : (p : PartSeen) (off : ℕ) (ip : IsTrusted g p) (at : StandsAt g fs p off o.maps.regs)
+        → kind_of at.there Stk ≡ kind.Stk
         → (end : ℕ) × (to : ℤ) × (look o.maps.regs.stk ≡ Mem (record (stack_cap g.layout.stack.base end 0) { addr = to })) × Up (IsStackCell g fs) (ranges_of p) end
     own_stk p off ip at e =
         let h : HasKind look (IsSafe g fs) (IsStackCell g fs) (ranges_of p) kind.Stk (reg o.maps.regs Stk) = (let x = at.fits.each Stk refl in rw e at x) in
         (h.0, h.1, h.2 ∙ ap (λ b. Mem (record (stack_cap b h.0 0) { addr = h.1 })) (linked.stack_bases p ip), h.3)
 
-    pub own_dat : (p : PartSeen) (off : ℕ) (at : StandsAt g fs p off o.maps.regs) → kind_of at.there Dat ≡ kind.DataCap → (to : ℤ) × (look o.maps.regs.dat ≡ Mem (data_cap (ranges_of p) to))
+    pub own_dat : (p : PartSeen) (off : ℕ) (at : StandsAt g fs p off o.maps.regs)
+        → kind_of at.there Dat ≡ kind.DataCap
+        → (to : ℤ) × (look o.maps.regs.dat ≡ Mem (data_cap (ranges_of p) to))
     own_dat p off at e = let h : HasKind look (IsSafe g fs) (IsStackCell g fs) (ranges_of p) kind.DataCap (reg o.maps.regs Dat) = (let x = at.fits.each Dat refl in rw e at x) in h
 
     pub known : AllKnown o
@@ -212,18 +228,18 @@ module _ (g : Link) (linked : Linked g) where
 
       pub stk_is : kind_of at.there Stk ≡ kind.Stk
       unfolding site_ready
-      stk_is = stk_kind (kind_of at.there Stk) (and_left (is_stk (kind_of at.there Stk)) _ row_ready)
+      stk_is = stk_kind (kind_of at.there Stk) (and_parts (is_stk (kind_of at.there Stk)) _ row_ready).0
 
       pub dat_is : kind_of at.there Dat ≡ kind.DataCap
       unfolding site_ready
-      dat_is = data_kind (kind_of at.there Dat) (and_left (is_data (kind_of at.there Dat)) _ (and_right (is_stk (kind_of at.there Stk)) _ row_ready))
+      dat_is = data_kind (kind_of at.there Dat) (and_parts (is_data (kind_of at.there Dat)) _ (and_parts (is_stk (kind_of at.there Stk)) _ row_ready).1).0
 
       pub passes_on : passes at.there ≡ true
       unfolding site_ready
-      passes_on = and_right (is_data (kind_of at.there Dat)) _ (and_right (is_stk (kind_of at.there Stk)) _ row_ready)
+      passes_on = (and_parts (is_data (kind_of at.there Dat)) _ (and_parts (is_stk (kind_of at.there Stk)) _ row_ready).1).1
 
       c1_safe : IsSafe g fs o.maps.regs.c1
-      c1_safe = is_safe look (IsSafe g fs) (IsStackCell g fs) (ranges_of p) (safe_int g fs) (safe_stk g linked fs p ip) (kind_of at.there C1) (reg o.maps.regs C1) (and_left (below_any (kind_of at.there C1)) _ passes_on) (at.fits.each C1 refl)
+      c1_safe = is_safe look (IsSafe g fs) (IsStackCell g fs) (ranges_of p) (safe_int g fs) (safe_stk g linked fs p ip) (kind_of at.there C1) (reg o.maps.regs C1) (and_parts (below_any (kind_of at.there C1)) _ passes_on).0 (at.fits.each C1 refl)
 
       pub call_ready : AtSite g.layout i o
       call_ready =
@@ -252,7 +268,8 @@ module _ (g : Link) (linked : Linked g) where
 
     -- ---- an entry
 
-    pub entry_ready : (p : PartSeen) (off a : ℕ) → IsTrusted g p → a ≡ p.component.code_base + off → begins_entry p.component off ≡ true → StandsAt g fs p off o.maps.regs → AtEntry g.layout a o
+    pub entry_ready : (p : PartSeen) (off a : ℕ) → IsTrusted g p → a ≡ p.component.code_base + off
+        → begins_entry p.component off ≡ true → StandsAt g fs p off o.maps.regs → AtEntry g.layout a o
     unfolding kind_of
     entry_ready p off a ip ea e at =
         let st = linked.entries p off ip e in
@@ -280,7 +297,8 @@ module _ (g : Link) (linked : Linked g) where
 
     -- ---- a return
 
-    pc_free : (p : PartSeen) (off : ℕ) → IsTrusted g p → PcAt look (ranges_of p) off o.maps.regs → (a : ℕ) → target_of (faces look o.maps Pc) ≡ Some a → framed fs a ≡ None
+    pc_free : (p : PartSeen) (off : ℕ) → IsTrusted g p → PcAt look (ranges_of p) off o.maps.regs → (a : ℕ)
+        → target_of (faces look o.maps Pc) ≡ Some a → framed fs a ≡ None
     unfolding faces
     pc_free p off ip h a e =
         let b = target_bounds (face_of (look o.maps.regs.pc)) a e in
@@ -289,7 +307,8 @@ module _ (g : Link) (linked : Linked g) where
         let hi : a ≤ (ranges_of p).code_last = (let y = ap (λ x. x.end) q in let z = b.3 in omega (arith, y, z)) in
         unframed g.layout o.maps.cells o.calls fs a inv.frames (λ l r. elim (stack_apart g linked p ip a l r) as (λ _. ⊥) [ inl x ↦ omega (arith, x, lo) | inr x ↦ omega (arith, x, hi) ])
 
-    safe_free : (w : OWord) (a : ℕ) → IsSafe g fs w → target_of (face_of (look w)) ≡ Some a → framed fs a ≡ None
+    safe_free : (w : OWord) (a : ℕ) → IsSafe g fs w → target_of (face_of (look w)) ≡ Some a
+        → framed fs a ≡ None
     safe_free w a h e =
         let b = target_bounds (face_of (look w)) a e in
         let c = mem_safe g fs w b.0 (mem_of_face (look w) b.0 b.1) h in
@@ -316,13 +335,17 @@ module _ (g : Link) (linked : Linked g) where
         }
 
     -- what reaches from the stack's base to a frame reaches to the newest
-    newest : IsSafe g fs o.maps.regs.stk → (n : ℕ) (f : OpenFrame) (c : CapFields) → frame_of fs n ≡ Some f → look o.maps.regs.stk ≡ Mem c → c.base ≡ g.layout.stack.base → c.end + 1 ≡ f.base → (gs : List OpenFrame) × (fs ≡ f ∷ gs) × (n ≡ f.call)
+    newest : IsSafe g fs o.maps.regs.stk → (n : ℕ) (f : OpenFrame) (c : CapFields) → frame_of fs n ≡ Some f
+        → look o.maps.regs.stk ≡ Mem c → c.base ≡ g.layout.stack.base → c.end + 1 ≡ f.base
+        → (gs : List OpenFrame) × (fs ≡ f ∷ gs) × (n ≡ f.call)
     newest safe n f c ef es eb ee = by_frames fs refl ef inv.frames
       where
         cap : IsSafeCap g fs c
         cap = mem_safe g fs o.maps.regs.stk c es safe
 
-        by_frames : (xs : List OpenFrame) → fs ≡ xs → frame_of xs n ≡ Some f → FramesLie g.layout o.maps.cells o.calls xs → (gs : List OpenFrame) × (fs ≡ f ∷ gs) × (n ≡ f.call)
+        by_frames : (xs : List OpenFrame) → fs ≡ xs → frame_of xs n ≡ Some f
+            → FramesLie g.layout o.maps.cells o.calls xs
+            → (gs : List OpenFrame) × (fs ≡ f ∷ gs) × (n ≡ f.call)
         by_frames [] e h fr = absurd (frame_none n f h)
         by_frames (x ∷ xs) e h fr = elim (frame_of-cons x xs n f h) as (λ _. (gs : List OpenFrame) × (fs ≡ f ∷ gs) × (n ≡ f.call)) [
           | inl q ↦ (xs, e ∙ ap (λ y. y ∷ xs) q.1, sym q.0 ∙ ap (λ y. y.call) q.1)
@@ -332,9 +355,11 @@ module _ (g : Link) (linked : Linked g) where
               absurd (framed_in g.layout o.maps.cells o.calls (x ∷ xs) x x.base fr (contains_first x xs) (omega arith) od (sym (ap (λ y. framed y x.base) e) ∙ nothing)))
         ]
 
-    pub back_ready : (r1 r2 : Reg) (next : Word) → fetch (faces look o.maps Pc) (cell_faces look o.maps) ≡ some (Xjmp r1 r2) next
+    pub back_ready : (r1 r2 : Reg) (next : Word)
+        → fetch (faces look o.maps Pc) (cell_faces look o.maps) ≡ some (Xjmp r1 r2) next
         → ((a : ℕ) → target_of (faces look o.maps Pc) ≡ Some a → framed fs a ≡ None)
-        → ((d : Reg) → is_pc d ≡ false → d ≢ Dat → IsSafe g fs (reg o.maps.regs d)) → IsSafe g fs (reg o.maps.regs r1) → IsSafe g fs (reg o.maps.regs r2) → AtReturn g.layout r1 r2 o
+        → ((d : Reg) → is_pc d ≡ false → d ≢ Dat → IsSafe g fs (reg o.maps.regs d))
+        → IsSafe g fs (reg o.maps.regs r1) → IsSafe g fs (reg o.maps.regs r2) → AtReturn g.layout r1 r2 o
     back_ready r1 r2 next e free shown s1 s2 = record {
       next = next;
       fetched = e;
@@ -355,7 +380,8 @@ module _ (g : Link) (linked : Linked g) where
       in_frames = λ n a w er ew. (let c = opened r2 n er in in_no_frame (regions g) g.layout o t inv.flat inv.once linear n c.0 c.1 c.2 c.3 c.4 c.5 c.6 r2 er a w (gone a w ew) ew);
     }
       where
-        opened : (r : Reg) (n : ℕ) → reg o.maps.regs r ≡ RetData n → (f : OpenFrame) × (s : SiteCode) × (frame_of fs n ≡ Some f) × (site_code g.layout f.site ≡ Some s) × (g.layout.stack.base ≤ f.base) × (f.base ≤ f.end) × (f.end ≤ g.layout.stack.end)
+        opened : (r : Reg) (n : ℕ) → reg o.maps.regs r ≡ RetData n
+            → (f : OpenFrame) × (s : SiteCode) × (frame_of fs n ≡ Some f) × (site_code g.layout f.site ≡ Some s) × (g.layout.stack.base ≤ f.base) × (f.base ≤ f.end) × (f.end ≤ g.layout.stack.end)
         opened r n er =
             let c : IsMet g fs (RetData n) = inv.met (R r) (RetData n) (ap Some er) in
             let k = (frame_in fs n c.0 c.1).0 in
@@ -372,7 +398,8 @@ module _ (g : Link) (linked : Linked g) where
 
     -- ---- every kind of step
 
-    data_free : (p : PartSeen) (a : ℕ) → IsTrusted g p → (ranges_of p).data_base ≤ a → a ≤ (ranges_of p).data_last → framed fs a ≡ None
+    data_free : (p : PartSeen) (a : ℕ) → IsTrusted g p → (ranges_of p).data_base ≤ a
+        → a ≤ (ranges_of p).data_last → framed fs a ≡ None
     data_free p a ip lo hi = unframed g.layout o.maps.cells o.calls fs a inv.frames (λ l h.
         let e = same_region g linked (data_region p) (stack_region g.layout) a (linked.data_there p ip) (stack_there g linked) lo hi l h in
         let bad : false ≡ true = ap (λ r. r.linear) e in cc)
@@ -418,16 +445,19 @@ module _ (g : Link) (linked : Linked g) where
 
 -- ---- and back
 
-met_code : (g : Link) (fs : List OpenFrame) (i : ℕ) (x : Option SiteCode) → site_code g.layout i ≡ x → face_of (flat_code x) ≡ face_of (look (RetCode i)) → IsMet g fs (RetCode i)
+met_code : (g : Link) (fs : List OpenFrame) (i : ℕ) (x : Option SiteCode) → site_code g.layout i ≡ x
+    → face_of (flat_code x) ≡ face_of (look (RetCode i)) → IsMet g fs (RetCode i)
 met_code g fs i None e h = cc
 met_code g fs i (Some s) e h = (s, e)
 
-met_data : (g : Link) (fs : List OpenFrame) (k : ℕ) (x : Option OpenFrame) → frame_of fs k ≡ x → face_of (flat_data g.layout x) ≡ face_of (look (RetData k)) → IsMet g fs (RetData k)
+met_data : (g : Link) (fs : List OpenFrame) (k : ℕ) (x : Option OpenFrame) → frame_of fs k ≡ x
+    → face_of (flat_data g.layout x) ≡ face_of (look (RetData k)) → IsMet g fs (RetData k)
 met_data g fs k None e h = cc
 met_data g fs k (Some f) e h = (f, e)
 
 -- a word that looks as it should is met
-pub met_of : (g : Link) (fs : List OpenFrame) (w : OWord) → face_of (flat g.layout fs w) ≡ face_of (look w) → IsMet g fs w
+pub met_of : (g : Link) (fs : List OpenFrame) (w : OWord) → face_of (flat g.layout fs w) ≡ face_of (look w)
+    → IsMet g fs w
 unfolding flat
 met_of g gs (Plain w) h = tt
 met_of g gs (RetCode i) h = met_code g gs i _ refl h

@@ -1,9 +1,12 @@
 -- The invariant is kept by a return that succeeds.
-use Rattle.std.proofs.Common.{◌≡◌, ◌≢◌, ◌⊎◌, inl, inr, ℕ, suc, ◌+◌, ◌-◌, ◌<◌, ◌≤◌, pos, Bool, true, false, List, [], ◌∷◌, length, Option, Some, None, refl, sym, ap, ◌∙◌, subst, arith, is_some, eqb-true}
+use Rattle.std.proofs.Common.{◌≡◌, ◌≢◌, ◌⊎◌, inl, inr, ℕ, suc, ◌+◌, ◌-◌, ◌<◌, ◌≤◌, pos, Bool, true, false}
+use Rattle.std.proofs.Common.{List, [], ◌∷◌, length, Option, Some, None, refl, sym, ap, ◌∙◌, subst, arith}
+use Rattle.std.proofs.Common.{is_some, eqb-true}
 use Rattle.std.specs.Prelude.{◌==◌, ◌&&◌, not, slice_get}
 use Rattle.std.specs.Option.{option_or}
 use Rattle.std.specs.List.{Contains}
 use Rattle.std.proofs.lemmas.Bool.{cases_lt, and_parts}
+use Rattle.std.proofs.lemmas.Option.{slice_get_within}
 use Rattle.cap_words.specs.declared.Word.{Word}
 use Rattle.cap_words.specs.declared.Word.TheVariants.{Mem}
 use Rattle.cap_words.specs.declared.CapFields.{CapFields}
@@ -11,7 +14,8 @@ use Rattle.cap_words.specs.declared.Perm.TheVariants.{Rw}
 use Rattle.cap_words.specs.declared.Lin.TheVariants.{Linear}
 use Rattle.cap_words.specs.Linear.{zero_word}
 use Rattle.lcm_isa.specs.declared.Reg.{Reg}
-use Rattle.lcm_isa.specs.declared.Reg.TheVariants.{Pc, Rcode, Rdata, Stk, Dat, T1, T2, C1, C2, A0, A1, A2, A3, G0, G1, G2}
+use Rattle.lcm_isa.specs.declared.Reg.TheVariants.{Pc, Rcode, Rdata, Stk, Dat, T1, T2, C1, C2, A0, A1, A2, A3}
+use Rattle.lcm_isa.specs.declared.Reg.TheVariants.{G0, G1, G2}
 use Rattle.lcm_machine.specs.declared.Place.TheVariants.{R, Cell}
 use Rattle.lcm_machine.specs.Maps.{Regs, State}
 use Rattle.lcm_machine.specs.Places.{reg, set_reg}
@@ -19,7 +23,7 @@ use Rattle.lcm_machine.specs.Cells.{cell, put_back}
 use Rattle.lcm_machine.specs.Table.{is_pc}
 use Rattle.lcm_machine.specs.Row.{put}
 use Rattle.lcm_machine.specs.Runs.{code_cap}
-use Rattle.lcm_machine.proofs.RegLemmas.{cases_reg, reg-set_same, reg-set_other}
+use Rattle.lcm_machine.proofs.Offers.{cases_reg, reg-set_same, reg-set_other}
 use Rattle.flow_check.specs.Holds.{data_cap, stack_cap, Up}
 use Rattle.flow_check.proofs.LocalFacts.{site_flows}
 use Rattle.component_linker.specs.Parts.{PartSeen}
@@ -32,21 +36,25 @@ use Rattle.overlay_machine.specs.declared.layout.SiteCode.{SiteCode}
 use Rattle.overlay_machine.specs.Words.{look}
 use Rattle.overlay_machine.specs.Layout.{site_code}
 use Rattle.overlay_machine.specs.State.{OpenFrame, OState, Cells, framed, word_of}
-use Rattle.overlay_machine.specs.Step.{Ending, goes, ask, own_stack, return_by, return_step, resumed, first_word, rest_words}
+use Rattle.overlay_machine.specs.Step.{Ending, goes, ask, own_stack, return_by, return_step, resumed}
+use Rattle.overlay_machine.specs.Step.{first_word, rest_words}
 use Rattle.overlay_machine.specs.Agree.{IsOther, AtReturn}
-use Rattle.overlay_machine.specs.Link.{Link, IsTrusted, ranges_of, regions, stack_region, has_cell, IsStackCell, IsOpenAt}
+use Rattle.overlay_machine.specs.Link.{Link, IsTrusted, ranges_of, regions, stack_region, has_cell}
+use Rattle.overlay_machine.specs.Link.{IsStackCell, IsOpenAt}
 use Rattle.overlay_machine.specs.Linked.{Linked}
 use Rattle.overlay_machine.specs.Safe.{IsSafeCap, IsSafe}
 use Rattle.overlay_machine.specs.Invariant.{StandsAt, at_row, FrameLies, FramesLie, FrameFits, Invariant}
 use Rattle.overlay_machine.proofs.OutLemmas.{put_back-other}
 use Rattle.overlay_machine.proofs.FrameWords.{put_back-in, word_of-within}
-use Rattle.overlay_machine.proofs.invariant.Facts.{there_is, mem_safe, in_code, closed, stack_there, open_stack_at, stk_cap_safe}
+use Rattle.overlay_machine.proofs.invariant.Facts.{mem_safe, in_code, closed, stack_there, open_stack_at}
+use Rattle.overlay_machine.proofs.invariant.Facts.{stk_cap_safe}
 use Rattle.overlay_machine.proofs.invariant.Clean.{clean_fits, stands_clean}
 use Rattle.overlay_machine.proofs.OwnStack.{own_is}
 use Rattle.overlay_machine.proofs.invariant.EntryKept.{need_goes}
 use Rattle.overlay_machine.proofs.invariant.Standing.{Stand}
 use Rattle.overlay_machine.proofs.invariant.FramesKept.{return_keeps}
-use Rattle.overlay_machine.proofs.invariant.FrameFacts.{word_out, has_word, contains_first, contains_rest, frames_apart}
+use Rattle.overlay_machine.proofs.invariant.FrameFacts.{word_out, has_word, contains_first, contains_rest}
+use Rattle.overlay_machine.proofs.invariant.FrameFacts.{frames_apart}
 use Rattle.overlay_machine.proofs.invariant.Popped.{popped, fits_popped, frames_up, framed_at, none_rest}
 
 -- what a return that goes on was
@@ -68,7 +76,9 @@ unfolding ask
 ask_goes true e q h = (refl, h)
 ask_goes false e q h = cc
 
-return_goes : (l : Layout) (r1 r2 : Reg) (o q : OState) (x y : OWord) (fs : List OpenFrame) → reg o.maps.regs r1 ≡ x → reg o.maps.regs r2 ≡ y → o.frames ≡ fs → return_by l x y r2 fs o ≡ goes q → Returned l r1 r2 o q
+return_goes : (l : Layout) (r1 r2 : Reg) (o q : OState) (x y : OWord) (fs : List OpenFrame)
+    → reg o.maps.regs r1 ≡ x → reg o.maps.regs r2 ≡ y → o.frames ≡ fs → return_by l x y r2 fs o ≡ goes q
+    → Returned l r1 r2 o q
 return_goes l r1 r2 o q (RetCode i) (RetData k) (f ∷ fs) e1 e2 ef h =
     let a = ask_goes _ _ q h in
     let ab = and_parts (k == f.call) (i == f.site) a.0 in
@@ -95,7 +105,8 @@ return_goes l r1 r2 o q (RetCode i) (RetCode j) fs e1 e2 ef h = cc
 return_goes l r1 r2 o q (Plain w) y fs e1 e2 ef h = cc
 return_goes l r1 r2 o q (RetData k) y fs e1 e2 ef h = cc
 
-pub returned : (l : Layout) (r1 r2 : Reg) (o q : OState) → return_step l r1 r2 o ≡ goes q → Returned l r1 r2 o q
+pub returned : (l : Layout) (r1 r2 : Reg) (o q : OState) → return_step l r1 r2 o ≡ goes q
+    → Returned l r1 r2 o q
 unfolding return_step
 returned l r1 r2 o q h = return_goes l r1 r2 o q _ _ _ refl refl refl h
 
@@ -277,7 +288,8 @@ module _ (g : Link) (linked : Linked g) (o : OState) (t : State Word) (inv : Inv
     | inr ge ↦ (zero_word Plain, (let e : F.base + 0 ≡ a = omega (arith, low, ge) in subst (λ y. cell back_cells y ≡ Some (zero_word Plain)) e (put_back-in m F.base ws 0 (omega arith))), tt)
   ]
     where
-      later : (i : ℕ) → F.base + suc i ≡ a → F.base < a → (w : OWord) × (cell back_cells a ≡ Some w) × IsSafe g gs w
+      later : (i : ℕ) → F.base + suc i ≡ a → F.base < a
+          → (w : OWord) × (cell back_cells a ≡ Some w) × IsSafe g gs w
       later i e lt =
           let v = has_word g.layout m F a lies low high in
           let d : a - F.base ≡ suc i = omega (arith, e) in
@@ -308,7 +320,8 @@ module _ (g : Link) (linked : Linked g) (o : OState) (t : State Word) (inv : Inv
     | inr inn ↦ ap is_some (cell_in a inn.0 inn.1).1 ∙ sym (ap (λ y. in_regions a (regions g) && not (is_some y)) (older_none a inn.0 inn.1) ∙ ap (λ b. b && true) (in_stack_region a inn.0 inn.1))
   ]
 
-  code_out : (p : PartSeen) (n : ℕ) → IsTrusted g p → n < length p.component.code → (p.component.code_base + n < F.base) ⊎ (F.end < p.component.code_base + n)
+  code_out : (p : PartSeen) (n : ℕ) → IsTrusted g p → n < length p.component.code
+      → (p.component.code_base + n < F.base) ⊎ (F.end < p.component.code_base + n)
   code_out p n ip lt = elim (where_in (p.component.code_base + n) F.base F.end) as (λ _. (p.component.code_base + n < F.base) ⊎ (F.end < p.component.code_base + n)) [
     | inl out ↦ out
     | inr inn ↦ absurd (closed g linked p ip (p.component.code_base + n) (omega arith) (in_code g linked p n ip lt)
@@ -325,7 +338,7 @@ module _ (g : Link) (linked : Linked g) (o : OState) (t : State Word) (inv : Inv
   return_kept = subst (λ y. Stand g y) (sym x.result) (record {
     pc = at_row fit.part (off + 26) fit.trusted stands_after;
     there = there_after;
-    code = λ p ip n w e. cell_out (p.component.code_base + n) (code_out p n ip (there_is p.component.code n w e)) ∙ inv.code p ip n w e;
+    code = λ p ip n w e. cell_out (p.component.code_base + n) (code_out p n ip (slice_get_within p.component.code n w e)) ∙ inv.code p ip n w e;
     cells = cells_after;
     frames = frames_up g.layout back_cells F.call o.calls gs (let c = k.1 in omega (arith, c)) (return_keeps g.layout m o.calls F gs ws long k);
     frames_fit = λ h c. fits_popped g F gs h (λ a w e. other_in a w (framed_at g.layout m o.calls (F ∷ gs) h a w k (contains_rest F h gs c) e))

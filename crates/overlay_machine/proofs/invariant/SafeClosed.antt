@@ -1,7 +1,9 @@
 -- Safe words are closed under what instructions make of words.
-use Rattle.std.proofs.Common.{◌≡◌, inl, inr, ℕ, ◌+◌, ◌<◌, ◌≤◌, ℤ, pos, negsuc, Bool, true, false, List, refl, ap, arith, leb-true, ltb-true, le-leb, lt-ltb}
-use Rattle.std.specs.Prelude.{None, ◌||◌, ◌==◌, nat_le, nat_lt, IsTrue}
-use Rattle.std.proofs.lemmas.Bool.{and_parts, cases_lt}
+use Rattle.std.proofs.Common.{◌≡◌, inl, inr, ℕ, ◌+◌, ◌<◌, ◌≤◌, ℤ, true, false, List, refl, ap, arith, le-leb}
+use Rattle.std.proofs.Common.{lt-ltb}
+use Rattle.std.specs.Prelude.{None, ◌==◌, IsTrue}
+use Rattle.std.proofs.lemmas.Bool.{and_parts, cases_lt, or_right}
+use Rattle.lcm_machine.proofs.Offers.{in_seals, split_bounds}
 use Rattle.cap_words.specs.declared.CapFields.{CapFields}
 use Rattle.cap_words.specs.declared.SealFields.{SealFields}
 use Rattle.cap_words.specs.declared.Perm.{Perm}
@@ -25,47 +27,40 @@ below_runs Rw q h e = cc
 below_runs Rx q h e = h
 below_runs Rwx q h e = (and_parts (may_write q) (may_run q) h).1
 
-cut : (c : CapFields) (z : ℤ) → can_split c z ≡ true → (c.base ≤ address z) × (address z < c.end)
-cut c (pos n) e = let k = and_parts (nat_le c.base n) (nat_lt n c.end) e in (leb-true c.base n k.0, ltb-true n c.end k.1)
-cut c (negsuc n) e = cc
-
-in_seals : (s : SealFields) (z : ℤ) → seals_at s z ≡ true → (s.base ≤ address z) × (address z ≤ s.end)
-in_seals s (pos n) e = let k = and_parts (nat_le s.base n) (nat_le n s.end) e in (leb-true s.base n k.0, leb-true n s.end k.1)
-in_seals s (negsuc n) e = cc
-
 -- a seal of a part's stretch is one of the part
-own_seal : (p : PartSeen) (n : ℕ) → p.component.seals.base ≤ n → n < p.component.seals.base + p.component.seals.count → IsTrue (is_seal_of p n)
-own_seal p n low high = rw (le-leb p.component.seals.base n low, lt-ltb n (p.component.seals.base + p.component.seals.count) high) (either (p.component.closure == n))
-  where
-    either : (b : Bool) → (b || true) ≡ true
-    either true = refl
-    either false = refl
+own_seal : (p : PartSeen) (n : ℕ) → p.component.seals.base ≤ n
+    → n < p.component.seals.base + p.component.seals.count → IsTrue (is_seal_of p n)
+own_seal p n low high = rw (le-leb p.component.seals.base n low, lt-ltb n (p.component.seals.base + p.component.seals.count) high) (or_right (p.component.closure == n) true refl)
 
 module _ (g : Link) (linked : Linked g) (fs : List OpenFrame) where
-  less : (c : CapFields) (p : Perm) → is_below p c.perm ≡ true → IsSafeCap g fs c → IsSafeCap g fs (record c { perm = p })
+  less : (c : CapFields) (p : Perm) → is_below p c.perm ≡ true → IsSafeCap g fs c
+      → IsSafeCap g fs (record c { perm = p })
   less c p b h = record { area = h.area; runs = h.runs; usable = h.usable; low = h.low; order = h.order; high = h.high; lin = h.lin; may = λ r. h.may (below_runs p c.perm b r); free = h.free }
 
   move_to : (c : CapFields) (z : ℤ) → IsSafeCap g fs c → IsSafeCap g fs (record c { addr = z })
   move_to c z h = record { area = h.area; runs = h.runs; usable = h.usable; low = h.low; order = h.order; high = h.high; lin = h.lin; may = h.may; free = h.free }
 
-  low_part : (c : CapFields) (z : ℤ) → can_split c z ≡ true → IsSafeCap g fs c → IsSafeCap g fs (record c { end = address z })
+  low_part : (c : CapFields) (z : ℤ) → can_split c z ≡ true → IsSafeCap g fs c
+      → IsSafeCap g fs (record c { end = address z })
   low_part c z b h =
-      let k = cut c z b in
+      let k = split_bounds c z b in
       let x = k.0 in
       let y = k.1 in
       let u = h.high in
       record { area = h.area; runs = h.runs; usable = h.usable; low = h.low; order = x; high = omega (arith, u, y); lin = h.lin; may = h.may; free = λ a l r. h.free a l (omega (arith, r, y)) }
 
-  high_part : (c : CapFields) (z : ℤ) → can_split c z ≡ true → IsSafeCap g fs c → IsSafeCap g fs (record c { base = address z + 1 })
+  high_part : (c : CapFields) (z : ℤ) → can_split c z ≡ true → IsSafeCap g fs c
+      → IsSafeCap g fs (record c { base = address z + 1 })
   high_part c z b h =
-      let k = cut c z b in
+      let k = split_bounds c z b in
       let x = k.0 in
       let y = k.1 in
       let l = h.low in
       record { area = h.area; runs = h.runs; usable = h.usable; low = omega (arith, l, x); order = omega (arith, y); high = h.high; lin = h.lin; may = h.may; free = λ a lo r. h.free a (omega (arith, lo, x)) r }
 
   -- two regions with no address between them are one
-  one_area : (a b : CapFields) → a.end + 1 ≡ b.base → (h : IsSafeCap g fs a) (k : IsSafeCap g fs b) → h.area ≡ k.area
+  one_area : (a b : CapFields) → a.end + 1 ≡ b.base → (h : IsSafeCap g fs a) (k : IsSafeCap g fs b)
+      → h.area ≡ k.area
   one_area a b e h k =
       let l = h.low in
       let o = h.order in
@@ -79,7 +74,8 @@ module _ (g : Link) (linked : Linked g) (fs : List OpenFrame) where
         | inr (inr apart) ↦ absurd (omega (arith, l, o, o', u', e, apart))
       ]
 
-  join : (a b : CapFields) → a.end + 1 ≡ b.base → IsSafeCap g fs a → IsSafeCap g fs b → IsSafeCap g fs (record b { base = a.base })
+  join : (a b : CapFields) → a.end + 1 ≡ b.base → IsSafeCap g fs a → IsSafeCap g fs b
+      → IsSafeCap g fs (record b { base = a.base })
   join a b e h k =
       let l = h.low in
       let o = h.order in

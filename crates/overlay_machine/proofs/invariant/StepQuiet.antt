@@ -1,5 +1,6 @@
 -- No plain instruction of an overlay step touches an address that is in a frame before and after it.
-use Rattle.std.proofs.Common.{◌≡◌, ◌≢◌, inl, inr, ℕ, ◌+◌, ◌-◌, ◌≤◌, pos, true, Some, None, refl, sym, ap, ◌∙◌, arith, is_some}
+use Rattle.std.proofs.Common.{◌≡◌, ◌≢◌, inl, inr, ℕ, ◌+◌, ◌-◌, ◌≤◌, pos, true, Some, None, refl, sym, ap, ◌∙◌}
+use Rattle.std.proofs.Common.{arith, is_some}
 use Rattle.std.specs.Prelude.{slice_get}
 use Rattle.std.specs.Option.{option_or}
 use Rattle.cap_words.specs.declared.Word.{Word}
@@ -24,9 +25,8 @@ use Rattle.lcm_machine.specs.Mapped.{mapped_or}
 use Rattle.lcm_machine.specs.Row.{faces, opens, plan_in, outcome, row, perform, some, step_of, went}
 use Rattle.lcm_machine.specs.Runs.{run_of, code_cap}
 use Rattle.lcm_machine.specs.Touched.{Touches, Untouched}
-use Rattle.lcm_machine.proofs.Commute.{fetch_commutes}
-use Rattle.lcm_machine.proofs.Quiet.{quiet, lacking, lacks, untouched_then}
-use Rattle.lcm_machine.proofs.TouchLemmas.{touched_by, after_each}
+use Rattle.lcm_machine.proofs.Offers.{fetch_commutes, quiet, lacking, lacks, untouched_then, touched_by}
+use Rattle.lcm_machine.proofs.Offers.{after_each}
 use Rattle.call_sequence.specs.SequenceRuns.{stack_cap, Outside, at_xjmp}
 use Rattle.call_sequence.proofs.CallLaws.{call_jumps}
 use Rattle.call_sequence.proofs.EntryLaws.{entry_runs}
@@ -40,7 +40,8 @@ use Rattle.overlay_machine.specs.State.{OpenFrame, OState, framed, frame_of, wor
 use Rattle.overlay_machine.specs.Step.{own_stack}
 use Rattle.overlay_machine.specs.Flat.{flat, beside, IsFlat}
 use Rattle.overlay_machine.specs.Agree.{Looks, HasSite, AtSite, AtEntry, AtReturn, FrameSound, FramesFree}
-use Rattle.overlay_machine.proofs.FlatLemmas.{flat-mem, mem_of_face, cell-flat, HasCall-flat, HasReturn-flat, HasEntry-flat}
+use Rattle.overlay_machine.proofs.FlatLemmas.{flat-mem, mem_of_face, cell-flat, HasCall-flat, HasReturn-flat}
+use Rattle.overlay_machine.proofs.FlatLemmas.{HasEntry-flat, beside-none}
 use Rattle.overlay_machine.proofs.FrameWords.{word_of-within, frame_of-newest, some_of}
 use Rattle.overlay_machine.proofs.OtherAgrees.{free_pc}
 use Rattle.overlay_machine.proofs.CallAgrees.{dat_normal, plain_row}
@@ -57,11 +58,13 @@ untouched_one : (a : ℕ) (t : State Word) → (Touches id t a → ⊥) → Unto
 untouched_one a t h = (h, after_each (Untouched id id a 0) (step_of id id t) (λ v e. tt))
 
 -- an `xjmp` goes whatever the cells are
-xjmp_same : (s u : State Word) (next : Word) (m : _) → row id id (Xjmp C1 C2) next s ≡ went u → (v : State Word) × (row id id (Xjmp C1 C2) next (record s { cells = m }) ≡ went v)
+xjmp_same : (s u : State Word) (next : Word) (m : _) → row id id (Xjmp C1 C2) next s ≡ went u
+    → (v : State Word) × (row id id (Xjmp C1 C2) next (record s { cells = m }) ≡ went v)
 unfolding row plan_in faces opens
 xjmp_same s u next m e = by_plan _ e
   where
-    by_plan : (p : Plan) → outcome id id s p ≡ went u → (v : State Word) × (outcome id id (record s { cells = m }) p ≡ went v)
+    by_plan : (p : Plan) → outcome id id s p ≡ went u
+        → (v : State Word) × (outcome id id (record s { cells = m }) p ≡ went v)
     by_plan (Fails c) e = cc
     by_plan Halts e = cc
     by_plan (Goes x) e = (perform id id (record s { cells = m }) x, refl)
@@ -125,7 +128,8 @@ module _ (l : Layout) (o : OState) (t : State Word) (m : IsFlat l o t) (k : Look
 
   -- ---- the twenty words of an entry
 
-  pub entry_quiet : (at : ℕ) (at_entry : AtEntry l at o) (c : CapFields) → own_stack l o.maps ≡ Some c → Outside a at_entry.base at_entry.end → Untouched id id a 20 t
+  pub entry_quiet : (at : ℕ) (at_entry : AtEntry l at o) (c : CapFields) → own_stack l o.maps ≡ Some c
+      → Outside a at_entry.base at_entry.end → Untouched id id a 20 t
   unfolding own_stack faces
   entry_quiet at at_entry c e out =
       let f = face_of_own l (face_of (look o.maps.regs.stk)) c e in
@@ -142,14 +146,10 @@ module _ (l : Layout) (o : OState) (t : State Word) (m : IsFlat l o t) (k : Look
   -- ---- the `xjmp` and the ten words of a return
 
   module _ (r1 r2 : Reg) (rd : AtReturn l r1 r2 o) where
-    back_free : (q : ℕ) → framed o.frames q ≡ None → beside l o.frames q ≡ None
-    unfolding beside
-    back_free q e = ap (λ x. mapped_or (flat l o.frames) x None) e
-
     pub back_first : Untouched id id a 1 t
     back_first = untouched_one a t (λ h. elim (touched_by id t a h) as (λ _. ⊥) [
       | inl e ↦ not_none (rd.free a (ap target_of (sym (face_same Pc)) ∙ e))
-      | inr x ↦ (let got = fetch_commutes look id (flat l o.frames) (beside l o.frames) o.maps t m k.0 (λ q e. back_free q (rd.free q e)) in
+      | inr x ↦ (let got = fetch_commutes look id (flat l o.frames) (beside l o.frames) o.maps t m k.0 (λ q e. beside-none l o.frames q (rd.free q e)) in
           let same : some (Xjmp r1 r2) rd.next ≡ some x.0 x.1 = sym (got ∙ rd.fetched) ∙ x.2 in let n : Xjmp r1 r2 ≡ x.0 = cc in let bad : None ≡ Some a = ap (λ y. target y (faces id t)) n ∙ x.3 in cc)
     ])
 

@@ -1,9 +1,12 @@
 -- The sites and the owners of a start, as an overlay finds them.
-use Rattle.std.proofs.Common.{◌≡◌, inl, inr, ℕ, zero, suc, ◌+◌, ◌-◌, ◌<◌, ◌≤◌, Bool, true, false, not, List, [], ◌∷◌, length, get_or, map, Option, Some, None, refl, sym, ap, subst, ◌∙◌, arith, eq-eqb, le-leb, lt-ltb}
+use Rattle.std.proofs.Common.{◌≡◌, inl, inr, ℕ, zero, suc, ◌+◌, ◌-◌, ◌<◌, ◌≤◌, Bool, true, false, not, List}
+use Rattle.std.proofs.Common.{[], ◌∷◌, length, get_or, map, Option, Some, None, refl, sym, ap, subst, ◌∙◌}
+use Rattle.std.proofs.Common.{arith, eq-eqb, le-leb, lt-ltb}
 use borrow.Author.Tests.{eqb-true}
-use Rattle.std.specs.Prelude.{slice_get, find, position, ◌==◌, ◌&&◌, nat_lt, ◌^◌, option_and_then, ℤ, if◌then◌else◌}
+use Rattle.std.specs.Prelude.{slice_get, find, position, ◌==◌, ◌&&◌, nat_lt, ◌^◌, option_and_then, ℤ}
+use Rattle.std.specs.Prelude.{if◌then◌else◌}
 use Rattle.std.specs.List.{Contains, list_any}
-use Rattle.std.proofs.lemmas.Bool.{cases_order}
+use Rattle.std.proofs.lemmas.Bool.{cases_order, and_parts, not-true}
 use Rattle.std.proofs.lemmas.Option.{slice_get_within, get_or_from_slice_get}
 use Rattle.cap_words.specs.declared.CapFields.{CapFields}
 use Rattle.cap_words.specs.declared.Perm.{Perm}
@@ -25,10 +28,13 @@ use Rattle.component_linker.specs.Linked.{Linked}
 use Rattle.component_linker.proofs.RegionFacts.{apart_parts, code_in, whole}
 use Rattle.overlay_machine.specs.declared.layout.Layout.{Layout}
 use Rattle.overlay_machine.specs.declared.layout.SiteCode.{SiteCode}
-use Rattle.overlay_machine.specs.Layout.{runs_in, trusted_owner, numbered, site_at, is_entry, with_code, code_in as code_among, site_code}
+use Rattle.overlay_machine.specs.Layout.{runs_part, trusted_owner, numbered, site_at, is_entry, with_code}
+use Rattle.overlay_machine.specs.Layout.{code_in as code_among, site_code}
 use Rattle.overlay_machine.specs.Linked.{any_pc}
 use Rattle.overlay_machine.specs.Names.{declared_site}
-use Rattle.overlay_machine.proofs.starts.ListFacts.{first_is, later_is, listed_at, index_of, one_at, found_is, only_found, any_is, any_of, position_is, is_placed, place_below}
+use Rattle.overlay_machine.proofs.starts.ListFacts.{first_is, later_is, listed_at, index_of, one_at, found_is}
+use Rattle.overlay_machine.proofs.starts.ListFacts.{only_found, any_is, any_of, position_is, is_placed}
+use Rattle.overlay_machine.proofs.starts.ListFacts.{place_below}
 
 -- ---- parts by their code
 
@@ -36,7 +42,8 @@ use Rattle.overlay_machine.proofs.starts.ListFacts.{first_is, later_is, listed_a
 abbrev pub InCode : PartSeen → ℕ → Type 0
 InCode p a = (p.component.code_base ≤ a) × (a < p.component.code_base + length p.component.code)
 
-code_apart : (parts : List PartSeen) (size k n a : ℕ) (p q : PartSeen) → Linked parts size → k < n → slice_get parts k ≡ Some p → slice_get parts n ≡ Some q → InCode p a → InCode q a → ⊥
+code_apart : (parts : List PartSeen) (size k n a : ℕ) (p q : PartSeen) → Linked parts size → k < n
+    → slice_get parts k ≡ Some p → slice_get parts n ≡ Some q → InCode p a → InCode q a → ⊥
 code_apart parts size k n a p q linked lt at_k at_n in_p in_q =
     let r = whole p.component.code_base (length p.component.code) false in
     let s = whole q.component.code_base (length q.component.code) false in
@@ -47,7 +54,8 @@ code_apart parts size k n a p q linked lt at_k at_n in_p in_q =
     elim apart as (λ _. ⊥) [ inl e ↦ omega (arith, e, low_p, high_p, low_q, high_q) | inr e ↦ omega (arith, e, low_p, high_p, low_q, high_q) ]
 
 -- two parts with a common address of their code are one
-pub one_part : (parts : List PartSeen) (size k n a : ℕ) (p q : PartSeen) → Linked parts size → slice_get parts k ≡ Some p → slice_get parts n ≡ Some q → InCode p a → InCode q a → k ≡ n
+pub one_part : (parts : List PartSeen) (size k n a : ℕ) (p q : PartSeen) → Linked parts size
+    → slice_get parts k ≡ Some p → slice_get parts n ≡ Some q → InCode p a → InCode q a → k ≡ n
 one_part parts size k n a p q linked at_k at_n in_p in_q = elim (cases_order k n) as (λ _. k ≡ n) [
   | inl e ↦ e
   | inr (inl lt) ↦ absurd (code_apart parts size k n a p q linked lt at_k at_n in_p in_q)
@@ -55,18 +63,11 @@ one_part parts size k n a p q linked at_k at_n in_p in_q = elim (cases_order k n
 ]
 
 -- the first address of a part's code
-pub first_in_code : (parts : List PartSeen) (size k : ℕ) (p : PartSeen) → Linked parts size → slice_get parts k ≡ Some p → InCode p p.component.code_base
+pub first_in_code : (parts : List PartSeen) (size k : ℕ) (p : PartSeen) → Linked parts size
+    → slice_get parts k ≡ Some p → InCode p p.component.code_base
 first_in_code parts size k p linked at = let some = (linked.closed.kept k p at).limits.code.0.0 in (omega arith, omega (arith, some))
 
 -- ---- tests
-
-pub and_both : (a b : Bool) → (a && b) ≡ true → (a ≡ true) × (b ≡ true)
-and_both true b e = (refl, e)
-and_both false b e = absurd cc
-
-not_true : (b : Bool) → not b ≡ true → b ≡ false
-not_true true e = absurd cc
-not_true false e = refl
 
 rx_is : (p : Perm) → (perm_number p == 3) ≡ true → p ≡ Rx
 rx_is No e = absurd cc
@@ -79,33 +80,39 @@ normal_is : (l : Lin) → lin_is l ≡ false → l ≡ Normal
 normal_is Normal e = refl
 normal_is Linear e = absurd cc
 
-same_cap : (a b : CapFields) → a.perm ≡ b.perm → a.lin ≡ b.lin → a.base ≡ b.base → a.end ≡ b.end → a.addr ≡ b.addr → a ≡ b
+same_cap : (a b : CapFields) → a.perm ≡ b.perm → a.lin ≡ b.lin → a.base ≡ b.base → a.end ≡ b.end
+    → a.addr ≡ b.addr → a ≡ b
 same_cap a b perm lin base end addr = λ i. record { perm = perm i; lin = lin i; base = base i; end = end i; addr = addr i }
 
-runs_is : (c : CapFields) (o : Owner) → runs_in c o ≡ true → (o.trusted ≡ true) × (c.perm ≡ Rx) × (c.lin ≡ Normal) × (c.base ≡ o.code.base) × (c.end ≡ o.code.end)
+runs_is : (c : CapFields) (o : Owner) → runs_part c o ≡ true
+    → (o.trusted ≡ true) × (c.perm ≡ Rx) × (c.lin ≡ Normal) × (c.base ≡ o.code.base) × (c.end ≡ o.code.end)
 runs_is c o e =
-    let a = and_both _ (c.end == o.code.end) e in
-    let b = and_both _ (c.base == o.code.base) a.0 in
-    let d = and_both _ (not (lin_is c.lin)) b.0 in
-    let f = and_both o.trusted (perm_number c.perm == 3) d.0 in
-    (f.0, rx_is c.perm f.1, normal_is c.lin (not_true (lin_is c.lin) d.1), eqb-true c.base o.code.base b.1, eqb-true c.end o.code.end a.1)
+    let a = and_parts _ (c.end == o.code.end) e in
+    let b = and_parts _ (c.base == o.code.base) a.0 in
+    let d = and_parts _ (not (lin_is c.lin)) b.0 in
+    let f = and_parts o.trusted (perm_number c.perm == 3) d.0 in
+    (f.0, rx_is c.perm f.1, normal_is c.lin (not-true (lin_is c.lin) d.1), eqb-true c.base o.code.base b.1, eqb-true c.end o.code.end a.1)
 
 -- ---- entries
 
 -- an entry is that of an export
-unlisted : (c : ComponentFields) (es : List Export) (x : Entry) → Contains (map (entry_of c) es) x → (e : Export) × Contains es e × (entry_of c e ≡ x)
+unlisted : (c : ComponentFields) (es : List Export) (x : Entry) → Contains (map (entry_of c) es) x
+    → (e : Export) × Contains es e × (entry_of c e ≡ x)
 unlisted c [] x m = absurd (omega (arith, m.1))
 unlisted c (e ∷ es) x (zero, lt, q) = (e, (0, omega arith, refl), q)
 unlisted c (e ∷ es) x (suc k, lt, q) = let y = unlisted c es x (k, omega (arith, lt), q) in (y.0, later_is e y.0 es y.1, y.2)
 
-unmapped : (c : ComponentFields) (es : List Export) (a : ℕ) → list_any (λ (e : Entry). e.at == a) (map (entry_of c) es) ≡ true → (e : Export) × Contains es e × (c.code_base + e.offset ≡ a)
+unmapped : (c : ComponentFields) (es : List Export) (a : ℕ)
+    → list_any (λ (e : Entry). e.at == a) (map (entry_of c) es) ≡ true
+    → (e : Export) × Contains es e × (c.code_base + e.offset ≡ a)
 unmapped c es a t =
     let x = any_of (λ (e : Entry). e.at == a) (map (entry_of c) es) t in
     let y = unlisted c es x.0 x.1 in
     (y.0, y.1, ap (λ (z : Entry). z.at) y.2 ∙ eqb-true (x.0).at a x.2)
 
 -- and each export has one
-relisted : (c : ComponentFields) (es : List Export) (e : Export) → Contains es e → Contains (map (entry_of c) es) (entry_of c e)
+relisted : (c : ComponentFields) (es : List Export) (e : Export) → Contains es e
+    → Contains (map (entry_of c) es) (entry_of c e)
 relisted c [] e m = absurd (omega (arith, m.1))
 relisted c (x ∷ xs) e (zero, lt, q) = subst (Contains (entry_of c x ∷ map (entry_of c) xs)) (ap (entry_of c) q) (first_is (entry_of c x) (map (entry_of c) xs))
 relisted c (x ∷ xs) e (suc k, lt, q) = later_is (entry_of c x) (entry_of c e) (map (entry_of c) xs) (relisted c xs e (k, omega (arith, lt), q))
@@ -149,7 +156,7 @@ module _ (parts : List PartSeen) (size : ℕ) (l : Layout) (linked : Linked part
       → (p : PartSeen) × (slice_get parts o.part ≡ Some p) × (p.trusted ≡ true) × (c ≡ any_pc p c.addr) × (o ≡ owner_of o.part p)
   unfolding owner_of
   trusted_is c o e =
-      let f = found_is (runs_in c) l.owners o e in
+      let f = found_is (runs_part c) l.owners o e in
       let is = (owners.all o).0 f.0 in
       let r = runs_is c o f.1 in
       let trusted : is.of.trusted ≡ true = sym (ap (λ (x : Owner). x.trusted) is.is) ∙ r.0 in
@@ -158,16 +165,17 @@ module _ (parts : List PartSeen) (size : ℕ) (l : Layout) (linked : Linked part
       (is.of, is.of_is, trusted, same_cap c (any_pc is.of c.addr) r.1 r.2 base end refl, is.is)
 
   -- and each trusted part is found so
-  pub trusted_found : (k : ℕ) (p : PartSeen) (z : ℤ) → slice_get parts k ≡ Some p → p.trusted ≡ true → trusted_owner l (Memory (any_pc p z)) ≡ Some (owner_of k p)
+  pub trusted_found : (k : ℕ) (p : PartSeen) (z : ℤ) → slice_get parts k ≡ Some p → p.trusted ≡ true
+      → trusted_owner l (Memory (any_pc p z)) ≡ Some (owner_of k p)
   unfolding owner_of
   trusted_found k p z at trusted =
       let last = p.component.code_base + length p.component.code - 1 in
       let base : (p.component.code_base == p.component.code_base) ≡ true = eq-eqb p.component.code_base p.component.code_base refl in
       let end : (last == last) ≡ true = eq-eqb last last refl in
-      let runs : runs_in (any_pc p z) (owner_of k p) ≡ true = rw (trusted, base, end) refl in
-      only_found (runs_in (any_pc p z)) l.owners (owner_of k p) (owner_listed k p at) runs only
+      let runs : runs_part (any_pc p z) (owner_of k p) ≡ true = rw (trusted, base, end) refl in
+      only_found (runs_part (any_pc p z)) l.owners (owner_of k p) (owner_listed k p at) runs only
     where
-      only : (o : Owner) → Contains l.owners o → runs_in (any_pc p z) o ≡ true → o ≡ owner_of k p
+      only : (o : Owner) → Contains l.owners o → runs_part (any_pc p z) o ≡ true → o ≡ owner_of k p
       only o m t =
           let is = (owners.all o).0 m in
           let r = runs_is (any_pc p z) o t in
@@ -183,7 +191,8 @@ module _ (parts : List PartSeen) (size : ℕ) (l : Layout) (linked : Linked part
 
   -- an entry of a trusted part at an address of a trusted part is its own
   pub entry_found : (each : (k : ℕ) (p : PartSeen) → slice_get parts k ≡ Some p → p.trusted ≡ true → (e : Export) → Contains p.component.exports e → e.offset < length p.component.code)
-      → (k o : ℕ) (p : PartSeen) → slice_get parts k ≡ Some p → p.trusted ≡ true → o < length p.component.code → is_entry l (p.component.code_base + o) ≡ begins_entry p.component o
+      → (k o : ℕ) (p : PartSeen) → slice_get parts k ≡ Some p → p.trusted ≡ true → o < length p.component.code
+      → is_entry l (p.component.code_base + o) ≡ begins_entry p.component o
   unfolding begins_entry owner_of
   entry_found each k o p at trusted lt = both (is_entry l (p.component.code_base + o)) (list_any (λ e. e.offset == o) p.component.exports) to_export to_entry
     where
@@ -192,17 +201,19 @@ module _ (parts : List PartSeen) (size : ℕ) (l : Layout) (linked : Linked part
       both false true f g = g refl
       both false false f g = refl
 
-      to_entry : list_any (λ (e : Export). e.offset == o) p.component.exports ≡ true → is_entry l (p.component.code_base + o) ≡ true
+      to_entry : list_any (λ (e : Export). e.offset == o) p.component.exports ≡ true
+          → is_entry l (p.component.code_base + o) ≡ true
       to_entry t =
           let e = any_of (λ (x : Export). x.offset == o) p.component.exports t in
           let off : (e.0).offset ≡ o = eqb-true (e.0).offset o e.2 in
           let there = any_is (λ (x : Entry). x.at == p.component.code_base + o) (map (entry_of p.component) p.component.exports) (entry_of p.component e.0) (relisted p.component p.component.exports e.0 e.1) (eq-eqb (p.component.code_base + (e.0).offset) (p.component.code_base + o) (ap (λ n. p.component.code_base + n) off)) in
           any_is (λ w. w.trusted && list_any (λ x. x.at == p.component.code_base + o) w.entries) l.owners (owner_of k p) (owner_listed k p at) (rw (trusted, there) refl)
 
-      to_export : is_entry l (p.component.code_base + o) ≡ true → list_any (λ (e : Export). e.offset == o) p.component.exports ≡ true
+      to_export : is_entry l (p.component.code_base + o) ≡ true
+          → list_any (λ (e : Export). e.offset == o) p.component.exports ≡ true
       to_export t =
           let w = any_of (λ w. w.trusted && list_any (λ x. x.at == p.component.code_base + o) w.entries) l.owners t in
-          let both = and_both (w.0).trusted (list_any (λ x. x.at == p.component.code_base + o) (w.0).entries) w.2 in
+          let both = and_parts (w.0).trusted (list_any (λ x. x.at == p.component.code_base + o) (w.0).entries) w.2 in
           let is = (owners.all w.0).0 w.1 in
           let trusted' : is.of.trusted ≡ true = sym (ap (λ (x : Owner). x.trusted) is.is) ∙ both.0 in
           let there : list_any (λ (x : Entry). x.at == p.component.code_base + o) (map (entry_of is.of.component) is.of.component.exports) ≡ true = sym (ap (λ (x : Owner). list_any (λ (y : Entry). y.at == p.component.code_base + o) x.entries) is.is) ∙ both.1 in
@@ -220,7 +231,8 @@ module _ (parts : List PartSeen) (size : ℕ) (l : Layout) (linked : Linked part
   -- ---- sites
 
   module _ (sites : AreSites parts l.sites) where
-    code_found : (s : Site) (p : PartSeen) → slice_get parts s.part ≡ Some p → code_among l.owners s ≡ Some (site_code_of s p)
+    code_found : (s : Site) (p : PartSeen) → slice_get parts s.part ≡ Some p
+        → code_among l.owners s ≡ Some (site_code_of s p)
     unfolding owner_of
     code_found s p at =
         let kept = linked.closed.kept s.part p at in
@@ -231,7 +243,8 @@ module _ (parts : List PartSeen) (size : ℕ) (l : Layout) (linked : Linked part
         ap (option_and_then (with_code s)) (owner_numbered s.part p at) ∙ rw (low, high) refl
 
     -- a listed site has a number, and is one of a part
-    pub site_has_code : (j : ℕ) (s : Site) (is : IsSite parts s) → slice_get l.sites j ≡ Some s → site_code l j ≡ Some (site_code_of s is.of)
+    pub site_has_code : (j : ℕ) (s : Site) (is : IsSite parts s) → slice_get l.sites j ≡ Some s
+        → site_code l j ≡ Some (site_code_of s is.of)
     unfolding site_code
     site_has_code j s is at = ap (option_and_then (code_among l.owners)) at ∙ code_found s is.of is.of_is
 
@@ -239,7 +252,8 @@ module _ (parts : List PartSeen) (size : ℕ) (l : Layout) (linked : Linked part
     unfolding site_code
     site_of j c e = by_site (slice_get l.sites j) refl e
       where
-        by_site : (o : Option Site) → slice_get l.sites j ≡ o → option_and_then (code_among l.owners) o ≡ Some c → NumberedSite parts l j c
+        by_site : (o : Option Site) → slice_get l.sites j ≡ o
+            → option_and_then (code_among l.owners) o ≡ Some c → NumberedSite parts l j c
         by_site None at h = absurd cc
         by_site (Some s) at h =
             let is = (sites.all s).0 (listed_at l.sites j s at) in
@@ -255,20 +269,23 @@ module _ (parts : List PartSeen) (size : ℕ) (l : Layout) (linked : Linked part
         by_test false h = absurd cc
 
     -- the site that an address was found to be
-    pub site_found : (j a : ℕ) → site_at l a ≡ Some j → (s : Site) × (slice_get l.sites j ≡ Some s) × (s.at ≡ a)
+    pub site_found : (j a : ℕ) → site_at l a ≡ Some j
+        → (s : Site) × (slice_get l.sites j ≡ Some s) × (s.at ≡ a)
     site_found j a e =
         let p = position_is (λ (s : Site). s.at == a) l.sites j (numbered_is (position (λ (s : Site). s.at == a) l.sites) j e) in
         (p.0, p.1, eqb-true (p.0).at a p.2)
 
     -- two sites at one address have one place
-    pub one_place : (i j : ℕ) (s t : Site) → slice_get l.sites i ≡ Some s → slice_get l.sites j ≡ Some t → s.at ≡ t.at → i ≡ j
+    pub one_place : (i j : ℕ) (s t : Site) → slice_get l.sites i ≡ Some s → slice_get l.sites j ≡ Some t
+        → s.at ≡ t.at → i ≡ j
     one_place i j s t at_i at_j e = elim (cases_order i j) as (λ _. i ≡ j) [
       | inl h ↦ h
       | inr (inl lt) ↦ absurd (rises i j s t at_i at_j lt e)
       | inr (inr lt) ↦ absurd (rises j i t s at_j at_i lt (sym e))
     ]
       where
-        rises : (i j : ℕ) (s t : Site) → slice_get l.sites i ≡ Some s → slice_get l.sites j ≡ Some t → i < j → s.at ≡ t.at → ⊥
+        rises : (i j : ℕ) (s t : Site) → slice_get l.sites i ≡ Some s → slice_get l.sites j ≡ Some t → i < j
+            → s.at ≡ t.at → ⊥
         rises i j s t at_i at_j lt e =
             let step = sites.ascend i j s lt (slice_get_within l.sites j t at_j) in
             let a : (get_or l.sites i s).at ≡ s.at = ap (λ (x : Site). x.at) (get_or_from_slice_get l.sites i s s at_i) in
@@ -288,7 +305,8 @@ module _ (parts : List PartSeen) (size : ℕ) (l : Layout) (linked : Linked part
         rw small refl
 
     -- each site of a trusted part is found at its address
-    pub site_at_code : (k i o : ℕ) (p : PartSeen) → slice_get parts k ≡ Some p → p.trusted ≡ true → slice_get p.component.sites i ≡ Some o
+    pub site_at_code : (k i o : ℕ) (p : PartSeen) → slice_get parts k ≡ Some p → p.trusted ≡ true
+        → slice_get p.component.sites i ≡ Some o
         → (j : ℕ) × (site_at l (p.component.code_base + o) ≡ Some j) × (slice_get l.sites j ≡ Some (declared_site k p i o))
     site_at_code k i o p at trusted is =
         let a = p.component.code_base + o in
@@ -303,7 +321,8 @@ module _ (parts : List PartSeen) (size : ℕ) (l : Layout) (linked : Linked part
         (place.0, ap (option_and_then numbered) place.1 ∙ place_fits place.0 s here, here)
 
     -- where no site is found, none begins
-    pub no_site_at : (k o : ℕ) (p : PartSeen) → slice_get parts k ≡ Some p → p.trusted ≡ true → site_at l (p.component.code_base + o) ≡ None → begins_site p.component o ≡ false
+    pub no_site_at : (k o : ℕ) (p : PartSeen) → slice_get parts k ≡ Some p → p.trusted ≡ true
+        → site_at l (p.component.code_base + o) ≡ None → begins_site p.component o ≡ false
     unfolding begins_site
     no_site_at k o p at trusted none = by_test (list_any (λ s. s == o) p.component.sites) refl
       where

@@ -1,38 +1,42 @@
 -- The names and numbers that the layout of a linked start tells of its trusted parts.
-use Rattle.std.proofs.Common.{◌≡◌, inl, inr, ℕ, ◌+◌, ◌<◌, ◌≤◌, ◌^◌, ℤ, Bool, true, false, not, cond, List, [], ◌∷◌, length, map, Option, Some, None, refl, sym, ap, subst, ◌∙◌, arith, eq-eqb, le-leb, lt-ltb}
+use Rattle.std.proofs.Common.{◌≡◌, inl, inr, ℕ, ◌+◌, ◌^◌, true, false, not, cond, List, [], ◌∷◌, length, map}
+use Rattle.std.proofs.Common.{Some, refl, sym, ap, subst, ◌∙◌, arith, eq-eqb, le-leb, lt-ltb}
 use borrow.Author.Tests.{eqb-true}
-use Rattle.std.specs.Prelude.{slice_get, find, position, ◌==◌, ◌&&◌, IsTrue, option_map, option_and_then}
+use Rattle.std.specs.Prelude.{slice_get, ◌==◌, ◌&&◌, IsTrue, option_map, option_and_then}
 use Rattle.std.specs.List.{Contains, position_or_len}
-use Rattle.std.proofs.lemmas.Bool.{cases_eq, ne_eqb}
+use Rattle.std.proofs.lemmas.Bool.{cases_eq, ne_eqb, and_parts}
 use Rattle.std.proofs.lemmas.Option.{slice_get_within, slice_get-map}
 use Rattle.std.proofs.lemmas.List.{length-map}
 use Rattle.std.proofs.lemmas.List.Folds.{find_at}
-use Rattle.cap_words.specs.declared.Face.TheVariants.{Memory}
 use Rattle.component_file.specs.declared.component.ComponentFields.{ComponentFields}
 use Rattle.component_file.specs.declared.component.Export.{Export}
-use Rattle.flow_check.specs.Holds.{code_at}
 use Rattle.flow_check.specs.Places.{begins_entry}
 use Rattle.component_linker.specs.declared.owners.Site.{Site}
 use Rattle.component_linker.specs.declared.owners.Owner.{Owner}
 use Rattle.component_linker.specs.declared.owners.Entry.{Entry}
 use Rattle.component_linker.specs.Parts.{PartSeen}
-use Rattle.component_linker.specs.Owners.{IsSite, AreSites, AreOwners, owner_of, entry_of}
+use Rattle.component_linker.specs.Owners.{AreSites, AreOwners, owner_of, entry_of}
 use Rattle.component_linker.specs.SealsApart.{is_seal_of, PartsApart, SitesApart}
 use Rattle.component_linker.specs.Linked.{Linked}
 use Rattle.component_linker.proofs.LinksKept.{are_linked}
 use Rattle.component_linker.proofs.SealsKept.{parts_apart, sites_apart}
 use Rattle.overlay_machine.specs.declared.layout.Layout.{Layout}
 use Rattle.overlay_machine.specs.declared.layout.SiteCode.{SiteCode}
-use Rattle.overlay_machine.specs.Layout.{numbered, number_of, site_code}
-use Rattle.overlay_machine.specs.Events.{closure_owner, entry_number, site_of_seal}
+use Rattle.overlay_machine.specs.Layout.{numbered, site_code}
+use Rattle.overlay_machine.specs.Events.{closure_owner, site_of_seal}
 use Rattle.overlay_machine.specs.Link.{ranges_of}
 use Rattle.overlay_machine.specs.Linked.{SiteOf}
 use Rattle.overlay_machine.specs.Starting.{AreParts, overlay_at}
-use Rattle.overlay_machine.specs.Names.{part_name, entry_text, entry_name, site_or, site_of, PartNamed, EntryNamed, declared_site, SiteNumbered, SiteTold, NamesTold, StartsTellNames}
+use Rattle.overlay_machine.specs.Names.{part_name, entry_text, entry_name, site_or, site_of, PartNamed}
+use Rattle.overlay_machine.specs.Names.{EntryNamed, declared_site, SiteNumbered, SiteTold, NamesTold}
+use Rattle.overlay_machine.specs.Names.{StartsTellNames}
 use Rattle.overlay_machine.specs.Names as names
-use Rattle.overlay_machine.proofs.starts.ListFacts.{listed_at, index_of, one_at, found_is, is_found, only_found, any_of, position_is, is_placed}
+use Rattle.overlay_machine.proofs.starts.ListFacts.{listed_at, index_of, one_at, found_is, is_found}
+use Rattle.overlay_machine.proofs.starts.ListFacts.{only_found, any_of, position_is, is_placed}
 use Rattle.overlay_machine.proofs.starts.PartFacts.{export_within}
-use Rattle.overlay_machine.proofs.starts.LayoutFacts.{and_both, InCode, one_part, first_in_code, owner_listed, owner_numbered, trusted_found, NumberedSite, site_code_of, place_fits, site_at_code, one_place}
+use Rattle.overlay_machine.proofs.starts.LayoutFacts.{InCode, one_part, first_in_code, owner_listed}
+use Rattle.overlay_machine.proofs.starts.LayoutFacts.{owner_numbered, trusted_found, place_fits, site_at_code}
+use Rattle.overlay_machine.proofs.starts.LayoutFacts.{one_place}
 use Rattle.overlay_machine.proofs.starts.LayoutFacts as layout
 use Rattle.overlay_machine.proofs.starts.LinkedFacts.{own_closure}
 
@@ -72,7 +76,7 @@ module _ (parts : List PartSeen) (size : ℕ) (l : Layout) (each : AreParts part
       only o m t =
           let is = (owners.all o).0 m in
           let q = is.of in
-          let closed = eqb-true o.closure p.component.closure (and_both o.trusted _ t).1 in
+          let closed = eqb-true o.closure p.component.closure (and_parts o.trusted _ t).1 in
           let own : q.component.closure ≡ p.component.closure =
           sym (ap (λ (x : Owner). x.closure) is.is) ∙ closed in
           let has = subst (λ k. IsTrue (is_seal_of q k)) own (own_closure q) in

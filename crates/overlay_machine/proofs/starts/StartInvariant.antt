@@ -1,12 +1,15 @@
 -- The invariant holds of the overlay of a linked start, with the start's own registers and cells.
-use Rattle.std.proofs.Common.{◌≡◌, inl, ℕ, ◌+◌, ◌≤◌, Bool, true, false, pos, List, [], Option, Some, None, refl, sym, ap, subst, ◌∙◌, arith}
-use Rattle.std.specs.Prelude.{slice_get, option_map, ◌&&◌, not, is_some, IsSome, if◌then◌else◌}
+use Rattle.std.proofs.Common.{◌≡◌, inl, ℕ, ◌+◌, ◌≤◌, Bool, true, false, pos, List, [], Option, Some, None}
+use Rattle.std.proofs.Common.{refl, sym, ap, subst, ◌∙◌, arith}
+use Rattle.std.specs.Prelude.{slice_get, option_map, ◌&&◌, not, is_some, if◌then◌else◌}
 use Rattle.std.specs.List.{Contains}
+use Rattle.overlay_machine.proofs.FlatLemmas.{flat-plain}
 use Rattle.cap_words.specs.declared.Word.{Word}
 use Rattle.cap_words.specs.declared.Word.TheVariants.{Mem}
 use Rattle.cap_words.specs.declared.Perm.TheVariants.{Rx, Rwx}
 use Rattle.lcm_isa.specs.declared.Reg.{Reg}
-use Rattle.lcm_isa.specs.declared.Reg.TheVariants.{Pc, Rcode, Rdata, Stk, Dat, T1, T2, C1, C2, A0, A1, A2, A3, G0, G1, G2}
+use Rattle.lcm_isa.specs.declared.Reg.TheVariants.{Pc, Rcode, Rdata, Stk, Dat, T1, T2, C1, C2, A0, A1, A2, A3}
+use Rattle.lcm_isa.specs.declared.Reg.TheVariants.{G0, G1, G2}
 use Rattle.lcm_machine.specs.declared.Place.{Place}
 use Rattle.lcm_machine.specs.declared.Place.TheVariants.{R, Cell}
 use Rattle.lcm_machine.specs.Maps.{Regs}
@@ -36,7 +39,8 @@ use Rattle.overlay_machine.specs.Words.{look}
 use Rattle.overlay_machine.specs.State.{OpenFrame, framed}
 use Rattle.overlay_machine.specs.Flat.{flat, beside, IsFlat}
 use Rattle.overlay_machine.specs.Seen.{OverlaySeen, IsOverlayOf}
-use Rattle.overlay_machine.specs.Link.{Link, IsTrusted, IsUntrusted, ranges_of, IsOpenAt, IsStackCell, has_cell, CodeIn, stack_region}
+use Rattle.overlay_machine.specs.Link.{Link, IsTrusted, IsUntrusted, ranges_of, IsOpenAt, IsStackCell}
+use Rattle.overlay_machine.specs.Link.{has_cell, CodeIn, stack_region}
 use Rattle.overlay_machine.specs.Safe.{IsSafe, IsMet}
 use Rattle.overlay_machine.specs.Linked.{Linked}
 use Rattle.overlay_machine.specs.Invariant.{PcPart, at_row, outside, FramesLie, Invariant}
@@ -50,26 +54,20 @@ use Rattle.overlay_machine.proofs.starts.StartSafe.{code_safe, data_safe, stack_
 
 -- ---- words of a plain state, in an overlay with no frame
 
-flat_plain : (l : Layout) (fs : List OpenFrame) (w : Word) → flat l fs (Plain w) ≡ w
-unfolding flat
-flat_plain l fs w = refl
-
 beside_none : (l : Layout) (a : ℕ) → beside l [] a ≡ None
 unfolding beside
 beside_none l a = refl
 
 -- a word that is there as a plain one is met
-met_plain : (g : Link) (fs : List OpenFrame) (x : Option Word) (w : OWord) → option_map Plain x ≡ Some w → IsMet g fs w
+met_plain : (g : Link) (fs : List OpenFrame) (x : Option Word) (w : OWord) → option_map Plain x ≡ Some w
+    → IsMet g fs w
 met_plain g fs None w e = absurd cc
 met_plain g fs (Some x) w e = let is : Plain x ≡ w = cc in subst (IsMet g fs) is tt
 
-word_of_plain : (x : Option Word) (w : OWord) → option_map Plain x ≡ Some w → (v : Word) × (x ≡ Some v) × (w ≡ Plain v)
+word_of_plain : (x : Option Word) (w : OWord) → option_map Plain x ≡ Some w
+    → (v : Word) × (x ≡ Some v) × (w ≡ Plain v)
 word_of_plain None w e = absurd cc
 word_of_plain (Some v) w e = (v, refl, (let is : Plain v ≡ w = cc in sym is))
-
-some_map : (x : Option Word) → IsSome x → IsSome (option_map Plain x)
-some_map None h = h
-some_map (Some w) h = refl
 
 -- ---- the overlay of a start
 
@@ -82,9 +80,6 @@ module _ (site_words : SitesStand) (entry_words : EntriesStand) (parts : List Pa
 
   pub start_linked : Linked (record { parts = parts; size = size; layout = o.layout })
   start_linked = linked site_words entry_words parts size s o.layout each link over.sites over.owners over.stack
-
-  part_of : (p : PartSeen) → Contains parts p → IsPart p
-  part_of p m = let k = index_of parts p m in each k.0 p k.1
 
   -- ---- cells
 
@@ -99,16 +94,18 @@ module _ (site_words : SitesStand) (entry_words : EntriesStand) (parts : List Pa
 
   is_flat : IsFlat o.layout o.state s.state.maps
   is_flat = record {
-    regs = λ r. sym (ap (flat o.layout o.state.frames) (over.regs r) ∙ flat_plain o.layout o.state.frames (reg s.state.maps.regs r));
+    regs = λ r. sym (ap (flat o.layout o.state.frames) (over.regs r) ∙ flat-plain o.layout o.state.frames (reg s.state.maps.regs r));
     cells = flat_cell;
     spans = sym over.spans;
   }
     where
-      by_cell : (a : ℕ) (x : Option Word) → x ≡ mapped_or (flat o.layout o.state.frames) (option_map Plain x) (beside o.layout o.state.frames a)
+      by_cell : (a : ℕ) (x : Option Word)
+          → x ≡ mapped_or (flat o.layout o.state.frames) (option_map Plain x) (beside o.layout o.state.frames a)
       by_cell a None = sym (ap (λ fs. beside o.layout fs a) over.frames ∙ beside_none o.layout a)
-      by_cell a (Some w) = ap Some (sym (flat_plain o.layout o.state.frames w))
+      by_cell a (Some w) = ap Some (sym (flat-plain o.layout o.state.frames w))
 
-      flat_cell : (a : ℕ) → cell s.state.maps.cells a ≡ mapped_or (flat o.layout o.state.frames) (cell o.state.maps.cells a) (beside o.layout o.state.frames a)
+      flat_cell : (a : ℕ)
+          → cell s.state.maps.cells a ≡ mapped_or (flat o.layout o.state.frames) (cell o.state.maps.cells a) (beside o.layout o.state.frames a)
       flat_cell a = by_cell a (cell s.state.maps.cells a) ∙ ap (λ x. mapped_or (flat o.layout o.state.frames) x (beside o.layout o.state.frames a)) (sym (cell_plain a))
 
   -- ---- registers
@@ -130,13 +127,14 @@ module _ (site_words : SitesStand) (entry_words : EntriesStand) (parts : List Pa
   stack_order = start_linked.filled (stack_region o.layout) (stack_region_of parts size (stack_region o.layout) stack_listed)
 
   stk_safe : IsSafe g [] (Plain (Mem (stack_of (stack_base_of parts) size)))
-  stk_safe = subst (λ c. IsSafe g [] (Plain (Mem c))) (sym stack_cap_is) (stack_safe g part_of stack_order)
+  stk_safe = subst (λ c. IsSafe g [] (Plain (Mem c))) (sym stack_cap_is) (stack_safe g start_linked.parts stack_order)
 
   -- main of an untrusted part
-  regs_safe : IsUntrusted g link.starts.state.main.part → (r : Reg) → IsSafe g [] (Plain (reg (start_regs parts size link.starts.state.main) r))
+  regs_safe : IsUntrusted g link.starts.state.main.part → (r : Reg)
+      → IsSafe g [] (Plain (reg (start_regs parts size link.starts.state.main) r))
   unfolding start_regs
-  regs_safe u Pc = code_safe g part_of link.starts.state.main u
-  regs_safe u Dat = data_safe g part_of link.starts.state.main.part u
+  regs_safe u Pc = code_safe g start_linked.parts link.starts.state.main u
+  regs_safe u Dat = data_safe g start_linked.parts link.starts.state.main.part u
   regs_safe u Stk = stk_safe
   regs_safe u Rcode = tt
   regs_safe u Rdata = tt
@@ -153,7 +151,8 @@ module _ (site_words : SitesStand) (entry_words : EntriesStand) (parts : List Pa
   regs_safe u G2 = tt
 
   -- main of a trusted part: the registers fit the row of an entry
-  kinds_fit : (r : Reg) → is_pc r ≡ false → HasKind look (IsSafe g []) (IsStackCell g []) (ranges_of link.starts.state.main.part) (kind_of entry_row r) (Plain (reg (start_regs parts size link.starts.state.main) r))
+  kinds_fit : (r : Reg) → is_pc r ≡ false
+      → HasKind look (IsSafe g []) (IsStackCell g []) (ranges_of link.starts.state.main.part) (kind_of entry_row r) (Plain (reg (start_regs parts size link.starts.state.main) r))
   unfolding start_regs kind_of
   kinds_fit Pc e = absurd cc
   kinds_fit Dat e = (pos link.starts.state.main.part.component.data_base, refl)
@@ -172,7 +171,8 @@ module _ (site_words : SitesStand) (entry_words : EntriesStand) (parts : List Pa
   kinds_fit G1 e = tt
   kinds_fit G2 e = tt
 
-  pc_is : link.starts.state.main.part.trusted ≡ true → reg (start_regs parts size link.starts.state.main) Pc ≡ Mem (code_at (ranges_of link.starts.state.main.part) link.starts.state.main.export.offset)
+  pc_is : link.starts.state.main.part.trusted ≡ true
+      → reg (start_regs parts size link.starts.state.main) Pc ≡ Mem (code_at (ranges_of link.starts.state.main.part) link.starts.state.main.export.offset)
   unfolding start_regs
   pc_is e = ap (λ b. Mem (record (code_of link.starts.state.main) { perm = if b then Rx else Rwx })) e
 
@@ -207,7 +207,9 @@ module _ (site_words : SitesStand) (entry_words : EntriesStand) (parts : List Pa
       same_some None = refl
       same_some (Some w) = refl
 
-      in_region : (x : Option Word) → start_cell parts size a ≡ x → (b : Bool) → in_regions a (regions_of parts size) ≡ b → is_some (start_cell parts size a) ≡ (in_regions a (regions_of parts size) && true)
+      in_region : (x : Option Word) → start_cell parts size a ≡ x → (b : Bool)
+          → in_regions a (regions_of parts size) ≡ b
+          → is_some (start_cell parts size a) ≡ (in_regions a (regions_of parts size) && true)
       in_region x e true t = region_has_cell parts size a t ∙ sym (ap (λ b. b && true) t)
       in_region None e false t = ap is_some e ∙ sym (ap (λ b. b && true) t)
       in_region (Some w) e false t = (let bad : true ≡ false = sym (cell_in_region parts size a w made.closed e) ∙ t in cc)
@@ -220,7 +222,7 @@ module _ (site_words : SitesStand) (entry_words : EntriesStand) (parts : List Pa
   cells_safe : (a : ℕ) (w : OWord) → IsOpenAt g a → cell o.state.maps.cells a ≡ Some w → IsSafe g [] w
   cells_safe a w open' e =
       let x = word_of_plain (start_cell parts size a) w (sym (start_cell_is a) ∙ e) in
-      subst (IsSafe g []) (sym x.2) (cell_safe g part_of size a x.0 open' x.1)
+      subst (IsSafe g []) (sym x.2) (cell_safe g start_linked.parts size a x.0 open' x.1)
 
   -- ---- all of it
 

@@ -1,17 +1,21 @@
 -- From the invariant: what each step writes, and so what a run does.
-use Rattle.std.proofs.Common.{◌≡◌, inl, inr, ℕ, zero, suc, ◌+◌, ◌-◌, ◌<◌, ◌≤◌, Bool, true, false, List, [], ◌++◌, Some, refl, sym, ap, ◌∙◌, arith, subst}
+use Rattle.std.proofs.Common.{◌≡◌, ℕ, zero, suc, ◌+◌, ◌-◌, ◌<◌, ◌≤◌, Bool, true, false, List, [], ◌++◌, Some}
+use Rattle.std.proofs.Common.{refl, sym, ap, ◌∙◌, arith, subst}
 use Rattle.std.specs.Prelude.{if◌then◌else◌}
 use Rattle.std.proofs.lemmas.List.{append-nil}
+use Rattle.overlay_machine.proofs.Offers.{no_ret_code, never_entry, flat-mem, HasEntry-flat, code_some}
+use Rattle.overlay_machine.proofs.Offers.{good_at, View, at_entry, in_part, failing, out, view, ready, looks}
+use Rattle.overlay_machine.proofs.Offers.{called, returned, kept}
 use Rattle.cap_words.specs.declared.Word.{Word}
 use Rattle.lcm_isa.specs.declared.Reg.{Reg}
 use Rattle.lcm_isa.specs.declared.Reg.TheVariants.{Pc}
 use Rattle.lcm_machine.specs.declared.Place.TheVariants.{R}
 use Rattle.lcm_machine.specs.Maps.{State}
 use Rattle.lcm_machine.specs.Places.{reg}
-use Rattle.lcm_machine.specs.Row.{Fetched, went, faces, cell_faces, fetch}
+use Rattle.lcm_machine.specs.Row.{went, faces, cell_faces, fetch}
 use Rattle.lcm_machine.specs.Run.{Run, next_state, plain, fresh, EndsAs}
 use Rattle.lcm_machine.specs.Runs.{run_of}
-use Rattle.lcm_machine.proofs.RunLemmas.{plain_ends}
+use Rattle.lcm_machine.proofs.Offers.{plain_ends}
 use Rattle.flow_check.specs.Places.{begins_entry}
 use Rattle.component_linker.specs.Parts.{PartSeen}
 use Rattle.overlay_machine.specs.declared.words.OWord.{OWord}
@@ -21,9 +25,10 @@ use Rattle.overlay_machine.specs.declared.cases.Case.TheVariants.{Call, Entry, B
 use Rattle.overlay_machine.specs.declared.layout.Layout.{Layout}
 use Rattle.overlay_machine.specs.declared.layout.SiteCode.{SiteCode}
 use Rattle.overlay_machine.specs.Layout.{site_code}
-use Rattle.overlay_machine.specs.Words.{look, is_plain, is_ret_code}
+use Rattle.overlay_machine.specs.Words.{look, is_ret_code}
 use Rattle.overlay_machine.specs.State.{OState}
-use Rattle.overlay_machine.specs.Step.{goes, case_fetched, case_of, step_by, overlay_step, weight_by, weight_of}
+use Rattle.overlay_machine.specs.Step.{goes, case_fetched, case_of, step_by, overlay_step, weight_by}
+use Rattle.overlay_machine.specs.Step.{weight_of}
 use Rattle.overlay_machine.specs.Flat.{IsFlat}
 use Rattle.overlay_machine.specs.Agree.{Looks, AtSite, AtEntry, AtReturn, ReadyFor}
 use Rattle.overlay_machine.specs.Events.{note_by, event_after as told_after, step_event}
@@ -31,20 +36,13 @@ use Rattle.overlay_machine.specs.Runs.{Reached, begins, goes_on, plain_run}
 use Rattle.overlay_machine.specs.Link.{Link, IsTrusted}
 use Rattle.overlay_machine.specs.Linked.{Linked}
 use Rattle.overlay_machine.specs.Invariant.{Invariant, KeepsAgreeing}
-use Rattle.overlay_machine.proofs.FlatLemmas.{flat-mem, HasEntry-flat}
-use Rattle.overlay_machine.proofs.ReturnAgrees.{code_some}
-use Rattle.overlay_machine.proofs.RunsAgree.{good_at}
-use Rattle.overlay_machine.proofs.invariant.View.{View, at_entry, in_part, failing, out, view}
-use Rattle.overlay_machine.proofs.invariant.Ready.{ready, looks, fetched_case}
-use Rattle.overlay_machine.proofs.invariant.CallKept.{called}
-use Rattle.overlay_machine.proofs.invariant.ReturnKept.{returned}
-use Rattle.overlay_machine.proofs.invariant.Kept.{kept}
 use Rattle.trace_tool.specs.Views.{flat_view}
 use Rattle.trace_tool.specs.Lines.{Line, lines_for}
 use Rattle.trace_tool.specs.Runs.{Watched, begun, watched, lines_of}
 use Rattle.trace_tool.specs.Told.{step_lines, Told, none_yet, and_then, EndsOverlay}
 use Rattle.trace_tool.specs.Alike.{LinesAgree}
 use Rattle.trace_tool.proofs.Split.{lines_split}
+use Rattle.trace_tool.proofs.StepTold.{reached_by}
 use Rattle.trace_tool.proofs.alike.Calm.{id, at_state, IsEnd, Calm}
 use Rattle.trace_tool.proofs.alike.Mute.{Mute, calm_mute, mute_lines, mute_ends, alike_goes, alike_ends}
 use Rattle.trace_tool.proofs.alike.Laying.{NoEnd}
@@ -59,21 +57,6 @@ calm_less : (l : Layout) (n : ℕ) (s : State Word) → Calm l (suc n) s → Cal
 calm_less l zero s h = tt
 calm_less l (suc n) s h = λ s' e. let q = h s' e in (q.0, calm_less l n s' q.1)
 
-plain_code : (w : OWord) → is_plain w ≡ true → is_ret_code w ≡ false
-plain_code (Plain w) e = refl
-plain_code (RetCode j) e = cc
-plain_code (RetData n) e = cc
-
--- a fetched instruction makes no entry
-never_entry : (s : State OWord) (f : Fetched) (a : ℕ) → Entry a ≡ case_fetched s f → ⊥
-never_entry s f a c = elim (fetched_case s f (Entry a) c) as (λ _. ⊥) [ inl h ↦ never_other h | inr h ↦ never_back h.0 h.1 h.3 ]
-  where
-    never_other : Entry a ≡ Other → ⊥
-    never_other e = cc
-
-    never_back : (r1 r2 : Reg) → Entry a ≡ Back r1 r2 → ⊥
-    never_back r1 r2 e = cc
-
 module _ (g : Link) (linked : Linked g) where
   abbrev l : Layout
   l = g.layout
@@ -87,7 +70,8 @@ module _ (g : Link) (linked : Linked g) where
       let ins = st.inside in
       λ a lo hi. no_end g linked f.0 st.offset 25 f.2 (site_outer g linked f.0 st.offset f.2 st.site) (omega (arith, ins)) (omega arith) a (omega (arith, at, lo)) (omega (arith, at, hi))
 
-  entry_free : (p : PartSeen) (o a : ℕ) → IsTrusted g p → a ≡ p.component.code_base + o → begins_entry p.component o ≡ true → NoEnd l a (a + 20)
+  entry_free : (p : PartSeen) (o a : ℕ) → IsTrusted g p → a ≡ p.component.code_base + o
+      → begins_entry p.component o ≡ true → NoEnd l a (a + 20)
   entry_free p o a ip ea e =
       let ins = (linked.entries p o ip e).inside in
       λ q lo hi. no_end g linked p o 20 ip (entry_outer g linked p o ip e) (omega (arith, ins)) (omega arith) q (omega (arith, ea, lo)) (omega (arith, ea, hi))
@@ -139,7 +123,8 @@ module _ (g : Link) (linked : Linked g) where
 
     -- ---- and those of a step that goes write its lines
 
-    is_other : View g o.frames o.maps Other → case_fetched o.maps (fetch (faces look o.maps Pc) (cell_faces look o.maps)) ≡ Other
+    is_other : View g o.frames o.maps Other
+        → case_fetched o.maps (fetch (faces look o.maps Pc) (cell_faces look o.maps)) ≡ Other
     is_other (in_part p off ip ne ns at c) = sym c
     is_other (failing next p off ip lt h e) = ap (case_fetched o.maps) e
     is_other (out h c) = sym c
@@ -151,7 +136,7 @@ module _ (g : Link) (linked : Linked g) where
     whole_by : (c : Case) → View g o.frames o.maps c → ReadyFor l o c → Whole c
     whole_by (Call i) v r u q n inward e run mq kq =
         let c = called l i o q e in
-        let z : weight_by o.maps (Call i) ≡ 16 = ap (λ b. if b then 17 else 16) (plain_code o.maps.regs.c1 c.plain1) in
+        let z : weight_by o.maps (Call i) ≡ 16 = ap (λ b. if b then 17 else 16) (no_ret_code o.maps.regs.c1 c.plain1) in
         let a : AtSite l i o = r in
         ap (lines_of l (at_state t n inward)) z
         ∙ call_whole g linked i o t a m k (λ y lo hi. site_free i a.site a.is_site y lo (omega (arith, hi))) u q n inward e (ap (λ w. run_of id id w t) (sym z) ∙ run) mq kq
@@ -172,7 +157,8 @@ module _ (g : Link) (linked : Linked g) where
     unfolding weight_of
     step_muted = muted (case_of l o.maps) seen (ready g linked o t inv)
 
-    step_whole : (q : OState) (n : ℕ) (inward : Bool) → overlay_step l o ≡ goes q → lines_of l (at_state t n inward) (weight_of l o) ≡ step_lines l o q
+    step_whole : (q : OState) (n : ℕ) (inward : Bool) → overlay_step l o ≡ goes q
+        → lines_of l (at_state t n inward) (weight_of l o) ≡ step_lines l o q
     unfolding overlay_step weight_of step_event
     step_whole q n inward e =
         let a : KeepsAgreeing g (goes q) (run_of id id (weight_of l o) t) = subst (λ y. KeepsAgreeing g y (run_of id id (weight_of l o) t)) e (kept g linked o t inv) in
@@ -189,10 +175,6 @@ module _ (g : Link) (linked : Linked g) where
 
   -- ---- of a run
 
-  reached : (o : OState) (j : ℕ) (ls : List Line) (p : OState) → Told l o j ls p → Reached l o j p
-  reached o _ _ _ none_yet = begins
-  reached o _ _ q (and_then {j = j} {ls = ls} {p = p} r e) = goes_on (reached o j ls p r) e
-
   ran : (r : Run) (n : ℕ) → (watched l (begun r) n).run ≡ plain n r
   ran r zero = refl
   ran r (suc n) = ap next_state (ran r n)
@@ -201,13 +183,17 @@ module _ (g : Link) (linked : Linked g) where
     abbrev first : Watched
     first = begun (fresh t)
 
-    stands : (j : ℕ) (u : State Word) → plain_run j t ≡ went u → watched l first j ≡ at_state u j (watched l first j).inward
+    stands : (j : ℕ) (u : State Word) → plain_run j t ≡ went u
+        → watched l first j ≡ at_state u j (watched l first j).inward
     stands j u e =
         let at : EndsAs j (went u) (plain j (fresh t)) = subst (λ r. EndsAs j r (plain j (fresh t))) e (plain_ends j t) in
         ap (λ (r : Run). let w : Watched = record { run = r; inward = (watched l first j).inward } in w) (ran (fresh t) j ∙ at)
 
     -- behind a matched point, the lines of so many instructions more
-    more : (j k : ℕ) (ls : List Line) (p : OState) → Reached l o j p → lines_of l first j ≡ ls → (ms : List Line) → ((u : State Word) (inward : Bool) → Invariant g p u → lines_of l (at_state u j inward) k ≡ ms) → lines_of l first (j + k) ≡ ls ++ ms
+    more : (j k : ℕ) (ls : List Line) (p : OState) → Reached l o j p → lines_of l first j ≡ ls
+        → (ms : List Line)
+        → ((u : State Word) (inward : Bool) → Invariant g p u → lines_of l (at_state u j inward) k ≡ ms)
+        → lines_of l first (j + k) ≡ ls ++ ms
     more j k ls p r es ms law =
         let h = good_at l (Invariant g) (λ q u i. i.flat) (λ q u i. kept g linked q u i) o t inv j p r in
         lines_split l first j k ∙ ap (λ y. lines_of l first j ++ y) (ap (λ w. lines_of l w k) (stands j h.0 h.1) ∙ law h.0 (watched l first j).inward h.2) ∙ ap (λ y. y ++ ms) es
@@ -215,12 +201,14 @@ module _ (g : Link) (linked : Linked g) where
     at_matched : (j : ℕ) (ls : List Line) (p : OState) → Told l o j ls p → lines_of l first j ≡ ls
     at_matched _ _ _ none_yet = refl
     at_matched _ _ q (and_then {j = j} {ls = ls} {p = p} r e) =
-        more j (weight_of l p) ls p (reached o j ls p r) (at_matched j ls p r) (step_lines l p q) (λ u inward i. step_whole p u i q j inward e)
+        more j (weight_of l p) ls p (reached_by l o j ls p r) (at_matched j ls p r) (step_lines l p q) (λ u inward i. step_whole p u i q j inward e)
 
-    quiet : (j n : ℕ) (ls : List Line) (p : OState) → Told l o j ls p → j ≤ n → ((u : State Word) (inward : Bool) → Invariant g p u → lines_of l (at_state u j inward) (n - j) ≡ []) → lines_of l first n ≡ ls
+    quiet : (j n : ℕ) (ls : List Line) (p : OState) → Told l o j ls p → j ≤ n
+        → ((u : State Word) (inward : Bool) → Invariant g p u → lines_of l (at_state u j inward) (n - j) ≡ [])
+        → lines_of l first n ≡ ls
     quiet j n ls p r le law =
         let e : n ≡ j + (n - j) = omega (arith, le) in
-        ap (λ k. lines_of l first k) e ∙ more j (n - j) ls p (reached o j ls p r) (at_matched j ls p r) [] law ∙ append-nil ls
+        ap (λ k. lines_of l first k) e ∙ more j (n - j) ls p (reached_by l o j ls p r) (at_matched j ls p r) [] law ∙ append-nil ls
 
     pub lines_agree : LinesAgree l o t
     lines_agree = record {

@@ -1,5 +1,7 @@
--- Where a step is no call and no entry, pc is at no word inside a site; and within a sequence no other site ends.
-use Rattle.std.proofs.Common.{◌≡◌, ℕ, ◌+◌, ◌-◌, ◌<◌, ◌≤◌, inr, true, List, length, Option, Some, None, refl, sym, ap, ◌∙◌, subst, arith}
+-- Where a step is no call and no entry, pc is at no word inside a site; and within a sequence no other site
+-- ends.
+use Rattle.std.proofs.Common.{◌≡◌, ℕ, ◌+◌, ◌-◌, ◌<◌, ◌≤◌, inr, true, List, length, Option, Some, None, refl}
+use Rattle.std.proofs.Common.{sym, ap, ◌∙◌, subst, arith}
 use Rattle.std.specs.Prelude.{option_and_then}
 use Rattle.cap_words.specs.declared.Word.{Word}
 use Rattle.cap_words.specs.declared.Face.TheVariants.{Memory}
@@ -23,22 +25,25 @@ use Rattle.overlay_machine.specs.Link.{Link, IsTrusted, ranges_of}
 use Rattle.overlay_machine.specs.Linked.{Linked, SiteOf}
 use Rattle.overlay_machine.specs.Safe.{IsSafe}
 use Rattle.overlay_machine.specs.Invariant.{StandsAt}
-use Rattle.overlay_machine.proofs.invariant.Facts.{in_code, one_part}
-use Rattle.overlay_machine.proofs.invariant.View.{View, in_part, failing, out, pc_untrusted}
+use Rattle.overlay_machine.proofs.Offers.{in_code, one_part, View, in_part, failing, out, pc_untrusted}
 use Rattle.trace_tool.specs.Layout.{site_before, site_word}
 use Rattle.trace_tool.proofs.alike.Laying.{NoEnd, word_none, target_code}
 use Rattle.trace_tool.proofs.alike.Sites.{word_is}
 
 module _ (g : Link) (linked : Linked g) where
   -- nothing begins inside a sequence, and no row is there
-  pub site_outer : (p : PartSeen) (o : ℕ) → IsTrusted g p → begins_site p.component o ≡ true → Inside p.component o → ⊥
+  pub site_outer : (p : PartSeen) (o : ℕ) → IsTrusted g p → begins_site p.component o ≡ true
+      → Inside p.component o → ⊥
   site_outer p o ip e = let is = linked.parts p ip.0 in ((placed_lists p.component (is.flow ip.1).placed is.limits).sites o e).2
 
-  pub entry_outer : (p : PartSeen) (o : ℕ) → IsTrusted g p → begins_entry p.component o ≡ true → Inside p.component o → ⊥
+  pub entry_outer : (p : PartSeen) (o : ℕ) → IsTrusted g p → begins_entry p.component o ≡ true
+      → Inside p.component o → ⊥
   entry_outer p o ip e = let is = linked.parts p ip.0 in ((placed_lists p.component (is.flow ip.1).placed is.limits).entries o e).2
 
   -- the part and offset of a site's word
-  not_found : (off a : ℕ) → ((i : ℕ) (s : SiteCode) (p : PartSeen) (n : ℕ) → IsTrusted g p → SiteOf p n s → a ≡ s.at + off → ⊥) → site_before g.layout off a ≡ None
+  not_found : (off a : ℕ)
+      → ((i : ℕ) (s : SiteCode) (p : PartSeen) (n : ℕ) → IsTrusted g p → SiteOf p n s → a ≡ s.at + off → ⊥)
+      → site_before g.layout off a ≡ None
   not_found off a never = by_found (site_before g.layout off a) refl
     where
       by_found : (r : Option ℕ) → site_before g.layout off a ≡ r → r ≡ None
@@ -46,7 +51,9 @@ module _ (g : Link) (linked : Linked g) where
       by_found (Some i) e = (let k = word_is g linked i off a e in let m = linked.sites i k.0 k.1 in absurd (never i k.0 m.0 m.1 m.2 m.3 k.2))
 
   -- a site's word at an address of a part's code is within that part
-  inside_of : (p q : PartSeen) (n : ℕ) (s : SiteCode) (o off a : ℕ) → IsTrusted g p → IsTrusted g q → SiteOf q n s → a ≡ s.at + off → a ≡ p.component.code_base + o → o < length p.component.code → 0 < off → off < 26 → Inside p.component o
+  inside_of : (p q : PartSeen) (n : ℕ) (s : SiteCode) (o off a : ℕ) → IsTrusted g p → IsTrusted g q
+      → SiteOf q n s → a ≡ s.at + off → a ≡ p.component.code_base + o → o < length p.component.code → 0 < off
+      → off < 26 → Inside p.component o
   inside_of p q n s o off a ip iq st e ea lt pos_off small =
       let ai = st.at_is in
       let ins = st.inside in
@@ -60,11 +67,15 @@ module _ (g : Link) (linked : Linked g) where
           let ai = st'.at_is in
           record { start = st'.offset; size = 26; seq = inr (st'.site, refl); after = omega (arith, ai, w, pos_off); before_end = omega (arith, ai, w, small) }
 
-  off_sequence : (p : PartSeen) (o off : ℕ) → IsTrusted g p → o < length p.component.code → (Inside p.component o → ⊥) → 0 < off → off < 26 → site_before g.layout off (p.component.code_base + o) ≡ None
+  off_sequence : (p : PartSeen) (o off : ℕ) → IsTrusted g p → o < length p.component.code
+      → (Inside p.component o → ⊥) → 0 < off → off < 26
+      → site_before g.layout off (p.component.code_base + o) ≡ None
   off_sequence p o off ip lt free pos_off small = not_found off (p.component.code_base + o) (λ i s q n iq st e. free (inside_of p q n s o off (p.component.code_base + o) ip iq st e refl lt pos_off small))
 
   -- a sequence that begins inside no other: no site ends at its words
-  pub no_end : (p : PartSeen) (o n : ℕ) → IsTrusted g p → (Inside p.component o → ⊥) → o + n ≤ length p.component.code → n ≤ 25 → NoEnd g.layout (p.component.code_base + o) (p.component.code_base + o + n)
+  pub no_end : (p : PartSeen) (o n : ℕ) → IsTrusted g p → (Inside p.component o → ⊥)
+      → o + n ≤ length p.component.code → n ≤ 25
+      → NoEnd g.layout (p.component.code_base + o) (p.component.code_base + o + n)
   no_end p o n ip free inside few = λ a lo hi. not_found 25 a (λ i s q k iq st e.
       let ai = st.at_is in
       let ins = st.inside in
@@ -74,7 +85,9 @@ module _ (g : Link) (linked : Linked g) where
       free (before a lo hi q k s same st e))
     where
       -- it would begin before the sequence, and end within it
-      before : (a : ℕ) → p.component.code_base + o ≤ a → a < p.component.code_base + o + n → (q : PartSeen) (k : ℕ) (s : SiteCode) → q ≡ p → SiteOf q k s → a ≡ s.at + 25 → Inside p.component o
+      before : (a : ℕ) → p.component.code_base + o ≤ a → a < p.component.code_base + o + n
+          → (q : PartSeen) (k : ℕ) (s : SiteCode) → q ≡ p → SiteOf q k s → a ≡ s.at + 25
+          → Inside p.component o
       before a lo hi q k s same st e =
           let st' : SiteOf p k s = subst (λ y. SiteOf y k s) same st in
           let ai = st'.at_is in

@@ -1,5 +1,7 @@
 -- Code with tests that jump to the part's fail: calm wherever it stands, whether or not its steps go.
-use Rattle.std.proofs.Common.{◌≡◌, ◌≢◌, ◌⊎◌, inl, inr, ℕ, zero, suc, ◌+◌, ◌≤◌, ℤ, pos, ◌+ℤ◌, true, false, List, ◌∷◌, length, Option, Some, None, refl, sym, ap, ◌∙◌, subst, arith, FitsSigned, w32}
+use Rattle.std.proofs.Common.{◌≡◌, ◌≢◌, ◌⊎◌, inl, inr, ℕ, zero, suc, ◌+◌, ◌≤◌, ℤ, pos, ◌+ℤ◌, true, false}
+use Rattle.std.proofs.Common.{List, ◌∷◌, length, Option, Some, None, refl, sym, ap, ◌∙◌, subst, arith}
+use Rattle.std.proofs.Common.{FitsSigned, w32}
 use Rattle.cap_words.specs.declared.Word.{Word}
 use Rattle.cap_words.specs.declared.Word.TheVariants.{Mem}
 use Rattle.cap_words.specs.declared.Opened.{Opened}
@@ -9,7 +11,8 @@ use Rattle.lcm_isa.specs.declared.Reg.{Reg}
 use Rattle.lcm_isa.specs.declared.Reg.TheVariants.{Pc, T2}
 use Rattle.lcm_isa.specs.declared.Operand.TheVariants.{R as InReg, Imm}
 use Rattle.lcm_isa.specs.declared.Instr.{Instr}
-use Rattle.lcm_isa.specs.declared.Instr.TheVariants.{Fail, Jnz, Gettype, Getb, Gete, Getp, Getlin, Move, Cca, Minus, Seta2b}
+use Rattle.lcm_isa.specs.declared.Instr.TheVariants.{Fail, Jnz, Gettype, Getb, Gete, Getp, Getlin, Move, Cca}
+use Rattle.lcm_isa.specs.declared.Instr.TheVariants.{Minus, Seta2b}
 use Rattle.lcm_isa.specs.Numbers.{number_of, IsInstr}
 use Rattle.lcm_machine.specs.Plan.{Plan, Fails, Halts, Goes}
 use Rattle.lcm_machine.specs.declared.plan.Effect.{Effect}
@@ -19,10 +22,9 @@ use Rattle.lcm_machine.specs.Places.{reg}
 use Rattle.lcm_machine.specs.Table.{plan, made, no_effect, fits_64}
 use Rattle.lcm_machine.specs.Row.{put, perform, faces, opens, plan_in, outcome, row, Outcome, went, failed}
 use Rattle.lcm_machine.specs.Runs.{Stands, code_cap}
-use Rattle.lcm_machine.proofs.Plans.{Gives, gives_goes, Gives-effect, Gives-ask, Gives-need, Gives-by_cap, Gives-if}
-use Rattle.lcm_machine.proofs.RegLemmas.{reg-set_other}
-use Rattle.lcm_machine.proofs.Goes.{fail_fails, move_goes, cca_goes, stays}
-use Rattle.lcm_machine.proofs.StepRows.{step_row}
+use Rattle.lcm_machine.proofs.Offers.{Gives, gives_goes, Gives-effect, Gives-ask, Gives-need, Gives-by_cap}
+use Rattle.lcm_machine.proofs.Offers.{Gives-if, reg-set_other, fail_fails, move_goes, cca_goes, stays}
+use Rattle.lcm_machine.proofs.Offers.{step_row}
 use Rattle.overlay_machine.specs.declared.layout.Layout.{Layout}
 use Rattle.trace_tool.proofs.alike.Calm.{id, Calm}
 use Rattle.trace_tool.proofs.alike.Straight.{is_straight, is_store, Num, performed_num, straight_goes}
@@ -43,7 +45,8 @@ dest _ = None
 abbrev Only : Reg → Effect → Type 0
 Only r e = (w : Word) × (n : Word) × (e ≡ record no_effect { first = made r w; next = Some n })
 
-only : (a r : Reg) (w n : Word) → Some a ≡ Some r → Only r (record no_effect { first = made a w; next = Some n })
+only : (a r : Reg) (w n : Word) → Some a ≡ Some r
+    → Only r (record no_effect { first = made a w; next = Some n })
 only a r w n h = let q : a ≡ r = cc in (w, n, ap (λ y. record no_effect { first = made y w; next = Some n }) q)
 
 module _ (f : Reg → Face) (w : Reg → Option Opened) (there : Option Face) (next : Word) (r : Reg) where
@@ -67,31 +70,38 @@ module _ (f : Reg → Face) (w : Reg → Option Opened) (there : Option Face) (n
   plan-Tests : Gives Tests (plan (Jnz T2 r) f w there next)
   plan-Tests = Gives-need _ _ _ (λ z e. Gives-if _ _ _ (gives_goes (inl refl)) (gives_goes (inr refl)))
 
-only_t2 : (s : State Word) (r : Reg) (w n : Word) → T2 ≢ r → reg (perform id id s (record no_effect { first = made r w; next = Some n })).regs T2 ≡ reg s.regs T2
+only_t2 : (s : State Word) (r : Reg) (w n : Word) → T2 ≢ r
+    → reg (perform id id s (record no_effect { first = made r w; next = Some n })).regs T2 ≡ reg s.regs T2
 unfolding perform
 only_t2 s r w n ne = reg-set_other s.regs r T2 w ne
 
-planned : (s s' : State Word) (r : Reg) (p : Plan) → T2 ≢ r → Gives (Only r) p → outcome id id s p ≡ went s' → reg s'.regs T2 ≡ reg s.regs T2
+planned : (s s' : State Word) (r : Reg) (p : Plan) → T2 ≢ r → Gives (Only r) p → outcome id id s p ≡ went s'
+    → reg s'.regs T2 ≡ reg s.regs T2
 planned s s' r (Fails f) ne h e = cc
 planned s s' r Halts ne h e = cc
 planned s s' r (Goes x) ne h e = let q : perform id id s x ≡ s' = cc in let k = Gives-effect h in rw (← q, k.2) (only_t2 s r k.0 k.1 ne)
 
-t2_stays : (s s' : State Word) (i : Instr) (next : Word) (r : Reg) → dest i ≡ Some r → T2 ≢ r → row id id i next s ≡ went s' → reg s'.regs T2 ≡ reg s.regs T2
+t2_stays : (s s' : State Word) (i : Instr) (next : Word) (r : Reg) → dest i ≡ Some r → T2 ≢ r
+    → row id id i next s ≡ went s' → reg s'.regs T2 ≡ reg s.regs T2
 unfolding row plan_in
 t2_stays s s' i next r d ne e = planned s s' r _ ne (plan-Only (faces id s) (opens id s) _ next r i d) e
 
 abbrev Tested : Word → State Word → State Word → Type 0
 Tested next s s' = (((s'.regs.pc ≡ next) × (reg s'.regs T2 ≡ reg s.regs T2)) ⊎ (s'.regs.pc ≡ reg s.regs T2)) × ((q : ℕ) (z : ℤ) → Num s q z → Num s' q z)
 
-tests_on : (s : State Word) (next : Word) → Tested next s (perform id id s (record no_effect { next = Some next }))
+tests_on : (s : State Word) (next : Word)
+    → Tested next s (perform id id s (record no_effect { next = Some next }))
 unfolding perform
 tests_on s next = (inl (refl, refl), λ q z h. h)
 
-tests_pc : (s : State Word) → (perform id id s (record no_effect { moved = Some (record { from = R T2; to = R Pc }) })).regs.pc ≡ reg s.regs T2
+tests_pc : (s : State Word)
+    → (perform id id s (record no_effect { moved = Some (record { from = R T2; to = R Pc }) })).regs.pc ≡ reg s.regs T2
 unfolding perform
 tests_pc s = refl
 
-test_planned : (s s' : State Word) (next : Word) (p : Plan) → Gives (λ e. (e ≡ record no_effect { next = Some next }) ⊎ (e ≡ record no_effect { moved = Some (record { from = R T2; to = R Pc }) })) p → outcome id id s p ≡ went s' → Tested next s s'
+test_planned : (s s' : State Word) (next : Word) (p : Plan)
+    → Gives (λ e. (e ≡ record no_effect { next = Some next }) ⊎ (e ≡ record no_effect { moved = Some (record { from = R T2; to = R Pc }) })) p
+    → outcome id id s p ≡ went s' → Tested next s s'
 test_planned s s' next (Fails f) h e = cc
 test_planned s s' next Halts h e = cc
 test_planned s s' next (Goes x) h e = let q : perform id id s x ≡ s' = cc in elim (Gives-effect h) as (λ _. Tested next s s') [
@@ -99,7 +109,8 @@ test_planned s s' next (Goes x) h e = let q : perform id id s x ≡ s' = cc in e
   | inr k ↦ rw (← q, k) (inr (tests_pc s), λ a z. performed_num s (record no_effect { moved = Some (record { from = R T2; to = R Pc }) }) a z tt)
 ]
 
-test_goes : (s s' : State Word) (next : Word) (r : Reg) → row id id (Jnz T2 r) next s ≡ went s' → Tested next s s'
+test_goes : (s s' : State Word) (next : Word) (r : Reg) → row id id (Jnz T2 r) next s ≡ went s'
+    → Tested next s s'
 unfolding row plan_in
 test_goes s s' next r e = test_planned s s' next _ (plan-Tests (faces id s) (opens id s) None next r) e
 
@@ -107,19 +118,24 @@ test_goes s s' next r e = test_planned s s' next _ (plan-Tests (faces id s) (ope
 pub data Armed : List Instr → Type 0 where
   rest : {is : List Instr} → AreStraight is → Armed is
   tests : {is : List Instr} (r : Reg) → Armed is → Armed (Jnz T2 r ∷ is)
-  keeps : {is : List Instr} (i : Instr) (r : Reg) → (is_straight i ≡ true) × (is_store i ≡ false) × IsInstr i → dest i ≡ Some r → T2 ≢ r → Armed is → Armed (i ∷ is)
+  keeps : {is : List Instr} (i : Instr) (r : Reg) → (is_straight i ≡ true) × (is_store i ≡ false) × IsInstr i
+      → dest i ≡ Some r → T2 ≢ r → Armed is → Armed (i ∷ is)
 
-went_not : (c : Rattle.lcm_machine.specs.declared.FailCause.FailCause) (at : ℤ) (r : Outcome Word) (s : State Word) → r ≡ failed c at → r ≡ went s → ⊥
+went_not : (c : Rattle.lcm_machine.specs.declared.FailCause.FailCause) (at : ℤ) (r : Outcome Word) (s : State Word)
+    → r ≡ failed c at → r ≡ went s → ⊥
 went_not c at r s e f = let k : failed c at ≡ went s = sym e ∙ f in cc
 
 module _ (l : Layout) (base last fail : ℕ) (fail_low : base ≤ fail) (fail_high : fail ≤ last) where
-  calm_fail : (n : ℕ) (s : State Word) → s.regs.pc ≡ Mem (code_cap base last fail) → Num s fail (pos (number_of Fail)) → Calm l n s
+  calm_fail : (n : ℕ) (s : State Word) → s.regs.pc ≡ Mem (code_cap base last fail)
+      → Num s fail (pos (number_of Fail)) → Calm l n s
   calm_fail zero s e h = tt
   calm_fail (suc n) s e h = λ s' goes. absurd (
       let r : row id id Fail (Mem (code_cap base last (fail + 1))) s ≡ went s' = sym (step_row id id s base last fail Fail e fail_low fail_high h tt) ∙ goes in
       went_not _ _ _ s' (fail_fails id id (Mem (code_cap base last (fail + 1))) s) r)
 
-  pub calm_armed : (is : List Instr) (a : Armed is) (s : State Word) (at : ℕ) → s.regs.pc ≡ Mem (code_cap base last at) → base ≤ at → at + length is ≤ last + 1 → Stands id s.cells at is → NoEnd l at (at + length is)
+  pub calm_armed : (is : List Instr) (a : Armed is) (s : State Word) (at : ℕ)
+      → s.regs.pc ≡ Mem (code_cap base last at) → base ≤ at → at + length is ≤ last + 1
+      → Stands id s.cells at is → NoEnd l at (at + length is)
       → s.regs.t2 ≡ Mem (code_cap base last fail) → Num s fail (pos (number_of Fail)) → Calm l (length is) s
   calm_armed is (rest a) s at e low high h free t2 hf = calm_code l base last is s at a e low high h free
   calm_armed _ (tests {is} r a) s at e low high h free t2 hf = λ s' goes. (
@@ -140,8 +156,11 @@ module _ (l : Layout) (base last fail : ℕ) (fail_low : base ≤ fail) (fail_hi
       ))
 
   -- the two words that make T2 lead to fail, and what comes after them
-  pub calm_arming : (is : List Instr) (a : Armed is) (n : ℤ) (s : State Word) (at : ℕ) → s.regs.pc ≡ Mem (code_cap base last at) → base ≤ at → at + (2 + length is) ≤ last + 1 → Stands id s.cells at (Move T2 (InReg Pc) ∷ Cca T2 (Imm n) ∷ is) → NoEnd l at (at + (2 + length is))
-      → pos at +ℤ n ≡ pos fail → fits_64 (pos fail) ≡ true → FitsSigned w32 n → Num s fail (pos (number_of Fail)) → Calm l (suc (suc (length is))) s
+  pub calm_arming : (is : List Instr) (a : Armed is) (n : ℤ) (s : State Word) (at : ℕ)
+      → s.regs.pc ≡ Mem (code_cap base last at) → base ≤ at → at + (2 + length is) ≤ last + 1
+      → Stands id s.cells at (Move T2 (InReg Pc) ∷ Cca T2 (Imm n) ∷ is) → NoEnd l at (at + (2 + length is))
+      → pos at +ℤ n ≡ pos fail → fits_64 (pos fail) ≡ true → FitsSigned w32 n
+      → Num s fail (pos (number_of Fail)) → Calm l (suc (suc (length is))) s
   calm_arming is a n s at e low high h free leads fits fn hf = λ s1 goes1. (
       let next1 : Word = Mem (code_cap base last (at + 1)) in
       let next2 : Word = Mem (code_cap base last (at + 1 + 1)) in

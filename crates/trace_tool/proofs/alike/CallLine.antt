@@ -1,5 +1,6 @@
 -- The line of a call that goes; and a call of a return word has none.
-use Rattle.std.proofs.Common.{◌≡◌, inl, inr, ℕ, ◌+◌, ◌-◌, ◌≤◌, ℤ, pos, negsuc, Bool, true, ◌∷◌, Option, Some, None, refl, sym, ap, ◌∙◌, arith, subst}
+use Rattle.std.proofs.Common.{◌≡◌, inl, inr, ℕ, ◌+◌, ◌-◌, ◌≤◌, ℤ, pos, negsuc, Bool, true, ◌∷◌, Option, Some}
+use Rattle.std.proofs.Common.{None, refl, sym, ap, ◌∙◌, arith, subst}
 use Rattle.std.specs.Prelude.{option_map, option_and_then, is_some, nat_le}
 use Rattle.std.proofs.lemmas.Bool.{cases_eq, cases_lt, lt-leb, and_left, and_right}
 use Rattle.cap_words.specs.declared.Word.{Word}
@@ -17,8 +18,7 @@ use Rattle.lcm_machine.specs.Cells.{cell}
 use Rattle.lcm_machine.specs.Row.{faces, opens, row, step_of, went}
 use Rattle.lcm_machine.specs.Runs.{run_of, Stands, code_cap}
 use Rattle.lcm_machine.specs.Refusals.{HasFailed}
-use Rattle.lcm_machine.proofs.Refusals.{failed_more}
-use Rattle.lcm_machine.proofs.StepRows.{step_row}
+use Rattle.lcm_machine.proofs.Offers.{failed_more, step_row}
 use Rattle.call_sequence.specs.Sequences.{call_code}
 use Rattle.call_sequence.specs.SequenceRuns.{stack_cap, HasCall}
 use Rattle.call_sequence.proofs.CallLaws.{call_runs}
@@ -34,20 +34,18 @@ use Rattle.overlay_machine.specs.State.{OState}
 use Rattle.overlay_machine.specs.Step.{goes, call_step, new_frame}
 use Rattle.overlay_machine.specs.Flat.{flat, IsFlat}
 use Rattle.overlay_machine.specs.Agree.{AtSite, Looks}
-use Rattle.overlay_machine.specs.Events.{site_of_seal, site_opened, note_call, note_by, event_after as told_after, called as called_told}
+use Rattle.overlay_machine.specs.Events.{site_of_seal, site_opened, note_call, note_by}
+use Rattle.overlay_machine.specs.Events.{event_after as told_after, called as called_told}
 use Rattle.overlay_machine.specs.Link.{Link}
 use Rattle.overlay_machine.specs.Linked.{Linked}
-use Rattle.overlay_machine.proofs.FlatLemmas.{flat-mem, cell-flat, HasCall-flat}
-use Rattle.overlay_machine.proofs.FrameWords.{some_of}
-use Rattle.overlay_machine.proofs.PairsOpened.{opened-code}
-use Rattle.overlay_machine.proofs.CallAgrees.{its_site, owns, dat_normal, t15}
-use Rattle.overlay_machine.proofs.WholeCall.{outside, lowest}
-use Rattle.overlay_machine.proofs.invariant.CallKept.{Called, called}
+use Rattle.overlay_machine.proofs.Offers.{flat-mem, cell-flat, HasCall-flat, some_of, opened-code, its_site}
+use Rattle.overlay_machine.proofs.Offers.{owns, dat_normal, t15, outside, lowest, Called, called}
 use Rattle.trace_tool.specs.declared.note.Note.{Note}
 use Rattle.trace_tool.specs.declared.note.Note.TheVariants.{Leap}
 use Rattle.trace_tool.specs.Layout.{is_trusted, trusted_part, site_word}
 use Rattle.trace_tool.specs.Views.{View, view_of, flat_view}
-use Rattle.trace_tool.specs.Events.{noted, noted_by, reaches_trusted, leapt_by, event_after, called as called_event}
+use Rattle.trace_tool.specs.Events.{noted, noted_by, reaches_trusted, leapt_by, event_after}
+use Rattle.trace_tool.specs.Events.{called as called_event}
 use Rattle.trace_tool.specs.Lines.{lines_for}
 use Rattle.trace_tool.specs.Runs.{lines_of}
 use Rattle.trace_tool.proofs.alike.Calm.{id, at_state, Calm, calm_then}
@@ -62,23 +60,28 @@ use Rattle.trace_tool.proofs.alike.Others.{face_now}
 
 -- ---- the event
 
-call_event : (l : Layout) (from : Option ℕ) (i : ℕ) (seal : Option ℕ) (v : View) (pair : Option Opened) → is_some from ≡ true → option_and_then (site_of_seal l) seal ≡ None → opened_of (v.reg Rdata) ≡ pair
+call_event : (l : Layout) (from : Option ℕ) (i : ℕ) (seal : Option ℕ) (v : View) (pair : Option Opened)
+    → is_some from ≡ true → option_and_then (site_of_seal l) seal ≡ None → opened_of (v.reg Rdata) ≡ pair
     → leapt_by l from (Some i) seal v ≡ called_event (reaches_trusted l v) i pair
 call_event l None i seal v pair f s e = cc
 call_event l (Some p) i seal v pair f s e = rw (s, e) refl
 
-seal_known : (l : Layout) (from : Option ℕ) (i : ℕ) (seal : Option ℕ) (v : View) → is_some from ≡ true → is_some (option_and_then (site_of_seal l) seal) ≡ true → leapt_by l from (Some i) seal v ≡ None
+seal_known : (l : Layout) (from : Option ℕ) (i : ℕ) (seal : Option ℕ) (v : View) → is_some from ≡ true
+    → is_some (option_and_then (site_of_seal l) seal) ≡ true → leapt_by l from (Some i) seal v ≡ None
 seal_known l None i seal v f e = cc
 seal_known l (Some p) i seal v f e = rw e refl
 
-opened_seal : (l : Layout) (y : Option Opened) → site_opened l y ≡ option_and_then (site_of_seal l) (option_map (λ (z : Opened). z.seal) y)
+opened_seal : (l : Layout) (y : Option Opened)
+    → site_opened l y ≡ option_and_then (site_of_seal l) (option_map (λ (z : Opened). z.seal) y)
 opened_seal l None = refl
 opened_seal l (Some y) = refl
 
-part_there : (l : Layout) (f : Rattle.cap_words.specs.declared.Face.Face) → is_trusted l f ≡ true → is_some (trusted_part l f) ≡ true
+part_there : (l : Layout) (f : Rattle.cap_words.specs.declared.Face.Face) → is_trusted l f ≡ true
+    → is_some (trusted_part l f) ≡ true
 part_there l f h = by_owner (trusted_owner l f) h
   where
-    by_owner : (r : Option Rattle.component_linker.specs.declared.owners.Owner.Owner) → is_some r ≡ true → is_some (option_map (λ o. o.part) r) ≡ true
+    by_owner : (r : Option Rattle.component_linker.specs.declared.owners.Owner.Owner) → is_some r ≡ true
+        → is_some (option_map (λ o. o.part) r) ≡ true
     by_owner None e = cc
     by_owner (Some o) e = refl
 
@@ -104,14 +107,16 @@ module _ (g : Link) (linked : Linked g) (i : ℕ) (o : OState) (t : State Word) 
   c1_opened w e = m.regs C1 ∙ ap (flat l o.frames) e
 
   -- the word in c1 is under no return seal
-  foreign_seal : (c : OWord) → o.maps.regs.c1 ≡ c → is_plain c ≡ true → option_and_then (site_of_seal l) (option_map (λ (z : Opened). z.seal) (opened_of t.regs.c1)) ≡ None
+  foreign_seal : (c : OWord) → o.maps.regs.c1 ≡ c → is_plain c ≡ true
+      → option_and_then (site_of_seal l) (option_map (λ (z : Opened). z.seal) (opened_of t.regs.c1)) ≡ None
   foreign_seal (Plain w) e p =
       ap (λ y. option_and_then (site_of_seal l) (option_map (λ (z : Opened). z.seal) (opened_of y))) (c1_opened w e)
       ∙ sym (opened_seal l (opened_of w)) ∙ foreign_none g linked w (at_site.foreign w e) (opened_of w) refl
   foreign_seal (RetCode j) e p = cc
   foreign_seal (RetData j) e p = cc
 
-  told_calls : (c : OWord) → o.maps.regs.c1 ≡ c → is_plain c ≡ true → site_opened l (opens look o.maps C1) ≡ None
+  told_calls : (c : OWord) → o.maps.regs.c1 ≡ c → is_plain c ≡ true
+      → site_opened l (opens look o.maps C1) ≡ None
   unfolding opens
   told_calls (Plain w) e p = ap (λ y. site_opened l (opened_of (look y))) e ∙ foreign_none g linked w (at_site.foreign w e) (opened_of w) refl
   told_calls (RetCode j) e p = cc
@@ -153,7 +158,8 @@ module _ (g : Link) (linked : Linked g) (i : ℕ) (o : OState) (t : State Word) 
     pc15 : s15.regs.pc ≡ Mem (code_cap site.base site.end (site.at + 15))
     pc15 = refl
 
-    row15 : (u : State Word) → step_of id id s15 ≡ went u → row id id (Xjmp C1 C2) (Mem (code_cap site.base site.end (site.at + 15 + 1))) s15 ≡ went u
+    row15 : (u : State Word) → step_of id id s15 ≡ went u
+        → row id id (Xjmp C1 C2) (Mem (code_cap site.base site.end (site.at + 15 + 1))) s15 ≡ went u
     row15 u e = sym (step_row id id s15 site.base site.end (site.at + 15) (Xjmp C1 C2) pc15 starts ends xjmp_stands tt) ∙ e
 
     abbrev Note15 : Note
@@ -170,14 +176,16 @@ module _ (g : Link) (linked : Linked g) (i : ℕ) (o : OState) (t : State Word) 
     from15 : is_some (trusted_part l (Memory (code_cap site.base site.end (site.at + 15)))) ≡ true
     from15 = part_there l (Memory (code_cap site.base site.end (site.at + 15))) (trusted_code g linked i site at_site.is_site (site.at + 15))
 
-    event15 : (u : State Word) (q : OState) (inward : Bool) → is_plain o.maps.regs.c1 ≡ true → step_of id id s15 ≡ went u → IsFlat l q u
+    event15 : (u : State Word) (q : OState) (inward : Bool) → is_plain o.maps.regs.c1 ≡ true
+        → step_of id id s15 ≡ went u → IsFlat l q u
         → event_after l Note15 inward (flat_view l q) ≡ Some (CalledEvent (reaches_trusted l (flat_view l q)) i (b + 1) at_site.end)
     unfolding event_after
     event15 u q inward p e mq =
         call_event l _ i _ (flat_view l q) (Some (record { seal = site.seal; content = MemC (stack_cap (b + 1) at_site.end (b + 1)) })) from15 (foreign_seal o.maps.regs.c1 refl p)
         (ap opened_of (sym (mq.regs Rdata)) ∙ ap opened_of (rdata_stays s15 u _ (row15 u e)))
 
-    call_line : (u : State Word) (q : OState) (n : ℕ) (inward : Bool) → is_plain o.maps.regs.c1 ≡ true → run_of id id 16 t ≡ went u → IsFlat l q u
+    call_line : (u : State Word) (q : OState) (n : ℕ) (inward : Bool) → is_plain o.maps.regs.c1 ≡ true
+        → run_of id id 16 t ≡ went u → IsFlat l q u
         → lines_of l (at_state t n inward) 16 ≡ lines_for l (flat_view l q) (Some (CalledEvent (reaches_trusted l (flat_view l q)) i (b + 1) at_site.end))
     call_line u q n inward p e mq =
         let step : step_of id id s15 ≡ went u = last_step 15 t s15 u prepares e in
@@ -187,7 +195,9 @@ module _ (g : Link) (linked : Linked g) (i : ℕ) (o : OState) (t : State Word) 
         ∙ ap (lines_for l (flat_view l q)) (event15 u q inward p step mq)
 
   -- the same, from the overlay's step
-  by_cursor : (u : State Word) (q : OState) (n : ℕ) (inward : Bool) (c : Called l i o q) → run_of id id 16 t ≡ went u → IsFlat l q u → Looks l q → (z : ℤ) → at_site.to ≡ z → c.cap ≡ record (stack_cap l.stack.base at_site.end 0) { addr = z }
+  by_cursor : (u : State Word) (q : OState) (n : ℕ) (inward : Bool) (c : Called l i o q)
+      → run_of id id 16 t ≡ went u → IsFlat l q u → Looks l q → (z : ℤ) → at_site.to ≡ z
+      → c.cap ≡ record (stack_cap l.stack.base at_site.end 0) { addr = z }
       → lines_of l (at_state t n inward) 16 ≡ lines_for l (flat_view l q) (told_after l (note_by l o (Call i)) q)
   by_cursor u q n inward c e mq kq (negsuc a) z s = let ab = c.above in let bad : address c.cap.addr ≡ 0 = ap (λ y. address y.addr) s in absurd (omega (arith, ab, bad))
   by_cursor u q n inward c e mq kq (pos a) z s =
@@ -203,7 +213,8 @@ module _ (g : Link) (linked : Linked g) (i : ℕ) (o : OState) (t : State Word) 
       ∙ ap (λ fs. lines_for l (flat_view l q) (called_told (is_some (trusted_owner l (faces look q.maps Pc))) fs)) (sym (ap (λ y. y.frames) c.result))
       ∙ ap (λ r. lines_for l (flat_view l q) (told_after l (note_call r) q)) (sym (told_calls o.maps.regs.c1 refl c.plain1))
 
-  pub call_whole : (u : State Word) (q : OState) (n : ℕ) (inward : Bool) → call_step l i o ≡ goes q → run_of id id 16 t ≡ went u → IsFlat l q u → Looks l q
+  pub call_whole : (u : State Word) (q : OState) (n : ℕ) (inward : Bool) → call_step l i o ≡ goes q
+      → run_of id id 16 t ≡ went u → IsFlat l q u → Looks l q
       → lines_of l (at_state t n inward) 16 ≡ lines_for l (flat_view l q) (told_after l (note_by l o (Call i)) q)
   call_whole u q n inward h e mq kq =
       let c = called l i o q h in
@@ -216,21 +227,24 @@ module _ (g : Link) (linked : Linked g) (i : ℕ) (o : OState) (t : State Word) 
     ret_is : t.regs.c1 ≡ flat l o.frames (RetCode j)
     ret_is = m.regs C1 ∙ ap (flat l o.frames) e1
 
-    known_seal : (y : Opened) → opened_of t.regs.c1 ≡ Some y → is_some (option_and_then (site_of_seal l) (option_map (λ (z : Opened). z.seal) (opened_of t.regs.c1))) ≡ true
+    known_seal : (y : Opened) → opened_of t.regs.c1 ≡ Some y
+        → is_some (option_and_then (site_of_seal l) (option_map (λ (z : Opened). z.seal) (opened_of t.regs.c1))) ≡ true
     known_seal y e = elim (opened-code l o.frames j (site_code l j) refl) as (λ _. is_some (option_and_then (site_of_seal l) (option_map (λ (z : Opened). z.seal) (opened_of t.regs.c1))) ≡ true) [
       | inl h ↦ (let bad : None ≡ Some y = sym h ∙ sym (ap opened_of ret_is) ∙ e in cc)
       | inr h ↦ ap (λ w. is_some (option_and_then (site_of_seal l) (option_map (λ (z : Opened). z.seal) w))) (ap opened_of ret_is ∙ h.2) ∙ seal_there g linked j h.0 h.1
     ]
 
     module _ (b : ℕ) (cursor : at_site.to ≡ pos (b + 1)) (low : l.stack.base ≤ b) (high : b + 1 ≤ at_site.end) where
-      event_z : (u : State Word) (inward : Bool) → step_of id id (s15 b cursor low high) ≡ went u → event_after l (Note15 b cursor low high) inward (view_of u) ≡ None
+      event_z : (u : State Word) (inward : Bool) → step_of id id (s15 b cursor low high) ≡ went u
+          → event_after l (Note15 b cursor low high) inward (view_of u) ≡ None
       unfolding event_after
       event_z u inward e = let y = xjmp_opens (s15 b cursor low high) u C1 C2 _ (row15 b cursor low high u e) in seal_known l _ i _ (view_of u) (from15 b cursor low high) (known_seal y.0 y.1)
 
       last_mute : Mute l 1 (s15 b cursor low high)
       last_mute = λ u e. (λ c inward. line_goes l (s15 b cursor low high) u c inward e ∙ ap (λ n. lines_for l (view_of u) (event_after l n inward (view_of u))) (noted15 b cursor low high) ∙ ap (lines_for l (view_of u)) (event_z u inward e), tt)
 
-    not_failed : (n d : ℕ) (u : State Word) → HasFailed (run_of id id n t) → n + d ≡ 15 → run_of id id 15 t ≡ went u → ⊥
+    not_failed : (n d : ℕ) (u : State Word) → HasFailed (run_of id id n t) → n + d ≡ 15
+        → run_of id id 15 t ≡ went u → ⊥
     not_failed n d u h z e = let f = failed_more id id n d t h in let f2 : HasFailed (run_of id id 15 t) = subst (λ y. HasFailed (run_of id id y t)) z f in let f3 : HasFailed (went u) = subst (λ r. HasFailed r) e f2 in f3
 
     at_address : (u : State Word) → run_of id id 15 t ≡ went u → (a : ℕ) → at_site.to ≡ pos a → Mute l 1 u

@@ -1,5 +1,7 @@
 -- The first fifteen words of a call are calm whatever they do.
-use Rattle.std.proofs.Common.{◌≡◌, inl, inr, ℕ, ◌+◌, ◌≤◌, ℤ, pos, negsuc, List, [], ◌∷◌, ◌++◌, Some, refl, sym, ap, ◌∙◌, arith, rules}
+use Rattle.std.proofs.Common.{◌≡◌, inl, inr, ℕ, ◌+◌, ◌≤◌, ℤ, pos, negsuc, List, [], ◌∷◌, ◌++◌, Some, refl}
+use Rattle.std.proofs.Common.{sym, ap, ◌∙◌, arith, rules}
+use Rattle.call_sequence.proofs.LawLemmas.{small_operand, near_operand}
 use Rattle.cap_words.specs.declared.Word.{Word}
 use Rattle.cap_words.specs.declared.Word.TheVariants.{Mem}
 use Rattle.cap_words.specs.declared.CapFields.{CapFields}
@@ -18,8 +20,7 @@ use Rattle.call_sequence.specs.SequenceRuns.{Outside, HasCall}
 use Rattle.overlay_machine.specs.declared.layout.Layout.{Layout}
 use Rattle.trace_tool.proofs.alike.Calm.{id, Calm}
 use Rattle.trace_tool.proofs.alike.Laying.{NoEnd, AreStraight, calm_store}
-use Rattle.trace_tool.proofs.alike.Operands.{small_operand, near_operand}
-use Rattle.overlay_machine.proofs.invariant.Targets.{target_bounds}
+use Rattle.overlay_machine.proofs.Offers.{target_bounds}
 
 -- the words between the first and the `xjmp`
 abbrev call_middle : ℤ → ℤ → List Instr
@@ -28,7 +29,8 @@ call_middle to_literal site =
     ∷ Minus T1 T1 (Imm (pos 1)) ∷ Split Stk Rdata Stk (InReg T1) ∷ Cca Stk (Imm (negsuc 0)) ∷ Cseal Rdata T2
     ∷ Move Rcode (InReg Pc) ∷ Cca Rcode (Imm (pos 6)) ∷ Cseal Rcode T2 ∷ Move T1 (Imm (pos 0)) ∷ Move T2 (Imm (pos 0)) ∷ []
 
-stands_front : (t : State Word) (at : ℕ) (is js : List Instr) → Stands id t.cells at (is ++ js) → Stands id t.cells at is
+stands_front : (t : State Word) (at : ℕ) (is js : List Instr) → Stands id t.cells at (is ++ js)
+    → Stands id t.cells at is
 stands_front t at [] js h = tt
 stands_front t at (i ∷ is) js h = (h.0, stands_front t (at + 1) is js h.1)
 
@@ -44,7 +46,8 @@ module _ (l : Layout) (s : State Word) (base last at seal : ℕ) (h : HasCall id
       (refl, inl refl, tt, (refl, inl refl, near_operand (h.offset + 1) h.literal (omega (arith, ai, en, sm)) (omega (arith, lh, sm)), (refl, inl refl, tt, (refl, inl refl, small_operand h.number (omega (arith, si, ss)), (refl, inl refl, tt, (refl, inl refl, (search rules), (refl, inl refl, tt, (refl, inl refl, (search rules), (refl, inl refl, tt, (refl, inl refl, tt, (refl, inl refl, (search rules), (refl, inl refl, tt, (refl, inl refl, (search rules), (refl, inl refl, (search rules), tt))))))))))))))
 
   -- where the store goes to no word of the part
-  pub call_calm : (c : CapFields) → s.regs.pc ≡ Mem (code_cap base last at) → s.regs.stk ≡ Mem c → ((q : ℕ) → c.base ≤ q → q ≤ c.end → Outside q base last) → NoEnd l at (at + 15) → Calm l 15 s
+  pub call_calm : (c : CapFields) → s.regs.pc ≡ Mem (code_cap base last at) → s.regs.stk ≡ Mem c
+      → ((q : ℕ) → c.base ≤ q → q ≤ c.end → Outside q base last) → NoEnd l at (at + 15) → Calm l 15 s
   unfolding call_code faces
   call_calm c pc stk apart free =
       let ai = h.at_is in

@@ -1,12 +1,14 @@
 -- The twenty words of an entry are calm whatever they do.
 use Rattle.std.proofs.Common.{inl, ◌≡◌, ◌≢◌, ℕ, ◌+◌, ◌≤◌, pos, List, [], ◌∷◌, refl, arith, rules}
+use Rattle.call_sequence.proofs.LawLemmas.{fits_small, small_operand, near_operand, leads}
 use Rattle.cap_words.specs.declared.TheConstants.{LAST_PLACE}
 use Rattle.cap_words.specs.declared.Word.{Word}
 use Rattle.cap_words.specs.declared.Word.TheVariants.{Mem}
 use Rattle.lcm_isa.specs.declared.Reg.TheVariants.{Stk, T1, T2}
 use Rattle.lcm_isa.specs.declared.Operand.TheVariants.{R as InReg, Imm}
 use Rattle.lcm_isa.specs.declared.Instr.{Instr}
-use Rattle.lcm_isa.specs.declared.Instr.TheVariants.{Jnz, Gettype, Getb, Gete, Getp, Getlin, Move, Cca, Minus, Seta2b}
+use Rattle.lcm_isa.specs.declared.Instr.TheVariants.{Jnz, Gettype, Getb, Gete, Getp, Getlin, Move, Cca, Minus}
+use Rattle.lcm_isa.specs.declared.Instr.TheVariants.{Seta2b}
 use Rattle.lcm_machine.specs.Maps.{State}
 use Rattle.lcm_machine.specs.Runs.{code_cap}
 use Rattle.call_sequence.specs.Sequences.{entry_code, distance}
@@ -15,7 +17,6 @@ use Rattle.overlay_machine.specs.declared.layout.Layout.{Layout}
 use Rattle.trace_tool.proofs.alike.Calm.{id, Calm}
 use Rattle.trace_tool.proofs.alike.Laying.{NoEnd}
 use Rattle.trace_tool.proofs.alike.Armed.{Armed, rest, tests, keeps, calm_arming}
-use Rattle.trace_tool.proofs.alike.Operands.{fits_small, small_operand, near_operand, leads}
 
 abbrev entry_rest : ℕ → List Instr
 entry_rest sb =
@@ -36,7 +37,8 @@ entry_armed sb h =
     (rest (refl, inl refl, tt, (refl, inl refl, tt, (refl, inl refl, small_operand sb h, (refl, inl refl, tt, (refl, inl refl, (search rules), (refl, inl refl, (search rules), tt))))))))))))))))))
 
 module _ (l : Layout) (s : State Word) (base last at sb : ℕ) (h : HasEntry id s.cells base last at sb) where
-  pub entry_calm : s.regs.pc ≡ Mem (code_cap base last at) → sb ≤ LAST_PLACE → NoEnd l at (at + 20) → Calm l 20 s
+  pub entry_calm : s.regs.pc ≡ Mem (code_cap base last at) → sb ≤ LAST_PLACE → NoEnd l at (at + 20)
+      → Calm l 20 s
   unfolding entry_code
   entry_calm pc small free =
       let ai = h.at_is in

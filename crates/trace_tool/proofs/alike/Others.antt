@@ -1,5 +1,6 @@
 -- The lines of a step that is a row: an ordinary instruction, an `xjmp` of plain words.
-use Rattle.std.proofs.Common.{◌≡◌, ◌⊎◌, inl, inr, ℕ, ◌<◌, Bool, true, List, Option, Some, None, refl, sym, ap, ◌∙◌, arith}
+use Rattle.std.proofs.Common.{◌≡◌, ◌⊎◌, inl, inr, ℕ, ◌<◌, Bool, true, List, Option, Some, None, refl, sym, ap}
+use Rattle.std.proofs.Common.{◌∙◌, arith}
 use Rattle.std.specs.Prelude.{option_map, option_and_then, is_some, if◌then◌else◌}
 use Rattle.cap_words.specs.declared.Word.{Word}
 use Rattle.cap_words.specs.declared.Opened.{Opened}
@@ -10,11 +11,10 @@ use Rattle.lcm_isa.specs.declared.Instr.TheVariants.{Fail, Xjmp}
 use Rattle.lcm_machine.specs.declared.Place.TheVariants.{R}
 use Rattle.lcm_machine.specs.Maps.{State}
 use Rattle.lcm_machine.specs.Places.{reg}
-use Rattle.lcm_machine.specs.Row.{faces, cell_faces, opens, fetch, Fetched, none, some, jump_in, jump_at, row, plan_in, Outcome, went, halted, failed, step_of, step_fetched}
+use Rattle.lcm_machine.specs.Row.{faces, cell_faces, opens, fetch, Fetched, none, some, jump_in, jump_at, row}
+use Rattle.lcm_machine.specs.Row.{plan_in, Outcome, went, halted, failed, step_of, step_fetched}
 use Rattle.lcm_machine.specs.Runs.{run_of}
-use Rattle.lcm_machine.proofs.Commute.{fetch_commutes}
-use Rattle.lcm_machine.proofs.StepRows.{run_one}
-use Rattle.lcm_machine.proofs.TouchLemmas.{fetched_row}
+use Rattle.lcm_machine.proofs.Offers.{fetch_commutes, run_one, fetched_row}
 use Rattle.component_linker.specs.declared.owners.Owner.{Owner}
 use Rattle.overlay_machine.specs.declared.words.OWord.{OWord}
 use Rattle.overlay_machine.specs.declared.words.OWord.TheVariants.{Plain}
@@ -27,12 +27,11 @@ use Rattle.overlay_machine.specs.State.{OpenFrame, OState}
 use Rattle.overlay_machine.specs.Step.{goes, case_fetched, with_frames, other_step}
 use Rattle.overlay_machine.specs.Flat.{flat, beside, IsFlat}
 use Rattle.overlay_machine.specs.Agree.{Looks, FramesFree}
-use Rattle.overlay_machine.specs.Events.{owner_now, jump_seal, note_jump, note_by, closure_owner, entry_number, back_of, jumped, event_after as told_after}
+use Rattle.overlay_machine.specs.Events.{owner_now, jump_seal, note_jump, note_by, closure_owner}
+use Rattle.overlay_machine.specs.Events.{entry_number, back_of, jumped, event_after as told_after}
 use Rattle.overlay_machine.specs.Link.{Link}
 use Rattle.overlay_machine.specs.Linked.{Linked}
-use Rattle.overlay_machine.proofs.FlatLemmas.{flat-opened}
-use Rattle.overlay_machine.proofs.OtherAgrees.{plain_both, free_pc}
-use Rattle.overlay_machine.proofs.invariant.View.{View}
+use Rattle.overlay_machine.proofs.Offers.{flat-opened, plain_both, free_pc, View}
 use Rattle.trace_tool.specs.Layout.{trusted_part, site_word}
 use Rattle.trace_tool.specs.Views.{flat_view}
 use Rattle.trace_tool.specs.Events.{noted, noted_by, note_last, leapt_by, event_after}
@@ -44,7 +43,8 @@ use Rattle.trace_tool.proofs.alike.Apart.{other_apart}
 use Rattle.trace_tool.proofs.alike.Lands.{xjmp_opens}
 
 -- an overlay step that went is the row's
-row_went : (fs : List OpenFrame) (n : ℕ) (r : Outcome OWord) (q : OState) → with_frames fs n r ≡ goes q → (s : State OWord) × (r ≡ went s)
+row_went : (fs : List OpenFrame) (n : ℕ) (r : Outcome OWord) (q : OState) → with_frames fs n r ≡ goes q
+    → (s : State OWord) × (r ≡ went s)
 row_went fs n (went s) q e = (s, refl)
 row_went fs n halted q e = cc
 row_went fs n (failed c at) q e = cc
@@ -78,11 +78,13 @@ module _ (l : Layout) (q : OState) (k : Looks l q) where
   entered_same : (seal : ℕ) → leapt_by l None None (Some seal) (flat_view l q) ≡ jumped l q None seal
   entered_same seal = by_owner (closure_owner l seal)
     where
-      by_owner : (p : Option Owner) → option_and_then (Rattle.trace_tool.specs.Events.entered l (flat_view l q)) p ≡ option_and_then (Rattle.overlay_machine.specs.Events.entered l q) p
+      by_owner : (p : Option Owner)
+          → option_and_then (Rattle.trace_tool.specs.Events.entered l (flat_view l q)) p ≡ option_and_then (Rattle.overlay_machine.specs.Events.entered l q) p
       by_owner None = refl
       by_owner (Some p) = ap (λ f. option_map (λ n. Entered p.part n (back_of l ((flat_view l q).reg Rcode) ((flat_view l q).reg Rdata))) (entry_number p f)) face_now
 
-  leap_same : (from : Option ℕ) (seal : ℕ) → leapt_by l from None (Some seal) (flat_view l q) ≡ jumped l q from seal
+  leap_same : (from : Option ℕ) (seal : ℕ)
+      → leapt_by l from None (Some seal) (flat_view l q) ≡ jumped l q from seal
   leap_same None seal = entered_same seal
   leap_same (Some part) seal = ap (λ f. if is_some (trusted_owner l f) then None else Some (Left part)) face_now
 
@@ -96,8 +98,10 @@ module _ (l : Layout) (o : OState) (t : State Word) (m : IsFlat l o t) (k : Look
   opens_same r p = ap opened_of (m.regs r) ∙ flat-opened l o.frames (reg o.maps.regs r) p
 
   -- the event of a row, where no site's word is at pc
-  row_event : (free : FramesFree o) (u : State Word) (q : OState) (inward : Bool) → case_fetched o.maps (fetch (faces look o.maps Pc) (cell_faces look o.maps)) ≡ Other
-      → ((off : ℕ) → 0 < off → off < 26 → site_word l off (faces look o.maps Pc) ≡ None) → step_of id id t ≡ went u → Looks l q
+  row_event : (free : FramesFree o) (u : State Word) (q : OState) (inward : Bool)
+      → case_fetched o.maps (fetch (faces look o.maps Pc) (cell_faces look o.maps)) ≡ Other
+      → ((off : ℕ) → 0 < off → off < 26 → site_word l off (faces look o.maps Pc) ≡ None)
+      → step_of id id t ≡ went u → Looks l q
       → event_after l (noted l t) inward (flat_view l q) ≡ told_after l (note_by l o Other) q
   unfolding event_after noted jump_at step_of opens
   row_event free u q inward c off e kq = elim (is_jump (fetch (faces look o.maps Pc) (cell_faces look o.maps))) as (λ _. event_after l (noted l t) inward (flat_view l q) ≡ told_after l (note_by l o Other) q) [
@@ -108,13 +112,18 @@ module _ (l : Layout) (o : OState) (t : State Word) (m : IsFlat l o t) (k : Look
       got : fetch (faces id t Pc) (cell_faces id t) ≡ fetch (faces look o.maps Pc) (cell_faces look o.maps)
       got = fetch_commutes look id (flat l o.frames) (beside l o.frames) o.maps t m k.0 (free_pc l o t m k free)
 
-      quiet : jump_in (fetch (faces look o.maps Pc) (cell_faces look o.maps)) ≡ None → jump_seal o.maps (fetch (faces look o.maps Pc) (cell_faces look o.maps)) ≡ None → event_after l (noted l t) inward (flat_view l q) ≡ told_after l (note_by l o Other) q
+      quiet : jump_in (fetch (faces look o.maps Pc) (cell_faces look o.maps)) ≡ None
+          → jump_seal o.maps (fetch (faces look o.maps Pc) (cell_faces look o.maps)) ≡ None
+          → event_after l (noted l t) inward (flat_view l q) ≡ told_after l (note_by l o Other) q
       quiet a b =
           ap (λ j. event_after l (noted_by l t j) inward (flat_view l q)) (ap jump_in got ∙ a)
           ∙ ap (λ w. event_after l (note_last w) inward (flat_view l q)) (ap (site_word l 25) (face_same Pc) ∙ off 25 (omega arith) (omega arith))
           ∙ sym (ap (λ s. told_after l (note_jump (option_map (λ p. p.part) (owner_now l o)) s) q) b)
 
-      leaps : (r1 r2 : Reg) (next : Word) → fetch (faces look o.maps Pc) (cell_faces look o.maps) ≡ some (Xjmp r1 r2) next → is_plain (reg o.maps.regs r1) ≡ true → event_after l (noted l t) inward (flat_view l q) ≡ told_after l (note_by l o Other) q
+      leaps : (r1 r2 : Reg) (next : Word)
+          → fetch (faces look o.maps Pc) (cell_faces look o.maps) ≡ some (Xjmp r1 r2) next
+          → is_plain (reg o.maps.regs r1) ≡ true
+          → event_after l (noted l t) inward (flat_view l q) ≡ told_after l (note_by l o Other) q
       leaps r1 r2 next f p =
           let y = xjmp_opens t u r1 r2 next (sym (ap (step_fetched id id t) (got ∙ f)) ∙ e) in
           let seal : opens look o.maps r1 ≡ Some y.0 = sym (opens_same r1 p) ∙ y.1 in
@@ -127,7 +136,10 @@ module _ (l : Layout) (o : OState) (t : State Word) (m : IsFlat l o t) (k : Look
 
 module _ (g : Link) (linked : Linked g) (o : OState) (t : State Word) (m : IsFlat g.layout o t) (k : Looks g.layout o) (free : FramesFree o) where
   -- the lines of a step that is a row
-  pub other_whole : View g o.frames o.maps Other → case_fetched o.maps (fetch (faces look o.maps Pc) (cell_faces look o.maps)) ≡ Other → (u : State Word) (q : OState) (n : ℕ) (inward : Bool) → other_step o ≡ goes q → run_of id id 1 t ≡ went u
+  pub other_whole : View g o.frames o.maps Other
+      → case_fetched o.maps (fetch (faces look o.maps Pc) (cell_faces look o.maps)) ≡ Other
+      → (u : State Word) (q : OState) (n : ℕ) (inward : Bool) → other_step o ≡ goes q
+      → run_of id id 1 t ≡ went u
       → IsFlat g.layout q u → Looks g.layout q
       → lines_of g.layout (at_state t n inward) 1 ≡ lines_for g.layout (flat_view g.layout q) (told_after g.layout (note_by g.layout o Other) q)
   other_whole v c u q n inward e r mq kq =

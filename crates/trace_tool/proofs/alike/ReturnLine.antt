@@ -1,5 +1,6 @@
 -- The line of a return that goes.
-use Rattle.std.proofs.Common.{◌≡◌, ℕ, suc, ◌+◌, ◌-◌, ◌≤◌, pos, Bool, Option, Some, None, refl, sym, ap, ◌∙◌, arith, subst, le-leb, rules}
+use Rattle.std.proofs.Common.{◌≡◌, ℕ, suc, ◌+◌, ◌-◌, ◌≤◌, pos, Bool, Option, Some, None, refl, sym, ap, ◌∙◌}
+use Rattle.std.proofs.Common.{arith, subst, le-leb, rules}
 use Rattle.std.specs.Prelude.{slice_get, is_some, option_map}
 use Rattle.std.specs.Option.{option_or}
 use Rattle.cap_words.specs.declared.Word.{Word}
@@ -21,7 +22,7 @@ use Rattle.lcm_machine.specs.Cells.{cell, set_cell}
 use Rattle.lcm_machine.specs.Row.{Outcome, faces, step_of, went}
 use Rattle.lcm_machine.specs.Runs.{and_then, run_of, Stands, code_cap}
 use Rattle.lcm_machine.specs.Mapped.{mapped_or}
-use Rattle.lcm_machine.proofs.StepRows.{run_one}
+use Rattle.lcm_machine.proofs.Offers.{run_one}
 use Rattle.call_sequence.specs.Sequences.{return_code}
 use Rattle.call_sequence.specs.SequenceRuns.{stack_cap, HasReturn}
 use Rattle.call_sequence.proofs.ReturnLaws.{return_runs}
@@ -38,15 +39,13 @@ use Rattle.overlay_machine.specs.Agree.{AtReturn, HasSite, FrameSound, Looks}
 use Rattle.overlay_machine.specs.Events.{owner_now, note_return, note_by, event_after as told_after}
 use Rattle.overlay_machine.specs.Link.{Link}
 use Rattle.overlay_machine.specs.Linked.{Linked}
-use Rattle.overlay_machine.proofs.FrameWords.{word_of-within, frame_of-newest}
-use Rattle.overlay_machine.proofs.OwnStack.{own_is}
-use Rattle.overlay_machine.proofs.ReturnAgrees.{s1, jumps, code_is, code_some, data_is, stk_kept}
-use Rattle.overlay_machine.proofs.invariant.View.{View}
-use Rattle.overlay_machine.proofs.invariant.ReturnKept.{Returned}
+use Rattle.overlay_machine.proofs.Offers.{word_of-within, frame_of-newest, own_is, s1, jumps, code_is}
+use Rattle.overlay_machine.proofs.Offers.{code_some, data_is, stk_kept, View, Returned}
 use Rattle.trace_tool.specs.declared.note.Note.TheVariants.{Last}
 use Rattle.trace_tool.specs.Layout.{trusted_part, site_word}
 use Rattle.trace_tool.specs.Views.{flat_view}
-use Rattle.trace_tool.specs.Events.{noted, noted_by, note_last, event_after, inward_after, returned as returned_event}
+use Rattle.trace_tool.specs.Events.{noted, noted_by, note_last, event_after, inward_after}
+use Rattle.trace_tool.specs.Events.{returned as returned_event}
 use Rattle.trace_tool.specs.Lines.{lines_for}
 use Rattle.trace_tool.specs.Runs.{lines_of}
 use Rattle.trace_tool.proofs.alike.Calm.{id, at_state, calm_then}
@@ -59,11 +58,13 @@ use Rattle.trace_tool.proofs.alike.Others.{face_same}
 use Rattle.trace_tool.proofs.alike.Returns.{noted_back, back_line, calm_behind}
 use Rattle.trace_tool.proofs.alike.ReturnNine.{return_nine}
 
-after_step : (n : ℕ) (s u : State Word) (r : Outcome Word) → step_of id id s ≡ went u → run_of id id (suc n) s ≡ r → run_of id id n u ≡ r
+after_step : (n : ℕ) (s u : State Word) (r : Outcome Word) → step_of id id s ≡ went u
+    → run_of id id (suc n) s ≡ r → run_of id id n u ≡ r
 unfolding run_of
 after_step n s u r e h = sym (ap (λ y. and_then y (run_of id id n)) e) ∙ h
 
-returned_here : (inward : Bool) (i sb fb fe : ℕ) → sb ≤ fb → fb ≤ fe → returned_event inward i (Memory (stack_cap sb fe fb)) ≡ Some (ReturnedEvent inward i fb fe)
+returned_here : (inward : Bool) (i sb fb fe : ℕ) → sb ≤ fb → fb ≤ fe
+    → returned_event inward i (Memory (stack_cap sb fe fb)) ≡ Some (ReturnedEvent inward i fb fe)
 returned_here inward i sb fb fe low high = rw (le-leb sb fb low, le-leb fb fe high) refl
 
 part_some : (l : Layout) (f : Face) → is_some (trusted_part l f) ≡ is_some (trusted_owner l f)
@@ -184,7 +185,8 @@ module _ (g : Link) (linked : Linked g) (r1 r2 : Reg) (o : OState) (t : State Wo
   same_end : (w : State Word) → run_of id id 11 t ≡ went w → u10 ≡ w
   same_end w e = let z : went u10 ≡ went w = sym ten ∙ after_step 10 t u (went w) jumped e in cc
 
-  event9 : (w : State Word) (inward : Bool) → run_of id id 11 t ≡ went w → IsFlat l q w → event_after l (Last F.site) inward (flat_view l q) ≡ Some (ReturnedEvent inward F.site F.base F.end)
+  event9 : (w : State Word) (inward : Bool) → run_of id id 11 t ≡ went w → IsFlat l q w
+      → event_after l (Last F.site) inward (flat_view l q) ≡ Some (ReturnedEvent inward F.site F.base F.end)
   unfolding event_after
   event9 w inward e mq =
       let ab = sound.above in
@@ -198,7 +200,8 @@ module _ (g : Link) (linked : Linked g) (r1 r2 : Reg) (o : OState) (t : State Wo
   told = sym (ap (λ fs. told_after l (note_return now fs) q) y.frames_are)
 
   -- its line is the overlay's
-  pub return_whole : (w : State Word) (n : ℕ) (inward : Bool) → run_of id id 11 t ≡ went w → IsFlat l q w → lines_of l (at_state t n inward) 11 ≡ lines_for l (flat_view l q) (told_after l (note_by l o (Back r1 r2)) q)
+  pub return_whole : (w : State Word) (n : ℕ) (inward : Bool) → run_of id id 11 t ≡ went w → IsFlat l q w
+      → lines_of l (at_state t n inward) 11 ≡ lines_for l (flat_view l q) (told_after l (note_by l o (Back r1 r2)) q)
   return_whole w n inward e mq =
       let step : step_of id id u9 ≡ went w = last_step 9 u u9 w nine (after_step 10 t u (went w) jumped e) in
       let bit : inward_after (noted l t) inward ≡ now =

@@ -1,6 +1,8 @@
 -- Nine of the ten words of a return.
-use Rattle.std.proofs.Common.{◌≡◌, ℕ, ◌+◌, ◌≤◌, ℤ, pos, ◌+ℤ◌, ◌-ℤ◌, false, Some, refl, sym, ap, ◌∙◌, arith, rules, FitsSigned, w32}
+use Rattle.std.proofs.Common.{◌≡◌, ℕ, ◌+◌, ◌≤◌, ℤ, pos, ◌+ℤ◌, ◌-ℤ◌, false, Some, refl, sym, ap, ◌∙◌, arith}
+use Rattle.std.proofs.Common.{rules, FitsSigned, w32}
 use Rattle.std.proofs.lemmas.Int.{ints}
+use Rattle.call_sequence.proofs.LawLemmas.{fits_small, small_operand, near_operand, leads}
 use Rattle.cap_words.specs.declared.TheConstants.{LAST_PLACE}
 use Rattle.cap_words.specs.declared.Word.{Word}
 use Rattle.cap_words.specs.declared.Word.TheVariants.{Mem}
@@ -9,16 +11,18 @@ use Rattle.lcm_machine.specs.Cells.{cell, set_cell}
 use Rattle.lcm_machine.specs.Maps.{State}
 use Rattle.lcm_machine.specs.Row.{went}
 use Rattle.lcm_machine.specs.Runs.{run_of, code_cap}
-use Rattle.lcm_machine.proofs.Commute.{is_linear-face}
-use Rattle.lcm_machine.proofs.Goes.{set_goes, go, ran, stays, leaves, move_goes, store_goes, load_goes, cca_goes, getb_goes, minus_goes, splice_goes, jnz_goes}
+use Rattle.lcm_machine.proofs.Offers.{is_linear-face, set_goes, go, ran, stays, leaves, move_goes, store_goes}
+use Rattle.lcm_machine.proofs.Offers.{load_goes, cca_goes, getb_goes, minus_goes, splice_goes, jnz_goes}
 use Rattle.call_sequence.specs.Sequences.{return_code, distance}
 use Rattle.call_sequence.specs.SequenceRuns.{stack_cap, Outside, HasReturn}
-use Rattle.trace_tool.proofs.alike.Operands.{fits_small, small_operand, near_operand, leads}
 use Rattle.trace_tool.proofs.alike.Calm.{id}
 
-pub return_nine : (s : State Word) (base last at sb low b end : ℕ) (to : ℤ) (w : Word) → (h : HasReturn id s.cells base last at sb)
-    → s.regs.pc ≡ Mem (code_cap base last at) → s.regs.stk ≡ Mem (record (stack_cap sb low 0) { addr = to }) → s.regs.dat ≡ Mem (stack_cap b end b)
-    → low + 1 ≡ b → sb ≤ b → b ≤ end → end ≤ LAST_PLACE → Outside b base last → cell s.cells b ≡ Some w → is_linear w ≡ false
+pub return_nine : (s : State Word) (base last at sb low b end : ℕ) (to : ℤ) (w : Word)
+    → (h : HasReturn id s.cells base last at sb)
+    → s.regs.pc ≡ Mem (code_cap base last at) → s.regs.stk ≡ Mem (record (stack_cap sb low 0) { addr = to })
+    → s.regs.dat ≡ Mem (stack_cap b end b)
+    → low + 1 ≡ b → sb ≤ b → b ≤ end → end ≤ LAST_PLACE → Outside b base last → cell s.cells b ≡ Some w
+    → is_linear w ≡ false
     → run_of id id 9 s ≡ went (record s {
       regs = record s.regs {
         pc = Mem (code_cap base last (at + 9));

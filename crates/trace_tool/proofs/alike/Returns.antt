@@ -1,6 +1,8 @@
 -- An `xjmp` of a return word, and the words after it: no line but at the last.
-use Rattle.std.proofs.Common.{◌≡◌, inl, inr, ℕ, ◌+◌, ◌≤◌, ℤ, pos, Bool, true, [], ◌∷◌, Option, Some, None, refl, sym, ap, ◌∙◌, arith, rules}
+use Rattle.std.proofs.Common.{◌≡◌, inl, inr, ℕ, ◌+◌, ◌≤◌, ℤ, pos, Bool, true, [], ◌∷◌, Option, Some, None}
+use Rattle.std.proofs.Common.{refl, sym, ap, ◌∙◌, arith, rules}
 use Rattle.std.specs.Prelude.{option_map}
+use Rattle.call_sequence.proofs.LawLemmas.{fits_small, small_operand, near_operand, leads}
 use Rattle.cap_words.specs.declared.TheConstants.{LAST_PLACE}
 use Rattle.cap_words.specs.declared.Word.{Word}
 use Rattle.cap_words.specs.declared.Word.TheVariants.{Mem}
@@ -14,10 +16,10 @@ use Rattle.lcm_isa.specs.declared.Operand.TheVariants.{Imm}
 use Rattle.lcm_isa.specs.declared.Instr.TheVariants.{Fail, Jnz, Getb, Move, Store, Load, Minus, Splice, Xjmp}
 use Rattle.lcm_machine.specs.Maps.{State}
 use Rattle.lcm_machine.specs.Places.{reg}
-use Rattle.lcm_machine.specs.Row.{faces, cell_faces, opens, fetch, some, jump_in, jump_at, row, step_fetched, step_of, went}
+use Rattle.lcm_machine.specs.Row.{faces, cell_faces, opens, fetch, some, jump_in, jump_at, row, step_fetched}
+use Rattle.lcm_machine.specs.Row.{step_of, went}
 use Rattle.lcm_machine.specs.Runs.{code_cap}
-use Rattle.lcm_machine.specs.Mapped.{mapped_or}
-use Rattle.lcm_machine.proofs.Commute.{fetch_mapped}
+use Rattle.lcm_machine.proofs.Offers.{fetch_mapped}
 use Rattle.call_sequence.specs.Sequences.{return_code, distance}
 use Rattle.call_sequence.specs.SequenceRuns.{HasReturn}
 use Rattle.overlay_machine.specs.declared.cases.Case.TheVariants.{Back}
@@ -25,14 +27,13 @@ use Rattle.overlay_machine.specs.declared.layout.Layout.{Layout}
 use Rattle.overlay_machine.specs.declared.layout.SiteCode.{SiteCode}
 use Rattle.overlay_machine.specs.Layout.{site_code}
 use Rattle.overlay_machine.specs.Words.{look}
-use Rattle.overlay_machine.specs.State.{OState, framed}
+use Rattle.overlay_machine.specs.State.{OState}
 use Rattle.overlay_machine.specs.Flat.{flat, beside, IsFlat}
 use Rattle.overlay_machine.specs.Agree.{AtReturn, Looks}
 use Rattle.overlay_machine.specs.Events.{closure_owner}
 use Rattle.overlay_machine.specs.Link.{Link}
 use Rattle.overlay_machine.specs.Linked.{Linked}
-use Rattle.overlay_machine.proofs.FlatLemmas.{HasReturn-flat}
-use Rattle.overlay_machine.proofs.invariant.View.{View}
+use Rattle.overlay_machine.proofs.Offers.{HasReturn-flat, beside-none, View}
 use Rattle.trace_tool.specs.declared.note.Note.{Note}
 use Rattle.trace_tool.specs.declared.note.Note.TheVariants.{Leap}
 use Rattle.trace_tool.specs.Layout.{is_trusted, trusted_part, site_word}
@@ -45,7 +46,6 @@ use Rattle.trace_tool.proofs.alike.Mute.{Mute, calm_mute, line_goes}
 use Rattle.trace_tool.proofs.alike.Straight.{Num}
 use Rattle.trace_tool.proofs.alike.Laying.{NoEnd, calm_front, stands_kept}
 use Rattle.trace_tool.proofs.alike.Armed.{Armed, rest, tests, calm_arming}
-use Rattle.trace_tool.proofs.alike.Operands.{fits_small, small_operand, near_operand, leads}
 use Rattle.trace_tool.proofs.alike.Sites.{trusted_code, no_closure}
 use Rattle.trace_tool.proofs.alike.Apart.{back_apart}
 use Rattle.trace_tool.proofs.alike.Lands.{Landed, xjmp_lands}
@@ -58,7 +58,8 @@ back_rest = tests T1 (rest (refl, inl refl, tt, (refl, inl refl, (search rules),
 
 module _ (l : Layout) (s : State Word) (base last at sb : ℕ) (h : HasReturn id s.cells base last at sb) where
   -- all but the last of them are calm whatever they do
-  pub words_calm : s.regs.pc ≡ Mem (code_cap base last at) → sb ≤ LAST_PLACE → NoEnd l at (at + 9) → Calm l 9 s
+  pub words_calm : s.regs.pc ≡ Mem (code_cap base last at) → sb ≤ LAST_PLACE → NoEnd l at (at + 9)
+      → Calm l 9 s
   unfolding return_code
   words_calm pc small free =
       let ai = h.at_is in
@@ -78,7 +79,8 @@ module _ (l : Layout) (s : State Word) (base last at sb : ℕ) (h : HasReturn id
       (near_operand (h.offset + 3) h.fail (omega (arith, ai, en, sm)) (omega (arith, fh, sm))) (keep _ _ h.fails.0.0))))
 
 -- where numbers stay, a return stands as before
-return_kept : (s u : State Word) (base last at sb : ℕ) → ((q : ℕ) (z : ℤ) → Num s q z → Num u q z) → HasReturn id s.cells base last at sb → HasReturn id u.cells base last at sb
+return_kept : (s u : State Word) (base last at sb : ℕ) → ((q : ℕ) (z : ℤ) → Num s q z → Num u q z)
+    → HasReturn id s.cells base last at sb → HasReturn id u.cells base last at sb
 return_kept s u base last at sb k h = record {
   offset = h.offset;
   fail = h.fail;
@@ -91,7 +93,8 @@ return_kept s u base last at sb k h = record {
 
 -- ---- the `xjmp`
 
-no_leap : (l : Layout) (from : Option ℕ) (seal : ℕ) (v : Shown) → closure_owner l seal ≡ None → reaches_trusted l v ≡ true → leapt_by l from None (Some seal) v ≡ None
+no_leap : (l : Layout) (from : Option ℕ) (seal : ℕ) (v : Shown) → closure_owner l seal ≡ None
+    → reaches_trusted l v ≡ true → leapt_by l from None (Some seal) v ≡ None
 no_leap l None seal v c r = rw c refl
 no_leap l (Some p) seal v c r = rw r refl
 
@@ -103,12 +106,8 @@ module _ (g : Link) (linked : Linked g) (r1 r2 : Reg) (o : OState) (t : State Wo
   abbrev pub code : CapFields
   code = code_cap s.base s.end (s.at + 16)
 
-  free_here : (a : ℕ) → framed o.frames a ≡ None → beside l o.frames a ≡ None
-  unfolding beside
-  free_here a e = ap (λ y. mapped_or (flat l o.frames) y None) e
-
   got : fetch (faces id t Pc) (cell_faces id t) ≡ some (Xjmp r1 r2) rd.next
-  got = fetch_mapped look id (flat l o.frames) (beside l o.frames) o.maps t m k.0 (λ a e. free_here a (rd.free a e)) ∙ rd.fetched
+  got = fetch_mapped look id (flat l o.frames) (beside l o.frames) o.maps t m k.0 (λ a e. beside-none l o.frames a (rd.free a e)) ∙ rd.fetched
 
   row_is : (u : State Word) → step_of id id t ≡ went u → row id id (Xjmp r1 r2) rd.next t ≡ went u
   unfolding step_of
@@ -131,11 +130,13 @@ module _ (g : Link) (linked : Linked g) (r1 r2 : Reg) (o : OState) (t : State Wo
       (ap (site_word l 15) (face_same l o t m k Pc) ∙ back_apart g linked o.frames o.maps (Xjmp r1 r2) rd.next rd.fetched (λ q. cc) 15 (omega arith) (omega arith) r1 r2 v)
       ∙ ap (λ w. let n : Note = Leap (record { from = trusted_part l (faces id t Pc); call = None; seal = option_map (λ (z : Opened). z.seal) w }) in n) t_opened
 
-  back_event : (u : State Word) (inward : Bool) → step_of id id t ≡ went u → event_after l NoteBack inward (view_of u) ≡ None
+  back_event : (u : State Word) (inward : Bool) → step_of id id t ≡ went u
+      → event_after l NoteBack inward (view_of u) ≡ None
   unfolding event_after
   back_event u inward e = no_leap l _ s.seal (view_of u) (no_closure g linked i s es) (ap (λ w. is_trusted l (face_of w)) (lands u e).0 ∙ trusted_code g linked i s es (s.at + 16))
 
-  pub back_line : (u : State Word) (c : ℕ) (inward : Bool) → step_of id id t ≡ went u → line_next l (at_state t c inward) ≡ []
+  pub back_line : (u : State Word) (c : ℕ) (inward : Bool) → step_of id id t ≡ went u
+      → line_next l (at_state t c inward) ≡ []
   back_line u c inward e = line_goes l t u c inward e ∙ ap (λ n. lines_for l (view_of u) (event_after l n inward (view_of u))) noted_back ∙ ap (lines_for l (view_of u)) (back_event u inward e)
 
   pub calm_behind : NoEnd l (s.at + 16) (s.at + 25) → (u : State Word) → step_of id id t ≡ went u → Calm l 9 u

@@ -13,7 +13,9 @@ use Rattle.lcm_isa.specs.declared.Reg.{Reg}
 use Rattle.lcm_isa.specs.declared.Reg.TheVariants.{Pc}
 use Rattle.lcm_isa.specs.declared.Operand.TheVariants.{R as InReg, Imm}
 use Rattle.lcm_isa.specs.declared.Instr.{Instr}
-use Rattle.lcm_isa.specs.declared.Instr.TheVariants.{Fail, Halt, Jmp, Jnz, Gettype, Geta, Getb, Gete, Getp, Getlin, Move, Store, Load, Cca, Restrict, Lt, Plus, Minus, Seta2b, Xjmp, Cseal, Split, Splice}
+use Rattle.lcm_isa.specs.declared.Instr.TheVariants.{Fail, Halt, Jmp, Jnz, Gettype, Geta, Getb, Gete, Getp}
+use Rattle.lcm_isa.specs.declared.Instr.TheVariants.{Getlin, Move, Store, Load, Cca, Restrict, Lt, Plus}
+use Rattle.lcm_isa.specs.declared.Instr.TheVariants.{Minus, Seta2b, Xjmp, Cseal, Split, Splice}
 use Rattle.lcm_machine.specs.Plan.{Plan, Fails, Halts, Goes}
 use Rattle.lcm_machine.specs.declared.plan.Effect.{Effect}
 use Rattle.lcm_machine.specs.declared.plan.Moved.{Moved}
@@ -24,9 +26,10 @@ use Rattle.lcm_machine.specs.Maps.{State}
 use Rattle.lcm_machine.specs.Places.{reg}
 use Rattle.lcm_machine.specs.Cells.{cell}
 use Rattle.lcm_machine.specs.Table.{plan}
-use Rattle.lcm_machine.specs.Row.{word_in, put, clear, move_on, spend, make, go_on, perform, faces, opens, look_face, plan_in, outcome, row, went}
-use Rattle.lcm_machine.proofs.Plans.{Gives, gives_goes, Gives-effect, Gives-ask, Gives-need, Gives-by_cap}
-use Rattle.lcm_machine.proofs.CellLemmas.{cell-set_other}
+use Rattle.lcm_machine.specs.Row.{word_in, put, clear, move_on, spend, make, go_on, perform, faces, opens}
+use Rattle.lcm_machine.specs.Row.{look_face, plan_in, outcome, row, went}
+use Rattle.lcm_machine.proofs.Offers.{Gives, gives_goes, Gives-effect, Gives-ask, Gives-need, Gives-by_cap}
+use Rattle.lcm_machine.proofs.Offers.{cell-set_other}
 use Rattle.trace_tool.proofs.alike.Calm.{id}
 
 -- neither a jump nor an end
@@ -90,7 +93,8 @@ module _ (f : Reg → Face) (w : Reg → Option Opened) (there : Option Face) (n
 abbrev pub Num : State Word → ℕ → ℤ → Type 0
 Num s q z = look_face id (cell s.cells q) ≡ Some (Number z)
 
-not_linear : (o : Option Word) (z : ℤ) → look_face id o ≡ Some (Number z) → is_linear (unwrap_or o (zero_word id)) ≡ false
+not_linear : (o : Option Word) (z : ℤ) → look_face id o ≡ Some (Number z)
+    → is_linear (unwrap_or o (zero_word id)) ≡ false
 not_linear None z e = cc
 not_linear (Some (Int y)) z e = refl
 not_linear (Some (Mem c)) z e = cc
@@ -113,7 +117,8 @@ put_num : (s : State Word) (p : Place) (w : Word) (q : ℕ) (z : ℤ) → IsReg 
 put_num s (R r) w q z i h = h
 put_num s (Cell a) w q z i h = absurd i
 
-moved_num : (s : State Word) (m : Option Moved) (q : ℕ) (z : ℤ) → ToReg false m → Num s q z → Num (move_on id id s m) q z
+moved_num : (s : State Word) (m : Option Moved) (q : ℕ) (z : ℤ) → ToReg false m → Num s q z
+    → Num (move_on id id s m) q z
 moved_num s None q z i h = h
 moved_num s (Some m) q z i h = put_num (clear id id s m.from) m.to (word_in id s m.from) q z i (clear_num s m.from q z h)
 
@@ -129,11 +134,13 @@ gone_num : (s : State Word) (m : Option Word) (q : ℕ) (z : ℤ) → Num s q z 
 gone_num s None q z h = h
 gone_num s (Some m) q z h = h
 
-pub performed_num : (s : State Word) (e : Effect) (q : ℕ) (z : ℤ) → ToReg false e.moved → Num s q z → Num (perform id id s e) q z
+pub performed_num : (s : State Word) (e : Effect) (q : ℕ) (z : ℤ) → ToReg false e.moved → Num s q z
+    → Num (perform id id s e) q z
 unfolding perform
 performed_num s e q z i h = gone_num _ e.next q z (made_num _ e.second q z (made_num _ e.first q z (spent_num _ e.also_spent q z (spent_num _ e.spent q z (moved_num s e.moved q z i h)))))
 
-performed_pc : (s : State Word) (e : Effect) (next : Word) → e.next ≡ Some next → reg (perform id id s e).regs Pc ≡ next
+performed_pc : (s : State Word) (e : Effect) (next : Word) → e.next ≡ Some next
+    → reg (perform id id s e).regs Pc ≡ next
 unfolding perform
 performed_pc s e next h = rw h refl
 
@@ -145,12 +152,14 @@ by_store : (b : Bool) (s : State Word) (e : Effect) → ToReg b e.moved → Keep
 by_store true s e h = tt
 by_store false s e h = λ q z. performed_num s e q z h
 
-planned : (s s' : State Word) (next : Word) (b : Bool) (p : Plan) → Gives (Onward next b) p → outcome id id s p ≡ went s' → (s'.regs.pc ≡ next) × KeepsNumbers b s s'
+planned : (s s' : State Word) (next : Word) (b : Bool) (p : Plan) → Gives (Onward next b) p
+    → outcome id id s p ≡ went s' → (s'.regs.pc ≡ next) × KeepsNumbers b s s'
 planned s s' next b (Fails f) h e = cc
 planned s s' next b Halts h e = cc
 planned s s' next b (Goes x) h e = let q : perform id id s x ≡ s' = cc in let k = Gives-effect h in rw (← q) (performed_pc s x next k.0, by_store b s x k.1)
 
 -- a straight instruction goes to the next word, and but for a store numbers stay
-pub straight_goes : (s s' : State Word) (i : Instr) (next : Word) → is_straight i ≡ true → row id id i next s ≡ went s' → (s'.regs.pc ≡ next) × KeepsNumbers (is_store i) s s'
+pub straight_goes : (s s' : State Word) (i : Instr) (next : Word) → is_straight i ≡ true
+    → row id id i next s ≡ went s' → (s'.regs.pc ≡ next) × KeepsNumbers (is_store i) s s'
 unfolding row plan_in
 straight_goes s s' i next h e = planned s s' next (is_store i) _ (plan-Onward (faces id s) (opens id s) _ next i h) e

@@ -38,10 +38,10 @@ use Rattle.overlay_machine.specs.declared.events.Back.{Back}
 use Rattle.overlay_machine.specs.declared.events.Back.TheVariants.{Out, Bad, Hop, Pair}
 use Rattle.overlay_machine.specs.declared.events.Event.{Event}
 use Rattle.overlay_machine.specs.declared.events.Event.TheVariants.{Called, Returned, Entered, Left}
-use Rattle.overlay_machine.specs.Layout.{runs_in, trusted_owner, trusted_at, number_of, site_at}
+use Rattle.overlay_machine.specs.Layout.{runs_part, trusted_owner, trusted_at, number_of, site_at}
 use Rattle.overlay_machine.specs.Events.{entry_number, closure_owner, site_of_seal, content_base, hop_to}
 use Rattle.overlay_machine.specs.Events.{hop_in, back_under, back_if, back_of, goes_on, jump_plan}
-use Rattle.overlay_machine.proofs.starts.ListFacts.{found_is}
+use Rattle.overlay_machine.proofs.Offers.{found_is}
 use Rattle.trace_tool.specs.declared.note.Note.{Note}
 use Rattle.trace_tool.specs.declared.note.Note.TheVariants.{Nothing, Last, Leap}
 use Rattle.trace_tool.specs.declared.pairs.Pair.{Pair as PairOf}
@@ -59,7 +59,7 @@ use Rattle.trace_tool.specs.Runs.{Watched, begun, if_went, watched, event_next, 
 use Rattle.lcm_machine.specs.Fitting.{MapsFit}
 use Rattle.trace_tool.specs.Fits.{IsName, IsSmall, AllFit, ArgsFit, ReturnFits, PassedFits, PlaceFits}
 use Rattle.trace_tool.specs.Fits.{LineFits, LinesFit, StartLinesFit, is_told}
-use Rattle.lcm_machine.proofs.WordsFit.{OpenedFits, opened_fits, next_state_fits}
+use Rattle.lcm_machine.proofs.Offers.{OpenedFits, opened_fits, next_state_fits}
 use Rattle.component_linker.proofs.StartFits.{starts_fit}
 use Rattle.trace_tool.proofs.fit.NamesFit.{number_at, part_named, entry_named, site_fits}
 
@@ -130,7 +130,7 @@ module _ (parts : List PartSeen) (closed : AreClosed parts) (l : Layout) (are_si
 
   running_found : (f : Face) → When OwnerThere (trusted_owner l f)
   running_found (Number z) = tt
-  running_found (Memory c) = owner_found (runs_in c)
+  running_found (Memory c) = owner_found (runs_part c)
   running_found (Seals s) = tt
   running_found (SealedFace x) = tt
 

@@ -1,8 +1,8 @@
-use Rattle.std.proofs.Common.{◌≡◌, ℕ, ◌+◌, ◌<◌, ◌≤◌, inl, inr, List, length, Some, None, refl, sym, ap, subst}
-use Rattle.std.proofs.Common.{◌∙◌, arith, get_or}
+use Rattle.std.proofs.Common.{◌≡◌, ℕ, ◌+◌, ◌<◌, inl, inr, List, length, Some, None, refl, sym, ap, subst}
+use Rattle.std.proofs.Common.{◌∙◌, arith}
 use Rattle.std.specs.Prelude.{slice_get}
 use Rattle.std.proofs.lemmas.Bool.{cases_eq}
-use Rattle.std.proofs.lemmas.Option.{slice_get-get_or, slice_get_within}
+use Rattle.std.proofs.lemmas.Option.{slice_get_within, slice_get_read}
 use Rattle.component_check.specs.Places.{first_place}
 use Rattle.component_linker.specs.declared.placed.Free.{Free}
 use Rattle.component_linker.specs.Parts.{PartSeen, IsPart}
@@ -11,10 +11,6 @@ use Rattle.component_linker.specs.Standing.{part_at, past, placed_from}
 use Rattle.component_linker.proofs.Settling.{free_at, placed_at, free_more, room_at, no_room, all_have_room}
 use Rattle.component_linker.proofs.Settling.{as_many}
 use Rattle.component_linker.proofs.placed.l10.Goals as goal
-
-there : (parts : List PartSeen) (k : ℕ) (p : PartSeen) → k < length parts → p ≡ get_or parts k p
-    → slice_get parts k ≡ Some p
-there parts k p lt is = slice_get-get_or parts k p lt ∙ ap Some (sym is)
 
 -- ---- one more part
 
@@ -62,7 +58,7 @@ returns-in-Some-clause-is c =
     sym c.in-Some.is ∙ c.lacks_room.ensures.is
     ∙ ap (λ f. first_place (room_test (part_at f p))) c.loop-index.invariant.is in
     no_room c.args.first parts n c.in-Some.place c.loop-index-test.true
-    (room_at c.args.first parts n p (there parts n p c.loop-index-test.true c.index-parts-index.is) here)
+    (room_at c.args.first parts n p (slice_get_read parts (length parts) n p refl c.loop-index-test.true c.index-parts-index.is) here)
     c.loop-index.invariant.before
 
 pub loop-index-preserved : goal.loop-index-preserved
@@ -70,7 +66,7 @@ loop-index-preserved c =
     let parts = c.args.parts.now in
     let p = c.index-parts-index.result in
     let n = c.loop-index.index in
-    let at = there parts n p c.loop-index-test.true c.index-parts-index.is in
+    let at = slice_get_read parts (length parts) n p refl c.loop-index-test.true c.index-parts-index.is in
     let here : None ≡ first_place (room_test (part_at (free_at c.args.first parts n) p)) =
     sym c.in_default.is ∙ c.lacks_room.ensures.is
     ∙ ap (λ f. first_place (room_test (part_at f p))) c.loop-index.invariant.is in

@@ -1,16 +1,12 @@
-use Rattle.std.proofs.Common.{◌≡◌, ℕ, ◌<◌, ◌≤◌, List, length, Some, refl, sym, ap, subst, ◌∙◌, arith, get_or}
+use Rattle.std.proofs.Common.{◌≡◌, ℕ, ◌<◌, List, length, Some, refl, sym, ap, subst, ◌∙◌, arith}
 use Rattle.std.specs.Prelude.{slice_get}
-use Rattle.std.proofs.lemmas.Option.{slice_get-get_or}
+use Rattle.std.proofs.lemmas.Option.{slice_get_read}
 use Rattle.component_file.specs.Limits.{IsComponent}
 use Rattle.component_linker.specs.declared.placed.Free.{Free}
 use Rattle.component_linker.specs.Parts.{PartSeen, IsPart}
 use Rattle.component_linker.specs.Standing.{settled, part_at, past, placed_from}
 use Rattle.component_linker.proofs.Settling.{free_at, placed_at, free_more}
 use Rattle.component_linker.proofs.placed.part_from.Goals as goal
-
-there : (parts : List PartSeen) (k : ℕ) (p : PartSeen) → k < length parts → p ≡ get_or parts k p
-    → slice_get parts k ≡ Some p
-there parts k p lt is = slice_get-get_or parts k p lt ∙ ap Some (sym is)
 
 fits : (first free : Free) (parts : List PartSeen) (k : ℕ) (p : PartSeen)
     → ((k : ℕ) (q : PartSeen) → slice_get (placed_from first parts) k ≡ Some q → IsPart q)
@@ -28,7 +24,7 @@ past-free-requires-clause-fits c =
     let lt : c.loop-k.k < length c.args.parts.now =
     (let a = c.loop-k-test.true in let b = c.requires.within in omega (arith, a, b)) in
     fits c.args.first c.loop-k.free c.args.parts.now c.loop-k.k c.index-parts-k.result c.requires.parts
-    (there c.args.parts.now c.loop-k.k c.index-parts-k.result lt c.index-parts-k.is) c.loop-k.invariant.is
+    (slice_get_read c.args.parts.now (length c.args.parts.now) c.loop-k.k c.index-parts-k.result refl lt c.index-parts-k.is) c.loop-k.invariant.is
 
 pub past-free-requires-clause-small : goal.past-free-requires-clause-small
 past-free-requires-clause-small c = c.loop-k.invariant.small
@@ -42,7 +38,7 @@ loop-k-preserved c =
     record {
       is =
           c.past-free.ensures.is ∙ ap (λ f. past f p) c.loop-k.invariant.is
-          ∙ sym (free_more c.args.first parts c.loop-k.k p (there parts c.loop-k.k p lt c.index-parts-k.is));
+          ∙ sym (free_more c.args.first parts c.loop-k.k p (slice_get_read parts (length parts) c.loop-k.k p refl lt c.index-parts-k.is));
       small = c.past-free.ensures.small;
     }
 
@@ -53,7 +49,7 @@ placed_at-requires c =
     let end : c.loop-k.k ≡ c.args.index =
     (let a = c.loop-k-test.false in let b = c.loop-k.auto.k-end in omega (arith, a, b)) in
     fits c.args.first c.loop-k.free parts c.args.index p c.requires.parts
-    (there parts c.args.index p c.requires.within c.index-parts-index.is)
+    (slice_get_read parts (length parts) c.args.index p refl c.requires.within c.index-parts-index.is)
     (c.loop-k.invariant.is ∙ ap (free_at c.args.first parts) end)
 
 pub returns : goal.returns
@@ -63,6 +59,6 @@ returns c =
     let end : c.loop-k.k ≡ c.args.index =
     (let a = c.loop-k-test.false in let b = c.loop-k.auto.k-end in omega (arith, a, b)) in
     placed_at c.args.first parts c.args.index p
-    (there parts c.args.index p c.requires.within c.index-parts-index.is)
+    (slice_get_read parts (length parts) c.args.index p refl c.requires.within c.index-parts-index.is)
     ∙ ap (λ f. Some (part_at f p)) (sym (c.loop-k.invariant.is ∙ ap (free_at c.args.first parts) end))
     ∙ ap Some (sym c.placed_at.ensures)

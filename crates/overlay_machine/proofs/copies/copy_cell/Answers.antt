@@ -1,6 +1,6 @@
 use Rattle.std.proofs.Common.{◌≡◌, ap, ◌∙◌, sym, true, is_some, Some}
 use Rattle.lcm_machine.specs.Cells.{cell}
-use Rattle.lcm_machine.proofs.CellLemmas.{cell-set_same, cell-set_other, cell-drop_other}
+use Rattle.lcm_machine.proofs.Offers.{cell-set_same, cell-set_other, cell-drop_other}
 use Rattle.overlay_machine.specs.declared.words.OWord.TheVariants.{Plain}
 use Rattle.overlay_machine.proofs.CopyLemmas.{copied_there}
 use Rattle.overlay_machine.proofs.copies.copy_cell.Goals as goal

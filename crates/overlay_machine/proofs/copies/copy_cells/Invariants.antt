@@ -1,7 +1,7 @@
 -- The spans before are copied.
 use Rattle.std.proofs.Common.{◌≡◌}
-use Rattle.overlay_machine.specs.Copies.{AreCopied}
 use Rattle.overlay_machine.proofs.copies.copy_cells.Given as goal
+use Rattle.overlay_machine.proofs.CopyLemmas.{AreCopied}
 
 abbrev pub invariant-loop-span : goal.invariant-loop-span
 invariant-loop-span l =

@@ -1,9 +1,10 @@
-use Rattle.std.proofs.Common.{arith, ◌≡◌, ◌<◌, ◌+◌, ◌-◌, ◌∙◌, sym, ap, subst, rules, true, false, is_some, IsTrue, inl, inr}
+use Rattle.std.proofs.Common.{arith, ◌≡◌, ◌<◌, ◌+◌, ◌-◌, ◌∙◌, sym, ap, subst, rules, true, false, is_some}
+use Rattle.std.proofs.Common.{IsTrue, inl, inr}
 use Rattle.std.specs.Prelude.{◌&&◌}
 use Rattle.std.proofs.lemmas.Bool.{cases_lt}
 use Rattle.lcm_machine.specs.Cells.{cell, all_there}
 use Rattle.lcm_machine.specs.Spans.{in_spans}
-use Rattle.lcm_machine.proofs.Stretches.{there-step, there-none}
+use Rattle.lcm_machine.proofs.Offers.{there-step, there-none}
 use Rattle.overlay_machine.proofs.frames.all_there.Goals as goal
 
 pub returns-then-not-has_cell-clause-is : goal.returns-then-not-has_cell-clause-is

@@ -1,6 +1,6 @@
 use Rattle.std.proofs.Common.{◌≢◌, ◌∙◌, ap, arith}
 use Rattle.lcm_machine.specs.Cells.{cell}
-use Rattle.lcm_machine.proofs.CellLemmas.{cell-set_other}
+use Rattle.lcm_machine.proofs.Offers.{cell-set_other}
 use Rattle.overlay_machine.proofs.FrameLemmas.{closed-maps}
 use Rattle.overlay_machine.proofs.frames.close_frame.Goals as goal
 

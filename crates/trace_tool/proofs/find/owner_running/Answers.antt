@@ -5,13 +5,13 @@ use Rattle.component_linker.specs.declared.owners.Owner.{Owner}
 use Rattle.trace_tool.proofs.Found.{owner_runs, owner_elsewhere, owner_missing}
 use Rattle.trace_tool.proofs.find.owner_running.Goals as goal
 
-pub returns-then-runs_in : goal.returns-then-runs_in
-returns-then-runs_in c =
+pub returns-then-runs_part : goal.returns-then-runs_part
+returns-then-runs_part c =
     sym (owner_runs c.args.c c.args.owners.now c.in-Ok.place c.index-owners-place.result c.requires c.in-Ok.ensures.bound
     (c.in-Ok.ensures.position (λ (o : Owner). o.code.base) (answers_always _ _ _ (λ f a r g called. search rules))) c.index-owners-place.is (search rules))
 
-pub returns-else-runs_in : goal.returns-else-runs_in
-returns-else-runs_in c =
+pub returns-else-runs_part : goal.returns-else-runs_part
+returns-else-runs_part c =
     sym (owner_elsewhere c.args.c c.args.owners.now c.in-Ok.place c.index-owners-place.result c.requires c.in-Ok.ensures.bound
     (c.in-Ok.ensures.position (λ (o : Owner). o.code.base) (answers_always _ _ _ (λ f a r g called. search rules))) c.index-owners-place.is (search rules))
 

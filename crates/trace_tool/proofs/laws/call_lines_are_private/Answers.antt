@@ -1,5 +1,4 @@
-use Rattle.overlay_machine.proofs.invariant.Bracketed.{reached, matched}
-use Rattle.overlay_machine.proofs.invariant.MarksPrivate.{opened_private}
+use Rattle.overlay_machine.proofs.Offers.{reached, matched, opened_private}
 use Rattle.trace_tool.proofs.LinesBracketed.{calls_private}
 use Rattle.trace_tool.proofs.laws.call_lines_are_private.Goals as goal
 

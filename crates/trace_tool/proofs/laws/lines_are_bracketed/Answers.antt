@@ -1,5 +1,5 @@
 use Rattle.overlay_machine.specs.Keeping.{link_of}
-use Rattle.overlay_machine.proofs.invariant.Bracketed.{bracketed}
+use Rattle.overlay_machine.proofs.Offers.{bracketed}
 use Rattle.trace_tool.proofs.LinesBracketed.{lines_bracketed}
 use Rattle.trace_tool.proofs.TraceTold.{trace_bracketed}
 use Rattle.trace_tool.proofs.laws.lines_are_bracketed.Goals as goal

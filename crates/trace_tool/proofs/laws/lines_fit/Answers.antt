@@ -1,4 +1,4 @@
-use Rattle.lcm_machine.proofs.WordsFit.{plain_fits}
+use Rattle.lcm_machine.proofs.Offers.{plain_fits}
 use Rattle.component_linker.proofs.StartFits.{starts_fit}
 use Rattle.trace_tool.proofs.fit.LinesFitting.{lines_fit}
 use Rattle.trace_tool.proofs.laws.lines_fit.Goals as goal

@@ -1,4 +1,4 @@
-use Rattle.std.proofs.Common.{List, [], refl, subst}
+use Rattle.std.proofs.Common.{ℕ, List, [], refl, subst}
 use Rattle.overlay_machine.specs.Brackets.{Brackets}
 use Rattle.overlay_machine.specs.Starting.{overlay_at}
 use Rattle.overlay_machine.specs.Keeping.{link_of}
@@ -7,8 +7,10 @@ use Rattle.trace_tool.specs.Lines.{Line}
 use Rattle.trace_tool.specs.Told.{Told}
 use Rattle.trace_tool.specs.Traces.{trace_of}
 use Rattle.trace_tool.specs.Brackets.{LineTold, marks_in, lines_told}
+use Rattle.trace_tool.specs.Headline.{LinesOfSteps}
 use Rattle.trace_tool.proofs.Agreeing.{agrees, start_fresh}
-use Rattle.trace_tool.proofs.LeftAlone.{left_alone}
+use Rattle.trace_tool.proofs.InstanceRun.{call_there}
+use Rattle.trace_tool.proofs.LeftAlone.{left_alone, each_call}
 use Rattle.trace_tool.proofs.laws.the_headline.Goals as goal
 
 pub returns-clause-holds : goal.returns-clause-holds
@@ -19,15 +21,21 @@ returns-clause-holds c = λ parts size s is.
     let is_fresh = start_fresh s is.starts.state.count is.starts.state.end in
     let same = c.start_lines_agree.ensures.traces parts size s is in
     let runs = (c.linked_starts_agree.ensures parts size s is).runs in
+    let agree = c.start_lines_agree.ensures.agree parts size s is in
+    let private_lines = c.call_lines_are_private.ensures g o.state s.state.maps h.linked h.holds in
+    let lines : (n : ℕ) → LinesOfSteps s n = λ n. (let k = c.traces_tell_steps.ensures o refl refl n in
+    (k.0, (trace_of n o).overlay.state, subst (λ (ls : List Line). Told (layout s) o.state k.0 ls (trace_of n o).overlay.state) (same n) k.1, k.2)) in
     record {
       agrees = agrees s is_fresh c.a_halt_weighs_one.ensures runs;
-      lines = λ n. (let k = c.traces_tell_steps.ensures o refl refl n in
-          (k.0, (trace_of n o).overlay.state, subst (λ (ls : List Line). Told (layout s) o.state k.0 ls (trace_of n o).overlay.state) (same n) k.1, k.2));
+      lines = lines;
       traced = same;
       bracketed = λ n. (let now = lines_told (layout s) (trace_of n o).overlay.state.frames in
           (now, subst (λ (ls : List Line). Brackets LineTold [] (marks_in ls) now) (same n) (c.lines_are_bracketed.ensures.traces parts size o s.state.maps h n)));
-      private = left_alone s is_fresh c.a_halt_weighs_one.ensures runs (c.start_lines_agree.ensures.agree parts size s is) (c.call_lines_are_private.ensures g o.state s.state.maps h.linked h.holds);
+      private = left_alone s is_fresh c.a_halt_weighs_one.ensures runs agree private_lines;
+      each_call = each_call s is_fresh c.a_halt_weighs_one.ensures runs agree private_lines lines;
     })
 
 pub returns-clause-of_some : goal.returns-clause-of_some
-returns-clause-of_some c = let there = c.a_linked_start_may_come.ensures in (there, returns-clause-holds c there.parts there.size there.start there.linked)
+returns-clause-of_some c =
+    let made = call_there c.start_lines_agree.ensures.agree in
+    (made, returns-clause-holds c made.there.parts made.there.size made.there.start made.there.linked)

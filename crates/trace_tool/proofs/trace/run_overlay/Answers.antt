@@ -1,13 +1,15 @@
 use Rattle.std.proofs.Common.{rules, ◌≡◌, ◌≤◌, ◌<◌, ◌+◌, ◌∙◌, ap, arith, subst}
-use Rattle.outside_io.specs.SinkSeen.{Adds, FailsToWrite}
+use Rattle.overlay_machine.proofs.Offers.{weight_some}
+use Rattle.outside_io.specs.Writes.{AddsPieces, FailsAtPiece}
 use Rattle.overlay_machine.specs.declared.overlay.OStep.TheVariants.{Went}
 use Rattle.overlay_machine.specs.Seen.{OverlaySeen, answer_of}
 use Rattle.trace_tool.specs.Views.{overlay_view}
 use Rattle.trace_tool.specs.Lines.{lines_for}
-use Rattle.trace_tool.specs.Texts.{lines_text}
+use Rattle.trace_tool.specs.Texts.{lines_pieces}
 use Rattle.trace_tool.specs.EndLines.{running_text, halted_text, failed_text}
 use Rattle.trace_tool.specs.Traces.{weight_with}
-use Rattle.trace_tool.proofs.Tracing.{weight_some, went_weight, going_none, going_more, going_fails, ends_running, ends_halted, ends_failed, start_layout}
+use Rattle.trace_tool.proofs.Tracing.{went_weight, going_none, going_more, going_fails, ends_running}
+use Rattle.trace_tool.proofs.Tracing.{ends_halted, ends_failed, start_layout}
 use Rattle.trace_tool.proofs.trace.run_overlay.Goals as goal
 
 pub loop-overlay-init : goal.loop-overlay-init
@@ -36,14 +38,14 @@ pub loop-overlay-preserved : goal.loop-overlay-preserved
 loop-overlay-preserved g c =
     let fits : weight_with c.loop-overlay.overlay ≤ c.args.steps = omega (arith, c.if-sum-weight.false, c.weight-sum.ensures, c.next_weight.ensures, c.from-weight.ensures) in
     going_more c.args.steps c.args.overlay.now (g.S.Sink.seen c.args.out.now) c.loop-overlay.overlay _ c.in-Went.event c.step.new.self _ c.loop-overlay.invariant fits (search rules) c.step.ensures.after
-    (subst (λ l. Adds (g.S.Sink.seen c.loop-overlay.out) (lines_text (lines_for l (overlay_view c.step.new.self) c.in-Went.event)) (g.S.Sink.seen c.tell.new.out))
+    (subst (λ l. AddsPieces (g.S.Sink.seen c.loop-overlay.out) (lines_pieces (lines_for l (overlay_view c.step.new.self) c.in-Went.event)) (g.S.Sink.seen c.tell.new.out))
     (start_layout c.args.steps c.args.overlay.now (g.S.Sink.seen c.args.out.now) c.args.start.now c.loop-overlay.overlay _ c.step.new.self c.requires.of c.loop-overlay.invariant c.step.ensures.after) c.in-Ok.ensures)
 
 pub returns-in-Err-clause-traces : goal.returns-in-Err-clause-traces
 returns-in-Err-clause-traces g c =
     let fits : weight_with c.loop-overlay.overlay ≤ c.args.steps = omega (arith, c.if-sum-weight.false, c.weight-sum.ensures, c.next_weight.ensures, c.from-weight.ensures) in
     going_fails c.args.steps c.args.overlay.now (g.S.Sink.seen c.args.out.now) c.loop-overlay.overlay _ c.in-Went.event c.step.new.self _ c.loop-overlay.invariant fits (search rules) c.step.ensures.after
-    (subst (λ l. FailsToWrite (g.S.Sink.seen c.loop-overlay.out) (lines_text (lines_for l (overlay_view c.step.new.self) c.in-Went.event)) (g.S.Sink.seen c.tell.new.out))
+    (subst (λ l. FailsAtPiece (g.S.Sink.seen c.loop-overlay.out) (lines_pieces (lines_for l (overlay_view c.step.new.self) c.in-Went.event)) (g.S.Sink.seen c.tell.new.out))
     (start_layout c.args.steps c.args.overlay.now (g.S.Sink.seen c.args.out.now) c.args.start.now c.loop-overlay.overlay _ c.step.new.self c.requires.of c.loop-overlay.invariant c.step.ensures.after) c.in-Err.ensures)
 
 pub returns-in-Halted-clause-traces : goal.returns-in-Halted-clause-traces

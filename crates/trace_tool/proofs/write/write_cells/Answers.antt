@@ -1,9 +1,9 @@
-use Rattle.outside_io.proofs.Writing.{adds_none, failed_writes}
+use Rattle.outside_io.proofs.Writing.{pieces_none, failed_writes}
 use Rattle.trace_tool.proofs.LineLemmas.{cell_more, cell_fails}
 use Rattle.trace_tool.proofs.write.write_cells.Goals as goal
 
 pub loop-i-init : goal.loop-i-init
-loop-i-init g c = adds_none _
+loop-i-init g c = pieces_none _
 
 pub returns-in_err-write_cell : goal.returns-in_err-write_cell
 returns-in_err-write_cell g c =

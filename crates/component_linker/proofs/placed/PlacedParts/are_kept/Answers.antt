@@ -1,4 +1,4 @@
-use Rattle.std.proofs.Common.{◌≡◌, List, Some, sym, ap, ◌∙◌}
+use Rattle.std.proofs.Common.{List, ap, ◌∙◌}
 use Rattle.std.specs.Prelude.{slice_get}
 use Rattle.component_linker.specs.Parts.{PartSeen}
 use Rattle.component_linker.proofs.placed.PlacedParts.are_kept.Goals as goal

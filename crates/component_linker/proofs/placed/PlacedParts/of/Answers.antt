@@ -1,4 +1,4 @@
-use Rattle.std.proofs.Common.{◌≡◌, Some, sym, ap, ◌∙◌}
+use Rattle.std.proofs.Common.{ap, ◌∙◌}
 use Rattle.std.specs.Prelude.{slice_get}
 use Rattle.component_linker.specs.Standing.{placed_from}
 use Rattle.component_linker.proofs.placed.PlacedParts.of.Goals as goal

@@ -1,8 +1,9 @@
-use Rattle.std.proofs.Common.{◌≡◌, ◌+◌, ◌≤◌, ◌<◌, refl, sym, ap, subst, ◌∙◌, arith, rules}
+use Rattle.std.proofs.Common.{◌≡◌, ◌≤◌, refl, sym, ap, subst, ◌∙◌, arith, rules}
 use Rattle.std.specs.Prelude.{true, false, not, is_some, if◌then◌else◌}
+use Rattle.std.proofs.lemmas.Bool.{not-true}
 use Rattle.lcm_machine.specs.Run.{Run, plain, next_state, next_jump}
 use Rattle.lcm_machine.proofs.RunLemmas.{count_next, plain_more, plain_over, ended_jumps}
-use Rattle.lcm_machine.proofs.RunLemmas.{left_out, not_true, is_none}
+use Rattle.lcm_machine.proofs.RunLemmas.{left_out, is_none}
 use Rattle.lcm_machine.proofs.machine.LcmState.go.Goals as goal
 
 pub loop-i-init : goal.loop-i-init
@@ -70,7 +71,7 @@ loop-i-preserved c =
           c.loop-i.invariant.0 ∙ ap (λ k. plain k c.args.self.now) zero in
           let e : not (is_some (next_jump c.loop-i.self)) ≡ true =
           sym (c.advance.ensures.unless stop) ∙ made in
-          ap next_jump (sym same) ∙ is_none (next_jump c.loop-i.self) (not_true _ e),
+          ap next_jump (sym same) ∙ is_none (next_jump c.loop-i.self) (not-true _ e),
     )
 
 pub returns-clause-unless : goal.returns-clause-unless

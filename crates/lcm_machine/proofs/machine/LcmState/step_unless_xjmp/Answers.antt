@@ -1,7 +1,8 @@
 use Rattle.std.proofs.Common.{◌≡◌, Some, refl, sym, ap, ◌∙◌}
 use Rattle.std.specs.Prelude.{is_some, if◌then◌else◌}
+use Rattle.std.proofs.lemmas.Bool.{not-false}
 use Rattle.lcm_machine.specs.Run.{plain, answer, next_jump}
-use Rattle.lcm_machine.proofs.RunLemmas.{step_ended, left_ended, next_stays, jumps_on, not_false}
+use Rattle.lcm_machine.proofs.RunLemmas.{step_ended, left_ended, next_stays, jumps_on}
 use Rattle.lcm_machine.proofs.TouchLemmas.{next_state_same, next_state_untouched, same_as_is, untouched_as_is}
 use Rattle.lcm_machine.proofs.HeldOnce.{next_state_stays, unchanged_stays}
 use Rattle.lcm_machine.proofs.machine.LcmState.step_unless_xjmp.Goals as goal
@@ -33,7 +34,7 @@ returns-then-go-clause-held_once c = rw (came c) (next_state_stays c.args.self.n
 pub returns-else-go-clause-ended : goal.returns-else-go-clause-ended
 returns-else-go-clause-ended c =
     let out =
-    not_false (is_some (next_jump c.args.self.now)) (sym (c.go.ensures.unless refl) ∙ c.if-go.false) in
+    not-false (is_some (next_jump c.args.self.now)) (sym (c.go.ensures.unless refl) ∙ c.if-go.false) in
     left_ended c.args.self.now c.go.new.self (jumps_on c.args.self.now out)
 
 pub returns-else-go-clause-same_cells : goal.returns-else-go-clause-same_cells

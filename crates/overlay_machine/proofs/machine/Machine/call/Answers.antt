@@ -6,7 +6,7 @@ use Rattle.overlay_machine.specs.Machine.{Fits}
 use Rattle.overlay_machine.proofs.CallLemmas.{own-base, base-is, call-goes, call-fails}
 use Rattle.overlay_machine.proofs.FitsLemmas.{fits-room, fits-called}
 use Rattle.lcm_isa.specs.declared.Reg.TheVariants.{C1, C2}
-use Rattle.lcm_machine.proofs.JumpLemmas.{plan-jump}
+use Rattle.lcm_machine.proofs.Offers.{plan-jump}
 use Rattle.overlay_machine.specs.Words.{look}
 use Rattle.overlay_machine.proofs.machine.Machine.call.Goals as goal
 

@@ -1,0 +1,60 @@
+-- What the crates above cite: lemmas over the definitions of `specs/`, by what they are of.
+
+-- two registers are equal or not; registers after one was set; registers that are alike are the same
+pub use Rattle.lcm_machine.proofs.RegLemmas.{cases_reg, reg-set_other, reg-set_same, same_regs}
+-- cells after one was set or dropped; memories with the same cells are one; where a list of slots is searched
+pub use Rattle.lcm_machine.proofs.CellLemmas.{cell-drop_other, cell-set_other, cell-set_same, cell_dropped}
+pub use Rattle.lcm_machine.proofs.CellLemmas.{find_below, find_slot, held_in, same_cells, slot_other}
+pub use Rattle.lcm_machine.proofs.CellLemmas.{slot_same}
+-- stretches of cells that are there, are read, and are taken out of memory
+pub use Rattle.lcm_machine.proofs.Stretches.{all_there-drop, cell-without_in, cell-without_out, there-first}
+pub use Rattle.lcm_machine.proofs.Stretches.{there-none, there-step, tied_same, without-empty, without-step}
+pub use Rattle.lcm_machine.proofs.Stretches.{words-first, words-none, words_from-drop}
+-- addresses in spans, and that their bases rise
+pub use Rattle.lcm_machine.proofs.SpanLemmas.{bases_rise, in_span_is, none_after}
+-- what a fetch says of pc's word, and the step at an instruction
+pub use Rattle.lcm_machine.proofs.RowLemmas.{fetch_normal, fetch_some, step_at}
+-- a property of the effect of a plan, by the shape of the plan
+pub use Rattle.lcm_machine.proofs.Plans.{Gives, Gives-ask, Gives-by_cap, Gives-effect, Gives-if, Gives-need}
+pub use Rattle.lcm_machine.proofs.Plans.{gives_fails, gives_goes, gives_halts, memory_is}
+-- what an instruction does where its conditions hold, for words of any kind; runs one behind the other
+pub use Rattle.lcm_machine.proofs.Goes.{Stands-set, Stands-set_below, cca_goes, cca_seal_goes, cseal_goes}
+pub use Rattle.lcm_machine.proofs.Goes.{fail_fails, fetch_at, geta_goes, getb_goes, gete_goes, getlin_goes}
+pub use Rattle.lcm_machine.proofs.Goes.{getp_goes, gettype_goes, go, jnz_goes, jnz_jumps, leaves, left}
+pub use Rattle.lcm_machine.proofs.Goes.{load_goes, minus_goes, move_goes, number_in, ran, run_of-add}
+pub use Rattle.lcm_machine.proofs.Goes.{run_then, set_goes, seta2b_goes, shows, splice_goes, split_goes}
+pub use Rattle.lcm_machine.proofs.Goes.{stays, stop, store_goes, xjmp_goes}
+-- one step of code that stands in memory is its row, and one step of a run is a step
+pub use Rattle.lcm_machine.proofs.StepRows.{run_one, step_row}
+-- the effect of an `xjmp` that goes
+pub use Rattle.lcm_machine.proofs.JumpLemmas.{jump-cells, plan-jump}
+-- where an `xjmp` fails
+pub use Rattle.lcm_machine.proofs.XjmpFails.{opened-memory, xjmp_fails, xjmp_runs_fails}
+-- where `store`, `split` and `splice` fail, and that a run that failed stays failed
+pub use Rattle.lcm_machine.proofs.Refusals.{failed_more, splice_fails, split_fails, stops, store_fails}
+pub use Rattle.lcm_machine.proofs.Refusals.{then_failed}
+-- a step counts at most one, and an ended machine stays as it is
+pub use Rattle.lcm_machine.proofs.RunLemmas.{count_next, is_none, plain_ended, plain_ends, plain_more}
+-- what a step leaves of memory, and the address that its instruction uses
+pub use Rattle.lcm_machine.proofs.TouchLemmas.{after_each, after_went, fetched_row, row_cells, row_others}
+pub use Rattle.lcm_machine.proofs.TouchLemmas.{there_same, touched_by, used_target}
+-- what a capability that allows an access covers
+pub use Rattle.lcm_machine.proofs.StepActs.{covered, in_seals}
+-- a run that goes without a cell doesn't touch it where it is there
+pub use Rattle.lcm_machine.proofs.Quiet.{lacking, lacks, quiet, untouched_then}
+-- a closed property of words is kept by every row
+pub use Rattle.lcm_machine.proofs.WordsKept.{row_keeps}
+-- words that have a spelling, along steps and runs
+pub use Rattle.lcm_machine.proofs.WordsFit.{OpenedFits, next_state_fits, opened_fits, plain_fits, small_fits}
+pub use Rattle.lcm_machine.proofs.WordsFit.{tested_fits, zero_fits}
+-- regions that lie apart, and what of them a capability has
+pub use Rattle.lcm_machine.proofs.RegionLemmas.{bounds_over, contains_cases, contains_none, normal_apart}
+pub use Rattle.lcm_machine.proofs.RegionLemmas.{over_bounds}
+-- no linear memory comes to be held twice, along runs; the bounds of a split
+pub use Rattle.lcm_machine.proofs.HeldOnce.{run_stays, split_bounds}
+-- 'covered at most once', told by a count of places
+pub use Rattle.lcm_machine.proofs.CountLemmas.{count_some, counted, counts_once, covered_counts, has_place}
+pub use Rattle.lcm_machine.proofs.CountLemmas.{once_counts}
+-- the row, the fetch and the step of a mapped state
+pub use Rattle.lcm_machine.proofs.Commute.{fetch_commutes, fetch_mapped, is_linear-face, row_mapped}
+pub use Rattle.lcm_machine.proofs.Commute.{step_mapped}
