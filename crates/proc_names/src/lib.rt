@@ -12,7 +12,7 @@ mod uses;
 
 pub use fault::{NameFault, earlier};
 pub use named::{Named, index_of, same};
-pub use need::{frame_words, words_needed};
+pub use need::{frame_words, params_registers, words_needed};
 pub use repeats::twice;
 pub use scope::{Callee, Variable, callee_named, passed_named, variable_named};
 pub use uses::resolve;
