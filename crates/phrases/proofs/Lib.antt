@@ -1,0 +1,5 @@
+pub mod Readers
+pub mod Repeats
+pub mod Heads
+pub mod Loose
+pub mod Blames
