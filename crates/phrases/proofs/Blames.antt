@@ -6,7 +6,7 @@ use Rattle.phrases.specs.Phrase as phrases
 use Rattle.phrases.specs.Phrase.{Meaning, Phrase, then, only, where_true, ◌or◌}
 use Rattle.phrases.specs.Reading.{Input, Tells, place_in, Reader, first, holds, meant_in, behind_in, next_means, place, behind, going, case_next, expected, one, is_there, many}
 use Rattle.phrases.proofs.Readers.{at_end, goes_on_ok, goes_on_err, ok_value, cases_next, case_some, case_none}
-use Rattle.phrases.proofs.Repeats.{Begins, cases_bool, ok_not_err, err_not_ok, many_stop, many_out, many_go, more_behind, many_less}
+use Rattle.phrases.proofs.Repeats.{Begins, Ends, cases_bool, ok_not_err, err_not_ok, many_stop, many_out, many_go, more_behind, many_less, many_worse}
 
 -- the place is that of a token, up to which the tokens begin what the phrase spells
 pub record Within {L F A : Type 0} (tells : Tells L F) (P' : Phrase L A) (i : Input L) (at : ℕ) : Type 0 where
@@ -45,7 +45,7 @@ shorter l s k fuel e le =
     let same : length l ≡ length s + length k = ap length e ∙ length-append s k in
     omega (arith, le, same)
 
-module _ {L F : Type 0} {tells : Tells L F} {limit : F → Option ℕ} where
+module _ {L F : Type 0} {tells : Tells L F} (limit : F → Option ℕ) where
   blamed_first : {A B : Type 0} {K : ℕ → Type 0} {P' : Phrase L A} {Q' : A → Phrase L B} (more : (a : A) → (tokens : List L) × (y : B) × Q' a tokens y) (i : Input L) (e : F) → Blamed tells limit K P' i e → Blamed tells limit K (then P' Q') i e
   blamed_first more i e = elim [
         | inl h ↦ inl h
@@ -80,12 +80,25 @@ module _ {L F : Type 0} {tells : Tells L F} where
       }
 
 module _ {L : Type 0} where
+  none_left : {B : Type 0} (m : Meaning L B) (l : List L) → Begins m l → length l ≤ 0 → ⊥
+  none_left m [] b le = absurd cc
+  none_left m (t ∷ l) b le = absurd (omega (arith, le))
+
+  fewer : (l s k : List L) (n : ℕ) → l ≡ s ++ k → 1 ≤ length s → length l ≤ suc n → length k ≤ n
+  fewer l s k n e some le =
+      let same : length l ≡ length s + length k = ap length e ∙ length-append s k in
+      omega (arith, some, le, same)
+
   taken_then : {A B : Type 0} {P' : Phrase L A} {Q' : A → Phrase L B} (i : Input L) (x : A) (j : Input L) (y : B) (k : Input L) → Taken P' i x j → Taken (Q' x) j y k → Taken (then P' Q') i y k
   taken_then i x j y k a b = record {
     tokens = a.tokens ++ b.tokens;
     parts = a.parts ∙ ap (λ l. a.tokens ++ l) b.parts ∙ sym (append_assoc a.tokens b.tokens k.rest);
     loose = (x, a.tokens, b.tokens, refl, a.loose, b.loose);
   }
+
+module _ {L F : Type 0} (tells : Tells L F) where
+  at_place : {A : Type 0} (i : Input L) (e : F) → (let r : Result (A × Input L) F = Err (tells.expected (place tells i)) in r) ≡ Err e → e ≡ tells.expected (place tells i)
+  at_place i e h = let same : tells.expected (place tells i) ≡ e = cc in sym same
 
 module _ {L F : Type 0} {tells : Tells L F} {limit : F → Option ℕ} {fuel : ℕ} where
   pub blames_then : {A B : Type 0} {K : ℕ → Type 0} {P' : Phrase L A} {Q' : A → Phrase L B} {r : Reader L F A} {f : A → Reader L F B}
@@ -100,7 +113,7 @@ module _ {L F : Type 0} {tells : Tells L F} {limit : F → Option ℕ} {fuel : �
         let x = goes_on_ok (r i) f (y, j) e in
         taken_then i x.0.0 x.0.1 y j (one.takes i x.0.0 x.0.1 x.1) ((two x.0.0).takes x.0.1 y j x.2);
     blames = λ i e len h. elim (goes_on_err (r i) f e h) [
-          | inl g ↦ blamed_first (λ a. (two a).some) i e (one.blames i e len g)
+          | inl g ↦ blamed_first limit (λ a. (two a).some) i e (one.blames i e len g)
           | inr x ↦
               let a = one.takes i x.0.0 x.0.1 x.1 in
               elim ((two x.0.0).blames x.0.1 e (shorter i.rest a.tokens x.0.1.rest fuel a.parts len) x.2) [
@@ -123,7 +136,7 @@ module _ {L F : Type 0} {tells : Tells L F} {limit : F → Option ℕ} {fuel : �
         let x = goes_on_ok (r i) f (y, j) e in
         taken_then i x.0.0 x.0.1 y j (one.takes i x.0.0 x.0.1 x.1) ((two x.0.0).takes x.0.1 y j x.2);
     blames = λ i e len h. elim (goes_on_err (r i) f e h) [
-          | inl g ↦ blamed_first (λ a. (two a).some) i e (one.blames i e len g)
+          | inl g ↦ blamed_first limit (λ a. (two a).some) i e (one.blames i e len g)
           | inr x ↦
               let a = one.takes i x.0.0 x.0.1 x.1 in
               elim ((two x.0.0).blames x.0.1 e (shorter i.rest a.tokens x.0.1.rest fuel a.parts len) x.2) [
@@ -243,9 +256,139 @@ module _ {L F : Type 0} {tells : Tells L F} {limit : F → Option ℕ} {fuel : �
           | inl (u, b, k, is, means) ↦
               let here : case_next m done (expected tells) i ≡ Ok (b, at_end k i.end) = ap (λ l. case_next m done (expected tells) (at_end l i.end)) is ∙ case_some m done (expected tells) u b k i.end means in
               absurd (ok_not_err (b, at_end k i.end) e (sym here ∙ h))
-          | inr none ↦ inl (place tells i, at_place i e (sym (case_none m done (expected tells) i none) ∙ h))
+          | inr none ↦ inl (place tells i, at_place tells i e (sym (case_none m done (expected tells) i none) ∙ h))
         ];
   }
-    where
-      at_place : (i : Input L) (e : F) → (let r : Result (_ × Input L) F = Err (tells.expected (place tells i)) in r) ≡ Err e → e ≡ tells.expected (place tells i)
-      at_place i e h = let same : tells.expected (place tells i) ≡ e = cc in sym same
+
+  -- a choice by the next token, which what is behind it may blame
+  pub blames_case : {A B : Type 0} {K : ℕ → Type 0} {m : Meaning L A} {Q' : A → Phrase L B} {R' : Phrase L B} {f : A → Reader L F B} {r : Reader L F B} (placed : A → ℕ)
+      → ((t : L) (a : A) → m t ≡ Some a → placed a ≡ tells.at t)
+      → ((a : A) → Blames tells limit fuel (λ n. K n ⊎ (n ≡ placed a)) (Q' a) (f a)) → Blames tells limit fuel K R' r
+      → Blames tells limit fuel K (then (phrases.one m) Q' or R') (case_next m f r)
+  blames_case {K = K} {m = m} {Q' = Q'} {R' = R'} {f = f} {r = r} placed places two other = record {
+    some = let v = other.some in (v.0, v.1, inr v.2);
+    takes = λ i y j e. elim (cases_next m i) [
+          | inl (t, a, k, is, means) ↦
+              let here : case_next m f r i ≡ f a (at_end k i.end) = ap (λ l. case_next m f r (at_end l i.end)) is ∙ case_some m f r t a k i.end means in
+              let b = (two a).takes (at_end k i.end) y j (sym here ∙ e) in
+              record { tokens = t ∷ b.tokens; parts = is ∙ ap (λ l. t ∷ l) b.parts; loose = inl (a, t ∷ [], b.tokens, refl, (t, refl, means), b.loose) }
+          | inr none ↦
+              let b = other.takes i y j (sym (case_none m f r i none) ∙ e) in
+              record { tokens = b.tokens; parts = b.parts; loose = inr b.loose }
+        ];
+    blames = λ i e len h. elim (cases_next m i) [
+          | inl (t, a, k, is, means) ↦
+              let here : case_next m f r i ≡ f a (at_end k i.end) = ap (λ l. case_next m f r (at_end l i.end)) is ∙ case_some m f r t a k i.end means in
+              elim ((two a).blames (at_end k i.end) e (shorter i.rest (t ∷ []) k fuel is len) (sym here ∙ h)) [
+                | inl g ↦ inl g
+                | inr (at, limited, where_) ↦ inr (at, limited, (elim where_ [
+                    | inl known ↦ elim known [
+                        | inl n ↦ inl n
+                        | inr n ↦
+                            let w = (two a).some in
+                            inr (record { tokens = []; token = t; rest = k; parts = is; there = n ∙ places t a means; viable = (w.0, w.1, inl (a, t ∷ [], w.0, refl, (t, refl, means), w.2)) })
+                      ]
+                    | inr w ↦
+                        let v = w.viable in
+                        inr (record {
+                          tokens = t ∷ w.tokens;
+                          token = w.token;
+                          rest = w.rest;
+                          parts = is ∙ ap (λ l. t ∷ l) w.parts;
+                          there = w.there;
+                          viable = (v.0, v.1, inl (a, t ∷ [], w.tokens ++ w.token ∷ v.0, refl, (t, refl, means), v.2));
+                        })
+                  ]))
+              ]
+          | inr none ↦ elim (other.blames i e len (sym (case_none m f r i none) ∙ h)) [
+                | inl g ↦ inl g
+                | inr (at, limited, where_) ↦ inr (at, limited, (elim where_ [
+                    | inl known ↦ inl known
+                    | inr w ↦
+                        let v = w.viable in
+                        inr (record { tokens = w.tokens; token = w.token; rest = w.rest; parts = w.parts; there = w.there; viable = (v.0, v.1, inr v.2) })
+                  ]))
+              ]
+        ];
+  }
+
+  -- ---- any number of items
+
+  module _ {S A B : Type 0} {K : ℕ → Type 0} (begins : Meaning L B) (next : S → A → S) (r : S → Reader L F A) {p' : S → Phrase L A}
+      (items : (s : S) → Blames tells limit fuel K (p' s) (r s))
+      (full : (s : S) (t : List L) (x : A) → p' s t x → 1 ≤ length t) where
+
+    at_stop : (n : ℕ) (s : S) (i : Input L) (xs : List A) (j : Input L) → Ends begins i.rest → many tells n begins next r s i ≡ Ok (xs, j) → Taken (phrases.many next p' s) i xs j
+    at_stop n s i xs j none e =
+        let both = ok_value [] xs i j (sym (many_stop tells begins next r n s i none) ∙ e) in
+        record {
+          tokens = [];
+          parts = ap (λ (o : Input L). o.rest) both.1;
+          loose = subst (λ ys. phrases.many next p' s [] ys) both.0 refl;
+        }
+
+    many_takes : (n : ℕ) (s : S) (i : Input L) (xs : List A) (j : Input L) → many tells n begins next r s i ≡ Ok (xs, j) → Taken (phrases.many next p' s) i xs j
+    many_takes zero s i xs j e = elim (cases_bool (is_there (next_means begins i))) [
+          | inl there ↦ absurd (err_not_ok _ _ (sym (many_out tells begins next r s i there) ∙ e))
+          | inr none ↦ at_stop zero s i xs j none e
+        ]
+    many_takes (suc n) s i xs j e = elim (cases_bool (is_there (next_means begins i))) [
+          | inl there ↦
+              let x = goes_on_ok (r s i) (more_behind tells begins next r n s) (xs, j) (sym (many_go tells begins next r n s i there) ∙ e) in
+              let a = (items s).takes i x.0.0 x.0.1 x.1 in
+              let y = many_less tells begins next r n s x.0.0 xs x.0.1 j x.2 in
+              let b = many_takes n (next s x.0.0) x.0.1 y.0 j y.1 in
+              record {
+                tokens = a.tokens ++ b.tokens;
+                parts = a.parts ∙ ap (λ l. a.tokens ++ l) b.parts ∙ sym (append_assoc a.tokens b.tokens j.rest);
+                loose = subst (λ ys. phrases.many next p' s (a.tokens ++ b.tokens) ys) y.2 (a.tokens, b.tokens, refl, a.loose, b.loose);
+              }
+          | inr none ↦ at_stop (suc n) s i xs j none e
+        ]
+
+    many_blames : (n : ℕ) (s : S) (i : Input L) (e : F) → length i.rest ≤ fuel → length i.rest ≤ n → many tells n begins next r s i ≡ Err e → Blamed tells limit K (phrases.many next p' s) i e
+    many_blames zero s i e len fits h = elim (cases_bool (is_there (next_means begins i))) [
+          | inl there ↦ absurd (none_left begins i.rest there fits)
+          | inr none ↦ absurd (ok_not_err _ _ (sym (many_stop tells begins next r zero s i none) ∙ h))
+        ]
+    many_blames (suc n) s i e len fits h = elim (cases_bool (is_there (next_means begins i))) [
+          | inl there ↦ elim (goes_on_err (r s i) (more_behind tells begins next r n s) e (sym (many_go tells begins next r n s i there) ∙ h)) [
+              | inl g ↦ elim ((items s).blames i e len g) [
+                  | inl a ↦ inl a
+                  | inr (at, limited, where_) ↦ inr (at, limited, (elim where_ [
+                      | inl known ↦ inl known
+                      | inr w ↦
+                          let v = w.viable in
+                          let whole = w.tokens ++ w.token ∷ v.0 in
+                          inr (record { tokens = w.tokens; token = w.token; rest = w.rest; parts = w.parts; there = w.there; viable = (v.0, v.1 ∷ [], (whole, [], sym (append-nil whole), v.2, refl)) })
+                    ]))
+                ]
+              | inr x ↦
+                  let a = (items s).takes i x.0.0 x.0.1 x.1 in
+                  let some = full s a.tokens x.0.0 a.loose in
+                  elim (many_blames n (next s x.0.0) x.0.1 e (shorter i.rest a.tokens x.0.1.rest fuel a.parts len) (fewer i.rest a.tokens x.0.1.rest n a.parts some fits) (many_worse tells begins next r n s x.0.0 x.0.1 e x.2)) [
+                    | inl b ↦ inl b
+                    | inr (at, limited, where_) ↦ inr (at, limited, (elim where_ [
+                        | inl known ↦ inl known
+                        | inr w ↦
+                            let v = w.viable in
+                            inr (record {
+                              tokens = a.tokens ++ w.tokens;
+                              token = w.token;
+                              rest = w.rest;
+                              parts = a.parts ∙ ap (λ l. a.tokens ++ l) w.parts ∙ sym (append_assoc a.tokens w.tokens (w.token ∷ w.rest));
+                              there = w.there;
+                              viable = (v.0, x.0.0 ∷ v.1, (a.tokens, w.tokens ++ w.token ∷ v.0, append_assoc a.tokens w.tokens (w.token ∷ v.0), a.loose, v.2));
+                            })
+                      ]))
+                  ]
+            ]
+          | inr none ↦ absurd (ok_not_err _ _ (sym (many_stop tells begins next r (suc n) s i none) ∙ h))
+        ]
+
+    pub blames_many : (n : ℕ) (s : S) → fuel ≤ n → Blames tells limit fuel K (phrases.many next p' s) (many tells n begins next r s)
+    blames_many n s enough = record {
+      some = ([], [], refl);
+      takes = λ i xs j e. many_takes n s i xs j e;
+      blames = λ i e len h. many_blames n s i e len (omega (arith, len, enough)) h;
+    }

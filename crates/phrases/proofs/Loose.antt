@@ -5,7 +5,7 @@ use Rattle.readers.specs.Readers.{goes_on, ◌>>=◌, done}
 use Rattle.phrases.specs.Phrase.{Meaning}
 use Rattle.phrases.specs.Reading.{Input, Tells, Reader, holds, next_means, place, behind, going, case_next, is_there, many}
 use Rattle.phrases.proofs.Readers.{Distinct, goes_on_ok, goes_on_err}
-use Rattle.phrases.proofs.Repeats.{cases_bool}
+use Rattle.phrases.proofs.Repeats.{cases_bool, more_behind, many_stop, many_out, many_go}
 
 pub record Looser {L F A : Type 0} (tells : Tells L F) (r r' : Reader L F A) : Type 0 where
   pub reads : (i : Input L) (y : A × Input L) → r i ≡ Ok y → r' i ≡ Ok y
@@ -59,45 +59,32 @@ module _ {L F : Type 0} {tells : Tells L F} (distinct : Distinct tells) where
       distinct.apart n at same
 
   -- more items may be read
-  module _ {S A B : Type 0} (begins : Meaning L B) (next : S → A → S) where
-    many_none : (r : S → Reader L F A) (n : ℕ) (s : S) (i : Input L) → is_there (next_means begins i) ≡ false → many tells n begins next r s i ≡ Ok ([], i)
-    unfolding many
-    many_none r zero s i e = ap (λ b. cond b (Err (tells.too_many (place tells i))) (Ok ([], i))) e
-    many_none r (suc n) s i e = ap (λ b. cond b ((r s >>= λ x. many tells n begins next r (next s x) >>= λ xs. done (x ∷ xs)) i) (Ok ([], i))) e
+  module _ {S A B : Type 0} (begins : Meaning L B) (next : S → A → S) {r r' : S → Reader L F A} (items : (s : S) → Looser tells (r s) (r' s)) where
+    loose_more : (n k : ℕ) → ((s : S) → Looser tells (many tells n begins next r s) (many tells k begins next r' s)) → (s : S) → Looser tells (many tells (suc n) begins next r s) (many tells (suc k) begins next r' s)
+    unfolding more_behind
+    loose_more n k before s =
+        let step = loose_then (items s) (λ x. loose_then (before (next s x)) (λ xs. loose_same (done (x ∷ xs)))) in
+        record {
+          reads = λ i y e. elim (cases_bool (is_there (next_means begins i))) [
+                | inl there ↦ many_go tells begins next r' k s i there ∙ step.reads i y (sym (many_go tells begins next r n s i there) ∙ e)
+                | inr none ↦ many_stop tells begins next r' (suc k) s i none ∙ sym (many_stop tells begins next r (suc n) s i none) ∙ e
+              ];
+          expects = λ i at e. elim (cases_bool (is_there (next_means begins i))) [
+                | inl there ↦ many_go tells begins next r' k s i there ∙ step.expects i at (sym (many_go tells begins next r n s i there) ∙ e)
+                | inr none ↦ many_stop tells begins next r' (suc k) s i none ∙ sym (many_stop tells begins next r (suc n) s i none) ∙ e
+              ];
+        }
 
-    many_full : (r : S → Reader L F A) (s : S) (i : Input L) → is_there (next_means begins i) ≡ true → many tells zero begins next r s i ≡ Err (tells.too_many (place tells i))
-    unfolding many
-    many_full r s i e = ap (λ b. cond b (Err (tells.too_many (place tells i))) (Ok ([], i))) e
-
-    many_some : (r : S → Reader L F A) (n : ℕ) (s : S) (i : Input L) → is_there (next_means begins i) ≡ true → many tells (suc n) begins next r s i ≡ (r s >>= λ x. many tells n begins next r (next s x) >>= λ xs. done (x ∷ xs)) i
-    unfolding many
-    many_some r n s i e = ap (λ b. cond b ((r s >>= λ x. many tells n begins next r (next s x) >>= λ xs. done (x ∷ xs)) i) (Ok ([], i))) e
-
-    module _ {r r' : S → Reader L F A} (items : (s : S) → Looser tells (r s) (r' s)) where
-      loose_more : (n k : ℕ) → ((s : S) → Looser tells (many tells n begins next r s) (many tells k begins next r' s)) → (s : S) → Looser tells (many tells (suc n) begins next r s) (many tells (suc k) begins next r' s)
-      loose_more n k before s =
-          let step = loose_then (items s) (λ x. loose_then (before (next s x)) (λ xs. loose_same (done (x ∷ xs)))) in
-          record {
-            reads = λ i y e. elim (cases_bool (is_there (next_means begins i))) [
-                  | inl there ↦ many_some r' k s i there ∙ step.reads i y (sym (many_some r n s i there) ∙ e)
-                  | inr none ↦ many_none r' (suc k) s i none ∙ sym (many_none r (suc n) s i none) ∙ e
-                ];
-            expects = λ i at e. elim (cases_bool (is_there (next_means begins i))) [
-                  | inl there ↦ many_some r' k s i there ∙ step.expects i at (sym (many_some r n s i there) ∙ e)
-                  | inr none ↦ many_none r' (suc k) s i none ∙ sym (many_none r (suc n) s i none) ∙ e
-                ];
-          }
-
-      pub loose_many : (n k : ℕ) → n ≤ k → (s : S) → Looser tells (many tells n begins next r s) (many tells k begins next r' s)
-      loose_many zero k le s = record {
-        reads = λ i y e. elim (cases_bool (is_there (next_means begins i))) [
-              | inl there ↦ absurd (bad_ok _ _ (sym (many_full r s i there) ∙ e))
-              | inr none ↦ many_none r' k s i none ∙ sym (many_none r zero s i none) ∙ e
-            ];
-        expects = λ i at e. elim (cases_bool (is_there (next_means begins i))) [
-              | inl there ↦ absurd (bad_expected _ _ (sym (many_full r s i there) ∙ e))
-              | inr none ↦ many_none r' k s i none ∙ sym (many_none r zero s i none) ∙ e
-            ];
-      }
-      loose_many (suc n) zero le s = absurd (omega (arith, le))
-      loose_many (suc n) (suc k) le s = loose_more n k (λ t. loose_many n k (omega (arith, le)) t) s
+    pub loose_many : (n k : ℕ) → n ≤ k → (s : S) → Looser tells (many tells n begins next r s) (many tells k begins next r' s)
+    loose_many zero k le s = record {
+      reads = λ i y e. elim (cases_bool (is_there (next_means begins i))) [
+            | inl there ↦ absurd (bad_ok _ _ (sym (many_out tells begins next r s i there) ∙ e))
+            | inr none ↦ many_stop tells begins next r' k s i none ∙ sym (many_stop tells begins next r zero s i none) ∙ e
+          ];
+      expects = λ i at e. elim (cases_bool (is_there (next_means begins i))) [
+            | inl there ↦ absurd (bad_expected _ _ (sym (many_out tells begins next r s i there) ∙ e))
+            | inr none ↦ many_stop tells begins next r' k s i none ∙ sym (many_stop tells begins next r zero s i none) ∙ e
+          ];
+    }
+    loose_many (suc n) zero le s = absurd (omega (arith, le))
+    loose_many (suc n) (suc k) le s = loose_more n k (λ t. loose_many n k (omega (arith, le)) t) s
