@@ -1,0 +1,8 @@
+//! The grammar of the language: which tokens spell which module, and how they are read.
+#![tactic(auto)]
+
+mod fault;
+mod header;
+
+pub use fault::ParseFault;
+pub use header::Header;
