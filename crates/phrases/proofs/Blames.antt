@@ -100,6 +100,31 @@ module _ {L F : Type 0} (tells : Tells L F) where
   at_place : {A : Type 0} (i : Input L) (e : F) → (let r : Result (A × Input L) F = Err (tells.expected (place tells i)) in r) ≡ Err e → e ≡ tells.expected (place tells i)
   at_place i e h = let same : tells.expected (place tells i) ≡ e = cc in sym same
 
+  -- a token of this meaning is one token
+  pub is_token : {A : Type 0} (m : Meaning L A) (placed : A → ℕ) → ((t : L) (a : A) → m t ≡ Some a → placed a ≡ tells.at t) → IsToken tells (phrases.one m) (one tells m) placed
+  unfolding one
+  is_token m placed places i x j e = elim (cases_next m i) [
+        | inl (u, b, k, is, means) ↦
+            let here : case_next m done (expected tells) i ≡ Ok (b, at_end k i.end) = ap (λ l. case_next m done (expected tells) (at_end l i.end)) is ∙ case_some m done (expected tells) u b k i.end means in
+            let both = ok_value b x (at_end k i.end) j (sym here ∙ e) in
+            let same = means ∙ ap (λ z. Some z) both.0 in
+            (u, is ∙ ap (λ (o : Input L). u ∷ o.rest) both.1, (u, refl, same), places u x same)
+        | inr none ↦ absurd (err_not_ok (x, j) _ (sym (case_none m done (expected tells) i none) ∙ e))
+      ]
+
+  tested : {A : Type 0} (b : Bool) (fault : F) (x y : A) (i j : Input L) → (let r : Reader L F A = holds b fault >>= λ _. done x in r i) ≡ Ok (y, j) → (x ≡ y) × (i ≡ j)
+  tested true fault x y i j e = ok_value x y i j e
+  tested false fault x y i j e = absurd (err_not_ok (y, j) fault e)
+
+  -- a token and a test
+  pub is_tested : {A : Type 0} {P' : Phrase L A} {r : Reader L F A} (placed : A → ℕ) (b : A → Bool) (fault : A → F) → IsToken tells P' r placed
+      → IsToken tells (then P' (λ x. then (where_true true) (λ _. only x))) (r >>= λ x. holds (b x) (fault x) >>= λ _. done x) placed
+  is_tested {r = r} placed b fault one i x j e =
+      let y = goes_on_ok (r i) (λ z. holds (b z) (fault z) >>= λ _. done z) (x, j) e in
+      let same = tested (b y.0.0) (fault y.0.0) y.0.0 x y.0.1 j y.2 in
+      let (t, is, p, place) = one i y.0.0 y.0.1 y.1 in
+      (t, is ∙ ap (λ (o : Input L). t ∷ o.rest) same.1, (y.0.0, t ∷ [], [], refl, p, (tt, [], [], refl, (refl, refl), (refl, same.0))), ap placed (sym same.0) ∙ place)
+
 module _ {L F : Type 0} {tells : Tells L F} {limit : F → Option ℕ} {fuel : ℕ} where
   pub blames_then : {A B : Type 0} {K : ℕ → Type 0} {P' : Phrase L A} {Q' : A → Phrase L B} {r : Reader L F A} {f : A → Reader L F B}
       → Blames tells limit fuel K P' r → ((a : A) → Blames tells limit fuel K (Q' a) (f a))
@@ -261,11 +286,11 @@ module _ {L F : Type 0} {tells : Tells L F} {limit : F → Option ℕ} {fuel : �
   }
 
   -- a choice by the next token, which what is behind it may blame
-  pub blames_case : {A B : Type 0} {K : ℕ → Type 0} {m : Meaning L A} {Q' : A → Phrase L B} {R' : Phrase L B} {f : A → Reader L F B} {r : Reader L F B} (placed : A → ℕ)
-      → ((t : L) (a : A) → m t ≡ Some a → placed a ≡ tells.at t)
-      → ((a : A) → Blames tells limit fuel (λ n. K n ⊎ (n ≡ placed a)) (Q' a) (f a)) → Blames tells limit fuel K R' r
+  blames_choice : {A B : Type 0} {K : ℕ → Type 0} {m : Meaning L A} {Q' : A → Phrase L B} {R' : Phrase L B} {f : A → Reader L F B} {r : Reader L F B} (Here : A → ℕ → Type 0)
+      → ((t : L) (a : A) → m t ≡ Some a → (n : ℕ) → Here a n → n ≡ tells.at t)
+      → ((a : A) → Blames tells limit fuel (λ n. K n ⊎ Here a n) (Q' a) (f a)) → Blames tells limit fuel K R' r
       → Blames tells limit fuel K (then (phrases.one m) Q' or R') (case_next m f r)
-  blames_case {K = K} {m = m} {Q' = Q'} {R' = R'} {f = f} {r = r} placed places two other = record {
+  blames_choice {K = K} {m = m} {Q' = Q'} {R' = R'} {f = f} {r = r} Here places two other = record {
     some = let v = other.some in (v.0, v.1, inr v.2);
     takes = λ i y j e. elim (cases_next m i) [
           | inl (t, a, k, is, means) ↦
@@ -286,7 +311,7 @@ module _ {L F : Type 0} {tells : Tells L F} {limit : F → Option ℕ} {fuel : �
                         | inl n ↦ inl n
                         | inr n ↦
                             let w = (two a).some in
-                            inr (record { tokens = []; token = t; rest = k; parts = is; there = n ∙ places t a means; viable = (w.0, w.1, inl (a, t ∷ [], w.0, refl, (t, refl, means), w.2)) })
+                            inr (record { tokens = []; token = t; rest = k; parts = is; there = places t a means at n; viable = (w.0, w.1, inl (a, t ∷ [], w.0, refl, (t, refl, means), w.2)) })
                       ]
                     | inr w ↦
                         let v = w.viable in
@@ -311,6 +336,18 @@ module _ {L F : Type 0} {tells : Tells L F} {limit : F → Option ℕ} {fuel : �
               ]
         ];
   }
+
+  pub blames_case : {A B : Type 0} {K : ℕ → Type 0} {m : Meaning L A} {Q' : A → Phrase L B} {R' : Phrase L B} {f : A → Reader L F B} {r : Reader L F B} (placed : A → ℕ)
+      → ((t : L) (a : A) → m t ≡ Some a → placed a ≡ tells.at t)
+      → ((a : A) → Blames tells limit fuel (λ n. K n ⊎ (n ≡ placed a)) (Q' a) (f a)) → Blames tells limit fuel K R' r
+      → Blames tells limit fuel K (then (phrases.one m) Q' or R') (case_next m f r)
+  blames_case placed places two other = blames_choice (λ a n. n ≡ placed a) (λ t a means n here. here ∙ places t a means) two other
+
+  -- a choice that nothing blames
+  pub blames_either : {A B : Type 0} {K : ℕ → Type 0} {m : Meaning L A} {Q' : A → Phrase L B} {R' : Phrase L B} {f : A → Reader L F B} {r : Reader L F B}
+      → ((a : A) → Blames tells limit fuel K (Q' a) (f a)) → Blames tells limit fuel K R' r
+      → Blames tells limit fuel K (then (phrases.one m) Q' or R') (case_next m f r)
+  blames_either two other = blames_choice (λ a n. ⊥) (λ t a means n here. absurd here) (λ a. blames_known (λ n k. inl k) (two a)) other
 
   -- ---- any number of items
 

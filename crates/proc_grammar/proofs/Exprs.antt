@@ -244,7 +244,7 @@ a_one : Lexeme
 a_one = record { kind = kinds.Number 1; at = 0; text = [] }
 
 -- a number is an expression
-number_spelled : {E A S P V R M : Type 0} (T : Makes E A S P V R M) (room : ℕ) (inner : Bool → Phrase E) → (tokens : List Lexeme) × (x : E) × grammar.expr_with T false room inner true tokens x
+pub number_spelled : {E A S P V R M : Type 0} (T : Makes E A S P V R M) (room : ℕ) (inner : Bool → Phrase E) → (tokens : List Lexeme) × (x : E) × grammar.expr_with T false room inner true tokens x
 unfolding grammar.expr_with grammar.sum grammar.number_term grammar.comparison_part a_number a_one
 number_spelled T room inner =
     let term : grammar.term T false room inner true (a_one ∷ []) (T.number 0 1) =

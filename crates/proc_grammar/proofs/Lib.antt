@@ -6,3 +6,4 @@ mod Stmts
 mod Modules
 mod Loosely
 mod Whole
+mod Blamed

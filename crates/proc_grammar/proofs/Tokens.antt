@@ -259,3 +259,7 @@ module _ (fuel : ℕ) where
   pub adding_token : Reads fuel (phrases.one adding) (phrases.one adding) Any (one adding)
   unfolding adding
   adding_token = reads_one distinct adding (signed_by 43) Plus refl
+
+  pub comparing_token : Reads fuel (phrases.one comparing) (phrases.one comparing) Any (one comparing)
+  unfolding comparing
+  comparing_token = reads_one distinct comparing (signed_by 60) Less refl
