@@ -7,3 +7,4 @@ mod Modules
 mod Loosely
 mod Whole
 mod Blamed
+mod Stops

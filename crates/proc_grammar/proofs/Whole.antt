@@ -21,7 +21,7 @@ module _ {E A S P V R M : Type 0} (T : Makes E A S P V R M) where
   nil_from_length (t ∷ l) e = absurd (omega (arith, e))
 
   -- a text of a module is read, whatever limits
-  read_again : (limits : Bool) (n room : ℕ) (tokens : List Lexeme) (m : M) (end : ℕ) → length tokens ≤ n → a_module T limits room tokens m → next_module T limits n room (at_end tokens end) ≡ Ok (m, at_end [] end)
+  pub read_again : (limits : Bool) (n room : ℕ) (tokens : List Lexeme) (m : M) (end : ℕ) → length tokens ≤ n → a_module T limits room tokens m → next_module T limits n room (at_end tokens end) ≡ Ok (m, at_end [] end)
   read_again limits n room tokens m end len p =
       ap (λ l. next_module T limits n room (at_end l end)) (sym (append-nil tokens)) ∙ (module_reads T limits n room).again tokens m [] end len p refl
 
