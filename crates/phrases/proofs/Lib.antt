@@ -3,3 +3,4 @@ pub mod Repeats
 pub mod Heads
 pub mod Loose
 pub mod Blames
+pub mod Gives

@@ -8,3 +8,4 @@ mod Loosely
 mod Whole
 mod Blamed
 mod Stops
+mod Fits

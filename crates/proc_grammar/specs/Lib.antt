@@ -7,3 +7,4 @@ pub mod Fault
 pub mod FaultText
 pub mod Stuck
 pub mod PlainTrees
+pub mod Tokens
