@@ -48,22 +48,26 @@ shorter l s k fuel e le =
 module _ {L F : Type 0} {tells : Tells L F} (limit : F → Option ℕ) where
   blamed_first : {A B : Type 0} {K : ℕ → Type 0} {P' : Phrase L A} {Q' : A → Phrase L B} (more : (a : A) → (tokens : List L) × (y : B) × Q' a tokens y) (i : Input L) (e : F) → Blamed tells limit K P' i e → Blamed tells limit K (then P' Q') i e
   blamed_first more i e = elim [
-        | inl h ↦ inl h
-        | inr (at, is, where_) ↦ inr (at, is, (elim where_ [
-            | inl known ↦ inl known
-            | inr w ↦
-                let v = w.viable in
-                let u = more v.1 in
-                inr (record {
-                  tokens = w.tokens;
-                  token = w.token;
-                  rest = w.rest;
-                  parts = w.parts;
-                  there = w.there;
-                  viable = (v.0 ++ u.0, u.1, (v.1, w.tokens ++ w.token ∷ v.0, u.0, sym (append_assoc w.tokens (w.token ∷ v.0) u.0), v.2, u.2));
-                })
-          ]))
-      ]
+    | inl h ↦ inl h
+    | inr (at, is, where_) ↦ inr (
+      at,
+      is,
+      (elim where_ [
+        | inl known ↦ inl known
+        | inr w ↦
+            let v = w.viable in
+            let u = more v.1 in
+            inr (record {
+              tokens = w.tokens;
+              token = w.token;
+              rest = w.rest;
+              parts = w.parts;
+              there = w.there;
+              viable = (v.0 ++ u.0, u.1, (v.1, w.tokens ++ w.token ∷ v.0, u.0, sym (append_assoc w.tokens (w.token ∷ v.0) u.0), v.2, u.2));
+            })
+      ]),
+    )
+  ]
 
 module _ {L F : Type 0} {tells : Tells L F} where
   -- behind tokens that were taken
@@ -104,13 +108,13 @@ module _ {L F : Type 0} (tells : Tells L F) where
   pub is_token : {A : Type 0} (m : Meaning L A) (placed : A → ℕ) → ((t : L) (a : A) → m t ≡ Some a → placed a ≡ tells.at t) → IsToken tells (phrases.one m) (one tells m) placed
   unfolding one
   is_token m placed places i x j e = elim (cases_next m i) [
-        | inl (u, b, k, is, means) ↦
-            let here : case_next m done (expected tells) i ≡ Ok (b, at_end k i.end) = ap (λ l. case_next m done (expected tells) (at_end l i.end)) is ∙ case_some m done (expected tells) u b k i.end means in
-            let both = ok_value b x (at_end k i.end) j (sym here ∙ e) in
-            let same = means ∙ ap (λ z. Some z) both.0 in
-            (u, is ∙ ap (λ (o : Input L). u ∷ o.rest) both.1, (u, refl, same), places u x same)
-        | inr none ↦ absurd (err_not_ok (x, j) _ (sym (case_none m done (expected tells) i none) ∙ e))
-      ]
+    | inl (u, b, k, is, means) ↦
+        let here : case_next m done (expected tells) i ≡ Ok (b, at_end k i.end) = ap (λ l. case_next m done (expected tells) (at_end l i.end)) is ∙ case_some m done (expected tells) u b k i.end means in
+        let both = ok_value b x (at_end k i.end) j (sym here ∙ e) in
+        let same = means ∙ ap (λ z. Some z) both.0 in
+        (u, is ∙ ap (λ (o : Input L). u ∷ o.rest) both.1, (u, refl, same), places u x same)
+    | inr none ↦ absurd (err_not_ok (x, j) _ (sym (case_none m done (expected tells) i none) ∙ e))
+  ]
 
   tested : {A : Type 0} (b : Bool) (fault : F) (x y : A) (i j : Input L) → (let r : Reader L F A = holds b fault >>= λ _. done x in r i) ≡ Ok (y, j) → (x ≡ y) × (i ≡ j)
   tested true fault x y i j e = ok_value x y i j e
@@ -138,14 +142,14 @@ module _ {L F : Type 0} {tells : Tells L F} {limit : F → Option ℕ} {fuel : �
         let x = goes_on_ok (r i) f (y, j) e in
         taken_then i x.0.0 x.0.1 y j (one.takes i x.0.0 x.0.1 x.1) ((two x.0.0).takes x.0.1 y j x.2);
     blames = λ i e len h. elim (goes_on_err (r i) f e h) [
-          | inl g ↦ blamed_first limit (λ a. (two a).some) i e (one.blames i e len g)
-          | inr x ↦
-              let a = one.takes i x.0.0 x.0.1 x.1 in
-              elim ((two x.0.0).blames x.0.1 e (shorter i.rest a.tokens x.0.1.rest fuel a.parts len) x.2) [
-                | inl g ↦ inl g
-                | inr (at, is, where_) ↦ inr (at, is, (elim where_ [ inl known ↦ inl known | inr w ↦ inr (within_behind i x.0.0 x.0.1 at a w) ]))
-              ]
-        ];
+      | inl g ↦ blamed_first limit (λ a. (two a).some) i e (one.blames i e len g)
+      | inr x ↦
+          let a = one.takes i x.0.0 x.0.1 x.1 in
+          elim ((two x.0.0).blames x.0.1 e (shorter i.rest a.tokens x.0.1.rest fuel a.parts len) x.2) [
+            | inl g ↦ inl g
+            | inr (at, is, where_) ↦ inr (at, is, (elim where_ [ inl known ↦ inl known | inr w ↦ inr (within_behind i x.0.0 x.0.1 at a w) ]))
+          ]
+    ];
   }
 
   -- what is behind a token may blame that token
@@ -161,20 +165,24 @@ module _ {L F : Type 0} {tells : Tells L F} {limit : F → Option ℕ} {fuel : �
         let x = goes_on_ok (r i) f (y, j) e in
         taken_then i x.0.0 x.0.1 y j (one.takes i x.0.0 x.0.1 x.1) ((two x.0.0).takes x.0.1 y j x.2);
     blames = λ i e len h. elim (goes_on_err (r i) f e h) [
-          | inl g ↦ blamed_first limit (λ a. (two a).some) i e (one.blames i e len g)
-          | inr x ↦
-              let a = one.takes i x.0.0 x.0.1 x.1 in
-              elim ((two x.0.0).blames x.0.1 e (shorter i.rest a.tokens x.0.1.rest fuel a.parts len) x.2) [
-                | inl g ↦ inl g
-                | inr (at, is, where_) ↦ inr (at, is, (elim where_ [
-                    | inl known ↦ elim known [
-                        | inl k ↦ inl k
-                        | inr here ↦ inr (at_token i x.0.0 x.0.1 at (token i x.0.0 x.0.1 x.1) here)
-                      ]
-                    | inr w ↦ inr (within_behind i x.0.0 x.0.1 at a w)
-                  ]))
-              ]
-        ];
+      | inl g ↦ blamed_first limit (λ a. (two a).some) i e (one.blames i e len g)
+      | inr x ↦
+          let a = one.takes i x.0.0 x.0.1 x.1 in
+          elim ((two x.0.0).blames x.0.1 e (shorter i.rest a.tokens x.0.1.rest fuel a.parts len) x.2) [
+            | inl g ↦ inl g
+            | inr (at, is, where_) ↦ inr (
+              at,
+              is,
+              (elim where_ [
+                | inl known ↦ elim known [
+                  | inl k ↦ inl k
+                  | inr here ↦ inr (at_token i x.0.0 x.0.1 at (token i x.0.0 x.0.1 x.1) here)
+                ]
+                | inr w ↦ inr (within_behind i x.0.0 x.0.1 at a w)
+              ]),
+            )
+          ]
+    ];
   }
     where
       at_token : (i : Input L) (x : _) (j : Input L) (at : ℕ) → (t : L) × (i.rest ≡ t ∷ j.rest) × P' (t ∷ []) x × (placed x ≡ tells.at t) → at ≡ placed x → Within tells (then P' Q') i at
@@ -212,9 +220,9 @@ module _ {L F : Type 0} {tells : Tells L F} {limit : F → Option ℕ} {fuel : �
     some = h.some;
     takes = λ i x j e. h.takes i x j e;
     blames = λ i e len g. elim (h.blames i e len g) [
-          | inl a ↦ inl a
-          | inr (at, is, where_) ↦ inr (at, is, (elim where_ [ inl known ↦ inl (more at known) | inr w ↦ inr w ]))
-        ];
+      | inl a ↦ inl a
+      | inr (at, is, where_) ↦ inr (at, is, (elim where_ [ inl known ↦ inl (more at known) | inr w ↦ inr w ]))
+    ];
   }
 
   pub blames_as : {A : Type 0} {K : ℕ → Type 0} {P' Q' : Phrase L A} {r : Reader L F A} → ((l : List L) (x : A) → P' l x → Q' l x) → Blames tells limit fuel K P' r → Blames tells limit fuel K Q' r
@@ -224,14 +232,18 @@ module _ {L F : Type 0} {tells : Tells L F} {limit : F → Option ℕ} {fuel : �
         let a = h.takes i x j e in
         record { tokens = a.tokens; parts = a.parts; loose = into a.tokens x a.loose };
     blames = λ i e len g. elim (h.blames i e len g) [
-          | inl a ↦ inl a
-          | inr (at, is, where_) ↦ inr (at, is, (elim where_ [
-              | inl known ↦ inl known
-              | inr w ↦
-                  let v = w.viable in
-                  inr (record { tokens = w.tokens; token = w.token; rest = w.rest; parts = w.parts; there = w.there; viable = (v.0, v.1, into (w.tokens ++ w.token ∷ v.0) v.1 v.2) })
-            ]))
-        ];
+      | inl a ↦ inl a
+      | inr (at, is, where_) ↦ inr (
+        at,
+        is,
+        (elim where_ [
+          | inl known ↦ inl known
+          | inr w ↦
+              let v = w.viable in
+              inr (record { tokens = w.tokens; token = w.token; rest = w.rest; parts = w.parts; there = w.there; viable = (v.0, v.1, into (w.tokens ++ w.token ∷ v.0) v.1 v.2) })
+        ]),
+      )
+    ];
   }
 
   -- the same with its value seen by f
@@ -255,14 +267,18 @@ module _ {L F : Type 0} {tells : Tells L F} {limit : F → Option ℕ} {fuel : �
         let a = more.takes i y j e in
         record { tokens = a.tokens; parts = a.parts; loose = (tt, [], a.tokens, refl, (refl, up), a.loose) };
     blames = λ i e len h. elim (more.blames i e len h) [
-          | inl a ↦ inl a
-          | inr (n, is_, where_) ↦ inr (n, is_, (elim where_ [
-              | inl k ↦ inl k
-              | inr w ↦
-                  let v = w.viable in
-                  inr (record { tokens = w.tokens; token = w.token; rest = w.rest; parts = w.parts; there = w.there; viable = (v.0, v.1, (tt, [], w.tokens ++ w.token ∷ v.0, refl, (refl, up), v.2)) })
-            ]))
-        ];
+      | inl a ↦ inl a
+      | inr (n, is_, where_) ↦ inr (
+        n,
+        is_,
+        (elim where_ [
+          | inl k ↦ inl k
+          | inr w ↦
+              let v = w.viable in
+              inr (record { tokens = w.tokens; token = w.token; rest = w.rest; parts = w.parts; there = w.there; viable = (v.0, v.1, (tt, [], w.tokens ++ w.token ∷ v.0, refl, (refl, up), v.2)) })
+        ]),
+      )
+    ];
   }
 
   -- a token, of which there is one
@@ -271,18 +287,18 @@ module _ {L F : Type 0} {tells : Tells L F} {limit : F → Option ℕ} {fuel : �
   blames_one m t a example = record {
     some = (t ∷ [], a, (t, refl, example));
     takes = λ i x j e. elim (cases_next m i) [
-          | inl (u, b, k, is, means) ↦
-              let here : case_next m done (expected tells) i ≡ Ok (b, at_end k i.end) = ap (λ l. case_next m done (expected tells) (at_end l i.end)) is ∙ case_some m done (expected tells) u b k i.end means in
-              let both = ok_value b x (at_end k i.end) j (sym here ∙ e) in
-              record { tokens = u ∷ []; parts = is ∙ ap (λ (o : Input L). u ∷ o.rest) both.1; loose = (u, refl, means ∙ ap (λ z. Some z) both.0) }
-          | inr none ↦ absurd (err_not_ok (x, j) _ (sym (case_none m done (expected tells) i none) ∙ e))
-        ];
+      | inl (u, b, k, is, means) ↦
+          let here : case_next m done (expected tells) i ≡ Ok (b, at_end k i.end) = ap (λ l. case_next m done (expected tells) (at_end l i.end)) is ∙ case_some m done (expected tells) u b k i.end means in
+          let both = ok_value b x (at_end k i.end) j (sym here ∙ e) in
+          record { tokens = u ∷ []; parts = is ∙ ap (λ (o : Input L). u ∷ o.rest) both.1; loose = (u, refl, means ∙ ap (λ z. Some z) both.0) }
+      | inr none ↦ absurd (err_not_ok (x, j) _ (sym (case_none m done (expected tells) i none) ∙ e))
+    ];
     blames = λ i e len h. elim (cases_next m i) [
-          | inl (u, b, k, is, means) ↦
-              let here : case_next m done (expected tells) i ≡ Ok (b, at_end k i.end) = ap (λ l. case_next m done (expected tells) (at_end l i.end)) is ∙ case_some m done (expected tells) u b k i.end means in
-              absurd (ok_not_err (b, at_end k i.end) e (sym here ∙ h))
-          | inr none ↦ inl (place tells i, at_place tells i e (sym (case_none m done (expected tells) i none) ∙ h))
-        ];
+      | inl (u, b, k, is, means) ↦
+          let here : case_next m done (expected tells) i ≡ Ok (b, at_end k i.end) = ap (λ l. case_next m done (expected tells) (at_end l i.end)) is ∙ case_some m done (expected tells) u b k i.end means in
+          absurd (ok_not_err (b, at_end k i.end) e (sym here ∙ h))
+      | inr none ↦ inl (place tells i, at_place tells i e (sym (case_none m done (expected tells) i none) ∙ h))
+    ];
   }
 
   -- a choice by the next token, which what is behind it may blame
@@ -293,48 +309,56 @@ module _ {L F : Type 0} {tells : Tells L F} {limit : F → Option ℕ} {fuel : �
   blames_choice {K = K} {m = m} {Q' = Q'} {R' = R'} {f = f} {r = r} Here places two other = record {
     some = let v = other.some in (v.0, v.1, inr v.2);
     takes = λ i y j e. elim (cases_next m i) [
-          | inl (t, a, k, is, means) ↦
-              let here : case_next m f r i ≡ f a (at_end k i.end) = ap (λ l. case_next m f r (at_end l i.end)) is ∙ case_some m f r t a k i.end means in
-              let b = (two a).takes (at_end k i.end) y j (sym here ∙ e) in
-              record { tokens = t ∷ b.tokens; parts = is ∙ ap (λ l. t ∷ l) b.parts; loose = inl (a, t ∷ [], b.tokens, refl, (t, refl, means), b.loose) }
-          | inr none ↦
-              let b = other.takes i y j (sym (case_none m f r i none) ∙ e) in
-              record { tokens = b.tokens; parts = b.parts; loose = inr b.loose }
-        ];
+      | inl (t, a, k, is, means) ↦
+          let here : case_next m f r i ≡ f a (at_end k i.end) = ap (λ l. case_next m f r (at_end l i.end)) is ∙ case_some m f r t a k i.end means in
+          let b = (two a).takes (at_end k i.end) y j (sym here ∙ e) in
+          record { tokens = t ∷ b.tokens; parts = is ∙ ap (λ l. t ∷ l) b.parts; loose = inl (a, t ∷ [], b.tokens, refl, (t, refl, means), b.loose) }
+      | inr none ↦
+          let b = other.takes i y j (sym (case_none m f r i none) ∙ e) in
+          record { tokens = b.tokens; parts = b.parts; loose = inr b.loose }
+    ];
     blames = λ i e len h. elim (cases_next m i) [
-          | inl (t, a, k, is, means) ↦
-              let here : case_next m f r i ≡ f a (at_end k i.end) = ap (λ l. case_next m f r (at_end l i.end)) is ∙ case_some m f r t a k i.end means in
-              elim ((two a).blames (at_end k i.end) e (shorter i.rest (t ∷ []) k fuel is len) (sym here ∙ h)) [
-                | inl g ↦ inl g
-                | inr (at, limited, where_) ↦ inr (at, limited, (elim where_ [
-                    | inl known ↦ elim known [
-                        | inl n ↦ inl n
-                        | inr n ↦
-                            let w = (two a).some in
-                            inr (record { tokens = []; token = t; rest = k; parts = is; there = places t a means at n; viable = (w.0, w.1, inl (a, t ∷ [], w.0, refl, (t, refl, means), w.2)) })
-                      ]
-                    | inr w ↦
-                        let v = w.viable in
-                        inr (record {
-                          tokens = t ∷ w.tokens;
-                          token = w.token;
-                          rest = w.rest;
-                          parts = is ∙ ap (λ l. t ∷ l) w.parts;
-                          there = w.there;
-                          viable = (v.0, v.1, inl (a, t ∷ [], w.tokens ++ w.token ∷ v.0, refl, (t, refl, means), v.2));
-                        })
-                  ]))
-              ]
-          | inr none ↦ elim (other.blames i e len (sym (case_none m f r i none) ∙ h)) [
-                | inl g ↦ inl g
-                | inr (at, limited, where_) ↦ inr (at, limited, (elim where_ [
-                    | inl known ↦ inl known
-                    | inr w ↦
-                        let v = w.viable in
-                        inr (record { tokens = w.tokens; token = w.token; rest = w.rest; parts = w.parts; there = w.there; viable = (v.0, v.1, inr v.2) })
-                  ]))
-              ]
-        ];
+      | inl (t, a, k, is, means) ↦
+          let here : case_next m f r i ≡ f a (at_end k i.end) = ap (λ l. case_next m f r (at_end l i.end)) is ∙ case_some m f r t a k i.end means in
+          elim ((two a).blames (at_end k i.end) e (shorter i.rest (t ∷ []) k fuel is len) (sym here ∙ h)) [
+            | inl g ↦ inl g
+            | inr (at, limited, where_) ↦ inr (
+              at,
+              limited,
+              (elim where_ [
+                | inl known ↦ elim known [
+                  | inl n ↦ inl n
+                  | inr n ↦
+                      let w = (two a).some in
+                      inr (record { tokens = []; token = t; rest = k; parts = is; there = places t a means at n; viable = (w.0, w.1, inl (a, t ∷ [], w.0, refl, (t, refl, means), w.2)) })
+                ]
+                | inr w ↦
+                    let v = w.viable in
+                    inr (record {
+                      tokens = t ∷ w.tokens;
+                      token = w.token;
+                      rest = w.rest;
+                      parts = is ∙ ap (λ l. t ∷ l) w.parts;
+                      there = w.there;
+                      viable = (v.0, v.1, inl (a, t ∷ [], w.tokens ++ w.token ∷ v.0, refl, (t, refl, means), v.2));
+                    })
+              ]),
+            )
+          ]
+      | inr none ↦ elim (other.blames i e len (sym (case_none m f r i none) ∙ h)) [
+        | inl g ↦ inl g
+        | inr (at, limited, where_) ↦ inr (
+          at,
+          limited,
+          (elim where_ [
+            | inl known ↦ inl known
+            | inr w ↦
+                let v = w.viable in
+                inr (record { tokens = w.tokens; token = w.token; rest = w.rest; parts = w.parts; there = w.there; viable = (v.0, v.1, inr v.2) })
+          ]),
+        )
+      ]
+    ];
   }
 
   pub blames_case : {A B : Type 0} {K : ℕ → Type 0} {m : Meaning L A} {Q' : A → Phrase L B} {R' : Phrase L B} {f : A → Reader L F B} {r : Reader L F B} (placed : A → ℕ)
@@ -354,7 +378,6 @@ module _ {L F : Type 0} {tells : Tells L F} {limit : F → Option ℕ} {fuel : �
   module _ {S A B : Type 0} {K : ℕ → Type 0} (begins : Meaning L B) (next : S → A → S) (r : S → Reader L F A) {p' : S → Phrase L A}
       (items : (s : S) → Blames tells limit fuel K (p' s) (r s))
       (full : (s : S) (t : List L) (x : A) → p' s t x → 1 ≤ length t) where
-
     at_stop : (n : ℕ) (s : S) (i : Input L) (xs : List A) (j : Input L) → Ends begins i.rest → many tells n begins next r s i ≡ Ok (xs, j) → Taken (phrases.many next p' s) i xs j
     at_stop n s i xs j none e =
         let both = ok_value [] xs i j (sym (many_stop tells begins next r n s i none) ∙ e) in
@@ -366,62 +389,70 @@ module _ {L F : Type 0} {tells : Tells L F} {limit : F → Option ℕ} {fuel : �
 
     many_takes : (n : ℕ) (s : S) (i : Input L) (xs : List A) (j : Input L) → many tells n begins next r s i ≡ Ok (xs, j) → Taken (phrases.many next p' s) i xs j
     many_takes zero s i xs j e = elim (cases_bool (is_there (next_means begins i))) [
-          | inl there ↦ absurd (err_not_ok _ _ (sym (many_out tells begins next r s i there) ∙ e))
-          | inr none ↦ at_stop zero s i xs j none e
-        ]
+      | inl there ↦ absurd (err_not_ok _ _ (sym (many_out tells begins next r s i there) ∙ e))
+      | inr none ↦ at_stop zero s i xs j none e
+    ]
     many_takes (suc n) s i xs j e = elim (cases_bool (is_there (next_means begins i))) [
-          | inl there ↦
-              let x = goes_on_ok (r s i) (more_behind tells begins next r n s) (xs, j) (sym (many_go tells begins next r n s i there) ∙ e) in
-              let a = (items s).takes i x.0.0 x.0.1 x.1 in
-              let y = many_less tells begins next r n s x.0.0 xs x.0.1 j x.2 in
-              let b = many_takes n (next s x.0.0) x.0.1 y.0 j y.1 in
-              record {
-                tokens = a.tokens ++ b.tokens;
-                parts = a.parts ∙ ap (λ l. a.tokens ++ l) b.parts ∙ sym (append_assoc a.tokens b.tokens j.rest);
-                loose = subst (λ ys. phrases.many next p' s (a.tokens ++ b.tokens) ys) y.2 (a.tokens, b.tokens, refl, a.loose, b.loose);
-              }
-          | inr none ↦ at_stop (suc n) s i xs j none e
-        ]
+      | inl there ↦
+          let x = goes_on_ok (r s i) (more_behind tells begins next r n s) (xs, j) (sym (many_go tells begins next r n s i there) ∙ e) in
+          let a = (items s).takes i x.0.0 x.0.1 x.1 in
+          let y = many_less tells begins next r n s x.0.0 xs x.0.1 j x.2 in
+          let b = many_takes n (next s x.0.0) x.0.1 y.0 j y.1 in
+          record {
+            tokens = a.tokens ++ b.tokens;
+            parts = a.parts ∙ ap (λ l. a.tokens ++ l) b.parts ∙ sym (append_assoc a.tokens b.tokens j.rest);
+            loose = subst (λ ys. phrases.many next p' s (a.tokens ++ b.tokens) ys) y.2 (a.tokens, b.tokens, refl, a.loose, b.loose);
+          }
+      | inr none ↦ at_stop (suc n) s i xs j none e
+    ]
 
     many_blames : (n : ℕ) (s : S) (i : Input L) (e : F) → length i.rest ≤ fuel → length i.rest ≤ n → many tells n begins next r s i ≡ Err e → Blamed tells limit K (phrases.many next p' s) i e
     many_blames zero s i e len fits h = elim (cases_bool (is_there (next_means begins i))) [
-          | inl there ↦ absurd (none_left begins i.rest there fits)
-          | inr none ↦ absurd (ok_not_err _ _ (sym (many_stop tells begins next r zero s i none) ∙ h))
-        ]
+      | inl there ↦ absurd (none_left begins i.rest there fits)
+      | inr none ↦ absurd (ok_not_err _ _ (sym (many_stop tells begins next r zero s i none) ∙ h))
+    ]
     many_blames (suc n) s i e len fits h = elim (cases_bool (is_there (next_means begins i))) [
-          | inl there ↦ elim (goes_on_err (r s i) (more_behind tells begins next r n s) e (sym (many_go tells begins next r n s i there) ∙ h)) [
-              | inl g ↦ elim ((items s).blames i e len g) [
-                  | inl a ↦ inl a
-                  | inr (at, limited, where_) ↦ inr (at, limited, (elim where_ [
-                      | inl known ↦ inl known
-                      | inr w ↦
-                          let v = w.viable in
-                          let whole = w.tokens ++ w.token ∷ v.0 in
-                          inr (record { tokens = w.tokens; token = w.token; rest = w.rest; parts = w.parts; there = w.there; viable = (v.0, v.1 ∷ [], (whole, [], sym (append-nil whole), v.2, refl)) })
-                    ]))
-                ]
-              | inr x ↦
-                  let a = (items s).takes i x.0.0 x.0.1 x.1 in
-                  let some = full s a.tokens x.0.0 a.loose in
-                  elim (many_blames n (next s x.0.0) x.0.1 e (shorter i.rest a.tokens x.0.1.rest fuel a.parts len) (fewer i.rest a.tokens x.0.1.rest n a.parts some fits) (many_worse tells begins next r n s x.0.0 x.0.1 e x.2)) [
-                    | inl b ↦ inl b
-                    | inr (at, limited, where_) ↦ inr (at, limited, (elim where_ [
-                        | inl known ↦ inl known
-                        | inr w ↦
-                            let v = w.viable in
-                            inr (record {
-                              tokens = a.tokens ++ w.tokens;
-                              token = w.token;
-                              rest = w.rest;
-                              parts = a.parts ∙ ap (λ l. a.tokens ++ l) w.parts ∙ sym (append_assoc a.tokens w.tokens (w.token ∷ w.rest));
-                              there = w.there;
-                              viable = (v.0, x.0.0 ∷ v.1, (a.tokens, w.tokens ++ w.token ∷ v.0, append_assoc a.tokens w.tokens (w.token ∷ v.0), a.loose, v.2));
-                            })
-                      ]))
-                  ]
-            ]
-          | inr none ↦ absurd (ok_not_err _ _ (sym (many_stop tells begins next r (suc n) s i none) ∙ h))
+      | inl there ↦ elim (goes_on_err (r s i) (more_behind tells begins next r n s) e (sym (many_go tells begins next r n s i there) ∙ h)) [
+        | inl g ↦ elim ((items s).blames i e len g) [
+          | inl a ↦ inl a
+          | inr (at, limited, where_) ↦ inr (
+            at,
+            limited,
+            (elim where_ [
+              | inl known ↦ inl known
+              | inr w ↦
+                  let v = w.viable in
+                  let whole = w.tokens ++ w.token ∷ v.0 in
+                  inr (record { tokens = w.tokens; token = w.token; rest = w.rest; parts = w.parts; there = w.there; viable = (v.0, v.1 ∷ [], (whole, [], sym (append-nil whole), v.2, refl)) })
+            ]),
+          )
         ]
+        | inr x ↦
+            let a = (items s).takes i x.0.0 x.0.1 x.1 in
+            let some = full s a.tokens x.0.0 a.loose in
+            elim (many_blames n (next s x.0.0) x.0.1 e (shorter i.rest a.tokens x.0.1.rest fuel a.parts len) (fewer i.rest a.tokens x.0.1.rest n a.parts some fits) (many_worse tells begins next r n s x.0.0 x.0.1 e x.2)) [
+              | inl b ↦ inl b
+              | inr (at, limited, where_) ↦ inr (
+                at,
+                limited,
+                (elim where_ [
+                  | inl known ↦ inl known
+                  | inr w ↦
+                      let v = w.viable in
+                      inr (record {
+                        tokens = a.tokens ++ w.tokens;
+                        token = w.token;
+                        rest = w.rest;
+                        parts = a.parts ∙ ap (λ l. a.tokens ++ l) w.parts ∙ sym (append_assoc a.tokens w.tokens (w.token ∷ w.rest));
+                        there = w.there;
+                        viable = (v.0, x.0.0 ∷ v.1, (a.tokens, w.tokens ++ w.token ∷ v.0, append_assoc a.tokens w.tokens (w.token ∷ v.0), a.loose, v.2));
+                      })
+                ]),
+              )
+            ]
+      ]
+      | inr none ↦ absurd (ok_not_err _ _ (sym (many_stop tells begins next r (suc n) s i none) ∙ h))
+    ]
 
     pub blames_many : (n : ℕ) (s : S) → fuel ≤ n → Blames tells limit fuel K (phrases.many next p' s) (many tells n begins next r s)
     blames_many n s enough = record {

@@ -42,9 +42,9 @@ module _ {L : Type 0} {Proper : L → Type 0} where
   pub gives_or : {A : Type 0} {G : A → Type 0} {p q : Phrase L A} → Gives Proper p G → Gives Proper q G → Gives Proper (p or q) G
   gives_or a b = record {
     each = λ tokens x proper h. elim h [
-          | inl p ↦ a.each tokens x proper p
-          | inr q ↦ b.each tokens x proper q
-        ];
+      | inl p ↦ a.each tokens x proper p
+      | inr q ↦ b.each tokens x proper q
+    ];
   }
 
   pub gives_then : {A B : Type 0} {G : A → Type 0} {H : B → Type 0} {p : Phrase L A} {q : A → Phrase L B} → Gives Proper p G → ((x : A) → G x → Gives Proper (q x) H) → Gives Proper (then p q) H

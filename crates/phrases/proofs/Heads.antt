@@ -50,9 +50,9 @@ module _ {L : Type 0} where
   -- what may be left out, and what follows it
   pub heads_optional : {A B : Type 0} {C : L → Type 0} {p : Phrase L A} (z : A) (q : A → Phrase L B) → Heads C p → ((x : A) → Heads C (q x)) → Heads C (then (p or only z) q)
   heads_optional {C = C} z q h g tokens y (x, s, t, e, a, r) = elim a [
-        | inl b ↦ subst (Head C) (sym e) (head_more s t (h s x b))
-        | inr b ↦ subst (Head C) (sym (e ∙ ap (λ l. l ++ t) b.0)) (g x t y r)
-      ]
+    | inl b ↦ subst (Head C) (sym e) (head_more s t (h s x b))
+    | inr b ↦ subst (Head C) (sym (e ∙ ap (λ l. l ++ t) b.0)) (g x t y r)
+  ]
 
   -- any number of items, and what follows them
   pub heads_many : {S A B : Type 0} {C : L → Type 0} (next : S → A → S) (p : S → Phrase L A) (s : S) (q : List A → Phrase L B) → ((s : S) → Heads C (p s)) → ((xs : List A) → Heads C (q xs)) → Heads C (then (phrases.many next p s) q)
@@ -91,9 +91,9 @@ module _ {L : Type 0} where
 
   pub or_ahead : {A : Type 0} {C : L → Type 0} {P R : Phrase L A} (S T : List L → Type 0) → Heads C P → ((k : List L) → Head C k → S k) → ((t : List L) (y : A) (k : List L) → R t y → T k → S (t ++ k)) → (t : List L) (y : A) (k : List L) → (P or R) t y → T k → S (t ++ k)
   or_ahead S T heads fits other t y k q stop = elim q [
-        | inl a ↦ fits (t ++ k) (head_more t k (heads t y a))
-        | inr b ↦ other t y k b stop
-      ]
+    | inl a ↦ fits (t ++ k) (head_more t k (heads t y a))
+    | inr b ↦ other t y k b stop
+  ]
 
   pub head_ahead : {A : Type 0} {C : L → Type 0} {P : Phrase L A} (S T : List L → Type 0) → Heads C P → ((k : List L) → Head C k → S k) → (t : List L) (y : A) (k : List L) → P t y → T k → S (t ++ k)
   head_ahead S T heads fits t y k q stop = fits (t ++ k) (head_more t k (heads t y q))

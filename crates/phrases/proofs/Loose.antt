@@ -21,9 +21,9 @@ module _ {L F : Type 0} {tells : Tells L F} where
         let x = goes_on_ok (r i) f y e in
         ap (λ q. goes_on q f') (one.reads i x.0 x.1) ∙ (two x.0.0).reads x.0.1 y x.2;
     expects = λ i at e. elim (goes_on_err (r i) f (tells.expected at) e) [
-          | inl h ↦ ap (λ q. goes_on q f') (one.expects i at h)
-          | inr x ↦ ap (λ q. goes_on q f') (one.reads i x.0 x.1) ∙ (two x.0.0).expects x.0.1 at x.2
-        ];
+      | inl h ↦ ap (λ q. goes_on q f') (one.expects i at h)
+      | inr x ↦ ap (λ q. goes_on q f') (one.reads i x.0 x.1) ∙ (two x.0.0).expects x.0.1 at x.2
+    ];
   }
 
   going_loose : {A B : Type 0} (o : Option A) {f f' : A → Reader L F B} {r r' : Reader L F B} → ((a : A) → Looser tells (f a) (f' a)) → Looser tells r r' → Looser tells (going o f r) (going o f' r')
@@ -66,25 +66,25 @@ module _ {L F : Type 0} {tells : Tells L F} (distinct : Distinct tells) where
         let step = loose_then (items s) (λ x. loose_then (before (next s x)) (λ xs. loose_same (done (x ∷ xs)))) in
         record {
           reads = λ i y e. elim (cases_bool (is_there (next_means begins i))) [
-                | inl there ↦ many_go tells begins next r' k s i there ∙ step.reads i y (sym (many_go tells begins next r n s i there) ∙ e)
-                | inr none ↦ many_stop tells begins next r' (suc k) s i none ∙ sym (many_stop tells begins next r (suc n) s i none) ∙ e
-              ];
+            | inl there ↦ many_go tells begins next r' k s i there ∙ step.reads i y (sym (many_go tells begins next r n s i there) ∙ e)
+            | inr none ↦ many_stop tells begins next r' (suc k) s i none ∙ sym (many_stop tells begins next r (suc n) s i none) ∙ e
+          ];
           expects = λ i at e. elim (cases_bool (is_there (next_means begins i))) [
-                | inl there ↦ many_go tells begins next r' k s i there ∙ step.expects i at (sym (many_go tells begins next r n s i there) ∙ e)
-                | inr none ↦ many_stop tells begins next r' (suc k) s i none ∙ sym (many_stop tells begins next r (suc n) s i none) ∙ e
-              ];
+            | inl there ↦ many_go tells begins next r' k s i there ∙ step.expects i at (sym (many_go tells begins next r n s i there) ∙ e)
+            | inr none ↦ many_stop tells begins next r' (suc k) s i none ∙ sym (many_stop tells begins next r (suc n) s i none) ∙ e
+          ];
         }
 
     pub loose_many : (n k : ℕ) → n ≤ k → (s : S) → Looser tells (many tells n begins next r s) (many tells k begins next r' s)
     loose_many zero k le s = record {
       reads = λ i y e. elim (cases_bool (is_there (next_means begins i))) [
-            | inl there ↦ absurd (bad_ok _ _ (sym (many_out tells begins next r s i there) ∙ e))
-            | inr none ↦ many_stop tells begins next r' k s i none ∙ sym (many_stop tells begins next r zero s i none) ∙ e
-          ];
+        | inl there ↦ absurd (bad_ok _ _ (sym (many_out tells begins next r s i there) ∙ e))
+        | inr none ↦ many_stop tells begins next r' k s i none ∙ sym (many_stop tells begins next r zero s i none) ∙ e
+      ];
       expects = λ i at e. elim (cases_bool (is_there (next_means begins i))) [
-            | inl there ↦ absurd (bad_expected _ _ (sym (many_out tells begins next r s i there) ∙ e))
-            | inr none ↦ many_stop tells begins next r' k s i none ∙ sym (many_stop tells begins next r zero s i none) ∙ e
-          ];
+        | inl there ↦ absurd (bad_expected _ _ (sym (many_out tells begins next r s i there) ∙ e))
+        | inr none ↦ many_stop tells begins next r' k s i none ∙ sym (many_stop tells begins next r zero s i none) ∙ e
+      ];
     }
     loose_many (suc n) zero le s = absurd (omega (arith, le))
     loose_many (suc n) (suc k) le s = loose_more n k (λ t. loose_many n k (omega (arith, le)) t) s

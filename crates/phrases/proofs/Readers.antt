@@ -129,34 +129,34 @@ module _ {L F : Type 0} {tells : Tells L F} where
               ∙ ap (λ o. goes_on o f) (a.same (b.tokens ++ k) end alike) ∙ b.same k end h;
         };
     fails = λ i at e. elim (goes_on_err (r i) f (tells.expected at) e) [
-          | inl h ↦
-              let a = one.fails i at h in
-              let v = a.viable in
-              let w = (two v.1).some in
-              record {
-                tokens = a.tokens;
-                rest = a.rest;
-                parts = a.parts;
-                there = a.there;
-                viable = (v.0 ++ w.0, w.1, (v.1, a.tokens ++ v.0, w.0, sym (append_assoc a.tokens v.0 w.0), v.2, w.2));
-                same = λ k end g. ap (λ o. goes_on o f) (a.same k end g);
-              }
-          | inr x ↦
-              let a = one.takes i x.0.0 x.0.1 x.1 in
-              let b = (two x.0.0).fails x.0.1 at x.2 in
-              let v = b.viable in
-              record {
-                tokens = a.tokens ++ b.tokens;
-                rest = b.rest;
-                parts = a.parts ∙ ap (λ l. a.tokens ++ l) b.parts ∙ sym (append_assoc a.tokens b.tokens b.rest);
-                there = b.there ∙ ap (λ n. place_in tells b.rest n) (sym a.ends);
-                viable = (v.0, v.1, (x.0.0, a.tokens, b.tokens ++ v.0, append_assoc a.tokens b.tokens v.0, a.loose, v.2));
-                same = λ k end h.
-                    let alike = ap first b.parts ∙ first_behind b.tokens b.rest k h in
-                    ap (λ l. goes_on (r (at_end l end)) f) (append_assoc a.tokens b.tokens k)
-                    ∙ ap (λ o. goes_on o f) (a.same (b.tokens ++ k) end alike) ∙ b.same k end h;
-              }
-        ];
+      | inl h ↦
+          let a = one.fails i at h in
+          let v = a.viable in
+          let w = (two v.1).some in
+          record {
+            tokens = a.tokens;
+            rest = a.rest;
+            parts = a.parts;
+            there = a.there;
+            viable = (v.0 ++ w.0, w.1, (v.1, a.tokens ++ v.0, w.0, sym (append_assoc a.tokens v.0 w.0), v.2, w.2));
+            same = λ k end g. ap (λ o. goes_on o f) (a.same k end g);
+          }
+      | inr x ↦
+          let a = one.takes i x.0.0 x.0.1 x.1 in
+          let b = (two x.0.0).fails x.0.1 at x.2 in
+          let v = b.viable in
+          record {
+            tokens = a.tokens ++ b.tokens;
+            rest = b.rest;
+            parts = a.parts ∙ ap (λ l. a.tokens ++ l) b.parts ∙ sym (append_assoc a.tokens b.tokens b.rest);
+            there = b.there ∙ ap (λ n. place_in tells b.rest n) (sym a.ends);
+            viable = (v.0, v.1, (x.0.0, a.tokens, b.tokens ++ v.0, append_assoc a.tokens b.tokens v.0, a.loose, v.2));
+            same = λ k end h.
+                let alike = ap first b.parts ∙ first_behind b.tokens b.rest k h in
+                ap (λ l. goes_on (r (at_end l end)) f) (append_assoc a.tokens b.tokens k)
+                ∙ ap (λ o. goes_on o f) (a.same (b.tokens ++ k) end alike) ∙ b.same k end h;
+          }
+    ];
   }
 
   -- what follows doesn't matter to the first of two
@@ -190,67 +190,67 @@ module _ {L F : Type 0} {tells : Tells L F} where
   reads_case {m = m} {Q = Q} {Q' = Q'} {R = R} {R' = R'} {S = S} {f = f} {r = r} two other apart = record {
     some = let v = other.some in (v.0, v.1, inr v.2);
     again = λ tokens y k end len. elim [
-          | inl x ↦ λ stop.
-              let (a, s, t, e, (u, is, means), q) = x in
-              let whole : tokens ≡ u ∷ t = e ∙ ap (λ l. l ++ t) is in
-              let short : length tokens ≡ suc (length t) = ap length whole in
-              ap (λ l. case_next m f r (at_end (l ++ k) end)) whole ∙ case_some m f r u a (t ++ k) end means
-              ∙ (two a).again t y k end (omega (arith, len, short)) q stop
-          | inr x ↦ λ stop.
-              case_none m f r (at_end (tokens ++ k) end) (apart tokens y k x stop) ∙ other.again tokens y k end len x stop
-        ];
+      | inl x ↦ λ stop.
+          let (a, s, t, e, (u, is, means), q) = x in
+          let whole : tokens ≡ u ∷ t = e ∙ ap (λ l. l ++ t) is in
+          let short : length tokens ≡ suc (length t) = ap length whole in
+          ap (λ l. case_next m f r (at_end (l ++ k) end)) whole ∙ case_some m f r u a (t ++ k) end means
+          ∙ (two a).again t y k end (omega (arith, len, short)) q stop
+      | inr x ↦ λ stop.
+          case_none m f r (at_end (tokens ++ k) end) (apart tokens y k x stop) ∙ other.again tokens y k end len x stop
+    ];
     takes = λ i y j e. elim (cases_next m i) [
-          | inl (t, a, k, is, means) ↦
-              let here : case_next m f r i ≡ f a (at_end k i.end) = ap (λ l. case_next m f r (at_end l i.end)) is ∙ case_some m f r t a k i.end means in
-              let b = (two a).takes (at_end k i.end) y j (sym here ∙ e) in
-              record {
-                tokens = t ∷ b.tokens;
-                parts = is ∙ ap (λ l. t ∷ l) b.parts;
-                ends = b.ends;
-                spelled = inl (a, t ∷ [], b.tokens, refl, (t, refl, means), b.spelled);
-                loose = inl (a, t ∷ [], b.tokens, refl, (t, refl, means), b.loose);
-                same = λ l end h. case_some m f r t a (b.tokens ++ l) end means ∙ b.same l end h;
-              }
-          | inr none ↦
-              let b = other.takes i y j (sym (case_none m f r i none) ∙ e) in
-              record {
-                tokens = b.tokens;
-                parts = b.parts;
-                ends = b.ends;
-                spelled = inr b.spelled;
-                loose = inr b.loose;
-                same = λ l end h.
-                    let alike = ap first b.parts ∙ first_behind b.tokens j.rest l h in
-                    case_none m f r (at_end (b.tokens ++ l) end) (sym (meant_alike m i.rest (b.tokens ++ l) alike) ∙ none) ∙ b.same l end h;
-              }
-        ];
+      | inl (t, a, k, is, means) ↦
+          let here : case_next m f r i ≡ f a (at_end k i.end) = ap (λ l. case_next m f r (at_end l i.end)) is ∙ case_some m f r t a k i.end means in
+          let b = (two a).takes (at_end k i.end) y j (sym here ∙ e) in
+          record {
+            tokens = t ∷ b.tokens;
+            parts = is ∙ ap (λ l. t ∷ l) b.parts;
+            ends = b.ends;
+            spelled = inl (a, t ∷ [], b.tokens, refl, (t, refl, means), b.spelled);
+            loose = inl (a, t ∷ [], b.tokens, refl, (t, refl, means), b.loose);
+            same = λ l end h. case_some m f r t a (b.tokens ++ l) end means ∙ b.same l end h;
+          }
+      | inr none ↦
+          let b = other.takes i y j (sym (case_none m f r i none) ∙ e) in
+          record {
+            tokens = b.tokens;
+            parts = b.parts;
+            ends = b.ends;
+            spelled = inr b.spelled;
+            loose = inr b.loose;
+            same = λ l end h.
+                let alike = ap first b.parts ∙ first_behind b.tokens j.rest l h in
+                case_none m f r (at_end (b.tokens ++ l) end) (sym (meant_alike m i.rest (b.tokens ++ l) alike) ∙ none) ∙ b.same l end h;
+          }
+    ];
     fails = λ i at e. elim (cases_next m i) [
-          | inl (t, a, k, is, means) ↦
-              let here : case_next m f r i ≡ f a (at_end k i.end) = ap (λ l. case_next m f r (at_end l i.end)) is ∙ case_some m f r t a k i.end means in
-              let b = (two a).fails (at_end k i.end) at (sym here ∙ e) in
-              let v = b.viable in
-              record {
-                tokens = t ∷ b.tokens;
-                rest = b.rest;
-                parts = is ∙ ap (λ l. t ∷ l) b.parts;
-                there = b.there;
-                viable = (v.0, v.1, inl (a, t ∷ [], b.tokens ++ v.0, refl, (t, refl, means), v.2));
-                same = λ l end h. case_some m f r t a (b.tokens ++ l) end means ∙ b.same l end h;
-              }
-          | inr none ↦
-              let b = other.fails i at (sym (case_none m f r i none) ∙ e) in
-              let v = b.viable in
-              record {
-                tokens = b.tokens;
-                rest = b.rest;
-                parts = b.parts;
-                there = b.there;
-                viable = (v.0, v.1, inr v.2);
-                same = λ l end h.
-                    let alike = ap first b.parts ∙ first_behind b.tokens b.rest l h in
-                    case_none m f r (at_end (b.tokens ++ l) end) (sym (meant_alike m i.rest (b.tokens ++ l) alike) ∙ none) ∙ b.same l end h;
-              }
-        ];
+      | inl (t, a, k, is, means) ↦
+          let here : case_next m f r i ≡ f a (at_end k i.end) = ap (λ l. case_next m f r (at_end l i.end)) is ∙ case_some m f r t a k i.end means in
+          let b = (two a).fails (at_end k i.end) at (sym here ∙ e) in
+          let v = b.viable in
+          record {
+            tokens = t ∷ b.tokens;
+            rest = b.rest;
+            parts = is ∙ ap (λ l. t ∷ l) b.parts;
+            there = b.there;
+            viable = (v.0, v.1, inl (a, t ∷ [], b.tokens ++ v.0, refl, (t, refl, means), v.2));
+            same = λ l end h. case_some m f r t a (b.tokens ++ l) end means ∙ b.same l end h;
+          }
+      | inr none ↦
+          let b = other.fails i at (sym (case_none m f r i none) ∙ e) in
+          let v = b.viable in
+          record {
+            tokens = b.tokens;
+            rest = b.rest;
+            parts = b.parts;
+            there = b.there;
+            viable = (v.0, v.1, inr v.2);
+            same = λ l end h.
+                let alike = ap first b.parts ∙ first_behind b.tokens b.rest l h in
+                case_none m f r (at_end (b.tokens ++ l) end) (sym (meant_alike m i.rest (b.tokens ++ l) alike) ∙ none) ∙ b.same l end h;
+          }
+    ];
   }
 
   -- a test before what follows; where limits are passed over it holds
@@ -348,34 +348,34 @@ module _ {L F : Type 0} {tells : Tells L F} (distinct : Distinct tells) where
     again = λ tokens x k end len (u, is, means) stop.
         ap (λ l. case_next m done (expected tells) (at_end (l ++ k) end)) is ∙ case_some m done (expected tells) u x k end means;
     takes = λ i x j e. elim (cases_next m i) [
-          | inl (u, b, k, is, means) ↦
-              let here : case_next m done (expected tells) i ≡ Ok (b, at_end k i.end) = ap (λ l. case_next m done (expected tells) (at_end l i.end)) is ∙ case_some m done (expected tells) u b k i.end means in
-              let both = ok_value b x (at_end k i.end) j (sym here ∙ e) in
-              let same : m u ≡ Some x = means ∙ ap (λ z. Some z) both.0 in
-              record {
-                tokens = u ∷ [];
-                parts = is ∙ ap (λ (o : Input L). u ∷ o.rest) both.1;
-                ends = ap (λ (o : Input L). o.end) both.1;
-                spelled = (u, refl, same);
-                loose = (u, refl, same);
-                same = λ l end h. case_some m done (expected tells) u x l end same;
-              }
-          | inr none ↦ absurd (not_ok i x j (sym (case_none m done (expected tells) i none) ∙ e))
-        ];
+      | inl (u, b, k, is, means) ↦
+          let here : case_next m done (expected tells) i ≡ Ok (b, at_end k i.end) = ap (λ l. case_next m done (expected tells) (at_end l i.end)) is ∙ case_some m done (expected tells) u b k i.end means in
+          let both = ok_value b x (at_end k i.end) j (sym here ∙ e) in
+          let same : m u ≡ Some x = means ∙ ap (λ z. Some z) both.0 in
+          record {
+            tokens = u ∷ [];
+            parts = is ∙ ap (λ (o : Input L). u ∷ o.rest) both.1;
+            ends = ap (λ (o : Input L). o.end) both.1;
+            spelled = (u, refl, same);
+            loose = (u, refl, same);
+            same = λ l end h. case_some m done (expected tells) u x l end same;
+          }
+      | inr none ↦ absurd (not_ok i x j (sym (case_none m done (expected tells) i none) ∙ e))
+    ];
     fails = λ i at e. elim (cases_next m i) [
-          | inl (u, b, k, is, means) ↦
-              let here : case_next m done (expected tells) i ≡ Ok (b, at_end k i.end) = ap (λ l. case_next m done (expected tells) (at_end l i.end)) is ∙ case_some m done (expected tells) u b k i.end means in
-              absurd (not_err b (at_end k i.end) at (sym here ∙ e))
-          | inr none ↦
-              record {
-                tokens = [];
-                rest = i.rest;
-                parts = refl;
-                there = sym (same_place i at (sym (case_none m done (expected tells) i none) ∙ e));
-                viable = (t ∷ [], a, (t, refl, example));
-                same = λ l end h. case_none m done (expected tells) (at_end l end) (sym (meant_alike m i.rest l h) ∙ none);
-              }
-        ];
+      | inl (u, b, k, is, means) ↦
+          let here : case_next m done (expected tells) i ≡ Ok (b, at_end k i.end) = ap (λ l. case_next m done (expected tells) (at_end l i.end)) is ∙ case_some m done (expected tells) u b k i.end means in
+          absurd (not_err b (at_end k i.end) at (sym here ∙ e))
+      | inr none ↦
+          record {
+            tokens = [];
+            rest = i.rest;
+            parts = refl;
+            there = sym (same_place i at (sym (case_none m done (expected tells) i none) ∙ e));
+            viable = (t ∷ [], a, (t, refl, example));
+            same = λ l end h. case_none m done (expected tells) (at_end l end) (sym (meant_alike m i.rest l h) ∙ none);
+          }
+    ];
   }
 
   -- what nothing spells, where a text could go on
@@ -393,4 +393,3 @@ module _ {L F : Type 0} {tells : Tells L F} (distinct : Distinct tells) where
       same = λ k end h. refl;
     };
   }
-

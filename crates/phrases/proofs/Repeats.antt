@@ -63,9 +63,9 @@ module _ {L F : Type 0} (tells : Tells L F) {S A B : Type 0} (begins : Meaning L
   pub many_worse : (n : ℕ) (s : S) (x : A) (i : Input L) (e : F) → more_behind n s x i ≡ Err e → many tells n begins next r (next s x) i ≡ Err e
   unfolding more_behind
   many_worse n s x i e h = elim (goes_on_err (many tells n begins next r (next s x) i) (λ xs. done (x ∷ xs)) e h) [
-        | inl g ↦ g
-        | inr y ↦ absurd (ok_not_err _ _ y.2)
-      ]
+    | inl g ↦ g
+    | inr y ↦ absurd (ok_not_err _ _ y.2)
+  ]
 
   pub many_bad : (n : ℕ) (s : S) (x : A) (i : Input L) (e : F) → many tells n begins next r (next s x) i ≡ Err e → more_behind n s x i ≡ Err e
   unfolding more_behind
@@ -83,7 +83,6 @@ module _ {L F : Type 0} {tells : Tells L F} (distinct : Distinct tells) where
       (goes : (k : List L) → Begins begins k → Item k)
       (stops : (k : List L) → Stop k → Item k)
       (ends : (k : List L) → Stop k → Ends begins k) where
-
     item_ahead : (s : S) (t : List L) (xs : List A) (k : List L) → phrases.many next p s t xs → Stop k → Item (t ++ k)
     item_ahead s t [] k e stop = subst (λ l. Item (l ++ k)) (sym e) (stops k stop)
     item_ahead s t (x ∷ xs) k (f, o, e, q, more) stop =
@@ -124,76 +123,76 @@ module _ {L F : Type 0} {tells : Tells L F} (distinct : Distinct tells) where
 
     many_takes : (n : ℕ) (s : S) (i : Input L) (xs : List A) (j : Input L) → many tells n begins next r s i ≡ Ok (xs, j) → Took (phrases.many next p s) (phrases.many next p' s) (many tells n begins next r s) i xs j
     many_takes zero s i xs j e = elim (cases_bool (is_there (next_means begins i))) [
-          | inl there ↦ absurd (err_not_ok _ _ (sym (many_out tells begins next r s i there) ∙ e))
-          | inr none ↦ none_taken zero s i xs j none e
-        ]
+      | inl there ↦ absurd (err_not_ok _ _ (sym (many_out tells begins next r s i there) ∙ e))
+      | inr none ↦ none_taken zero s i xs j none e
+    ]
     many_takes (suc n) s i xs j e = elim (cases_bool (is_there (next_means begins i))) [
-          | inl there ↦
-              let x = goes_on_ok (r s i) (more_behind tells begins next r n s) (xs, j) (sym (many_go tells begins next r n s i there) ∙ e) in
-              let a = (items s).takes i x.0.0 x.0.1 x.1 in
-              let y = many_less tells begins next r n s x.0.0 xs x.0.1 j x.2 in
-              let b = many_takes n (next s x.0.0) x.0.1 y.0 j y.1 in
-              record {
-                tokens = a.tokens ++ b.tokens;
-                parts = a.parts ∙ ap (λ l. a.tokens ++ l) b.parts ∙ sym (append_assoc a.tokens b.tokens j.rest);
-                ends = a.ends ∙ b.ends;
-                spelled = subst (λ ys. phrases.many next p s (a.tokens ++ b.tokens) ys) y.2 (a.tokens, b.tokens, refl, a.spelled, b.spelled);
-                loose = subst (λ ys. phrases.many next p' s (a.tokens ++ b.tokens) ys) y.2 (a.tokens, b.tokens, refl, a.loose, b.loose);
-                same = λ k end h.
-                    let alike = ap first b.parts ∙ first_behind b.tokens j.rest k h in
-                    ap (λ l. many tells (suc n) begins next r s (at_end l end)) (append_assoc a.tokens b.tokens k)
-                    ∙ many_go tells begins next r n s (at_end (a.tokens ++ (b.tokens ++ k)) end) (starts s a.tokens x.0.0 (b.tokens ++ k) a.spelled)
-                    ∙ ap (λ z. goes_on z (more_behind tells begins next r n s)) (a.same (b.tokens ++ k) end alike)
-                    ∙ many_more tells begins next r n s x.0.0 y.0 (at_end (b.tokens ++ k) end) (at_end k end) (b.same k end h)
-                    ∙ ap (λ ys. Ok (ys, at_end k end)) y.2;
-              }
-          | inr none ↦ none_taken (suc n) s i xs j none e
-        ]
+      | inl there ↦
+          let x = goes_on_ok (r s i) (more_behind tells begins next r n s) (xs, j) (sym (many_go tells begins next r n s i there) ∙ e) in
+          let a = (items s).takes i x.0.0 x.0.1 x.1 in
+          let y = many_less tells begins next r n s x.0.0 xs x.0.1 j x.2 in
+          let b = many_takes n (next s x.0.0) x.0.1 y.0 j y.1 in
+          record {
+            tokens = a.tokens ++ b.tokens;
+            parts = a.parts ∙ ap (λ l. a.tokens ++ l) b.parts ∙ sym (append_assoc a.tokens b.tokens j.rest);
+            ends = a.ends ∙ b.ends;
+            spelled = subst (λ ys. phrases.many next p s (a.tokens ++ b.tokens) ys) y.2 (a.tokens, b.tokens, refl, a.spelled, b.spelled);
+            loose = subst (λ ys. phrases.many next p' s (a.tokens ++ b.tokens) ys) y.2 (a.tokens, b.tokens, refl, a.loose, b.loose);
+            same = λ k end h.
+                let alike = ap first b.parts ∙ first_behind b.tokens j.rest k h in
+                ap (λ l. many tells (suc n) begins next r s (at_end l end)) (append_assoc a.tokens b.tokens k)
+                ∙ many_go tells begins next r n s (at_end (a.tokens ++ (b.tokens ++ k)) end) (starts s a.tokens x.0.0 (b.tokens ++ k) a.spelled)
+                ∙ ap (λ z. goes_on z (more_behind tells begins next r n s)) (a.same (b.tokens ++ k) end alike)
+                ∙ many_more tells begins next r n s x.0.0 y.0 (at_end (b.tokens ++ k) end) (at_end k end) (b.same k end h)
+                ∙ ap (λ ys. Ok (ys, at_end k end)) y.2;
+          }
+      | inr none ↦ none_taken (suc n) s i xs j none e
+    ]
 
     none_fails : (n : ℕ) (s : S) (i : Input L) (at : ℕ) → Ends begins i.rest → many tells n begins next r s i ≡ Err (tells.expected at) → ⊥
     none_fails n s i at none e = ok_not_err _ _ (sym (many_stop tells begins next r n s i none) ∙ e)
 
     many_fails : (n : ℕ) (s : S) (i : Input L) (at : ℕ) → many tells n begins next r s i ≡ Err (tells.expected at) → Failed tells (phrases.many next p' s) (many tells n begins next r s) i at
     many_fails zero s i at e = elim (cases_bool (is_there (next_means begins i))) [
-          | inl there ↦ absurd (other_fault _ _ (sym (many_out tells begins next r s i there) ∙ e))
-          | inr none ↦ absurd (none_fails zero s i at none e)
-        ]
+      | inl there ↦ absurd (other_fault _ _ (sym (many_out tells begins next r s i there) ∙ e))
+      | inr none ↦ absurd (none_fails zero s i at none e)
+    ]
     many_fails (suc n) s i at e = elim (cases_bool (is_there (next_means begins i))) [
-          | inl there ↦ elim (goes_on_err (r s i) (more_behind tells begins next r n s) (tells.expected at) (sym (many_go tells begins next r n s i there) ∙ e)) [
-              | inl h ↦
-                  let a = (items s).fails i at h in
-                  let v = a.viable in
-                  record {
-                    tokens = a.tokens;
-                    rest = a.rest;
-                    parts = a.parts;
-                    there = a.there;
-                    viable = (v.0, v.1 ∷ [], (a.tokens ++ v.0, [], sym (append-nil (a.tokens ++ v.0)), v.2, refl));
-                    same = λ k end g.
-                        let alike = ap first a.parts ∙ first_behind a.tokens a.rest k g in
-                        many_go tells begins next r n s (at_end (a.tokens ++ k) end) (begins_alike begins i.rest (a.tokens ++ k) alike ∙ there)
-                        ∙ ap (λ z. goes_on z (more_behind tells begins next r n s)) (a.same k end g);
-                  }
-              | inr x ↦
-                  let a = (items s).takes i x.0.0 x.0.1 x.1 in
-                  let b = many_fails n (next s x.0.0) x.0.1 at (many_worse tells begins next r n s x.0.0 x.0.1 (tells.expected at) x.2) in
-                  let v = b.viable in
-                  record {
-                    tokens = a.tokens ++ b.tokens;
-                    rest = b.rest;
-                    parts = a.parts ∙ ap (λ l. a.tokens ++ l) b.parts ∙ sym (append_assoc a.tokens b.tokens b.rest);
-                    there = b.there ∙ ap (λ m. place_in tells b.rest m) (sym a.ends);
-                    viable = (v.0, x.0.0 ∷ v.1, (a.tokens, b.tokens ++ v.0, append_assoc a.tokens b.tokens v.0, a.loose, v.2));
-                    same = λ k end h.
-                        let alike = ap first b.parts ∙ first_behind b.tokens b.rest k h in
-                        ap (λ l. many tells (suc n) begins next r s (at_end l end)) (append_assoc a.tokens b.tokens k)
-                        ∙ many_go tells begins next r n s (at_end (a.tokens ++ (b.tokens ++ k)) end) (starts s a.tokens x.0.0 (b.tokens ++ k) a.spelled)
-                        ∙ ap (λ z. goes_on z (more_behind tells begins next r n s)) (a.same (b.tokens ++ k) end alike)
-                        ∙ many_bad tells begins next r n s x.0.0 (at_end (b.tokens ++ k) end) (tells.expected (place_in tells k end)) (b.same k end h);
-                  }
-            ]
-          | inr none ↦ absurd (none_fails (suc n) s i at none e)
-        ]
+      | inl there ↦ elim (goes_on_err (r s i) (more_behind tells begins next r n s) (tells.expected at) (sym (many_go tells begins next r n s i there) ∙ e)) [
+        | inl h ↦
+            let a = (items s).fails i at h in
+            let v = a.viable in
+            record {
+              tokens = a.tokens;
+              rest = a.rest;
+              parts = a.parts;
+              there = a.there;
+              viable = (v.0, v.1 ∷ [], (a.tokens ++ v.0, [], sym (append-nil (a.tokens ++ v.0)), v.2, refl));
+              same = λ k end g.
+                  let alike = ap first a.parts ∙ first_behind a.tokens a.rest k g in
+                  many_go tells begins next r n s (at_end (a.tokens ++ k) end) (begins_alike begins i.rest (a.tokens ++ k) alike ∙ there)
+                  ∙ ap (λ z. goes_on z (more_behind tells begins next r n s)) (a.same k end g);
+            }
+        | inr x ↦
+            let a = (items s).takes i x.0.0 x.0.1 x.1 in
+            let b = many_fails n (next s x.0.0) x.0.1 at (many_worse tells begins next r n s x.0.0 x.0.1 (tells.expected at) x.2) in
+            let v = b.viable in
+            record {
+              tokens = a.tokens ++ b.tokens;
+              rest = b.rest;
+              parts = a.parts ∙ ap (λ l. a.tokens ++ l) b.parts ∙ sym (append_assoc a.tokens b.tokens b.rest);
+              there = b.there ∙ ap (λ m. place_in tells b.rest m) (sym a.ends);
+              viable = (v.0, x.0.0 ∷ v.1, (a.tokens, b.tokens ++ v.0, append_assoc a.tokens b.tokens v.0, a.loose, v.2));
+              same = λ k end h.
+                  let alike = ap first b.parts ∙ first_behind b.tokens b.rest k h in
+                  ap (λ l. many tells (suc n) begins next r s (at_end l end)) (append_assoc a.tokens b.tokens k)
+                  ∙ many_go tells begins next r n s (at_end (a.tokens ++ (b.tokens ++ k)) end) (starts s a.tokens x.0.0 (b.tokens ++ k) a.spelled)
+                  ∙ ap (λ z. goes_on z (more_behind tells begins next r n s)) (a.same (b.tokens ++ k) end alike)
+                  ∙ many_bad tells begins next r n s x.0.0 (at_end (b.tokens ++ k) end) (tells.expected (place_in tells k end)) (b.same k end h);
+            }
+      ]
+      | inr none ↦ absurd (none_fails (suc n) s i at none e)
+    ]
 
     pub reads_many : (n : ℕ) (s : S) → fuel ≤ n → Reads tells fuel (phrases.many next p s) (phrases.many next p' s) Stop (many tells n begins next r s)
     reads_many n s enough = record {

@@ -3,6 +3,7 @@
 
 mod fault;
 mod header;
+pub mod laws;
 
 pub use fault::ParseFault;
 pub use header::Header;
