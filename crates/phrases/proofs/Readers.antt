@@ -1,10 +1,13 @@
 -- Readers that read just what a phrase spells, put together as readers and phrases are.
-use Rattle.std.proofs.Common.{◌≡◌, Bool, true, false, cond, ℕ, zero, suc, ◌+◌, ◌≤◌, inl, inr, ◌⊎◌, List, [], ◌∷◌, ◌++◌, length, Option, Some, None, Result, Ok, Err, refl, sym, ap, subst, ◌∙◌, append_assoc, arith, length-append, append-nil}
+use Rattle.std.proofs.Common.{◌≡◌, Bool, true, false, cond, ℕ, zero, suc, ◌+◌, ◌≤◌, inl, inr, ◌⊎◌, List, []}
+use Rattle.std.proofs.Common.{◌∷◌, ◌++◌, length, Option, Some, None, Result, Ok, Err, refl, sym, ap, subst}
+use Rattle.std.proofs.Common.{◌∙◌, append_assoc, arith, length-append, append-nil}
 use Rattle.std.specs.Prelude.{IsTrue}
 use Rattle.readers.specs.Readers.{goes_on, ◌>>=◌, done}
 use Rattle.phrases.specs.Phrase as phrases
 use Rattle.phrases.specs.Phrase.{Meaning, Phrase, then, only, where_true, ◌or◌}
-use Rattle.phrases.specs.Reading.{Input, Tells, place_in, Reader, first, holds, meant_in, behind_in, next_means, place, behind, going, case_next, expected, one}
+use Rattle.phrases.specs.Reading.{Input, Tells, place_in, Reader, first, holds, meant_in, behind_in}
+use Rattle.phrases.specs.Reading.{next_means, place, behind, going, case_next, expected, one}
 
 -- faults that tell places apart, and that one item was too many from what was not expected
 pub record Distinct {L F : Type 0} (tells : Tells L F) : Type 0 where
@@ -18,26 +21,32 @@ abbrev pub Any : {L : Type 0} → List L → Type 0
 Any k = Unit {0}
 
 -- tokens were taken from the front, and would be where another token list begins alike behind them
-pub record Took {L F A : Type 0} (P P' : Phrase L A) (r : Reader L F A) (i : Input L) (x : A) (j : Input L) : Type 0 where
+pub record Took {L F A : Type 0} (P P' : Phrase L A) (r : Reader L F A) (i : Input L) (x : A)
+    (j : Input L) : Type 0 where
   pub tokens : List L
   pub parts : i.rest ≡ tokens ++ j.rest
   pub ends : i.end ≡ j.end
   pub spelled : P tokens x
   pub loose : P' tokens x
-  pub same : (k : List L) (end : ℕ) → first j.rest ≡ first k → r (at_end (tokens ++ k) end) ≡ Ok (x, at_end k end)
+  pub same : (k : List L) (end : ℕ) → first j.rest ≡ first k → r (at_end (tokens ++ k) end)
+      ≡ Ok (x, at_end k end)
 
 -- behind these tokens, with which a text can begin, the next one was not expected, whatever is behind it
-pub record Failed {L F A : Type 0} (tells : Tells L F) (P' : Phrase L A) (r : Reader L F A) (i : Input L) (at : ℕ) : Type 0 where
+pub record Failed {L F A : Type 0} (tells : Tells L F) (P' : Phrase L A) (r : Reader L F A) (i : Input L)
+    (at : ℕ) : Type 0 where
   pub tokens : List L
   pub rest : List L
   pub parts : i.rest ≡ tokens ++ rest
   pub there : at ≡ place_in tells rest i.end
   pub viable : (more : List L) × (x : A) × P' (tokens ++ more) x
-  pub same : (k : List L) (end : ℕ) → first rest ≡ first k → r (at_end (tokens ++ k) end) ≡ Err (tells.expected (place_in tells k end))
+  pub same : (k : List L) (end : ℕ) → first rest ≡ first k → r (at_end (tokens ++ k) end)
+      ≡ Err (tells.expected (place_in tells k end))
 
 -- The reader reads what P spells, where Stop holds of what follows. P' is P with limits passed over.
-pub record Reads {L F A : Type 0} (tells : Tells L F) (fuel : ℕ) (P P' : Phrase L A) (Stop : List L → Type 0) (r : Reader L F A) : Type 0 where
-  pub again : (tokens : List L) (x : A) (k : List L) (end : ℕ) → length tokens ≤ fuel → P tokens x → Stop k → r (at_end (tokens ++ k) end) ≡ Ok (x, at_end k end)
+pub record Reads {L F A : Type 0} (tells : Tells L F) (fuel : ℕ) (P P' : Phrase L A) (Stop : List L → Type 0)
+    (r : Reader L F A) : Type 0 where
+  pub again : (tokens : List L) (x : A) (k : List L) (end : ℕ) → length tokens ≤ fuel → P tokens x → Stop k
+      → r (at_end (tokens ++ k) end) ≡ Ok (x, at_end k end)
   pub takes : (i : Input L) (x : A) (j : Input L) → r i ≡ Ok (x, j) → Took P P' r i x j
   pub fails : (i : Input L) (at : ℕ) → r i ≡ Err (tells.expected at) → Failed tells P' r i at
   pub some : (tokens : List L) × (x : A) × P' tokens x
@@ -48,15 +57,18 @@ module _ {L : Type 0} where
   first_behind (t ∷ s) j k e = refl
 
   -- what the next token means, and the rest
-  by_option : {A : Type 0} (m : Meaning L A) (t : L) (k : List L) (o : Option A) → m t ≡ o → ((u : L) × (a : A) × (l : List L) × (t ∷ k ≡ u ∷ l) × (m u ≡ Some a)) ⊎ (m t ≡ None)
+  by_option : {A : Type 0} (m : Meaning L A) (t : L) (k : List L) (o : Option A) → m t ≡ o
+      → ((u : L) × (a : A) × (l : List L) × (t ∷ k ≡ u ∷ l) × (m u ≡ Some a)) ⊎ (m t ≡ None)
   by_option m t k None e = inr e
   by_option m t k (Some a) e = inl (t, a, k, refl, e)
 
-  by_tokens : {A : Type 0} (m : Meaning L A) (rest : List L) → ((t : L) × (a : A) × (k : List L) × (rest ≡ t ∷ k) × (m t ≡ Some a)) ⊎ (meant_in m rest ≡ None)
+  by_tokens : {A : Type 0} (m : Meaning L A) (rest : List L) → ((t : L) × (a : A) × (k : List L)
+      × (rest ≡ t ∷ k) × (m t ≡ Some a)) ⊎ (meant_in m rest ≡ None)
   by_tokens m [] = inr refl
   by_tokens m (t ∷ k) = by_option m t k (m t) refl
 
-  pub cases_next : {A : Type 0} (m : Meaning L A) (i : Input L) → ((t : L) × (a : A) × (k : List L) × (i.rest ≡ t ∷ k) × (m t ≡ Some a)) ⊎ (next_means m i ≡ None)
+  pub cases_next : {A : Type 0} (m : Meaning L A) (i : Input L) → ((t : L) × (a : A) × (k : List L)
+      × (i.rest ≡ t ∷ k) × (m t ≡ Some a)) ⊎ (next_means m i ≡ None)
   cases_next m i = by_tokens m i.rest
 
   option_meaning : {A : Type 0} → Meaning L A → Option L → Option A
@@ -68,29 +80,35 @@ module _ {L : Type 0} where
   of_first m [] = refl
   of_first m (t ∷ l) = refl
 
-  pub meant_alike : {A : Type 0} (m : Meaning L A) (j k : List L) → first j ≡ first k → meant_in m j ≡ meant_in m k
+  pub meant_alike : {A : Type 0} (m : Meaning L A) (j k : List L) → first j ≡ first k → meant_in m j
+      ≡ meant_in m k
   meant_alike m j k e = of_first m j ∙ ap (option_meaning m) e ∙ sym (of_first m k)
 
 module _ {L F : Type 0} where
-  pub goes_on_ok : {A B : Type 0} (r : Result (A × Input L) F) (f : A → Reader L F B) (y : B × Input L) → goes_on r f ≡ Ok y → (x : A × Input L) × (r ≡ Ok x) × (f x.0 x.1 ≡ Ok y)
+  pub goes_on_ok : {A B : Type 0} (r : Result (A × Input L) F) (f : A → Reader L F B) (y : B × Input L)
+      → goes_on r f ≡ Ok y → (x : A × Input L) × (r ≡ Ok x) × (f x.0 x.1 ≡ Ok y)
   goes_on_ok (Ok x) f y e = (x, refl, e)
   goes_on_ok (Err d) f y e = absurd cc
 
-  pub goes_on_err : {A B : Type 0} (r : Result (A × Input L) F) (f : A → Reader L F B) (e : F) → goes_on r f ≡ Err e → (r ≡ Err e) ⊎ ((x : A × Input L) × (r ≡ Ok x) × (f x.0 x.1 ≡ Err e))
+  pub goes_on_err : {A B : Type 0} (r : Result (A × Input L) F) (f : A → Reader L F B) (e : F) → goes_on r f
+      ≡ Err e → (r ≡ Err e) ⊎ ((x : A × Input L) × (r ≡ Ok x) × (f x.0 x.1 ≡ Err e))
   goes_on_err (Ok x) f d e = inr (x, refl, e)
   goes_on_err (Err d) f c e = inl cc
 
-  pub ok_value : {A : Type 0} (x y : A) (i j : Input L) (e : (let r : Result (A × Input L) F = Ok (x, i) in r) ≡ Ok (y, j)) → (x ≡ y) × (i ≡ j)
+  pub ok_value : {A : Type 0} (x y : A) (i j : Input L) (e : (let r : Result (A × Input L) F = Ok (x, i) in
+      r) ≡ Ok (y, j)) → (x ≡ y) × (i ≡ j)
   ok_value x y i j e =
       let both : (x, i) ≡ (y, j) = cc in
       (ap (λ (p : _ × Input L). p.0) both, ap (λ (p : _ × Input L). p.1) both)
 
   -- the tokens are none, or one and others, and what the next one means
-  pub case_some : {A B : Type 0} (m : Meaning L A) (f : A → Reader L F B) (r : Reader L F B) (t : L) (a : A) (k : List L) (end : ℕ) → m t ≡ Some a → case_next m f r (at_end (t ∷ k) end) ≡ f a (at_end k end)
+  pub case_some : {A B : Type 0} (m : Meaning L A) (f : A → Reader L F B) (r : Reader L F B) (t : L) (a : A)
+      (k : List L) (end : ℕ) → m t ≡ Some a → case_next m f r (at_end (t ∷ k) end) ≡ f a (at_end k end)
   unfolding case_next
   case_some m f r t a k end e = ap (λ o. going o f r (at_end (t ∷ k) end)) e
 
-  pub case_none : {A B : Type 0} (m : Meaning L A) (f : A → Reader L F B) (r : Reader L F B) (i : Input L) → next_means m i ≡ None → case_next m f r i ≡ r i
+  pub case_none : {A B : Type 0} (m : Meaning L A) (f : A → Reader L F B) (r : Reader L F B) (i : Input L)
+      → next_means m i ≡ None → case_next m f r i ≡ r i
   unfolding case_next
   case_none m f r i e = ap (λ o. going o f r i) e
 
@@ -98,7 +116,8 @@ not_true : IsTrue false → ⊥
 not_true h = absurd cc
 
 module _ {L F : Type 0} {tells : Tells L F} where
-  pub reads_then : {A B : Type 0} {fuel : ℕ} {P P' : Phrase L A} {Q Q' : A → Phrase L B} {S T : List L → Type 0} {r : Reader L F A} {f : A → Reader L F B}
+  pub reads_then : {A B : Type 0} {fuel : ℕ} {P P' : Phrase L A} {Q Q' : A → Phrase L B} {S T : List L
+      → Type 0} {r : Reader L F A} {f : A → Reader L F B}
       → Reads tells fuel P P' S r → ((a : A) → Reads tells fuel (Q a) (Q' a) T (f a))
       → ((a : A) (t : List L) (y : B) (k : List L) → Q a t y → T k → S (t ++ k))
       → Reads tells fuel (then P Q) (then P' Q') T (r >>= f)
@@ -138,7 +157,18 @@ module _ {L F : Type 0} {tells : Tells L F} where
             rest = a.rest;
             parts = a.parts;
             there = a.there;
-            viable = (v.0 ++ w.0, w.1, (v.1, a.tokens ++ v.0, w.0, sym (append_assoc a.tokens v.0 w.0), v.2, w.2));
+            viable = (
+              v.0 ++ w.0,
+              w.1,
+              (
+                v.1,
+                a.tokens ++ v.0,
+                w.0,
+                sym (append_assoc a.tokens v.0 w.0),
+                v.2,
+                w.2,
+              ),
+            );
             same = λ k end g. ap (λ o. goes_on o f) (a.same k end g);
           }
       | inr x ↦
@@ -150,7 +180,18 @@ module _ {L F : Type 0} {tells : Tells L F} where
             rest = b.rest;
             parts = a.parts ∙ ap (λ l. a.tokens ++ l) b.parts ∙ sym (append_assoc a.tokens b.tokens b.rest);
             there = b.there ∙ ap (λ n. place_in tells b.rest n) (sym a.ends);
-            viable = (v.0, v.1, (x.0.0, a.tokens, b.tokens ++ v.0, append_assoc a.tokens b.tokens v.0, a.loose, v.2));
+            viable = (
+              v.0,
+              v.1,
+              (
+                x.0.0,
+                a.tokens,
+                b.tokens ++ v.0,
+                append_assoc a.tokens b.tokens v.0,
+                a.loose,
+                v.2,
+              ),
+            );
             same = λ k end h.
                 let alike = ap first b.parts ∙ first_behind b.tokens b.rest k h in
                 ap (λ l. goes_on (r (at_end l end)) f) (append_assoc a.tokens b.tokens k)
@@ -160,7 +201,8 @@ module _ {L F : Type 0} {tells : Tells L F} where
   }
 
   -- what follows doesn't matter to the first of two
-  pub reads_next : {A B : Type 0} {fuel : ℕ} {P P' : Phrase L A} {Q Q' : A → Phrase L B} {T : List L → Type 0} {r : Reader L F A} {f : A → Reader L F B}
+  pub reads_next : {A B : Type 0} {fuel : ℕ} {P P' : Phrase L A} {Q Q' : A → Phrase L B} {T : List L
+      → Type 0} {r : Reader L F A} {f : A → Reader L F B}
       → Reads tells fuel P P' Any r → ((a : A) → Reads tells fuel (Q a) (Q' a) T (f a))
       → Reads tells fuel (then P Q) (then P' Q') T (r >>= f)
   reads_next one two = reads_then one two (λ a t y k q s. tt)
@@ -183,7 +225,8 @@ module _ {L F : Type 0} {tells : Tells L F} where
     fails = λ i at e. absurd cc;
   }
 
-  pub reads_case : {A B : Type 0} {fuel : ℕ} {m : Meaning L A} {Q Q' : A → Phrase L B} {R R' : Phrase L B} {S : List L → Type 0} {f : A → Reader L F B} {r : Reader L F B}
+  pub reads_case : {A B : Type 0} {fuel : ℕ} {m : Meaning L A} {Q Q' : A → Phrase L B} {R R' : Phrase L B}
+      {S : List L → Type 0} {f : A → Reader L F B} {r : Reader L F B}
       → ((a : A) → Reads tells fuel (Q a) (Q' a) S (f a)) → Reads tells fuel R R' S r
       → ((t : List L) (y : B) (k : List L) → R t y → S k → meant_in m (t ++ k) ≡ None)
       → Reads tells fuel (then (phrases.one m) Q or R) (then (phrases.one m) Q' or R') S (case_next m f r)
@@ -197,11 +240,13 @@ module _ {L F : Type 0} {tells : Tells L F} where
           ap (λ l. case_next m f r (at_end (l ++ k) end)) whole ∙ case_some m f r u a (t ++ k) end means
           ∙ (two a).again t y k end (omega (arith, len, short)) q stop
       | inr x ↦ λ stop.
-          case_none m f r (at_end (tokens ++ k) end) (apart tokens y k x stop) ∙ other.again tokens y k end len x stop
+          case_none m f r (at_end (tokens ++ k) end) (apart tokens y k x stop)
+          ∙ other.again tokens y k end len x stop
     ];
     takes = λ i y j e. elim (cases_next m i) [
       | inl (t, a, k, is, means) ↦
-          let here : case_next m f r i ≡ f a (at_end k i.end) = ap (λ l. case_next m f r (at_end l i.end)) is ∙ case_some m f r t a k i.end means in
+          let here : case_next m f r i ≡ f a (at_end k i.end) = ap (λ l. case_next m f r (at_end l i.end)) is
+          ∙ case_some m f r t a k i.end means in
           let b = (two a).takes (at_end k i.end) y j (sym here ∙ e) in
           record {
             tokens = t ∷ b.tokens;
@@ -221,12 +266,14 @@ module _ {L F : Type 0} {tells : Tells L F} where
             loose = inr b.loose;
             same = λ l end h.
                 let alike = ap first b.parts ∙ first_behind b.tokens j.rest l h in
-                case_none m f r (at_end (b.tokens ++ l) end) (sym (meant_alike m i.rest (b.tokens ++ l) alike) ∙ none) ∙ b.same l end h;
+                case_none m f r (at_end (b.tokens ++ l) end)
+                (sym (meant_alike m i.rest (b.tokens ++ l) alike) ∙ none) ∙ b.same l end h;
           }
     ];
     fails = λ i at e. elim (cases_next m i) [
       | inl (t, a, k, is, means) ↦
-          let here : case_next m f r i ≡ f a (at_end k i.end) = ap (λ l. case_next m f r (at_end l i.end)) is ∙ case_some m f r t a k i.end means in
+          let here : case_next m f r i ≡ f a (at_end k i.end) = ap (λ l. case_next m f r (at_end l i.end)) is
+          ∙ case_some m f r t a k i.end means in
           let b = (two a).fails (at_end k i.end) at (sym here ∙ e) in
           let v = b.viable in
           record {
@@ -248,13 +295,15 @@ module _ {L F : Type 0} {tells : Tells L F} where
             viable = (v.0, v.1, inr v.2);
             same = λ l end h.
                 let alike = ap first b.parts ∙ first_behind b.tokens b.rest l h in
-                case_none m f r (at_end (b.tokens ++ l) end) (sym (meant_alike m i.rest (b.tokens ++ l) alike) ∙ none) ∙ b.same l end h;
+                case_none m f r (at_end (b.tokens ++ l) end)
+                (sym (meant_alike m i.rest (b.tokens ++ l) alike) ∙ none) ∙ b.same l end h;
           }
     ];
   }
 
   -- a test before what follows; where limits are passed over it holds
-  pub reads_holds : {B : Type 0} {fuel : ℕ} {Q Q' : Unit {0} → Phrase L B} {S : List L → Type 0} (f : Unit {0} → Reader L F B) (b b' : Bool) (fault : F)
+  pub reads_holds : {B : Type 0} {fuel : ℕ} {Q Q' : Unit {0} → Phrase L B} {S : List L → Type 0}
+      (f : Unit {0} → Reader L F B) (b b' : Bool) (fault : F)
       → ((at : ℕ) → fault ≡ tells.expected at → ⊥) → IsTrue b'
       → Reads tells fuel (Q tt) (Q' tt) S (f tt)
       → Reads tells fuel (then (where_true b) Q) (then (where_true b') Q') S (holds b fault >>= f)
@@ -296,7 +345,8 @@ module _ {L F : Type 0} {tells : Tells L F} where
 
   -- the same in other words
   pub reads_as : {A : Type 0} {fuel : ℕ} {P P' Q Q' : Phrase L A} {S T : List L → Type 0} {r : Reader L F A}
-      → Reads tells fuel P P' S r → ((l : List L) (x : A) → Q l x → P l x) → ((l : List L) (x : A) → P l x → Q l x)
+      → Reads tells fuel P P' S r → ((l : List L) (x : A) → Q l x → P l x) → ((l : List L) (x : A) → P l x
+      → Q l x)
       → ((l : List L) (x : A) → P' l x → Q' l x) → ((k : List L) → T k → S k) → Reads tells fuel Q Q' T r
   reads_as h back there loose stop = record {
     some = let v = h.some in (v.0, v.1, loose v.0 v.1 v.2);
@@ -325,31 +375,38 @@ module _ {L F : Type 0} {tells : Tells L F} where
   }
 
   -- the same before fewer tokens
-  pub reads_before : {A : Type 0} {fuel : ℕ} {P P' : Phrase L A} {S T : List L → Type 0} {r : Reader L F A} → Reads tells fuel P P' S r → ((k : List L) → T k → S k) → Reads tells fuel P P' T r
+  pub reads_before : {A : Type 0} {fuel : ℕ} {P P' : Phrase L A} {S T : List L → Type 0} {r : Reader L F A}
+      → Reads tells fuel P P' S r → ((k : List L) → T k → S k) → Reads tells fuel P P' T r
   reads_before h stop = reads_as h (λ l x p. p) (λ l x p. p) (λ l x p. p) stop
 
 module _ {L F : Type 0} {tells : Tells L F} (distinct : Distinct tells) where
-  not_err : {A : Type 0} (x : A) (j : Input L) (at : ℕ) → (let r : Result (A × Input L) F = Ok (x, j) in r) ≡ Err (tells.expected at) → ⊥
+  not_err : {A : Type 0} (x : A) (j : Input L) (at : ℕ) → (let r : Result (A × Input L) F = Ok (x, j) in r)
+      ≡ Err (tells.expected at) → ⊥
   not_err x j at e = absurd cc
 
   not_ok : {A : Type 0} (i : Input L) (x : A) (j : Input L) → expected tells i ≡ Ok (x, j) → ⊥
   not_ok i x j e = absurd cc
 
-  same_place : {A : Type 0} (i : Input L) (at : ℕ) → (let r : Result (A × Input L) F = Err (tells.expected (place tells i)) in r) ≡ Err (tells.expected at) → place tells i ≡ at
+  same_place : {A : Type 0} (i : Input L) (at : ℕ) → (let r : Result (A × Input L) F =
+      Err (tells.expected (place tells i)) in r) ≡ Err (tells.expected at) → place tells i ≡ at
   same_place i at e =
       let same : tells.expected (place tells i) ≡ tells.expected at = cc in
       distinct.once (place tells i) at same
 
   -- a token, of which there is one
-  pub reads_one : {A : Type 0} {fuel : ℕ} (m : Meaning L A) (t : L) (a : A) → m t ≡ Some a → Reads tells fuel (phrases.one m) (phrases.one m) Any (one tells m)
+  pub reads_one : {A : Type 0} {fuel : ℕ} (m : Meaning L A) (t : L) (a : A) → m t ≡ Some a
+      → Reads tells fuel (phrases.one m) (phrases.one m) Any (one tells m)
   unfolding one
   reads_one m t a example = record {
     some = (t ∷ [], a, (t, refl, example));
     again = λ tokens x k end len (u, is, means) stop.
-        ap (λ l. case_next m done (expected tells) (at_end (l ++ k) end)) is ∙ case_some m done (expected tells) u x k end means;
+        ap (λ l. case_next m done (expected tells) (at_end (l ++ k) end)) is
+        ∙ case_some m done (expected tells) u x k end means;
     takes = λ i x j e. elim (cases_next m i) [
       | inl (u, b, k, is, means) ↦
-          let here : case_next m done (expected tells) i ≡ Ok (b, at_end k i.end) = ap (λ l. case_next m done (expected tells) (at_end l i.end)) is ∙ case_some m done (expected tells) u b k i.end means in
+          let here : case_next m done (expected tells) i ≡ Ok (b, at_end k i.end) =
+          ap (λ l. case_next m done (expected tells) (at_end l i.end)) is
+          ∙ case_some m done (expected tells) u b k i.end means in
           let both = ok_value b x (at_end k i.end) j (sym here ∙ e) in
           let same : m u ≡ Some x = means ∙ ap (λ z. Some z) both.0 in
           record {
@@ -364,7 +421,9 @@ module _ {L F : Type 0} {tells : Tells L F} (distinct : Distinct tells) where
     ];
     fails = λ i at e. elim (cases_next m i) [
       | inl (u, b, k, is, means) ↦
-          let here : case_next m done (expected tells) i ≡ Ok (b, at_end k i.end) = ap (λ l. case_next m done (expected tells) (at_end l i.end)) is ∙ case_some m done (expected tells) u b k i.end means in
+          let here : case_next m done (expected tells) i ≡ Ok (b, at_end k i.end) =
+          ap (λ l. case_next m done (expected tells) (at_end l i.end)) is
+          ∙ case_some m done (expected tells) u b k i.end means in
           absurd (not_err b (at_end k i.end) at (sym here ∙ e))
       | inr none ↦
           record {
@@ -373,13 +432,15 @@ module _ {L F : Type 0} {tells : Tells L F} (distinct : Distinct tells) where
             parts = refl;
             there = sym (same_place i at (sym (case_none m done (expected tells) i none) ∙ e));
             viable = (t ∷ [], a, (t, refl, example));
-            same = λ l end h. case_none m done (expected tells) (at_end l end) (sym (meant_alike m i.rest l h) ∙ none);
+            same = λ l end h. case_none m done (expected tells) (at_end l end)
+                (sym (meant_alike m i.rest l h) ∙ none);
           }
     ];
   }
 
   -- what nothing spells, where a text could go on
-  pub reads_none : {A : Type 0} {fuel : ℕ} {P' : Phrase L A} → ((tokens : List L) × (x : A) × P' tokens x) → Reads tells fuel phrases.nothing P' Any (expected tells)
+  pub reads_none : {A : Type 0} {fuel : ℕ} {P' : Phrase L A} → ((tokens : List L) × (x : A) × P' tokens x)
+      → Reads tells fuel phrases.nothing P' Any (expected tells)
   reads_none some = record {
     some = some;
     again = λ tokens x k end len p stop. absurd p;

@@ -72,7 +72,8 @@ module _ {L F : Type 0} (tells : Tells L F) where
   one meaning = case_next meaning done expected
 
   -- items, as long as the next token begins one; as many as the first number at most
-  unfoldable pub many : {S A B : Type 0} → ℕ → Meaning L B → (S → A → S) → (S → Reader L F A) → S → Reader L F (List A)
+  unfoldable pub many : {S A B : Type 0} → ℕ → Meaning L B → (S → A → S) → (S → Reader L F A) → S
+      → Reader L F (List A)
   many zero begins next r s i =
       if is_there (next_means begins i) then Err (tells.too_many (place i)) else Ok ([], i)
   many (suc fuel) begins next r s i =

@@ -5,7 +5,7 @@ mod Exprs
 mod Stmts
 mod Modules
 mod Loosely
-mod Whole
+pub mod Whole
 mod Blamed
-mod Stops
-mod Fits
+pub mod Stops
+pub mod Fits
