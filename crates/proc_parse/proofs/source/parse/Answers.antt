@@ -1,4 +1,6 @@
-use Rattle.std.proofs.Common.{◌≡◌, ◌∙◌, sym, ap, subst, length, arith, Ok, Err, inl, inr}
+use Rattle.std.proofs.Common.{◌≡◌, ◌∙◌, ◌≤◌, sym, ap, subst, List, length, arith, Ok, Err, inl, inr}
+use Rattle.text_scan.specs.declared.token.Token.{Token}
+use Rattle.text_scan.specs.Grammar.{HasTokens}
 use Rattle.proc_grammar.specs.Fault.{AnswersAs}
 use Rattle.proc_grammar.specs.Lexemes.{lexemes}
 use Rattle.proc_grammar.specs.PlainTrees.{plain_trees}
@@ -14,8 +16,8 @@ returns c =
     let tokens = c.in_ok-tokens.tokens.items in
     let read = subst (λ l. AnswersAs (λ m. m) c.parse_scanned.result (parsed plain_trees full (lexemes text l) (length text))) c.as_slice.ensures.value c.parse_scanned.ensures in
     let has = c.in_ok-tokens.ensures.found in
-    let short = grind (arith, full_is, c.in_ok-tokens.tokens.ok, c.in_ok-tokens.tokens.small) in
-    let one = λ others there. elim (c.in_ok-tokens.ensures.only others there) [ inl e ↦ e | inr e ↦ absurd cc ] in
+    let short : length tokens ≤ full = grind (arith, full_is, c.in_ok-tokens.tokens.ok, c.in_ok-tokens.tokens.small) in
+    let one : (others : List Token) → HasTokens text others → tokens ≡ others = λ others there. elim (c.in_ok-tokens.ensures.only others there) [ inl e ↦ e | inr e ↦ absurd cc ] in
     record {
       exact = subst (λ r. AnswersAs (λ m. m) c.parse_scanned.result r) (ap (parsed_scan text) (sym c.in_ok-tokens.ensures.exact)) read;
       found = answer_found text tokens has short c.parse_scanned.result read;
