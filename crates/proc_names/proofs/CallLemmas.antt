@@ -34,8 +34,14 @@ mutual
   length_stmt (if_then at c b) =
       omega (arith, length-append (closed c) (block_closed b), length_closed c, length_block b)
   length_stmt (if_else at c b d) =
-      omega (arith, length-append (closed c) (block_closed b ++ block_closed d),
-        length-append (block_closed b) (block_closed d), length_closed c, length_block b, length_block d)
+      omega (
+        arith,
+        length-append (closed c) (block_closed b ++ block_closed d),
+        length-append (block_closed b) (block_closed d),
+        length_closed c,
+        length_block b,
+        length_block d,
+      )
   length_stmt (while at c b) =
       omega (arith, length-append (closed c) (block_closed b), length_closed c, length_block b)
   length_stmt (return at e) = length_closed e
@@ -51,8 +57,13 @@ length_procs : (ps : List Proc)
 length_procs [] = refl
 length_procs (p ∷ ps) =
     let rest = flat_map (λ q. block_closed (block_of q.body)) ps in
-    omega (arith, length-append (block_closed (block_of p.body)) rest, length_block (block_of p.body),
-      length_procs ps, sum_by-cons proc_calls p ps)
+    omega (
+      arith,
+      length-append (block_closed (block_of p.body)) rest,
+      length_block (block_of p.body),
+      length_procs ps,
+      sum_by-cons proc_calls p ps,
+    )
 
 pub counted : (m : ModuleFields) → length (module_closed m) ≡ module_calls m
 counted m = length_procs m.procs

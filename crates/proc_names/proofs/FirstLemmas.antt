@@ -118,7 +118,7 @@ module _ (g : NameFault) (fs : List NameFault) (f : NameFault) where
       subst (IsFirst (g ∷ fs)) is (record {
         one = Contains-here g fs;
         least = All-cons (λ h. IsTrue (comes_first g h)) g fs (first_self g)
-          (all_behind g k fs c before.least);
+            (all_behind g k fs c before.least);
       })
   chosen k before false c is =
       subst (IsFirst (g ∷ fs)) is (record {

@@ -21,8 +21,8 @@ loop-item-preserved g c =
     let found = c.loop-item.found in
     let here : Name → List NameFault = λ n. unless (not (same x n)) (Twice n.at) in
     ap (λ f. earlier f (first (again x (map name_of (drop (i + 1) items)))))
-      (c.earlier-found.ensures
-      ∙ ap (earlier found) (c.met.ensures ∙ ap (λ n. first (here n)) c.name.ensures))
+    (c.earlier-found.ensures
+    ∙ ap (earlier found) (c.met.ensures ∙ ap (λ n. first (here n)) c.name.ensures))
     ∙ first_step found (here (name_of y)) (again x (map name_of (drop (i + 1) items)))
     ∙ ap (λ ys. earlier found (first (again x (map name_of ys)))) (sym next)
     ∙ c.loop-item.invariant

@@ -19,13 +19,13 @@ block_fault-loop-s-preserved t c =
     record {
       told =
           ap (λ f. earlier f (first (block_faults m p (block_of (drop (i + 1) stmts)))))
-            (c.earlier-found.ensures ∙ ap (earlier found) c.stmt_fault.ensures)
+          (c.earlier-found.ensures ∙ ap (earlier found) c.stmt_fault.ensures)
           ∙ first_step found (stmt_faults m p s) (block_faults m p (block_of (drop (i + 1) stmts)))
           ∙ ap (λ ss. earlier found (first (block_faults m p (block_of ss)))) (sym next)
           ∙ c.loop-s.invariant.told;
       smaller =
           let whole = block_size (block_of stmts) in
           let h : block_size (block_of (s ∷ drop (i + 1) stmts)) ≤ whole =
-                subst (λ ss. block_size (block_of ss) ≤ whole) next c.loop-s.invariant.smaller in
+          subst (λ ss. block_size (block_of ss) ≤ whole) next c.loop-s.invariant.smaller in
           omega (arith, h);
     }

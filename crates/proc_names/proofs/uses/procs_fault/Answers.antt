@@ -14,7 +14,7 @@ loop-p-preserved c =
     let next = drop_item procs i p c.loop-p-test.true c.p-item.is in
     let found = c.loop-p.found in
     ap (λ f. earlier f (first (procs_faults m (drop (i + 1) procs))))
-      (c.earlier-found.ensures ∙ ap (earlier found) c.proc_fault.ensures)
+    (c.earlier-found.ensures ∙ ap (earlier found) c.proc_fault.ensures)
     ∙ first_step found (proc_faults m p) (procs_faults m (drop (i + 1) procs))
     ∙ ap (λ ps. earlier found (first (procs_faults m ps))) (sym next)
     ∙ c.loop-p.invariant
