@@ -1,0 +1,9 @@
+pub mod Tree
+pub mod Words
+pub mod Codes
+pub mod View
+pub mod Deep
+pub mod StmtView
+pub mod StmtDeep
+pub mod Limits
+pub mod Unplaced

@@ -1,0 +1,4 @@
+mod NeedLemmas
+mod FirstLemmas
+mod TwiceLemmas
+mod CallLemmas

@@ -1,0 +1,14 @@
+use Rattle.std.proofs.Common.{◌≡◌, ◌++◌, map, length}
+use Rattle.proc_names.specs.Faults.{first, earlier}
+use Rattle.proc_names.specs.NameFaults.{twice}
+use Rattle.proc_names.proofs.repeats.twice_in_two.Given as goal
+
+abbrev pub invariant-loop-item : goal.invariant-loop-item
+invariant-loop-item g l =
+    let others = map g.U.Named.name_of l.others in
+    let name_of = g.T.Named.name_of in
+    earlier l.found (first (twice (map name_of l.rest ++ others)))
+    ≡ first (twice (map name_of l.fn.items ++ others))
+
+abbrev pub decreases-loop-item : goal.decreases-loop-item
+decreases-loop-item g l = length l.rest
