@@ -1,6 +1,6 @@
 -- Readers of tokens from left to right, up to the first fault. Tokens L and faults F may be of any kind.
 use Rattle.std.specs.Prelude.{ℕ, zero, suc, Bool, true, false, if◌then◌else◌, List, [], ◌∷◌}
-use Rattle.std.specs.Prelude.{Option, Some, None, Result, Ok, Err}
+use Rattle.std.specs.Prelude.{Option, Some, None, Ok, Err}
 use Rattle.readers.specs.Readers as readers
 use Rattle.readers.specs.Readers.{◌>>=◌, done}
 use Rattle.phrases.specs.Phrase.{Meaning}

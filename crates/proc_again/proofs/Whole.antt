@@ -1,5 +1,6 @@
 -- What is printed is read again.
-use Rattle.std.proofs.Common.{◌≡◌, ℕ, zero, suc, ◌<◌, ◌≤◌, ◌+◌, ◌^◌, List, [], ◌∷◌, length, Option, Some, None, Result, Ok, Err, ap, sym, ◌∙◌, arith, inl, inr}
+use Rattle.std.proofs.Common.{◌≡◌, ℕ, zero, suc, ◌<◌, ◌≤◌, ◌+◌, ◌^◌, List, [], ◌∷◌, length, Option, Some}
+use Rattle.std.proofs.Common.{None, Result, Ok, Err, ap, sym, ◌∙◌, arith, inl, inr}
 use Rattle.std.specs.Prelude.{IfSome, ℤ, pos, negsuc}
 use Rattle.std.specs.Int.{w64}
 use Rattle.std.specs.Int.RustNames.{FitsSigned}
@@ -42,14 +43,22 @@ procs [] a b = tt
 procs (p ∷ ps) a b = (record { fits = a.0; shallow = b.0 }, procs ps a.1 b.1)
 
 -- the text has as many tokens as read_again needs, at most
-pub read_again : (m : ModuleFields) → ((text : List ℕ) (tokens : List Token) → scanned text ≡ Ok tokens → HasTokens text tokens)
-    → ((text : List ℕ) (tokens : List Token) → HasTokens text tokens → length (lexemes text tokens) ≤ length text)
+pub read_again : (m : ModuleFields) → ((text : List ℕ) (tokens : List Token) → scanned text ≡ Ok tokens
+    → HasTokens text tokens)
+    → ((text : List ℕ) (tokens : List Token) → HasTokens text tokens
+    → length (lexemes text tokens) ≤ length text)
     → length (printed m) ≤ full → ReadAgain m
 read_again m has few small fits short shallow =
     let all = initials m.globals fits.globals.1 in
     let s = text_scanned (module_pieces m) (module_sound m fits all) short in
     let there = has (printed m) s.tokens s.read in
-    let deep = shallow_module m (of_tokens (lexemes (printed m) s.tokens) (module_pieces m) 0 s.are (shallow s.tokens there)) in
-    let (x, is, alike) = (module_again m fits all (procs m.procs fits.procs.1 deep)).again (lexemes (printed m) s.tokens) s.are in
-    let least = few (printed m) s.tokens there in
-    (x, ap (parsed_scan (printed m)) s.read ∙ only plain_trees full (lexemes (printed m) s.tokens) (length (printed m)) x (omega (arith, least, small)) is, alike)
+    let deep = shallow_module m (of_tokens (lexemes (printed m) s.tokens) (module_pieces m) 0 s.are
+    (shallow s.tokens there)) in
+    let (x, is, alike) = (module_again m fits all (procs m.procs fits.procs.1 deep)).again
+    (lexemes (printed m) s.tokens) s.are in
+    let least = few (printed m) s.tokens there in (
+      x,
+      ap (parsed_scan (printed m)) s.read ∙ only plain_trees full (lexemes (printed m) s.tokens)
+          (length (printed m)) x (omega (arith, least, small)) is,
+      alike,
+    )

@@ -17,12 +17,17 @@ pub as_module-requires : goal.as_module-requires
 as_module-requires c =
     let text = c.args.text.now in
     let same = c.as_slice.ensures.value ∙ c.in_ok-tokens.ensures in
-    let read = subst (λ r. AnswersAs (λ m. m) c.parse_tokens.result r) (ap (λ l. parsed plain_trees full l (length text)) (ap (map (seen text)) same ∙ lexemes_are text c.args.tokens.now)) c.parse_tokens.ensures in
+    let read = subst (λ r. AnswersAs (λ m. m) c.parse_tokens.result r)
+    (ap (λ l. parsed plain_trees full l (length text)) (ap (map (seen text)) same
+    ∙ lexemes_are text c.args.tokens.now)) c.parse_tokens.ensures in
     answer_module text c.args.tokens.now c.parse_tokens.result read c.requires.spelled
 
 pub returns : goal.returns
 returns c =
     let text = c.args.text.now in
     let same = c.as_slice.ensures.value ∙ c.in_ok-tokens.ensures in
-    let fields = subst (λ r. AnswersAs (λ m. m) c.parse_tokens.result r) (ap (λ l. parsed plain_trees full l (length text)) (ap (map (seen text)) same ∙ lexemes_are text c.args.tokens.now)) c.parse_tokens.ensures in
-    subst (λ q. AnswersAs (λ m. m) q (parsed plain_trees full (lexemes text c.args.tokens.now) (length text))) (sym c.as_module.ensures) fields
+    let fields = subst (λ r. AnswersAs (λ m. m) c.parse_tokens.result r)
+    (ap (λ l. parsed plain_trees full l (length text)) (ap (map (seen text)) same
+    ∙ lexemes_are text c.args.tokens.now)) c.parse_tokens.ensures in
+    subst (λ q. AnswersAs (λ m. m) q (parsed plain_trees full (lexemes text c.args.tokens.now)
+    (length text))) (sym c.as_module.ensures) fields
