@@ -3,10 +3,10 @@ use Rattle.std.proofs.Common.{◌≡◌, Bool, true, false, ℕ, zero, suc, ◌+
 use Rattle.std.proofs.Common.{◌∷◌, ◌++◌, length, Option, Some, Result, Ok, Err, refl, sym, ap, subst}
 use Rattle.std.proofs.Common.{◌∙◌, append_assoc, arith, length-append, append-nil}
 use Rattle.std.specs.Prelude.{IsTrue}
-use Rattle.readers.specs.Readers.{◌>>=◌, done}
+use Rattle.readers.specs.Readers.{◌>>=◌, done, holds}
 use Rattle.phrases.specs.Phrase as phrases
 use Rattle.phrases.specs.Phrase.{Meaning, Phrase, then, only, where_true, ◌or◌}
-use Rattle.phrases.specs.Reading.{Input, Tells, Reader, holds}
+use Rattle.phrases.specs.Reading.{Input, Tells, Reader}
 use Rattle.phrases.specs.Reading.{next_means, place, case_next, expected, one, is_there, many}
 use Rattle.phrases.proofs.Readers.{at_end, goes_on_ok, goes_on_err, ok_value, cases_next, case_some}
 use Rattle.phrases.proofs.Readers.{case_none}

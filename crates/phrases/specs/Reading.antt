@@ -24,11 +24,6 @@ abbrev pub first : {L : Type 0} → List L → Option L
 first [] = None
 first (t ∷ rest) = Some t
 
--- a test that has to hold
-abbrev pub holds : {L F : Type 0} → Bool → F → Reader L F (Unit {0})
-holds true fault i = Ok (tt, i)
-holds false fault i = Err fault
-
 -- what the next token means
 abbrev pub meant_in : {L A : Type 0} → Meaning L A → List L → Option A
 meant_in meaning [] = None

@@ -9,8 +9,8 @@ use Rattle.proc_language.specs.declared.tree.Name.{Name}
 use Rattle.proc_language.specs.declared.tree.Op.{Op}
 use Rattle.proc_language.specs.declared.module.Import.{Import}
 use Rattle.proc_language.specs.declared.module.Global.{Global}
-use Rattle.readers.specs.Readers.{◌>>=◌, done}
-use Rattle.phrases.specs.Reading.{holds, case_next}
+use Rattle.readers.specs.Readers.{◌>>=◌, done, holds}
+use Rattle.phrases.specs.Reading.{case_next}
 use Rattle.proc_grammar.specs.declared.header.Header.{Header}
 use Rattle.proc_grammar.specs.Makes.{Makes}
 use Rattle.proc_grammar.specs.Lexemes.{Lexeme, Numeral, word, a_name, a_number, sign, a_start, a_proc}

@@ -1,5 +1,5 @@
 -- Reading from left to right: a reader takes something from the front of an input, or says what is wrong with it.
-use Rattle.std.specs.Prelude.{Result, Ok, Err}
+use Rattle.std.specs.Prelude.{Bool, true, false, Result, Ok, Err}
 
 -- what is read and what is left, or what is wrong; of inputs I and faults F
 abbrev pub Reader : Type 0 → Type 0 → Type 0 → Type 0
@@ -17,3 +17,8 @@ abbrev pub ◌>>=◌ : {I F A B : Type 0} → Reader I F A → (A → Reader I F
 -- the value itself, with nothing read
 abbrev pub done : {I F A : Type 0} → A → Reader I F A
 done x i = Ok (x, i)
+
+-- a test that has to hold here
+abbrev pub holds : {I F : Type 0} → Bool → F → Reader I F (Unit {0})
+holds true fault i = Ok (tt, i)
+holds false fault i = Err fault
