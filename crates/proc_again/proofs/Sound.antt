@@ -7,7 +7,7 @@ use Rattle.std.proofs.lemmas.Bool.{and_parts}
 use Rattle.std.proofs.lemmas.Bool.Decides.{nat_tests}
 use Rattle.text_scan.specs.declared.token.TokenKind.TheVariants.{Name as NameKind, Number, Sign, Equal}
 use Rattle.text_scan.specs.Bytes.{is_name_start, is_name_byte, is_sign}
-use Rattle.text_scan.specs.Tokens.{first_of, piece_at}
+use Rattle.text_scan.specs.Tokens.{piece_at}
 use Rattle.text_scan.specs.Grammar.{IsName}
 use Rattle.text_scan.proofs.Printed.{Form, Shows, shows_nothing, shows_token, shows_blank, shows_name}
 use Rattle.text_scan.proofs.Printed.{shows_number, IsLineByte, IsInLine, name_field, number_field}

@@ -16,7 +16,7 @@ use Rattle.proc_grammar.specs.Grammar.{Phrase}
 use Rattle.proc_grammar.specs.Grammar.{expr, set_part, set_at_part, calls_part, target_part, name_stmt, block}
 use Rattle.proc_grammar.specs.Grammar.{if_stmt, while_stmt, return_stmt, halt_stmt, stmt as a_stmt}
 use Rattle.proc_grammar.specs.Grammar.{stmts_with, stmts}
-use Rattle.proc_print.specs.Printed.{sign as a_sign, within, in_curly, expr_pieces, args_pieces, stmt_pieces}
+use Rattle.proc_print.specs.Printed.{sign as a_sign, within, in_curly, expr_pieces, stmt_pieces}
 use Rattle.proc_print.specs.Printed.{block_pieces}
 use Rattle.proc_again.specs.Written.{Again}
 use Rattle.proc_again.proofs.Steps.{step, done, test, good, left, right, at, no_items, item}

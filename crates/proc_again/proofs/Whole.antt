@@ -1,24 +1,23 @@
 -- What is printed is read again.
-use Rattle.std.proofs.Common.{◌≡◌, ℕ, zero, suc, ◌<◌, ◌≤◌, ◌+◌, ◌^◌, List, [], ◌∷◌, length, Option, Some}
-use Rattle.std.proofs.Common.{None, Result, Ok, Err, ap, sym, ◌∙◌, arith, inl, inr}
+use Rattle.std.proofs.Common.{◌≡◌, ℕ, ◌≤◌, List, [], ◌∷◌, length, Option, Some}
+use Rattle.std.proofs.Common.{None, Ok, ap, ◌∙◌, arith}
 use Rattle.std.specs.Prelude.{IfSome, ℤ, pos, negsuc}
 use Rattle.std.specs.Int.{w64}
 use Rattle.std.specs.Int.RustNames.{FitsSigned}
 use Rattle.text_scan.specs.declared.token.Token.{Token}
-use Rattle.text_scan.specs.declared.fault.ScanFault.{ScanFault}
 use Rattle.text_scan.specs.Tokens.{scanned}
 use Rattle.text_scan.specs.Grammar.{HasTokens}
 use Rattle.proc_language.specs.declared.module.Global.{Global}
 use Rattle.proc_language.specs.declared.module.Proc.{Proc}
 use Rattle.proc_language.specs.declared.module.ModuleFields.{ModuleFields}
-use Rattle.proc_language.specs.Limits.{Each, GlobalFits, ProcFits, IsModule}
+use Rattle.proc_language.specs.Limits.{Each, GlobalFits, ProcFits}
 use Rattle.proc_grammar.specs.Lexemes.{lexemes}
 use Rattle.proc_grammar.specs.PlainTrees.{plain_trees}
-use Rattle.proc_grammar.specs.Reading.{full, parsed}
+use Rattle.proc_grammar.specs.Reading.{full}
 use Rattle.proc_grammar.proofs.Whole.{only}
 use Rattle.proc_parse.specs.Text.{parsed_scan}
 use Rattle.proc_print.specs.Printed.{printed, module_pieces}
-use Rattle.proc_again.specs.Reprint.{ReadAgain, HasShortLines, IsShallowText}
+use Rattle.proc_again.specs.Reprint.{ReadAgain}
 use Rattle.proc_again.proofs.Items.{InitialFits, ProcAgain}
 use Rattle.proc_again.proofs.Leaves.{IntegerFits}
 use Rattle.proc_again.proofs.Modules.{module_again}

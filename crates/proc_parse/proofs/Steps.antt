@@ -1,5 +1,5 @@
 -- One item more, in loops that read lists.
-use Rattle.std.proofs.Common.{◌≡◌, Bool, true, false, cond, ℕ, zero, suc, ◌+◌, ◌-◌, ◌≤◌, ◌<◌, ◌^◌, List, []}
+use Rattle.std.proofs.Common.{◌≡◌, Bool, true, false, ℕ, zero, suc, ◌+◌, ◌-◌, ◌≤◌, ◌<◌, ◌^◌, List, []}
 use Rattle.std.proofs.Common.{◌∷◌, ◌++◌, length, Option, Some, None, Result, Ok, Err, refl, sym, ap, subst}
 use Rattle.std.proofs.Common.{◌∙◌, append_assoc, arith, length-append, append-nil}
 use Rattle.std.specs.Prelude.{nat_lt, codes}
@@ -20,11 +20,11 @@ use Rattle.phrases.proofs.Repeats.{many_stop, many_go, more_behind}
 use Rattle.proc_grammar.specs.declared.fault.ParseFault.{ParseFault}
 use Rattle.proc_grammar.specs.declared.fault.ParseFault.TheVariants.{Scan, Expected, Range, TooMany, NoMemory}
 use Rattle.proc_grammar.specs.Fault.{Fails}
-use Rattle.proc_grammar.specs.Lexemes.{Lexeme, Meaning, adding, sign, comma, square, round, end_round, a_proc}
+use Rattle.proc_grammar.specs.Lexemes.{Meaning, adding, sign, comma, square, round, end_round, a_proc}
 use Rattle.proc_grammar.specs.Lexemes.{word}
 use Rattle.proc_grammar.specs.Grammar.{one_more, operated, sum_of, room_in_body}
 use Rattle.proc_grammar.specs.PlainTrees.{plain_trees, registers_of}
-use Rattle.proc_grammar.specs.Reader.{Input, Reader, tells, many, one, expected, place}
+use Rattle.proc_grammar.specs.Reader.{Input, Reader, tells, many, one, expected}
 use Rattle.proc_grammar.specs.Reading.{full, another_term, next_term, inner_expr, next_expr, expr_with}
 use Rattle.proc_grammar.specs.Reading.{next_index, next_args, behind_name, of_index, of_call, next_stmts}
 use Rattle.proc_grammar.specs.Reading.{stmts_with, inner_stmts, next_proc, next_module, next_header}

@@ -1,4 +1,4 @@
-use Rattle.std.proofs.Common.{◌≡◌, ◌≤◌, length, arith}
+use Rattle.std.proofs.Common.{◌≤◌, length, arith}
 use Rattle.proc_grammar.specs.Reading.{full}
 use Rattle.proc_print.specs.Printed.{printed}
 use Rattle.proc_parse.proofs.Steps.{full_is}

@@ -1,12 +1,10 @@
-use Rattle.std.proofs.Common.{◌≡◌, ◌∙◌, sym, ap, subst, arith, true, Ok, Err, length, ◌+◌, ◌-◌, suc, refl}
-use Rattle.std.proofs.Common.{List, [], ◌∷◌, ◌++◌, length-append}
+use Rattle.std.proofs.Common.{◌≡◌, ◌∙◌, sym, ap, subst, arith, true, Ok, length, ◌+◌, ◌-◌}
+use Rattle.std.proofs.Common.{[], ◌∷◌, ◌++◌, length-append}
 use Rattle.std.proofs.lemmas.Result.{err_from_is_err_and}
-use Rattle.proc_grammar.specs.Fault.{Fails}
 use Rattle.proc_grammar.specs.PlainTrees.{plain_trees, registers_of}
 use Rattle.proc_grammar.specs.Reading.{full, inner_expr, another_arg, next_arg, some_args}
-use Rattle.proc_grammar.specs.Lexemes.{sign, comma}
 use Rattle.proc_parse.specs.Answers.{Gives}
-use Rattle.proc_parse.specs.Loops.{terms_behind, args_behind}
+use Rattle.proc_parse.specs.Loops.{terms_behind}
 use Rattle.proc_parse.proofs.Steps.{large, inner_is, terms_end, terms_step, terms_fault, commas_step}
 use Rattle.proc_parse.proofs.Steps.{commas_fault, commas_begin, commas_end, listed_go, listed_bad}
 use Rattle.proc_parse.proofs.Steps.{listed_open, name_index, name_call, name_call_bad, one_more_register}

@@ -1,5 +1,4 @@
-use Rattle.std.proofs.Common.{◌≡◌, sym, ◌∙◌, Ok, List}
-use Rattle.text_scan.specs.declared.token.Token.{Token}
+use Rattle.std.proofs.Common.{sym, ◌∙◌}
 use Rattle.proc_parse.proofs.Texts.{ok_tokens, one_module_spelled, spelled_module}
 use Rattle.proc_parse.proofs.laws.texts_spell_modules.Goals as goal
 

@@ -1,11 +1,10 @@
-use Rattle.std.proofs.Common.{◌≡◌, ◌∙◌, sym, ap, subst, arith, true, Ok, length, ◌+◌, ◌-◌, [], ◌∷◌, ◌++◌}
-use Rattle.std.proofs.Common.{length-append}
+use Rattle.std.proofs.Common.{true}
 use Rattle.std.proofs.lemmas.Result.{err_from_is_err_and}
 use Rattle.proc_language.specs.Limits.{param_registers}
 use Rattle.proc_grammar.specs.PlainTrees.{plain_trees}
 use Rattle.proc_grammar.specs.Reading.{full, another_param, next_param, some_params}
-use Rattle.proc_parse.proofs.Steps.{large, commas_begin, commas_step, commas_fault, commas_end, listed_go}
-use Rattle.proc_parse.proofs.Steps.{listed_bad, listed_open, some_register}
+use Rattle.proc_parse.proofs.Steps.{listed_go}
+use Rattle.proc_parse.proofs.Steps.{listed_bad, listed_open}
 use Rattle.proc_parse.proofs.procs.some_params.Goals as goal
 
 pub returns-in_err-params : goal.returns-in_err-params

@@ -1,10 +1,9 @@
-use Rattle.std.proofs.Common.{◌≡◌, ◌∙◌, sym, ap, subst, map, length}
+use Rattle.std.proofs.Common.{◌∙◌, sym, ap, subst, map, length}
 use Rattle.proc_grammar.specs.Fault.{AnswersAs}
 use Rattle.proc_grammar.specs.Lexemes.{seen, lexemes}
 use Rattle.proc_grammar.specs.PlainTrees.{plain_trees}
 use Rattle.proc_grammar.specs.Reading.{full, parsed}
 use Rattle.proc_parse.specs.Answers.{InText}
-use Rattle.proc_parse.specs.Text.{proper}
 use Rattle.proc_parse.proofs.Texts.{lexemes_are, in_text, answer_module}
 use Rattle.proc_parse.proofs.source.parse_scanned.Goals as goal
 

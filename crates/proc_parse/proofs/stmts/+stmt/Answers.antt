@@ -1,7 +1,5 @@
-use Rattle.std.proofs.Common.{◌≡◌, ◌∙◌, ◌<◌, sym, ap, subst, arith, Ok, true, length, ◌∷◌, [], length-append}
-use Rattle.std.proofs.Common.{List}
+use Rattle.std.proofs.Common.{◌∙◌, ◌<◌, sym, ap, subst, arith, true, length, ◌∷◌, [], length-append}
 use Rattle.std.proofs.lemmas.Result.{err_from_is_err_and}
-use Rattle.proc_language.specs.Tree.{Stmt}
 use Rattle.proc_grammar.specs.PlainTrees.{plain_trees}
 use Rattle.proc_grammar.specs.Reading.{full, next_stmt, inner_stmts, stmts_with}
 use Rattle.proc_grammar.specs.Lexemes.{a_start}
