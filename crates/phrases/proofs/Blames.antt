@@ -1,13 +1,13 @@
 -- Where the faults of a reader stand: behind tokens with which a text can begin, or at such a token.
-use Rattle.std.proofs.Common.{◌≡◌, Bool, true, false, cond, ℕ, zero, suc, ◌+◌, ◌≤◌, inl, inr, ◌⊎◌, List, []}
-use Rattle.std.proofs.Common.{◌∷◌, ◌++◌, length, Option, Some, None, Result, Ok, Err, refl, sym, ap, subst}
+use Rattle.std.proofs.Common.{◌≡◌, Bool, true, false, ℕ, zero, suc, ◌+◌, ◌≤◌, inl, inr, ◌⊎◌, List, []}
+use Rattle.std.proofs.Common.{◌∷◌, ◌++◌, length, Option, Some, Result, Ok, Err, refl, sym, ap, subst}
 use Rattle.std.proofs.Common.{◌∙◌, append_assoc, arith, length-append, append-nil}
 use Rattle.std.specs.Prelude.{IsTrue}
-use Rattle.readers.specs.Readers.{goes_on, ◌>>=◌, done}
+use Rattle.readers.specs.Readers.{◌>>=◌, done, holds}
 use Rattle.phrases.specs.Phrase as phrases
 use Rattle.phrases.specs.Phrase.{Meaning, Phrase, then, only, where_true, ◌or◌}
-use Rattle.phrases.specs.Reading.{Input, Tells, place_in, Reader, first, holds, meant_in, behind_in}
-use Rattle.phrases.specs.Reading.{next_means, place, behind, going, case_next, expected, one, is_there, many}
+use Rattle.phrases.specs.Reading.{Input, Tells, Reader}
+use Rattle.phrases.specs.Reading.{next_means, place, case_next, expected, one, is_there, many}
 use Rattle.phrases.proofs.Readers.{at_end, goes_on_ok, goes_on_err, ok_value, cases_next, case_some}
 use Rattle.phrases.proofs.Readers.{case_none}
 use Rattle.phrases.proofs.Repeats.{Begins, Ends, cases_bool, ok_not_err, err_not_ok, many_stop, many_out}
@@ -595,7 +595,8 @@ module _ {L F : Type 0} {tells : Tells L F} {limit : F → Option ℕ} {fuel : �
             | inr x ↦
                 let a = (items s).takes i x.0.0 x.0.1 x.1 in
                 let some = full s a.tokens x.0.0 a.loose in
-                elim (many_blames n (next s x.0.0) x.0.1 e (shorter i.rest a.tokens x.0.1.rest fuel a.parts len)
+                elim (many_blames n (next s x.0.0) x.0.1 e
+                (shorter i.rest a.tokens x.0.1.rest fuel a.parts len)
                 (fewer i.rest a.tokens x.0.1.rest n a.parts some fits)
                 (many_worse tells begins next r n s x.0.0 x.0.1 e x.2)) [
                   | inl b ↦ inl b

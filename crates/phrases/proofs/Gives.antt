@@ -1,8 +1,8 @@
 -- What holds of all that a phrase spells, put together as phrases are.
-use Rattle.std.proofs.Common.{◌≡◌, Bool, true, ℕ, suc, ◌+◌, ◌≤◌, ◌<◌, List, [], ◌∷◌, ◌++◌, length, Some}
-use Rattle.std.proofs.Common.{subst, inl, inr, arith}
+use Rattle.std.proofs.Common.{◌≡◌, Bool, true, List, [], ◌∷◌, ◌++◌, Some}
+use Rattle.std.proofs.Common.{subst, inl, inr}
 use Rattle.std.specs.Prelude.{All}
-use Rattle.std.proofs.lemmas.List.Elements.{All-cons, All-nil}
+use Rattle.std.proofs.lemmas.List.Elements.{All-cons, All-head, All-nil, All-tail}
 use Rattle.phrases.specs.Phrase.{Meaning, Phrase, then, only, one, ◌or◌, where_true, nothing, many}
 
 -- it holds of what proper tokens spell
@@ -10,19 +10,14 @@ pub record Gives {L A : Type 0} (Proper : L → Type 0) (p : Phrase L A) (G : A 
   pub each : (tokens : List L) (x : A) → All Proper tokens → p tokens x → G x
 
 module _ {L : Type 0} (Proper : L → Type 0) where
-  all_head : (t : L) (s : List L) → All Proper (t ∷ s) → Proper t
-  all_head t s h = h 0 t (omega arith)
-
-  all_tail : (t : L) (s : List L) → All Proper (t ∷ s) → All Proper s
-  all_tail t s h k d lt = h (suc k) d (omega (arith, lt))
-
   all_front : (s t : List L) → All Proper (s ++ t) → All Proper s
   all_front [] t h = All-nil Proper
-  all_front (l ∷ s) t h = All-cons Proper l s (all_head l (s ++ t) h) (all_front s t (all_tail l (s ++ t) h))
+  all_front (l ∷ s) t h = All-cons Proper l s (All-head Proper l (s ++ t) h)
+      (all_front s t (All-tail Proper l (s ++ t) h))
 
   all_behind : (s t : List L) → All Proper (s ++ t) → All Proper t
   all_behind [] t h = h
-  all_behind (l ∷ s) t h = all_behind s t (all_tail l (s ++ t) h)
+  all_behind (l ∷ s) t h = all_behind s t (All-tail Proper l (s ++ t) h)
 
 module _ {L : Type 0} {Proper : L → Type 0} where
   pub gives_any : {A : Type 0} {p : Phrase L A} → Gives Proper p (λ x. Unit {0})
@@ -35,7 +30,7 @@ module _ {L : Type 0} {Proper : L → Type 0} where
       ≡ Some x → G x) → Gives Proper (one m) G
   gives_one g = record {
     each = λ tokens x proper (t, e, meant). g t x
-        (all_head Proper t [] (subst (All Proper) e proper)) meant;
+        (All-head Proper t [] (subst (All Proper) e proper)) meant;
   }
 
   pub gives_where : (b : Bool) → Gives Proper (where_true b) (λ u. b ≡ true)

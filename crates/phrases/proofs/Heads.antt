@@ -1,5 +1,5 @@
 -- How phrases begin.
-use Rattle.std.proofs.Common.{◌≡◌, Bool, true, false, ℕ, inl, inr, ◌⊎◌, List, [], ◌∷◌, ◌++◌, Option, Some}
+use Rattle.std.proofs.Common.{◌≡◌, Bool, true, ℕ, inl, inr, List, [], ◌∷◌, ◌++◌, Option, Some}
 use Rattle.std.proofs.Common.{None, refl, sym, ap, subst, ◌∙◌, append-nil, append_assoc}
 use Rattle.readers.specs.Readers.{◌>>=◌, done}
 use Rattle.phrases.specs.Phrase as phrases

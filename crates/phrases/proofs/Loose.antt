@@ -1,10 +1,9 @@
 -- A reader that passes limits over reads what the other reads, and expects what the other expects.
-use Rattle.std.proofs.Common.{◌≡◌, Bool, true, false, cond, ℕ, zero, suc, ◌+◌, ◌≤◌, arith, inl, inr, ◌⊎◌}
-use Rattle.std.proofs.Common.{List, [], ◌∷◌, Option, Some, None, Result, Ok, Err, refl, sym, ap, subst, ◌∙◌}
-use Rattle.std.specs.Prelude.{IsTrue}
-use Rattle.readers.specs.Readers.{goes_on, ◌>>=◌, done}
+use Rattle.std.proofs.Common.{◌≡◌, Bool, true, false, ℕ, zero, suc, ◌≤◌, arith, inl, inr}
+use Rattle.std.proofs.Common.{◌∷◌, Option, Some, None, Result, Ok, Err, refl, sym, ap, ◌∙◌}
+use Rattle.readers.specs.Readers.{goes_on, ◌>>=◌, done, holds}
 use Rattle.phrases.specs.Phrase.{Meaning}
-use Rattle.phrases.specs.Reading.{Input, Tells, Reader, holds, next_means, place, behind, going, case_next}
+use Rattle.phrases.specs.Reading.{Input, Tells, Reader, next_means, behind, going, case_next}
 use Rattle.phrases.specs.Reading.{is_there, many}
 use Rattle.phrases.proofs.Readers.{Distinct, goes_on_ok, goes_on_err}
 use Rattle.phrases.proofs.Repeats.{cases_bool, more_behind, many_stop, many_out, many_go}

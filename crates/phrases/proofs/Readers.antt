@@ -1,13 +1,13 @@
 -- Readers that read just what a phrase spells, put together as readers and phrases are.
-use Rattle.std.proofs.Common.{◌≡◌, Bool, true, false, cond, ℕ, zero, suc, ◌+◌, ◌≤◌, inl, inr, ◌⊎◌, List, []}
+use Rattle.std.proofs.Common.{◌≡◌, Bool, true, false, ℕ, suc, ◌+◌, ◌≤◌, inl, inr, ◌⊎◌, List, []}
 use Rattle.std.proofs.Common.{◌∷◌, ◌++◌, length, Option, Some, None, Result, Ok, Err, refl, sym, ap, subst}
-use Rattle.std.proofs.Common.{◌∙◌, append_assoc, arith, length-append, append-nil}
+use Rattle.std.proofs.Common.{◌∙◌, append_assoc, arith, length-append}
 use Rattle.std.specs.Prelude.{IsTrue}
-use Rattle.readers.specs.Readers.{goes_on, ◌>>=◌, done}
+use Rattle.readers.specs.Readers.{goes_on, ◌>>=◌, done, holds}
 use Rattle.phrases.specs.Phrase as phrases
 use Rattle.phrases.specs.Phrase.{Meaning, Phrase, then, only, where_true, ◌or◌}
-use Rattle.phrases.specs.Reading.{Input, Tells, place_in, Reader, first, holds, meant_in, behind_in}
-use Rattle.phrases.specs.Reading.{next_means, place, behind, going, case_next, expected, one}
+use Rattle.phrases.specs.Reading.{Input, Tells, place_in, Reader, first, meant_in}
+use Rattle.phrases.specs.Reading.{next_means, place, going, case_next, expected, one}
 
 -- faults that tell places apart, and that one item was too many from what was not expected
 pub record Distinct {L F : Type 0} (tells : Tells L F) : Type 0 where

@@ -1,6 +1,6 @@
 -- Readers of any number of items.
 use Rattle.std.proofs.Common.{◌≡◌, Bool, true, false, cond, ℕ, zero, suc, ◌+◌, ◌≤◌, inl, inr, ◌⊎◌, List, []}
-use Rattle.std.proofs.Common.{◌∷◌, ◌++◌, length, Option, Some, None, Result, Ok, Err, refl, sym, ap, subst}
+use Rattle.std.proofs.Common.{◌∷◌, ◌++◌, length, Result, Ok, Err, refl, sym, ap, subst}
 use Rattle.std.proofs.Common.{◌∙◌, append_assoc, arith, length-append, append-nil}
 use Rattle.readers.specs.Readers.{goes_on, ◌>>=◌, done}
 use Rattle.phrases.specs.Phrase as phrases
@@ -217,7 +217,17 @@ module _ {L F : Type 0} {tells : Tells L F} (distinct : Distinct tells) where
                   rest = a.rest;
                   parts = a.parts;
                   there = a.there;
-                  viable = (v.0, v.1 ∷ [], (a.tokens ++ v.0, [], sym (append-nil (a.tokens ++ v.0)), v.2, refl));
+                  viable = (
+                    v.0,
+                    v.1 ∷ [],
+                    (
+                      a.tokens ++ v.0,
+                      [],
+                      sym (append-nil (a.tokens ++ v.0)),
+                      v.2,
+                      refl,
+                    ),
+                  );
                   same = λ k end g.
                       let alike = ap first a.parts ∙ first_behind a.tokens a.rest k g in
                       many_go tells begins next r n s (at_end (a.tokens ++ k) end) (begins_alike begins i.rest
@@ -232,7 +242,8 @@ module _ {L F : Type 0} {tells : Tells L F} (distinct : Distinct tells) where
                 record {
                   tokens = a.tokens ++ b.tokens;
                   rest = b.rest;
-                  parts = a.parts ∙ ap (λ l. a.tokens ++ l) b.parts ∙ sym (append_assoc a.tokens b.tokens b.rest);
+                  parts = a.parts ∙ ap (λ l. a.tokens ++ l) b.parts
+                      ∙ sym (append_assoc a.tokens b.tokens b.rest);
                   there = b.there ∙ ap (λ m. place_in tells b.rest m) (sym a.ends);
                   viable = (
                     v.0,

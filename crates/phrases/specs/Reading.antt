@@ -1,6 +1,6 @@
 -- Readers of tokens from left to right, up to the first fault. Tokens L and faults F may be of any kind.
 use Rattle.std.specs.Prelude.{ℕ, zero, suc, Bool, true, false, if◌then◌else◌, List, [], ◌∷◌}
-use Rattle.std.specs.Prelude.{Option, Some, None, Result, Ok, Err}
+use Rattle.std.specs.Prelude.{Option, Some, None, Ok, Err}
 use Rattle.readers.specs.Readers as readers
 use Rattle.readers.specs.Readers.{◌>>=◌, done}
 use Rattle.phrases.specs.Phrase.{Meaning}
@@ -23,11 +23,6 @@ Reader L F A = readers.Reader (Input L) F A
 abbrev pub first : {L : Type 0} → List L → Option L
 first [] = None
 first (t ∷ rest) = Some t
-
--- a test that has to hold
-abbrev pub holds : {L F : Type 0} → Bool → F → Reader L F (Unit {0})
-holds true fault i = Ok (tt, i)
-holds false fault i = Err fault
 
 -- what the next token means
 abbrev pub meant_in : {L A : Type 0} → Meaning L A → List L → Option A

@@ -7,9 +7,10 @@ use Rattle.std.proofs.lemmas.Bool.{and_parts}
 use Rattle.std.proofs.lemmas.Bool.Decides.{nat_tests}
 use Rattle.text_scan.specs.declared.token.TokenKind.TheVariants.{Name as NameKind, Number, Sign, Equal}
 use Rattle.text_scan.specs.Bytes.{is_name_start, is_name_byte, is_sign}
-use Rattle.text_scan.specs.Tokens.{first_of, piece_at}
+use Rattle.text_scan.specs.Tokens.{piece_at}
 use Rattle.text_scan.specs.Grammar.{IsName}
-use Rattle.text_scan.proofs.Printed.{Form, Shows, shows_nothing, shows_token, shows_blank, shows_name, shows_number, IsLineByte, IsInLine, name_field, number_field}
+use Rattle.text_scan.proofs.Printed.{Form, Shows, shows_nothing, shows_token, shows_blank, shows_name}
+use Rattle.text_scan.proofs.Printed.{shows_number, IsLineByte, IsInLine, name_field, number_field}
 use Rattle.cap_words.specs.Names as part
 use Rattle.cap_words.specs.declared.TheConstants.{LONGEST_NAME}
 use Rattle.proc_language.specs.Words.{is_name, is_reserved}
@@ -24,7 +25,8 @@ form_of (sign text) = record { kind = sign_kind text; text = text }
 
 pub record Sound (p : Piece) : Type 0 where
   pub in_line : IsInLine (bytes_of p)
-  pub behind : (rest : List ℕ) (fs : List Form) → Shows rest fs → Shows (bytes_of p ++ 32 ∷ rest) (form_of p ∷ fs)
+  pub behind : (rest : List ℕ) (fs : List Form) → Shows rest fs → Shows (bytes_of p ++ 32 ∷ rest)
+      (form_of p ∷ fs)
   pub alone : ends_line p ≡ true → Shows (bytes_of p) (form_of p ∷ [])
 
 at_most : (n : ℕ) → n ≤ n
@@ -48,7 +50,8 @@ pub semicolon_sound : Sound (sign (codes ";"))
 unfolding piece_at is_sign
 semicolon_sound = record {
   in_line = All-cons IsLineByte 59 [] refl (All-nil IsLineByte);
-  behind = λ rest fs shows. shows_token (Sign 59) (59 ∷ []) (32 ∷ rest) fs (omega arith) (λ at. refl) (shows_blank rest fs shows);
+  behind = λ rest fs shows. shows_token (Sign 59) (59 ∷ []) (32 ∷ rest) fs (omega arith) (λ at. refl)
+      (shows_blank rest fs shows);
   alone = λ h. shows_token (Sign 59) (59 ∷ []) [] [] (omega arith) (λ at. refl) shows_nothing;
 }
 
@@ -56,7 +59,8 @@ pub curly_sound : Sound (sign (codes "{"))
 unfolding piece_at is_sign
 curly_sound = record {
   in_line = All-cons IsLineByte 123 [] refl (All-nil IsLineByte);
-  behind = λ rest fs shows. shows_token (Sign 123) (123 ∷ []) (32 ∷ rest) fs (omega arith) (λ at. refl) (shows_blank rest fs shows);
+  behind = λ rest fs shows. shows_token (Sign 123) (123 ∷ []) (32 ∷ rest) fs (omega arith) (λ at. refl)
+      (shows_blank rest fs shows);
   alone = λ h. shows_token (Sign 123) (123 ∷ []) [] [] (omega arith) (λ at. refl) shows_nothing;
 }
 
@@ -64,7 +68,8 @@ pub end_curly_sound : Sound (sign (codes "}"))
 unfolding piece_at is_sign
 end_curly_sound = record {
   in_line = All-cons IsLineByte 125 [] refl (All-nil IsLineByte);
-  behind = λ rest fs shows. shows_token (Sign 125) (125 ∷ []) (32 ∷ rest) fs (omega arith) (λ at. refl) (shows_blank rest fs shows);
+  behind = λ rest fs shows. shows_token (Sign 125) (125 ∷ []) (32 ∷ rest) fs (omega arith) (λ at. refl)
+      (shows_blank rest fs shows);
   alone = λ h. shows_token (Sign 125) (125 ∷ []) [] [] (omega arith) (λ at. refl) shows_nothing;
 }
 
@@ -72,7 +77,8 @@ pub round_sound : Sound (sign (codes "("))
 unfolding piece_at is_sign
 round_sound = record {
   in_line = All-cons IsLineByte 40 [] refl (All-nil IsLineByte);
-  behind = λ rest fs shows. shows_token (Sign 40) (40 ∷ []) (32 ∷ rest) fs (omega arith) (λ at. refl) (shows_blank rest fs shows);
+  behind = λ rest fs shows. shows_token (Sign 40) (40 ∷ []) (32 ∷ rest) fs (omega arith) (λ at. refl)
+      (shows_blank rest fs shows);
   alone = λ h. absurd (cc);
 }
 
@@ -80,7 +86,8 @@ pub end_round_sound : Sound (sign (codes ")"))
 unfolding piece_at is_sign
 end_round_sound = record {
   in_line = All-cons IsLineByte 41 [] refl (All-nil IsLineByte);
-  behind = λ rest fs shows. shows_token (Sign 41) (41 ∷ []) (32 ∷ rest) fs (omega arith) (λ at. refl) (shows_blank rest fs shows);
+  behind = λ rest fs shows. shows_token (Sign 41) (41 ∷ []) (32 ∷ rest) fs (omega arith) (λ at. refl)
+      (shows_blank rest fs shows);
   alone = λ h. absurd (cc);
 }
 
@@ -88,7 +95,8 @@ pub square_sound : Sound (sign (codes "["))
 unfolding piece_at is_sign
 square_sound = record {
   in_line = All-cons IsLineByte 91 [] refl (All-nil IsLineByte);
-  behind = λ rest fs shows. shows_token (Sign 91) (91 ∷ []) (32 ∷ rest) fs (omega arith) (λ at. refl) (shows_blank rest fs shows);
+  behind = λ rest fs shows. shows_token (Sign 91) (91 ∷ []) (32 ∷ rest) fs (omega arith) (λ at. refl)
+      (shows_blank rest fs shows);
   alone = λ h. absurd (cc);
 }
 
@@ -96,7 +104,8 @@ pub end_square_sound : Sound (sign (codes "]"))
 unfolding piece_at is_sign
 end_square_sound = record {
   in_line = All-cons IsLineByte 93 [] refl (All-nil IsLineByte);
-  behind = λ rest fs shows. shows_token (Sign 93) (93 ∷ []) (32 ∷ rest) fs (omega arith) (λ at. refl) (shows_blank rest fs shows);
+  behind = λ rest fs shows. shows_token (Sign 93) (93 ∷ []) (32 ∷ rest) fs (omega arith) (λ at. refl)
+      (shows_blank rest fs shows);
   alone = λ h. absurd (cc);
 }
 
@@ -104,7 +113,8 @@ pub comma_sound : Sound (sign (codes ","))
 unfolding piece_at is_sign
 comma_sound = record {
   in_line = All-cons IsLineByte 44 [] refl (All-nil IsLineByte);
-  behind = λ rest fs shows. shows_token (Sign 44) (44 ∷ []) (32 ∷ rest) fs (omega arith) (λ at. refl) (shows_blank rest fs shows);
+  behind = λ rest fs shows. shows_token (Sign 44) (44 ∷ []) (32 ∷ rest) fs (omega arith) (λ at. refl)
+      (shows_blank rest fs shows);
   alone = λ h. absurd (cc);
 }
 
@@ -112,7 +122,8 @@ pub dot_sound : Sound (sign (codes "."))
 unfolding piece_at is_sign
 dot_sound = record {
   in_line = All-cons IsLineByte 46 [] refl (All-nil IsLineByte);
-  behind = λ rest fs shows. shows_token (Sign 46) (46 ∷ []) (32 ∷ rest) fs (omega arith) (λ at. refl) (shows_blank rest fs shows);
+  behind = λ rest fs shows. shows_token (Sign 46) (46 ∷ []) (32 ∷ rest) fs (omega arith) (λ at. refl)
+      (shows_blank rest fs shows);
   alone = λ h. absurd (cc);
 }
 
@@ -120,7 +131,8 @@ pub slash_sound : Sound (sign (codes "/"))
 unfolding piece_at is_sign
 slash_sound = record {
   in_line = All-cons IsLineByte 47 [] refl (All-nil IsLineByte);
-  behind = λ rest fs shows. shows_token (Sign 47) (47 ∷ []) (32 ∷ rest) fs (omega arith) (λ at. refl) (shows_blank rest fs shows);
+  behind = λ rest fs shows. shows_token (Sign 47) (47 ∷ []) (32 ∷ rest) fs (omega arith) (λ at. refl)
+      (shows_blank rest fs shows);
   alone = λ h. absurd (cc);
 }
 
@@ -128,7 +140,8 @@ pub assign_sound : Sound (sign (codes "="))
 unfolding piece_at is_sign
 assign_sound = record {
   in_line = All-cons IsLineByte 61 [] refl (All-nil IsLineByte);
-  behind = λ rest fs shows. shows_token (Sign 61) (61 ∷ []) (32 ∷ rest) fs (omega arith) (λ at. refl) (shows_blank rest fs shows);
+  behind = λ rest fs shows. shows_token (Sign 61) (61 ∷ []) (32 ∷ rest) fs (omega arith) (λ at. refl)
+      (shows_blank rest fs shows);
   alone = λ h. absurd (cc);
 }
 
@@ -136,7 +149,8 @@ pub less_sound : Sound (sign (codes "<"))
 unfolding piece_at is_sign
 less_sound = record {
   in_line = All-cons IsLineByte 60 [] refl (All-nil IsLineByte);
-  behind = λ rest fs shows. shows_token (Sign 60) (60 ∷ []) (32 ∷ rest) fs (omega arith) (λ at. refl) (shows_blank rest fs shows);
+  behind = λ rest fs shows. shows_token (Sign 60) (60 ∷ []) (32 ∷ rest) fs (omega arith) (λ at. refl)
+      (shows_blank rest fs shows);
   alone = λ h. absurd (cc);
 }
 
@@ -144,7 +158,8 @@ pub plus_sound : Sound (sign (codes "+"))
 unfolding piece_at is_sign
 plus_sound = record {
   in_line = All-cons IsLineByte 43 [] refl (All-nil IsLineByte);
-  behind = λ rest fs shows. shows_token (Sign 43) (43 ∷ []) (32 ∷ rest) fs (omega arith) (λ at. refl) (shows_blank rest fs shows);
+  behind = λ rest fs shows. shows_token (Sign 43) (43 ∷ []) (32 ∷ rest) fs (omega arith) (λ at. refl)
+      (shows_blank rest fs shows);
   alone = λ h. absurd (cc);
 }
 
@@ -152,7 +167,8 @@ pub minus_sound : Sound (sign (codes "-"))
 unfolding piece_at is_sign
 minus_sound = record {
   in_line = All-cons IsLineByte 45 [] refl (All-nil IsLineByte);
-  behind = λ rest fs shows. shows_token (Sign 45) (45 ∷ []) (32 ∷ rest) fs (omega arith) (λ at. refl) (shows_blank rest fs shows);
+  behind = λ rest fs shows. shows_token (Sign 45) (45 ∷ []) (32 ∷ rest) fs (omega arith) (λ at. refl)
+      (shows_blank rest fs shows);
   alone = λ h. absurd (cc);
 }
 
@@ -160,7 +176,8 @@ pub equal_sound : Sound (sign (codes "=="))
 unfolding piece_at
 equal_sound = record {
   in_line = All-cons IsLineByte 61 (61 ∷ []) refl (All-cons IsLineByte 61 [] refl (All-nil IsLineByte));
-  behind = λ rest fs shows. shows_token Equal (61 ∷ 61 ∷ []) (32 ∷ rest) fs (omega arith) (λ at. refl) (shows_blank rest fs shows);
+  behind = λ rest fs shows. shows_token Equal (61 ∷ 61 ∷ []) (32 ∷ rest) fs (omega arith) (λ at. refl)
+      (shows_blank rest fs shows);
   alone = λ h. absurd (cc);
 }
 
@@ -183,7 +200,8 @@ bytes_are (b ∷ text) h =
 start_is : (b : ℕ) → not (part.is_digit b) ≡ true → part.is_name_byte b ≡ true → is_name_start b ≡ true
 start_is b h k = grind (arith, nat_tests)
 
-first_byte : (text : List ℕ) → 0 < length text → list_all part.is_name_byte text ≡ true → part.is_name_byte (slice_index text 0) ≡ true
+first_byte : (text : List ℕ) → 0 < length text → list_all part.is_name_byte text ≡ true
+    → part.is_name_byte (slice_index text 0) ≡ true
 first_byte [] some h = absurd (omega (arith, some))
 first_byte (b ∷ text) some h = (and_parts (part.is_name_byte b) (list_all part.is_name_byte text) h).0
 
@@ -195,4 +213,9 @@ name_is text h =
     let c = and_parts _ (not (part.is_digit (slice_index text 0))) b.0 in
     let d = and_parts (nat_le 1 (length text)) (nat_le (length text) LONGEST_NAME) c.0 in
     let some = length_some text d.0 in
-    record { some = some; start = start_is (slice_index text 0) c.1 (first_byte text some b.1); bytes = bytes_are text b.1 }
+    record {
+      some = some;
+      start = start_is (slice_index text 0) c.1 (first_byte text some b.1);
+      bytes =
+          bytes_are text b.1;
+    }

@@ -1,5 +1,6 @@
 -- What is printed is read again.
-use Rattle.std.specs.Prelude.{◌≡◌, ℕ, ◌+◌, ◌-◌, ◌<◌, ◌≤◌, ◌==◌, Bool, false, IsTrue, ◌||◌, if◌then◌else◌, List, [], ◌∷◌, length, Ok}
+use Rattle.std.specs.Prelude.{◌≡◌, ℕ, ◌+◌, ◌-◌, ◌<◌, ◌≤◌, ◌==◌, Bool, false, IsTrue, ◌||◌, if◌then◌else◌}
+use Rattle.std.specs.Prelude.{List, [], ◌∷◌, length, Ok}
 use Rattle.std.specs.List.{slice_split}
 use Rattle.text_scan.specs.declared.TheConstants.{LONGEST_LINE}
 use Rattle.text_scan.specs.declared.token.TokenKind.{TokenKind}
@@ -11,7 +12,8 @@ use Rattle.proc_language.specs.declared.TheConstants.{MOST_BRACKETS}
 use Rattle.proc_language.specs.declared.module.ModuleFields.{ModuleFields}
 use Rattle.proc_language.specs.Limits.{Each, IsModule}
 use Rattle.proc_language.specs.Unplaced.{IsAlike}
-use Rattle.proc_grammar.specs.Lexemes.{Lexeme, lexemes, round, square, curly, end_round, end_square, end_curly}
+use Rattle.proc_grammar.specs.Lexemes.{Lexeme, lexemes, round, square, curly, end_round, end_square}
+use Rattle.proc_grammar.specs.Lexemes.{end_curly}
 use Rattle.proc_parse.specs.Text.{parsed_text}
 use Rattle.proc_print.specs.Printed.{printed}
 
@@ -34,7 +36,8 @@ open_behind kind n = if opens kind then n + 1 else if closes kind then n - 1 els
 -- behind so many open brackets no bracket is opened inside too many
 abbrev pub IsShallow : ℕ → List Lexeme → Type 0
 IsShallow n [] = Unit {0}
-IsShallow n (t ∷ tokens) = (IsTrue (opens t.kind) → n < MOST_BRACKETS) × IsShallow (open_behind t.kind n) tokens
+IsShallow n (t ∷ tokens) = (IsTrue (opens t.kind) → n < MOST_BRACKETS)
+    × IsShallow (open_behind t.kind n) tokens
 
 -- no bracket of the text is opened inside 64 open ones
 abbrev pub IsShallowText : List ℕ → Type 0

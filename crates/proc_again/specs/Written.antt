@@ -5,7 +5,6 @@ use Rattle.text_scan.specs.declared.token.TokenKind.{TokenKind}
 use Rattle.text_scan.specs.declared.token.TokenKind.TheVariants.{Name, Number, Sign, Equal}
 use Rattle.text_scan.specs.Tokens.{first_of}
 use Rattle.proc_grammar.specs.Lexemes.{Lexeme}
-
 use Rattle.proc_grammar.specs.Grammar.{Phrase}
 use Rattle.proc_print.specs.Printed.{Piece, word, numeral, sign}
 

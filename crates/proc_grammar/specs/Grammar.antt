@@ -4,7 +4,8 @@ use Rattle.std.specs.Prelude.{ℕ, zero, suc, ◌+◌, ◌-◌, ◌^◌, nat_le,
 use Rattle.std.specs.Prelude.{ℤ, pos, neg_ℤ, List, [], ◌∷◌, length, codes, Option, Some, None}
 use Rattle.cap_words.specs.declared.TheConstants.{LAST_PLACE, LONGEST_NAME}
 use Rattle.proc_language.specs.declared.TheConstants.{MOST_SEALS, MOST_ITEMS, MOST_REGISTERS, MOST_LOCALS}
-use Rattle.proc_language.specs.declared.TheConstants.{LONGEST_ARRAY, LARGEST_LITERAL, MOST_TERMS, MOST_BRACKETS}
+use Rattle.proc_language.specs.declared.TheConstants.{LONGEST_ARRAY, LARGEST_LITERAL, MOST_TERMS}
+use Rattle.proc_language.specs.declared.TheConstants.{MOST_BRACKETS}
 use Rattle.proc_language.specs.declared.tree.Name.{Name}
 use Rattle.proc_language.specs.declared.tree.Op.{Op}
 use Rattle.proc_language.specs.declared.module.Import.{Import}

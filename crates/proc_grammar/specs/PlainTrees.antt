@@ -1,5 +1,5 @@
 -- The trees of the language. They have no place of a last token, and no reserved words of their own.
-use Rattle.std.specs.Prelude.{ℕ, Bool, List, [], Some, None}
+use Rattle.std.specs.Prelude.{ℕ, [], Some, None}
 use Rattle.proc_language.specs.declared.tree.Name.{Name}
 use Rattle.proc_language.specs.declared.tree.Arg.{Arg}
 use Rattle.proc_language.specs.declared.tree.Arg.TheVariants.{Value, Proc as Pass}

@@ -2,14 +2,15 @@
 -- limits on numbers, names and counts are passed over. `fuel` is how many items are read in one place at
 -- most, `room` how many brackets may still be opened.
 use Rattle.std.specs.Prelude.{ℕ, zero, suc, ◌+◌, ◌^◌, nat_lt, Bool, true, false}
-use Rattle.std.specs.Prelude.{ℤ, List, [], ◌∷◌, length, codes, Option, Some, None, Result, Ok, Err, ◌==◌, if◌then◌else◌}
+use Rattle.std.specs.Prelude.{ℤ, List, [], ◌∷◌, length, codes, Option, Some, None, Result, Ok, Err, ◌==◌}
+use Rattle.std.specs.Prelude.{if◌then◌else◌}
 use Rattle.proc_language.specs.declared.TheConstants.{MOST_ITEMS, MOST_REGISTERS, MOST_LOCALS, MOST_TERMS}
 use Rattle.proc_language.specs.declared.tree.Name.{Name}
 use Rattle.proc_language.specs.declared.tree.Op.{Op}
 use Rattle.proc_language.specs.declared.module.Import.{Import}
 use Rattle.proc_language.specs.declared.module.Global.{Global}
-use Rattle.readers.specs.Readers.{◌>>=◌, done}
-use Rattle.phrases.specs.Reading.{holds, case_next}
+use Rattle.readers.specs.Readers.{◌>>=◌, done, holds}
+use Rattle.phrases.specs.Reading.{case_next}
 use Rattle.proc_grammar.specs.declared.header.Header.{Header}
 use Rattle.proc_grammar.specs.Makes.{Makes}
 use Rattle.proc_grammar.specs.Lexemes.{Lexeme, Numeral, word, a_name, a_number, sign, a_start, a_proc}
@@ -430,8 +431,10 @@ finished (Ok x) = if length x.1.rest == 0 then Ok x.0 else Err (Expected (place 
 finished (Err e) = Err e
 
 -- the module that the tokens spell, or the first fault, in a text that ends at this place
-unfoldable pub parsed : {E A S P V R M : Type 0} → Makes E A S P V R M → ℕ → List Lexeme → ℕ → Result M ParseFault
-parsed T fuel tokens end = finished (next_module T true fuel room_in_body (record { rest = tokens; end = end }))
+unfoldable pub parsed : {E A S P V R M : Type 0} → Makes E A S P V R M → ℕ → List Lexeme → ℕ
+    → Result M ParseFault
+parsed T fuel tokens end =
+    finished (next_module T true fuel room_in_body (record { rest = tokens; end = end }))
 
 -- more items than a text has bytes
 unfoldable pub full : ℕ

@@ -15,7 +15,8 @@ module _ {E A S P V R M : Type 0} (T : Makes E A S P V R M) where
 
 -- The tokens before this place begin a module, limits passed over; and with the token that stands there,
 -- or with the text's end, no module goes on.
-pub record IsExpected {E A S P V R M : Type 0} (T : Makes E A S P V R M) (tokens : List Lexeme) (end at : ℕ) : Type 0 where
+pub record IsExpected {E A S P V R M : Type 0} (T : Makes E A S P V R M) (tokens : List Lexeme)
+    (end at : ℕ) : Type 0 where
   pub before : List Lexeme
   pub rest : List Lexeme
   pub parts : tokens ≡ before ++ rest
@@ -30,7 +31,8 @@ StandsIn tokens fault =
     × (tokens ≡ before ++ t ∷ behind) × (limit_place fault ≡ Some t.at)
 
 -- the fault is that of a limit, at a token up to which the tokens begin a module, limits passed over
-pub record IsBeyond {E A S P V R M : Type 0} (T : Makes E A S P V R M) (tokens : List Lexeme) (fault : ParseFault) : Type 0 where
+pub record IsBeyond {E A S P V R M : Type 0} (T : Makes E A S P V R M) (tokens : List Lexeme)
+    (fault : ParseFault) : Type 0 where
   pub before : List Lexeme
   pub token : Lexeme
   pub behind : List Lexeme

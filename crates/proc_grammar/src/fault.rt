@@ -64,7 +64,10 @@ impl fmt::Display for ParseFault {
         match self {
             ParseFault::Scan(fault) => write!(f, "{fault}"),
             ParseFault::Expected(at) => write!(f, "byte {at}: no module goes on so"),
-            ParseFault::Range(at) => write!(f, "byte {at}: the number or name is out of its bounds"),
+            ParseFault::Range(at) => write!(
+                f,
+                "byte {at}: the number or name is out of its bounds"
+            ),
             ParseFault::TooMany(at) => write!(f, "byte {at}: one too many"),
             ParseFault::NoMemory => write!(f, "out of memory"),
         }

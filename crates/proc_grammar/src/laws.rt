@@ -86,12 +86,10 @@ pub fn reading_keeps_the_grammar<L: Language>()
     ensures faults { (n : ℕ) (tokens : List Lexeme) (end : ℕ) (fault : ParseFault) → length tokens ≤ n →
         parsed L.made n tokens end ≡ Err fault →
         ((at : ℕ) × (fault ≡ Expected at)) ⊎ IsBeyond L.made tokens fault }
-{
-}
+{}
 
 /// What tokens spell that have the bytes of their kinds keeps the limits of a module.
 pub fn what_is_spelled_keeps_the_limits()
     ensures { (tokens : List Lexeme) (m : ModuleFields) →
         All IsLexeme tokens → IsText plain_trees tokens m → IsModule m }
-{
-}
+{}

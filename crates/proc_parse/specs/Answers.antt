@@ -11,8 +11,10 @@ abbrev pub InText : List ℕ → List Token → Type 0
 InText text [] = Unit {0}
 InText text (t ∷ ts) = (t.at + t.len ≤ length text) × InText text ts
 
--- what the reader reads, the value seen by view, unless memory was refused; after a fault, what is left isn't said
-abbrev pub GivesAs : {X A : Type 0} → (X → A) → Result X ParseFault → Input → Result (A × Input) ParseFault → Type 0
+-- what the reader reads, the value seen by view, unless memory was refused; after a fault, what is left isn't
+-- said
+abbrev pub GivesAs : {X A : Type 0} → (X → A) → Result X ParseFault → Input → Result (A × Input) ParseFault
+    → Type 0
 GivesAs view (Ok x) left read = read ≡ Ok (view x, left)
 GivesAs view (Err e) left read = Fails e read
 

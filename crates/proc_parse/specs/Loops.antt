@@ -18,18 +18,21 @@ use Rattle.proc_grammar.specs.Reading.{next_proc, next_header, next_import, next
 -- the terms behind the sum so far, which has so many
 unfoldable pub terms_behind : ℕ → ℕ → ℕ → Expr → Reader Expr
 terms_behind room n count sum =
-    many n adding one_more (another_term plain_trees true full room (inner_expr plain_trees true full room)) count
+    many n adding one_more (another_term plain_trees true full room (inner_expr plain_trees true full room))
+    count
     >>= λ others. done (sum_of plain_trees sum others)
 
 -- items behind others
-unfoldable pub with_front : {A : Type 0} → List A → Result (List A × Input) ParseFault → Result (List A × Input) ParseFault
+unfoldable pub with_front : {A : Type 0} → List A → Result (List A × Input) ParseFault
+    → Result (List A × Input) ParseFault
 with_front front read = goes_on read (λ xs. done (front ++ xs))
 
 -- Items with commas between them, which take registers.
 module _ {A : Type 0} (registers : A → ℕ) (another : ℕ → Reader A) where
   -- behind some, which take so many
   unfoldable pub commas_behind : ℕ → List A → ℕ → Reader (List A)
-  commas_behind n front used i = with_front front (many n (sign comma) (λ m x. m + registers x) another used i)
+  commas_behind n front used i =
+      with_front front (many n (sign comma) (λ m x. m + registers x) another used i)
 
   -- behind the first one, and that
   abbrev pub listed_behind : A → Reader (List A)
@@ -45,7 +48,8 @@ module _ {A : Type 0} (registers : A → ℕ) (another : ℕ → Reader A) where
 
 -- the arguments behind the first one, and that
 abbrev pub args_behind : ℕ → Arg → Reader (List Arg)
-args_behind room = listed_behind registers_of (another_arg plain_trees true full room (inner_expr plain_trees true full room))
+args_behind room = listed_behind registers_of
+    (another_arg plain_trees true full room (inner_expr plain_trees true full room))
 
 -- the parameters behind the first one, and that
 abbrev pub params_behind : Param → Reader (List Param)
@@ -53,7 +57,8 @@ params_behind = listed_behind (λ p. param_registers p.arity) (another_param pla
 
 -- the procedures behind the first one, and that
 unfoldable pub procs_behind : Proc → Reader (List Proc)
-procs_behind first i = with_front (first ∷ []) (many full a_proc one_more (next_proc plain_trees true full room_in_body) 1 i)
+procs_behind first i =
+    with_front (first ∷ []) (many full a_proc one_more (next_proc plain_trees true full room_in_body) 1 i)
 
 unfoldable pub procs_list : Reader (List Proc)
 procs_list = next_proc plain_trees true full room_in_body 0 >>= procs_behind

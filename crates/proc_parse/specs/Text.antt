@@ -1,5 +1,6 @@
 -- The module that a text spells, or its first fault.
-use Rattle.std.specs.Prelude.{◌≡◌, ◌<◌, ◌⊎◌, ℕ, List, [], ◌∷◌, length, Option, Some, IfSome, Result, Ok, Err, if◌then◌else◌}
+use Rattle.std.specs.Prelude.{◌<◌, ℕ, List, [], ◌∷◌, length, Result, Ok, Err}
+use Rattle.std.specs.Prelude.{if◌then◌else◌}
 use Rattle.text_scan.specs.declared.token.Token.{Token}
 use Rattle.text_scan.specs.declared.fault.ScanFault.{ScanFault}
 use Rattle.text_scan.specs.Tokens.{scanned}
@@ -33,7 +34,8 @@ Spells text m = (tokens : List Token) × HasTokens text tokens × IsText plain_t
 -- the text's tokens before this place begin a module, and with the token or the text's end there none goes on
 abbrev pub Stops : List ℕ → ℕ → Type 0
 Stops text at =
-    (tokens : List Token) × HasTokens text tokens × IsExpected plain_trees (lexemes text tokens) (length text) at
+    (tokens : List Token) × HasTokens text tokens × IsExpected plain_trees (lexemes text tokens)
+    (length text) at
 
 -- the text's tokens up to that of the fault begin a module, and there it passes a limit
 abbrev pub Passes : List ℕ → ParseFault → Type 0

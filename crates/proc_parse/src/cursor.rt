@@ -1,5 +1,6 @@
 //! What is left of the tokens.
-ghost use Rattle.std.specs.Prelude.{[], ◌≡◌, ◌==◌, ◌<◌, ◌≤◌, nat_le, true, map, length, option_map, IfOk, Some};
+ghost use Rattle.std.specs.Prelude.{[], ◌≡◌, ◌==◌, ◌<◌, ◌≤◌, nat_le, true, map, length, option_map, IfOk};
+ghost use Rattle.std.specs.Prelude.{Some};
 ghost use Rattle.proc_parse.specs.Answers.{InText, GivesAs, Gives, left_by};
 ghost use Rattle.phrases.specs.Reading.{next_means, behind, is_there};
 ghost use Rattle.proc_grammar.specs.Lexemes.{seen, word, a_name, a_number, sign, adding, comparing};
@@ -185,7 +186,8 @@ impl<'a, 'b> Cursor<'a, 'b> {
     // The name that stands next, and its place.
     #[tactic(auto, unfolding(proc_grammar::specs::Lexemes::a_name))]
     fn at_name(&self) -> Option<(&'a [u8], u32)>
-        ensures { option_map (λ n. record { text = n.0.now; at = n.1 }) result ≡ next_means (a_name []) self.now }
+        ensures { option_map (λ n. record { text = n.0.now; at = n.1 })
+            result ≡ next_means (a_name []) self.now }
     {
         let token = self.rest.first()?;
         let (at, len) = (token.at as usize, token.len as usize);
@@ -272,7 +274,8 @@ impl<'a, 'b> Cursor<'a, 'b> {
 
     /// Takes the next token where it is a number, and tells its value and place.
     pub fn take_number(&mut self) -> Option<(u64, u32)>
-        ensures value { option_map (λ n. record { value = n.0; at = n.1 }) result ≡ next_means a_number self.old }
+        ensures value { option_map (λ n. record { value = n.0; at = n.1 })
+            result ≡ next_means a_number self.old }
         ensures left { self.new ≡ left_by result self.old }
     {
         let number = self.at_number()?;
@@ -302,7 +305,10 @@ fn starts_stmt(text: &[u8]) -> bool
     if !is_reserved(text) {
         return true;
     }
-    is_same(text, b"if") || is_same(text, b"while") || is_same(text, b"return") || is_same(text, b"halt")
+    is_same(text, b"if")
+        || is_same(text, b"while")
+        || is_same(text, b"return")
+        || is_same(text, b"halt")
 }
 
 fn is_same(text: &[u8], word: &[u8]) -> bool

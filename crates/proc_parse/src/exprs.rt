@@ -6,13 +6,16 @@ ghost use Rattle.proc_parse.specs.Loops.{terms_behind, args_behind};
 ghost use Rattle.proc_language.specs.declared.TheConstants.{MOST_REGISTERS};
 ghost use Rattle.proc_grammar.specs.Grammar.{operated};
 ghost use Rattle.proc_grammar.specs.PlainTrees.{plain_trees, registers_of};
-ghost use Rattle.proc_grammar.specs.Reading.{full, next_expr, inner_expr, next_sum, next_term, next_index, next_args, next_arg, another_arg};
+ghost use Rattle.proc_grammar.specs.Reading.{full, next_expr, inner_expr, next_sum, next_term, next_index};
+ghost use Rattle.proc_grammar.specs.Reading.{next_args, next_arg, another_arg};
 ghost use Rattle.proc_grammar.specs.Reading.{some_args, expr_with, behind_name, bracket_term, name_term};
 
 use crate::cursor::Cursor;
 use cap_words::Items;
 use proc_grammar::ParseFault;
-use proc_language::{Arg, Call, Expr, ExprKind, LARGEST_LITERAL, MOST_REGISTERS, MOST_TERMS, Name, Op};
+use proc_language::{
+    Arg, Call, Expr, ExprKind, LARGEST_LITERAL, MOST_REGISTERS, MOST_TERMS, Name, Op,
+};
 use std::alloc::Global;
 
 // The operation on both.
@@ -38,7 +41,8 @@ fn expr(
     room: u32,
     fits: bool,
 ) -> Result<Expr, ParseFault>
-    ensures exact { Gives result tokens.new (expr_with plain_trees true full room (inner_expr plain_trees true full room) fits tokens.old) }
+    ensures exact { Gives result tokens.new
+        (expr_with plain_trees true full room (inner_expr plain_trees true full room) fits tokens.old) }
     ensures within { OnOk result (fits ≡ true) }
 {
     let left = sum(alloc, tokens, room, fits)?;
@@ -50,11 +54,7 @@ fn expr(
 }
 
 /// An expression inside which `room` brackets may be opened.
-pub fn whole(
-    alloc: Global,
-    tokens: &mut Cursor<'_, '_>,
-    room: u32,
-) -> Result<Expr, ParseFault>
+pub fn whole(alloc: Global, tokens: &mut Cursor<'_, '_>, room: u32) -> Result<Expr, ParseFault>
     ensures { Gives result tokens.new (next_expr plain_trees true full room true tokens.old) }
 {
     expr(alloc, tokens, room, true)
@@ -83,7 +83,8 @@ fn sum(
     room: u32,
     fits: bool,
 ) -> Result<Expr, ParseFault>
-    ensures exact { Gives result tokens.new (next_sum plain_trees true full room (inner_expr plain_trees true full room) fits tokens.old) }
+    ensures exact { Gives result tokens.new
+        (next_sum plain_trees true full room (inner_expr plain_trees true full room) fits tokens.old) }
     ensures within { OnOk result (fits ≡ true) }
 {
     let first = term(alloc, tokens, room, fits)?;
@@ -122,7 +123,8 @@ fn term(
     room: u32,
     fits: bool,
 ) -> Result<Expr, ParseFault>
-    ensures exact { Gives result tokens.new (next_term plain_trees true full room (inner_expr plain_trees true full room) fits tokens.old) }
+    ensures exact { Gives result tokens.new
+        (next_term plain_trees true full room (inner_expr plain_trees true full room) fits tokens.old) }
     ensures within { OnOk result (fits ≡ true) }
 {
     if let Some((number, at)) = tokens.take_number() {
@@ -153,7 +155,8 @@ fn bracket_term(
     fits: bool,
     at: u32,
 ) -> Result<Expr, ParseFault>
-    ensures exact { Gives result tokens.new (bracket_term plain_trees true full room (inner_expr plain_trees true full room) fits at tokens.old) }
+    ensures exact { Gives result tokens.new
+        (bracket_term plain_trees true full room (inner_expr plain_trees true full room) fits at tokens.old) }
     ensures within { OnOk result (fits ≡ true) }
 {
     if !fits || room == 0 {
@@ -172,7 +175,8 @@ fn name_term(
     room: u32,
     fits: bool,
 ) -> Result<Expr, ParseFault>
-    ensures exact { Gives result tokens.new (name_term plain_trees true full room (inner_expr plain_trees true full room) fits tokens.old) }
+    ensures exact { Gives result tokens.new
+        (name_term plain_trees true full room (inner_expr plain_trees true full room) fits tokens.old) }
     ensures within { OnOk result (fits ≡ true) }
 {
     let name = tokens.name(alloc)?;
@@ -191,7 +195,8 @@ fn behind_name(
     room: u32,
     name: Name,
 ) -> Result<Expr, ParseFault>
-    ensures { Gives result tokens.new (behind_name plain_trees true full room (inner_expr plain_trees true full room) name tokens.old) }
+    ensures { Gives result tokens.new
+        (behind_name plain_trees true full room (inner_expr plain_trees true full room) name tokens.old) }
 {
     let at = name.at;
     if let Some(bracket) = tokens.take_sign(b'[') {
@@ -224,7 +229,8 @@ pub fn index(
     room: u32,
     at: u32,
 ) -> Result<Expr, ParseFault>
-    ensures { Gives result tokens.new (next_index plain_trees true full room (inner_expr plain_trees true full room) at tokens.old) }
+    ensures { Gives result tokens.new
+        (next_index plain_trees true full room (inner_expr plain_trees true full room) at tokens.old) }
 {
     if room == 0 {
         return Err(ParseFault::TooMany(at));
@@ -243,7 +249,8 @@ pub fn args(
     room: u32,
     at: u32,
 ) -> Result<Vec<Arg>, ParseFault>
-    ensures { GivesAs (λ v. v.items) result tokens.new (next_args plain_trees true full room (inner_expr plain_trees true full room) at tokens.old) }
+    ensures { GivesAs (λ v. v.items) result tokens.new
+        (next_args plain_trees true full room (inner_expr plain_trees true full room) at tokens.old) }
 {
     if room == 0 {
         return Err(ParseFault::TooMany(at));
@@ -256,13 +263,10 @@ pub fn args(
 
 #[cycle(expr)]
 #[tactic(auto, unfolding(proc_grammar::specs::Reading::some_args))]
-fn some_args(
-    alloc: Global,
-    tokens: &mut Cursor<'_, '_>,
-    room: u32,
-) -> Result<Vec<Arg>, ParseFault>
+fn some_args(alloc: Global, tokens: &mut Cursor<'_, '_>, room: u32) -> Result<Vec<Arg>, ParseFault>
     requires { 0 < room }
-    ensures { GivesAs (λ v. v.items) result tokens.new (some_args plain_trees true full room (inner_expr plain_trees true full room) tokens.old) }
+    ensures { GivesAs (λ v. v.items) result tokens.new
+        (some_args plain_trees true full room (inner_expr plain_trees true full room) tokens.old) }
 {
     let first = arg(alloc, tokens, room, 0)?;
     let args = more_args(alloc, tokens, room, first)?;
@@ -302,7 +306,8 @@ fn another(
 ) -> Result<Arg, ParseFault>
     requires room { 0 < room }
     requires used { used ≤ MOST_REGISTERS }
-    ensures exact { Gives result tokens.new (another_arg plain_trees true full room (inner_expr plain_trees true full room) used tokens.old) }
+    ensures exact { Gives result tokens.new
+        (another_arg plain_trees true full room (inner_expr plain_trees true full room) used tokens.old) }
     ensures few { IfOk result (λ a. used + registers_of a ≤ MOST_REGISTERS) }
 {
     tokens.sign(b',')?;
@@ -312,15 +317,11 @@ fn another(
 // An argument behind others that take so many registers.
 #[cycle(expr)]
 #[tactic(auto, unfolding(proc_grammar::specs::Reading::next_arg, proc_grammar::specs::Reading::arg_proc, proc_grammar::specs::Reading::arg_value, phrases::specs::Reading::case_next))]
-fn arg(
-    alloc: Global,
-    tokens: &mut Cursor<'_, '_>,
-    room: u32,
-    used: u32,
-) -> Result<Arg, ParseFault>
+fn arg(alloc: Global, tokens: &mut Cursor<'_, '_>, room: u32, used: u32) -> Result<Arg, ParseFault>
     requires room { 0 < room }
     requires used { used ≤ MOST_REGISTERS }
-    ensures exact { Gives result tokens.new (next_arg plain_trees true full room (inner_expr plain_trees true full room) used tokens.old) }
+    ensures exact { Gives result tokens.new
+        (next_arg plain_trees true full room (inner_expr plain_trees true full room) used tokens.old) }
     ensures few { IfOk result (λ a. used + registers_of a ≤ MOST_REGISTERS) }
 {
     let Some(at) = tokens.take_word(b"proc") else {

@@ -5,7 +5,8 @@ ghost use Rattle.proc_language.specs.declared.TheConstants.{MOST_ITEMS};
 ghost use Rattle.proc_grammar.specs.Grammar.{is_initial, is_length, is_return_count, signed, one_more};
 ghost use Rattle.proc_grammar.specs.Lexemes.{word};
 ghost use Rattle.proc_grammar.specs.Reader.{many};
-ghost use Rattle.proc_grammar.specs.Reading.{full, next_num, next_field, next_length, next_minus, next_initial, next_movable};
+ghost use Rattle.proc_grammar.specs.Reading.{full, next_num, next_field, next_length, next_minus};
+ghost use Rattle.proc_grammar.specs.Reading.{next_initial, next_movable};
 ghost use Rattle.proc_grammar.specs.Reading.{next_import, next_global, next_header};
 
 use crate::cursor::Cursor;
@@ -14,9 +15,13 @@ use proc_grammar::{Header, ParseFault};
 use proc_language::{Global, Import, LONGEST_ARRAY, MOST_ITEMS, MOST_REGISTERS, MOST_SEALS};
 use std::alloc::Global as Heap;
 
+// 2^63, the first number above those of 64 bits with a sign.
+const BEYOND_I64: u64 = 9_223_372_036_854_775_808;
+
 /// The imports.
 pub fn imports(alloc: Heap, tokens: &mut Cursor<'_, '_>) -> Result<Vec<Import>, ParseFault>
-    ensures { GivesAs (λ v. v.items) result tokens.new (many full (word (codes "import")) one_more (next_import [] true) 0 tokens.old) }
+    ensures { GivesAs (λ v. v.items) result tokens.new
+        (many full (word (codes "import")) one_more (next_import [] true) 0 tokens.old) }
 {
     let mut imports = Vec::new(alloc);
     while tokens.is_word(b"import") {
@@ -28,7 +33,8 @@ pub fn imports(alloc: Heap, tokens: &mut Cursor<'_, '_>) -> Result<Vec<Import>, 
 
 /// The globals.
 pub fn globals(alloc: Heap, tokens: &mut Cursor<'_, '_>) -> Result<Vec<Global>, ParseFault>
-    ensures { GivesAs (λ v. v.items) result tokens.new (many full (word (codes "global")) one_more (next_global [] true) 0 tokens.old) }
+    ensures { GivesAs (λ v. v.items) result tokens.new
+        (many full (word (codes "global")) one_more (next_global [] true) 0 tokens.old) }
 {
     let mut globals = Vec::new(alloc);
     while tokens.is_word(b"global") {
@@ -116,9 +122,9 @@ fn is_initial(negative: bool, number: u64) -> bool
     ensures { result ≡ is_initial negative number }
 {
     if negative {
-        number <= 9_223_372_036_854_775_808
+        number <= BEYOND_I64
     } else {
-        number < 9_223_372_036_854_775_808
+        number < BEYOND_I64
     }
 }
 
@@ -129,7 +135,7 @@ fn signed(negative: bool, number: u64) -> i64
     if !negative {
         return number as i64;
     }
-    if number == 9_223_372_036_854_775_808 {
+    if number == BEYOND_I64 {
         i64::MIN
     } else {
         -(number as i64)

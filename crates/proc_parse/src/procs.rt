@@ -8,7 +8,8 @@ ghost use Rattle.proc_language.specs.Limits.{param_registers};
 ghost use Rattle.proc_grammar.specs.Grammar.{behind_local, room_in_body};
 ghost use Rattle.proc_grammar.specs.PlainTrees.{plain_trees};
 ghost use Rattle.proc_grammar.specs.Reader.{many};
-ghost use Rattle.proc_grammar.specs.Reading.{full, arity_behind, next_param, another_param, some_params, next_params, next_local};
+ghost use Rattle.proc_grammar.specs.Reading.{full, arity_behind, next_param, another_param, some_params};
+ghost use Rattle.proc_grammar.specs.Reading.{next_params, next_local};
 ghost use Rattle.proc_grammar.specs.Reading.{next_stmts, proc_behind, next_proc};
 
 use crate::cursor::Cursor;
@@ -126,7 +127,9 @@ fn local(alloc: Global, tokens: &mut Cursor<'_, '_>, count: u32) -> Result<Name,
 }
 
 fn locals(alloc: Global, tokens: &mut Cursor<'_, '_>) -> Result<Vec<Name>, ParseFault>
-    ensures { GivesAs (λ v. v.items) result tokens.new (many full (word (codes "local")) (behind_local plain_trees) (next_local plain_trees true full) 0 tokens.old) }
+    ensures { GivesAs (λ v. v.items) result tokens.new
+        (many full (word (codes "local")) (behind_local plain_trees)
+        (next_local plain_trees true full) 0 tokens.old) }
 {
     let mut locals = Vec::new(alloc);
     while tokens.is_word(b"local") {

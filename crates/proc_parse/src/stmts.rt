@@ -2,8 +2,10 @@
 ghost use Rattle.std.specs.Prelude.{◌≡◌, true, ◌<◌, Ok};
 ghost use Rattle.proc_parse.specs.Answers.{GivesAs, Gives};
 ghost use Rattle.proc_grammar.specs.PlainTrees.{plain_trees};
-ghost use Rattle.proc_grammar.specs.Reading.{full, next_stmts, inner_stmts, stmts_with, next_stmt, next_block, next_else, if_behind, while_behind};
-ghost use Rattle.proc_grammar.specs.Reading.{return_behind, halt_behind, behind_target, set_behind, set_at_behind, calls_behind, name_stmt};
+ghost use Rattle.proc_grammar.specs.Reading.{full, next_stmts, inner_stmts, stmts_with, next_stmt};
+ghost use Rattle.proc_grammar.specs.Reading.{next_block, next_else, if_behind, while_behind};
+ghost use Rattle.proc_grammar.specs.Reading.{return_behind, halt_behind, behind_target, set_behind};
+ghost use Rattle.proc_grammar.specs.Reading.{set_at_behind, calls_behind, name_stmt};
 
 use crate::cursor::Cursor;
 use crate::exprs::{args, index, whole};
@@ -15,12 +17,9 @@ use std::alloc::Global;
 /// The statements that stand here, inside which `room` brackets may be opened.
 #[cycle(stmt)]
 #[tactic(auto, unfolding(proc_grammar::specs::Reading::stmts_with))]
-fn stmts(
-    alloc: Global,
-    tokens: &mut Cursor<'_, '_>,
-    room: u32,
-) -> Result<Vec<Stmt>, ParseFault>
-    ensures { GivesAs (λ v. v.items) result tokens.new (stmts_with plain_trees true full room (inner_stmts plain_trees true full room) tokens.old) }
+fn stmts(alloc: Global, tokens: &mut Cursor<'_, '_>, room: u32) -> Result<Vec<Stmt>, ParseFault>
+    ensures { GivesAs (λ v. v.items) result tokens.new
+        (stmts_with plain_trees true full room (inner_stmts plain_trees true full room) tokens.old) }
 {
     let mut stmts = Vec::new(alloc);
     while tokens.starts_stmt() {
@@ -43,12 +42,9 @@ pub fn whole_body(
 
 #[cycle(stmt)]
 #[tactic(auto, unfolding(proc_grammar::specs::Reading::next_stmt, phrases::specs::Reading::case_next))]
-fn stmt(
-    alloc: Global,
-    tokens: &mut Cursor<'_, '_>,
-    room: u32,
-) -> Result<Stmt, ParseFault>
-    ensures { Gives result tokens.new (next_stmt plain_trees true full room (inner_stmts plain_trees true full room) tokens.old) }
+fn stmt(alloc: Global, tokens: &mut Cursor<'_, '_>, room: u32) -> Result<Stmt, ParseFault>
+    ensures { Gives result tokens.new
+        (next_stmt plain_trees true full room (inner_stmts plain_trees true full room) tokens.old) }
 {
     if let Some(at) = tokens.take_word(b"if") {
         return if_stmt(alloc, tokens, room, at);
@@ -74,12 +70,9 @@ struct Braced {
 
 #[cycle(stmt)]
 #[tactic(auto, unfolding(proc_grammar::specs::Reading::next_block))]
-fn block(
-    alloc: Global,
-    tokens: &mut Cursor<'_, '_>,
-    room: u32,
-) -> Result<Braced, ParseFault>
-    ensures { GivesAs (λ b. (b.stmts, b.end)) result tokens.new (next_block plain_trees true full room (inner_stmts plain_trees true full room) tokens.old) }
+fn block(alloc: Global, tokens: &mut Cursor<'_, '_>, room: u32) -> Result<Braced, ParseFault>
+    ensures { GivesAs (λ b. (b.stmts, b.end)) result tokens.new
+        (next_block plain_trees true full room (inner_stmts plain_trees true full room) tokens.old) }
 {
     let at = tokens.sign(b'{')?;
     if room == 0 {
@@ -92,11 +85,7 @@ fn block(
 
 // The statements inside one more bracket.
 #[cycle(stmt)]
-fn inner(
-    alloc: Global,
-    tokens: &mut Cursor<'_, '_>,
-    room: u32,
-) -> Result<Vec<Stmt>, ParseFault>
+fn inner(alloc: Global, tokens: &mut Cursor<'_, '_>, room: u32) -> Result<Vec<Stmt>, ParseFault>
     requires { 0 < room }
     ensures { GivesAs (λ v. v.items) result tokens.new (inner_stmts plain_trees true full room tokens.old) }
 {
@@ -111,7 +100,8 @@ fn if_stmt(
     room: u32,
     at: u32,
 ) -> Result<Stmt, ParseFault>
-    ensures { Gives result tokens.new (if_behind plain_trees true full room (inner_stmts plain_trees true full room) at tokens.old) }
+    ensures { Gives result tokens.new
+        (if_behind plain_trees true full room (inner_stmts plain_trees true full room) at tokens.old) }
 {
     let condition = whole(alloc, tokens, room)?;
     let body = block(alloc, tokens, room)?;
@@ -128,7 +118,9 @@ fn if_else(
     condition: Expr,
     body: Braced,
 ) -> Result<Stmt, ParseFault>
-    ensures { Gives result tokens.new (next_else plain_trees true full room (inner_stmts plain_trees true full room) at condition body.stmts body.end tokens.old) }
+    ensures { Gives result tokens.new
+        (next_else plain_trees true full room
+        (inner_stmts plain_trees true full room) at condition body.stmts body.end tokens.old) }
 {
     if tokens.take_word(b"else").is_none() {
         return Ok(Stmt {
@@ -151,7 +143,8 @@ fn while_stmt(
     room: u32,
     at: u32,
 ) -> Result<Stmt, ParseFault>
-    ensures { Gives result tokens.new (while_behind plain_trees true full room (inner_stmts plain_trees true full room) at tokens.old) }
+    ensures { Gives result tokens.new
+        (while_behind plain_trees true full room (inner_stmts plain_trees true full room) at tokens.old) }
 {
     let condition = whole(alloc, tokens, room)?;
     let body = block(alloc, tokens, room)?;
@@ -168,7 +161,8 @@ fn return_stmt(
     room: u32,
     at: u32,
 ) -> Result<Stmt, ParseFault>
-    ensures { Gives result tokens.new (return_behind plain_trees true full room (inner_stmts plain_trees true full room) at tokens.old) }
+    ensures { Gives result tokens.new
+        (return_behind plain_trees true full room (inner_stmts plain_trees true full room) at tokens.old) }
 {
     let value = whole(alloc, tokens, room)?;
     tokens.sign(b';')?;
@@ -185,7 +179,8 @@ fn halt_stmt(
     room: u32,
     at: u32,
 ) -> Result<Stmt, ParseFault>
-    ensures { Gives result tokens.new (halt_behind plain_trees true full room (inner_stmts plain_trees true full room) at tokens.old) }
+    ensures { Gives result tokens.new
+        (halt_behind plain_trees true full room (inner_stmts plain_trees true full room) at tokens.old) }
 {
     let value = whole(alloc, tokens, room)?;
     tokens.sign(b';')?;
@@ -196,12 +191,9 @@ fn halt_stmt(
 }
 
 #[tactic(auto, unfolding(proc_grammar::specs::Reading::name_stmt))]
-fn name_stmt(
-    alloc: Global,
-    tokens: &mut Cursor<'_, '_>,
-    room: u32,
-) -> Result<Stmt, ParseFault>
-    ensures { Gives result tokens.new (name_stmt plain_trees true full room (inner_stmts plain_trees true full room) tokens.old) }
+fn name_stmt(alloc: Global, tokens: &mut Cursor<'_, '_>, room: u32) -> Result<Stmt, ParseFault>
+    ensures { Gives result tokens.new
+        (name_stmt plain_trees true full room (inner_stmts plain_trees true full room) tokens.old) }
 {
     let name = tokens.name(alloc)?;
     behind_target(alloc, tokens, room, name)
@@ -214,7 +206,8 @@ fn behind_target(
     room: u32,
     name: Name,
 ) -> Result<Stmt, ParseFault>
-    ensures { Gives result tokens.new (behind_target plain_trees true full room (inner_stmts plain_trees true full room) name tokens.old) }
+    ensures { Gives result tokens.new
+        (behind_target plain_trees true full room (inner_stmts plain_trees true full room) name tokens.old) }
 {
     if tokens.take_sign(b'=').is_some() {
         return set(alloc, tokens, room, name);
@@ -233,7 +226,8 @@ fn set(
     room: u32,
     name: Name,
 ) -> Result<Stmt, ParseFault>
-    ensures { Gives result tokens.new (set_behind plain_trees true full room (inner_stmts plain_trees true full room) name tokens.old) }
+    ensures { Gives result tokens.new
+        (set_behind plain_trees true full room (inner_stmts plain_trees true full room) name tokens.old) }
 {
     let at = name.at;
     let value = whole(alloc, tokens, room)?;
@@ -252,7 +246,9 @@ fn set_at(
     name: Name,
     bracket: u32,
 ) -> Result<Stmt, ParseFault>
-    ensures { Gives result tokens.new (set_at_behind plain_trees true full room (inner_stmts plain_trees true full room) name bracket tokens.old) }
+    ensures { Gives result tokens.new
+        (set_at_behind plain_trees true full room
+        (inner_stmts plain_trees true full room) name bracket tokens.old) }
 {
     let at = name.at;
     let index = index(alloc, tokens, room, bracket)?;
@@ -273,7 +269,9 @@ fn call(
     name: Name,
     bracket: u32,
 ) -> Result<Stmt, ParseFault>
-    ensures { Gives result tokens.new (calls_behind plain_trees true full room (inner_stmts plain_trees true full room) name bracket tokens.old) }
+    ensures { Gives result tokens.new
+        (calls_behind plain_trees true full room
+        (inner_stmts plain_trees true full room) name bracket tokens.old) }
 {
     let at = name.at;
     let args = Items::of(args(alloc, tokens, room, bracket)?);

@@ -218,7 +218,8 @@ p x = S1+!(;
 p x = R!(;";
 
 // Texts that spell modules: at the ends of limits, and blanks, line ends and comments where they may stand.
-const MODULES: &[u8] = b"- module m code 1048575 data 1048575 closure 1048575 returns 1048575 1 stack 1048575; proc p() { }
+const MODULES: &[u8] =
+    b"- module m code 1048575 data 1048575 closure 1048575 returns 1048575 1 stack 1048575; proc p() { }
 - module m code 0 data 0 closure 0 returns 0 4096 stack 0 movable; proc p() { }
 - module m code 0 data 0 closure 0 returns 1044480 4096 stack 0; proc p() { }
 - module m code 0 data 0 closure 0 returns 1048575 0 stack 0; proc p() { }
@@ -385,13 +386,23 @@ fn is_counted(
     let (text, _) = counted(alloc, letter, most, item, end)?;
     assert_eq!(rt; fault_of(rt, alloc, text.as_slice()), None);
     let (text, place) = counted(alloc, letter, most.saturating_add(1), item, end)?;
-    assert_eq!(rt; fault_of(rt, alloc, text.as_slice()), Some((TOO_MANY, place)));
+    assert_eq!(rt;
+        fault_of(rt, alloc, text.as_slice()),
+        Some((TOO_MANY, place))
+    );
     Ok(())
 }
 
 #[test]
 fn items_up_to_their_counts(rt: HostRuntime) -> Result<(), Fail> {
-    is_counted(&rt, rt.alloc(), b'h', 512, b"import a.b/0;\n", b"proc p() { }")?;
+    is_counted(
+        &rt,
+        rt.alloc(),
+        b'h',
+        512,
+        b"import a.b/0;\n",
+        b"proc p() { }",
+    )?;
     is_counted(&rt, rt.alloc(), b'h', 512, b"global x;\n", b"proc p() { }")?;
     is_counted(&rt, rt.alloc(), b'h', 512, b"proc p() { }\n", b"")?;
     is_counted(&rt, rt.alloc(), b'h', 512, b"export proc p() { }\n", b"")?;
@@ -427,7 +438,12 @@ fn printed(rt: &impl Abort, alloc: Global, text: &[u8]) -> Result<Vec<u8>, Parse
 }
 
 // What is printed of the first text's module, and of that text's, is the second text.
-fn is_printed_so(rt: &impl Abort, alloc: Global, text: &[u8], shown: &[u8]) -> Result<(), ParseFault> {
+fn is_printed_so(
+    rt: &impl Abort,
+    alloc: Global,
+    text: &[u8],
+    shown: &[u8],
+) -> Result<(), ParseFault> {
     let once = printed(rt, alloc, text)?;
     assert!(rt; once.as_slice() == shown);
     let again = printed(rt, alloc, once.as_slice())?;

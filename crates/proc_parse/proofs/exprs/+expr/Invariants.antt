@@ -50,22 +50,27 @@ decreases-arg l = l.room * 16
 
 abbrev pub invariant-more_terms-loop-sum : goal.invariant-more_terms-loop-sum
 invariant-more_terms-loop-sum l = record {
-    told : terms_behind l.room (full + 1 - l.count) l.count l.sum l.tokens ≡ terms_behind l.room (full + 1 - l.initial.count) l.initial.count l.initial.sum l.initial.tokens;
-    some : 1 ≤ l.count;
-    few : l.count ≤ MOST_TERMS;
-  }
+  told : terms_behind l.room (full + 1 - l.count) l.count l.sum l.tokens ≡ terms_behind l.room
+      (full + 1 - l.initial.count) l.initial.count l.initial.sum l.initial.tokens;
+  some : 1 ≤ l.count;
+  few : l.count ≤ MOST_TERMS;
+}
 
 abbrev pub decreases-more_terms-loop-sum : goal.decreases-more_terms-loop-sum
 decreases-more_terms-loop-sum l = MOST_TERMS + 1 - l.count
 
 abbrev pub invariant-more_args-loop-alloc : goal.invariant-more_args-loop-alloc
 invariant-more_args-loop-alloc l = record {
-    told : commas_behind registers_of (another_arg plain_trees true full l.room (inner_expr plain_trees true full l.room)) (full + 1 - length l.args.items) l.args.items l.used l.tokens
-        ≡ commas_behind registers_of (another_arg plain_trees true full l.room (inner_expr plain_trees true full l.room)) (full + 1 - length l.initial.args.items) l.initial.args.items l.initial.used l.initial.tokens;
-    some : 1 ≤ length l.args.items;
-    each : length l.args.items ≤ l.used;
-    few : l.used ≤ MOST_REGISTERS;
-  }
+  told : commas_behind registers_of
+      (another_arg plain_trees true full l.room (inner_expr plain_trees true full l.room))
+      (full + 1 - length l.args.items) l.args.items l.used l.tokens
+      ≡ commas_behind registers_of
+      (another_arg plain_trees true full l.room (inner_expr plain_trees true full l.room))
+      (full + 1 - length l.initial.args.items) l.initial.args.items l.initial.used l.initial.tokens;
+  some : 1 ≤ length l.args.items;
+  each : length l.args.items ≤ l.used;
+  few : l.used ≤ MOST_REGISTERS;
+}
 
 abbrev pub decreases-more_args-loop-alloc : goal.decreases-more_args-loop-alloc
 decreases-more_args-loop-alloc l = MOST_REGISTERS + 1 - l.used

@@ -10,9 +10,11 @@ use Rattle.proc_parse.proofs.items.globals.Given as goal
 
 abbrev pub invariant-loop-alloc : goal.invariant-loop-alloc
 invariant-loop-alloc l = record {
-    told : with_front l.globals.items (many (full - length l.globals.items) (word (codes "global")) one_more (next_global [] true) (length l.globals.items) l.tokens) ≡ many full (word (codes "global")) one_more (next_global [] true) 0 l.initial.tokens;
-    few : length l.globals.items ≤ MOST_ITEMS;
-  }
+  told : with_front l.globals.items (many (full - length l.globals.items) (word (codes "global")) one_more
+      (next_global [] true) (length l.globals.items) l.tokens) ≡ many full (word (codes "global")) one_more
+      (next_global [] true) 0 l.initial.tokens;
+  few : length l.globals.items ≤ MOST_ITEMS;
+}
 
 abbrev pub decreases-loop-alloc : goal.decreases-loop-alloc
 decreases-loop-alloc l = MOST_ITEMS + 1 - length l.globals.items

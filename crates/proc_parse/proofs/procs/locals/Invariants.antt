@@ -11,9 +11,11 @@ use Rattle.proc_parse.proofs.procs.locals.Given as goal
 
 abbrev pub invariant-loop-alloc : goal.invariant-loop-alloc
 invariant-loop-alloc l = record {
-    told : with_front l.locals.items (many (full - length l.locals.items) (word (codes "local")) one_more (next_local plain_trees true full) (length l.locals.items) l.tokens) ≡ many full (word (codes "local")) one_more (next_local plain_trees true full) 0 l.initial.tokens;
-    few : length l.locals.items ≤ MOST_LOCALS;
-  }
+  told : with_front l.locals.items (many (full - length l.locals.items) (word (codes "local")) one_more
+      (next_local plain_trees true full) (length l.locals.items) l.tokens) ≡ many full
+      (word (codes "local")) one_more (next_local plain_trees true full) 0 l.initial.tokens;
+  few : length l.locals.items ≤ MOST_LOCALS;
+}
 
 abbrev pub decreases-loop-alloc : goal.decreases-loop-alloc
 decreases-loop-alloc l = MOST_LOCALS + 1 - length l.locals.items

@@ -1,4 +1,4 @@
-use Rattle.std.proofs.Common.{[], ◌≡◌, ◌≤◌, ◌+◌, ◌*◌, ◌-◌, true, length}
+use Rattle.std.proofs.Common.{[], ◌≡◌, ◌+◌, ◌*◌, ◌-◌, true, length}
 use Rattle.proc_parse.specs.Loops.{with_front}
 use Rattle.proc_grammar.specs.PlainTrees.{plain_trees}
 use Rattle.proc_grammar.specs.Lexemes.{a_start}
@@ -28,7 +28,11 @@ abbrev pub decreases-inner : goal.decreases-inner
 decreases-inner l = l.room * 8 + 0
 
 abbrev pub invariant-stmts-loop-alloc : goal.invariant-stmts-loop-alloc
-invariant-stmts-loop-alloc l = with_front l.stmts.items (many (full - length l.stmts.items) (a_start []) (λ u s. u) (λ (u : Unit {0}). next_stmt plain_trees true full l.room (inner_stmts plain_trees true full l.room)) tt l.tokens) ≡ many full (a_start []) (λ u s. u) (λ (u : Unit {0}). next_stmt plain_trees true full l.room (inner_stmts plain_trees true full l.room)) tt l.initial.tokens
+invariant-stmts-loop-alloc l = with_front l.stmts.items (many (full - length l.stmts.items) (a_start [])
+    (λ u s. u) (λ (u : Unit {0}). next_stmt plain_trees true full l.room
+    (inner_stmts plain_trees true full l.room)) tt l.tokens) ≡ many full (a_start []) (λ u s. u)
+    (λ (u : Unit {0}). next_stmt plain_trees true full l.room
+    (inner_stmts plain_trees true full l.room)) tt l.initial.tokens
 
 abbrev pub decreases-stmts-loop-alloc : goal.decreases-stmts-loop-alloc
 decreases-stmts-loop-alloc l = full - length l.stmts.items
