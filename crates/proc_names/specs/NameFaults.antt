@@ -1,6 +1,6 @@
 -- The faults of names in a module. docs/LANGUAGE.md has the rules in words.
 use Rattle.std.specs.Prelude.{ℕ, ◌==◌, Bool, true, false, ◌&&◌, not, is_some, is_none, List, [], ◌∷◌, ◌++◌}
-use Rattle.std.specs.Prelude.{map, slice_get, Option, Some, None, option_map}
+use Rattle.std.specs.Prelude.{map, slice_get, Option, Some, None, option_map, Result, Ok, Err}
 use Rattle.std.specs.Option.{option_map_or, option_and_then}
 use Rattle.proc_language.specs.declared.tree.Name.{Name}
 use Rattle.proc_language.specs.declared.module.Import.{Import}
@@ -18,7 +18,7 @@ use Rattle.proc_names.specs.declared.scope.Variable.{Variable}
 use Rattle.proc_names.specs.declared.scope.Variable.TheVariants as variable_of
 use Rattle.proc_names.specs.declared.scope.Callee.{Callee}
 use Rattle.proc_names.specs.declared.scope.Callee.TheVariants as callee_of
-use Rattle.proc_names.specs.Faults.{unless}
+use Rattle.proc_names.specs.Faults.{first, unless}
 use Rattle.proc_names.specs.Names.{same, variable_named, callee_named, passed_named}
 
 -- ---- variables
@@ -147,3 +147,11 @@ procs_faults m (p ∷ procs) = proc_faults m p ++ procs_faults m procs
 
 abbrev pub name_faults : ModuleFields → List NameFault
 name_faults m = twice (item_names m) ++ procs_faults m m.procs
+
+-- none, or the first
+abbrev pub none_or : Option NameFault → Result (Unit {0}) NameFault
+none_or None = Ok tt
+none_or (Some f) = Err f
+
+abbrev pub resolved : ModuleFields → Result (Unit {0}) NameFault
+resolved m = none_or (first (name_faults m))

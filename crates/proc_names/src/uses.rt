@@ -8,7 +8,7 @@ ghost use Rattle.proc_names.specs.Names.{variable_named, callee_named, passed_na
 ghost use Rattle.proc_names.specs.NameFaults.{plain_faults, array_faults, fit, registers_fit, callback_arity};
 ghost use Rattle.proc_names.specs.NameFaults.{import_arity, fit_proc, call_faults, passed_faults};
 ghost use Rattle.proc_names.specs.NameFaults.{expr_faults, args_faults, stmt_faults, block_faults};
-ghost use Rattle.proc_names.specs.NameFaults.{proc_faults, procs_faults, name_faults};
+ghost use Rattle.proc_names.specs.NameFaults.{proc_faults, procs_faults, name_faults, resolved};
 
 use crate::fault::{NameFault, earlier};
 use crate::repeats::{items_twice, own_twice};
@@ -23,6 +23,8 @@ use proc_language::{
 pub fn resolve(m: &Module) -> Result<(), NameFault>
     ensures fine { IsOk result ↔ (name_faults m.now ≡ []) }
     ensures first { IfErr result (IsFirst (name_faults m.now)) }
+    // The same as a function: so there is one answer.
+    ensures is { result ≡ resolved m.now }
 {
     match first_fault(m.fields()) {
         None => Ok(()),

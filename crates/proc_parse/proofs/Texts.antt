@@ -1,6 +1,6 @@
 -- The tokens of a text that end no line, and what is read of them.
-use Rattle.std.proofs.Common.{◌≡◌, Bool, true, false, cond, ℕ, ◌+◌, ◌-◌, ◌≤◌, ◌<◌, map, List, []}
-use Rattle.std.proofs.Common.{◌∷◌, ◌++◌, length, drop, Some, None, refl, sym, ap, ◌∙◌, arith}
+use Rattle.std.proofs.Common.{◌≡◌, Bool, true, false, cond, ℕ, zero, suc, ◌+◌, ◌-◌, ◌≤◌, ◌<◌, map, List, []}
+use Rattle.std.proofs.Common.{◌∷◌, ◌++◌, length, take, drop, Option, Some, None, refl, sym, ap, ◌∙◌, arith}
 use Rattle.std.proofs.Common.{subst, inl, inr, ◌⊎◌}
 use Rattle.std.specs.Prelude.{Result, Ok, Err, IfOk, IfErr, IsOkAnd, All, slice_range}
 use Rattle.std.proofs.lemmas.List.{length-take}
@@ -10,6 +10,7 @@ use Rattle.text_scan.specs.declared.token.TokenKind.TheVariants as kinds
 use Rattle.text_scan.specs.declared.token.Token.{Token}
 use Rattle.text_scan.specs.declared.fault.ScanFault.{ScanFault}
 use Rattle.text_scan.specs.declared.fault.ScanFault.TheVariants as scans
+use Rattle.readers.specs.Answers as answers
 use Rattle.text_scan.specs.Fault as scan
 use Rattle.text_scan.specs.Tokens.{scanned}
 use Rattle.text_scan.specs.Grammar.{HasTokens, HasFault, IsSpelled, IsTokenText, Placed}
@@ -290,7 +291,7 @@ abbrev pub refused : ScanFault → Result ModuleFields ParseFault
 refused f = Err (of_scan f)
 
 module _ (text : List ℕ) where
-  pub none_exact : (f : ScanFault) → scan.Fails f (scanned text) → AnswersAs (λ m. m) (refused f)
+  pub none_exact : (f : ScanFault) → answers.Fails scan.is_refusal f (scanned text) → AnswersAs (λ m. m) (refused f)
       (parsed_text text)
   none_exact (scans.BadByte at) e = ap (parsed_scan text) e
   none_exact (scans.NumberTooLarge at) e = ap (parsed_scan text) e
