@@ -5,6 +5,8 @@
 //! the component.
 #![tactic(auto)]
 
+pub mod laws;
+
 /// A procedure's frame, and where the data of its module begin.
 #[derive(Clone, Copy, Debug, PartialEq, Eq)]
 pub struct Frame {
