@@ -10,8 +10,9 @@ use Rattle.call_sequence.specs.Sequences.{call_code, return_code, entry_code}
 use Rattle.proc_program.specs.declared.program.Part.{Part}
 use Rattle.proc_program.specs.Lower.{part_of}
 use Rattle.proc_templates.specs.Items.{put, instrs}
-use Rattle.proc_templates.specs.Templates.{proc_words, before_epilogue}
-use Rattle.proc_templates.specs.Compiled.{frame_of, laid_of, lay_proc, code_words, data_count, data_of, exports_of}
+use Rattle.proc_templates.specs.Templates.{before_epilogue}
+use Rattle.proc_templates.specs.Compiled.{frame_of, laid_of, lay_proc, code_words, data_count, data_of}
+use Rattle.proc_templates.specs.Compiled.{exports_of}
 
 named : List ℕ → Name
 named text = record { text = text; at = 0 }
@@ -39,7 +40,8 @@ bank_module = record {
     params = record { name = named (codes "n"); arity = None } ∷ [];
     locals = [];
     body =
-        set 0 (named (codes "balance")) (op 0 operator.Plus (var 0 (named (codes "balance"))) (var 0 (named (codes "n"))))
+        set 0 (named (codes "balance"))
+        (op 0 operator.Plus (var 0 (named (codes "balance"))) (var 0 (named (codes "n"))))
         ∷ do_call 0 (named (codes "notify")) (value (var 0 (named (codes "balance"))) no_args)
         ∷ return 0 (var 0 (named (codes "balance"))) ∷ [];
   } ∷ [];
@@ -74,7 +76,8 @@ callback_module = record {
     at = 0;
     shared = true;
     name = named (codes "twice");
-    params = record { name = named (codes "f"); arity = Some 1 } ∷ record { name = named (codes "x"); arity = None } ∷ [];
+    params = record { name = named (codes "f"); arity = Some 1 }
+        ∷ record { name = named (codes "x"); arity = None } ∷ [];
     locals = [];
     body = return 0 (call 0 (named (codes "f"))
         (value (call 0 (named (codes "f")) (value (var 0 (named (codes "x"))) no_args)) no_args)) ∷ [];
@@ -86,11 +89,14 @@ callbacks = part_of callback_module
 
 bank_counts : (code_words bank ≡ 124) × (length (laid_of bank).code ≡ 124) × ((laid_of bank).sites ≡ 68 ∷ [])
     × (length (data_of bank) ≡ 5) × (data_count bank ≡ 5)
-unfolding bank bank_module named code_words data_count proc_words frame_of laid_of lay_proc before_epilogue put instrs data_of call_code return_code entry_code variable_named callee_named passed_named
+unfolding bank bank_module named code_words data_count frame_of laid_of lay_proc before_epilogue
+    put instrs data_of call_code return_code entry_code variable_named callee_named passed_named
 bank_counts = (refl, refl, refl, refl, refl)
 
 callback_counts : (code_words callbacks ≡ 254) × (length (laid_of callbacks).code ≡ 254)
     × ((laid_of callbacks).sites ≡ 38 ∷ 152 ∷ 197 ∷ []) × (length (data_of callbacks) ≡ 6)
     × (map (λ e. e.offset) (exports_of callbacks) ≡ 2 ∷ 85 ∷ [])
-unfolding callbacks callback_module named code_words data_count proc_words frame_of laid_of lay_proc before_epilogue put instrs data_of exports_of call_code return_code entry_code variable_named callee_named passed_named
+unfolding callbacks callback_module named code_words data_count frame_of laid_of lay_proc
+    before_epilogue put instrs data_of exports_of call_code return_code entry_code variable_named callee_named
+    passed_named
 callback_counts = (refl, refl, refl, refl, refl)

@@ -1,5 +1,6 @@
 -- The immediates of the templates are numbers that instructions can have.
-use Rattle.std.proofs.Common.{ℕ, zero, suc, ◌+◌, ◌-◌, ◌*◌, ◌≤◌, Bool, true, false, List, [], ◌∷◌, ◌++◌, drop, arith, pos}
+use Rattle.std.proofs.Common.{ℕ, zero, suc, ◌+◌, ◌-◌, ◌*◌, ◌≤◌, Bool, true, false, List, [], ◌∷◌, ◌++◌, drop}
+use Rattle.std.proofs.Common.{arith, pos}
 use Rattle.std.specs.Prelude.{FitsSigned}
 use Rattle.std.specs.Int.{w32}
 use Rattle.cap_words.specs.declared.TheConstants.{LAST_PLACE}
@@ -24,8 +25,13 @@ use Rattle.proc_program.specs.declared.program.Handle.{Handle}
 use Rattle.proc_program.specs.declared.program.Handle.TheVariants.{Given, Own, Imported}
 use Rattle.proc_program.specs.declared.program.Row.{Row}
 use Rattle.proc_templates.specs.declared.Frame.{Frame}
-use Rattle.proc_templates.specs.Templates.{pair_words, op_words, exp_words, args_words, step_words, block_words, at_slot, at_glob, load_var, store_var, at_element, load_pair, op_code, arguments, argument, load_args, zeros, code, args_code, step_code, block_code, if_code, check_param, check_params, pushed, push, wipe, epilogue, proc_code}
-use Rattle.proc_templates.specs.Bounds.{PlaceBound, RowBound, HandleBound, ExpBound, ArgsBound, StepBound, BlockBound}
+use Rattle.proc_templates.specs.Templates.{pair_words, op_words, exp_words, args_words, step_words}
+use Rattle.proc_templates.specs.Templates.{block_words, at_slot, at_glob, load_var, store_var, at_element}
+use Rattle.proc_templates.specs.Templates.{load_pair, op_code, arguments, argument, load_args, zeros, code}
+use Rattle.proc_templates.specs.Templates.{args_code, step_code, block_code, if_code, check_param}
+use Rattle.proc_templates.specs.Templates.{check_params, pushed, push, wipe, epilogue, proc_code}
+use Rattle.proc_templates.specs.Bounds.{PlaceBound, RowBound, HandleBound, ExpBound, ArgsBound, StepBound}
+use Rattle.proc_templates.specs.Bounds.{BlockBound}
 use Rattle.proc_templates.specs.Fit.{AllFit, ItemFits, ItemsFit}
 use Rattle.proc_templates.proofs.Standing.{zero_fits}
 
@@ -74,7 +80,10 @@ op_fits operator.Equal = record { by = (tt, (tt, (tt, (near 1 (omega arith), (tt
 
 module _ (f : Frame) (words : f.words ≤ LAST_PLACE) where
   slot_fits : (j : ℕ) (i : Instr) → j ≤ LAST_PLACE → IsInstr i → Fit (at_slot f j i)
-  slot_fits j i h g = record { by = (near_operand j f.words h words, (g, (near_operand f.words j words h, tt))) }
+  slot_fits j i h g = record {
+    by
+        = (near_operand j f.words h words, (g, (near_operand f.words j words h, tt)));
+  }
 
   glob_fits : (o : ℕ) (i : Instr) → o ≤ LAST_PLACE → IsInstr i → Fit (at_glob o i)
   glob_fits o i h g = record { by = (near o h, (g, (near_operand o 0 h (omega arith), tt))) }
@@ -89,7 +98,12 @@ module _ (f : Frame) (words : f.words ≤ LAST_PLACE) where
 
   linked_fits : (k : ℕ) (r q : Reg) → k + 1 ≤ LAST_PLACE → Fit (templates.load_linked k r q)
   linked_fits k r q h =
-      record { by = (near k (omega (arith, h)), (tt, (near 1 (omega arith), (tt, (near_operand (k + 1) 0 h (omega arith), tt))))) }
+      record {
+        by = (
+          near k (omega (arith, h)),
+          (tt, (near 1 (omega arith), (tt, (near_operand (k + 1) 0 h (omega arith), tt)))),
+        );
+      }
 
   pair_fits : (p : Handle) (r q : Reg) → HandleBound f p → Fit (load_pair f p r q)
   pair_fits (Given i) r q h =
@@ -107,17 +121,25 @@ module _ (f : Frame) (words : f.words ≤ LAST_PLACE) where
         );
       }
 
-  load_args_fit : (args : Args) (t i : ℕ) → ArgsBound f args → t + i + args_words args ≤ LAST_PLACE → Fit (load_args f t i args)
+  load_args_fit : (args : Args) (t i : ℕ) → ArgsBound f args → t + i + args_words args ≤ LAST_PLACE
+      → Fit (load_args f t i args)
   load_args_fit no_args t i w h = none
-  load_args_fit (value e args) t i w h = fits_both (at_slot f (t + i) (instr.Load (argument i) Stk)) _ (slot_fits (t + i) (instr.Load (argument i) Stk) (omega (arith, h)) tt) (load_args_fit args t (i + 1) w.1 (omega (arith, h)))
+  load_args_fit (value e args) t i w h =
+      fits_both (at_slot f (t + i) (instr.Load (argument i) Stk)) _
+      (slot_fits (t + i) (instr.Load (argument i) Stk) (omega (arith, h)) tt)
+      (load_args_fit args t (i + 1) w.1 (omega (arith, h)))
   load_args_fit (pass x args) t i w h =
       let n = pair_least x in
-      fits_both (load_pair f x (argument i) (argument (i + 1))) _ (pair_fits x (argument i) (argument (i + 1)) w.0) (load_args_fit args t (i + 2) w.1 (omega (arith, h, n)))
+      fits_both (load_pair f x (argument i) (argument (i + 1))) _
+      (pair_fits x (argument i) (argument (i + 1)) w.0)
+      (load_args_fit args t (i + 2) w.1 (omega (arith, h, n)))
 
-  call_fits : (t : ℕ) (x : Handle) (args : Args) → HandleBound f x → ArgsBound f args → t + args_words args ≤ LAST_PLACE → Fit (templates.call_code f t x args)
+  call_fits : (t : ℕ) (x : Handle) (args : Args) → HandleBound f x → ArgsBound f args
+      → t + args_words args ≤ LAST_PLACE → Fit (templates.call_code f t x args)
   call_fits t x args b w h =
       fits_both (load_args f t 0 args) _ (load_args_fit args t 0 w (omega (arith, h)))
-      (fits_both (zeros (drop (arg_registers args) arguments)) _ (zeros_fit (drop (arg_registers args) arguments))
+      (fits_both (zeros (drop (arg_registers args) arguments)) _
+      (zeros_fit (drop (arg_registers args) arguments))
       (fits_both (load_pair f x C1 C2) _ (pair_fits x C1 C2 b)
       (record { by = (zero_fits, (zero_fits, (zero_fits, (tt, (zero_fits, tt))))) })))
 
@@ -125,46 +147,72 @@ module _ (f : Frame) (words : f.words ≤ LAST_PLACE) where
     pub code_fits : (e : Exp) (t : ℕ) → ExpBound f e → t + exp_words e ≤ LAST_PLACE → Fit (code f t e)
     code_fits (Number n) t w h = next _ _ (small n w) none
     code_fits (Load x) t w h = load_fits x w
-    code_fits (Element x e) t w h = fits_both (code f t e) _ (code_fits e t w.1 (omega (arith, h))) (fits_both (templates.at_row f x _) _ (element_fits x _ w.0 tt) (next _ _ tt none))
-    code_fits (Call n x args) t w h = fits_both (args_code f t 0 args) _ (args_fit args t 0 w.2 (omega (arith, h))) (call_fits t x args w.1 w.2 (omega (arith, h)))
+    code_fits (Element x e) t w h =
+        fits_both (code f t e) _ (code_fits e t w.1 (omega (arith, h)))
+        (fits_both (templates.at_row f x _) _ (element_fits x _ w.0 tt) (next _ _ tt none))
+    code_fits (Call n x args) t w h =
+        fits_both (args_code f t 0 args) _ (args_fit args t 0 w.2 (omega (arith, h)))
+        (call_fits t x args w.1 w.2 (omega (arith, h)))
     code_fits (Binary o x y) t w h =
         let n = op_some o in
         fits_both (code f t x) _ (code_fits x t w.0 (omega (arith, h)))
         (fits_both (at_slot f t (Store Stk G0)) _ (slot_fits t (Store Stk G0) (omega (arith, h)) tt)
         (fits_both (code f (t + 1) y) _ (code_fits y (t + 1) w.1 (omega (arith, h, n)))
-        (next _ _ tt (fits_both (at_slot f t (instr.Load G0 Stk)) (op_code o) (slot_fits t (instr.Load G0 Stk) (omega (arith, h)) tt) (op_fits o)))))
+        (next _ _ tt (fits_both (at_slot f t (instr.Load G0 Stk)) (op_code o)
+        (slot_fits t (instr.Load G0 Stk) (omega (arith, h)) tt) (op_fits o)))))
 
-    pub args_fit : (args : Args) (t i : ℕ) → ArgsBound f args → t + i + args_words args ≤ LAST_PLACE → Fit (args_code f t i args)
+    pub args_fit : (args : Args) (t i : ℕ) → ArgsBound f args → t + i + args_words args ≤ LAST_PLACE
+        → Fit (args_code f t i args)
     args_fit no_args t i w h = none
     args_fit (value e args) t i w h =
         fits_both (code f (t + i) e) _ (code_fits e (t + i) w.0 (omega (arith, h)))
-        (fits_both (at_slot f (t + i) (Store Stk G0)) _ (slot_fits (t + i) (Store Stk G0) (omega (arith, h)) tt) (args_fit args t (i + 1) w.1 (omega (arith, h))))
+        (fits_both (at_slot f (t + i) (Store Stk G0)) _
+        (slot_fits (t + i) (Store Stk G0) (omega (arith, h)) tt)
+        (args_fit args t (i + 1) w.1 (omega (arith, h))))
     args_fit (pass x args) t i w h = let n = pair_least x in args_fit args t (i + 2) w.1 (omega (arith, h, n))
 
-  if_fits : (cs bs ds : List Item) (m n : ℕ) → m ≤ LAST_PLACE → n ≤ LAST_PLACE → Fit cs → Fit bs → Fit ds → Fit (if_code cs bs m ds n)
+  if_fits : (cs bs ds : List Item) (m n : ℕ) → m ≤ LAST_PLACE → n ≤ LAST_PLACE → Fit cs → Fit bs → Fit ds
+      → Fit (if_code cs bs m ds n)
   if_fits cs bs ds m n hm hn c d e =
-      fits_both cs _ c (next _ _ (small 6 (omega arith)) (next _ _ (small (m + 6) (omega (arith, hm))) (next _ _ tt (fits_both bs _ d (next _ _ (small (n + 3) (omega (arith, hn))) (next _ _ tt (fits_both ds _ e (next _ _ tt none))))))))
+      fits_both cs _ c (next _ _ (small 6 (omega arith))
+      (next _ _ (small (m + 6) (omega (arith, hm)))
+      (next _ _ tt (fits_both bs _ d
+      (next _ _ (small (n + 3) (omega (arith, hn)))
+      (next _ _ tt (fits_both ds _ e (next _ _ tt none))))))))
 
   mutual
     pub stmt_fits : (s : Step) → StepBound f s → f.temps + step_words s ≤ LAST_PLACE → Fit (step_code f s)
-    stmt_fits (Set x e) w h = fits_both (code f f.temps e) _ (code_fits e f.temps w.1 (omega (arith, h))) (store_fits x w.0)
+    stmt_fits (Set x e) w h = fits_both (code f f.temps e) _ (code_fits e f.temps w.1 (omega (arith, h)))
+        (store_fits x w.0)
     stmt_fits (SetAt x i e) w h =
         fits_both (code f f.temps i) _ (code_fits i f.temps w.1 (omega (arith, h)))
-        (fits_both (at_slot f f.temps (Store Stk G0)) _ (slot_fits f.temps (Store Stk G0) (omega (arith, h)) tt)
+        (fits_both (at_slot f f.temps (Store Stk G0)) _
+        (slot_fits f.temps (Store Stk G0) (omega (arith, h)) tt)
         (fits_both (code f (f.temps + 1) e) _ (code_fits e (f.temps + 1) w.2 (omega (arith, h)))
-        (next _ _ tt (fits_both (at_slot f f.temps (instr.Load G0 Stk)) _ (slot_fits f.temps (instr.Load G0 Stk) (omega (arith, h)) tt) (element_fits x (Store Dat A0) w.0 tt)))))
+        (next _ _ tt (fits_both (at_slot f f.temps (instr.Load G0 Stk)) _
+        (slot_fits f.temps (instr.Load G0 Stk) (omega (arith, h)) tt)
+        (element_fits x (Store Dat A0) w.0 tt)))))
     stmt_fits (Do e) w h = code_fits e f.temps w (omega (arith, h))
-    stmt_fits (If k d e) w h = if_fits (code f f.temps k) (block_code f d) (block_code f e) (block_words d) (block_words e) (omega (arith, h)) (omega (arith, h)) (code_fits k f.temps w.0 (omega (arith, h))) (block_fits d w.1 (omega (arith, h))) (block_fits e w.2 (omega (arith, h)))
+    stmt_fits (If k d e) w h = if_fits (code f f.temps k) (block_code f d) (block_code f e) (block_words d)
+        (block_words e) (omega (arith, h)) (omega (arith, h)) (code_fits k f.temps w.0 (omega (arith, h)))
+        (block_fits d w.1 (omega (arith, h))) (block_fits e w.2 (omega (arith, h)))
     stmt_fits (While k d) w h =
         next _ _ tt (fits_both (code f f.temps k) _ (code_fits k f.temps w.0 (omega (arith, h)))
-        (next _ _ (small 6 (omega arith)) (next _ _ (small (block_words d + 6) (omega (arith, h))) (next _ _ tt (fits_both (block_code f d) _ (block_fits d w.1 (omega (arith, h)))
-        (next _ _ (near_operand (exp_words k + 6 + block_words d) 0 (omega (arith, h)) (omega arith)) (next _ _ tt none)))))))
-    stmt_fits (Return e) w h = fits_both (code f f.temps e) _ (code_fits e f.temps w (omega (arith, h))) (next _ _ tt (next _ _ tt none))
-    stmt_fits (Halt e) w h = fits_both (code f f.temps e) _ (code_fits e f.temps w (omega (arith, h))) (next _ _ tt (next _ _ tt none))
+        (next _ _ (small 6 (omega arith))
+        (next _ _ (small (block_words d + 6) (omega (arith, h)))
+        (next _ _ tt (fits_both (block_code f d) _ (block_fits d w.1 (omega (arith, h)))
+        (next _ _ (near_operand (exp_words k + 6 + block_words d) 0 (omega (arith, h)) (omega arith))
+        (next _ _ tt none)))))))
+    stmt_fits (Return e) w h = fits_both (code f f.temps e) _ (code_fits e f.temps w (omega (arith, h)))
+        (next _ _ tt (next _ _ tt none))
+    stmt_fits (Halt e) w h = fits_both (code f f.temps e) _ (code_fits e f.temps w (omega (arith, h)))
+        (next _ _ tt (next _ _ tt none))
 
-    pub block_fits : (d : Block) → BlockBound f d → f.temps + block_words d ≤ LAST_PLACE → Fit (block_code f d)
+    pub block_fits : (d : Block) → BlockBound f d → f.temps + block_words d ≤ LAST_PLACE
+        → Fit (block_code f d)
     block_fits no_steps w h = none
-    block_fits (step s d) w h = fits_both (step_code f s) (block_code f d) (stmt_fits s w.0 (omega (arith, h))) (block_fits d w.1 (omega (arith, h)))
+    block_fits (step s d) w h = fits_both (step_code f s) (block_code f d)
+        (stmt_fits s w.0 (omega (arith, h))) (block_fits d w.1 (omega (arith, h)))
 
   half_fits : (r : Reg) → AllFit (templates.check_half r)
   half_fits r = (tt, (near 3 (omega arith), (tt, (tt, (tt, tt)))))
@@ -186,10 +234,15 @@ module _ (f : Frame) (words : f.words ≤ LAST_PLACE) where
   wipe_fits zero = none
   wipe_fits (suc n) = next _ _ (near 1 (omega arith)) (next _ _ tt (wipe_fits n))
 
-  pub proc_fits : (params : List Bool) (body : Block) → BlockBound f body → f.temps + block_words body ≤ LAST_PLACE → Fit (proc_code f params body)
+  pub proc_fits : (params : List Bool) (body : Block) → BlockBound f body
+      → f.temps + block_words body ≤ LAST_PLACE → Fit (proc_code f params body)
   proc_fits params body w h =
       next _ _ tt (fits_both (check_params 0 params) _ (params_fit params 0)
-      (fits_both (push (pushed (registers_of params) f.words)) _ (push_fits (pushed (registers_of params) f.words))
+      (fits_both (push (pushed (registers_of params) f.words)) _
+      (push_fits (pushed (registers_of params) f.words))
       (fits_both (block_code f body) _ (block_fits body w h)
-      (next _ _ zero_fits (next _ _ tt (next _ _ zero_fits (fits_both (wipe (f.words - 2)) _ (wipe_fits (f.words - 2))
-      (record { by = (near 1 (omega arith), (tt, (tt, (near 1 (omega arith), (tt, (tt, (tt, tt))))))) }))))))))
+      (next _ _ zero_fits (next _ _ tt
+      (next _ _ zero_fits (fits_both (wipe (f.words - 2)) _ (wipe_fits (f.words - 2))
+      (record {
+        by = (near 1 (omega arith), (tt, (tt, (near 1 (omega arith), (tt, (tt, (tt, tt)))))));
+      }))))))))

@@ -1,5 +1,6 @@
 -- The walk over a procedure.
-use Rattle.std.proofs.Common.{◌≡◌, ℕ, zero, suc, ◌+◌, ◌-◌, ◌*◌, ◌≤◌, Bool, true, false, List, [], ◌∷◌, ◌++◌, length, take, Some, None, refl, sym, ap, ◌∙◌, subst, arith, length-append}
+use Rattle.std.proofs.Common.{◌≡◌, ℕ, zero, suc, ◌+◌, ◌-◌, ◌*◌, ◌≤◌, Bool, true, false, List, [], ◌∷◌, ◌++◌}
+use Rattle.std.proofs.Common.{length, take, Some, None, refl, sym, ap, ◌∙◌, subst, arith, length-append}
 use Rattle.std.specs.Prelude.{replicate}
 use Rattle.std.specs.List.{list_all}
 use Rattle.component_file.specs.declared.TheConstants.{LAST_OFFSET}
@@ -15,19 +16,23 @@ use Rattle.flow_check.specs.Walk.{Comes}
 use Rattle.flow_check.proofs.Fitting.{and_left, and_right}
 use Rattle.proc_templates.specs.declared.Frame.{Frame}
 use Rattle.proc_templates.specs.Items.{Spot, Item, does, label, entry, leaves, zero_of, FAIL_AT}
-use Rattle.proc_templates.specs.Templates.{block_words, block_code, arguments, check_words, checks_words, check_param, check_params, pushed, push, wipe, take_back, epilogue, proc_code, before_epilogue, proc_words}
+use Rattle.proc_templates.specs.Templates.{block_words, block_code, arguments, check_words, checks_words}
+use Rattle.proc_templates.specs.Templates.{check_param, check_params, pushed, push, wipe, take_back, epilogue}
+use Rattle.proc_templates.specs.Templates.{proc_code, before_epilogue, proc_words}
 use Rattle.proc_templates.specs.Compiled.{label_row}
 use Rattle.proc_templates.specs.Ready.{is_low, is_quiet}
 use Rattle.proc_templates.specs.Free.{ends_or_goes, is_free, after}
 use Rattle.proc_templates.proofs.Onwards.{Onward, clears, clear_quiet, leave, over_entry}
 use Rattle.proc_templates.proofs.Carried.{Carries, carries_left, carries_right, over_all}
-use Rattle.proc_templates.proofs.Sizes.{Long, nothing, same_size, both, one, guard, mark, after-append, block-size}
+use Rattle.proc_templates.proofs.Sizes.{Long, nothing, same_size, both, one, guard, mark, after-append}
+use Rattle.proc_templates.proofs.Sizes.{block-size}
 use Rattle.proc_templates.proofs.Frees.{params_free, push_free, wipe_free}
 use Rattle.proc_templates.proofs.Bodies.{over_block}
 
 -- ---- sizes
 
-param-size : (i : ℕ) (b : Bool) (xs : List Item) (n : ℕ) → Long xs n → Long (check_param i b ∷ xs) (check_words b + n)
+param-size : (i : ℕ) (b : Bool) (xs : List Item) (n : ℕ) → Long xs n
+    → Long (check_param i b ∷ xs) (check_words b + n)
 param-size i false xs n l = one _ xs n l
 param-size i true xs n l = guard _ xs n l
 
@@ -75,9 +80,11 @@ module _ (c : ComponentFields) (spot : Spot) where
 all_low : (rs : List Reg) → Type 0
 all_low rs = list_all is_low rs ≡ true
 
-low_both : (a b : List Reg) → list_all is_low a ≡ true → list_all is_low b ≡ true → list_all is_low (a ++ b) ≡ true
+low_both : (a b : List Reg) → list_all is_low a ≡ true → list_all is_low b ≡ true
+    → list_all is_low (a ++ b) ≡ true
 low_both [] b x y = y
-low_both (r ∷ a) b x y = rw (and_left (is_low r) (list_all is_low a) x) (low_both a b (and_right (is_low r) (list_all is_low a) x) y)
+low_both (r ∷ a) b x y = rw (and_left (is_low r) (list_all is_low a) x)
+    (low_both a b (and_right (is_low r) (list_all is_low a) x) y)
 
 take_none : (n : ℕ) → take {A = Reg} n [] ≡ []
 take_none zero = refl
@@ -134,36 +141,45 @@ beginning f params = check_params 0 params ++ push (pushed (registers_of params)
 
 module _ (f : Frame) (params : List Bool) (fits : FrameFits f params) where
   head-size : Long (push (pushed (registers_of params) f.words)) (2 * f.words)
-  head-size = same_size _ _ _ (ap (λ n. 2 * n) (pushed-length (registers_of params) f.words fits.few fits.room)) (push-size (pushed (registers_of params) f.words))
+  head-size = same_size _ _ _ (ap (λ n. 2 * n)
+      (pushed-length (registers_of params) f.words fits.few fits.room))
+      (push-size (pushed (registers_of params) f.words))
 
   epilogue-size : Long (epilogue f.words) (2 * f.words + 13)
   epilogue-size =
       let r = fits.room in
       same_size _ _ _ (omega (arith, r))
-      (one _ _ _ (both (wipe (f.words - 2)) _ _ _ (wipe-size (f.words - 2)) (one _ _ _ (one _ _ _ (one _ _ _ (one _ _ _ (one _ _ _ (one _ _ 10 last_size))))))))
+      (one _ _ _ (both (wipe (f.words - 2)) _ _ _ (wipe-size (f.words - 2))
+      (one _ _ _ (one _ _ _ (one _ _ _ (one _ _ _ (one _ _ _ (one _ _ 10 last_size))))))))
 
-  pub proc-size : (body : Block) → Long (proc_code f params body) (proc_words f params body)
-  unfolding proc_words
+  pub proc-size : (body : Block) → Long (proc_code f params body) (proc_words f.words params body)
   proc-size body =
       same_size _ _ _ (omega arith)
-      (entry_size _ _ (both _ _ (checks_words params) _ (params-size params 0) (both _ _ (2 * f.words) _ head-size
+      (entry_size _ _ (both _ _ (checks_words params) _ (params-size params 0)
+      (both _ _ (2 * f.words) _ head-size
       (both _ _ (block_words body) _ (block-size f body) (one _ _ _ (mark _ _ epilogue-size))))))
 
-module _ (c : ComponentFields) (fails : c.fail_at ≡ Some FAIL_AT) (spot : Spot) (low : spot.epilogue ≤ LAST_OFFSET) where
-  over_epilogue : (w o : ℕ) → Carries c spot o (epilogue w) → Onward c o → Comes c (before (after o (epilogue w)) None)
+module _ (c : ComponentFields) (fails : c.fail_at ≡ Some FAIL_AT) (spot : Spot)
+    (low : spot.epilogue ≤ LAST_OFFSET) where
+  over_epilogue : (w o : ℕ) → Carries c spot o (epilogue w) → Onward c o
+      → Comes c (before (after o (epilogue w)) None)
   unfolding is_free ends_or_goes is_quiet
   over_epilogue w o h on =
       let X : List Item = does (zero_of T1) ∷ wipe (w - 2) in
       let Y : List Item = take_back Rdata ++ take_back Rcode in
       let q = after o X in
       let hy = carries_right c spot o X (Y ++ (leaves ∷ [])) h in
-      let on1 = over_all c fails spot o X (carries_left c spot o X (Y ++ (leaves ∷ [])) h) (wipe_free (w - 2)) on in
+      let on1 = over_all c fails spot o X (carries_left c spot o X (Y ++ (leaves ∷ [])) h)
+      (wipe_free (w - 2)) on in
       let on2 = over_all c fails spot q Y (carries_left c spot q Y (leaves ∷ []) hy) refl on1 in
       let e : after o (epilogue w) ≡ after q Y + 10 = after-append o X (Y ++ (leaves ∷ [])) in
-      subst (λ z. Comes c (before z None)) (sym e) (over_leaves c spot (after q Y) (carries_right c spot q Y (leaves ∷ []) hy) on2)
+      subst (λ z. Comes c (before z None)) (sym e)
+      (over_leaves c spot (after q Y) (carries_right c spot q Y (leaves ∷ []) hy) on2)
 
-  pub over_proc : (f : Frame) (params : List Bool) (body : Block) → FrameFits f params → (o : ℕ) → spot.epilogue ≡ o + before_epilogue f params body
-      → Carries c spot o (proc_code f params body) → Comes c (before o None) → Comes c (before (after o (proc_code f params body)) None)
+  pub over_proc : (f : Frame) (params : List Bool) (body : Block) → FrameFits f params → (o : ℕ)
+      → spot.epilogue ≡ o + before_epilogue f params body
+      → Carries c spot o (proc_code f params body) → Comes c (before o None)
+      → Comes c (before (after o (proc_code f params body)) None)
   unfolding before_epilogue is_free ends_or_goes is_quiet
   over_proc f params body fits o at h on =
       let P = check_params 0 params in
@@ -184,10 +200,14 @@ module _ (c : ComponentFields) (fails : c.fail_at ≡ Some FAIL_AT) (spot : Spot
       let there : spot.epilogue ≡ o4 + 1 = omega (arith, at, e2, e3, e4) in
       let ends : declared c spot.epilogue ≡ Some label_row = ap (declared c) there ∙ h4.1.0 in
       let on1 = over_entry c o h.0 on in
-      let on2 = over_all c fails spot o1 P (carries_left c spot o1 P (U ++ (B ++ E)) h1) (params_free params 0) on1 in
-      let on3 = over_all c fails spot o2 U (carries_left c spot o2 U (B ++ E) h2) (push_free (pushed (registers_of params) f.words) (pushed_low (registers_of params) f.words)) on2 in
-      let on4 = over_block c fails spot low ends f body o3 (carries_left c spot o3 B E h3) (omega (arith, there)) on3 in
+      let on2 = over_all c fails spot o1 P (carries_left c spot o1 P (U ++ (B ++ E)) h1)
+      (params_free params 0) on1 in
+      let on3 = over_all c fails spot o2 U (carries_left c spot o2 U (B ++ E) h2)
+      (push_free (pushed (registers_of params) f.words) (pushed_low (registers_of params) f.words)) on2 in
+      let on4 = over_block c fails spot low ends f body o3 (carries_left c spot o3 B E h3)
+      (omega (arith, there)) on3 in
       let on5 = over_all c fails spot o4 (does (zero_of A0) ∷ label ∷ []) (h4.0, (h4.1.0, tt)) refl on4 in
       let last = over_epilogue f.words (o4 + 1) h4.1.1 on5 in
-      let e : after o (proc_code f params body) ≡ after (o4 + 1) (epilogue f.words) = after-append o1 P (U ++ (B ++ E)) ∙ after-append o2 U (B ++ E) ∙ after-append o3 B E in
+      let e : after o (proc_code f params body) ≡ after (o4 + 1) (epilogue f.words) =
+      after-append o1 P (U ++ (B ++ E)) ∙ after-append o2 U (B ++ E) ∙ after-append o3 B E in
       subst (λ z. Comes c (before z None)) (sym e) last

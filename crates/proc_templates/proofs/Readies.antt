@@ -16,22 +16,19 @@ use Rattle.proc_program.specs.Program.{Exp, Number, Load, Element, Call, Binary,
 use Rattle.proc_program.specs.Program.{Step, Set, SetAt, Do, If, While, Return, Halt, Block, no_steps, step}
 use Rattle.proc_program.specs.StepView.{block_of}
 use Rattle.proc_program.specs.Calls.{part_calls}
-use Rattle.proc_program.specs.Limits.{scope_of, PlaceFits, RowFits, HandleFits, ExpFits, ArgsFit, StepFits, BlockFits}
+use Rattle.proc_program.specs.Limits.{scope_of, PlaceFits, RowFits, HandleFits, ExpFits, ArgsFit, StepFits}
+use Rattle.proc_program.specs.Limits.{BlockFits}
 use Rattle.proc_program.specs.Limits.{ProcedureFits}
-use Rattle.proc_templates.specs.Templates.{block_words, checks_words, proc_words}
+use Rattle.proc_templates.specs.Templates.{block_words, checks_words}
 use Rattle.proc_templates.specs.Compiled.{frame_of, size_of_proc, code_words, data_count, head_of, laid_of}
 use Rattle.proc_templates.specs.Compiled.{component_of}
-use Rattle.proc_templates.specs.Bounds.{PlaceBound, RowBound, HandleBound, ExpBound, ArgsBound, StepBound, BlockBound}
+use Rattle.proc_templates.specs.Bounds.{PlaceBound, RowBound, HandleBound, ExpBound, ArgsBound, StepBound}
+use Rattle.proc_templates.specs.Bounds.{BlockBound}
 use Rattle.proc_templates.specs.Kept.{Fits, KeepsOwnRules}
 use Rattle.proc_templates.proofs.Fits.{proc_fits}
 use Rattle.proc_templates.proofs.Whole.{ProcReady, AllReady, procs-length}
 use Rattle.proc_templates.proofs.Listed.{flow_kept}
 use Rattle.proc_templates.proofs.OwnRules.{own_kept}
-
-pub proc_sum : (m : Part) (p : Procedure)
-    → size_of_proc m p ≡ 34 + checks_words p.callbacks + 4 * p.need + block_words (block_of p.body)
-unfolding proc_words frame_of
-proc_sum m p = refl
 
 -- ---- places
 
@@ -82,24 +79,25 @@ module _ (m : Part) (most : data_count m ≤ MOST_WORDS) (p : Procedure) where
     block_bound no_steps w = tt
     block_bound (step s b) w = (step_bound s w.0, block_bound b w.1)
 
-  ready_proc : ProcedureFits (scope_of m) p → size_of_proc m p ≤ MOST_WORDS → ProcReady m p
+  ready_proc : ProcedureFits (scope_of m) p → size_of_proc p ≤ MOST_WORDS → ProcReady m p
   unfolding frame_of
   ready_proc w h =
-      let e = proc_sum m p in
+      let e : 34 + checks_words p.callbacks + 4 * p.need + block_words (block_of p.body) ≤ MOST_WORDS = h in
       let r = w.registers in
       let g = w.frame in
       record {
         frame = record { few = r; room = omega (arith, g) };
         items =
-            (proc_fits (frame_of m p) (omega (arith, e, h)) p.callbacks (block_of p.body)
-            (block_bound (block_of p.body) w.body) (omega (arith, e, h, g))).by;
+            (proc_fits (frame_of m p) (omega (arith, e)) p.callbacks (block_of p.body)
+            (block_bound (block_of p.body) w.body) (omega (arith, e, g))).by;
       }
 
-readies : (m : Part) → data_count m ≤ MOST_WORDS → (ps : List Procedure) → Each (ProcedureFits (scope_of m)) ps
-    → sum_by (size_of_proc m) ps ≤ MOST_WORDS → AllReady m ps
+readies : (m : Part) → data_count m ≤ MOST_WORDS → (ps : List Procedure)
+    → Each (ProcedureFits (scope_of m)) ps
+    → sum_by size_of_proc ps ≤ MOST_WORDS → AllReady m ps
 readies m most [] w h = tt
 readies m most (p ∷ ps) w h =
-    let e = sum_by-cons (size_of_proc m) p ps in
+    let e = sum_by-cons size_of_proc p ps in
     (ready_proc m most p w.0 (omega (arith, e, h)), readies m most ps w.1 (omega (arith, e, h)))
 
 pub ready : (m : Part) → Fits m → AllReady m m.procs

@@ -1,45 +1,55 @@
 -- Rows that are below the one at labels, and what instructions do to them.
-use Rattle.std.proofs.Common.{◌≡◌, ◌≢◌, ℕ, zero, suc, ◌-◌, Bool, true, false, [], ◌∷◌, length, Some, None, refl, sym, ap, ◌∙◌, subst, arith, get_or-set_other, get_or-set_same}
+use Rattle.std.proofs.Common.{◌≡◌, ◌≢◌, ℕ, zero, suc, ◌-◌, Bool, true, false, [], ◌∷◌, length, Some, None}
+use Rattle.std.proofs.Common.{refl, sym, ap, ◌∙◌, subst, arith, get_or-set_other, get_or-set_same}
 use Rattle.std.specs.Prelude.{◌&&◌, not, slice_index_or, slice_set}
 use Rattle.component_file.specs.declared.component.Kind.{Kind}
 use Rattle.component_file.specs.declared.component.Kind.TheVariants as kind
 use Rattle.lcm_isa.specs.declared.Reg.{Reg}
-use Rattle.lcm_isa.specs.declared.Reg.TheVariants.{Pc, Rcode, Rdata, Stk, Dat, T1, T2, C1, C2, A0, A1, A2, A3, G0, G1, G2}
+use Rattle.lcm_isa.specs.declared.Reg.TheVariants.{Pc, Rcode, Rdata, Stk, Dat, T1, T2, C1, C2, A0, A1, A2, A3}
+use Rattle.lcm_isa.specs.declared.Reg.TheVariants.{G0, G1, G2}
 use Rattle.lcm_isa.specs.declared.Operand.{Operand}
 use Rattle.lcm_isa.specs.declared.Operand.TheVariants.{R, Imm}
 use Rattle.lcm_isa.specs.declared.Instr.{Instr}
-use Rattle.lcm_isa.specs.declared.Instr.TheVariants.{Fail, Halt, Jmp, Jnz, Gettype, Geta, Getb, Gete, Getp, Getlin, Move, Store, Load, Cca, Restrict, Lt, Plus, Minus, Seta2b, Xjmp, Cseal, Split, Splice}
+use Rattle.lcm_isa.specs.declared.Instr.TheVariants.{Fail, Halt, Jmp, Jnz, Gettype, Geta, Getb, Gete, Getp}
+use Rattle.lcm_isa.specs.declared.Instr.TheVariants.{Getlin, Move, Store, Load, Cca, Restrict, Lt, Plus}
+use Rattle.lcm_isa.specs.declared.Instr.TheVariants.{Minus, Seta2b, Xjmp, Cseal, Split, Splice}
 use Rattle.lcm_isa.specs.Numbers.{reg_number}
 use Rattle.lcm_machine.specs.Table.{is_pc}
 use Rattle.flow_check.specs.Kinds.{Row, kind_of, set_kind, below_any, kind_below, row_below}
 use Rattle.flow_check.specs.declared.judging.Flow.{Flow}
 use Rattle.flow_check.specs.declared.judging.Flow.TheVariants.{Flows as flows}
-use Rattle.flow_check.specs.Flow.{flow, ask, into, source, is_top, is_area, seen, seen_operand, taken, take_from, gets, on, cca_of}
+use Rattle.flow_check.specs.Flow.{flow, ask, into, source, is_top, is_area, seen, seen_operand, taken}
+use Rattle.flow_check.specs.Flow.{take_from, gets, on, cca_of}
 use Rattle.flow_check.proofs.Fitting.{and_left, and_right}
 use Rattle.proc_templates.specs.Compiled.{label_row}
 use Rattle.proc_templates.specs.Ready.{is_low, is_low_operand, leads_to_area, is_quiet}
 
 -- ---- rows, as lists
 
-below-get : (rs ls : Row) (n : ℕ) → row_below rs ls ≡ true → kind_below (slice_index_or rs n kind.Top) (slice_index_or ls n kind.Top) ≡ true
+below-get : (rs ls : Row) (n : ℕ) → row_below rs ls ≡ true
+    → kind_below (slice_index_or rs n kind.Top) (slice_index_or ls n kind.Top) ≡ true
 below-get [] [] n e = refl
 below-get [] (l ∷ ls) n e = cc
 below-get (r ∷ rs) [] n e = cc
 below-get (r ∷ rs) (l ∷ ls) zero e = and_left (kind_below r l) (row_below rs ls) e
 below-get (r ∷ rs) (l ∷ ls) (suc n) e = below-get rs ls n (and_right (kind_below r l) (row_below rs ls) e)
 
-below-set : (rs ls : Row) (n : ℕ) (k : Kind) → row_below rs ls ≡ true → kind_below k (slice_index_or ls n kind.Top) ≡ true → row_below (slice_set rs n k) ls ≡ true
+below-set : (rs ls : Row) (n : ℕ) (k : Kind) → row_below rs ls ≡ true
+    → kind_below k (slice_index_or ls n kind.Top) ≡ true → row_below (slice_set rs n k) ls ≡ true
 below-set [] [] n k e h = refl
 below-set [] (l ∷ ls) n k e h = cc
 below-set (r ∷ rs) [] n k e h = cc
 below-set (r ∷ rs) (l ∷ ls) zero k e h = rw h (and_right (kind_below r l) (row_below rs ls) e)
-below-set (r ∷ rs) (l ∷ ls) (suc n) k e h = rw (and_left (kind_below r l) (row_below rs ls) e) (below-set rs ls n k (and_right (kind_below r l) (row_below rs ls) e) h)
+below-set (r ∷ rs) (l ∷ ls) (suc n) k e h =
+    rw (and_left (kind_below r l) (row_below rs ls) e)
+    (below-set rs ls n k (and_right (kind_below r l) (row_below rs ls) e) h)
 
 below-length : (rs ls : Row) → row_below rs ls ≡ true → length rs ≡ length ls
 below-length [] [] e = refl
 below-length [] (l ∷ ls) e = cc
 below-length (r ∷ rs) [] e = cc
-below-length (r ∷ rs) (l ∷ ls) e = ap suc (below-length rs ls (and_right (kind_below r l) (row_below rs ls) e))
+below-length (r ∷ rs) (l ∷ ls) e =
+    ap suc (below-length rs ls (and_right (kind_below r l) (row_below rs ls) e))
 
 -- ---- rows below the one at labels
 
@@ -69,7 +79,8 @@ kinds-below : (row : Row) (r : Reg) → Works row → kind_below (kind_of row r)
 unfolding kind_of
 kinds-below row r w = below-get row label_row (reg_number r - 1) w.below
 
-sets-kind : (row : Row) (r : Reg) (k : Kind) → Works row → kind_below k (kind_of label_row r) ≡ true → Works (set_kind row r k)
+sets-kind : (row : Row) (r : Reg) (k : Kind) → Works row → kind_below k (kind_of label_row r) ≡ true
+    → Works (set_kind row r k)
 unfolding kind_of set_kind
 sets-kind row r k w h = record { below = below-set row label_row (reg_number r - 1) k w.below h }
 
@@ -90,7 +101,8 @@ top-below (kind.Pc o) = refl
 top-below kind.Top = refl
 
 pub low-kind : (row : Row) (r : Reg) → Works row → is_low r ≡ true → below_any (kind_of row r) ≡ true
-low-kind row r w e = sym (any-below (kind_of row r)) ∙ ap (kind_below (kind_of row r)) (sym (label_kind r e)) ∙ kinds-below row r w
+low-kind row r w e = sym (any-below (kind_of row r)) ∙ ap (kind_below (kind_of row r)) (sym (label_kind r e))
+    ∙ kinds-below row r w
 
 only_stk : (k : Kind) → kind_below k kind.Stk ≡ true → k ≡ kind.Stk
 only_stk kind.Any e = cc
@@ -121,12 +133,15 @@ unfolding kind_of
 label_t2 = refl
 
 pub stk-kind : (row : Row) → Works row → kind_of row Stk ≡ kind.Stk
-stk-kind row w = only_stk (kind_of row Stk) (ap (kind_below (kind_of row Stk)) (sym label_stk) ∙ kinds-below row Stk w)
+stk-kind row w = only_stk (kind_of row Stk)
+    (ap (kind_below (kind_of row Stk)) (sym label_stk) ∙ kinds-below row Stk w)
 
 pub data-kind : (row : Row) → Works row → kind_of row Dat ≡ kind.DataCap
-data-kind row w = only_data (kind_of row Dat) (ap (kind_below (kind_of row Dat)) (sym label_data) ∙ kinds-below row Dat w)
+data-kind row w = only_data (kind_of row Dat)
+    (ap (kind_below (kind_of row Dat)) (sym label_data) ∙ kinds-below row Dat w)
 
-pub sets-low : (row : Row) (r : Reg) (k : Kind) → Works row → is_low r ≡ true → below_any k ≡ true → Works (set_kind row r k)
+pub sets-low : (row : Row) (r : Reg) (k : Kind) → Works row → is_low r ≡ true → below_any k ≡ true
+    → Works (set_kind row r k)
 sets-low row r k w e h = sets-kind row r k w (ap (kind_below k) (label_kind r e) ∙ any-below k ∙ h)
 
 pub sets-t2 : (row : Row) (k : Kind) → Works row → Works (set_kind row T2 k)
@@ -152,7 +167,8 @@ low-index G0 e = omega arith
 low-index G1 e = omega arith
 low-index G2 e = omega arith
 
-pub t2-kept : (row : Row) (r : Reg) (k : Kind) → is_low r ≡ true → kind_of (set_kind row r k) T2 ≡ kind_of row T2
+pub t2-kept : (row : Row) (r : Reg) (k : Kind) → is_low r ≡ true
+    → kind_of (set_kind row r k) T2 ≡ kind_of row T2
 unfolding kind_of set_kind
 t2-kept row r k e = get_or-set_other row (reg_number r - 1) 5 k kind.Top (low-index r e)
 
@@ -200,9 +216,11 @@ not_top (kind.Pc o) e = cc
 not_top kind.Top e = cc
 
 pub low-seen : (o : ℕ) (row : Row) (r : Reg) → Works row → is_low r ≡ true → seen o row r ≡ true
-low-seen o row r w e = ap (λ k. not (is_top k)) (low-source o row r e) ∙ ap not (not_top (kind_of row r) (low-kind row r w e))
+low-seen o row r w e = ap (λ k. not (is_top k)) (low-source o row r e)
+    ∙ ap not (not_top (kind_of row r) (low-kind row r w e))
 
-low-operand : (o : ℕ) (row : Row) (n : Operand) → Works row → is_low_operand n ≡ true → seen_operand o row n ≡ true
+low-operand : (o : ℕ) (row : Row) (n : Operand) → Works row → is_low_operand n ≡ true
+    → seen_operand o row n ≡ true
 low-operand o row (R r) w e = low-seen o row r w e
 low-operand o row (Imm z) w e = refl
 
@@ -214,7 +232,8 @@ taken-below kind.Stk e = refl
 taken-below (kind.Pc o) e = cc
 taken-below kind.Top e = cc
 
-area-kind : (o : ℕ) (row : Row) (r : Reg) → Works row → leads_to_area r ≡ true → is_area (source o row r) ≡ true
+area-kind : (o : ℕ) (row : Row) (r : Reg) → Works row → leads_to_area r ≡ true
+    → is_area (source o row r) ≡ true
 area-kind o row Pc w e = cc
 area-kind o row Rcode w e = cc
 area-kind o row Rdata w e = cc
@@ -247,20 +266,30 @@ module _ (o : ℕ) (row : Row) (w : Works row) where
   takes r e = rw (no_pc r e) refl
 
   takes-works : (r : Reg) → is_low r ≡ true → Works (take_from row r)
-  takes-works r e = subst Works (sym (takes r e)) (sets-low row r (taken (kind_of row r)) w e (taken-below (kind_of row r) (low-kind row r w e)))
+  takes-works r e = subst Works (sym (takes r e))
+      (sets-low row r (taken (kind_of row r)) w e (taken-below (kind_of row r) (low-kind row r w e)))
 
   takes-t2 : (r : Reg) → is_low r ≡ true → kind_of (take_from row r) T2 ≡ kind_of row T2
   takes-t2 r e = ap (λ q. kind_of q T2) (takes r e) ∙ t2-kept row r (taken (kind_of row r)) e
 
-  got : (i : Instr) (r : Reg) (k : Kind) → is_low r ≡ true → below_any k ≡ true → flow i o row ≡ gets row r k → GoesOn i o row
-  got i r k e h f = record { after = set_kind row r k; is = f; works = sets-low row r k w e h; t2 = t2-kept row r k e }
+  got : (i : Instr) (r : Reg) (k : Kind) → is_low r ≡ true → below_any k ≡ true → flow i o row ≡ gets row r k
+      → GoesOn i o row
+  got i r k e h f = record {
+    after = set_kind row r k;
+    is = f;
+    works = sets-low row r k w e h;
+    t2 = t2-kept row r k e;
+  }
 
   three : (r1 r2 : Reg) (n : Operand) → (is_low r1 && (is_low r2 && is_low_operand n)) ≡ true
       → into r1 (ask 6 (seen o row r2 && seen_operand o row n) (gets row r1 kind.Int)) ≡ gets row r1 kind.Int
   three r1 r2 n e =
       let e1 = and_left (is_low r1) (is_low r2 && is_low_operand n) e in
       let e2 = and_right (is_low r1) (is_low r2 && is_low_operand n) e in
-      into_low r1 _ e1 ∙ asked 6 _ _ (both_true (seen o row r2) (seen_operand o row n) (low-seen o row r2 w (and_left (is_low r2) (is_low_operand n) e2)) (low-operand o row n w (and_right (is_low r2) (is_low_operand n) e2)))
+      into_low r1 _ e1 ∙ asked 6 _ _
+      (both_true (seen o row r2) (seen_operand o row n)
+      (low-seen o row r2 w (and_left (is_low r2) (is_low_operand n) e2))
+      (low-operand o row n w (and_right (is_low r2) (is_low_operand n) e2)))
 
   on_area : (k : Kind) (r : Reg) (n : Operand) → is_area k ≡ true → cca_of row r k n ≡ on row
   on_area kind.Any r n e = cc
@@ -297,7 +326,8 @@ module _ (o : ℕ) (row : Row) (w : Works row) where
   moves r1 (R r2) e1 e2 = record {
     after = set_kind (take_from row r2) r1 (source o row r2);
     is = into_low r1 _ e1 ∙ asked 6 _ _ (low-seen o row r2 w e2);
-    works = sets-low (take_from row r2) r1 (source o row r2) (takes-works r2 e2) e1 (ap below_any (low-source o row r2 e2) ∙ low-kind row r2 w e2);
+    works = sets-low (take_from row r2) r1 (source o row r2) (takes-works r2 e2) e1
+        (ap below_any (low-source o row r2 e2) ∙ low-kind row r2 w e2);
     t2 = t2-kept (take_from row r2) r1 (source o row r2) e1 ∙ takes-t2 r2 e2;
   }
 
@@ -307,30 +337,40 @@ module _ (o : ℕ) (row : Row) (w : Works row) where
   quiet_goes Halt e = cc
   quiet_goes (Jmp r1) e = cc
   quiet_goes (Jnz r1 r2) e = cc
-  quiet_goes (Gettype r1 r2) e = got _ r1 kind.Int (and_left (is_low r1) (is_low r2) e) refl (into_low r1 _ (and_left (is_low r1) (is_low r2) e) ∙ asked 6 _ _ (low-seen o row r2 w (and_right (is_low r1) (is_low r2) e)))
+  quiet_goes (Gettype r1 r2) e =
+      got _ r1 kind.Int (and_left (is_low r1) (is_low r2) e) refl
+      (into_low r1 _ (and_left (is_low r1) (is_low r2) e)
+      ∙ asked 6 _ _ (low-seen o row r2 w (and_right (is_low r1) (is_low r2) e)))
   quiet_goes (Geta r1 r2) e = cc
   quiet_goes (Getb r1 r2) e = cc
   quiet_goes (Gete r1 r2) e = cc
   quiet_goes (Getp r1 r2) e = cc
-  quiet_goes (Getlin r1 r2) e = got _ r1 kind.Int (and_left (is_low r1) (is_low r2) e) refl (into_low r1 _ (and_left (is_low r1) (is_low r2) e) ∙ asked 6 _ _ (low-seen o row r2 w (and_right (is_low r1) (is_low r2) e)))
-  quiet_goes (Move r1 n) e = moves r1 n (and_left (is_low r1) (is_low_operand n) e) (and_right (is_low r1) (is_low_operand n) e)
+  quiet_goes (Getlin r1 r2) e = got _ r1 kind.Int (and_left (is_low r1) (is_low r2) e) refl
+      (into_low r1 _ (and_left (is_low r1) (is_low r2) e)
+      ∙ asked 6 _ _ (low-seen o row r2 w (and_right (is_low r1) (is_low r2) e)))
+  quiet_goes (Move r1 n) e = moves r1 n (and_left (is_low r1) (is_low_operand n) e)
+      (and_right (is_low r1) (is_low_operand n) e)
   quiet_goes (Store r1 r2) e =
       let e1 = and_left (leads_to_area r1) (is_low r2) e in
       let e2 = and_right (leads_to_area r1) (is_low r2) e in
       record {
         after = take_from row r2;
-        is = asked 6 _ _ (both_true _ _ (area-kind o row r1 w e1) (ap below_any (low-source o row r2 e2) ∙ low-kind row r2 w e2));
+        is = asked 6 _ _ (both_true _ _ (area-kind o row r1 w e1)
+            (ap below_any (low-source o row r2 e2) ∙ low-kind row r2 w e2));
         works = takes-works r2 e2;
         t2 = takes-t2 r2 e2;
       }
   quiet_goes (Load r1 r2) e =
       let e1 = and_left (is_low r1) (leads_to_area r2) e in
-      got _ r1 kind.Any e1 refl (into_low r1 _ e1 ∙ asked 6 _ _ (area-kind o row r2 w (and_right (is_low r1) (leads_to_area r2) e)))
+      got _ r1 kind.Any e1 refl (into_low r1 _ e1
+      ∙ asked 6 _ _ (area-kind o row r2 w (and_right (is_low r1) (leads_to_area r2) e)))
   quiet_goes (Cca r1 n) e =
       let e1 = and_left (leads_to_area r1) (is_low_operand n) e in
       record {
         after = row;
-        is = asked 5 _ _ (ap not (no_pc_area r1 e1)) ∙ asked 6 _ _ (low-operand o row n w (and_right (leads_to_area r1) (is_low_operand n) e)) ∙ on_area (kind_of row r1) r1 n (area-kind_of r1 e1);
+        is = asked 5 _ _ (ap not (no_pc_area r1 e1))
+            ∙ asked 6 _ _ (low-operand o row n w (and_right (leads_to_area r1) (is_low_operand n) e))
+            ∙ on_area (kind_of row r1) r1 n (area-kind_of r1 e1);
         works = w;
         t2 = refl;
       }

@@ -1,5 +1,6 @@
 -- Items that were laid stand in the component.
-use Rattle.std.proofs.Common.{◌≡◌, ℕ, zero, suc, ◌+◌, ◌<◌, ◌≤◌, inl, inr, Bool, true, false, List, [], ◌∷◌, ◌++◌, length, map, Some, None, refl, ap, ◌∙◌, subst, arith, lt-ltb, pos}
+use Rattle.std.proofs.Common.{◌≡◌, ℕ, zero, suc, ◌+◌, ◌<◌, ◌≤◌, inl, inr, Bool, true, false, List, [], ◌∷◌}
+use Rattle.std.proofs.Common.{◌++◌, length, map, Some, None, refl, ap, ◌∙◌, subst, arith, lt-ltb, pos}
 use Rattle.std.specs.Prelude.{if◌then◌else◌, slice_get, nat_lt, FitsSigned}
 use Rattle.std.specs.Int.{w32}
 use Rattle.std.proofs.lemmas.Option.{slice_get_within}
@@ -12,13 +13,15 @@ use Rattle.lcm_isa.proofs.NumberLemmas.{decode_of-number_of}
 use Rattle.call_sequence.proofs.LawLemmas.{near_operand}
 use Rattle.flow_check.specs.Places.{declared}
 use Rattle.flow_check.specs.Walk.{instr_at, instr_in}
-use Rattle.proc_templates.specs.Items.{Spot, Item, does, guards, goes, goes_if, finishes, label, site, entry, leaves, instrs, zero_of, FAIL_AT, Laid, word_of, put, lay}
+use Rattle.proc_templates.specs.Items.{Spot, Item, does, guards, goes, goes_if, finishes, label, site, entry}
+use Rattle.proc_templates.specs.Items.{leaves, instrs, zero_of, FAIL_AT, Laid, word_of, put, lay}
 use Rattle.proc_templates.specs.Compiled.{label_row}
 use Rattle.proc_templates.specs.Free.{behind, after}
 use Rattle.proc_templates.specs.Fit.{AllFit, ItemFits, ItemsFit}
 use Rattle.proc_templates.proofs.Onwards.{Stands, AtMostLabel}
 use Rattle.proc_templates.proofs.Carried.{Run, Starts, Here, Carries}
-use Rattle.proc_templates.proofs.Laying.{has, has_it, label_it, put-length, get-right, get-map, Rest, Sound, behind-least, rest_lay, sound_put, lay-length}
+use Rattle.proc_templates.proofs.Laying.{has, has_it, label_it, put-length, get-right, get-map, Rest, Sound}
+use Rattle.proc_templates.proofs.Laying.{behind-least, rest_lay, sound_put, lay-length}
 
 pub zero_fits : FitsSigned w32 (pos 0)
 zero_fits = record { sfits = omega arith }
@@ -34,10 +37,12 @@ there_is (x ∷ xs) (suc j) h = there_is xs j (omega (arith, h))
 
 pub after-least : (xs : List Item) (o : ℕ) → o ≤ after o xs
 after-least [] o = omega arith
-after-least (x ∷ xs) o = let h = after-least xs (behind o x) in let g = behind-least o x in omega (arith, h, g)
+after-least (x ∷ xs) o = let h = after-least xs (behind o x) in let g = behind-least o x in
+    omega (arith, h, g)
 
 module _ (c : ComponentFields) where
-  word_here : (l : Laid) (q : ℕ) (i : Instr) → Rest l c → IsInstr i → slice_get l.code q ≡ Some (word_of i) → has l.sites q ≡ false → has l.entries q ≡ false → Stands c q i
+  word_here : (l : Laid) (q : ℕ) (i : Instr) → Rest l c → IsInstr i → slice_get l.code q ≡ Some (word_of i)
+      → has l.sites q ≡ false → has l.entries q ≡ false → Stands c q i
   unfolding instr_at
   word_here l q i r f e s n =
       let lt = slice_get_within l.code q (word_of i) e in
@@ -49,7 +54,8 @@ module _ (c : ComponentFields) where
 
   run_here : (l : Laid) → Rest l c → (is : List Instr) (q : ℕ) → AllFit is
       → ((j : ℕ) (i : Instr) → slice_get is j ≡ Some i → slice_get l.code (q + j) ≡ Some (word_of i))
-      → ((x : ℕ) → q ≤ x → has l.sites x ≡ false) → ((x : ℕ) → q ≤ x → has l.entries x ≡ false) → ((x : ℕ) → q ≤ x → has l.labels x ≡ false)
+      → ((x : ℕ) → q ≤ x → has l.sites x ≡ false) → ((x : ℕ) → q ≤ x → has l.entries x ≡ false)
+      → ((x : ℕ) → q ≤ x → has l.labels x ≡ false)
       → Run c q is
   run_here l r [] q f w s e b = tt
   run_here l r (i ∷ is) q f w s e b =
@@ -61,7 +67,8 @@ module _ (c : ComponentFields) where
           bare = r.labels q lt ∙ ap (λ t. if t then Some label_row else None) (b q (omega arith));
         },
         run_here l r is (q + 1) f.1
-            (λ j k h. let z : q + suc j ≡ q + 1 + j = omega arith in subst (λ y. slice_get l.code y ≡ Some (word_of k)) z (w (suc j) k h))
+            (λ j k h. let z : q + suc j ≡ q + 1 + j = omega arith in
+            subst (λ y. slice_get l.code y ≡ Some (word_of k)) z (w (suc j) k h))
             (λ x h. s x (omega (arith, h))) (λ x h. e x (omega (arith, h))) (λ x h. b x (omega (arith, h))),
       )
 
@@ -79,15 +86,18 @@ module _ (c : ComponentFields) where
   starts_here l m (i ∷ is) s r f ec es en el =
       let o = length l.code in
       let words = λ (j : ℕ) (k : Instr) (h : slice_get (i ∷ is) j ≡ Some k).
-      (ap (λ ws. slice_get ws (o + j)) ec ∙ get-right l.code (map word_of (i ∷ is)) j ∙ get-map (i ∷ is) j k h) in
+      (ap (λ ws. slice_get ws (o + j)) ec ∙ get-right l.code (map word_of (i ∷ is)) j
+      ∙ get-map (i ∷ is) j k h) in
       let o0 : o + 0 ≡ o = omega arith in
       let here = subst (λ z. slice_get m.code z ≡ Some (word_of i)) o0 (words 0 i refl) in (
         record {
-          stands = word_here m o i r f.0 here (ap (λ xs. has xs o) es ∙ s.sites o (omega arith)) (ap (λ xs. has xs o) en ∙ s.entries o (omega arith));
+          stands = word_here m o i r f.0 here (ap (λ xs. has xs o) es ∙ s.sites o (omega arith))
+              (ap (λ xs. has xs o) en ∙ s.entries o (omega arith));
           label = most_label m o r (slice_get_within m.code o (word_of i) here);
         },
         run_here m r is (o + 1) f.1
-            (λ j k h. let z : o + suc j ≡ o + 1 + j = omega arith in subst (λ y. slice_get m.code y ≡ Some (word_of k)) z (words (suc j) k h))
+            (λ j k h. let z : o + suc j ≡ o + 1 + j = omega arith in
+            subst (λ y. slice_get m.code y ≡ Some (word_of k)) z (words (suc j) k h))
             (λ x h. ap (λ xs. has xs x) es ∙ s.sites x (omega (arith, h)))
             (λ x h. ap (λ xs. has xs x) en ∙ s.entries x (omega (arith, h)))
             (λ x h. ap (λ xs. has xs x) el ∙ s.labels x (omega (arith, h))),
@@ -99,14 +109,28 @@ module _ (c : ComponentFields) where
       lt-ltb q (length c.code) (slice_get_within c.code q w.0 (r.code q w.0 w.1))
 
   module _ (spot : Spot) (low : spot.epilogue ≤ LAST_PLACE) where
-    pub here : (x : Item) (l : Laid) → ItemFits x → length l.code ≤ LAST_PLACE → Sound l → Rest (put spot l x) c → Here c spot (length l.code) x
+    pub here : (x : Item) (l : Laid) → ItemFits x → length l.code ≤ LAST_PLACE → Sound l
+        → Rest (put spot l x) c → Here c spot (length l.code) x
     unfolding put instrs
     here (does i) l f b s r = (starts_here l (put spot l (does i)) (i ∷ []) s r (f, tt) refl refl refl refl).0
     here (guards is) l f b s r =
-        starts_here l (put spot l (guards is)) (instrs spot (length l.code) (length l.sites) (guards is)) s r (tt, (near_operand (length l.code) FAIL_AT b (omega arith), fit_both is (zero_of T2 ∷ []) f (zero_fits, tt))) refl refl refl refl
-    here (goes far) l f b s r = starts_here l (put spot l (goes far)) (instrs spot (length l.code) (length l.sites) (goes far)) s r (tt, (f, (tt, tt))) refl refl refl refl
-    here (goes_if far g) l f b s r = starts_here l (put spot l (goes_if far g)) (instrs spot (length l.code) (length l.sites) (goes_if far g)) s r (tt, (f, (tt, tt))) refl refl refl refl
-    here finishes l f b s r = starts_here l (put spot l finishes) (instrs spot (length l.code) (length l.sites) finishes) s r (tt, (near_operand (length l.code) spot.epilogue b low, (tt, tt))) refl refl refl refl
+        starts_here l (put spot l (guards is)) (instrs spot (length l.code) (length l.sites) (guards is)) s r (
+          tt,
+          (
+            near_operand (length l.code) FAIL_AT b (omega arith),
+            fit_both is (zero_of T2 ∷ []) f
+                (zero_fits, tt),
+          ),
+        ) refl refl refl refl
+    here (goes far) l f b s r = starts_here l (put spot l (goes far))
+        (instrs spot (length l.code) (length l.sites) (goes far)) s r (tt, (f, (tt, tt))) refl refl refl refl
+    here (goes_if far g) l f b s r =
+        starts_here l (put spot l (goes_if far g))
+        (instrs spot (length l.code) (length l.sites) (goes_if far g)) s r
+        (tt, (f, (tt, tt))) refl refl refl refl
+    here finishes l f b s r = starts_here l (put spot l finishes)
+        (instrs spot (length l.code) (length l.sites) finishes) s r
+        (tt, (near_operand (length l.code) spot.epilogue b low, (tt, tt))) refl refl refl refl
     here label l f b s r = r.marked (length l.code) (label_it l.labels (length l.code))
     here site l f b s r =
         let o = length l.code in
@@ -128,9 +152,11 @@ module _ (c : ComponentFields) where
         }
     here leaves l f b s r =
         let z = zero_fits in
-        starts_here l (put spot l leaves) (instrs spot (length l.code) (length l.sites) leaves) s r (z, (z, (z, (z, (z, (z, (z, (z, (z, (tt, tt)))))))))) refl refl refl refl
+        starts_here l (put spot l leaves) (instrs spot (length l.code) (length l.sites) leaves) s r
+        (z, (z, (z, (z, (z, (z, (z, (z, (z, (tt, tt)))))))))) refl refl refl refl
 
-    pub carries : (xs : List Item) (l : Laid) → ItemsFit xs → length (lay spot l xs).code ≤ LAST_PLACE → Sound l → Rest (lay spot l xs) c → Carries c spot (length l.code) xs
+    pub carries : (xs : List Item) (l : Laid) → ItemsFit xs → length (lay spot l xs).code ≤ LAST_PLACE
+        → Sound l → Rest (lay spot l xs) c → Carries c spot (length l.code) xs
     carries [] l f b s r = tt
     carries (x ∷ xs) l f b s r =
         let m = put spot l x in

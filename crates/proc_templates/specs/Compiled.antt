@@ -44,11 +44,11 @@ frame_of m p = record {
 
 -- ---- how many words
 
-abbrev pub size_of_proc : Part → Procedure → ℕ
-size_of_proc m p = proc_words (frame_of m p) p.callbacks (block_of p.body)
+abbrev pub size_of_proc : Procedure → ℕ
+size_of_proc p = proc_words p.need p.callbacks (block_of p.body)
 
 unfoldable pub code_words : Part → ℕ
-code_words m = 2 + sum_by (size_of_proc m) m.procs
+code_words m = 2 + sum_by size_of_proc m.procs
 
 unfoldable pub data_count : Part → ℕ
 data_count m = pair_count m + length m.globals
@@ -106,14 +106,14 @@ abbrev pub export_into : Export → List Export → List Export
 export_into e [] = e ∷ []
 export_into e (x ∷ xs) = if name_lt e.name x.name then e ∷ x ∷ xs else x ∷ export_into e xs
 
-abbrev pub exports_from : Part → ℕ → List Procedure → List Export
-exports_from m o [] = []
-exports_from m o (p ∷ ps) =
+abbrev pub exports_from : ℕ → List Procedure → List Export
+exports_from o [] = []
+exports_from o (p ∷ ps) =
     export_into (record { name = p.name; offset = o; shared = p.shared })
-    (exports_from m (o + size_of_proc m p) ps)
+    (exports_from (o + size_of_proc p) ps)
 
 unfoldable pub exports_of : Part → List Export
-exports_of m = exports_from m 2 m.procs
+exports_of m = exports_from 2 m.procs
 
 -- ---- rows at labels: t2 may be anything
 

@@ -5,7 +5,8 @@ use Rattle.lcm_isa.specs.declared.Reg.TheVariants.{T2}
 use Rattle.lcm_isa.specs.declared.Instr.{Instr}
 use Rattle.lcm_isa.specs.declared.Instr.TheVariants.{Halt, Jnz}
 use Rattle.call_sequence.specs.declared.TheConstants.{SITE_WORDS, ENTRY_WORDS}
-use Rattle.proc_templates.specs.Items.{Item, does, guards, goes, goes_if, finishes, label, site, entry, leaves}
+use Rattle.proc_templates.specs.Items.{Item, does, guards, goes, goes_if, finishes, label, site, entry}
+use Rattle.proc_templates.specs.Items.{leaves}
 use Rattle.proc_templates.specs.Ready.{is_low, is_quiet}
 
 -- during which t2 may lead to the `fail`

@@ -1,6 +1,6 @@
 -- What the compiler writes, piece by piece, and the words that it comes to.
-use Rattle.std.specs.Prelude.{ℕ, ◌+◌, ◌==◌, ℤ, pos, List, [], ◌∷◌, ◌++◌, length, map, if◌then◌else◌}
-use Rattle.std.specs.List.{list_any}
+use Rattle.std.specs.Prelude.{Bool, false, ◌==◌, ℕ, ◌+◌, ℤ, pos, List, [], ◌∷◌, ◌++◌, length, map}
+use Rattle.std.specs.Prelude.{if◌then◌else◌}
 use Rattle.cap_words.specs.declared.Word.{Word}
 use Rattle.cap_words.specs.declared.Word.TheVariants.{Int}
 use Rattle.lcm_isa.specs.declared.Reg.{Reg}
@@ -75,9 +75,14 @@ pub record Laid : Type 0 where
 abbrev pub word_of : Instr → Word
 word_of i = Int (pos (number_of i))
 
+abbrev pub is_last : List ℕ → ℕ → Bool
+is_last [] o = false
+is_last (x ∷ []) o = x == o
+is_last (x ∷ y ∷ ys) o = is_last (y ∷ ys) o
+
 -- an offset at the end, unless it stands there already
 abbrev pub with_label : List ℕ → ℕ → List ℕ
-with_label labels o = if list_any (λ l. l == o) labels then labels else labels ++ (o ∷ [])
+with_label labels o = if is_last labels o then labels else labels ++ (o ∷ [])
 
 abbrev pub sites_with : List ℕ → ℕ → Item → List ℕ
 sites_with sites o site = sites ++ (o ∷ [])

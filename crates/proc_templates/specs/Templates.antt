@@ -2,7 +2,8 @@
 use Rattle.std.specs.Prelude.{ℕ, zero, suc, ◌+◌, ◌-◌, ◌*◌, pos, Bool, true, false, List, [], ◌∷◌, ◌++◌}
 use Rattle.std.specs.Prelude.{map, take, drop, replicate, slice_index_or}
 use Rattle.lcm_isa.specs.declared.Reg.{Reg}
-use Rattle.lcm_isa.specs.declared.Reg.TheVariants.{Rcode, Rdata, Stk, Dat, T1, T2, C1, C2, A0, A1, A2, A3, G0, G1, G2}
+use Rattle.lcm_isa.specs.declared.Reg.TheVariants.{Rcode, Rdata, Stk, Dat, T1, T2, C1, C2, A0, A1, A2, A3, G0}
+use Rattle.lcm_isa.specs.declared.Reg.TheVariants.{G1, G2}
 use Rattle.lcm_isa.specs.declared.Operand.TheVariants.{R, Imm}
 use Rattle.lcm_isa.specs.declared.Instr.{Instr}
 use Rattle.lcm_isa.specs.declared.Instr.TheVariants as instr
@@ -20,7 +21,8 @@ use Rattle.proc_program.specs.Program.{Exp, Number, Load, Element, Call, Binary,
 use Rattle.proc_program.specs.Program.{Step, Set, SetAt, Do, If, While, Return, Halt, Block, no_steps, step}
 use Rattle.proc_program.specs.Limits.{register_count, registers_of, arg_registers}
 use Rattle.proc_templates.specs.declared.Frame.{Frame}
-use Rattle.proc_templates.specs.Items.{Item, does, guards, goes, goes_if, finishes, label, site, entry, leaves}
+use Rattle.proc_templates.specs.Items.{Item, does, guards, goes, goes_if, finishes, label, site, entry}
+use Rattle.proc_templates.specs.Items.{leaves}
 use Rattle.proc_templates.specs.Items.{zero_of}
 
 -- ---- sizes: how many words
@@ -257,5 +259,6 @@ proc_code f params body =
 unfoldable pub before_epilogue : Frame → List Bool → Block → ℕ
 before_epilogue f params body = ENTRY_WORDS + checks_words params + 2 * f.words + block_words body + 1
 
-unfoldable pub proc_words : Frame → List Bool → Block → ℕ
-proc_words f params body = 34 + checks_words params + 4 * f.words + block_words body
+-- with a frame of so many words
+abbrev pub proc_words : ℕ → List Bool → Block → ℕ
+proc_words w params body = 34 + checks_words params + 4 * w + block_words body

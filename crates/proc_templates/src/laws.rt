@@ -16,8 +16,10 @@ ghost use Rattle.proc_templates.specs.Kept.{Fits, NamesDiffer, KeepsOwnRules};
 #[tactic(auto, using(crate::proofs::Readies::keeps_flow, crate::proofs::Readies::keeps_own, crate::proofs::Limited::limits_kept))]
 pub fn components_keep_rules()
     ensures flow { (m : Part) → Fits m → IsKept (component_of m) }
-    ensures own { (m : Part) → Fits m → part_calls m ≤ m.header.return_count → KeepsOwnRules (component_of m) }
-    ensures limits { (m : Part) → Fits m → NamesDiffer m.procs → part_calls m ≤ m.header.return_count → IsComponent (component_of m) }
+    ensures own { (m : Part) → Fits m → part_calls m ≤ m.header.return_count
+        → KeepsOwnRules (component_of m) }
+    ensures limits { (m : Part) → Fits m → NamesDiffer m.procs → part_calls m ≤ m.header.return_count
+        → IsComponent (component_of m) }
 {}
 
 /// No two procedures of a module have one name, if none of its names stands twice.
