@@ -1,0 +1,27 @@
+-- A loop over statements writes one after the other.
+use Rattle.std.proofs.Common.{◌≡◌, ℕ, suc, ◌+◌, ◌<◌, List, ◌∷◌, length, drop, drop-cons, add-one}
+use Rattle.std.proofs.Common.{get_or, sym, ap, ◌∙◌}
+use Rattle.proc_program.specs.Program.{Step}
+use Rattle.proc_program.specs.StepView.{block_of}
+use Rattle.proc_templates.specs.declared.Frame.{Frame}
+use Rattle.proc_templates.specs.Templates.{step_code, block_code}
+use Rattle.proc_compiler.specs.Drafts.{Drafted, with_items}
+use Rattle.proc_compiler.proofs.Written.{items_append}
+
+-- what is left, from an item on
+pub drop_item : {A : Type 0} (xs : List A) (i : ℕ) (x : A) → i < length xs → x ≡ get_or xs i x
+    → drop i xs ≡ x ∷ drop (i + 1) xs
+drop_item xs i x below is =
+    drop-cons xs i x below ∙ ap (λ y. y ∷ drop (suc i) xs) (sym is)
+    ∙ ap (λ j. x ∷ drop j xs) (sym (add-one i))
+
+pub block_told : (f : Frame) (steps : List Step) (i : ℕ) (s : Step) (start d e : Drafted)
+    → drop i steps ≡ s ∷ drop (i + 1) steps
+    → with_items (block_code f (block_of (drop i steps))) d ≡ with_items (block_code f (block_of steps)) start
+    → e ≡ with_items (step_code f s) d
+    → with_items (block_code f (block_of (drop (i + 1) steps))) e ≡ with_items
+    (block_code f (block_of steps)) start
+block_told f steps i s start d e here told one =
+    let rest = block_code f (block_of (drop (i + 1) steps)) in
+    ap (with_items rest) one ∙ sym (items_append (step_code f s) rest d)
+    ∙ ap (λ ys. with_items (block_code f (block_of ys)) d) (sym here) ∙ told

@@ -1,0 +1,4 @@
+pub mod Fault
+pub mod FaultText
+pub mod Drafts
+pub mod Exported

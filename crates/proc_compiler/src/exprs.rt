@@ -1,0 +1,259 @@
+//! Expressions.
+ghost use Rattle.std.specs.Prelude.{◌≡◌, ◌≤◌, ◌<◌, ◌+◌, ◌++◌, OnOk, length, drop};
+ghost use Rattle.cap_words.specs.declared.TheConstants.{LAST_PLACE};
+ghost use Rattle.component_file.specs.declared.TheConstants.{MOST_WORDS};
+ghost use Rattle.proc_program.specs.Program.{Element, Binary};
+ghost use Rattle.proc_program.specs.View.{args_of};
+ghost use Rattle.proc_program.specs.Calls.{calls, args_calls};
+ghost use Rattle.proc_program.specs.Limits.{arg_registers};
+ghost use Rattle.proc_templates.specs.Templates.{exp_words, load_var, code, args_code, load_args, call_code};
+ghost use Rattle.proc_templates.specs.Templates.{argument, arguments, zeros};
+ghost use Rattle.proc_templates.specs.Sums.{values_words, loads_words, after_values, call_words};
+ghost use Rattle.proc_templates.specs.Bounds.{PlaceBound, RowBound, HandleBound, ExpBound, ArgsBound};
+ghost use Rattle.proc_compiler.specs.Drafts.{with_items};
+
+use crate::draft::Draft;
+use lcm_isa::{Instr, Operand, Reg};
+use proc_language::Op;
+use proc_program::{Arg, Exp, ExpKind, Handle, Place, Row};
+use proc_templates::Frame;
+use std::alloc::AllocError;
+
+// A variable's value comes into g0.
+#[tactic(auto, using(crate::proofs::Written::items))]
+fn load_var(draft: &mut Draft, f: Frame, x: Place) -> Result<(), AllocError>
+    requires frame { f.words ≤ MOST_WORDS }
+    requires fits { PlaceBound f x }
+    ensures written { OnOk result (draft.new ≡ with_items (load_var f x) draft.old) }
+    ensures grown { OnOk result (length draft.new.laid.code ≡ length draft.old.laid.code + 3) }
+    ensures sited { OnOk result (draft.new.laid.sites ≡ draft.old.laid.sites) }
+    ensures kept { OnOk result (draft.new.seals ≡ draft.old.seals) }
+{
+    match x {
+        Place::Local(i) => draft.at_slot(f, i + 2, Instr::Load(Reg::G0, Reg::Stk)),
+        Place::Global(o) => draft.at_glob(f.pairs + o, Instr::Load(Reg::G0, Reg::Dat)),
+    }
+}
+
+/// An expression: its value comes into g0, and `slot` is the first slot that is free.
+#[cycle(expr)]
+#[tactic(auto, using(crate::proofs::Written::called))]
+pub(crate) fn expr(draft: &mut Draft, f: Frame, e: &Exp, slot: u32) -> Result<(), AllocError>
+    requires frame { f.words ≤ MOST_WORDS }
+    requires fits { ExpBound f e.now }
+    requires room { slot + exp_words e.now ≤ LAST_PLACE }
+    requires placed { length draft.old.laid.code + exp_words e.now ≤ MOST_WORDS }
+    requires seals { length draft.old.laid.sites + calls e.now ≤ draft.old.seals }
+    ensures written { OnOk result (draft.new ≡ with_items (code f slot e.now) draft.old) }
+    ensures grown { OnOk result (length draft.new.laid.code ≡ length draft.old.laid.code + exp_words e.now) }
+    ensures sited { OnOk result (length draft.new.laid.sites ≡ length draft.old.laid.sites + calls e.now) }
+    ensures kept { OnOk result (draft.new.seals ≡ draft.old.seals) }
+{
+    match &e.kind {
+        ExpKind::Number(n) => draft.put(Instr::Move(Reg::G0, Operand::Imm(*n as i32))),
+        ExpKind::Load(x) => load_var(draft, f, *x),
+        ExpKind::Element(row, index) => element(draft, f, *row, index, slot),
+        ExpKind::Call(c) => call(draft, f, c.handle, c.args.as_slice(), slot),
+        ExpKind::Binary(op, left, right) => operation(draft, f, *op, left, right, slot),
+    }
+}
+
+// A binary operation: its value comes into g0.
+#[cycle(expr)]
+#[tactic(auto, using(crate::proofs::Written::items))]
+fn operation(
+    draft: &mut Draft,
+    f: Frame,
+    op: Op,
+    left: &Exp,
+    right: &Exp,
+    slot: u32,
+) -> Result<(), AllocError>
+    requires frame { f.words ≤ MOST_WORDS }
+    requires left_fits { ExpBound f left.now }
+    requires right_fits { ExpBound f right.now }
+    requires room { slot + exp_words (Binary op left.now right.now) ≤ LAST_PLACE }
+    requires placed { length draft.old.laid.code + exp_words (Binary op left.now right.now) ≤ MOST_WORDS }
+    requires seals { length draft.old.laid.sites + (calls left.now + calls right.now) ≤ draft.old.seals }
+    ensures written { OnOk result (draft.new ≡ with_items (code f slot (Binary op left.now right.now)) draft.old) }
+    ensures grown { OnOk result (length draft.new.laid.code
+        ≡ length draft.old.laid.code + exp_words (Binary op left.now right.now)) }
+    ensures sited { OnOk result (length draft.new.laid.sites
+        ≡ length draft.old.laid.sites + (calls left.now + calls right.now)) }
+    ensures kept { OnOk result (draft.new.seals ≡ draft.old.seals) }
+{
+    expr(draft, f, left, slot)?;
+    draft.at_slot(f, slot, Instr::Store(Reg::Stk, Reg::G0))?;
+    expr(draft, f, right, slot + 1)?;
+    draft.put(Instr::Move(Reg::G1, Operand::R(Reg::G0)))?;
+    draft.at_slot(f, slot, Instr::Load(Reg::G0, Reg::Stk))?;
+    draft.operate(op)
+}
+
+// An element of an array: its value comes into g0.
+#[cycle(expr)]
+#[tactic(auto, using(crate::proofs::Written::items))]
+fn element(draft: &mut Draft, f: Frame, row: Row, index: &Exp, slot: u32) -> Result<(), AllocError>
+    requires frame { f.words ≤ MOST_WORDS }
+    requires row_fits { RowBound f row }
+    requires fits { ExpBound f index.now }
+    requires room { slot + exp_words index.now + 15 ≤ LAST_PLACE }
+    requires placed { length draft.old.laid.code + exp_words index.now + 15 ≤ MOST_WORDS }
+    requires seals { length draft.old.laid.sites + calls index.now ≤ draft.old.seals }
+    ensures written { OnOk result (draft.new ≡ with_items (code f slot (Element row index.now)) draft.old) }
+    ensures grown { OnOk result (length draft.new.laid.code ≡ length draft.old.laid.code + exp_words index.now + 15) }
+    ensures sited { OnOk result (length draft.new.laid.sites ≡ length draft.old.laid.sites + calls index.now) }
+    ensures kept { OnOk result (draft.new.seals ≡ draft.old.seals) }
+{
+    expr(draft, f, index, slot)?;
+    draft.at_element(
+        f.pairs + row.first,
+        row.length,
+        Instr::Load(Reg::G1, Reg::Dat),
+    )?;
+    draft.put(Instr::Move(Reg::G0, Operand::R(Reg::G1)))
+}
+
+// A call: its value comes into g0.
+#[cycle(expr)]
+#[tactic(auto, using(crate::proofs::Written::items))]
+fn call(draft: &mut Draft, f: Frame, h: Handle, args: &[Arg], slot: u32) -> Result<(), AllocError>
+    requires frame { f.words ≤ MOST_WORDS }
+    requires handle_fits { HandleBound f h }
+    requires fits { ArgsBound f (args_of args.now) }
+    requires few { arg_registers (args_of args.now) ≤ 4 }
+    requires room { slot + call_words h (args_of args.now) ≤ LAST_PLACE }
+    requires placed { length draft.old.laid.code + call_words h (args_of args.now) ≤ MOST_WORDS }
+    requires seals { length draft.old.laid.sites + args_calls (args_of args.now) + 1 ≤ draft.old.seals }
+    ensures written { OnOk result (draft.new
+        ≡ with_items (args_code f slot 0 (args_of args.now) ++ call_code f slot h (args_of args.now))
+        draft.old) }
+    ensures grown { OnOk result (length draft.new.laid.code
+        ≡ length draft.old.laid.code + call_words h (args_of args.now)) }
+    ensures sited { OnOk result (length draft.new.laid.sites
+        ≡ length draft.old.laid.sites + args_calls (args_of args.now) + 1) }
+    ensures kept { OnOk result (draft.new.seals ≡ draft.old.seals) }
+{
+    values(draft, f, args, slot, 0)?;
+    call_with(draft, f, h, args, slot)
+}
+
+// The values of arguments, each in its slot; the first of them is handed over in this register.
+#[cycle(expr)]
+#[tactic(auto, using(crate::proofs::Written::items))]
+fn values(draft: &mut Draft, f: Frame, args: &[Arg], slot: u32, from: u32) -> Result<(), AllocError>
+    requires frame { f.words ≤ MOST_WORDS }
+    requires fits { ArgsBound f (args_of args.now) }
+    requires few { from + arg_registers (args_of args.now) ≤ 4 }
+    requires room { slot + 4 + values_words (args_of args.now) ≤ LAST_PLACE }
+    requires placed { length draft.old.laid.code + values_words (args_of args.now) ≤ MOST_WORDS }
+    requires seals { length draft.old.laid.sites + args_calls (args_of args.now) ≤ draft.old.seals }
+    ensures written { OnOk result (draft.new ≡ with_items (args_code f slot from (args_of args.now)) draft.old) }
+    ensures grown { OnOk result (length draft.new.laid.code
+        ≡ length draft.old.laid.code + values_words (args_of args.now)) }
+    ensures sited { OnOk result (length draft.new.laid.sites
+        ≡ length draft.old.laid.sites + args_calls (args_of args.now)) }
+    ensures kept { OnOk result (draft.new.seals ≡ draft.old.seals) }
+{
+    match args.split_first() {
+        None => Ok(()),
+        Some((Arg::Value(e), rest)) => {
+            expr(draft, f, e, slot + from)?;
+            draft.at_slot(f, slot + from, Instr::Store(Reg::Stk, Reg::G0))?;
+            values(draft, f, rest, slot, from + 1)
+        }
+        Some((Arg::Pass(_), rest)) => values(draft, f, rest, slot, from + 2),
+    }
+}
+
+/// The register in which an argument is handed over.
+pub(crate) fn argument(index: u32) -> Reg
+    ensures { result ≡ argument index }
+{
+    match index {
+        0 => Reg::A0,
+        1 => Reg::A1,
+        2 => Reg::A2,
+        _ => Reg::A3,
+    }
+}
+
+/// How many registers arguments take.
+pub(crate) fn arg_registers(args: &[Arg]) -> u32
+    requires { arg_registers (args_of args.now) ≤ 4 }
+    ensures { result ≡ arg_registers (args_of args.now) }
+{
+    match args.split_first() {
+        None => 0,
+        Some((Arg::Value(_), rest)) => arg_registers(rest) + 1,
+        Some((Arg::Pass(_), rest)) => arg_registers(rest) + 2,
+    }
+}
+
+// Arguments come into their registers.
+#[tactic(auto, using(crate::proofs::Written::items))]
+fn loads(draft: &mut Draft, f: Frame, args: &[Arg], slot: u32, from: u32) -> Result<(), AllocError>
+    requires frame { f.words ≤ MOST_WORDS }
+    requires fits { ArgsBound f (args_of args.now) }
+    requires few { from + arg_registers (args_of args.now) ≤ 4 }
+    requires room { slot + 4 ≤ LAST_PLACE }
+    ensures written { OnOk result (draft.new ≡ with_items (load_args f slot from (args_of args.now)) draft.old) }
+    ensures grown { OnOk result (length draft.new.laid.code ≡ length draft.old.laid.code + loads_words (args_of args.now)) }
+    ensures sited { OnOk result (draft.new.laid.sites ≡ draft.old.laid.sites) }
+    ensures kept { OnOk result (draft.new.seals ≡ draft.old.seals) }
+{
+    match args.split_first() {
+        None => Ok(()),
+        Some((Arg::Value(_), rest)) => {
+            draft.at_slot(f, slot + from, Instr::Load(argument(from), Reg::Stk))?;
+            loads(draft, f, rest, slot, from + 1)
+        }
+        Some((Arg::Pass(h), rest)) => {
+            draft.load_pair(f, *h, argument(from), argument(from + 1))?;
+            loads(draft, f, rest, slot, from + 2)
+        }
+    }
+}
+
+// The registers of arguments that a call doesn't hand over become 0.
+#[tactic(auto, using(crate::proofs::Written::items))]
+fn unused(draft: &mut Draft, count: u32) -> Result<(), AllocError>
+    requires { count ≤ 4 }
+    ensures written { OnOk result (draft.new ≡ with_items (zeros (drop count arguments)) draft.old) }
+    ensures grown { OnOk result (length draft.new.laid.code + count ≡ length draft.old.laid.code + 4) }
+    ensures sited { OnOk result (draft.new.laid.sites ≡ draft.old.laid.sites) }
+    ensures kept { OnOk result (draft.new.seals ≡ draft.old.seals) }
+{
+    let all = [Reg::A0, Reg::A1, Reg::A2, Reg::A3];
+    draft.zeros(&all[count as usize..])
+}
+
+// A call, once the values of its arguments stand in their slots.
+#[tactic(auto, using(crate::proofs::Written::items))]
+fn call_with(
+    draft: &mut Draft,
+    f: Frame,
+    h: Handle,
+    args: &[Arg],
+    slot: u32,
+) -> Result<(), AllocError>
+    requires frame { f.words ≤ MOST_WORDS }
+    requires handle_fits { HandleBound f h }
+    requires fits { ArgsBound f (args_of args.now) }
+    requires few { arg_registers (args_of args.now) ≤ 4 }
+    requires room { slot + 4 ≤ LAST_PLACE }
+    requires placed { length draft.old.laid.code + after_values h (args_of args.now) ≤ MOST_WORDS }
+    requires seals { length draft.old.laid.sites < draft.old.seals }
+    ensures written { OnOk result (draft.new ≡ with_items (call_code f slot h (args_of args.now)) draft.old) }
+    ensures grown { OnOk result (length draft.new.laid.code
+        ≡ length draft.old.laid.code + after_values h (args_of args.now)) }
+    ensures sited { OnOk result (length draft.new.laid.sites ≡ length draft.old.laid.sites + 1) }
+    ensures kept { OnOk result (draft.new.seals ≡ draft.old.seals) }
+{
+    loads(draft, f, args, slot, 0)?;
+    unused(draft, arg_registers(args))?;
+    draft.load_pair(f, h, Reg::C1, Reg::C2)?;
+    draft.zeros(&[Reg::G0, Reg::G1, Reg::G2])?;
+    draft.site()?;
+    draft.put(Instr::Plus(Reg::G0, Reg::A0, Operand::Imm(0)))
+}

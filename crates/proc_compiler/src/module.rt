@@ -1,0 +1,266 @@
+//! Modules.
+ghost use Rattle.std.specs.Prelude.{◌≡◌, ◌≤◌, ◌+◌, ◌*◌, OnOk, IfOk, IfErr, length, sum_by, []};
+ghost use Rattle.component_file.specs.declared.TheConstants.{MOST_WORDS};
+ghost use Rattle.flow_check.specs.Verdict.{IsKept};
+ghost use Rattle.proc_language.specs.declared.module.ModuleFields.{ModuleFields};
+ghost use Rattle.proc_language.specs.Limits.{Each, IsModule};
+ghost use Rattle.proc_names.specs.NameFaults.{name_faults};
+ghost use Rattle.proc_names.specs.Calls.{module_calls};
+ghost use Rattle.proc_program.specs.Calls.{procedure_calls, part_calls};
+ghost use Rattle.proc_program.specs.Limits.{scope_of, ProcedureFits, IsPart};
+ghost use Rattle.proc_program.specs.Lower.{part_of};
+ghost use Rattle.proc_templates.specs.Compiled.{frame_of, pair_count, size_of_proc, code_words, data_count};
+ghost use Rattle.proc_templates.specs.Compiled.{lay_proc, lay_procs, laid_of, literal_of, literal_at_of};
+ghost use Rattle.proc_templates.specs.Compiled.{data_of};
+ghost use Rattle.proc_templates.specs.Compiled.{imports_of, exports_of, seal_base, component_of, compiled};
+ghost use Rattle.proc_templates.specs.Kept.{Fits, NamesDiffer, KeepsOwnRules};
+ghost use Rattle.proc_compiler.specs.Fault.{CompilesWith, CausesWith, Compiles, Causes};
+
+use crate::counts::{
+    code_fits, data_fits, is_without_calls, pair_count, seals_suffice, size_of_proc,
+};
+use crate::draft::Draft;
+use crate::fault::CompileFault;
+use crate::lists::{
+    exports_from, push_imports, push_own, push_words, push_zeros, rows_at, text_of,
+};
+use crate::routine::{proc_at, registers_of};
+use cap_words::{Items, SealCap, SealRange, Word};
+use component_file::{Area, Component, ComponentFields, Export, Import};
+use proc_language::Module;
+use proc_program::{Part, Procedure, lowered};
+use proc_templates::Frame;
+use std::alloc::{AllocError, Global};
+
+// The frame of a procedure.
+#[tactic(auto, unfolding(proc_templates::specs::Compiled::frame_of))]
+fn frame_of(m: &Part, p: &Procedure) -> Frame
+    requires limits { IsPart m.now }
+    requires fits { ProcedureFits (scope_of m.now) p.now }
+    ensures { result ≡ frame_of m.now p.now }
+{
+    let imports = m.imports.as_slice().len() as u32;
+    Frame {
+        words: p.need,
+        temps: 2 + registers_of(p.callbacks.as_slice()) + p.locals,
+        imports,
+        pairs: pair_count(m),
+    }
+}
+
+// A procedure. Its epilogue stands behind all but the last `2w + 13` of its words.
+#[tactic(auto, using(crate::proofs::Modules::frame_words, crate::proofs::Modules::body_bound, crate::proofs::Modules::temps_le))]
+fn proc_in(draft: &mut Draft, m: &Part, p: &Procedure) -> Result<(), AllocError>
+    requires limits { IsPart m.now }
+    requires data_fits { data_count m.now ≤ MOST_WORDS }
+    requires fits { ProcedureFits (scope_of m.now) p.now }
+    requires placed { length draft.old.laid.code + size_of_proc p.now ≤ MOST_WORDS }
+    requires seals { length draft.old.laid.sites + procedure_calls p.now ≤ draft.old.seals }
+    requires base { draft.old.spot.stack_base ≡ m.now.stack }
+    ensures laid { OnOk result (draft.new.laid ≡ lay_proc m.now draft.old.laid p.now) }
+    ensures grown { OnOk result (length draft.new.laid.code ≡ length draft.old.laid.code + size_of_proc p.now) }
+    ensures sited { OnOk result (length draft.new.laid.sites ≡ length draft.old.laid.sites + procedure_calls p.now) }
+    ensures kept { OnOk result (draft.new.seals ≡ draft.old.seals) }
+    ensures base { OnOk result (draft.new.spot.stack_base ≡ m.now.stack) }
+{
+    let f = frame_of(m, p);
+    draft.begin(draft.at() + size_of_proc(p) - (2 * f.words + 13));
+    proc_at(draft, f, p)
+}
+
+// Procedures, one after the other.
+fn procs_in(draft: &mut Draft, m: &Part, procs: &[Procedure]) -> Result<(), AllocError>
+    requires limits { IsPart m.now }
+    requires data_fits { data_count m.now ≤ MOST_WORDS }
+    requires fits { Each (ProcedureFits (scope_of m.now)) procs.now }
+    requires placed { length draft.old.laid.code + sum_by size_of_proc procs.now ≤ MOST_WORDS }
+    requires seals { length draft.old.laid.sites + sum_by procedure_calls procs.now ≤ draft.old.seals }
+    requires base { draft.old.spot.stack_base ≡ m.now.stack }
+    ensures laid { OnOk result (draft.new.laid ≡ lay_procs m.now draft.old.laid procs.now) }
+{
+    match procs.split_first() {
+        None => Ok(()),
+        Some((p, rest)) => {
+            proc_in(draft, m, p)?;
+            procs_in(draft, m, rest)
+        }
+    }
+}
+
+// The word behind the `fail`: the seal capability over the return seals, where there are calls.
+fn literal_of(m: &Part) -> Word
+    requires limits { IsPart m.now }
+    requires seals { part_calls m.now ≤ m.now.header.return_count }
+    ensures { result ≡ literal_of m.now }
+{
+    if is_without_calls(m) {
+        return Word::Int(0);
+    }
+    let first = m.header.returns;
+    let last = first + m.header.return_count - 1;
+    Word::Seal(SealCap::new(first, last, i64::from(first)))
+}
+
+// The code of a module, with the offsets of calls and labels.
+#[tactic(auto, unfolding(proc_templates::specs::Compiled::laid_of, proc_templates::specs::Compiled::code_words))]
+fn code_of(alloc: Global, m: &Part) -> Result<Draft, AllocError>
+    requires limits { IsPart m.now }
+    requires code { code_words m.now ≤ MOST_WORDS }
+    requires data { data_count m.now ≤ MOST_WORDS }
+    requires seals { part_calls m.now ≤ m.now.header.return_count }
+    ensures { IfOk result (λ d. d.laid ≡ laid_of m.now) }
+{
+    let head = m.header;
+    let mut draft = Draft::new(
+        alloc,
+        literal_of(m),
+        m.stack,
+        head.returns,
+        head.return_count,
+    )?;
+    procs_in(&mut draft, m, m.procs.as_slice())?;
+    Ok(draft)
+}
+
+#[tactic(auto, unfolding(proc_templates::specs::Compiled::data_of))]
+fn data_of(alloc: Global, m: &Part) -> Result<Vec<Word>, AllocError>
+    requires { IsPart m.now }
+    ensures { IfOk result (λ words. words.items ≡ data_of m.now) }
+{
+    let mut words = Vec::new(alloc);
+    push_zeros(&mut words, pair_count(m))?;
+    push_words(&mut words, m.globals.as_slice())?;
+    Ok(words)
+}
+
+#[tactic(auto, unfolding(proc_templates::specs::Compiled::imports_of))]
+fn imports_of(alloc: Global, m: &Part) -> Result<Vec<Import>, AllocError>
+    requires { IsPart m.now }
+    ensures { IfOk result (λ list. list.items ≡ imports_of m.now) }
+{
+    let mut list = Vec::new(alloc);
+    let imports = m.imports.as_slice();
+    push_imports(alloc, &mut list, imports, 0)?;
+    let slot = 2 * imports.len() as u32;
+    push_own(alloc, &mut list, &m.name, m.procs.as_slice(), slot)?;
+    Ok(list)
+}
+
+#[tactic(auto, unfolding(proc_templates::specs::Compiled::exports_of, proc_templates::specs::Compiled::code_words))]
+fn exports_of(alloc: Global, m: &Part) -> Result<Vec<Export>, AllocError>
+    requires { code_words m.now ≤ MOST_WORDS }
+    ensures { IfOk result (λ list. list.items ≡ exports_of m.now) }
+{
+    exports_from(alloc, m.procs.as_slice(), 2)
+}
+
+fn literal_at_of(m: &Part) -> Option<u32>
+    ensures { result ≡ literal_at_of m.now }
+{
+    if is_without_calls(m) { None } else { Some(1) }
+}
+
+fn seals_of(m: &Part) -> SealRange
+    requires { IsPart m.now }
+    ensures { result ≡ record { base = seal_base m.now.header; count = m.now.header.return_count } }
+{
+    let head = m.header;
+    let base = if head.return_count == 0 {
+        0
+    } else {
+        head.returns
+    };
+    SealRange::new(base, head.return_count)
+}
+
+// The fields of a program's component.
+#[tactic(auto, unfolding(proc_templates::specs::Compiled::component_of))]
+fn fields_of(alloc: Global, m: &Part) -> Result<ComponentFields, AllocError>
+    requires limits { IsPart m.now }
+    requires code { code_words m.now ≤ MOST_WORDS }
+    requires data { data_count m.now ≤ MOST_WORDS }
+    requires seals { part_calls m.now ≤ m.now.header.return_count }
+    ensures { IfOk result (λ c. c ≡ component_of m.now) }
+{
+    let draft = code_of(alloc, m)?;
+    let rows = rows_at(alloc, draft.labels())?;
+    let name = text_of(alloc, &m.name)?;
+    let data_words = data_of(alloc, m)?;
+    let imports = imports_of(alloc, m)?;
+    let exports = exports_of(alloc, m)?;
+    let (code, sites) = draft.into_parts();
+    Ok(ComponentFields {
+        name,
+        stack_base: m.stack,
+        closure: m.header.closure,
+        seals: seals_of(m),
+        linear: Area { base: 0, count: 0 },
+        code_base: m.header.code,
+        code: Items::of(code),
+        data_base: m.header.data_base,
+        data_words: Items::of(data_words),
+        imports: Items::of(imports),
+        exports: Items::of(exports),
+        sites: Items::of(sites),
+        fail_at: Some(0),
+        literal_at: literal_at_of(m),
+        rows: Items::of(rows),
+        movable: m.header.movable,
+    })
+}
+
+// The component of these fields.
+#[tactic(auto, using(crate::proofs::Modules::flow_of, crate::proofs::Modules::own_of))]
+fn made(fields: ComponentFields, m: &Part) -> Component
+    requires is { fields ≡ component_of m.now }
+    requires fits { Fits m.now }
+    requires named { NamesDiffer m.now.procs }
+    requires seals { part_calls m.now ≤ m.now.header.return_count }
+    ensures is { result ≡ component_of m.now }
+    ensures flow { IsKept result }
+    ensures own { KeepsOwnRules result }
+{
+    Component::of(fields)
+}
+
+// The component of a program.
+#[tactic(auto, using(crate::proofs::Modules::fits_of))]
+fn component_of(alloc: Global, m: &Part) -> Result<Component, CompileFault>
+    requires limits { IsPart m.now }
+    requires named { NamesDiffer m.now.procs }
+    ensures is { IfOk result (λ c. c ≡ component_of m.now) }
+    ensures compiles { IfOk result (λ c. CompilesWith m.now (part_calls m.now) m.now.header.return_count) }
+    ensures causes { IfErr result (λ f. CausesWith m.now (part_calls m.now) m.now.header.return_count f) }
+    ensures flow { IfOk result (λ c. IsKept c) }
+    ensures own { IfOk result (λ c. KeepsOwnRules c) }
+{
+    if !code_fits(m) || !data_fits(m) {
+        return Err(CompileFault::TooLarge);
+    }
+    if !seals_suffice(m) {
+        return Err(CompileFault::SealsShort);
+    }
+    let fields = fields_of(alloc, m)?;
+    Ok(made(fields, m))
+}
+
+/// The component of a module whose names were resolved: that of its program, by the templates of
+/// docs/LANGUAGE.md. It keeps the rules C4 to C12, as those of a trusted part, and K1 to K10.
+///
+/// # Errors
+///
+/// [`CompileFault::TooLarge`] exactly where code or data have more than 65,536 words;
+/// [`CompileFault::SealsShort`] exactly where they haven't, and the calls in the text outnumber the
+/// return seals; each of them unless memory was refused first, which is [`CompileFault::NoMemory`].
+pub fn compile(alloc: Global, m: &Module) -> Result<Component, CompileFault>
+    requires resolved { name_faults m.now ≡ [] }
+    ensures is { IfOk result (λ c. c ≡ compiled m.now) }
+    ensures compiles { IfOk result (λ c. Compiles m.now) }
+    ensures causes { IfErr result (λ f. Causes m.now f) }
+    ensures flow { IfOk result (λ c. IsKept c) }
+    ensures own { IfOk result (λ c. KeepsOwnRules c) }
+{
+    let _limits = m.fields();
+    let part = lowered(alloc, m)?;
+    component_of(alloc, &part)
+}

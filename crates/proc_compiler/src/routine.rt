@@ -1,0 +1,132 @@
+//! Procedures.
+ghost use Rattle.std.specs.Prelude.{◌≡◌, ◌≤◌, ◌+◌, ◌*◌, [], ◌∷◌, ◌++◌, OnOk, length};
+ghost use Rattle.cap_words.specs.declared.TheConstants.{LAST_PLACE};
+ghost use Rattle.component_file.specs.declared.TheConstants.{MOST_WORDS};
+ghost use Rattle.proc_program.specs.StepView.{block_of};
+ghost use Rattle.proc_program.specs.Calls.{block_calls};
+ghost use Rattle.proc_program.specs.Limits.{register_count, registers_of};
+ghost use Rattle.proc_templates.specs.Items.{guards};
+ghost use Rattle.proc_templates.specs.Templates.{argument, block_words, check_half, check_param};
+ghost use Rattle.proc_templates.specs.Templates.{check_params};
+ghost use Rattle.proc_templates.specs.Templates.{check_words, checks_words, pushed, push, proc_code};
+ghost use Rattle.proc_templates.specs.Bounds.{BlockBound};
+ghost use Rattle.proc_compiler.specs.Drafts.{with_items};
+
+use crate::draft::Draft;
+use crate::exprs::argument;
+use crate::stmts::block;
+use lcm_isa::{Instr, Operand, Reg};
+use proc_program::Procedure;
+use proc_templates::Frame;
+use std::alloc::AllocError;
+
+// How many registers a parameter takes.
+fn register_count(callback: bool) -> u32
+    ensures { result ≡ register_count callback }
+{
+    if callback { 2 } else { 1 }
+}
+
+/// How many registers parameters take.
+pub(crate) fn registers_of(callbacks: &[bool]) -> u32
+    requires { registers_of callbacks.now ≤ 4 }
+    ensures { result ≡ registers_of callbacks.now }
+{
+    callbacks
+        .iter()
+        .map(|callback| register_count(*callback))
+        .sum()
+}
+
+// The check of a callback whose first half is handed over in this register.
+fn check_callback(draft: &mut Draft, from: u32) -> Result<(), AllocError>
+    requires placed { length draft.old.laid.code ≤ MOST_WORDS }
+    requires few { from + 2 ≤ 4 }
+    ensures written { OnOk result (draft.new
+        ≡ with_items (guards (check_half (argument from) ++ check_half (argument (from + 1))) ∷ []) draft.old) }
+    ensures grown { OnOk result (length draft.new.laid.code ≡ length draft.old.laid.code + 13) }
+    ensures sited { OnOk result (draft.new.laid.sites ≡ draft.old.laid.sites) }
+    ensures kept { OnOk result (draft.new.seals ≡ draft.old.seals) }
+{
+    draft.check_pair(argument(from), argument(from + 1))
+}
+
+// The check of a parameter that is handed over in this register.
+fn check(draft: &mut Draft, callback: bool, from: u32) -> Result<(), AllocError>
+    requires placed { length draft.old.laid.code ≤ MOST_WORDS }
+    requires few { from + register_count callback ≤ 4 }
+    ensures written { OnOk result (draft.new ≡ with_items (check_param from callback ∷ []) draft.old) }
+    ensures grown { OnOk result (length draft.new.laid.code ≡ length draft.old.laid.code + check_words callback) }
+    ensures sited { OnOk result (draft.new.laid.sites ≡ draft.old.laid.sites) }
+    ensures kept { OnOk result (draft.new.seals ≡ draft.old.seals) }
+{
+    if callback {
+        return check_callback(draft, from);
+    }
+    let r = argument(from);
+    draft.put(Instr::Plus(r, r, Operand::Imm(0)))
+}
+
+// The checks of parameters, the first of which is handed over in this register.
+#[tactic(auto, using(crate::proofs::Written::items))]
+fn checks(draft: &mut Draft, callbacks: &[bool], from: u32) -> Result<(), AllocError>
+    requires few { from + registers_of callbacks.now ≤ 4 }
+    requires placed { length draft.old.laid.code + checks_words callbacks.now ≤ MOST_WORDS }
+    ensures written { OnOk result (draft.new ≡ with_items (check_params from callbacks.now) draft.old) }
+    ensures grown { OnOk result (length draft.new.laid.code ≡ length draft.old.laid.code + checks_words callbacks.now) }
+    ensures sited { OnOk result (draft.new.laid.sites ≡ draft.old.laid.sites) }
+    ensures kept { OnOk result (draft.new.seals ≡ draft.old.seals) }
+{
+    match callbacks.split_first() {
+        None => Ok(()),
+        Some((callback, rest)) => {
+            check(draft, *callback, from)?;
+            checks(draft, rest, from + register_count(*callback))
+        }
+    }
+}
+
+// A frame of so many words is pushed.
+#[tactic(auto, using(crate::proofs::Written::pushed))]
+fn prologue(draft: &mut Draft, params: u32, words: u32) -> Result<(), AllocError>
+    requires few { params ≤ 4 }
+    requires room { 2 + params ≤ words }
+    ensures written { OnOk result (draft.new ≡ with_items (push (pushed params words)) draft.old) }
+    ensures grown { OnOk result (length draft.new.laid.code ≡ length draft.old.laid.code + 2 * words) }
+    ensures sited { OnOk result (draft.new.laid.sites ≡ draft.old.laid.sites) }
+    ensures kept { OnOk result (draft.new.seals ≡ draft.old.seals) }
+{
+    let all = [Reg::A0, Reg::A1, Reg::A2, Reg::A3];
+    draft.push(&[Reg::Rcode, Reg::Rdata])?;
+    draft.push(&all[..params as usize])?;
+    draft.push_zeros(words - (2 + params))
+}
+
+/// A procedure with its frame.
+#[tactic(auto, using(crate::proofs::Written::items))]
+pub(crate) fn proc_at(draft: &mut Draft, f: Frame, p: &Procedure) -> Result<(), AllocError>
+    requires frame { f.words ≤ MOST_WORDS }
+    requires few { registers_of p.now.callbacks ≤ 4 }
+    requires slots { 2 + registers_of p.now.callbacks ≤ f.words }
+    requires fits { BlockBound f (block_of p.now.body) }
+    requires room { f.temps + block_words (block_of p.now.body) ≤ LAST_PLACE }
+    requires placed { length draft.old.laid.code
+        + (34 + checks_words p.now.callbacks + 4 * f.words + block_words (block_of p.now.body)) ≤ MOST_WORDS }
+    requires seals { length draft.old.laid.sites + block_calls (block_of p.now.body) ≤ draft.old.seals }
+    ensures written { OnOk result (draft.new ≡ with_items (proc_code f p.now.callbacks (block_of p.now.body)) draft.old) }
+    ensures grown { OnOk result (length draft.new.laid.code
+        ≡ length draft.old.laid.code
+        + (34 + checks_words p.now.callbacks + 4 * f.words + block_words (block_of p.now.body))) }
+    ensures sited { OnOk result (length draft.new.laid.sites
+        ≡ length draft.old.laid.sites + block_calls (block_of p.now.body)) }
+    ensures kept { OnOk result (draft.new.seals ≡ draft.old.seals) }
+{
+    let callbacks = p.callbacks.as_slice();
+    draft.entry()?;
+    checks(draft, callbacks, 0)?;
+    prologue(draft, registers_of(callbacks), f.words)?;
+    block(draft, f, p.body.as_slice())?;
+    draft.put(Instr::Move(Reg::A0, Operand::Imm(0)))?;
+    draft.label()?;
+    draft.epilogue(f.words)
+}

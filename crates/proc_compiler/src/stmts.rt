@@ -1,0 +1,189 @@
+//! Statements.
+ghost use Rattle.std.specs.Prelude.{◌≡◌, ◌≤◌, ◌+◌, OnOk, length};
+ghost use Rattle.cap_words.specs.declared.TheConstants.{LAST_PLACE};
+ghost use Rattle.component_file.specs.declared.TheConstants.{MOST_WORDS};
+ghost use Rattle.proc_program.specs.Program.{SetAt, If, While};
+ghost use Rattle.proc_program.specs.StepView.{block_of};
+ghost use Rattle.proc_program.specs.Calls.{calls, step_calls, block_calls};
+ghost use Rattle.proc_templates.specs.Templates.{exp_words, step_words, block_words, store_var, step_code};
+ghost use Rattle.proc_templates.specs.Templates.{block_code};
+ghost use Rattle.proc_templates.specs.Bounds.{PlaceBound, RowBound, ExpBound, StepBound, BlockBound};
+ghost use Rattle.proc_compiler.specs.Drafts.{with_items};
+
+use crate::draft::Draft;
+use crate::exprs::expr;
+use lcm_isa::{Instr, Operand, Reg};
+use proc_program::{Exp, Place, Row, Step, StepKind};
+use proc_templates::Frame;
+use std::alloc::AllocError;
+
+// g0 goes into a variable.
+#[tactic(auto, using(crate::proofs::Written::items))]
+fn store_var(draft: &mut Draft, f: Frame, x: Place) -> Result<(), AllocError>
+    requires frame { f.words ≤ MOST_WORDS }
+    requires fits { PlaceBound f x }
+    ensures written { OnOk result (draft.new ≡ with_items (store_var f x) draft.old) }
+    ensures grown { OnOk result (length draft.new.laid.code ≡ length draft.old.laid.code + 3) }
+    ensures sited { OnOk result (draft.new.laid.sites ≡ draft.old.laid.sites) }
+    ensures kept { OnOk result (draft.new.seals ≡ draft.old.seals) }
+{
+    match x {
+        Place::Local(i) => draft.at_slot(f, i + 2, Instr::Store(Reg::Stk, Reg::G0)),
+        Place::Global(o) => draft.at_glob(f.pairs + o, Instr::Store(Reg::Dat, Reg::G0)),
+    }
+}
+
+// A statement.
+#[cycle(step)]
+#[tactic(auto, using(crate::proofs::Written::items))]
+fn step(draft: &mut Draft, f: Frame, s: &Step) -> Result<(), AllocError>
+    requires frame { f.words ≤ MOST_WORDS }
+    requires fits { StepBound f s.now }
+    requires room { f.temps + step_words s.now ≤ LAST_PLACE }
+    requires placed { length draft.old.laid.code + step_words s.now ≤ MOST_WORDS }
+    requires seals { length draft.old.laid.sites + step_calls s.now ≤ draft.old.seals }
+    ensures written { OnOk result (draft.new ≡ with_items (step_code f s.now) draft.old) }
+    ensures grown { OnOk result (length draft.new.laid.code ≡ length draft.old.laid.code + step_words s.now) }
+    ensures sited { OnOk result (length draft.new.laid.sites ≡ length draft.old.laid.sites + step_calls s.now) }
+    ensures kept { OnOk result (draft.new.seals ≡ draft.old.seals) }
+{
+    match &s.kind {
+        StepKind::Set(x, e) => {
+            expr(draft, f, e, f.temps)?;
+            store_var(draft, f, *x)
+        }
+        StepKind::SetAt(row, index, e) => sets_at(draft, f, *row, index, e),
+        StepKind::Do(e) => expr(draft, f, e, f.temps),
+        StepKind::If(c, body, other) => branch(draft, f, c, body.as_slice(), other.as_slice()),
+        StepKind::While(c, body) => repeat(draft, f, c, body.as_slice()),
+        StepKind::Return(e) => {
+            expr(draft, f, e, f.temps)?;
+            draft.put(Instr::Move(Reg::A0, Operand::R(Reg::G0)))?;
+            draft.finish()
+        }
+        StepKind::Halt(e) => {
+            expr(draft, f, e, f.temps)?;
+            draft.put(Instr::Move(Reg::A0, Operand::R(Reg::G0)))?;
+            draft.put(Instr::Halt)
+        }
+    }
+}
+
+// An element of an array is set.
+#[tactic(auto, using(crate::proofs::Written::items))]
+fn sets_at(draft: &mut Draft, f: Frame, row: Row, index: &Exp, e: &Exp) -> Result<(), AllocError>
+    requires frame { f.words ≤ MOST_WORDS }
+    requires row_fits { RowBound f row }
+    requires index_fits { ExpBound f index.now }
+    requires value_fits { ExpBound f e.now }
+    requires room { f.temps + (exp_words index.now + exp_words e.now + 21) ≤ LAST_PLACE }
+    requires placed { length draft.old.laid.code + (exp_words index.now + exp_words e.now + 21) ≤ MOST_WORDS }
+    requires seals { length draft.old.laid.sites + (calls index.now + calls e.now) ≤ draft.old.seals }
+    ensures written { OnOk result (draft.new ≡ with_items (step_code f (SetAt row index.now e.now)) draft.old) }
+    ensures grown { OnOk result (length draft.new.laid.code
+        ≡ length draft.old.laid.code + (exp_words index.now + exp_words e.now + 21)) }
+    ensures sited { OnOk result (length draft.new.laid.sites
+        ≡ length draft.old.laid.sites + (calls index.now + calls e.now)) }
+    ensures kept { OnOk result (draft.new.seals ≡ draft.old.seals) }
+{
+    expr(draft, f, index, f.temps)?;
+    draft.at_slot(f, f.temps, Instr::Store(Reg::Stk, Reg::G0))?;
+    expr(draft, f, e, f.temps + 1)?;
+    draft.put(Instr::Move(Reg::A0, Operand::R(Reg::G0)))?;
+    draft.at_slot(f, f.temps, Instr::Load(Reg::G0, Reg::Stk))?;
+    draft.at_element(
+        f.pairs + row.first,
+        row.length,
+        Instr::Store(Reg::Dat, Reg::A0),
+    )
+}
+
+// One block where the condition holds, and another where it doesn't. How far a jump goes forward is told
+// once what it goes over is written.
+#[cycle(step)]
+fn branch(
+    draft: &mut Draft,
+    f: Frame,
+    c: &Exp,
+    body: &[Step],
+    other: &[Step],
+) -> Result<(), AllocError>
+    requires frame { f.words ≤ MOST_WORDS }
+    requires fits { StepBound f (If c.now (block_of body.now) (block_of other.now)) }
+    requires room { f.temps + step_words (If c.now (block_of body.now) (block_of other.now)) ≤ LAST_PLACE }
+    requires placed { length draft.old.laid.code + step_words (If c.now (block_of body.now) (block_of other.now))
+        ≤ MOST_WORDS }
+    requires seals { length draft.old.laid.sites + step_calls (If c.now (block_of body.now) (block_of other.now))
+        ≤ draft.old.seals }
+    ensures written { OnOk result (draft.new
+        ≡ with_items (step_code f (If c.now (block_of body.now) (block_of other.now))) draft.old) }
+    ensures grown { OnOk result (length draft.new.laid.code
+        ≡ length draft.old.laid.code + step_words (If c.now (block_of body.now) (block_of other.now))) }
+    ensures sited { OnOk result (length draft.new.laid.sites
+        ≡ length draft.old.laid.sites + step_calls (If c.now (block_of body.now) (block_of other.now))) }
+    ensures kept { OnOk result (draft.new.seals ≡ draft.old.seals) }
+{
+    expr(draft, f, c, f.temps)?;
+    draft.jump_if(6, Reg::G0)?;
+    let over_body = draft.at();
+    draft.jump(0)?;
+    draft.label()?;
+    block(draft, f, body)?;
+    draft.lead(over_body, 3);
+    let over_other = draft.at();
+    draft.jump(0)?;
+    draft.label()?;
+    block(draft, f, other)?;
+    draft.lead(over_other, 0);
+    draft.label()
+}
+
+// A block as long as the condition holds.
+#[cycle(step)]
+fn repeat(draft: &mut Draft, f: Frame, c: &Exp, body: &[Step]) -> Result<(), AllocError>
+    requires frame { f.words ≤ MOST_WORDS }
+    requires fits { StepBound f (While c.now (block_of body.now)) }
+    requires room { f.temps + step_words (While c.now (block_of body.now)) ≤ LAST_PLACE }
+    requires placed { length draft.old.laid.code + step_words (While c.now (block_of body.now)) ≤ MOST_WORDS }
+    requires seals { length draft.old.laid.sites + step_calls (While c.now (block_of body.now)) ≤ draft.old.seals }
+    ensures written { OnOk result (draft.new ≡ with_items (step_code f (While c.now (block_of body.now))) draft.old) }
+    ensures grown { OnOk result (length draft.new.laid.code
+        ≡ length draft.old.laid.code + step_words (While c.now (block_of body.now))) }
+    ensures sited { OnOk result (length draft.new.laid.sites
+        ≡ length draft.old.laid.sites + step_calls (While c.now (block_of body.now))) }
+    ensures kept { OnOk result (draft.new.seals ≡ draft.old.seals) }
+{
+    let start = draft.at();
+    draft.label()?;
+    expr(draft, f, c, f.temps)?;
+    draft.jump_if(6, Reg::G0)?;
+    let over_body = draft.at();
+    draft.jump(0)?;
+    draft.label()?;
+    block(draft, f, body)?;
+    draft.jump_back(draft.at() - start)?;
+    draft.lead(over_body, 0);
+    draft.label()
+}
+
+/// Statements, one after the other.
+#[cycle(step)]
+#[tactic(auto, using(crate::proofs::Written::items))]
+pub(crate) fn block(draft: &mut Draft, f: Frame, steps: &[Step]) -> Result<(), AllocError>
+    requires frame { f.words ≤ MOST_WORDS }
+    requires fits { BlockBound f (block_of steps.now) }
+    requires room { f.temps + block_words (block_of steps.now) ≤ LAST_PLACE }
+    requires placed { length draft.old.laid.code + block_words (block_of steps.now) ≤ MOST_WORDS }
+    requires seals { length draft.old.laid.sites + block_calls (block_of steps.now) ≤ draft.old.seals }
+    ensures written { OnOk result (draft.new ≡ with_items (block_code f (block_of steps.now)) draft.old) }
+    ensures grown { OnOk result (length draft.new.laid.code
+        ≡ length draft.old.laid.code + block_words (block_of steps.now)) }
+    ensures sited { OnOk result (length draft.new.laid.sites
+        ≡ length draft.old.laid.sites + block_calls (block_of steps.now)) }
+    ensures kept { OnOk result (draft.new.seals ≡ draft.old.seals) }
+{
+    for s in steps {
+        step(draft, f, s)?;
+    }
+    Ok(())
+}

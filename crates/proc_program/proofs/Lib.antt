@@ -1,0 +1,4 @@
+pub mod Limits
+pub mod Kept
+pub mod Counted
+pub mod Example

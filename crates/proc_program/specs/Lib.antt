@@ -1,0 +1,9 @@
+pub mod Program
+pub mod Codes
+pub mod View
+pub mod Deep
+pub mod StepView
+pub mod StepDeep
+pub mod Lower
+pub mod Limits
+pub mod Calls

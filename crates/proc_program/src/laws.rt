@@ -1,0 +1,20 @@
+//! What holds of the programs of modules. These functions do nothing; their contracts are the laws.
+ghost use Rattle.std.specs.Prelude.{◌≡◌};
+ghost use Rattle.proc_language.specs.declared.module.ModuleFields.{ModuleFields};
+ghost use Rattle.proc_language.specs.Limits.{IsModule};
+ghost use Rattle.proc_names.specs.Calls.{module_calls};
+ghost use Rattle.proc_program.specs.Calls.{part_calls};
+ghost use Rattle.proc_program.specs.Limits.{IsPart};
+ghost use Rattle.proc_program.specs.Lower.{part_of};
+
+/// The program of a module keeps the limits of programs: its places, rows and handles are there.
+#[tactic(auto, using(crate::proofs::Kept::part_fits))]
+pub fn programs_keep_limits()
+    ensures { (m : ModuleFields) → IsModule m → IsPart (part_of m) }
+{}
+
+/// A program has as many calls as its module.
+#[tactic(auto, using(crate::proofs::Counted::calls_kept))]
+pub fn calls_are_kept()
+    ensures { (m : ModuleFields) → part_calls (part_of m) ≡ module_calls m }
+{}

@@ -1,0 +1,15 @@
+//! Programs as they run: names are replaced by what they stand for, each call has its number, and
+//! each procedure the words that it needs of the stack.
+//!
+//! [`lowered`] makes the program of a module. `docs/LANGUAGE.md` has the rules of names.
+#![tactic(auto)]
+
+pub mod laws;
+mod lower;
+mod needs;
+mod program;
+
+pub use lower::lowered;
+pub use program::{
+    Arg, Call, Exp, ExpKind, Handle, Header, Import, Part, Place, Procedure, Row, Step, StepKind,
+};

@@ -1,0 +1,450 @@
+//! From the tree of a module to the program that it runs as.
+ghost use Rattle.std.specs.Prelude.{◌≡◌, ℕ, ◌+◌, ◌<◌, ◌≤◌, ◌++◌, IfOk, OnOk, length, replicate, map, sum_by};
+ghost use Rattle.std.specs.Prelude.{is_some, ◌^◌};
+ghost use Rattle.proc_language.specs.Limits.{Each, ProcFits, GlobalFits, IsModule, params_registers};
+ghost use Rattle.proc_language.specs.StmtView.{block_of as stmts_of};
+ghost use Rattle.proc_language.specs.View.{args_of as tree_args};
+ghost use Rattle.proc_names.specs.Names.{variable_named, callee_named, passed_named};
+ghost use Rattle.proc_names.specs.Calls.{calls, args_calls, stmt_calls, block_calls, proc_calls};
+ghost use Rattle.proc_program.specs.Limits.{VariableWithin, CalleeWithin};
+ghost use Rattle.proc_program.specs.Lower.{words, words_in, word_at, row_at, row_of, param_place, variable_of};
+ghost use Rattle.proc_program.specs.Lower.{handle_by, handle_of, passed_of, exp_of, args_of, call_of, step_of};
+ghost use Rattle.proc_program.specs.Lower.{steps_of, procedure_of, procedures_of, globals_of, import_of, header_of, part_of};
+
+use crate::needs::{params_registers, words_needed};
+use crate::program::{
+    Arg, Call, Exp, ExpKind, Handle, Header, Import, Part, Place, Procedure, Row, Step, StepKind,
+};
+use cap_words::Items;
+use proc_language::{
+    Expr, ExprKind, Global, Module, ModuleFields, Name, Param, Proc, Stmt, StmtKind,
+};
+use proc_names::{Callee, Variable, callee_named, passed_named, variable_named};
+use std::alloc::{AllocError, Global as Heap};
+
+// ---- names
+
+fn words(g: &Global) -> u32
+    ensures { result ≡ words g.now }
+{
+    g.length.unwrap_or(1)
+}
+
+fn words_in(gs: &[Global]) -> u32
+    requires { words_in gs.now < 2 ^ 32 }
+    ensures { result ≡ words_in gs.now }
+{
+    gs.iter().map(|g| words(g)).sum()
+}
+
+// The first word of the global of an index.
+#[tactic(auto, using(crate::proofs::Limits::words_before, crate::proofs::Limits::words_in_le))]
+fn word_at(gs: &[Global], k: usize) -> u32
+    requires within { k < length gs.now }
+    requires few { length gs.now ≤ 512 }
+    requires fits { Each GlobalFits gs.now }
+    ensures { result ≡ word_at gs.now k }
+{
+    words_in(&gs[..k])
+}
+
+fn row_at(gs: &[Global], k: usize) -> Row
+    requires within { k < length gs.now }
+    requires few { length gs.now ≤ 512 }
+    requires fits { Each GlobalFits gs.now }
+    ensures { result ≡ row_at gs.now k }
+{
+    Row {
+        first: word_at(gs, k),
+        length: words(&gs[k]),
+    }
+}
+
+#[tactic(auto, using(crate::proofs::Limits::registers_before))]
+fn param_place(params: &[Param], i: usize) -> u32
+    requires within { i < length params.now }
+    requires fits { params_registers params.now ≤ 4 }
+    ensures { result ≡ param_place params.now i }
+{
+    params_registers(&params[..i])
+}
+
+// What a variable's name leads to, which is there.
+#[tactic(auto, using(crate::proofs::Limits::variable_within))]
+fn variable_in(m: &ModuleFields, p: &Proc, x: &Name) -> Variable
+    ensures is { result ≡ variable_named m.now p.now x.now }
+    ensures within { VariableWithin m.now p.now result }
+{
+    variable_named(m, p, x)
+}
+
+#[tactic(auto, using(crate::proofs::Limits::callee_within))]
+fn callee_in(m: &ModuleFields, p: &Proc, f: &Name) -> Callee
+    ensures is { result ≡ callee_named m.now p.now f.now }
+    ensures within { CalleeWithin m.now p.now result }
+{
+    callee_named(m, p, f)
+}
+
+#[tactic(auto, using(crate::proofs::Limits::passed_within))]
+fn passed_in(m: &ModuleFields, p: &Proc, f: &Name) -> Callee
+    ensures is { result ≡ passed_named m.now p.now f.now }
+    ensures within { CalleeWithin m.now p.now result }
+{
+    passed_named(m, p, f)
+}
+
+fn variable_of(m: &ModuleFields, p: &Proc, x: &Name) -> Place
+    requires limits { IsModule m.now }
+    requires fits { ProcFits p.now }
+    ensures { result ≡ variable_of m.now p.now x.now }
+{
+    let params = p.params.as_slice();
+    match variable_in(m, p, x) {
+        Variable::Param(i) => Place::Local(param_place(params, i)),
+        Variable::Local(k) => Place::Local(params_registers(params) + k as u32),
+        Variable::Global(k) => Place::Global(word_at(m.globals.as_slice(), k)),
+        Variable::Array(k) => Place::Global(word_at(m.globals.as_slice(), k)),
+        Variable::Other => Place::Global(0),
+        Variable::Missing => Place::Global(0),
+    }
+}
+
+fn row_of(m: &ModuleFields, p: &Proc, x: &Name) -> Row
+    requires { IsModule m.now }
+    ensures { result ≡ row_of m.now p.now x.now }
+{
+    match variable_in(m, p, x) {
+        Variable::Array(k) => row_at(m.globals.as_slice(), k),
+        _ => Row {
+            first: 0,
+            length: 0,
+        },
+    }
+}
+
+fn handle_by(m: &ModuleFields, p: &Proc, callee: Callee) -> Handle
+    requires limits { IsModule m.now }
+    requires fits { ProcFits p.now }
+    requires within { CalleeWithin m.now p.now callee }
+    ensures { result ≡ handle_by p.now.params callee }
+{
+    match callee {
+        Callee::Callback(i) => Handle::Given(param_place(p.params.as_slice(), i)),
+        Callee::Import(k) => Handle::Imported(k as u32),
+        Callee::Proc(j) => Handle::Own(j as u32),
+        Callee::Other => Handle::Own(0),
+        Callee::Missing => Handle::Own(0),
+    }
+}
+
+fn handle_of(m: &ModuleFields, p: &Proc, f: &Name) -> Handle
+    requires limits { IsModule m.now }
+    requires fits { ProcFits p.now }
+    ensures { result ≡ handle_of m.now p.now f.now }
+{
+    handle_by(m, p, callee_in(m, p, f))
+}
+
+fn passed_of(m: &ModuleFields, p: &Proc, f: &Name) -> Handle
+    requires limits { IsModule m.now }
+    requires fits { ProcFits p.now }
+    ensures { result ≡ passed_of m.now p.now f.now }
+{
+    handle_by(m, p, passed_in(m, p, f))
+}
+
+// ---- expressions and statements
+
+// The number of the next call, which 32 bits may not tell.
+fn next_site(next: &mut u32) -> Result<u32, AllocError>
+    ensures same { IfOk result (λ n. n ≡ next.old) }
+    ensures counted { OnOk result (next.new ≡ next.old + 1) }
+{
+    let site = *next;
+    *next = site.checked_add(1).ok_or(AllocError)?;
+    Ok(site)
+}
+
+// An expression, where its calls have the numbers from `next` on.
+#[cycle(exp_of)]
+fn exp_of(
+    alloc: Heap,
+    m: &ModuleFields,
+    p: &Proc,
+    e: &Expr,
+    next: &mut u32,
+) -> Result<Exp, AllocError>
+    requires limits { IsModule m.now }
+    requires fits { ProcFits p.now }
+    ensures same { IfOk result (λ x. x ≡ exp_of m.now p.now next.old e.now) }
+    ensures counted { OnOk result (next.new ≡ next.old + calls e.now) }
+{
+    let kind = match &e.kind {
+        ExprKind::Number(v) => ExpKind::Number(*v),
+        ExprKind::Var(x) => ExpKind::Load(variable_of(m, p, x)),
+        ExprKind::Element(x, index) => {
+            let row = row_of(m, p, x);
+            ExpKind::Element(row, Box::new(alloc, exp_of(alloc, m, p, index, next)?)?)
+        }
+        ExprKind::Call(call) => return call_of(alloc, m, p, &call.name, call.args.as_slice(), next),
+        ExprKind::Op(op, left, right) => {
+            let left = exp_of(alloc, m, p, left, next)?;
+            let right = exp_of(alloc, m, p, right, next)?;
+            ExpKind::Binary(*op, Box::new(alloc, left)?, Box::new(alloc, right)?)
+        }
+    };
+    Ok(Exp { kind })
+}
+
+#[cycle(exp_of)]
+fn call_of(
+    alloc: Heap,
+    m: &ModuleFields,
+    p: &Proc,
+    f: &Name,
+    xs: &[proc_language::Arg],
+    next: &mut u32,
+) -> Result<Exp, AllocError>
+    requires limits { IsModule m.now }
+    requires fits { ProcFits p.now }
+    ensures same { IfOk result (λ x. x ≡ call_of m.now p.now next.old f.now (tree_args xs.now)) }
+    ensures counted { OnOk result (next.new ≡ next.old + (args_calls (tree_args xs.now) + 1)) }
+{
+    let args = Items::of(args_of(alloc, m, p, xs, next, Vec::new(alloc))?);
+    let site = next_site(next)?;
+    let handle = handle_of(m, p, f);
+    Ok(Exp {
+        kind: ExpKind::Call(Call { site, handle, args }),
+    })
+}
+
+// Behind what is lowered already, the arguments that are left.
+#[cycle(exp_of)]
+#[tactic(auto, using(crate::proofs::Limits::one_more))]
+fn args_of(
+    alloc: Heap,
+    m: &ModuleFields,
+    p: &Proc,
+    xs: &[proc_language::Arg],
+    next: &mut u32,
+    done: Vec<Arg>,
+) -> Result<Vec<Arg>, AllocError>
+    requires limits { IsModule m.now }
+    requires fits { ProcFits p.now }
+    ensures same { IfOk result (λ v. v.items ≡ done.items ++ args_of m.now p.now next.old (tree_args xs.now)) }
+    ensures counted { OnOk result (next.new ≡ next.old + args_calls (tree_args xs.now)) }
+{
+    let mut done = done;
+    match xs.split_first() {
+        None => Ok(done),
+        Some((proc_language::Arg::Value(e), rest)) => {
+            done.push(Arg::Value(exp_of(alloc, m, p, e, next)?))?;
+            args_of(alloc, m, p, rest, next, done)
+        }
+        Some((proc_language::Arg::Proc(f), rest)) => {
+            done.push(Arg::Pass(passed_of(m, p, f)))?;
+            args_of(alloc, m, p, rest, next, done)
+        }
+    }
+}
+
+// A statement, where its calls have the numbers from `next` on.
+#[cycle(step_of)]
+fn step_of(
+    alloc: Heap,
+    m: &ModuleFields,
+    p: &Proc,
+    s: &Stmt,
+    next: &mut u32,
+) -> Result<Step, AllocError>
+    requires limits { IsModule m.now }
+    requires fits { ProcFits p.now }
+    ensures same { IfOk result (λ x. x ≡ step_of m.now p.now next.old s.now) }
+    ensures counted { OnOk result (next.new ≡ next.old + stmt_calls s.now) }
+{
+    let kind = match &s.kind {
+        StmtKind::Set(x, e) => {
+            let place = variable_of(m, p, x);
+            StepKind::Set(place, exp_of(alloc, m, p, e, next)?)
+        }
+        StmtKind::SetAt(x, index, e) => {
+            let row = row_of(m, p, x);
+            let index = exp_of(alloc, m, p, index, next)?;
+            StepKind::SetAt(row, index, exp_of(alloc, m, p, e, next)?)
+        }
+        StmtKind::Call(call) => {
+            StepKind::Do(call_of(alloc, m, p, &call.name, call.args.as_slice(), next)?)
+        }
+        StmtKind::If(c, body, None) => {
+            let c = exp_of(alloc, m, p, c, next)?;
+            let body = steps_of(alloc, m, p, body.as_slice(), next)?;
+            StepKind::If(c, Items::of(body), Items::of(Vec::new(alloc)))
+        }
+        StmtKind::If(c, body, Some(other)) => {
+            let c = exp_of(alloc, m, p, c, next)?;
+            let body = steps_of(alloc, m, p, body.as_slice(), next)?;
+            let other = steps_of(alloc, m, p, other.as_slice(), next)?;
+            StepKind::If(c, Items::of(body), Items::of(other))
+        }
+        StmtKind::While(c, body) => {
+            let c = exp_of(alloc, m, p, c, next)?;
+            let body = steps_of(alloc, m, p, body.as_slice(), next)?;
+            StepKind::While(c, Items::of(body))
+        }
+        StmtKind::Return(e) => StepKind::Return(exp_of(alloc, m, p, e, next)?),
+        StmtKind::Halt(e) => StepKind::Halt(exp_of(alloc, m, p, e, next)?),
+    };
+    Ok(Step { kind })
+}
+
+#[cycle(step_of)]
+fn steps_of(
+    alloc: Heap,
+    m: &ModuleFields,
+    p: &Proc,
+    stmts: &[Stmt],
+    next: &mut u32,
+) -> Result<Vec<Step>, AllocError>
+    requires limits { IsModule m.now }
+    requires fits { ProcFits p.now }
+    ensures same { IfOk result (λ v. v.items ≡ steps_of m.now p.now next.old (stmts_of stmts.now)) }
+    ensures counted { OnOk result (next.new ≡ next.old + block_calls (stmts_of stmts.now)) }
+{
+    let mut lowered = Vec::new(alloc);
+    for s in stmts {
+        lowered.push(step_of(alloc, m, p, s, next)?)?;
+    }
+    Ok(lowered)
+}
+
+// ---- procedures and modules
+
+fn text_of(alloc: Heap, x: &Name) -> Result<Items<u8>, AllocError>
+    ensures { IfOk result (λ t. t ≡ x.now.text) }
+{
+    Ok(Items::of(Vec::from_slice(alloc, x.text.as_slice())?))
+}
+
+fn callbacks_of(alloc: Heap, params: &[Param]) -> Result<Vec<bool>, AllocError>
+    ensures { IfOk result (λ v. v.items ≡ map (λ q. is_some q.arity) params.now) }
+{
+    let mut callbacks = Vec::new(alloc);
+    for q in params {
+        callbacks.push(q.arity.is_some())?;
+    }
+    Ok(callbacks)
+}
+
+fn procedure_of(
+    alloc: Heap,
+    m: &ModuleFields,
+    p: &Proc,
+    next: &mut u32,
+) -> Result<Procedure, AllocError>
+    requires limits { IsModule m.now }
+    requires fits { ProcFits p.now }
+    ensures same { IfOk result (λ q. q ≡ procedure_of m.now next.old p.now) }
+    ensures counted { OnOk result (next.new ≡ next.old + proc_calls p.now) }
+{
+    let need = words_needed(p).ok_or(AllocError)?;
+    let name = text_of(alloc, &p.name)?;
+    let callbacks = callbacks_of(alloc, p.params.as_slice())?;
+    let body = steps_of(alloc, m, p, p.body.as_slice(), next)?;
+    Ok(Procedure {
+        name,
+        shared: p.shared,
+        callbacks: Items::of(callbacks),
+        locals: p.locals.as_slice().len() as u32,
+        need,
+        body: Items::of(body),
+    })
+}
+
+fn procedures_of(
+    alloc: Heap,
+    m: &ModuleFields,
+    procs: &[Proc],
+) -> Result<Vec<Procedure>, AllocError>
+    requires limits { IsModule m.now }
+    requires fits { Each ProcFits procs.now }
+    ensures { IfOk result (λ v. v.items ≡ procedures_of m.now 0 procs.now) }
+{
+    let mut lowered = Vec::new(alloc);
+    let mut next: u32 = 0;
+    for p in procs {
+        lowered.push(procedure_of(alloc, m, p, &mut next)?)?;
+    }
+    Ok(lowered)
+}
+
+fn push_words(globals: &mut Vec<i64>, count: u32, word: i64) -> Result<(), AllocError>
+    ensures { OnOk result (globals.new.items ≡ globals.old.items ++ replicate count word) }
+{
+    for _ in 0..count {
+        globals.push(word)?;
+    }
+    Ok(())
+}
+
+fn globals_of(alloc: Heap, gs: &[Global]) -> Result<Vec<i64>, AllocError>
+    ensures { IfOk result (λ v. v.items ≡ globals_of gs.now) }
+{
+    let mut globals = Vec::new(alloc);
+    for g in gs {
+        push_words(&mut globals, words(g), g.initial.unwrap_or(0))?;
+    }
+    Ok(globals)
+}
+
+fn imports_of(alloc: Heap, imports: &[proc_language::Import]) -> Result<Vec<Import>, AllocError>
+    ensures { IfOk result (λ v. v.items ≡ map import_of imports.now) }
+{
+    let mut lowered = Vec::new(alloc);
+    for i in imports {
+        let part = text_of(alloc, &i.part)?;
+        lowered.push(Import {
+            part,
+            name: text_of(alloc, &i.name)?,
+        })?;
+    }
+    Ok(lowered)
+}
+
+fn header_of(m: &ModuleFields) -> Header
+    ensures { result ≡ header_of m.now }
+{
+    Header {
+        code: m.code,
+        data_base: m.data_base,
+        closure: m.closure,
+        returns: m.returns,
+        return_count: m.return_count,
+        movable: m.movable,
+    }
+}
+
+/// The program that a module runs as, by the rules of docs/LANGUAGE.md on names. Of a module whose
+/// names aren't resolved it is one of no use.
+///
+/// # Errors
+///
+/// `AllocError` where memory was refused, or would have to be: a module that has 2^32 calls, or a
+/// procedure that needs 2^32 words of the stack, has a tree of as many nodes.
+pub fn lowered(alloc: Heap, m: &Module) -> Result<Part, AllocError>
+    ensures { IfOk result (λ part. part ≡ part_of m.now) }
+{
+    let fields = m.fields();
+    let name = text_of(alloc, &fields.name)?;
+    let imports = imports_of(alloc, fields.imports.as_slice())?;
+    let globals = globals_of(alloc, fields.globals.as_slice())?;
+    let procs = procedures_of(alloc, fields, fields.procs.as_slice())?;
+    Ok(Part {
+        name,
+        stack: fields.stack,
+        header: header_of(fields),
+        imports: Items::of(imports),
+        globals: Items::of(globals),
+        procs: Items::of(procs),
+    })
+}

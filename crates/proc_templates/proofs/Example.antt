@@ -1,0 +1,102 @@
+-- The definitions computed on two modules.
+use Rattle.std.proofs.Common.{◌≡◌, ℕ, List, [], ◌∷◌, length, map, Some, None, refl, true, false, pos}
+use Rattle.std.specs.Prelude.{codes}
+use Rattle.proc_language.specs.declared.tree.Name.{Name}
+use Rattle.proc_language.specs.declared.tree.Op.TheVariants as operator
+use Rattle.proc_language.specs.declared.module.ModuleFields.{ModuleFields}
+use Rattle.proc_language.specs.Tree.{var, op, call, no_args, value, set, do_call, return, halt}
+use Rattle.proc_names.specs.Names.{variable_named, callee_named, passed_named}
+use Rattle.call_sequence.specs.Sequences.{call_code, return_code, entry_code}
+use Rattle.proc_program.specs.declared.program.Part.{Part}
+use Rattle.proc_program.specs.Lower.{part_of}
+use Rattle.proc_templates.specs.Items.{put, instrs}
+use Rattle.proc_templates.specs.Templates.{before_epilogue}
+use Rattle.proc_templates.specs.Compiled.{frame_of, laid_of, lay_proc, code_words, data_count, data_of}
+use Rattle.proc_templates.specs.Compiled.{exports_of}
+
+named : List ℕ → Name
+named text = record { text = text; at = 0 }
+
+-- module bank; import teller.notify/1; global balance = 100;
+-- export proc deposit(n) { balance = balance + n; notify(balance); return balance; }
+bank_module : ModuleFields
+unfolding named
+bank_module = record {
+  at = 0;
+  name = named (codes "bank");
+  code = 4096;
+  data_base = 8192;
+  closure = 10;
+  returns = 11;
+  return_count = 4;
+  stack = 65536;
+  movable = false;
+  imports = record { at = 0; part = named (codes "teller"); name = named (codes "notify"); arity = 1 } ∷ [];
+  globals = record { at = 0; name = named (codes "balance"); length = None; initial = Some (pos 100) } ∷ [];
+  procs = record {
+    at = 0;
+    shared = true;
+    name = named (codes "deposit");
+    params = record { name = named (codes "n"); arity = None } ∷ [];
+    locals = [];
+    body =
+        set 0 (named (codes "balance"))
+        (op 0 operator.Plus (var 0 (named (codes "balance"))) (var 0 (named (codes "n"))))
+        ∷ do_call 0 (named (codes "notify")) (value (var 0 (named (codes "balance"))) no_args)
+        ∷ return 0 (var 0 (named (codes "balance"))) ∷ [];
+  } ∷ [];
+}
+
+bank : Part
+bank = part_of bank_module
+
+-- module cb; import adv.go/0; export proc main() { halt go(); } export proc twice(f/1, x) { return f(f(x)); }
+callback_module : ModuleFields
+unfolding named
+callback_module = record {
+  at = 0;
+  name = named (codes "cb");
+  code = 4096;
+  data_base = 8192;
+  closure = 10;
+  returns = 11;
+  return_count = 3;
+  stack = 65536;
+  movable = false;
+  imports = record { at = 0; part = named (codes "adv"); name = named (codes "go"); arity = 0 } ∷ [];
+  globals = [];
+  procs = record {
+    at = 0;
+    shared = true;
+    name = named (codes "main");
+    params = [];
+    locals = [];
+    body = halt 0 (call 0 (named (codes "go")) no_args) ∷ [];
+  } ∷ record {
+    at = 0;
+    shared = true;
+    name = named (codes "twice");
+    params = record { name = named (codes "f"); arity = Some 1 }
+        ∷ record { name = named (codes "x"); arity = None } ∷ [];
+    locals = [];
+    body = return 0 (call 0 (named (codes "f"))
+        (value (call 0 (named (codes "f")) (value (var 0 (named (codes "x"))) no_args)) no_args)) ∷ [];
+  } ∷ [];
+}
+
+callbacks : Part
+callbacks = part_of callback_module
+
+bank_counts : (code_words bank ≡ 124) × (length (laid_of bank).code ≡ 124) × ((laid_of bank).sites ≡ 68 ∷ [])
+    × (length (data_of bank) ≡ 5) × (data_count bank ≡ 5)
+unfolding bank bank_module named code_words data_count frame_of laid_of lay_proc before_epilogue
+    put instrs data_of call_code return_code entry_code variable_named callee_named passed_named
+bank_counts = (refl, refl, refl, refl, refl)
+
+callback_counts : (code_words callbacks ≡ 254) × (length (laid_of callbacks).code ≡ 254)
+    × ((laid_of callbacks).sites ≡ 38 ∷ 152 ∷ 197 ∷ []) × (length (data_of callbacks) ≡ 6)
+    × (map (λ e. e.offset) (exports_of callbacks) ≡ 2 ∷ 85 ∷ [])
+unfolding callbacks callback_module named code_words data_count frame_of laid_of lay_proc
+    before_epilogue put instrs data_of exports_of call_code return_code entry_code variable_named callee_named
+    passed_named
+callback_counts = (refl, refl, refl, refl, refl)
