@@ -1,1 +1,2 @@
 pub mod TokenNames
+pub mod ListLemmas

@@ -1,5 +1,7 @@
 -- The first of faults, part by part.
-use Rattle.std.proofs.Common.{◌≡◌, ℕ, ◌<◌, ◌==◌, nat_lt, nat_le, Bool, true, false, ◌&&◌, ◌||◌, if◌then◌else◌, refl, sym, ◌∙◌, ap, List, [], ◌∷◌, ◌++◌, Option, Some, None, arith, length, get_or, drop, drop-cons, ◌+◌, suc, add-one, IsTrue, subst}
+use Rattle.std.proofs.Common.{◌≡◌, ℕ, ◌==◌, nat_lt, nat_le, Bool, true, false, ◌&&◌, ◌||◌}
+use Rattle.std.proofs.Common.{if◌then◌else◌, refl, sym, ◌∙◌, ap, List, [], ◌∷◌, ◌++◌, Option, Some, None}
+use Rattle.std.proofs.Common.{arith, get_or, suc, IsTrue, subst}
 use Rattle.std.proofs.lemmas.List.Elements.{All-cons}
 use Rattle.std.specs.Prelude.{All, Contains}
 use Rattle.std.proofs.lemmas.Bool.Decides.{nat_tests}
@@ -29,7 +31,8 @@ two f g = if comes_first f g then f else g
 two_assoc : (f g h : NameFault) → two (two f g) h ≡ two f (two g h)
 two_assoc f g h = by (comes_first f g) refl (comes_first g h) refl (comes_first f h) refl
   where
-    by : (a : Bool) → comes_first f g ≡ a → (b : Bool) → comes_first g h ≡ b → (c : Bool) → comes_first f h ≡ c → two (two f g) h ≡ two f (two g h)
+    by : (a : Bool) → comes_first f g ≡ a → (b : Bool) → comes_first g h ≡ b
+        → (c : Bool) → comes_first f h ≡ c → two (two f g) h ≡ two f (two g h)
     by true p true q true r = grind arith
     by true p true q false r = grind (arith, first_trans f g h p q)
     by true p false q c r = grind arith
@@ -63,15 +66,12 @@ earlier_none None = refl
 earlier_none (Some f) = refl
 
 -- one part more
-pub first_step : (found : Option NameFault) (fs gs : List NameFault) → earlier (earlier found (first fs)) (first gs) ≡ earlier found (first (fs ++ gs))
-first_step found fs gs = earlier_assoc found (first fs) (first gs) ∙ ap (earlier found) (sym (first-append fs gs))
+pub first_step : (found : Option NameFault) (fs gs : List NameFault)
+    → earlier (earlier found (first fs)) (first gs) ≡ earlier found (first (fs ++ gs))
+first_step found fs gs =
+    earlier_assoc found (first fs) (first gs) ∙ ap (earlier found) (sym (first-append fs gs))
 
 pub ruleset firsts = (first-append, earlier_none, first_step)
-
--- what is left, from an item on
-pub drop_item : {A : Type 0} (xs : List A) (i : ℕ) (x : A) → i < length xs → x ≡ get_or xs i x → drop i xs ≡ x ∷ drop (i + 1) xs
-drop_item xs i x below is =
-    drop-cons xs i x below ∙ ap (λ y. y ∷ drop (suc i) xs) (sym is) ∙ ap (λ j. x ∷ drop j xs) (sym (add-one i))
 
 -- ---- what it is that a fault is the first
 
@@ -112,11 +112,13 @@ first_none (f ∷ fs) h = absurd (no (first fs) h)
     no (Some g) e = let k : Some (two f g) ≡ None = sym (some_two f g) ∙ e in cc
 
 module _ (g : NameFault) (fs : List NameFault) (f : NameFault) where
-  chosen : (k : NameFault) → IsFirst fs k → (b : Bool) → comes_first g k ≡ b → (if b then g else k) ≡ f → IsFirst (g ∷ fs) f
+  chosen : (k : NameFault) → IsFirst fs k → (b : Bool) → comes_first g k ≡ b → (if b then g else k) ≡ f
+      → IsFirst (g ∷ fs) f
   chosen k before true c is =
       subst (IsFirst (g ∷ fs)) is (record {
         one = Contains-here g fs;
-        least = All-cons (λ h. IsTrue (comes_first g h)) g fs (first_self g) (all_behind g k fs c before.least);
+        least = All-cons (λ h. IsTrue (comes_first g h)) g fs (first_self g)
+          (all_behind g k fs c before.least);
       })
   chosen k before false c is =
       subst (IsFirst (g ∷ fs)) is (record {
@@ -124,7 +126,9 @@ module _ (g : NameFault) (fs : List NameFault) (f : NameFault) where
         least = All-cons (λ h. IsTrue (comes_first k h)) g fs (first_else g k c) before.least;
       })
 
-  among : (found : Option NameFault) → first fs ≡ found → ((k : NameFault) → first fs ≡ Some k → IsFirst fs k) → earlier (Some g) found ≡ Some f → IsFirst (g ∷ fs) f
+  among : (found : Option NameFault) → first fs ≡ found
+      → ((k : NameFault) → first fs ≡ Some k → IsFirst fs k)
+      → earlier (Some g) found ≡ Some f → IsFirst (g ∷ fs) f
   among None e behind is =
       let same : g ≡ f = cc in
       let none : fs ≡ [] = first_none fs e in

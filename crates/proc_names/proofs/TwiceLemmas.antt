@@ -16,9 +16,12 @@ again-append x (y ∷ ys) zs =
     ap (λ fs. here ++ fs) (again-append x ys zs) ∙ sym (append_assoc here (again x ys) (again x zs))
 
 -- a name, and those behind it, which stand in two lists
-pub twice_step : (found : Option NameFault) (x : Name) (xs ys : List Name) → earlier (earlier found (earlier (first (again x xs)) (first (again x ys)))) (first (twice (xs ++ ys))) ≡ earlier found (first (twice ((x ∷ xs) ++ ys)))
+pub twice_step : (found : Option NameFault) (x : Name) (xs ys : List Name)
+    → earlier (earlier found (earlier (first (again x xs)) (first (again x ys)))) (first (twice (xs ++ ys)))
+      ≡ earlier found (first (twice ((x ∷ xs) ++ ys)))
 twice_step found x xs ys =
-    ap (λ f. earlier (earlier found f) (first (twice (xs ++ ys)))) (sym (first-append (again x xs) (again x ys)) ∙ ap first (sym (again-append x xs ys)))
+    ap (λ f. earlier (earlier found f) (first (twice (xs ++ ys))))
+      (sym (first-append (again x xs) (again x ys)) ∙ ap first (sym (again-append x xs ys)))
     ∙ first_step found (again x (xs ++ ys)) (twice (xs ++ ys))
 
 pub ruleset twices = (first-append, first_step, again-append, twice_step)

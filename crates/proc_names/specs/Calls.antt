@@ -4,7 +4,8 @@ use Rattle.proc_language.specs.declared.tree.Name.{Name}
 use Rattle.proc_language.specs.declared.module.Proc.{Proc}
 use Rattle.proc_language.specs.declared.module.ModuleFields.{ModuleFields}
 use Rattle.proc_language.specs.Tree.{Expr, number, var, element, call, op, Args, no_args, value, proc}
-use Rattle.proc_language.specs.Tree.{Stmt, set, set_at, do_call, if_then, if_else, while, return, halt, Block, no_stmts, stmt}
+use Rattle.proc_language.specs.Tree.{Stmt, set, set_at, do_call, if_then, if_else, while, return, halt}
+use Rattle.proc_language.specs.Tree.{Block, no_stmts, stmt}
 use Rattle.proc_language.specs.StmtView.{block_of}
 
 -- how many calls there are; of a call, those in its arguments close before it

@@ -1,10 +1,10 @@
 //! What holds of the tokens and faults of texts. These functions do nothing; their contracts are the
 //! laws.
-ghost use Rattle.std.specs.Prelude.{◌≡◌, ◌↔◌, List, ℕ, Ok, Err};
+ghost use Rattle.std.specs.Prelude.{◌≡◌, ◌↔◌, List, ℕ, length, All, Ok, Err};
 ghost use Rattle.text_scan.specs.declared.token.Token.{Token};
 ghost use Rattle.text_scan.specs.declared.fault.ScanFault.{ScanFault};
 ghost use Rattle.text_scan.specs.Tokens.{scanned};
-ghost use Rattle.text_scan.specs.Grammar.{HasTokens, HasFault};
+ghost use Rattle.text_scan.specs.Grammar.{HasTokens, HasFault, Placed, IsSpelled};
 
 /// A text is read as the tokens that it has by the grammar, or else as the fault that it has. So each
 /// text has one list of tokens or one fault, and no text has both.
@@ -13,4 +13,12 @@ pub fn reading_keeps_the_grammar()
         HasTokens text tokens ↔ (scanned text ≡ Ok tokens) }
     ensures fault { (text : List ℕ) (fault : ScanFault) →
         HasFault text fault ↔ (scanned text ≡ Err fault) }
+{}
+
+/// The tokens that a text has stand one behind another in it, and have the bytes of their kinds.
+pub fn tokens_are_pieces()
+    ensures placed { (text : List ℕ) (tokens : List Token) →
+        HasTokens text tokens → Placed 0 (length text) tokens }
+    ensures spelled { (text : List ℕ) (tokens : List Token) →
+        HasTokens text tokens → All (IsSpelled text) tokens }
 {}

@@ -7,7 +7,8 @@ abbrev pub invariant-loop-item : goal.invariant-loop-item
 invariant-loop-item g l =
     let others = map g.U.Named.name_of l.others in
     let name_of = g.T.Named.name_of in
-    earlier l.found (first (twice (map name_of l.rest ++ others))) ≡ first (twice (map name_of l.fn.items ++ others))
+    earlier l.found (first (twice (map name_of l.rest ++ others)))
+    ≡ first (twice (map name_of l.fn.items ++ others))
 
 abbrev pub decreases-loop-item : goal.decreases-loop-item
 decreases-loop-item g l = length l.rest

@@ -13,6 +13,8 @@ decreases-block_fault l = block_size (block_of l.stmts.now)
 
 abbrev pub invariant-block_fault-loop-s : goal.invariant-block_fault-loop-s
 invariant-block_fault-loop-s l = record {
-  told : earlier l.found (first (block_faults l.m l.p (block_of (drop l.s-index l.stmts)))) ≡ first (block_faults l.m l.p (block_of l.stmts));
+  told :
+      earlier l.found (first (block_faults l.m l.p (block_of (drop l.s-index l.stmts))))
+      ≡ first (block_faults l.m l.p (block_of l.stmts));
   smaller : block_size (block_of (drop l.s-index l.stmts)) ≤ block_size (block_of l.stmts);
 }

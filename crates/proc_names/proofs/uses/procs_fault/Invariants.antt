@@ -4,4 +4,5 @@ use Rattle.proc_names.specs.NameFaults.{procs_faults}
 use Rattle.proc_names.proofs.uses.procs_fault.Given as goal
 
 abbrev pub invariant-loop-p : goal.invariant-loop-p
-invariant-loop-p l = earlier l.found (first (procs_faults l.m (drop l.p-index l.procs))) ≡ first (procs_faults l.m l.procs)
+invariant-loop-p l =
+    earlier l.found (first (procs_faults l.m (drop l.p-index l.procs))) ≡ first (procs_faults l.m l.procs)

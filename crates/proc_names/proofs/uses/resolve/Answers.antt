@@ -6,9 +6,13 @@ use Rattle.proc_names.proofs.uses.resolve.Goals as goal
 
 pub returns-in-None-clause-fine : goal.returns-in-None-clause-fine
 returns-in-None-clause-fine c =
-    let none = ap (λ m. first (name_faults m)) (sym c.fields.ensures.same) ∙ sym c.first_fault.ensures ∙ c.in-None.is in
+    let none =
+          ap (λ m. first (name_faults m)) (sym c.fields.ensures.same)
+          ∙ sym c.first_fault.ensures ∙ c.in-None.is in
     ((λ _. first_none (name_faults c.args.m.now) none), λ _. refl)
 
 pub returns-in-Some-clause-first : goal.returns-in-Some-clause-first
 returns-in-Some-clause-first c =
-    is_first (name_faults c.args.m.now) c.in-Some.f (ap (λ m. first (name_faults m)) (sym c.fields.ensures.same) ∙ sym c.first_fault.ensures ∙ c.in-Some.is)
+    is_first (name_faults c.args.m.now) c.in-Some.f
+      (ap (λ m. first (name_faults m)) (sym c.fields.ensures.same)
+      ∙ sym c.first_fault.ensures ∙ c.in-Some.is)

@@ -1,0 +1,642 @@
+-- Where the faults of a reader stand: behind tokens with which a text can begin, or at such a token.
+use Rattle.std.proofs.Common.{◌≡◌, Bool, true, false, ℕ, zero, suc, ◌+◌, ◌≤◌, inl, inr, ◌⊎◌, List, []}
+use Rattle.std.proofs.Common.{◌∷◌, ◌++◌, length, Option, Some, Result, Ok, Err, refl, sym, ap, subst}
+use Rattle.std.proofs.Common.{◌∙◌, append_assoc, arith, length-append, append-nil}
+use Rattle.std.specs.Prelude.{IsTrue}
+use Rattle.readers.specs.Readers.{◌>>=◌, done, holds}
+use Rattle.phrases.specs.Phrase as phrases
+use Rattle.phrases.specs.Phrase.{Meaning, Phrase, then, only, where_true, ◌or◌}
+use Rattle.phrases.specs.Reading.{Input, Tells, Reader}
+use Rattle.phrases.specs.Reading.{next_means, place, case_next, expected, one, is_there, many}
+use Rattle.phrases.proofs.Readers.{at_end, goes_on_ok, goes_on_err, ok_value, cases_next, case_some}
+use Rattle.phrases.proofs.Readers.{case_none}
+use Rattle.phrases.proofs.Repeats.{Begins, Ends, cases_bool, ok_not_err, err_not_ok, many_stop, many_out}
+use Rattle.phrases.proofs.Repeats.{many_go, more_behind, many_less, many_worse}
+
+-- the place is that of a token, up to which the tokens begin what the phrase spells
+pub record Within {L F A : Type 0} (tells : Tells L F) (P' : Phrase L A) (i : Input L) (at : ℕ) : Type 0 where
+  pub tokens : List L
+  pub token : L
+  pub rest : List L
+  pub parts : i.rest ≡ tokens ++ token ∷ rest
+  pub there : at ≡ tells.at token
+  pub viable : (more : List L) × (x : A) × P' (tokens ++ token ∷ more) x
+
+-- The fault is that a token was not expected, or that of a limit; then it stands at a known place, or at
+-- such a token of the input.
+abbrev pub Blamed : {L F A : Type 0} (tells : Tells L F) → (F → Option ℕ) → (ℕ → Type 0) → Phrase L A
+    → Input L → F → Type 0
+Blamed tells limit Known P' i e =
+    ((at : ℕ) × (e ≡ tells.expected at))
+    ⊎ ((at : ℕ) × (limit e ≡ Some at) × (Known at ⊎ Within tells P' i at))
+
+-- what is read was spelled, limits passed over
+pub record Taken {L A : Type 0} (P' : Phrase L A) (i : Input L) (x : A) (j : Input L) : Type 0 where
+  pub tokens : List L
+  pub parts : i.rest ≡ tokens ++ j.rest
+  pub loose : P' tokens x
+
+-- the faults of the reader are blamed on places, the known ones included
+pub record Blames {L F A : Type 0} (tells : Tells L F) (limit : F → Option ℕ) (fuel : ℕ) (Known : ℕ → Type 0)
+    (P' : Phrase L A) (r : Reader L F A) : Type 0 where
+  pub some : (tokens : List L) × (x : A) × P' tokens x
+  pub takes : (i : Input L) (x : A) (j : Input L) → r i ≡ Ok (x, j) → Taken P' i x j
+  pub blames : (i : Input L) (e : F) → length i.rest ≤ fuel → r i ≡ Err e → Blamed tells limit Known P' i e
+
+-- what it reads is one token, and its place is that of the token
+abbrev pub IsToken : {L F A : Type 0} (tells : Tells L F) → Phrase L A → Reader L F A → (A → ℕ) → Type 0
+IsToken {L = L} tells P' r placed = (i : Input L) (x : _) (j : Input L) → r i ≡ Ok (x, j) → (t : L)
+    × (i.rest ≡ t ∷ j.rest) × P' (t ∷ []) x × (placed x ≡ tells.at t)
+
+shorter : {L : Type 0} (l s k : List L) (fuel : ℕ) → l ≡ s ++ k → length l ≤ fuel → length k ≤ fuel
+shorter l s k fuel e le =
+    let same : length l ≡ length s + length k = ap length e ∙ length-append s k in
+    omega (arith, le, same)
+
+module _ {L F : Type 0} {tells : Tells L F} (limit : F → Option ℕ) where
+  blamed_first : {A B : Type 0} {K : ℕ → Type 0} {P' : Phrase L A} {Q' : A → Phrase L B} (more : (a : A)
+      → (tokens : List L) × (y : B) × Q' a tokens y) (i : Input L) (e : F) → Blamed tells limit K P' i e
+      → Blamed tells limit K (then P' Q') i e
+  blamed_first more i e = elim [
+    | inl h ↦ inl h
+    | inr (at, is, where_) ↦ inr (
+      at,
+      is,
+      (elim where_ [
+        | inl known ↦ inl known
+        | inr w ↦
+            let v = w.viable in
+            let u = more v.1 in
+            inr (record {
+              tokens = w.tokens;
+              token = w.token;
+              rest = w.rest;
+              parts = w.parts;
+              there = w.there;
+              viable = (
+                v.0 ++ u.0,
+                u.1,
+                (
+                  v.1,
+                  w.tokens ++ w.token ∷ v.0,
+                  u.0,
+                  sym (append_assoc w.tokens (w.token ∷ v.0) u.0),
+                  v.2,
+                  u.2,
+                ),
+              );
+            })
+      ]),
+    )
+  ]
+
+module _ {L F : Type 0} {tells : Tells L F} where
+  -- behind tokens that were taken
+  within_behind : {A B : Type 0} {P' : Phrase L A} {Q' : A → Phrase L B} (i : Input L) (x : A) (j : Input L)
+      (at : ℕ) → Taken P' i x j → Within tells (Q' x) j at → Within tells (then P' Q') i at
+  within_behind i x j at a w =
+      let v = w.viable in
+      record {
+        tokens = a.tokens ++ w.tokens;
+        token = w.token;
+        rest = w.rest;
+        parts = a.parts ∙ ap (λ l. a.tokens ++ l) w.parts
+            ∙ sym (append_assoc a.tokens w.tokens (w.token ∷ w.rest));
+        there = w.there;
+        viable = (
+          v.0,
+          v.1,
+          (
+            x,
+            a.tokens,
+            w.tokens ++ w.token ∷ v.0,
+            append_assoc a.tokens w.tokens
+                (w.token ∷ v.0),
+            a.loose,
+            v.2,
+          ),
+        );
+      }
+
+module _ {L : Type 0} where
+  none_left : {B : Type 0} (m : Meaning L B) (l : List L) → Begins m l → length l ≤ 0 → ⊥
+  none_left m [] b le = absurd cc
+  none_left m (t ∷ l) b le = absurd (omega (arith, le))
+
+  fewer : (l s k : List L) (n : ℕ) → l ≡ s ++ k → 1 ≤ length s → length l ≤ suc n → length k ≤ n
+  fewer l s k n e some le =
+      let same : length l ≡ length s + length k = ap length e ∙ length-append s k in
+      omega (arith, some, le, same)
+
+  taken_then : {A B : Type 0} {P' : Phrase L A} {Q' : A → Phrase L B} (i : Input L) (x : A) (j : Input L)
+      (y : B) (k : Input L) → Taken P' i x j → Taken (Q' x) j y k → Taken (then P' Q') i y k
+  taken_then i x j y k a b = record {
+    tokens = a.tokens ++ b.tokens;
+    parts = a.parts ∙ ap (λ l. a.tokens ++ l) b.parts ∙ sym (append_assoc a.tokens b.tokens k.rest);
+    loose = (x, a.tokens, b.tokens, refl, a.loose, b.loose);
+  }
+
+module _ {L F : Type 0} (tells : Tells L F) where
+  at_place : {A : Type 0} (i : Input L) (e : F) → (let r : Result (A × Input L) F =
+      Err (tells.expected (place tells i)) in r) ≡ Err e → e ≡ tells.expected (place tells i)
+  at_place i e h = let same : tells.expected (place tells i) ≡ e = cc in sym same
+
+  -- a token of this meaning is one token
+  pub is_token : {A : Type 0} (m : Meaning L A) (placed : A → ℕ) → ((t : L) (a : A) → m t ≡ Some a → placed a
+      ≡ tells.at t) → IsToken tells (phrases.one m) (one tells m) placed
+  unfolding one
+  is_token m placed places i x j e = elim (cases_next m i) [
+    | inl (u, b, k, is, means) ↦
+        let here : case_next m done (expected tells) i ≡ Ok (b, at_end k i.end) =
+        ap (λ l. case_next m done (expected tells) (at_end l i.end)) is
+        ∙ case_some m done (expected tells) u b k i.end means in
+        let both = ok_value b x (at_end k i.end) j (sym here ∙ e) in
+        let same = means ∙ ap (λ z. Some z) both.0 in
+        (u, is ∙ ap (λ (o : Input L). u ∷ o.rest) both.1, (u, refl, same), places u x same)
+    | inr none ↦ absurd (err_not_ok (x, j) _ (sym (case_none m done (expected tells) i none) ∙ e))
+  ]
+
+  tested : {A : Type 0} (b : Bool) (fault : F) (x y : A) (i j : Input L) → (let r : Reader L F A =
+      holds b fault >>= λ _. done x in r i) ≡ Ok (y, j) → (x ≡ y) × (i ≡ j)
+  tested true fault x y i j e = ok_value x y i j e
+  tested false fault x y i j e = absurd (err_not_ok (y, j) fault e)
+
+  -- a token and a test
+  pub is_tested : {A : Type 0} {P' : Phrase L A} {r : Reader L F A} (placed : A → ℕ) (b : A → Bool)
+      (fault : A → F) → IsToken tells P' r placed
+      → IsToken tells (then P' (λ x. then (where_true true) (λ _. only x))) (r >>= λ x.
+      holds (b x) (fault x) >>= λ _. done x) placed
+  is_tested {r = r} placed b fault one i x j e =
+      let y = goes_on_ok (r i) (λ z. holds (b z) (fault z) >>= λ _. done z) (x, j) e in
+      let same = tested (b y.0.0) (fault y.0.0) y.0.0 x y.0.1 j y.2 in
+      let (t, is, p, place) = one i y.0.0 y.0.1 y.1 in (
+        t,
+        is ∙ ap (λ (o : Input L). t ∷ o.rest) same.1,
+        (
+          y.0.0,
+          t ∷ [],
+          [],
+          refl,
+          p,
+          (tt, [], [], refl, (refl, refl), (refl, same.0)),
+        ),
+        ap placed (sym same.0) ∙ place,
+      )
+
+module _ {L F : Type 0} {tells : Tells L F} {limit : F → Option ℕ} {fuel : ℕ} where
+  pub blames_then : {A B : Type 0} {K : ℕ → Type 0} {P' : Phrase L A} {Q' : A
+      → Phrase L B} {r : Reader L F A} {f : A → Reader L F B}
+      → Blames tells limit fuel K P' r → ((a : A) → Blames tells limit fuel K (Q' a) (f a))
+      → Blames tells limit fuel K (then P' Q') (r >>= f)
+  blames_then {r = r} {f = f} one two = record {
+    some =
+        let v = one.some in
+        let w = (two v.1).some in
+        (v.0 ++ w.0, w.1, (v.1, v.0, w.0, refl, v.2, w.2));
+    takes = λ i y j e.
+        let x = goes_on_ok (r i) f (y, j) e in
+        taken_then i x.0.0 x.0.1 y j (one.takes i x.0.0 x.0.1 x.1) ((two x.0.0).takes x.0.1 y j x.2);
+    blames = λ i e len h. elim (goes_on_err (r i) f e h) [
+      | inl g ↦ blamed_first limit (λ a. (two a).some) i e (one.blames i e len g)
+      | inr x ↦
+          let a = one.takes i x.0.0 x.0.1 x.1 in
+          elim ((two x.0.0).blames x.0.1 e (shorter i.rest a.tokens x.0.1.rest fuel a.parts len) x.2) [
+            | inl g ↦ inl g
+            | inr (at, is, where_) ↦ inr (
+              at,
+              is,
+              (elim where_ [ inl known ↦ inl known | inr w ↦ inr (within_behind i x.0.0 x.0.1 at a w) ]),
+            )
+          ]
+    ];
+  }
+
+  -- what is behind a token may blame that token
+  pub blames_token : {A B : Type 0} {K : ℕ → Type 0} {P' : Phrase L A} {Q' : A
+      → Phrase L B} {r : Reader L F A} {f : A → Reader L F B} (placed : A → ℕ)
+      → IsToken tells P' r placed → Blames tells limit fuel K P' r
+      → ((a : A) → Blames tells limit fuel (λ n. K n ⊎ (n ≡ placed a)) (Q' a) (f a))
+      → Blames tells limit fuel K (then P' Q') (r >>= f)
+  blames_token {K = K} {P' = P'} {Q' = Q'} {r = r} {f = f} placed token one two = record {
+    some =
+        let v = one.some in
+        let w = (two v.1).some in
+        (v.0 ++ w.0, w.1, (v.1, v.0, w.0, refl, v.2, w.2));
+    takes = λ i y j e.
+        let x = goes_on_ok (r i) f (y, j) e in
+        taken_then i x.0.0 x.0.1 y j (one.takes i x.0.0 x.0.1 x.1) ((two x.0.0).takes x.0.1 y j x.2);
+    blames = λ i e len h. elim (goes_on_err (r i) f e h) [
+      | inl g ↦ blamed_first limit (λ a. (two a).some) i e (one.blames i e len g)
+      | inr x ↦
+          let a = one.takes i x.0.0 x.0.1 x.1 in
+          elim ((two x.0.0).blames x.0.1 e (shorter i.rest a.tokens x.0.1.rest fuel a.parts len) x.2) [
+            | inl g ↦ inl g
+            | inr (at, is, where_) ↦ inr (
+              at,
+              is,
+              (elim where_ [
+                | inl known ↦ elim known [
+                  | inl k ↦ inl k
+                  | inr here ↦ inr (at_token i x.0.0 x.0.1 at (token i x.0.0 x.0.1 x.1) here)
+                ]
+                | inr w ↦ inr (within_behind i x.0.0 x.0.1 at a w)
+              ]),
+            )
+          ]
+    ];
+  }
+    where
+      at_token : (i : Input L) (x : _) (j : Input L) (at : ℕ) → (t : L) × (i.rest ≡ t ∷ j.rest)
+          × P' (t ∷ []) x × (placed x ≡ tells.at t) → at ≡ placed x → Within tells (then P' Q') i at
+      at_token i x j at (t, is, p, place) here =
+          let w = (two x).some in
+          record {
+            tokens = [];
+            token = t;
+            rest = j.rest;
+            parts = is;
+            there = here ∙ place;
+            viable = (w.0, w.1, (x, t ∷ [], w.0, refl, p, w.2));
+          }
+
+  pub blames_done : {A : Type 0} {K : ℕ → Type 0} (x : A) → Blames tells limit fuel K (only x) (done x)
+  blames_done x = record {
+    some = ([], x, (refl, refl));
+    takes = λ i y j e.
+        let both = ok_value x y i j e in
+        record { tokens = []; parts = ap (λ (o : Input L). o.rest) both.1; loose = (refl, both.0) };
+    blames = λ i e len h. absurd (ok_not_err (x, i) e h);
+  }
+
+  -- nothing is read, where a text could go on
+  pub blames_none : {A : Type 0} {K : ℕ → Type 0} {P' : Phrase L A} → ((tokens : List L) × (x : A)
+      × P' tokens x) → Blames tells limit fuel K P' (expected tells)
+  blames_none some = record {
+    some = some;
+    takes = λ i x j e. absurd (err_not_ok (x, j) (tells.expected (place tells i)) e);
+    blames = λ i e len h. inl (
+      place tells i,
+      (let same : tells.expected (place tells i) ≡ e = cc in
+          sym same),
+    );
+  }
+
+  -- the same with more places known
+  pub blames_known : {A : Type 0} {K K' : ℕ → Type 0} {P' : Phrase L A} {r : Reader L F A}
+      → ((n : ℕ) → K n → K' n) → Blames tells limit fuel K P' r → Blames tells limit fuel K' P' r
+  blames_known more h = record {
+    some = h.some;
+    takes = λ i x j e. h.takes i x j e;
+    blames = λ i e len g. elim (h.blames i e len g) [
+      | inl a ↦ inl a
+      | inr (at, is, where_) ↦ inr (at, is, (elim where_ [ inl known ↦ inl (more at known) | inr w ↦ inr w ]))
+    ];
+  }
+
+  pub blames_as : {A : Type 0} {K : ℕ → Type 0} {P' Q' : Phrase L A} {r : Reader L F A}
+      → ((l : List L) (x : A) → P' l x → Q' l x) → Blames tells limit fuel K P' r
+      → Blames tells limit fuel K Q' r
+  blames_as into h = record {
+    some = let v = h.some in (v.0, v.1, into v.0 v.1 v.2);
+    takes = λ i x j e.
+        let a = h.takes i x j e in
+        record { tokens = a.tokens; parts = a.parts; loose = into a.tokens x a.loose };
+    blames = λ i e len g. elim (h.blames i e len g) [
+      | inl a ↦ inl a
+      | inr (at, is, where_) ↦ inr (
+        at,
+        is,
+        (elim where_ [
+          | inl known ↦ inl known
+          | inr w ↦
+              let v = w.viable in
+              inr (record {
+                tokens = w.tokens;
+                token = w.token;
+                rest = w.rest;
+                parts = w.parts;
+                there =
+                    w.there;
+                viable = (v.0, v.1, into (w.tokens ++ w.token ∷ v.0) v.1 v.2);
+              })
+        ]),
+      )
+    ];
+  }
+
+  -- the same with its value seen by f
+  pub blames_map : {A B : Type 0} {K : ℕ → Type 0} {P' : Phrase L A} {r : Reader L F A} (f : A → B)
+      → Blames tells limit fuel K P' r → Blames tells limit fuel K (then P' (λ a. only (f a))) (r >>= λ a.
+      done (f a))
+  blames_map f h = blames_then h (λ a. blames_done (f a))
+
+  -- a test before what follows, told at a known place; where limits are passed over it holds
+  pub blames_holds : {B : Type 0} {K : ℕ → Type 0} {Q' : Unit {0} → Phrase L B} (f : Unit {0} → Reader L F B)
+      (b b' : Bool) (fault : F) (at : ℕ)
+      → limit fault ≡ Some at → K at → IsTrue b' → Blames tells limit fuel K (Q' tt) (f tt)
+      → Blames tells limit fuel K (then (where_true b') Q') (holds b fault >>= f)
+  blames_holds f false b' fault at is known up more = record {
+    some = let v = more.some in (v.0, v.1, (tt, [], v.0, refl, (refl, up), v.2));
+    takes = λ i y j e. absurd (err_not_ok (y, j) fault e);
+    blames = λ i e len h.
+        let same : fault ≡ e = cc in
+        inr (at, ap limit (sym same) ∙ is, inl known);
+  }
+  blames_holds {Q' = Q'} f true b' fault at is known up more = record {
+    some = let v = more.some in (v.0, v.1, (tt, [], v.0, refl, (refl, up), v.2));
+    takes = λ i y j e.
+        let a = more.takes i y j e in
+        record { tokens = a.tokens; parts = a.parts; loose = (tt, [], a.tokens, refl, (refl, up), a.loose) };
+    blames = λ i e len h. elim (more.blames i e len h) [
+      | inl a ↦ inl a
+      | inr (n, is_, where_) ↦ inr (
+        n,
+        is_,
+        (elim where_ [
+          | inl k ↦ inl k
+          | inr w ↦
+              let v = w.viable in
+              inr (record {
+                tokens = w.tokens;
+                token = w.token;
+                rest = w.rest;
+                parts = w.parts;
+                there =
+                    w.there;
+                viable = (v.0, v.1, (tt, [], w.tokens ++ w.token ∷ v.0, refl, (refl, up), v.2));
+              })
+        ]),
+      )
+    ];
+  }
+
+  -- a token, of which there is one
+  pub blames_one : {A : Type 0} {K : ℕ → Type 0} (m : Meaning L A) (t : L) (a : A) → m t ≡ Some a
+      → Blames tells limit fuel K (phrases.one m) (one tells m)
+  unfolding one
+  blames_one m t a example = record {
+    some = (t ∷ [], a, (t, refl, example));
+    takes = λ i x j e. elim (cases_next m i) [
+      | inl (u, b, k, is, means) ↦
+          let here : case_next m done (expected tells) i ≡ Ok (b, at_end k i.end) =
+          ap (λ l. case_next m done (expected tells) (at_end l i.end)) is
+          ∙ case_some m done (expected tells) u b k i.end means in
+          let both = ok_value b x (at_end k i.end) j (sym here ∙ e) in
+          record {
+            tokens = u ∷ [];
+            parts = is ∙ ap (λ (o : Input L). u ∷ o.rest) both.1;
+            loose =
+                (u, refl, means ∙ ap (λ z. Some z) both.0);
+          }
+      | inr none ↦ absurd (err_not_ok (x, j) _ (sym (case_none m done (expected tells) i none) ∙ e))
+    ];
+    blames = λ i e len h. elim (cases_next m i) [
+      | inl (u, b, k, is, means) ↦
+          let here : case_next m done (expected tells) i ≡ Ok (b, at_end k i.end) =
+          ap (λ l. case_next m done (expected tells) (at_end l i.end)) is
+          ∙ case_some m done (expected tells) u b k i.end means in
+          absurd (ok_not_err (b, at_end k i.end) e (sym here ∙ h))
+      | inr none ↦ inl (
+        place tells i,
+        at_place tells i e (sym (case_none m done (expected tells) i none)
+            ∙ h),
+      )
+    ];
+  }
+
+  -- a choice by the next token, which what is behind it may blame
+  blames_choice : {A B : Type 0} {K : ℕ → Type 0} {m : Meaning L A} {Q' : A → Phrase L B} {R' : Phrase L B}
+      {f : A → Reader L F B} {r : Reader L F B} (Here : A → ℕ → Type 0)
+      → ((t : L) (a : A) → m t ≡ Some a → (n : ℕ) → Here a n → n ≡ tells.at t)
+      → ((a : A) → Blames tells limit fuel (λ n. K n ⊎ Here a n) (Q' a) (f a))
+      → Blames tells limit fuel K R' r
+      → Blames tells limit fuel K (then (phrases.one m) Q' or R') (case_next m f r)
+  blames_choice {K = K} {m = m} {Q' = Q'} {R' = R'} {f = f} {r = r} Here places two other = record {
+    some = let v = other.some in (v.0, v.1, inr v.2);
+    takes = λ i y j e. elim (cases_next m i) [
+      | inl (t, a, k, is, means) ↦
+          let here : case_next m f r i ≡ f a (at_end k i.end) = ap (λ l. case_next m f r (at_end l i.end)) is
+          ∙ case_some m f r t a k i.end means in
+          let b = (two a).takes (at_end k i.end) y j (sym here ∙ e) in
+          record {
+            tokens = t ∷ b.tokens;
+            parts = is ∙ ap (λ l. t ∷ l) b.parts;
+            loose =
+                inl (a, t ∷ [], b.tokens, refl, (t, refl, means), b.loose);
+          }
+      | inr none ↦
+          let b = other.takes i y j (sym (case_none m f r i none) ∙ e) in
+          record { tokens = b.tokens; parts = b.parts; loose = inr b.loose }
+    ];
+    blames = λ i e len h. elim (cases_next m i) [
+      | inl (t, a, k, is, means) ↦
+          let here : case_next m f r i ≡ f a (at_end k i.end) = ap (λ l. case_next m f r (at_end l i.end)) is
+          ∙ case_some m f r t a k i.end means in
+          elim ((two a).blames (at_end k i.end) e (shorter i.rest (t ∷ []) k fuel is len) (sym here ∙ h)) [
+            | inl g ↦ inl g
+            | inr (at, limited, where_) ↦ inr (
+              at,
+              limited,
+              (elim where_ [
+                | inl known ↦ elim known [
+                  | inl n ↦ inl n
+                  | inr n ↦
+                      let w = (two a).some in
+                      inr (record {
+                        tokens = [];
+                        token = t;
+                        rest = k;
+                        parts = is;
+                        there =
+                            places t a means at n;
+                        viable =
+                            (w.0, w.1, inl (a, t ∷ [], w.0, refl, (t, refl, means), w.2));
+                      })
+                ]
+                | inr w ↦
+                    let v = w.viable in
+                    inr (record {
+                      tokens = t ∷ w.tokens;
+                      token = w.token;
+                      rest = w.rest;
+                      parts = is ∙ ap (λ l. t ∷ l) w.parts;
+                      there = w.there;
+                      viable = (
+                        v.0,
+                        v.1,
+                        inl (
+                          a,
+                          t ∷ [],
+                          w.tokens ++ w.token ∷ v.0,
+                          refl,
+                          (t, refl, means),
+                          v.2,
+                        ),
+                      );
+                    })
+              ]),
+            )
+          ]
+      | inr none ↦ elim (other.blames i e len (sym (case_none m f r i none) ∙ h)) [
+        | inl g ↦ inl g
+        | inr (at, limited, where_) ↦ inr (
+          at,
+          limited,
+          (elim where_ [
+            | inl known ↦ inl known
+            | inr w ↦
+                let v = w.viable in
+                inr (record {
+                  tokens = w.tokens;
+                  token = w.token;
+                  rest = w.rest;
+                  parts = w.parts;
+                  there =
+                      w.there;
+                  viable = (v.0, v.1, inr v.2);
+                })
+          ]),
+        )
+      ]
+    ];
+  }
+
+  pub blames_case : {A B : Type 0} {K : ℕ → Type 0} {m : Meaning L A} {Q' : A → Phrase L B} {R' : Phrase L B}
+      {f : A → Reader L F B} {r : Reader L F B} (placed : A → ℕ)
+      → ((t : L) (a : A) → m t ≡ Some a → placed a ≡ tells.at t)
+      → ((a : A) → Blames tells limit fuel (λ n. K n ⊎ (n ≡ placed a)) (Q' a) (f a))
+      → Blames tells limit fuel K R' r
+      → Blames tells limit fuel K (then (phrases.one m) Q' or R') (case_next m f r)
+  blames_case placed places two other = blames_choice (λ a n. n ≡ placed a) (λ t a means n here. here
+      ∙ places t a means) two other
+
+  -- a choice that nothing blames
+  pub blames_either : {A B : Type 0} {K : ℕ → Type 0} {m : Meaning L A} {Q' : A
+      → Phrase L B} {R' : Phrase L B} {f : A → Reader L F B} {r : Reader L F B}
+      → ((a : A) → Blames tells limit fuel K (Q' a) (f a)) → Blames tells limit fuel K R' r
+      → Blames tells limit fuel K (then (phrases.one m) Q' or R') (case_next m f r)
+  blames_either two other = blames_choice (λ a n. ⊥) (λ t a means n here. absurd here) (λ a.
+      blames_known (λ n k. inl k) (two a)) other
+
+  -- ---- any number of items
+
+  module _ {S A B : Type 0} {K : ℕ → Type 0} (begins : Meaning L B) (next : S → A → S) (r : S
+      → Reader L F A) {p' : S → Phrase L A}
+      (items : (s : S) → Blames tells limit fuel K (p' s) (r s))
+      (full : (s : S) (t : List L) (x : A) → p' s t x → 1 ≤ length t) where
+    at_stop : (n : ℕ) (s : S) (i : Input L) (xs : List A) (j : Input L) → Ends begins i.rest
+        → many tells n begins next r s i ≡ Ok (xs, j) → Taken (phrases.many next p' s) i xs j
+    at_stop n s i xs j none e =
+        let both = ok_value [] xs i j (sym (many_stop tells begins next r n s i none) ∙ e) in
+        record {
+          tokens = [];
+          parts = ap (λ (o : Input L). o.rest) both.1;
+          loose = subst (λ ys. phrases.many next p' s [] ys) both.0 refl;
+        }
+
+    many_takes : (n : ℕ) (s : S) (i : Input L) (xs : List A) (j : Input L) → many tells n begins next r s i
+        ≡ Ok (xs, j) → Taken (phrases.many next p' s) i xs j
+    many_takes zero s i xs j e = elim (cases_bool (is_there (next_means begins i))) [
+      | inl there ↦ absurd (err_not_ok _ _ (sym (many_out tells begins next r s i there) ∙ e))
+      | inr none ↦ at_stop zero s i xs j none e
+    ]
+    many_takes (suc n) s i xs j e = elim (cases_bool (is_there (next_means begins i))) [
+      | inl there ↦
+          let x = goes_on_ok (r s i) (more_behind tells begins next r n s) (xs, j)
+          (sym (many_go tells begins next r n s i there) ∙ e) in
+          let a = (items s).takes i x.0.0 x.0.1 x.1 in
+          let y = many_less tells begins next r n s x.0.0 xs x.0.1 j x.2 in
+          let b = many_takes n (next s x.0.0) x.0.1 y.0 j y.1 in
+          record {
+            tokens = a.tokens ++ b.tokens;
+            parts = a.parts ∙ ap (λ l. a.tokens ++ l) b.parts ∙ sym (append_assoc a.tokens b.tokens j.rest);
+            loose = subst (λ ys. phrases.many next p' s (a.tokens ++ b.tokens) ys) y.2 (
+              a.tokens,
+              b.tokens,
+              refl,
+              a.loose,
+              b.loose,
+            );
+          }
+      | inr none ↦ at_stop (suc n) s i xs j none e
+    ]
+
+    many_blames : (n : ℕ) (s : S) (i : Input L) (e : F) → length i.rest ≤ fuel → length i.rest ≤ n
+        → many tells n begins next r s i ≡ Err e → Blamed tells limit K (phrases.many next p' s) i e
+    many_blames zero s i e len fits h = elim (cases_bool (is_there (next_means begins i))) [
+      | inl there ↦ absurd (none_left begins i.rest there fits)
+      | inr none ↦ absurd (ok_not_err _ _ (sym (many_stop tells begins next r zero s i none) ∙ h))
+    ]
+    many_blames (suc n) s i e len fits h = elim (cases_bool (is_there (next_means begins i))) [
+      | inl there ↦ elim (goes_on_err (r s i) (more_behind tells begins next r n s) e
+          (sym (many_go tells begins next r n s i there) ∙ h)) [
+            | inl g ↦ elim ((items s).blames i e len g) [
+              | inl a ↦ inl a
+              | inr (at, limited, where_) ↦ inr (
+                at,
+                limited,
+                (elim where_ [
+                  | inl known ↦ inl known
+                  | inr w ↦
+                      let v = w.viable in
+                      let whole = w.tokens ++ w.token ∷ v.0 in
+                      inr (record {
+                        tokens = w.tokens;
+                        token = w.token;
+                        rest = w.rest;
+                        parts = w.parts;
+                        there =
+                            w.there;
+                        viable = (v.0, v.1 ∷ [], (whole, [], sym (append-nil whole), v.2, refl));
+                      })
+                ]),
+              )
+            ]
+            | inr x ↦
+                let a = (items s).takes i x.0.0 x.0.1 x.1 in
+                let some = full s a.tokens x.0.0 a.loose in
+                elim (many_blames n (next s x.0.0) x.0.1 e
+                (shorter i.rest a.tokens x.0.1.rest fuel a.parts len)
+                (fewer i.rest a.tokens x.0.1.rest n a.parts some fits)
+                (many_worse tells begins next r n s x.0.0 x.0.1 e x.2)) [
+                  | inl b ↦ inl b
+                  | inr (at, limited, where_) ↦ inr (
+                    at,
+                    limited,
+                    (elim where_ [
+                      | inl known ↦ inl known
+                      | inr w ↦
+                          let v = w.viable in
+                          inr (record {
+                            tokens = a.tokens ++ w.tokens;
+                            token = w.token;
+                            rest = w.rest;
+                            parts = a.parts ∙ ap (λ l. a.tokens ++ l) w.parts
+                                ∙ sym (append_assoc a.tokens w.tokens (w.token ∷ w.rest));
+                            there = w.there;
+                            viable = (
+                              v.0,
+                              x.0.0 ∷ v.1,
+                              (
+                                a.tokens,
+                                w.tokens ++ w.token ∷ v.0,
+                                append_assoc a.tokens w.tokens (w.token ∷ v.0),
+                                a.loose,
+                                v.2,
+                              ),
+                            );
+                          })
+                    ]),
+                  )
+                ]
+          ]
+      | inr none ↦ absurd (ok_not_err _ _ (sym (many_stop tells begins next r (suc n) s i none) ∙ h))
+    ]
+
+    pub blames_many : (n : ℕ) (s : S) → fuel ≤ n → Blames tells limit fuel K (phrases.many next p' s)
+        (many tells n begins next r s)
+    blames_many n s enough = record {
+      some = ([], [], refl);
+      takes = λ i xs j e. many_takes n s i xs j e;
+      blames = λ i e len h. many_blames n s i e len (omega (arith, len, enough)) h;
+    }

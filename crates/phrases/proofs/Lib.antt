@@ -1,0 +1,6 @@
+pub mod Readers
+pub mod Repeats
+pub mod Heads
+pub mod Loose
+pub mod Blames
+pub mod Gives

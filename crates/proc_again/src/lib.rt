@@ -1,0 +1,4 @@
+//! What is printed is parsed again.
+#![tactic(auto)]
+
+pub mod laws;

@@ -1,0 +1,16 @@
+-- How the faults of a source print.
+use Rattle.std.specs.Prelude.{ℕ, ◌++◌, List, codes, decimal}
+use Rattle.text_scan.specs.FaultText.{scan_fault_text}
+use Rattle.proc_grammar.specs.declared.fault.ParseFault.{ParseFault}
+use Rattle.proc_grammar.specs.declared.fault.ParseFault.TheVariants.{Scan, Expected, Range, TooMany, NoMemory}
+
+-- what is wrong at a byte
+abbrev at_byte : ℕ → List ℕ → List ℕ
+at_byte at what = codes "byte " ++ decimal at ++ what
+
+abbrev pub parse_fault_text : ParseFault → List ℕ
+parse_fault_text (Scan fault) = scan_fault_text fault
+parse_fault_text (Expected at) = at_byte at (codes ": no module goes on so")
+parse_fault_text (Range at) = at_byte at (codes ": the number or name is out of its bounds")
+parse_fault_text (TooMany at) = at_byte at (codes ": one too many")
+parse_fault_text NoMemory = codes "out of memory"

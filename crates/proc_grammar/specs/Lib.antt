@@ -1,0 +1,10 @@
+pub mod Makes
+pub mod Lexemes
+pub mod Grammar
+pub mod Reader
+pub mod Reading
+pub mod Fault
+pub mod FaultText
+pub mod Stuck
+pub mod PlainTrees
+pub mod Tokens

@@ -1,0 +1,40 @@
+-- What trees are made of: expressions E, arguments A, statements S, parameters P, locals V, procedures R
+-- and modules M. A first number is the place of the first token; where there are two, the second is that
+-- of the last one.
+use Rattle.std.specs.Prelude.{ℕ, Bool, List}
+use Rattle.proc_language.specs.declared.tree.Name.{Name}
+use Rattle.proc_language.specs.declared.tree.Op.{Op}
+use Rattle.proc_language.specs.declared.module.Import.{Import}
+use Rattle.proc_language.specs.declared.module.Global.{Global}
+use Rattle.proc_grammar.specs.declared.header.Header.{Header}
+
+pub record Makes (E A S P V R M : Type 0) : Type 0 where
+  -- reserved words beside those of the language
+  pub words : List (List ℕ)
+  pub number : ℕ → ℕ → E
+  pub var : ℕ → Name → E
+  pub element : ℕ → Name → E → E
+  pub call : ℕ → Name → List A → E
+  pub op : ℕ → Op → E → E → E
+  pub place : E → ℕ
+  pub value : E → A
+  pub pass : Name → A
+  -- how many registers an argument takes
+  pub registers : A → ℕ
+  pub set : ℕ → ℕ → Name → E → S
+  pub set_at : ℕ → ℕ → Name → E → E → S
+  pub do_call : ℕ → ℕ → Name → List A → S
+  pub if_then : ℕ → ℕ → E → List S → S
+  pub if_else : ℕ → ℕ → E → List S → List S → S
+  pub while : ℕ → ℕ → E → List S → S
+  pub return : ℕ → ℕ → E → S
+  pub halt : ℕ → ℕ → E → S
+  pub param : Name → P
+  pub callback : Name → ℕ → P
+  -- how many registers a parameter takes
+  pub param_registers : P → ℕ
+  pub local : Name → V
+  -- as how many locals one counts
+  pub local_count : V → ℕ
+  pub proc : ℕ → ℕ → Bool → Name → List P → List V → List S → R
+  pub module_of : Header → List Import → List Global → List R → M

@@ -1,0 +1,27 @@
+-- What the calls of reading answer.
+use Rattle.std.specs.Prelude.{◌≡◌, ℕ, ◌+◌, ◌≤◌, List, [], ◌∷◌, length, Option, Some, None, Result, Ok, Err}
+use Rattle.text_scan.specs.declared.token.Token.{Token}
+use Rattle.phrases.specs.Reading.{behind}
+use Rattle.proc_grammar.specs.declared.fault.ParseFault.{ParseFault}
+use Rattle.proc_grammar.specs.Fault.{Fails}
+use Rattle.proc_grammar.specs.Reader.{Input}
+
+-- the tokens lie within the text
+abbrev pub InText : List ℕ → List Token → Type 0
+InText text [] = Unit {0}
+InText text (t ∷ ts) = (t.at + t.len ≤ length text) × InText text ts
+
+-- what the reader reads, the value seen by view, unless memory was refused; after a fault, what is left isn't
+-- said
+abbrev pub GivesAs : {X A : Type 0} → (X → A) → Result X ParseFault → Input → Result (A × Input) ParseFault
+    → Type 0
+GivesAs view (Ok x) left read = read ≡ Ok (view x, left)
+GivesAs view (Err e) left read = Fails e read
+
+abbrev pub Gives : {A : Type 0} → Result A ParseFault → Input → Result (A × Input) ParseFault → Type 0
+Gives answer left read = GivesAs (λ x. x) answer left read
+
+-- what is left where the next token was taken, if it meant something
+abbrev pub left_by : {A : Type 0} → Option A → Input → Input
+left_by None i = i
+left_by (Some x) i = behind i

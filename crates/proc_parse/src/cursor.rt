@@ -1,0 +1,318 @@
+//! What is left of the tokens.
+ghost use Rattle.std.specs.Prelude.{[], ◌≡◌, ◌==◌, ◌<◌, ◌≤◌, nat_le, true, map, length, option_map, IfOk};
+ghost use Rattle.std.specs.Prelude.{Some};
+ghost use Rattle.proc_parse.specs.Answers.{InText, GivesAs, Gives, left_by};
+ghost use Rattle.phrases.specs.Reading.{next_means, behind, is_there};
+ghost use Rattle.proc_grammar.specs.Lexemes.{seen, word, a_name, a_number, sign, adding, comparing};
+ghost use Rattle.proc_grammar.specs.Lexemes.{a_start, start_in, a_proc};
+ghost use Rattle.proc_grammar.specs.Reader.{place, one};
+ghost use Rattle.proc_grammar.specs.Reading.{next_name, next_num};
+ghost use Rattle.std.specs.Str.{bytes_eq};
+
+use cap_words::{Items, LONGEST_NAME};
+use proc_grammar::ParseFault;
+use proc_language::{Name, Op, is_reserved};
+use std::alloc::Global;
+use std::marker::Model;
+use text_scan::{Token, TokenKind};
+
+/// What is left of the tokens. A contract sees each with its place and bytes, and the place of the
+/// text's end.
+#[derive(Debug, Drop)]
+pub struct Cursor<'a, 'b> {
+    text: &'a [u8],
+    rest: &'b [Token],
+    end: u32,
+}
+
+impl<'a, 'b> Model for Cursor<'a, 'b> {
+    ghost use Rattle.std.specs.Prelude.{map};
+    ghost use Rattle.proc_grammar.specs.Lexemes.{seen};
+    ghost use Rattle.proc_grammar.specs.Reader.{Input};
+    ghost use Rattle.proc_parse.specs.Answers.{InText};
+
+    ghost Value = { Input };
+
+    ghost view = { λ c. record { rest = map (seen c.text.now) c.rest.now; end = c.end } };
+
+    ghost invariant = { λ c. InText c.text.now c.rest.now };
+}
+
+impl<'a, 'b> Cursor<'a, 'b> {
+    ghost use Rattle.std.specs.Prelude.{map};
+
+    /// These tokens of the text.
+    pub fn of(text: &'a [u8], tokens: &'b [Token], end: u32) -> Cursor<'a, 'b>
+        requires { InText text.now tokens.now }
+        ensures { result ≡ record { rest = map (seen text.now) tokens.now; end = end } }
+    {
+        Cursor {
+            text,
+            rest: tokens,
+            end,
+        }
+    }
+
+    /// The place of the next token, or the text's end.
+    pub fn place(&self) -> u32
+        ensures { result ≡ place self.now }
+    {
+        match self.rest.first() {
+            Some(token) => token.at,
+            None => self.end,
+        }
+    }
+
+    // The next token, and what is behind it.
+    fn skip(&mut self)
+        requires { 0 < length self.old.rest }
+        ensures { self.new ≡ behind self.old }
+    {
+        let (_, rest) = self.rest.split_at(1);
+        self.rest = rest;
+    }
+
+    // The place of the next token where it is this word.
+    #[tactic(auto, unfolding(proc_grammar::specs::Lexemes::word))]
+    fn at_word(&self, wanted: &[u8]) -> Option<u32>
+        ensures { result ≡ next_means (word wanted.now) self.now }
+    {
+        let token = self.rest.first()?;
+        let (at, len) = (token.at as usize, token.len as usize);
+        match token.kind {
+            TokenKind::Name if &self.text[at..at + len] == wanted => Some(token.at),
+            _ => None,
+        }
+    }
+
+    // The place of the next token where it is this sign.
+    #[tactic(auto, unfolding(proc_grammar::specs::Lexemes::sign))]
+    fn at_sign(&self, wanted: u8) -> Option<u32>
+        ensures { result ≡ next_means (sign wanted) self.now }
+    {
+        let token = self.rest.first()?;
+        match token.kind {
+            TokenKind::Sign(byte) if byte == wanted => Some(token.at),
+            _ => None,
+        }
+    }
+
+    /// Whether this sign stands next.
+    pub fn is_sign(&self, wanted: u8) -> bool
+        ensures { result ≡ is_there (next_means (sign wanted) self.now) }
+    {
+        self.at_sign(wanted).is_some()
+    }
+
+    /// Whether this word stands next.
+    pub fn is_word(&self, wanted: &[u8]) -> bool
+        ensures { result ≡ is_there (next_means (word wanted.now) self.now) }
+    {
+        self.at_word(wanted).is_some()
+    }
+
+    /// Whether nothing is left.
+    pub fn is_at_end(&self) -> bool
+        ensures { result ≡ (length self.now.rest == 0) }
+    {
+        self.rest.is_empty()
+    }
+
+    /// Whether a procedure begins here.
+    #[tactic(auto, unfolding(proc_grammar::specs::Lexemes::a_proc))]
+    pub fn starts_proc(&self) -> bool
+        ensures { result ≡ is_there (next_means a_proc self.now) }
+    {
+        self.is_word(b"export") || self.is_word(b"proc")
+    }
+
+    /// Whether a statement begins here.
+    #[tactic(auto, unfolding(proc_grammar::specs::Lexemes::a_start))]
+    pub fn starts_stmt(&self) -> bool
+        ensures { result ≡ is_there (next_means (a_start []) self.now) }
+    {
+        let Some(token) = self.rest.first() else {
+            return false;
+        };
+        let (at, len) = (token.at as usize, token.len as usize);
+        match token.kind {
+            TokenKind::Name => starts_stmt(&self.text[at..at + len]),
+            _ => false,
+        }
+    }
+
+    /// Takes the next token where it is this word, and tells its place.
+    pub fn take_word(&mut self, wanted: &[u8]) -> Option<u32>
+        ensures value { result ≡ next_means (word wanted.now) self.old }
+        ensures left { self.new ≡ left_by result self.old }
+    {
+        let at = self.at_word(wanted)?;
+        self.skip();
+        Some(at)
+    }
+
+    /// Takes the next token where it is this sign, and tells its place.
+    pub fn take_sign(&mut self, wanted: u8) -> Option<u32>
+        ensures value { result ≡ next_means (sign wanted) self.old }
+        ensures left { self.new ≡ left_by result self.old }
+    {
+        let at = self.at_sign(wanted)?;
+        self.skip();
+        Some(at)
+    }
+
+    /// The word, and its place.
+    #[tactic(auto, unfolding(phrases::specs::Reading::one, phrases::specs::Reading::case_next))]
+    pub fn word(&mut self, wanted: &[u8]) -> Result<u32, ParseFault>
+        ensures { Gives result self.new (one (word wanted.now) self.old) }
+    {
+        match self.take_word(wanted) {
+            Some(at) => Ok(at),
+            None => Err(ParseFault::Expected(self.place())),
+        }
+    }
+
+    /// The sign, and its place.
+    #[tactic(auto, unfolding(phrases::specs::Reading::one, phrases::specs::Reading::case_next))]
+    pub fn sign(&mut self, wanted: u8) -> Result<u32, ParseFault>
+        ensures { Gives result self.new (one (sign wanted) self.old) }
+    {
+        match self.take_sign(wanted) {
+            Some(at) => Ok(at),
+            None => Err(ParseFault::Expected(self.place())),
+        }
+    }
+
+    // The name that stands next, and its place.
+    #[tactic(auto, unfolding(proc_grammar::specs::Lexemes::a_name))]
+    fn at_name(&self) -> Option<(&'a [u8], u32)>
+        ensures { option_map (λ n. record { text = n.0.now; at = n.1 })
+            result ≡ next_means (a_name []) self.now }
+    {
+        let token = self.rest.first()?;
+        let (at, len) = (token.at as usize, token.len as usize);
+        let text = &self.text[at..at + len];
+        match token.kind {
+            TokenKind::Name if !is_reserved(text) => Some((text, token.at)),
+            _ => None,
+        }
+    }
+
+    // The number that stands next, and its place.
+    #[tactic(auto, unfolding(proc_grammar::specs::Lexemes::a_number))]
+    fn at_number(&self) -> Option<(u64, u32)>
+        ensures { option_map (λ n. record { value = n.0; at = n.1 }) result ≡ next_means a_number self.now }
+    {
+        let token = self.rest.first()?;
+        match token.kind {
+            TokenKind::Number(value) => Some((value, token.at)),
+            _ => None,
+        }
+    }
+
+    /// A name of at most [`LONGEST_NAME`] bytes.
+    #[tactic(auto, unfolding(phrases::specs::Reading::one, phrases::specs::Reading::case_next, proc_grammar::specs::Reading::next_name))]
+    pub fn name(&mut self, alloc: Global) -> Result<Name, ParseFault>
+        ensures { Gives result self.new (next_name [] true self.old) }
+    {
+        let Some((text, at)) = self.at_name() else {
+            return Err(ParseFault::Expected(self.place()));
+        };
+        self.skip();
+        if text.len() > LONGEST_NAME as usize {
+            return Err(ParseFault::Range(at));
+        }
+        let text = Items::of(Vec::from_slice(alloc, text)?);
+        Ok(Name { text, at })
+    }
+
+    // Whether `+` or `-` stands next.
+    #[tactic(auto, unfolding(proc_grammar::specs::Lexemes::adding))]
+    fn at_adding(&self) -> Option<Op>
+        ensures { result ≡ next_means adding self.now }
+    {
+        let token = self.rest.first()?;
+        match token.kind {
+            TokenKind::Sign(b'+') => Some(Op::Plus),
+            TokenKind::Sign(b'-') => Some(Op::Minus),
+            _ => None,
+        }
+    }
+
+    // Whether `<` or `==` stands next.
+    #[tactic(auto, unfolding(proc_grammar::specs::Lexemes::comparing))]
+    fn at_comparing(&self) -> Option<Op>
+        ensures { result ≡ next_means comparing self.now }
+    {
+        let token = self.rest.first()?;
+        match token.kind {
+            TokenKind::Sign(b'<') => Some(Op::Less),
+            TokenKind::Equal => Some(Op::Equal),
+            _ => None,
+        }
+    }
+
+    /// Takes the next token where it is `+` or `-`.
+    pub fn take_adding(&mut self) -> Option<Op>
+        ensures value { result ≡ next_means adding self.old }
+        ensures left { self.new ≡ left_by result self.old }
+    {
+        let op = self.at_adding()?;
+        self.skip();
+        Some(op)
+    }
+
+    /// Takes the next token where it is `<` or `==`.
+    pub fn take_comparing(&mut self) -> Option<Op>
+        ensures value { result ≡ next_means comparing self.old }
+        ensures left { self.new ≡ left_by result self.old }
+    {
+        let op = self.at_comparing()?;
+        self.skip();
+        Some(op)
+    }
+
+    /// Takes the next token where it is a number, and tells its value and place.
+    pub fn take_number(&mut self) -> Option<(u64, u32)>
+        ensures value { option_map (λ n. record { value = n.0; at = n.1 })
+            result ≡ next_means a_number self.old }
+        ensures left { self.new ≡ left_by result self.old }
+    {
+        let number = self.at_number()?;
+        self.skip();
+        Some(number)
+    }
+
+    /// A number of at most this.
+    #[tactic(auto, unfolding(phrases::specs::Reading::one, phrases::specs::Reading::case_next, proc_grammar::specs::Reading::next_num))]
+    pub fn up_to(&mut self, most: u32) -> Result<u32, ParseFault>
+        ensures { Gives result self.new (next_num true (λ n. nat_le n most) self.old) }
+    {
+        let Some((number, at)) = self.take_number() else {
+            return Err(ParseFault::Expected(self.place()));
+        };
+        if number > u64::from(most) {
+            return Err(ParseFault::Range(at));
+        }
+        Ok(number as u32)
+    }
+}
+
+// Whether a statement begins with it: a name, or one of four words.
+fn starts_stmt(text: &[u8]) -> bool
+    ensures { result ≡ is_there (start_in [] (Some text.now)) }
+{
+    if !is_reserved(text) {
+        return true;
+    }
+    is_same(text, b"if")
+        || is_same(text, b"while")
+        || is_same(text, b"return")
+        || is_same(text, b"halt")
+}
+
+fn is_same(text: &[u8], word: &[u8]) -> bool
+    ensures { result ≡ bytes_eq text.now word.now }
+{
+    text == word
+}

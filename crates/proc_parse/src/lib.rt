@@ -1,0 +1,14 @@
+//! Modules of the language, from their texts.
+#![tactic(auto)]
+
+mod cursor;
+mod exprs;
+mod items;
+pub mod laws;
+mod module;
+mod procs;
+mod source;
+mod stmts;
+
+pub use proc_grammar::ParseFault;
+pub use source::parse;
