@@ -4,8 +4,10 @@ use Rattle.std.specs.Prelude.{sum_by}
 use Rattle.std.proofs.lemmas.List.Sums.{sum_by-cons}
 use Rattle.proc_language.specs.declared.module.Proc.{Proc}
 use Rattle.proc_language.specs.declared.module.ModuleFields.{ModuleFields}
-use Rattle.proc_language.specs.Tree.{Expr, Args, Stmt, Block, number, var, element, call, op, no_args, value, proc}
-use Rattle.proc_language.specs.Tree.{set, set_at, do_call, if_then, if_else, while, return, halt, no_stmts, stmt}
+use Rattle.proc_language.specs.Tree.{Expr, Args, Stmt, Block, number, var, element, call, op, no_args, value}
+use Rattle.proc_language.specs.Tree.{proc}
+use Rattle.proc_language.specs.Tree.{set, set_at, do_call, if_then, if_else, while, return, halt, no_stmts}
+use Rattle.proc_language.specs.Tree.{stmt}
 use Rattle.proc_language.specs.StmtView.{block_of as stmts_of}
 use Rattle.proc_names.specs.Calls as text
 use Rattle.proc_program.specs.Calls.{calls, args_calls, step_calls, block_calls, procedure_calls, part_calls}
@@ -20,7 +22,8 @@ module _ (m : ModuleFields) (p : Proc) where
     exp_calls (var at x) n = refl
     exp_calls (element at x e) n = exp_calls e n
     exp_calls (call at f xs) n = ap (λ k. k + 1) (among xs n)
-    exp_calls (op at o a b) n = let x = exp_calls a n in let y = exp_calls b (n + text.calls a) in omega (arith, x, y)
+    exp_calls (op at o a b) n = let x = exp_calls a n in let y = exp_calls b (n + text.calls a) in
+        omega (arith, x, y)
 
     among : (xs : Args) (n : ℕ) → args_calls (args_view (args_of m p n xs)) ≡ text.args_calls xs
     among no_args n = refl
@@ -45,7 +48,8 @@ module _ (m : ModuleFields) (p : Proc) where
 
     block_kept : (b : Block) (n : ℕ) → block_calls (block_view (steps_of m p n b)) ≡ text.block_calls b
     block_kept no_stmts n = refl
-    block_kept (stmt s b) n = let x = stmt_kept s n in let y = block_kept b (n + text.stmt_calls s) in omega (arith, x, y)
+    block_kept (stmt s b) n = let x = stmt_kept s n in let y = block_kept b (n + text.stmt_calls s) in
+        omega (arith, x, y)
 
 procs_kept : (m : ModuleFields) (ps : List Proc) (n : ℕ)
     → sum_by procedure_calls (procedures_of m n ps) ≡ sum_by text.proc_calls ps
@@ -54,7 +58,8 @@ procs_kept m (p ∷ ps) n =
     let x = block_kept m p (stmts_of p.body) n in
     let y = procs_kept m ps (n + text.proc_calls p) in
     sum_by-cons procedure_calls (procedure_of m n p) (procedures_of m (n + text.proc_calls p) ps)
-    ∙ (let e : procedure_calls (procedure_of m n p) + sum_by procedure_calls (procedures_of m (n + text.proc_calls p) ps)
+    ∙ (let e : procedure_calls (procedure_of m n p) + sum_by procedure_calls
+    (procedures_of m (n + text.proc_calls p) ps)
     ≡ text.proc_calls p + sum_by text.proc_calls ps = omega (arith, x, y) in
     e)
     ∙ sym (sum_by-cons text.proc_calls p ps)

@@ -40,9 +40,11 @@ source = record {
         at = 0;
         shared = true;
         name = named (codes "twice");
-        params = record { name = named (codes "f"); arity = Some 1 } ∷ record { name = named (codes "x"); arity = None } ∷ [];
+        params = record { name = named (codes "f"); arity = Some 1 }
+            ∷ record { name = named (codes "x"); arity = None } ∷ [];
         locals = [];
-        body = return 0 (call 0 (named (codes "f")) (value (call 0 (named (codes "f")) (value (var 0 (named (codes "x"))) no_args)) no_args)) ∷ [];
+        body = return 0 (call 0 (named (codes "f"))
+            (value (call 0 (named (codes "f")) (value (var 0 (named (codes "x"))) no_args)) no_args)) ∷ [];
       } ∷ [];
 }
 
@@ -50,17 +52,33 @@ lowered : Part
 lowered = record {
   name = codes "cb";
   stack = 65536;
-  header = record { code = 4096; data_base = 8192; closure = 10; returns = 11; return_count = 3; movable = false };
+  header = record {
+    code = 4096;
+    data_base = 8192;
+    closure = 10;
+    returns = 11;
+    return_count = 3;
+    movable = false;
+  };
   imports = record { part = codes "adv"; name = codes "go" } ∷ [];
   globals = [];
-  procs = record { name = codes "main"; shared = true; callbacks = []; locals = 0; need = 2; body = run.Halt (run.Call 0 (Imported 0) run.no_args) ∷ [] }
+  procs = record {
+    name = codes "main";
+    shared = true;
+    callbacks = [];
+    locals = 0;
+    need = 2;
+    body = run.Halt
+        (run.Call 0 (Imported 0) run.no_args) ∷ [];
+  }
       ∷ record {
         name = codes "twice";
         shared = true;
         callbacks = true ∷ false ∷ [];
         locals = 0;
         need = 6;
-        body = run.Return (run.Call 2 (Given 0) (run.value (run.Call 1 (Given 0) (run.value (run.Load (Local 2)) run.no_args)) run.no_args)) ∷ [];
+        body = run.Return (run.Call 2 (Given 0)
+            (run.value (run.Call 1 (Given 0) (run.value (run.Load (Local 2)) run.no_args)) run.no_args)) ∷ [];
       } ∷ [];
 }
 

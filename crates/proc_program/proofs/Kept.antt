@@ -12,25 +12,32 @@ use Rattle.proc_language.specs.declared.module.Global.{Global}
 use Rattle.proc_language.specs.declared.module.Param.{Param}
 use Rattle.proc_language.specs.declared.module.Proc.{Proc}
 use Rattle.proc_language.specs.declared.module.ModuleFields.{ModuleFields}
-use Rattle.proc_language.specs.Tree.{Expr, Args, Stmt, Block, number, var, element, call, op, no_args, value, proc}
-use Rattle.proc_language.specs.Tree.{set, set_at, do_call, if_then, if_else, while, return, halt, no_stmts, stmt}
+use Rattle.proc_language.specs.Tree.{Expr, Args, Stmt, Block, number, var, element, call, op, no_args, value}
+use Rattle.proc_language.specs.Tree.{proc}
+use Rattle.proc_language.specs.Tree.{set, set_at, do_call, if_then, if_else, while, return, halt, no_stmts}
+use Rattle.proc_language.specs.Tree.{stmt}
 use Rattle.proc_language.specs.StmtView.{block_of as stmts_of}
 use Rattle.proc_language.specs.Limits as language
-use Rattle.proc_language.specs.Limits.{Each, IsModule, ProcFits, GlobalFits, param_registers, params_registers}
+use Rattle.proc_language.specs.Limits.{Each, IsModule, ProcFits, GlobalFits, param_registers}
+use Rattle.proc_language.specs.Limits.{params_registers}
 use Rattle.proc_names.specs.declared.scope.Variable.{Variable}
 use Rattle.proc_names.specs.declared.scope.Variable.TheVariants as named
 use Rattle.proc_names.specs.declared.scope.Callee.{Callee}
 use Rattle.proc_names.specs.declared.scope.Callee.TheVariants as called
 use Rattle.proc_names.specs.Names.{variable_named, callee_named, passed_named}
 use Rattle.proc_names.specs.Calls.{calls, stmt_calls, block_calls, proc_calls}
-use Rattle.proc_program.specs.Lower.{words, words_in, word_at, place_by, row_by, handle_by, exp_of, args_of, step_of}
+use Rattle.proc_program.specs.Lower.{words, words_in, word_at, place_by, row_by, handle_by, exp_of, args_of}
+use Rattle.proc_program.specs.Lower.{step_of}
 use Rattle.proc_program.specs.Lower.{steps_of, procedure_of, procedures_of, globals_of, import_of, part_of}
-use Rattle.proc_program.specs.Limits.{VariableWithin, CalleeWithin, register_count, registers_of, arg_registers}
-use Rattle.proc_program.specs.Limits.{Scope, scope_of, PlaceFits, RowFits, HandleFits, ExpFits, ArgsFit, StepFits}
+use Rattle.proc_program.specs.Limits.{VariableWithin, CalleeWithin, register_count, registers_of}
+use Rattle.proc_program.specs.Limits.{arg_registers}
+use Rattle.proc_program.specs.Limits.{Scope, scope_of, PlaceFits, RowFits, HandleFits, ExpFits, ArgsFit}
+use Rattle.proc_program.specs.Limits.{StepFits}
 use Rattle.proc_program.specs.Limits.{BlockFits, ProcedureFits, ImportFits, IsPart}
 use Rattle.proc_program.specs.View.{args_of as args_view}
 use Rattle.proc_program.specs.StepView.{block_of as block_view}
-use Rattle.proc_program.proofs.Limits.{words_before, registers_before, variable_within, callee_within, passed_within}
+use Rattle.proc_program.proofs.Limits.{words_before, registers_before, variable_within, callee_within}
+use Rattle.proc_program.proofs.Limits.{passed_within}
 
 -- ---- lengths
 
@@ -116,12 +123,14 @@ module _ (m : ModuleFields) (limits : IsModule m) where
 
     -- ---- expressions and statements
 
-    registers_kept : (xs : Args) (n : ℕ) → arg_registers (args_view (args_of m p n xs)) ≡ language.arg_registers xs
+    registers_kept : (xs : Args) (n : ℕ)
+        → arg_registers (args_view (args_of m p n xs)) ≡ language.arg_registers xs
     registers_kept no_args n = refl
     registers_kept (value e xs) n = ap (λ k. k + 1) (registers_kept xs (n + calls e))
     registers_kept (proc f xs) n = ap (λ k. k + 2) (registers_kept xs n)
 
-    few : (xs : Args) (n : ℕ) → language.arg_registers xs ≤ 4 → arg_registers (args_view (args_of m p n xs)) ≤ 4
+    few : (xs : Args) (n : ℕ) → language.arg_registers xs ≤ 4
+        → arg_registers (args_view (args_of m p n xs)) ≤ 4
     few xs n h = let e = registers_kept xs n in omega (arith, e, h)
 
     mutual
@@ -140,7 +149,10 @@ module _ (m : ModuleFields) (limits : IsModule m) where
 
     mutual
       stmt_fits : (t : Stmt) (n : ℕ) → language.StmtFits t → StepFits s (step_of m p n t)
-      stmt_fits (set at x e) n w = (place_fits (variable_named m p x) (variable_within m p x), exp_fits e n w.1)
+      stmt_fits (set at x e) n w = (
+        place_fits (variable_named m p x) (variable_within m p x),
+        exp_fits e n w.1,
+      )
       stmt_fits (set_at at x i e) n w =
           (row_fits (variable_named m p x), exp_fits i n w.1, exp_fits e (n + calls i) w.2)
       stmt_fits (do_call at f xs) n w =
@@ -189,7 +201,8 @@ initial_fits (Some z) f = f
 
 globals_fit : (gs : List Global) → Each GlobalFits gs → Each (FitsSigned w64) (globals_of gs)
 globals_fit [] w = tt
-globals_fit (g ∷ gs) w = each_same (words g) _ (globals_of gs) (initial_fits g.initial w.0.2) (globals_fit gs w.1)
+globals_fit (g ∷ gs) w = each_same (words g) _ (globals_of gs) (initial_fits g.initial w.0.2)
+    (globals_fit gs w.1)
 
 pub part_fits : (m : ModuleFields) → IsModule m → IsPart (part_of m)
 unfolding s
