@@ -1,4 +1,5 @@
 -- Names of modules are names of components, and exports ascend where no name stands twice.
+use Rattle.std.proofs.lemmas.Bool.{and_parts}
 use Rattle.std.proofs.Common.{◌≡◌, ℕ, ◌+◌, ◌≤◌, Bool, true, false, List, [], ◌∷◌, ◌++◌, map, Option, Some}
 use Rattle.std.proofs.Common.{None, refl, sym, ap, ◌∙◌, subst, arith, true≢false}
 use Rattle.std.specs.Prelude.{if◌then◌else◌, not, option_map, IsTrue, sum_by}
@@ -28,13 +29,12 @@ use Rattle.proc_program.specs.Lower.{procedures_of, part_of}
 use Rattle.proc_program.specs.Limits.{scope_of, ProcedureFits}
 use Rattle.proc_templates.specs.Kept.{NoneNamed, NamesDiffer}
 use Rattle.proc_templates.specs.Compiled.{size_of_proc, export_into, exports_from}
-use Rattle.flow_check.proofs.Fitting.{and_left}
 
 -- ---- names
 
 pub name_too : (text : List ℕ) → IsTrue (is_name text) → IsTrue (part.is_name text)
 unfolding is_name
-name_too text h = and_left (part.is_name text) (not (is_reserved text)) h
+name_too text h = (and_parts (part.is_name text) (not (is_reserved text)) h).0
 
 -- ---- no name twice
 

@@ -1,4 +1,5 @@
 -- Items that stand in a component, and the walk over them.
+use Rattle.std.proofs.lemmas.Bool.{and_parts}
 use Rattle.std.proofs.Common.{◌≡◌, ℕ, ◌+◌, ◌≤◌, inl, true, List, [], ◌∷◌, ◌++◌, length, map, Some, None, refl}
 use Rattle.std.proofs.Common.{subst, arith, le-leb, ℤ, pos}
 use Rattle.std.proofs.lemmas.Int.{ints}
@@ -15,7 +16,6 @@ use Rattle.lcm_isa.specs.declared.Instr.TheVariants.{Halt, Jmp, Jnz, Move, Cca, 
 use Rattle.call_sequence.specs.Sequences.{distance}
 use Rattle.flow_check.specs.Flow.{led}
 use Rattle.flow_check.specs.Places.{declared}
-use Rattle.flow_check.proofs.Fitting.{and_left, and_right}
 use Rattle.proc_templates.specs.Items.{Spot, Item, does, guards, goes, goes_if, finishes, label, site, entry}
 use Rattle.proc_templates.specs.Items.{leaves, leading, zero_of, wiped, FAIL_AT}
 use Rattle.proc_templates.specs.Compiled.{label_row}
@@ -137,8 +137,8 @@ module _ (c : ComponentFields) where
   over_guarded o p (i ∷ is) h t g a =
       let e : o + 1 + 1 + length is ≡ o + 1 + length (i ∷ is) = omega arith in
       subst (Onward c) e (over_guarded (o + 1) p is h.1 t
-      (and_right (is_guarded i) (list_all is_guarded is) g)
-      (guarded_aims o p i h.0 t (and_left (is_guarded i) (list_all is_guarded is) g) a))
+      ((and_parts (is_guarded i) (list_all is_guarded is) g).1)
+      (guarded_aims o p i h.0 t ((and_parts (is_guarded i) (list_all is_guarded is) g).0) a))
 
   module _ (fails : c.fail_at ≡ Some FAIL_AT) where
     over_guards : (o : ℕ) (is : List Instr)
@@ -173,5 +173,5 @@ module _ (c : ComponentFields) where
         → Onward c o → Onward c (after o xs)
     over_all spot o [] h g on = on
     over_all spot o (x ∷ xs) h g on =
-        over_all spot (behind o x) xs h.1 (and_right (is_free x) (list_all is_free xs) g)
-        (over_free spot o x h.0 (and_left (is_free x) (list_all is_free xs) g) on)
+        over_all spot (behind o x) xs h.1 ((and_parts (is_free x) (list_all is_free xs) g).1)
+        (over_free spot o x h.0 ((and_parts (is_free x) (list_all is_free xs) g).0) on)

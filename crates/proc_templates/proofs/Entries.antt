@@ -1,4 +1,5 @@
 -- Where entries, sites and declared rows of the component stand.
+use Rattle.std.proofs.lemmas.Bool.{and_parts}
 use Rattle.std.proofs.Common.{◌≡◌, ℕ, ◌+◌, ◌-◌, Bool, true, false, List, [], ◌∷◌, ◌++◌, length, map, Some}
 use Rattle.std.proofs.Common.{None, refl, sym, ap, ◌∙◌}
 use Rattle.std.specs.Prelude.{◌||◌, ◌==◌, if◌then◌else◌, option_map}
@@ -14,7 +15,6 @@ use Rattle.proc_program.specs.Program.{Step, Set, SetAt, Do, If, While, Return, 
 use Rattle.proc_program.specs.Limits.{registers_of}
 use Rattle.proc_program.specs.StepView.{block_of}
 use Rattle.flow_check.specs.Places.{begins_entry, begins_site, declared}
-use Rattle.flow_check.proofs.Fitting.{and_left, and_right}
 use Rattle.proc_templates.specs.Items.{Spot, Item, does, guards, goes, goes_if, finishes, label, site, entry}
 use Rattle.proc_templates.specs.Items.{leaves, Laid, put, lay, zero_of}
 use Rattle.proc_templates.specs.declared.Frame.{Frame}
@@ -39,14 +39,14 @@ AllInner xs = list_all is_inner xs ≡ true
 
 inner_both : (a b : List Item) → AllInner a → AllInner b → AllInner (a ++ b)
 inner_both [] b x y = y
-inner_both (i ∷ a) b x y = rw (and_left (is_inner i) (list_all is_inner a) x)
-    (inner_both a b (and_right (is_inner i) (list_all is_inner a) x) y)
+inner_both (i ∷ a) b x y = rw ((and_parts (is_inner i) (list_all is_inner a) x).0)
+    (inner_both a b ((and_parts (is_inner i) (list_all is_inner a) x).1) y)
 
 free_inner : (xs : List Item) → AllFree xs → AllInner xs
 unfolding is_free
 free_inner [] e = refl
-free_inner (does i ∷ xs) e = free_inner xs (and_right (ends_or_goes i) (list_all is_free xs) e)
-free_inner (guards is ∷ xs) e = free_inner xs (and_right (list_all is_guarded is) (list_all is_free xs) e)
+free_inner (does i ∷ xs) e = free_inner xs ((and_parts (ends_or_goes i) (list_all is_free xs) e).1)
+free_inner (guards is ∷ xs) e = free_inner xs ((and_parts (list_all is_guarded is) (list_all is_free xs) e).1)
 free_inner (goes far ∷ xs) e = cc
 free_inner (goes_if far r ∷ xs) e = cc
 free_inner (finishes ∷ xs) e = cc

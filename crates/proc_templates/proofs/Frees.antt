@@ -1,4 +1,5 @@
 -- Expressions and the parts of a procedure's beginning and end need nothing of their surroundings.
+use Rattle.std.proofs.lemmas.Bool.{and_parts}
 use Rattle.std.proofs.Common.{◌≡◌, ℕ, zero, suc, ◌+◌, Bool, true, false, List, [], ◌∷◌, ◌++◌, length, drop}
 use Rattle.std.proofs.Common.{refl, ap}
 use Rattle.std.specs.List.{list_all}
@@ -9,7 +10,6 @@ use Rattle.proc_language.specs.declared.tree.Op.{Op}
 use Rattle.proc_language.specs.declared.tree.Op.TheVariants as operator
 use Rattle.proc_program.specs.Program.{Exp, Number, Load, Element, Call, Binary, Args, no_args, value, pass}
 use Rattle.proc_program.specs.Limits.{register_count, arg_registers}
-use Rattle.flow_check.proofs.Fitting.{and_left, and_right}
 use Rattle.proc_templates.specs.Items.{Item}
 use Rattle.proc_program.specs.declared.program.Place.{Place}
 use Rattle.proc_program.specs.declared.program.Place.TheVariants.{Local, Global}
@@ -28,8 +28,8 @@ AllFree xs = list_all is_free xs ≡ true
 
 pub all_both : (a b : List Item) → AllFree a → AllFree b → AllFree (a ++ b)
 all_both [] b x y = y
-all_both (i ∷ a) b x y = rw (and_left (is_free i) (list_all is_free a) x)
-    (all_both a b (and_right (is_free i) (list_all is_free a) x) y)
+all_both (i ∷ a) b x y = rw ((and_parts (is_free i) (list_all is_free a) x).0)
+    (all_both a b ((and_parts (is_free i) (list_all is_free a) x).1) y)
 
 pub arg_low : (i : ℕ) → is_low (argument i) ≡ true
 arg_low zero = refl
@@ -69,8 +69,8 @@ op_free operator.Equal = refl
 zeros_free : (rs : List Reg) → list_all is_low rs ≡ true → AllFree (zeros rs)
 unfolding is_free ends_or_goes is_quiet
 zeros_free [] e = refl
-zeros_free (r ∷ rs) e = rw (and_left (is_low r) (list_all is_low rs) e)
-    (zeros_free rs (and_right (is_low r) (list_all is_low rs) e))
+zeros_free (r ∷ rs) e = rw ((and_parts (is_low r) (list_all is_low rs) e).0)
+    (zeros_free rs ((and_parts (is_low r) (list_all is_low rs) e).1))
 
 drop_none : (n : ℕ) → drop {A = Reg} n [] ≡ []
 drop_none zero = refl
@@ -138,8 +138,8 @@ params_free (b ∷ bs) i = rw (param_free i b) (params_free bs (i + register_cou
 pub push_free : (rs : List Reg) → list_all is_low rs ≡ true → AllFree (push rs)
 unfolding is_free ends_or_goes is_quiet
 push_free [] e = refl
-push_free (r ∷ rs) e = rw (and_left (is_low r) (list_all is_low rs) e)
-    (push_free rs (and_right (is_low r) (list_all is_low rs) e))
+push_free (r ∷ rs) e = rw ((and_parts (is_low r) (list_all is_low rs) e).0)
+    (push_free rs ((and_parts (is_low r) (list_all is_low rs) e).1))
 
 pub wipe_free : (n : ℕ) → AllFree (wipe n)
 unfolding is_free ends_or_goes is_quiet

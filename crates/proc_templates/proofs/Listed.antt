@@ -25,8 +25,7 @@ use Rattle.flow_check.specs.Places.{begins_entry, begins_site, declared, in_site
 use Rattle.flow_check.specs.Lists.{k1, k2, k3, k4, site_of, site_is_bad, overlap, meets_entry, meets_site}
 use Rattle.flow_check.specs.Lists.{entry_is_bad, row_offset, of_entry, is_misplaced, lists}
 use Rattle.flow_check.specs.Verdict.{IsKept}
-use Rattle.flow_check.proofs.Fitting.{and_left, and_right}
-use Rattle.std.proofs.lemmas.Bool.{cases_lt}
+use Rattle.std.proofs.lemmas.Bool.{and_parts, cases_lt}
 use Rattle.std.proofs.lemmas.Option.{slice_get_within}
 use Rattle.proc_templates.specs.Items.{FAIL_AT, LITERAL_AT, word_of}
 use Rattle.proc_templates.specs.Compiled.{label_row, row_at_label, laid_of, component_of}
@@ -211,10 +210,10 @@ module _ (m : Part) (ready : AllReady m m.procs) (most : length (laid_of m).code
       by : (x : Export) → list_any (λ e. e.offset == x.offset) c.exports ≡ true
           → (not (x.offset == o) && overlap x.offset ENTRY_WORDS o ENTRY_WORDS) ≡ false
       by x there_x' = false_of _ (λ e.
-          let ne : (x.offset == o) ≡ false = not_false (x.offset == o) (and_left (not (x.offset == o)) _ e) in
-          let ov = and_right (not (x.offset == o)) _ e in
-          let lo = ltb-true x.offset (o + ENTRY_WORDS) (and_left _ _ ov) in
-          let hi = ltb-true o (x.offset + ENTRY_WORDS) (and_right (nat_lt x.offset (o + ENTRY_WORDS)) _ ov) in
+          let ne : (x.offset == o) ≡ false = not_false (x.offset == o) ((and_parts (not (x.offset == o)) _ e).0) in
+          let ov = (and_parts (not (x.offset == o)) _ e).1 in
+          let lo = ltb-true x.offset (o + ENTRY_WORDS) ((and_parts _ _ ov).0) in
+          let hi = ltb-true o (x.offset + ENTRY_WORDS) ((and_parts (nat_lt x.offset (o + ENTRY_WORDS)) _ ov).1) in
           elim (cases_lt o x.offset) as (λ _. ⊥) [
             | inl up ↦ true≢false (sym there_x' ∙ (entry_at o lt h).within.entry x.offset up lo)
             | inr down ↦ elim (cases_lt x.offset o) as (λ _. ⊥) [
@@ -233,8 +232,8 @@ module _ (m : Part) (ready : AllReady m m.procs) (most : length (laid_of m).code
       by : (j x : ℕ) → slice_get c.sites j ≡ Some x → list_any (λ s. s == x) c.sites ≡ true
           → overlap x SITE_WORDS o ENTRY_WORDS ≡ false
       by j x g here = false_of _ (λ ov.
-          let lo = ltb-true x (o + ENTRY_WORDS) (and_left _ _ ov) in
-          let hi = ltb-true o (x + SITE_WORDS) (and_right (nat_lt x (o + ENTRY_WORDS)) _ ov) in
+          let lo = ltb-true x (o + ENTRY_WORDS) ((and_parts _ _ ov).0) in
+          let hi = ltb-true o (x + SITE_WORDS) ((and_parts (nat_lt x (o + ENTRY_WORDS)) _ ov).1) in
           let t = entry_at o lt h in
           let g' : slice_get (laid_of m).sites j ≡ Some x =
           subst (λ xs. slice_get xs j ≡ Some x) same_sites g in
@@ -258,9 +257,9 @@ module _ (m : Part) (ready : AllReady m m.procs) (most : length (laid_of m).code
   kept_3 : (o : ℕ) → (begins_entry c o && entry_is_bad c o) ≡ false
   unfolding entry_is_bad
   kept_3 o = false_of _ (λ e.
-      let h = and_left (begins_entry c o) _ e in
+      let h = (and_parts (begins_entry c o) _ e).0 in
       let lt = exports_inside o h in
-      let bad = and_right (begins_entry c o) _ e in
+      let bad = (and_parts (begins_entry c o) _ e).1 in
       let s : not (is_entry c o) ≡ false = ap not (entry_stands o (entry_at o lt h)) in
       true≢false (sym bad ∙ or_both (not (is_entry c o)) (meets_entry c o || meets_site c o) s
       (or_both (meets_entry c o) (meets_site c o) (no_entry_near o lt h) (no_site_near o lt h))))
@@ -299,8 +298,8 @@ module _ (m : Part) (ready : AllReady m m.procs) (most : length (laid_of m).code
       by : (e : Export) → list_any (λ (y : Export). y.offset == e.offset) c.exports ≡ true
           → (nat_le e.offset x && nat_lt x (e.offset + ENTRY_WORDS)) ≡ false
       by e here = false_of _ (λ h.
-          let lo = leb-true e.offset x (and_left _ _ h) in
-          let hi = ltb-true x (e.offset + ENTRY_WORDS) (and_right (nat_le e.offset x) _ h) in
+          let lo = leb-true e.offset x ((and_parts _ _ h).0) in
+          let hi = ltb-true x (e.offset + ENTRY_WORDS) ((and_parts (nat_le e.offset x) _ h).1) in
           let t = entry_at e.offset (omega (arith, lo, lt)) here in
           elim (cases_lt e.offset x) as (λ _. ⊥) [
             | inl below ↦ some_no label_row (sym d ∙ t.within.label x below hi)
@@ -311,8 +310,8 @@ module _ (m : Part) (ready : AllReady m m.procs) (most : length (laid_of m).code
   outside_sites : (x : ℕ) → declared c x ≡ Some label_row → in_site c x ≡ false
   unfolding in_site
   outside_sites x d = any_false _ c.sites (λ j s g. false_of _ (λ h.
-      let lo = ltb-true s x (and_left _ _ h) in
-      let hi = ltb-true x (s + SITE_WORDS) (and_right (nat_lt s x) _ h) in
+      let lo = ltb-true s x ((and_parts _ _ h).0) in
+      let hi = ltb-true x (s + SITE_WORDS) ((and_parts (nat_lt s x) _ h).1) in
       let g' : slice_get (laid_of m).sites j ≡ Some s = subst (λ xs. slice_get xs j ≡ Some s) same_sites g in
       some_no label_row (sym d ∙ (there.sites j s g').within.label x lo hi)))
 

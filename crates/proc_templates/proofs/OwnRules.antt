@@ -1,4 +1,5 @@
 -- The component keeps the rules of its own slots, exports and words.
+use Rattle.std.proofs.lemmas.Bool.{and_parts}
 use Rattle.std.proofs.Common.{◌≡◌, ℕ, zero, suc, ◌+◌, ◌-◌, ◌*◌, ◌<◌, ◌≤◌, Bool, true, false, List, [], ◌∷◌}
 use Rattle.std.proofs.Common.{◌++◌, length, map, Option, Some, None, refl, sym, ap, ◌∙◌, subst, arith}
 use Rattle.std.proofs.Common.{append_assoc, length-append, le-ltb, le-leb, lt-ltb, eqb-true, eq-eqb, ne_eqb}
@@ -25,7 +26,6 @@ use Rattle.proc_program.specs.declared.program.Part.{Part}
 use Rattle.proc_program.specs.declared.program.Import as program
 use Rattle.proc_program.specs.declared.program.Procedure.{Procedure}
 use Rattle.flow_check.specs.Places.{begins_entry}
-use Rattle.flow_check.proofs.Fitting.{and_left, and_right}
 use Rattle.proc_templates.specs.Items.{Spot, Item, Laid, instrs, put, lay, word_of}
 use Rattle.proc_templates.specs.Templates.{proc_code}
 use Rattle.proc_program.specs.StepView.{block_of}
@@ -47,8 +47,8 @@ AllInts ws = list_all is_int_word ws ≡ true
 
 ints_both : (a b : List Word) → AllInts a → AllInts b → AllInts (a ++ b)
 ints_both [] b x y = y
-ints_both (w ∷ a) b x y = rw (and_left (is_int_word w) (list_all is_int_word a) x)
-    (ints_both a b (and_right (is_int_word w) (list_all is_int_word a) x) y)
+ints_both (w ∷ a) b x y = rw ((and_parts (is_int_word w) (list_all is_int_word a) x).0)
+    (ints_both a b ((and_parts (is_int_word w) (list_all is_int_word a) x).1) y)
 
 instrs_ints : (is : List Instr) → AllInts (map word_of is)
 instrs_ints [] = refl
@@ -105,14 +105,14 @@ data_ints m = ints_both (replicate (pair_count m) (Int (pos 0))) (map int_word m
 int_at : (test : Word → Bool) → ((z : ℤ) → test (Int z) ≡ false) → (ws : List Word) → AllInts ws → (i : ℕ)
     → holds_of test (slice_get ws i) ≡ false
 int_at test f [] e i = refl
-int_at test f (w ∷ ws) e zero = by w (and_left (is_int_word w) (list_all is_int_word ws) e)
+int_at test f (w ∷ ws) e zero = by w ((and_parts (is_int_word w) (list_all is_int_word ws) e).0)
   where
     by : (w : Word) → is_int_word w ≡ true → test w ≡ false
     by (Int z) e = f z
     by (Mem x) e = cc
     by (Seal x) e = cc
     by (Sealed o x) e = cc
-int_at test f (w ∷ ws) e (suc i) = int_at test f ws (and_right (is_int_word w) (list_all is_int_word ws) e) i
+int_at test f (w ∷ ws) e (suc i) = int_at test f ws ((and_parts (is_int_word w) (list_all is_int_word ws) e).1) i
 
 -- ---- slots
 

@@ -1,4 +1,5 @@
 -- The walk over a procedure.
+use Rattle.std.proofs.lemmas.Bool.{and_parts}
 use Rattle.std.proofs.Common.{◌≡◌, ℕ, zero, suc, ◌+◌, ◌-◌, ◌*◌, ◌≤◌, Bool, true, false, List, [], ◌∷◌, ◌++◌}
 use Rattle.std.proofs.Common.{length, take, Some, None, refl, sym, ap, ◌∙◌, subst, arith, length-append}
 use Rattle.std.specs.Prelude.{replicate}
@@ -13,7 +14,6 @@ use Rattle.proc_program.specs.Limits.{register_count, registers_of}
 use Rattle.flow_check.specs.declared.walking.Walk.TheVariants.{Before as before}
 use Rattle.flow_check.specs.Places.{declared}
 use Rattle.flow_check.specs.Walk.{Comes}
-use Rattle.flow_check.proofs.Fitting.{and_left, and_right}
 use Rattle.proc_templates.specs.declared.Frame.{Frame}
 use Rattle.proc_templates.specs.Items.{Spot, Item, does, label, entry, leaves, zero_of, FAIL_AT}
 use Rattle.proc_templates.specs.Templates.{block_words, block_code, arguments, check_words, checks_words}
@@ -83,8 +83,8 @@ all_low rs = list_all is_low rs ≡ true
 low_both : (a b : List Reg) → list_all is_low a ≡ true → list_all is_low b ≡ true
     → list_all is_low (a ++ b) ≡ true
 low_both [] b x y = y
-low_both (r ∷ a) b x y = rw (and_left (is_low r) (list_all is_low a) x)
-    (low_both a b (and_right (is_low r) (list_all is_low a) x) y)
+low_both (r ∷ a) b x y = rw ((and_parts (is_low r) (list_all is_low a) x).0)
+    (low_both a b ((and_parts (is_low r) (list_all is_low a) x).1) y)
 
 take_none : (n : ℕ) → take {A = Reg} n [] ≡ []
 take_none zero = refl

@@ -1,4 +1,5 @@
 -- Rows that are below the one at labels, and what instructions do to them.
+use Rattle.std.proofs.lemmas.Bool.{and_parts}
 use Rattle.std.proofs.Common.{◌≡◌, ◌≢◌, ℕ, zero, suc, ◌-◌, Bool, true, false, [], ◌∷◌, length, Some, None}
 use Rattle.std.proofs.Common.{refl, sym, ap, ◌∙◌, subst, arith, get_or-set_other, get_or-set_same}
 use Rattle.std.specs.Prelude.{◌&&◌, not, slice_index_or, slice_set}
@@ -20,7 +21,6 @@ use Rattle.flow_check.specs.declared.judging.Flow.{Flow}
 use Rattle.flow_check.specs.declared.judging.Flow.TheVariants.{Flows as flows}
 use Rattle.flow_check.specs.Flow.{flow, ask, into, source, is_top, is_area, seen, seen_operand, taken}
 use Rattle.flow_check.specs.Flow.{take_from, gets, on, cca_of}
-use Rattle.flow_check.proofs.Fitting.{and_left, and_right}
 use Rattle.proc_templates.specs.Compiled.{label_row}
 use Rattle.proc_templates.specs.Ready.{is_low, is_low_operand, leads_to_area, is_quiet}
 
@@ -31,25 +31,25 @@ below-get : (rs ls : Row) (n : ℕ) → row_below rs ls ≡ true
 below-get [] [] n e = refl
 below-get [] (l ∷ ls) n e = cc
 below-get (r ∷ rs) [] n e = cc
-below-get (r ∷ rs) (l ∷ ls) zero e = and_left (kind_below r l) (row_below rs ls) e
-below-get (r ∷ rs) (l ∷ ls) (suc n) e = below-get rs ls n (and_right (kind_below r l) (row_below rs ls) e)
+below-get (r ∷ rs) (l ∷ ls) zero e = (and_parts (kind_below r l) (row_below rs ls) e).0
+below-get (r ∷ rs) (l ∷ ls) (suc n) e = below-get rs ls n ((and_parts (kind_below r l) (row_below rs ls) e).1)
 
 below-set : (rs ls : Row) (n : ℕ) (k : Kind) → row_below rs ls ≡ true
     → kind_below k (slice_index_or ls n kind.Top) ≡ true → row_below (slice_set rs n k) ls ≡ true
 below-set [] [] n k e h = refl
 below-set [] (l ∷ ls) n k e h = cc
 below-set (r ∷ rs) [] n k e h = cc
-below-set (r ∷ rs) (l ∷ ls) zero k e h = rw h (and_right (kind_below r l) (row_below rs ls) e)
+below-set (r ∷ rs) (l ∷ ls) zero k e h = rw h ((and_parts (kind_below r l) (row_below rs ls) e).1)
 below-set (r ∷ rs) (l ∷ ls) (suc n) k e h =
-    rw (and_left (kind_below r l) (row_below rs ls) e)
-    (below-set rs ls n k (and_right (kind_below r l) (row_below rs ls) e) h)
+    rw ((and_parts (kind_below r l) (row_below rs ls) e).0)
+    (below-set rs ls n k ((and_parts (kind_below r l) (row_below rs ls) e).1) h)
 
 below-length : (rs ls : Row) → row_below rs ls ≡ true → length rs ≡ length ls
 below-length [] [] e = refl
 below-length [] (l ∷ ls) e = cc
 below-length (r ∷ rs) [] e = cc
 below-length (r ∷ rs) (l ∷ ls) e =
-    ap suc (below-length rs ls (and_right (kind_below r l) (row_below rs ls) e))
+    ap suc (below-length rs ls ((and_parts (kind_below r l) (row_below rs ls) e).1))
 
 -- ---- rows below the one at labels
 
@@ -284,12 +284,12 @@ module _ (o : ℕ) (row : Row) (w : Works row) where
   three : (r1 r2 : Reg) (n : Operand) → (is_low r1 && (is_low r2 && is_low_operand n)) ≡ true
       → into r1 (ask 6 (seen o row r2 && seen_operand o row n) (gets row r1 kind.Int)) ≡ gets row r1 kind.Int
   three r1 r2 n e =
-      let e1 = and_left (is_low r1) (is_low r2 && is_low_operand n) e in
-      let e2 = and_right (is_low r1) (is_low r2 && is_low_operand n) e in
+      let e1 = (and_parts (is_low r1) (is_low r2 && is_low_operand n) e).0 in
+      let e2 = (and_parts (is_low r1) (is_low r2 && is_low_operand n) e).1 in
       into_low r1 _ e1 ∙ asked 6 _ _
       (both_true (seen o row r2) (seen_operand o row n)
-      (low-seen o row r2 w (and_left (is_low r2) (is_low_operand n) e2))
-      (low-operand o row n w (and_right (is_low r2) (is_low_operand n) e2)))
+      (low-seen o row r2 w ((and_parts (is_low r2) (is_low_operand n) e2).0))
+      (low-operand o row n w ((and_parts (is_low r2) (is_low_operand n) e2).1)))
 
   on_area : (k : Kind) (r : Reg) (n : Operand) → is_area k ≡ true → cca_of row r k n ≡ on row
   on_area kind.Any r n e = cc
@@ -338,21 +338,21 @@ module _ (o : ℕ) (row : Row) (w : Works row) where
   quiet_goes (Jmp r1) e = cc
   quiet_goes (Jnz r1 r2) e = cc
   quiet_goes (Gettype r1 r2) e =
-      got _ r1 kind.Int (and_left (is_low r1) (is_low r2) e) refl
-      (into_low r1 _ (and_left (is_low r1) (is_low r2) e)
-      ∙ asked 6 _ _ (low-seen o row r2 w (and_right (is_low r1) (is_low r2) e)))
+      got _ r1 kind.Int ((and_parts (is_low r1) (is_low r2) e).0) refl
+      (into_low r1 _ ((and_parts (is_low r1) (is_low r2) e).0)
+      ∙ asked 6 _ _ (low-seen o row r2 w ((and_parts (is_low r1) (is_low r2) e).1)))
   quiet_goes (Geta r1 r2) e = cc
   quiet_goes (Getb r1 r2) e = cc
   quiet_goes (Gete r1 r2) e = cc
   quiet_goes (Getp r1 r2) e = cc
-  quiet_goes (Getlin r1 r2) e = got _ r1 kind.Int (and_left (is_low r1) (is_low r2) e) refl
-      (into_low r1 _ (and_left (is_low r1) (is_low r2) e)
-      ∙ asked 6 _ _ (low-seen o row r2 w (and_right (is_low r1) (is_low r2) e)))
-  quiet_goes (Move r1 n) e = moves r1 n (and_left (is_low r1) (is_low_operand n) e)
-      (and_right (is_low r1) (is_low_operand n) e)
+  quiet_goes (Getlin r1 r2) e = got _ r1 kind.Int ((and_parts (is_low r1) (is_low r2) e).0) refl
+      (into_low r1 _ ((and_parts (is_low r1) (is_low r2) e).0)
+      ∙ asked 6 _ _ (low-seen o row r2 w ((and_parts (is_low r1) (is_low r2) e).1)))
+  quiet_goes (Move r1 n) e = moves r1 n ((and_parts (is_low r1) (is_low_operand n) e).0)
+      ((and_parts (is_low r1) (is_low_operand n) e).1)
   quiet_goes (Store r1 r2) e =
-      let e1 = and_left (leads_to_area r1) (is_low r2) e in
-      let e2 = and_right (leads_to_area r1) (is_low r2) e in
+      let e1 = (and_parts (leads_to_area r1) (is_low r2) e).0 in
+      let e2 = (and_parts (leads_to_area r1) (is_low r2) e).1 in
       record {
         after = take_from row r2;
         is = asked 6 _ _ (both_true _ _ (area-kind o row r1 w e1)
@@ -361,23 +361,23 @@ module _ (o : ℕ) (row : Row) (w : Works row) where
         t2 = takes-t2 r2 e2;
       }
   quiet_goes (Load r1 r2) e =
-      let e1 = and_left (is_low r1) (leads_to_area r2) e in
+      let e1 = (and_parts (is_low r1) (leads_to_area r2) e).0 in
       got _ r1 kind.Any e1 refl (into_low r1 _ e1
-      ∙ asked 6 _ _ (area-kind o row r2 w (and_right (is_low r1) (leads_to_area r2) e)))
+      ∙ asked 6 _ _ (area-kind o row r2 w ((and_parts (is_low r1) (leads_to_area r2) e).1)))
   quiet_goes (Cca r1 n) e =
-      let e1 = and_left (leads_to_area r1) (is_low_operand n) e in
+      let e1 = (and_parts (leads_to_area r1) (is_low_operand n) e).0 in
       record {
         after = row;
         is = asked 5 _ _ (ap not (no_pc_area r1 e1))
-            ∙ asked 6 _ _ (low-operand o row n w (and_right (leads_to_area r1) (is_low_operand n) e))
+            ∙ asked 6 _ _ (low-operand o row n w ((and_parts (leads_to_area r1) (is_low_operand n) e).1))
             ∙ on_area (kind_of row r1) r1 n (area-kind_of r1 e1);
         works = w;
         t2 = refl;
       }
   quiet_goes (Restrict r1 n) e = cc
-  quiet_goes (Lt r1 r2 n) e = got _ r1 kind.Int (and_left (is_low r1) _ e) refl (three r1 r2 n e)
-  quiet_goes (Plus r1 r2 n) e = got _ r1 kind.Int (and_left (is_low r1) _ e) refl (three r1 r2 n e)
-  quiet_goes (Minus r1 r2 n) e = got _ r1 kind.Int (and_left (is_low r1) _ e) refl (three r1 r2 n e)
+  quiet_goes (Lt r1 r2 n) e = got _ r1 kind.Int ((and_parts (is_low r1) _ e).0) refl (three r1 r2 n e)
+  quiet_goes (Plus r1 r2 n) e = got _ r1 kind.Int ((and_parts (is_low r1) _ e).0) refl (three r1 r2 n e)
+  quiet_goes (Minus r1 r2 n) e = got _ r1 kind.Int ((and_parts (is_low r1) _ e).0) refl (three r1 r2 n e)
   quiet_goes (Seta2b r1) e = cc
   quiet_goes (Xjmp r1 r2) e = cc
   quiet_goes (Cseal r1 r2) e = cc
