@@ -1,5 +1,6 @@
 -- The cause of every status.
-use Rattle.std.proofs.Common.{◌≡◌, ◌≢◌, ℕ, zero, suc, ◌⊎◌, ◌+◌, List, Option, Some, None, refl, sym, ap, subst, ◌∙◌}
+use Rattle.std.proofs.Common.{◌≡◌, ◌≢◌, ℕ, zero, suc, ◌⊎◌, ◌+◌, List, Option, Some, None, refl, sym, ap}
+use Rattle.std.proofs.Common.{subst, ◌∙◌}
 use Rattle.std.proofs.Common.{inl, inr, true, false}
 use Rattle.std.specs.Prelude.{Result, Ok, Err, Bool, ℤ, nat_lt, if◌then◌else◌}
 use Rattle.outside_io.specs.Counts.{Rose}
@@ -31,13 +32,15 @@ use Rattle.lcm_cli.specs.declared.refusal.Refusal.{Refusal}
 use Rattle.lcm_cli.specs.declared.refusal.Refusal.TheVariants as refusal
 use Rattle.lcm_cli.specs.declared.status.Status.{Status}
 use Rattle.lcm_cli.specs.declared.status.Status.TheVariants as status
+use Rattle.lcm_cli.specs.declared.source.SourceFault.{SourceFault}
 use Rattle.lcm_cli.specs.Refusals.{refusal_status, image_status}
 use Rattle.lcm_cli.specs.Plans.{Plan, Reads, Ends, Made, Comes}
 use Rattle.lcm_cli.specs.Commands.{Task, Run, Trace, Put, Write, plan_in, is_command}
 use Rattle.lcm_cli.specs.Answers.{Answer, Outside, end_status, writes, ran, traced, refused, IsAnswerOf}
 use Rattle.lcm_cli.specs.Answers.{IsPut}
 use Rattle.lcm_cli.specs.Answers.{whole, unput, unwritten, Answers, answer, nothing}
-use Rattle.lcm_cli.specs.Causes.{IsTurn, IsUnread, IsLong, IsUndecoded, IsUnassembled, IsUnloaded, Breaks}
+use Rattle.lcm_cli.specs.Causes.{IsTurn, IsUnread, IsLong, IsUndecoded, IsUncompiled, IsUnassembled}
+use Rattle.lcm_cli.specs.Causes.{IsUnloaded, Breaks}
 use Rattle.lcm_cli.specs.Causes.{Runs}
 use Rattle.lcm_cli.specs.Causes.{Traces, PutsFile, Tells, out_of, Wrote, Causes, Promised}
 use Rattle.lcm_cli.proofs.Why.{WhyIs, why_is, unplanned}
@@ -105,7 +108,9 @@ Caused asked old new status.TooLong =
 Caused asked old new status.AsmRefused =
     (index : ℕ) × (f : AsmFault) × Wrote (refusal.Assembly index f) old new
     × IsUnassembled (plan_in asked) old.files index f new.files
-Caused asked old new status.SourceRefused = ⊥
+Caused asked old new status.SourceRefused =
+    (index : ℕ) × (f : SourceFault) × Wrote (refusal.Source index f) old new
+    × IsUncompiled (plan_in asked) old.files index f new.files
 Caused asked old new status.FileRefused =
     ((index : ℕ) × (f : FileFault) × Wrote (refusal.File index f) old new
     × IsUndecoded (plan_in asked) old.files index f new.files)
@@ -156,6 +161,7 @@ err_caused asked old new refusal.Usage h w = h
 err_caused asked old new refusal.ReadFault h w = (unread_rose (plan_in asked) old.files new.files h, h)
 err_caused asked old new (refusal.TooLong index) h w = (index, w, h)
 err_caused asked old new (refusal.Assembly index f) h w = (index, f, w, h)
+err_caused asked old new (refusal.Source index f) h w = (index, f, w, h)
 err_caused asked old new (refusal.File index f) h w = inl (index, f, w, h)
 err_caused asked old new (refusal.Rule r) h w = (r, w, inl h)
 err_caused asked old new (refusal.Image f) h w = image_caused asked old new f h w
@@ -222,7 +228,7 @@ causes asked old ended new c = record {
   asm_refused = λ e. subst (Caused asked old new) e c;
   file_refused = λ e. subst (Caused asked old new) e c;
   rule_broken = λ e. subst (Caused asked old new) e c;
-  no_source = λ e. subst (Caused asked old new) e c;
+  source_refused = λ e. subst (Caused asked old new) e c;
 }
 
 pub promised : (asked : Option Command) (old : Outside) (ended : Status) (new : Outside)

@@ -1,7 +1,6 @@
 -- Where plans end, and how they never do.
-use Rattle.std.proofs.Common.{◌≡◌, ◌≢◌, ℕ, ◌+◌, ◌⊎◌, List, [], ◌∷◌, refl, sym, subst, inl, inr, true, false}
+use Rattle.std.proofs.Common.{◌≡◌, ◌≢◌, ℕ, ◌+◌, ◌⊎◌, List, [], ◌∷◌, refl, sym, subst, inl, inr}
 use Rattle.std.specs.Prelude.{Result, Ok, Err}
-use Rattle.std.specs.List.{list_all}
 use Rattle.outside_io.specs.FilesSeen.{FilesSeen}
 use Rattle.command_words.specs.declared.part.Ending.{Ending}
 use Rattle.command_words.specs.declared.part.Ending.TheVariants.{Source, Assembler, Component}
@@ -17,8 +16,8 @@ use Rattle.lcm_cli.specs.declared.refusal.Refusal.TheVariants as refusal
 use Rattle.lcm_cli.specs.Plans.{Plan, Reads, Ends, Made, ◌>>=◌, unless, whole, too_long, unread, Comes}
 use Rattle.lcm_cli.specs.Parts.{is_trusted, broken_in, linked, loaded, form_by, component_at, part_at}
 use Rattle.lcm_cli.specs.Parts.{each_at}
-use Rattle.lcm_cli.specs.Commands.{is_source, is_built_form, linked_parts, linked_image}
-use Rattle.lcm_cli.proofs.BuiltParts.{and_left, and_right, no_source}
+use Rattle.lcm_cli.specs.Sources.{sourced}
+use Rattle.lcm_cli.specs.Commands.{linked_parts, linked_image}
 use Rattle.lcm_cli.proofs.Linking.{image_with}
 
 -- what comes of two plans that are joined
@@ -56,9 +55,6 @@ Never p why = (old new : FilesSeen) → Comes p old (Err why) new → ⊥
 pub not_made : {A : Type 0} (x : A) (why : Refusal) → Never (Made x) why
 not_made x why old new h = absurd (let e = h.0 in cc)
 
-never_ends : {A : Type 0} (w why : Refusal) → w ≢ why → Never (let p : Plan A = Ends w in p) why
-never_ends {A} w why differ old new h = differ (sym (same_err {A = A} w why (sym h.0)))
-
 pub never_unless : {A F : Type 0} (told : F → Refusal) (r : Result A F) (why : Refusal)
     → ((f : F) → told f ≢ why) → Never (unless told r) why
 never_unless told r why differ old new h = let e = ended_unless told r old new why h in differ e.0 (sym e.2)
@@ -80,7 +76,7 @@ never_reads {A} name index next why long fault rest = by
     by old new (too_long t e) = long (sym (same_err {A = A} (refusal.TooLong index) why (sym e)))
     by old new (unread t e) = fault (sym (same_err {A = A} refusal.ReadFault why (sym e)))
 
--- ---- how no part of words ends, where it is built: as words that are no command, or as an image
+-- ---- how no part of words ends: as words that are no command, or as an image
 
 abbrev pub Foreign : Refusal → Type 0
 Foreign refusal.Usage = Unit {0}
@@ -90,51 +86,57 @@ Foreign _ = ⊥
 foreign : (x why : Refusal) → Foreign why → x ≡ why → Foreign x
 foreign x why h e = subst Foreign (sym e) h
 
-never_form : (why : Refusal) → Foreign why → (ending : Ending) (name : List ℕ) (index : ℕ) → is_source ending
-    ≡ false → Never (let p : Plan _ = Reads name index (form_by ending index) in p) why
-never_form why h Source name index f = absurd (cc)
-never_form why h Assembler name index f =
-    never_reads name index (form_by Assembler index) why (foreign (refusal.TooLong index) why h)
-    (foreign refusal.ReadFault why h) (λ bytes. never_unless (refusal.Assembly index)
-    (assembled bytes) why (λ x. foreign (refusal.Assembly index x) why h))
-never_form why h Component name index f =
-    never_reads name index (form_by Component index) why (foreign (refusal.TooLong index) why h)
-    (foreign refusal.ReadFault why h) (λ bytes. never_unless (refusal.File index) (decoded bytes) why
-    (λ x. foreign (refusal.File index x) why h))
+-- a file is read, and its bytes are such or have a fault that is told otherwise
+never_told : {A F : Type 0} (why : Refusal) → Foreign why → (name : List ℕ) (index : ℕ) (told : F → Refusal)
+    (gives : List ℕ → Result A F) → ((f : F) → told f ≢ why)
+    → Never (let p : Plan A = Reads name index (λ bytes. unless told (gives bytes)) in p) why
+never_told why h name index told gives differ =
+    never_reads name index (λ bytes. unless told (gives bytes)) why (foreign (refusal.TooLong index) why h)
+    (foreign refusal.ReadFault why h) (λ bytes. never_unless told (gives bytes) why differ)
 
-pub never_component : (why : Refusal) → Foreign why → (index : ℕ) (w : PartWord) → is_built_form w ≡ true
+never_form : (why : Refusal) → Foreign why → (ending : Ending) (name : List ℕ) (index : ℕ)
+    → Never (let p : Plan _ = Reads name index (form_by ending index) in p) why
+never_form why h Source name index =
+    never_told why h name index (refusal.Source index) sourced (λ f. foreign (refusal.Source index f) why h)
+never_form why h Assembler name index =
+    never_told why h name index (refusal.Assembly index) assembled
+    (λ f. foreign (refusal.Assembly index f) why h)
+never_form why h Component name index =
+    never_told why h name index (refusal.File index) decoded (λ f. foreign (refusal.File index f) why h)
+
+pub never_component : (why : Refusal) → Foreign why → (index : ℕ) (w : PartWord)
     → Never (component_at index w) why
 unfolding component_at
-never_component why h index w f = never_form why h w.ending w.name index (no_source w f)
+never_component why h index w = never_form why h w.ending w.name index
 
 abbrev part_by : ℕ → PartWord → ComponentFields → Plan PartSeen
 part_by index w c = unless (broken_in index) (accepted
     (record { component = c; trusted = is_trusted w.mark }))
 
-pub never_part : (why : Refusal) → Foreign why → (index : ℕ) (w : PartWord) → is_built_form w ≡ true
-    → Never (part_at index w) why
+pub never_part : (why : Refusal) → Foreign why → (index : ℕ) (w : PartWord) → Never (part_at index w) why
 unfolding part_at
-never_part why h index w f =
-    never_bind (component_at index w) (part_by index w) why (never_component why h index w f)
-    (λ c. never_unless (broken_in index) (accepted
-    (record { component = c; trusted = is_trusted w.mark })) why (λ b. foreign (broken_in index b) why h))
+never_part why h index w =
+    never_bind (component_at index w) (part_by index w) why (never_component why h index w)
+    (λ c. never_unless (broken_in index) (accepted (record { component = c; trusted = is_trusted w.mark }))
+    why
+    (λ b. foreign (broken_in index b) why h))
 
-never_each : (why : Refusal) → Foreign why → (index : ℕ) (ws : List PartWord) → list_all is_built_form ws
-    ≡ true → Never (each_at part_at index ws) why
-never_each why h index [] f = not_made [] why
-never_each why h index (w ∷ ws) f =
+never_each : (why : Refusal) → Foreign why → (index : ℕ) (ws : List PartWord)
+    → Never (each_at part_at index ws) why
+never_each why h index [] = not_made [] why
+never_each why h index (w ∷ ws) =
     never_bind (part_at index w) (λ p. each_at part_at (index + 1) ws >>= (λ ps. Made (p ∷ ps))) why
-    (never_part why h index w (and_left (is_built_form w) (list_all is_built_form ws) f))
+    (never_part why h index w)
     (λ p. never_bind (each_at part_at (index + 1) ws) (λ ps. Made (p ∷ ps)) why
-    (never_each why h (index + 1) ws (and_right (is_built_form w) (list_all is_built_form ws) f))
-    (λ ps. not_made (p ∷ ps) why))
+    (never_each why h (index + 1) ws) (λ ps. not_made (p ∷ ps) why))
 
 pub never_linked : (why : Refusal) → Foreign why → (words : List PartWord) (size : ℕ)
-    → list_all is_built_form words ≡ true → Never (linked_parts words size) why
+    → Never (linked_parts words size) why
 unfolding linked_parts
-never_linked why h words size f =
-    never_bind (each_at part_at 0 words) (λ ps. unless refusal.Rule (linked ps size) >>=
-    (λ _. Made (image_with size ps))) why (never_each why h 0 words f)
+never_linked why h words size =
+    never_bind (each_at part_at 0 words)
+    (λ ps. unless refusal.Rule (linked ps size) >>= (λ _. Made (image_with size ps))) why
+    (never_each why h 0 words)
     (λ ps. never_bind (unless refusal.Rule (linked ps size)) (λ _. Made (image_with size ps)) why
     (never_unless refusal.Rule (linked ps size) why (λ r. foreign (refusal.Rule r) why h))
     (λ u. not_made (image_with size ps) why))
@@ -158,16 +160,18 @@ never_image why h name =
 
 -- ---- a component never ends by a rule
 
+no_rule_by : {A F : Type 0} (name : List ℕ) (index : ℕ) (told : F → Refusal) (gives : List ℕ → Result A F)
+    (r : RuleAt) → ((f : F) → told f ≢ refusal.Rule r)
+    → Never (let p : Plan A = Reads name index (λ bytes. unless told (gives bytes)) in p) (refusal.Rule r)
+no_rule_by name index told gives r differ =
+    never_reads name index (λ bytes. unless told (gives bytes)) (refusal.Rule r) (λ e. cc) (λ e. cc)
+    (λ bytes. never_unless told (gives bytes) (refusal.Rule r) differ)
+
 no_rule_form : (ending : Ending) (name : List ℕ) (index : ℕ) (r : RuleAt)
     → Never (let p : Plan _ = Reads name index (form_by ending index) in p) (refusal.Rule r)
-no_rule_form Source name index r = never_reads name index (form_by Source index) (refusal.Rule r) (λ e. cc)
-    (λ e. cc) (λ bytes. never_ends refusal.Usage (refusal.Rule r) (λ e. cc))
-no_rule_form Assembler name index r = never_reads name index (form_by Assembler index) (refusal.Rule r)
-    (λ e. cc) (λ e. cc) (λ bytes. never_unless (refusal.Assembly index) (assembled bytes) (refusal.Rule r)
-    (λ f e. cc))
-no_rule_form Component name index r = never_reads name index (form_by Component index) (refusal.Rule r)
-    (λ e. cc) (λ e. cc) (λ bytes. never_unless (refusal.File index) (decoded bytes) (refusal.Rule r)
-    (λ f e. cc))
+no_rule_form Source name index r = no_rule_by name index (refusal.Source index) sourced r (λ f e. cc)
+no_rule_form Assembler name index r = no_rule_by name index (refusal.Assembly index) assembled r (λ f e. cc)
+no_rule_form Component name index r = no_rule_by name index (refusal.File index) decoded r (λ f e. cc)
 
 pub no_rule : (index : ℕ) (w : PartWord) (r : RuleAt) → Never (component_at index w) (refusal.Rule r)
 unfolding component_at

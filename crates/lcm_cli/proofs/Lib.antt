@@ -3,8 +3,8 @@ pub mod Sinks
 pub mod Each
 pub mod FirstOf
 pub mod Given
-pub mod BuiltParts
 pub mod Linking
+pub mod Sourced
 pub mod Ends
 pub mod Tasks
 pub mod Reasons

@@ -190,6 +190,7 @@ why_none refusal.Usage a e = e
 why_none refusal.ReadFault a e = e
 why_none (refusal.TooLong index) a e = e
 why_none (refusal.Assembly index f) a e = e
+why_none (refusal.Source index f) a e = e
 why_none (refusal.File index f) a e = e
 why_none (refusal.Rule r) a e = e
 why_none (refusal.Image f) a e = image_none f a e

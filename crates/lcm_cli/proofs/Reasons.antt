@@ -23,7 +23,9 @@ use Rattle.component_linker.specs.Accepted.{accepted}
 use Rattle.lcm_cli.specs.Parts.{is_trusted, broken_in, linked, loaded, form_by, component_at, part_at}
 use Rattle.lcm_cli.specs.Parts.{each_at}
 use Rattle.lcm_cli.specs.Commands.{linked_parts, linked_image, linked_in}
-use Rattle.lcm_cli.specs.Causes.{IsTurn, IsUnread, IsLong, IsUndecoded, IsUnassembled, PartBreaks, SomeBreaks}
+use Rattle.lcm_cli.specs.Sources.{sourced}
+use Rattle.lcm_cli.specs.Causes.{IsTurn, IsUnread, IsLong, IsUndecoded, IsUncompiled, IsUnassembled}
+use Rattle.lcm_cli.specs.Causes.{PartBreaks, SomeBreaks}
 use Rattle.lcm_cli.specs.Causes.{AllBreak, LinkBreaks, LinkedCame}
 use Rattle.lcm_cli.proofs.Ends.{Never, comes_split, same_err, ended_unless, not_made, no_rule}
 use Rattle.lcm_cli.proofs.Linking.{image_with, loaded_read}
@@ -63,6 +65,7 @@ FileReason plan old refusal.Usage new = ⊤
 FileReason plan old refusal.ReadFault new = IsUnread plan old new
 FileReason plan old (refusal.TooLong index) new = IsLong plan old index new
 FileReason plan old (refusal.Assembly index f) new = IsUnassembled plan old index f new
+FileReason plan old (refusal.Source index f) new = IsUncompiled plan old index f new
 FileReason plan old (refusal.File index f) new = IsUndecoded plan old index f new
 FileReason plan old (refusal.Rule r) new = ⊤
 FileReason plan old (refusal.Image f) new = ⊤
@@ -73,6 +76,8 @@ reason_first p f old new refusal.Usage h = tt
 reason_first p f old new refusal.ReadFault h = (h.0, h.1, h.2, turn_first p f old h.2 h.0 h.1 h.3, h.4)
 reason_first p f old new (refusal.TooLong index) h = (h.0, h.1, turn_first p f old h.1 h.0 index h.2, h.3)
 reason_first p f old new (refusal.Assembly index x) h =
+    (h.0, h.1, turn_first p f old h.1 h.0 index h.2, h.3, h.4, h.5)
+reason_first p f old new (refusal.Source index x) h =
     (h.0, h.1, turn_first p f old h.1 h.0 index h.2, h.3, h.4, h.5)
 reason_first p f old new (refusal.File index x) h =
     (h.0, h.1, turn_first p f old h.1 h.0 index h.2, h.3, h.4, h.5)
@@ -87,6 +92,8 @@ reason_next p f old mid new x refusal.ReadFault c h =
 reason_next p f old mid new x (refusal.TooLong index) c h =
     (h.0, h.1, turn_next p f old mid h.1 x h.0 index c h.2, h.3)
 reason_next p f old mid new x (refusal.Assembly index y) c h =
+    (h.0, h.1, turn_next p f old mid h.1 x h.0 index c h.2, h.3, h.4, h.5)
+reason_next p f old mid new x (refusal.Source index y) c h =
     (h.0, h.1, turn_next p f old mid h.1 x h.0 index c h.2, h.3, h.4, h.5)
 reason_next p f old mid new x (refusal.File index y) c h =
     (h.0, h.1, turn_next p f old mid h.1 x h.0 index c h.2, h.3, h.4, h.5)
@@ -111,12 +118,6 @@ reasoned_bind p f a b = record {
 
 reasoned_made : {A : Type 0} (x : A) → Reasoned (Made x)
 reasoned_made x = record { gives = λ old new why h. absurd (let e = h.0 in cc) }
-
-reasoned_usage : {A : Type 0} → Reasoned (let p : Plan A = Ends refusal.Usage in p)
-reasoned_usage {A} = record {
-  gives = λ old new why h.
-      (let e = same_err {A = A} refusal.Usage why (sym h.0) in rw e tt);
-}
 
 -- its own rules and those of the link are no reason of a file
 reasoned_rule : {A F : Type 0} (told : F → Refusal) (r : Result A F)
@@ -145,40 +146,36 @@ reads_reasoned {A} name index next k = record { gives = by }
     by old new why (unread t e) = let s = same_err {A = A} refusal.ReadFault why (sym e) in
         rw s (name, index, old, inl (refl, refl, refl), t)
 
-usage_by : (name : List ℕ) (index : ℕ) → ByBytes name index (form_by Source index)
-usage_by name index old mid new bytes why w h = let e =
-    same_err {A = ComponentFields} refusal.Usage why (sym h.0) in rw e tt
+-- the bytes have a fault, which is the reason
+module _ {A F : Type 0} (told : F → Refusal) (gives : List ℕ → Result A F) (name : List ℕ) (index : ℕ) where
+  abbrev Told : Plan A
+  Told = Reads name index (λ bytes. unless told (gives bytes))
+
+  reason_by : ((old mid : FilesSeen) (bytes : List ℕ) (f : F) → GivesWhole old name LONGEST_FILE bytes mid
+      → gives bytes ≡ Err f → FileReason Told old (told f) mid)
+      → ByBytes name index (λ bytes. unless told (gives bytes))
+  reason_by k old mid new bytes why w h =
+      let e = ended_unless told (gives bytes) mid new why h in
+      let P : Refusal → FilesSeen → Type 0 = λ v z. FileReason Told old v z in
+      subst (P why) (sym e.3) (subst (λ v. P v mid) (sym e.2) (k old mid bytes e.0 w e.1))
+
+source_by : (name : List ℕ) (index : ℕ) → ByBytes name index (form_by Source index)
+source_by name index =
+    reason_by (refusal.Source index) sourced name index
+    (λ old mid bytes f w e. (name, old, inl (refl, refl, refl), bytes, w, e))
 
 text_by : (name : List ℕ) (index : ℕ) → ByBytes name index (form_by Assembler index)
-text_by name index old mid new bytes why w h =
-    let e = ended_unless (refusal.Assembly index) (assembled bytes) mid new why h in
-    let P : Refusal → FilesSeen → Type 0 = λ v z. FileReason
-    (Reads name index (form_by Assembler index)) old v z in
-    subst (P why) (sym e.3) (subst (λ v. P v mid) (sym e.2) (
-      name,
-      old,
-      inl (refl, refl, refl),
-      bytes,
-      w,
-      e.1,
-    ))
+text_by name index =
+    reason_by (refusal.Assembly index) assembled name index
+    (λ old mid bytes f w e. (name, old, inl (refl, refl, refl), bytes, w, e))
 
 file_by : (name : List ℕ) (index : ℕ) → ByBytes name index (form_by Component index)
-file_by name index old mid new bytes why w h =
-    let e = ended_unless (refusal.File index) (decoded bytes) mid new why h in
-    let P : Refusal → FilesSeen → Type 0 = λ v z. FileReason
-    (Reads name index (form_by Component index)) old v z in
-    subst (P why) (sym e.3) (subst (λ v. P v mid) (sym e.2) (
-      name,
-      old,
-      inl (refl, refl, refl),
-      bytes,
-      w,
-      e.1,
-    ))
+file_by name index =
+    reason_by (refusal.File index) decoded name index
+    (λ old mid bytes f w e. (name, old, inl (refl, refl, refl), bytes, w, e))
 
 form_by_bytes : (ending : Ending) (name : List ℕ) (index : ℕ) → ByBytes name index (form_by ending index)
-form_by_bytes Source name index = usage_by name index
+form_by_bytes Source name index = source_by name index
 form_by_bytes Assembler name index = text_by name index
 form_by_bytes Component name index = file_by name index
 

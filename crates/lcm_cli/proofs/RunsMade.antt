@@ -31,13 +31,12 @@ use Rattle.lcm_cli.specs.declared.status.Status.{Status}
 use Rattle.lcm_cli.specs.declared.status.Status.TheVariants as status
 use Rattle.lcm_cli.specs.Refusals.{refusal_text, refusal_status, image_status}
 use Rattle.lcm_cli.specs.Plans.{Plan, Comes}
-use Rattle.lcm_cli.specs.Commands.{Task, Run, Trace, is_built_linked, linked_in, link_task, for_task, plan_in}
+use Rattle.lcm_cli.specs.Commands.{Task, Run, Trace, linked_in, link_task, for_task, plan_in}
 use Rattle.lcm_cli.specs.Answers.{Answer, NewFile, Outside, with_files, end_status, ran, traced, refused}
 use Rattle.lcm_cli.specs.Answers.{IsPut, IsAnswerOf}
 use Rattle.lcm_cli.specs.Answers.{GivesWhole, whole, unput, unwritten, Answers, answer, nothing}
 use Rattle.lcm_cli.specs.Causes.{IsRunStatus, LinkedCame, Started, text_of_run, RunGiven, TraceGiven, IsCut}
 use Rattle.lcm_cli.specs.Causes.{RunCut, TraceCut}
-use Rattle.lcm_cli.proofs.Why.{planned, unplanned}
 use Rattle.lcm_cli.proofs.Tasks.{made_of}
 use Rattle.lcm_cli.proofs.Reasons.{in_made}
 use Rattle.lcm_cli.proofs.Caused.{writes_none}
@@ -57,6 +56,7 @@ no_run refusal.Usage h = h
 no_run refusal.ReadFault h = h
 no_run (refusal.TooLong index) h = h
 no_run (refusal.Assembly index f) h = h
+no_run (refusal.Source index f) h = h
 no_run (refusal.File index f) h = h
 no_run (refusal.Rule r) h = h
 no_run (refusal.Image f) h = no_image_run f h
@@ -97,21 +97,11 @@ due_of l deed old seen (Ok task) a c x =
     let m = made_of (linked_in l) (link_task deed) old seen task c in
     made m.0 m.1 (subst (λ t. IsAnswerOf (Ok t) a) m.2 x)
 
-deed_due : (l : Linked) (deed : LinkDeed) (b : Bool) → is_built_linked l ≡ b → (old seen : FilesSeen)
-    (due : Result Task Refusal) (a : Answer) → Comes (plan_in (Some (Links l deed))) old due seen
-    → IsAnswerOf due a → DeedDue l deed old seen a
-deed_due l deed true f old seen due a c x =
-    due_of l deed old seen due a (subst (λ p. Comes p old due seen) (planned (Links l deed) f) c) x
-deed_due l deed false f old seen due a c x =
-    told refusal.Usage (subst (λ d. IsAnswerOf d a)
-    (subst (λ p. Comes p old due seen) (unplanned (Some (Links l deed)) f) c).0 x)
-
 asked_due : (asked : Option Command) (l : Linked) (deed : LinkDeed) → asked ≡ Some (Links l deed)
     → (old seen : FilesSeen) (due : Result Task Refusal) (a : Answer) → Comes (plan_in asked) old due seen
     → IsAnswerOf due a → DeedDue l deed old seen a
 asked_due asked l deed e old seen due a c x =
-    deed_due l deed (is_built_linked l) refl old seen due a
-    (subst (λ q. Comes (plan_in q) old due seen) e c) x
+    due_of l deed old seen due a (subst (λ q. Comes (plan_in q) old due seen) e c) x
 
 -- ---- what was written whole
 
@@ -212,6 +202,7 @@ no_cut refusal.Usage e = cc
 no_cut refusal.ReadFault e = cc
 no_cut (refusal.TooLong index) e = cc
 no_cut (refusal.Assembly index f) e = cc
+no_cut (refusal.Source index f) e = cc
 no_cut (refusal.File index f) e = cc
 no_cut (refusal.Rule r) e = cc
 no_cut (refusal.Image f) e = no_image_cut f e

@@ -1,7 +1,6 @@
 -- Why plans of words end.
 use Rattle.std.proofs.Common.{◌≡◌, ℕ, List, Option, Some, None, refl, sym, subst, true, false}
 use Rattle.std.specs.Prelude.{Bool, Err, ⊤}
-use Rattle.std.specs.List.{list_all}
 use Rattle.outside_io.specs.FilesSeen.{FilesSeen}
 use Rattle.command_words.specs.declared.command.Linked.{Linked}
 use Rattle.command_words.specs.declared.command.Linked.TheVariants as what
@@ -16,9 +15,10 @@ use Rattle.lcm_cli.specs.declared.refusal.Refusal.{Refusal}
 use Rattle.lcm_cli.specs.declared.refusal.Refusal.TheVariants as refusal
 use Rattle.lcm_cli.specs.Plans.{Plan, Ends, Made, Comes}
 use Rattle.lcm_cli.specs.Parts.{component_at, part_at}
-use Rattle.lcm_cli.specs.Commands.{Task, is_built_form, is_built_linked, is_built, linked_in, for_task}
+use Rattle.lcm_cli.specs.Commands.{Task, is_built, linked_in, for_task}
 use Rattle.lcm_cli.specs.Commands.{link_task, component_task, built_plan, plan_in, is_command}
-use Rattle.lcm_cli.specs.Causes.{IsUnread, IsLong, IsUndecoded, IsUnassembled, IsUnloaded, Breaks}
+use Rattle.lcm_cli.specs.Causes.{IsUnread, IsLong, IsUndecoded, IsUncompiled, IsUnassembled, IsUnloaded}
+use Rattle.lcm_cli.specs.Causes.{Breaks}
 use Rattle.lcm_cli.proofs.Ends.{Never, same_err, never_linked, never_image, never_component, never_part}
 use Rattle.lcm_cli.proofs.Ends.{no_rule}
 use Rattle.lcm_cli.proofs.Reasons.{FileReason, reason_first, Reasoned, in_reasoned, component_reasoned}
@@ -40,6 +40,7 @@ WhyIs asked plan old refusal.Usage new = is_command asked ≡ false
 WhyIs asked plan old refusal.ReadFault new = IsUnread plan old new
 WhyIs asked plan old (refusal.TooLong index) new = IsLong plan old index new
 WhyIs asked plan old (refusal.Assembly index f) new = IsUnassembled plan old index f new
+WhyIs asked plan old (refusal.Source index f) new = IsUncompiled plan old index f new
 WhyIs asked plan old (refusal.File index f) new = IsUndecoded plan old index f new
 WhyIs asked plan old (refusal.Rule r) new = Breaks asked old r new
 WhyIs asked plan old (refusal.Image f) new = IsUnloaded asked old f new
@@ -58,6 +59,7 @@ why_from asked plan old new refusal.ReadFault t h = t.reasoned.gives old new ref
 why_from asked plan old new (refusal.TooLong index) t h = t.reasoned.gives old new (refusal.TooLong index) h
 why_from asked plan old new (refusal.Assembly index f) t h =
     t.reasoned.gives old new (refusal.Assembly index f) h
+why_from asked plan old new (refusal.Source index f) t h = t.reasoned.gives old new (refusal.Source index f) h
 why_from asked plan old new (refusal.File index f) t h = t.reasoned.gives old new (refusal.File index f) h
 why_from asked plan old new (refusal.Rule r) t h = t.breaks r h
 why_from asked plan old new (refusal.Image f) t h = t.unloaded f h
@@ -72,6 +74,8 @@ why_first asked p f old new (refusal.TooLong index) h =
     reason_first p (λ x. Made (f x)) old new (refusal.TooLong index) h
 why_first asked p f old new (refusal.Assembly index y) h =
     reason_first p (λ x. Made (f x)) old new (refusal.Assembly index y) h
+why_first asked p f old new (refusal.Source index y) h =
+    reason_first p (λ x. Made (f x)) old new (refusal.Source index y) h
 why_first asked p f old new (refusal.File index y) h =
     reason_first p (λ x. Made (f x)) old new (refusal.File index y) h
 why_first asked p f old new (refusal.Rule r) h = h
@@ -85,15 +89,15 @@ why_task asked p f old new why t h =
 
 -- ---- what is read: parts that link, or an image; one component; one part
 
-links_explain : (l : Linked) (deed : LinkDeed) (old new : FilesSeen) → is_built_linked l ≡ true
+links_explain : (l : Linked) (deed : LinkDeed) (old new : FilesSeen)
     → Explains (Some (Links l deed)) (linked_in l) old new
-links_explain (what.Parts words size) deed old new e = record {
+links_explain (what.Parts words size) deed old new = record {
   reasoned = in_reasoned (what.Parts words size);
-  no_usage = never_linked refusal.Usage tt words size e;
+  no_usage = never_linked refusal.Usage tt words size;
   breaks = linked_break words size old new;
-  unloaded = λ f h. absurd (never_linked (refusal.Image f) tt words size e old new h);
+  unloaded = λ f h. absurd (never_linked (refusal.Image f) tt words size old new h);
 }
-links_explain (what.Image name) deed old new e = record {
+links_explain (what.Image name) deed old new = record {
   reasoned = in_reasoned (what.Image name);
   no_usage = never_image refusal.Usage tt name;
   breaks = λ r h. never_image (refusal.Rule r) tt name old new h;
@@ -101,21 +105,21 @@ links_explain (what.Image name) deed old new e = record {
 }
 
 component_explains : (word : PartWord) (deed : ComponentDeed) (old new : FilesSeen)
-    → is_built_form word ≡ true → Explains (Some (Takes word deed)) (component_at 0 word) old new
-component_explains word deed old new e = record {
+    → Explains (Some (Takes word deed)) (component_at 0 word) old new
+component_explains word deed old new = record {
   reasoned = component_reasoned 0 word;
-  no_usage = never_component refusal.Usage tt 0 word e;
+  no_usage = never_component refusal.Usage tt 0 word;
   breaks = λ r h. no_rule 0 word r old new h;
-  unloaded = λ f h. absurd (never_component (refusal.Image f) tt 0 word e old new h);
+  unloaded = λ f h. absurd (never_component (refusal.Image f) tt 0 word old new h);
 }
 
 part_explains : (word : PartWord) (old new : FilesSeen)
-    → is_built_form word ≡ true → Explains (Some (Checks word)) (part_at 0 word) old new
-part_explains word old new e = record {
+    → Explains (Some (Checks word)) (part_at 0 word) old new
+part_explains word old new = record {
   reasoned = part_reasoned 0 word;
-  no_usage = never_part refusal.Usage tt 0 word e;
+  no_usage = never_part refusal.Usage tt 0 word;
   breaks = part_breaks 0 word old new;
-  unloaded = λ f h. absurd (never_part (refusal.Image f) tt 0 word e old new h);
+  unloaded = λ f h. absurd (never_part (refusal.Image f) tt 0 word old new h);
 }
 
 -- ---- and so of the words' plan
@@ -124,12 +128,12 @@ built_why : (c : Command) (old new : FilesSeen) (why : Refusal) → is_built c �
     → Comes (built_plan c) old (Err why) new → WhyIs (Some c) (built_plan c) old why new
 built_why (Links l deed) old new why e h =
     why_task (Some (Links l deed)) (linked_in l) (link_task deed) old new why
-    (links_explain l deed old new e) h
+    (links_explain l deed old new) h
 built_why (Takes word deed) old new why e h =
     why_task (Some (Takes word deed)) (component_at 0 word) (component_task deed) old new why
-    (component_explains word deed old new e) h
+    (component_explains word deed old new) h
 built_why (Checks word) old new why e h =
-    why_task (Some (Checks word)) (part_at 0 word) _ old new why (part_explains word old new e) h
+    why_task (Some (Checks word)) (part_at 0 word) _ old new why (part_explains word old new) h
 built_why (Mean words size fuel feed) old new why e h = absurd (cc)
 built_why (Generate seed) old new why e h = absurd (cc)
 

@@ -38,6 +38,8 @@ use Rattle.lcm_machine.specs.declared.FailCause.{FailCause}
 use Rattle.lcm_machine.specs.declared.Step.{Step}
 use Rattle.lcm_machine.specs.declared.Step.TheVariants.{Went, Halted, Failed}
 use Rattle.lcm_machine.specs.Run.{answer as last_step, plain}
+use Rattle.lcm_cli.specs.declared.source.SourceFault.{SourceFault}
+use Rattle.lcm_cli.specs.Sources.{sourced}
 use Rattle.lcm_cli.specs.declared.TheConstants.{LONGEST_FILE}
 use Rattle.lcm_cli.specs.declared.refusal.Refusal.{Refusal}
 use Rattle.lcm_cli.specs.declared.refusal.Refusal.TheVariants as refusal
@@ -49,7 +51,8 @@ use Rattle.lcm_cli.specs.Refusals.{refusal_text, image_status}
 use Rattle.lcm_cli.specs.Plans.{Plan, Reads, Ends, Made, Comes}
 use Rattle.component_linker.specs.Accepted.{accepted}
 use Rattle.lcm_cli.specs.Parts.{is_trusted, linked, loaded, component_at, part_at, each_at}
-use Rattle.lcm_cli.specs.Commands.{Content, spelling_of, IsReadAgain, Run, Trace, Put, Write, is_command, plan_in}
+use Rattle.lcm_cli.specs.Commands.{Content, spelling_of, IsReadAgain, Run, Trace, Put, Write, is_command}
+use Rattle.lcm_cli.specs.Commands.{plan_in}
 use Rattle.lcm_cli.specs.Answers.{Outside, Answers, IsComplete, end_status}
 
 -- ---- files
@@ -88,6 +91,10 @@ IsUndecoded plan old index f new = Holds plan old index new (λ bytes. decoded b
 -- the text in the file of this index spells no component, with this first fault
 abbrev pub IsUnassembled : {A : Type 0} → Plan A → FilesSeen → ℕ → AsmFault → FilesSeen → Type 0
 IsUnassembled plan old index f new = Holds plan old index new (λ text. assembled text ≡ Err f)
+
+-- the text in the file of this index is a source that has no component, with this first fault
+abbrev pub IsUncompiled : {A : Type 0} → Plan A → FilesSeen → ℕ → SourceFault → FilesSeen → Type 0
+IsUncompiled plan old index f new = Holds plan old index new (λ text. sourced text ≡ Err f)
 
 -- the name of an image word
 abbrev pub image_in : Option Command → Option (List ℕ)
@@ -211,8 +218,8 @@ pub record Causes (asked : Option Command) (old : Outside) (status : Status) (ne
   -- parts of words break a rule, or those of an image do
   pub rule_broken : status ≡ RuleBroken → (r : RuleAt) × Wrote (refusal.Rule r) old new
       × (Breaks asked old.files r new.files ⊎ IsUnloaded asked old.files (image.Rule r) new.files)
-  -- no command that is built has a source
-  pub no_source : status ≡ SourceRefused → ⊥
+  pub source_refused : status ≡ SourceRefused → (index : ℕ) × (f : SourceFault)
+      × Wrote (refusal.Source index f) old new × IsUncompiled (plan_in asked) old.files index f new.files
 
 -- ---- files that stay
 
@@ -221,7 +228,8 @@ Stay old new = new.contents ≡ old.contents
 
 -- all but the file of `--out`, where there is one
 abbrev pub OthersStay : Option Command → FilesSeen → FilesSeen → Type 0
-OthersStay asked old new = Stay old new ⊎ ((out : List ℕ) × (out_of asked ≡ Some out) × KeepsOthers old new out)
+OthersStay asked old new = Stay old new ⊎ ((out : List ℕ) × (out_of asked ≡ Some out)
+    × KeepsOthers old new out)
 
 -- a file is put where the status is Done or WriteFault, and nowhere else
 abbrev pub StayAt : Option Command → FilesSeen → Status → FilesSeen → Type 0
@@ -277,7 +285,8 @@ pub record RunGiven (l : Linked) (steps : ℕ) (old : Outside) (status : Status)
 
 -- the run of the start's overlay gave the status and the text, and no machine. Its lines are those that a plain
 -- run of as many instructions writes.
-pub record TraceGiven (l : Linked) (steps : ℕ) (old : Outside) (status : Status) (new : Outside) : Type 0 where
+pub record TraceGiven (l : Linked) (steps : ℕ) (old : Outside) (status : Status)
+    (new : Outside) : Type 0 where
   pub from : Started l old.files new.files
   pub overlay : OverlaySeen
   pub overlay_is : IsOverlayOf from.start overlay

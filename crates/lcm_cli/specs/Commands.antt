@@ -1,9 +1,6 @@
 -- What each command does: it reads, with its files in the order of refusals, and what came is for a task.
-use Rattle.std.specs.Prelude.{◌≡◌, ℕ, Bool, true, false, not, List, codes, Option, Some, None, Ok}
+use Rattle.std.specs.Prelude.{◌≡◌, ℕ, Bool, true, false, List, codes, Option, Some, None, Ok}
 use Rattle.std.specs.Prelude.{if◌then◌else◌}
-use Rattle.std.specs.List.{list_all}
-use Rattle.command_words.specs.declared.part.Ending.{Ending}
-use Rattle.command_words.specs.declared.part.Ending.TheVariants.{Source}
 use Rattle.command_words.specs.declared.part.PartWord.{PartWord}
 use Rattle.command_words.specs.declared.command.Linked.{Linked}
 use Rattle.command_words.specs.declared.command.Linked.TheVariants as what
@@ -48,23 +45,12 @@ pub data Task : Type 0 where
 abbrev pub ok_text : List ℕ
 ok_text = codes "ok\n"
 
--- ---- what is built: all that reads parts which are no sources, and images
-
-abbrev pub is_source : Ending → Bool
-is_source Source = true
-is_source _ = false
-
-abbrev pub is_built_form : PartWord → Bool
-is_built_form word = not (is_source word.ending)
-
-abbrev pub is_built_linked : Linked → Bool
-is_built_linked (what.Parts words size) = list_all is_built_form words
-is_built_linked (what.Image name) = true
+-- ---- what is built: all that reads parts and images
 
 abbrev pub is_built : Command → Bool
-is_built (Links l deed) = is_built_linked l
-is_built (Takes word deed) = is_built_form word
-is_built (Checks word) = is_built_form word
+is_built (Links l deed) = true
+is_built (Takes word deed) = true
+is_built (Checks word) = true
 is_built _ = false
 
 -- ---- parts that link, with the size of their stack

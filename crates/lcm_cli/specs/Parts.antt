@@ -23,7 +23,8 @@ use Rattle.image_loader.specs.Image.{ImageSeen}
 use Rattle.image_loader.specs.Reading.{image_of}
 use Rattle.lcm_cli.specs.declared.refusal.Refusal.{Refusal}
 use Rattle.lcm_cli.specs.declared.refusal.Refusal.TheVariants as refusal
-use Rattle.lcm_cli.specs.Plans.{Plan, Ends, Made, ◌>>=◌, file, unless}
+use Rattle.lcm_cli.specs.Sources.{sourced}
+use Rattle.lcm_cli.specs.Plans.{Plan, Made, ◌>>=◌, file, unless}
 
 -- ---- rules
 
@@ -57,9 +58,9 @@ abbrev pub is_trusted : Mark → Bool
 is_trusted Trusted = true
 is_trusted Untrusted = false
 
--- the component that bytes are in their form; no command that is built has a source
+-- the component that bytes are in their form
 abbrev pub form_by : Ending → ℕ → List ℕ → Plan ComponentFields
-form_by Source index text = Ends refusal.Usage
+form_by Source index text = unless (refusal.Source index) (sourced text)
 form_by Assembler index text = unless (refusal.Assembly index) (assembled text)
 form_by Component index bytes = unless (refusal.File index) (decoded bytes)
 

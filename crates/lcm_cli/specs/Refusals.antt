@@ -11,6 +11,13 @@ use Rattle.component_linker.specs.FaultText.{rule_at_text}
 use Rattle.image_loader.specs.declared.fault.ImageFault.{ImageFault}
 use Rattle.image_loader.specs.declared.fault.ImageFault.TheVariants as image
 use Rattle.image_loader.specs.Fault.{fault_number as image_number, fault_place as image_place}
+use Rattle.proc_grammar.specs.declared.fault.ParseFault.{ParseFault}
+use Rattle.proc_grammar.specs.declared.fault.ParseFault.TheVariants as parse
+use Rattle.proc_grammar.specs.Fault.{fault_number as parse_number, fault_place as parse_place}
+use Rattle.proc_names.specs.Faults.{fault_number as name_number, fault_place as name_place}
+use Rattle.proc_compiler.specs.Fault.{fault_number as compile_number}
+use Rattle.lcm_cli.specs.declared.source.SourceFault.{SourceFault}
+use Rattle.lcm_cli.specs.declared.source.SourceFault.TheVariants as source
 use Rattle.lcm_cli.specs.declared.refusal.Refusal.{Refusal}
 use Rattle.lcm_cli.specs.declared.refusal.Refusal.TheVariants as refusal
 use Rattle.lcm_cli.specs.declared.status.Status.{Status}
@@ -31,6 +38,27 @@ abbrev pub assembly_text : ℕ → AsmFault → List ℕ
 assembly_text part f =
     codes "asm " ++ decimal part ++ codes " " ++ asm_number_text f ++ codes " " ++ decimal (asm_place f)
     ++ codes "\n"
+
+-- the fault's number, of a fault of the tokens behind an `s`
+abbrev pub parse_number_text : ParseFault → List ℕ
+parse_number_text (parse.Scan f) = codes "s" ++ decimal (scan_number f)
+parse_number_text f = decimal (parse_number f)
+
+abbrev pub source_number_text : SourceFault → List ℕ
+source_number_text (source.Text f) = parse_number_text f
+source_number_text (source.Name f) = decimal (name_number f)
+source_number_text (source.Size f) = decimal (compile_number f)
+
+-- a module's size has no place
+abbrev pub source_place : SourceFault → ℕ
+source_place (source.Text f) = parse_place f
+source_place (source.Name f) = name_place f
+source_place (source.Size f) = 0
+
+abbrev pub source_text : ℕ → SourceFault → List ℕ
+source_text part f =
+    codes "source " ++ decimal part ++ codes " " ++ source_number_text f ++ codes " "
+    ++ decimal (source_place f) ++ codes "\n"
 
 -- the part, the rule and the place
 abbrev pub rule_line : RuleAt → List ℕ
@@ -55,6 +83,7 @@ refusal_text refusal.Usage = codes "usage\n"
 refusal_text refusal.ReadFault = codes "read fault\n"
 refusal_text (refusal.TooLong index) = codes "too long " ++ decimal index ++ codes "\n"
 refusal_text (refusal.Assembly part f) = assembly_text part f
+refusal_text (refusal.Source part f) = source_text part f
 refusal_text (refusal.File part f) = file_text part f
 refusal_text (refusal.Rule broken) = rule_line broken
 refusal_text (refusal.Image f) = image_text f
@@ -64,6 +93,7 @@ refusal_status refusal.Usage = status.Usage
 refusal_status refusal.ReadFault = status.ReadFault
 refusal_status (refusal.TooLong index) = status.TooLong
 refusal_status (refusal.Assembly part f) = status.AsmRefused
+refusal_status (refusal.Source part f) = status.SourceRefused
 refusal_status (refusal.File part f) = status.FileRefused
 refusal_status (refusal.Rule broken) = status.RuleBroken
 refusal_status (refusal.Image f) = image_status f

@@ -1,10 +1,8 @@
 //! What is left to do once the files of a command came.
 ghost use Rattle.std.specs.Prelude.{◌≡◌, ◌≤◌, IfOk, IfErr, length};
-ghost use Rattle.std.specs.List.{list_all};
 ghost use Rattle.command_words.specs.declared.command.LinkDeed.TheVariants as link_deed;
 ghost use Rattle.lcm_cli.specs.Parts.{part_at, component_at};
-ghost use Rattle.lcm_cli.specs.Commands.{is_built_form, is_built_linked, is_built, ok_text};
-ghost use Rattle.lcm_cli.specs.Commands.{Write, linked_in, link_task, component_task, for_task};
+ghost use Rattle.lcm_cli.specs.Commands.{is_built, ok_text, Write, linked_in, link_task, component_task, for_task};
 ghost use Rattle.lcm_cli.specs.Commands.{built_plan, plan_of};
 ghost use Rattle.lcm_cli.specs.Jobs.{Does, FollowsTask};
 
@@ -12,7 +10,7 @@ use crate::part::{component, part};
 use crate::refusal::{Refusal, Stop};
 use crate::start::{image_bytes, start};
 use cap_words::Items;
-use command_words::{Command, ComponentDeed, Ending, FileName, LinkDeed, Linked, PartWord, Steps};
+use command_words::{Command, ComponentDeed, FileName, LinkDeed, Linked, PartWord, Steps};
 use component_file::{Component, encode_component};
 use component_linker::Start;
 use disassembler::disassemble;
@@ -143,35 +141,12 @@ fn part_job<'a, F: Files>(
     Ok(Job::Say)
 }
 
-fn is_built_form(word: &PartWord<'_>) -> bool
-    ensures { result ≡ is_built_form word.now }
-{
-    word.ending != Ending::Source
-}
-
-fn are_built_forms(words: &[PartWord<'_>]) -> bool
-    ensures { result ≡ list_all is_built_form words.now }
-{
-    words.iter().all(|word| is_built_form(word))
-}
-
-fn is_built_linked(what: &Linked<'_>) -> bool
-    ensures { result ≡ is_built_linked what.now }
-{
-    match what {
-        Linked::Parts(words, _) => are_built_forms(words.as_slice()),
-        Linked::Image(_) => true,
-    }
-}
-
 // Whether the command is built.
 fn is_built(command: &Command<'_>) -> bool
     ensures { result ≡ is_built command.now }
 {
     match command {
-        Command::Links(what, _) => is_built_linked(what),
-        Command::Takes(word, _) => is_built_form(word),
-        Command::Checks(word) => is_built_form(word),
+        Command::Links(_, _) | Command::Takes(_, _) | Command::Checks(_) => true,
         _ => false,
     }
 }

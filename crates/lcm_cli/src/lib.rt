@@ -8,6 +8,7 @@ mod part;
 mod read;
 mod refusal;
 mod refusal_line;
+mod source;
 mod start;
 mod status;
 mod top;

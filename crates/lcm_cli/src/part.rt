@@ -9,6 +9,7 @@ ghost use Rattle.lcm_cli.specs.Parts.{is_trusted, broken_in, form_by, component_
 
 use crate::read::read;
 use crate::refusal::{Refusal, Stop};
+use crate::source::component_of;
 use assembler::{AsmFault, assemble};
 use cap_words::Items;
 use command_words::{Ending, Mark, PartWord};
@@ -41,13 +42,13 @@ fn assemble_at(alloc: Global, index: u32, text: &[u8]) -> Result<Component, Stop
     }
 }
 
-// The component that the bytes of a part are in their form. No command that is built has a source.
+// The component that the bytes of a part are in their form.
 fn form(alloc: Global, ending: Ending, index: u32, bytes: &[u8]) -> Result<Component, Stop>
     requires { length bytes.now < 2 ^ 32 }
     ensures { Meets (form_by ending index bytes.now) result }
 {
     match ending {
-        Ending::Source => Err(Stop::Refused(Refusal::Usage)),
+        Ending::Source => component_of(alloc, index, bytes),
         Ending::Assembler => assemble_at(alloc, index, bytes),
         Ending::Component => decode_at(alloc, index, bytes),
     }

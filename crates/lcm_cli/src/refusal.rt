@@ -2,6 +2,7 @@
 ghost use Rattle.std.specs.Prelude.{◌≡◌};
 ghost use Rattle.lcm_cli.specs.declared.refusal.Stop.TheVariants.{NoMemory};
 
+use crate::source::SourceFault;
 use assembler::AsmFault;
 use component_file::FileFault;
 use component_linker::RuleAt;
@@ -20,6 +21,8 @@ pub(crate) enum Refusal {
     TooLong(u32),
     /// The assembler text of this part spells no component.
     Assembly(u32, AsmFault),
+    /// The source of this part has no component.
+    Source(u32, SourceFault),
     /// The bytes of this part are no component.
     File(u32, FileFault),
     /// A part breaks a rule, or several of them do together.

@@ -2,9 +2,11 @@
 ghost use Rattle.std.specs.Prelude.{◌≡◌, ◌+◌, ◌≤◌, ◌<◌, ◌++◌, [], decimal};
 ghost use Rattle.arrayvec.specs.ArrayString.{array_string_len};
 ghost use Rattle.lcm_cli.specs.Refusals.{asm_number_text, assembly_text, file_text, rule_line, form_text};
+ghost use Rattle.lcm_cli.specs.Refusals.{source_number_text, source_place, source_text};
 ghost use Rattle.lcm_cli.specs.Refusals.{image_text, image_status, refusal_text, refusal_status};
 
 use crate::refusal::Refusal;
+use crate::source::SourceFault;
 use crate::status::Status;
 use arrayvec::ArrayString;
 use assembler::AsmFault;
@@ -12,6 +14,7 @@ use component_file::FileFault;
 use component_linker::RuleAt;
 use image_loader::ImageFault;
 use itoa::Buffer;
+use proc_grammar::ParseFault;
 
 fn push_number(line: &mut ArrayString<64>, number: u32)
     requires { array_string_len line.old ≤ 50 }
@@ -60,6 +63,47 @@ fn push_assembly(line: &mut ArrayString<64>, part: u32, fault: AsmFault)
     push_asm_number(line, fault);
     line.push_str(" ");
     push_number(line, fault.place());
+    line.push_str("\n");
+}
+
+// Appends the number of a fault of a source, of a fault of its tokens behind an `s`.
+fn push_source_number(line: &mut ArrayString<64>, fault: SourceFault)
+    requires { array_string_len line.old ≤ 40 }
+    ensures bytes { line.new.bytes ≡ line.old.bytes ++ source_number_text fault }
+    ensures len { array_string_len line.new ≤ array_string_len line.old + 11 }
+{
+    match fault {
+        SourceFault::Text(ParseFault::Scan(fault)) => {
+            line.push_str("s");
+            push_number(line, u32::from(fault.number()));
+        }
+        SourceFault::Text(fault) => push_number(line, u32::from(fault.number())),
+        SourceFault::Name(fault) => push_number(line, u32::from(fault.number())),
+        SourceFault::Size(fault) => push_number(line, u32::from(fault.number())),
+    }
+}
+
+// The place of a fault of a source. A module's size has none.
+fn source_place(fault: SourceFault) -> u32
+    ensures { result ≡ source_place fault }
+{
+    match fault {
+        SourceFault::Text(fault) => fault.place(),
+        SourceFault::Name(fault) => fault.place(),
+        SourceFault::Size(_) => 0,
+    }
+}
+
+fn push_source(line: &mut ArrayString<64>, part: u32, fault: SourceFault)
+    requires { line.old.bytes ≡ [] }
+    ensures { line.new.bytes ≡ source_text part fault }
+{
+    line.push_str("source ");
+    push_number(line, part);
+    line.push_str(" ");
+    push_source_number(line, fault);
+    line.push_str(" ");
+    push_number(line, source_place(fault));
     line.push_str("\n");
 }
 
@@ -115,6 +159,7 @@ pub(crate) fn refusal_line(why: Refusal) -> ArrayString<64>
             line.push_str("\n");
         }
         Refusal::Assembly(part, fault) => push_assembly(&mut line, part, fault),
+        Refusal::Source(part, fault) => push_source(&mut line, part, fault),
         Refusal::File(part, fault) => push_file(&mut line, part, fault),
         Refusal::Rule(broken) => push_rule(&mut line, broken),
         Refusal::Image(fault) => push_image(&mut line, fault),
@@ -140,6 +185,7 @@ pub(crate) fn refusal_status(why: Refusal) -> Status
         Refusal::ReadFault => Status::ReadFault,
         Refusal::TooLong(_) => Status::TooLong,
         Refusal::Assembly(_, _) => Status::AsmRefused,
+        Refusal::Source(_, _) => Status::SourceRefused,
         Refusal::File(_, _) => Status::FileRefused,
         Refusal::Rule(_) => Status::RuleBroken,
         Refusal::Image(fault) => image_status(fault),
