@@ -160,7 +160,7 @@ fn is_refused(
 }
 
 // What stands behind the header, and what is told.
-static FAULTS: [(&str, &str); 20] = [
+static FAULTS: [(&str, &str); 19] = [
     ("proc f() { ! }", "source 0 s1 65\n"),
     (
         "proc f() { return 9223372036854775809; }",
@@ -187,7 +187,6 @@ static FAULTS: [(&str, &str); 20] = [
     ("proc f() { return 1 } !", "source 0 s1 76\n"),
     ("proc f() { x = 1; } f", "source 0 2 74\n"),
     ("proc f() { f(); x = 1; }", "source 0 6 70\n"),
-    ("proc f() { f(); }\n#", "source 0 11 0\n"),
 ];
 
 // A line of 513 bytes, which is the second one.
@@ -199,7 +198,7 @@ fn long_line(alloc: Global) -> Result<String, AllocError> {
     Ok(text)
 }
 
-// 2 data words for the procedure, and 61,440 for these.
+// Arrays of 61,440 words. The procedure has two data words.
 const ARRAYS: &str = "\
 global a[4096]; global b[4096]; global c[4096]; global d[4096]; global e[4096];
 global f[4096]; global g[4096]; global h[4096]; global i[4096]; global j[4096];

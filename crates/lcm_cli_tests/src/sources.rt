@@ -210,32 +210,30 @@ pub(crate) fn files(alloc: Global) -> Result<MemFiles, AllocError> {
     Ok(files)
 }
 
-// Events of the bank: an entry, the beginnings of a call and of its return, a frame, a leave.
+// Events of the bank: an entry; a call and its return, each up to the way back in its frame; the ways back
+// into the tellers; a leave.
 const ENTERED: &str = "enter bank deposit cap(rw,lin,65536,65599,65599) 5 0 0 0 out\n";
 
-const CALLED: &str = "call out bank 0 65595 65599 105 0 0 0 :";
+const CALLED: &str = "call out bank 0 65595 65599 105 0 0 0 : cap(rw,nor,8192,8196,8192) 105 5";
 
-const RETURNED: &str = "ret out bank 0 65595 65599 105 :";
+const RETURNED: &str = "ret out bank 0 65595 65599 105 : cap(rw,nor,8192,8196,8192) 105 5";
 
-const FRAME: &str = " cap(rw,nor,8192,8196,8192) 105 5 sealed(21,cap(rw,nor,16384,16385,16384)) \
-                     sealed(21,cap(rwx,nor,12288,12303,12301))\n";
+const BEHIND: &str =
+    " sealed(21,cap(rw,nor,16384,16385,16384)) sealed(21,cap(rwx,nor,12288,12303,12301))\n";
 
-const FRAME_SPLIT: &str =
-    " cap(rw,nor,8192,8196,8192) 105 5 sealed(21,cap(rw,nor,16384,16385,16384)) \
-                           sealed(21,cap(rwx,nor,12288,12304,12301))\n";
+const BEHIND_SPLIT: &str =
+    " sealed(21,cap(rw,nor,16384,16385,16384)) sealed(21,cap(rwx,nor,12288,12304,12301))\n";
 
-const FRAME_AGAIN: &str =
-    " cap(rw,nor,8192,8196,8192) 105 5 sealed(21,cap(rw,nor,16384,16387,16384)) \
-                           sealed(21,cap(rwx,nor,12288,12312,12301))\n";
+const BEHIND_AGAIN: &str =
+    " sealed(21,cap(rw,nor,16384,16387,16384)) sealed(21,cap(rwx,nor,12288,12312,12301))\n";
 
 const LEFT: &str = "leave bank 105\n";
 
-// Events of the others: a call and a return with a stack of 64 words and of 5, a return that hands a
-// capability over, an entry, and a frame.
+// Events of `rec`: a call up to its frame, its return with a capability, their frame; an entry; and a call
+// inside it, up to its frame, and its frame.
 const REC_CALLED: &str = "call out rec 0 65596 65599 0 0 0 0 :";
 
-const REC_RETURNED: &str =
-    "ret out rec 0 65596 65599 cap(rw,nor,16384,16384,16384) : cap(rw,nor,8192,8195,8192) 0 0 0\n";
+const REC_RETURNED: &str = "ret out rec 0 65596 65599 cap(rw,nor,16384,16384,16384) :";
 
 const REC_FRAME: &str = " cap(rw,nor,8192,8195,8192) 0 0 0\n";
 
@@ -246,8 +244,8 @@ const REC_CALLED_TWICE: &str = "call out rec 0 65592 65595 0 0 0 0 :";
 const REC_FRAME_TWICE: &str =
     " cap(rw,nor,8192,8195,8192) 0 0 sealed(11,cap(rx,nor,4096,4191,4158))\n";
 
-// The part `rec` is moved from 4,096 to 65,601, behind a stack of 64 words, and its seals from 10 to 21,
-// above the seal of the part `adv`.
+// These frames where `rec` is movable. It is moved from 4,096 to 65,601, behind a stack of 64 words, and its
+// seals from 10 to 21, above the seal of the part `adv`.
 const MOVED_FRAME: &str = " cap(rw,nor,69697,69700,69697) 0 0 0\n";
 
 const MOVED_FRAME_TWICE: &str =
@@ -282,7 +280,7 @@ static RUNS: [(&[&str], &[Case<'static>]); 13] = [
         ],
     ),
     (
-        &[ENTERED, CALLED, FRAME, RETURNED, FRAME, LEFT],
+        &[ENTERED, CALLED, BEHIND, RETURNED, BEHIND, LEFT],
         &[
             (
                 "run --stack 64 --steps 1000 t:bank.prc u:teller.asm",
@@ -331,7 +329,7 @@ static RUNS: [(&[&str], &[Case<'static>]); 13] = [
         ],
     ),
     (
-        &[ENTERED, CALLED, FRAME_SPLIT],
+        &[ENTERED, CALLED, BEHIND_SPLIT],
         &[
             (
                 "run --stack 64 t:bank.prc u:split.asm",
@@ -348,7 +346,7 @@ static RUNS: [(&[&str], &[Case<'static>]); 13] = [
         ],
     ),
     (
-        &[ENTERED, CALLED, FRAME_AGAIN, RETURNED, FRAME_AGAIN, LEFT],
+        &[ENTERED, CALLED, BEHIND_AGAIN, RETURNED, BEHIND_AGAIN, LEFT],
         &[
             (
                 "run --stack 64 t:bank.prc u:again.asm",
@@ -507,13 +505,21 @@ static RUNS: [(&[&str], &[Case<'static>]); 13] = [
         ],
     ),
     (
-        &[REC_CALLED, REC_FRAME, REC_RETURNED],
-        &[(
-            "run --stack 64 t:rec.prc u:gives.asm",
-            Status::MachineFailed,
-            "failed 4168 F6 steps 73\n",
-            Some(73),
-        )],
+        &[REC_CALLED, REC_FRAME, REC_RETURNED, REC_FRAME],
+        &[
+            (
+                "run --stack 64 t:rec.prc u:gives.asm",
+                Status::MachineFailed,
+                "failed 4168 F6 steps 73\n",
+                Some(73),
+            ),
+            (
+                "trace --stack 64 t:rec.prc u:gives.asm",
+                Status::MachineFailed,
+                "failed 4168 steps 72\n",
+                None,
+            ),
+        ],
     ),
 ];
 
@@ -566,7 +572,7 @@ fn ninth_write_fails(
     alloc: Global,
     files: &mut MemFiles,
 ) -> Result<(), AllocError> {
-    let text = format!(in alloc; "{ENTERED}{CALLED}{FRAME}")?;
+    let text = format!(in alloc; "{ENTERED}{CALLED}{BEHIND}")?;
     for line in &DEPOSITS_UNWRITTEN {
         let case = (*line, Status::WriteFault, text.as_str(), None);
         is_told_unwritten(rt, alloc, files, 9, case)?;
