@@ -9,7 +9,7 @@ use std::process::Abort;
 #[derive(Drop, PartialEq, Eq, Debug)]
 pub(crate) struct Told {
     status: Status,
-    text: String,
+    pub(crate) text: String,
     count: Option<u64>,
 }
 
@@ -45,6 +45,27 @@ fn stk(
     let mut kept: Option<LcmState> = None;
     let status = stk_main(alloc, words, files, out, &mut kept);
     (status, kept.as_ref().map(|machine| machine.count()))
+}
+
+fn status_of(
+    alloc: Global,
+    words: &Vec<String>,
+    files: &mut MemFiles,
+    kept: &mut Option<LcmState>,
+) -> Result<Status, AllocError> {
+    let mut out = MemSink::new(alloc)?;
+    Ok(stk_main(alloc, words, files, &mut out, kept))
+}
+
+/// The status of the call with the words of a line, which finds this machine kept, or leaves one there.
+pub(crate) fn status_with(
+    alloc: Global,
+    line: &str,
+    files: &mut MemFiles,
+    kept: &mut Option<LcmState>,
+) -> Result<Status, AllocError> {
+    let words = words_of(alloc, line)?;
+    status_of(alloc, &words, files, kept)
 }
 
 /// Calls the program with the words of a line, which are parted by blanks.

@@ -218,7 +218,7 @@ static CASES: [(u32, u32, Case<'static>, bool); 32] = [
     (
         0,
         0,
-        ("dis u:one.prc", Status::Usage, "usage\n", None),
+        ("dis u:one.prc", Status::ReadFault, "read fault\n", None),
         false,
     ),
     (

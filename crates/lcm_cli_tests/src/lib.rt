@@ -16,6 +16,10 @@ mod parts;
 #[cfg(test)]
 mod runs;
 #[cfg(test)]
+mod source_faults;
+#[cfg(test)]
+mod sources;
+#[cfg(test)]
 mod texts;
 #[cfg(test)]
 mod trusted;

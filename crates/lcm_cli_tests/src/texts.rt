@@ -117,7 +117,8 @@ fn parts_call_each_other_by_sealed_pairs(rt: HostRuntime) -> Result<(), Fail> {
 // The part `one` with a linear area, these words of code, and these of data.
 fn one(alloc: Global, linear: &str, code: &str, data: &str) -> Result<String, AllocError> {
     format!(in alloc;
-        ".name one\n.stack 65536\n.closure 1\n{linear}.code 100\n{code}.data 200\n{data}.export main 0 shared\n"
+        ".name one\n.stack 65536\n.closure 1\n{linear}.code 100\n{code}.data 200\n{data}\
+         .export main 0 shared\n"
     )
 }
 

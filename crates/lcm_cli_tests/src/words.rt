@@ -18,6 +18,16 @@ static TRACES: [&str; 2] = ["trace u:one.asm", "trace --stack 64 --steps 1 u:one
 
 static CHECKS: [&str; 3] = ["check u:one.asm", "check u:one.stc", "check u:two.stc"];
 
+// There is no source among the files.
+static MISSING: [&str; 6] = [
+    "run u:one.prc",
+    "link u:one.prc --out one.img",
+    "trace t:one.prc",
+    "check t:one.prc",
+    "dis u:one.prc",
+    "compile u:one.prc --out one.stc",
+];
+
 #[test]
 fn words_that_are_a_command_are_taken(rt: HostRuntime) -> Result<(), Fail> {
     let mut files = files(rt.alloc())?;
@@ -27,10 +37,12 @@ fn words_that_are_a_command_are_taken(rt: HostRuntime) -> Result<(), Fail> {
     all_are_told(&rt, rt.alloc(), &mut files, &TRACES, traced)?;
     let checked = (Status::Done, "ok\n", None);
     all_are_told(&rt, rt.alloc(), &mut files, &CHECKS, checked)?;
+    let unread = (Status::ReadFault, "read fault\n", None);
+    all_are_told(&rt, rt.alloc(), &mut files, &MISSING, unread)?;
     Ok(())
 }
 
-static REFUSED: [&str; 27] = [
+static REFUSED: [&str; 26] = [
     "",
     "run",
     "walk u:one.asm",
@@ -52,12 +64,11 @@ static REFUSED: [&str; 27] = [
     "run one.img u:one.asm",
     "link u:one.asm",
     "link one.img --out two.img",
+    "compile t:one.prc",
+    "compile t:one.asm --out one.stc",
+    "asm t:one.prc --out one.stc",
     // What isn't built yet.
-    "run u:one.prc",
-    "link u:one.prc --out one.img",
-    "trace t:one.prc",
-    "check t:one.prc",
-    "compile u:one.prc --out one.stc",
+    "mean t:one.prc --feed one.txt",
     "generate --seed 1",
 ];
 
