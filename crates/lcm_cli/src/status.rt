@@ -23,7 +23,7 @@ pub enum Status {
     TooLong,
     /// An assembler text spells no component.
     AsmRefused,
-    /// A source is refused. No command that is built answers it.
+    /// A source is refused: for its text, for a name, or for the size of what it is compiled to.
     SourceRefused,
     /// The bytes of a file are no component, or no image.
     FileRefused,

@@ -166,18 +166,19 @@ fn answer<F: Files, S: Sink>(
 
 /// All that the program does, with the words after its own name.
 ///
-/// `run`, with 1 to 16 parts `u:NAME` or `t:NAME` of names that end in `.stc` or `.asm`, reads the
-/// parts in their order, each with its form and the rules of its mark, links them with a stack of
-/// `--stack` words, runs the machine that they start for `--steps` steps or up to its end, and writes
-/// a line for each event and the end line. In place of parts it takes one image, `NAME.img`, checks
-/// and links its parts anew, and runs them so. Where all of that was written, `kept` holds the machine
-/// as the run left it; in every other case, and after any other action, it is as before. `trace` does
-/// the same with the overlay of that start, for as long as the weight of its steps is at most
-/// `--steps`. `link` reads and links parts as `run` does, puts their image under the name of `--out`,
-/// and then writes `ok`. `check` reads one part in the same way, `u:NAME` or, by the rules of trusted parts,
-/// `t:NAME`, and writes `ok`. `asm` reads one part, of either mark and a name in `.asm`, asks no rules,
-/// puts its component's file under the name of `--out`, and then writes `ok`. `dis` reads one part of
-/// either mark, asks no rules, and writes its text. Any other words write `usage`.
+/// `run`, with 1 to 16 parts `u:NAME` or `t:NAME` of names that end in `.stc`, `.asm` or `.prc`, reads
+/// the parts in their order, each with its form (a source is compiled) and the rules of its mark, links
+/// them with a stack of `--stack` words, runs the machine that they start for `--steps` steps or up to
+/// its end, and writes a line for each event and the end line. In place of parts it takes one image,
+/// `NAME.img`, checks and links its parts anew, and runs them so. Where all of that was written, `kept`
+/// holds the machine as the run left it; in every other case, and after any other action, it is as
+/// before. `trace` does the same with the overlay of that start, for as long as the weight of its steps
+/// is at most `--steps`. `link` reads and links parts as `run` does, puts their image under the name of
+/// `--out`, and then writes `ok`. `check` reads one part in the same way, `u:NAME` or, by the rules of
+/// trusted parts, `t:NAME`, and writes `ok`. `asm` reads one part, of either mark and a name in `.asm`,
+/// `compile` one of a name in `.prc`; both ask no rules, put its component's file under the name of
+/// `--out`, and then write `ok`. `dis` reads one part of either mark, asks no rules, and writes its
+/// text. Any other words write `usage`.
 pub fn stk_main<F: Files, S: Sink>(
     alloc: Global,
     words: &Vec<String>,
