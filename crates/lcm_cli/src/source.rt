@@ -38,22 +38,22 @@ fn parse_at(alloc: Global, index: u32, text: &[u8]) -> Result<Module, Stop>
 }
 
 // Whether its names lead to what fits.
-fn resolve_at(index: u32, module: &Module) -> Result<(), Stop>
-    ensures names { Meets (unless (λ f. Refusal.Source index (SourceFault.Name f)) (resolved module.now)) result }
-    ensures fine { IfOk result (λ _. name_faults module.now ≡ []) }
+fn resolve_at(index: u32, m: &Module) -> Result<(), Stop>
+    ensures names { Meets (unless (λ f. Refusal.Source index (SourceFault.Name f)) (resolved m.now)) result }
+    ensures fine { IfOk result (λ _. name_faults m.now ≡ []) }
 {
-    match resolve(module) {
+    match resolve(m) {
         Ok(()) => Ok(()),
         Err(fault) => Err(Stop::Refused(Refusal::Source(index, SourceFault::Name(fault)))),
     }
 }
 
 // Its component.
-fn compile_at(alloc: Global, index: u32, module: &Module) -> Result<Component, Stop>
-    requires { name_faults module.now ≡ [] }
-    ensures { Meets (unless (λ f. Refusal.Source index (SourceFault.Size f)) (compile_answer module.now)) result }
+fn compile_at(alloc: Global, index: u32, m: &Module) -> Result<Component, Stop>
+    requires { name_faults m.now ≡ [] }
+    ensures { Meets (unless (λ f. Refusal.Source index (SourceFault.Size f)) (compile_answer m.now)) result }
 {
-    match compile(alloc, module) {
+    match compile(alloc, m) {
         Ok(component) => Ok(component),
         Err(CompileFault::NoMemory) => Err(Stop::NoMemory),
         Err(fault) => Err(Stop::Refused(Refusal::Source(index, SourceFault::Size(fault)))),
