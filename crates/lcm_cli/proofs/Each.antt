@@ -53,7 +53,8 @@ module _ {A : Type 0} (item : ℕ → PartWord → Plan A) (words : List PartWor
         quiet = only_again old now mid s.quiet (comes_quiet (item k w) now mid x c);
         rest = λ due new g. at_word k made now w due new s h e (comes_bind (item k w) _ now mid new x due c
             (comes_left (each_at item (k + 1) (drop (k + 1) words)) _ _ mid new due
-            (comes_map (each_at item (k + 1) (drop (k + 1) words)) (λ others. Made ((made ++ x ∷ []) ++ others))
+            (comes_map (each_at item (k + 1) (drop (k + 1) words))
+            (λ others. Made ((made ++ x ∷ []) ++ others))
             (λ others. Made (made ++ (x ∷ others))) mid new due due
             (λ others t q. rw (← append_assoc made (x ∷ []) others) q) (λ why r. r) g)));
       }

@@ -254,7 +254,8 @@ each_breaks index (w ∷ ws) old new r h = elim
                   rw (← e) t.1)
             ],
       )
-      | inr s ↦ inl (part_breaks index w old new r (let e = same_err (refusal.Rule r) s.0 s.2 in rw (← e) s.1))
+      | inr s ↦ inl (part_breaks index w old new r (let e = same_err (refusal.Rule r) s.0 s.2 in
+          rw (← e) s.1))
     ]
 
 err_same : {A : Type 0} {x y : RuleAt} → x ≡ y → (let q : Result A RuleAt = Err x in q) ≡ Err y
@@ -275,7 +276,8 @@ linked_break words size old new r h = elim (comes_split (each_at part_at 0 words
                 (s.0, rw q s.2, e.1 ∙ err_same k)
                 )
           ])
-      | inr s ↦ inl (each_breaks 0 words old new r (let e = same_err (refusal.Rule r) s.0 s.2 in rw (← e) s.1))
+      | inr s ↦ inl (each_breaks 0 words old new r (let e = same_err (refusal.Rule r) s.0 s.2 in
+          rw (← e) s.1))
     ]
 
 -- ---- images

@@ -37,7 +37,7 @@ use Rattle.lcm_cli.specs.Answers.{IsPut, IsAnswerOf}
 use Rattle.lcm_cli.specs.Answers.{GivesWhole, whole, unput, unwritten, Answers, answer, nothing}
 use Rattle.lcm_cli.specs.Causes.{IsRunStatus, LinkedCame, Started, text_of_run, RunGiven, TraceGiven, IsCut}
 use Rattle.lcm_cli.specs.Causes.{RunCut, TraceCut}
-use Rattle.lcm_cli.proofs.Tasks.{made_of}
+use Rattle.lcm_cli.proofs.Tasks.{err_of, made_of}
 use Rattle.lcm_cli.proofs.Reasons.{in_made}
 use Rattle.lcm_cli.proofs.Caused.{writes_none}
 
@@ -85,14 +85,15 @@ started all l old seen i start c s =
 
 -- what was due to a deed: a refusal, or what is done with the image that came
 data DeedDue (l : Linked) (deed : LinkDeed) (old seen : FilesSeen) (a : Answer) : Type 0 where
-  told : (why : Refusal) → a ≡ refused why → DeedDue l deed old seen a
+  told : (why : Refusal) → Comes (linked_in l) old (Err why) seen → a ≡ refused why
+      → DeedDue l deed old seen a
   made : (i : ImageSeen) → Comes (linked_in l) old (Ok i) seen → IsAnswerOf (Ok (link_task deed i)) a
       → DeedDue l deed old seen a
 
 due_of : (l : Linked) (deed : LinkDeed) (old seen : FilesSeen) (due : Result Task Refusal) (a : Answer)
     → Comes (for_task (linked_in l) (link_task deed)) old due seen → IsAnswerOf due a
     → DeedDue l deed old seen a
-due_of l deed old seen (Err why) a c x = told why x
+due_of l deed old seen (Err why) a c x = told why (err_of (linked_in l) (link_task deed) old seen why c) x
 due_of l deed old seen (Ok task) a c x =
     let m = made_of (linked_in l) (link_task deed) old seen task c in
     made m.0 m.1 (subst (λ t. IsAnswerOf (Ok t) a) m.2 x)
@@ -125,7 +126,7 @@ whole_run plan old ended new (answer due a seen c x (whole g)) r =
 given_run : HeadlineHolds → (l : Linked) (steps : ℕ) (old : Outside) (seen : FilesSeen) (ended : Status)
     (new : Outside) (a : Answer) → DeedDue l (link_deed.Run steps) old.files seen a
     → GivesWhole (with_files old seen) a ended new → IsRunStatus ended → RunGiven l steps old ended new
-given_run all l steps old seen ended new a (told why e) g r =
+given_run all l steps old seen ended new a (told why c e) g r =
     absurd (refused_none why a ended e g.status_is r)
 given_run all l steps old seen ended new a (made i c x) g r =
     let h : GivesWhole (with_files old seen) (ran x.0 steps) ended new =
@@ -156,7 +157,7 @@ OverlaysAreOne =
 given_trace : HeadlineHolds → OverlaysAreOne → (l : Linked) (steps : ℕ) (old : Outside) (seen : FilesSeen)
     (ended : Status) (new : Outside) (a : Answer) → DeedDue l (link_deed.Trace steps) old.files seen a
     → GivesWhole (with_files old seen) a ended new → IsRunStatus ended → TraceGiven l steps old ended new
-given_trace all one l steps old seen ended new a (told why e) g r =
+given_trace all one l steps old seen ended new a (told why c e) g r =
     absurd (refused_none why a ended e g.status_is r)
 given_trace all one l steps old seen ended new a (made i c x) g r =
     let h : GivesWhole (with_files old seen) (traced x.1 steps) ended new =
@@ -271,15 +272,18 @@ cut_by {old = old} {new = new} k b e n w =
     (λ q. w (sym (ap (λ (a : Answer). a.status) e) ∙ q)) in
     (f.0, cut_text old new k.gives b e f.1)
 
-refused_cut : {plan : Plan Task} {old new : Outside} (k : Cut plan old new) (why : Refusal) → k.gives
-    ≡ refused why
-    → FailsToWrite old.sink (refusal_text why) new.sink
-refused_cut k why e = (cut_by k (refused why) e refl (λ q. no_cut why (sym q))).1
+refused_cut : {plan : Plan Task} {old new : Outside} (l : Linked) (k : Cut plan old new) (why : Refusal)
+    → Comes (linked_in l) old.files (Err why) k.seen → k.gives ≡ refused why
+    → (w : Refusal) × Comes (linked_in l) old.files (Err w) new.files
+    × FailsToWrite old.sink (refusal_text w) new.sink
+refused_cut {old = old} {new = new} l k why c e =
+    let f = cut_by k (refused why) e refl (λ q. no_cut why (sym q)) in
+    (why, subst (λ z. Comes (linked_in l) old.files (Err why) z) (sym f.0) c, f.1)
 
 cut_run : HeadlineHolds → (l : Linked) (steps : ℕ) (plan : Plan Task) (old new : Outside)
     (k : Cut plan old new)
     → DeedDue l (link_deed.Run steps) old.files k.seen k.gives → RunCut l steps old new
-cut_run all l steps plan old new k (told why e) = inl (why, refused_cut k why e)
+cut_run all l steps plan old new k (told why c e) = inl (refused_cut l k why c e)
 cut_run all l steps plan old new k (made i c x) =
     let f = cut_by k (ran x.0 steps) x.2 refl (never_cut _ (run_never (last_step (plain steps x.0.state)))) in
     inr (
@@ -293,7 +297,7 @@ cut_run all l steps plan old new k (made i c x) =
 cut_trace : HeadlineHolds → (l : Linked) (steps : ℕ) (plan : Plan Task) (old new : Outside)
     (k : Cut plan old new)
     → DeedDue l (link_deed.Trace steps) old.files k.seen k.gives → TraceCut l steps old new
-cut_trace all l steps plan old new k (told why e) = inl (why, refused_cut k why e)
+cut_trace all l steps plan old new k (told why c e) = inl (refused_cut l k why c e)
 cut_trace all l steps plan old new k (made i c x) =
     let f = cut_by k (traced x.1 steps) x.4 refl (never_cut _ (writes_none steps x.1)) in
     inr (

@@ -47,7 +47,8 @@ none_of false b e f = f
 small : (m : ModuleFields) → code_words (part_of m) ≤ MOST_WORDS → data_count (part_of m) ≤ MOST_WORDS
     → is_large m ≡ false
 small m c d =
-    none_of _ _ (not_below MOST_WORDS (code_words (part_of m)) c) (not_below MOST_WORDS (data_count (part_of m)) d)
+    none_of _ _ (not_below MOST_WORDS (code_words (part_of m)) c)
+    (not_below MOST_WORDS (data_count (part_of m)) d)
 
 pub compiles_so : (m : ModuleFields) → Compiles m → compile_answer m ≡ Ok (compiled m)
 unfolding compile_answer
@@ -56,9 +57,11 @@ compiles_so m c = rw (small m c.0.0 c.0.1, not_below m.return_count (module_call
 pub fails_so : (m : ModuleFields) (f : CompileFault) → f ≢ NoMemory → Causes m f → compile_answer m ≡ Err f
 unfolding compile_answer
 fails_so m TooLarge n (inl c) =
-    rw (or_left _ (nat_lt MOST_WORDS (data_count (part_of m))) (below MOST_WORDS (code_words (part_of m)) c)) refl
+    rw (or_left _ (nat_lt MOST_WORDS (data_count (part_of m))) (below MOST_WORDS (code_words (part_of m)) c))
+    refl
 fails_so m TooLarge n (inr d) =
-    rw (or_right (nat_lt MOST_WORDS (code_words (part_of m))) _ (below MOST_WORDS (data_count (part_of m)) d)) refl
+    rw (or_right (nat_lt MOST_WORDS (code_words (part_of m))) _ (below MOST_WORDS (data_count (part_of m)) d))
+    refl
 fails_so m SealsShort n c =
     rw (small m c.0.0 c.0.1, below m.return_count (module_calls m) c.1) refl
 fails_so m NoMemory n c = absurd (n refl)
@@ -75,11 +78,13 @@ abbrev of_size : ℕ → CompileFault → Refusal
 of_size index f = refusal.Source index (Size f)
 
 -- a step's stop is that of the whole
-text_stops : (index : ℕ) (text : List ℕ) (r : Result ModuleFields ParseFault) → parsed_text text ≡ r → (s : Stop)
+text_stops : (index : ℕ) (text : List ℕ) (r : Result ModuleFields ParseFault) → parsed_text text ≡ r
+    → (s : Stop)
     → (let a : Result ModuleFields Stop = Err s in Meets (unless (of_text index) r) a)
     → (let a : Result ComponentFields Stop = Err s in Meets (unless (refusal.Source index) (sourced_by r)) a)
 text_stops index text (Ok m) e (stop.Refused why) h = absurd (cc)
-text_stops index text (Err f) e (stop.Refused why) h = let q : of_text index f ≡ why = cc in ap (λ w. Ends w) q
+text_stops index text (Err f) e (stop.Refused why) h = let q : of_text index f ≡ why = cc in
+    ap (λ w. Ends w) q
 text_stops index text r e stop.NoMemory h = tt
 
 pub parse_stops : (index : ℕ) (text : List ℕ) (s : Stop)
@@ -110,7 +115,8 @@ size_ends index (Err f) (Err (stop.Refused why)) h = h
 size_ends index r (Err stop.NoMemory) h = tt
 
 -- of a text that was parsed the answer is that of the module
-source_is : (text : List ℕ) (m : ModuleFields) → parsed_text text ≡ Ok m → sourced text ≡ named_by m (resolved m)
+source_is : (text : List ℕ) (m : ModuleFields) → parsed_text text ≡ Ok m → sourced text
+    ≡ named_by m (resolved m)
 unfolding sourced
 source_is text m e = ap sourced_by e
 
@@ -120,7 +126,8 @@ pub resolve_stops : (index : ℕ) (text : List ℕ) (m : ModuleFields) (s : Stop
     → (let a : Result ComponentFields Stop = Err s in Meets (unless (refusal.Source index) (sourced text)) a)
 resolve_stops index text m s p h =
     subst (λ r. let a : Result ComponentFields Stop = Err s in Meets (unless (refusal.Source index) r) a)
-    (sym (source_is text m (parsed_so index text (parsed_text text) m p))) (name_stops index m (resolved m) s h)
+    (sym (source_is text m (parsed_so index text (parsed_text text) m p)))
+    (name_stops index m (resolved m) s h)
 
 resolved_so : (index : ℕ) (m : ModuleFields) (r : Result (Unit {0}) NameFault)
     → unless (of_name index) r ≡ Made tt → r ≡ Ok tt
@@ -129,8 +136,10 @@ resolved_so index m (Err f) e = absurd (cc)
 
 pub compile_ends : (index : ℕ) (text : List ℕ) (m : ModuleFields) (a : Result ComponentFields Stop)
     → unless (of_text index) (parsed_text text) ≡ Made m → unless (of_name index) (resolved m) ≡ Made tt
-    → Meets (unless (of_size index) (compile_answer m)) a → Meets (unless (refusal.Source index) (sourced text)) a
+    → Meets (unless (of_size index) (compile_answer m)) a
+    → Meets (unless (refusal.Source index) (sourced text)) a
 compile_ends index text m a p n h =
     subst (λ r. Meets (unless (refusal.Source index) r) a)
-    (sym (source_is text m (parsed_so index text (parsed_text text) m p) ∙ ap (named_by m) (resolved_so index m (resolved m) n)))
+    (sym (source_is text m (parsed_so index text (parsed_text text) m p)
+    ∙ ap (named_by m) (resolved_so index m (resolved m) n)))
     (size_ends index (compile_answer m) a h)

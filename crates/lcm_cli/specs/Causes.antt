@@ -52,7 +52,7 @@ use Rattle.lcm_cli.specs.Plans.{Plan, Reads, Ends, Made, Comes}
 use Rattle.component_linker.specs.Accepted.{accepted}
 use Rattle.lcm_cli.specs.Parts.{is_trusted, linked, loaded, component_at, part_at, each_at}
 use Rattle.lcm_cli.specs.Commands.{Content, spelling_of, IsReadAgain, Run, Trace, Put, Write, is_command}
-use Rattle.lcm_cli.specs.Commands.{plan_in}
+use Rattle.lcm_cli.specs.Commands.{linked_in, plan_in}
 use Rattle.lcm_cli.specs.Answers.{Outside, Answers, IsComplete, end_status}
 
 -- ---- files
@@ -295,10 +295,11 @@ pub record TraceGiven (l : Linked) (steps : ℕ) (old : Outside) (status : Statu
   pub written : Adds old.sink (trace_text steps overlay) new.sink
   pub kept_is : new.kept ≡ old.kept
 
--- the sink failed at a refusal's line, or at the text of such a start's run
+-- the sink failed at the line of the refusal that was due, or at the text of such a start's run
 abbrev pub IsCut : (l : Linked) → (StartSeen → List ℕ → Type 0) → Outside → Outside → Type 0
 IsCut l IsText old new =
-    ((why : Refusal) × FailsToWrite old.sink (refusal_text why) new.sink)
+    ((why : Refusal) × Comes (linked_in l) old.files (Err why) new.files
+    × FailsToWrite old.sink (refusal_text why) new.sink)
     ⊎ ((from : Started l old.files new.files) × (text : List ℕ) × IsText from.start text
     × FailsToWrite old.sink text new.sink)
 

@@ -31,22 +31,23 @@ module _ (c : ComponentFields) (fails : c.fail_at ≡ Some FAIL_AT) (spot : Spot
   over_if : (cs bs ds : List Item) (x m n : ℕ) → AllFree cs → Long cs x → Long bs m → Long ds n → Over bs
       → Over ds → Over (if_code cs bs m ds n)
   over_if cs bs ds x m n fc lc lb ld ob od o h bound on =
-      let R2 : List Item = goes (pos (n + 3)) ∷ label ∷ (ds ++ (label ∷ [])) in
-      let R1 : List Item = goes_if (pos 6) G0 ∷ goes (pos (m + 6)) ∷ label ∷ (bs ++ R2) in
+      let behind_block : List Item = goes (pos (n + 3)) ∷ label ∷ (ds ++ (label ∷ [])) in
+      let behind_test : List Item = goes_if (pos 6) G0 ∷ goes (pos (m + 6)) ∷ label ∷ (bs ++ behind_block) in
       let q = after o cs in
-      let hr = carries_right c spot o cs R1 h in
-      let hb = carries_left c spot (q + 3 + 3) bs R2 hr.1.1.1 in
+      let hr = carries_right c spot o cs behind_test h in
+      let hb = carries_left c spot (q + 3 + 3) bs behind_block hr.1.1.1 in
       let r = after (q + 3 + 3) bs in
-      let hr2 = carries_right c spot (q + 3 + 3) bs R2 hr.1.1.1 in
+      let hr2 = carries_right c spot (q + 3 + 3) bs behind_block hr.1.1.1 in
       let hd = carries_left c spot (r + 3) ds (label ∷ []) hr2.1.1 in
       let e = after (r + 3) ds in
       let he = carries_right c spot (r + 3) ds (label ∷ []) hr2.1.1 in
-      let whole : after o (if_code cs bs m ds n) ≡ e = after-append o cs R1 ∙ after-append (q + 3 + 3) bs R2
+      let whole : after o (if_code cs bs m ds n) ≡ e = after-append o cs behind_test
+      ∙ after-append (q + 3 + 3) bs behind_block
       ∙ after-append (r + 3) ds (label ∷ []) in
       let er : r ≡ q + 3 + 3 + m = lb.by (q + 3 + 3) in
       let ee : e ≡ r + 3 + n = ld.by (r + 3) in
       let last : e ≤ spot.epilogue = subst (λ z. z ≤ spot.epilogue) whole bound in
-      let on1 : Onward c q = over_all c fails spot o cs (carries_left c spot o cs R1 h) fc on in
+      let on1 : Onward c q = over_all c fails spot o cs (carries_left c spot o cs behind_test h) fc on in
       let on2 : Onward c (q + 3) = over_go_if c q (q + 3 + 3) (pos 6) G0 refl hr.0
       (led_on q 6 (q + 3 + 3) (omega arith) (omega (arith, er, ee, last, low)))
       (label_target c (q + 3 + 3) hr.1.1.0) on1 in
@@ -64,18 +65,19 @@ module _ (c : ComponentFields) (fails : c.fail_at ≡ Some FAIL_AT) (spot : Spot
       → Over (label ∷ (cs ++ (goes_if (pos 6) G0 ∷ goes (pos (m + 6)) ∷ label
       ∷ (bs ++ (goes (distance (x + 6 + m) 0) ∷ label ∷ [])))))
   over_while cs bs x m fc lc lb ob o h bound on =
-      let R2 : List Item = goes (distance (x + 6 + m) 0) ∷ label ∷ [] in
-      let R1 : List Item = goes_if (pos 6) G0 ∷ goes (pos (m + 6)) ∷ label ∷ (bs ++ R2) in
+      let behind_block : List Item = goes (distance (x + 6 + m) 0) ∷ label ∷ [] in
+      let behind_test : List Item = goes_if (pos 6) G0 ∷ goes (pos (m + 6)) ∷ label ∷ (bs ++ behind_block) in
       let q = after o cs in
-      let hr = carries_right c spot o cs R1 h.1 in
-      let hb = carries_left c spot (q + 3 + 3) bs R2 hr.1.1.1 in
+      let hr = carries_right c spot o cs behind_test h.1 in
+      let hb = carries_left c spot (q + 3 + 3) bs behind_block hr.1.1.1 in
       let r = after (q + 3 + 3) bs in
-      let hr2 = carries_right c spot (q + 3 + 3) bs R2 hr.1.1.1 in
-      let whole : after o (cs ++ R1) ≡ r + 3 = after-append o cs R1 ∙ after-append (q + 3 + 3) bs R2 in
+      let hr2 = carries_right c spot (q + 3 + 3) bs behind_block hr.1.1.1 in
+      let whole : after o (cs ++ behind_test) ≡ r + 3 = after-append o cs behind_test
+      ∙ after-append (q + 3 + 3) bs behind_block in
       let eq : q ≡ o + x = lc.by o in
       let er : r ≡ q + 3 + 3 + m = lb.by (q + 3 + 3) in
       let last : r + 3 ≤ spot.epilogue = subst (λ z. z ≤ spot.epilogue) whole bound in
-      let on1 : Onward c q = over_all c fails spot o cs (carries_left c spot o cs R1 h.1) fc on in
+      let on1 : Onward c q = over_all c fails spot o cs (carries_left c spot o cs behind_test h.1) fc on in
       let on2 : Onward c (q + 3) = over_go_if c q (q + 3 + 3) (pos 6) G0 refl hr.0
       (led_on q 6 (q + 3 + 3) (omega arith) (omega (arith, er, last, low)))
       (label_target c (q + 3 + 3) hr.1.1.0) on1 in
@@ -92,15 +94,15 @@ module _ (c : ComponentFields) (fails : c.fail_at ≡ Some FAIL_AT) (spot : Spot
   over_return : (cs : List Item) → AllFree cs → Over (cs ++ (does answer ∷ finishes ∷ []))
   unfolding is_free is_guarded ends_or_goes is_quiet
   over_return cs fc o h bound on =
-      let R1 : List Item = does answer ∷ finishes ∷ [] in
+      let ending : List Item = does answer ∷ finishes ∷ [] in
       let q = after o cs in
-      let hr = carries_right c spot o cs R1 h in
-      let on1 : Onward c q = over_all c fails spot o cs (carries_left c spot o cs R1 h) fc on in
+      let hr = carries_right c spot o cs ending h in
+      let on1 : Onward c q = over_all c fails spot o cs (carries_left c spot o cs ending h) fc on in
       let on2 : Onward c (q + 1) = over_all c fails spot q (does answer ∷ []) (hr.0, tt) refl on1 in
       let on3 : Onward c (q + 1 + 3) =
       over_go c (q + 1) spot.epilogue (distance (q + 1) spot.epilogue) hr.1.0
       (led_there (q + 1) spot.epilogue low) (label_target c spot.epilogue ends) on2 in
-      subst (Onward c) (sym (after-append o cs R1)) on3
+      subst (Onward c) (sym (after-append o cs ending)) on3
 
   mutual
     unfolding is_free is_guarded ends_or_goes is_quiet

@@ -210,10 +210,12 @@ module _ (m : Part) (ready : AllReady m m.procs) (most : length (laid_of m).code
       by : (x : Export) → list_any (λ e. e.offset == x.offset) c.exports ≡ true
           → (not (x.offset == o) && overlap x.offset ENTRY_WORDS o ENTRY_WORDS) ≡ false
       by x there_x' = false_of _ (λ e.
-          let ne : (x.offset == o) ≡ false = not_false (x.offset == o) ((and_parts (not (x.offset == o)) _ e).0) in
+          let ne : (x.offset == o) ≡ false = not_false (x.offset == o)
+          ((and_parts (not (x.offset == o)) _ e).0) in
           let ov = (and_parts (not (x.offset == o)) _ e).1 in
           let lo = ltb-true x.offset (o + ENTRY_WORDS) ((and_parts _ _ ov).0) in
-          let hi = ltb-true o (x.offset + ENTRY_WORDS) ((and_parts (nat_lt x.offset (o + ENTRY_WORDS)) _ ov).1) in
+          let hi = ltb-true o (x.offset + ENTRY_WORDS)
+          ((and_parts (nat_lt x.offset (o + ENTRY_WORDS)) _ ov).1) in
           elim (cases_lt o x.offset) as (λ _. ⊥) [
             | inl up ↦ true≢false (sym there_x' ∙ (entry_at o lt h).within.entry x.offset up lo)
             | inr down ↦ elim (cases_lt x.offset o) as (λ _. ⊥) [

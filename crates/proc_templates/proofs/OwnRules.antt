@@ -112,7 +112,8 @@ int_at test f (w ∷ ws) e zero = by w ((and_parts (is_int_word w) (list_all is_
     by (Mem x) e = cc
     by (Seal x) e = cc
     by (Sealed o x) e = cc
-int_at test f (w ∷ ws) e (suc i) = int_at test f ws ((and_parts (is_int_word w) (list_all is_int_word ws) e).1) i
+int_at test f (w ∷ ws) e (suc i) = int_at test f ws
+    ((and_parts (is_int_word w) (list_all is_int_word ws) e).1) i
 
 -- ---- slots
 

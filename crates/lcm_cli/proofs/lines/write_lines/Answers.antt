@@ -1,4 +1,5 @@
-use Rattle.std.proofs.Common.{take-append-drop, ◌≡◌, ◌++◌, List, [], ◌∷◌, ℕ, length, take, drop, refl, sym, subst, rules}
+use Rattle.std.proofs.Common.{take-append-drop, ◌≡◌, ◌++◌, List, [], ◌∷◌, ℕ, length, take, drop, refl, sym}
+use Rattle.std.proofs.Common.{subst, rules}
 use Rattle.std.specs.Prelude.{Result, Ok, Err, OnErr}
 use Rattle.outside_io.specs.SinkSeen.{Adds}
 use Rattle.outside_io.proofs.Writing.{adds_none}
@@ -31,4 +32,5 @@ pub returns-clause-ok : goal.returns-clause-ok
 returns-clause-ok g c =
     let now = g.S.Sink.seen c.loop-rest.out in
     let none : length c.loop-rest.rest.now ≡ 0 = search rules in
-    c.loop-rest.invariant.adds now (subst (λ t. Adds now t now) (sym (none_left c.loop-rest.rest.now none)) (adds_none now))
+    c.loop-rest.invariant.adds now (subst (λ t. Adds now t now) (sym (none_left c.loop-rest.rest.now none))
+    (adds_none now))

@@ -9,8 +9,10 @@ returns-in_err-module c =
 
 pub returns-in_err-resolve_at : goal.returns-in_err-resolve_at
 returns-in_err-resolve_at c =
-    let p = err_from_is_err_and c.from_residual-in_err-resolve_at.result c.from_residual-in_err-resolve_at.ensures.1 in
-    rw (p.1, p.2) (resolve_stops c.args.index c.args.text.now c.in_ok-module.module c.in_err-resolve_at.field-0.0
+    let p = err_from_is_err_and c.from_residual-in_err-resolve_at.result
+    c.from_residual-in_err-resolve_at.ensures.1 in
+    rw (p.1, p.2) (resolve_stops c.args.index c.args.text.now c.in_ok-module.module
+    c.in_err-resolve_at.field-0.0
     c.in_ok-module.ensures c.in_err-resolve_at.ensures.names)
 
 pub returns : goal.returns

@@ -14,7 +14,8 @@ use Rattle.lcm_cli.proofs.Follow.{follows_meets, unless_made}
 use Rattle.lcm_cli.proofs.start.file_bytes.Goals as goal
 
 -- the file came, and its bytes are not loaded
-bytes_stop : (name bytes : List ℕ) (old new : FilesSeen) (stop : Stop) → Comes (file name 0) old (Ok bytes) new
+bytes_stop : (name bytes : List ℕ) (old new : FilesSeen) (stop : Stop)
+    → Comes (file name 0) old (Ok bytes) new
     → (let r : Result ImageSeen Stop = Err stop in Meets (unless Image (loaded bytes)) r)
     → (let r : Result (List ℕ) Stop = Err stop in FollowsImage (linked_image name) old r new)
 unfolding linked_image
@@ -36,11 +37,14 @@ bytes_follow name bytes old new i c e s = (
 pub returns-in_err-load : goal.returns-in_err-load
 returns-in_err-load g c =
     let p = err_from_is_err_and c.from_residual-in_err-load.result c.from_residual-in_err-load.ensures.1 in
-    rw (p.1, p.2) (bytes_stop c.args.name.now c.in_ok-bytes.bytes _ _ c.in_err-load.field-0.0 c.in_ok-bytes.ensures.came
-    (subst (λ b. let r : Result ImageSeen Stop = Err c.in_err-load.field-0.0 in Meets (unless Image (loaded b)) r)
+    rw (p.1, p.2) (bytes_stop c.args.name.now c.in_ok-bytes.bytes _ _ c.in_err-load.field-0.0
+    c.in_ok-bytes.ensures.came
+    (subst (λ b. let r : Result ImageSeen Stop = Err c.in_err-load.field-0.0 in
+    Meets (unless Image (loaded b)) r)
     c.as_slice.ensures c.in_err-load.ensures.start))
 
 pub returns : goal.returns
 returns g c =
-    let s = subst (λ b. (i : ImageSeen) × (loaded b ≡ Ok i) × Spells b i) c.as_slice.ensures c.in_ok-load.ensures.spelled in
+    let s = subst (λ b. (i : ImageSeen) × (loaded b ≡ Ok i)
+    × Spells b i) c.as_slice.ensures c.in_ok-load.ensures.spelled in
     bytes_follow c.args.name.now c.in_ok-bytes.bytes _ _ s.0 c.in_ok-bytes.ensures.came s.1 s.2
