@@ -1,0 +1,3 @@
+mod Works
+mod Endings
+mod Ticking

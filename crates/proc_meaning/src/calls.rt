@@ -1,0 +1,108 @@
+//! Calls: their arguments, from left to right, and what they do then.
+ghost use Rattle.std.specs.Prelude.{◌≡◌, ◌+◌, ◌*◌, IfOk, length, reverse};
+ghost use Rattle.proc_program.specs.View.{args_of};
+ghost use Rattle.proc_semantics.specs.Values.{Store, pair_of};
+ghost use Rattle.proc_semantics.specs.Meaning.{call, part_of, given_of};
+ghost use Rattle.proc_semantics.specs.Whole.{whole};
+ghost use Rattle.proc_meaning.specs.Rest.{with_value, call_with, ahead_of, IsLess};
+
+use crate::names::pair_of;
+use crate::places::{Run, out_args, registers};
+use crate::work::{Ahead, Now, Whence, Work};
+use cap_words::Items;
+use proc_program::{Arg, Call, Part};
+use proc_semantics::{Frame, Pair, Value};
+use source_events::{End, OutEvent};
+use std::alloc::{AllocError, Global};
+
+/// The name of a module, as an event has it.
+pub(crate) fn part_name(
+    alloc: Global,
+    world: &[Part],
+    home: usize,
+) -> Result<Items<u8>, AllocError>
+    ensures { IfOk result (λ n. n ≡ part_of world.now home) }
+{
+    let mut name = Vec::new(alloc);
+    if let Some(part) = world.get(home) {
+        name.extend_from_slice(part.name.as_slice())?;
+    }
+    Ok(Items::of(name))
+}
+
+/// The words of the stack that a call gives away, where there are enough.
+fn given_of(frame: Frame) -> Option<u32>
+    ensures { result ≡ given_of frame }
+{
+    if u64::from(frame.left) < u64::from(frame.need) + 2 {
+        return None;
+    }
+    Some(frame.left - frame.need - 1)
+}
+
+/// A call whose arguments are evaluated.
+fn call<'a>(
+    alloc: Global,
+    world: &'a [Part],
+    to: &'a Call,
+    values: Vec<Value>,
+    work: &mut Vec<Work<'a>>,
+    run: &mut Run,
+) -> Result<Ahead<'a>, AllocError>
+    ensures same { IfOk result (λ a. (st : Store) →
+      call world.now (whole world.now) run.old.frame to.now.site
+        (pair_of world.now run.old.frame.home run.old.env.items to.now.handle) values.items
+        (with_value world.now (reverse work.old.items) run.old.frame run.old.env.items) st
+      ≡ ahead_of world.now a work.new.items run.new st) }
+    ensures less { IfOk result (λ a. IsLess a work.new.items (2 * length work.old.items + 3)) }
+{
+    let Some(given) = given_of(run.frame) else {
+        return Ok(Ahead::Stop(End::Fail));
+    };
+    match pair_of(world, run, to.handle) {
+        Pair::Bad => Ok(Ahead::Stop(End::Fail)),
+        Pair::Outside => {
+            let name = part_name(alloc, world, run.frame.home)?;
+            let event = OutEvent::CallOut(name, to.site, out_args(&values));
+            work.push(Work::Waits(run.leave(alloc), to.site, given))?;
+            Ok(Ahead::Said(event, Now::Wait))
+        }
+        Pair::Runs(target) => {
+            let registers = registers(alloc, &values)?;
+            let caller = Whence::Caller(run.leave(alloc));
+            Ok(Ahead::Free(Now::Begin(target, Some(given), registers, caller)))
+        }
+    }
+}
+
+/// The arguments of a call are evaluated: `values` are, `given` aren't.
+pub(crate) fn arguments<'a>(
+    alloc: Global,
+    world: &'a [Part],
+    to: &'a Call,
+    mut values: Vec<Value>,
+    given: &'a [Arg],
+    work: &mut Vec<Work<'a>>,
+    run: &mut Run,
+) -> Result<Ahead<'a>, AllocError>
+    ensures same { IfOk result (λ a. (st : Store) →
+      call_with world.now run.old.frame run.old.env.items to.now values.items (args_of given.now)
+        (with_value world.now (reverse work.old.items) run.old.frame run.old.env.items) st
+      ≡ ahead_of world.now a work.new.items run.new st) }
+    ensures less { IfOk result (λ a. IsLess a work.new.items (2 * length work.old.items + 3)) }
+{
+    let Some((first, rest)) = given.split_first() else {
+        return call(alloc, world, to, values, work, run);
+    };
+    match first {
+        Arg::Value(e) => {
+            work.push(Work::Arg(to, values, rest))?;
+            Ok(Ahead::Free(Now::Eval(e)))
+        }
+        Arg::Pass(handle) => {
+            values.push(Value::Closure(pair_of(world, run, *handle)))?;
+            values.push(Value::Other)?;
+            Ok(Ahead::Ticked(1, Now::Args(to, values, rest)))
+        }
+    }
+}

@@ -1,0 +1,136 @@
+//! Procedures: how they begin, and how they end.
+ghost use Rattle.std.specs.Prelude.{◌≡◌, ◌+◌, ◌*◌, ◌++◌, pos, replicate, IfOk, length, reverse, List, ◌∷◌};
+ghost use Rattle.proc_semantics.specs.declared.value.Value.TheVariants.{Num};
+ghost use Rattle.proc_semantics.specs.Values.{World, Store};
+ghost use Rattle.proc_semantics.specs.Meaning.{finish, enough};
+ghost use Rattle.proc_semantics.specs.Whole.{whole};
+ghost use Rattle.proc_meaning.specs.declared.work.Work.{Work};
+ghost use Rattle.proc_meaning.specs.Rest.{back, ended, ahead_of, IsLess};
+
+use crate::names::{proc_at, taken};
+use crate::places::Run;
+use crate::work::{Ahead, Now, Whence, Work};
+use proc_program::Part;
+use proc_semantics::{Frame, Register, Target, Value};
+use source_events::End;
+use std::alloc::{AllocError, Global};
+
+/// Locals that begin at 0, behind what parameters took.
+fn add_locals(mut env: Vec<Value>, count: u32) -> Result<Vec<Value>, AllocError>
+    ensures { IfOk result (λ e. e.items ≡ env.items ++ replicate count (Num (pos 0))) }
+{
+    for _ in 0..count {
+        env.push(Value::Num(0))?;
+    }
+    Ok(env)
+}
+
+/// The words that a procedure has, where they are as many as it needs.
+fn enough(need: u32, left: Option<u32>) -> Option<u32>
+    ensures { result ≡ enough need left }
+{
+    match left {
+        Some(left) => {
+            if left < need {
+                return None;
+            }
+            Some(left)
+        }
+        None => None,
+    }
+}
+
+/// The sum, which has room.
+pub(crate) fn sum(a: u32, b: u32) -> u64
+    ensures { result ≡ a + b }
+{
+    u64::from(a) + u64::from(b)
+}
+
+/// A procedure begins.
+pub(crate) fn begin<'a>(
+    alloc: Global,
+    world: &'a [Part],
+    target: Target,
+    left: Option<u32>,
+    registers: &[Register],
+    whence: Whence<'a>,
+    work: &mut Vec<Work<'a>>,
+    run: &mut Run,
+) -> Result<Ahead<'a>, AllocError>
+    ensures same { IfOk result (λ a. (st : Store) →
+      (whole world.now).proc target left registers.now
+        (ended world.now whence.entry (reverse work.old.items)) st
+      ≡ ahead_of world.now a work.new.items run.new st) }
+    ensures less { IfOk result (λ a. IsLess a work.new.items (2 * length work.old.items)) }
+{
+    let Some(proc) = proc_at(world, target) else {
+        return Ok(Ahead::Stop(End::Fail));
+    };
+    let ticks = sum(proc.need, 1);
+    let Some(words) = enough(proc.need, left) else {
+        return Ok(Ahead::Ticked(ticks, Now::Fail));
+    };
+    let Some(env) = taken(alloc, proc.callbacks.as_slice(), registers)? else {
+        return Ok(Ahead::Ticked(ticks, Now::Fail));
+    };
+    let places = add_locals(env, proc.locals)?;
+    *run = Run {
+        frame: Frame {
+            home: target.home,
+            left: words,
+            need: proc.need,
+        },
+        env: places,
+    };
+    work.push(Work::Ends(whence))?;
+    work.push(Work::Rest(proc.body.as_slice()))?;
+    Ok(Ahead::Ticked(ticks, Now::Next))
+}
+
+/// The procedure ends with a value.
+pub(crate) fn end_run<'a>(whence: Whence<'a>, value: i64, run: &mut Run) -> Ahead<'a>
+    ensures same { (world : World) (items : List Work) (st : Store) →
+      finish world run.old.frame.need (ended world whence.entry (reverse items)) value st
+      ≡ ahead_of world result items run.new st }
+    ensures less { (items : List Work) → IsLess result items (2 * length items) }
+{
+    let ticks = u64::from(run.frame.need) + 1;
+    match whence {
+        Whence::Start => Ahead::Ticked(ticks, Now::Fail),
+        Whence::Caller(caller) => {
+            *run = caller;
+            Ahead::Ticked(ticks, Now::Value(value))
+        }
+        Whence::Entered(home, left, back) => {
+            Ahead::Ticked(ticks, Now::Left(home, left, back, value))
+        }
+    }
+}
+
+/// A procedure returns a value, past what stands behind the statement.
+fn back_of<'a>(w: Work<'a>, v: i64, run: &mut Run) -> Ahead<'a>
+    ensures same { (world : World) (items : List Work) (st : Store) →
+      back world (w.entry ∷ reverse items) run.old.frame v st ≡ ahead_of world result items run.new st }
+    ensures less { (items : List Work) → IsLess result items (2 * length items + 2) }
+{
+    match w {
+        Work::Rest(_) => Ahead::Free(Now::Back(v)),
+        Work::Turn(_, _) => Ahead::Free(Now::Back(v)),
+        Work::Ends(whence) => end_run(whence, v, run),
+        _ => Ahead::Stop(End::Fail),
+    }
+}
+
+/// A procedure returns a value.
+pub(crate) fn give_back<'a>(v: i64, work: &mut Vec<Work<'a>>, run: &mut Run) -> Ahead<'a>
+    ensures same { (world : World) (st : Store) →
+      back world (reverse work.old.items) run.old.frame v st
+      ≡ ahead_of world result work.new.items run.new st }
+    ensures less { IsLess result work.new.items (2 * length work.old.items) }
+{
+    match work.pop() {
+        Some(w) => back_of(w, v, run),
+        None => Ahead::Stop(End::Fail),
+    }
+}

@@ -1,0 +1,20 @@
+//! The code that goes through a feed as sources mean it: [`meaning`], and [`meaning_of_parts`] over
+//! programs that are there already. Its contract is exactly the definition in `proc_semantics`.
+//!
+//! It keeps a list of what is still to be done on the heap, so calls may nest as deep as memory allows.
+#![tactic(auto)]
+
+mod calls;
+mod ends;
+mod exprs;
+mod feed;
+mod modules;
+mod names;
+mod places;
+mod steps;
+mod telling;
+mod turns;
+mod work;
+
+pub use modules::meaning;
+pub use telling::meaning_of_parts;

@@ -1,0 +1,93 @@
+//! The meaning of a feed, turn by turn.
+ghost use Rattle.std.specs.Prelude.{◌≡◌, IfOk, [], map};
+ghost use Rattle.proc_semantics.specs.Values.{Store, main_of};
+ghost use Rattle.proc_semantics.specs.Meaning.{meaning, start};
+ghost use Rattle.proc_semantics.specs.Whole.{whole};
+ghost use Rattle.proc_meaning.specs.declared.places.Run.{Run};
+ghost use Rattle.proc_meaning.specs.Rest.{now_of};
+
+use crate::names::main_of;
+use crate::places::{Run, Words};
+use crate::turns::turn;
+use crate::work::{Ahead, Now, Whence, Work};
+use cap_words::Items;
+use proc_program::Part;
+use source_events::{End, Item, OutEvent, Told};
+use std::alloc::{AllocError, Global};
+
+/// What the words of the globals are at first.
+fn first_words(alloc: Global, world: &[Part]) -> Result<Vec<Words>, AllocError>
+    ensures { IfOk result (λ s. s.items ≡ map (λ u. u.globals) world.now) }
+{
+    let mut store = Vec::new(alloc);
+    for part in world {
+        store.push(Words::of(alloc, part.globals.as_slice())?)?;
+    }
+    Ok(store)
+}
+
+/// What is done first.
+fn first<'a>(alloc: Global, world: &[Part], stack: u32) -> Now<'a>
+    ensures { (r : Run) (st : Store) →
+      start world.now (whole world.now) stack (main_of world.now) st ≡ now_of world.now result [] r st }
+{
+    match main_of(world) {
+        Some(target) => Now::Begin(target, Some(stack), Vec::new(alloc), Whence::Start),
+        None => Now::Wait,
+    }
+}
+
+fn told(events: Vec<OutEvent>, end: End, ticks: u64) -> Told
+    ensures { result ≡ record { events = events.items; end = end; ticks = ticks } }
+{
+    Told {
+        events: Items::of(events),
+        end,
+        ticks,
+    }
+}
+
+/// The meaning of a feed under a fuel, over programs: exactly the defined one, unless memory is refused.
+/// `stack` is how many words of it there are. It ends by `OutOfFuel` exactly where the next tick would pass
+/// the fuel. Memory grows with events and with the depth of calls, not with ticks.
+pub fn meaning_of_parts(
+    alloc: Global,
+    world: &[Part],
+    stack: u32,
+    feed: &[Item],
+    fuel: u64,
+) -> Result<Told, AllocError>
+    ensures { IfOk result (λ t. t ≡ meaning world.now stack feed.now fuel) }
+{
+    let mut store = first_words(alloc, world)?;
+    let mut work: Vec<Work<'_>> = Vec::new(alloc);
+    let mut run = Run::none(alloc);
+    let mut events: Vec<OutEvent> = Vec::new(alloc);
+    let mut coming = feed;
+    let mut left = fuel;
+    let mut now = first(alloc, world, stack);
+    loop {
+        match turn(alloc, world, now, &mut work, &mut run, &mut store)? {
+            Ahead::Free(next) => now = next,
+            Ahead::Ticked(ticks, next) => {
+                if left < ticks {
+                    return Ok(told(events, End::OutOfFuel, fuel));
+                }
+                left -= ticks;
+                now = next;
+            }
+            Ahead::Said(event, next) => {
+                events.push(event)?;
+                now = next;
+            }
+            Ahead::Asks => match coming.split_first() {
+                None => return Ok(told(events, End::Waiting, fuel - left)),
+                Some((item, rest)) => {
+                    coming = rest;
+                    now = Now::Take(item);
+                }
+            },
+            Ahead::Stop(end) => return Ok(told(events, end, fuel - left)),
+        }
+    }
+}

@@ -1,0 +1,4 @@
+pub mod Congruence
+pub mod Recursive
+pub mod Fuelled
+mod Examples
