@@ -1,0 +1,5 @@
+mod Digits
+pub mod Cuts
+pub mod Numbers
+pub mod Fronts
+pub mod WordTexts

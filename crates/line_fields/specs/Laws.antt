@@ -1,0 +1,23 @@
+-- Numbers and words are read of their own texts alone.
+use Rattle.std.specs.Prelude.{◌≡◌, ◌↔◌, ◌<◌, ◌≤◌, ◌^◌, ℕ, ℤ, List, Some, FitsSigned, decimal}
+use Rattle.std.specs.Int.{w64}
+use Rattle.std.specs.Fmt.{signed_decimal}
+use Rattle.cap_words.specs.declared.Word.{Word}
+use Rattle.cap_words.specs.Text.{word_text_of}
+use Rattle.cap_words.specs.WordBytes.{WordFits}
+use Rattle.line_fields.specs.Numbers.{number_in, integer_in}
+use Rattle.line_fields.specs.Words.{word_in}
+
+-- up to a bound of 64 bits
+abbrev pub NumbersAreRead : Type 0
+NumbersAreRead =
+    (most n : ℕ) (text : List ℕ) → most < 2 ^ 64
+    → (number_in most text ≡ Some n) ↔ ((n ≤ most) × (text ≡ decimal n))
+
+abbrev pub IntegersAreRead : Type 0
+IntegersAreRead =
+    (z : ℤ) (text : List ℕ) → (integer_in text ≡ Some z) ↔ (FitsSigned w64 z × (text ≡ signed_decimal z))
+
+-- a word is one that a machine has
+abbrev pub WordsAreRead : Type 0
+WordsAreRead = (w : Word) (text : List ℕ) → (word_in text ≡ Some w) ↔ (WordFits w × (text ≡ word_text_of w))

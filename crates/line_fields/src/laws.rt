@@ -1,0 +1,13 @@
+//! What holds of what is read. These functions do nothing; their contracts are the laws.
+ghost use Rattle.line_fields.specs.Laws.{NumbersAreRead, IntegersAreRead, WordsAreRead};
+
+/// A number and an integer are each read of their decimal text alone.
+pub fn numbers_are_read()
+    ensures naturals { NumbersAreRead }
+    ensures integers { IntegersAreRead }
+{}
+
+/// A word that a machine has is read of its text alone.
+pub fn words_are_read()
+    ensures { WordsAreRead }
+{}

@@ -1,0 +1,59 @@
+//! All rules, in their order.
+ghost use Rattle.std.specs.Prelude.{◌≡◌, ◌<◌, ◌^◌, length, Ok, map};
+ghost use Rattle.component_check.specs.Verdict.{check_from, kept_or};
+ghost use Rattle.component_linker.specs.Pairs.{by_part, IsFirstBrokenIn};
+ghost use Rattle.module_rules.specs.Rules.{module_rules, told_as, ruled};
+
+use crate::imports::{imports_are_shared, imports_are_there};
+use crate::pairs::{names_differ, stacks_agree};
+use crate::places::ModulePlace;
+use crate::whole::{one_main, stack_fits};
+use component_check::{Group, Rule};
+use component_linker::RuleAt;
+use proc_language::Module;
+
+// Goes on where a rule has no broken place. The first that is tried is L3.
+fn kept(tried: u8, at: Option<ModulePlace>) -> Result<(), RuleAt>
+    requires { tried < 10 }
+    ensures { result ≡ kept_or told_as tried at (Ok tt) }
+{
+    match at {
+        None => Ok(()),
+        Some(at) => Err(RuleAt {
+            rule: Rule {
+                group: Group::L,
+                number: tried + 2,
+            },
+            part: at.part,
+            place: at.place,
+        }),
+    }
+}
+
+fn try_rules(modules: &[Module], size: u32) -> Result<(), RuleAt>
+    requires { length modules.now < 2 ^ 32 }
+    ensures { result ≡ check_from told_as 1 (map by_part (module_rules modules.now size)) }
+{
+    kept(1, names_differ(modules))?;
+    kept(2, imports_are_there(modules))?;
+    kept(3, imports_are_shared(modules))?;
+    kept(4, one_main(modules))?;
+    kept(5, stacks_agree(modules))?;
+    kept(6, stack_fits(modules, size))
+}
+
+/// Tries the rules L3 to L8 on modules and a stack of `size` words: L4 and L5 on imports from one of
+/// the modules alone, and L6 so that no shared `main` at all is allowed. docs/RULES.md has them. It
+/// takes no memory.
+///
+/// # Errors
+///
+/// The first rule that is broken, in the first module and at the first place there at which it is.
+#[tactic(auto, unfolding(crate::specs::Rules::ruled))]
+pub fn check_modules(modules: &[Module], size: u32) -> Result<(), RuleAt>
+    requires { length modules.now < 2 ^ 32 }
+    ensures is { result ≡ ruled modules.now size }
+    ensures first { IsFirstBrokenIn told_as (module_rules modules.now size) result }
+{
+    try_rules(modules, size)
+}

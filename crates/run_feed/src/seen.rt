@@ -1,0 +1,73 @@
+//! What lines of a feed tell, field by field.
+ghost use Rattle.std.specs.Prelude.{◌≡◌};
+
+use line_fields::{Back, Handed};
+use std::marker::Model;
+
+/// What an `enter` line tells. Of words it has the fields.
+#[derive(Debug, Drop)]
+pub struct Entered<'a> {
+    pub(crate) part: &'a [u8],
+    pub(crate) name: &'a [u8],
+    pub(crate) stk: &'a [u8],
+    pub(crate) a0: &'a [u8],
+    pub(crate) a1: &'a [u8],
+    pub(crate) a2: &'a [u8],
+    pub(crate) a3: &'a [u8],
+    pub(crate) back: Back<'a>,
+}
+
+impl<'a> Model for Entered<'a> {
+    ghost use Rattle.run_feed.specs.Seen.{EnterSeen};
+
+    ghost Value = { EnterSeen };
+
+    ghost view = { λ e. record {
+      part = e.part.now;
+      name = e.name.now;
+      stk = e.stk.now;
+      a0 = e.a0.now;
+      a1 = e.a1.now;
+      a2 = e.a2.now;
+      a3 = e.a3.now;
+      back = e.back;
+    } };
+}
+
+/// What a `ret out` line tells. Of the value it has the field.
+#[derive(Debug, Drop)]
+pub struct Answered<'a> {
+    pub(crate) part: &'a [u8],
+    pub(crate) site: u32,
+    pub(crate) base: u32,
+    pub(crate) a0: &'a [u8],
+}
+
+impl<'a> Model for Answered<'a> {
+    ghost use Rattle.run_feed.specs.Seen.{RetSeen};
+
+    ghost Value = { RetSeen };
+
+    ghost view = { λ r. record {
+      part = r.part.now;
+      site = r.site;
+      base = r.base;
+      a0 = r.a0.now;
+    } };
+}
+
+/// What a `pass` line tells.
+#[derive(Debug, Drop)]
+pub struct Passed<'a> {
+    pub(crate) p0: Handed<'a>,
+    pub(crate) p1: Handed<'a>,
+    pub(crate) p2: Handed<'a>,
+}
+
+impl<'a> Model for Passed<'a> {
+    ghost use Rattle.run_feed.specs.Seen.{PassSeen};
+
+    ghost Value = { PassSeen };
+
+    ghost view = { λ p. record { p0 = p.p0; p1 = p.p1; p2 = p.p2 } };
+}
