@@ -1,12 +1,13 @@
 -- A text that is cut at its first mark, and its parts.
-use Rattle.std.proofs.Common.{◌≡◌, ℕ, ◌+◌, ◌<◌, ◌≤◌, Bool, true, false, cond, List, [], ◌∷◌, length, Option}
-use Rattle.std.proofs.Common.{Some, None, Bor, refl, sym, ap, ◌∙◌, arith}
+use Rattle.std.proofs.Common.{◌≡◌, ℕ, ◌+◌, ◌<◌, ◌≤◌, Bool, true, false, cond, List, [], ◌∷◌, ◌++◌, length}
+use Rattle.std.proofs.Common.{Option, Some, None, Bor, refl, sym, ap, ◌∙◌, arith}
 use Rattle.std.specs.Prelude.{nat_lt, not, is_some, option_map}
-use Rattle.std.specs.List.{slice_split, position_or_len, before_first, after_first}
+use Rattle.std.specs.List.{join_with_byte, slice_split, position_or_len, before_first, after_first}
 use Rattle.std.proofs.lemmas.Bool.{ltb-true, ltb-false}
 use Rattle.std.proofs.lemmas.List.Elements.{All-from_get_or}
 use Rattle.std.proofs.lemmas.List.Sums.{fails_before_first, count_by-le-length}
-use Rattle.std.proofs.lemmas.List.Splits.{slice_split_first, slice_split_none, length-slice_split}
+use Rattle.std.proofs.lemmas.List.Splits.{join_with_byte-slice_split, slice_split_first, slice_split_none}
+use Rattle.std.proofs.lemmas.List.Splits.{length-slice_split}
 use Rattle.line_fields.specs.Cuts.{is_mark, cut, parts, parts_left}
 use Rattle.line_fields.specs.Fields.{is_none_left, field}
 
@@ -53,6 +54,20 @@ parts_len mark text =
 parts_some : (mark : ℕ) (text : List ℕ) → 0 < length (parts mark text)
 unfolding parts
 parts_some mark text = omega (arith, length-slice_split (is_mark mark) text)
+
+joined : (mark : ℕ) (front : List ℕ) (ts : List (List ℕ)) → 0 < length ts
+    → join_with_byte mark (front ∷ ts) ≡ front ++ mark ∷ join_with_byte mark ts
+joined mark front [] h = absurd (omega arith)
+joined mark front (t ∷ ts) h = refl
+
+pub cut_is : (mark : ℕ) (text front back : List ℕ) → cut mark text ≡ Some (front, back)
+    → text ≡ front ++ mark ∷ back
+unfolding parts
+cut_is mark text front back h =
+    sym (join_with_byte-slice_split mark text)
+    ∙ ap (join_with_byte mark) (parts_at mark text front back (sym h))
+    ∙ joined mark front (parts mark back) (parts_some mark back)
+    ∙ ap (λ t. front ++ mark ∷ t) (join_with_byte-slice_split mark back)
 
 some_left : (ts : List (List ℕ)) → 0 < length ts → is_none_left ts ≡ false
 some_left [] h = absurd (omega arith)

@@ -1,6 +1,8 @@
 -- What stands behind a front, and what before a mark that it is free of.
-use Rattle.std.proofs.Common.{◌≡◌, ◌≢◌, ℕ, zero, suc, ◌+◌, ◌^◌, ◌<◌, Bool, true, List, [], ◌∷◌, ◌++◌, length, take, drop}
-use Rattle.std.proofs.Common.{Some, refl, sym, ap, ◌∙◌, arith, inl, inr}
+use Rattle.std.proofs.Common.{◌≡◌, ◌≢◌, ℕ, suc, ◌+◌, ◌^◌, ◌<◌, Bool, true, List, [], ◌∷◌, ◌++◌, length}
+use Rattle.std.proofs.Common.{length-append, take, drop, Some, refl, sym, ap, ◌∙◌, arith, inl, inr}
+use Rattle.std.proofs.lemmas.List.{take-append-drop, take_at, drop_at}
+use Rattle.std.proofs.Math.Seq.{drop-append-add}
 use Rattle.std.specs.Prelude.{ℤ, pos, negsuc, nat_le, nat_lt, not, ◌==◌, ◌⊎◌, FitsSigned}
 use Rattle.std.specs.Int.{w64}
 use Rattle.std.specs.Str.{bytes_eq}
@@ -15,25 +17,12 @@ use Rattle.line_fields.proofs.Numbers.{digits_of_decimal, chosen}
 
 -- ---- fronts of texts
 
-take_front : (xs ys : List ℕ) → take (length xs) (xs ++ ys) ≡ xs
-take_front [] ys = refl
-take_front (x ∷ xs) ys = ap (λ l. x ∷ l) (take_front xs ys)
-
-drop_front : (xs ys : List ℕ) → drop (length xs) (xs ++ ys) ≡ ys
-drop_front [] ys = refl
-drop_front (x ∷ xs) ys = drop_front xs ys
-
-join_again : (n : ℕ) (text : List ℕ) → take n text ++ drop n text ≡ text
-join_again zero text = refl
-join_again (suc n) [] = refl
-join_again (suc n) (x ∷ text) = ap (λ l. x ∷ l) (join_again n text)
-
 pub behind_front : (front rest : List ℕ) → behind front (front ++ rest) ≡ Some rest
 unfolding behind
 behind_front front rest =
     let same : bytes_eq front front ≡ true = (bytes_eq-Decides front front).1 refl in
-    let one = take_front front rest in
-    let two = drop_front front rest in
+    let one = take_at front rest (length front) refl in
+    let two = drop_at front rest (length front) refl in
     rw (one, two, same) refl
 
 pub behind_is : (front text rest : List ℕ) → behind front text ≡ Some rest → text ≡ front ++ rest
@@ -41,25 +30,13 @@ unfolding behind
 behind_is front text rest h =
     let k = chosen (bytes_eq (take (length front) text) front) (drop (length front) text) rest h in
     let one = (bytes_eq-Decides (take (length front) text) front).0 k.0 in
-    sym (join_again (length front) text) ∙ ap (λ l. l ++ drop (length front) text) one ∙ ap (λ l. front ++ l) k.1
+    sym (take-append-drop (length front) text) ∙ ap (λ l. l ++ drop (length front) text) one
+    ∙ ap (λ l. front ++ l) k.1
 
 -- ---- marks
 
 abbrev pub is_free : ℕ → List ℕ → Bool
 is_free mark text = list_all (λ b. not (b == mark)) text
-
-drop_suc : (xs : List ℕ) (y : ℕ) (ys : List ℕ) → drop (suc (length xs)) (xs ++ y ∷ ys) ≡ ys
-drop_suc [] y ys = refl
-drop_suc (x ∷ xs) y ys = drop_suc xs y ys
-
-drop_mark : (xs : List ℕ) (y : ℕ) (ys : List ℕ) → drop (length xs + 1) (xs ++ y ∷ ys) ≡ ys
-drop_mark xs y ys =
-    ap (λ k. drop k (xs ++ y ∷ ys)) (let e : length xs + 1 ≡ suc (length xs) = omega arith in e)
-    ∙ drop_suc xs y ys
-
-both_long : (xs ys : List ℕ) → length (xs ++ ys) ≡ length xs + length ys
-both_long [] ys = omega arith
-both_long (x ∷ xs) ys = omega (arith, both_long xs ys)
 
 same_mark : (m : ℕ) → (m == m) ≡ true
 same_mark m = grind (arith, nat_tests)
@@ -78,11 +55,11 @@ unfolding cut
 cut_front mark a b h =
     let n = len_before mark a b h in
     let lt : nat_lt (position_or_len (is_mark mark) (a ++ mark ∷ b)) (length (a ++ mark ∷ b)) ≡ true =
-    lt-ltb _ _ (omega (arith, n, both_long a (mark ∷ b))) in
+    lt-ltb _ _ (omega (arith, n, length-append a (mark ∷ b))) in
     let front : before_first (is_mark mark) (a ++ mark ∷ b) ≡ a =
-    ap (λ k. take k (a ++ mark ∷ b)) n ∙ take_front a (mark ∷ b) in
+    ap (λ k. take k (a ++ mark ∷ b)) n ∙ take_at a (mark ∷ b) (length a) refl in
     let back : after_first (is_mark mark) (a ++ mark ∷ b) ≡ b =
-    ap (λ k. drop (k + 1) (a ++ mark ∷ b)) n ∙ drop_mark a mark b in
+    ap (λ k. drop (k + 1) (a ++ mark ∷ b)) n ∙ drop-append-add a (mark ∷ b) 1 in
     rw (lt, front, back) refl
 
 -- ---- digits are no marks

@@ -1,16 +1,17 @@
 -- A number is what its decimal text is read as.
-use Rattle.std.proofs.Common.{◌≡◌, ℕ, zero, suc, ◌+◌, ◌^◌, ◌<◌, ◌≤◌, Bool, true, false, cond, List, [], ◌∷◌, length}
-use Rattle.std.proofs.Common.{get_or, drop, Option, Some, None, refl, sym, ap, ◌∙◌, subst, arith, inl, inr, eq-eqb}
-use Rattle.std.specs.Prelude.{ℤ, pos, negsuc, nat_le, nat_lt, not, ◌&&◌, ◌||◌, ◌==◌, ◌⊎◌, slice_index, FitsSigned}
-use Rattle.std.specs.Prelude.{option_map, option_and_then, if◌then◌else◌}
+use Rattle.std.proofs.Common.{◌≡◌, ℕ, zero, suc, ◌+◌, ◌^◌, ◌<◌, ◌≤◌, Bool, true, false, cond, List, [], ◌∷◌}
+use Rattle.std.proofs.Common.{length, get_or, drop, Option, Some, None, refl, sym, ap, ◌∙◌, subst, arith, inl}
+use Rattle.std.proofs.Common.{inr, eq-eqb}
+use Rattle.std.specs.Prelude.{ℤ, pos, negsuc, nat_le, nat_lt, not, ◌&&◌, ◌||◌, ◌==◌, ◌⊎◌, slice_index}
+use Rattle.std.specs.Prelude.{FitsSigned, option_map, option_and_then, if◌then◌else◌}
 use Rattle.std.specs.Int.{w64}
 use Rattle.std.specs.List.{list_all}
 use Rattle.std.specs.Fmt.{decimal, signed_decimal}
 use Rattle.std.specs.Str.Parse.{digits_value}
 use Rattle.std.proofs.lemmas.Bool.{and_parts, leb-true, le-leb, lt-ltb, ltb-true, eqb-true, ne_eqb}
 use Rattle.std.proofs.lemmas.Str.Parse.{IsNumeralModel, IsDigitsTest, numerals_by_value}
-use Rattle.std.proofs.lemmas.Fmt.{digits_decimal, digits_value-decimal, decimal-digits_value, decimal_nonempty}
-use Rattle.std.proofs.lemmas.Fmt.{first_decimal, decimal_digit}
+use Rattle.std.proofs.lemmas.Fmt.{digits_decimal, digits_value-decimal, decimal-digits_value}
+use Rattle.std.proofs.lemmas.Fmt.{decimal_nonempty, first_decimal, decimal_digit}
 use Rattle.cap_words.specs.Names.{is_digit}
 use Rattle.line_fields.specs.declared.TheConstants.{LAST_INTEGER}
 use Rattle.line_fields.specs.Numbers.{is_plain, are_digits, number_in, negative, integer_in}

@@ -21,14 +21,14 @@ use Rattle.cap_words.specs.declared.Sealable.TheVariants.{Mem as MemIn, Seal as 
 use Rattle.cap_words.specs.declared.Word.{Word}
 use Rattle.cap_words.specs.declared.Word.TheVariants.{Int, Mem, Seal, Sealed}
 use Rattle.cap_words.specs.Names.{is_digit}
-use Rattle.cap_words.specs.Text.{perm_name, lin_name, range_text, cap_text, seal_text, sealable_text, sealed_text}
-use Rattle.cap_words.specs.Text.{word_text_of}
+use Rattle.cap_words.specs.Text.{perm_name, lin_name, range_text, cap_text, seal_text, sealable_text}
+use Rattle.cap_words.specs.Text.{sealed_text, word_text_of}
 use Rattle.cap_words.specs.WordBytes.{ContentFits, WordFits}
 use Rattle.line_fields.specs.Cuts.{cut, behind}
 use Rattle.line_fields.specs.Numbers.{are_digits, number_in, integer_in}
-use Rattle.line_fields.specs.Words.{perm_named, lin_named, range_in, cap_in, seals_behind}
-use Rattle.line_fields.specs.Words.{content_behind, content_in, sealed_in, as_word, unsealed_or, word_behind}
-use Rattle.line_fields.specs.Words.{candidate_in, where_text, word_in}
+use Rattle.line_fields.specs.Words.{perm_named, lin_named, range_in, cap_in, seals_behind, content_behind}
+use Rattle.line_fields.specs.Words.{content_in, sealed_in, as_word, unsealed_or, word_behind, candidate_in}
+use Rattle.line_fields.specs.Words.{where_text, word_in}
 use Rattle.line_fields.proofs.Numbers.{digits_of_decimal, number_again, integer_again, number_is, integer_is}
 use Rattle.line_fields.proofs.Numbers.{some_from, some_of, chosen}
 use Rattle.line_fields.proofs.Fronts.{is_free, cut_front, decimal_free, signed_free}
@@ -122,11 +122,11 @@ regroup_seal a k b m s e r = simp append_assoc
 text_then : (x : Sealable) (rest : List ℕ) → sealable_text x ++ rest ≡ content_then x rest
 unfolding cap_text seal_text range_text
 text_then (MemIn c) rest =
-    regroup_cap (codes "cap(") (perm_name c.perm) (codes ",") (lin_name c.lin) (decimal c.base) (decimal c.end)
-    (signed_decimal c.addr) (codes ")") rest
+    regroup_cap (codes "cap(") (perm_name c.perm) (codes ",") (lin_name c.lin) (decimal c.base)
+    (decimal c.end) (signed_decimal c.addr) (codes ")") rest
 text_then (SealIn s) rest =
-    regroup_seal (codes "seal(") (codes ",") (decimal s.base) (decimal s.end) (signed_decimal s.cur) (codes ")")
-    rest
+    regroup_seal (codes "seal(") (codes ",") (decimal s.base) (decimal s.end) (signed_decimal s.cur)
+    (codes ")") rest
 
 regroup : (a b c d e : List ℕ) → a ++ b ++ c ++ d ++ e ≡ a ++ (b ++ (c ++ (d ++ e)))
 regroup a b c d e = simp append_assoc

@@ -1,7 +1,9 @@
 -- Fields that tell where a jump leads.
-use Rattle.std.specs.Prelude.{ℕ, List, codes, Option, Some, None, option_map, if◌then◌else◌}
+use Rattle.std.specs.Prelude.{ℕ, ◌≤◌, ◌++◌, IsTrue, List, codes, decimal, Option, Some, None, option_map}
+use Rattle.std.specs.Prelude.{if◌then◌else◌}
 use Rattle.std.specs.Str.{bytes_eq}
 use Rattle.cap_words.specs.Names.{is_name}
+use Rattle.line_fields.specs.declared.TheConstants.{LAST_NATURAL}
 use Rattle.line_fields.specs.declared.forms.Back.{Back}
 use Rattle.line_fields.specs.declared.forms.Back.TheVariants as back
 use Rattle.line_fields.specs.declared.forms.Handed.{Handed}
@@ -58,3 +60,42 @@ handed_in text =
     else if bytes_eq (codes "bad") text then Some handed.Bad
     else if bytes_eq (codes "out") text then Some handed.Out
     else handed_behind (behind (codes "hop:") text)
+
+-- ---- how they are written
+
+-- names are names, and numbers have 32 bits
+abbrev pub EntryFits : EntrySeen → Type 0
+EntryFits e = IsTrue (is_name e.part) × IsTrue (is_name e.name)
+
+abbrev pub CallFits : CallSeen → Type 0
+CallFits c = IsTrue (is_name c.part) × (c.site ≤ LAST_NATURAL) × (c.base ≤ LAST_NATURAL)
+
+abbrev pub BackFits : Back → Type 0
+BackFits back.Out = Unit {0}
+BackFits back.Bad = Unit {0}
+BackFits (back.Hop entry) = EntryFits entry
+BackFits (back.Pair call) = CallFits call
+
+abbrev pub HandedFits : Handed → Type 0
+HandedFits handed.Nothing = Unit {0}
+HandedFits handed.Bad = Unit {0}
+HandedFits handed.Out = Unit {0}
+HandedFits (handed.Hop entry) = EntryFits entry
+
+abbrev pub entry_text : EntrySeen → List ℕ
+entry_text e = e.part ++ (codes ":" ++ e.name)
+
+abbrev pub call_text : CallSeen → List ℕ
+call_text c = c.part ++ (codes ":" ++ (decimal c.site ++ (codes ":" ++ decimal c.base)))
+
+abbrev pub back_text : Back → List ℕ
+back_text back.Out = codes "out"
+back_text back.Bad = codes "bad"
+back_text (back.Hop entry) = codes "hop:" ++ entry_text entry
+back_text (back.Pair call) = codes "pair:" ++ call_text call
+
+abbrev pub handed_text : Handed → List ℕ
+handed_text handed.Nothing = codes "none"
+handed_text handed.Bad = codes "bad"
+handed_text handed.Out = codes "out"
+handed_text (handed.Hop entry) = codes "hop:" ++ entry_text entry

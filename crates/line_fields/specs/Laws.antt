@@ -1,4 +1,4 @@
--- Numbers and words are read of their own texts alone.
+-- Numbers, words and jumps are read of their own texts alone.
 use Rattle.std.specs.Prelude.{◌≡◌, ◌↔◌, ◌<◌, ◌≤◌, ◌^◌, ℕ, ℤ, List, Some, FitsSigned, decimal}
 use Rattle.std.specs.Int.{w64}
 use Rattle.std.specs.Fmt.{signed_decimal}
@@ -7,6 +7,9 @@ use Rattle.cap_words.specs.Text.{word_text_of}
 use Rattle.cap_words.specs.WordBytes.{WordFits}
 use Rattle.line_fields.specs.Numbers.{number_in, integer_in}
 use Rattle.line_fields.specs.Words.{word_in}
+use Rattle.line_fields.specs.declared.forms.Back.{Back}
+use Rattle.line_fields.specs.declared.forms.Handed.{Handed}
+use Rattle.line_fields.specs.Forms.{back_in, BackFits, back_text, handed_in, HandedFits, handed_text}
 
 -- up to a bound of 64 bits
 abbrev pub NumbersAreRead : Type 0
@@ -21,3 +24,10 @@ IntegersAreRead =
 -- a word is one that a machine has
 abbrev pub WordsAreRead : Type 0
 WordsAreRead = (w : Word) (text : List ℕ) → (word_in text ≡ Some w) ↔ (WordFits w × (text ≡ word_text_of w))
+
+abbrev pub BacksAreRead : Type 0
+BacksAreRead = (b : Back) (text : List ℕ) → (back_in text ≡ Some b) ↔ (BackFits b × (text ≡ back_text b))
+
+abbrev pub HandedAreRead : Type 0
+HandedAreRead =
+    (p : Handed) (text : List ℕ) → (handed_in text ≡ Some p) ↔ (HandedFits p × (text ≡ handed_text p))

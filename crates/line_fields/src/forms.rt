@@ -91,8 +91,8 @@ pub fn back_in(text: &[u8]) -> Option<Back<'_>>
     Some(Back::Pair(call_in(call)?))
 }
 
-/// What two argument registers are as a closure pair: `none`, `bad`, `out` or `hop:PART:EXPORT`. `None` exactly
-/// where the text is none of these.
+/// What two argument registers are as a closure pair: `none`, `bad`, `out` or `hop:PART:EXPORT`. `None`
+/// exactly where the text is none of these.
 #[tactic(auto, unfolding(crate::specs::Forms::handed_in))]
 pub fn handed_in(text: &[u8]) -> Option<Handed<'_>>
     ensures { result ≡ handed_in text.now }

@@ -1,5 +1,6 @@
 //! What holds of what is read. These functions do nothing; their contracts are the laws.
-ghost use Rattle.line_fields.specs.Laws.{NumbersAreRead, IntegersAreRead, WordsAreRead};
+ghost use Rattle.line_fields.specs.Laws.{NumbersAreRead, IntegersAreRead, WordsAreRead, BacksAreRead};
+ghost use Rattle.line_fields.specs.Laws.{HandedAreRead};
 
 /// A number and an integer are each read of their decimal text alone.
 pub fn numbers_are_read()
@@ -10,4 +11,10 @@ pub fn numbers_are_read()
 /// A word that a machine has is read of its text alone.
 pub fn words_are_read()
     ensures { WordsAreRead }
+{}
+
+/// What a return would do, and what two argument registers are, is each read of its text alone.
+pub fn jumps_are_read()
+    ensures backs { BacksAreRead }
+    ensures pairs { HandedAreRead }
 {}

@@ -1,7 +1,7 @@
 -- Work lists that grow and shrink at their end.
-use Rattle.std.proofs.Common.{Result, Ok, Err, IfOk, replicate, ◌≡◌, ◌≢◌, ℕ, zero, suc, ◌+◌, ◌-◌, ◌≤◌, ◌<◌, ℤ}
-use Rattle.std.proofs.Common.{pos, negsuc, ◌+ℤ◌, Bool, true, false, Option, Some, None, List, [], ◌∷◌, ◌++◌}
-use Rattle.std.proofs.Common.{length, reverse, refl, sym, ap, ◌∙◌, subst, arith, if◌then◌else◌}
+use Rattle.std.proofs.Common.{Result, Ok, Err, IfOk, replicate, ◌≡◌, ℕ, zero, suc, ◌+◌, ℤ}
+use Rattle.std.proofs.Common.{pos, negsuc, List, [], ◌∷◌, ◌++◌}
+use Rattle.std.proofs.Common.{length, reverse, refl, sym, ap, ◌∙◌, arith, if◌then◌else◌}
 use Rattle.std.proofs.lemmas.List.{reverse-append, append_assoc, replicate-append-replicate}
 use Rattle.proc_meaning.specs.declared.places.Run.{Run}
 use Rattle.proc_meaning.specs.declared.work.Work.{Work}
@@ -11,11 +11,14 @@ use Rattle.proc_semantics.specs.Values.{World, Store, is_zero}
 use Rattle.proc_meaning.specs.Rest.{now_of, rest_of}
 
 module _ (world : World) where
-  pub pushed : (n : Now) (items new : List Work) (w : Work) (r : Run) (st : Store) → new ≡ items ++ w ∷ [] → rest_of world n new r st ≡ now_of world n (w ∷ reverse items) r st
+  pub pushed : (n : Now) (items new : List Work) (w : Work) (r : Run) (st : Store) → new ≡ items ++ w ∷ []
+      → rest_of world n new r st ≡ now_of world n (w ∷ reverse items) r st
   unfolding rest_of
-  pushed n items new w r st e = ap (λ l. now_of world n (reverse l) r st) e ∙ ap (λ l. now_of world n l r st) (reverse-append items (w ∷ []))
+  pushed n items new w r st e = ap (λ l. now_of world n (reverse l) r st) e
+      ∙ ap (λ l. now_of world n l r st) (reverse-append items (w ∷ []))
 
-  pub kept : (n : Now) (items : List Work) (r : Run) (st : Store) → rest_of world n items r st ≡ now_of world n (reverse items) r st
+  pub kept : (n : Now) (items : List Work) (r : Run) (st : Store) → rest_of world n items r st
+      ≡ now_of world n (reverse items) r st
   unfolding rest_of
   kept n items r st = refl
 
@@ -38,13 +41,17 @@ other_if (negsuc n) x y ne = refl
 pub as_many : (need n : ℕ) (m : Comp) → n ≡ need → ticks (1 + need) m ≡ ticks (n + 1) m
 as_many need n m e = let same : 1 + need ≡ n + 1 = omega (arith, e) in ap (λ k. ticks k m) same
 
-pub two_more : {A : Type 0} (l one two : List A) (a b : A) (ys : List A) → one ≡ l ++ a ∷ [] → two ≡ one ++ b ∷ [] → l ++ a ∷ b ∷ ys ≡ two ++ ys
+pub two_more : {A : Type 0} (l one two : List A) (a b : A) (ys : List A) → one ≡ l ++ a ∷ []
+    → two ≡ one ++ b ∷ [] → l ++ a ∷ b ∷ ys ≡ two ++ ys
 two_more l one two a b ys e d =
-    sym (ap (λ x. x ++ ys) d ∙ append_assoc one (b ∷ []) ys ∙ ap (λ x. x ++ (b ∷ ys)) e ∙ append_assoc l (a ∷ []) (b ∷ ys))
+    sym (ap (λ x. x ++ ys) d ∙ append_assoc one (b ∷ []) ys ∙ ap (λ x. x ++ (b ∷ ys)) e
+    ∙ append_assoc l (a ∷ []) (b ∷ ys))
 
-pub one_more : {A : Type 0} (l one two : List A) (n : ℕ) (a : A) → one ≡ l ++ replicate n a → two ≡ one ++ a ∷ [] → two ≡ l ++ replicate (n + 1) a
+pub one_more : {A : Type 0} (l one two : List A) (n : ℕ) (a : A) → one ≡ l ++ replicate n a
+    → two ≡ one ++ a ∷ [] → two ≡ l ++ replicate (n + 1) a
 one_more l one two n a e d =
-    d ∙ ap (λ x. x ++ a ∷ []) e ∙ append_assoc l (replicate n a) (a ∷ []) ∙ ap (λ x. l ++ x) (replicate-append-replicate n 1 a)
+    d ∙ ap (λ x. x ++ a ∷ []) e ∙ append_assoc l (replicate n a) (a ∷ [])
+    ∙ ap (λ x. l ++ x) (replicate-append-replicate n 1 a)
 
 pub as_many_as : (need n : ℕ) (m : Comp) → n ≡ need + 1 → ticks (1 + need) m ≡ ticks n m
 as_many_as need n m e = let same : 1 + need ≡ n = omega (arith, e) in ap (λ k. ticks k m) same

@@ -32,7 +32,7 @@ module _ (world : World) where
   abbrev pub call_with : Frame → List values.Value → Call → List values.Value → Args → Then → Store → Comp
   call_with f env c vs xs k st =
       args world (whole world) f env xs
-        (λ ys. call world (whole world) f c.site (pair_of world f.home env c.handle) (vs ++ ys) k) st
+      (λ ys. call world (whole world) f c.site (pair_of world f.home env c.handle) (vs ++ ys) k) st
 
   -- ---- the list with its newest entry first
 
@@ -49,17 +49,17 @@ module _ (world : World) where
     with_value (SetTo x ∷ ws) f env v st = assigned f.home x v (after ws f) env st
     with_value (SetIndex a e ∷ ws) f env v st =
         expr world (whole world) f env e.now
-          (λ y st. element a v (λ o. after ws f env (set_word st f.home o y))) st
+        (λ y st. element a v (λ o. after ws f env (set_word st f.home o y))) st
     with_value (SetElement a i ∷ ws) f env v st =
         element a i (λ o. after ws f env (set_word st f.home o v))
     with_value (Forget ∷ ws) f env v st = after ws f env st
     with_value (Choose a b ∷ ws) f env v st =
         (if is_zero v then block world (whole world) f (block_of b.now) (back ws f) (after ws f) env
-          else block world (whole world) f (block_of a.now) (back ws f) (after ws f) env) st
+        else block world (whole world) f (block_of a.now) (back ws f) (after ws f) env) st
     with_value (Test c b ∷ ws) f env v st =
         (if is_zero v then after ws f env
-          else block world (whole world) f (block_of b.now) (back ws f)
-            ((whole world).turn f c.now (block_of b.now) (back ws f) (after ws f)) env) st
+        else block world (whole world) f (block_of b.now) (back ws f)
+        ((whole world).turn f c.now (block_of b.now) (back ws f) (after ws f)) env) st
     with_value (Return ∷ ws) f env v st = back ws f v st
     with_value (Halt ∷ ws) f env v st = ends (Halted v)
     with_value _ f env v st = fails
@@ -75,7 +75,7 @@ module _ (world : World) where
         finish world f.need (with_value ws r.frame r.env.items) (pos 0) st
     after (Ends (Entered home left b) ∷ ws) f env st =
         finish world f.need (left_by world (whole world) (part_of world home) (waiting ws) left b.now)
-          (pos 0) st
+        (pos 0) st
     after _ f env st = fails
 
     -- what a return does

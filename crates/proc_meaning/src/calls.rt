@@ -16,11 +16,7 @@ use source_events::{End, OutEvent};
 use std::alloc::{AllocError, Global};
 
 /// The name of a module, as an event has it.
-pub(crate) fn part_name(
-    alloc: Global,
-    world: &[Part],
-    home: usize,
-) -> Result<Items<u8>, AllocError>
+pub(crate) fn part_name(alloc: Global, world: &[Part], home: usize) -> Result<Items<u8>, AllocError>
     ensures { IfOk result (λ n. n ≡ part_of world.now home) }
 {
     let mut name = Vec::new(alloc);
@@ -50,10 +46,10 @@ fn call<'a>(
     run: &mut Run,
 ) -> Result<Ahead<'a>, AllocError>
     ensures same { IfOk result (λ a. (st : Store) →
-      call world.now (whole world.now) run.old.frame to.now.site
+        call world.now (whole world.now) run.old.frame to.now.site
         (pair_of world.now run.old.frame.home run.old.env.items to.now.handle) values.items
         (with_value world.now (reverse work.old.items) run.old.frame run.old.env.items) st
-      ≡ ahead_of world.now a work.new.items run.new st) }
+        ≡ ahead_of world.now a work.new.items run.new st) }
     ensures less { IfOk result (λ a. IsLess a work.new.items (2 * length work.old.items + 3)) }
 {
     let Some(given) = given_of(run.frame) else {
@@ -86,9 +82,9 @@ pub(crate) fn arguments<'a>(
     run: &mut Run,
 ) -> Result<Ahead<'a>, AllocError>
     ensures same { IfOk result (λ a. (st : Store) →
-      call_with world.now run.old.frame run.old.env.items to.now values.items (args_of given.now)
+        call_with world.now run.old.frame run.old.env.items to.now values.items (args_of given.now)
         (with_value world.now (reverse work.old.items) run.old.frame run.old.env.items) st
-      ≡ ahead_of world.now a work.new.items run.new st) }
+        ≡ ahead_of world.now a work.new.items run.new st) }
     ensures less { IfOk result (λ a. IsLess a work.new.items (2 * length work.old.items + 3)) }
 {
     let Some((first, rest)) = given.split_first() else {

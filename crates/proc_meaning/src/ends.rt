@@ -59,9 +59,9 @@ pub(crate) fn begin<'a>(
     run: &mut Run,
 ) -> Result<Ahead<'a>, AllocError>
     ensures same { IfOk result (λ a. (st : Store) →
-      (whole world.now).proc target left registers.now
+        (whole world.now).proc target left registers.now
         (ended world.now whence.entry (reverse work.old.items)) st
-      ≡ ahead_of world.now a work.new.items run.new st) }
+        ≡ ahead_of world.now a work.new.items run.new st) }
     ensures less { IfOk result (λ a. IsLess a work.new.items (2 * length work.old.items)) }
 {
     let Some(proc) = proc_at(world, target) else {
@@ -91,8 +91,8 @@ pub(crate) fn begin<'a>(
 /// The procedure ends with a value.
 pub(crate) fn end_run<'a>(whence: Whence<'a>, value: i64, run: &mut Run) -> Ahead<'a>
     ensures same { (world : World) (items : List Work) (st : Store) →
-      finish world run.old.frame.need (ended world whence.entry (reverse items)) value st
-      ≡ ahead_of world result items run.new st }
+        finish world run.old.frame.need (ended world whence.entry (reverse items)) value st
+        ≡ ahead_of world result items run.new st }
     ensures less { (items : List Work) → IsLess result items (2 * length items) }
 {
     let ticks = u64::from(run.frame.need) + 1;
@@ -111,7 +111,7 @@ pub(crate) fn end_run<'a>(whence: Whence<'a>, value: i64, run: &mut Run) -> Ahea
 /// A procedure returns a value, past what stands behind the statement.
 fn back_of<'a>(w: Work<'a>, v: i64, run: &mut Run) -> Ahead<'a>
     ensures same { (world : World) (items : List Work) (st : Store) →
-      back world (w.entry ∷ reverse items) run.old.frame v st ≡ ahead_of world result items run.new st }
+        back world (w.entry ∷ reverse items) run.old.frame v st ≡ ahead_of world result items run.new st }
     ensures less { (items : List Work) → IsLess result items (2 * length items + 2) }
 {
     match w {
@@ -125,8 +125,8 @@ fn back_of<'a>(w: Work<'a>, v: i64, run: &mut Run) -> Ahead<'a>
 /// A procedure returns a value.
 pub(crate) fn give_back<'a>(v: i64, work: &mut Vec<Work<'a>>, run: &mut Run) -> Ahead<'a>
     ensures same { (world : World) (st : Store) →
-      back world (reverse work.old.items) run.old.frame v st
-      ≡ ahead_of world result work.new.items run.new st }
+        back world (reverse work.old.items) run.old.frame v st
+        ≡ ahead_of world result work.new.items run.new st }
     ensures less { IsLess result work.new.items (2 * length work.old.items) }
 {
     match work.pop() {

@@ -32,9 +32,9 @@ pub(crate) fn eval<'a>(
     store: &[Words],
 ) -> Result<Ahead<'a>, AllocError>
     ensures same { IfOk result (λ a.
-      expr world.now (whole world.now) run.now.frame run.now.env.items e.now
+        expr world.now (whole world.now) run.now.frame run.now.env.items e.now
         (with_value world.now (reverse work.old.items) run.now.frame run.now.env.items) store.now
-      ≡ ahead_of world.now a work.new.items run.now store.now) }
+        ≡ ahead_of world.now a work.new.items run.now store.now) }
     ensures less { IfOk result (λ a. IsLess a work.new.items (2 * length work.old.items)) }
 {
     match &e.kind {

@@ -60,7 +60,7 @@ struct Asked<'a> {
 /// Whether a call is the one that is meant.
 fn is_for(world: &[Part], home: usize, site: u32, given: u32, asked: &Asked<'_>) -> bool
     ensures { result ≡ (bytes_eq asked.now.part.now (part_of world.now home) && (asked.now.site == site)
-      && (asked.now.base == stack_of world.now home + given) && is_given asked.now.left given) }
+        && (asked.now.base == stack_of world.now home + given) && is_given asked.now.left given) }
 {
     let same_part = asked.part == part_text(world, home);
     let same_base = u64::from(asked.base) == base_of(world, home, given);
@@ -77,9 +77,9 @@ fn resume_at<'a>(
     run: &mut Run,
 ) -> Ahead<'a>
     ensures same { (items : List Work) (st : Store) →
-      resumed (waiting world.now (w.entry ∷ reverse items))
+        resumed (waiting world.now (w.entry ∷ reverse items))
         asked.now.part.now asked.now.site asked.now.base asked.now.left value st
-      ≡ ahead_of world.now result items run.new st }
+        ≡ ahead_of world.now result items run.new st }
     ensures less { (items : List Work) → IsLess result items (2 * length items + 5) }
 {
     match w {
@@ -106,9 +106,9 @@ fn resume<'a>(
     run: &mut Run,
 ) -> Ahead<'a>
     ensures same { (st : Store) →
-      resumed (waiting world.now (reverse work.old.items))
+        resumed (waiting world.now (reverse work.old.items))
         asked.now.part.now asked.now.site asked.now.base asked.now.left value st
-      ≡ ahead_of world.now result work.new.items run.new st }
+        ≡ ahead_of world.now result work.new.items run.new st }
     ensures less { IsLess result work.new.items (2 * length work.old.items + 3) }
 {
     match work.pop() {
@@ -131,9 +131,9 @@ pub(crate) fn leave<'a>(
     run: &mut Run,
 ) -> Result<Ahead<'a>, AllocError>
     ensures same { IfOk result (λ a. (st : Store) →
-      left_by world.now (whole world.now) (part_of world.now home)
+        left_by world.now (whole world.now) (part_of world.now home)
         (waiting world.now (reverse work.old.items)) left way.now value st
-      ≡ ahead_of world.now a work.new.items run.new st) }
+        ≡ ahead_of world.now a work.new.items run.new st) }
     ensures less { IfOk result (λ a. IsLess a work.new.items (2 * length work.old.items + 3)) }
 {
     match way {
@@ -174,8 +174,8 @@ pub(crate) fn take<'a>(
     run: &mut Run,
 ) -> Result<Ahead<'a>, AllocError>
     ensures same { IfOk result (λ a. (st : Store) →
-      on_item world.now (whole world.now) (waiting world.now (reverse work.old.items)) st item.now
-      ≡ ahead_of world.now a work.new.items run.new st) }
+        on_item world.now (whole world.now) (waiting world.now (reverse work.old.items)) st item.now
+        ≡ ahead_of world.now a work.new.items run.new st) }
     ensures less { IfOk result (λ a. IsLess a work.new.items (2 * length work.old.items + 3)) }
 {
     match item {

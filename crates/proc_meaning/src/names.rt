@@ -36,7 +36,11 @@ fn named(world: &[Part], part: &[u8]) -> Option<usize>
 fn shared_place(owner: &Part, name: &[u8]) -> Option<usize>
     ensures { result ≡ position (is_shared name.now) owner.now.procs }
 {
-    owner.procs.as_slice().iter().position(|proc| is_shared(name, proc))
+    owner
+        .procs
+        .as_slice()
+        .iter()
+        .position(|proc| is_shared(name, proc))
 }
 
 fn shared_in(world: &[Part], home: usize, name: &[u8]) -> Option<Target>
@@ -111,16 +115,15 @@ fn pair_fed(world: &[Part], pair: &FeedPair) -> Option<Pair>
         FeedPair::Nothing => None,
         FeedPair::Bad => Some(Pair::Bad),
         FeedPair::Out => Some(Pair::Outside),
-        FeedPair::Hop(part, name) => Some(pair_found(found(world, part.as_slice(), name.as_slice()))),
+        FeedPair::Hop(part, name) => Some(pair_found(found(
+            world,
+            part.as_slice(),
+            name.as_slice(),
+        ))),
     }
 }
 
-fn register_fed(
-    world: &[Part],
-    numbers: &[Option<i64>],
-    pairs: &[FeedPair],
-    i: usize,
-) -> Register
+fn register_fed(world: &[Part], numbers: &[Option<i64>], pairs: &[FeedPair], i: usize) -> Register
     ensures { result ≡ register_fed world.now numbers.now pairs.now i }
 {
     Register {

@@ -19,9 +19,9 @@ use std::alloc::AllocError;
 /// A statement begins.
 fn begin_step<'a>(s: &'a Step, work: &mut Vec<Work<'a>>) -> Result<Now<'a>, AllocError>
     ensures same { IfOk result (λ n. (world : World) (r : Run) (st : Store) →
-      stmt world (whole world) r.frame s.now (back world (reverse work.old.items) r.frame)
+        stmt world (whole world) r.frame s.now (back world (reverse work.old.items) r.frame)
         (after world (reverse work.old.items) r.frame) r.env.items st
-      ≡ tick (rest_of world n work.new.items r st)) }
+        ≡ tick (rest_of world n work.new.items r st)) }
     ensures less { IfOk result (λ n. size_of n work.new.items ≡ 2 * length work.old.items + 2) }
 {
     match &s.kind {
@@ -59,8 +59,8 @@ fn begin_step<'a>(s: &'a Step, work: &mut Vec<Work<'a>>) -> Result<Now<'a>, Allo
 /// A variable is set.
 fn assign(run: &mut Run, store: &mut Vec<Words>, place: Place, value: i64)
     ensures same { (k : Next) →
-      assigned run.old.frame.home place value k run.old.env.items store.old.items
-      ≡ k run.new.env.items store.new.items }
+        assigned run.old.frame.home place value k run.old.env.items store.old.items
+        ≡ k run.new.env.items store.new.items }
     ensures keeps { run.new.frame ≡ run.old.frame }
 {
     match place {
@@ -82,8 +82,8 @@ fn give_to<'a>(
     store: &mut Vec<Words>,
 ) -> Result<Ahead<'a>, AllocError>
     ensures same { IfOk result (λ a. (world : World) →
-      with_value world (w.entry ∷ reverse work.old.items) run.old.frame run.old.env.items v store.old.items
-      ≡ ahead_of world a work.new.items run.new store.new.items) }
+        with_value world (w.entry ∷ reverse work.old.items) run.old.frame run.old.env.items v store.old.items
+        ≡ ahead_of world a work.new.items run.new store.new.items) }
     ensures less { IfOk result (λ a. IsLess a work.new.items (2 * length work.old.items + 6)) }
 {
     match w {
@@ -149,8 +149,8 @@ pub(crate) fn give<'a>(
     store: &mut Vec<Words>,
 ) -> Result<Ahead<'a>, AllocError>
     ensures same { IfOk result (λ a. (world : World) →
-      with_value world (reverse work.old.items) run.old.frame run.old.env.items v store.old.items
-      ≡ ahead_of world a work.new.items run.new store.new.items) }
+        with_value world (reverse work.old.items) run.old.frame run.old.env.items v store.old.items
+        ≡ ahead_of world a work.new.items run.new store.new.items) }
     ensures less { IfOk result (λ a. IsLess a work.new.items (2 * length work.old.items + 4)) }
 {
     match work.pop() {
@@ -166,8 +166,8 @@ fn next_of<'a>(
     run: &mut Run,
 ) -> Result<Ahead<'a>, AllocError>
     ensures same { IfOk result (λ a. (world : World) (st : Store) →
-      after world (w.entry ∷ reverse work.old.items) run.old.frame run.old.env.items st
-      ≡ ahead_of world a work.new.items run.new st) }
+        after world (w.entry ∷ reverse work.old.items) run.old.frame run.old.env.items st
+        ≡ ahead_of world a work.new.items run.new st) }
     ensures less { IfOk result (λ a. IsLess a work.new.items (2 * length work.old.items + 3)) }
 {
     match w {
@@ -188,13 +188,10 @@ fn next_of<'a>(
 }
 
 /// A statement is done.
-pub(crate) fn next<'a>(
-    work: &mut Vec<Work<'a>>,
-    run: &mut Run,
-) -> Result<Ahead<'a>, AllocError>
+pub(crate) fn next<'a>(work: &mut Vec<Work<'a>>, run: &mut Run) -> Result<Ahead<'a>, AllocError>
     ensures same { IfOk result (λ a. (world : World) (st : Store) →
-      after world (reverse work.old.items) run.old.frame run.old.env.items st
-      ≡ ahead_of world a work.new.items run.new st) }
+        after world (reverse work.old.items) run.old.frame run.old.env.items st
+        ≡ ahead_of world a work.new.items run.new st) }
     ensures less { IfOk result (λ a. IsLess a work.new.items (2 * length work.old.items + 1)) }
 {
     match work.pop() {

@@ -23,8 +23,8 @@ pub(crate) fn turn<'a>(
     store: &mut Vec<Words>,
 ) -> Result<Ahead<'a>, AllocError>
     ensures same { IfOk result (λ a.
-      rest_of world.now now.entry work.old.items run.old store.old.items
-      ≡ ahead_of world.now a work.new.items run.new store.new.items) }
+        rest_of world.now now.entry work.old.items run.old store.old.items
+        ≡ ahead_of world.now a work.new.items run.new store.new.items) }
     ensures less { IfOk result (λ a. IsLess a work.new.items (size_of now.entry work.old.items)) }
 {
     match now {

@@ -1,12 +1,11 @@
 -- Meanings of some programs, computed.
-use Rattle.std.proofs.Common.{◌≡◌, ℕ, ◌+◌, ℤ, pos, List, [], ◌∷◌, Option, Some, None, Bool, true, false, refl}
+use Rattle.std.proofs.Common.{◌≡◌, ℕ, ℤ, pos, List, [], ◌∷◌, Option, Some, None, true, false, refl}
 use Rattle.std.specs.Prelude.{codes}
 use Rattle.proc_language.specs.declared.tree.Op.TheVariants.{Plus}
 use Rattle.proc_program.specs.declared.program.Handle.TheVariants.{Given, Own, Imported}
 use Rattle.proc_program.specs.declared.program.Place.TheVariants.{Local, Global}
 use Rattle.proc_program.specs.declared.program.Header.{Header}
-use Rattle.proc_program.specs.declared.program.Part.{Part}
-use Rattle.proc_program.specs.Program.{Exp, Number, Load, Call, Binary, Args, no_args, value, pass, Step, Set}
+use Rattle.proc_program.specs.Program.{Number, Load, Call, Binary, no_args, value, pass, Set}
 use Rattle.proc_program.specs.Program.{Do, Return, Halt}
 use Rattle.source_events.specs.declared.Item.{Item}
 use Rattle.source_events.specs.declared.Item.TheVariants.{Enter, Ret}
@@ -17,7 +16,6 @@ use Rattle.source_events.specs.declared.OutArg.{OutArg}
 use Rattle.source_events.specs.declared.OutArg.TheVariants.{Int, Half}
 use Rattle.source_events.specs.declared.OutEvent.TheVariants.{CallOut, LeaveOut}
 use Rattle.source_events.specs.declared.End.TheVariants.{Halt as Halted, Fail, Waiting, OutOfFuel}
-use Rattle.source_events.specs.declared.Told.{Told}
 use Rattle.proc_semantics.specs.Values.{World, found, main_of, linked}
 use Rattle.proc_semantics.specs.Meaning.{meaning}
 
@@ -57,14 +55,14 @@ bank = record {
     locals = 0;
     need = 4;
     body = Set (Global 0) (Binary Plus (Load (Global 0)) (Load (Local 0)))
-      ∷ Do (Call 0 (Imported 0) (value (Load (Global 0)) no_args)) ∷ Return (Load (Global 0)) ∷ [];
+        ∷ Do (Call 0 (Imported 0) (value (Load (Global 0)) no_args)) ∷ Return (Load (Global 0)) ∷ [];
   } ∷ [];
 } ∷ []
 
 deposits : List Item
 deposits = Enter (codes "bank") (codes "deposit") (Some 64)
-      (int 5 ∷ int 0 ∷ int 0 ∷ int 0 ∷ []) no_pairs way.Out
-  ∷ Ret (codes "bank") 0 65595 (int 105) ∷ []
+    (int 5 ∷ int 0 ∷ int 0 ∷ int 0 ∷ []) no_pairs way.Out
+    ∷ Ret (codes "bank") 0 65595 (int 105) ∷ []
 
 the_bank : meaning bank 64 deposits 1000 ≡ record {
   events = CallOut (codes "bank") 0 (one 105) ∷ LeaveOut (codes "bank") (pos 105) ∷ [];
@@ -130,15 +128,14 @@ twice = record {
 
 called_back : List Item
 called_back = Enter (codes "cb") (codes "twice") (Some 61)
-      (None ∷ None ∷ int 5 ∷ int 0 ∷ []) (fed.Out ∷ fed.Nothing ∷ fed.Nothing ∷ [])
-      (way.Pair (codes "cb") 0 65597)
-  ∷ Ret (codes "cb") 1 65590 (int 6) ∷ Ret (codes "cb") 2 65590 (int 7) ∷ []
-
+    (None ∷ None ∷ int 5 ∷ int 0 ∷ []) (fed.Out ∷ fed.Nothing ∷ fed.Nothing ∷ [])
+    (way.Pair (codes "cb") 0 65597)
+    ∷ Ret (codes "cb") 1 65590 (int 6) ∷ Ret (codes "cb") 2 65590 (int 7) ∷ []
 
 the_callback : meaning twice 64 called_back 1000 ≡ record {
   events = CallOut (codes "cb") 0 (one 0)
-    ∷ CallOut (codes "cb") 1 (one 5)
-    ∷ CallOut (codes "cb") 2 (one 6) ∷ [];
+      ∷ CallOut (codes "cb") 1 (one 5)
+      ∷ CallOut (codes "cb") 2 (one 6) ∷ [];
   end = Halted (pos 7);
   ticks = 23;
 }
@@ -148,8 +145,8 @@ the_callback = refl
 -- with one tick less than that it has run out of fuel, at as many ticks
 too_little : meaning twice 64 called_back 22 ≡ record {
   events = CallOut (codes "cb") 0 (one 0)
-    ∷ CallOut (codes "cb") 1 (one 5)
-    ∷ CallOut (codes "cb") 2 (one 6) ∷ [];
+      ∷ CallOut (codes "cb") 1 (one 5)
+      ∷ CallOut (codes "cb") 2 (one 6) ∷ [];
   end = OutOfFuel;
   ticks = 22;
 }

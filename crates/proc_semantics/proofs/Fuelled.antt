@@ -1,37 +1,15 @@
 -- The meaning with more fuel.
-use Rattle.std.proofs.Common.{◌≡◌, ℕ, zero, suc, ◌+◌, ◌<◌, ◌≤◌, ◌⊎◌, inl, inr, ⊎_elim, ℤ, List, [], ◌∷◌, ◌++◌}
-use Rattle.std.proofs.Common.{length, map, Option, Some, None, refl, sym, ap, ◌∙◌, subst, arith}
-use Rattle.proc_language.specs.declared.tree.Op.{Op}
-use Rattle.proc_language.specs.declared.tree.Op.TheVariants.{Plus, Minus, Less, Equal}
-use Rattle.proc_semantics.specs.declared.value.Target.{Target}
-use Rattle.proc_program.specs.declared.program.Place.{Place}
-use Rattle.proc_program.specs.declared.program.Place.TheVariants.{Local, Global}
-use Rattle.proc_program.specs.declared.program.Row.{Row}
-use Rattle.proc_program.specs.declared.program.Procedure.{Procedure}
-use Rattle.proc_program.specs.Program.{Exp, Number, Load, Element, Call, Binary, Args, no_args, value, pass}
-use Rattle.proc_program.specs.Program.{Step, Set, SetAt, Do, If, While, Return, Halt, Block, no_steps, step}
-use Rattle.proc_program.specs.StepView.{block_of}
+use Rattle.std.proofs.Common.{◌≡◌, ℕ, zero, suc, ◌+◌, ◌<◌, inl, inr, ⊎_elim, List, [], ◌∷◌}
+use Rattle.std.proofs.Common.{length, map, refl, sym, ap, ◌∙◌, subst, arith}
 use Rattle.source_events.specs.declared.Item.{Item}
-use Rattle.source_events.specs.declared.Item.TheVariants.{Enter, Ret}
-use Rattle.source_events.specs.declared.FeedBack.{FeedBack}
-use Rattle.source_events.specs.declared.FeedBack.TheVariants as way
-use Rattle.source_events.specs.declared.OutEvent.{OutEvent}
-use Rattle.source_events.specs.declared.OutEvent.TheVariants.{CallOut, LeaveOut}
 use Rattle.source_events.specs.declared.End.{End}
 use Rattle.source_events.specs.declared.End.TheVariants.{Halt as Halted, Fail, Waiting, OutOfFuel}
 use Rattle.source_events.specs.declared.Told.{Told}
-use Rattle.proc_semantics.specs.declared.value.Pair.{Pair}
-use Rattle.proc_semantics.specs.declared.value.Pair.TheVariants.{Bad, Outside, Runs}
-use Rattle.proc_semantics.specs.declared.value.Value.{Value}
-use Rattle.proc_semantics.specs.declared.value.Value.TheVariants.{Num, Closure, Other}
-use Rattle.proc_semantics.specs.declared.value.Register.{Register}
-use Rattle.proc_semantics.specs.declared.value.Frame.{Frame}
-use Rattle.proc_semantics.specs.Told.{Comp, ends, fails, tick, ticks, counted, said, emit, take_item}
-use Rattle.proc_semantics.specs.Values.{World, register_of, Store, fits_64, is_zero, bit, set_word, word_at}
-use Rattle.proc_semantics.specs.Values.{variable, pair_of, taken, out_args, found, main_of, registers_fed}
-use Rattle.proc_semantics.specs.Values.{part_at, proc_at}
-use Rattle.proc_semantics.specs.Meaning.{level, start, meaning}
-use Rattle.proc_semantics.specs.Fuel.{Prefix, Later, Within, EndsWith, FuelLaws}
+use Rattle.proc_semantics.specs.Told.{Comp, tick, counted, said, take_item}
+use Rattle.proc_semantics.specs.Values.{World}
+use Rattle.proc_semantics.specs.Values.{main_of}
+use Rattle.proc_semantics.specs.Meaning.{meaning}
+use Rattle.proc_semantics.specs.Fuel.{Later, Within, EndsWith, FuelLaws}
 use Rattle.proc_semantics.proofs.Congruence.{IsKept, levels_kept}
 use Rattle.proc_semantics.proofs.Recursive.{start_kept, enough}
 
@@ -41,21 +19,26 @@ record Fuller (b : ℕ) (m m' : Comp) : Type 0 where
   is : (f e : ℕ) (feed : List Item) → f + e + length feed < b → Later f (m f feed) (m' (f + e) feed)
 
 later_counted : (f : ℕ) (t t' : Told) → Later f t t' → Later (suc f) (counted t) (counted t')
-later_counted f t t' h = ⊎_elim (λ h. inl (ap counted h)) (λ h. let e : t.ticks + 1 ≡ suc f = omega (arith, h.1) in inr (h.0, e, h.2)) h
+later_counted f t t' h = ⊎_elim (λ h. inl (ap counted h))
+    (λ h. let e : t.ticks + 1 ≡ suc f = omega (arith, h.1) in inr (h.0, e, h.2)) h
 
 fuller_tick : (b : ℕ) (m m' : Comp) → Fuller b m m' → Fuller (suc b) (tick m) (tick m')
 fuller_tick b m m' s = record { is = is }
   where
-    is : (f e : ℕ) (feed : List Item) → f + e + length feed < suc b → Later f (tick m f feed) (tick m' (f + e) feed)
+    is : (f e : ℕ) (feed : List Item) → f + e + length feed < suc b
+        → Later f (tick m f feed) (tick m' (f + e) feed)
     is zero e feed lt = inr (refl, refl, (_, refl))
     is (suc f) e feed lt =
         let n : suc f + e ≡ suc (f + e) = omega arith in
-        subst (λ x. Later (suc f) (counted (m f feed)) (tick m' x feed)) (sym n) (later_counted f (m f feed) (m' (f + e) feed) (s.is f e feed (omega (arith, lt))))
+        subst (λ x. Later (suc f) (counted (m f feed)) (tick m' x feed)) (sym n)
+        (later_counted f (m f feed) (m' (f + e) feed) (s.is f e feed (omega (arith, lt))))
 
-fuller_take : (b : ℕ) (k k' : Item → Comp) → ((i : Item) → Fuller b (k i) (k' i)) → Fuller (suc b) (take_item k) (take_item k')
+fuller_take : (b : ℕ) (k k' : Item → Comp) → ((i : Item) → Fuller b (k i) (k' i))
+    → Fuller (suc b) (take_item k) (take_item k')
 fuller_take b k k' s = record { is = is }
   where
-    is : (f e : ℕ) (feed : List Item) → f + e + length feed < suc b → Later f (take_item k f feed) (take_item k' (f + e) feed)
+    is : (f e : ℕ) (feed : List Item) → f + e + length feed < suc b
+        → Later f (take_item k f feed) (take_item k' (f + e) feed)
     is f e [] lt = inl refl
     is f e (i ∷ feed) lt = (s i).is f e feed (omega (arith, lt))
 
@@ -64,17 +47,22 @@ fuller_kept = record {
   failing = λ b. record { is = λ f e feed lt. inl refl };
   halting = λ b v. record { is = λ f e feed lt. inl refl };
   ticking = fuller_tick;
-  emitting = λ b x m m' s. record { is = λ f e feed lt. ⊎_elim (λ h. inl (ap (said x) h)) (λ h. inr (h.0, h.1, (h.2.0, ap (λ xs. x ∷ xs) h.2.1))) (s.is f e feed lt) };
+  emitting = λ b x m m' s. record {
+    is = λ f e feed lt. ⊎_elim (λ h. inl (ap (said x) h))
+        (λ h. inr (h.0, h.1, (h.2.0, ap (λ xs. x ∷ xs) h.2.1))) (s.is f e feed lt);
+  };
   taking = fuller_take;
   less = λ b c m m' le s. record { is = λ f e feed lt. s.is f e feed (omega (arith, lt, le)) };
   none = λ m m'. record { is = λ f e feed lt. absurd (omega (arith, lt)) };
 }
 
-later : (world : World) (stack : ℕ) (feed : List Item) (f e : ℕ) → Later f (meaning world stack feed f) (meaning world stack feed (f + e))
+later : (world : World) (stack : ℕ) (feed : List Item) (f e : ℕ)
+    → Later f (meaning world stack feed f) (meaning world stack feed (f + e))
 later world stack feed f e =
     let n = f + e + length feed + 1 in
     subst (λ t. Later f t (meaning world stack feed (f + e))) (enough world stack feed f n (omega arith))
-      ((start_kept Fuller fuller_kept world n stack (main_of world) (map (λ u. u.globals) world) _ _ (levels_kept Fuller fuller_kept world n n n (omega arith) (omega arith))).is f e feed (omega arith))
+    ((start_kept Fuller fuller_kept world n stack (main_of world) (map (λ u. u.globals) world) _ _
+    (levels_kept Fuller fuller_kept world n n n (omega arith) (omega arith))).is f e feed (omega arith))
 
 -- ---- no more ticks than the fuel
 
@@ -99,7 +87,8 @@ IsOut OutOfFuel = Unit {0}
 not_out : (e : End) → (IsOut e → ⊥) → e ≡ OutOfFuel → ⊥
 not_out e never is = never (subst IsOut (sym is) tt)
 
-fits_take : (b : ℕ) (k k' : Item → Comp) → ((i : Item) → Fits b (k i) (k' i)) → Fits (suc b) (take_item k) (take_item k')
+fits_take : (b : ℕ) (k k' : Item → Comp) → ((i : Item) → Fits b (k i) (k' i))
+    → Fits (suc b) (take_item k) (take_item k')
 fits_take b k k' s = record { is = is }
   where
     is : (f : ℕ) (feed : List Item) → f + length feed < suc b → Within f (take_item k f feed)
@@ -120,18 +109,23 @@ fits_kept = record {
 within : (world : World) (stack : ℕ) (feed : List Item) (f : ℕ) → Within f (meaning world stack feed f)
 within world stack feed f =
     let n = f + length feed + 1 in
-    (start_kept Fits fits_kept world n stack (main_of world) (map (λ u. u.globals) world) _ _ (levels_kept Fits fits_kept world n n n (omega arith) (omega arith))).is f feed (omega arith)
+    (start_kept Fits fits_kept world n stack (main_of world) (map (λ u. u.globals) world) _ _
+    (levels_kept Fits fits_kept world n n n (omega arith) (omega arith))).is f feed (omega arith)
 
 -- ---- the end
 
-lasting : (world : World) (stack : ℕ) (feed : List Item) (t : Told) (x : EndsWith world stack feed t) (e : ℕ) → meaning world stack feed (x.fuel + e) ≡ t
+lasting : (world : World) (stack : ℕ) (feed : List Item) (t : Told) (x : EndsWith world stack feed t) (e : ℕ)
+    → meaning world stack feed (x.fuel + e) ≡ t
 lasting world stack feed t x e =
-    ⊎_elim (λ same. sym same ∙ x.told) (λ out. absurd (x.ended (sym (ap (λ t. t.end) x.told) ∙ out.0))) (later world stack feed x.fuel e)
+    ⊎_elim (λ same. sym same ∙ x.told) (λ out. absurd (x.ended (sym (ap (λ t. t.end) x.told) ∙ out.0)))
+    (later world stack feed x.fuel e)
 
-one : (world : World) (stack : ℕ) (feed : List Item) (t u : Told) → EndsWith world stack feed t → EndsWith world stack feed u → t ≡ u
+one : (world : World) (stack : ℕ) (feed : List Item) (t u : Told) → EndsWith world stack feed t
+    → EndsWith world stack feed u → t ≡ u
 one world stack feed t u x y =
     let c : x.fuel + y.fuel ≡ y.fuel + x.fuel = omega arith in
-    sym (lasting world stack feed t x y.fuel) ∙ ap (meaning world stack feed) c ∙ lasting world stack feed u y x.fuel
+    sym (lasting world stack feed t x y.fuel) ∙ ap (meaning world stack feed) c
+    ∙ lasting world stack feed u y x.fuel
 
 pub fuel_laws : FuelLaws
 fuel_laws = record { within = within; later = later; lasting = lasting; one = one }

@@ -1,39 +1,22 @@
 -- The meaning without levels obeys the recursion, and any level that is enough gives the meaning.
 use Rattle.std.proofs.Common.{◌≡◌, ℕ, zero, suc, ◌+◌, ◌<◌, ◌≤◌, ℤ, List, [], ◌∷◌, length, map, Option, Some}
-use Rattle.std.proofs.Common.{None, Bool, true, false, refl, sym, ap, ◌∙◌, subst, arith, one-add, add-one}
-use Rattle.proc_language.specs.declared.tree.Op.{Op}
-use Rattle.proc_language.specs.declared.tree.Op.TheVariants.{Plus, Minus, Less, Equal}
+use Rattle.std.proofs.Common.{None, refl, sym, ap, ◌∙◌, arith, add-one}
 use Rattle.proc_semantics.specs.declared.value.Target.{Target}
-use Rattle.proc_program.specs.declared.program.Place.{Place}
-use Rattle.proc_program.specs.declared.program.Place.TheVariants.{Local, Global}
-use Rattle.proc_program.specs.declared.program.Row.{Row}
-use Rattle.proc_program.specs.declared.program.Procedure.{Procedure}
-use Rattle.proc_program.specs.Program.{Exp, Number, Load, Element, Call, Binary, Args, no_args, value, pass}
-use Rattle.proc_program.specs.Program.{Step, Set, SetAt, Do, If, While, Return, Halt, Block, no_steps, step}
-use Rattle.proc_program.specs.StepView.{block_of}
+use Rattle.proc_program.specs.Program.{Exp}
+use Rattle.proc_program.specs.Program.{Block}
 use Rattle.source_events.specs.declared.Item.{Item}
-use Rattle.source_events.specs.declared.Item.TheVariants.{Enter, Ret}
-use Rattle.source_events.specs.declared.FeedBack.{FeedBack}
-use Rattle.source_events.specs.declared.FeedBack.TheVariants as way
-use Rattle.source_events.specs.declared.OutEvent.{OutEvent}
-use Rattle.source_events.specs.declared.OutEvent.TheVariants.{CallOut, LeaveOut}
-use Rattle.source_events.specs.declared.End.{End}
-use Rattle.source_events.specs.declared.End.TheVariants.{Halt as Halted, Fail, Waiting, OutOfFuel}
-use Rattle.source_events.specs.declared.Told.{Told}
-use Rattle.proc_semantics.specs.declared.value.Pair.{Pair}
-use Rattle.proc_semantics.specs.declared.value.Pair.TheVariants.{Bad, Outside, Runs}
 use Rattle.proc_semantics.specs.declared.value.Value.{Value}
-use Rattle.proc_semantics.specs.declared.value.Value.TheVariants.{Num, Closure, Other}
+use Rattle.proc_semantics.specs.declared.value.Value.TheVariants.{Num}
 use Rattle.proc_semantics.specs.declared.value.Register.{Register}
 use Rattle.proc_semantics.specs.declared.value.Frame.{Frame}
-use Rattle.proc_semantics.specs.Told.{Comp, ends, fails, tick, ticks, counted, said, emit, take_item}
-use Rattle.proc_semantics.specs.Values.{World, register_of, Store, fits_64, is_zero, bit, set_word, word_at}
-use Rattle.proc_semantics.specs.Values.{variable, pair_of, taken, out_args, found, main_of, registers_fed}
-use Rattle.proc_semantics.specs.Values.{part_at, proc_at}
+use Rattle.proc_semantics.specs.Told.{Comp, tick, counted, said, take_item}
+use Rattle.proc_semantics.specs.Values.{World, register_of, Store}
+use Rattle.proc_semantics.specs.Values.{main_of}
+use Rattle.proc_semantics.specs.Values.{proc_at}
 use Rattle.proc_semantics.specs.Meaning.{Then, Next, Wait, Level, proc_of, turn_at, on_item, level, start}
 use Rattle.proc_semantics.specs.Meaning.{meaning}
 use Rattle.proc_semantics.specs.Whole.{whole_proc, whole_wait, whole_turn, whole_hop, whole, IsRecursive}
-use Rattle.proc_semantics.proofs.Congruence.{IsKept, RThen, RNext, RWait, RLevel, levels_kept, proc_kept}
+use Rattle.proc_semantics.proofs.Congruence.{IsKept, RWait, RLevel, levels_kept, proc_kept}
 use Rattle.proc_semantics.proofs.Congruence.{turn_kept, item_kept, then_less, next_less, wait_less}
 
 pub record Same (b : ℕ) (m m' : Comp) : Type 0 where
@@ -46,7 +29,8 @@ same_tick b m m' s = record { is = is }
     is zero feed lt = refl
     is (suc f) feed lt = ap counted (s.is f feed (omega (arith, lt)))
 
-same_take : (b : ℕ) (k k' : Item → Comp) → ((i : Item) → Same b (k i) (k' i)) → Same (suc b) (take_item k) (take_item k')
+same_take : (b : ℕ) (k k' : Item → Comp) → ((i : Item) → Same b (k i) (k' i))
+    → Same (suc b) (take_item k) (take_item k')
 same_take b k k' s = record { is = is }
   where
     is : (f : ℕ) (feed : List Item) → f + length feed < suc b → take_item k f feed ≡ take_item k' f feed
@@ -78,22 +62,27 @@ module _ (world : World) where
     procs = λ t left rs k k' st h. record {
       is = λ f feed lt.
           let n = f + length feed + 1 in
-          ((levels_kept Same same_kept world n d n (omega (arith, lt, le)) (omega arith)).procs t left rs k k' st (then_less Same same_kept n b k k' (omega (arith, lt)) h)).is f feed (omega arith);
+          ((levels_kept Same same_kept world n d n (omega (arith, lt, le)) (omega arith)).procs t left rs k k'
+          st (then_less Same same_kept n b k k' (omega (arith, lt)) h)).is f feed (omega arith);
     };
     waits = λ c c' st h. record {
       is = λ f feed lt.
           let n = f + length feed + 1 in
-          ((levels_kept Same same_kept world n d n (omega (arith, lt, le)) (omega arith)).waits c c' st (wait_less Same same_kept n b c c' (omega (arith, lt)) h)).is f feed (omega arith);
+          ((levels_kept Same same_kept world n d n (omega (arith, lt, le)) (omega arith)).waits c c' st
+          (wait_less Same same_kept n b c c' (omega (arith, lt)) h)).is f feed (omega arith);
     };
     turns = λ x c b' back back' k k' env st r h. record {
       is = λ f feed lt.
           let n = f + length feed + 1 in
-          ((levels_kept Same same_kept world n d n (omega (arith, lt, le)) (omega arith)).turns x c b' back back' k k' env st (then_less Same same_kept n b back back' (omega (arith, lt)) r) (next_less Same same_kept n b k k' (omega (arith, lt)) h)).is f feed (omega arith);
+          ((levels_kept Same same_kept world n d n (omega (arith, lt, le)) (omega arith)).turns x c b' back
+          back' k k' env st (then_less Same same_kept n b back back' (omega (arith, lt)) r)
+          (next_less Same same_kept n b k k' (omega (arith, lt)) h)).is f feed (omega arith);
     };
     hops = λ c c' left t v st h. record {
       is = λ f feed lt.
           let n = f + length feed + 1 in
-          ((levels_kept Same same_kept world n d n (omega (arith, lt, le)) (omega arith)).hops c c' left t v st (wait_less Same same_kept n b c c' (omega (arith, lt)) h)).is f feed (omega arith);
+          ((levels_kept Same same_kept world n d n (omega (arith, lt, le)) (omega arith)).hops c c' left t v
+          st (wait_less Same same_kept n b c c' (omega (arith, lt)) h)).is f feed (omega arith);
     };
   }
 
@@ -106,43 +95,67 @@ module _ (world : World) where
     hops = λ c left t v st i f feed. hop_is c left t v st f feed i;
   }
     where
-      proc_is : (t : Target) (left : Option ℕ) (rs : List Register) (k : Then) (st : Store) (f : ℕ) (feed : List Item) → whole_proc world t left rs k st f feed ≡ proc_of world (whole world) t.home (proc_at world t) left rs k st f feed
+      proc_is : (t : Target) (left : Option ℕ) (rs : List Register) (k : Then) (st : Store) (f : ℕ)
+          (feed : List Item) → whole_proc world t left rs k st f feed ≡ proc_of world (whole world) t.home
+          (proc_at world t) left rs k st f feed
       proc_is t left rs k st f feed =
           let n = f + length feed in
           ap (λ d. (level world d).proc t left rs k st f feed) (add-one n)
-          ∙ (proc_kept Same same_kept world n (level world n) (whole world) (same_whole n n (omega arith)) t.home (proc_at world t) left rs k k st (λ v st1. refl_same n _)).is f feed (omega arith)
+          ∙ (proc_kept Same same_kept world n (level world n) (whole world)
+          (same_whole n n (omega arith)) t.home (proc_at world t) left rs k k st
+          (λ v st1. refl_same n _)).is f feed (omega arith)
 
-      wait_is : (c : Option Wait) (st : Store) (f : ℕ) (feed : List Item) → whole_wait world c st f feed ≡ take_item (on_item world (whole world) c st) f feed
+      wait_is : (c : Option Wait) (st : Store) (f : ℕ) (feed : List Item) → whole_wait world c st f feed
+          ≡ take_item (on_item world (whole world) c st) f feed
       wait_is c st f feed =
           let n = f + length feed in
           ap (λ d. (level world d).wait c st f feed) (add-one n)
-          ∙ (same_take n _ _ (λ i. item_kept Same same_kept world n (level world n) (whole world) (same_whole n n (omega arith)) c c st i (same_wait n c))).is f feed (omega arith)
+          ∙ (same_take n _ _ (λ i. item_kept Same same_kept world n (level world n) (whole world)
+          (same_whole n n (omega arith)) c c st i (same_wait n c))).is f feed (omega arith)
 
-      turn_is : (x : Frame) (c : Exp) (b : Block) (back : Then) (k : Next) (env : List Value) (st : Store) (f : ℕ) (feed : List Item) → whole_turn world x c b back k env st f feed ≡ turn_at world (whole world) x c b back k env st f feed
+      turn_is : (x : Frame) (c : Exp) (b : Block) (back : Then) (k : Next) (env : List Value) (st : Store)
+          (f : ℕ) (feed : List Item) → whole_turn world x c b back k env st f feed
+          ≡ turn_at world (whole world) x c b back k env st f feed
       turn_is x c b back k env st f feed =
           let n = f + length feed in
           ap (λ d. (level world d).turn x c b back k env st f feed) (add-one n)
-          ∙ (turn_kept Same same_kept world n (level world n) (whole world) (same_whole n n (omega arith)) x c b back back k k env st (λ v st1. refl_same n _) (λ e st1. refl_same n _)).is f feed (omega arith)
+          ∙ (turn_kept Same same_kept world n (level world n) (whole world)
+          (same_whole n n (omega arith)) x c b back back k k env st (λ v st1. refl_same n _)
+          (λ e st1. refl_same n _)).is f feed (omega arith)
 
-      hop_is : (c : Option Wait) (left : Option ℕ) (t : Target) (v : ℤ) (st : Store) (f : ℕ) (feed : List Item) → whole_hop world c left t v st f feed ≡ proc_of world (whole world) t.home (proc_at world t) left (register_of (Num v) ∷ []) (whole_hop world c left t) st f feed
+      hop_is : (c : Option Wait) (left : Option ℕ) (t : Target) (v : ℤ) (st : Store) (f : ℕ)
+          (feed : List Item) → whole_hop world c left t v st f feed ≡ proc_of world (whole world) t.home
+          (proc_at world t) left (register_of (Num v) ∷ []) (whole_hop world c left t) st f feed
       hop_is c left t v st f feed =
           let n = f + length feed in
           ap (λ d. (level world d).hop c left t v st f feed) (add-one n)
-          ∙ (proc_kept Same same_kept world n (level world n) (whole world) (same_whole n n (omega arith)) t.home (proc_at world t) left (register_of (Num v) ∷ []) _ _ st (λ x st1. (same_whole n n (omega arith)).hops c c left t x st1 (same_wait n c))).is f feed (omega arith)
+          ∙ (proc_kept Same same_kept world n (level world n) (whole world)
+          (same_whole n n (omega arith)) t.home (proc_at world t) left (register_of (Num v) ∷ []) _ _ st
+          (λ x st1. (same_whole n n (omega arith)).hops c c left t x st1 (same_wait n c))).is f feed
+          (omega arith)
 
 -- what a start does at two levels
-pub start_kept : (R : ℕ → Comp → Comp → Type 0) (kept : IsKept R) (world : World) (b stack : ℕ) (t : Option Target) (st : Store) (l l' : Level) → RLevel R b l l' → R b (start world l stack t st) (start world l' stack t st)
+pub start_kept : (R : ℕ → Comp → Comp → Type 0) (kept : IsKept R) (world : World) (b stack : ℕ)
+    (t : Option Target) (st : Store) (l l' : Level) → RLevel R b l l'
+    → R b (start world l stack t st) (start world l' stack t st)
 start_kept R kept world b stack None st l l' same = same.waits None None st tt
-start_kept R kept world b stack (Some t) st l l' same = same.procs t (Some stack) [] _ _ st (λ v st1. kept.failing b)
+start_kept R kept world b stack (Some t) st l l' same =
+    same.procs t (Some stack) [] _ _ st (λ v st1. kept.failing b)
 
 -- the start at any level that is enough for the fuel and the feed gives the meaning
-pub enough : (world : World) (stack : ℕ) (feed : List Item) (f d : ℕ) → f + length feed < d → start world (level world d) stack (main_of world) (map (λ u. u.globals) world) f feed ≡ meaning world stack feed f
+pub enough : (world : World) (stack : ℕ) (feed : List Item) (f d : ℕ) → f + length feed < d
+    → start world (level world d) stack (main_of world) (map (λ u. u.globals) world) f feed
+    ≡ meaning world stack feed f
 enough world stack feed f d lt =
     let n = f + length feed + 1 in
-    (start_kept Same same_kept world n stack (main_of world) (map (λ u. u.globals) world) _ _ (levels_kept Same same_kept world n d n (omega (arith, lt)) (omega arith))).is f feed (omega arith)
+    (start_kept Same same_kept world n stack (main_of world) (map (λ u. u.globals) world) _ _
+    (levels_kept Same same_kept world n d n (omega (arith, lt)) (omega arith))).is f feed (omega arith)
 
 -- the meaning is the start without levels
-pub starts : (world : World) (stack : ℕ) (feed : List Item) (f : ℕ) → start world (whole world) stack (main_of world) (map (λ u. u.globals) world) f feed ≡ meaning world stack feed f
+pub starts : (world : World) (stack : ℕ) (feed : List Item) (f : ℕ)
+    → start world (whole world) stack (main_of world) (map (λ u. u.globals) world) f feed
+    ≡ meaning world stack feed f
 starts world stack feed f =
     let n = f + length feed + 1 in
-    sym ((start_kept Same same_kept world n stack (main_of world) (map (λ u. u.globals) world) _ _ (same_whole world n n (omega arith))).is f feed (omega arith))
+    sym ((start_kept Same same_kept world n stack (main_of world) (map (λ u. u.globals) world) _ _
+    (same_whole world n n (omega arith))).is f feed (omega arith))

@@ -120,7 +120,7 @@ resumed None part site base left v st = fails
 resumed (Some c) part site base left None st = fails
 resumed (Some c) part site base left (Some v) st =
     if bytes_eq part c.part && (site == c.site) && (base == c.base) && is_given left c.given
-      then c.resume v st else fails
+    then c.resume v st else fails
 
 -- by the return of an entered procedure, which must have been given all the words that the call gave away
 abbrev pub returned : Option Wait → Option ℕ → List ℕ → ℕ → ℕ → ℤ → Store → Comp
@@ -194,11 +194,11 @@ module _ (world : World) where
     stmt l f (Set x e) back k env st = tick (expr l f env e (λ v. assigned f.home x v k env) st)
     stmt l f (SetAt a i e) back k env st =
         tick (expr l f env i
-          (λ i. expr l f env e (λ v st. element a i (λ o. k env (set_word st f.home o v)))) st)
+        (λ i. expr l f env e (λ v st. element a i (λ o. k env (set_word st f.home o v)))) st)
     stmt l f (Do e) back k env st = tick (expr l f env e (λ v. k env) st)
     stmt l f (If c a b) back k env st =
         tick (expr l f env c
-          (λ v. if is_zero v then block l f b back k env else block l f a back k env) st)
+        (λ v. if is_zero v then block l f b back k env else block l f a back k env) st)
     stmt l f (While c b) back k env st = l.turn f c b back k env st
     stmt l f (Return e) back k env st = tick (expr l f env e back st)
     stmt l f (Halt e) back k env st = tick (expr l f env e (λ v st. ends (Halted v)) st)
@@ -211,7 +211,7 @@ module _ (world : World) where
   abbrev pub turn_at : Level → Frame → Exp → Block → Then → Next → Next
   turn_at l f c b back k env st =
       tick (expr l f env c
-        (λ v. if is_zero v then k env else block l f b back (l.turn f c b back k) env) st)
+      (λ v. if is_zero v then k env else block l f b back (l.turn f c b back k) env) st)
 
   -- ---- procedures
 
@@ -223,7 +223,7 @@ module _ (world : World) where
   body_of l home left p None k st = fails
   body_of l home left p (Some env) k st =
       block l (record { home = home; left = left; need = p.need }) (block_of p.body)
-        (finish p.need k) (λ env. finish p.need k (pos 0)) (env ++ replicate p.locals (Num (pos 0))) st
+      (finish p.need k) (λ env. finish p.need k (pos 0)) (env ++ replicate p.locals (Num (pos 0))) st
 
   abbrev pub begin : Level → ℕ → Procedure → Option ℕ → List Register → Then → Store → Comp
   begin l home p left rs k st =
@@ -274,7 +274,7 @@ module _ (world : World) where
     turn = λ f c b back k env st. turn_at (level d) f c b back k env st;
     hop = λ c left t v st.
         proc_of (level d) t.home (proc_at world t) left (register_of (Num v) ∷ [])
-          ((level d).hop c left t) st;
+        ((level d).hop c left t) st;
   }
 
   -- ---- the whole

@@ -97,7 +97,7 @@ taken env (false ∷ callbacks) rs =
     if_there (first_of rs).number (λ v. taken (env ++ Num v ∷ []) callbacks (rest_of rs))
 taken env (true ∷ callbacks) rs =
     if_there (first_of rs).pair
-      (λ p. taken ((env ++ Closure p ∷ []) ++ Other ∷ []) callbacks (rest_of (rest_of rs)))
+    (λ p. taken ((env ++ Closure p ∷ []) ++ Other ∷ []) callbacks (rest_of (rest_of rs)))
 
 -- ---- the four registers of a call that leaves
 

@@ -1,5 +1,5 @@
 -- The meaning without levels: at each fuel and feed, the level that is enough for them.
-use Rattle.std.specs.Prelude.{◌≡◌, ℕ, ◌+◌, ℤ, List, [], ◌∷◌, length, Option, Some}
+use Rattle.std.specs.Prelude.{◌≡◌, ℕ, ◌+◌, ℤ, List, [], ◌∷◌, length, Option}
 use Rattle.proc_program.specs.Program.{Exp, Block}
 use Rattle.proc_semantics.specs.declared.value.Target.{Target}
 use Rattle.proc_semantics.specs.declared.value.Value.{Value}
@@ -36,5 +36,5 @@ module _ (world : World) where
         → whole_turn f c b back k env st ≡ turn_at world whole f c b back k env st
     pub hops : (c : Option Wait) (left : Option ℕ) (t : Target) (v : ℤ) (st : Store)
         → whole_hop c left t v st
-          ≡ proc_of world whole t.home (proc_at world t) left (register_of (Num v) ∷ [])
-              (whole_hop c left t) st
+        ≡ proc_of world whole t.home (proc_at world t) left (register_of (Num v) ∷ [])
+        (whole_hop c left t) st

@@ -1,6 +1,7 @@
 -- A feed read line by line.
 use Rattle.std.proofs.Common.{◌≡◌, ℕ, ◌+◌, ◌≤◌, ◌<◌, ◌^◌, Bool, false, List, [], ◌∷◌, ◌++◌, length, Option}
-use Rattle.std.proofs.Common.{Some, None, Result, Ok, Err, refl, sym, ap, ◌∙◌, append_assoc, append-nil, arith}
+use Rattle.std.proofs.Common.{Some, None, Result, Ok, Err, refl, sym, ap, ◌∙◌, append_assoc, append-nil}
+use Rattle.std.proofs.Common.{arith}
 use Rattle.source_events.specs.declared.Item.{Item}
 use Rattle.line_fields.specs.Fields.{field, lines}
 use Rattle.line_fields.proofs.Cuts.{parts_len}
@@ -72,7 +73,8 @@ module _ (items : List Item) (base : ℕ) (entry : Bool) (n : ℕ) (left : List 
   bad_line line rest at is = ap (behind_items items) (at_line line rest None at is)
 
   module _ (more : List Item) (line : List ℕ) (rest : List (List ℕ)) (found : FeedLine) (b : Bool)
-      (at : field left ≡ Some (line, rest)) (is : Some found ≡ seen entry line) (enters : b ≡ is_enter found) where
+      (at : field left ≡ Some (line, rest)) (is : Some found ≡ seen entry line)
+      (enters : b ≡ is_enter found) where
     pub with_one : (i : Item) → Some i ≡ item_of base found rest → more ≡ items ++ i ∷ []
         → behind_items more (fed_from base b (n + 1) rest) ≡ behind_items items (fed_from base entry n left)
     with_one i one grown =

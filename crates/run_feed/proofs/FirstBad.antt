@@ -1,6 +1,6 @@
 -- A text is refused with the number of its first bad line.
-use Rattle.std.proofs.Common.{◌≡◌, ℕ, zero, suc, ◌+◌, ◌<◌, Bool, true, false, List, [], ◌∷◌, Option, Some, None}
-use Rattle.std.proofs.Common.{Result, Ok, Err, refl, sym, ap, ◌∙◌, subst, arith}
+use Rattle.std.proofs.Common.{◌≡◌, ℕ, zero, suc, ◌+◌, ◌<◌, Bool, true, false, List, [], ◌∷◌, Option, Some}
+use Rattle.std.proofs.Common.{None, Result, Ok, Err, refl, sym, ap, ◌∙◌, subst, arith}
 use Rattle.std.specs.Prelude.{is_some, IsOk, is_ok}
 use Rattle.source_events.specs.declared.Item.{Item}
 use Rattle.line_fields.specs.Fields.{lines}
@@ -159,7 +159,8 @@ passes base entry n (line ∷ rest) none = elim (judged entry line) [
   | bad b ↦ absurd (none 1 b)
 ]
 
-good_all : (base : ℕ) (entry : Bool) (n : ℕ) (left : List (List ℕ)) → is_ok (fed_from base entry n left) ≡ true
+good_all : (base : ℕ) (entry : Bool) (n : ℕ) (left : List (List ℕ))
+    → is_ok (fed_from base entry n left) ≡ true
     → (m : ℕ) → ¬ IsBadLine entry left m
 good_all base entry n [] h m b = b
 good_all base entry n (line ∷ rest) h zero b = b
@@ -202,6 +203,7 @@ pub fed_good : (base : ℕ) (text : List ℕ) → IsOk (fed base text) → (n : 
 unfolding fed
 fed_good base text h = good_all base false 1 (lines text) h
 
-pub good_fed : (base : ℕ) (text : List ℕ) → ((n : ℕ) → ¬ IsBadLine false (lines text) n) → IsOk (fed base text)
+pub good_fed : (base : ℕ) (text : List ℕ) → ((n : ℕ) → ¬ IsBadLine false (lines text) n)
+    → IsOk (fed base text)
 unfolding fed
 good_fed base text h = passes base false 1 (lines text) h

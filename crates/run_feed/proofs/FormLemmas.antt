@@ -1,6 +1,6 @@
 -- A line is read exactly where it keeps its form.
-use Rattle.std.proofs.Common.{◌≡◌, ℕ, ◌++◌, Bool, true, false, List, [], ◌∷◌, Option, Some, None, refl, sym, ap, ◌∙◌}
-use Rattle.std.proofs.Common.{subst}
+use Rattle.std.proofs.Common.{◌≡◌, ℕ, ◌++◌, Bool, true, false, List, [], ◌∷◌, Option, Some, None, refl, sym}
+use Rattle.std.proofs.Common.{ap, ◌∙◌, subst}
 use Rattle.std.specs.Prelude.{is_some, codes, option_map}
 use Rattle.std.specs.Str.{bytes_eq}
 use Rattle.std.proofs.lemmas.Slice.Eq.{bytes_eq-Decides}
@@ -9,15 +9,15 @@ use Rattle.line_fields.specs.Options.{where_true}
 use Rattle.line_fields.specs.Cuts.{behind}
 use Rattle.line_fields.specs.Numbers.{natural_in}
 use Rattle.line_fields.specs.Forms.{back_in, handed_in}
-use Rattle.line_fields.specs.Fields.{Reader, goes_on, ◌>>=◌, done, field, unless_none, meant, tested, is_none_left}
-use Rattle.line_fields.specs.Fields.{fields}
+use Rattle.line_fields.specs.Fields.{Reader, goes_on, ◌>>=◌, done, field, unless_none, meant, tested}
+use Rattle.line_fields.specs.Fields.{is_none_left, fields}
 use Rattle.line_fields.proofs.Fronts.{behind_front, behind_is}
-use Rattle.line_fields.proofs.Numbers.{chosen}
+use Rattle.line_fields.proofs.Numbers.{chosen, some_of}
 use Rattle.run_feed.specs.declared.line.FeedLine.{FeedLine}
 use Rattle.run_feed.specs.declared.line.FeedLine.TheVariants.{Enter, Ret, Pass, Other}
 use Rattle.run_feed.specs.Seen.{EnterSeen, RetSeen, PassSeen}
-use Rattle.run_feed.specs.Lines.{entered, answered, passed, whole, begun, enter_in, ret_in, pass_in, pass_seen}
-use Rattle.run_feed.specs.Lines.{ret_seen, enter_seen, seen, is_enter}
+use Rattle.run_feed.specs.Lines.{entered, answered, passed, whole, begun, enter_in, ret_in, pass_in}
+use Rattle.run_feed.specs.Lines.{pass_seen, ret_seen, enter_seen, seen, is_enter}
 use Rattle.run_feed.specs.Bad.{IsEnterForm, IsRetForm, IsPassForm, KeepsForm, begins_enter}
 
 -- ---- what is read at the front of fields
@@ -32,7 +32,8 @@ more_of f (Some x) rest y h = (x, refl, h)
 
 by_meaning : {A B : Type 0} (read : List ℕ → Option A) (f : A → Reader B) (ts : Fields) (y : B × Fields)
     (P : Fields → Type 0) → (meant read >>= f) ts ≡ Some y
-    → ((t : List ℕ) (rest : Fields) (x : A) → is_some (read t) ≡ true → f x rest ≡ Some y → P (t ∷ rest)) → P ts
+    → ((t : List ℕ) (rest : Fields) (x : A) → is_some (read t) ≡ true → f x rest ≡ Some y → P (t ∷ rest))
+    → P ts
 unfolding meant
 by_meaning read f [] y P h goal = absurd cc
 by_meaning read f (t ∷ ts) y P h goal =
@@ -100,7 +101,8 @@ ret_form ts y h =
     (λ colon r6 x6 is_colon h6.
     (is_part, is_site, is_base, is_last, sym ((bytes_eq-Decides (codes ":") colon).0 is_colon))))))))
 
-pass_form : (ts : Fields) (y : PassSeen × Fields) → passed ts ≡ Some y → is_none_left y.1 ≡ true → IsPassForm ts
+pass_form : (ts : Fields) (y : PassSeen × Fields) → passed ts ≡ Some y → is_none_left y.1 ≡ true
+    → IsPassForm ts
 unfolding passed
 pass_form ts y h last =
     by_meaning handed_in _ ts y IsPassForm h (λ p0 r1 x1 is_p0 h1.
@@ -174,7 +176,8 @@ pass_read _ h = absurd h
 
 -- ---- lines
 
-same_behind : (front line rest more : List ℕ) → behind front line ≡ Some rest → line ≡ front ++ more → rest ≡ more
+same_behind : (front line rest more : List ℕ) → behind front line ≡ Some rest → line ≡ front ++ more
+    → rest ≡ more
 same_behind front line rest more h e =
     let both : Some rest ≡ Some more = sym h ∙ ap (behind front) e ∙ behind_front front more in
     cc
@@ -233,9 +236,11 @@ ret_keeps entry line (Some rest) no_enter is h = record {
   ret = λ more e.
       subst (λ r. IsRetForm (fields r)) (same_behind (codes "ret out ") line rest more is e)
       (ret_is_form rest (sym (some_map (ret_in rest) Ret) ∙ h));
-  pass = λ more yes e. other_front (codes "ret out ") line rest (codes "pass " ++ more) is e (no_pass_ret more);
+  pass = λ more yes e.
+    other_front (codes "ret out ") line rest (codes "pass " ++ more) is e (no_pass_ret more);
 }
-ret_keeps entry line None no_enter is h = pass_keeps entry line (behind (codes "pass ") line) no_enter is refl h
+ret_keeps entry line None no_enter is h =
+    pass_keeps entry line (behind (codes "pass ") line) no_enter is refl h
 
 enter_keeps : (entry : Bool) (line : List ℕ) (o : Option (List ℕ)) → behind (codes "enter ") line ≡ o
     → is_some (enter_seen entry line o) ≡ true → KeepsForm entry line
@@ -244,7 +249,8 @@ enter_keeps entry line (Some rest) is h = record {
       subst (λ r. IsEnterForm (fields r)) (same_behind (codes "enter ") line rest more is e)
       (enter_is_form rest (sym (some_map (enter_in rest) Enter) ∙ h));
   ret = λ more e. other_front (codes "enter ") line rest (codes "ret out " ++ more) is e (no_ret_enter more);
-  pass = λ more yes e. other_front (codes "enter ") line rest (codes "pass " ++ more) is e (no_pass_enter more);
+  pass = λ more yes e.
+    other_front (codes "enter ") line rest (codes "pass " ++ more) is e (no_pass_enter more);
 }
 enter_keeps entry line None is h = ret_keeps entry line (behind (codes "ret out ") line) is refl h
 
@@ -257,7 +263,8 @@ pass_there : (entry : Bool) (line : List ℕ) (o : Option (List ℕ)) → behind
     → KeepsForm entry line → is_some (pass_seen entry o) ≡ true
 unfolding pass_in
 pass_there true line (Some rest) is k =
-    some_map (pass_in rest) Pass ∙ pass_read (fields rest) (k.pass rest refl (behind_is (codes "pass ") line rest is))
+    some_map (pass_in rest) Pass
+    ∙ pass_read (fields rest) (k.pass rest refl (behind_is (codes "pass ") line rest is))
 pass_there false line (Some rest) is k = refl
 pass_there entry line None is k = refl
 
@@ -265,14 +272,16 @@ ret_there : (entry : Bool) (line : List ℕ) (o : Option (List ℕ)) → behind 
     → KeepsForm entry line → is_some (ret_seen entry line o) ≡ true
 unfolding ret_in
 ret_there entry line (Some rest) is k =
-    some_map (ret_in rest) Ret ∙ ret_read (fields rest) (k.ret rest (behind_is (codes "ret out ") line rest is))
+    some_map (ret_in rest) Ret
+    ∙ ret_read (fields rest) (k.ret rest (behind_is (codes "ret out ") line rest is))
 ret_there entry line None is k = pass_there entry line (behind (codes "pass ") line) refl k
 
 enter_there : (entry : Bool) (line : List ℕ) (o : Option (List ℕ)) → behind (codes "enter ") line ≡ o
     → KeepsForm entry line → is_some (enter_seen entry line o) ≡ true
 unfolding enter_in
 enter_there entry line (Some rest) is k =
-    some_map (enter_in rest) Enter ∙ enter_read (fields rest) (k.enter rest (behind_is (codes "enter ") line rest is))
+    some_map (enter_in rest) Enter
+    ∙ enter_read (fields rest) (k.enter rest (behind_is (codes "enter ") line rest is))
 enter_there entry line None is k = ret_there entry line (behind (codes "ret out ") line) refl k
 
 -- and one that keeps its form is read
@@ -284,30 +293,24 @@ there entry line k = enter_there entry line (behind (codes "enter ") line) refl 
 
 is_enter_by_pass : (entry : Bool) (o : Option (List ℕ)) (found : FeedLine) → pass_seen entry o ≡ Some found
     → is_enter found ≡ false
-is_enter_by_pass true (Some rest) found h = enter_of (pass_in rest) found h
-  where
-    enter_of : (p : Option PassSeen) (found : FeedLine) → option_map Pass p ≡ Some found → is_enter found ≡ false
-    enter_of None found h = absurd cc
-    enter_of (Some p) found h = let same : Pass p ≡ found = cc in ap is_enter (sym same)
+is_enter_by_pass true (Some rest) found h =
+    let k = some_of (pass_in rest) Pass found h in
+    ap is_enter (sym k.2)
 is_enter_by_pass false (Some rest) found h = let same : Other ≡ found = cc in ap is_enter (sym same)
 is_enter_by_pass entry None found h = let same : Other ≡ found = cc in ap is_enter (sym same)
 
 is_enter_by_ret : (entry : Bool) (line : List ℕ) (o : Option (List ℕ)) (found : FeedLine)
     → ret_seen entry line o ≡ Some found → is_enter found ≡ false
-is_enter_by_ret entry line (Some rest) found h = enter_of (ret_in rest) found h
-  where
-    enter_of : (r : Option RetSeen) (found : FeedLine) → option_map Ret r ≡ Some found → is_enter found ≡ false
-    enter_of None found h = absurd cc
-    enter_of (Some r) found h = let same : Ret r ≡ found = cc in ap is_enter (sym same)
+is_enter_by_ret entry line (Some rest) found h =
+    let k = some_of (ret_in rest) Ret found h in
+    ap is_enter (sym k.2)
 is_enter_by_ret entry line None found h = is_enter_by_pass entry (behind (codes "pass ") line) found h
 
 is_enter_by : (entry : Bool) (line : List ℕ) (o : Option (List ℕ)) (found : FeedLine)
     → enter_seen entry line o ≡ Some found → is_enter found ≡ is_some o
-is_enter_by entry line (Some rest) found h = enter_of (enter_in rest) found h
-  where
-    enter_of : (e : Option EnterSeen) (found : FeedLine) → option_map Enter e ≡ Some found → is_enter found ≡ true
-    enter_of None found h = absurd cc
-    enter_of (Some e) found h = let same : Enter e ≡ found = cc in ap is_enter (sym same)
+is_enter_by entry line (Some rest) found h =
+    let k = some_of (enter_in rest) Enter found h in
+    ap is_enter (sym k.2)
 is_enter_by entry line None found h = is_enter_by_ret entry line (behind (codes "ret out ") line) found h
 
 -- a line tells of an entry where it begins with `enter`

@@ -1,6 +1,6 @@
 -- Which lines of a feed break the form that they must have.
-use Rattle.std.specs.Prelude.{◌≡◌, ◌↔◌, ◌<◌, ◌++◌, ℕ, zero, suc, Bool, true, false, IsTrue, List, [], ◌∷◌, codes}
-use Rattle.std.specs.Prelude.{IsSome, is_some, IsOk, Err}
+use Rattle.std.specs.Prelude.{◌≡◌, ◌↔◌, ◌<◌, ◌++◌, ℕ, zero, suc, Bool, true, false, IsTrue, List, [], ◌∷◌}
+use Rattle.std.specs.Prelude.{codes, IsSome, is_some, IsOk, Err}
 use Rattle.cap_words.specs.Names.{is_name}
 use Rattle.line_fields.specs.Cuts.{behind}
 use Rattle.line_fields.specs.Numbers.{natural_in}

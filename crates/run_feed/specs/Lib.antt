@@ -2,3 +2,4 @@ pub mod Seen
 pub mod Lines
 pub mod Feed
 pub mod Bad
+pub mod FaultText

@@ -1,6 +1,6 @@
-use Rattle.std.proofs.Common.{rules, ◌≡◌, ℤ, List, ◌∷◌, refl, sym, ap, ◌∙◌, reverse, w64, to_z, of_z}
+use Rattle.std.proofs.Common.{rules, ◌≡◌, ◌∷◌, sym, ap, ◌∙◌, reverse, w64, to_z, of_z}
 use Rattle.proc_meaning.specs.declared.work.Now.TheVariants as now
-use Rattle.proc_meaning.specs.Rest.{back, ended, rest_of}
+use Rattle.proc_meaning.specs.Rest.{back}
 use Rattle.proc_meaning.proofs.Works.{kept}
 use Rattle.proc_meaning.proofs.ends.back_of.Goals as goal
 

@@ -1,9 +1,9 @@
-use Rattle.std.proofs.Common.{rules, ◌≡◌, ◌+◌, ℤ, List, ◌∷◌, refl, sym, ap, ◌∙◌, reverse, w64, to_z, of_z}
+use Rattle.std.proofs.Common.{rules, ◌≡◌, ◌+◌, sym, ap, ◌∙◌, reverse, w64, to_z, of_z}
 use Rattle.proc_meaning.specs.declared.work.Now.TheVariants as now
 use Rattle.proc_semantics.specs.Told.{ticks}
 use Rattle.proc_semantics.specs.Meaning.{finish, left_by, part_of}
 use Rattle.proc_semantics.specs.Whole.{whole}
-use Rattle.proc_meaning.specs.Rest.{with_value, ended, rest_of, waiting}
+use Rattle.proc_meaning.specs.Rest.{with_value, ended, waiting}
 use Rattle.proc_meaning.proofs.Works.{kept, as_many}
 use Rattle.proc_meaning.proofs.ends.end_run.Goals as goal
 
@@ -16,7 +16,8 @@ returns-in-Start-clause-same c world items st =
 
 pub returns-in-Caller-clause-same : goal.returns-in-Caller-clause-same
 returns-in-Caller-clause-same c world items st =
-    let r = c.args.run.now in let n = c.from-ticks.result in let v = c.args.value in let to = c.in-Caller.caller in
+    let r = c.args.run.now in let n = c.from-ticks.result in let v = c.args.value in
+    let to = c.in-Caller.caller in
     let z : to_z w64 (of_z w64 v) ≡ v = search rules in
     ap (λ w. finish world r.frame.need (ended world w (reverse items)) v st) c.in-Caller.is
     ∙ as_many r.frame.need n _ c.from-ticks.ensures
@@ -29,5 +30,6 @@ returns-in-Entered-clause-same c world items st =
     let z : to_z w64 (of_z w64 v) ≡ v = search rules in
     ap (λ w. finish world r.frame.need (ended world w (reverse items)) v st) c.in-Entered.is
     ∙ as_many r.frame.need n _ c.from-ticks.ensures
-    ∙ ap (λ x. ticks (n + 1) (left_by world (whole world) (part_of world c.in-Entered.home) (waiting world (reverse items)) c.in-Entered.left c.in-Entered.back.now x st)) (sym z)
+    ∙ ap (λ x. ticks (n + 1) (left_by world (whole world) (part_of world c.in-Entered.home)
+    (waiting world (reverse items)) c.in-Entered.left c.in-Entered.back.now x st)) (sym z)
     ∙ ap (ticks (n + 1)) (sym (kept world (now.Left _ _ _ _) items r st))

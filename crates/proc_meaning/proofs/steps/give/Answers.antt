@@ -9,7 +9,7 @@ returns-in-Some-clause-same c =
     let items = c.pop.new.self.items in let w = c.in-Some.w in
     let z : to_z w64 (of_z w64 v) ≡ v = search rules in
     mapped c.give_to.result _ _ (λ a h world.
-      ap (λ l. with_value world l r.frame r.env.items v st)
-        (reversed items c.args.work.now.items w c.in-Some.ensures.items)
-      ∙ ap (λ x. with_value world (w ∷ reverse items) r.frame r.env.items x st) (sym z)
-      ∙ h world) c.give_to.ensures.same
+    ap (λ l. with_value world l r.frame r.env.items v st)
+    (reversed items c.args.work.now.items w c.in-Some.ensures.items)
+    ∙ ap (λ x. with_value world (w ∷ reverse items) r.frame r.env.items x st) (sym z)
+    ∙ h world) c.give_to.ensures.same

@@ -26,15 +26,15 @@ loop-line-preserved c =
       number = omega (arith, ap length next, c.loop-line.invariant.number);
       so_far = elim c.match-branch-2.branch [
         | in-Some-2+in_ok-push w ↦
-            with_one c.loop-line.items.items c.args.base c.loop-line.entry c.loop-line.number c.loop-line.lines _
-            c.in-Some.line.now c.part.new.self c.in-Some-seen.found _ c.in-Some.ensures c.in-Some-seen.ensures
-            c.is_enter-entry.ensures _ (sym w.in-Some-2.is ∙ c.in_ok-item.ensures)
+            with_one c.loop-line.items.items c.args.base c.loop-line.entry c.loop-line.number
+            c.loop-line.lines _ c.in-Some.line.now c.part.new.self c.in-Some-seen.found _ c.in-Some.ensures
+            c.in-Some-seen.ensures c.is_enter-entry.ensures _ (sym w.in-Some-2.is ∙ c.in_ok-item.ensures)
             (ap (λ (v : Vec Item Global). v.items) w.items-is ∙ w.in_ok-push.ensures.items)
             ∙ c.loop-line.invariant.so_far
         | in_default-2 w ↦
-            with_none c.loop-line.items.items c.args.base c.loop-line.entry c.loop-line.number c.loop-line.lines _
-            c.in-Some.line.now c.part.new.self c.in-Some-seen.found _ c.in-Some.ensures c.in-Some-seen.ensures
-            c.is_enter-entry.ensures (sym w.in_default-2.is ∙ c.in_ok-item.ensures)
+            with_none c.loop-line.items.items c.args.base c.loop-line.entry c.loop-line.number
+            c.loop-line.lines _ c.in-Some.line.now c.part.new.self c.in-Some-seen.found _ c.in-Some.ensures
+            c.in-Some-seen.ensures c.is_enter-entry.ensures (sym w.in_default-2.is ∙ c.in_ok-item.ensures)
             (ap (λ (v : Vec Item Global). v.items) w.items-is)
             ∙ c.loop-line.invariant.so_far
       ];

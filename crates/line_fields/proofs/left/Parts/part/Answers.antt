@@ -4,7 +4,8 @@ use Rattle.line_fields.proofs.left.Parts.part.Goals as goal
 
 pub returns-in-Some : goal.returns-in-Some
 returns-in-Some c =
-    first_part c.self.inside.mark c.in_ok-rest.rest.now c.in-Some.part.now c.in-Some.behind.now c.args.self.now
+    first_part c.self.inside.mark c.in_ok-rest.rest.now c.in-Some.part.now c.in-Some.behind.now
+    c.args.self.now
     (ap (seen c.self.inside.mark) (sym c.in_ok-rest.was) ∙ c.self.view_is) c.in-Some.ensures.exact
 
 pub returns-in-None : goal.returns-in-None

@@ -1,0 +1,43 @@
+-- Sources: the module of a text, and its component; or the first fault, of the text, of its names, or of the
+-- size of what it compiles to.
+use Rattle.std.specs.Prelude.{ℕ, nat_lt, Bool, true, false, ◌||◌, List, Result, Ok, Err, if◌then◌else◌}
+use Rattle.readers.specs.Readers.{told_by}
+use Rattle.readers.specs.Results.{◌>>=◌}
+use Rattle.component_file.specs.declared.component.ComponentFields.{ComponentFields}
+use Rattle.component_file.specs.declared.TheConstants.{MOST_WORDS}
+use Rattle.proc_language.specs.declared.module.ModuleFields.{ModuleFields}
+use Rattle.proc_parse.specs.Text.{parsed_text}
+use Rattle.proc_names.specs.NameFaults.{resolved}
+use Rattle.proc_names.specs.Calls.{module_calls}
+use Rattle.proc_program.specs.Lower.{part_of}
+use Rattle.proc_templates.specs.Compiled.{code_words, data_count, compiled}
+use Rattle.proc_compiler.specs.declared.fault.CompileFault.{CompileFault}
+use Rattle.proc_compiler.specs.declared.fault.CompileFault.TheVariants.{TooLarge, SealsShort}
+use Rattle.proc_sources.specs.declared.fault.SourceFault.{SourceFault}
+use Rattle.proc_sources.specs.declared.fault.SourceFault.TheVariants.{Text, Name, Size, NoMemory}
+
+abbrev pub is_refusal : SourceFault → Bool
+is_refusal NoMemory = true
+is_refusal _ = false
+
+-- the component of a module whose names were resolved: too many words are told before too few return seals
+abbrev pub is_large : ModuleFields → Bool
+is_large m = nat_lt MOST_WORDS (code_words (part_of m)) || nat_lt MOST_WORDS (data_count (part_of m))
+
+unfoldable pub compile_answer : ModuleFields → Result ComponentFields CompileFault
+compile_answer m =
+    if is_large m then Err TooLarge
+    else (if nat_lt m.return_count (module_calls m) then Err SealsShort else Ok (compiled m))
+
+-- the module that a text spells, whose names are resolved; or the first fault
+unfoldable pub module_in : List ℕ → Result ModuleFields SourceFault
+module_in text = do
+  m ← told_by Text (parsed_text text)
+  _ ← told_by Name (resolved m)
+  Ok m
+
+-- the component that a source has, or its first fault
+unfoldable pub sourced : List ℕ → Result ComponentFields SourceFault
+sourced text = do
+  m ← module_in text
+  told_by Size (compile_answer m)

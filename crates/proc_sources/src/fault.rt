@@ -1,0 +1,20 @@
+//! Why a source is refused.
+ghost use Rattle.std.specs.Prelude.{◌≡◌};
+ghost use Rattle.proc_sources.specs.declared.fault.SourceFault.TheVariants.{Text, Name, Size};
+
+use proc_compiler::CompileFault;
+use proc_grammar::ParseFault;
+use proc_names::NameFault;
+
+/// What is wrong with a source, or that memory was refused.
+#[derive(Clone, Copy, Debug, PartialEq, Eq)]
+pub enum SourceFault {
+    /// The text spells no module.
+    Text(ParseFault),
+    /// A name leads to nothing that fits its use.
+    Name(NameFault),
+    /// The module has no component: too many words, or fewer return seals than calls.
+    Size(CompileFault),
+    /// Memory was refused.
+    NoMemory,
+}

@@ -1,0 +1,19 @@
+//! What holds of texts of runs. These functions do nothing; their contracts are the laws.
+ghost use Rattle.run_items.specs.Items.{TextsTellItems, TracesTellItems, EventsAreTold};
+
+use trace_tool::laws::{lines_fit, start_lines_agree};
+
+/// The text of a run from a linked start is a feed without a fault, whose items are those of the run's
+/// lines; and so is the text of a trace. Where stacks begin may be any address.
+pub fn texts_tell_items()
+    ensures runs { TextsTellItems }
+    ensures traces { TracesTellItems }
+{
+    lines_fit();
+    start_lines_agree();
+}
+
+/// Events that lines tell alike are the same.
+pub fn events_are_told()
+    ensures { EventsAreTold }
+{}
