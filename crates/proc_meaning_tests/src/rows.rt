@@ -157,19 +157,21 @@ fn told(alloc: Global, modules: &[Module], case: &Case<'_>) -> Result<Vec<u8>, A
     text_of(alloc, &meaning(alloc, modules, stack, &feed, fuel)?)
 }
 
-/// The place of the first row that isn't told as it should be, over sources.
+/// The place of the first row that isn't told as it should be, over sources; behind them all where a source
+/// isn't read.
 pub(crate) fn first_wrong(
     alloc: Global,
     texts: &[&[u8]],
     cases: &[Case<'_>],
 ) -> Result<Option<usize>, AllocError> {
     let modules = modules_of(alloc, texts)?;
-    let mut place = 0;
-    for case in cases {
+    if modules.len() != texts.len() {
+        return Ok(Some(cases.len()));
+    }
+    for (place, case) in cases.iter().enumerate() {
         if told(alloc, &modules, case)?.as_slice() != case.2 {
             return Ok(Some(place));
         }
-        place += 1;
     }
     Ok(None)
 }

@@ -1,5 +1,5 @@
 -- The meaning with more fuel.
-use Rattle.std.proofs.Common.{◌≡◌, ℕ, zero, suc, ◌+◌, ◌<◌, inl, inr, ⊎_elim, List, [], ◌∷◌}
+use Rattle.std.proofs.Common.{◌≡◌, ℕ, zero, suc, ◌+◌, ◌<◌, ◌≤◌, inl, inr, ⊎_elim, List, [], ◌∷◌}
 use Rattle.std.proofs.Common.{length, map, refl, sym, ap, ◌∙◌, subst, arith}
 use Rattle.source_events.specs.declared.Item.{Item}
 use Rattle.source_events.specs.declared.End.{End}
@@ -19,15 +19,25 @@ record Fuller (b : ℕ) (m m' : Comp) : Type 0 where
   is : (f e : ℕ) (feed : List Item) → f + e + length feed < b → Later f (m f feed) (m' (f + e) feed)
 
 later_counted : (f : ℕ) (t t' : Told) → Later f t t' → Later (suc f) (counted t) (counted t')
-later_counted f t t' h = ⊎_elim (λ h. inl (ap counted h))
-    (λ h. let e : t.ticks + 1 ≡ suc f = omega (arith, h.1) in inr (h.0, e, h.2)) h
+later_counted f t t' h =
+    ⊎_elim (λ h. inl (ap counted h))
+    (λ h.
+    let e : t.ticks + 1 ≡ suc f = omega (arith, h.1) in
+    let more : suc f < t'.ticks + 1 = omega (arith, h.2) in
+    inr (h.0, e, more, h.3)) h
 
 fuller_tick : (b : ℕ) (m m' : Comp) → Fuller b m m' → Fuller (suc b) (tick m) (tick m')
 fuller_tick b m m' s = record { is = is }
   where
     is : (f e : ℕ) (feed : List Item) → f + e + length feed < suc b
         → Later f (tick m f feed) (tick m' (f + e) feed)
-    is zero e feed lt = inr (refl, refl, (_, refl))
+    is zero zero feed lt =
+        let n : zero + zero ≡ zero = omega arith in
+        subst (λ x. Later zero (tick m zero feed) (tick m' x feed)) (sym n) (inl refl)
+    is zero (suc e) feed lt =
+        let n : zero + suc e ≡ suc e = omega arith in
+        let more : zero < (m' e feed).ticks + 1 = omega arith in
+        subst (λ x. Later zero (tick m zero feed) (tick m' x feed)) (sym n) (inr (refl, refl, more, (_, refl)))
     is (suc f) e feed lt =
         let n : suc f + e ≡ suc (f + e) = omega arith in
         subst (λ x. Later (suc f) (counted (m f feed)) (tick m' x feed)) (sym n)
@@ -49,7 +59,7 @@ fuller_kept = record {
   ticking = fuller_tick;
   emitting = λ b x m m' s. record {
     is = λ f e feed lt. ⊎_elim (λ h. inl (ap (said x) h))
-        (λ h. inr (h.0, h.1, (h.2.0, ap (λ xs. x ∷ xs) h.2.1))) (s.is f e feed lt);
+        (λ h. inr (h.0, h.1, h.2, (h.3.0, ap (λ xs. x ∷ xs) h.3.1))) (s.is f e feed lt);
   };
   taking = fuller_take;
   less = λ b c m m' le s. record { is = λ f e feed lt. s.is f e feed (omega (arith, lt, le)) };
@@ -127,5 +137,19 @@ one world stack feed t u x y =
     sym (lasting world stack feed t x y.fuel) ∙ ap (meaning world stack feed) c
     ∙ lasting world stack feed u y x.fuel
 
+exact : (world : World) (stack : ℕ) (feed : List Item) (t : Told) → EndsWith world stack feed t → (f : ℕ)
+    → (t.ticks ≤ f → meaning world stack feed f ≡ t)
+    × (f < t.ticks → (meaning world stack feed f).end ≡ OutOfFuel)
+exact world stack feed t x f =
+    let c : f + x.fuel ≡ x.fuel + f = omega arith in
+    let told : meaning world stack feed (f + x.fuel) ≡ t =
+    ap (meaning world stack feed) c ∙ lasting world stack feed t x f in
+    let more : Later f (meaning world stack feed f) t =
+    subst (Later f (meaning world stack feed f)) told (later world stack feed f x.fuel) in
+    let few = (within world stack feed f).0 in (
+      λ le. ⊎_elim (λ same. same) (λ out. absurd (omega (arith, out.2, le))) more,
+      λ lt. ⊎_elim (λ same. absurd (omega (arith, lt, few, ap (λ t. t.ticks) same))) (λ out. out.0) more,
+    )
+
 pub fuel_laws : FuelLaws
-fuel_laws = record { within = within; later = later; lasting = lasting; one = one }
+fuel_laws = record { within = within; later = later; lasting = lasting; one = one; exact = exact }

@@ -1,5 +1,5 @@
 -- What more fuel does to a meaning.
-use Rattle.std.specs.Prelude.{◌≡◌, ℕ, ◌+◌, ◌≤◌, ◌⊎◌, List, ◌++◌}
+use Rattle.std.specs.Prelude.{◌≡◌, ℕ, ◌+◌, ◌<◌, ◌≤◌, ◌⊎◌, List, ◌++◌}
 use Rattle.source_events.specs.declared.Item.{Item}
 use Rattle.source_events.specs.declared.OutEvent.{OutEvent}
 use Rattle.source_events.specs.declared.End.TheVariants.{OutOfFuel}
@@ -14,10 +14,12 @@ Prefix xs ys = (rest : List OutEvent) × (ys ≡ xs ++ rest)
 abbrev pub Within : ℕ → Told → Type 0
 Within fuel t = (t.ticks ≤ fuel) × (t.end ≡ OutOfFuel → t.ticks ≡ fuel)
 
--- with more fuel the same is told; or the fuel had run out, after as many ticks, and after some of the
--- same events
+-- with more fuel the same is told; or the fuel had run out, after as many ticks and some of the same events,
+-- and with more there are more ticks
 abbrev pub Later : ℕ → Told → Told → Type 0
-Later fuel t more = (t ≡ more) ⊎ ((t.end ≡ OutOfFuel) × (t.ticks ≡ fuel) × Prefix t.events more.events)
+Later fuel t more =
+    (t ≡ more)
+    ⊎ ((t.end ≡ OutOfFuel) × (t.ticks ≡ fuel) × (fuel < more.ticks) × Prefix t.events more.events)
 
 -- what the meaning of a feed ends with: what is told under some fuel that didn't run out
 pub record EndsWith (world : World) (stack : ℕ) (feed : List Item) (t : Told) : Type 0 where
@@ -35,3 +37,7 @@ pub record FuelLaws : Type 0 where
       (more : ℕ) → meaning world stack feed (ends.fuel + more) ≡ t
   pub one : (world : World) (stack : ℕ) (feed : List Item) (t u : Told)
       → EndsWith world stack feed t → EndsWith world stack feed u → t ≡ u
+  -- as much fuel as there are ticks tells it, and less runs out
+  pub exact : (world : World) (stack : ℕ) (feed : List Item) (t : Told) → EndsWith world stack feed t
+      → (fuel : ℕ) → (t.ticks ≤ fuel → meaning world stack feed fuel ≡ t)
+      × (fuel < t.ticks → (meaning world stack feed fuel).end ≡ OutOfFuel)
