@@ -28,21 +28,25 @@ use Rattle.lcm_machine.specs.declared.FailCause.{FailCause}
 use Rattle.lcm_machine.specs.declared.Step.{Step}
 use Rattle.lcm_machine.specs.declared.Step.TheVariants.{Went, Halted, Failed}
 use Rattle.lcm_machine.specs.Run.{answer as last_step, plain}
-use Rattle.lcm_cli.specs.declared.refusal.Refusal.{Refusal}
-use Rattle.lcm_cli.specs.declared.refusal.Refusal.TheVariants as refusal
+use Rattle.file_plans.specs.declared.refusal.Refusal.{Refusal}
+use Rattle.file_plans.specs.declared.refusal.Refusal.TheVariants as refusal
 use Rattle.lcm_cli.specs.declared.status.Status.{Status}
 use Rattle.lcm_cli.specs.declared.status.Status.TheVariants as status
-use Rattle.lcm_cli.specs.declared.source.SourceFault.{SourceFault}
+use Rattle.proc_sources.specs.declared.fault.SourceFault.{SourceFault}
 use Rattle.lcm_cli.specs.Refusals.{refusal_status, image_status}
-use Rattle.lcm_cli.specs.Plans.{Plan, Reads, Ends, Made, Comes}
-use Rattle.lcm_cli.specs.Commands.{Task, Run, Trace, Put, Write, plan_in, is_command}
-use Rattle.lcm_cli.specs.Answers.{Answer, Outside, end_status, writes, ran, traced, refused, IsAnswerOf}
-use Rattle.lcm_cli.specs.Answers.{IsPut}
+use Rattle.file_plans.specs.Plans.{Plan, Reads, Ends, Made, Comes}
+use Rattle.source_events.specs.declared.End.{End}
+use Rattle.source_events.specs.declared.End.TheVariants as end
+use Rattle.meaning_tool.specs.Subjects.{Subject, told_of}
+use Rattle.lcm_cli.specs.Commands.{Task, Run, Trace, Put, Write, Tell, plan_in, is_command}
+use Rattle.lcm_cli.specs.Answers.{Answer, Outside, end_status, meaning_status, writes, ran, traced, tells}
+use Rattle.lcm_cli.specs.Answers.{refused, IsAnswerOf, IsPut}
 use Rattle.lcm_cli.specs.Answers.{whole, unput, unwritten, Answers, answer, nothing}
 use Rattle.lcm_cli.specs.Causes.{IsTurn, IsUnread, IsLong, IsUndecoded, IsUncompiled, IsUnassembled}
 use Rattle.lcm_cli.specs.Causes.{IsUnloaded, Breaks}
 use Rattle.lcm_cli.specs.Causes.{Runs}
-use Rattle.lcm_cli.specs.Causes.{Traces, PutsFile, Tells, out_of, Wrote, Causes, Promised}
+use Rattle.lcm_cli.specs.Causes.{Traces, Means, IsAtRest, PutsFile, Tells, out_of, Wrote, IsUnfed, Causes}
+use Rattle.lcm_cli.specs.Causes.{Promised}
 use Rattle.lcm_cli.proofs.Why.{WhyIs, why_is, unplanned}
 use Rattle.lcm_cli.proofs.Put.{put_of}
 use Rattle.lcm_cli.proofs.Settled.{complete, puts_rose}
@@ -89,12 +93,15 @@ abbrev Caused : Option Command → Outside → Outside → Status → Type 0
 Caused asked old new status.Done =
     Runs asked old.files new.files (λ step. step ≡ Halted)
     ⊎ (Traces asked old.files new.files run_end.Halted
-    ⊎ (PutsFile asked old.files new.files ⊎ Tells asked old.files new.files))
+    ⊎ (PutsFile asked old.files new.files
+    ⊎ (Tells asked old.files new.files ⊎ Means asked old.files new.files IsAtRest)))
 Caused asked old new status.MachineFailed =
     Runs asked old.files new.files (λ step. (cause : FailCause) × (at : ℤ) × (step ≡ Failed cause at))
-    ⊎ Traces asked old.files new.files run_end.Failed
+    ⊎ (Traces asked old.files new.files run_end.Failed ⊎ Means asked old.files new.files (λ e. e ≡ end.Fail))
 Caused asked old new status.StepsUsed =
-    Runs asked old.files new.files (λ step. step ≡ Went) ⊎ Traces asked old.files new.files run_end.Running
+    Runs asked old.files new.files (λ step. step ≡ Went)
+    ⊎ (Traces asked old.files new.files run_end.Running
+    ⊎ Means asked old.files new.files (λ e. e ≡ end.OutOfFuel))
 Caused asked old new status.Usage = is_command asked ≡ false
 Caused asked old new status.ReadFault =
     Rose old.files.failed_reads new.files.failed_reads × IsUnread (plan_in asked) old.files new.files
@@ -114,8 +121,9 @@ Caused asked old new status.SourceRefused =
 Caused asked old new status.FileRefused =
     ((index : ℕ) × (f : FileFault) × Wrote (refusal.File index f) old new
     × IsUndecoded (plan_in asked) old.files index f new.files)
-    ⊎ ((f : ImageFault) × (image_status f ≡ status.FileRefused) × Wrote (refusal.Image f) old new
+    ⊎ (((f : ImageFault) × (image_status f ≡ status.FileRefused) × Wrote (refusal.Image f) old new
     × IsUnloaded asked old.files f new.files)
+    ⊎ ((line : ℕ) × Wrote (refusal.Feed line) old new × IsUnfed asked old.files line new.files))
 Caused asked old new status.RuleBroken =
     (r : RuleAt) × Wrote (refusal.Rule r) old new
     × (Breaks asked old.files r new.files ⊎ IsUnloaded asked old.files (image.Rule r) new.files)
@@ -136,23 +144,31 @@ trace_caused : (asked : Option Command) (old new : Outside) (i : ImageSeen) (ste
 trace_caused asked old new i steps c start overlay s o run_end.Halted e =
     inr (inl (i, steps, c, start, overlay, s, o, e))
 trace_caused asked old new i steps c start overlay s o run_end.Failed e =
-    inr (i, steps, c, start, overlay, s, o, e)
+    inr (inl (i, steps, c, start, overlay, s, o, e))
 trace_caused asked old new i steps c start overlay s o run_end.Running e =
-    inr (i, steps, c, start, overlay, s, o, e)
+    inr (inl (i, steps, c, start, overlay, s, o, e))
 trace_caused asked old new i steps c start overlay s o run_end.WriteFault e =
     absurd (writes_none steps overlay e)
+
+mean_caused : (asked : Option Command) (old new : Outside) (s : Subject) (fuel : ℕ)
+    → Comes (plan_in asked) old.files (Ok (Tell s fuel)) new.files → (e : End) → (told_of s fuel).end ≡ e
+    → Caused asked old new (meaning_status e)
+mean_caused asked old new s fuel c (end.Halt v) h = inr (inr (inr (inr (s, fuel, c, inl (v, h)))))
+mean_caused asked old new s fuel c end.Fail h = inr (inr (s, fuel, c, h))
+mean_caused asked old new s fuel c end.Waiting h = inr (inr (inr (inr (s, fuel, c, inr h))))
+mean_caused asked old new s fuel c end.OutOfFuel h = inr (inr (s, fuel, c, h))
 
 image_caused : (asked : Option Command) (old new : Outside) (f : ImageFault)
     → IsUnloaded asked old.files f new.files → Wrote (refusal.Image f) old new
     → Caused asked old new (image_status f)
 image_caused asked old new (image.Rule r) h w = (r, w, inr h)
-image_caused asked old new image.Magic h w = inr (image.Magic, refl, w, h)
-image_caused asked old new image.Version h w = inr (image.Version, refl, w, h)
-image_caused asked old new (image.Short at) h w = inr (image.Short at, refl, w, h)
-image_caused asked old new (image.BadField at) h w = inr (image.BadField at, refl, w, h)
-image_caused asked old new (image.Trailing at) h w = inr (image.Trailing at, refl, w, h)
-image_caused asked old new (image.File part f) h w = inr (image.File part f, refl, w, h)
-image_caused asked old new image.NoMemory h w = inr (image.NoMemory, refl, w, h)
+image_caused asked old new image.Magic h w = inr (inl (image.Magic, refl, w, h))
+image_caused asked old new image.Version h w = inr (inl (image.Version, refl, w, h))
+image_caused asked old new (image.Short at) h w = inr (inl (image.Short at, refl, w, h))
+image_caused asked old new (image.BadField at) h w = inr (inl (image.BadField at, refl, w, h))
+image_caused asked old new (image.Trailing at) h w = inr (inl (image.Trailing at, refl, w, h))
+image_caused asked old new (image.File part f) h w = inr (inl (image.File part f, refl, w, h))
+image_caused asked old new image.NoMemory h w = inr (inl (image.NoMemory, refl, w, h))
 
 err_caused : (asked : Option Command) (old new : Outside) (why : Refusal)
     → WhyIs asked (plan_in asked) old.files why new.files → Wrote why old new
@@ -165,6 +181,7 @@ err_caused asked old new (refusal.Source index f) h w = (index, f, w, h)
 err_caused asked old new (refusal.File index f) h w = inl (index, f, w, h)
 err_caused asked old new (refusal.Rule r) h w = (r, w, inl h)
 err_caused asked old new (refusal.Image f) h w = image_caused asked old new f h w
+err_caused asked old new (refusal.Feed line) h w = inr (inr (line, w, h))
 
 -- what is told at the end, where no file was put
 unput_seen : (seen new : FilesSeen) (a b : Answer) → a ≡ b → b.file ≡ None → IsPut seen a.file new → new
@@ -187,7 +204,11 @@ due_caused asked old new seen (Ok (Put name d)) a c x p w =
     (inr (inr (inl (name, d, seen, c, x.0, subst (λ (b : Answer). IsPut seen b.file new.files) x.1 p))))
 due_caused asked old new seen (Ok (Write text)) a c x p w =
     let n : new.files ≡ seen = unput_seen seen new.files a (writes status.Done text) x refl p in
-    subst (λ (b : Answer). Caused asked old new b.status) (sym x) (inr (inr (inr (text, rw n c))))
+    subst (λ (b : Answer). Caused asked old new b.status) (sym x) (inr (inr (inr (inl (text, rw n c)))))
+due_caused asked old new seen (Ok (Tell s fuel)) a c x p w =
+    let n : new.files ≡ seen = unput_seen seen new.files a (tells (told_of s fuel)) x refl p in
+    subst (λ (b : Answer). Caused asked old new b.status) (sym x)
+    (mean_caused asked old new s fuel (rw n c) (told_of s fuel).end refl)
 due_caused asked old new seen (Err why) a c x p w =
     let n : new.files ≡ seen = unput_seen seen new.files a (refused why) x refl p in
     subst (λ (b : Answer). Caused asked old new b.status) (sym x)

@@ -11,12 +11,12 @@ use Rattle.assembler.specs.Assembled.{assembled}
 use Rattle.component_linker.specs.declared.fault.RuleAt.{RuleAt}
 use Rattle.component_linker.specs.Accepted.{accepted}
 use Rattle.component_linker.specs.Parts.{PartSeen}
-use Rattle.lcm_cli.specs.declared.refusal.Refusal.{Refusal}
-use Rattle.lcm_cli.specs.declared.refusal.Refusal.TheVariants as refusal
-use Rattle.lcm_cli.specs.Plans.{Plan, Reads, Ends, Made, ◌>>=◌, unless, whole, too_long, unread, Comes}
+use Rattle.file_plans.specs.declared.refusal.Refusal.{Refusal}
+use Rattle.file_plans.specs.declared.refusal.Refusal.TheVariants as refusal
+use Rattle.file_plans.specs.Plans.{Plan, Reads, Ends, Made, ◌>>=◌, unless, each_at, whole, too_long, unread}
+use Rattle.file_plans.specs.Plans.{Comes}
 use Rattle.lcm_cli.specs.Parts.{is_trusted, broken_in, linked, loaded, form_by, component_at, part_at}
-use Rattle.lcm_cli.specs.Parts.{each_at}
-use Rattle.lcm_cli.specs.Sources.{sourced}
+use Rattle.proc_sources.specs.Sources.{sourced}
 use Rattle.lcm_cli.specs.Commands.{linked_parts, linked_image}
 use Rattle.lcm_cli.proofs.Linking.{image_with}
 
@@ -59,7 +59,7 @@ pub never_unless : {A F : Type 0} (told : F → Refusal) (r : Result A F) (why :
     → ((f : F) → told f ≢ why) → Never (unless told r) why
 never_unless told r why differ old new h = let e = ended_unless told r old new why h in differ e.0 (sym e.2)
 
-never_bind : {A B : Type 0} (p : Plan A) (f : A → Plan B) (why : Refusal) → Never p why
+pub never_bind : {A B : Type 0} (p : Plan A) (f : A → Plan B) (why : Refusal) → Never p why
     → ((x : A) → Never (f x) why) → Never (p >>= f) why
 never_bind p f why first next old new h = elim (comes_split p f old new (Err why) h) as (λ _. ⊥) [
   | inl s ↦ next s.0 s.1 new s.3
@@ -76,18 +76,19 @@ never_reads {A} name index next why long fault rest = by
     by old new (too_long t e) = long (sym (same_err {A = A} (refusal.TooLong index) why (sym e)))
     by old new (unread t e) = fault (sym (same_err {A = A} refusal.ReadFault why (sym e)))
 
--- ---- how no part of words ends: as words that are no command, or as an image
+-- ---- how no part of words ends: as words that are no command, as an image, or as a feed
 
 abbrev pub Foreign : Refusal → Type 0
 Foreign refusal.Usage = Unit {0}
 Foreign (refusal.Image f) = Unit {0}
+Foreign (refusal.Feed line) = Unit {0}
 Foreign _ = ⊥
 
-foreign : (x why : Refusal) → Foreign why → x ≡ why → Foreign x
+pub foreign : (x why : Refusal) → Foreign why → x ≡ why → Foreign x
 foreign x why h e = subst Foreign (sym e) h
 
 -- a file is read, and its bytes are such or have a fault that is told otherwise
-never_told : {A F : Type 0} (why : Refusal) → Foreign why → (name : List ℕ) (index : ℕ) (told : F → Refusal)
+pub never_told : {A F : Type 0} (why : Refusal) → Foreign why → (name : List ℕ) (index : ℕ) (told : F → Refusal)
     (gives : List ℕ → Result A F) → ((f : F) → told f ≢ why)
     → Never (let p : Plan A = Reads name index (λ bytes. unless told (gives bytes)) in p) why
 never_told why h name index told gives differ =
@@ -121,14 +122,14 @@ never_part why h index w =
     why
     (λ b. foreign (broken_in index b) why h))
 
-never_each : (why : Refusal) → Foreign why → (index : ℕ) (ws : List PartWord)
-    → Never (each_at part_at index ws) why
-never_each why h index [] = not_made [] why
-never_each why h index (w ∷ ws) =
-    never_bind (part_at index w) (λ p. each_at part_at (index + 1) ws >>= (λ ps. Made (p ∷ ps))) why
-    (never_part why h index w)
-    (λ p. never_bind (each_at part_at (index + 1) ws) (λ ps. Made (p ∷ ps)) why
-    (never_each why h (index + 1) ws) (λ ps. not_made (p ∷ ps) why))
+pub never_each : {A : Type 0} (why : Refusal) (item : ℕ → PartWord → Plan A)
+    → ((index : ℕ) (w : PartWord) → Never (item index w) why) → (index : ℕ) (ws : List PartWord)
+    → Never (each_at item index ws) why
+never_each why item h index [] = not_made [] why
+never_each why item h index (w ∷ ws) =
+    never_bind (item index w) (λ x. each_at item (index + 1) ws >>= (λ xs. Made (x ∷ xs))) why (h index w)
+    (λ x. never_bind (each_at item (index + 1) ws) (λ xs. Made (x ∷ xs)) why
+    (never_each why item h (index + 1) ws) (λ xs. not_made (x ∷ xs) why))
 
 pub never_linked : (why : Refusal) → Foreign why → (words : List PartWord) (size : ℕ)
     → Never (linked_parts words size) why
@@ -136,7 +137,7 @@ unfolding linked_parts
 never_linked why h words size =
     never_bind (each_at part_at 0 words)
     (λ ps. unless refusal.Rule (linked ps size) >>= (λ _. Made (image_with size ps))) why
-    (never_each why h 0 words)
+    (never_each why part_at (never_part why h) 0 words)
     (λ ps. never_bind (unless refusal.Rule (linked ps size)) (λ _. Made (image_with size ps)) why
     (never_unless refusal.Rule (linked ps size) why (λ r. foreign (refusal.Rule r) why h))
     (λ u. not_made (image_with size ps) why))
@@ -146,6 +147,7 @@ never_linked why h words size =
 abbrev pub NotOfImage : Refusal → Type 0
 NotOfImage refusal.Usage = Unit {0}
 NotOfImage (refusal.Rule r) = Unit {0}
+NotOfImage (refusal.Feed line) = Unit {0}
 NotOfImage _ = ⊥
 
 not_of_image : (x why : Refusal) → NotOfImage why → x ≡ why → NotOfImage x
@@ -160,7 +162,7 @@ never_image why h name =
 
 -- ---- a component never ends by a rule
 
-no_rule_by : {A F : Type 0} (name : List ℕ) (index : ℕ) (told : F → Refusal) (gives : List ℕ → Result A F)
+pub no_rule_by : {A F : Type 0} (name : List ℕ) (index : ℕ) (told : F → Refusal) (gives : List ℕ → Result A F)
     (r : RuleAt) → ((f : F) → told f ≢ refusal.Rule r)
     → Never (let p : Plan A = Reads name index (λ bytes. unless told (gives bytes)) in p) (refusal.Rule r)
 no_rule_by name index told gives r differ =

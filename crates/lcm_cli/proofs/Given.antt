@@ -8,11 +8,12 @@ use Rattle.lcm_cli.specs.declared.status.Status.{Status}
 use Rattle.lcm_cli.specs.declared.status.Status.TheVariants.{Done}
 use Rattle.lcm_cli.specs.declared.job.Job.{Job}
 use Rattle.lcm_cli.specs.declared.job.Job.TheVariants as job
-use Rattle.lcm_cli.specs.Plans.{Plan}
+use Rattle.file_plans.specs.Plans.{Plan}
 use Rattle.lcm_cli.specs.Commands.{Task}
 use Rattle.lcm_cli.specs.Jobs.{Does, FollowsTask}
 use Rattle.lcm_cli.specs.Answers.{Outside, Gives, whole, unwritten, Answers, answer, Tells, outside}
-use Rattle.lcm_cli.specs.Answers.{with_files, writes, said, puts, ran, traced, IsAnswerOf, job_answer}
+use Rattle.lcm_cli.specs.Answers.{with_files, writes, meaning_status, said, puts, ran, traced, IsAnswerOf}
+use Rattle.lcm_cli.specs.Answers.{job_answer}
 use Rattle.lcm_cli.specs.Answers.{IsReady}
 
 does_answers : (t : Task) (j : Job) → Does t j → IsAnswerOf (Ok t) (job_answer j)
@@ -24,6 +25,9 @@ does_answers t (job.Put out bytes) d =
     subst (λ u. IsAnswerOf (Ok u) (puts out bytes)) (sym d.1) (d.2, ap (puts out) d.3)
 does_answers t (job.Write text) d = subst (λ u. IsAnswerOf (Ok u) (writes Done text)) (sym d) refl
 does_answers t job.Say d = subst (λ u. IsAnswerOf (Ok u) said) (sym d) refl
+does_answers t (job.Tell meant) d =
+    subst (λ u. IsAnswerOf (Ok u) (writes (meaning_status meant.end) meant.text)) (sym d.2)
+    (rw (d.3.end, d.3.text) refl)
 
 does_ready : (t : Task) (j : Job) → Does t j → IsReady j
 does_ready t (job.Run start steps) d = (d.2.starts.state.count, d.2.starts.state.end)
@@ -31,6 +35,7 @@ does_ready t (job.Trace start overlay steps) d = d.3
 does_ready t (job.Put out bytes) d = tt
 does_ready t (job.Write text) d = tt
 does_ready t job.Say d = tt
+does_ready t (job.Tell meant) d = tt
 
 pub ready : (plan : Plan Task) (old new : FilesSeen) (j : Job) → FollowsTask plan old (Ok j) new → IsReady j
 ready plan old new j f = does_ready f.0 j f.2

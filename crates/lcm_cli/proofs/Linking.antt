@@ -19,15 +19,15 @@ use Rattle.readers.specs.Readers.{told_by}
 use Rattle.image_loader.specs.Reading.{image_of}
 use Rattle.image_loader.specs.Answer.{LinksRead, Loads}
 use Rattle.image_loader.proofs.ImageLaws.{read_whole}
-use Rattle.lcm_cli.specs.declared.refusal.Refusal.TheVariants as refusal
-use Rattle.lcm_cli.specs.declared.refusal.Stop.{Stop}
-use Rattle.lcm_cli.specs.declared.refusal.Stop.TheVariants.{Refused}
-use Rattle.lcm_cli.specs.Plans.{unless, Made, ◌>>=◌, Comes, Follows, Meets}
-use Rattle.lcm_cli.specs.Parts.{linked, linked_as, loaded_by, loaded, part_at, each_at}
+use Rattle.file_plans.specs.declared.refusal.Refusal.TheVariants as refusal
+use Rattle.file_plans.specs.declared.refusal.Stop.{Stop}
+use Rattle.file_plans.specs.declared.refusal.Stop.TheVariants.{Refused}
+use Rattle.file_plans.specs.Plans.{unless, Made, ◌>>=◌, Comes, Follows, Meets, each_at}
+use Rattle.lcm_cli.specs.Parts.{linked, linked_as, loaded_by, loaded, part_at}
 use Rattle.lcm_cli.specs.Commands.{linked_parts}
 use Rattle.lcm_cli.specs.Jobs.{MeetsStart}
-use Rattle.lcm_cli.proofs.Follow.{comes_bind, follows_bind, follows_end, meets_follows, unless_made}
-use Rattle.lcm_cli.proofs.Follow.{unless_ended}
+use Rattle.file_plans.proofs.Follow.{comes_bind, follows_bind, follows_end, meets_follows, unless_made}
+use Rattle.file_plans.proofs.Follow.{unless_ended}
 use Rattle.lcm_cli.proofs.FirstOf.{linked_none, linked_first}
 
 abbrev pub image_with : ℕ → List PartSeen → ImageSeen

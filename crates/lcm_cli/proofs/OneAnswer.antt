@@ -6,11 +6,11 @@ use Rattle.command_words.specs.declared.command.Command.{Command}
 use Rattle.component_linker.specs.Standing.{placed}
 use Rattle.component_linker.specs.Started.{StartSeen}
 use Rattle.overlay_machine.specs.Seen.{OverlaySeen, IsOverlayOf}
-use Rattle.lcm_cli.specs.declared.TheConstants.{LONGEST_FILE}
-use Rattle.lcm_cli.specs.declared.refusal.Refusal.{Refusal}
-use Rattle.lcm_cli.specs.declared.refusal.Refusal.TheVariants as refusal
-use Rattle.lcm_cli.specs.Plans.{Plan, Reads, Ends, Made}
-use Rattle.lcm_cli.specs.Commands.{Task, Run, Trace, Put, Write, plan_in}
+use Rattle.file_plans.specs.declared.TheConstants.{LONGEST_FILE}
+use Rattle.file_plans.specs.declared.refusal.Refusal.{Refusal}
+use Rattle.file_plans.specs.declared.refusal.Refusal.TheVariants as refusal
+use Rattle.file_plans.specs.Plans.{Plan, Reads, Ends, Made}
+use Rattle.lcm_cli.specs.Commands.{Task, Run, Trace, Put, Write, Tell, plan_in}
 use Rattle.lcm_cli.specs.Answers.{Answer, IsAnswerOf, ran, traced, Settles, IsWritten}
 use Rattle.lcm_cli.proofs.OneStart.{one_start}
 use Rattle.lcm_cli.proofs.OneOverlay.{one_overlay}
@@ -59,6 +59,7 @@ one_of : (due : Result Task Refusal) (a b : Answer) → IsAnswerOf due a → IsA
 one_of (Err why) a b h k = h ∙ sym k
 one_of (Ok (Put name c)) a b h k = h.1 ∙ sym k.1
 one_of (Ok (Write text)) a b h k = h ∙ sym k
+one_of (Ok (Tell subject fuel)) a b h k = h ∙ sym k
 one_of (Ok (Run i steps)) a b h k =
     let e = one_start (placed i.parts i.stack) i.stack h.0 k.0 h.1.rules h.1.starts k.1.starts in
     h.2 ∙ ap (λ (m : StartSeen). ran m steps) e ∙ sym k.2

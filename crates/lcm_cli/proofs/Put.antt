@@ -18,17 +18,22 @@ use Rattle.trace_tool.specs.declared.run.RunEnd.TheVariants as run_end
 use Rattle.trace_tool.specs.Runs.{end_of}
 use Rattle.trace_tool.specs.Traces.{trace_of}
 use Rattle.lcm_machine.specs.Run.{answer as last_step, plain}
-use Rattle.lcm_cli.specs.declared.refusal.Refusal.{Refusal}
-use Rattle.lcm_cli.specs.declared.refusal.Refusal.TheVariants as refusal
+use Rattle.file_plans.specs.declared.refusal.Refusal.{Refusal}
+use Rattle.file_plans.specs.declared.refusal.Refusal.TheVariants as refusal
 use Rattle.lcm_cli.specs.declared.status.Status.{Status}
 use Rattle.lcm_cli.specs.declared.status.Status.TheVariants as status
 use Rattle.lcm_cli.specs.Refusals.{refusal_status, image_status}
-use Rattle.lcm_cli.specs.Plans.{Plan, Reads, Ends, Made, whole as came_whole, too_long, unread, Comes}
+use Rattle.file_plans.specs.Plans.{Plan, Reads, Ends, Made, whole as came_whole, too_long, unread, Comes}
 use Rattle.lcm_cli.specs.Parts.{component_at, part_at}
-use Rattle.lcm_cli.specs.Commands.{Task, Run, Trace, Put, Write, Content, spelling_of, IsReadAgain, is_built}
+use Rattle.source_events.specs.declared.End.{End}
+use Rattle.source_events.specs.declared.End.TheVariants as end
+use Rattle.meaning_tool.specs.Subjects.{told_of, subject_in}
+use Rattle.lcm_cli.specs.Commands.{Task, Run, Trace, Put, Write, Tell, Content, spelling_of, IsReadAgain}
+use Rattle.lcm_cli.specs.Commands.{is_built}
 use Rattle.lcm_cli.specs.Commands.{linked_in, link_task, component_task, built_plan, plan_in, is_command}
-use Rattle.lcm_cli.specs.Answers.{Answer, NewFile, Outside, end_status, ran, traced, puts, refused}
-use Rattle.lcm_cli.specs.Answers.{IsAnswerOf}
+use Rattle.lcm_cli.specs.Answers.{Answer, NewFile, Outside, end_status, meaning_status, ran, traced, tells}
+use Rattle.lcm_cli.specs.Answers.{puts}
+use Rattle.lcm_cli.specs.Answers.{refused, IsAnswerOf}
 use Rattle.lcm_cli.specs.Answers.{IsPut, GivesWhole, whole, unput, unwritten, Answers, answer, nothing}
 use Rattle.lcm_cli.specs.Causes.{PutsFile, link_out, component_out, out_of, Stay, OthersStay, StayAt}
 use Rattle.lcm_cli.specs.Causes.{PutsWhole}
@@ -58,7 +63,8 @@ put_built (Takes word deed) old seen name d e h =
     component_puts deed m.0 name d m.2
 put_built (Checks word) old seen name d e h =
     absurd (let m = (made_of (part_at 0 word) _ old seen (Put name d) h).2 in cc)
-put_built (Mean words size fuel feed) old seen name d e h = absurd (cc)
+put_built (Mean words size fuel feed) old seen name d e h =
+    absurd (let m = (made_of (subject_in words size feed) _ old seen (Put name d) h).2 in cc)
 put_built (Generate seed) old seen name d e h = absurd (cc)
 
 no_ok : {A : Type 0} (x : A) (why : Refusal) → (let r : Result A Refusal = Ok x in r) ≡ Err why → ⊥
@@ -86,6 +92,7 @@ file_cases (Ok (Run i steps)) a x = inl (ap (λ (b : Answer). b.file) x.2)
 file_cases (Ok (Trace i steps)) a x = inl (ap (λ (b : Answer). b.file) x.4)
 file_cases (Ok (Put name d)) a x = inr (name, d, refl, x.0, x.1)
 file_cases (Ok (Write text)) a x = inl (ap (λ (b : Answer). b.file) x)
+file_cases (Ok (Tell subject fuel)) a x = inl (ap (λ (b : Answer). b.file) x)
 file_cases (Err why) a x = inl (ap (λ (b : Answer). b.file) x)
 
 some_same : (f g : NewFile) → Some f ≡ Some g → f ≡ g
@@ -175,6 +182,12 @@ end_none run_end.Failed a e = e
 end_none run_end.Running a e = e
 end_none run_end.WriteFault a e = e
 
+meaning_none : (e : End) (a : Answer) → a.file ≡ None → PutsNone (meaning_status e) a
+meaning_none (end.Halt v) a h = tt
+meaning_none end.Fail a h = h
+meaning_none end.Waiting a h = tt
+meaning_none end.OutOfFuel a h = h
+
 image_none : (f : ImageFault) (a : Answer) → a.file ≡ None → PutsNone (image_status f) a
 image_none (image.Rule r) a e = e
 image_none image.Magic a e = e
@@ -194,6 +207,7 @@ why_none (refusal.Source index f) a e = e
 why_none (refusal.File index f) a e = e
 why_none (refusal.Rule r) a e = e
 why_none (refusal.Image f) a e = image_none f a e
+why_none (refusal.Feed line) a e = e
 
 puts_none : (due : Result Task Refusal) (a : Answer) → IsAnswerOf due a → PutsNone a.status a
 puts_none (Ok (Run i steps)) a x =
@@ -204,6 +218,9 @@ puts_none (Ok (Trace i steps)) a x =
     (end_none (trace_of steps x.1).end (traced x.1 steps) refl)
 puts_none (Ok (Put name d)) a x = subst (λ (b : Answer). PutsNone b.status b) (sym x.1) tt
 puts_none (Ok (Write text)) a x = subst (λ (b : Answer). PutsNone b.status b) (sym x) tt
+puts_none (Ok (Tell s fuel)) a x =
+    subst (λ (b : Answer). PutsNone b.status b) (sym x)
+    (meaning_none (told_of s fuel).end (tells (told_of s fuel)) refl)
 puts_none (Err why) a x =
     subst (λ (b : Answer). PutsNone b.status b) (sym x) (why_none why (refused why) refl)
 

@@ -15,19 +15,19 @@ use Rattle.component_linker.specs.declared.fault.RuleAt.{RuleAt}
 use Rattle.component_linker.specs.Parts.{PartSeen}
 use Rattle.image_loader.specs.declared.fault.ImageFault.{ImageFault}
 use Rattle.image_loader.specs.Image.{ImageSeen}
-use Rattle.lcm_cli.specs.declared.TheConstants.{LONGEST_FILE}
-use Rattle.lcm_cli.specs.declared.refusal.Refusal.{Refusal}
-use Rattle.lcm_cli.specs.declared.refusal.Refusal.TheVariants as refusal
-use Rattle.lcm_cli.specs.Plans.{Plan, Reads, Ends, Made, ◌>>=◌, unless, whole, too_long, unread, Comes}
+use Rattle.file_plans.specs.declared.TheConstants.{LONGEST_FILE}
+use Rattle.file_plans.specs.declared.refusal.Refusal.{Refusal}
+use Rattle.file_plans.specs.declared.refusal.Refusal.TheVariants as refusal
+use Rattle.file_plans.specs.Plans.{Plan, Reads, Ends, Made, ◌>>=◌, unless, each_at, whole, too_long, unread}
+use Rattle.file_plans.specs.Plans.{Comes}
 use Rattle.component_linker.specs.Accepted.{accepted}
 use Rattle.lcm_cli.specs.Parts.{is_trusted, broken_in, linked, loaded, form_by, component_at, part_at}
-use Rattle.lcm_cli.specs.Parts.{each_at}
 use Rattle.lcm_cli.specs.Commands.{linked_parts, linked_image, linked_in}
-use Rattle.lcm_cli.specs.Sources.{sourced}
+use Rattle.proc_sources.specs.Sources.{sourced}
 use Rattle.lcm_cli.specs.Causes.{IsTurn, IsUnread, IsLong, IsUndecoded, IsUncompiled, IsUnassembled}
 use Rattle.lcm_cli.specs.Causes.{PartBreaks, SomeBreaks}
 use Rattle.lcm_cli.specs.Causes.{AllBreak, LinkBreaks, LinkedCame}
-use Rattle.lcm_cli.proofs.Ends.{Never, comes_split, same_err, ended_unless, not_made, no_rule}
+use Rattle.lcm_cli.proofs.Ends.{comes_split, same_err, ended_unless, not_made, no_rule}
 use Rattle.lcm_cli.proofs.Linking.{image_with, loaded_read}
 
 -- ---- the turns of files
@@ -69,6 +69,7 @@ FileReason plan old (refusal.Source index f) new = IsUncompiled plan old index f
 FileReason plan old (refusal.File index f) new = IsUndecoded plan old index f new
 FileReason plan old (refusal.Rule r) new = ⊤
 FileReason plan old (refusal.Image f) new = ⊤
+FileReason plan old (refusal.Feed line) new = ⊤
 
 pub reason_first : {A B : Type 0} (p : Plan A) (f : A → Plan B) (old new : FilesSeen) (why : Refusal)
     → FileReason p old why new → FileReason (p >>= f) old why new
@@ -83,6 +84,7 @@ reason_first p f old new (refusal.File index x) h =
     (h.0, h.1, turn_first p f old h.1 h.0 index h.2, h.3, h.4, h.5)
 reason_first p f old new (refusal.Rule r) h = tt
 reason_first p f old new (refusal.Image x) h = tt
+reason_first p f old new (refusal.Feed line) h = tt
 
 reason_next : {A B : Type 0} (p : Plan A) (f : A → Plan B) (old mid new : FilesSeen) (x : A) (why : Refusal)
     → Comes p old (Ok x) mid → FileReason (f x) mid why new → FileReason (p >>= f) old why new
@@ -99,13 +101,14 @@ reason_next p f old mid new x (refusal.File index y) c h =
     (h.0, h.1, turn_next p f old mid h.1 x h.0 index c h.2, h.3, h.4, h.5)
 reason_next p f old mid new x (refusal.Rule r) c h = tt
 reason_next p f old mid new x (refusal.Image y) c h = tt
+reason_next p f old mid new x (refusal.Feed line) c h = tt
 
 -- wherever a plan ends the call, it has a reason
 pub record Reasoned {A : Type 0} (plan : Plan A) : Type 0 where
   pub gives : (old new : FilesSeen) (why : Refusal) → Comes plan old (Err why) new
       → FileReason plan old why new
 
-reasoned_bind : {A B : Type 0} (p : Plan A) (f : A → Plan B) → Reasoned p → ((x : A) → Reasoned (f x))
+pub reasoned_bind : {A B : Type 0} (p : Plan A) (f : A → Plan B) → Reasoned p → ((x : A) → Reasoned (f x))
     → Reasoned (p >>= f)
 reasoned_bind p f a b = record {
   gives = λ old new why h. elim (comes_split p f old new (Err why) h) as (λ _. FileReason
@@ -116,11 +119,11 @@ reasoned_bind p f a b = record {
       ];
 }
 
-reasoned_made : {A : Type 0} (x : A) → Reasoned (Made x)
+pub reasoned_made : {A : Type 0} (x : A) → Reasoned (Made x)
 reasoned_made x = record { gives = λ old new why h. absurd (let e = h.0 in cc) }
 
 -- its own rules and those of the link are no reason of a file
-reasoned_rule : {A F : Type 0} (told : F → Refusal) (r : Result A F)
+pub reasoned_rule : {A F : Type 0} (told : F → Refusal) (r : Result A F)
     → ((f : F) (old new : FilesSeen) → FileReason (unless told r) old (told f) new) → Reasoned (unless told r)
 reasoned_rule told r k = record {
   gives = λ old new why h. let e = ended_unless told r old new why h in
@@ -128,12 +131,12 @@ reasoned_rule told r k = record {
 }
 
 -- a file is read, and then its bytes alone say how the plan goes on: it ends since the file is too long or unread, or by its bytes
-abbrev ByBytes : {A : Type 0} → List ℕ → ℕ → (List ℕ → Plan A) → Type 0
+abbrev pub ByBytes : {A : Type 0} → List ℕ → ℕ → (List ℕ → Plan A) → Type 0
 ByBytes {A} name index next = (old mid new : FilesSeen) (bytes : List ℕ) (why : Refusal)
     → GivesWhole old name LONGEST_FILE bytes mid → Comes (next bytes) mid (Err why) new
     → FileReason (let p : Plan A = Reads name index next in p) old why new
 
-reads_reasoned : {A : Type 0} (name : List ℕ) (index : ℕ) (next : List ℕ → Plan A) → ByBytes name index next
+pub reads_reasoned : {A : Type 0} (name : List ℕ) (index : ℕ) (next : List ℕ → Plan A) → ByBytes name index next
     → Reasoned (let p : Plan A = Reads name index next in p)
 reads_reasoned {A} name index next k = record { gives = by }
   where
@@ -151,7 +154,7 @@ module _ {A F : Type 0} (told : F → Refusal) (gives : List ℕ → Result A F)
   abbrev Told : Plan A
   Told = Reads name index (λ bytes. unless told (gives bytes))
 
-  reason_by : ((old mid : FilesSeen) (bytes : List ℕ) (f : F) → GivesWhole old name LONGEST_FILE bytes mid
+  pub reason_by : ((old mid : FilesSeen) (bytes : List ℕ) (f : F) → GivesWhole old name LONGEST_FILE bytes mid
       → gives bytes ≡ Err f → FileReason Told old (told f) mid)
       → ByBytes name index (λ bytes. unless told (gives bytes))
   reason_by k old mid new bytes why w h =
@@ -190,7 +193,7 @@ part_reasoned index w = reasoned_bind (component_at index w) _ (component_reason
     (λ c. reasoned_rule (broken_in index) (accepted (record { component = c; trusted = is_trusted w.mark }))
     (λ f old new. tt))
 
-each_reasoned : {A : Type 0} (item : ℕ → PartWord → Plan A)
+pub each_reasoned : {A : Type 0} (item : ℕ → PartWord → Plan A)
     → ((index : ℕ) (w : PartWord) → Reasoned (item index w)) → (index : ℕ) (ws : List PartWord)
     → Reasoned (each_at item index ws)
 each_reasoned item h index [] = reasoned_made []
@@ -220,7 +223,7 @@ in_reasoned (what.Image name) = image_reasoned name
 
 -- ---- rules
 
-same_rule : (r s : RuleAt) → refusal.Rule r ≡ refusal.Rule s → r ≡ s
+pub same_rule : (r s : RuleAt) → refusal.Rule r ≡ refusal.Rule s → r ≡ s
 same_rule r s e = cc
 
 pub part_breaks : (index : ℕ) (w : PartWord) (old new : FilesSeen) (r : RuleAt)
@@ -258,7 +261,7 @@ each_breaks index (w ∷ ws) old new r h = elim
           rw (← e) s.1))
     ]
 
-err_same : {A : Type 0} {x y : RuleAt} → x ≡ y → (let q : Result A RuleAt = Err x in q) ≡ Err y
+pub err_same : {A : Type 0} {x y : RuleAt} → x ≡ y → (let q : Result A RuleAt = Err x in q) ≡ Err y
 err_same e = cc
 
 pub linked_break : (words : List PartWord) (size : ℕ) (old new : FilesSeen) (r : RuleAt)

@@ -25,12 +25,12 @@ use Rattle.trace_tool.specs.Traces.{trace_of, trace_text}
 use Rattle.lcm_machine.specs.declared.Step.{Step}
 use Rattle.lcm_machine.specs.declared.Step.TheVariants.{Went, Halted, Failed}
 use Rattle.lcm_machine.specs.Run.{answer as last_step, plain}
-use Rattle.lcm_cli.specs.declared.refusal.Refusal.{Refusal}
-use Rattle.lcm_cli.specs.declared.refusal.Refusal.TheVariants as refusal
+use Rattle.file_plans.specs.declared.refusal.Refusal.{Refusal}
+use Rattle.file_plans.specs.declared.refusal.Refusal.TheVariants as refusal
 use Rattle.lcm_cli.specs.declared.status.Status.{Status}
 use Rattle.lcm_cli.specs.declared.status.Status.TheVariants as status
 use Rattle.lcm_cli.specs.Refusals.{refusal_text, refusal_status, image_status}
-use Rattle.lcm_cli.specs.Plans.{Plan, Comes}
+use Rattle.file_plans.specs.Plans.{Plan, Comes}
 use Rattle.lcm_cli.specs.Commands.{Task, Run, Trace, linked_in, link_task, for_task, plan_in}
 use Rattle.lcm_cli.specs.Answers.{Answer, NewFile, Outside, with_files, end_status, ran, traced, refused}
 use Rattle.lcm_cli.specs.Answers.{IsPut, IsAnswerOf}
@@ -60,9 +60,10 @@ no_run (refusal.Source index f) h = h
 no_run (refusal.File index f) h = h
 no_run (refusal.Rule r) h = h
 no_run (refusal.Image f) h = no_image_run f h
+no_run (refusal.Feed line) h = h
 
 -- a status of a run is of no refusal
-refused_none : (why : Refusal) (a : Answer) (ended : Status) → a ≡ refused why → ended ≡ a.status
+pub refused_none : (why : Refusal) (a : Answer) (ended : Status) → a ≡ refused why → ended ≡ a.status
     → IsRunStatus ended → ⊥
 refused_none why a ended x e r = no_run why (subst IsRunStatus (e ∙ ap (λ (b : Answer). b.status) x) r)
 
@@ -107,15 +108,15 @@ asked_due asked l deed e old seen due a c x =
 -- ---- what was written whole
 
 -- an answer with the status of a run is given whole
-record WholeRun (plan : Plan Task) (old : Outside) (ended : Status) (new : Outside) : Type 0 where
-  due : Result Task Refusal
-  gives : Answer
-  seen : FilesSeen
-  came : Comes plan old.files due seen
-  is : IsAnswerOf due gives
-  given : GivesWhole (with_files old seen) gives ended new
+pub record WholeRun (plan : Plan Task) (old : Outside) (ended : Status) (new : Outside) : Type 0 where
+  pub due : Result Task Refusal
+  pub gives : Answer
+  pub seen : FilesSeen
+  pub came : Comes plan old.files due seen
+  pub is : IsAnswerOf due gives
+  pub given : GivesWhole (with_files old seen) gives ended new
 
-whole_run : (plan : Plan Task) (old : Outside) (ended : Status) (new : Outside) → Answers plan old ended new
+pub whole_run : (plan : Plan Task) (old : Outside) (ended : Status) (new : Outside) → Answers plan old ended new
     → IsRunStatus ended → WholeRun plan old ended new
 whole_run plan old ended new (nothing n) r = absurd (subst IsRunStatus n.status_is r)
 whole_run plan old ended new (answer due a seen c x (unput f i w u k s)) r = absurd (subst IsRunStatus s r)
@@ -207,6 +208,7 @@ no_cut (refusal.Source index f) e = cc
 no_cut (refusal.File index f) e = cc
 no_cut (refusal.Rule r) e = cc
 no_cut (refusal.Image f) e = no_image_cut f e
+no_cut (refusal.Feed line) e = cc
 
 never_cut : (end : RunEnd) → end ≢ run_end.WriteFault → end_status end ≢ status.WriteFault
 never_cut run_end.Halted n e = absurd (cc)

@@ -4,13 +4,13 @@ use Rattle.std.specs.Prelude.{Result, MatchOption}
 use Rattle.outside_io.specs.Counts.{Rose}
 use Rattle.outside_io.specs.FilesSeen.{FilesSeen}
 use Rattle.outside_io.specs.Whole.{OnlyGave}
-use Rattle.lcm_cli.specs.declared.refusal.Refusal.{Refusal}
+use Rattle.file_plans.specs.declared.refusal.Refusal.{Refusal}
 use Rattle.lcm_cli.specs.declared.status.Status.{Status}
-use Rattle.lcm_cli.specs.Plans.{Plan, Reads, Ends, Made, whole as came_whole, too_long, unread, Comes}
+use Rattle.file_plans.specs.Plans.{Plan, Reads, Ends, Made, whole as came_whole, too_long, unread, Comes}
 use Rattle.lcm_cli.specs.Commands.{Task}
 use Rattle.lcm_cli.specs.Answers.{Outside, NewFile, IsPut, whole, unput, unwritten, Answers, answer, nothing}
 use Rattle.lcm_cli.specs.Answers.{Settles, IsComplete}
-use Rattle.lcm_cli.proofs.Follow.{only_same, only_again}
+use Rattle.file_plans.proofs.Follow.{only_same, only_again}
 
 told_in : (A : Type 0) (o : Option (List ℕ → Option (List ℕ))) (held : List ℕ → Option (List ℕ))
     (name bytes : List ℕ) → o ≡ Some held → MatchOption o A (λ h. h name ≡ Some bytes) → held name

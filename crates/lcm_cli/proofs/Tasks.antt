@@ -4,13 +4,13 @@ use Rattle.std.specs.Prelude.{Result, Ok, Err, IfOk, IfErr, IsErrAnd}
 use Rattle.std.proofs.lemmas.Result.{err_from_is_err_and}
 use Rattle.outside_io.specs.FilesSeen.{FilesSeen}
 use Rattle.lcm_cli.specs.declared.job.Job.{Job}
-use Rattle.lcm_cli.specs.declared.refusal.Refusal.{Refusal}
-use Rattle.lcm_cli.specs.declared.refusal.Stop.{Stop}
-use Rattle.lcm_cli.specs.declared.refusal.Stop.TheVariants.{NoMemory}
-use Rattle.lcm_cli.specs.Plans.{Plan, Made, ◌>>=◌, Comes, Follows}
+use Rattle.file_plans.specs.declared.refusal.Refusal.{Refusal}
+use Rattle.file_plans.specs.declared.refusal.Stop.{Stop}
+use Rattle.file_plans.specs.declared.refusal.Stop.TheVariants.{NoMemory}
+use Rattle.file_plans.specs.Plans.{Plan, Made, ◌>>=◌, Comes, Follows}
 use Rattle.lcm_cli.specs.Commands.{Task, for_task}
 use Rattle.lcm_cli.specs.Jobs.{Does, FollowsTask}
-use Rattle.lcm_cli.proofs.Follow.{comes_made, comes_quiet, follows_end}
+use Rattle.file_plans.proofs.Follow.{comes_made, comes_quiet, follows_end}
 use Rattle.lcm_cli.proofs.Ends.{comes_split, same_err, not_made}
 
 -- ---- bodies

@@ -11,18 +11,20 @@ use Rattle.command_words.specs.declared.command.Command.TheVariants.{Links, Take
 use Rattle.command_words.specs.declared.part.PartWord.{PartWord}
 use Rattle.component_linker.specs.declared.fault.RuleAt.{RuleAt}
 use Rattle.image_loader.specs.declared.fault.ImageFault.{ImageFault}
-use Rattle.lcm_cli.specs.declared.refusal.Refusal.{Refusal}
-use Rattle.lcm_cli.specs.declared.refusal.Refusal.TheVariants as refusal
-use Rattle.lcm_cli.specs.Plans.{Plan, Ends, Made, Comes}
+use Rattle.file_plans.specs.declared.refusal.Refusal.{Refusal}
+use Rattle.file_plans.specs.declared.refusal.Refusal.TheVariants as refusal
+use Rattle.file_plans.specs.Plans.{Plan, Ends, Made, Comes}
 use Rattle.lcm_cli.specs.Parts.{component_at, part_at}
+use Rattle.meaning_tool.specs.Subjects.{subject_in}
 use Rattle.lcm_cli.specs.Commands.{Task, is_built, linked_in, for_task}
 use Rattle.lcm_cli.specs.Commands.{link_task, component_task, built_plan, plan_in, is_command}
 use Rattle.lcm_cli.specs.Causes.{IsUnread, IsLong, IsUndecoded, IsUncompiled, IsUnassembled, IsUnloaded}
-use Rattle.lcm_cli.specs.Causes.{Breaks}
+use Rattle.lcm_cli.specs.Causes.{Breaks, IsUnfed}
 use Rattle.lcm_cli.proofs.Ends.{Never, same_err, never_linked, never_image, never_component, never_part}
 use Rattle.lcm_cli.proofs.Ends.{no_rule}
 use Rattle.lcm_cli.proofs.Reasons.{FileReason, reason_first, Reasoned, in_reasoned, component_reasoned}
 use Rattle.lcm_cli.proofs.Reasons.{part_reasoned, linked_break, part_breaks, image_fails}
+use Rattle.lcm_cli.proofs.Modules.{never_subject, subject_reasoned, modules_break, feed_fails}
 use Rattle.lcm_cli.proofs.Tasks.{err_of}
 
 -- words that are a command that is built have its plan, and all others are refused at once
@@ -44,6 +46,7 @@ WhyIs asked plan old (refusal.Source index f) new = IsUncompiled plan old index 
 WhyIs asked plan old (refusal.File index f) new = IsUndecoded plan old index f new
 WhyIs asked plan old (refusal.Rule r) new = Breaks asked old r new
 WhyIs asked plan old (refusal.Image f) new = IsUnloaded asked old f new
+WhyIs asked plan old (refusal.Feed line) new = IsUnfed asked old line new
 
 -- what a plan says of its ends, where it is part of what the words ask for
 record Explains {A : Type 0} (asked : Option Command) (plan : Plan A) (old new : FilesSeen) : Type 0 where
@@ -51,6 +54,7 @@ record Explains {A : Type 0} (asked : Option Command) (plan : Plan A) (old new :
   no_usage : Never plan refusal.Usage
   breaks : (r : RuleAt) → Comes plan old (Err (refusal.Rule r)) new → Breaks asked old r new
   unloaded : (f : ImageFault) → Comes plan old (Err (refusal.Image f)) new → IsUnloaded asked old f new
+  unfed : (line : ℕ) → Comes plan old (Err (refusal.Feed line)) new → IsUnfed asked old line new
 
 why_from : {A : Type 0} (asked : Option Command) (plan : Plan A) (old new : FilesSeen) (why : Refusal)
     → Explains asked plan old new → Comes plan old (Err why) new → WhyIs asked plan old why new
@@ -63,6 +67,7 @@ why_from asked plan old new (refusal.Source index f) t h = t.reasoned.gives old 
 why_from asked plan old new (refusal.File index f) t h = t.reasoned.gives old new (refusal.File index f) h
 why_from asked plan old new (refusal.Rule r) t h = t.breaks r h
 why_from asked plan old new (refusal.Image f) t h = t.unloaded f h
+why_from asked plan old new (refusal.Feed line) t h = t.unfed line h
 
 -- what is read says why a task doesn't come
 why_first : {A : Type 0} (asked : Option Command) (p : Plan A) (f : A → Task) (old new : FilesSeen)
@@ -80,6 +85,7 @@ why_first asked p f old new (refusal.File index y) h =
     reason_first p (λ x. Made (f x)) old new (refusal.File index y) h
 why_first asked p f old new (refusal.Rule r) h = h
 why_first asked p f old new (refusal.Image y) h = h
+why_first asked p f old new (refusal.Feed line) h = h
 
 why_task : {A : Type 0} (asked : Option Command) (p : Plan A) (f : A → Task) (old new : FilesSeen)
     (why : Refusal) → Explains asked p old new → Comes (for_task p f) old (Err why) new
@@ -87,7 +93,7 @@ why_task : {A : Type 0} (asked : Option Command) (p : Plan A) (f : A → Task) (
 why_task asked p f old new why t h =
     why_first asked p f old new why (why_from asked p old new why t (err_of p f old new why h))
 
--- ---- what is read: parts that link, or an image; one component; one part
+-- ---- what is read: parts that link, or an image; one component; one part; modules and a feed
 
 links_explain : (l : Linked) (deed : LinkDeed) (old new : FilesSeen)
     → Explains (Some (Links l deed)) (linked_in l) old new
@@ -96,12 +102,14 @@ links_explain (what.Parts words size) deed old new = record {
   no_usage = never_linked refusal.Usage tt words size;
   breaks = linked_break words size old new;
   unloaded = λ f h. absurd (never_linked (refusal.Image f) tt words size old new h);
+  unfed = λ line h. absurd (never_linked (refusal.Feed line) tt words size old new h);
 }
 links_explain (what.Image name) deed old new = record {
   reasoned = in_reasoned (what.Image name);
   no_usage = never_image refusal.Usage tt name;
   breaks = λ r h. never_image (refusal.Rule r) tt name old new h;
   unloaded = λ f h. (let g = image_fails name old new f h in (name, refl, g.0, g.1, g.2));
+  unfed = λ line h. absurd (never_image (refusal.Feed line) tt name old new h);
 }
 
 component_explains : (word : PartWord) (deed : ComponentDeed) (old new : FilesSeen)
@@ -111,6 +119,7 @@ component_explains word deed old new = record {
   no_usage = never_component refusal.Usage tt 0 word;
   breaks = λ r h. no_rule 0 word r old new h;
   unloaded = λ f h. absurd (never_component (refusal.Image f) tt 0 word old new h);
+  unfed = λ line h. absurd (never_component (refusal.Feed line) tt 0 word old new h);
 }
 
 part_explains : (word : PartWord) (old new : FilesSeen)
@@ -120,6 +129,17 @@ part_explains word old new = record {
   no_usage = never_part refusal.Usage tt 0 word;
   breaks = part_breaks 0 word old new;
   unloaded = λ f h. absurd (never_part (refusal.Image f) tt 0 word old new h);
+  unfed = λ line h. absurd (never_part (refusal.Feed line) tt 0 word old new h);
+}
+
+mean_explains : (words : List PartWord) (size fuel : ℕ) (feed : List ℕ) (old new : FilesSeen)
+    → Explains (Some (Mean words size fuel feed)) (subject_in words size feed) old new
+mean_explains words size fuel feed old new = record {
+  reasoned = subject_reasoned words size feed;
+  no_usage = never_subject refusal.Usage tt tt words size feed;
+  breaks = modules_break words size feed old new;
+  unloaded = λ f h. absurd (never_subject (refusal.Image f) tt tt words size feed old new h);
+  unfed = feed_fails words size fuel feed old new;
 }
 
 -- ---- and so of the words' plan
@@ -134,7 +154,9 @@ built_why (Takes word deed) old new why e h =
     (component_explains word deed old new) h
 built_why (Checks word) old new why e h =
     why_task (Some (Checks word)) (part_at 0 word) _ old new why (part_explains word old new) h
-built_why (Mean words size fuel feed) old new why e h = absurd (cc)
+built_why (Mean words size fuel feed) old new why e h =
+    why_task (Some (Mean words size fuel feed)) (subject_in words size feed) _ old new why
+    (mean_explains words size fuel feed old new) h
 built_why (Generate seed) old new why e h = absurd (cc)
 
 why_usage : (asked : Option Command) (old new : FilesSeen) (why : Refusal) → is_command asked ≡ false

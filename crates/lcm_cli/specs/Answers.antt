@@ -13,17 +13,22 @@ use Rattle.trace_tool.specs.declared.run.RunEnd.TheVariants as run_end
 use Rattle.trace_tool.specs.Layout.{layout}
 use Rattle.trace_tool.specs.Runs.{run_text, end_of}
 use Rattle.trace_tool.specs.Traces.{trace_of, trace_text}
-use Rattle.lcm_cli.specs.declared.TheConstants.{LONGEST_FILE}
+use Rattle.source_events.specs.declared.End.{End}
+use Rattle.source_events.specs.declared.End.TheVariants as end
+use Rattle.source_events.specs.declared.Told.{Told}
+use Rattle.meaning_text.specs.Text.{told_text}
+use Rattle.meaning_tool.specs.Subjects.{told_of}
+use Rattle.file_plans.specs.declared.TheConstants.{LONGEST_FILE}
 use Rattle.lcm_cli.specs.declared.status.Status.{Status}
 use Rattle.lcm_cli.specs.declared.status.Status.TheVariants.{Done, MachineFailed, StepsUsed}
 use Rattle.lcm_cli.specs.declared.status.Status.TheVariants.{WriteFault, NoMemory}
-use Rattle.lcm_cli.specs.declared.refusal.Refusal.{Refusal}
-use Rattle.lcm_cli.specs.declared.refusal.Refusal.TheVariants.{TooLong}
+use Rattle.file_plans.specs.declared.refusal.Refusal.{Refusal}
+use Rattle.file_plans.specs.declared.refusal.Refusal.TheVariants.{TooLong}
 use Rattle.lcm_cli.specs.declared.job.Job.{Job}
 use Rattle.lcm_cli.specs.declared.job.Job.TheVariants as job
 use Rattle.lcm_cli.specs.Refusals.{refusal_text, refusal_status}
-use Rattle.lcm_cli.specs.Plans.{Plan, Reads, Ends, Made, Comes}
-use Rattle.lcm_cli.specs.Commands.{Task, Run, Trace, Put, Write, spelling_of, IsReadAgain, ok_text}
+use Rattle.file_plans.specs.Plans.{Plan, Reads, Ends, Made, Comes}
+use Rattle.lcm_cli.specs.Commands.{Task, Run, Trace, Put, Write, Tell, spelling_of, IsReadAgain, ok_text}
 
 -- a file that is put, by its name and its bytes
 pub record NewFile : Type 0 where
@@ -61,6 +66,17 @@ ran start steps =
 abbrev pub traced : OverlaySeen → ℕ → Answer
 traced overlay steps = writes (end_status (trace_of steps overlay).end) (trace_text steps overlay)
 
+-- the status of a meaning, by how it ended
+abbrev pub meaning_status : End → Status
+meaning_status (end.Halt v) = Done
+meaning_status end.Fail = MachineFailed
+meaning_status end.Waiting = Done
+meaning_status end.OutOfFuel = StepsUsed
+
+-- of a meaning: a line for each event, and its end line
+abbrev pub tells : Told → Answer
+tells told = writes (meaning_status told.end) (told_text told)
+
 abbrev pub said : Answer
 said = writes Done ok_text
 
@@ -68,7 +84,7 @@ abbrev pub puts : List ℕ → List ℕ → Answer
 puts name bytes = record said { file = Some (record { name = name; bytes = bytes }) }
 
 -- the answer to what came of a plan: that of the plain run of the start that the image's parts link to or of its
--- overlay, the file, whose bytes give again what was put, the text, or the refusal's
+-- overlay, the file, whose bytes give again what was put, the text, that of the meaning, or the refusal's
 abbrev pub IsAnswerOf : Result Task Refusal → Answer → Type 0
 IsAnswerOf (Ok (Run i steps)) a =
     (start : StartSeen) × IsStartOf i.parts i.stack start × (a ≡ ran start steps)
@@ -77,6 +93,7 @@ IsAnswerOf (Ok (Trace i steps)) a =
     × (a ≡ traced overlay steps)
 IsAnswerOf (Ok (Put name content)) a = IsReadAgain content × (a ≡ puts name (spelling_of content))
 IsAnswerOf (Ok (Write text)) a = a ≡ writes Done text
+IsAnswerOf (Ok (Tell subject fuel)) a = a ≡ tells (told_of subject fuel)
 IsAnswerOf (Err why) a = a ≡ refused why
 
 -- ---- calls
@@ -174,6 +191,7 @@ job_answer (job.Trace start overlay steps) = traced overlay steps
 job_answer (job.Put out bytes) = puts out bytes
 job_answer (job.Write text) = writes Done text
 job_answer job.Say = said
+job_answer (job.Tell meant) = writes (meaning_status meant.end) meant.text
 
 -- the machine of a job made no step yet, and its overlay is that of its start
 abbrev pub IsReady : Job → Type 0

@@ -1,5 +1,5 @@
 -- The causes: what holds of a call wherever it ends with a status.
-use Rattle.std.specs.Prelude.{◌≡◌, ◌⊎◌, ℕ, ◌+◌, ℤ, false, List, [], ◌∷◌, Option, Some, None, Ok, Err}
+use Rattle.std.specs.Prelude.{◌≡◌, ◌⊎◌, ℕ, ◌+◌, ℤ, false, List, [], ◌∷◌, map, Option, Some, None, Ok, Err}
 use Rattle.outside_io.specs.Counts.{Rose}
 use Rattle.outside_io.specs.FilesSeen.{FilesSeen, Puts, KeepsOthers}
 use Rattle.outside_io.specs.SinkSeen.{Adds, FailsToWrite}
@@ -12,7 +12,7 @@ use Rattle.command_words.specs.declared.command.LinkDeed.TheVariants as link_dee
 use Rattle.command_words.specs.declared.command.ComponentDeed.{ComponentDeed}
 use Rattle.command_words.specs.declared.command.ComponentDeed.TheVariants as component_deed
 use Rattle.command_words.specs.declared.command.Command.{Command}
-use Rattle.command_words.specs.declared.command.Command.TheVariants.{Links, Takes, Checks}
+use Rattle.command_words.specs.declared.command.Command.TheVariants.{Links, Takes, Checks, Mean}
 use Rattle.asm_fields.specs.declared.fault.AsmFault.{AsmFault}
 use Rattle.assembler.specs.Assembled.{assembled}
 use Rattle.component_file.specs.declared.fault.FileFault.{FileFault}
@@ -38,22 +38,34 @@ use Rattle.lcm_machine.specs.declared.FailCause.{FailCause}
 use Rattle.lcm_machine.specs.declared.Step.{Step}
 use Rattle.lcm_machine.specs.declared.Step.TheVariants.{Went, Halted, Failed}
 use Rattle.lcm_machine.specs.Run.{answer as last_step, plain}
-use Rattle.lcm_cli.specs.declared.source.SourceFault.{SourceFault}
-use Rattle.lcm_cli.specs.Sources.{sourced}
-use Rattle.lcm_cli.specs.declared.TheConstants.{LONGEST_FILE}
-use Rattle.lcm_cli.specs.declared.refusal.Refusal.{Refusal}
-use Rattle.lcm_cli.specs.declared.refusal.Refusal.TheVariants as refusal
+use Rattle.proc_language.specs.declared.module.ModuleFields.{ModuleFields}
+use Rattle.proc_program.specs.Lower.{part_of}
+use Rattle.proc_sources.specs.declared.fault.SourceFault.{SourceFault}
+use Rattle.proc_sources.specs.Sources.{sourced}
+use Rattle.source_events.specs.declared.Item.{Item}
+use Rattle.source_events.specs.declared.End.{End}
+use Rattle.source_events.specs.declared.End.TheVariants as meaning_end
+use Rattle.proc_semantics.specs.Meaning.{meaning}
+use Rattle.module_rules.specs.Rules.{stack_base_of, ruled}
+use Rattle.run_feed.specs.declared.fault.FeedFault.{FeedFault}
+use Rattle.run_feed.specs.Feed.{fed}
+use Rattle.meaning_text.specs.Text.{told_text}
+use Rattle.meaning_tool.specs.Subjects.{Subject, told_of, module_at, feed_line}
+use Rattle.file_plans.specs.declared.TheConstants.{LONGEST_FILE}
+use Rattle.file_plans.specs.declared.refusal.Refusal.{Refusal}
+use Rattle.file_plans.specs.declared.refusal.Refusal.TheVariants as refusal
 use Rattle.lcm_cli.specs.declared.status.Status.{Status}
 use Rattle.lcm_cli.specs.declared.status.Status.TheVariants.{Done, MachineFailed, StepsUsed, Usage, ReadFault}
 use Rattle.lcm_cli.specs.declared.status.Status.TheVariants.{WriteFault, NoMemory, TooLong, AsmRefused}
 use Rattle.lcm_cli.specs.declared.status.Status.TheVariants.{SourceRefused, FileRefused, RuleBroken}
 use Rattle.lcm_cli.specs.Refusals.{refusal_text, image_status}
-use Rattle.lcm_cli.specs.Plans.{Plan, Reads, Ends, Made, Comes}
+use Rattle.file_plans.specs.Plans.{Plan, Reads, Ends, Made, each_at, Comes}
 use Rattle.component_linker.specs.Accepted.{accepted}
-use Rattle.lcm_cli.specs.Parts.{is_trusted, linked, loaded, component_at, part_at, each_at}
-use Rattle.lcm_cli.specs.Commands.{Content, spelling_of, IsReadAgain, Run, Trace, Put, Write, is_command}
+use Rattle.lcm_cli.specs.Parts.{is_trusted, linked, loaded, component_at, part_at}
+use Rattle.lcm_cli.specs.Commands.{Content, spelling_of, IsReadAgain, Run, Trace, Put, Write, Tell}
+use Rattle.lcm_cli.specs.Commands.{is_command}
 use Rattle.lcm_cli.specs.Commands.{linked_in, plan_in}
-use Rattle.lcm_cli.specs.Answers.{Outside, Answers, IsComplete, end_status}
+use Rattle.lcm_cli.specs.Answers.{Outside, Answers, IsComplete, end_status, meaning_status}
 
 -- ---- files
 
@@ -107,6 +119,15 @@ IsUnloaded asked old f new =
     (name : List ℕ) × (image_in asked ≡ Some name) × (bytes : List ℕ)
     × ComesWhole old name LONGEST_FILE bytes new × (loaded bytes ≡ Err f)
 
+-- the modules of the words came, and then the text of the feed's file, of which this line is the first that has
+-- not the form that it must have
+abbrev pub IsUnfed : Option Command → FilesSeen → ℕ → FilesSeen → Type 0
+IsUnfed (Some (Mean words size fuel feed)) old line new =
+    (modules : List ModuleFields) × (mid : FilesSeen) × Comes (each_at module_at 0 words) old (Ok modules) mid
+    × (text : List ℕ) × ComesWhole mid feed LONGEST_FILE text new
+    × (f : FeedFault) × (fed (stack_base_of modules) text ≡ Err f) × (line ≡ feed_line f)
+IsUnfed _ old line new = ⊥
+
 -- ---- rules
 
 -- the word's part breaks a rule by itself
@@ -133,10 +154,17 @@ AllBreak old words size r new =
 abbrev pub LinkBreaks : FilesSeen → List PartWord → ℕ → RuleAt → FilesSeen → Type 0
 LinkBreaks old words size r new = SomeBreaks old 0 words r new ⊎ AllBreak old words size r new
 
+-- all words made modules, which together break a rule of a meaning
+abbrev pub ModulesBreak : FilesSeen → List PartWord → ℕ → RuleAt → FilesSeen → Type 0
+ModulesBreak old words size r new =
+    (modules : List ModuleFields) × Comes (each_at module_at 0 words) old (Ok modules) new
+    × (ruled modules size ≡ Err r)
+
 -- a rule that the command asks for is broken by the parts of its words
 abbrev pub Breaks : Option Command → FilesSeen → RuleAt → FilesSeen → Type 0
 Breaks (Some (Links (what.Parts words size) deed)) old r new = LinkBreaks old words size r new
 Breaks (Some (Checks word)) old r new = PartBreaks old 0 word r new
+Breaks (Some (Mean words size fuel feed)) old r new = ModulesBreak old words size r new
 Breaks _ old r new = ⊥
 
 -- ---- runs
@@ -153,6 +181,17 @@ Traces asked old new end =
     (i : ImageSeen) × (steps : ℕ) × Comes (plan_in asked) old (Ok (Trace i steps)) new
     × (start : StartSeen) × (overlay : OverlaySeen) × IsStartOf i.parts i.stack start
     × IsOverlayOf start overlay × ((trace_of steps overlay).end ≡ end)
+
+-- ---- meanings
+
+-- the modules and the feed came, and their meaning ended so
+abbrev pub Means : Option Command → FilesSeen → FilesSeen → (End → Type 0) → Type 0
+Means asked old new P =
+    (s : Subject) × (fuel : ℕ) × Comes (plan_in asked) old (Ok (Tell s fuel)) new × P (told_of s fuel).end
+
+-- it halts, or waits
+abbrev pub IsAtRest : End → Type 0
+IsAtRest e = ((v : ℤ) × (e ≡ meaning_end.Halt v)) ⊎ (e ≡ meaning_end.Waiting)
 
 -- ---- files that are put, and texts that are written
 
@@ -189,15 +228,17 @@ Wrote why old new = Adds old.sink (refusal_text why) new.sink
 -- ---- the causes, a law for each status
 
 pub record Causes (asked : Option Command) (old : Outside) (status : Status) (new : Outside) : Type 0 where
-  -- the run halted, the file was put, or the text was to be written
+  -- the run halted, the file was put, the text was to be written, or the meaning halts or waits
   pub done : status ≡ Done → Runs asked old.files new.files (λ step. step ≡ Halted)
       ⊎ (Traces asked old.files new.files run_end.Halted ⊎ (PutsFile asked old.files new.files
-      ⊎ Tells asked old.files new.files))
+      ⊎ (Tells asked old.files new.files ⊎ Means asked old.files new.files IsAtRest)))
   pub machine_failed : status ≡ MachineFailed → Runs asked old.files new.files
       (λ step. (cause : FailCause) × (at : ℤ) × (step ≡ Failed cause at))
-      ⊎ Traces asked old.files new.files run_end.Failed
+      ⊎ (Traces asked old.files new.files run_end.Failed
+      ⊎ Means asked old.files new.files (λ e. e ≡ meaning_end.Fail))
   pub steps_used : status ≡ StepsUsed → Runs asked old.files new.files (λ step. step ≡ Went)
-      ⊎ Traces asked old.files new.files run_end.Running
+      ⊎ (Traces asked old.files new.files run_end.Running
+      ⊎ Means asked old.files new.files (λ e. e ≡ meaning_end.OutOfFuel))
   pub usage : status ≡ Usage → is_command asked ≡ false
   pub read_fault : status ≡ ReadFault
       → Rose old.files.failed_reads new.files.failed_reads × IsUnread (plan_in asked) old.files new.files
@@ -210,11 +251,13 @@ pub record Causes (asked : Option Command) (old : Outside) (status : Status) (ne
       × IsLong (plan_in asked) old.files index new.files
   pub asm_refused : status ≡ AsmRefused → (index : ℕ) × (f : AsmFault)
       × Wrote (refusal.Assembly index f) old new × IsUnassembled (plan_in asked) old.files index f new.files
-  -- the bytes of a part's file are no component, or those of an image's file no image
+  -- the bytes of a part's file are no component, those of an image's file no image, or the text of a feed's file
+  -- no feed
   pub file_refused : status ≡ FileRefused → ((index : ℕ) × (f : FileFault)
       × Wrote (refusal.File index f) old new × IsUndecoded (plan_in asked) old.files index f new.files)
-      ⊎ ((f : ImageFault) × (image_status f ≡ FileRefused) × Wrote (refusal.Image f) old new
+      ⊎ (((f : ImageFault) × (image_status f ≡ FileRefused) × Wrote (refusal.Image f) old new
       × IsUnloaded asked old.files f new.files)
+      ⊎ ((line : ℕ) × Wrote (refusal.Feed line) old new × IsUnfed asked old.files line new.files))
   -- parts of words break a rule, or those of an image do
   pub rule_broken : status ≡ RuleBroken → (r : RuleAt) × Wrote (refusal.Rule r) old new
       × (Breaks asked old.files r new.files ⊎ IsUnloaded asked old.files (image.Rule r) new.files)
@@ -293,6 +336,22 @@ pub record TraceGiven (l : Linked) (steps : ℕ) (old : Outside) (status : Statu
   pub lines_are : (trace_of steps overlay).lines ≡ written from.start steps
   pub status_is : status ≡ end_status (trace_of steps overlay).end
   pub written : Adds old.sink (trace_text steps overlay) new.sink
+  pub kept_is : new.kept ≡ old.kept
+
+-- the modules of the words came and keep the rules of a meaning, the feed's file has a feed, and what their
+-- meaning tells gave the status and the text, and no machine
+pub record MeaningGiven (words : List PartWord) (size fuel : ℕ) (feed : List ℕ) (old : Outside)
+    (status : Status) (new : Outside) : Type 0 where
+  pub modules : List ModuleFields
+  pub mid : FilesSeen
+  pub came : Comes (each_at module_at 0 words) old.files (Ok modules) mid
+  pub keep : ruled modules size ≡ Ok tt
+  pub text : List ℕ
+  pub feed_came : ComesWhole mid feed LONGEST_FILE text new.files
+  pub items : List Item
+  pub is_feed : fed (stack_base_of modules) text ≡ Ok items
+  pub status_is : status ≡ meaning_status (meaning (map part_of modules) size items fuel).end
+  pub written : Adds old.sink (told_text (meaning (map part_of modules) size items fuel)) new.sink
   pub kept_is : new.kept ≡ old.kept
 
 -- the sink failed at the line of the refusal that was due, or at the text of such a start's run

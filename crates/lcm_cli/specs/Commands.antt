@@ -9,15 +9,16 @@ use Rattle.command_words.specs.declared.command.LinkDeed.TheVariants as link_dee
 use Rattle.command_words.specs.declared.command.ComponentDeed.{ComponentDeed}
 use Rattle.command_words.specs.declared.command.ComponentDeed.TheVariants as component_deed
 use Rattle.command_words.specs.declared.command.Command.{Command}
-use Rattle.command_words.specs.declared.command.Command.TheVariants.{Links, Takes, Checks}
+use Rattle.command_words.specs.declared.command.Command.TheVariants.{Links, Takes, Checks, Mean, Generate}
 use Rattle.component_file.specs.declared.component.ComponentFields.{ComponentFields}
 use Rattle.component_file.specs.Spelling.{spelling}
 use Rattle.component_file.specs.Reading.{decoded}
 use Rattle.disassembler.specs.Disassembled.{disassembled}
 use Rattle.image_loader.specs.Image.{ImageSeen, image_bytes}
-use Rattle.lcm_cli.specs.declared.refusal.Refusal.TheVariants as refusal
-use Rattle.lcm_cli.specs.Plans.{Plan, Ends, Made, ◌>>=◌, file, unless}
-use Rattle.lcm_cli.specs.Parts.{linked, loaded, component_at, part_at, each_at}
+use Rattle.file_plans.specs.declared.refusal.Refusal.TheVariants as refusal
+use Rattle.file_plans.specs.Plans.{Plan, Ends, Made, ◌>>=◌, file, unless, each_at}
+use Rattle.meaning_tool.specs.Subjects.{Subject, subject_in}
+use Rattle.lcm_cli.specs.Parts.{linked, loaded, component_at, part_at}
 
 -- what a file that is put holds: a component, or an image
 pub data Content : Type 0 where
@@ -35,23 +36,25 @@ IsReadAgain (OfComponent c) = decoded (spelling c) ≡ Ok c
 IsReadAgain (OfImage i) = loaded (image_bytes i) ≡ Ok i
 
 -- what is left to do once the files came: to run the start of an image, or its overlay; to put a file under a
--- name, and then to write `ok`; or to write a text
+-- name, and then to write `ok`; to write a text; or to tell a meaning under so much fuel
 pub data Task : Type 0 where
   Run : (image : ImageSeen) (steps : ℕ) → Task
   Trace : (image : ImageSeen) (steps : ℕ) → Task
   Put : (name : List ℕ) (content : Content) → Task
   Write : (text : List ℕ) → Task
+  Tell : (subject : Subject) (fuel : ℕ) → Task
 
 abbrev pub ok_text : List ℕ
 ok_text = codes "ok\n"
 
--- ---- what is built: all that reads parts and images
+-- ---- what is built: all but `generate`
 
 abbrev pub is_built : Command → Bool
 is_built (Links l deed) = true
 is_built (Takes word deed) = true
 is_built (Checks word) = true
-is_built _ = false
+is_built (Mean words size fuel feed) = true
+is_built (Generate seed) = false
 
 -- ---- parts that link, with the size of their stack
 
@@ -91,12 +94,14 @@ for_task plan task = do
   x ← plan
   Made (task x)
 
--- parts that link, or an image; one component, of which no rule is asked; or one part with its own rules
+-- parts that link, or an image; one component, of which no rule is asked; one part with its own rules; or
+-- modules and a feed
 abbrev pub built_plan : Command → Plan Task
 built_plan (Links l deed) = for_task (linked_in l) (link_task deed)
 built_plan (Takes word deed) = for_task (component_at 0 word) (component_task deed)
 built_plan (Checks word) = for_task (part_at 0 word) (λ part. Write ok_text)
-built_plan _ = Ends refusal.Usage
+built_plan (Mean words size fuel feed) = for_task (subject_in words size feed) (λ subject. Tell subject fuel)
+built_plan (Generate seed) = Ends refusal.Usage
 
 -- ---- what words ask for: what isn't built is refused as what is no command
 

@@ -7,11 +7,15 @@ use Rattle.overlay_machine.specs.Seen.{IsOverlayOf}
 use Rattle.image_loader.specs.Image.{ImageSeen, image_bytes}
 use Rattle.lcm_cli.specs.declared.job.Job.{Job}
 use Rattle.lcm_cli.specs.declared.job.Job.TheVariants as job
-use Rattle.lcm_cli.specs.declared.refusal.Stop.{Stop}
-use Rattle.lcm_cli.specs.Plans.{Plan, Made, Comes, Follows, Meets}
-use Rattle.lcm_cli.specs.Commands.{Task, Run, Trace, Put, Write, Content, OfImage, spelling_of, IsReadAgain, ok_text}
+use Rattle.file_plans.specs.declared.refusal.Stop.{Stop}
+use Rattle.file_plans.specs.Plans.{Plan, Made, Meets, FollowsAs}
+use Rattle.meaning_tool.specs.Subjects.{Subject, IsMeant}
+use Rattle.lcm_cli.specs.Commands.{Task, Run, Trace, Put, Write, Tell, Content, OfImage, spelling_of}
+use Rattle.lcm_cli.specs.Commands.{IsReadAgain}
+use Rattle.lcm_cli.specs.Commands.{ok_text}
 
--- the job runs from the start of the task's image, or from its overlay, or has the bytes of its file or its text
+-- the job runs from the start of the task's image, or from its overlay, or has the bytes of its file, its text
+-- or that of its meaning
 abbrev pub Does : Task → Job → Type 0
 Does task (job.Run start steps) =
     (i : ImageSeen) × (task ≡ Run i steps) × IsStartOf i.parts i.stack start
@@ -21,12 +25,7 @@ Does task (job.Put out bytes) =
     (content : Content) × (task ≡ Put out content) × IsReadAgain content × (bytes ≡ spelling_of content)
 Does task (job.Write text) = task ≡ Write text
 Does task job.Say = task ≡ Write ok_text
-
--- a body's answer is made of what came of the plan: `P` says how
-abbrev pub FollowsAs : {A B : Type 0}
-    → (A → B → Type 0) → Plan A → FilesSeen → Result B Stop → FilesSeen → Type 0
-FollowsAs {A} P plan old (Ok y) new = (x : A) × Comes plan old (Ok x) new × P x y
-FollowsAs P plan old (Err stop) new = Follows plan old (Err stop) new
+Does task (job.Tell meant) = (s : Subject) × (fuel : ℕ) × (task ≡ Tell s fuel) × IsMeant fuel s meant
 
 -- a job that does the task
 abbrev pub FollowsTask : Plan Task → FilesSeen → Result Job Stop → FilesSeen → Type 0

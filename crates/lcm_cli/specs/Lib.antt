@@ -1,7 +1,5 @@
 pub mod Status
-pub mod Sources
 pub mod Refusals
-pub mod Plans
 pub mod Parts
 pub mod Commands
 pub mod Jobs

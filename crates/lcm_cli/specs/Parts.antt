@@ -1,6 +1,6 @@
 -- The parts of part words: read, length, form, rules C, and K where it is trusted; and then the rules L of all of
 -- them. And those of an image.
-use Rattle.std.specs.Prelude.{ℕ, ◌+◌, Bool, true, false, List, [], ◌∷◌, map, Result, Ok, Err}
+use Rattle.std.specs.Prelude.{ℕ, Bool, true, false, List, map, Result, Ok, Err}
 use Rattle.assembler.specs.Assembled.{assembled}
 use Rattle.command_words.specs.declared.part.Mark.{Mark}
 use Rattle.command_words.specs.declared.part.Mark.TheVariants.{Trusted, Untrusted}
@@ -21,10 +21,10 @@ use Rattle.image_loader.specs.declared.fault.ImageFault.{ImageFault}
 use Rattle.image_loader.specs.declared.fault.ImageFault.TheVariants as image
 use Rattle.image_loader.specs.Image.{ImageSeen}
 use Rattle.image_loader.specs.Reading.{image_of}
-use Rattle.lcm_cli.specs.declared.refusal.Refusal.{Refusal}
-use Rattle.lcm_cli.specs.declared.refusal.Refusal.TheVariants as refusal
-use Rattle.lcm_cli.specs.Sources.{sourced}
-use Rattle.lcm_cli.specs.Plans.{Plan, Made, ◌>>=◌, file, unless}
+use Rattle.proc_sources.specs.Sources.{sourced}
+use Rattle.file_plans.specs.declared.refusal.Refusal.{Refusal}
+use Rattle.file_plans.specs.declared.refusal.Refusal.TheVariants as refusal
+use Rattle.file_plans.specs.Plans.{Plan, ◌>>=◌, file, unless}
 
 -- ---- rules
 
@@ -75,11 +75,3 @@ unfoldable pub part_at : ℕ → PartWord → Plan PartSeen
 part_at index word = do
   c ← component_at index word
   unless (broken_in index) (accepted (record { component = c; trusted = is_trusted word.mark }))
-
--- each word's part in its order, the first of them at an index
-abbrev pub each_at : {A : Type 0} → (ℕ → PartWord → Plan A) → ℕ → List PartWord → Plan (List A)
-each_at item index [] = Made []
-each_at item index (word ∷ words) = do
-  first ← item index word
-  others ← each_at item (index + 1) words
-  Made (first ∷ others)

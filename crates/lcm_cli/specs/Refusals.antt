@@ -16,10 +16,11 @@ use Rattle.proc_grammar.specs.declared.fault.ParseFault.TheVariants as parse
 use Rattle.proc_grammar.specs.Fault.{fault_number as parse_number, fault_place as parse_place}
 use Rattle.proc_names.specs.Faults.{fault_number as name_number, fault_place as name_place}
 use Rattle.proc_compiler.specs.Fault.{fault_number as compile_number}
-use Rattle.lcm_cli.specs.declared.source.SourceFault.{SourceFault}
-use Rattle.lcm_cli.specs.declared.source.SourceFault.TheVariants as source
-use Rattle.lcm_cli.specs.declared.refusal.Refusal.{Refusal}
-use Rattle.lcm_cli.specs.declared.refusal.Refusal.TheVariants as refusal
+use Rattle.proc_compiler.specs.declared.fault.CompileFault.TheVariants as compile
+use Rattle.proc_sources.specs.declared.fault.SourceFault.{SourceFault}
+use Rattle.proc_sources.specs.declared.fault.SourceFault.TheVariants as source
+use Rattle.file_plans.specs.declared.refusal.Refusal.{Refusal}
+use Rattle.file_plans.specs.declared.refusal.Refusal.TheVariants as refusal
 use Rattle.lcm_cli.specs.declared.status.Status.{Status}
 use Rattle.lcm_cli.specs.declared.status.Status.TheVariants as status
 
@@ -48,12 +49,14 @@ abbrev pub source_number_text : SourceFault → List ℕ
 source_number_text (source.Text f) = parse_number_text f
 source_number_text (source.Name f) = decimal (name_number f)
 source_number_text (source.Size f) = decimal (compile_number f)
+source_number_text source.NoMemory = decimal (compile_number compile.NoMemory)
 
--- a module's size has no place
+-- a module's size has no place, nor has want of memory
 abbrev pub source_place : SourceFault → ℕ
 source_place (source.Text f) = parse_place f
 source_place (source.Name f) = name_place f
 source_place (source.Size f) = 0
+source_place source.NoMemory = 0
 
 abbrev pub source_text : ℕ → SourceFault → List ℕ
 source_text part f =
@@ -74,6 +77,10 @@ image_text (image.File part f) = file_text part f
 image_text (image.Rule broken) = rule_line broken
 image_text f = form_text f
 
+-- the line of the feed
+abbrev pub feed_text : ℕ → List ℕ
+feed_text line = codes "feed " ++ decimal line ++ codes "\n"
+
 abbrev pub image_status : ImageFault → Status
 image_status (image.Rule broken) = status.RuleBroken
 image_status f = status.FileRefused
@@ -87,6 +94,7 @@ refusal_text (refusal.Source part f) = source_text part f
 refusal_text (refusal.File part f) = file_text part f
 refusal_text (refusal.Rule broken) = rule_line broken
 refusal_text (refusal.Image f) = image_text f
+refusal_text (refusal.Feed line) = feed_text line
 
 abbrev pub refusal_status : Refusal → Status
 refusal_status refusal.Usage = status.Usage
@@ -97,3 +105,4 @@ refusal_status (refusal.Source part f) = status.SourceRefused
 refusal_status (refusal.File part f) = status.FileRefused
 refusal_status (refusal.Rule broken) = status.RuleBroken
 refusal_status (refusal.Image f) = image_status f
+refusal_status (refusal.Feed line) = status.FileRefused

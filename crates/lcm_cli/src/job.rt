@@ -2,18 +2,23 @@
 ghost use Rattle.std.specs.Prelude.{◌≡◌, ◌≤◌, IfOk, IfErr, length};
 ghost use Rattle.command_words.specs.declared.command.LinkDeed.TheVariants as link_deed;
 ghost use Rattle.lcm_cli.specs.Parts.{part_at, component_at};
-ghost use Rattle.lcm_cli.specs.Commands.{is_built, ok_text, Write, linked_in, link_task, component_task, for_task};
-ghost use Rattle.lcm_cli.specs.Commands.{built_plan, plan_of};
+ghost use Rattle.lcm_cli.specs.Commands.{is_built, ok_text, Write, linked_in, link_task, component_task};
+ghost use Rattle.lcm_cli.specs.Commands.{for_task};
+ghost use Rattle.lcm_cli.specs.Commands.{built_plan, plan_of, Tell};
 ghost use Rattle.lcm_cli.specs.Jobs.{Does, FollowsTask};
+ghost use Rattle.meaning_tool.specs.Subjects.{subject_in};
 
 use crate::part::{component, part};
-use crate::refusal::{Refusal, Stop};
 use crate::start::{image_bytes, start};
 use cap_words::Items;
-use command_words::{Command, ComponentDeed, FileName, LinkDeed, Linked, PartWord, Steps};
+use command_words::{
+    Command, ComponentDeed, FileName, LinkDeed, Linked, PartWord, PartWords, Steps,
+};
 use component_file::{Component, encode_component};
 use component_linker::Start;
 use disassembler::disassemble;
+use file_plans::{Refusal, Stop};
+use meaning_tool::{Meaning, meant};
 use outside_io::Files;
 use overlay_machine::Overlay;
 use std::alloc::Global;
@@ -29,6 +34,8 @@ pub(crate) enum Job<'a> {
     Put(FileName<'a>, Items<u8>),
     /// To write this text.
     Write(Items<u8>),
+    /// To write the text of this meaning.
+    Tell(Meaning),
     /// To write `ok`.
     Say,
 }
@@ -141,13 +148,30 @@ fn part_job<'a, F: Files>(
     Ok(Job::Say)
 }
 
+// Reads modules and a feed, and makes the text of their meaning.
+fn mean_job<'a, F: Files>(
+    alloc: Global,
+    files: &mut F,
+    words: &PartWords<'_>,
+    size: u32,
+    fuel: Steps,
+    feed: &FileName<'_>,
+) -> Result<Job<'a>, Stop>
+    ensures { FollowsTask (for_task (subject_in words.now size feed.now) (λ subject. Tell subject fuel))
+        (F.seen files.old) result (F.seen files.new) }
+{
+    let meant = meant(alloc, files, words.as_slice(), size, fuel.number(), feed)?;
+    Ok(Job::Tell(meant))
+}
+
 // Whether the command is built.
 fn is_built(command: &Command<'_>) -> bool
     ensures { result ≡ is_built command.now }
 {
     match command {
         Command::Links(_, _) | Command::Takes(_, _) | Command::Checks(_) => true,
-        _ => false,
+        Command::Mean(_, _, _, _) => true,
+        Command::Generate(_) => false,
     }
 }
 
@@ -163,7 +187,8 @@ fn built_job<'a, F: Files>(
         Command::Links(what, deed) => link_job(alloc, files, &what, deed),
         Command::Takes(word, deed) => component_job(alloc, files, &word, deed),
         Command::Checks(word) => part_job(alloc, files, &word),
-        _ => Err(Stop::Refused(Refusal::Usage)),
+        Command::Mean(words, size, fuel, feed) => mean_job(alloc, files, &words, size, fuel, &feed),
+        Command::Generate(_) => Err(Stop::Refused(Refusal::Usage)),
     }
 }
 

@@ -3,25 +3,26 @@ ghost use Rattle.std.specs.Prelude.{◌≡◌, ◌<◌, ◌≤◌, ◌^◌, IfOk
 ghost use Rattle.component_file.specs.Reading.{decoded};
 ghost use Rattle.command_words.specs.declared.TheConstants.{MOST_PARTS};
 ghost use Rattle.assembler.specs.Assembled.{assembled};
-ghost use Rattle.lcm_cli.specs.Plans.{Follows, Meets, unless};
+ghost use Rattle.file_plans.specs.declared.refusal.Refusal.TheVariants as refusal;
+ghost use Rattle.file_plans.specs.Plans.{Follows, Meets, unless, each_at};
+ghost use Rattle.proc_sources.specs.Sources.{sourced};
 ghost use Rattle.component_linker.specs.Accepted.{accepted};
-ghost use Rattle.lcm_cli.specs.Parts.{is_trusted, broken_in, form_by, component_at, part_at, each_at};
+ghost use Rattle.lcm_cli.specs.Parts.{is_trusted, broken_in, form_by, component_at, part_at};
 
-use crate::read::read;
-use crate::refusal::{Refusal, Stop};
-use crate::source::component_of;
 use assembler::{AsmFault, assemble};
 use cap_words::Items;
 use command_words::{Ending, Mark, PartWord};
 use component_file::{Component, FileFault, decode_component};
 use component_linker::{Part, RuleAt, accept};
+use file_plans::{Refusal, Stop, read};
 use outside_io::Files;
+use proc_sources::{SourceFault, component_of};
 use std::alloc::Global;
 
 // The component that the bytes of a file spell.
 fn decode_at(alloc: Global, index: u32, bytes: &[u8]) -> Result<Component, Stop>
     requires { length bytes.now < 2 ^ 32 }
-    ensures { Meets (unless (Refusal.File index) (decoded bytes.now)) result }
+    ensures { Meets (unless (refusal.File index) (decoded bytes.now)) result }
 {
     match decode_component(alloc, bytes) {
         Ok(component) => Ok(component),
@@ -33,12 +34,24 @@ fn decode_at(alloc: Global, index: u32, bytes: &[u8]) -> Result<Component, Stop>
 // The component that an assembler text spells.
 fn assemble_at(alloc: Global, index: u32, text: &[u8]) -> Result<Component, Stop>
     requires { length text.now < 2 ^ 32 }
-    ensures { Meets (unless (Refusal.Assembly index) (assembled text.now)) result }
+    ensures { Meets (unless (refusal.Assembly index) (assembled text.now)) result }
 {
     match assemble(alloc, text) {
         Ok(component) => Ok(component),
         Err(AsmFault::NoMemory) => Err(Stop::NoMemory),
         Err(fault) => Err(Stop::Refused(Refusal::Assembly(index, fault))),
+    }
+}
+
+// The component of a source.
+fn compile_at(alloc: Global, index: u32, text: &[u8]) -> Result<Component, Stop>
+    requires { length text.now < 2 ^ 32 }
+    ensures { Meets (unless (refusal.Source index) (sourced text.now)) result }
+{
+    match component_of(alloc, text) {
+        Ok(component) => Ok(component),
+        Err(SourceFault::NoMemory) => Err(Stop::NoMemory),
+        Err(fault) => Err(Stop::Refused(Refusal::Source(index, fault))),
     }
 }
 
@@ -48,14 +61,14 @@ fn form(alloc: Global, ending: Ending, index: u32, bytes: &[u8]) -> Result<Compo
     ensures { Meets (form_by ending index bytes.now) result }
 {
     match ending {
-        Ending::Source => component_of(alloc, index, bytes),
+        Ending::Source => compile_at(alloc, index, bytes),
         Ending::Assembler => assemble_at(alloc, index, bytes),
         Ending::Component => decode_at(alloc, index, bytes),
     }
 }
 
 /// The component of a part word.
-#[tactic(auto, using(crate::proofs::Follow::follows_end), unfolding(crate::specs::Parts::component_at))]
+#[tactic(auto, using(file_plans::proofs::Follow::follows_end), unfolding(crate::specs::Parts::component_at))]
 pub(crate) fn component<F: Files>(
     alloc: Global,
     files: &mut F,
@@ -90,7 +103,7 @@ fn accept_at(component: Component, index: u32, trusted: bool) -> Result<Part, St
 }
 
 /// The part of a part word.
-#[tactic(auto, using(crate::proofs::Follow::follows_end), unfolding(crate::specs::Parts::part_at))]
+#[tactic(auto, using(file_plans::proofs::Follow::follows_end), unfolding(crate::specs::Parts::part_at))]
 pub(crate) fn part<F: Files>(
     alloc: Global,
     files: &mut F,

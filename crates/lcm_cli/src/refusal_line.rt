@@ -3,18 +3,19 @@ ghost use Rattle.std.specs.Prelude.{◌≡◌, ◌+◌, ◌≤◌, ◌<◌, ◌+
 ghost use Rattle.arrayvec.specs.ArrayString.{array_string_len};
 ghost use Rattle.lcm_cli.specs.Refusals.{asm_number_text, assembly_text, file_text, rule_line, form_text};
 ghost use Rattle.lcm_cli.specs.Refusals.{source_number_text, source_place, source_text};
-ghost use Rattle.lcm_cli.specs.Refusals.{image_text, image_status, refusal_text, refusal_status};
+ghost use Rattle.lcm_cli.specs.Refusals.{image_text, feed_text, image_status, refusal_text, refusal_status};
 
-use crate::refusal::Refusal;
-use crate::source::SourceFault;
 use crate::status::Status;
 use arrayvec::ArrayString;
 use assembler::AsmFault;
 use component_file::FileFault;
 use component_linker::RuleAt;
+use file_plans::Refusal;
 use image_loader::ImageFault;
 use itoa::Buffer;
+use proc_compiler::CompileFault;
 use proc_grammar::ParseFault;
+use proc_sources::SourceFault;
 
 fn push_number(line: &mut ArrayString<64>, number: u32)
     requires { array_string_len line.old ≤ 50 }
@@ -80,17 +81,18 @@ fn push_source_number(line: &mut ArrayString<64>, fault: SourceFault)
         SourceFault::Text(fault) => push_number(line, u32::from(fault.number())),
         SourceFault::Name(fault) => push_number(line, u32::from(fault.number())),
         SourceFault::Size(fault) => push_number(line, u32::from(fault.number())),
+        SourceFault::NoMemory => push_number(line, u32::from(CompileFault::NoMemory.number())),
     }
 }
 
-// The place of a fault of a source. A module's size has none.
+// The place of a fault of a source. A module's size has none, nor has want of memory.
 fn source_place(fault: SourceFault) -> u32
     ensures { result ≡ source_place fault }
 {
     match fault {
         SourceFault::Text(fault) => fault.place(),
         SourceFault::Name(fault) => fault.place(),
-        SourceFault::Size(_) => 0,
+        SourceFault::Size(_) | SourceFault::NoMemory => 0,
     }
 }
 
@@ -144,6 +146,16 @@ fn push_image(line: &mut ArrayString<64>, fault: ImageFault)
     }
 }
 
+fn push_feed(line: &mut ArrayString<64>, number: u64)
+    requires { line.old.bytes ≡ [] }
+    ensures { line.new.bytes ≡ feed_text number }
+{
+    let mut digits = Buffer::new();
+    line.push_str("feed ");
+    line.push_str(digits.format(number));
+    line.push_str("\n");
+}
+
 /// The line that a refusal writes.
 pub(crate) fn refusal_line(why: Refusal) -> ArrayString<64>
     ensures text { result.bytes ≡ refusal_text why }
@@ -163,6 +175,7 @@ pub(crate) fn refusal_line(why: Refusal) -> ArrayString<64>
         Refusal::File(part, fault) => push_file(&mut line, part, fault),
         Refusal::Rule(broken) => push_rule(&mut line, broken),
         Refusal::Image(fault) => push_image(&mut line, fault),
+        Refusal::Feed(number) => push_feed(&mut line, number),
     }
     line
 }
@@ -189,5 +202,6 @@ pub(crate) fn refusal_status(why: Refusal) -> Status
         Refusal::File(_, _) => Status::FileRefused,
         Refusal::Rule(_) => Status::RuleBroken,
         Refusal::Image(fault) => image_status(fault),
+        Refusal::Feed(_) => Status::FileRefused,
     }
 }

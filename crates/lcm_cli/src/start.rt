@@ -3,18 +3,17 @@ ghost use Rattle.std.specs.Prelude.{◌≡◌, ◌<◌, ◌≤◌, ◌^◌, Ok, 
 ghost use Rattle.command_words.specs.declared.TheConstants.{MOST_PARTS};
 ghost use Rattle.overlay_machine.specs.Starting.{IsStartOf};
 ghost use Rattle.image_loader.specs.Image.{ImageSeen, Spells};
-ghost use Rattle.lcm_cli.specs.declared.refusal.Refusal.TheVariants.{Rule, Image};
-ghost use Rattle.lcm_cli.specs.Plans.{Meets, unless};
+ghost use Rattle.file_plans.specs.declared.refusal.Refusal.TheVariants.{Rule, Image};
+ghost use Rattle.file_plans.specs.Plans.{Meets, unless};
 ghost use Rattle.lcm_cli.specs.Parts.{linked, loaded};
 ghost use Rattle.lcm_cli.specs.Commands.{linked_parts, linked_image, linked_in};
 ghost use Rattle.lcm_cli.specs.Jobs.{without, FollowsStart, FollowsImage, MeetsStart};
 
 use crate::part::parts;
-use crate::read::read;
-use crate::refusal::{Refusal, Stop};
 use cap_words::Items;
 use command_words::{FileName, Linked, PartWord};
 use component_linker::{LinkFault, Part, Start, link};
+use file_plans::{Refusal, Stop, read};
 use image_loader::{ImageFault, load_image, write_image};
 use outside_io::Files;
 use std::alloc::Global;
@@ -60,7 +59,7 @@ fn load(alloc: Global, bytes: &[u8]) -> Result<Start, Stop>
 }
 
 // Reads the image, and links its parts.
-#[tactic(auto, using(crate::proofs::Follow::follows_end), unfolding(crate::specs::Commands::linked_image))]
+#[tactic(auto, using(file_plans::proofs::Follow::follows_end), unfolding(crate::specs::Commands::linked_image))]
 fn image_start<F: Files>(alloc: Global, files: &mut F, name: &FileName<'_>) -> Result<Start, Stop>
     ensures { FollowsStart (linked_image name.now) (F.seen files.old) result (F.seen files.new) }
 {
@@ -110,7 +109,7 @@ fn parts_bytes<F: Files>(
 }
 
 // Reads the image: its bytes are its own spelling.
-#[tactic(auto, using(crate::proofs::Follow::follows_end), unfolding(crate::specs::Commands::linked_image))]
+#[tactic(auto, using(file_plans::proofs::Follow::follows_end), unfolding(crate::specs::Commands::linked_image))]
 fn file_bytes<F: Files>(
     alloc: Global,
     files: &mut F,

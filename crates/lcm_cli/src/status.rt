@@ -5,11 +5,12 @@ ghost use Rattle.lcm_cli.specs.Status.{status_number};
 /// What a call of the program came to. The number is the process's exit status.
 #[derive(Clone, Copy, PartialEq, Eq, Debug)]
 pub enum Status {
-    /// The machine halted, or what was to be put was put and what was to be said was written.
+    /// The machine halted, the meaning halts or waits, or what was to be put was put and what was to be said
+    /// was written.
     Done,
-    /// The machine failed.
+    /// The machine failed, or the meaning does.
     MachineFailed,
-    /// The machine neither halted nor failed within its steps or its weight.
+    /// The machine neither halted nor failed within its steps or its weight, or the meaning ran out of fuel.
     StepsUsed,
     /// The words are no command, or ask for something that isn't built.
     Usage,
@@ -19,20 +20,20 @@ pub enum Status {
     WriteFault,
     /// Memory was refused.
     NoMemory,
-    /// A file has more than [`LONGEST_FILE`](crate::LONGEST_FILE) bytes.
+    /// A file has more than [`LONGEST_FILE`](file_plans::LONGEST_FILE) bytes.
     TooLong,
     /// An assembler text spells no component.
     AsmRefused,
     /// A source is refused: for its text, for a name, or for the size of what it is compiled to.
     SourceRefused,
-    /// The bytes of a file are no component, or no image.
+    /// The bytes of a file are no component, no image, or no feed.
     FileRefused,
     /// A rule of a part, or of the parts together, is broken.
     RuleBroken,
 }
 
 impl Status {
-    /// The exit status: 0 to 2 after a run, 0 also for what was written, 10 to 18 else.
+    /// The exit status: 0 to 2 after a run or a meaning, 0 also for what was written, 10 to 18 else.
     pub fn number(self) -> u8
         ensures { result ≡ status_number self }
     {

@@ -1,7 +1,8 @@
 //! The top call.
-ghost use Rattle.std.specs.Prelude.{◌≡◌, ◌⊎◌, ◌<◌, ℕ, Some, None, false, length};
+ghost use Rattle.std.specs.Prelude.{◌≡◌, ◌⊎◌, ◌<◌, ℕ, List, Some, None, false, length};
 ghost use Rattle.command_words.specs.declared.command.LinkDeed.TheVariants as link_deed;
-ghost use Rattle.command_words.specs.declared.command.Command.TheVariants.{Links};
+ghost use Rattle.command_words.specs.declared.command.Command.TheVariants.{Links, Mean};
+ghost use Rattle.command_words.specs.declared.part.PartWord.{PartWord};
 ghost use Rattle.command_words.specs.declared.command.Linked.{Linked};
 ghost use Rattle.command_words.specs.Action.{asked_in};
 ghost use Rattle.command_words.specs.Texts.{texts};
@@ -9,23 +10,25 @@ ghost use Rattle.lcm_cli.specs.declared.job.Job.TheVariants as job;
 ghost use Rattle.lcm_cli.specs.Commands.{plan_in, is_command};
 ghost use Rattle.lcm_cli.specs.Jobs.{FollowsTask};
 ghost use Rattle.overlay_machine.specs.Seen.{IsOverlayOf};
-ghost use Rattle.lcm_cli.specs.Answers.{Answers, Gives, Tells, outside, end_status, refused};
+ghost use Rattle.lcm_cli.specs.Answers.{Answers, Gives, Tells, outside, end_status, meaning_status, refused};
 ghost use Rattle.lcm_cli.specs.Answers.{job_answer, IsReady};
 ghost use Rattle.lcm_cli.specs.Causes.{Promised, IsRunStatus, RunGiven, TraceGiven, RunCut, TraceCut};
-ghost use Rattle.lcm_cli.specs.Causes.{StayAt, PutsWhole};
+ghost use Rattle.lcm_cli.specs.Causes.{StayAt, PutsWhole, MeaningGiven};
 
 use crate::job::{Job, job_of};
 use crate::lines::write_lines;
-use crate::refusal::{Refusal, Stop};
 use crate::refusal_line::{refusal_line, refusal_status};
 use crate::status::Status;
 use cap_words::Items;
 use command_words::{FileName, Steps, WordsFault, command_of};
 use component_linker::Start;
+use file_plans::{Refusal, Stop};
 use lcm_machine::LcmState;
+use meaning_tool::Meaning;
 use outside_io::{Files, Sink};
 use overlay_machine::Overlay;
 use overlay_machine::laws::a_start_has_one_overlay;
+use source_events::End;
 use std::alloc::Global;
 use trace_tool::laws::the_headline;
 use trace_tool::{RunEnd, run_overlay, run_plain};
@@ -96,14 +99,31 @@ fn give_file<F: Files, S: Sink>(
     }
 }
 
-// Writes a text line by line, and answers Done, or WriteFault where the sink fails.
-fn give_text<S: Sink>(text: &Items<u8>, out: &mut S) -> Status
-    ensures { Tells (S.seen out.old) text.now Status.Done result (S.seen out.new) }
+// Writes a text line by line, and answers the status, or WriteFault where the sink fails.
+fn give_text<S: Sink>(text: &Items<u8>, status: Status, out: &mut S) -> Status
+    ensures { Tells (S.seen out.old) text.now status result (S.seen out.new) }
 {
     match write_lines(out, text.as_slice()) {
-        Ok(()) => Status::Done,
+        Ok(()) => status,
         Err(_) => Status::WriteFault,
     }
+}
+
+fn meaning_status(end: End) -> Status
+    ensures { result ≡ meaning_status end }
+{
+    match end {
+        End::Halt(_) | End::Waiting => Status::Done,
+        End::Fail => Status::MachineFailed,
+        End::OutOfFuel => Status::StepsUsed,
+    }
+}
+
+// Writes the text of a meaning.
+fn give_meaning<S: Sink>(meant: &Meaning, out: &mut S) -> Status
+    ensures { Tells (S.seen out.old) meant.now.text (meaning_status meant.now.end) result (S.seen out.new) }
+{
+    give_text(&meant.text, meaning_status(meant.end), out)
 }
 
 // Does what is left to do, and tells of it.
@@ -121,7 +141,8 @@ fn give<F: Files, S: Sink>(
         Job::Run(start, steps) => give_run(start, steps, out, kept),
         Job::Trace(start, overlay, steps) => give_trace(&start, overlay, steps, out),
         Job::Put(name, bytes) => give_file(&name, &bytes, files, out),
-        Job::Write(text) => give_text(&text, out),
+        Job::Write(text) => give_text(&text, Status::Done, out),
+        Job::Tell(meant) => give_meaning(&meant, out),
         Job::Say => tell(out, "ok\n", Status::Done),
     }
 }
@@ -178,7 +199,9 @@ fn answer<F: Files, S: Sink>(
 /// trusted parts, `t:NAME`, and writes `ok`. `asm` reads one part, of either mark and a name in `.asm`,
 /// `compile` one of a name in `.prc`; both ask no rules, put its component's file under the name of
 /// `--out`, and then write `ok`. `dis` reads one part of either mark, asks no rules, and writes its
-/// text. Any other words write `usage`.
+/// text. `mean` reads 1 to 16 sources `t:NAME.prc` and the feed of `--feed`, and writes what the sources
+/// mean under that feed with a stack of `--stack` words and `--steps` ticks of fuel: a line for each event,
+/// and the end line. Any other words write `usage`.
 pub fn stk_main<F: Files, S: Sink>(
     alloc: Global,
     words: &Vec<String>,
@@ -219,6 +242,13 @@ pub fn stk_main<F: Files, S: Sink>(
         → result ≡ Status.WriteFault → TraceCut l steps
         (outside (F.seen files.old) (S.seen out.old) kept.old)
         (outside (F.seen files.new) (S.seen out.new) kept.new) }
+
+    // What `mean` writes and answers: the meaning of the modules that the words name, under the feed.
+    ensures meant { (words_of : List PartWord) (size fuel : ℕ) (feed : List ℕ)
+        → asked_in (texts words.now.items) ≡ Some (Mean words_of size fuel feed)
+        → IsRunStatus result → MeaningGiven words_of size fuel feed
+        (outside (F.seen files.old) (S.seen out.old) kept.old)
+        result (outside (F.seen files.new) (S.seen out.new) kept.new) }
 
     // Words that are no command that is built are refused, unless the sink fails or memory is refused.
     ensures usage { is_command (asked_in (texts words.now.items)) ≡ false

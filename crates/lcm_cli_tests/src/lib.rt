@@ -10,6 +10,8 @@ mod faults;
 #[cfg(test)]
 mod images;
 #[cfg(test)]
+mod meanings;
+#[cfg(test)]
 mod movable;
 #[cfg(test)]
 mod parts;

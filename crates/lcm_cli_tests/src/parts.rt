@@ -222,7 +222,7 @@ static LONGER: [Case<'static>; 4] = [
     ("check u:long.stc", Status::TooLong, "too long 0\n", None),
 ];
 
-fn add_long(
+pub(crate) fn add_long(
     alloc: Global,
     files: &mut MemFiles,
     name: &str,

@@ -42,7 +42,7 @@ fn words_that_are_a_command_are_taken(rt: HostRuntime) -> Result<(), Fail> {
     Ok(())
 }
 
-static REFUSED: [&str; 26] = [
+static REFUSED: [&str; 29] = [
     "",
     "run",
     "walk u:one.asm",
@@ -67,8 +67,11 @@ static REFUSED: [&str; 26] = [
     "compile t:one.prc",
     "compile t:one.asm --out one.stc",
     "asm t:one.prc --out one.stc",
+    "mean t:one.prc",
+    "mean --feed one.txt",
+    "mean --feed one.txt u:one.prc",
+    "mean --feed one.txt t:one.asm",
     // What isn't built yet.
-    "mean t:one.prc --feed one.txt",
     "generate --seed 1",
 ];
 

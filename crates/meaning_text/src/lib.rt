@@ -1,6 +1,6 @@
 //! The text of what a meaning tells: a line for each event, and the end line.
 //!
-//! `docs/COMMANDS.md` has the lines.
+//! `docs/FORMATS.md` has the lines.
 #![tactic(auto)]
 
 mod pieces;

@@ -1,8 +1,8 @@
 use Rattle.std.proofs.Common.{subst}
 use Rattle.component_linker.specs.Accepted.{accepted}
-use Rattle.lcm_cli.specs.Plans.{unless, Meets}
+use Rattle.file_plans.specs.Plans.{unless, Meets}
 use Rattle.lcm_cli.specs.Parts.{is_trusted, broken_in, component_at, part_at}
-use Rattle.lcm_cli.proofs.Follow.{follows_meets}
+use Rattle.file_plans.proofs.Follow.{follows_meets}
 use Rattle.lcm_cli.proofs.part.part.Goals as goal
 
 pub returns : goal.returns

@@ -3,14 +3,14 @@ use Rattle.std.specs.Prelude.{Result, Ok, Err}
 use Rattle.outside_io.specs.FilesSeen.{FilesSeen}
 use Rattle.image_loader.specs.Image.{ImageSeen, Spells}
 use Rattle.component_linker.specs.Started.{StartSeen}
-use Rattle.lcm_cli.specs.declared.refusal.Refusal.TheVariants.{Image}
-use Rattle.lcm_cli.specs.declared.refusal.Stop.{Stop}
+use Rattle.file_plans.specs.declared.refusal.Refusal.TheVariants.{Image}
+use Rattle.file_plans.specs.declared.refusal.Stop.{Stop}
 use Rattle.std.proofs.lemmas.Result.{err_from_is_err_and}
-use Rattle.lcm_cli.specs.Plans.{file, unless, Comes, Meets}
+use Rattle.file_plans.specs.Plans.{file, unless, Comes, Meets}
 use Rattle.lcm_cli.specs.Parts.{loaded}
 use Rattle.lcm_cli.specs.Commands.{linked_image}
 use Rattle.lcm_cli.specs.Jobs.{FollowsImage}
-use Rattle.lcm_cli.proofs.Follow.{follows_meets, unless_made}
+use Rattle.file_plans.proofs.Follow.{follows_meets, unless_made}
 use Rattle.lcm_cli.proofs.start.file_bytes.Goals as goal
 
 -- the file came, and its bytes are not loaded

@@ -2,13 +2,13 @@ use Rattle.std.proofs.Common.{List, ℕ}
 use Rattle.std.specs.Prelude.{Result, Ok, Err}
 use Rattle.outside_io.specs.FilesSeen.{FilesSeen}
 use Rattle.component_linker.specs.Started.{StartSeen}
-use Rattle.lcm_cli.specs.declared.refusal.Stop.{Stop}
-use Rattle.lcm_cli.specs.declared.refusal.Refusal.TheVariants.{Image}
-use Rattle.lcm_cli.specs.Plans.{file, unless, Comes}
+use Rattle.file_plans.specs.declared.refusal.Stop.{Stop}
+use Rattle.file_plans.specs.declared.refusal.Refusal.TheVariants.{Image}
+use Rattle.file_plans.specs.Plans.{file, unless, Comes}
 use Rattle.lcm_cli.specs.Parts.{loaded}
 use Rattle.lcm_cli.specs.Commands.{linked_image}
 use Rattle.lcm_cli.specs.Jobs.{FollowsStart, MeetsStart}
-use Rattle.lcm_cli.proofs.Follow.{follows_meets}
+use Rattle.file_plans.proofs.Follow.{follows_meets}
 use Rattle.lcm_cli.proofs.start.image_start.Goals as goal
 
 -- the file came, and loading it gave this

@@ -5,13 +5,13 @@ use Rattle.outside_io.specs.FilesSeen.{FilesSeen}
 use Rattle.command_words.specs.declared.part.PartWord.{PartWord}
 use Rattle.component_linker.specs.Parts.{PartSeen}
 use Rattle.image_loader.specs.Image.{Spells}
-use Rattle.lcm_cli.specs.declared.refusal.Stop.{Stop}
-use Rattle.lcm_cli.specs.declared.refusal.Refusal.TheVariants.{Rule}
-use Rattle.lcm_cli.specs.Plans.{unless, Comes, Meets}
-use Rattle.lcm_cli.specs.Parts.{linked, part_at, each_at}
+use Rattle.file_plans.specs.declared.refusal.Stop.{Stop}
+use Rattle.file_plans.specs.declared.refusal.Refusal.TheVariants.{Rule}
+use Rattle.file_plans.specs.Plans.{unless, each_at, Comes, Meets}
+use Rattle.lcm_cli.specs.Parts.{linked, part_at}
 use Rattle.lcm_cli.specs.Commands.{linked_parts}
 use Rattle.lcm_cli.specs.Jobs.{without, FollowsImage}
-use Rattle.lcm_cli.proofs.Follow.{unless_gave}
+use Rattle.file_plans.proofs.Follow.{unless_gave}
 use Rattle.lcm_cli.proofs.Linking.{image_with, linked_comes, linked_unread, linked_stops, loaded_again}
 use Rattle.lcm_cli.proofs.start.parts_bytes.Goals as goal
 

@@ -6,10 +6,10 @@ use Rattle.command_words.specs.declared.part.PartWord.{PartWord}
 use Rattle.component_linker.specs.Parts.{PartSeen}
 use Rattle.overlay_machine.specs.Starting.{IsStartOf}
 use Rattle.component_linker.specs.Started.{StartSeen}
-use Rattle.lcm_cli.specs.declared.refusal.Stop.{Stop}
-use Rattle.lcm_cli.specs.declared.refusal.Refusal.TheVariants.{Rule}
-use Rattle.lcm_cli.specs.Plans.{unless, Comes, Meets}
-use Rattle.lcm_cli.specs.Parts.{linked, part_at, each_at}
+use Rattle.file_plans.specs.declared.refusal.Stop.{Stop}
+use Rattle.file_plans.specs.declared.refusal.Refusal.TheVariants.{Rule}
+use Rattle.file_plans.specs.Plans.{unless, each_at, Comes, Meets}
+use Rattle.lcm_cli.specs.Parts.{linked, part_at}
 use Rattle.lcm_cli.specs.Commands.{linked_parts}
 use Rattle.lcm_cli.specs.Jobs.{without, FollowsStart}
 use Rattle.lcm_cli.proofs.Linking.{image_with, linked_comes, linked_unread, linked_stops}

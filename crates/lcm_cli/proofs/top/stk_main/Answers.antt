@@ -3,6 +3,7 @@ use Rattle.command_words.specs.Action.{asked_in}
 use Rattle.command_words.specs.Texts.{texts}
 use Rattle.lcm_cli.proofs.Caused.{promised, usage}
 use Rattle.lcm_cli.proofs.Put.{files_stay, put_whole}
+use Rattle.lcm_cli.proofs.MeaningMade.{means}
 use Rattle.lcm_cli.proofs.RunsMade.{runs, traces, run_cut, trace_cut}
 use Rattle.lcm_cli.proofs.top.stk_main.Goals as goal
 
@@ -36,4 +37,8 @@ returns-clause-files_stay g c = files_stay (asked_in (texts c.args.words.now.ite
 
 pub returns-clause-put_whole : goal.returns-clause-put_whole
 returns-clause-put_whole g c = put_whole (asked_in (texts c.args.words.now.items)) _ _ _
+    (rw c.as_slice.ensures.value at c.answer.ensures)
+
+pub returns-clause-meant : goal.returns-clause-meant
+returns-clause-meant g c = means (asked_in (texts c.args.words.now.items)) _ _ _
     (rw c.as_slice.ensures.value at c.answer.ensures)

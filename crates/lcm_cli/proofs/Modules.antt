@@ -1,0 +1,307 @@
+-- Modules and their feed: how reading them ends, and what came.
+use Rattle.std.proofs.Common.{◌≡◌, ℕ, List, length, refl, sym, subst, ◌∙◌, inl, inr}
+use Rattle.std.specs.Prelude.{Some, Result, Ok, Err}
+use Rattle.outside_io.specs.FilesSeen.{FilesSeen}
+use Rattle.outside_io.specs.Whole.{GivesWhole}
+use Rattle.command_words.specs.declared.part.PartWord.{PartWord}
+use Rattle.command_words.specs.declared.command.Command.TheVariants.{Mean}
+use Rattle.component_linker.specs.declared.fault.RuleAt.{RuleAt}
+use Rattle.proc_language.specs.declared.module.ModuleFields.{ModuleFields}
+use Rattle.proc_sources.specs.declared.fault.SourceFault.{SourceFault}
+use Rattle.proc_sources.specs.Sources.{module_in, sourced}
+use Rattle.source_events.specs.declared.Item.{Item}
+use Rattle.module_rules.specs.Rules.{stack_base_of, ruled}
+use Rattle.run_feed.specs.declared.fault.FeedFault.{FeedFault}
+use Rattle.run_feed.specs.Feed.{fed}
+use Rattle.file_plans.specs.declared.TheConstants.{LONGEST_FILE}
+use Rattle.file_plans.specs.declared.refusal.Refusal.{Refusal}
+use Rattle.file_plans.specs.declared.refusal.Refusal.TheVariants as refusal
+use Rattle.file_plans.specs.Plans.{Made, ◌>>=◌, unless, each_at, whole, too_long, unread, Comes}
+use Rattle.meaning_tool.specs.Subjects.{Subject, module_at, feed_line, unfed, feed_at, subject_of, subject_in}
+use Rattle.lcm_cli.specs.Causes.{IsUnfed, ModulesBreak}
+use Rattle.lcm_cli.proofs.Ends.{Never, comes_split, same_err, ended_unless, not_made, never_unless}
+use Rattle.lcm_cli.proofs.Ends.{never_bind}
+use Rattle.lcm_cli.proofs.Ends.{never_reads, never_told, never_each, Foreign, foreign, no_rule_by}
+use Rattle.lcm_cli.proofs.Reasons.{Reasoned, reasoned_bind, reasoned_made, reasoned_rule, reads_reasoned}
+use Rattle.lcm_cli.proofs.Reasons.{reason_by}
+use Rattle.lcm_cli.proofs.Reasons.{each_reasoned, same_rule, err_same}
+
+abbrev subject_by : ℕ → List ModuleFields → List Item → Subject
+subject_by size modules items = record { modules = modules; size = size; feed = items }
+
+-- ---- how no feed ends: as words that are no command, by a rule, or as an image
+
+abbrev pub NotOfFeed : Refusal → Type 0
+NotOfFeed refusal.Usage = Unit {0}
+NotOfFeed (refusal.Rule r) = Unit {0}
+NotOfFeed (refusal.Image f) = Unit {0}
+NotOfFeed _ = ⊥
+
+not_of_feed : (x why : Refusal) → NotOfFeed why → x ≡ why → NotOfFeed x
+not_of_feed x why h e = subst NotOfFeed (sym e) h
+
+never_feed : (why : Refusal) → NotOfFeed why → (name : List ℕ) (index base : ℕ)
+    → Never (feed_at name index base) why
+unfolding feed_at
+never_feed why h name index base =
+    never_reads name index (λ text. unless unfed (fed base text)) why
+    (not_of_feed (refusal.TooLong index) why h) (not_of_feed refusal.ReadFault why h)
+    (λ text. never_unless unfed (fed base text) why (λ f. not_of_feed (unfed f) why h))
+
+-- ---- how no modules end: as words that are no command, as an image, as a feed, or by a rule
+
+never_module : (why : Refusal) → Foreign why → (index : ℕ) (w : PartWord) → Never (module_at index w) why
+unfolding module_at
+never_module why h index w =
+    never_told why h w.name index (refusal.Source index) module_in
+    (λ f. foreign (refusal.Source index f) why h)
+
+no_rule_module : (r : RuleAt) (index : ℕ) (w : PartWord) → Never (module_at index w) (refusal.Rule r)
+unfolding module_at
+no_rule_module r index w = no_rule_by w.name index (refusal.Source index) module_in r (λ f e. cc)
+
+never_subject_of : (why : Refusal) → Foreign why → NotOfFeed why → (count size : ℕ) (feed : List ℕ)
+    (modules : List ModuleFields) → Never (subject_of count size feed modules) why
+unfolding subject_of
+never_subject_of why h k count size feed modules =
+    never_bind (unless refusal.Rule (ruled modules size)) _ why
+    (never_unless refusal.Rule (ruled modules size) why (λ r. foreign (refusal.Rule r) why h))
+    (λ u. never_bind (feed_at feed count (stack_base_of modules)) _ why
+    (never_feed why k feed count (stack_base_of modules))
+    (λ items. not_made (subject_by size modules items) why))
+
+pub never_subject : (why : Refusal) → Foreign why → NotOfFeed why → (words : List PartWord) (size : ℕ)
+    (feed : List ℕ) → Never (subject_in words size feed) why
+unfolding subject_in
+never_subject why h k words size feed =
+    never_bind (each_at module_at 0 words) _ why (never_each why module_at (never_module why h) 0 words)
+    (λ modules. never_subject_of why h k (length words) size feed modules)
+
+-- ---- wherever reading them ends the call, it has a reason
+
+-- a text that spells no module has no component, by the same fault
+unsourced : (text : List ℕ) (f : SourceFault) → module_in text ≡ Err f → sourced text ≡ Err f
+unfolding sourced
+unsourced text f e = rw e refl
+
+module_reasoned : (index : ℕ) (w : PartWord) → Reasoned (module_at index w)
+unfolding module_at
+module_reasoned index w =
+    reads_reasoned w.name index _ (reason_by (refusal.Source index) module_in w.name index
+    (λ old mid text f g e. (w.name, old, inl (refl, refl, refl), text, g, unsourced text f e)))
+
+feed_reasoned : (name : List ℕ) (index base : ℕ) → Reasoned (feed_at name index base)
+unfolding feed_at
+feed_reasoned name index base =
+    reads_reasoned name index _ (reason_by unfed (fed base) name index (λ old mid text f g e. tt))
+
+subject_of_reasoned : (count size : ℕ) (feed : List ℕ) (modules : List ModuleFields)
+    → Reasoned (subject_of count size feed modules)
+unfolding subject_of
+subject_of_reasoned count size feed modules =
+    reasoned_bind (unless refusal.Rule (ruled modules size)) _
+    (reasoned_rule refusal.Rule (ruled modules size) (λ f old new. tt))
+    (λ u. reasoned_bind (feed_at feed count (stack_base_of modules)) _
+    (feed_reasoned feed count (stack_base_of modules))
+    (λ items. reasoned_made (subject_by size modules items)))
+
+pub subject_reasoned : (words : List PartWord) (size : ℕ) (feed : List ℕ)
+    → Reasoned (subject_in words size feed)
+unfolding subject_in
+subject_reasoned words size feed =
+    reasoned_bind (each_at module_at 0 words) _ (each_reasoned module_at module_reasoned 0 words)
+    (λ modules. subject_of_reasoned (length words) size feed modules)
+
+-- ---- what a layer below gave
+
+ok_same : {A B F : Type 0} (x y : A) → (let r : Result A F = Ok x in r) ≡ Ok y
+    → (let q : Result A B = Ok y in q) ≡ Ok x
+ok_same x y e = let s : x ≡ y = cc in rw s refl
+
+pub unless_came : {A F : Type 0} (told : F → Refusal) (r : Result A F) (x : A) (old new : FilesSeen)
+    → Comes (unless told r) old (Ok x) new → (r ≡ Ok x) × (new ≡ old)
+unless_came {A} {F} told (Ok y) x old new h = (ok_same {A = A} {B = F} {F = Refusal} x y h.0, h.1)
+unless_came told (Err f) x old new h = absurd (let e = h.0 in cc)
+
+-- ---- a rule that is broken
+
+pub modules_break : (words : List PartWord) (size : ℕ) (feed : List ℕ) (old new : FilesSeen) (r : RuleAt)
+    → Comes (subject_in words size feed) old (Err (refusal.Rule r)) new → ModulesBreak old words size r new
+unfolding subject_in subject_of
+modules_break words size feed old new r h =
+    elim (comes_split (each_at module_at 0 words) _ old new (Err (refusal.Rule r)) h)
+    as (λ _. ModulesBreak old words size r new) [
+      | inl s ↦ by_rule s.0 s.1 s.2 (comes_split (unless refusal.Rule (ruled s.0 size)) _ s.1 new
+          (Err (refusal.Rule r)) s.3)
+      | inr s ↦ absurd (never_each (refusal.Rule r) module_at (no_rule_module r) 0 words old new
+          (let e = same_err (refusal.Rule r) s.0 s.2 in rw (← e) s.1))
+    ]
+  where
+    by_rule : (modules : List ModuleFields) (mid : FilesSeen)
+        → Comes (each_at module_at 0 words) old (Ok modules) mid
+        → Rattle.lcm_cli.proofs.Ends.Split (unless refusal.Rule (ruled modules size))
+        (λ _. feed_at feed (length words) (stack_base_of modules) >>=
+        (λ items. Made (subject_by size modules items))) mid (Err (refusal.Rule r)) new
+        → ModulesBreak old words size r new
+    by_rule modules mid c (inl t) = absurd (never_bind (feed_at feed (length words) (stack_base_of modules)) _
+        (refusal.Rule r) (never_feed (refusal.Rule r) tt feed (length words) (stack_base_of modules))
+        (λ items. not_made (subject_by size modules items) (refusal.Rule r)) t.1 new t.3)
+    by_rule modules mid c (inr t) =
+        let e = ended_unless refusal.Rule (ruled modules size) mid new t.0 t.1 in
+        let q = e.3 in
+        let k = same_rule e.0 r (sym e.2 ∙ same_err {A = Subject} (refusal.Rule r) t.0 t.2) in
+        (modules, rw q c, e.1 ∙ err_same k)
+
+-- ---- a line of the feed that has not its form
+
+same_line : (a b : ℕ) → refusal.Feed a ≡ refusal.Feed b → a ≡ b
+same_line a b e = cc
+
+-- the file came whole, and has no feed
+abbrev FeedFails : FilesSeen → List ℕ → ℕ → ℕ → FilesSeen → Type 0
+FeedFails old name base line new =
+    (text : List ℕ) × GivesWhole old name LONGEST_FILE text new
+    × (f : FeedFault) × (fed base text ≡ Err f) × (line ≡ feed_line f)
+
+feed_at_fails : (name : List ℕ) (index base line : ℕ) (old new : FilesSeen)
+    → Comes (feed_at name index base) old (Err (refusal.Feed line)) new → FeedFails old name base line new
+unfolding feed_at
+feed_at_fails name index base line old new (whole text mid w h) =
+    let e = ended_unless unfed (fed base text) mid new (refusal.Feed line) h in
+    let q = e.3 in
+    (text, rw q w, e.0, e.1, same_line line (feed_line e.0) e.2)
+feed_at_fails name index base line old new (too_long t e) = absurd (cc)
+feed_at_fails name index base line old new (unread t e) = absurd (cc)
+
+subject_of_fails : (count size : ℕ) (feed : List ℕ) (modules : List ModuleFields) (line : ℕ)
+    (mid new : FilesSeen)
+    → Comes (subject_of count size feed modules) mid (Err (refusal.Feed line)) new
+    → FeedFails mid feed (stack_base_of modules) line new
+unfolding subject_of
+subject_of_fails count size feed modules line mid new h =
+    elim (comes_split (unless refusal.Rule (ruled modules size)) _ mid new (Err (refusal.Feed line)) h)
+    as (λ _. FeedFails mid feed (stack_base_of modules) line new) [
+      | inl t ↦ (
+          let q = (unless_came refusal.Rule (ruled modules size) t.0 mid t.1 t.2).1 in
+          by_feed t.1 q (comes_split (feed_at feed count (stack_base_of modules)) _ t.1 new
+          (Err (refusal.Feed line)) t.3)
+          )
+      | inr t ↦ absurd (never_unless refusal.Rule (ruled modules size) (refusal.Feed line) (λ r e. cc) mid new
+          (let e = same_err (refusal.Feed line) t.0 t.2 in rw (← e) t.1))
+    ]
+  where
+    by_feed : (seen : FilesSeen) → seen ≡ mid
+        → Rattle.lcm_cli.proofs.Ends.Split (feed_at feed count (stack_base_of modules))
+        (λ items. Made (subject_by size modules items)) seen (Err (refusal.Feed line)) new
+        → FeedFails mid feed (stack_base_of modules) line new
+    by_feed seen e (inl t) = absurd (not_made (subject_by size modules t.0) (refusal.Feed line) t.1 new t.3)
+    by_feed seen e (inr t) =
+        subst (λ s. FeedFails s feed (stack_base_of modules) line new) e
+        (feed_at_fails feed count (stack_base_of modules) line seen new
+        (let k = same_err (refusal.Feed line) t.0 t.2 in rw (← k) t.1))
+
+pub feed_fails : (words : List PartWord) (size fuel : ℕ) (feed : List ℕ) (old new : FilesSeen) (line : ℕ)
+    → Comes (subject_in words size feed) old (Err (refusal.Feed line)) new
+    → IsUnfed (Some (Mean words size fuel feed)) old line new
+unfolding subject_in
+feed_fails words size fuel feed old new line h =
+    elim (comes_split (each_at module_at 0 words) _ old new (Err (refusal.Feed line)) h)
+    as (λ _. IsUnfed (Some (Mean words size fuel feed)) old line new) [
+      | inl s ↦ (
+          let t = subject_of_fails (length words) size feed s.0 line s.1 new s.3 in
+          (s.0, s.1, s.2, t.0, t.1, t.2, t.3, t.4)
+          )
+      | inr s ↦ absurd (never_each (refusal.Feed line) module_at (never_module (refusal.Feed line) tt) 0 words
+          old new (let e = same_err (refusal.Feed line) s.0 s.2 in rw (← e) s.1))
+    ]
+
+-- ---- what came
+
+-- the modules came and keep the rules, and the file of the feed has one
+pub record SubjectCame (words : List PartWord) (size : ℕ) (feed : List ℕ) (old : FilesSeen) (s : Subject)
+    (new : FilesSeen) : Type 0 where
+  pub mid : FilesSeen
+  pub came : Comes (each_at module_at 0 words) old (Ok s.modules) mid
+  pub keep : ruled s.modules size ≡ Ok tt
+  pub text : List ℕ
+  pub feed_came : GivesWhole mid feed LONGEST_FILE text new
+  pub is_feed : fed (stack_base_of s.modules) text ≡ Ok s.feed
+  pub size_is : s.size ≡ size
+
+same_subject : (x y : Subject) → (let r : Result Subject Refusal = Ok x in r) ≡ Ok y → y ≡ x
+same_subject x y e = cc
+
+-- the file came whole, and has this feed
+abbrev FeedCame : FilesSeen → List ℕ → ℕ → List Item → FilesSeen → Type 0
+FeedCame old name base items new =
+    (text : List ℕ) × GivesWhole old name LONGEST_FILE text new × (fed base text ≡ Ok items)
+
+feed_at_came : (name : List ℕ) (index base : ℕ) (items : List Item) (old new : FilesSeen)
+    → Comes (feed_at name index base) old (Ok items) new → FeedCame old name base items new
+unfolding feed_at
+feed_at_came name index base items old new (whole text mid w h) =
+    let e = unless_came unfed (fed base text) items mid new h in
+    let q = e.1 in
+    (text, rw q w, e.0)
+feed_at_came name index base items old new (too_long t e) = absurd (cc)
+feed_at_came name index base items old new (unread t e) = absurd (cc)
+
+-- what came behind the modules
+record BehindCame (size : ℕ) (feed : List ℕ) (modules : List ModuleFields) (mid : FilesSeen) (s : Subject)
+    (new : FilesSeen) : Type 0 where
+  keep : ruled modules size ≡ Ok tt
+  items : List Item
+  feed_came : FeedCame mid feed (stack_base_of modules) items new
+  is : subject_by size modules items ≡ s
+
+behind_came : (count size : ℕ) (feed : List ℕ) (modules : List ModuleFields) (mid new : FilesSeen)
+    (s : Subject) → Comes (subject_of count size feed modules) mid (Ok s) new → BehindCame size feed modules mid s new
+unfolding subject_of
+behind_came count size feed modules mid new s h =
+    elim (comes_split (unless refusal.Rule (ruled modules size)) _ mid new (Ok s) h)
+    as (λ _. BehindCame size feed modules mid s new) [
+      | inl t ↦ (
+          let e = unless_came refusal.Rule (ruled modules size) t.0 mid t.1 t.2 in
+          by_feed e.0 t.1 e.1 (comes_split (feed_at feed count (stack_base_of modules)) _ t.1 new (Ok s) t.3)
+          )
+      | inr t ↦ absurd (let e = t.2 in cc)
+    ]
+  where
+    by_feed : ruled modules size ≡ Ok tt → (seen : FilesSeen) → seen ≡ mid
+        → Rattle.lcm_cli.proofs.Ends.Split (feed_at feed count (stack_base_of modules))
+        (λ items. Made (subject_by size modules items)) seen (Ok s) new
+        → BehindCame size feed modules mid s new
+    by_feed k seen e (inl t) =
+        let q = t.3.1 in
+        let c : Comes (feed_at feed count (stack_base_of modules)) seen (Ok t.0) new = rw q t.2 in
+        record {
+          keep = k;
+          items = t.0;
+          feed_came = subst (λ z. FeedCame z feed (stack_base_of modules) t.0 new) e
+              (feed_at_came feed count (stack_base_of modules) t.0 seen new c);
+          is = same_subject s (subject_by size modules t.0) t.3.0;
+        }
+    by_feed k seen e (inr t) = absurd (let e = t.2 in cc)
+
+pub subject_came : (words : List PartWord) (size : ℕ) (feed : List ℕ) (old new : FilesSeen) (s : Subject)
+    → Comes (subject_in words size feed) old (Ok s) new → SubjectCame words size feed old s new
+unfolding subject_in
+subject_came words size feed old new s h =
+    elim (comes_split (each_at module_at 0 words) _ old new (Ok s) h)
+    as (λ _. SubjectCame words size feed old s new) [
+      | inl t ↦ by_behind t.0 t.1 t.2 (behind_came (length words) size feed t.0 t.1 new s t.3)
+      | inr t ↦ absurd (let e = t.2 in cc)
+    ]
+  where
+    by_behind : (modules : List ModuleFields) (mid : FilesSeen)
+        → Comes (each_at module_at 0 words) old (Ok modules) mid → BehindCame size feed modules mid s new
+        → SubjectCame words size feed old s new
+    by_behind modules mid c b = subst (λ z. SubjectCame words size feed old z new) b.is (record {
+      mid = mid;
+      came = c;
+      keep = b.keep;
+      text = b.feed_came.0;
+      feed_came = b.feed_came.1;
+      is_feed = b.feed_came.2;
+      size_is = refl;
+    })

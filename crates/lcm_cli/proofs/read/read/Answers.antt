@@ -1,6 +1,0 @@
-use Rattle.lcm_cli.proofs.Follow.{read_came}
-use Rattle.lcm_cli.proofs.read.read.Goals as goal
-
-pub returns-in-Ok-clause-came : goal.returns-in-Ok-clause-came
-returns-in-Ok-clause-came g c = read_came (g.F.Files.seen c.args.files.now) _ c.args.name.now _ _ c.args.index
-    (rw c.as_str.ensures.same at c.in-Ok.ensures.ok) c.of.ensures
