@@ -1,0 +1,233 @@
+-- The outer induction, on the number of steps of the overlay: procedures, waits and ends, given the bodies.
+use Rattle.std.proofs.Common.{◌≡◌, inl, inr, ℕ, zero, suc, ◌+◌, ◌<◌, ◌≤◌, ℤ, pos, List, [], Some, None, refl}
+use Rattle.std.proofs.Common.{sym, ap, ◌∙◌, subst, arith}
+use Rattle.std.specs.Prelude.{map}
+use Rattle.std.proofs.lemmas.Bool.{cases_eq}
+use Rattle.overlay_machine.specs.declared.words.OWord.{OWord}
+use Rattle.overlay_machine.specs.declared.words.OWord.TheVariants.{Plain}
+use Rattle.cap_words.specs.declared.Word.TheVariants.{Int, Mem}
+use Rattle.overlay_machine.specs.Words.{look}
+use Rattle.overlay_machine.specs.declared.events.Back.TheVariants.{Out as OutBack, Bad, Hop}
+use Rattle.overlay_machine.specs.Events.{back_of}
+use Rattle.overlay_machine.specs.Safe.{IsSafe}
+use Rattle.overlay_machine.specs.Starting.{overlay_at}
+use Rattle.component_linker.specs.Started.{StartSeen}
+use Rattle.trace_tool.specs.Layout.{layout}
+use Rattle.flow_check.specs.Holds.{data_cap}
+use Rattle.overlay_machine.specs.State.{OState}
+use Rattle.overlay_machine.specs.Link.{Link, ranges_of}
+use Rattle.overlay_machine.specs.Linked.{Linked}
+use Rattle.component_linker.specs.Parts.{PartSeen}
+use Rattle.proc_semantics.specs.Values.{World, Store, main_of}
+use Rattle.proc_semantics.specs.declared.value.Target.{Target}
+use Rattle.proc_program.specs.declared.program.Part.{Part}
+use Rattle.proc_program.specs.declared.program.Procedure.{Procedure}
+use Rattle.proc_semantics.specs.Told.{Comp, ends}
+use Rattle.source_events.specs.declared.Item.{Item}
+use Rattle.source_events.specs.declared.End.TheVariants.{Fail as Fails, OutOfFuel}
+use Rattle.proc_semantics.specs.declared.value.Value.{Value}
+use Rattle.proc_semantics.specs.declared.value.Register.{Register}
+use Rattle.proc_semantics.specs.Meaning.{on_item, start, meaning}
+use Rattle.proc_semantics.specs.Whole.{whole}
+use Rattle.proc_semantics.proofs.Recursive.{recursive, starts}
+use Rattle.source_laws.specs.Trace.{standing, trace, Trace}
+use Rattle.template_runs.specs.Runs.{is_inside}
+use Rattle.source_laws.specs.Sources.{SourcesMean}
+use Rattle.source_laws.proofs.Sum.{agreeing_runs}
+use Rattle.source_laws.specs.Good.{Fits, Agrees}
+use Rattle.proc_semantics.specs.Fuel.{Prefix}
+use Rattle.source_laws.proofs.Rules.{waits}
+use Rattle.source_laws.proofs.Upto.{none_inside, UpTo, go_fail}
+use Rattle.template_runs.proofs.Valid.{Valid}
+use Rattle.template_runs.proofs.Steps.{At, inside_here}
+use Rattle.template_runs.proofs.Outside.{Out, outside_here}
+use Rattle.source_laws.proofs.CallsIn.{EntryPublic, AtEnd, ProcLaw, left_now}
+use Rattle.template_runs.proofs.Rows.{DataIs}
+use Rattle.template_runs.proofs.Ends.{weight_small}
+use Rattle.template_runs.proofs.Back.{Tells, fails_bad, goes_out, tells, goes_in}
+use Rattle.source_laws.proofs.Idle.{IdleLaw, IdleLeaveLaw, idle_law, idle_leave_law}
+use Rattle.source_laws.proofs.Procs.{Proc, proc_law}
+use Rattle.source_laws.proofs.Waiting.{Meets, WaitLaw, LeaveLaw, wait_law}
+use Rattle.source_laws.proofs.Leaving.{Rest, leave_law}
+use Rattle.template_runs.proofs.Named.{Named}
+
+module _ (world : World) (g : Link) (linked : Linked g) (Begins : Target → PartSeen → ℕ → Type 0)
+    (StoreIs : Store → (ℕ → OWord) → Type 0) (RegsAre : List Register → OState → Type 0) where
+  -- the overlay of a start: in the first shared main of the modules, with the whole stack, or outside
+  pub data Starting (stack : ℕ) (mem : ℕ → OWord) (o : OState) : Type 0 where
+    in_main : (t : Target) (p : PartSeen) (e : ℕ) → main_of world ≡ Some t → Begins t p e → Valid g linked o
+        → At g linked p e o → look o.maps.regs.dat ≡ Mem (data_cap (ranges_of p) (pos p.component.data_base))
+        → IsSafe g o.frames o.maps.regs.stk → EntryPublic world g linked Begins StoreIs RegsAre o
+        → RegsAre [] o → left_now world g linked Begins StoreIs RegsAre o ≡ Some stack
+        → o.maps.regs.rcode ≡ Plain (Int (pos 0)) → o.maps.regs.rdata ≡ Plain (Int (pos 0))
+        → Starting stack mem o
+    outside_main : main_of world ≡ None → Out g linked o → o.frames ≡ [] → Starting stack mem o
+
+module _ (world : World) (g : Link) (linked : Linked g) (Begins : Target → PartSeen → ℕ → Type 0)
+    (StoreIs : Store → (ℕ → OWord) → Type 0) (RegsAre : List Register → OState → Type 0)
+    (EnvIs : Procedure → OState → List Value → List OWord → Type 0)
+    (named : Named g) (meets : Meets world g linked Begins StoreIs RegsAre named)
+    (rest : Rest world g linked Begins StoreIs RegsAre named) where
+  pub record Laws (n : ℕ) : Type 0 where
+    pub procs : ProcLaw world g linked Begins StoreIs RegsAre n
+    pub waits : WaitLaw world g linked Begins StoreIs RegsAre n
+    pub leaves : LeaveLaw world g linked Begins StoreIs RegsAre n
+    pub idles : IdleLaw world g linked Begins StoreIs RegsAre n
+    pub idle_leaves : IdleLeaveLaw world g linked Begins StoreIs RegsAre n
+
+  -- each procedure's checks and body, where all laws hold of fewer steps
+  abbrev pub Bodies : Type 0
+  Bodies = (n : ℕ) → ((m : ℕ) → m < n → Laws m) → (t : Target) (p : PartSeen) (e : ℕ) → Begins t p e
+      → Proc world g linked Begins StoreIs RegsAre EnvIs n t p e
+
+  trace_zero : (o : OState) → trace g.layout zero o ≡ standing g.layout (is_inside g.layout o)
+  unfolding trace
+  trace_zero o = refl
+
+  wait_none : WaitLaw world g linked Begins StoreIs RegsAre zero
+  wait_none c w f fs st mem o h fr globs store for back = record { by = by }
+    where
+      by : (k : ℕ) → k ≤ zero → Agrees c (trace g.layout k o) ((whole world).wait (Some w) st)
+      by zero le = subst (λ t. Agrees c t ((whole world).wait (Some w) st))
+          (sym (trace_zero o ∙ ap (standing g.layout) (outside_here g linked o h)))
+          (waits c ((whole world).wait (Some w) st) (on_item world (whole world) (Some w) st)
+          ((recursive world).waits (Some w) st))
+      by (suc k) le = absurd (omega (arith, le))
+
+  leave_none : LeaveLaw world g linked Begins StoreIs RegsAre zero
+  leave_none c w f fs st mem t p o q v fr for a store names back =
+      none_inside g.layout (c + 100) q _ (inside_here g linked a.part a.offset q a.at)
+
+  idle_none : IdleLaw world g linked Begins StoreIs RegsAre zero
+  idle_none c st mem o h fr globs store = record { by = by }
+    where
+      by : (k : ℕ) → k ≤ zero → Agrees c (trace g.layout k o) ((whole world).wait None st)
+      by zero le = subst (λ t. Agrees c t ((whole world).wait None st))
+          (sym (trace_zero o ∙ ap (standing g.layout) (outside_here g linked o h)))
+          (waits c ((whole world).wait None st) (on_item world (whole world) None st)
+          ((recursive world).waits None st))
+      by (suc k) le = absurd (omega (arith, le))
+
+  idle_leave_none : IdleLeaveLaw world g linked Begins StoreIs RegsAre zero
+  idle_leave_none c st mem t p o q v fr a store names =
+      none_inside g.layout (c + 100) q _ (inside_here g linked a.part a.offset q a.at)
+
+  more : (n : ℕ) → ((m : ℕ) → m < n → Laws m) → Laws n → (m : ℕ) → m < suc n → Laws m
+  more n below here m lt = elim (cases_eq m n) as (λ _. Laws m) [
+    | inl e ↦ subst Laws (sym e) here
+    | inr ne ↦ below m (omega (arith, ne, lt))
+  ]
+
+  -- up to a number of steps, and below it
+  pub record Both (n : ℕ) : Type 0 where
+    pub below : (m : ℕ) → m < n → Laws m
+    pub here : Laws n
+
+  pub both : Bodies → (n : ℕ) → Both n
+  both bodies zero =
+      let none : (m : ℕ) → m < 0 → Laws m = λ m lt. absurd (omega (arith, lt)) in
+      record {
+        below = none;
+        here = record {
+          procs = proc_law world g linked Begins StoreIs RegsAre EnvIs zero (bodies zero none);
+          waits = wait_none;
+          leaves = leave_none;
+          idles = idle_none;
+          idle_leaves = idle_leave_none;
+        };
+      }
+  both bodies (suc n) =
+      let b = both bodies n in
+      let below = more n b.below b.here in
+      let l = b.here in
+      record {
+        below = below;
+        here = record {
+          procs = proc_law world g linked Begins StoreIs RegsAre EnvIs (suc n) (bodies (suc n) below);
+          waits = wait_law world g linked Begins StoreIs RegsAre named meets n l.procs l.leaves l.waits;
+          leaves = leave_law world g linked Begins StoreIs RegsAre named n rest meets l.procs l.leaves
+              l.waits;
+          idles = idle_law world g linked Begins StoreIs RegsAre named meets n l.procs l.idle_leaves l.idles;
+          idle_leaves = idle_leave_law world g linked Begins StoreIs RegsAre named meets n l.procs
+              l.idle_leaves l.idles;
+        };
+      }
+
+  -- all laws, for runs of any number of steps
+  pub all : Bodies → (n : ℕ) → Laws n
+  all bodies n = (both bodies n).here
+
+  -- ---- from a start
+
+  agrees_same : (c : ℕ) (t : Trace) (m m' : Comp) → ((f : ℕ) (feed : List Item) → m f feed ≡ m' f feed)
+      → Agrees c t m → Agrees c t m'
+  agrees_same c t m m' same a = record {
+    enough = a.enough;
+    fits = λ f le. subst (Fits t.final t.out) (same f t.items) (a.fits f le);
+    slow = λ f lt. subst (λ x. (x.end ≡ OutOfFuel) × Prefix x.events t.out) (same f t.items) (a.slow f lt);
+  }
+
+  -- the return of main fails
+  main_ends : (n : ℕ) (p : PartSeen) (o q : OState) (v : ℤ) (mem : ℕ → OWord)
+      → AtEnd world g linked Begins StoreIs RegsAre p o q v mem → o.maps.regs.rcode ≡ Plain (Int (pos 0))
+      → o.maps.regs.rdata ≡ Plain (Int (pos 0)) → UpTo g.layout n 100 q (ends Fails)
+  main_ends n p o q v mem a ec ed =
+      by (tells g linked named a.part a.offset q a.valid a.at a.jump (Int (pos 0)) (Int (pos 0)) (a.code ∙ ec)
+      (a.half ∙ ed) a.safe)
+    where
+      by : Tells g linked named a.part a.offset q a.valid a.at a.jump (Int (pos 0)) (Int (pos 0))
+          (a.code ∙ ec) (a.half ∙ ed) a.safe → UpTo g.layout n 100 q (ends Fails)
+      by (fails_bad b s) = let small = weight_small g linked a.part a.offset q a.valid a.at a.jump in
+          go_fail g.layout n 100 q (inside_here g linked a.part a.offset q a.at) s (omega (arith, small))
+      by (goes_out q' b l) = absurd (bad_out b)
+        where
+          bad_out : back_of g.layout (Int (pos 0)) (Int (pos 0)) ≡ OutBack → ⊥
+          bad_out e = let z : Bad ≡ OutBack = e in cc
+      by (goes_in q' r ir e bg b l) = absurd (bad_hop _ _ b)
+        where
+          bad_hop : (part j : ℕ) → back_of g.layout (Int (pos 0)) (Int (pos 0)) ≡ Hop part j → ⊥
+          bad_hop part j e = let z : Bad ≡ Hop part j = e in cc
+
+  pub from_start : Bodies → (stack : ℕ) (mem : ℕ → OWord) (o : OState) → DataIs g linked mem o.maps.cells
+      → StoreIs (map (λ (u : Part). u.globals) world) mem
+      → Starting world g linked Begins StoreIs RegsAre stack mem o
+      → (k : ℕ) → Agrees 0 (trace g.layout k o) (λ fuel feed. meaning world stack feed fuel)
+  from_start bodies stack mem o globs store s k =
+      agrees_same 0 (trace g.layout k o)
+      (start world (whole world) stack (main_of world) (map (λ (u : Part). u.globals) world))
+      _ (λ f feed. starts world stack feed f) (by s)
+    where
+      st : Store
+      st = map (λ (u : Part). u.globals) world
+
+      laws : Laws k
+      laws = all bodies k
+
+      by : Starting world g linked Begins StoreIs RegsAre stack mem o
+          → Agrees 0 (trace g.layout k o)
+          (start world (whole world) stack (main_of world) (map (λ (u : Part). u.globals) world))
+      by (in_main t p e is begins v at dat safe public regs left ec ed) =
+          let u = laws.procs t p e 0
+          (λ v st. ends Fails) [] (map (λ (u : Part). u.globals) world) mem o begins v at dat safe public
+          globs store regs (λ val st' mem' q a store'. main_ends k p o q val mem' a ec ed) in
+          subst (λ x. Agrees 0 (trace g.layout k o)
+          (start world (whole world) stack x (map (λ (u : Part). u.globals) world))) (sym is)
+          (subst (λ l. Agrees 0 (trace g.layout k o)
+          ((whole world).proc t l [] (λ v st. ends Fails) (map (λ (u : Part). u.globals) world))) left
+          (u.by k (omega arith)))
+      by (outside_main is h fr) =
+          subst (λ x. Agrees 0 (trace g.layout k o)
+          (start world (whole world) stack x (map (λ (u : Part). u.globals) world))) (sym is)
+          ((laws.idles 0 (map (λ (u : Part). u.globals) world) mem o h fr globs store).by k (omega arith))
+
+  -- the theorem of sources of a start
+  pub source_law : Bodies → (stack : ℕ) (s : StartSeen) (mem : ℕ → OWord) → g.layout ≡ layout s
+      → DataIs g linked mem (overlay_at s).state.maps.cells
+      → StoreIs (map (λ (u : Part). u.globals) world) mem
+      → Starting world g linked Begins StoreIs RegsAre stack mem (overlay_at s).state
+      → SourcesMean world stack s
+  source_law bodies stack s mem same globs store st =
+      agreeing_runs world stack s
+      (λ k. subst (λ l. Agrees 0 (trace l k (overlay_at s).state)
+      (λ fuel feed. meaning world stack feed fuel)) same
+      (from_start bodies stack mem (overlay_at s).state globs store st k))

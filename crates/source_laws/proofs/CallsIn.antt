@@ -1,0 +1,214 @@
+-- A call of a procedure of the modules, from its site to the word behind it.
+use Rattle.std.proofs.Common.{◌≡◌, ◌≢◌, ℕ, suc, ◌+◌, ◌-◌, ◌≤◌, ℤ, pos, List, ◌∷◌, Option, Some, true, refl}
+use Rattle.std.proofs.Common.{sym, ap, ◌∙◌, subst, arith}
+use Rattle.std.specs.Prelude.{option_map}
+use Rattle.cap_words.specs.declared.Word.TheVariants.{Int, Mem}
+use Rattle.cap_words.specs.declared.CapFields.{CapFields}
+use Rattle.lcm_isa.specs.declared.Reg.{Reg}
+use Rattle.lcm_isa.specs.declared.Reg.TheVariants.{Pc, Dat, Rcode, Rdata, A0, A1, A2, A3}
+use Rattle.lcm_isa.specs.declared.Instr.TheVariants.{Xjmp}
+use Rattle.lcm_machine.specs.Places.{reg}
+use Rattle.lcm_machine.specs.Table.{fits_64, unsealed}
+use Rattle.flow_check.specs.Holds.{data_cap, stack_cap, code_at}
+use Rattle.component_linker.specs.Parts.{PartSeen}
+use Rattle.overlay_machine.specs.declared.words.OWord.{OWord}
+use Rattle.overlay_machine.specs.declared.words.OWord.TheVariants.{Plain}
+use Rattle.overlay_machine.specs.declared.layout.SiteCode.{SiteCode}
+use Rattle.overlay_machine.specs.declared.events.Event.TheVariants.{Called, Returned as ReturnedTo}
+use Rattle.overlay_machine.specs.Words.{look}
+use Rattle.overlay_machine.specs.State.{OpenFrame, OState}
+use Rattle.overlay_machine.specs.Step.{own_stack, new_frame}
+use Rattle.overlay_machine.specs.Link.{Link, IsTrusted, ranges_of}
+use Rattle.overlay_machine.specs.Safe.{IsSafe}
+use Rattle.overlay_machine.specs.Linked.{Linked}
+use Rattle.overlay_machine.proofs.OwnStack.{own_from}
+use Rattle.proc_semantics.specs.Values.{World, Store}
+use Rattle.proc_semantics.specs.declared.value.Target.{Target}
+use Rattle.proc_semantics.specs.declared.value.Register.{Register}
+use Rattle.proc_semantics.specs.Meaning.{Then}
+use Rattle.proc_semantics.specs.Whole.{whole}
+use Rattle.template_runs.specs.Runs.{is_inside, Makes}
+use Rattle.source_laws.proofs.Upto.{UpTo, go_silent, spend, fewer}
+use Rattle.template_runs.proofs.Valid.{Valid}
+use Rattle.template_runs.proofs.Steps.{At, Placed, inside_here}
+use Rattle.template_runs.proofs.Rows.{Here, DataIs}
+use Rattle.template_runs.proofs.Calls.{called_valid, called_stk, called_data, called_own, SiteHere, Pair}
+use Rattle.template_runs.proofs.Calls.{called_to, call_makes, here_back, at_back, content_of}
+use Rattle.template_runs.proofs.Ends.{back_valid, resumed_to, back_makes, back_returned}
+use Rattle.template_runs.specs.Public.{IsShown, IsPublic}
+use Rattle.cap_words.specs.declared.Sealable.{Sealable}
+use Rattle.cap_words.specs.declared.Sealable.TheVariants.{Mem as MemIn}
+
+pub int_public : (g : Link) (v : ℤ) → IsPublic g (Plain (Int v))
+int_public g v p k ip e = cc
+
+module _ (world : World) (g : Link) (linked : Linked g)
+    -- how the world shows in the machine: which entry a procedure has, and what globals and registers hold
+    (Begins : Target → PartSeen → ℕ → Type 0) (StoreIs : Store → (ℕ → OWord) → Type 0)
+    (RegsAre : List Register → OState → Type 0) where
+  -- at the jump that ends a procedure of a part that was entered in o, with its value and the words of all
+  -- trusted data
+  pub record AtEnd (p : PartSeen) (o q : OState) (v : ℤ) (mem : ℕ → OWord) : Type 0 where
+    pub part : PartSeen
+    pub same_part : part ≡ p
+    pub offset : ℕ
+    pub at : At g linked part offset q
+    pub jump : Placed g linked part offset (Xjmp Rcode Rdata)
+    pub valid : Valid g linked q
+    pub code : q.maps.regs.rcode ≡ o.maps.regs.rcode
+    pub half : q.maps.regs.rdata ≡ o.maps.regs.rdata
+    pub value : q.maps.regs.a0 ≡ Plain (Int v)
+    pub fits : fits_64 v ≡ true
+    pub a1 : q.maps.regs.a1 ≡ Plain (Int (pos 0))
+    pub a2 : q.maps.regs.a2 ≡ Plain (Int (pos 0))
+    pub a3 : q.maps.regs.a3 ≡ Plain (Int (pos 0))
+    pub top : ℕ
+    pub stk : look q.maps.regs.stk ≡ Mem (stack_cap (ranges_of part) top (pos top))
+    pub own : (cap : CapFields) → own_stack g.layout o.maps ≡ Some cap → cap.end ≡ top
+    pub left : option_map
+        (λ (c : CapFields). c.end + 1 - c.base) (own_stack g.layout o.maps) ≡ Some
+        (top + 1 - g.layout.stack.base)
+    pub frames : q.frames ≡ o.frames
+    pub globs : DataIs g linked mem q.maps.cells
+    pub safe : (d : Reg) → d ≢ Pc → d ≢ Dat → IsShown g q.frames (reg q.maps.regs d)
+
+  abbrev pub left_now : OState → Option ℕ
+  left_now o = option_map (λ (c : CapFields). c.end + 1 - c.base) (own_stack g.layout o.maps)
+
+  -- the words that an entry takes: those of its return, and the registers of arguments
+  pub record EntryPublic (o : OState) : Type 0 where
+    pub code : IsPublic g o.maps.regs.rcode
+    pub half : IsPublic g o.maps.regs.rdata
+    pub a0 : IsPublic g o.maps.regs.a0
+    pub a1 : IsPublic g o.maps.regs.a1
+    pub a2 : IsPublic g o.maps.regs.a2
+    pub a3 : IsPublic g o.maps.regs.a3
+
+  pub shown_public : (q : OState) → ((d : Reg) → d ≢ Pc → d ≢ Dat → IsShown g q.frames (reg q.maps.regs d))
+      → EntryPublic q
+  shown_public q safe = record {
+    code = (safe Rcode (λ e. cc) (λ e. cc)).1;
+    half = (safe Rdata (λ e. cc) (λ e. cc)).1;
+    a0 = (safe A0 (λ e. cc) (λ e. cc)).1;
+    a1 = (safe A1 (λ e. cc) (λ e. cc)).1;
+    a2 = (safe A2 (λ e. cc) (λ e. cc)).1;
+    a3 = (safe A3 (λ e. cc) (λ e. cc)).1;
+  }
+
+  pub kept_public : (o q : OState) → q.maps.regs.rcode ≡ o.maps.regs.rcode
+      → q.maps.regs.rdata ≡ o.maps.regs.rdata
+      → q.maps.regs.a0 ≡ o.maps.regs.a0 → q.maps.regs.a1 ≡ o.maps.regs.a1 → q.maps.regs.a2 ≡ o.maps.regs.a2
+      → q.maps.regs.a3 ≡ o.maps.regs.a3 → EntryPublic o → EntryPublic q
+  kept_public o q ec ed e0 e1 e2 e3 h = record {
+    code = subst (IsPublic g) (sym ec) h.code;
+    half = subst (IsPublic g) (sym ed) h.half;
+    a0 = subst (IsPublic g) (sym e0) h.a0;
+    a1 = subst (IsPublic g) (sym e1) h.a1;
+    a2 = subst (IsPublic g) (sym e2) h.a2;
+    a3 = subst (IsPublic g) (sym e3) h.a3;
+  }
+
+  -- a procedure, from its entry
+  abbrev pub ProcLaw : ℕ → Type 0
+  ProcLaw n =
+      (t : Target) (p : PartSeen) (e c : ℕ) (k : Then) (rs : List Register) (st : Store) (mem : ℕ → OWord)
+      (o : OState)
+      → Begins t p e → Valid g linked o → At g linked p e o
+      → look o.maps.regs.dat ≡ Mem (data_cap (ranges_of p) (pos p.component.data_base))
+      → IsSafe g o.frames o.maps.regs.stk → EntryPublic o
+      → DataIs g linked mem o.maps.cells → StoreIs st mem → RegsAre rs o
+      → ((v : ℤ) (st' : Store) (mem' : ℕ → OWord) (q : OState) → AtEnd p o q v mem' → StoreIs st' mem'
+      → UpTo g.layout n (c + 100) q (k v st'))
+      → UpTo g.layout n c o ((whole world).proc t (left_now o) rs k st)
+
+  first_frame : (f h : OpenFrame) (fs gs : List OpenFrame) → f ∷ fs ≡ h ∷ gs → f ≡ h
+  first_frame f h fs gs e = cc
+
+  older_frames : (f h : OpenFrame) (fs gs : List OpenFrame) → f ∷ fs ≡ h ∷ gs → fs ≡ gs
+  older_frames f h fs gs e = cc
+
+  -- ---- a call
+
+  module _ (p : PartSeen) (w top : ℕ) (words : List OWord) (mem : ℕ → OWord) (fs : List OpenFrame)
+      (o : OState) (h : Here g linked p w top words mem fs o)
+      (k i : ℕ) (u : SiteCode) (at : At g linked p k o) (s : SiteHere g linked p k i u)
+      (room : g.layout.stack.base + w + 2 ≤ top + 1)
+      (t : Target) (r : PartSeen) (e : ℕ) (c : CapFields) (d : Sealable) (seal : ℕ)
+      (pair : Pair g linked c d seal o) (to_r : IsTrusted g r) (begins : Begins t r e)
+      (code_is : c ≡ code_at (ranges_of r) e)
+      (data_is : d ≡ MemIn (data_cap (ranges_of r) (pos r.component.data_base))) where
+    abbrev Q : OState
+    Q = called_to g linked p w top words mem fs o h k i u at s room c d seal pair
+
+    abbrev F : OpenFrame
+    F = new_frame i (top - w) top o
+
+    makes : Makes g.layout 16 (Some (Called (is_inside g.layout Q) i (top - w) top)) o Q
+    makes = call_makes g linked p w top words mem fs o h k i u at s room c d seal pair
+
+    q_at : At g linked r e Q
+    q_at = record { trusted = to_r; pc = ap Mem code_is }
+
+    q_own : own_stack g.layout Q.maps ≡ Some (stack_cap (ranges_of p) (top - w - 1) (pos (top - w - 1)))
+    q_own = called_own g linked p w top words mem fs o h k i u at s room c d seal pair
+
+    q_left : left_now Q ≡ Some (top - w - g.layout.stack.base)
+    q_left =
+        let sb = linked.stack_bases p at.trusted in
+        let z : top - w - 1 + 1 - (ranges_of p).stack_base ≡ top - w - g.layout.stack.base =
+        omega (arith, room, sb) in
+        ap (option_map (λ (c : CapFields). c.end + 1 - c.base)) q_own ∙ ap Some z
+
+    -- back from it: what was in the frame, and the value in a0
+    pub call_in_law : (n b cr : ℕ) (kk : Then) (rs : List Register) (st : Store) → ProcLaw n → EntryPublic Q
+        → StoreIs st mem → RegsAre rs Q
+        → ((v : ℤ) (st' : Store) (mem' : ℕ → OWord) (q : OState) → Here g linked p w top words mem' fs q
+        → At g linked p (k + 26) q → q.maps.regs.a0 ≡ Plain (Int v) → fits_64 v ≡ true → StoreIs st' mem'
+        → UpTo g.layout n b q (kk v st'))
+        → 16 + b ≤ cr → UpTo g.layout (suc n) cr o
+        ((whole world).proc t (Some (top - w - g.layout.stack.base)) rs kk st)
+    call_in_law n b cr kk rs st law public store regs cont le =
+        spend g.layout (suc n) (16 + b) cr o _ le
+        (subst (λ l. UpTo g.layout (suc n) (16 + b) o ((whole world).proc t l rs kk st)) q_left
+        (go_silent g.layout n 16 b (Some (Called true i (top - w) top)) o Q
+        ((whole world).proc t (left_now Q) rs kk st) silent_call refl refl
+        (law t r e b kk rs st mem Q begins
+        (called_valid g linked p w top words mem fs o h k i u at s room c d seal pair) q_at
+        (ap (λ x. unsealed (content_of x)) data_is)
+        (called_stk g linked p w top words mem fs o h k i u at s room c d seal pair).0 public
+        (called_data g linked p w top words mem fs o h k i u at s room c d seal pair) store regs after)))
+      where
+        silent_call : Makes g.layout 16 (Some (Called true i (top - w) top)) o Q
+        silent_call = subst (λ x. Makes g.layout 16 (Some (Called x i (top - w) top)) o Q)
+            (inside_here g linked r e Q q_at) makes
+
+        after : (v : ℤ) (st' : Store) (mem' : ℕ → OWord) (q : OState) → AtEnd r Q q v mem' → StoreIs st' mem'
+            → UpTo g.layout n (b + 100) q (kk v st')
+        after v st' mem' q a store' =
+            let cap = stack_cap (ranges_of a.part) a.top (pos a.top) in
+            let own : own_stack g.layout q.maps ≡ Some cap =
+            own_from g.layout q.maps cap a.stk refl refl (linked.stack_bases a.part a.at.trusted) in
+            let end : top - w - 1 ≡ a.top =
+            a.own (stack_cap (ranges_of p) (top - w - 1) (pos (top - w - 1))) q_own in
+            let joins : a.top + 1 ≡ top - w = omega (arith, end, room) in
+            let frames : q.frames ≡ F ∷ fs = a.frames ∙ ap (λ x. F ∷ x) h.frames in
+            let back = back_makes g linked a.part a.offset q a.valid a.at a.jump F fs u cap a.code a.half
+            frames s.code_is own joins in
+            let q3 = resumed_to g linked a.part a.offset q a.valid a.at a.jump F fs u cap a.code a.half frames
+            s.code_is own joins in
+            let ret = back_returned g linked a.part a.offset q a.valid a.at a.jump F fs u cap a.code a.half
+            frames s.code_is own joins in
+            let v3 = back_valid g linked a.part a.offset q a.valid a.at a.jump F fs u cap a.code a.half frames
+            s.code_is own joins in
+            let same : ret.frame ≡ F = first_frame ret.frame F ret.older fs (sym ret.frames_are ∙ frames) in
+            let older : ret.older ≡ fs =
+            older_frames ret.frame F ret.older fs (sym ret.frames_are ∙ frames) in
+            let here = here_back g linked p w top words mem fs o h k i u at s mem' Rcode Rdata q q3 room ret
+            same older a.globs v3 in
+            let at3 = at_back g linked p w top words mem fs o h k i u at s mem' Rcode Rdata q q3 room ret same
+            older a.globs v3 in
+            let less : 11 + b ≤ b + 100 = omega arith in
+            spend g.layout n (11 + b) (b + 100) q (kk v st') less
+            (fewer g.layout n (11 + b) q (kk v st')
+            (go_silent g.layout n 11 b (Some (ReturnedTo true i (top - w) top)) q q3 (kk v st') back refl
+            refl (cont v st' mem' q3 here at3 a.value a.fits store')))

@@ -1,0 +1,441 @@
+-- The end of a procedure that untrusted code entered, while a call waits.
+use Rattle.std.proofs.Common.{◌≡◌, ◌≢◌, inl, inr, ℕ, suc, ◌+◌, ◌-◌, ◌≤◌, pos, List, [], ◌∷◌, Some, None, Bool}
+use Rattle.std.proofs.Common.{true, false, refl, sym, ap, ◌∙◌, subst, arith, eqb-true}
+use Rattle.std.specs.Prelude.{option_map, ◌&&◌, ◌==◌, if◌then◌else◌}
+use Rattle.std.specs.Str.{bytes_eq}
+use Rattle.std.proofs.lemmas.Bool.{eq-eqb, ne_eqb}
+use Rattle.cap_words.specs.declared.Word.{Word}
+use Rattle.cap_words.specs.declared.Word.TheVariants.{Int}
+use Rattle.cap_words.specs.declared.CapFields.{CapFields}
+use Rattle.lcm_isa.specs.declared.Reg.TheVariants.{Stk, Rcode, Rdata, A0}
+use Rattle.lcm_isa.specs.declared.Instr.TheVariants.{Xjmp}
+use Rattle.lcm_machine.specs.declared.Place.TheVariants.{R}
+use Rattle.lcm_machine.specs.Cells.{cell}
+use Rattle.lcm_machine.specs.Table.{ask, need}
+use Rattle.flow_check.specs.Holds.{stack_cap as stack_at}
+use Rattle.component_linker.specs.Parts.{PartSeen}
+use Rattle.overlay_machine.specs.declared.words.OWord.{OWord}
+use Rattle.overlay_machine.specs.declared.words.OWord.TheVariants.{Plain, RetCode, RetData}
+use Rattle.overlay_machine.specs.declared.cases.Case.TheVariants.{Other, Back as BackCase}
+use Rattle.overlay_machine.specs.declared.layout.SiteCode.{SiteCode}
+use Rattle.overlay_machine.specs.declared.events.Event.TheVariants.{Left, Returned as ReturnedTo}
+use Rattle.overlay_machine.specs.declared.events.Back.{Back}
+use Rattle.overlay_machine.specs.declared.events.Back.TheVariants.{Out, Bad, Hop, Pair}
+use Rattle.overlay_machine.specs.Words.{look, is_plain}
+use Rattle.overlay_machine.specs.Layout.{site_code}
+use Rattle.overlay_machine.specs.State.{OpenFrame, OState, frame_of}
+use Rattle.overlay_machine.specs.Step.{fails, case_of, step_by, return_step, return_by, own_stack}
+use Rattle.overlay_machine.specs.Step.{overlay_step}
+use Rattle.overlay_machine.specs.Step as step
+use Rattle.overlay_machine.specs.Flat.{flat}
+use Rattle.overlay_machine.specs.Events.{back_of, site_of_seal}
+use Rattle.overlay_machine.specs.Link.{Link, ranges_of}
+use Rattle.std.specs.List.{Contains}
+use Rattle.overlay_machine.specs.Safe.{IsMet, IsSafe}
+use Rattle.overlay_machine.specs.Invariant.{FrameLies, FramesLie}
+use Rattle.overlay_machine.specs.Linked.{Linked}
+use Rattle.overlay_machine.proofs.OwnStack.{own_from}
+use Rattle.overlay_machine.proofs.invariant.FrameFacts.{contains_first, frame_in, frame_of-cons, lies_of}
+use Rattle.overlay_machine.proofs.invariant.FrameFacts.{below_all}
+use Rattle.trace_tool.specs.Layout.{part_name, site_of}
+use Rattle.trace_tool.specs.Views.{flat_view}
+use Rattle.proc_semantics.specs.Values.{World, register_of, Store}
+use Rattle.proc_semantics.specs.declared.value.Target.{Target}
+use Rattle.proc_semantics.specs.Told.{Comp, ends}
+use Rattle.source_events.specs.declared.OutEvent.TheVariants.{LeaveOut}
+use Rattle.source_events.specs.declared.End.TheVariants.{Fail as Fails}
+use Rattle.proc_semantics.specs.declared.value.Value.TheVariants.{Num}
+use Rattle.proc_semantics.specs.declared.value.Register.{Register}
+use Rattle.proc_semantics.specs.Meaning.{Then, resumed, returned, hopped, left_by, part_of}
+use Rattle.proc_semantics.specs.Whole.{whole}
+use Rattle.proc_semantics.proofs.Recursive.{recursive}
+use Rattle.source_laws.specs.Trace.{feed_back, int_or}
+use Rattle.source_laws.proofs.Upto.{UpTo, go_on, go_out, go_silent, go_fail, spend}
+use Rattle.template_runs.proofs.Valid.{Valid}
+use Rattle.template_runs.proofs.Steps.{At, Placed, inside_here}
+use Rattle.template_runs.proofs.Rows.{DataIs}
+use Rattle.source_laws.proofs.CallsIn.{shown_public, kept_public, ProcLaw, left_now}
+use Rattle.template_runs.proofs.Ends.{back_valid, weight_small, case_is, resumed_to, back_makes}
+use Rattle.template_runs.proofs.Ends.{back_returned}
+use Rattle.template_runs.proofs.Back.{Tells, fails_bad, goes_out, tells, goes_in}
+use Rattle.template_runs.proofs.Mixed.{mixed}
+use Rattle.source_laws.proofs.Waiting.{Meets, WaitLaw, LeaveLaw}
+use Rattle.trace_tool.specs.Feed.{integer_in}
+use Rattle.template_runs.proofs.Named.{Named}
+
+if_same : (b : Bool) → (if b then ends Fails else ends Fails) ≡ ends Fails
+if_same true = refl
+if_same false = refl
+
+and_false : (a : Bool) → (a && false) ≡ false
+and_false true = refl
+and_false false = refl
+
+module _ (g : Link) (linked : Linked g) (p : PartSeen) (k : ℕ) (q : OState) (v : Valid g linked q)
+    (at : At g linked p k q) (h : Placed g linked p k (Xjmp Rcode Rdata)) (i j : ℕ)
+    (ec : q.maps.regs.rcode ≡ RetCode i) (ed : q.maps.regs.rdata ≡ RetData j)
+    (f : OpenFrame) (fs : List OpenFrame) (frames : q.frames ≡ f ∷ fs) where
+  pair_step : overlay_step g.layout q ≡ return_by g.layout (RetCode i) (RetData j) Rdata (f ∷ fs) q
+  unfolding overlay_step return_step
+  pair_step =
+      ap (λ c. step_by g.layout c q)
+      (case_is g linked p k q v at h
+      ∙ ap (λ x. if is_plain x && is_plain q.maps.regs.rdata then Other else BackCase Rcode Rdata) ec)
+      ∙ ap (λ x. return_by g.layout x q.maps.regs.rdata Rdata q.frames q) ec
+      ∙ ap (λ x. return_by g.layout (RetCode i) x Rdata q.frames q) ed
+      ∙ ap (λ x. return_by g.layout (RetCode i) (RetData j) Rdata x q) frames
+
+  not_newest : ((j == f.call) && (i == f.site)) ≡ false → overlay_step g.layout q ≡ fails
+  unfolding step.ask
+  not_newest e = pair_step ∙ rw e refl
+
+  not_joined : (u : SiteCode) (cap : CapFields) → ((j == f.call) && (i == f.site)) ≡ true
+      → site_code g.layout i ≡ Some u → own_stack g.layout q.maps ≡ Some cap → (cap.end + 1 == f.base) ≡ false
+      → overlay_step g.layout q ≡ fails
+  unfolding step.ask step.need
+  not_joined u cap e s own ne = pair_step ∙ rw (e, s, own, ne) refl
+
+  module _ (u uh : SiteCode) (hf : OpenFrame) (iu : site_code g.layout i ≡ Some u)
+      (fk : frame_of q.frames j ≡ Some hf) (iuh : site_code g.layout hf.site ≡ Some uh) where
+    abbrev told_back : Back
+    told_back = back_of g.layout (flat g.layout q.frames (RetCode i)) (flat g.layout q.frames (RetData j))
+
+    seals_differ : (u.seal == uh.seal) ≡ false
+        → back_of g.layout (flat g.layout q.frames (RetCode i)) (flat g.layout q.frames (RetData j)) ≡ Bad
+    unfolding flat ask need
+    seals_differ e = rw (iu, fk) (rw iuh (rw e refl))
+
+    seals_same : (u.seal == uh.seal) ≡ true → site_of_seal g.layout u.seal ≡ Some i
+        → back_of g.layout (flat g.layout q.frames (RetCode i)) (flat g.layout q.frames (RetData j)) ≡ Pair i
+        hf.base
+    unfolding flat ask need
+    seals_same e s = rw (iu, fk) (rw iuh (rw (e, s) refl))
+
+module _ (world : World) (g : Link) (linked : Linked g) (Begins : Target → PartSeen → ℕ → Type 0)
+    (StoreIs : Store → (ℕ → OWord) → Type 0) (RegsAre : List Register → OState → Type 0) (named : Named g)
+  where
+    -- what is left: the number of a site by its seal
+    pub record Rest : Type 0 where
+      pub sealed : (i : ℕ) (u : SiteCode) → site_code g.layout i ≡ Some u
+          → site_of_seal g.layout u.seal ≡ Some i
+
+    first_frame : (f h : OpenFrame) (fs gs : List OpenFrame) → f ∷ fs ≡ h ∷ gs → f ≡ h
+    first_frame f h fs gs e = cc
+
+    older_frames : (f h : OpenFrame) (fs gs : List OpenFrame) → f ∷ fs ≡ h ∷ gs → fs ≡ gs
+    older_frames f h fs gs e = cc
+
+    pub leave_law : (n : ℕ) → Rest → Meets world g linked Begins StoreIs RegsAre named
+        → ProcLaw world g linked Begins StoreIs RegsAre n → LeaveLaw world g linked Begins StoreIs RegsAre n
+        → WaitLaw world g linked Begins StoreIs RegsAre n
+        → LeaveLaw world g linked Begins StoreIs RegsAre (suc n)
+    unfolding flat
+    leave_law n rest meets procs leaving waiting c w f fs st mem t p o q v fr for a store names back =
+        subst (λ b. UpTo g.layout (suc n) (c + 100) q (told b)) same_back
+        (by_words q.maps.regs.rcode q.maps.regs.rdata refl refl)
+      where
+        told : Back → Comp
+        told b = left_by world (whole world) (part_of world t.home) (Some w)
+            (left_now world g linked Begins StoreIs RegsAre o) (feed_back g.layout b) v st
+
+        B : Back
+        B = back_of g.layout (flat g.layout q.frames q.maps.regs.rcode)
+            (flat g.layout q.frames q.maps.regs.rdata)
+
+        same_back : back_of g.layout (flat g.layout q.frames q.maps.regs.rcode)
+            (flat g.layout q.frames q.maps.regs.rdata) ≡ back_of g.layout
+            (flat g.layout o.frames o.maps.regs.rcode) (flat g.layout o.frames o.maps.regs.rdata)
+        same_back = ap (λ x. back_of g.layout (flat g.layout x q.maps.regs.rcode)
+            (flat g.layout x q.maps.regs.rdata)) a.frames
+            ∙ ap (λ x. back_of g.layout (flat g.layout o.frames x) (flat g.layout o.frames q.maps.regs.rdata))
+            a.code
+            ∙ ap (λ x. back_of g.layout (flat g.layout o.frames o.maps.regs.rcode) (flat g.layout o.frames x))
+            a.half
+
+        frames : q.frames ≡ f ∷ fs
+        frames = a.frames ∙ fr
+
+        -- a step that fails, where what is told is that
+        failing : (b : Back) → told b ≡ ends Fails → overlay_step g.layout q ≡ fails
+            → UpTo g.layout (suc n) (c + 100) q (told b)
+        failing b e s =
+            let small = weight_small g linked a.part a.offset q a.valid a.at a.jump in
+            subst (UpTo g.layout (suc n) (c + 100) q) (sym e)
+            (go_fail g.layout (suc n) (c + 100) q (inside_here g linked a.part a.offset q a.at) s
+            (omega (arith, small)))
+
+        -- ---- plain words
+
+        by_tells : (x y : Word) (ex : q.maps.regs.rcode ≡ Plain x) (ey : q.maps.regs.rdata ≡ Plain y)
+            → B ≡ back_of g.layout x y
+            → Tells g linked named a.part a.offset q a.valid a.at a.jump x y ex ey a.safe
+            → UpTo g.layout (suc n) (c + 100) q
+            (told (back_of g.layout (flat g.layout q.frames q.maps.regs.rcode)
+            (flat g.layout q.frames q.maps.regs.rdata)))
+        by_tells x y ex ey eb (fails_bad b s) =
+            subst (λ z. UpTo g.layout (suc n) (c + 100) q (told z)) (sym (eb ∙ b)) (failing Bad refl s)
+        by_tells x y ex ey eb (goes_in q' r ir e bg b l) =
+            let t' = (meets.target r e ir bg l.shared).0 in
+            let fd = (meets.target r e ir bg l.shared).1 in
+            let bs = (meets.target r e ir bg l.shared).2 in
+            let left = left_now world g linked Begins StoreIs RegsAre o in
+            let kk : Then = (whole world).hop (Some w) left t' in
+            let hopped_is : told (Hop (named.owner r ir).part (named.entry r ir e bg)) ≡ (whole world).hop
+            (Some w) left t' v st = ap (λ z. hopped world (whole world) (Some w) left z v st) fd in
+            let as_proc : (whole world).hop (Some w) left t' v st ≡ (whole world).proc t' left
+            (register_of (Num v) ∷ []) kk st = (recursive world).hops (Some w) left t' v st
+            ∙ sym ((recursive world).procs t' left (register_of (Num v) ∷ []) kk st) in
+            let own' : own_stack g.layout q'.maps ≡ Some (stack_at (ranges_of a.part) a.top (pos a.top)) =
+            own_from g.layout q'.maps (stack_at (ranges_of a.part) a.top (pos a.top))
+            (ap look l.keeps.stk ∙ a.stk) refl refl (linked.stack_bases a.part a.at.trusted) in
+            let left' : left_now world g linked Begins StoreIs RegsAre q' ≡ left =
+            ap (option_map (λ (c : CapFields). c.end + 1 - c.base)) own'
+            ∙ ap (λ z. Some (a.top + 1 - z)) (linked.stack_bases a.part a.at.trusted) ∙ sym a.left in
+            let at' : At g linked r e q' = record { trusted = ir; pc = l.pc } in
+            let fr' : q'.frames ≡ f ∷ fs = l.frames ∙ frames in
+            let kept : DataIs g linked mem q'.maps.cells =
+            λ p d ip lt. ap (λ m. cell m (p.component.data_base + d)) l.cells ∙ a.globs p d ip lt in
+            let safe' : IsSafe g q'.frames q'.maps.regs.stk =
+            subst (λ z. IsSafe g z q'.maps.regs.stk) (sym l.frames)
+            (subst (IsSafe g q.frames) (sym l.keeps.stk) (a.safe Stk (λ z. cc) (λ z. cc)).0) in
+            let again : back_of g.layout (flat g.layout q'.frames q'.maps.regs.rcode)
+            (flat g.layout q'.frames q'.maps.regs.rdata) ≡ Hop (named.owner r ir).part
+            (named.entry r ir e bg) =
+            ap (λ z. back_of g.layout (flat g.layout z q'.maps.regs.rcode)
+            (flat g.layout z q'.maps.regs.rdata))
+            l.frames
+            ∙ ap (λ z. back_of g.layout (flat g.layout q.frames z)
+            (flat g.layout q.frames q'.maps.regs.rdata))
+            l.keeps.rcode
+            ∙ ap (λ z. back_of g.layout (flat g.layout q.frames q.maps.regs.rcode) (flat g.layout q.frames z))
+            l.half ∙ eb ∙ b in
+            let regs = meets.single v q' (l.keeps.a0 ∙ a.value) a.fits (l.keeps.a1 ∙ a.a1) (l.keeps.a2 ∙ a.a2)
+            (l.keeps.a3 ∙ a.a3) in
+            let done : UpTo g.layout n c q'
+            ((whole world).proc t' (left_now world g linked Begins StoreIs RegsAre q')
+            (register_of (Num v) ∷ []) kk st) =
+            procs t' r e c kk (register_of (Num v) ∷ []) st mem q' bs l.valid at' l.dat safe'
+            (kept_public world g linked Begins StoreIs RegsAre q q' l.keeps.rcode l.half l.keeps.a0
+            l.keeps.a1 l.keeps.a2 l.keeps.a3 (shown_public world g linked Begins StoreIs RegsAre q a.safe))
+            kept store regs
+            (λ v2 st2 mem2 q2 a2 store2.
+            let lv = leaving c w f fs st2 mem2 t' r q' q2 v2 fr' for a2 store2
+            (meets.told t' r e q' q2 v2 mem2 bs a2) (λ m le. back m (omega (arith, le))) in
+            subst (UpTo g.layout n (c + 100) q2)
+            (ap (λ z. left_by world (whole world) (part_of world t'.home) (Some w)
+            (left_now world g linked Begins StoreIs RegsAre q') (feed_back g.layout z) v2 st2) again
+            ∙ ap (λ z. hopped world (whole world) (Some w) (left_now world g linked Begins StoreIs RegsAre q')
+            z
+            v2 st2) fd
+            ∙ ap (λ z. (whole world).hop (Some w) z t' v2 st2) left') lv) in
+            let less : 1 + c ≤ c + 100 = omega arith in
+            subst (λ z. UpTo g.layout (suc n) (c + 100) q (told z)) (sym (eb ∙ b))
+            (subst (UpTo g.layout (suc n) (c + 100) q) (sym (hopped_is ∙ as_proc))
+            (spend g.layout (suc n) (1 + c) (c + 100) q _ less
+            (go_on g.layout n 1 c q q' ((whole world).proc t' left (register_of (Num v) ∷ []) kk st) l.makes
+            (subst (λ z. UpTo g.layout n c q' ((whole world).proc t' z (register_of (Num v) ∷ []) kk st))
+            left'
+            done))))
+        by_tells x y ex ey eb (goes_out q' b l) =
+            let a0 : (flat_view g.layout q').reg A0 ≡ Int v = ap (flat g.layout q'.frames) (l.a0 ∙ a.value) in
+            let fits = a.fits in
+            let value : int_or (integer_in ((flat_view g.layout q').reg A0)) ≡ v =
+            ap (λ z. int_or (integer_in z)) a0 ∙ rw (a.fits) refl in
+            let shows = ap (λ z. LeaveOut z (int_or (integer_in ((flat_view g.layout q').reg A0))) ∷ [])
+            (names l.owner l.owner_is) ∙ ap (λ z. LeaveOut (part_of world t.home) z ∷ []) value in
+            let less : 1 + c ≤ c + 100 = omega arith in
+            let kept : DataIs g linked mem q'.maps.cells =
+            λ r d ir lt. ap (λ m. cell m (r.component.data_base + d)) l.cells ∙ a.globs r d ir lt in
+            subst (λ z. UpTo g.layout (suc n) (c + 100) q (told z)) (sym (eb ∙ b))
+            (spend g.layout (suc n) (1 + c) (c + 100) q (told Out) less
+            (go_out g.layout n 1 c (Some (Left l.owner.part)) (LeaveOut (part_of world t.home) v) q q'
+            ((whole world).wait (Some w) st) l.makes shows refl
+            (waiting c w f fs st mem q' l.out (l.frames ∙ frames) kept store for
+            (λ m le. back m (omega (arith, le))))))
+
+        -- ---- the pair of a call
+
+        own : own_stack g.layout q.maps ≡ Some (stack_at (ranges_of a.part) a.top (pos a.top))
+        own = own_from g.layout q.maps (stack_at (ranges_of a.part) a.top (pos a.top)) a.stk refl refl
+            (linked.stack_bases a.part a.at.trusted)
+
+        left_is : left_now world g linked Begins StoreIs RegsAre o ≡ Some (a.top + 1 - g.layout.stack.base)
+        left_is = a.left
+
+        lies : FrameLies g.layout q.maps.cells f
+        lies = lies_of g.layout q.maps.cells q.calls q.frames f a.valid.holds.frames
+            (subst (λ x. Contains x f) (sym frames) (contains_first f fs))
+
+        -- what is told of a pair
+        told_pair : (i base : ℕ)
+            → told (Pair i base) ≡ resumed (Some w) (part_name g.layout (site_of g.layout i).part)
+            (site_of g.layout i).index base (Some (a.top + 1 - g.layout.stack.base)) (Some v) st
+        told_pair i base = ap (λ l. returned (Some w) l (part_name g.layout (site_of g.layout i).part)
+            (site_of g.layout i).index base v st) left_is
+
+        fails_if : (b : Bool) (m : Comp) → b ≡ false → (if b then m else ends Fails) ≡ ends Fails
+        fails_if b m e = ap (λ z. if z then m else ends Fails) e
+
+        newest : (i j : ℕ) (u : SiteCode) → q.maps.regs.rcode ≡ RetCode i → q.maps.regs.rdata ≡ RetData j
+            → site_code g.layout i ≡ Some u → f.call ≡ j → i ≡ f.site
+            → UpTo g.layout (suc n) (c + 100) q (told (Pair i f.base))
+        newest i j u ec ed iu ej ei = by ((a.top + 1 - g.layout.stack.base) == w.given) refl
+          where
+            both : ((j == f.call) && (i == f.site)) ≡ true
+            both = rw (eq-eqb j f.call (sym ej), eq-eqb i f.site ei) refl
+
+            by : (b : Bool) → ((a.top + 1 - g.layout.stack.base) == w.given) ≡ b
+                → UpTo g.layout (suc n) (c + 100) q (told (Pair i f.base))
+            by false e =
+                let gv = for.given in
+                let ne : a.top + 1 ≢ f.base =
+                (λ x. (let eq : a.top + 1 - g.layout.stack.base ≡ w.given =
+                ap (λ y. y - g.layout.stack.base) x ∙ gv in
+                let bad : true ≡ false = sym (eq-eqb (a.top + 1 - g.layout.stack.base) w.given eq) ∙ e in
+                cc)) in
+                failing (Pair i f.base)
+                (told_pair i f.base ∙ ap (λ z. if bytes_eq (part_name g.layout (site_of g.layout i).part)
+                w.part && ((site_of g.layout i).index == w.site) && (f.base == w.base) && z then w.resume v
+                st else ends Fails) e ∙ fails_if _ _ (and_false _))
+                (not_joined g linked a.part a.offset q a.valid a.at a.jump i j ec ed f fs frames u
+                (stack_at (ranges_of a.part) a.top (pos a.top)) both iu own (ne_eqb (a.top + 1) f.base ne))
+            by true e =
+                let gv = for.given in
+                let eq = eqb-true (a.top + 1 - g.layout.stack.base) w.given e in
+                let ab = lies.above in
+                let joins : a.top + 1 ≡ f.base = omega (arith, gv, eq, ab) in
+                let ec' : q.maps.regs.rcode ≡ RetCode f.site = ec ∙ ap RetCode ei in
+                let ed' : q.maps.regs.rdata ≡ RetData f.call = ed ∙ ap RetData (sym ej) in
+                let iu' : site_code g.layout f.site ≡ Some u = ap (site_code g.layout) (sym ei) ∙ iu in
+                let cap = stack_at (ranges_of a.part) a.top (pos a.top) in
+                let mk = back_makes g linked a.part a.offset q a.valid a.at a.jump f fs u cap ec' ed' frames
+                iu'
+                own joins in
+                let q3 = resumed_to g linked a.part a.offset q a.valid a.at a.jump f fs u cap ec' ed' frames
+                iu'
+                own joins in
+                let ret = back_returned g linked a.part a.offset q a.valid a.at a.jump f fs u cap ec' ed'
+                frames
+                iu' own joins in
+                let same : ret.frame ≡ f =
+                first_frame ret.frame f ret.older fs (sym ret.frames_are ∙ frames) in
+                let older : ret.older ≡ fs =
+                older_frames ret.frame f ret.older fs (sym ret.frames_are ∙ frames) in
+                let less : 11 + c ≤ c + 100 = omega arith in
+                let le : n ≤ suc n = omega arith in
+                let value : integer_in ((flat_view g.layout q3).reg A0) ≡ Some v =
+                ap (λ z. integer_in (flat g.layout fs z)) a.value ∙ rw (a.fits) refl in
+                let m : Comp = resumed (Some w) (part_name g.layout (site_of g.layout f.site).part)
+                (site_of g.layout f.site).index f.base None (Some v) st in
+                let is : told (Pair i f.base) ≡ m = told_pair i f.base
+                ∙ ap (λ z. if bytes_eq (part_name g.layout (site_of g.layout i).part) w.part &&
+                ((site_of g.layout i).index == w.site) && (f.base == w.base) && z then w.resume v st else
+                ends Fails) e ∙ ap (λ z. resumed (Some w) (part_name g.layout (site_of g.layout z).part)
+                (site_of g.layout z).index f.base None (Some v) st) ei in
+                subst (UpTo g.layout (suc n) (c + 100) q) (sym is)
+                (spend g.layout (suc n) (11 + c) (c + 100) q m less
+                (go_silent g.layout n 11 c (Some (ReturnedTo true f.site f.base f.end)) q q3 m mk refl refl
+                (back n le Rcode Rdata q q3 st mem
+                (back_valid g linked a.part a.offset q a.valid a.at a.jump f fs u cap ec' ed' frames iu' own
+                joins) ret same older a.globs store (Some v) value)))
+
+        pair_told : (i j : ℕ) (u uh : SiteCode) (hf : OpenFrame) → q.maps.regs.rcode ≡ RetCode i
+            → q.maps.regs.rdata ≡ RetData j → site_code g.layout i ≡ Some u → frame_of q.frames j ≡ Some hf
+            → site_code g.layout hf.site ≡ Some uh → (s : Bool) → (u.seal == uh.seal) ≡ s
+            → UpTo g.layout (suc n) (c + 100) q
+            (told (back_of g.layout (flat g.layout q.frames (RetCode i))
+            (flat g.layout q.frames (RetData j))))
+        pair_told i j u uh hf ec ed iu fk iuh false es =
+            subst (λ z. UpTo g.layout (suc n) (c + 100) q (told z))
+            (sym (seals_differ g linked a.part a.offset q a.valid a.at a.jump i j ec ed f fs frames u uh hf
+            iu fk iuh es))
+            (failing Bad refl (not_newest g linked a.part a.offset q a.valid a.at a.jump i j ec ed f fs frames
+            test))
+          where
+            site_ne : i ≢ hf.site
+            site_ne e =
+                let same : Some u ≡ Some uh = sym iu ∙ ap (site_code g.layout) e ∙ iuh in
+                let su : u ≡ uh = cc in
+                let bad : true ≡ false = sym (eq-eqb u.seal uh.seal (ap (λ x. x.seal) su)) ∙ es in cc
+
+            test : ((j == f.call) && (i == f.site)) ≡ false
+            test = elim (frame_of-cons f fs j hf (subst (λ x. frame_of x j ≡ Some hf) frames fk)) as (λ _.
+                ((j == f.call) && (i == f.site)) ≡ false) [
+                  | inl h ↦ (let ne : i ≢ f.site = (λ e. site_ne (e ∙ ap (λ x. x.site) h.1)) in
+                      ap (λ x. (j == f.call) && x) (ne_eqb i f.site ne) ∙ and_false (j == f.call))
+                  | inr h ↦ ap (λ x. x && (i == f.site)) (ne_eqb j f.call (λ e. h.0 (sym e)))
+                ]
+        pair_told i j u uh hf ec ed iu fk iuh true es =
+            let site : i ≡ hf.site = linked.one_seal i hf.site u uh iu iuh (eqb-true u.seal uh.seal es) in
+            subst (λ z. UpTo g.layout (suc n) (c + 100) q (told z))
+            (sym (seals_same g linked a.part a.offset q a.valid a.at a.jump i j ec ed f fs frames u uh hf iu
+            fk iuh es (rest.sealed i u iu)))
+            (elim (frame_of-cons f fs j hf (subst (λ x. frame_of x j ≡ Some hf) frames fk)) as (λ _. UpTo
+            g.layout (suc n) (c + 100) q (told (Pair i hf.base))) [
+              | inl h ↦ subst (λ y. UpTo g.layout (suc n) (c + 100) q (told (Pair i y.base))) h.1
+                  (newest i j u ec ed iu h.0 (site ∙ ap (λ x. x.site) (sym h.1)))
+              | inr h ↦ failing (Pair i hf.base) (older_fails i hf (frame_in fs j hf h.1).0)
+                  (not_newest g linked a.part a.offset q a.valid a.at a.jump i j ec ed f fs frames
+                  (ap (λ x. x && (i == f.site)) (ne_eqb j f.call (λ e. h.0 (sym e)))))
+            ])
+          where
+            older_fails : (i : ℕ) (hf : OpenFrame) → Contains fs hf → told (Pair i hf.base) ≡ ends Fails
+            older_fails i hf m =
+                let below = below_all g.layout q.maps.cells q.calls f fs hf
+                (subst (FramesLie g.layout q.maps.cells q.calls) frames a.valid.holds.frames) m in
+                let ord = lies.order in
+                let fb = for.base in
+                let ne : hf.base ≢ w.base =
+                (λ e. (let x : f.base ≡ hf.base = fb ∙ sym e in omega (arith, x, below, ord))) in
+                told_pair i hf.base
+                ∙ ap (λ z. if bytes_eq (part_name g.layout (site_of g.layout i).part) w.part &&
+                ((site_of g.layout i).index == w.site) && z &&
+                ((a.top + 1 - g.layout.stack.base) == w.given) then w.resume v st else ends Fails)
+                (ne_eqb hf.base w.base ne)
+                ∙ ap (λ z. if z && ((a.top + 1 - g.layout.stack.base) == w.given) then w.resume v st else ends
+                Fails) (and_false _)
+
+        mixed_case : (is_plain q.maps.regs.rcode && is_plain q.maps.regs.rdata) ≡ false
+            → ((i j : ℕ) → q.maps.regs.rcode ≡ RetCode i → q.maps.regs.rdata ≡ RetData j → ⊥)
+            → UpTo g.layout (suc n) (c + 100) q
+            (told (back_of g.layout (flat g.layout q.frames q.maps.regs.rcode)
+            (flat g.layout q.frames q.maps.regs.rdata)))
+        mixed_case np no_pair =
+            let m = mixed g linked a.part a.offset q a.valid a.at a.jump
+            (λ d np nd. (a.safe d np nd).0) np no_pair in
+            subst (λ z. UpTo g.layout (suc n) (c + 100) q (told z)) (sym m.0) (failing Bad refl m.1)
+
+        by_words : (cw dw : OWord) → q.maps.regs.rcode ≡ cw → q.maps.regs.rdata ≡ dw
+            → UpTo g.layout (suc n) (c + 100) q
+            (told (back_of g.layout (flat g.layout q.frames q.maps.regs.rcode)
+            (flat g.layout q.frames q.maps.regs.rdata)))
+        by_words (Plain x) (Plain y) ec ed =
+            by_tells x y ec ed (ap
+            (λ z. back_of g.layout (flat g.layout q.frames z) (flat g.layout q.frames q.maps.regs.rdata)) ec
+            ∙ ap (λ z. back_of g.layout x (flat g.layout q.frames z)) ed)
+            (tells g linked named a.part a.offset q a.valid a.at a.jump x y ec ed a.safe)
+        by_words (RetCode i) (RetData j) ec ed =
+            let m1 : IsMet g q.frames (RetCode i) =
+            subst (IsMet g q.frames) ec (a.valid.holds.met (R Rcode) q.maps.regs.rcode refl) in
+            let m2 : IsMet g q.frames (RetData j) =
+            subst (IsMet g q.frames) ed (a.valid.holds.met (R Rdata) q.maps.regs.rdata refl) in
+            let fit = a.valid.holds.frames_fit m2.0 (frame_in q.frames j m2.0 m2.1).0 in
+            let e : back_of g.layout (flat g.layout q.frames (RetCode i))
+            (flat g.layout q.frames (RetData j)) ≡ back_of g.layout
+            (flat g.layout q.frames q.maps.regs.rcode) (flat g.layout q.frames q.maps.regs.rdata) =
+            sym (ap (λ z. back_of g.layout (flat g.layout q.frames z)
+            (flat g.layout q.frames q.maps.regs.rdata)) ec
+            ∙ ap (λ z. back_of g.layout (flat g.layout q.frames (RetCode i)) (flat g.layout q.frames z))
+            ed) in
+            subst (λ z. UpTo g.layout (suc n) (c + 100) q (told z)) e
+            (pair_told i j m1.0 fit.code m2.0 ec ed m1.1 m2.1 fit.code_is (m1.0.seal == fit.code.seal) refl)
+        by_words (Plain x) (RetCode j) ec ed = mixed_case (rw (ec, ed) refl)
+            (λ i j e1 e2. (let z : Plain x ≡ RetCode i = sym ec ∙ e1 in cc))
+        by_words (Plain x) (RetData j) ec ed = mixed_case (rw (ec, ed) refl)
+            (λ i j e1 e2. (let z : Plain x ≡ RetCode i = sym ec ∙ e1 in cc))
+        by_words (RetCode x) (Plain y) ec ed = mixed_case (rw ec refl)
+            (λ i j e1 e2. (let z : Plain y ≡ RetData j = sym ed ∙ e2 in cc))
+        by_words (RetCode x) (RetCode y) ec ed = mixed_case (rw ec refl)
+            (λ i j e1 e2. (let z : RetCode y ≡ RetData j = sym ed ∙ e2 in cc))
+        by_words (RetData x) dw ec ed = mixed_case (rw ec refl)
+            (λ i j e1 e2. (let z : RetData x ≡ RetCode i = sym ec ∙ e1 in cc))

@@ -1,0 +1,341 @@
+-- A procedure, from its entry to the `xjmp` that ends it, given its checks and its body.
+use Rattle.std.proofs.Common.{◌≡◌, ◌≢◌, ℕ, ◌+◌, ◌-◌, ◌*◌, ◌<◌, ◌≤◌, ℤ, pos, List, [], ◌∷◌, ◌++◌, length}
+use Rattle.std.proofs.Common.{replicate, Option, Some, None, Bool, true, false, refl, sym, ap, ◌∙◌, subst}
+use Rattle.std.proofs.Common.{arith}
+use Rattle.std.specs.Prelude.{option_map, nat_lt, if◌then◌else◌}
+use Rattle.std.proofs.lemmas.Int.{ints}
+use Rattle.std.proofs.lemmas.Bool.{ltb-true, ltb-false}
+use Rattle.cap_words.specs.declared.Word.TheVariants.{Int, Mem}
+use Rattle.cap_words.specs.declared.CapFields.{CapFields}
+use Rattle.cap_words.specs.Linear.{zero_word}
+use Rattle.lcm_isa.specs.declared.Reg.{Reg}
+use Rattle.lcm_isa.specs.declared.Reg.TheVariants.{Pc, Rcode, Rdata, Stk, Dat, T1, T2, C1, C2, A0, A1, A2}
+use Rattle.lcm_isa.specs.declared.Reg.TheVariants.{A3, G0, G1, G2}
+use Rattle.lcm_machine.specs.Places.{reg}
+use Rattle.lcm_machine.specs.Table.{fits_64}
+use Rattle.flow_check.specs.Holds.{stack_cap}
+use Rattle.flow_check.specs.Places.{begins_entry}
+use Rattle.component_linker.specs.Parts.{PartSeen}
+use Rattle.overlay_machine.specs.declared.words.OWord.{OWord}
+use Rattle.overlay_machine.specs.declared.words.OWord.TheVariants.{Plain}
+use Rattle.overlay_machine.specs.Words.{look}
+use Rattle.overlay_machine.specs.State.{OpenFrame, OState}
+use Rattle.overlay_machine.specs.Step.{own_stack}
+use Rattle.overlay_machine.specs.Link.{Link, IsTrusted, ranges_of}
+use Rattle.overlay_machine.specs.Linked.{Linked}
+use Rattle.overlay_machine.specs.Safe.{IsSafe}
+use Rattle.overlay_machine.proofs.OwnStack.{own_is}
+use Rattle.overlay_machine.proofs.invariant.Facts.{safe_stk, mem_safe}
+use Rattle.proc_program.specs.StepView.{block_of}
+use Rattle.proc_semantics.specs.Values.{World, Store, proc_at, taken}
+use Rattle.proc_semantics.specs.declared.value.Target.{Target}
+use Rattle.proc_program.specs.declared.program.Procedure.{Procedure}
+use Rattle.proc_semantics.specs.Told.{Comp, ends, ticks}
+use Rattle.source_events.specs.declared.End.TheVariants.{Fail as Fails}
+use Rattle.proc_semantics.specs.declared.value.Value.{Value}
+use Rattle.proc_semantics.specs.declared.value.Value.TheVariants.{Num}
+use Rattle.proc_semantics.specs.declared.value.Register.{Register}
+use Rattle.proc_semantics.specs.Meaning.{Then, with_place, block, begin, body_of, finish, proc_of}
+use Rattle.proc_semantics.specs.Whole.{whole}
+use Rattle.proc_semantics.proofs.Recursive.{recursive}
+use Rattle.source_laws.proofs.Upto.{upto, failing, UpTo, ticks_up}
+use Rattle.template_runs.proofs.Steps.{At, Code}
+use Rattle.template_runs.proofs.Rows.{Here}
+use Rattle.template_runs.proofs.Entering.{entry_safe, prologue_fails}
+use Rattle.template_runs.proofs.Valid.{zero_public, mem_public}
+use Rattle.template_runs.proofs.Entries.{entered, entry_law, entry_fails, prologue, Reads, prologue_law}
+use Rattle.template_runs.proofs.Epilogue.{epilogue, epilogue_law, Left}
+use Rattle.source_laws.proofs.CallsIn.{EntryPublic, int_public, AtEnd, ProcLaw, left_now}
+use Rattle.template_runs.specs.Public.{IsShown}
+
+module _ (world : World) (g : Link) (linked : Linked g) (Begins : Target → PartSeen → ℕ → Type 0)
+    (StoreIs : Store → (ℕ → OWord) → Type 0) (RegsAre : List Register → OState → Type 0)
+    (EnvIs : Procedure → OState → List Value → List OWord → Type 0) where
+  -- the same words in the registers of arguments
+  pub record ArgsKept (o q : OState) : Type 0 where
+    pub a0 : q.maps.regs.a0 ≡ o.maps.regs.a0
+    pub a1 : q.maps.regs.a1 ≡ o.maps.regs.a1
+    pub a2 : q.maps.regs.a2 ≡ o.maps.regs.a2
+    pub a3 : q.maps.regs.a3 ≡ o.maps.regs.a3
+
+  -- where the words of a procedure stand, and that its checks and its body do what is meant
+  pub record Proc (n : ℕ) (t : Target) (p : PartSeen) (e : ℕ) : Type 0 where
+    pub what : Procedure
+    pub what_is : proc_at world t ≡ Some what
+    pub entry : begins_entry p.component e ≡ true
+    pub checks : ℕ
+    pub regs : List Reg
+    pub body : ℕ
+    pub end : ℕ
+    pub small : checks ≤ 100 + what.need * 50
+    pub slots : length regs + 2 ≡ what.need
+    -- the checks fail, or go on to the prologue with the parameters' words in the registers, and 0 in t1
+    pub checked : (top c b : ℕ) (mem : ℕ → OWord) (rs : List Register) (o q : OState) (m : Comp)
+        → IsTrusted g p → RegsAre rs o → EntryPublic world g linked Begins StoreIs RegsAre o
+        → Here g linked p 0 top [] mem o.frames q → At g linked p (e + 20) q
+        → q.maps.regs.rcode ≡ o.maps.regs.rcode → q.maps.regs.rdata ≡ o.maps.regs.rdata
+        → ArgsKept o q → q.maps.regs.t1 ≡ zero_word Plain
+        → (taken [] what.callbacks rs ≡ None → checks ≤ c → UpTo g.layout n c q (ends Fails))
+        × ((env : List Value) → taken [] what.callbacks rs ≡ Some env → checks + b ≤ c
+        → ((ws : List OWord) (r : OState) (ip : IsTrusted g p) → length ws ≡ length regs
+        → EnvIs what o (env ++ replicate what.locals (Num (pos 0))) ws
+        → Here g linked p 0 top [] mem o.frames r → At g linked p (e + 20 + checks) r
+        → Reads g linked p ip top mem o.frames r.maps.regs (Rcode ∷ Rdata ∷ regs)
+        (o.maps.regs.rcode ∷ o.maps.regs.rdata ∷ ws) → UpTo g.layout n b r m)
+        → UpTo g.layout n c q m)
+    pub begins : (ip : IsTrusted g p) (top : ℕ) (mem : ℕ → OWord) (fs : List OpenFrame)
+        → Code g linked p (e + 20 + checks) (prologue g linked p ip top mem fs (Rcode ∷ Rdata ∷ regs))
+    pub body_at : e + 20 + checks + 2 * what.need ≡ body
+    -- the body, with its return and with its end, comes to the epilogue
+    pub does : (top c : ℕ) (mem : ℕ → OWord) (fs : List OpenFrame) (rc rd : OWord) (ws : List OWord)
+        (env : List Value) (st : Store) (o q : OState) (back : Then) → o.frames ≡ fs
+        → Here g linked p what.need top (rc ∷ rd ∷ ws) mem fs q → length ws ≡ length regs
+        → At g linked p body q → EnvIs what o env ws → StoreIs st mem
+        → ((v : ℤ) (st' : Store) (mem' : ℕ → OWord) (ws' : List OWord) (r : OState)
+        → Here g linked p what.need top (rc ∷ rd ∷ ws') mem' fs r → length ws' ≡ length regs
+        → At g linked p end r → r.maps.regs.a0 ≡ Plain (Int v) → fits_64 v ≡ true → StoreIs st' mem'
+        → UpTo g.layout n c r (back v st'))
+        → UpTo g.layout n (1 + c) q
+        (block world (whole world)
+        (record { home = t.home; left = top + 1 - g.layout.stack.base; need = what.need })
+        (block_of what.body) back (λ x. back (pos 0)) env st)
+    pub ends_by : (ip : IsTrusted g p) (top : ℕ) (mem : ℕ → OWord) (fs : List OpenFrame)
+        → Code g linked p end (epilogue g linked p ip top mem fs (length regs))
+
+  pub proc_law : (n : ℕ) → ((t : Target) (p : PartSeen) (e : ℕ) → Begins t p e → Proc n t p e)
+      → ProcLaw world g linked Begins StoreIs RegsAre n
+  proc_law n all t p e c k rs st mem o begins v at dat safe public globs store regs cont =
+      subst (UpTo g.layout n c o) (sym first)
+      (ticks_up g.layout (1 + x.what.need) n c o _ (by_own (own_stack g.layout o.maps) refl))
+    where
+      x : Proc n t p e
+      x = all t p e begins
+
+      ip : IsTrusted g p
+      ip = at.trusted
+
+      first : (whole world).proc t (left_now world g linked Begins StoreIs RegsAre o) rs k st ≡ ticks
+          (1 + x.what.need) (begin world (whole world) t.home x.what
+          (left_now world g linked Begins StoreIs RegsAre o) rs k st)
+      first = (recursive world).procs t _ rs k st
+          ∙ ap (λ y. proc_of world (whole world) t.home y (left_now world g linked Begins StoreIs RegsAre o)
+          rs k st) x.what_is
+
+      credit : ℕ
+      credit = c + (1 + x.what.need) * 200
+
+      some_safe : (d : Reg) → d ≢ Pc → d ≢ Dat → IsSafe g o.frames (reg o.maps.regs d)
+      some_safe = entry_safe g linked p e o v at x.entry
+
+      -- at the epilogue
+      at_epilogue : (cap : CapFields) → own_stack g.layout o.maps ≡ Some cap
+          → (b : ℕ) (val : ℤ) (st' : Store) (mem' : ℕ → OWord) (ws' : List OWord) (r : OState)
+          → Here g linked p x.what.need cap.end (o.maps.regs.rcode ∷ o.maps.regs.rdata ∷ ws') mem' o.frames r
+          → length ws' ≡ length x.regs
+          → At g linked p x.end r → r.maps.regs.a0 ≡ Plain (Int val) → fits_64 val ≡ true → StoreIs st' mem'
+          → UpTo g.layout n (c + (1 + x.what.need) * 200) r (k val st')
+      at_epilogue cap own b val st' mem' ws' r h len atr a0 fit store' =
+          let sl = x.slots in
+          let two : x.what.need ≡ 2 + length ws' = omega (arith, sl, len) in
+          let code = subst (λ j. Code g linked p x.end (epilogue g linked p ip cap.end mem' o.frames j))
+          (sym len) (x.ends_by ip cap.end mem' o.frames) in
+          epilogue_law g linked p ip cap.end mem' o.frames o.maps.regs.rcode o.maps.regs.rdata ws' x.end
+          (upto g.layout n (k val st')) (c + (1 + x.what.need) * 200) (c + 100) r code atr
+          (subst (λ w. Here g linked p w cap.end (o.maps.regs.rcode ∷ o.maps.regs.rdata ∷ ws') mem'
+          o.frames r) two h)
+          (λ q kx l. cont val st' mem' q (at_end cap own val mem' r q kx l a0 fit) store')
+          (omega (arith, sl, len))
+        where
+          at_end : (cap : CapFields) → own_stack g.layout o.maps ≡ Some cap
+              → (val : ℤ) (mem' : ℕ → OWord) (r q : OState) (kx : ℕ)
+              → Left g linked p ip cap.end mem' o.frames r q kx o.maps.regs.rcode o.maps.regs.rdata
+              → r.maps.regs.a0 ≡ Plain (Int val) → fits_64 val ≡ true
+              → AtEnd world g linked Begins StoreIs RegsAre p o q val mem'
+          at_end cap own val mem' r q kx l a0 fit =
+              let h = l.here in
+              let cu = h.cursor in
+              let z : h.at ≡ pos cap.end = omega (arith, ints, cu) in
+              record {
+                part = p;
+                same_part = refl;
+                offset = kx;
+                at = l.at;
+                jump = l.jump;
+                valid = h.valid;
+                code = l.code;
+                half = l.half;
+                value = l.value ∙ a0;
+                fits = fit;
+                a1 = l.clean A1 (λ q. cc) (λ q. cc) (λ q. cc) (λ q. cc) (λ q. cc) (λ q. cc);
+                a2 = l.clean A2 (λ q. cc) (λ q. cc) (λ q. cc) (λ q. cc) (λ q. cc) (λ q. cc);
+                a3 = l.clean A3 (λ q. cc) (λ q. cc) (λ q. cc) (λ q. cc) (λ q. cc) (λ q. cc);
+                top = cap.end;
+                stk = h.stk ∙ ap (λ y. Mem (stack_cap (ranges_of p) cap.end y)) z;
+                own = λ y e. (let s : Some y ≡ Some cap = sym e ∙ own in
+                    ap (λ (o : Option CapFields). end_of cap o) s);
+                left = ap (option_map (λ (c : CapFields). c.end + 1 - c.base)) own
+                    ∙ ap (λ b. Some (cap.end + 1 - b)) (ap (λ x. x.base) (own_is g.layout o.maps cap own).1);
+                frames = h.frames;
+                globs = h.globs;
+                safe = λ d np nd. subst (λ fs. IsShown g fs (reg q.maps.regs d)) (sym h.frames)
+                    (safe_reg d np nd l.code l.half (l.value ∙ a0) l.clean (h.stk) h.high);
+              }
+            where
+              end_of : CapFields → Option CapFields → ℕ
+              end_of y None = y.end
+              end_of y (Some c) = c.end
+
+              safe_reg : (d : Reg) → d ≢ Pc → d ≢ Dat → q.maps.regs.rcode ≡ o.maps.regs.rcode
+                  → q.maps.regs.rdata ≡ o.maps.regs.rdata → q.maps.regs.a0 ≡ Plain (Int val)
+                  → ((d : Reg) → d ≢ Pc → d ≢ Dat → d ≢ Stk → d ≢ Rcode → d ≢ Rdata → d ≢ A0
+                  → reg q.maps.regs d ≡ Plain (Int (pos 0)))
+                  → look q.maps.regs.stk ≡ Mem (stack_cap (ranges_of p) cap.end l.here.at)
+                  → cap.end ≤ g.layout.stack.end → IsShown g o.frames (reg q.maps.regs d)
+              safe_reg Pc np nd ec ed ev cl es hi = absurd (np refl)
+              safe_reg Dat np nd ec ed ev cl es hi = absurd (nd refl)
+              safe_reg Rcode np nd ec ed ev cl es hi =
+                  subst (IsShown g o.frames) (sym ec) (some_safe Rcode (λ q. cc) (λ q. cc), public.code)
+              safe_reg Rdata np nd ec ed ev cl es hi =
+                  subst (IsShown g o.frames) (sym ed) (some_safe Rdata (λ q. cc) (λ q. cc), public.half)
+              safe_reg A0 np nd ec ed ev cl es hi = subst (IsShown g o.frames) (sym ev) (tt, int_public g val)
+              safe_reg Stk np nd ec ed ev cl es hi =
+                  let sb = linked.stack_bases p ip in
+                  let is = own_is g.layout o.maps cap own in
+                  let s = mem_safe g o.frames o.maps.regs.stk cap is.0 (some_safe Stk (λ q. cc) (λ q. cc)) in
+                  let ord = s.order in
+                  let bb : cap.base ≡ g.layout.stack.base = ap (λ x. x.base) is.1 in (
+                    safe_stk g linked o.frames p ip q.maps.regs.stk cap.end l.here.at es (
+                      omega (arith, ord, bb, sb),
+                      λ a lo hi2. (
+                        omega (arith, lo, sb),
+                        omega (arith, hi2, hi),
+                        l.here.free a (omega (arith, lo, sb)) hi2,
+                      ),
+                    ),
+                    mem_public g q.maps.regs.stk (Mem (stack_cap (ranges_of p) cap.end l.here.at)) es
+                        (λ r kk ir e. cc),
+                  )
+              safe_reg T1 np nd ec ed ev cl es hi =
+                  subst (IsShown g o.frames) (sym (cl T1 np nd (λ q. cc) (λ q. cc) (λ q. cc) (λ q. cc)))
+                  (tt, zero_public g)
+              safe_reg T2 np nd ec ed ev cl es hi =
+                  subst (IsShown g o.frames) (sym (cl T2 np nd (λ q. cc) (λ q. cc) (λ q. cc) (λ q. cc)))
+                  (tt, zero_public g)
+              safe_reg C1 np nd ec ed ev cl es hi =
+                  subst (IsShown g o.frames) (sym (cl C1 np nd (λ q. cc) (λ q. cc) (λ q. cc) (λ q. cc)))
+                  (tt, zero_public g)
+              safe_reg C2 np nd ec ed ev cl es hi =
+                  subst (IsShown g o.frames) (sym (cl C2 np nd (λ q. cc) (λ q. cc) (λ q. cc) (λ q. cc)))
+                  (tt, zero_public g)
+              safe_reg A1 np nd ec ed ev cl es hi =
+                  subst (IsShown g o.frames) (sym (cl A1 np nd (λ q. cc) (λ q. cc) (λ q. cc) (λ q. cc)))
+                  (tt, zero_public g)
+              safe_reg A2 np nd ec ed ev cl es hi =
+                  subst (IsShown g o.frames) (sym (cl A2 np nd (λ q. cc) (λ q. cc) (λ q. cc) (λ q. cc)))
+                  (tt, zero_public g)
+              safe_reg A3 np nd ec ed ev cl es hi =
+                  subst (IsShown g o.frames) (sym (cl A3 np nd (λ q. cc) (λ q. cc) (λ q. cc) (λ q. cc)))
+                  (tt, zero_public g)
+              safe_reg G0 np nd ec ed ev cl es hi =
+                  subst (IsShown g o.frames) (sym (cl G0 np nd (λ q. cc) (λ q. cc) (λ q. cc) (λ q. cc)))
+                  (tt, zero_public g)
+              safe_reg G1 np nd ec ed ev cl es hi =
+                  subst (IsShown g o.frames) (sym (cl G1 np nd (λ q. cc) (λ q. cc) (λ q. cc) (λ q. cc)))
+                  (tt, zero_public g)
+              safe_reg G2 np nd ec ed ev cl es hi =
+                  subst (IsShown g o.frames) (sym (cl G2 np nd (λ q. cc) (λ q. cc) (λ q. cc) (λ q. cc)))
+                  (tt, zero_public g)
+
+      -- behind the entry
+      after_entry : (cap : CapFields) → own_stack g.layout o.maps ≡ Some cap → (q : OState)
+          → Here g linked p 0 cap.end [] mem o.frames q → At g linked p (e + 20) q
+          → q.maps.regs.rcode ≡ o.maps.regs.rcode → q.maps.regs.rdata ≡ o.maps.regs.rdata → ArgsKept o q
+          → q.maps.regs.t1 ≡ zero_word Plain
+          → UpTo g.layout n (c + x.what.need * 200 + 180) q
+          (begin world (whole world) t.home x.what (Some (cap.end + 1 - g.layout.stack.base)) rs k st)
+      after_entry cap own q h20 at20 rce rde same t1 =
+          by_taken (taken [] x.what.callbacks rs) refl
+          (nat_lt (cap.end + 1 - g.layout.stack.base) x.what.need) refl
+        where
+          sl : length x.regs + 2 ≡ x.what.need
+          sl = x.slots
+
+          sm : x.checks ≤ 100 + x.what.need * 50
+          sm = x.small
+
+          by_taken : (a : Option (List Value)) → taken [] x.what.callbacks rs ≡ a → (short : Bool)
+              → nat_lt (cap.end + 1 - g.layout.stack.base) x.what.need ≡ short
+              → UpTo g.layout n (c + x.what.need * 200 + 180) q
+              (with_place (if short then None else Some (cap.end + 1 - g.layout.stack.base))
+              (λ left. body_of world (whole world) t.home left x.what a k st))
+          by_taken None ea true es =
+              (x.checked cap.end (c + x.what.need * 200 + 180) 0 mem rs o q (ends Fails) ip regs public h20
+              at20 rce rde same t1).0 ea (omega (arith, sm))
+          by_taken None ea false es =
+              (x.checked cap.end (c + x.what.need * 200 + 180) 0 mem rs o q (ends Fails) ip regs public h20
+              at20 rce rde same t1).0 ea (omega (arith, sm))
+          by_taken (Some env) ea true es =
+              (x.checked cap.end (c + x.what.need * 200 + 180) (2 * x.what.need + 1) mem rs o q (ends Fails)
+              ip regs public h20 at20 rce rde same t1).1 env ea (omega (arith, sm))
+              (λ ws r ip' len env_is hr atr reads.
+              let lt = ltb-true (cap.end + 1 - g.layout.stack.base) x.what.need es in
+              let lo = hr.low in
+              let short2 : cap.end + 1 < g.layout.stack.base
+              + (0 + length (o.maps.regs.rcode ∷ o.maps.regs.rdata ∷ ws)) =
+              omega (arith, lt, sl, len, lo) in
+              let le2 : 2 * length (Rcode ∷ Rdata ∷ x.regs) + 1 ≤ 2 * x.what.need + 1 = omega (arith, sl) in
+              prologue_fails g linked p ip' cap.end mem o.frames (Rcode ∷ Rdata ∷ x.regs)
+              (o.maps.regs.rcode ∷ o.maps.regs.rdata ∷ ws) [] (e + 20 + x.checks) (failing g.layout n)
+              (2 * x.what.need + 1) r (x.begins ip' cap.end mem o.frames) reads atr hr short2 le2)
+          by_taken (Some env) ea false es =
+              let m : Comp = body_of world (whole world) t.home (cap.end + 1 - g.layout.stack.base) x.what
+              (Some env) k st in
+              (x.checked cap.end (c + x.what.need * 200 + 180) (2 * x.what.need + (1 + c)) mem rs o q m ip
+              regs public h20 at20 rce rde same t1).1 env ea (omega (arith, sm))
+              (λ ws r ip' len env_is hr atr reads.
+              let ge = ltb-false (cap.end + 1 - g.layout.stack.base) x.what.need es in
+              let room : g.layout.stack.base + (0 + length (o.maps.regs.rcode ∷ o.maps.regs.rdata ∷ ws))
+              ≤ cap.end + 1 = omega (arith, ge, sl, len) in
+              let le2 : 2 * length (Rcode ∷ Rdata ∷ x.regs) + (1 + c) ≤ 2 * x.what.need + (1 + c) =
+              omega (arith, sl) in
+              prologue_law g linked p ip' cap.end mem o.frames (Rcode ∷ Rdata ∷ x.regs)
+              (o.maps.regs.rcode ∷ o.maps.regs.rdata ∷ ws) [] (e + 20 + x.checks) (upto g.layout n m)
+              (2 * x.what.need + (1 + c)) (1 + c) r (x.begins ip' cap.end mem o.frames) reads atr hr room
+              (λ q2 h2 at2.
+              let two : length (o.maps.regs.rcode ∷ o.maps.regs.rdata ∷ ws) ≡ x.what.need =
+              omega (arith, sl, len) in
+              let ba = x.body_at in
+              let be : e + 20 + x.checks + 2 * length (Rcode ∷ Rdata ∷ x.regs) ≡ x.body =
+              omega (arith, sl, ba) in
+              x.does cap.end c mem o.frames o.maps.regs.rcode o.maps.regs.rdata ws
+              (env ++ replicate x.what.locals (Num (pos 0))) st o q2 (finish world x.what.need k) refl
+              (subst (λ w. Here g linked p w cap.end (o.maps.regs.rcode ∷ o.maps.regs.rdata ∷ ws) mem o.frames
+              q2) two h2) len (subst (λ y. At g linked p y q2) be at2) env_is store
+              (λ val st' mem' ws' r2 hr2 len2 atr2 a0 fit store'. ticks_up g.layout (1 + x.what.need) n c r2
+              (k val st') (at_epilogue cap own 0 val st' mem' ws' r2 hr2 len2 atr2 a0 fit store')))
+              le2)
+
+      by_own : (y : Option CapFields) → own_stack g.layout o.maps ≡ y
+          → UpTo g.layout n (c + (1 + x.what.need) * 200) o
+          (begin world (whole world) t.home x.what (left_now world g linked Begins StoreIs RegsAre o) rs k st)
+      by_own None own =
+          subst (λ l. UpTo g.layout n (c + (1 + x.what.need) * 200) o
+          (begin world (whole world) t.home x.what l rs k st))
+          (sym (ap (option_map (λ (c : CapFields). c.end + 1 - c.base)) own))
+          (entry_fails g linked p e o v at x.entry (failing g.layout n) (c + (1 + x.what.need) * 200) own
+          (omega arith))
+      by_own (Some cap) own =
+          let is = own_is g.layout o.maps cap own in
+          let base : cap.base ≡ g.layout.stack.base = ap (λ x. x.base) is.1 in
+          let left : left_now world g linked Begins StoreIs RegsAre o ≡ Some
+          (cap.end + 1 - g.layout.stack.base) =
+          ap (option_map (λ (c : CapFields). c.end + 1 - c.base)) own
+          ∙ ap (λ b. Some (cap.end + 1 - b)) base in
+          subst (λ l. UpTo g.layout n (c + (1 + x.what.need) * 200) o
+          (begin world (whole world) t.home x.what l rs k st)) (sym left)
+          (entry_law g linked p e o v at x.entry cap own
+          (upto g.layout n (begin world (whole world) t.home x.what
+          (Some (cap.end + 1 - g.layout.stack.base)) rs k st)) mem (c + (1 + x.what.need) * 200)
+          (c + x.what.need * 200 + 180) safe dat globs
+          (λ h20 at20. after_entry cap own (entered g linked p e o v at x.entry cap own) h20 at20 refl refl
+          (record { a0 = refl; a1 = refl; a2 = refl; a3 = refl }) refl) (omega arith))

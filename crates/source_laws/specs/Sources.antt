@@ -1,0 +1,79 @@
+-- The theorem of sources: whatever code runs beside them, compiled modules do what their meaning tells of the
+-- run's feed.
+use Rattle.std.specs.Prelude.{◌≡◌, ℕ, ◌+◌, ◌*◌, ◌<◌, ◌≤◌, ℤ, true, false, List, [], ◌++◌}
+use Rattle.cap_words.specs.declared.Word.TheVariants.{Int}
+use Rattle.lcm_isa.specs.declared.Reg.TheVariants.{A0}
+use Rattle.component_linker.specs.Started.{StartSeen}
+use Rattle.overlay_machine.specs.declared.layout.Layout.{Layout}
+use Rattle.overlay_machine.specs.State.{OState}
+use Rattle.overlay_machine.specs.Step.{goes, halts, fails, overlay_step, weight_of}
+use Rattle.overlay_machine.specs.Events.{step_event}
+use Rattle.overlay_machine.specs.Starting.{overlay_at}
+use Rattle.trace_tool.specs.Layout.{layout}
+use Rattle.trace_tool.specs.Views.{flat_view}
+use Rattle.proc_semantics.specs.Values.{World}
+use Rattle.source_events.specs.declared.OutEvent.{OutEvent}
+use Rattle.source_events.specs.declared.Item.{Item}
+use Rattle.source_events.specs.declared.End.{End}
+use Rattle.source_events.specs.declared.End.TheVariants.{Halt as Halted, Fail as Fails, Waiting, OutOfFuel}
+use Rattle.proc_semantics.specs.Meaning.{meaning}
+use Rattle.template_runs.specs.Runs.{is_inside}
+use Rattle.source_laws.specs.Trace.{outs_of, items_of, weighed, trace}
+use Rattle.source_laws.specs.Good.{Agrees}
+use Rattle.proc_semantics.specs.Fuel.{Prefix}
+
+-- from one overlay a run of this weight comes to another, which is a matched point: of it the weight of the steps
+-- that began in trusted code, what went out of the modules, and the items of the feed
+pub data Shows (l : Layout) (o : OState) : ℕ → ℕ → List OutEvent → List Item → OState → Type 0 where
+  none_yet : Shows l o 0 0 [] [] o
+  and_then : {j n : ℕ} {es : List OutEvent} {is : List Item} {p q : OState} → Shows l o j n es is p
+      → overlay_step l p ≡ goes q
+      → Shows l o (j + weight_of l p) (n + weighed l (is_inside l p) (weight_of l p))
+      (es ++ outs_of l (flat_view l q) (step_event l p q))
+      (is ++ items_of l (flat_view l q) (step_event l p q)) q
+
+-- a meaning comes to an end with these events, under every large enough fuel
+pub record ComesTo (world : World) (stack : ℕ) (feed : List Item) (end : End) (events : List OutEvent) : Type
+    0 where
+  pub enough : ℕ
+  pub ends : (f : ℕ) → enough ≤ f → ((meaning world stack feed f).end ≡ end)
+      × ((meaning world stack feed f).events ≡ events)
+
+-- under every large enough fuel its events begin with these
+pub record BeginsWith (world : World) (stack : ℕ) (feed : List Item) (events : List OutEvent) : Type 0 where
+  pub enough : ℕ
+  pub begins : (f : ℕ) → enough ≤ f → Prefix events (meaning world stack feed f).events
+
+-- it is out of fuel under every fuel that is too small for so many instructions, after some of these events
+abbrev pub TakesLong : World → ℕ → List Item → List OutEvent → ℕ → Type 0
+TakesLong world stack feed events n =
+    (f : ℕ) → f * 200 < n → ((meaning world stack feed f).end ≡ OutOfFuel)
+    × Prefix (meaning world stack feed f).events events
+
+-- at a matched point: where it stands outside, where the next step halts or fails in trusted code, where it goes
+-- on there, and the bound of 200 instructions on a tick
+pub record MeansAt (world : World) (stack : ℕ) (l : Layout) (n : ℕ) (es : List OutEvent) (is : List Item)
+    (p : OState) : Type 0 where
+  pub waits : is_inside l p ≡ false → ComesTo world stack is Waiting es
+  pub halts : is_inside l p ≡ true → overlay_step l p ≡ halts
+      → (v : ℤ) × ((flat_view l p).reg A0 ≡ Int v) × ComesTo world stack is (Halted v) es
+      × TakesLong world stack is es (n + weight_of l p)
+  pub fails : is_inside l p ≡ true → overlay_step l p ≡ fails → ComesTo world stack is Fails es
+      × TakesLong world stack is es (n + weight_of l p)
+  pub goes_on : is_inside l p ≡ true → BeginsWith world stack is es
+  pub slow : TakesLong world stack is es n
+
+-- at each matched point of the run from a start
+abbrev pub SourcesMean : World → ℕ → StartSeen → Type 0
+SourcesMean world stack s =
+    (j n : ℕ) (es : List OutEvent) (is : List Item) (p : OState)
+    → Shows (layout s) (overlay_at s).state j n es is p → MeansAt world stack (layout s) n es is p
+
+-- the meaning agrees with the run of each number of steps
+abbrev pub AgreesAlways : World → ℕ → StartSeen → Type 0
+AgreesAlways world stack s =
+    (k : ℕ) → Agrees 0 (trace (layout s) k (overlay_at s).state) (λ fuel feed. meaning world stack feed fuel)
+
+-- then the theorem holds of the start
+abbrev pub AgreeingRunsMean : Type 0
+AgreeingRunsMean = (world : World) (stack : ℕ) (s : StartSeen) → AgreesAlways world stack s → SourcesMean world stack s

@@ -1,0 +1,133 @@
+-- What a run of the overlay shows to a source: what leaves, what comes in, the weight of its trusted steps,
+-- and where
+-- it stands.
+use Rattle.std.specs.Prelude.{ℕ, zero, suc, ◌+◌, ℤ, pos, Bool, true, false, List, [], ◌∷◌, ◌++◌, Option, Some}
+use Rattle.std.specs.Prelude.{None}
+use Rattle.cap_words.specs.declared.Word.{Word}
+use Rattle.lcm_isa.specs.declared.Reg.TheVariants.{Stk, A0}
+use Rattle.overlay_machine.specs.declared.layout.Layout.{Layout}
+use Rattle.overlay_machine.specs.declared.events.Back.{Back}
+use Rattle.overlay_machine.specs.declared.events.Back.TheVariants.{Out, Bad, Hop, Pair}
+use Rattle.overlay_machine.specs.declared.events.Event.{Event}
+use Rattle.overlay_machine.specs.declared.events.Event.TheVariants.{Called, Returned, Entered, Left}
+use Rattle.overlay_machine.specs.State.{OState}
+use Rattle.overlay_machine.specs.Step.{Ending, goes, halts, fails, overlay_step, weight_of}
+use Rattle.overlay_machine.specs.Events.{step_event}
+use Rattle.trace_tool.specs.declared.pairs.Pair as passed
+use Rattle.trace_tool.specs.declared.pairs.Pair.TheVariants as pair
+use Rattle.trace_tool.specs.declared.pairs.Pairs.{Pairs}
+use Rattle.trace_tool.specs.Layout.{part_name, entry_name, site_of}
+use Rattle.trace_tool.specs.Views.{View, flat_view}
+use Rattle.trace_tool.specs.Pairs.{pairs_of}
+use Rattle.trace_tool.specs.Lines.{args_of}
+use Rattle.trace_tool.specs.Feed.{integer_in, integers_in, left_in}
+use Rattle.source_events.specs.declared.FeedBack.{FeedBack}
+use Rattle.source_events.specs.declared.FeedBack.TheVariants as way
+use Rattle.source_events.specs.declared.FeedPair.{FeedPair}
+use Rattle.source_events.specs.declared.FeedPair.TheVariants as fed
+use Rattle.source_events.specs.declared.Item.{Item}
+use Rattle.source_events.specs.declared.Item.TheVariants.{Enter, Ret}
+use Rattle.source_events.specs.declared.OutArg.{OutArg}
+use Rattle.source_events.specs.declared.OutArg.TheVariants.{Int, Half}
+use Rattle.source_events.specs.declared.OutEvent.{OutEvent}
+use Rattle.source_events.specs.declared.OutEvent.TheVariants.{CallOut, LeaveOut}
+use Rattle.template_runs.specs.Runs.{is_inside}
+
+abbrev pub out_arg : Option ℤ → OutArg
+out_arg (Some z) = Int z
+out_arg None = Half
+
+abbrev pub int_or : Option ℤ → ℤ
+int_or (Some z) = z
+int_or None = pos 0
+
+abbrev pub out_args : View → List OutArg
+out_args v =
+    out_arg (integer_in (args_of v).a0) ∷ out_arg (integer_in (args_of v).a1)
+    ∷ out_arg (integer_in (args_of v).a2) ∷ out_arg (integer_in (args_of v).a3) ∷ []
+
+module _ (l : Layout) where
+  abbrev pub feed_back : Back → FeedBack
+  feed_back Out = way.Out
+  feed_back Bad = way.Bad
+  feed_back (Hop part k) = way.Hop (part_name l part) (entry_name l part k)
+  feed_back (Pair i base) = way.Pair (part_name l (site_of l i).part) (site_of l i).index base
+
+  abbrev pub feed_pair : passed.Pair → FeedPair
+  feed_pair pair.Nothing = fed.Nothing
+  feed_pair pair.Bad = fed.Bad
+  feed_pair pair.Out = fed.Out
+  feed_pair (pair.Hop part k) = fed.Hop (part_name l part) (entry_name l part k)
+
+  abbrev pub feed_pairs : Pairs → List FeedPair
+  feed_pairs p = feed_pair p.p0 ∷ feed_pair p.p1 ∷ feed_pair p.p2 ∷ []
+
+  -- ---- of an event, whose state behind it shows these words
+
+  abbrev pub outs_of : View → Option Event → List OutEvent
+  outs_of v None = []
+  outs_of v (Some (Called true i base last)) = []
+  outs_of v (Some (Called false i base last)) =
+      CallOut (part_name l (site_of l i).part) (site_of l i).index (out_args v) ∷ []
+  outs_of v (Some (Returned inward i base last)) = []
+  outs_of v (Some (Entered part k back)) = []
+  outs_of v (Some (Left part)) = LeaveOut (part_name l part) (int_or (integer_in (v.reg A0))) ∷ []
+
+  abbrev pub items_of : View → Option Event → List Item
+  items_of v None = []
+  items_of v (Some (Called inward i base last)) = []
+  items_of v (Some (Returned true i base last)) = []
+  items_of v (Some (Returned false i base last)) =
+      Ret (part_name l (site_of l i).part) (site_of l i).index base (integer_in (v.reg A0)) ∷ []
+  items_of v (Some (Entered part k back)) =
+      Enter (part_name l part) (entry_name l part k) (left_in l.stack.base (v.reg Stk))
+      (integers_in (args_of v))
+      (feed_pairs (pairs_of l v)) (feed_back back) ∷ []
+  items_of v (Some (Left part)) = []
+
+-- ---- runs
+
+pub data Final : Type 0 where
+  Running : Final
+  Outside : Final
+  HaltedWith : Word → Final
+  Failed : Final
+
+pub record Trace : Type 0 where
+  pub out : List OutEvent
+  pub items : List Item
+  pub weight : ℕ
+  pub final : Final
+
+abbrev pub shown : List OutEvent → List Item → ℕ → Trace → Trace
+shown es is n t =
+    record { out = es ++ t.out; items = is ++ t.items; weight = n + t.weight; final = t.final }
+
+abbrev pub rests : ℕ → Final → Trace
+rests n f = record { out = []; items = []; weight = n; final = f }
+
+module _ (l : Layout) where
+  abbrev pub standing : Bool → Trace
+  standing true = rests 0 Running
+  standing false = rests 0 Outside
+
+  -- an end by trusted code, and one by untrusted code
+  abbrev pub ended : Bool → ℕ → Final → Trace
+  ended true n f = rests n f
+  ended false n f = rests 0 Outside
+
+  abbrev pub weighed : Bool → ℕ → ℕ
+  weighed true n = n
+  weighed false n = 0
+
+  abbrev pub show : OState → Ending → (OState → Trace) → Trace
+  show o (goes q) rest =
+      shown (outs_of l (flat_view l q) (step_event l o q)) (items_of l (flat_view l q) (step_event l o q))
+      (weighed (is_inside l o) (weight_of l o)) (rest q)
+  show o halts rest = ended (is_inside l o) (weight_of l o) (HaltedWith ((flat_view l o).reg A0))
+  show o fails rest = ended (is_inside l o) (weight_of l o) Failed
+
+  -- of so many steps
+  unfoldable pub trace : ℕ → OState → Trace
+  trace zero o = standing (is_inside l o)
+  trace (suc n) o = show o (overlay_step l o) (trace n)

@@ -1,0 +1,43 @@
+-- Steps of trusted code, and what is wanted of the runs that they are the first of.
+use Rattle.std.specs.Prelude.{◌≡◌, ℕ, ◌+◌, ◌≤◌, ℤ, Bool, true, Option, None}
+use Rattle.cap_words.specs.declared.Word.TheVariants.{Int}
+use Rattle.lcm_isa.specs.declared.Reg.TheVariants.{Pc, A0}
+use Rattle.lcm_machine.specs.Row.{faces}
+use Rattle.overlay_machine.specs.declared.layout.Layout.{Layout}
+use Rattle.overlay_machine.specs.declared.events.Event.{Event}
+use Rattle.overlay_machine.specs.Words.{look}
+use Rattle.overlay_machine.specs.State.{OState}
+use Rattle.overlay_machine.specs.Step.{goes, halts, fails, overlay_step, weight_of}
+use Rattle.overlay_machine.specs.Events.{step_event}
+use Rattle.trace_tool.specs.Layout.{is_trusted}
+use Rattle.trace_tool.specs.Views.{flat_view}
+
+-- whether trusted code runs
+abbrev pub is_inside : Layout → OState → Bool
+is_inside l o = is_trusted l (faces look o.maps Pc)
+
+-- a step of trusted code goes on, with this weight and this event
+pub record Makes (l : Layout) (n : ℕ) (e : Option Event) (o q : OState) : Type 0 where
+  pub inside : is_inside l o ≡ true
+  pub goes_on : overlay_step l o ≡ goes q
+  pub weight : weight_of l o ≡ n
+  pub event : step_event l o q ≡ e
+
+-- What is wanted of runs: a property of states under a credit. It holds with more credit, and before a step
+-- without an event if it holds behind it with the step's weight less.
+pub record Runs (l : Layout) : Type 1 where
+  pub Good : ℕ → OState → Type 0
+  pub spend : (b c : ℕ) (o : OState) → b ≤ c → Good b o → Good c o
+  pub go_on : (n c : ℕ) (o q : OState) → Makes l n None o q → Good c q → Good (n + c) o
+
+-- and it holds where a step fails that the credit pays
+pub record Failing (l : Layout) : Type 1 where
+  pub runs : Runs l
+  pub stop : (c : ℕ) (o : OState) → is_inside l o ≡ true → overlay_step l o ≡ fails → weight_of l o ≤ c
+      → runs.Good c o
+
+-- or where one halts with this value
+pub record Halting (l : Layout) (v : ℤ) : Type 1 where
+  pub runs : Runs l
+  pub halt : (c : ℕ) (o : OState) → is_inside l o ≡ true → overlay_step l o ≡ halts → weight_of l o ≤ c
+      → (flat_view l o).reg A0 ≡ Int v → runs.Good c o
