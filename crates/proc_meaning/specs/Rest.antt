@@ -1,10 +1,10 @@
 -- What a work list stands for: the rest of the meaning. An entry that can't stand where it is fails, so no
 -- list has to be of good form.
-use Rattle.std.specs.Prelude.{ℕ, ◌+◌, ◌*◌, ◌<◌, ◌≤◌, length, pos, List, [], ◌∷◌, ◌++◌, reverse}
+use Rattle.std.specs.Prelude.{ℕ, ◌+◌, ◌*◌, ◌<◌, ◌≤◌, length, ℤ, pos, List, [], ◌∷◌, ◌++◌, reverse}
 use Rattle.std.specs.Prelude.{Option, Some, None, if◌then◌else◌}
 use Rattle.source_events.specs.declared.End.TheVariants.{Halt as Halted}
 use Rattle.proc_program.specs.declared.program.Call.{Call}
-use Rattle.proc_program.specs.Program.{Args}
+use Rattle.proc_program.specs.Program.{Exp, Args, Block}
 use Rattle.proc_program.specs.View.{args_of}
 use Rattle.proc_program.specs.StepView.{block_of}
 use Rattle.proc_semantics.specs.declared.value.Frame.{Frame}
@@ -34,6 +34,17 @@ module _ (world : World) where
       args world (whole world) f env xs
       (λ ys. call world (whole world) f c.site (pair_of world f.home env c.handle) (vs ++ ys) k) st
 
+  -- a condition has a value: of an `if`, and of a loop
+  abbrev pub chosen : ℤ → Block → Block → Frame → Then → Next → Next
+  chosen v a b f back k env st =
+      (if is_zero v then block world (whole world) f b back k env
+      else block world (whole world) f a back k env) st
+
+  abbrev pub tested : ℤ → Exp → Block → Frame → Then → Next → Next
+  tested v c b f back k env st =
+      (if is_zero v then k env
+      else block world (whole world) f b back ((whole world).turn f c b back k) env) st
+
   -- ---- the list with its newest entry first
 
   abbrev mutual
@@ -54,12 +65,9 @@ module _ (world : World) where
         element a i (λ o. after ws f env (set_word st f.home o v))
     with_value (Forget ∷ ws) f env v st = after ws f env st
     with_value (Choose a b ∷ ws) f env v st =
-        (if is_zero v then block world (whole world) f (block_of b.now) (back ws f) (after ws f) env
-        else block world (whole world) f (block_of a.now) (back ws f) (after ws f) env) st
+        chosen v (block_of a.now) (block_of b.now) f (back ws f) (after ws f) env st
     with_value (Test c b ∷ ws) f env v st =
-        (if is_zero v then after ws f env
-        else block world (whole world) f (block_of b.now) (back ws f)
-        ((whole world).turn f c.now (block_of b.now) (back ws f) (after ws f)) env) st
+        tested v c.now (block_of b.now) f (back ws f) (after ws f) env st
     with_value (Return ∷ ws) f env v st = back ws f v st
     with_value (Halt ∷ ws) f env v st = ends (Halted v)
     with_value _ f env v st = fails

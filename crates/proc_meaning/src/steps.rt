@@ -1,17 +1,19 @@
 //! Statements: what each begins with, what a value does then, and what stands behind.
 ghost use Rattle.std.specs.Prelude.{◌≡◌, ◌+◌, ◌*◌, IfOk, length, reverse, ◌∷◌};
+ghost use Rattle.proc_program.specs.StepView.{block_of};
 ghost use Rattle.proc_semantics.specs.Told.{tick};
 ghost use Rattle.proc_semantics.specs.Values.{World, Store};
 ghost use Rattle.proc_semantics.specs.Meaning.{Next, stmt, assigned};
 ghost use Rattle.proc_semantics.specs.Whole.{whole};
 ghost use Rattle.proc_meaning.specs.declared.places.Run.{Run};
+ghost use Rattle.proc_meaning.specs.Rest.{chosen, tested};
 ghost use Rattle.proc_meaning.specs.Rest.{with_value, after, back, rest_of, size_of, ahead_of, IsLess};
 
 use crate::ends::end_run;
 use crate::exprs::{element_at, result_of};
 use crate::places::{Run, Words, set_word, word_at};
 use crate::work::{Ahead, Now, Work};
-use proc_program::{Place, Step, StepKind};
+use proc_program::{Exp, Place, Step, StepKind};
 use proc_semantics::Value;
 use source_events::End;
 use std::alloc::AllocError;
@@ -73,6 +75,50 @@ fn assign(run: &mut Run, store: &mut Vec<Words>, place: Place, value: i64)
     }
 }
 
+/// The condition of an `if` has a value: one of its blocks follows.
+fn choose<'a>(
+    v: i64,
+    a: &'a [Step],
+    b: &'a [Step],
+    work: &mut Vec<Work<'a>>,
+) -> Result<Ahead<'a>, AllocError>
+    ensures same { IfOk result (λ h. (world : World) (r : Run) (st : Store) →
+        chosen world v (block_of a.now) (block_of b.now) r.frame
+        (back world (reverse work.old.items) r.frame)
+        (after world (reverse work.old.items) r.frame) r.env.items st
+        ≡ ahead_of world h work.new.items r st) }
+    ensures less { IfOk result (λ h. IsLess h work.new.items (2 * length work.old.items + 6)) }
+{
+    if v == 0 {
+        work.push(Work::Rest(b))?;
+        return Ok(Ahead::Free(Now::Next));
+    }
+    work.push(Work::Rest(a))?;
+    Ok(Ahead::Free(Now::Next))
+}
+
+/// The condition of a loop has a value: its block and a further turn follow, or nothing.
+fn test<'a>(
+    v: i64,
+    c: &'a Exp,
+    b: &'a [Step],
+    work: &mut Vec<Work<'a>>,
+) -> Result<Ahead<'a>, AllocError>
+    ensures same { IfOk result (λ h. (world : World) (r : Run) (st : Store) →
+        tested world v c.now (block_of b.now) r.frame
+        (back world (reverse work.old.items) r.frame)
+        (after world (reverse work.old.items) r.frame) r.env.items st
+        ≡ ahead_of world h work.new.items r st) }
+    ensures less { IfOk result (λ h. IsLess h work.new.items (2 * length work.old.items + 6)) }
+{
+    if v == 0 {
+        return Ok(Ahead::Free(Now::Next));
+    }
+    work.push(Work::Turn(c, b))?;
+    work.push(Work::Rest(b))?;
+    Ok(Ahead::Free(Now::Next))
+}
+
 /// A value comes to what was to be done with it.
 fn give_to<'a>(
     w: Work<'a>,
@@ -119,22 +165,8 @@ fn give_to<'a>(
             None => Ok(Ahead::Stop(End::Fail)),
         },
         Work::Forget => Ok(Ahead::Free(Now::Next)),
-        Work::Choose(a, b) => {
-            if v == 0 {
-                work.push(Work::Rest(b))?;
-                return Ok(Ahead::Free(Now::Next));
-            }
-            work.push(Work::Rest(a))?;
-            Ok(Ahead::Free(Now::Next))
-        }
-        Work::Test(c, b) => {
-            if v == 0 {
-                return Ok(Ahead::Free(Now::Next));
-            }
-            work.push(Work::Turn(c, b))?;
-            work.push(Work::Rest(b))?;
-            Ok(Ahead::Free(Now::Next))
-        }
+        Work::Choose(a, b) => choose(v, a, b, work),
+        Work::Test(c, b) => test(v, c, b, work),
         Work::Return => Ok(Ahead::Free(Now::Back(v))),
         Work::Halt => Ok(Ahead::Stop(End::Halt(v))),
         _ => Ok(Ahead::Stop(End::Fail)),

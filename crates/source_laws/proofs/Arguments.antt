@@ -50,7 +50,7 @@ use Rattle.template_runs.proofs.Slots.{with_at, length-with_at, SameBelow, get_w
 use Rattle.template_runs.proofs.Steps.{At, Placed, next_pc}
 use Rattle.template_runs.proofs.Rows.{Here, Free, load_law, store_law, loaded}
 use Rattle.template_runs.proofs.Checks.{is_half}
-use Rattle.template_runs.proofs.Data.{away, home, with_reg, set_law, dat_law, load_data_law}
+use Rattle.template_runs.proofs.Data.{with_reg, set_law, dat_law, load_data_law}
 use Rattle.template_runs.proofs.Standing.{Stand, stand_front, stand_back, words-append, words_in}
 use Rattle.source_laws.proofs.Variables.{EnvIn, PairAt, env_same, index_is, there_lt}
 use Rattle.template_runs.proofs.Elements.{free_a0, free_a1, free_a2, free_a3}
@@ -164,8 +164,7 @@ pub record DataPair (p : PartSeen) (Rel : Pair → OWord → OWord → Type 0) (
 module _ (world : World) (StoreIs : Store → (ℕ → OWord) → Type 0) (p : PartSeen) (home imports : ℕ)
     (IsCalled IsPair : Pair → OWord → OWord → Type 0) where
   -- how many imports and procedures a part has, and that their pairs stand in its data: each can be called,
-  -- and
-  -- those of imports and of shared procedures can be passed on
+  -- and those of imports and of shared procedures can be passed on
   pub record Pairs : Type 0 where
     pub imported : ℕ
     pub owned : ℕ
@@ -250,10 +249,10 @@ module _ (world : World) (g : Link) (linked : Linked g) (StoreIs : Store → (�
       zero_law k r o free spare code1 at h u le =
           set_law g linked p ip s.words top fs k (upto g.layout n m) c b words mem o
           (pos p.component.data_base) (zero_of r) r (Plain (Int (pos 0))) free refl code1 at
-          (away g linked p ip s.words top fs words mem o h)
+          h
           (set_goes look Plain r (pos 0) _ o.maps free.no_pc) (λ h1 at1.
           u (with_reg o r (Plain (Int (pos 0))) (next_pc g linked p k))
-          (home g linked p ip s.words top fs words mem _ h1) at1
+          h1 at1
           (with_same o r (Plain (Int (pos 0))) (next_pc g linked p k) spare.0)
           (λ d sp ap1. with_other o r (Plain (Int (pos 0))) (next_pc g linked p k) d sp.0 ap1.0)) le
 
@@ -306,7 +305,7 @@ module _ (world : World) (g : Link) (linked : Linked g) (StoreIs : Store → (�
           let e5 : k + 1 + 1 + 1 + 1 + 1 ≡ k + 5 = omega arith in
           dat_law g linked p ip s.words top fs k (upto g.layout n m) c (5 + b) words mem o (pos base)
           (pos at0) (pos (base + at0)) (Imm (pos at0)) code1.0 at
-          (away g linked p ip s.words top fs words mem o h) refl refl fit0 (λ a1 at1.
+          h refl refl fit0 (λ a1 at1.
           load_data_law g linked p ip s.words top fs (k + 1) (upto g.layout n m) (5 + b) (4 + b) words mem s1
           at0 r d.first fr code1.1.0 at1 a1 in0 d.stands h1.0.stays_whole h1.0.stays_face (λ a2 at2.
           dat_law g linked p ip s.words top fs (k + 1 + 1) (upto g.layout n m) (4 + b) (3 + b) words mem s2
@@ -318,7 +317,7 @@ module _ (world : World) (g : Link) (linked : Linked g) (StoreIs : Store → (�
           dat_law g linked p ip s.words top fs (k + 1 + 1 + 1 + 1) (upto g.layout n m) (2 + b) b words mem s4
           (pos (base + (at0 + 1))) (pos 0 -ℤ pos (at0 + 1)) (pos base) (Imm (pos 0 -ℤ pos (at0 + 1)))
           code1.1.1.1.1.0 at4 a4 refl e2 fitb (λ a5 at5.
-          u d.first d.second s5 d.is (home g linked p ip s.words top fs words mem s5 a5)
+          u d.first d.second s5 d.is a5
           (subst (λ y. At g linked p y s5) e5 at5)
           (with_other s4 Dat d5 n5 r sr.0 sr.2 ∙ with_other s3 t d.second n4 r sr.0 ne
           ∙ with_other s2 Dat d3 n3 r sr.0 sr.2 ∙ with_same s1 r d.first n2 sr.0)

@@ -32,7 +32,7 @@ count-append : (j : ℕ) (a b : List Item) → count j (a ++ b) ≡ count (count
 count-append j [] b = refl
 count-append j (x ∷ a) b = count-append (next_count j x) a b
 
-count_both : (j n : ℕ) (a b : List Item) → count j a ≡ n → count j (a ++ b) ≡ count n b
+pub count_both : (j n : ℕ) (a b : List Item) → count j a ≡ n → count j (a ++ b) ≡ count n b
 count_both j n a b e = count-append j a b ∙ ap (λ i. count i b) e
 
 var_count : (f : Frame) (x : Place) (j : ℕ) → count j (load_var f x) ≡ j
@@ -127,7 +127,7 @@ mutual
   step_count f (Return e) j = count_both j (j + calls e) (code f f.temps e) _ (exp_count f e f.temps j)
   step_count f (Halt e) j = count_both j (j + calls e) (code f f.temps e) _ (exp_count f e f.temps j)
 
-  block_count : (f : Frame) (b : Block) (j : ℕ) → count j (block_code f b) ≡ j + block_calls b
+  pub block_count : (f : Frame) (b : Block) (j : ℕ) → count j (block_code f b) ≡ j + block_calls b
   block_count f no_steps j = omega arith
   block_count f (step s b) j =
       count_both j (j + step_calls s) (step_code f s) (block_code f b) (step_count f s j)

@@ -56,7 +56,7 @@ use Rattle.template_runs.proofs.Rows.{Here}
 use Rattle.template_runs.proofs.Calls.{SiteHere}
 use Rattle.template_runs.proofs.Entries.{prologue, Reads}
 use Rattle.template_runs.proofs.Epilogue.{epilogue}
-use Rattle.template_runs.proofs.Data.{away, home, set_law}
+use Rattle.template_runs.proofs.Data.{set_law}
 use Rattle.template_runs.proofs.Standing.{Called, Stand, stand_front, stand_back, stand_at, words_in}
 use Rattle.source_laws.proofs.Variables.{EnvIn, there_lt}
 use Rattle.template_runs.proofs.Elements.{free_a0}
@@ -101,8 +101,7 @@ module _ (world : World) (g : Link) (linked : Linked g) (Begins : Target → Par
       record { words = what.need; temps = first_temporary what; imports = imports; pairs = pairs }
 
   -- what is said of a part for all procedures of a module: where its `fail` stands, what the layout says of
-  -- its sites,
-  -- how the globals and the pairs of imports and own procedures stand in its data
+  -- its sites, how the globals and the pairs of imports and own procedures stand in its data
   pub record PartIn (home : ℕ) (p : PartSeen) : Type 0 where
     pub trusted : IsTrusted g p
     pub failing : Placed g linked p 0 Fail
@@ -296,9 +295,9 @@ module _ (world : World) (g : Link) (linked : Linked g) (Begins : Target → Par
     one_more_step top fs d k words mem r m code at h u =
         set_law g linked p c.part.trusted c.what.need top fs k (upto g.layout n m) (1 + d) d words mem r
         (pos p.component.data_base) (zero_of A0) A0 (Plain (Int (pos 0))) (free_a0 g linked) refl code at
-        (away g linked p c.part.trusted c.what.need top fs words mem r h)
+        h
         (set_goes look Plain A0 (pos 0) _ r.maps refl) (λ h1 at1.
-        u _ (home g linked p c.part.trusted c.what.need top fs words mem _ h1) at1 refl) (omega arith)
+        u _ h1 at1 refl) (omega arith)
 
     module _ (laws : (top : ℕ) (fs : List OpenFrame)
         → Below world g linked Begins StoreIs Regs p c.part.trusted c.part.failing top fs

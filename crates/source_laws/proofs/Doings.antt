@@ -50,13 +50,13 @@ use Rattle.template_runs.proofs.Numbers.{fits_small}
 use Rattle.template_runs.proofs.Slots.{with_at, length-with_at, SameBelow, get_with, get_other}
 use Rattle.template_runs.proofs.Steps.{At, Placed, next_pc, halt, inside_here}
 use Rattle.template_runs.proofs.Rows.{Here, load_law, store_law}
-use Rattle.template_runs.proofs.Data.{Away, away, home, with_reg, with_data, set_law, dat_law, store_data_law}
+use Rattle.template_runs.proofs.Data.{with_reg, with_data, set_law, dat_law, store_data_law}
 use Rattle.template_runs.proofs.Data.{mem_with}
 use Rattle.template_runs.proofs.Standing.{Stand, stand_front, stand_back, words-append, words_in}
 use Rattle.source_laws.specs.Fits.{Kind, AsNumber, AsPair, AsRest}
 use Rattle.source_laws.proofs.Variables.{EnvIn, env_same, env_set, there_lt}
 use Rattle.template_runs.proofs.Elements.{free_g0, free_a0, from_element}
-use Rattle.source_laws.proofs.Values.{index_law, reach_law}
+use Rattle.source_laws.proofs.ValueRows.{index_law, reach_law}
 use Rattle.source_laws.proofs.Evals.{Globals, LawOf}
 use Rattle.template_runs.proofs.Jumps.{jump_law, back_law, branch_goes, branch_stays}
 use Rattle.template_runs.specs.Public.{IsPublic}
@@ -120,14 +120,6 @@ module _ (world : World) (g : Link) (linked : Linked g) (StoreIs : Store → (�
 
     abbrev base : ℤ
     base = pos p.component.data_base
-
-    leave : (words : List OWord) (mem : ℕ → OWord) (o : OState) → Inside words mem o
-        → Away g linked p ip s.words top fs base words mem o
-    leave words mem o h = away g linked p ip s.words top fs words mem o h
-
-    enter : (words : List OWord) (mem : ℕ → OWord) (o : OState)
-        → Away g linked p ip s.words top fs base words mem o → Inside words mem o
-    enter words mem o h = home g linked p ip s.words top fs words mem o h
 
     at_is : (j k : ℕ) (q : OState) → j ≡ k → At g linked p j q → At g linked p k q
     at_is j k q e h = subst (λ x. At g linked p x q) e h
@@ -201,14 +193,14 @@ module _ (world : World) (g : Link) (linked : Linked g) (StoreIs : Store → (�
           let s1 = with_reg q Dat (Plain (Mem (data_cap (ranges_of p) (pos a)))) (next_pc g linked p k1) in
           let s2 = with_data g linked p ip s.words top fs (k1 + 1) s1 a (Plain (Int v)) in
           dat_law g linked p ip s.words top fs k1 (upto g.layout n m) (c + 200) (c + 100) words2 mem2 q base
-          (pos (s.pairs + d)) (pos a) (Imm (pos (s.pairs + d))) tail.0 at2 (leave words2 mem2 q h2) refl
+          (pos (s.pairs + d)) (pos a) (Imm (pos (s.pairs + d))) tail.0 at2 h2 refl
           refl fit_a (λ h3 at3.
           store_data_law g linked p ip s.words top fs (k1 + 1) (upto g.layout n m) (c + 100) (c + 99) words2
           mem2 s1 (s.pairs + d) G0 (Plain (Int v)) tail.1.0 at3 h3 in_data ev refl (λ h4 at4.
           dat_law g linked p ip s.words top fs (k1 + 1 + 1) (upto g.layout n m) (c + 99) c words2 mem3 s2
           (pos a) (pos 0 -ℤ pos (s.pairs + d)) base (Imm (pos 0 -ℤ pos (s.pairs + d))) tail.1.1.0 at4 h4
           refl go_back fit_b (λ h5 at5.
-          on env (set_word st2 f.home d v) mem3 words2 _ (at_is _ _ _ e3 at5) (enter words2 mem3 _ h5)
+          on env (set_word st2 f.home d v) mem3 words2 _ (at_is _ _ _ e3 at5) h5
           (two_same words words2 same) (same_env env words words2 same en)
           (globals.sets st2 mem2 d v store2 lt fv)) (omega arith)) (omega arith)) (omega arith)))
 
@@ -231,10 +223,10 @@ module _ (world : World) (g : Link) (linked : Linked g) (StoreIs : Store → (�
           → q.maps.regs.g0 ≡ Plain (Int v) → UpTo g.layout n b q m) → 1 + b ≤ c → UpTo g.layout n c o m
       answer_law k c b m v words mem o code1 at h ev u le =
           set_law g linked p ip s.words top fs k (upto g.layout n m) c b words mem o base answer A0
-          o.maps.regs.g0 (free_a0 g linked) refl code1 at (leave words mem o h)
+          o.maps.regs.g0 (free_a0 g linked) refl code1 at h
           (move_goes look Plain A0 G0 _ o.maps o.maps refl
           (stays look Plain o.maps (R G0) (ap (λ z. is_linear (look z)) ev)))
-          (λ h1 at1. u _ (enter words mem _ h1) at1 ev ev) le
+          (λ h1 at1. u _ h1 at1 ev ev) le
 
       pub return_law : (e : Exp) → Evals n e s.temps
           → Does n (stmt world (whole world) f (Return e))
@@ -249,9 +241,9 @@ module _ (world : World) (g : Link) (linked : Linked g) (StoreIs : Store → (�
           answer_law k1 (c + 200) (3 + c) (back v st2) v words2 mem2 q tail.0 at2 h2 ev (λ q3 h3 at3 e3 g3.
           jump_law g linked p ip s.words top fs words2 mem2 base (k1 + 1) end (pos end -ℤ pos (k1 + 1))
           (let z : pos (k1 + 1) +ℤ (pos end -ℤ pos (k1 + 1)) ≡ pos end = omega (arith, ints) in z) end_in
-          (upto g.layout n (back v st2)) (3 + c) c q3 tail.1.0 at3 (leave words2 mem2 q3 h3)
+          (upto g.layout n (back v st2)) (3 + c) c q3 tail.1.0 at3 h3
           (λ q4 h4 at4 kept.
-          ret v st2 mem2 words2 q4 at4 (enter words2 mem2 q4 h4) (two_same words words2 same) (kept.a0 ∙ e3)
+          ret v st2 mem2 words2 q4 at4 h4 (two_same words words2 same) (kept.a0 ∙ e3)
           fv
           store2) (omega arith)) (omega arith)))
 
@@ -341,7 +333,7 @@ module _ (world : World) (g : Link) (linked : Linked g) (StoreIs : Store → (�
               (free_g0 g linked) words2 s.temps (Plain (Int x)) q3
               (tail3.1.0, (tail3.1.1.0, (tail3.1.1.1.0, tt))) got2 lt refl refl at3 h3 (λ h4 at4.
               index_law g linked p ip s.words top fs n failing a (k3 + 1 + 1 + 1 + 1) (c + 100) (c + 50) x
-              words2 mem2 _ base km tail3.1.1.1.1.0 at4 (leave words2 mem2 _ h4) refl
+              words2 mem2 _ base km tail3.1.1.1.1.0 at4 h4 refl
               (λ j q5 is lj h5 at5 g5 a5.
               let in_data : s.pairs + (a.first + j) < length p.component.data_words =
               omega (arith, roomd, room, lj) in
@@ -360,7 +352,7 @@ module _ (world : World) (g : Link) (linked : Linked g) (StoreIs : Store → (�
               (k4 + 1 + 1 + 1) (c + 30) c (s.pairs + (a.first + j)) s7 tail3.1.1.1.1.1.1.1.1.0
               tail3.1.1.1.1.1.1.1.1.1.0 tail3.1.1.1.1.1.1.1.1.1.1.0 at7 h7 g6 in_data (λ q8 h8 at8 g8.
               on env (set_word st2 f.home (a.first + j) v) mem3 words2 q8 (at_is _ _ q8 ends_at at8)
-              (enter words2 mem3 q8 h8) (two_same words words2 below) (same_env env words words2 below en)
+              h8 (two_same words words2 below) (same_env env words words2 below en)
               (globals.sets st2 mem2 (a.first + j) v store2 in_count fv)) (omega arith)) (omega arith))
               (omega arith)) (omega arith)) (omega arith)) (omega arith)
 
@@ -510,13 +502,13 @@ module _ (world : World) (g : Link) (linked : Linked g) (StoreIs : Store → (�
                   (branch_stays g linked p ip s.words top fs words2 mem2 base
                   (k + words_in (code s s.temps e))
                   (k + words_in (code s s.temps e) + 6) (pos 6) there1 in1 (upto g.layout n m) (c + 200)
-                  (3 + c) v q tail.0 at2 (leave words2 mem2 q h2) ev (zero_same v ∙ z) (λ q3 h3 at3 kept3.
+                  (3 + c) v q tail.0 at2 h2 ev (zero_same v ∙ z) (λ q3 h3 at3 kept3.
                   jump_law g linked p ip s.words top fs words2 mem2 base (k + words_in (code s s.temps e) + 3)
                   to (pos (block_words a + 6)) there in2 (upto g.layout n m) (3 + c) c q3 tail.1.0 at3 h3
                   (λ q4 h4 at4 kept4.
                   lb to c words2 env st2 mem2 back kk q4 (omega (arith, size, ke))
                   (stand_front g linked p end to (block_code s b) (label ∷ []) tail2.1.1) cs.2
-                  (same.count ∙ len) at4 (enter words2 mem2 q4 h4) en2 store2
+                  (same.count ∙ len) at4 h4 en2 store2
                   (λ v st3 mem3 words3 r at3 h3 same3 e3 f3 store3. ret v st3 mem3 words3 r at3 h3
                   (two_then words words2 words3 same2 same3) e3 f3 store3)
                   (λ env3 st3 mem3 words3 r at3 h3 same3 en3 store3. on env3 st3 mem3 words3 r
@@ -542,19 +534,19 @@ module _ (world : World) (g : Link) (linked : Linked g) (StoreIs : Store → (�
                   (whole world) f a back kk env) st2) z))
                   (branch_goes g linked p ip s.words top fs words2 mem2 base (k + words_in (code s s.temps e))
                   to (pos 6) there1 in1 (upto g.layout n m) (c + 200) (c + 3) v q tail.0 at2
-                  (leave words2 mem2 q h2) ev (zero_same v ∙ z) (λ q3 h3 at3 kept3.
+                  h2 ev (zero_same v ∙ z) (λ q3 h3 at3 kept3.
                   la to (c + 3) words2 env st2 mem2 back kk q3 (omega (arith, size, ke))
                   (stand_front g linked p end to (block_code s a) _ tail.1.1.1) cs.1 (same.count ∙ len) at3
-                  (enter words2 mem2 q3 h3) en2 store2
+                  h3 en2 store2
                   (λ v st3 mem3 words3 r at3 h3 same3 e3 f3 store3. spend g.layout n c (c + 3) r (back v st3)
                   (omega arith) (ret v st3 mem3 words3 r at3 h3 (two_then words words2 words3 same2 same3)
                   e3 f3 store3))
                   (λ env3 st3 mem3 words3 r at3 h3 same3 en3 store3.
                   jump_law g linked p ip s.words top fs words3 mem3 base from
                   (k + words_in (step_code s (If e a b))) (pos (block_words b + 3)) there2 in2
-                  (upto g.layout n (kk env3 st3)) (c + 3) c r tail2.0 at3 (leave words3 mem3 r h3)
+                  (upto g.layout n (kk env3 st3)) (c + 3) c r tail2.0 at3 h3
                   (λ q4 h4 at4 kept4.
-                  on env3 st3 mem3 words3 q4 at4 (enter words3 mem3 q4 h4)
+                  on env3 st3 mem3 words3 q4 at4 h4
                   (two_then words words2 words3 same2 same3) en3 store3) (omega arith))) (omega arith))
 
     -- ---- loops
@@ -642,11 +634,11 @@ module _ (world : World) (g : Link) (linked : Linked g) (StoreIs : Store → (�
                 (branch_stays g linked p ip s.words top fs words2 mem2 base from
                 (k + 0 + words_in (code s s.temps e) + 6) (pos 6) there1 in1
                 (upto g.layout (suc n) (kk env st2)) (c + 200) (3 + c) v q tail.0 at2
-                (leave words2 mem2 q h2) ev (zero_same v ∙ z) (λ q3 h3 at3 kept3.
+                h2 ev (zero_same v ∙ z) (λ q3 h3 at3 kept3.
                 jump_law g linked p ip s.words top fs words2 mem2 base (from + 3) to (pos (block_words b + 6))
                 there2 in2 (upto g.layout (suc n) (kk env st2)) (3 + c) c q3 tail.1.0 at3 h3
                 (λ q4 h4 at4 kept4.
-                on env st2 mem2 words2 q4 at4 (enter words2 mem2 q4 h4) same2 en2 store2) (omega arith))
+                on env st2 mem2 words2 q4 at4 h4 same2 en2 store2) (omega arith))
                 (omega arith))
             by false z =
                 let from = k + 0 + words_in (code s s.temps e) in
@@ -666,10 +658,10 @@ module _ (world : World) (g : Link) (linked : Linked g) (StoreIs : Store → (�
                 (sym (ap (λ y. (if y then kk env else block world (whole world) f b back turn env) st2) z))
                 (branch_goes g linked p ip s.words top fs words2 mem2 base from to (pos 6) there1 in1
                 (upto g.layout (suc n) (block world (whole world) f b back turn env st2)) (c + 200) (c + 3)
-                v q tail.0 at2 (leave words2 mem2 q h2) ev (zero_same v ∙ z) (λ q3 h3 at3 kept3.
+                v q tail.0 at2 h2 ev (zero_same v ∙ z) (λ q3 h3 at3 kept3.
                 lb (suc n) (omega arith) to (c + 3) words2 env st2 mem2 back turn q3 (omega (arith, size, ke))
                 (stand_front g linked p end to (block_code s b) _ tail.1.1.1) cs.1 (same.count ∙ len) at3
-                (enter words2 mem2 q3 h3) en2 store2
+                h3 en2 store2
                 (λ v st3 mem3 words3 r at3 h3 same3 e3 f3 store3. spend g.layout (suc n) c (c + 3) r
                 (back v st3) (omega arith)
                 (ret v st3 mem3 words3 r at3 h3 (two_then words words2 words3 same2 same3) e3 f3 store3))
@@ -678,9 +670,9 @@ module _ (world : World) (g : Link) (linked : Linked g) (StoreIs : Store → (�
                 (pos 0 -ℤ pos (exp_words e + 6 + block_words b)) there2 in2
                 (upto g.layout n (turn env3 st3)) (upto g.layout (suc n) (turn env3 st3))
                 (λ w c2 o2 q2 k2 u2. go_on g.layout n w c2 o2 q2 (turn env3 st3) k2 u2) (c + 3) c r tail2.0
-                at3 (leave words3 mem3 r h3) (λ q4 h4 at4 kept4.
+                at3 h3 (λ q4 h4 at4 kept4.
                 again k c words3 env3 st3 mem3 back kk q4 ke st1 cs (same3.count ∙ same.count ∙ len) at4
-                (enter words3 mem3 q4 h4) en3 store3
+                h4 en3 store3
                 (λ v st5 mem5 words5 r5 at5 h5 same5 e5 f5 store5. fewer g.layout n c r5 (back v st5)
                 (ret v st5 mem5 words5 r5 at5 h5
                 (two_then words words3 words5 (two_then words words2 words3 same2 same3) same5) e5 f5

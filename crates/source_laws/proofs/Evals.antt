@@ -43,12 +43,12 @@ use Rattle.template_runs.proofs.Numbers.{fits_small}
 use Rattle.template_runs.proofs.Slots.{with_at, length-with_at, SameBelow, get_with, get_other}
 use Rattle.template_runs.proofs.Steps.{At, Placed, next_pc}
 use Rattle.template_runs.proofs.Rows.{Here, load_law, store_law, loaded}
-use Rattle.template_runs.proofs.Data.{away, home, with_reg, set_law, dat_law, load_data_law, mem_with}
+use Rattle.template_runs.proofs.Data.{with_reg, set_law, dat_law, load_data_law, mem_with}
 use Rattle.template_runs.proofs.Standing.{Stand, stand_front, stand_back, words-append, words_in}
 use Rattle.source_laws.specs.Fits.{Kind, AsNumber, AsPair, AsRest}
 use Rattle.source_laws.proofs.Variables.{EnvIn, NumberAt, env_same, index_is}
 use Rattle.template_runs.proofs.Elements.{free_g0, free_g1, from_element}
-use Rattle.source_laws.proofs.Values.{index_law, operator_law, reach_law}
+use Rattle.source_laws.proofs.ValueRows.{index_law, operator_law, reach_law}
 use Rattle.template_runs.specs.Public.{IsPublic}
 
 -- how a part's globals stand in its data, before which the words of pairs stand
@@ -107,9 +107,9 @@ module _ (world : World) (g : Link) (linked : Linked g) (StoreIs : Store → (�
         tick_up g.layout n c o (kk (pos v) st)
         (set_law g linked p ip s.words top fs k (upto g.layout n (kk (pos v) st)) (c + 200) c words mem o
         (pos p.component.data_base) (Move G0 (Imm (pos v))) G0 (Plain (Int (pos v))) (free_g0 g linked)
-        refl st1.0 at (away g linked p ip s.words top fs words mem o h)
+        refl st1.0 at h
         (set_goes look Plain G0 (pos v) _ o.maps refl)
-        (λ h1 at1. u (pos v) st mem words _ at1 (home g linked p ip s.words top fs words mem _ h1)
+        (λ h1 at1. u (pos v) st mem words _ at1 h1
         (same_below t words) refl fit store) (omega arith))
 
     pub local_law : (i t : ℕ) → slice_get kinds i ≡ Some AsNumber → i + 2 < s.words
@@ -156,7 +156,7 @@ module _ (world : World) (g : Link) (linked : Linked g) (StoreIs : Store → (�
         tick_up g.layout n c o m
         (dat_law g linked p ip s.words top fs k (upto g.layout n m) (c + 200) (2 + c) words mem o
         (pos p.component.data_base) (pos (s.pairs + d)) (pos (p.component.data_base + (s.pairs + d)))
-        (Imm (pos (s.pairs + d))) st1.0 at (away g linked p ip s.words top fs words mem o h) refl refl
+        (Imm (pos (s.pairs + d))) st1.0 at h refl refl
         fit_a (λ h1 at1.
         load_data_law g linked p ip s.words top fs (k + 1) (upto g.layout n m) (2 + c) (1 + c) words mem s1
         (s.pairs + d) G0 (Plain (Int (word_at st f.home d))) (free_g0 g linked) st1.1.0 at1 h1 in_data is
@@ -168,7 +168,7 @@ module _ (world : World) (g : Link) (linked : Linked g) (StoreIs : Store → (�
         u (word_at st f.home d) st mem words
         _ (subst (λ j. At g linked p j
         (with_reg s2 Dat (Plain (Mem (data_cap (ranges_of p) (pos p.component.data_base))))
-        (next_pc g linked p (k + 1 + 1)))) e3 at3) (home g linked p ip s.words top fs words mem _ h3)
+        (next_pc g linked p (k + 1 + 1)))) e3 at3) h3
         (same_below t words) refl (globals.fits st mem d store lt) store) le3) le2) le1)
 
     pub element_law : (a : Row) (b : Exp) (t : ℕ) → a.first + a.length ≤ globals.count
@@ -194,7 +194,7 @@ module _ (world : World) (g : Link) (linked : Linked g) (StoreIs : Store → (�
             index_law g linked p ip s.words top fs n failing a (k + words_in (code s t b)) (c + 200) (7 + c) x
             words2 mem2 q (pos p.component.data_base)
             (λ d. kk (word_at st2 f.home d) st2) tail.0 at1
-            (away g linked p ip s.words top fs words2 mem2 q h1) ex (λ i q2 is lt h2 at2 g2 a2.
+            h1 ex (λ i q2 is lt h2 at2 g2 a2.
             let in_data : s.pairs + (a.first + i) < length p.component.data_words =
             omega (arith, roomd, room, lt) in
             let in_count : a.first + i < globals.count = omega (arith, room, lt) in
@@ -219,7 +219,7 @@ module _ (world : World) (g : Link) (linked : Linked g) (StoreIs : Store → (�
             u v st2 mem2 words2 _ (subst
             (λ j. At g linked p j
             (with_reg q5 G0 q5.maps.regs.g1 (next_pc g linked p (k1 + 8 + 1 + 1 + 1 + 1 + 1 + 1))))
-            ends_at at6) (home g linked p ip s.words top fs words2 mem2 _ h6) same g5
+            ends_at at6) h6 same g5
             (globals.fits st2 mem2 (a.first + i) store2 in_count) store2) (omega arith)) (omega arith))
             (omega arith)) (omega arith)) (omega arith)
           where
@@ -273,17 +273,17 @@ module _ (world : World) (g : Link) (linked : Linked g) (StoreIs : Store → (�
             let le0 : 1 + (3 + (5 + c)) ≤ c + 197 = omega arith in
             set_law g linked p ip s.words top fs k3 (upto g.layout n m) (c + 197) (3 + (5 + c)) words2 mem2 q
             (pos p.component.data_base) (Move G1 (InReg G0)) G1 q.maps.regs.g0 (free_g1 g linked) refl
-            tail3.0 atq (away g linked p ip s.words top fs words2 mem2 q hq)
+            tail3.0 atq hq
             (move_goes look Plain G1 G0 _ q.maps q.maps refl
             (stays look Plain q.maps (R G0) (ap (λ z. is_linear (look z)) ey))) (λ h1 at1.
             load_law g linked p ip s.words top mem2 fs (k3 + 1) (upto g.layout n m) (3 + (5 + c)) (5 + c) G0
             (free_g0 g linked) words2 t (Plain (Int x)) s1 (tail3.1.0, (tail3.1.1.0, (tail3.1.1.1.0, tt)))
-            got2 lt refl refl at1 (home g linked p ip s.words top fs words2 mem2 s1 h1)
+            got2 lt refl refl at1 h1
             (λ h2 at2. operator_law g linked p ip s.words top fs n end (k3 + 1 + 1 + 1 + 1) c x y
             (pos p.component.data_base) words2 mem2 kk st2 _ at2
-            (away g linked p ip s.words top fs words2 mem2 _ h2) refl ey r tail3.1.1.1.1
+            h2 refl ey r tail3.1.1.1.1
             (λ v q3 at3 h3 e3 f3. u v st2 mem2 words2 q3 (subst (λ z. At g linked p z q3) ends_at at3)
-            (home g linked p ip s.words top fs words2 mem2 q3 h3) below e3 f3 store2))
+            h3 below e3 f3 store2))
             (omega arith)) le0
 
         after_a : (x : ℤ) (st1 : Store) (mem1 : ℕ → OWord) (words1 : List OWord) (q : OState)

@@ -63,10 +63,6 @@ use Rattle.source_laws.proofs.Waiting.{Meets, WaitLaw, LeaveLaw}
 use Rattle.trace_tool.specs.Feed.{integer_in}
 use Rattle.template_runs.proofs.Named.{Named}
 
-if_same : (b : Bool) → (if b then ends Fails else ends Fails) ≡ ends Fails
-if_same true = refl
-if_same false = refl
-
 and_false : (a : Bool) → (a && false) ≡ false
 and_false true = refl
 and_false false = refl

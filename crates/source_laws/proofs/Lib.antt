@@ -10,13 +10,13 @@ pub mod Idle
 pub mod Procs
 pub mod CallsOut
 pub mod All
-pub mod Exprs
+pub mod SameSlots
 pub mod Variables
 pub mod CallSites
 pub mod PieceSizes
 pub mod Placings
 pub mod Callings
-pub mod Values
+pub mod ValueRows
 pub mod Arguments
 pub mod Evals
 pub mod Doings

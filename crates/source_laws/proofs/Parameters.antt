@@ -43,7 +43,7 @@ use Rattle.source_laws.proofs.Handed.{places, handed, then_hold, number_first, p
 use Rattle.template_runs.proofs.Steps.{At, Placed, Code, next_pc, stop}
 use Rattle.template_runs.proofs.Rows.{Here, Free}
 use Rattle.template_runs.proofs.Checks.{is_half, fail_pc_law, at_fail, half_goes, half_fails, half_tested}
-use Rattle.template_runs.proofs.Data.{Away, away, home, with_reg, set_law}
+use Rattle.template_runs.proofs.Data.{Away, with_reg, set_law}
 use Rattle.template_runs.proofs.Standing.{Stand, guarded, words_in}
 use Rattle.template_runs.proofs.Elements.{free_t2, free_a0, free_a1, free_a2, free_a3}
 use Rattle.source_laws.proofs.Arguments.{Holding, with_other, with_same, argument_spare}
@@ -237,11 +237,11 @@ module _ (g : Link) (linked : Linked g) (p : PartSeen) (ip : IsTrusted g p)
     number_goes b v small e fit t1 u le =
         set_law g linked p ip 0 top fs k (upto g.layout n m) c b [] mem q (pos p.component.data_base)
         (Plus (argument i) (argument i) (Imm (pos 0))) (argument i) (Plain (Int v)) (argument_free i) refl
-        code at (away g linked p ip 0 top fs [] mem q h)
+        code at h
         (plus_goes look Plain (argument i) (argument i) (Imm (pos 0)) _ q.maps v (pos 0) v
         (argument_free i).no_pc (ap look e) refl (zero_more v) fit) (λ h1 at1.
         u (with_reg q (argument i) (Plain (Int v)) (next_pc g linked p k))
-        (home g linked p ip 0 top fs [] mem _ h1) at1 (same i small e)) le
+        h1 at1 (same i small e)) le
       where
         same : (i : ℕ) → i < 4 → reg q.maps.regs (argument i) ≡ Plain (Int v)
             → Same q (with_reg q (argument i) (Plain (Int v)) (next_pc g linked p k))
@@ -363,7 +363,7 @@ module _ (g : Link) (linked : Linked g) (p : PartSeen) (ip : IsTrusted g p)
         set_law g linked p ip 0 top fs kl (upto g.layout n m) (1 + b) b [] mem Q3 (pos p.component.data_base)
         (Move T2 (Imm (pos 0))) T2 (Plain (Int (pos 0))) (free_t2 g linked) refl
         code.1.1.1.1.1.1.1.1.1.1.1.1.0 at3 h3 (set_goes look Plain T2 (pos 0) _ Q3.maps refl) (λ h4 at4.
-        u q4 (home g linked p ip 0 top fs [] mem _ h4) (subst (λ y. At g linked p y q4) e13 at4)
+        u q4 h4 (subst (λ y. At g linked p y q4) e13 at4)
         (record {
           args = λ j. argument_stays j Q3.maps.regs _ _ ∙ at3_is j;
           code = refl;

@@ -88,8 +88,7 @@ module _ (g : Link) (linked : Linked g) (p : PartSeen) (end : ℕ) where
           (j, f.0, record { index = f.2; site = f.3; offset_is = f.4; code_is = f.1; found = e })
 
   -- the call of a number stands where the component's site of that number begins, if a part's sites are all
-  -- different
-  -- and the layout counts them as the part does
+  -- different and the layout counts them as the part does
   pub called_of : IsTrusted g p
       → ((i j k : ℕ) → slice_get p.component.sites i ≡ Some k → slice_get p.component.sites j ≡ Some k
       → i ≡ j) → ((k i : ℕ) (u : SiteCode) (s : SiteHere g linked p k i u)

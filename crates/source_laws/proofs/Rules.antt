@@ -76,7 +76,11 @@ taken c i t m k e a = subst (Agrees c (shown [] (i ∷ []) 0 t)) (sym e) (record
 
 -- nothing left to run, inside trusted code
 pub stopped : (c : ℕ) (m : Comp) → Agrees c (rests 0 Running) m
-stopped c m = record { enough = 0; fits = λ f h. ((m f []).events, refl); slow = λ f s. absurd (omega (arith, s)) }
+stopped c m = record {
+  enough = 0;
+  fits = λ f h. ((m f []).events, refl);
+  slow = λ f s. absurd (omega (arith, s));
+}
 
 -- the run ends outside, or waits there
 pub waits : (c : ℕ) (m : Comp) (k : Item → Comp) → m ≡ take_item k → Agrees c (rests 0 Outside) m

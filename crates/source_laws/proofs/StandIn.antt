@@ -1,6 +1,5 @@
 -- The theorem of sources: compiled procedures that stand in the parts of a link do what the modules mean,
--- against
--- every code outside them.
+-- against every code outside them.
 use Rattle.std.proofs.Common.{◌≡◌, ℕ, map, true, Some, subst}
 use Rattle.flow_check.specs.Places.{begins_entry}
 use Rattle.component_linker.specs.Parts.{PartSeen}
@@ -32,8 +31,7 @@ use Rattle.source_laws.proofs.Compiled.{Stands, Regs, EnvIs, compiled}
 use Rattle.source_laws.proofs.All.{Bodies, Starting, source_law}
 
 -- How the modules show in a link: which entry of which part a procedure has, and how their globals stand in
--- the data
--- of parts. The compiler's components and the layout of a linked start give what is asked of them.
+-- the data of parts. The compiler's components and the layout of a linked start give what is asked of them.
 module _ (world : World) (g : Link) (linked : Linked g) (Begins : Target → PartSeen → ℕ → Type 0)
     (StoreIs : Store → (ℕ → OWord) → Type 0) where
   pub record StandIn : Type 0 where

@@ -24,8 +24,7 @@ kinds_from (false ∷ bs) n = AsNumber ∷ kinds_from bs n
 kinds_from (true ∷ bs) n = AsPair ∷ AsRest ∷ kinds_from bs n
 
 -- with these kinds of places, so many words in the frame, of which temporaries begin at `temps`, so many
--- words of
--- globals, imports, and own procedures, of which some are shared
+-- words of globals, imports, and own procedures, of which some are shared
 module _ (kinds : List Kind) (words temps count imported owned : ℕ) (shared : ℕ → Bool) where
   abbrev pub PlaceFits : Place → Type 0
   PlaceFits (Local i) = slice_get kinds i ≡ Some AsNumber

@@ -1,5 +1,5 @@
 -- What a run shows is what the meaning tells of the run's feed.
-use Rattle.std.specs.Prelude.{◌≡◌, ℕ, ◌+◌, ◌*◌, ◌<◌, ◌≤◌, ℤ, List, [], ◌∷◌}
+use Rattle.std.specs.Prelude.{◌≡◌, ℕ, ◌+◌, ◌*◌, ◌<◌, ◌≤◌, ℤ, List}
 use Rattle.cap_words.specs.declared.Word.TheVariants.{Int}
 use Rattle.source_events.specs.declared.OutEvent.{OutEvent}
 use Rattle.source_events.specs.declared.End.TheVariants.{Halt as Halted, Fail as Fails, Waiting, OutOfFuel}
@@ -15,8 +15,8 @@ Fits (HaltedWith w) out t = (v : ℤ) × (w ≡ Int v) × (t.end ≡ Halted v) �
 Fits Failed out t = (t.end ≡ Fails) × (t.events ≡ out)
 Fits Running out t = Prefix out t.events
 
--- a meaning fits the run for every large enough fuel, and is out of fuel for every fuel that is too small
--- for the instructions, less the credit: a tick pays for 200
+-- a meaning fits the run for every large enough fuel, and is out of fuel for every fuel that is too small for
+-- the instructions, less the credit: a tick pays for 200
 pub record Agrees (credit : ℕ) (t : Trace) (m : Comp) : Type 0 where
   pub enough : ℕ
   pub fits : (f : ℕ) → enough ≤ f → Fits t.final t.out (m f t.items)

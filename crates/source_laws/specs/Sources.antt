@@ -22,8 +22,8 @@ use Rattle.source_laws.specs.Trace.{outs_of, items_of, weighed, trace}
 use Rattle.source_laws.specs.Good.{Agrees}
 use Rattle.proc_semantics.specs.Fuel.{Prefix}
 
--- from one overlay a run of this weight comes to another, which is a matched point: of it the weight of the steps
--- that began in trusted code, what went out of the modules, and the items of the feed
+-- from one overlay a run of this weight comes to another, which is a matched point: of it the weight of the
+-- steps that began in trusted code, what went out of the modules, and the items of the feed
 pub data Shows (l : Layout) (o : OState) : ℕ → ℕ → List OutEvent → List Item → OState → Type 0 where
   none_yet : Shows l o 0 0 [] [] o
   and_then : {j n : ℕ} {es : List OutEvent} {is : List Item} {p q : OState} → Shows l o j n es is p
@@ -50,8 +50,8 @@ TakesLong world stack feed events n =
     (f : ℕ) → f * 200 < n → ((meaning world stack feed f).end ≡ OutOfFuel)
     × Prefix (meaning world stack feed f).events events
 
--- at a matched point: where it stands outside, where the next step halts or fails in trusted code, where it goes
--- on there, and the bound of 200 instructions on a tick
+-- at a matched point: where it stands outside, where the next step halts or fails in trusted code, where it
+-- goes on there, and the bound of 200 instructions on a tick
 pub record MeansAt (world : World) (stack : ℕ) (l : Layout) (n : ℕ) (es : List OutEvent) (is : List Item)
     (p : OState) : Type 0 where
   pub waits : is_inside l p ≡ false → ComesTo world stack is Waiting es
@@ -76,4 +76,5 @@ AgreesAlways world stack s =
 
 -- then the theorem holds of the start
 abbrev pub AgreeingRunsMean : Type 0
-AgreeingRunsMean = (world : World) (stack : ℕ) (s : StartSeen) → AgreesAlways world stack s → SourcesMean world stack s
+AgreeingRunsMean = (world : World) (stack : ℕ) (s : StartSeen) → AgreesAlways world stack s
+    → SourcesMean world stack s

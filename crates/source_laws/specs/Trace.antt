@@ -1,6 +1,5 @@
 -- What a run of the overlay shows to a source: what leaves, what comes in, the weight of its trusted steps,
--- and where
--- it stands.
+-- and where it stands.
 use Rattle.std.specs.Prelude.{ℕ, zero, suc, ◌+◌, ℤ, pos, Bool, true, false, List, [], ◌∷◌, ◌++◌, Option, Some}
 use Rattle.std.specs.Prelude.{None}
 use Rattle.cap_words.specs.declared.Word.{Word}

@@ -4,14 +4,12 @@ use Rattle.proc_program.specs.View.{args_of}
 use Rattle.proc_program.specs.StepView.{block_of}
 use Rattle.proc_semantics.specs.declared.value.Value.TheVariants.{Num}
 use Rattle.proc_meaning.specs.declared.work.Now.TheVariants as now
-use Rattle.proc_meaning.specs.declared.work.Work.TheVariants.{Operate, SetElement, Rest, Turn}
-use Rattle.proc_semantics.specs.Told.{Comp}
-use Rattle.proc_semantics.specs.Values.{Store, set_word, word_at}
-use Rattle.proc_semantics.specs.Meaning.{block, assigned, element_at, result_of, with_place}
+use Rattle.proc_meaning.specs.declared.work.Work.TheVariants.{Operate, SetElement}
+use Rattle.proc_semantics.specs.Values.{set_word, word_at}
+use Rattle.proc_semantics.specs.Meaning.{assigned, element_at, result_of, with_place}
 use Rattle.proc_semantics.specs.Meaning.{with_number}
-use Rattle.proc_semantics.specs.Whole.{whole}
-use Rattle.proc_meaning.specs.Rest.{with_value, call_with, after, back}
-use Rattle.proc_meaning.proofs.Works.{pushed, kept, reversed, zero_if, other_if}
+use Rattle.proc_meaning.specs.Rest.{with_value, call_with, chosen, tested, after, back}
+use Rattle.proc_meaning.proofs.Works.{mapped, pushed, kept}
 use Rattle.proc_meaning.proofs.steps.give_to.Goals as goal
 
 pub returns-in-Some-clause-same : goal.returns-in-Some-clause-same
@@ -104,47 +102,6 @@ returns-in-Forget-clause-same c world =
     ap (λ w. with_value world (w ∷ ws) f env v st) c.in-Forget.is
     ∙ sym (kept world now.Next items r st)
 
-pub returns-then-v-eq0-clause-same : goal.returns-then-v-eq0-clause-same
-returns-then-v-eq0-clause-same c world =
-    let items = c.args.work.now.items in let ws = reverse items in let r = c.args.run.now in
-    let f = r.frame in let env = r.env.items in let st = c.args.store.now.items in let v = c.args.v in
-    let z : to_z w64 (of_z w64 v) ≡ v = search rules in
-    ap (λ w. with_value world (w ∷ ws) f env v st) c.in-Choose.is
-    ∙ ap (λ (m : Store → Comp). m st) (zero_if v _ _ (sym z ∙ ap (to_z w64) c.if-v-eq0.true))
-    ∙ sym (pushed world now.Next items c.push-then-v-eq0.new.self.items
-    (Rest c.in-Choose.b) r st c.in_ok-push-in-Choose.ensures.items)
-
-pub returns-in-Choose-clause-same : goal.returns-in-Choose-clause-same
-returns-in-Choose-clause-same c world =
-    let items = c.args.work.now.items in let ws = reverse items in let r = c.args.run.now in
-    let f = r.frame in let env = r.env.items in let st = c.args.store.now.items in let v = c.args.v in
-    ap (λ w. with_value world (w ∷ ws) f env v st) c.in-Choose.is
-    ∙ ap (λ (m : Store → Comp). m st) (other_if v _ _ (λ e. c.if-v-eq0.false (ap (of_z w64) e)))
-    ∙ sym (pushed world now.Next items c.push-in-Choose.new.self.items
-    (Rest c.in-Choose.a) r st c.in_ok-push-in-Choose-2.ensures.items)
-
-pub returns-then-v-eq0-2-clause-same : goal.returns-then-v-eq0-2-clause-same
-returns-then-v-eq0-2-clause-same c world =
-    let items = c.args.work.now.items in let ws = reverse items in let r = c.args.run.now in
-    let f = r.frame in let env = r.env.items in let st = c.args.store.now.items in let v = c.args.v in
-    let z : to_z w64 (of_z w64 v) ≡ v = search rules in
-    ap (λ w. with_value world (w ∷ ws) f env v st) c.in-Test.is
-    ∙ ap (λ (m : Store → Comp). m st) (zero_if v _ _ (sym z ∙ ap (to_z w64) c.if-v-eq0-2.true))
-    ∙ sym (kept world now.Next items r st)
-
-pub returns-in-Test-clause-same : goal.returns-in-Test-clause-same
-returns-in-Test-clause-same c world =
-    let items = c.args.work.now.items in let ws = reverse items in let r = c.args.run.now in
-    let f = r.frame in let env = r.env.items in let st = c.args.store.now.items in let v = c.args.v in
-    let e = c.in-Test.c in let b = c.in-Test.b in
-    let one = c.push-in-Test.new.self.items in
-    ap (λ w. with_value world (w ∷ ws) f env v st) c.in-Test.is
-    ∙ ap (λ (m : Store → Comp). m st) (other_if v _ _ (λ e. c.if-v-eq0-2.false (ap (of_z w64) e)))
-    ∙ ap (λ l. block world (whole world) f (block_of b.now) (back world l f) (after world l f) env st)
-    (sym (reversed items one (Turn e b) c.in_ok-push-in-Test.ensures.items))
-    ∙ sym (pushed world now.Next one c.push-in-Test-2.new.self.items
-    (Rest b) r st c.in_ok-push-in-Test-2.ensures.items)
-
 pub returns-in-Return-clause-same : goal.returns-in-Return-clause-same
 returns-in-Return-clause-same c world =
     let items = c.args.work.now.items in let ws = reverse items in let r = c.args.run.now in
@@ -153,3 +110,25 @@ returns-in-Return-clause-same c world =
     ap (λ w. with_value world (w ∷ ws) f env v st) c.in-Return.is
     ∙ ap (λ x. back world ws f x st) (sym z)
     ∙ sym (kept world (now.Back _) items r st)
+
+pub returns-in-Choose-clause-same : goal.returns-in-Choose-clause-same
+returns-in-Choose-clause-same c =
+    let items = c.args.work.now.items in let ws = reverse items in let r = c.args.run.now in
+    let st = c.args.store.now.items in let v = c.args.v in let x = c.in-Choose in
+    let z : to_z w64 (of_z w64 v) ≡ v = search rules in
+    mapped c.choose.result _ _ (λ a h world.
+    ap (λ w. with_value world (w ∷ ws) r.frame r.env.items v st) x.is
+    ∙ ap (λ v. chosen world v (block_of x.a.now) (block_of x.b.now) r.frame
+    (back world ws r.frame) (after world ws r.frame) r.env.items st) (sym z)
+    ∙ h world r st) c.choose.ensures.same
+
+pub returns-in-Test-clause-same : goal.returns-in-Test-clause-same
+returns-in-Test-clause-same c =
+    let items = c.args.work.now.items in let ws = reverse items in let r = c.args.run.now in
+    let st = c.args.store.now.items in let v = c.args.v in let x = c.in-Test in
+    let z : to_z w64 (of_z w64 v) ≡ v = search rules in
+    mapped c.test.result _ _ (λ a h world.
+    ap (λ w. with_value world (w ∷ ws) r.frame r.env.items v st) x.is
+    ∙ ap (λ v. tested world v x.c.now (block_of x.b.now) r.frame
+    (back world ws r.frame) (after world ws r.frame) r.env.items st) (sym z)
+    ∙ h world r st) c.test.ensures.same

@@ -1,4 +1,4 @@
--- Expressions: a number, and a sum of two.
+-- Words in slots, of which one is set, and those that agree below a slot.
 use Rattle.std.proofs.Common.{◌≡◌, ℕ, zero, suc, ◌<◌, List, [], ◌∷◌, length, Some, refl, arith}
 use Rattle.std.specs.Prelude.{slice_get}
 use Rattle.overlay_machine.specs.declared.words.OWord.{OWord}
