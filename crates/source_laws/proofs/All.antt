@@ -34,8 +34,7 @@ use Rattle.source_laws.specs.Trace.{standing, trace, Trace}
 use Rattle.template_runs.specs.Runs.{is_inside}
 use Rattle.source_laws.specs.Sources.{SourcesMean}
 use Rattle.source_laws.proofs.Sum.{agreeing_runs}
-use Rattle.source_laws.specs.Good.{Fits, Agrees}
-use Rattle.proc_semantics.specs.Fuel.{Prefix}
+use Rattle.source_laws.specs.Good.{Fits, Agrees, Prefix, events_of}
 use Rattle.source_laws.proofs.Rules.{waits}
 use Rattle.source_laws.proofs.Upto.{none_inside, UpTo, go_fail}
 use Rattle.template_runs.proofs.Valid.{Valid}
@@ -164,7 +163,8 @@ module _ (world : World) (g : Link) (linked : Linked g) (Begins : Target → Par
   agrees_same c t m m' same a = record {
     enough = a.enough;
     fits = λ f le. subst (Fits t.final t.out) (same f t.items) (a.fits f le);
-    slow = λ f lt. subst (λ x. (x.end ≡ OutOfFuel) × Prefix x.events t.out) (same f t.items) (a.slow f lt);
+    slow = λ f lt. subst (λ x. (x.end ≡ OutOfFuel) × Prefix (events_of x) t.out) (same f t.items)
+        (a.slow f lt);
   }
 
   -- the return of main fails

@@ -35,11 +35,12 @@ use Rattle.proc_semantics.specs.Meaning.{Wait, resumed}
 use Rattle.proc_semantics.specs.Whole.{whole}
 use Rattle.source_laws.specs.Trace as told
 use Rattle.template_runs.specs.Runs.{is_inside, Makes}
-use Rattle.source_laws.specs.Trace.{outs_of, items_of}
+use Rattle.source_laws.specs.Trace.{outs_of}
 use Rattle.template_runs.proofs.Steps.{At, Placed}
 use Rattle.template_runs.proofs.Rows.{Here}
 use Rattle.source_laws.proofs.Waiting.{IsFor, Resumes, WaitLaw}
 use Rattle.trace_tool.specs.Feed.{integer_in}
+use Rattle.run_items.specs.Items.{event_told}
 use Rattle.template_runs.specs.Public.{IsPublic}
 use Rattle.cap_words.specs.declared.Sealable.{Sealable}
 
@@ -66,7 +67,8 @@ module _ (g : Link) (linked : Linked g) where
         → WaitLaw world g linked Begins StoreIs RegsAre n → is_inside g.layout Q ≡ false
         → ((r : Reg) → IsPublic g (reg Q.maps.regs r)) → StoreIs st mem
         → IsFor world g linked Begins StoreIs RegsAre wt F
-        → told.outs_of g.layout (flat_view g.layout Q) (Some (Called false i (top - w) top)) ≡ out ∷ []
+        → told.outs_of g.layout (flat_view g.layout Q) (Some (Called false i (top - w) top))
+        ≡ event_told out ∷ []
         → ((m : ℕ) → m ≤ n → (v : ℤ) (st' : Store) (mem' : ℕ → OWord) (q : OState)
         → Here g linked p w top words mem' fs q → At g linked p (k + 26 + 1) q
         → q.maps.regs.g0 ≡ Plain (Int v) → fits_64 v ≡ true → StoreIs st' mem'

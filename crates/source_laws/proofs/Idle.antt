@@ -42,7 +42,7 @@ use Rattle.proc_semantics.specs.Whole.{whole}
 use Rattle.proc_semantics.proofs.Recursive.{recursive}
 use Rattle.overlay_machine.proofs.invariant.ReturnKept.{Returned}
 use Rattle.flow_check.specs.Places.{begins_entry}
-use Rattle.source_laws.specs.Trace.{feed_back, int_or, feed_pairs}
+use Rattle.source_laws.specs.Trace.{feed_back, feed_pairs}
 use Rattle.source_laws.proofs.Upto.{UpTo, go_on, go_out, go_fail, spend}
 use Rattle.template_runs.proofs.Valid.{Valid}
 use Rattle.template_runs.proofs.Steps.{At, inside_here}
@@ -54,6 +54,7 @@ use Rattle.template_runs.proofs.Ends.{weight_small}
 use Rattle.template_runs.proofs.Back.{Tells, fails_bad, goes_out, tells, goes_in}
 use Rattle.template_runs.proofs.Mixed.{mixed}
 use Rattle.source_laws.proofs.Waiting.{Meets, left_same}
+use Rattle.trace_tool.specs.Feed as line
 use Rattle.trace_tool.specs.Feed.{integer_in, left_in, integers_in}
 use Rattle.trace_tool.specs.Pairs.{pairs_of}
 use Rattle.template_runs.proofs.Named.{Named}
@@ -236,10 +237,11 @@ module _ (world : World) (g : Link) (linked : Linked g) (Begins : Target → Par
         by_tells x y ex ey eb (goes_out q' b l) =
             let a0 : (flat_view g.layout q').reg A0 ≡ Int v = ap (flat g.layout q'.frames) (l.a0 ∙ a.value) in
             let fits = a.fits in
-            let value : int_or (integer_in ((flat_view g.layout q').reg A0)) ≡ v =
-            ap (λ z. int_or (integer_in z)) a0 ∙ rw (a.fits) refl in
-            let shows = ap (λ z. LeaveOut z (int_or (integer_in ((flat_view g.layout q').reg A0))) ∷ [])
-            (names l.owner l.owner_is) ∙ ap (λ z. LeaveOut (part_of world t.home) z ∷ []) value in
+            let value : line.out_arg (integer_in ((flat_view g.layout q').reg A0)) ≡ line.integer v =
+            ap (λ z. line.out_arg (integer_in z)) a0 ∙ rw (a.fits) refl in
+            let shows = ap (λ z. line.leave_out z
+            (line.out_arg (integer_in ((flat_view g.layout q').reg A0))) ∷ [])
+            (names l.owner l.owner_is) ∙ ap (λ z. line.leave_out (part_of world t.home) z ∷ []) value in
             let less : 1 + c ≤ c + 100 = omega arith in
             let kept : DataIs g linked mem q'.maps.cells =
             λ r d ir lt. ap (λ m. cell m (r.component.data_base + d)) l.cells ∙ a.globs r d ir lt in

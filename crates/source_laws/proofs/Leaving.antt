@@ -24,7 +24,7 @@ use Rattle.overlay_machine.specs.declared.events.Back.TheVariants.{Out, Bad, Hop
 use Rattle.overlay_machine.specs.Words.{look, is_plain}
 use Rattle.overlay_machine.specs.Layout.{site_code}
 use Rattle.overlay_machine.specs.State.{OpenFrame, OState, frame_of}
-use Rattle.overlay_machine.specs.Step.{fails, case_of, step_by, return_step, return_by, own_stack}
+use Rattle.overlay_machine.specs.Step.{fails, step_by, return_step, return_by, own_stack}
 use Rattle.overlay_machine.specs.Step.{overlay_step}
 use Rattle.overlay_machine.specs.Step as step
 use Rattle.overlay_machine.specs.Flat.{flat}
@@ -49,7 +49,7 @@ use Rattle.proc_semantics.specs.declared.value.Register.{Register}
 use Rattle.proc_semantics.specs.Meaning.{Then, resumed, returned, hopped, left_by, part_of}
 use Rattle.proc_semantics.specs.Whole.{whole}
 use Rattle.proc_semantics.proofs.Recursive.{recursive}
-use Rattle.source_laws.specs.Trace.{feed_back, int_or}
+use Rattle.source_laws.specs.Trace.{feed_back}
 use Rattle.source_laws.proofs.Upto.{UpTo, go_on, go_out, go_silent, go_fail, spend}
 use Rattle.template_runs.proofs.Valid.{Valid}
 use Rattle.template_runs.proofs.Steps.{At, Placed, inside_here}
@@ -60,6 +60,7 @@ use Rattle.template_runs.proofs.Ends.{back_returned}
 use Rattle.template_runs.proofs.Back.{Tells, fails_bad, goes_out, tells, goes_in}
 use Rattle.template_runs.proofs.Mixed.{mixed}
 use Rattle.source_laws.proofs.Waiting.{Meets, WaitLaw, LeaveLaw}
+use Rattle.trace_tool.specs.Feed as line
 use Rattle.trace_tool.specs.Feed.{integer_in}
 use Rattle.template_runs.proofs.Named.{Named}
 
@@ -93,9 +94,6 @@ module _ (g : Link) (linked : Linked g) (p : PartSeen) (k : ℕ) (q : OState) (v
 
   module _ (u uh : SiteCode) (hf : OpenFrame) (iu : site_code g.layout i ≡ Some u)
       (fk : frame_of q.frames j ≡ Some hf) (iuh : site_code g.layout hf.site ≡ Some uh) where
-    abbrev told_back : Back
-    told_back = back_of g.layout (flat g.layout q.frames (RetCode i)) (flat g.layout q.frames (RetData j))
-
     seals_differ : (u.seal == uh.seal) ≡ false
         → back_of g.layout (flat g.layout q.frames (RetCode i)) (flat g.layout q.frames (RetData j)) ≡ Bad
     unfolding flat ask need
@@ -235,10 +233,11 @@ module _ (world : World) (g : Link) (linked : Linked g) (Begins : Target → Par
         by_tells x y ex ey eb (goes_out q' b l) =
             let a0 : (flat_view g.layout q').reg A0 ≡ Int v = ap (flat g.layout q'.frames) (l.a0 ∙ a.value) in
             let fits = a.fits in
-            let value : int_or (integer_in ((flat_view g.layout q').reg A0)) ≡ v =
-            ap (λ z. int_or (integer_in z)) a0 ∙ rw (a.fits) refl in
-            let shows = ap (λ z. LeaveOut z (int_or (integer_in ((flat_view g.layout q').reg A0))) ∷ [])
-            (names l.owner l.owner_is) ∙ ap (λ z. LeaveOut (part_of world t.home) z ∷ []) value in
+            let value : line.out_arg (integer_in ((flat_view g.layout q').reg A0)) ≡ line.integer v =
+            ap (λ z. line.out_arg (integer_in z)) a0 ∙ rw (a.fits) refl in
+            let shows = ap (λ z. line.leave_out z
+            (line.out_arg (integer_in ((flat_view g.layout q').reg A0))) ∷ [])
+            (names l.owner l.owner_is) ∙ ap (λ z. line.leave_out (part_of world t.home) z ∷ []) value in
             let less : 1 + c ≤ c + 100 = omega arith in
             let kept : DataIs g linked mem q'.maps.cells =
             λ r d ir lt. ap (λ m. cell m (r.component.data_base + d)) l.cells ∙ a.globs r d ir lt in

@@ -5,12 +5,13 @@ use Rattle.cap_words.specs.declared.Word.{Word}
 use Rattle.cap_words.specs.declared.Word.TheVariants.{Int}
 use Rattle.source_events.specs.declared.Item.{Item}
 use Rattle.source_events.specs.declared.OutEvent.{OutEvent}
+use Rattle.trace_tool.specs.Feed as line
+use Rattle.run_items.specs.Items.{event_told}
 use Rattle.source_events.specs.declared.End.TheVariants.{Halt as Halted, Fail as Fails, OutOfFuel}
 use Rattle.source_events.specs.declared.Told.{Told}
 use Rattle.proc_semantics.specs.Told.{Comp, ends, tick, ticks, emit, take_item, counted, said}
 use Rattle.source_laws.specs.Trace.{Trace, Final, Running, Outside, HaltedWith, Failed, shown, rests}
-use Rattle.source_laws.specs.Good.{Fits, Agrees}
-use Rattle.proc_semantics.specs.Fuel.{Prefix}
+use Rattle.source_laws.specs.Good.{Fits, Agrees, Prefix, events_of}
 
 pub weaker : (b c : ℕ) (t : Trace) (m : Comp) → b ≤ c → Agrees b t m → Agrees c t m
 weaker b c t m le a = record {
@@ -19,7 +20,7 @@ weaker b c t m le a = record {
   slow = λ f s. a.slow f (omega (arith, s, le));
 }
 
-fits_counted : (x : Final) (out : List OutEvent) (t : Told) → Fits x out t → Fits x out (counted t)
+fits_counted : (x : Final) (out : List line.OutEvent) (t : Told) → Fits x out t → Fits x out (counted t)
 fits_counted Running out t h = h
 fits_counted Outside out t h = h
 fits_counted (HaltedWith v) out t h = h
@@ -34,7 +35,7 @@ ticked c t m a = record { enough = suc a.enough; fits = fits; slow = slow }
     fits (suc f) e = fits_counted t.final t.out (m f t.items) (a.fits f (omega (arith, e)))
 
     slow : (f : ℕ) → f * 200 + c < t.weight → ((tick m f t.items).end ≡ OutOfFuel)
-        × Prefix (tick m f t.items).events t.out
+        × Prefix (events_of (tick m f t.items)) t.out
     slow zero s = (refl, (t.out, refl))
     slow (suc f) s = a.slow f (omega (arith, s))
 
@@ -49,20 +50,20 @@ ticked_many (suc n) c t m a =
 pub unseen : (n c : ℕ) (t : Trace) (m : Comp) → Agrees c t m → Agrees (n + c) (shown [] [] n t) m
 unseen n c t m a = record { enough = a.enough; fits = a.fits; slow = λ f s. a.slow f (omega (arith, s)) }
 
-fits_said : (x : Final) (out : List OutEvent) (e : OutEvent) (t : Told) → Fits x out t
-    → Fits x (e ∷ out) (said e t)
-fits_said Running out e t h = (h.0, ap (λ es. e ∷ es) h.1)
-fits_said Outside out e t h = (h.0, ap (λ es. e ∷ es) h.1)
-fits_said (HaltedWith v) out e t h = (h.0, h.1, h.2, ap (λ es. e ∷ es) h.3)
-fits_said Failed out e t h = (h.0, ap (λ es. e ∷ es) h.1)
+fits_said : (x : Final) (out : List line.OutEvent) (e : OutEvent) (t : Told) → Fits x out t
+    → Fits x (event_told e ∷ out) (said e t)
+fits_said Running out e t h = (h.0, ap (λ es. event_told e ∷ es) h.1)
+fits_said Outside out e t h = (h.0, ap (λ es. event_told e ∷ es) h.1)
+fits_said (HaltedWith v) out e t h = (h.0, h.1, h.2, ap (λ es. event_told e ∷ es) h.3)
+fits_said Failed out e t h = (h.0, ap (λ es. event_told e ∷ es) h.1)
 
 -- one that is an outgoing event
 pub seen : (n c : ℕ) (e : OutEvent) (t : Trace) (m : Comp) → Agrees c t m
-    → Agrees (n + c) (shown (e ∷ []) [] n t) (emit e m)
+    → Agrees (n + c) (shown (event_told e ∷ []) [] n t) (emit e m)
 seen n c e t m a = record {
   enough = a.enough;
   fits = λ f h. fits_said t.final t.out e (m f t.items) (a.fits f h);
-  slow = λ f s. let r = a.slow f (omega (arith, s)) in (r.0, (r.1.0, ap (λ es. e ∷ es) r.1.1));
+  slow = λ f s. let r = a.slow f (omega (arith, s)) in (r.0, (r.1.0, ap (λ es. event_told e ∷ es) r.1.1));
 }
 
 -- one that takes an item of the feed
@@ -78,7 +79,7 @@ taken c i t m k e a = subst (Agrees c (shown [] (i ∷ []) 0 t)) (sym e) (record
 pub stopped : (c : ℕ) (m : Comp) → Agrees c (rests 0 Running) m
 stopped c m = record {
   enough = 0;
-  fits = λ f h. ((m f []).events, refl);
+  fits = λ f h. (events_of (m f []), refl);
   slow = λ f s. absurd (omega (arith, s));
 }
 

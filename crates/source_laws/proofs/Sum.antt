@@ -11,7 +11,7 @@ use Rattle.overlay_machine.specs.Starting.{overlay_at}
 use Rattle.trace_tool.specs.Layout.{layout}
 use Rattle.trace_tool.specs.Views.{flat_view}
 use Rattle.proc_semantics.specs.Values.{World}
-use Rattle.source_events.specs.declared.OutEvent.{OutEvent}
+use Rattle.trace_tool.specs.Feed.{OutEvent}
 use Rattle.source_events.specs.declared.Item.{Item}
 use Rattle.source_events.specs.declared.End.TheVariants.{Halt as Halted}
 use Rattle.proc_semantics.specs.Told.{Comp}
@@ -19,7 +19,7 @@ use Rattle.proc_semantics.specs.Meaning.{meaning}
 use Rattle.source_laws.specs.Trace.{Running, Outside, HaltedWith, Failed, rests, shown, outs_of, items_of}
 use Rattle.source_laws.specs.Trace.{standing, ended, weighed, show, trace, Trace, Final}
 use Rattle.template_runs.specs.Runs.{is_inside}
-use Rattle.source_laws.specs.Good.{Agrees}
+use Rattle.source_laws.specs.Good.{Agrees, events_of}
 use Rattle.source_laws.specs.Sources.{Shows, none_yet, and_then, TakesLong, MeansAt, AgreeingRunsMean}
 
 shown_shown : (es fs : List OutEvent) (is ks : List Item) (n m : ℕ) (t : Trace)
@@ -144,7 +144,7 @@ module _ (world : World) (stack : ℕ) (l : Layout) (o : OState)
             }) (λ fuel feed. meaning world stack feed fuel))
             (v : ℤ) → (flat_view l p).reg A0 ≡ Int v
             → (f : ℕ) → a.enough ≤ f → ((meaning world stack is f).end ≡ Halted v)
-            × ((meaning world stack is f).events ≡ es)
+            × (events_of (meaning world stack is f) ≡ es)
         halted a v e f le =
             let b = a.fits f le in
             let same : Int b.0 ≡ Int v = sym b.1 ∙ e in

@@ -10,6 +10,7 @@ use Rattle.overlay_machine.specs.State.{OState}
 use Rattle.overlay_machine.specs.Step.{halts, fails, overlay_step, weight_of}
 use Rattle.trace_tool.specs.Views.{flat_view}
 use Rattle.source_events.specs.declared.OutEvent.{OutEvent}
+use Rattle.run_items.specs.Items.{event_told}
 use Rattle.source_events.specs.declared.End.TheVariants.{Fail, Halt}
 use Rattle.proc_semantics.specs.Told.{Comp, ends, tick, ticks, emit}
 use Rattle.template_runs.specs.Runs.{is_inside, Makes, Runs, Failing, Halting}
@@ -93,14 +94,14 @@ module _ (l : Layout) where
 
   -- one step that is an outgoing event
   pub go_out : (n w c : ℕ) (e : Option Event) (out : OutEvent) (o q : OState) (m : Comp) → Makes l w e o q
-      → outs_of l (flat_view l q) e ≡ out ∷ [] → items_of l (flat_view l q) e ≡ [] → UpTo l n c q m
+      → outs_of l (flat_view l q) e ≡ event_told out ∷ [] → items_of l (flat_view l q) e ≡ [] → UpTo l n c q m
       → UpTo l (suc n) (w + c) o (emit out m)
   go_out n w c e out o q m k eo ei u = record { by = by }
     where
-      shows : (j : ℕ) → trace l (suc j) o ≡ shown (out ∷ []) [] w (trace l j q)
+      shows : (j : ℕ) → trace l (suc j) o ≡ shown (event_told out ∷ []) [] w (trace l j q)
       shows j =
           trace_goes j w e o q k ∙ ap (λ x. shown x (items_of l (flat_view l q) e) w (trace l j q)) eo
-          ∙ ap (λ x. shown (out ∷ []) x w (trace l j q)) ei
+          ∙ ap (λ x. shown (event_told out ∷ []) x w (trace l j q)) ei
 
       by : (j : ℕ) → j ≤ suc n → Agrees (w + c) (trace l j o) (emit out m)
       by zero le =

@@ -12,15 +12,14 @@ use Rattle.overlay_machine.specs.Starting.{overlay_at}
 use Rattle.trace_tool.specs.Layout.{layout}
 use Rattle.trace_tool.specs.Views.{flat_view}
 use Rattle.proc_semantics.specs.Values.{World}
-use Rattle.source_events.specs.declared.OutEvent.{OutEvent}
+use Rattle.trace_tool.specs.Feed.{OutEvent}
 use Rattle.source_events.specs.declared.Item.{Item}
 use Rattle.source_events.specs.declared.End.{End}
 use Rattle.source_events.specs.declared.End.TheVariants.{Halt as Halted, Fail as Fails, Waiting, OutOfFuel}
 use Rattle.proc_semantics.specs.Meaning.{meaning}
 use Rattle.template_runs.specs.Runs.{is_inside}
 use Rattle.source_laws.specs.Trace.{outs_of, items_of, weighed, trace}
-use Rattle.source_laws.specs.Good.{Agrees}
-use Rattle.proc_semantics.specs.Fuel.{Prefix}
+use Rattle.source_laws.specs.Good.{Agrees, Prefix, events_of}
 
 -- from one overlay a run of this weight comes to another, which is a matched point: of it the weight of the
 -- steps that began in trusted code, what went out of the modules, and the items of the feed
@@ -37,18 +36,18 @@ pub record ComesTo (world : World) (stack : ℕ) (feed : List Item) (end : End) 
     0 where
   pub enough : ℕ
   pub ends : (f : ℕ) → enough ≤ f → ((meaning world stack feed f).end ≡ end)
-      × ((meaning world stack feed f).events ≡ events)
+      × (events_of (meaning world stack feed f) ≡ events)
 
 -- under every large enough fuel its events begin with these
 pub record BeginsWith (world : World) (stack : ℕ) (feed : List Item) (events : List OutEvent) : Type 0 where
   pub enough : ℕ
-  pub begins : (f : ℕ) → enough ≤ f → Prefix events (meaning world stack feed f).events
+  pub begins : (f : ℕ) → enough ≤ f → Prefix events (events_of (meaning world stack feed f))
 
 -- it is out of fuel under every fuel that is too small for so many instructions, after some of these events
 abbrev pub TakesLong : World → ℕ → List Item → List OutEvent → ℕ → Type 0
 TakesLong world stack feed events n =
     (f : ℕ) → f * 200 < n → ((meaning world stack feed f).end ≡ OutOfFuel)
-    × Prefix (meaning world stack feed f).events events
+    × Prefix (events_of (meaning world stack feed f)) events
 
 -- at a matched point: where it stands outside, where the next step halts or fails in trusted code, where it
 -- goes on there, and the bound of 200 instructions on a tick

@@ -1,6 +1,6 @@
 -- What a run of the overlay shows to a source: what leaves, what comes in, the weight of its trusted steps,
 -- and where it stands.
-use Rattle.std.specs.Prelude.{ℕ, zero, suc, ◌+◌, ℤ, pos, Bool, true, false, List, [], ◌∷◌, ◌++◌, Option, Some}
+use Rattle.std.specs.Prelude.{ℕ, zero, suc, ◌+◌, ℤ, Bool, true, false, List, [], ◌∷◌, ◌++◌, Option, Some}
 use Rattle.std.specs.Prelude.{None}
 use Rattle.cap_words.specs.declared.Word.{Word}
 use Rattle.lcm_isa.specs.declared.Reg.TheVariants.{Stk, A0}
@@ -19,6 +19,7 @@ use Rattle.trace_tool.specs.Layout.{part_name, entry_name, site_of}
 use Rattle.trace_tool.specs.Views.{View, flat_view}
 use Rattle.trace_tool.specs.Pairs.{pairs_of}
 use Rattle.trace_tool.specs.Lines.{args_of}
+use Rattle.trace_tool.specs.Feed as line
 use Rattle.trace_tool.specs.Feed.{integer_in, integers_in, left_in}
 use Rattle.source_events.specs.declared.FeedBack.{FeedBack}
 use Rattle.source_events.specs.declared.FeedBack.TheVariants as way
@@ -28,17 +29,13 @@ use Rattle.source_events.specs.declared.Item.{Item}
 use Rattle.source_events.specs.declared.Item.TheVariants.{Enter, Ret}
 use Rattle.source_events.specs.declared.OutArg.{OutArg}
 use Rattle.source_events.specs.declared.OutArg.TheVariants.{Int, Half}
-use Rattle.source_events.specs.declared.OutEvent.{OutEvent}
-use Rattle.source_events.specs.declared.OutEvent.TheVariants.{CallOut, LeaveOut}
+use Rattle.source_events.specs.declared.OutEvent.TheVariants.{CallOut}
+use Rattle.run_items.specs.Items.{event_told}
 use Rattle.template_runs.specs.Runs.{is_inside}
 
 abbrev pub out_arg : Option ℤ → OutArg
 out_arg (Some z) = Int z
 out_arg None = Half
-
-abbrev pub int_or : Option ℤ → ℤ
-int_or (Some z) = z
-int_or None = pos 0
 
 abbrev pub out_args : View → List OutArg
 out_args v =
@@ -63,14 +60,15 @@ module _ (l : Layout) where
 
   -- ---- of an event, whose state behind it shows these words
 
-  abbrev pub outs_of : View → Option Event → List OutEvent
+  abbrev pub outs_of : View → Option Event → List line.OutEvent
   outs_of v None = []
   outs_of v (Some (Called true i base last)) = []
   outs_of v (Some (Called false i base last)) =
-      CallOut (part_name l (site_of l i).part) (site_of l i).index (out_args v) ∷ []
+      event_told (CallOut (part_name l (site_of l i).part) (site_of l i).index (out_args v)) ∷ []
   outs_of v (Some (Returned inward i base last)) = []
   outs_of v (Some (Entered part k back)) = []
-  outs_of v (Some (Left part)) = LeaveOut (part_name l part) (int_or (integer_in (v.reg A0))) ∷ []
+  outs_of v (Some (Left part)) =
+      line.leave_out (part_name l part) (line.out_arg (integer_in (v.reg A0))) ∷ []
 
   abbrev pub items_of : View → Option Event → List Item
   items_of v None = []
@@ -93,12 +91,12 @@ pub data Final : Type 0 where
   Failed : Final
 
 pub record Trace : Type 0 where
-  pub out : List OutEvent
+  pub out : List line.OutEvent
   pub items : List Item
   pub weight : ℕ
   pub final : Final
 
-abbrev pub shown : List OutEvent → List Item → ℕ → Trace → Trace
+abbrev pub shown : List line.OutEvent → List Item → ℕ → Trace → Trace
 shown es is n t =
     record { out = es ++ t.out; items = is ++ t.items; weight = n + t.weight; final = t.final }
 

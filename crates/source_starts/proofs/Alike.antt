@@ -55,7 +55,7 @@ ints_same m (z ∷ zs) = ap (λ ws. Int z ∷ ws) (ints_same m zs)
 
 zeros_same : (m : _) (n : ℕ) (ws : List Word)
     → map (moved_word m) (replicate n (Int (pos 0)) ++ ws) ≡ replicate n (Int (pos 0)) ++ map (moved_word m)
-        ws
+    ws
 zeros_same m zero ws = refl
 zeros_same m (suc n) ws = ap (λ ws. Int (pos 0) ∷ ws) (zeros_same m n ws)
 
@@ -127,9 +127,10 @@ module _ (m : Part) (c : ComponentFields) (is : IsPlaced m c) where
 
   starts_same : (o : ℕ) (is : List Instr) → Starts (component_of m) o is → Starts c o is
   starts_same o [] h = tt
-  starts_same o (i ∷ is) h =
-      (record { stands = stands_same o i h.0.stands; label = label_same o h.0.label },
-          run_same (o + 1) is h.1)
+  starts_same o (i ∷ is) h = (
+    record { stands = stands_same o i h.0.stands; label = label_same o h.0.label },
+    run_same (o + 1) is h.1,
+  )
 
   within_same : (o : ℕ) → nat_lt o (length (component_of m).code) ≡ true → nat_lt o (length c.code) ≡ true
   within_same o e = ap (nat_lt o) is.code_length ∙ e
@@ -164,8 +165,11 @@ module _ (m : Part) (c : ComponentFields) (is : IsPlaced m c) where
   site_same j o finishes h = tt
   site_same j o label h = tt
   site_same j o site h =
-      record { begins = sites_same o ∙ h.begins; listed = ap (λ (xs : List ℕ). slice_get xs j) is.sites
-          ∙ h.listed }
+      record {
+        begins = sites_same o ∙ h.begins;
+        listed = ap (λ (xs : List ℕ). slice_get xs j) is.sites
+            ∙ h.listed;
+      }
   site_same j o entry h = tt
   site_same j o leaves h = tt
 

@@ -103,18 +103,21 @@ module _ (c : ComponentFields) where
   sites_at spot [] l r g = tt
   sites_at spot (x ∷ xs) l r g =
       let m = put spot l x in
-      let grown = grow_lay spot xs m in
-      (site_here spot l x (rest_lay spot xs m c r) (record { at = λ j y e. g.at j y (grown.at j y e) }),
+      let grown = grow_lay spot xs m in (
+        site_here spot l x (rest_lay spot xs m c r) (record { at = λ j y e. g.at j y (grown.at j y e) }),
         subst (λ n. SitesAt c (next_count (length l.sites) x) n xs) (put-length spot l x)
-        (subst (λ n. SitesAt c n (length m.code) xs) (counted spot l x) (sites_at spot xs m r g)))
+            (subst (λ n. SitesAt c n (length m.code) xs) (counted spot l x) (sites_at spot xs m r g)),
+      )
 
 -- ---- procedure by procedure
 
 -- a procedure's code stands in a component, at an offset, behind so many sites
 pub record ProcStands (m : Part) (c : ComponentFields) (e j : ℕ) (p : Procedure) : Type 0 where
   pub carried : Carries c
-      (record { stack_base = m.stack;
-      epilogue = e + before_epilogue (frame_of m p) p.callbacks (block_of p.body) }) e
+      (record {
+        stack_base = m.stack;
+        epilogue = e + before_epilogue (frame_of m p) p.callbacks (block_of p.body);
+      }) e
       (proc_code (frame_of m p) p.callbacks (block_of p.body))
   pub sited : SitesAt c j e (proc_code (frame_of m p) p.callbacks (block_of p.body))
 
@@ -197,13 +200,13 @@ module _ (m : Part) (c : ComponentFields) (fails : c.fail_at ≡ Some FAIL_AT) w
       let is : q ≡ p = cc in
       subst (ProcStands m c (length l.code) (length l.sites)) is
       (one_stands l q ready.0 (omega (arith, n, all)) s (rest_procs m c fails ps (lay_proc m l q) r)
-        (grow_procs ps (lay_proc m l q) g))
+      (grow_procs ps (lay_proc m l q) g))
   procs_stand (q ∷ ps) l ready most s r g (suc i) p e =
       subst (λ k. ProcStands m c k (calls_from (length l.sites + procedure_calls q) ps i) p)
       (ap (λ n. offset_from n ps i) (laid-length m l q ready.0))
       (subst (λ k. ProcStands m c (offset_from (length (lay_proc m l q).code) ps i) k p)
-        (ap (λ n. calls_from n ps i) (proc_sites m l q))
-        (procs_stand ps (lay_proc m l q) ready.1 most (sound_proc m l q s) r g i p e))
+      (ap (λ n. calls_from n ps i) (proc_sites m l q))
+      (procs_stand ps (lay_proc m l q) ready.1 most (sound_proc m l q s) r g i p e))
 
 -- the procedures of a module stand in its component, from offset 2 on
 pub all_stand : (m : Part) → Fits m → (i : ℕ) (p : Procedure) → slice_get m.procs i ≡ Some p

@@ -41,16 +41,16 @@ into_only e (x ∷ xs) k y h = by (name_lt e.name x.name) k h (λ i g. into_only
   where
     by : (b : Bool) (k : ℕ) → slice_get (if b then e ∷ x ∷ xs else x ∷ export_into e xs) k ≡ Some y
         → ((i : ℕ) → slice_get (export_into e xs) i ≡ Some y → (e ≡ y)
-            ⊎ ((j : ℕ) × (slice_get xs j ≡ Some y)))
+        ⊎ ((j : ℕ) × (slice_get xs j ≡ Some y)))
         → (e ≡ y) ⊎ ((j : ℕ) × (slice_get (x ∷ xs) j ≡ Some y))
     by true zero h more = inl (let s : e ≡ y = cc in s)
     by true (suc k) h more = inr (k, h)
     by false zero h more = inr (0, h)
     by false (suc k) h more =
         elim (more k h) as (λ _. (e ≡ y) ⊎ ((j : ℕ) × (slice_get (x ∷ xs) j ≡ Some y))) [
-      | inl s ↦ inl s
-      | inr r ↦ inr (suc r.0, r.1)
-    ]
+          | inl s ↦ inl s
+          | inr r ↦ inr (suc r.0, r.1)
+        ]
 
 -- ---- procedures and exports
 
@@ -80,7 +80,7 @@ pub export_only : (ps : List Procedure) (o k : ℕ) (e : Export) → slice_get (
 export_only [] o k e h = absurd (let z : None ≡ Some e = h in cc)
 export_only (p ∷ ps) o k e h =
     elim (into_only (export_at o p) (exports_from (o + size_of_proc p) ps) k e h) as (λ _. IsExportOf (p ∷ ps)
-        o e) [
+    o e) [
       | inl s ↦ record { index = 0; proc = p; at = refl; is = s }
       | inr r ↦ (
           let x = export_only ps (o + size_of_proc p) r.0 e r.1 in

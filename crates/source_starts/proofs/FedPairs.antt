@@ -161,105 +161,105 @@ module _ (modules : List ModuleFields) (parts : List PartSeen) (size : ℕ) (s :
   module _ (fs : List OpenFrame) (w v : Word) (sw : IsShown G fs (Plain w)) (sv : IsShown G fs (Plain v))
       (hw : is_half w ≡ true) (hv : is_half v ≡ true) (code half : Opened) (e1 : opened_of w ≡ Some code)
       (e2 : opened_of v ≡ Some half) (n2 : content_linear half.content ≡ false) (f : JumpFacts code half)
-          where
-    abbrev Fed : Pair → Type 0
-    Fed k = PairIs G linked Begin (pair_fed W (feed_pair G.layout k)) (Plain w) (Plain v)
+    where
+      abbrev Fed : Pair → Type 0
+      Fed k = PairIs G linked Begin (pair_fed W (feed_pair G.layout k)) (Plain w) (Plain v)
 
-    code_is : w ≡ Sealed code.seal (MemIn f.cap)
-    code_is = code_word w code f.cap e1 f.memory
+      code_is : w ≡ Sealed code.seal (MemIn f.cap)
+      code_is = code_word w code f.cap e1 f.memory
 
-    half_is_word : v ≡ Sealed code.seal (inner half.content)
-    half_is_word = half_word v half e2 ∙ ap (λ n. Sealed n (inner half.content)) (sym f.one_seal)
+      half_is_word : v ≡ Sealed code.seal (inner half.content)
+      half_is_word = half_word v half e2 ∙ ap (λ n. Sealed n (inner half.content)) (sym f.one_seal)
 
-    -- under a seal of untrusted code
-    not_its : IsSafeCap G fs f.cap → is_trusted G.layout (face_of (Mem f.cap)) ≡ false
-    not_its safe = by (find (runs_part f.cap) G.layout.owners) refl
-      where
-        by : (o : Option Owner) → find (runs_part f.cap) G.layout.owners ≡ o → is_some o ≡ false
-        by None e = refl
-        by (Some o) e =
-            let h = linked.owners f.cap o e in
-            absurd (not_trusted G linked fs h.0 f.cap h.1 safe (ap (λ (c : CapFields). c.base) h.2)
+      -- under a seal of untrusted code
+      not_its : IsSafeCap G fs f.cap → is_trusted G.layout (face_of (Mem f.cap)) ≡ false
+      not_its safe = by (find (runs_part f.cap) G.layout.owners) refl
+        where
+          by : (o : Option Owner) → find (runs_part f.cap) G.layout.owners ≡ o → is_some o ≡ false
+          by None e = refl
+          by (Some o) e =
+              let h = linked.owners f.cap o e in
+              absurd (not_trusted G linked fs h.0 f.cap h.1 safe (ap (λ (c : CapFields). c.base) h.2)
               (ap (λ (c : CapFields). c.end) h.2))
 
-    led : Leads_to G linked fs code.seal f.cap (unsealed half.content) → Fed (pair_under G.layout code)
-    led (to_safe op a b) =
-        let out : pair_under G.layout code ≡ pair.Out =
-            ap (λ o. pair_to (hop_in o code.content)) (open_no_owner G linked code.seal op) in
-        subst Fed (sym out) (record {
-          called = record {
-            first = half_is (Plain w) hw;
-            second = half_is (Plain v) hv;
-            means = (
-              f.cap,
-              inner half.content,
-              code.seal,
-              record {
-                code = ap Plain code_is;
-                half = ap Plain half_is_word;
-                normal = f.normal;
-                runs = f.runs;
-                half_normal = linear_is code.seal half.content ∙ n2;
-                half_rests = ap runs_in (content_is half.content) ∙ not_true (runs_in half.content) f.rests;
-                foreign = open_foreign G linked Begin code.seal op;
-              },
-              not_its a,
-            );
-          };
-          shown = sw.1;
-          shown_too = sv.1;
-        })
-    led (to_entry p k ip en sc ec ed) =
-        let n = index_of parts p ip.0 in
-        let named = told.named n.0 p n.1 ip.1 in
-        let entry = told.entries n.0 k p n.1 ip.1 en in
-        let h = home_of modules parts aligned n.0 p n.1 ip.1 in
-        let sealed : w ≡ Sealed p.component.closure (MemIn (code_at (ranges_of p) k)) =
-        code_is ∙ ap (λ z. Sealed code.seal (MemIn z)) ec
-            ∙ ap (λ z. Sealed z (MemIn (code_at (ranges_of p) k))) sc in
-        let shared : IsSharedAt p.component k = sw.1 p k ip sealed in
-        let to = entry_found modules parts aligned (apart parts size s is) resolved h.0 p h.1 k entry.export
-            _ _
-        entry.first shared named.name entry.name in
-        let hop : pair_under G.layout code ≡ pair.Hop n.0 entry.number =
-        ap (λ o. pair_to (hop_in o code.content)) (ap (closure_owner G.layout) sc ∙ named.by_closure)
-        ∙ hop_is n.0 p k entry.number code.content f.cap f.memory ec entry.number_is in
-        subst Fed (sym hop) (subst
-            (λ o. PairIs G linked Begin (Some (pair_found o)) (Plain w) (Plain v)) (sym to.1) (record {
-          called = record {
-            first = half_is (Plain w) hw;
-            second = half_is (Plain v) hv;
-            means = (
-            p,
-            k,
-            p.component.closure,
-            to.2,
-            ip,
-            subst (λ x. Sealing G linked Begin (code_at (ranges_of p) k)
-              (MemIn (data_cap (ranges_of p) (pos p.component.data_base))) p.component.closure (Plain x)
-                  (Plain v))
-              (sym sealed) (subst (λ x. Sealing G linked Begin (code_at (ranges_of p) k)
-              (MemIn (data_cap (ranges_of p) (pos p.component.data_base))) p.component.closure
-              (Plain (Sealed p.component.closure (MemIn (code_at (ranges_of p) k)))) (Plain x))
-              (sym (half_is_word ∙ ap (λ z. Sealed z (inner half.content)) sc
-                ∙ ap (Sealed p.component.closure) (data_word half (whole_data p) ed)))
-              (trusted_pair G linked Begin p k ip)),
-            );
-          };
-          shown = sw.1;
-          shown_too = sv.1;
-        }))
+      led : Leads_to G linked fs code.seal f.cap (unsealed half.content) → Fed (pair_under G.layout code)
+      led (to_safe op a b) =
+          let out : pair_under G.layout code ≡ pair.Out =
+          ap (λ o. pair_to (hop_in o code.content)) (open_no_owner G linked code.seal op) in
+          subst Fed (sym out) (record {
+            called = record {
+              first = half_is (Plain w) hw;
+              second = half_is (Plain v) hv;
+              means = (
+                f.cap,
+                inner half.content,
+                code.seal,
+                record {
+                  code = ap Plain code_is;
+                  half = ap Plain half_is_word;
+                  normal = f.normal;
+                  runs = f.runs;
+                  half_normal = linear_is code.seal half.content ∙ n2;
+                  half_rests = ap runs_in (content_is half.content) ∙ not_true (runs_in half.content) f.rests;
+                  foreign = open_foreign G linked Begin code.seal op;
+                },
+                not_its a,
+              );
+            };
+            shown = sw.1;
+            shown_too = sv.1;
+          })
+      led (to_entry p k ip en sc ec ed) =
+          let n = index_of parts p ip.0 in
+          let named = told.named n.0 p n.1 ip.1 in
+          let entry = told.entries n.0 k p n.1 ip.1 en in
+          let h = home_of modules parts aligned n.0 p n.1 ip.1 in
+          let sealed : w ≡ Sealed p.component.closure (MemIn (code_at (ranges_of p) k)) =
+          code_is ∙ ap (λ z. Sealed code.seal (MemIn z)) ec
+          ∙ ap (λ z. Sealed z (MemIn (code_at (ranges_of p) k))) sc in
+          let shared : IsSharedAt p.component k = sw.1 p k ip sealed in
+          let to = entry_found modules parts aligned (apart parts size s is) resolved h.0 p h.1 k entry.export
+          _ _
+          entry.first shared named.name entry.name in
+          let hop : pair_under G.layout code ≡ pair.Hop n.0 entry.number =
+          ap (λ o. pair_to (hop_in o code.content)) (ap (closure_owner G.layout) sc ∙ named.by_closure)
+          ∙ hop_is n.0 p k entry.number code.content f.cap f.memory ec entry.number_is in
+          subst Fed (sym hop) (subst
+          (λ o. PairIs G linked Begin (Some (pair_found o)) (Plain w) (Plain v)) (sym to.1) (record {
+            called = record {
+              first = half_is (Plain w) hw;
+              second = half_is (Plain v) hv;
+              means = (
+                p,
+                k,
+                p.component.closure,
+                to.2,
+                ip,
+                subst (λ x. Sealing G linked Begin (code_at (ranges_of p) k)
+                    (MemIn (data_cap (ranges_of p) (pos p.component.data_base))) p.component.closure (Plain x)
+                    (Plain v))
+                    (sym sealed) (subst (λ x. Sealing G linked Begin (code_at (ranges_of p) k)
+                    (MemIn (data_cap (ranges_of p) (pos p.component.data_base))) p.component.closure
+                    (Plain (Sealed p.component.closure (MemIn (code_at (ranges_of p) k)))) (Plain x))
+                    (sym (half_is_word ∙ ap (λ z. Sealed z (inner half.content)) sc
+                    ∙ ap (Sealed p.component.closure) (data_word half (whole_data p) ed)))
+                    (trusted_pair G linked Begin p k ip)),
+              );
+            };
+            shown = sw.1;
+            shown_too = sv.1;
+          }))
 
-    gone : Fed (pair_under G.layout code)
-    gone = led (leads_to G linked fs w v code half f.cap sw.0 sv.0 e1 e2 f.one_seal f.memory f.runs f.rests)
+      gone : Fed (pair_under G.layout code)
+      gone = led (leads_to G linked fs w v code half f.cap sw.0 sv.0 e1 e2 f.one_seal f.memory f.runs f.rests)
 
   -- what the feed tells of two words that untrusted code may hold
   pub fed_words : (o : OState) (w v : OWord) → IsShown G o.frames w → IsShown G o.frames v
       → PairIs G linked Begin (pair_fed W (feed_pair G.layout
-        (pair_of G.layout (flat G.layout o.frames w) (flat G.layout o.frames v)))) w v
+      (pair_of G.layout (flat G.layout o.frames w) (flat G.layout o.frames v)))) w v
   fed_words o w v sw sv =
       subst (λ k. PairIs G linked Begin (pair_fed W (feed_pair G.layout k)) w v)
-          (sym (own G o w v linked sw.0 sv.0))
+      (sym (own G o w v linked sw.0 sv.0))
       (by_first (if_normal (opened_of (look w))) (if_normal (opened_of (look v))) refl refl)
     where
       both : (w v : OWord) (b : Bool) (code half : Opened) → own_goes G.layout o w v ≡ b
@@ -267,7 +267,7 @@ module _ (modules : List ModuleFields) (parts : List PartSeen) (size : ℕ) (s :
           → IsShown G o.frames v → if_normal (opened_of (look w)) ≡ Some code
           → if_normal (opened_of (look v)) ≡ Some half
           → PairIs G linked Begin
-              (pair_fed W (feed_pair G.layout (if b then pair_under G.layout code else pair.Bad))) w v
+          (pair_fed W (feed_pair G.layout (if b then pair_under G.layout code else pair.Bad))) w v
       both w v false code half g sw sv e1 e2 = record {
         called = record {
           first = half_is w (normal_is (look w) code e1).1;
@@ -301,10 +301,10 @@ module _ (modules : List ModuleFields) (parts : List PartSeen) (size : ℕ) (s :
       by_first (Some code) None e1 e2 =
           subst (λ k. PairIs G linked Begin (pair_fed W (feed_pair G.layout k)) w v)
           (sym (ap (λ x. pair_if (own_goes G.layout o w v) G.layout x (if_normal (opened_of (look v)))) e1
-            ∙ ap (pair_if (own_goes G.layout o w v) G.layout (Some code)) e2))
+          ∙ ap (pair_if (own_goes G.layout o w v) G.layout (Some code)) e2))
           (right_out (is_half (look w)) (is_half (look v)) (normal_none (look v) e2))
       by_first (Some code) (Some half) e1 e2 =
           subst (λ k. PairIs G linked Begin (pair_fed W (feed_pair G.layout k)) w v)
           (sym (ap (λ x. pair_if (own_goes G.layout o w v) G.layout x (if_normal (opened_of (look v)))) e1
-            ∙ ap (pair_if (own_goes G.layout o w v) G.layout (Some code)) e2))
+          ∙ ap (pair_if (own_goes G.layout o w v) G.layout (Some code)) e2))
           (both w v (own_goes G.layout o w v) code half refl sw sv e1 e2)

@@ -320,9 +320,11 @@ module _ (m : ModuleFields) (limits : IsModule m) (p : Proc) (fits : ProcFits p)
       by_index (Passed-fits f) _ p.params _ _ (λ i q at t e. given_pair f i q at t)
       (by_index (Passed-fits f) _ m.imports _ _ (λ k x at t e. within m.imports k x at)
       (by_index (Passed-fits f) _ m.procs _ _
-      (λ j q at t e. (within m.procs j q at,
+      (λ j q at t e. (
+        within m.procs j q at,
         ap (λ o. option_map_or (λ (y : Proc). y.shared) o false) at
-            ∙ (and_parts q.shared (same q.name f) t).0))
+            ∙ (and_parts q.shared (same q.name f) t).0,
+      ))
       (passed_other f _)))
 
   -- ---- expressions
@@ -355,18 +357,22 @@ module _ (m : ModuleFields) (limits : IsModule m) (p : Proc) (fits : ProcFits p)
         let c = call_faults m p g xs in
         (called_fits g xs (left_none c _ f), omega (arith, r, s), args_fit xs n t 0 w.1 (right_none c _ f) d)
     exp_fits (op at o a b) n t w f d =
-        let x = expr_faults m p a in
-        (omega (arith, d), exp_fits a n t w.0 (left_none x _ f) (omega (arith, d)),
-          exp_fits b (n + calls a) (t + 1) w.1 (right_none x _ f) (omega (arith, d)))
+        let x = expr_faults m p a in (
+          omega (arith, d),
+          exp_fits a n t w.0 (left_none x _ f) (omega (arith, d)),
+          exp_fits b (n + calls a) (t + 1) w.1 (right_none x _ f) (omega (arith, d)),
+        )
 
     args_fit : (xs : Args) (n t i : ℕ) → language.ArgsFit xs → args_faults m p xs ≡ []
         → t + args_depth i xs ≤ need p → ArgsOf t i (args_view (args_of m p n xs))
     args_fit no_args n t i w f d = tt
     args_fit (value e xs) n t i w f d =
         let x = expr_faults m p e in
-        let h = args-depth xs (i + 1) in
-        (omega (arith, d, h), exp_fits e n (t + i) w.0 (left_none x _ f) (omega (arith, d)),
-          args_fit xs (n + calls e) t (i + 1) w.1 (right_none x _ f) (omega (arith, d)))
+        let h = args-depth xs (i + 1) in (
+          omega (arith, d, h),
+          exp_fits e n (t + i) w.0 (left_none x _ f) (omega (arith, d)),
+          args_fit xs (n + calls e) t (i + 1) w.1 (right_none x _ f) (omega (arith, d)),
+        )
     args_fit (proc g xs) n t i w f d =
         let x = passed_faults g (passed_named m p g) in
         (passed_fits g (left_none x _ f), args_fit xs n t (i + 2) w.1 (right_none x _ f) d)
@@ -380,31 +386,39 @@ module _ (m : ModuleFields) (limits : IsModule m) (p : Proc) (fits : ProcFits p)
         (variable_fits x (left_none a _ f), exp_fits e n Temps w.1 (right_none a _ f) d)
     stmt_fits (set_at at x i e) n w f d =
         let a = array_faults x (variable_named m p x) in
-        let r = right_none a _ f in
-        (array_fits x (variable_named m p x) (left_none a _ f), omega (arith, d),
+        let r = right_none a _ f in (
+          array_fits x (variable_named m p x) (left_none a _ f),
+          omega (arith, d),
           exp_fits i n Temps w.1 (left_none (expr_faults m p i) _ r) (omega (arith, d)),
-          exp_fits e (n + calls i) (Temps + 1) w.2 (right_none (expr_faults m p i) _ r) (omega (arith, d)))
+          exp_fits e (n + calls i) (Temps + 1) w.2 (right_none (expr_faults m p i) _ r) (omega (arith, d)),
+        )
     stmt_fits (do_call at g xs) n w f d =
         let r = registers_kept xs n in
         let s = w.0.1 in
-        let c = call_faults m p g xs in
-        (called_fits g xs (left_none c _ f), omega (arith, r, s),
-            args_fit xs n Temps 0 w.1 (right_none c _ f) d)
+        let c = call_faults m p g xs in (
+          called_fits g xs (left_none c _ f),
+          omega (arith, r, s),
+          args_fit xs n Temps 0 w.1 (right_none c _ f) d,
+        )
     stmt_fits (if_then at c b) n w f d =
-        let x = expr_faults m p c in
-        (exp_fits c n Temps w.0 (left_none x _ f) (omega (arith, d)),
-          block_fits b (n + calls c) w.1 (right_none x _ f) (omega (arith, d)), tt)
+        let x = expr_faults m p c in (
+          exp_fits c n Temps w.0 (left_none x _ f) (omega (arith, d)),
+          block_fits b (n + calls c) w.1 (right_none x _ f) (omega (arith, d)),
+          tt,
+        )
     stmt_fits (if_else at c a b) n w f d =
         let x = expr_faults m p c in
-        let r = right_none x _ f in
-        (exp_fits c n Temps w.0 (left_none x _ f) (omega (arith, d)),
+        let r = right_none x _ f in (
+          exp_fits c n Temps w.0 (left_none x _ f) (omega (arith, d)),
           block_fits a (n + calls c) w.1 (left_none (block_faults m p a) _ r) (omega (arith, d)),
           block_fits b (n + calls c + block_calls a) w.2 (right_none (block_faults m p a) _ r)
-              (omega (arith, d)))
+              (omega (arith, d)),
+        )
     stmt_fits (while at c b) n w f d =
-        let x = expr_faults m p c in
-        (exp_fits c n Temps w.0 (left_none x _ f) (omega (arith, d)),
-          block_fits b (n + calls c) w.1 (right_none x _ f) (omega (arith, d)))
+        let x = expr_faults m p c in (
+          exp_fits c n Temps w.0 (left_none x _ f) (omega (arith, d)),
+          block_fits b (n + calls c) w.1 (right_none x _ f) (omega (arith, d)),
+        )
     stmt_fits (return at e) n w f d = exp_fits e n Temps w f d
     stmt_fits (halt at e) n w f d = exp_fits e n Temps w f d
 
@@ -412,6 +426,7 @@ module _ (m : ModuleFields) (limits : IsModule m) (p : Proc) (fits : ProcFits p)
         → Temps + block_depth b ≤ need p → BlockOf (block_view (steps_of m p n b))
     block_fits no_stmts n w f d = tt
     block_fits (stmt s b) n w f d =
-        let x = stmt_faults m p s in
-        (stmt_fits s n w.0 (left_none x _ f) (omega (arith, d)),
-          block_fits b (n + stmt_calls s) w.1 (right_none x _ f) (omega (arith, d)))
+        let x = stmt_faults m p s in (
+          stmt_fits s n w.0 (left_none x _ f) (omega (arith, d)),
+          block_fits b (n + stmt_calls s) w.1 (right_none x _ f) (omega (arith, d)),
+        )

@@ -72,9 +72,9 @@ module _ (g : Link) (linked : Linked g) (Begins : Target → PartSeen → ℕ �
   -- the halves of a trusted part at an offset
   pub trusted_pair : (p : PartSeen) (k : ℕ) → IsTrusted g p
       → Sealing g linked Begins (code_at (ranges_of p) k)
-          (MemIn (data_cap (ranges_of p) (pos p.component.data_base)))
-        p.component.closure (Plain (Sealed p.component.closure (MemIn (code_at (ranges_of p) k))))
-        (Plain (Sealed p.component.closure (MemIn (data_cap (ranges_of p) (pos p.component.data_base)))))
+      (MemIn (data_cap (ranges_of p) (pos p.component.data_base)))
+      p.component.closure (Plain (Sealed p.component.closure (MemIn (code_at (ranges_of p) k))))
+      (Plain (Sealed p.component.closure (MemIn (data_cap (ranges_of p) (pos p.component.data_base)))))
   trusted_pair p k ip = record {
     code = refl;
     half = refl;
@@ -92,8 +92,8 @@ module _ (g : Link) (linked : Linked g) (Begins : Target → PartSeen → ℕ �
   -- the halves of an untrusted export
   pub open_pair : (x : Exported) → IsUntrusted g x.part
       → Sealing g linked Begins (code_of x) (MemIn (data_of x.part)) x.part.component.closure
-          (Plain (code_half x))
-        (Plain (data_half x))
+      (Plain (code_half x))
+      (Plain (data_half x))
   open_pair x u = record {
     code = refl;
     half = refl;

@@ -31,7 +31,6 @@ use Rattle.trace_tool.specs.Pairs.{if_normal, content_linear}
 use Rattle.template_runs.proofs.Checks.{is_half}
 use Rattle.source_laws.proofs.Arguments.{Half}
 
-
 -- ---- halves
 
 half_plain : (w : Word) → is_half w ≡ true → Half (Plain w)
@@ -40,8 +39,12 @@ half_plain (Mem c) e = cc
 half_plain (Seal c) e = cc
 half_plain (Sealed n x) e =
     let l = by (is_linear (Sealed n x)) e in
-    record { stays_whole = l; stays_face = sym (is_linear-face (Sealed n x)) ∙ l; no_number = refl;
-        sealed = e }
+    record {
+      stays_whole = l;
+      stays_face = sym (is_linear-face (Sealed n x)) ∙ l;
+      no_number = refl;
+      sealed = e;
+    }
   where
     by : (b : Bool) → (if b then false else true) ≡ true → b ≡ false
     by true h = cc
@@ -66,9 +69,11 @@ normal_is (Seal c) k e = cc
 normal_is (Sealed n (MemIn c)) k e =
     let x : Opened = record { seal = n; content = MemC c } in
     let h = by_linear (lin_is c.lin) x k e in
-    let s : x ≡ k = (let q = h.0 in cc) in
-    (h.0, ap (λ b. if b then false else true) h.1,
-      subst (λ (y : Opened). content_linear y.content ≡ false) s h.1)
+    let s : x ≡ k = (let q = h.0 in cc) in (
+      h.0,
+      ap (λ b. if b then false else true) h.1,
+      subst (λ (y : Opened). content_linear y.content ≡ false) s h.1,
+    )
 normal_is (Sealed n (SealIn c)) k e =
     let s : record { seal = n; content = SealC c } ≡ k = cc in
     (e, refl, ap (λ (y : Opened). content_linear y.content) (sym s))
@@ -110,17 +115,23 @@ facts_of w v (Goes x) g e = Gives-effect g
 all_facts : (w v : Word) → Gives (λ e. Opens w v) (jump_plan w v)
 all_facts w v =
     Gives-need _ _ _ (λ code e1. Gives-need
-        _ _ _ (λ half e2. Gives-ask
-        _ _ _ (λ q. Gives-need
-        _ _ _ (λ c m. Gives-ask _ _ _ (λ n. Gives-ask _ _ _ (λ r. Gives-ask _ _ _ (λ nc.
-    gives_goes (code, half, e1, e2, record {
-      cap = c;
-      memory = m;
-      one_seal = eqb-true code.seal half.seal q;
-      normal = not_true (lin_is c.lin) n;
-      runs = r;
-      rests = nc;
-    }))))))))
+    _ _ _ (λ half e2. Gives-ask
+    _ _ _ (λ q. Gives-need
+    _ _ _ (λ c m. Gives-ask _ _ _ (λ n. Gives-ask _ _ _ (λ r. Gives-ask _ _ _ (λ nc.
+    gives_goes (
+      code,
+      half,
+      e1,
+      e2,
+      record {
+        cap = c;
+        memory = m;
+        one_seal = eqb-true code.seal half.seal q;
+        normal = not_true (lin_is c.lin) n;
+        runs = r;
+        rests = nc;
+      },
+    ))))))))
 
 pub jump_facts : (w v : Word) → goes_on (jump_plan w v) ≡ true → Opens w v
 jump_facts w v e = facts_of w v (jump_plan w v) (all_facts w v) e
@@ -175,7 +186,7 @@ any_spent r1 r2 a b f e =
     need_same F6 a _ _ f (λ code. need_same F6 b _ _ f (λ half. ask_same F12 (code.seal == half.seal) _ _ f
     (need_same F6 (memory_content code.content) _ _ f (λ c. ask_same F10 (not (lin_is c.lin)) _ _ f
     (ask_same F7 (may_run c.perm) _ _ f (ask_same F7 (not (runs_in half.content)) _ _ f (goes_not _ _ f)))))))
-        e
+    e
 
 never_halts : (r : Reg) (a b : Option Opened) → jump_by r a b ≡ Halts → ⊥
 never_halts r a b e =
@@ -186,20 +197,22 @@ never_halts r a b e =
 -- a call of two words fails, if it is told so
 pub call_fails : (w v : Word) → goes_on (jump_plan w v) ≡ false → (s : State OWord) → s.regs.c1 ≡ Plain w
     → s.regs.c2 ≡ Plain v → (cause : FailCause) × (z : ℤ)
-        × (row look Plain (Xjmp C1 C2) (Int (pos 0)) s ≡ failed cause z)
+    × (row look Plain (Xjmp C1 C2) (Int (pos 0)) s ≡ failed cause z)
 unfolding row plan_in opens
 call_fails w v stuck s e1 e2 = by (jump_plan w v) refl stuck
   where
     by : (q : Plan) → jump_plan w v ≡ q → goes_on q ≡ false
         → (cause : FailCause) × (z : ℤ)
-            × (outcome look Plain s
-            (jump_by C2 (opened_of (look s.regs.c1)) (opened_of (look s.regs.c2))) ≡ failed cause z)
+        × (outcome look Plain s
+        (jump_by C2 (opened_of (look s.regs.c1)) (opened_of (look s.regs.c2))) ≡ failed cause z)
     by (Goes x) e h = cc
     by Halts e h = absurd (never_halts Rdata (opened_of w) (opened_of v) e)
     by (Fails f) e h =
         let a : jump_by C2 (opened_of w) (opened_of v) ≡ Fails f =
-            any_spent Rdata C2 (opened_of w) (opened_of v) f e in
-        (f, pc_at look s,
+        any_spent Rdata C2 (opened_of w) (opened_of v) f e in (
+          f,
+          pc_at look s,
           ap (λ x. outcome look Plain s (jump_by C2 (opened_of (look x)) (opened_of (look s.regs.c2)))) e1
-          ∙ ap (λ x. outcome look Plain s (jump_by C2 (opened_of w) (opened_of (look x)))) e2
-          ∙ ap (outcome look Plain s) a)
+              ∙ ap (λ x. outcome look Plain s (jump_by C2 (opened_of w) (opened_of (look x)))) e2
+              ∙ ap (outcome look Plain s) a,
+        )

@@ -17,3 +17,7 @@ pub mod FedPairs
 pub mod Sourced
 pub mod Standings
 pub mod Whole
+pub mod LinesShow
+pub mod RunEnds
+pub mod Meanings
+pub mod RunMeaning

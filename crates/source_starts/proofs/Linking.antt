@@ -38,7 +38,7 @@ pub same_part : (parts : List PartSeen) → NamesApart parts → (k n : ℕ) (p 
     → slice_get parts n ≡ Some q → p.component.name ≡ q.component.name → p ≡ q
 same_part parts apart k n p q at_p at_q e =
     let s : Some p ≡ Some q = sym at_p ∙ ap (slice_get parts) (one_named parts apart k n p q at_p at_q e)
-        ∙ at_q in cc
+    ∙ at_q in cc
 
 -- what an import names has its names
 pub record Names (parts : List PartSeen) (i : Import) (x : Exported) : Type 0 where
@@ -57,9 +57,10 @@ names_of parts i x e = by_part (part_named parts i.part) refl e
     by_export p None f t e = cc
     by_export p (Some y) f t e =
         let k = found_is (λ (e : Export). same_name e.name i.name) p.component.exports y f in
-        let s : exported_by p y ≡ x = cc in
-        (ap (λ (z : Exported). z.part.component.name) (sym s) ∙ same_names p.component.name i.part t,
-          ap (λ (z : Exported). z.export.name) (sym s) ∙ same_names y.name i.name k.1)
+        let s : exported_by p y ≡ x = cc in (
+          ap (λ (z : Exported). z.part.component.name) (sym s) ∙ same_names p.component.name i.part t,
+          ap (λ (z : Exported). z.export.name) (sym s) ∙ same_names y.name i.name k.1,
+        )
 
     by_part : (o : Option PartSeen) → part_named parts i.part ≡ o
         → option_and_then (export_that (λ (e : Export). same_name e.name i.name)) o ≡ Some x
@@ -88,7 +89,7 @@ may_import parts size h k n p i x at here is =
     let none : passes (λ y. is_private p (imported parts y)) (slice_get p.component.imports n) ≡ false
     = in_part parts (λ j q. at_each q.component.imports (λ y. is_private q (imported parts y))) never k p n at
     (λ b. h 5 k n (l5 parts) refl (slice_get_within parts k p at, b))
-        (slice_get_within p.component.imports n i here) in
+    (slice_get_within p.component.imports n i here) in
     let open' : not (x.export.shared || same_name x.part.component.name p.component.name) ≡ false =
     sym (ap (is_private p) is) ∙ sym (ap (passes (λ y. is_private p (imported parts y))) here) ∙ none in
     elim (or_cases x.export.shared (same_name x.part.component.name p.component.name) (not-false _ open'))

@@ -76,7 +76,7 @@ Main = codes "main"
 pub one_main : (parts : List PartSeen) (size : ℕ) → NoneIsBroken (rules_l parts size)
     → (k n : ℕ) (p q : PartSeen)
     → k < n → slice_get parts k ≡ Some p → slice_get parts n ≡ Some q → has_main p ≡ true → has_main q ≡ true
-        → ⊥
+    → ⊥
 unfolding l6
 one_main parts size h k n p q lt at_p at_q mp mq =
     let e = any_of is_main q.component.exports mq in
@@ -87,11 +87,11 @@ one_main parts size h k n p q lt at_p at_q mp mq =
     let test = λ (e : Export). (is_main e && list_any has_main (take n parts)) in
     let none : passes test (slice_get q.component.exports i.0) ≡ false =
     in_part parts (λ j r. at_each r.component.exports (λ e. is_main e && list_any has_main (take j parts)))
-        (once (not (list_any has_main parts)) 0) n q i.0 at_q
+    (once (not (list_any has_main parts)) 0) n q i.0 at_q
     (λ b. h 6 n i.0 (l6 parts) refl (omega (arith, wn), b))
-        (slice_get_within q.component.exports i.0 e.0 i.1) in
+    (slice_get_within q.component.exports i.0 e.0 i.1) in
     let holds : passes test (slice_get q.component.exports i.0) ≡ true = ap (passes test) i.1
-        ∙ rw (e.2, earlier) refl in
+    ∙ rw (e.2, earlier) refl in
     let bad : true ≡ false = sym holds ∙ none in cc
 
 given_main : (parts : List PartSeen) (x : Exported) → main_of parts ≡ Some x → is_main x.export ≡ true
@@ -105,7 +105,7 @@ given_main parts x e =
       where
         by_find : (o : Option Export) → find is_main p.component.exports ≡ o
             → option_map (λ (e : Export). record { part = p; export = e }) o ≡ Some x
-                → is_main x.export ≡ true
+            → is_main x.export ≡ true
         by_find None f h = cc
         by_find (Some e) f h =
             let k = found_is is_main p.component.exports e f in
@@ -149,8 +149,11 @@ module _ (modules : List ModuleFields) (parts : List PartSeen) (size : ℕ) (s :
       ∙ ap (λ (rs : Regs Word). Plain (reg rs r)) is.starts.state.regs
 
   pub valid : Valid G linked O
-  valid = record { plain = s.state.maps; holds = holds;
-      private = starts_private parts size s is linked holds }
+  valid = record {
+    plain = s.state.maps;
+    holds = holds;
+    private = starts_private parts size s is linked holds;
+  }
 
   -- ---- registers
 
@@ -281,12 +284,12 @@ module _ (modules : List ModuleFields) (parts : List PartSeen) (size : ℕ) (s :
       let i = n.0 in
       let h = n.1 in
       let x = proc_of modules parts aligned (apart parts size s is) resolved i p h Entry.export
-          there.listed in
+      there.listed in
       let b = and_parts Entry.export.shared (same_name Entry.export.name Main) export_main in
       let sh : x.proc.shared ≡ true = sym x.shared ∙ b.0 in
       let nm : Main ≡ x.proc.name = sym (same_names Entry.export.name Main b.1) ∙ x.name in
       let found = shared_found modules parts aligned (apart parts size s is) resolved i p h x.index x.proc
-          Main x.at sh nm in
+      Main x.at sh nm in
       let ip : IsTrusted G p = (listed_at parts there.index p there.at, t) in
       record {
         to = target i x.index;
@@ -294,7 +297,7 @@ module _ (modules : List ModuleFields) (parts : List PartSeen) (size : ℕ) (s :
         entry = Entry.export.offset;
         main = ap (shared_at W Main) (position_at meaning.has_main W i (part_of h.source)
             (part_here modules parts aligned (apart parts size s is) resolved i p h)
-                (has i p h x.index x.proc Main found)
+            (has i p h x.index x.proc Main found)
             (before i h)) ∙ found;
         begins = record { home = h; what = x.proc; what_is = x.at; offset = x.offset };
         at = record { trusted = ip; pc = ap look (reg_is Pc) ∙ ap Mem (code_is Entry t) };
@@ -303,11 +306,11 @@ module _ (modules : List ModuleFields) (parts : List PartSeen) (size : ℕ) (s :
     where
       has : (i : ℕ) (p : PartSeen) (h : Home modules parts i p) (j : ℕ) (q : Procedure) (name : List ℕ)
           → shared_in i name (part_at W i) ≡ Some (target i j)
-              → is_some (position (is_shared name) (part_of h.source).procs) ≡ true
+          → is_some (position (is_shared name) (part_of h.source).procs) ≡ true
       has i p h j q name f =
           by (position (is_shared name) (part_of h.source).procs)
           (sym (ap (shared_in i name)
-              (part_here modules parts aligned (apart parts size s is) resolved i p h)) ∙ f)
+          (part_here modules parts aligned (apart parts size s is) resolved i p h)) ∙ f)
         where
           by : (o : Option ℕ) → option_map (target i) o ≡ Some (target i j) → is_some o ≡ true
           by None e = cc

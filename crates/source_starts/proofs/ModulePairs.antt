@@ -86,21 +86,24 @@ module _ (modules : List ModuleFields) (parts : List PartSeen) (size : ℕ) (s :
   words_of : (i : ℕ) (p : PartSeen) (h : Home modules parts i p) (n d : ℕ) (part name : List ℕ)
       → slice_get (imports_of (part_of h.source)) n ≡ Some (record { part = part; name = name; slot = d })
       → (x : Exported) × (imported parts (record { part = part; name = name; slot = d }) ≡ Some x)
-        × PairWords p d (Plain (code_half x)) (Plain (data_half x))
+      × PairWords p d (Plain (code_half x)) (Plain (data_half x))
   words_of i p h n d part name at =
       let im : Import = record { part = part; name = name; slot = d } in
       let here : slice_get p.component.imports n ≡ Some im =
-          ap (λ (xs : List Import). slice_get xs n) h.placed.imports ∙ at in
+      ap (λ (xs : List Import). slice_get xs n) h.placed.imports ∙ at in
       let halves = (data_in parts size s is h.number p h.number_is).slots n im here in
       let z : p.component.data_base + d + 1 ≡ p.component.data_base + (d + 1) = omega arith in
       let below = slot_below (part_of h.source) n im at in
-      let long = data_size modules parts i p h in
-      (halves.names, halves.names_is, record {
-        first = first_is (p.component.data_base + d) (code_half halves.names) halves.code;
-        second = ap First (sym z)
-            ∙ first_is (p.component.data_base + d + 1) (data_half halves.names) halves.behind;
-        inside = omega (arith, below, long);
-      })
+      let long = data_size modules parts i p h in (
+        halves.names,
+        halves.names_is,
+        record {
+          first = first_is (p.component.data_base + d) (code_half halves.names) halves.code;
+          second = ap First (sym z)
+              ∙ first_is (p.component.data_base + d + 1) (data_half halves.names) halves.behind;
+          inside = omega (arith, below, long);
+        },
+      )
 
   -- the code half of an own procedure
   abbrev pub OwnCode : (p : PartSeen) → ℕ → OWord
@@ -112,16 +115,16 @@ module _ (modules : List ModuleFields) (parts : List PartSeen) (size : ℕ) (s :
   pub own_pair : (i : ℕ) (p : PartSeen) (h : Home modules parts i p) (j : ℕ) (q : Procedure)
       → slice_get (part_of h.source).procs j ≡ Some q
       → PairWords p (2 * (length (part_of h.source).imports + j))
-          (OwnCode p (offset_from 2 (part_of h.source).procs j))
-        (OwnData p)
+      (OwnCode p (offset_from 2 (part_of h.source).procs j))
+      (OwnData p)
   own_pair i p h j q at =
       let u = part_of h.source in
       let w = words_of i p h (length u.imports + j) (2 * (length u.imports + j)) u.name q.name
-          (own_at u j q at) in
+      (own_at u j q at) in
       let im : Import = record { part = u.name; name = q.name; slot = 2 * (length u.imports + j) } in
       let n = imported_names parts im w.0 w.1 in
       let same : w.0.part ≡ p =
-          same_part parts (apart parts size s is) n.there.index h.number w.0.part p n.there.at
+      same_part parts (apart parts size s is) n.there.index h.number w.0.part p n.there.at
       h.number_is (n.part ∙ sym h.placed.name) in
       let x = proc_of modules parts aligned (apart parts size s is) resolved i p h w.0.export
       (subst (λ (y : PartSeen). Contains y.component.exports w.0.export) same n.there.listed) in
@@ -131,7 +134,7 @@ module _ (modules : List ModuleFields) (parts : List PartSeen) (size : ℕ) (s :
       let t : w.0.part.trusted ≡ true = ap (λ (y : PartSeen). y.trusted) same ∙ h.trusted in
       let code : Plain (code_half w.0) ≡ OwnCode p (offset_from 2 u.procs j) =
       ap Plain (trusted_code G linked Begin w.0 t) ∙ ap (λ y. OwnCode y w.0.export.offset) same
-          ∙ ap (OwnCode p) off in
+      ∙ ap (OwnCode p) off in
       let half : Plain (data_half w.0) ≡ OwnData p = ap OwnData same in
       record { first = w.2.first ∙ code; second = w.2.second ∙ half; inside = w.2.inside }
 
@@ -164,17 +167,17 @@ module _ (modules : List ModuleFields) (parts : List PartSeen) (size : ℕ) (s :
     shared t =
         elim (may_import parts size is.rules h.number k p Im x h.number_is
         (ap (λ (xs : List Import). slice_get xs k) h.placed.imports ∙ import_at (part_of h.source) k im at)
-            names)
+        names)
         as (λ _. x.export.shared ≡ true) [
           | inl e ↦ e
           | inr e ↦ (
               let same : x.part ≡ p =
-                  same_part parts (apart parts size s is) there.index h.number x.part p there.at
+              same_part parts (apart parts size s is) there.index h.number x.part p there.at
               h.number_is e in
               let y = proc_of modules parts aligned (apart parts size s is) resolved i p h x.export
               (subst (λ (z : PartSeen). Contains z.component.exports x.export) same there.listed) in
               absurd (imports_apart h.source
-                  (each_at (λ m. name_faults m ≡ []) modules i h.source resolved h.source_is)
+              (each_at (λ m. name_faults m ≡ []) modules i h.source resolved h.source_is)
               k y.index im y.proc at y.at (sym export_name ∙ y.name)))
         ]
 
@@ -203,16 +206,16 @@ module _ (modules : List ModuleFields) (parts : List PartSeen) (size : ℕ) (s :
     by_mark true t =
         let n = home_of modules parts aligned there.index x.part there.at t in
         let y = proc_of modules parts aligned (apart parts size s is) resolved n.0 x.part n.1 x.export
-            there.listed in
+        there.listed in
         let sh : y.proc.shared ≡ true = sym y.shared ∙ shared t in
         let to = found_home modules parts aligned (apart parts size s is) n.0 x.part n.1 im.part
-            (sym part_name) in
+        (sym part_name) in
         let found = shared_found modules parts aligned (apart parts size s is) resolved n.0 x.part n.1 y.index
-            y.proc
+        y.proc
         im.name y.at sh (sym export_name ∙ y.name) in
         let ip : IsTrusted G x.part = (listed_at parts there.index x.part there.at, t) in
         let code : Plain (code_half x) ≡ OwnCode x.part x.export.offset =
-            ap Plain (trusted_code G linked Begin x t) in
+        ap Plain (trusted_code G linked Begin x t) in
         record {
           code = Plain (code_half x);
           half = Plain (data_half x);
@@ -226,23 +229,28 @@ module _ (modules : List ModuleFields) (parts : List PartSeen) (size : ℕ) (s :
             record { home = n.1; what = y.proc; what_is = y.at; offset = y.offset },
             ip,
             subst (λ w. Sealing G linked Begin (code_at (ranges_of x.part) x.export.offset)
-              (MemIn (data_cap (ranges_of x.part) (pos x.part.component.data_base))) x.part.component.closure
-                  w
-              (Plain (data_half x))) (sym code) (trusted_pair G linked Begin x.part x.export.offset ip),
+                (MemIn (data_cap (ranges_of x.part) (pos x.part.component.data_base)))
+                x.part.component.closure w
+                (Plain (data_half x))) (sym code) (trusted_pair G linked Begin x.part x.export.offset ip),
           );
         }
     by_mark false t =
         let iu : IsUntrusted G x.part = (listed_at parts there.index x.part there.at, t) in
         let to = found_none modules parts aligned (apart parts size s is) there.index x.part im.part there.at
-            t (sym part_name) in
+        t (sym part_name) in
         record {
           code = Plain (code_half x);
           half = Plain (data_half x);
           words = words;
           pair = Outside;
           pair_is = linked_is ∙ ap (linked_by W im.name) to;
-          means = pair_of Outside (code_of x, MemIn (data_of x.part), x.part.component.closure,
-            open_pair G linked Begin x iu, open_leaves G linked Begin x iu);
+          means = pair_of Outside (
+            code_of x,
+            MemIn (data_of x.part),
+            x.part.component.closure,
+            open_pair G linked Begin x iu,
+            open_leaves G linked Begin x iu,
+          );
         }
 
   pub import_pair : (i : ℕ) (p : PartSeen) (h : Home modules parts i p) (k : ℕ) (im : program.Import)
@@ -265,11 +273,11 @@ module _ (modules : List ModuleFields) (parts : List PartSeen) (size : ℕ) (s :
       let u = part_of h.source in
       first_is (p.component.data_base + (pair_count u + o)) (Int z)
       ((data_in parts size s is h.number p h.number_is).own (pair_count u + o) (Int z)
-        (ap (λ (xs : List Word). slice_get xs (pair_count u + o)) h.placed.data_is ∙ global_at u o z at)
-        (λ n im here. (
-          let b = slot_below u n im
-              (sym (ap (λ (xs : List Import). slice_get xs n) h.placed.imports) ∙ here) in
-          (λ e. omega (arith, b, e), λ e. omega (arith, b, e)))))
+      (ap (λ (xs : List Word). slice_get xs (pair_count u + o)) h.placed.data_is ∙ global_at u o z at)
+      (λ n im here. (
+      let b = slot_below u n im
+      (sym (ap (λ (xs : List Import). slice_get xs n) h.placed.imports) ∙ here) in
+      (λ e. omega (arith, b, e), λ e. omega (arith, b, e)))))
 
   pub module_fits : (i : ℕ) (p : PartSeen) (h : Home modules parts i p) → IsPart (part_of h.source)
   module_fits i p h = part_fits h.source (each_at IsModule modules i h.source limits h.source_is)
@@ -282,22 +290,22 @@ module _ (modules : List ModuleFields) (parts : List PartSeen) (size : ℕ) (s :
   row_is i p h =
       index_is first_store i (part_of h.source).globals []
       (slice_get-map (λ (u : Part). u.globals) W i
-        ∙ ap (option_map (λ (u : Part). u.globals))
-            (part_here modules parts aligned (apart parts size s is) resolved i p h))
+      ∙ ap (option_map (λ (u : Part). u.globals))
+      (part_here modules parts aligned (apart parts size s is) resolved i p h))
 
   pub starts_stored : StoreIs modules parts First first_store First
   starts_stored = record {
     numbers = λ i p h o lt. (
-      let z = there_is (part_of h.source).globals o lt in
-      global_word i p h o z.0 z.1
-      ∙ ap (λ v. Plain (Int v)) (sym (ap (λ xs. slice_index_or xs o (pos 0)) (row_is i p h)
+        let z = there_is (part_of h.source).globals o lt in
+        global_word i p h o z.0 z.1
+        ∙ ap (λ v. Plain (Int v)) (sym (ap (λ xs. slice_index_or xs o (pos 0)) (row_is i p h)
         ∙ index_is (part_of h.source).globals o z.0 (pos 0) z.1)));
     fits = λ i p h o lt. (
-      let z = there_is (part_of h.source).globals o lt in
-      ap fits_64 (ap (λ xs. slice_index_or xs o (pos 0)) (row_is i p h)
+        let z = there_is (part_of h.source).globals o lt in
+        ap fits_64 (ap (λ xs. slice_index_or xs o (pos 0)) (row_is i p h)
         ∙ index_is (part_of h.source).globals o z.0 (pos 0) z.1)
-      ∙ signed_fits z.0 (each_at (FitsSigned w64) (part_of h.source).globals o z.0 (module_fits i p h).globals
-          z.1));
+        ∙ signed_fits z.0
+        (each_at (FitsSigned w64) (part_of h.source).globals o z.0 (module_fits i p h).globals z.1));
     rows = λ i p h. ap length (row_is i p h);
     pairs = λ i p h d lt. refl;
   }

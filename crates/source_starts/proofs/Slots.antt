@@ -56,13 +56,13 @@ module _ (m : Part) where
 
   pub own_at : (j : ℕ) (q : Procedure) → slice_get m.procs j ≡ Some q
       → slice_get (imports_of m) (length m.imports + j)
-        ≡ Some (record { part = m.name; name = q.name; slot = 2 * (length m.imports + j) })
+      ≡ Some (record { part = m.name; name = q.name; slot = 2 * (length m.imports + j) })
   unfolding imports_of
   own_at j q e =
       let l = slots_length 0 m.imports in
       let z : 2 * length m.imports + 2 * j ≡ 2 * (length m.imports + j) = omega arith in
       ap (λ n. slice_get (import_slots 0 m.imports ++ own_slots m.name (2 * length m.imports) m.procs)
-          (n + j)) (sym l)
+      (n + j)) (sym l)
       ∙ get-right (import_slots 0 m.imports) (own_slots m.name (2 * length m.imports) m.procs) j
       ∙ own_slot m.name (2 * length m.imports) m.procs j q e
       ∙ ap (λ n. Some (record { part = m.name; name = q.name; slot = n })) z
@@ -80,12 +80,12 @@ module _ (m : Part) where
       let a = slots_length 0 m.imports in
       let b = owns_length m.name (2 * length m.imports) m.procs in
       let w = slice_get_within (import_slots 0 m.imports ++ own_slots m.name (2 * length m.imports) m.procs) n
-          i e in
+      i e in
       elim (cases_lt n (length m.imports)) as (λ _. i.slot + 1 < pair_count m) [
         | inl lt ↦ (
             let x = there_is m.imports n lt in
             let s : Some i ≡ Some (record { part = x.0.part; name = x.0.name; slot = 2 * n }) = sym e
-                ∙ import_at n x.0 x.1 in
+            ∙ import_at n x.0 x.1 in
             let t : i ≡ record { part = x.0.part; name = x.0.name; slot = 2 * n } = cc in
             let q : i.slot ≡ 2 * n = ap (λ (y : Import). y.slot) t in omega (arith, q, lt))
         | inr ge ↦ (
@@ -94,13 +94,13 @@ module _ (m : Part) where
             let z : n ≡ length m.imports + (n - length m.imports) = omega (arith, ge) in
             let x = there_is m.procs j lt in
             let s : Some i ≡ Some
-                (record { part = m.name; name = x.0.name; slot = 2 * (length m.imports + j) }) =
+            (record { part = m.name; name = x.0.name; slot = 2 * (length m.imports + j) }) =
             sym e ∙ ap (slice_get
-                (import_slots 0 m.imports ++ own_slots m.name (2 * length m.imports) m.procs)) z
+            (import_slots 0 m.imports ++ own_slots m.name (2 * length m.imports) m.procs)) z
             ∙ own_at j x.0 x.1 in
             let t : i ≡ record { part = m.name; name = x.0.name; slot = 2 * (length m.imports + j) } = cc in
             let q : i.slot ≡ 2 * (length m.imports + j) = ap (λ (y : Import). y.slot) t in
-                omega (arith, q, lt))
+            omega (arith, q, lt))
       ]
 
   pub zero_at : (j : ℕ) → j < pair_count m → slice_get (data_of m) j ≡ Some (Int (pos 0))

@@ -75,7 +75,7 @@ each_none : (m : ModuleFields) (ps : List Proc) (j : ℕ) (p : Proc) → procs_f
 each_none m [] j p h e = absurd (let z : None ≡ Some p = e in cc)
 each_none m (x ∷ ps) zero p h e =
     let s : x ≡ p = cc in
-        subst (λ y. proc_faults m y ≡ []) s (left_none (proc_faults m x) (procs_faults m ps) h)
+    subst (λ y. proc_faults m y ≡ []) s (left_none (proc_faults m x) (procs_faults m ps) h)
 each_none m (x ∷ ps) (suc j) p h e = each_none m ps j p (right_none (proc_faults m x) (procs_faults m ps) h) e
 
 each_fits : (ps : List Proc) (j : ℕ) (p : Proc) → Each ProcFits ps → slice_get ps j ≡ Some p → ProcFits p
@@ -102,16 +102,16 @@ module _ (m : ModuleFields) (limits : IsModule m) (resolved : name_faults m ≡ 
   fits =
       let p = it.source in
       let none = each_none m m.procs j p (right_none (twice (item_names m)) (procs_faults m m.procs) resolved)
-          it.source_is in
+      it.source_is in
       let body = right_none (twice (own_names p)) (block_faults m p (stmts_of p.body)) none in
       let f = each_fits m.procs j p limits.procs.1 it.source_is in
       let r = registers_same p.params in
       let t : 2 + params_registers p.params + length p.locals ≡ first_temporary (procedure_of m it.first p) =
-          omega (arith, r) in
+      omega (arith, r) in
       subst FitsAs (sym it.is)
       (subst (λ t. BlockFits (kinds_from (map is_call p.params) (length p.locals)) (need p) t
-          (words_in m.globals)
-        (length m.imports) (length m.procs) (shares m.procs) (block_of (procedure_of m it.first p).body)) t
+      (words_in m.globals)
+      (length m.imports) (length m.procs) (shares m.procs) (block_of (procedure_of m it.first p).body)) t
       (block_fits m limits p f (stmts_of p.body) it.first f.body body (omega arith)))
 
 -- ---- how many words the code has

@@ -194,7 +194,7 @@ module _ (modules : List ModuleFields) (parts : List PartSeen) (size : ℕ) (s :
           fits = λ st mem o k lt. k.fits i p h o (omega (arith, c, lt));
           sets = λ st mem o v k lt fit.
               sets modules G linked (apart parts size s is) First i p h st mem o v k (omega (arith, c, lt))
-                  fit;
+              fit;
         }
 
     -- ---- pairs

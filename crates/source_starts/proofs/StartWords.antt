@@ -64,17 +64,17 @@ module _ (parts : List PartSeen) (size : ℕ) (s : StartSeen) (is : IsLinkedStar
   module _ (linked : Linked the_link) (holds : Invariant the_link (overlay_at s).state s.state.maps) where
     pub data_there : (p : PartSeen) (d : ℕ) → IsTrusted the_link p → d < length p.component.data_words
         → cell (overlay_at s).state.maps.cells (p.component.data_base + d) ≡ Some
-            (first_words (p.component.data_base + d))
+        (first_words (p.component.data_base + d))
     data_there p d ip lt =
         by (cell (overlay_at s).state.maps.cells (p.component.data_base + d)) refl
         (holds.there (p.component.data_base + d)
         ∙ ap (λ b. b && true) (in_regions_is (p.component.data_base + d) (regions the_link) (data_region p)
-          (linked.data_there p ip) (omega arith) (omega (arith, lt))))
+        (linked.data_there p ip) (omega arith) (omega (arith, lt))))
       where
         by : (o : Option OWord) → cell (overlay_at s).state.maps.cells (p.component.data_base + d) ≡ o
             → is_some (cell (overlay_at s).state.maps.cells (p.component.data_base + d)) ≡ true
             → cell (overlay_at s).state.maps.cells (p.component.data_base + d) ≡ Some
-                (first_words (p.component.data_base + d))
+            (first_words (p.component.data_base + d))
         by None e t = absurd (let bad : false ≡ true = ap is_some (sym e) ∙ t in cc)
         by (Some w) e t = e ∙ ap (λ o. Some (unwrap_or o (Plain (Int (pos 0))))) (sym e)
 
@@ -84,7 +84,7 @@ module _ (parts : List PartSeen) (size : ℕ) (s : StartSeen) (is : IsLinkedStar
         → o < length p.component.data_words
     within_data p each o w h =
         elim (given_by (first_given (slot_word parts o) p.component.imports)
-            (slice_get p.component.data_words o) w h)
+        (slice_get p.component.data_words o) w h)
         as (λ _. o < length p.component.data_words) [
           | inl f ↦ (
               let g = given (slot_word parts o) p.component.imports w f in
@@ -122,9 +122,9 @@ module _ (parts : List PartSeen) (size : ℕ) (s : StartSeen) (is : IsLinkedStar
             let ix : IsTrusted the_link x.part = (listed_at parts there.index x.part there.at, t) in
             let same : x.part ≡ q = linked.one_closure x.part q ix iq seals in
             let base : x.part.component.code_base ≡ q.component.code_base =
-                ap (λ (p : PartSeen). p.component.code_base) same in
+            ap (λ (p : PartSeen). p.component.code_base) same in
             let at : pos (x.part.component.code_base + x.export.offset) ≡ pos (q.component.code_base + k) =
-                ap (λ c. c.addr) caps in
+            ap (λ c. c.addr) caps in
             let at' : x.part.component.code_base + x.export.offset ≡ q.component.code_base + k = cc in
             record {
               export = x.export;
@@ -144,7 +144,7 @@ module _ (parts : List PartSeen) (size : ℕ) (s : StartSeen) (is : IsLinkedStar
         → slice_get parts n ≡ Some p → p.trusted ≡ false → slice_get p.component.imports j ≡ Some i
         → imported parts i ≡ x
         → (if first then option_map code_half x else (if second then option_map data_half x else None)) ≡ Some
-            w
+        w
         → IsPublicWord the_link w
     slot_public n j p i None true second w at u here e h = cc
     slot_public n j p i None false true w at u here e h = cc
@@ -154,14 +154,14 @@ module _ (parts : List PartSeen) (size : ℕ) (s : StartSeen) (is : IsLinkedStar
         subst (IsPublicWord the_link) s (code_public x (imported_there parts i x e) shared)
       where
         shared : x.part.trusted ≡ true → x.export.shared ≡ true
-        shared t = elim (may_import parts size is.rules n j p i x at here e) as (λ _. x.export.shared ≡ true)
-            [
-          | inl k ↦ k
-          | inr k ↦ (
-              let y = imported_there parts i x e in
-              let same = same_part parts apart y.index n x.part p y.at at k in
-              let bad : true ≡ false = sym t ∙ ap (λ (q : PartSeen). q.trusted) same ∙ u in cc)
-        ]
+        shared t = elim (may_import parts size is.rules n j p i x at here e)
+            as (λ _. x.export.shared ≡ true) [
+              | inl k ↦ k
+              | inr k ↦ (
+                  let y = imported_there parts i x e in
+                  let same = same_part parts apart y.index n x.part p y.at at k in
+                  let bad : true ≡ false = sym t ∙ ap (λ (q : PartSeen). q.trusted) same ∙ u in cc)
+            ]
     slot_public n j p i (Some x) false true w at u here e h =
         let s : data_half x ≡ w = cc in subst (IsPublicWord the_link) s (data_public x)
     slot_public n j p i (Some x) false false w at u here e h = cc
@@ -172,7 +172,7 @@ module _ (parts : List PartSeen) (size : ℕ) (s : StartSeen) (is : IsLinkedStar
     unfolding start_cell part_word
     word_public a w free e =
         elim (given_by (first_given (part_word parts a) parts)
-            (if in_regions a (regions_of parts size) then Some (Int (pos 0)) else None) w e)
+        (if in_regions a (regions_of parts size) then Some (Int (pos 0)) else None) w e)
         as (λ _. IsPublicWord the_link w) [
           | inl f ↦ (let g = given (part_word parts a) parts w f in by_part g.index g.item g.at g.is)
           | inr z ↦ by_zero (in_regions a (regions_of parts size)) z
@@ -210,12 +210,12 @@ module _ (parts : List PartSeen) (size : ℕ) (s : StartSeen) (is : IsLinkedStar
             let f = from_inv p.component.data_base (data_word parts p.component) a w h in
             let o = a - p.component.data_base in
             elim (given_by (first_given (slot_word parts o) p.component.imports)
-                (slice_get p.component.data_words o) w f.1)
+            (slice_get p.component.data_words o) w f.1)
             as (λ _. IsPublicWord the_link w) [
               | inl slot ↦ (
                   let g = given (slot_word parts o) p.component.imports w slot in
                   slot_public n g.index p g.item (imported parts g.item) (g.item.slot == o)
-                      (g.item.slot + 1 == o) w at t
+                  (g.item.slot + 1 == o) w at t
                   g.at refl g.is)
               | inr own ↦ own_public p w (own_data p (is.accepted n p at) o w own)
             ]
@@ -224,7 +224,7 @@ module _ (parts : List PartSeen) (size : ℕ) (s : StartSeen) (is : IsLinkedStar
             → IsPublicWord the_link w
         by_part n p at h =
             elim (given_by (from p.component.code_base (slice_get p.component.code) a)
-                (from p.component.data_base (data_word parts p.component) a) w h)
+            (from p.component.data_base (data_word parts p.component) a) w h)
             as (λ _. IsPublicWord the_link w) [
               | inl c ↦ by_code n p p.trusted refl at c
               | inr d ↦ by_data n p p.trusted refl at d

@@ -147,11 +147,11 @@ module _ (modules : List ModuleFields) (g : Link) (linked : Linked g) (apart : N
           → (j ≡ i → x ≢ o) → word_at (set_word st i o v) j x ≡ word_at st j x
       other_word j q k x lx ne =
           elim (cases_eq j i) as (λ _. word_at (set_word st i o v) j x ≡ word_at st j x) [
-        | inl e ↦ (
-            ap (λ n. word_at (set_word st i o v) n x) e ∙ ap (λ xs. slice_index_or xs x (pos 0)) row
-            ∙ set_other (slice_index_or st i []) o x v (pos 0) (ne e) ∙ ap (λ n. word_at st n x) (sym e))
-        | inr n ↦ ap (λ xs. slice_index_or xs x (pos 0)) (row_other j n)
-      ]
+            | inl e ↦ (
+                ap (λ n. word_at (set_word st i o v) n x) e ∙ ap (λ xs. slice_index_or xs x (pos 0)) row
+                ∙ set_other (slice_index_or st i []) o x v (pos 0) (ne e) ∙ ap (λ n. word_at st n x) (sym e))
+            | inr n ↦ ap (λ xs. slice_index_or xs x (pos 0)) (row_other j n)
+          ]
 
       other_place : (j : ℕ) (q : PartSeen) (k : Homed j q) (x : ℕ) → x < length q.component.data_words
           → (j ≡ i → x ≢ Pairs + o) → q.component.data_base + x ≢ At
@@ -182,10 +182,10 @@ module _ (modules : List ModuleFields) (g : Link) (linked : Linked g) (apart : N
               let c : pair_count (part_of k.source) ≡ Pairs =
               ap (λ (m : ModuleFields). pair_count (part_of m)) (source_same j q k z) in
               let a : q.component.data_base + (pair_count (part_of k.source) + x) ≡ At =
-                  omega (arith, b, c, y) in
+              omega (arith, b, c, y) in
               ap (mem_with mem At (Plain (Int v))) a ∙ mem_same mem At (Plain (Int v))
               ∙ ap (λ w. Plain (Int w)) (sym (ap (λ n. word_at (set_word st i o v) n x) z
-                ∙ ap (word_at (set_word st i o v) i) y ∙ set_here)))
+              ∙ ap (word_at (set_word st i o v) i) y ∙ set_here)))
           | inr y ↦ away j q k x lx (λ w. y) (λ w e. y (
               let c : pair_count (part_of k.source) ≡ Pairs =
               ap (λ (m : ModuleFields). pair_count (part_of m)) (source_same j q k z) in omega (arith, c, e)))
@@ -196,7 +196,7 @@ module _ (modules : List ModuleFields) (g : Link) (linked : Linked g) (apart : N
           source_same : (j : ℕ) (q : PartSeen) (k : Homed j q) → j ≡ i → k.source ≡ h.source
           source_same j q k z =
               let a : Some k.source ≡ Some h.source = sym k.source_is ∙ ap (slice_get modules) z
-                  ∙ h.source_is in cc
+              ∙ h.source_is in cc
 
           away : (j : ℕ) (q : PartSeen) (k : Homed j q) (x : ℕ) → x < length (part_of k.source).globals
               → (j ≡ i → x ≢ o) → (j ≡ i → pair_count (part_of k.source) + x ≢ Pairs + o)
@@ -222,11 +222,11 @@ module _ (modules : List ModuleFields) (g : Link) (linked : Linked g) (apart : N
           → length (slice_index_or (set_word st i o v) j []) ≡ length (part_of k.source).globals
       rows j q k = elim (cases_eq j i) as (λ _. length (slice_index_or (set_word st i o v) j []) ≡ length
           (part_of k.source).globals) [
-        | inl z ↦ ap (λ n. length (slice_index_or (set_word st i o v) n [])) z ∙ ap length row
-            ∙ set_length (slice_index_or st i []) o v ∙ ap (λ n. length (slice_index_or st n [])) (sym z)
+            | inl z ↦ ap (λ n. length (slice_index_or (set_word st i o v) n [])) z ∙ ap length row
+                ∙ set_length (slice_index_or st i []) o v ∙ ap (λ n. length (slice_index_or st n [])) (sym z)
                 ∙ s.rows j q k
-        | inr n ↦ ap length (row_other j n) ∙ s.rows j q k
-      ]
+            | inr n ↦ ap length (row_other j n) ∙ s.rows j q k
+          ]
 
       pairs : (j : ℕ) (q : PartSeen) (k : Homed j q) (d : ℕ) → d < pair_count (part_of k.source)
           → mem_with mem At (Plain (Int v)) (q.component.data_base + d) ≡ first (q.component.data_base + d)

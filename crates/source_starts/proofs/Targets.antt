@@ -111,7 +111,7 @@ twice_between [] b k j x y h e f = absurd (let z : None ≡ Some x = e in cc)
 twice_between (z ∷ a) b zero j x y h e f =
     let s : z ≡ x = cc in
     subst (λ w. same w y ≡ false) s
-        (again_at z b j y (again_right z a b (left_none (again z (a ++ b)) (twice (a ++ b)) h)) f)
+    (again_at z b j y (again_right z a b (left_none (again z (a ++ b)) (twice (a ++ b)) h)) f)
 twice_between (z ∷ a) b (suc k) j x y h e f =
     twice_between a b k j x y (right_none (again z (a ++ b)) (twice (a ++ b)) h) e f
 
@@ -119,9 +119,12 @@ proc_named : (m : ModuleFields) (n : ℕ) (ps : List Proc) (j : ℕ) (q : Proced
     → slice_get (procedures_of m n ps) j ≡ Some q
     → (y : Name) × (slice_get (map (λ (p : Proc). p.name) ps) j ≡ Some y) × (y.text ≡ q.name)
 proc_named m n [] j q e = absurd (let z : None ≡ Some q = e in cc)
-proc_named m n (p ∷ ps) zero q e =
-    (p.name, refl, (let s = e in
-    ap (λ (o : Option Procedure). option_map_or (λ (y : Procedure). y.name) o []) s))
+proc_named m n (p ∷ ps) zero q e = (
+  p.name,
+  refl,
+  (let s = e in
+      ap (λ (o : Option Procedure). option_map_or (λ (y : Procedure). y.name) o []) s),
+)
 proc_named m n (p ∷ ps) (suc j) q e = proc_named m (n + proc_calls p) ps j q e
 
 right_at : {A : Type 0} (a b : List A) (j : ℕ) (x : A) → slice_get b j ≡ Some x
@@ -149,7 +152,7 @@ imports_apart m h k j i q at_i at_q e =
         (slice_get-map (λ i. i.name) m.imports k ∙ ap (option_map (λ i. i.name)) f)
         (right_at (map (λ g. g.name) m.globals) (map (λ (p : Proc). p.name) m.procs) j y.0 y.1) in
         let t : bytes_eq x.name.text y.0.text ≡ true = ap (λ a. bytes_eq a y.0.text) (nm ∙ e ∙ sym y.2)
-            ∙ names_same y.0.text in
+        ∙ names_same y.0.text in
         let bad : true ≡ false = sym t ∙ d in cc
 
 -- ---- among the modules
@@ -183,7 +186,7 @@ module _ (modules : List ModuleFields) (parts : List PartSeen) (is : Aligned mod
   shared_found i p h j q name at sh e =
       ap (shared_in i name) (part_here i p h)
       ∙ ap (option_map (target i)) (position_at (is_shared name) (part_of h.source).procs j q at
-        (rw sh (ap (λ n. bytes_eq n q.name) e ∙ names_same q.name)) before)
+      (rw sh (ap (λ n. bytes_eq n q.name) e ∙ names_same q.name)) before)
     where
       and_false : (a b : Bool) → b ≡ false → (a && b) ≡ false
       and_false true b f = f
@@ -225,7 +228,7 @@ module _ (modules : List ModuleFields) (parts : List PartSeen) (is : Aligned mod
   pub export_of : (i : ℕ) (p : PartSeen) (h : Home modules parts i p) (j : ℕ) (q : Procedure)
       → slice_get (part_of h.source).procs j ≡ Some q
       → (k : ℕ) × (slice_get p.component.exports k ≡ Some
-          (export_at (offset_from 2 (part_of h.source).procs j) q))
+      (export_at (offset_from 2 (part_of h.source).procs j) q))
   unfolding exports_of
   export_of i p h j q at =
       let r = export_there (part_of h.source).procs 2 j q at in
@@ -248,8 +251,10 @@ module _ (modules : List ModuleFields) (parts : List PartSeen) (is : Aligned mod
       (slice_get_within ps y.index y.proc y.at) (sym x.offset ∙ at ∙ sym sh.offset ∙ y.offset) in
       let same : Some x.proc ≡ Some y.proc = sym x.at ∙ ap (slice_get ps) one ∙ y.at in
       let proc : x.proc ≡ y.proc = cc in
-      let shared : x.proc.shared ≡ true = ap (λ (q : Procedure). q.shared) proc ∙ sym y.shared ∙ sh.shared in
-      (target i x.index,
+      let shared : x.proc.shared ≡ true =
+      ap (λ (q : Procedure). q.shared) proc ∙ sym y.shared ∙ sh.shared in (
+        target i x.index,
         ap (shared_at world name) (found_home modules parts is apart i p h part en)
-        ∙ shared_found i p h x.index x.proc name x.at shared (nn ∙ x.name),
-        record { home = h; what = x.proc; what_is = x.at; offset = sym at ∙ x.offset })
+            ∙ shared_found i p h x.index x.proc name x.at shared (nn ∙ x.name),
+        record { home = h; what = x.proc; what_is = x.at; offset = sym at ∙ x.offset },
+      )

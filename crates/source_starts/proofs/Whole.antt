@@ -83,7 +83,7 @@ module _ (modules : List ModuleFields) (parts : List PartSeen) (size : ℕ) (s :
   owner_at : (p : PartSeen) (ip : IsTrusted G p) → names.owner p ip ≡ owner_of (at_place p ip).0 p
   owner_at p ip =
       let there : Some (names.owner p ip) ≡ Some (owner_of (at_place p ip).0 p) =
-          sym (names.owner_is p ip) ∙ (told.named (at_place p ip).0 p (at_place p ip).1 ip.1).by_closure in
+      sym (names.owner_is p ip) ∙ (told.named (at_place p ip).0 p (at_place p ip).1 ip.1).by_closure in
       cc
 
   part_is : (p : PartSeen) (ip : IsTrusted G p)
@@ -103,9 +103,9 @@ module _ (modules : List ModuleFields) (parts : List PartSeen) (size : ℕ) (s :
   entry_named p ip k b =
       let x = entry_at p ip k b in
       let same : Some (names.entry p ip k b) ≡ Some x.number =
-          sym (names.entry_is p ip k b)
-          ∙ ap (λ (o : Owner). entry_number o (Memory (code_at (ranges_of p) k))) (owner_at p ip)
-          ∙ x.number_is in
+      sym (names.entry_is p ip k b)
+      ∙ ap (λ (o : Owner). entry_number o (Memory (code_at (ranges_of p) k))) (owner_at p ip)
+      ∙ x.number_is in
       let number : names.entry p ip k b ≡ x.number = cc in
       ap (λ (o : Owner). entry_name G.layout o.part (names.entry p ip k b)) (owner_at p ip)
       ∙ ap (entry_name G.layout (at_place p ip).0) number ∙ x.name
@@ -118,7 +118,7 @@ module _ (modules : List ModuleFields) (parts : List PartSeen) (size : ℕ) (s :
   target : (p : PartSeen) (k : ℕ) (ip : IsTrusted G p) (b : begins_entry p.component k ≡ true)
       → IsSharedAt p.component k
       → (t : Target) × (found W (part_name G.layout (names.owner p ip).part)
-        (entry_name G.layout (names.owner p ip).part (names.entry p ip k b)) ≡ Some t) × Begin t p k
+      (entry_name G.layout (names.owner p ip).part (names.entry p ip k b)) ≡ Some t) × Begin t p k
   target p k ip b sh =
       let n = index_of parts p ip.0 in
       let h = home_of modules parts beside n.0 p n.1 ip.1 in
@@ -163,10 +163,10 @@ module _ (modules : List ModuleFields) (parts : List PartSeen) (size : ℕ) (s :
   no_args : RegsAre G linked Begin [] O
   no_args =
       subst (RegsFrom G linked Begin []) (sym (λ i.
-        a0_zero modules parts size s is beside limits resolved linked holds i
-        ∷ a1_zero modules parts size s is beside limits resolved linked holds i
-        ∷ a2_zero modules parts size s is beside limits resolved linked holds i
-        ∷ a3_zero modules parts size s is beside limits resolved linked holds i ∷ [])) (nothing_more 4)
+      a0_zero modules parts size s is beside limits resolved linked holds i
+      ∷ a1_zero modules parts size s is beside limits resolved linked holds i
+      ∷ a2_zero modules parts size s is beside limits resolved linked holds i
+      ∷ a3_zero modules parts size s is beside limits resolved linked holds i ∷ [])) (nothing_more 4)
 
   starts_in : StartsIn W G linked Begin Kept size (first_words parts size s is) O
   starts_in = by (begins modules parts size s is beside limits resolved linked holds)
@@ -175,7 +175,7 @@ module _ (modules : List ModuleFields) (parts : List PartSeen) (size : ℕ) (s :
           → StartsIn W G linked Begin Kept size (first_words parts size s is) O
       by (inside m) =
           in_main m.to m.part m.entry m.main m.begins
-              (valid modules parts size s is beside limits resolved linked holds)
+          (valid modules parts size s is beside limits resolved linked holds)
           m.at m.dat (stk_safe modules parts size s is beside limits resolved linked holds)
           (record {
             code = zero_shown _ (rcode_zero modules parts size s is beside limits resolved linked holds);
@@ -198,10 +198,10 @@ module _ (modules : List ModuleFields) (parts : List PartSeen) (size : ℕ) (s :
 -- of every link of sources
 pub start_means : StartsBegin → PairsAreOwn → (modules : List ModuleFields) (parts : List PartSeen) (size : ℕ)
     (s : StartSeen) → IsStartOf parts size s → AreSources modules parts
-        → SourcesMean (map part_of modules) size s
+    → SourcesMean (map part_of modules) size s
 start_means begin own modules parts size s is sources =
     let held = begin s (overlay_at s) (is_overlay (placed parts size) size s is) (placed parts size) size
-        is in
+    is in
     placed_mean modules (placed parts size) size s is (aligned parts size modules sources.compiled)
-        sources.limits
+    sources.limits
     sources.resolved held.linked held.holds own

@@ -94,7 +94,7 @@ filter_at test (y ∷ ys) j x e = by (test y) refl j e (λ i f. filter_at test y
     by : (b : Bool) → test y ≡ b → (j : ℕ)
         → slice_get (cond b (y ∷ filter test ys) (filter test ys)) j ≡ Some x
         → ((i : ℕ) → slice_get (filter test ys) i ≡ Some x
-          → (n : ℕ) × (slice_get ys n ≡ Some x) × (test x ≡ true))
+        → (n : ℕ) × (slice_get ys n ≡ Some x) × (test x ≡ true))
         → (n : ℕ) × (slice_get (y ∷ ys) n ≡ Some x) × (test x ≡ true)
     by true t zero e more = (0, e, (let s : y ≡ x = cc in subst (λ z. test z ≡ true) s t))
     by true t (suc j) e more = let r = more j e in (suc r.0, r.1, r.2)
@@ -127,7 +127,7 @@ names_apart parts size h k n p q lt at_p at_q =
     let len = taken n parts (omega (arith, wn)) in
     sym (ap (passes (λ x. same_name q.component.name x.component.name)) got)
     ∙ in_part parts (λ i r. at_each (take i parts) (λ x. same_name r.component.name x.component.name)) never n
-        q k at_q
+    q k at_q
     (λ b. h 3 n k (l3 parts) refl (wn, b)) (omega (arith, lt, len))
 
 trusted_apart : (parts : List PartSeen) → NamesApart parts → (i j : ℕ) (p q : PartSeen) → i < j
@@ -144,7 +144,7 @@ trusted_apart (x ∷ parts) apart i j p q lt at_p at_q =
         → slice_get (cond b (x ∷ trusted_parts parts) (trusted_parts parts)) i ≡ Some p
         → slice_get (cond b (x ∷ trusted_parts parts) (trusted_parts parts)) j ≡ Some q
         → ((k n : ℕ) → k < n → slice_get (trusted_parts parts) k ≡ Some p
-          → slice_get (trusted_parts parts) n ≡ Some q → same_name q.component.name p.component.name ≡ false)
+        → slice_get (trusted_parts parts) n ≡ Some q → same_name q.component.name p.component.name ≡ false)
         → same_name q.component.name p.component.name ≡ false
     by true zero zero lt a b more = absurd (omega (arith, lt))
     by true zero (suc j) lt a b more =
@@ -176,11 +176,11 @@ settled_ones (p ∷ ps) modules f e = by p.trusted modules e (λ ms g. settled_o
 
     by : (b : Bool) (modules : List ModuleFields)
         → map (λ (p : PartSeen). p.component) (cond b (p ∷ trusted_parts ps) (trusted_parts ps)) ≡ map
-            compiled modules
+        compiled modules
         → ((ms : List ModuleFields) → map (λ (x : PartSeen). x.component) (trusted_parts ps) ≡ map compiled ms
-          → Aligned ms (trusted_parts (placed_from (past f p) ps)))
+        → Aligned ms (trusted_parts (placed_from (past f p) ps)))
         → Aligned modules (cond b (part_at f p ∷ trusted_parts (placed_from (past f p) ps))
-          (trusted_parts (placed_from (past f p) ps)))
+        (trusted_parts (placed_from (past f p) ps)))
     by true [] e more = cc
     by true (m ∷ ms) e more =
         let x : p.component ≡ compiled m = cc in
@@ -206,101 +206,108 @@ pub record Home (modules : List ModuleFields) (parts : List PartSeen) (i : ℕ) 
   pub placed : IsPlaced (part_of source) p.component
 
 module _ (modules : List ModuleFields) (parts : List PartSeen) (is : Aligned modules (trusted_parts parts))
-    where
-  at_place : (ms : List ModuleFields) (ps : List PartSeen) → Aligned ms ps → (i : ℕ) (p : PartSeen)
-      → slice_get ps i ≡ Some p → (m : ModuleFields) × (slice_get ms i ≡ Some m)
-          × IsPlaced (part_of m) p.component
-  at_place [] [] a i p e = absurd (let z : None ≡ Some p = e in cc)
-  at_place [] (x ∷ ps) a i p e = absurd a
-  at_place (m ∷ ms) [] a i p e = absurd a
-  at_place (m ∷ ms) (x ∷ ps) a zero p e =
-      let s : x ≡ p = cc in (m, refl, subst (λ (y : PartSeen). IsPlaced (part_of m) y.component) s a.0)
-  at_place (m ∷ ms) (x ∷ ps) a (suc i) p e = at_place ms ps a.1 i p e
+  where
+    at_place : (ms : List ModuleFields) (ps : List PartSeen) → Aligned ms ps → (i : ℕ) (p : PartSeen)
+        → slice_get ps i ≡ Some p → (m : ModuleFields) × (slice_get ms i ≡ Some m)
+        × IsPlaced (part_of m) p.component
+    at_place [] [] a i p e = absurd (let z : None ≡ Some p = e in cc)
+    at_place [] (x ∷ ps) a i p e = absurd a
+    at_place (m ∷ ms) [] a i p e = absurd a
+    at_place (m ∷ ms) (x ∷ ps) a zero p e =
+        let s : x ≡ p = cc in (m, refl, subst (λ (y : PartSeen). IsPlaced (part_of m) y.component) s a.0)
+    at_place (m ∷ ms) (x ∷ ps) a (suc i) p e = at_place ms ps a.1 i p e
 
-  at_module : (ms : List ModuleFields) (ps : List PartSeen) → Aligned ms ps → (i : ℕ) (m : ModuleFields)
-      → slice_get ms i ≡ Some m → (p : PartSeen) × (slice_get ps i ≡ Some p)
-  at_module [] ps a i m e = absurd (let z : None ≡ Some m = e in cc)
-  at_module (x ∷ ms) [] a i m e = absurd a
-  at_module (x ∷ ms) (p ∷ ps) a zero m e = (p, refl)
-  at_module (x ∷ ms) (p ∷ ps) a (suc i) m e = at_module ms ps a.1 i m e
+    at_module : (ms : List ModuleFields) (ps : List PartSeen) → Aligned ms ps → (i : ℕ) (m : ModuleFields)
+        → slice_get ms i ≡ Some m → (p : PartSeen) × (slice_get ps i ≡ Some p)
+    at_module [] ps a i m e = absurd (let z : None ≡ Some m = e in cc)
+    at_module (x ∷ ms) [] a i m e = absurd a
+    at_module (x ∷ ms) (p ∷ ps) a zero m e = (p, refl)
+    at_module (x ∷ ms) (p ∷ ps) a (suc i) m e = at_module ms ps a.1 i m e
 
-  home_at : (i : ℕ) (p : PartSeen) → slice_get (trusted_parts parts) i ≡ Some p → Home modules parts i p
-  home_at i p e =
-      let m = at_place modules (trusted_parts parts) is i p e in
-      let n = filter_at (λ (x : PartSeen). x.trusted) parts i p e in
-      record { source = m.0; source_is = m.1; place = e; number = n.0; number_is = n.1; trusted = n.2;
-          placed = m.2 }
+    home_at : (i : ℕ) (p : PartSeen) → slice_get (trusted_parts parts) i ≡ Some p → Home modules parts i p
+    home_at i p e =
+        let m = at_place modules (trusted_parts parts) is i p e in
+        let n = filter_at (λ (x : PartSeen). x.trusted) parts i p e in
+        record {
+          source = m.0;
+          source_is = m.1;
+          place = e;
+          number = n.0;
+          number_is = n.1;
+          trusted = n.2;
+          placed = m.2;
+        }
 
-  -- the home of a trusted part, and the part of a module
-  pub home_of : (n : ℕ) (p : PartSeen) → slice_get parts n ≡ Some p → p.trusted ≡ true
-      → (i : ℕ) × Home modules parts i p
-  home_of n p at trusted =
-      let i = filter_has (λ (x : PartSeen). x.trusted) parts n p at trusted in (i.0, home_at i.0 p i.1)
+    -- the home of a trusted part, and the part of a module
+    pub home_of : (n : ℕ) (p : PartSeen) → slice_get parts n ≡ Some p → p.trusted ≡ true
+        → (i : ℕ) × Home modules parts i p
+    home_of n p at trusted =
+        let i = filter_has (λ (x : PartSeen). x.trusted) parts n p at trusted in (i.0, home_at i.0 p i.1)
 
-  pub part_of_home : (i : ℕ) (m : ModuleFields) → slice_get modules i ≡ Some m
-      → (p : PartSeen) × Home modules parts i p
-  part_of_home i m e = let p = at_module modules (trusted_parts parts) is i m e in (p.0, home_at i p.0 p.1)
+    pub part_of_home : (i : ℕ) (m : ModuleFields) → slice_get modules i ≡ Some m
+        → (p : PartSeen) × Home modules parts i p
+    part_of_home i m e = let p = at_module modules (trusted_parts parts) is i m e in (p.0, home_at i p.0 p.1)
 
-  module _ (apart : NamesApart parts) where
-    -- a module's name leads to it
-    pub found_home : (i : ℕ) (p : PartSeen) (h : Home modules parts i p) (name : List ℕ)
-        → name ≡ p.component.name → position (meaning.is_named name) (map part_of modules) ≡ Some i
-    found_home i p h name e =
-        position_at (meaning.is_named name) (map part_of modules) i (part_of h.source)
-        (slice_get-map part_of modules i ∙ ap (option_map part_of) h.source_is)
-        (ap (λ a. bytes_eq a (part_of h.source).name) e
+    module _ (apart : NamesApart parts) where
+      -- a module's name leads to it
+      pub found_home : (i : ℕ) (p : PartSeen) (h : Home modules parts i p) (name : List ℕ)
+          → name ≡ p.component.name → position (meaning.is_named name) (map part_of modules) ≡ Some i
+      found_home i p h name e =
+          position_at (meaning.is_named name) (map part_of modules) i (part_of h.source)
+          (slice_get-map part_of modules i ∙ ap (option_map part_of) h.source_is)
+          (ap (λ a. bytes_eq a (part_of h.source).name) e
           ∙ ap (bytes_eq p.component.name) (sym h.placed.name) ∙ names_same p.component.name)
-        before
-      where
-        before : (k : ℕ) (u : Part) → k < i → slice_get (map part_of modules) k ≡ Some u
-            → meaning.is_named name u ≡ false
-        before k u lt at = by (slice_get modules k) refl (sym (slice_get-map part_of modules k) ∙ at)
-          where
-            by : (o : Option ModuleFields) → slice_get modules k ≡ o
-                → option_map part_of o ≡ Some u → meaning.is_named name u ≡ false
-            by None e' g = cc
-            by (Some m) e' g =
-                let s : part_of m ≡ u = cc in
-                let q = part_of_home k m e' in
-                let same : q.1.source ≡ m =
-                    (let z : Some q.1.source ≡ Some m = sym q.1.source_is ∙ e' in cc) in
-                let nm : q.0.component.name ≡ u.name = q.1.placed.name
-                    ∙ ap (λ (x : ModuleFields). (part_of x).name) same ∙ ap (λ (x : Part). x.name) s in
-                let d = trusted_apart parts apart k i q.0 p lt q.1.place h.place in
-                ap (λ a. bytes_eq a u.name) e ∙ ap (bytes_eq p.component.name) (sym nm) ∙ d
+          before
+        where
+          before : (k : ℕ) (u : Part) → k < i → slice_get (map part_of modules) k ≡ Some u
+              → meaning.is_named name u ≡ false
+          before k u lt at = by (slice_get modules k) refl (sym (slice_get-map part_of modules k) ∙ at)
+            where
+              by : (o : Option ModuleFields) → slice_get modules k ≡ o
+                  → option_map part_of o ≡ Some u → meaning.is_named name u ≡ false
+              by None e' g = cc
+              by (Some m) e' g =
+                  let s : part_of m ≡ u = cc in
+                  let q = part_of_home k m e' in
+                  let same : q.1.source ≡ m =
+                  (let z : Some q.1.source ≡ Some m = sym q.1.source_is ∙ e' in cc) in
+                  let nm : q.0.component.name ≡ u.name = q.1.placed.name
+                  ∙ ap (λ (x : ModuleFields). (part_of x).name) same ∙ ap (λ (x : Part). x.name) s in
+                  let d = trusted_apart parts apart k i q.0 p lt q.1.place h.place in
+                  ap (λ a. bytes_eq a u.name) e ∙ ap (bytes_eq p.component.name) (sym nm) ∙ d
 
-    -- and no name of an untrusted part leads to one
-    pub found_none : (n : ℕ) (p : PartSeen) (name : List ℕ) → slice_get parts n ≡ Some p → p.trusted ≡ false
-        → name ≡ p.component.name → position (meaning.is_named name) (map part_of modules) ≡ None
-    found_none n p name at untrusted e = position_none (meaning.is_named name) (map part_of modules)
-        (λ k u here.
-        by k u (slice_get modules k) refl (sym (slice_get-map part_of modules k) ∙ here))
-      where
-        apart_both : (k j : ℕ) (x y : PartSeen) → k ≢ j → slice_get parts k ≡ Some x
-            → slice_get parts j ≡ Some y
-            → bytes_eq x.component.name y.component.name ≡ false
-        apart_both k j x y ne a b =
-            elim (cases_lt k j) as (λ _. bytes_eq x.component.name y.component.name ≡ false) [
-          | inl lt ↦ differ_back y.component.name x.component.name (apart k j x y lt a b)
-          | inr ge ↦ apart j k y x (omega (arith, ge, ne)) b a
-        ]
+      -- and no name of an untrusted part leads to one
+      pub found_none : (n : ℕ) (p : PartSeen) (name : List ℕ) → slice_get parts n ≡ Some p → p.trusted ≡ false
+          → name ≡ p.component.name → position (meaning.is_named name) (map part_of modules) ≡ None
+      found_none n p name at untrusted e = position_none (meaning.is_named name) (map part_of modules)
+          (λ k u here.
+          by k u (slice_get modules k) refl (sym (slice_get-map part_of modules k) ∙ here))
+        where
+          apart_both : (k j : ℕ) (x y : PartSeen) → k ≢ j → slice_get parts k ≡ Some x
+              → slice_get parts j ≡ Some y
+              → bytes_eq x.component.name y.component.name ≡ false
+          apart_both k j x y ne a b =
+              elim (cases_lt k j) as (λ _. bytes_eq x.component.name y.component.name ≡ false) [
+                | inl lt ↦ differ_back y.component.name x.component.name (apart k j x y lt a b)
+                | inr ge ↦ apart j k y x (omega (arith, ge, ne)) b a
+              ]
 
-        by : (k : ℕ) (u : Part) (o : Option ModuleFields) → slice_get modules k ≡ o
-            → option_map part_of o ≡ Some u → meaning.is_named name u ≡ false
-        by k u None e' g = cc
-        by k u (Some m) e' g =
-            let s : part_of m ≡ u = cc in
-            let q = part_of_home k m e' in
-            let same : q.1.source ≡ m = (let z : Some q.1.source ≡ Some m = sym q.1.source_is ∙ e' in cc) in
-            let nm : q.0.component.name ≡ u.name = q.1.placed.name
-                ∙ ap (λ (x : ModuleFields). (part_of x).name) same ∙ ap (λ (x : Part). x.name) s in
-            let ne : n ≢ q.1.number = λ z. (
-            let w : Some p ≡ Some q.0 = sym at ∙ ap (slice_get parts) z ∙ q.1.number_is in
-            let v : p ≡ q.0 = cc in
-            let bad : false ≡ true = sym untrusted ∙ ap (λ (x : PartSeen). x.trusted) v ∙ q.1.trusted in
-                cc) in
-            ap (λ a. bytes_eq a u.name) e ∙ ap (bytes_eq p.component.name) (sym nm)
-            ∙ apart_both n q.1.number p q.0 ne at q.1.number_is
+          by : (k : ℕ) (u : Part) (o : Option ModuleFields) → slice_get modules k ≡ o
+              → option_map part_of o ≡ Some u → meaning.is_named name u ≡ false
+          by k u None e' g = cc
+          by k u (Some m) e' g =
+              let s : part_of m ≡ u = cc in
+              let q = part_of_home k m e' in
+              let same : q.1.source ≡ m = (let z : Some q.1.source ≡ Some m = sym q.1.source_is ∙ e' in cc) in
+              let nm : q.0.component.name ≡ u.name = q.1.placed.name
+              ∙ ap (λ (x : ModuleFields). (part_of x).name) same ∙ ap (λ (x : Part). x.name) s in
+              let ne : n ≢ q.1.number = λ z. (
+              let w : Some p ≡ Some q.0 = sym at ∙ ap (slice_get parts) z ∙ q.1.number_is in
+              let v : p ≡ q.0 = cc in
+              let bad : false ≡ true = sym untrusted ∙ ap (λ (x : PartSeen). x.trusted) v ∙ q.1.trusted in
+              cc) in
+              ap (λ a. bytes_eq a u.name) e ∙ ap (bytes_eq p.component.name) (sym nm)
+              ∙ apart_both n q.1.number p q.0 ne at q.1.number_is
 
 -- a part is one module's
 pub one_home : (modules : List ModuleFields) (parts : List PartSeen) → NamesApart parts

@@ -7,9 +7,11 @@ ghost use Rattle.proc_language.specs.declared.module.ModuleFields.{ModuleFields}
 ghost use Rattle.proc_program.specs.Lower.{part_of};
 ghost use Rattle.source_laws.specs.Sources.{SourcesMean};
 ghost use Rattle.source_starts.specs.Sources.{AreSources};
+ghost use Rattle.source_starts.specs.RunMeans.{RunsMean, StacksBegin};
 
 use overlay_machine::laws::starts_begin;
-use trace_tool::laws::pairs_are_the_overlays;
+use run_items::laws::events_are_told;
+use trace_tool::laws::{lines_are_a_feed, pairs_are_the_overlays, steps_tell_so, the_headline};
 
 /// A run of linked sources is what the sources mean, whatever untrusted parts are linked beside them.
 ///
@@ -26,4 +28,29 @@ pub fn sources_mean()
 {
     starts_begin();
     pairs_are_the_overlays();
+}
+
+/// The plain run of linked sources is what the sources mean, whatever untrusted parts are linked beside
+/// them.
+///
+/// Let the plain run have made so many instructions, and take the events and items that its lines tell.
+/// At the greatest matched point up to there: where code that isn't trusted runs, the meaning of these
+/// items waits, with these events; where trusted code runs, its events begin with these; and where the
+/// run has halted or failed from there, the meaning ends so, with these events and with the value of
+/// the run's a0. The meaning spends a tick at least for each 200 instructions of trusted code.
+pub fn runs_mean()
+    ensures { RunsMean }
+{
+    sources_mean();
+    the_headline();
+    lines_are_a_feed();
+    steps_tell_so();
+    events_are_told();
+}
+
+/// The stacks of linked sources begin where the sources say.
+pub fn stacks_begin()
+    ensures { StacksBegin }
+{
+    starts_begin();
 }

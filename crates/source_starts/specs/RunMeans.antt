@@ -1,0 +1,99 @@
+-- What the plain run of linked sources means: after so many instructions, what its lines tell of the sources,
+-- and what the meaning of the items that came in tells of it.
+use Rattle.std.specs.Prelude.{◌≡◌, ℕ, ◌+◌, ◌*◌, ◌<◌, ◌≤◌, ℤ, Bool, true, false, List, ◌∷◌, map}
+use Rattle.cap_words.specs.declared.Word.TheVariants.{Int}
+use Rattle.lcm_isa.specs.declared.Reg.TheVariants.{Pc, A0}
+use Rattle.lcm_machine.specs.declared.FailCause.{FailCause}
+use Rattle.lcm_machine.specs.declared.Step.TheVariants.{Halted, Failed}
+use Rattle.lcm_machine.specs.Places.{reg}
+use Rattle.lcm_machine.specs.Row.{faces}
+use Rattle.lcm_machine.specs.Run.{plain, answer as last_step}
+use Rattle.component_linker.specs.Parts.{PartSeen}
+use Rattle.component_linker.specs.Started.{StartSeen}
+use Rattle.overlay_machine.specs.State.{OState}
+use Rattle.overlay_machine.specs.Step.{weight_of}
+use Rattle.overlay_machine.specs.Starting.{IsStartOf, overlay_at}
+use Rattle.trace_tool.specs.Layout.{layout, is_trusted}
+use Rattle.trace_tool.specs.Feed.{outs_of, items_of}
+use Rattle.trace_tool.specs.Told.{StopsAt}
+use Rattle.trace_tool.specs.Headline.{Matched, written}
+use Rattle.run_items.specs.Items.{item_of, event_told}
+use Rattle.proc_language.specs.declared.module.ModuleFields.{ModuleFields}
+use Rattle.proc_program.specs.Lower.{part_of}
+use Rattle.source_events.specs.declared.Item.{Item}
+use Rattle.source_events.specs.declared.OutEvent.{OutEvent}
+use Rattle.source_events.specs.declared.End.{End}
+use Rattle.source_events.specs.declared.End.TheVariants.{Halt, Fail, Waiting, OutOfFuel}
+use Rattle.proc_semantics.specs.Values.{World}
+use Rattle.proc_semantics.specs.Meaning.{meaning}
+use Rattle.proc_semantics.specs.Fuel.{Prefix}
+use Rattle.source_laws.specs.Sources.{Shows}
+use Rattle.source_starts.specs.Sources.{AreSources}
+
+-- ---- what is told of the items that came in
+
+module _ (world : World) (size : ℕ) (items : List Item) (events : List OutEvent) where
+  -- an end, with these events, under every large enough fuel
+  pub record MeaningEnds (end : End) : Type 0 where
+    pub enough : ℕ
+    pub ends : (fuel : ℕ) → enough ≤ fuel → (meaning world size items fuel).end ≡ end
+    pub told : (fuel : ℕ) → enough ≤ fuel → (meaning world size items fuel).events ≡ events
+
+  -- under every large enough fuel these events, and perhaps more
+  pub record MeaningBegins : Type 0 where
+    pub enough : ℕ
+    pub begins : (fuel : ℕ) → enough ≤ fuel → Prefix events (meaning world size items fuel).events
+
+  -- no end and not more than these events, under a fuel that 200 instructions a tick make less than so many
+  abbrev pub MeaningTakes : ℕ → Type 0
+  MeaningTakes n =
+      (fuel : ℕ) → fuel * 200 < n → ((meaning world size items fuel).end ≡ OutOfFuel)
+      × Prefix (meaning world size items fuel).events events
+
+-- ---- the plain run
+
+-- whether pc stands in trusted code after so many instructions
+abbrev pub runs_trusted : StartSeen → ℕ → Bool
+runs_trusted s n = is_trusted (layout s) (faces (λ w. w) (plain n s.state).maps Pc)
+
+pub record RunMeans (world : World) (size : ℕ) (s : StartSeen) (steps : ℕ) : Type 0 where
+  -- by the lines that so many instructions write, these events went out, and these items came in
+  pub events : List OutEvent
+  pub items : List Item
+  pub out : outs_of (written s steps) ≡ map event_told events
+  pub came : map item_of (items_of (layout s).stack.base (written s steps)) ≡ items
+  -- the greatest matched point up to there
+  pub at : ℕ
+  pub overlay : OState
+  pub matched : Matched s at overlay
+  pub greatest : StopsAt (layout s) steps at overlay
+  -- of the instructions up to it so many are of steps of trusted code
+  pub weight : ℕ
+  pub shows : Shows (layout s) (overlay_at s).state at weight (outs_of (written s steps)) items overlay
+  -- code that isn't trusted runs there: the meaning waits for an item
+  pub waits : runs_trusted s at ≡ false → MeaningEnds world size items events Waiting
+  -- trusted code runs there: the meaning comes at least as far
+  pub goes_on : runs_trusted s at ≡ true → MeaningBegins world size items events
+  -- and where the run has halted, or failed, from there, the meaning ends so
+  pub halts : runs_trusted s at ≡ true → last_step (plain steps s.state) ≡ Halted
+      → (v : ℤ) × (reg (plain steps s.state).maps.regs A0 ≡ Int v)
+      × MeaningEnds world size items events (Halt v)
+      × MeaningTakes world size items events (weight + weight_of (layout s) overlay)
+  pub fails : runs_trusted s at ≡ true → (cause : FailCause) (pc : ℤ)
+      → last_step (plain steps s.state) ≡ Failed cause pc
+      → MeaningEnds world size items events Fail
+      × MeaningTakes world size items events (weight + weight_of (layout s) overlay)
+  -- a tick of the meaning pays for 200 instructions of trusted code at most
+  pub slow : MeaningTakes world size items events weight
+
+-- of every run of linked sources
+abbrev pub RunsMean : Type 0
+RunsMean =
+    (modules : List ModuleFields) (parts : List PartSeen) (size : ℕ) (s : StartSeen) → IsStartOf parts size s
+    → AreSources modules parts → (steps : ℕ) → RunMeans (map part_of modules) size s steps
+
+-- stacks begin where the sources say
+abbrev pub StacksBegin : Type 0
+StacksBegin =
+    (m : ModuleFields) (ms : List ModuleFields) (parts : List PartSeen) (size : ℕ) (s : StartSeen)
+    → IsStartOf parts size s → AreSources (m ∷ ms) parts → m.stack ≡ (layout s).stack.base
