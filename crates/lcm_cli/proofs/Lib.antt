@@ -16,3 +16,7 @@ pub mod Rising
 pub mod OneStart
 pub mod OneOverlay
 pub mod OneAnswer
+pub mod SourceWords
+pub mod SourceFeeds
+pub mod SourcesMade
+pub mod SourceTexts

@@ -1,6 +1,6 @@
 -- Why plans of words end.
 use Rattle.std.proofs.Common.{◌≡◌, ℕ, List, Option, Some, None, refl, sym, subst, true, false}
-use Rattle.std.specs.Prelude.{Bool, Err, ⊤}
+use Rattle.std.specs.Prelude.{Bool, Err}
 use Rattle.outside_io.specs.FilesSeen.{FilesSeen}
 use Rattle.command_words.specs.declared.command.Linked.{Linked}
 use Rattle.command_words.specs.declared.command.Linked.TheVariants as what
@@ -22,7 +22,7 @@ use Rattle.lcm_cli.specs.Causes.{IsUnread, IsLong, IsUndecoded, IsUncompiled, Is
 use Rattle.lcm_cli.specs.Causes.{Breaks, IsUnfed}
 use Rattle.lcm_cli.proofs.Ends.{Never, same_err, never_linked, never_image, never_component, never_part}
 use Rattle.lcm_cli.proofs.Ends.{no_rule}
-use Rattle.lcm_cli.proofs.Reasons.{FileReason, reason_first, Reasoned, in_reasoned, component_reasoned}
+use Rattle.lcm_cli.proofs.Reasons.{reason_first, Reasoned, in_reasoned, component_reasoned}
 use Rattle.lcm_cli.proofs.Reasons.{part_reasoned, linked_break, part_breaks, image_fails}
 use Rattle.lcm_cli.proofs.Modules.{never_subject, subject_reasoned, modules_break, feed_fails}
 use Rattle.lcm_cli.proofs.Tasks.{err_of}

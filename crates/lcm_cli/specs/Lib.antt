@@ -5,3 +5,4 @@ pub mod Commands
 pub mod Jobs
 pub mod Answers
 pub mod Causes
+pub mod SourceRuns

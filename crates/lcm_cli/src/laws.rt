@@ -9,6 +9,7 @@ ghost use Rattle.image_loader.specs.Image.{ImageSeen, IsImage, image_bytes};
 ghost use Rattle.lcm_cli.specs.Parts.{linked, loaded};
 ghost use Rattle.lcm_cli.specs.Commands.{plan_in};
 ghost use Rattle.lcm_cli.specs.Answers.{Answer, IsWritten};
+ghost use Rattle.lcm_cli.specs.SourceRuns.{MeanTellsRuns};
 
 /// Parts together are refused for the first of the rules of linking that they break, in the first part and
 /// at the first place there, and for nothing else.
@@ -26,4 +27,12 @@ pub fn linked_images_are_loaded()
 pub fn one_answer()
     ensures { (asked : Option Command) (held : List ℕ → Option (List ℕ)) (a b : Answer)
         → IsWritten held (plan_in asked) a → IsWritten held (plan_in asked) b → a ≡ b }
+{}
+
+/// `mean`, asked of the sources of a run over the text of that run, writes the text of the very meaning that
+/// the run's lines are told by: under every large enough fuel it tells the outgoing events of that text, or,
+/// where trusted code was still running, begins with them. That it isn't refused there is in `SourcesRun`:
+/// the sources keep its rules, and the text is a feed.
+pub fn mean_tells_runs()
+    ensures { MeanTellsRuns }
 {}

@@ -4,6 +4,7 @@ ghost use Rattle.command_words.specs.declared.command.LinkDeed.TheVariants as li
 ghost use Rattle.command_words.specs.declared.command.Command.TheVariants.{Links, Mean};
 ghost use Rattle.command_words.specs.declared.part.PartWord.{PartWord};
 ghost use Rattle.command_words.specs.declared.command.Linked.{Linked};
+ghost use Rattle.command_words.specs.declared.command.Linked.TheVariants as what;
 ghost use Rattle.command_words.specs.Action.{asked_in};
 ghost use Rattle.command_words.specs.Texts.{texts};
 ghost use Rattle.lcm_cli.specs.declared.job.Job.TheVariants as job;
@@ -14,6 +15,7 @@ ghost use Rattle.lcm_cli.specs.Answers.{Answers, Gives, Tells, outside, end_stat
 ghost use Rattle.lcm_cli.specs.Answers.{job_answer, IsReady};
 ghost use Rattle.lcm_cli.specs.Causes.{Promised, IsRunStatus, RunGiven, TraceGiven, RunCut, TraceCut};
 ghost use Rattle.lcm_cli.specs.Causes.{StayAt, PutsWhole, MeaningGiven};
+ghost use Rattle.lcm_cli.specs.SourceRuns.{AllSources, SourcesRun};
 
 use crate::job::{Job, job_of};
 use crate::lines::write_lines;
@@ -24,11 +26,15 @@ use command_words::{FileName, Steps, WordsFault, command_of};
 use component_linker::Start;
 use file_plans::{Refusal, Stop};
 use lcm_machine::LcmState;
+use linked_modules::laws::linked_modules_keep_rules;
 use meaning_tool::Meaning;
 use outside_io::{Files, Sink};
 use overlay_machine::Overlay;
 use overlay_machine::laws::a_start_has_one_overlay;
+use proc_sources::laws::sources_are_modules;
+use run_items::laws::texts_tell_items;
 use source_events::End;
+use source_starts::laws::{runs_mean, stacks_begin};
 use std::alloc::Global;
 use trace_tool::laws::the_headline;
 use trace_tool::{RunEnd, run_overlay, run_plain};
@@ -224,6 +230,15 @@ pub fn stk_main<F: Files, S: Sink>(
         (outside (F.seen files.old) (S.seen out.old) kept.old)
         result (outside (F.seen files.new) (S.seen out.new) kept.new) }
 
+    // Where every trusted part of a run is a source: what the run's lines tell is what the sources mean,
+    // with the events that code outside caused as input, whatever that code is.
+    ensures sourced { (words_of : List PartWord) (stack steps : ℕ)
+        → asked_in (texts words.now.items)
+        ≡ Some (Links (what.Parts words_of stack) (link_deed.Run steps))
+        → AllSources words_of → IsRunStatus result → SourcesRun words_of stack steps
+        (outside (F.seen files.old) (S.seen out.old) kept.old)
+        result (outside (F.seen files.new) (S.seen out.new) kept.new) }
+
     // What a run of the overlay writes and answers: its lines are those of a plain run.
     ensures traced { (l : Linked) (steps : ℕ)
         → asked_in (texts words.now.items) ≡ Some (Links l (link_deed.Trace steps))
@@ -262,5 +277,10 @@ pub fn stk_main<F: Files, S: Sink>(
 {
     the_headline();
     a_start_has_one_overlay();
+    sources_are_modules();
+    runs_mean();
+    stacks_begin();
+    texts_tell_items();
+    linked_modules_keep_rules();
     answer(alloc, words.as_slice(), files, out, kept)
 }

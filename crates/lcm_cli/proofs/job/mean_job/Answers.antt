@@ -1,6 +1,5 @@
 use Rattle.std.proofs.Common.{◌≡◌, ℕ, List, refl, subst}
 use Rattle.std.specs.Prelude.{Result, Ok, Err}
-use Rattle.std.proofs.lemmas.Result.{err_from_is_err_and}
 use Rattle.outside_io.specs.FilesSeen.{FilesSeen}
 use Rattle.command_words.specs.declared.part.PartWord.{PartWord}
 use Rattle.file_plans.specs.declared.refusal.Stop.{Stop}

@@ -2,7 +2,6 @@ use Rattle.std.proofs.Common.{◌≡◌, List, ℕ, sym, subst}
 use Rattle.std.specs.Prelude.{Result, Ok, Err}
 use Rattle.outside_io.specs.FilesSeen.{FilesSeen}
 use Rattle.image_loader.specs.Image.{ImageSeen, Spells}
-use Rattle.component_linker.specs.Started.{StartSeen}
 use Rattle.file_plans.specs.declared.refusal.Refusal.TheVariants.{Image}
 use Rattle.file_plans.specs.declared.refusal.Stop.{Stop}
 use Rattle.std.proofs.lemmas.Result.{err_from_is_err_and}

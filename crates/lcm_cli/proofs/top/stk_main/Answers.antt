@@ -4,6 +4,7 @@ use Rattle.command_words.specs.Texts.{texts}
 use Rattle.lcm_cli.proofs.Caused.{promised, usage}
 use Rattle.lcm_cli.proofs.Put.{files_stay, put_whole}
 use Rattle.lcm_cli.proofs.MeaningMade.{means}
+use Rattle.lcm_cli.proofs.SourcesMade.{sources_run}
 use Rattle.lcm_cli.proofs.RunsMade.{runs, traces, run_cut, trace_cut}
 use Rattle.lcm_cli.proofs.top.stk_main.Goals as goal
 
@@ -42,3 +43,19 @@ returns-clause-put_whole g c = put_whole (asked_in (texts c.args.words.now.items
 pub returns-clause-meant : goal.returns-clause-meant
 returns-clause-meant g c = means (asked_in (texts c.args.words.now.items)) _ _ _
     (rw c.as_slice.ensures.value at c.answer.ensures)
+
+pub returns-clause-sourced : goal.returns-clause-sourced
+returns-clause-sourced g c = sources_run
+    (record {
+      headline = c.the_headline.ensures.holds;
+      sources = record {
+        limits = c.sources_are_modules.ensures.limits;
+        resolved = c.sources_are_modules.ensures.resolved;
+        compiled_from = c.sources_are_modules.ensures.compiled;
+      };
+      mean = c.runs_mean.ensures;
+      begin = c.stacks_begin.ensures;
+      tells = c.texts_tell_items.ensures.runs;
+      keep = c.linked_modules_keep_rules.ensures;
+    })
+    (asked_in (texts c.args.words.now.items)) _ _ _ (rw c.as_slice.ensures.value at c.answer.ensures)

@@ -1,0 +1,188 @@
+-- The modules of words of which every trusted one is a source.
+use Rattle.std.proofs.Common.{◌≡◌, ℕ, ◌+◌, List, [], ◌∷◌, refl, ap, subst, ◌∙◌, inl, inr, true, false}
+use Rattle.std.specs.Prelude.{Bool, Result, Ok, Err, map, if◌then◌else◌}
+use Rattle.std.specs.Result.{result_and}
+use Rattle.outside_io.specs.FilesSeen.{FilesSeen}
+use Rattle.outside_io.specs.Whole.{GivesWhole}
+use Rattle.command_words.specs.declared.part.Ending.{Ending}
+use Rattle.command_words.specs.declared.part.Ending.TheVariants.{Source, Assembler, Component}
+use Rattle.command_words.specs.declared.part.PartWord.{PartWord}
+use Rattle.component_file.specs.declared.component.ComponentFields.{ComponentFields}
+use Rattle.component_check.specs.declared.rule.Group.TheVariants.{C}
+use Rattle.component_check.specs.RuleText.{broken_at}
+use Rattle.component_check.specs.Verdict.{check_from}
+use Rattle.flow_check.specs.Verdict.{flow_answer}
+use Rattle.component_linker.specs.Parts.{PartSeen, rules_of}
+use Rattle.component_linker.specs.Accepted.{accepted}
+use Rattle.assembler.specs.Assembled.{assembled}
+use Rattle.component_file.specs.Reading.{decoded}
+use Rattle.proc_language.specs.declared.module.ModuleFields.{ModuleFields}
+use Rattle.proc_language.specs.Limits.{IsModule}
+use Rattle.proc_names.specs.NameFaults.{name_faults}
+use Rattle.proc_templates.specs.Compiled.{compiled}
+use Rattle.proc_sources.specs.Sources.{module_in, sourced}
+use Rattle.source_starts.specs.Sources.{trusted_parts, AreSources}
+use Rattle.file_plans.specs.declared.TheConstants.{LONGEST_FILE}
+use Rattle.file_plans.specs.declared.refusal.Refusal.{Refusal}
+use Rattle.file_plans.specs.declared.refusal.Refusal.TheVariants as refusal
+use Rattle.file_plans.specs.Plans.{Plan, Made, ◌>>=◌, each_at, whole, too_long, unread, Comes}
+use Rattle.lcm_cli.specs.Parts.{is_trusted, broken_in, form_by, component_at, part_at}
+use Rattle.lcm_cli.specs.SourceRuns.{AllSources, SourcesCame}
+use Rattle.lcm_cli.proofs.Ends.{comes_split}
+use Rattle.lcm_cli.proofs.Modules.{unless_came}
+
+-- ---- one part
+
+both_ok : {A E : Type 0} (a b : Result (Unit {0}) E) (x y : A)
+    → result_and a (result_and b (Ok x)) ≡ Ok y → x ≡ y
+both_ok (Ok u) (Ok v) x y e = cc
+both_ok (Ok u) (Err f) x y e = absurd (cc)
+both_ok (Err f) b x y e = absurd (cc)
+
+-- a part is accepted as it was given
+accepted_is : (q p : PartSeen) → accepted q ≡ Ok p → q ≡ p
+unfolding accepted
+accepted_is q p e =
+    both_ok (check_from (broken_at C) 1 (rules_of q))
+    (if q.trusted then flow_answer q.component else Ok tt) q p e
+
+-- its file came whole, it has the word's mark, and where it is a source, it is compiled from it
+pub record PartCame (w : PartWord) (old : FilesSeen) (p : PartSeen) (new : FilesSeen) : Type 0 where
+  pub text : List ℕ
+  pub came : GivesWhole old w.name LONGEST_FILE text new
+  pub marked : p.trusted ≡ is_trusted w.mark
+  pub source : w.ending ≡ Source → sourced text ≡ Ok p.component
+
+-- the form that the bytes have
+formed : (ending : Ending) (index : ℕ) (text : List ℕ) (c : ComponentFields) (old new : FilesSeen)
+    → Comes (form_by ending index text) old (Ok c) new → (ending ≡ Source → sourced text ≡ Ok c) × (new ≡ old)
+formed Source index text c old new h =
+    let e = unless_came (refusal.Source index) (sourced text) c old new h in (λ s. e.0, e.1)
+formed Assembler index text c old new h =
+    let e = unless_came (refusal.Assembly index) (assembled text) c old new h in (λ s. absurd (cc), e.1)
+formed Component index text c old new h =
+    let e = unless_came (refusal.File index) (decoded text) c old new h in (λ s. absurd (cc), e.1)
+
+-- a component's file
+record FileCame (w : PartWord) (old : FilesSeen) (c : ComponentFields) (new : FilesSeen) : Type 0 where
+  pub text : List ℕ
+  pub came : GivesWhole old w.name LONGEST_FILE text new
+  pub source : w.ending ≡ Source → sourced text ≡ Ok c
+
+file_came : (index : ℕ) (w : PartWord) (c : ComponentFields) (old new : FilesSeen)
+    → Comes (component_at index w) old (Ok c) new → FileCame w old c new
+unfolding component_at
+file_came index w c old new (whole text mid g h) =
+    let f = formed w.ending index text c mid new h in
+    let q = f.1 in
+    record { text = text; came = rw q g; source = f.0 }
+file_came index w c old new (too_long t e) = absurd (cc)
+file_came index w c old new (unread t e) = absurd (cc)
+
+pub part_came : (index : ℕ) (w : PartWord) (p : PartSeen) (old new : FilesSeen)
+    → Comes (part_at index w) old (Ok p) new → PartCame w old p new
+unfolding part_at
+part_came index w p old new h =
+    elim (comes_split (component_at index w) _ old new (Ok p) h) as (λ _. PartCame w old p new) [
+      | inl s ↦ (
+          let a : PartSeen = record { component = s.0; trusted = is_trusted w.mark } in
+          let e = unless_came (broken_in index) (accepted a) p s.1 new s.3 in
+          let q = e.1 in
+          let is : a ≡ p = accepted_is a p e.0 in
+          let c : Comes (component_at index w) old (Ok s.0) new = rw q s.2 in
+          let f = file_came index w s.0 old new c in
+          subst (λ z. PartCame w old z new) is
+          (record { text = f.text; came = f.came; marked = refl; source = f.source })
+          )
+      | inr s ↦ absurd (let e = s.2 in cc)
+    ]
+
+-- ---- all of them
+
+-- what holds of sources
+pub record SourceLaws : Type 0 where
+  pub limits : (text : List ℕ) (m : ModuleFields) → module_in text ≡ Ok m → IsModule m
+  pub resolved : (text : List ℕ) (m : ModuleFields) → module_in text ≡ Ok m → name_faults m ≡ []
+  pub compiled_from : (text : List ℕ) (c : ComponentFields) → sourced text ≡ Ok c
+      → (m : ModuleFields) × (module_in text ≡ Ok m) × (c ≡ compiled m)
+
+-- the modules of words, and that the trusted parts are their components
+pub record Gathered (words : List PartWord) (old : FilesSeen) (parts : List PartSeen) (new : FilesSeen) : Type
+    0 where
+  pub modules : List ModuleFields
+  pub came : SourcesCame words old modules new
+  pub are : AreSources modules parts
+
+abbrev component_in : PartSeen → ComponentFields
+component_in p = p.component
+
+module _ (laws : SourceLaws) where
+  -- a source before others
+  with_source : (p : PartSeen) (m : ModuleFields) (ps : List PartSeen) (ms : List ModuleFields)
+      → p.trusted ≡ true → p.component ≡ compiled m → IsModule m → name_faults m ≡ [] → AreSources ms ps
+      → AreSources (m ∷ ms) (p ∷ ps)
+  with_source p m ps ms t c l r a = record {
+    limits = (l, a.limits);
+    resolved = (r, a.resolved);
+    compiled = rw t (ap (λ d. d ∷ map component_in (trusted_parts ps)) c
+        ∙ ap (λ ds. compiled m ∷ ds) a.compiled);
+  }
+
+  -- a part that isn't trusted before others
+  with_other : (p : PartSeen) (ps : List PartSeen) (ms : List ModuleFields) → p.trusted ≡ false
+      → AreSources ms ps → AreSources ms (p ∷ ps)
+  with_other p ps ms t a =
+      record { limits = a.limits; resolved = a.resolved; compiled = rw t a.compiled }
+
+  with_part : (w : PartWord) (words : List PartWord) (p : PartSeen) (ps : List PartSeen)
+      (old mid new : FilesSeen) (b : Bool) → is_trusted w.mark ≡ b
+      → (is_trusted w.mark ≡ true → w.ending ≡ Source) → PartCame w old p mid → Gathered words mid ps new
+      → Gathered (w ∷ words) old (p ∷ ps) new
+  with_part w words p ps old mid new true e s c g =
+      let k = laws.compiled_from c.text p.component (c.source (s e)) in
+      record {
+        modules = k.0 ∷ g.modules;
+        came = (c.text, mid, c.came, rw e (k.1, g.came));
+        are = with_source p k.0 ps g.modules (c.marked ∙ e) k.2 (laws.limits c.text k.0 k.1)
+            (laws.resolved c.text k.0 k.1) g.are;
+      }
+  with_part w words p ps old mid new false e s c g = record {
+    modules = g.modules;
+    came = (c.text, mid, c.came, rw e g.came);
+    are = with_other p ps g.modules (c.marked ∙ e) g.are;
+  }
+
+  none_gathered : (old new : FilesSeen) (parts : List PartSeen)
+      → Comes (let q : Plan (List PartSeen) = Made [] in q) old (Ok parts) new → Gathered [] old parts new
+  none_gathered old new [] h = record {
+    modules = [];
+    came = (refl, h.1);
+    are = record { limits = tt; resolved = tt; compiled = refl };
+  }
+  none_gathered old new (p ∷ ps) h = absurd (let e = h.0 in cc)
+
+  same_parts : (xs ys : List PartSeen) → (let r : Result (List PartSeen) Refusal = Ok xs in r) ≡ Ok ys
+      → ys ≡ xs
+  same_parts xs ys e = cc
+
+  pub gathered : (words : List PartWord) (index : ℕ) (old new : FilesSeen) (parts : List PartSeen)
+      → AllSources words → Comes (each_at part_at index words) old (Ok parts) new
+      → Gathered words old parts new
+  gathered [] index old new parts s h = none_gathered old new parts h
+  gathered (w ∷ words) index old new parts s h =
+      elim (comes_split (part_at index w) _ old new (Ok parts) h)
+      as (λ _. Gathered (w ∷ words) old parts new) [
+        | inl a ↦ elim (comes_split (each_at part_at (index + 1) words) _ a.1 new (Ok parts) a.3)
+            as (λ _. Gathered (w ∷ words) old parts new) [
+              | inl b ↦ (
+                  let q = b.3.1 in
+                  let c : Comes (each_at part_at (index + 1) words) a.1 (Ok b.0) new = rw q b.2 in
+                  subst (λ ps. Gathered (w ∷ words) old ps new) (same_parts parts (a.0 ∷ b.0) b.3.0)
+                  (with_part w words a.0 b.0 old a.1 new (is_trusted w.mark) refl s.0
+                  (part_came index w a.0 old a.1 a.2)
+                  (gathered words (index + 1) a.1 new b.0 s.1 c))
+                  )
+              | inr b ↦ absurd (let e = b.2 in cc)
+            ]
+        | inr a ↦ absurd (let e = a.2 in cc)
+      ]

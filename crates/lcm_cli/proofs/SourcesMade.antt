@@ -1,0 +1,77 @@
+-- What a run of sources was given from, and what its sources mean.
+use Rattle.std.proofs.Common.{◌≡◌, ℕ, List, Option, Some, sym, ap, subst, ◌∙◌}
+use Rattle.std.specs.Prelude.{map, Ok}
+use Rattle.command_words.specs.declared.part.PartWord.{PartWord}
+use Rattle.command_words.specs.declared.command.Command.{Command}
+use Rattle.command_words.specs.declared.command.Command.TheVariants.{Links}
+use Rattle.command_words.specs.declared.command.Linked.TheVariants as what
+use Rattle.command_words.specs.declared.command.LinkDeed.TheVariants as link_deed
+use Rattle.component_linker.specs.Parts.{PartSeen}
+use Rattle.component_linker.specs.Started.{StartSeen}
+use Rattle.overlay_machine.specs.Starting.{IsStartOf}
+use Rattle.trace_tool.specs.Headline.{HeadlineHolds, written}
+use Rattle.proc_language.specs.declared.module.ModuleFields.{ModuleFields}
+use Rattle.proc_program.specs.Lower.{part_of}
+use Rattle.source_starts.specs.Sources.{AreSources}
+use Rattle.source_starts.specs.RunMeans.{RunMeans, RunsMean, StacksBegin}
+use Rattle.source_events.specs.declared.Item.{Item}
+use Rattle.component_linker.specs.Standing.{placed}
+use Rattle.linked_modules.specs.Among.{LinkedModulesKeepRules}
+use Rattle.module_rules.specs.Rules.{stack_base_of}
+use Rattle.run_items.specs.Items.{item_of, TextsTellItems}
+use Rattle.trace_tool.specs.Feed.{items_of}
+use Rattle.trace_tool.specs.Layout.{layout}
+use Rattle.lcm_cli.specs.declared.status.Status.{Status}
+use Rattle.lcm_cli.specs.Commands.{plan_in}
+use Rattle.lcm_cli.specs.Answers.{Outside, Answers}
+use Rattle.lcm_cli.specs.Causes.{IsRunStatus, RunGiven}
+use Rattle.lcm_cli.specs.SourceRuns.{AllSources, IsFeed, SourcesRun}
+use Rattle.lcm_cli.proofs.RunsMade.{runs}
+use Rattle.lcm_cli.proofs.SourceWords.{SourceLaws, gathered}
+use Rattle.lcm_cli.proofs.SourceFeeds.{among, each_resolved}
+
+-- the text of a run is a feed of its modules
+feed_of : StacksBegin → TextsTellItems → LinkedModulesKeepRules → (modules : List ModuleFields)
+    (parts : List PartSeen) (size : ℕ) (s : StartSeen) (steps : ℕ) → IsStartOf parts size s
+    → (are : AreSources modules parts) → (items : List Item)
+    → map item_of (items_of (layout s).stack.base (written s steps)) ≡ items
+    → IsFeed modules size s steps items
+feed_of begin tells keep modules parts size s steps is are items came = record {
+  rules = keep parts size modules is.rules (among parts modules are.compiled)
+      (each_resolved modules are.resolved);
+  read = tells (placed parts size) size s is (layout s).stack.base steps ∙ ap (λ xs. Ok xs) came;
+  base = λ m others e. subst (λ ms. stack_base_of ms ≡ (layout s).stack.base) (sym e)
+      (begin m others parts size s is (subst (λ ms. AreSources ms parts) e are));
+}
+
+-- what holds of all runs and sources
+pub record RunLaws : Type 0 where
+  pub headline : HeadlineHolds
+  pub sources : SourceLaws
+  pub mean : RunsMean
+  pub begin : StacksBegin
+  pub tells : TextsTellItems
+  pub keep : LinkedModulesKeepRules
+
+pub sources_run : RunLaws → (asked : Option Command) (old : Outside) (ended : Status) (new : Outside)
+    → Answers (plan_in asked) old ended new → (words : List PartWord) (stack steps : ℕ)
+    → asked ≡ Some (Links (what.Parts words stack) (link_deed.Run steps)) → AllSources words
+    → IsRunStatus ended
+    → SourcesRun words stack steps old ended new
+sources_run laws asked old ended new a words stack steps e sources r =
+    let given : RunGiven (what.Parts words stack) steps old ended new =
+    runs laws.headline asked old ended new a (what.Parts words stack) steps e r in
+    let from = given.from in
+    let g = gathered laws.sources words 0 old.files new.files from.parts sources from.came.0 in
+    let is : IsStartOf from.parts stack from.start =
+    subst (λ n. IsStartOf from.parts n from.start) from.came.1 from.linked_start in
+    let means : RunMeans (map part_of g.modules) stack from.start steps =
+    laws.mean g.modules from.parts stack from.start is g.are steps in
+    record {
+      given = given;
+      modules = g.modules;
+      came = g.came;
+      means = means;
+      feed = feed_of laws.begin laws.tells laws.keep g.modules from.parts stack from.start steps is
+          g.are means.items means.came;
+    }

@@ -1,0 +1,81 @@
+-- Runs of parts of which every trusted one is a source.
+use Rattle.std.specs.Prelude.{◌≡◌, ℕ, Bool, true, false, List, [], ◌∷◌, map, Ok}
+use Rattle.outside_io.specs.FilesSeen.{FilesSeen}
+use Rattle.outside_io.specs.SinkSeen.{Adds}
+use Rattle.outside_io.specs.Whole.{GivesWhole as ComesWhole}
+use Rattle.command_words.specs.declared.command.Linked.TheVariants as what
+use Rattle.command_words.specs.declared.part.Ending.TheVariants.{Source}
+use Rattle.command_words.specs.declared.part.PartWord.{PartWord}
+use Rattle.proc_language.specs.declared.module.ModuleFields.{ModuleFields}
+use Rattle.proc_language.specs.Limits.{Each}
+use Rattle.proc_program.specs.Lower.{part_of}
+use Rattle.proc_sources.specs.Sources.{module_in}
+use Rattle.component_linker.specs.Started.{StartSeen}
+use Rattle.module_rules.specs.Rules.{stack_base_of, ruled}
+use Rattle.run_feed.specs.Feed.{fed}
+use Rattle.source_events.specs.declared.Item.{Item}
+use Rattle.source_starts.specs.RunMeans.{RunMeans}
+use Rattle.trace_tool.specs.Layout.{layout}
+use Rattle.file_plans.specs.declared.TheConstants.{LONGEST_FILE}
+use Rattle.lcm_cli.specs.declared.status.Status.{Status}
+use Rattle.lcm_cli.specs.Parts.{is_trusted}
+use Rattle.proc_semantics.specs.Meaning.{meaning}
+use Rattle.meaning_text.specs.Text.{told_text}
+use Rattle.lcm_cli.specs.Answers.{Outside, meaning_status}
+use Rattle.lcm_cli.specs.Causes.{RunGiven, text_of_run, MeaningGiven}
+
+-- every trusted word is a source
+abbrev pub AllSources : List PartWord → Type 0
+AllSources words = Each (λ (w : PartWord). is_trusted w.mark ≡ true → w.ending ≡ Source) words
+
+-- of a trusted word, the text spells the first of the modules; the others are left to the words behind it
+abbrev pub SpelledBy : Bool → List ℕ → List ModuleFields → (List ModuleFields → Type 0) → Type 0
+SpelledBy true text [] rest = ⊥
+SpelledBy true text (m ∷ modules) rest = (module_in text ≡ Ok m) × rest modules
+SpelledBy false text modules rest = rest modules
+
+-- the files of words came whole, one after another, and the modules are those that the texts of trusted words
+-- spell
+abbrev pub SourcesCame : List PartWord → FilesSeen → List ModuleFields → FilesSeen → Type 0
+SourcesCame [] old modules new = (modules ≡ []) × (new ≡ old)
+SourcesCame (w ∷ words) old modules new =
+    (text : List ℕ) × (mid : FilesSeen) × ComesWhole old w.name LONGEST_FILE text mid
+    × SpelledBy (is_trusted w.mark) text modules (λ others. SourcesCame words mid others new)
+
+-- the text of the run is a feed over which `mean` may be asked of just these modules: they keep the rules of
+-- a meaning, the feed's reader takes from the text what came in, and its base is that of the first module's
+-- stack
+pub record IsFeed (modules : List ModuleFields) (stack : ℕ) (start : StartSeen) (steps : ℕ)
+    (items : List Item) : Type 0 where
+  pub rules : ruled modules stack ≡ Ok tt
+  pub read : fed (layout start).stack.base (text_of_run start steps) ≡ Ok items
+  pub base : (m : ModuleFields) (others : List ModuleFields) → modules ≡ m ∷ others
+      → stack_base_of modules ≡ (layout start).stack.base
+
+-- a run whose trusted parts are sources: the plain run gave the status, the text and the machine; what its
+-- lines tell is what the modules mean, by the feed that its text is
+pub record SourcesRun (words : List PartWord) (stack steps : ℕ) (old : Outside) (status : Status)
+    (new : Outside) : Type 0 where
+  pub given : RunGiven (what.Parts words stack) steps old status new
+  pub modules : List ModuleFields
+  pub came : SourcesCame words old.files modules new.files
+  pub means : RunMeans (map part_of modules) stack given.from.start steps
+  pub feed : IsFeed modules stack given.from.start steps means.items
+
+-- what `mean` wrote and answered is of the very meaning that the run's lines are told by
+pub record TellsOfRun (modules : List ModuleFields) (stack fuel : ℕ) (items : List Item) (old : Outside)
+    (status : Status) (new : Outside) : Type 0 where
+  pub status_is : status ≡ meaning_status (meaning (map part_of modules) stack items fuel).end
+  pub written : Adds old.sink (told_text (meaning (map part_of modules) stack items fuel)) new.sink
+
+-- wherever `mean` is asked of the sources of a run, over the text of that run
+abbrev pub MeanTellsRuns : Type 0
+MeanTellsRuns =
+    (words : List PartWord) (stack steps : ℕ) (old : Outside) (status : Status) (new : Outside)
+    (run : SourcesRun words stack steps old status new) (m : ModuleFields) (others : List ModuleFields)
+    → run.modules ≡ m ∷ others
+    → (sources : List PartWord) (fuel : ℕ) (feed : List ℕ)
+    (before : Outside) (ended : Status) (after : Outside)
+    (mean : MeaningGiven sources stack fuel feed before ended after)
+    → mean.modules ≡ run.modules → mean.text ≡ text_of_run run.given.from.start steps
+    → TellsOfRun run.modules stack fuel run.means.items before ended after

@@ -1,0 +1,449 @@
+-- The module comes to its call, and the adversary goes right back.
+use Rattle.std.proofs.Common.{◌≡◌, ℕ, pos, negsuc, true, false, [], ◌∷◌, Some, None}
+use Rattle.std.proofs.Common.{refl, ap, ◌∙◌, arith, inl, ◌≢◌}
+use Rattle.cap_words.specs.declared.Word.TheVariants.{Int, Mem}
+use Rattle.cap_words.specs.declared.Content.TheVariants.{Mem as MemC}
+use Rattle.lcm_isa.specs.declared.Reg.TheVariants.{Pc, Rcode, Rdata, Stk, Dat, C1, C2, A0, A1, A2, A3}
+use Rattle.lcm_isa.specs.declared.Reg.TheVariants.{G0, G1, G2}
+use Rattle.lcm_isa.specs.declared.Operand.TheVariants.{R, Imm}
+use Rattle.lcm_isa.specs.declared.Instr.TheVariants.{Load, Store, Cca, Xjmp}
+use Rattle.lcm_machine.specs.declared.Place.TheVariants.{R}
+use Rattle.lcm_machine.specs.Maps.{State}
+use Rattle.lcm_machine.specs.Cells.{cell, set_cell, all_there, words_from, without, put_back}
+use Rattle.lcm_machine.specs.Row.{faces, opens, row, went}
+use Rattle.lcm_machine.proofs.Offers.{stays, load_goes, cca_goes, set_goes, store_goes, xjmp_goes}
+use Rattle.lcm_machine.proofs.Offers.{cell-without_out, cell-set_other, cell-set_same}
+use Rattle.call_sequence.specs.Sequences.{call_code, return_code, entry_code}
+use Rattle.component_linker.specs.Regions.{regions_of}
+use Rattle.component_linker.specs.Start.{start_cell, part_word}
+use Rattle.component_linker.specs.Owners.{owner_of}
+use Rattle.overlay_machine.specs.declared.words.OWord.{OWord}
+use Rattle.overlay_machine.specs.declared.words.OWord.TheVariants.{Plain, RetCode, RetData}
+use Rattle.overlay_machine.specs.declared.cases.Case.TheVariants.{Call, Back}
+use Rattle.overlay_machine.specs.declared.events.Event.{Event}
+use Rattle.overlay_machine.specs.declared.events.Event.TheVariants.{Called, Returned}
+use Rattle.overlay_machine.specs.State.{OpenFrame, OState, Cells}
+use Rattle.overlay_machine.specs.Words.{look}
+use Rattle.overlay_machine.specs.Layout.{trusted_at, site_code}
+use Rattle.overlay_machine.specs.Step.{goes, need, ask, own_stack, case_fetched, case_trusted, case_of}
+use Rattle.overlay_machine.specs.Step.{entry_step, call_step, return_step, step_by, weight_by}
+use Rattle.overlay_machine.specs.Step.{overlay_step, weight_of}
+use Rattle.overlay_machine.specs.Events.{note_by, event_after, step_event}
+use Rattle.proc_templates.specs.Items.{zero_of}
+use Rattle.source_instance.proofs.Module.{as_word}
+use Rattle.source_instance.proofs.Parts.{parts}
+use Rattle.source_instance.proofs.Machine.{L, M, has, IsSame, at_start, has_in, set_above, zero_, regs_with}
+use Rattle.source_instance.proofs.Machine.{maps}
+use Rattle.source_instance.proofs.Machine.{state, own_code, own_data, its_code, its_data, stack, f_code}
+use Rattle.source_instance.proofs.Machine.{f_data}
+use Rattle.source_instance.proofs.Machine.{g_code, g_data, Makes, own_step, its_fetch}
+use Rattle.source_instance.proofs.Machine.{load_straight, store_straight, cca_straight, move_straight}
+use Rattle.source_instance.proofs.Enters.{o8}
+
+-- ---- memory: the words of the return are pushed
+
+cell_is : (a : ℕ) → start_cell parts 8 a ≡ Some (Int (pos 0)) → cell M a ≡ Some zero_
+cell_is a e = has a (Int (pos 0)) e
+
+zero116 : cell M 116 ≡ Some zero_
+unfolding start_cell part_word regions_of entry_code call_code return_code
+zero116 = cell_is 116 refl
+
+zero117 : cell M 117 ≡ Some zero_
+unfolding start_cell part_word regions_of entry_code call_code return_code
+zero117 = cell_is 117 refl
+
+zero118 : cell M 118 ≡ Some zero_
+unfolding start_cell part_word regions_of entry_code call_code return_code
+zero118 = cell_is 118 refl
+
+abbrev one_pushed : Cells
+one_pushed = set_cell M 118 (Plain g_code)
+
+abbrev pub pushed : Cells
+pushed = set_cell one_pushed 117 (Plain g_data)
+
+one_pushed_same : IsSame one_pushed
+one_pushed_same = set_above M 118 (Plain g_code) at_start (omega arith)
+
+pushed_same : IsSame pushed
+pushed_same = set_above one_pushed 117 (Plain g_data) one_pushed_same (omega arith)
+
+still117 : cell one_pushed 117 ≡ Some zero_
+still117 = cell-set_other M 118 117 (Plain g_code) (let ne : 117 ≢ 118 = omega arith in ne) ∙ zero117
+
+-- ---- the states
+
+abbrev pub o9 : OState
+o9 = state (maps (regs_with (Plain (Mem (own_code 23))) (Plain g_code) (Plain g_data)
+    (Plain (Mem (stack 118 118))) (Plain (Mem (own_data 90))) zero_ (Plain f_code) (Plain f_data)) M) [] 0
+
+abbrev pub o10 : OState
+o10 = state (maps (regs_with (Plain (Mem (own_code 24))) (Plain g_code) (Plain g_data)
+    (Plain (Mem (stack 118 118))) (Plain (Mem (own_data 90))) zero_ (Plain f_code) (Plain f_data)) one_pushed)
+    [] 0
+
+abbrev pub o11 : OState
+o11 = state (maps (regs_with (Plain (Mem (own_code 25))) (Plain g_code) (Plain g_data)
+    (Plain (Mem (stack 118 117))) (Plain (Mem (own_data 90))) zero_ (Plain f_code) (Plain f_data)) one_pushed)
+    [] 0
+
+abbrev pub o12 : OState
+o12 = state (maps (regs_with (Plain (Mem (own_code 26))) (Plain g_code) (Plain g_data)
+    (Plain (Mem (stack 118 117))) (Plain (Mem (own_data 90))) zero_ (Plain f_code) (Plain f_data)) pushed) []
+    0
+
+abbrev pub o13 : OState
+o13 = state (maps (regs_with (Plain (Mem (own_code 27))) (Plain g_code) (Plain g_data)
+    (Plain (Mem (stack 118 116))) (Plain (Mem (own_data 90))) zero_ (Plain f_code) (Plain f_data)) pushed) []
+    0
+
+abbrev pub o14 : OState
+o14 = state (maps (regs_with (Plain (Mem (own_code 28))) (Plain g_code) (Plain g_data)
+    (Plain (Mem (stack 118 116))) (Plain (Mem (own_data 90))) zero_ (Plain f_code) (Plain f_data)) pushed) []
+    0
+
+abbrev pub o15 : OState
+o15 = state (maps (regs_with (Plain (Mem (own_code 29))) (Plain g_code) (Plain g_data)
+    (Plain (Mem (stack 118 116))) (Plain (Mem (own_data 90))) zero_ (Plain f_code) (Plain f_data)) pushed) []
+    0
+
+abbrev pub o16 : OState
+o16 = state (maps (regs_with (Plain (Mem (own_code 30))) (Plain g_code) (Plain g_data)
+    (Plain (Mem (stack 118 116))) (Plain (Mem (own_data 90))) zero_ (Plain f_code) (Plain f_data)) pushed) []
+    0
+
+abbrev pub o17 : OState
+o17 = state (maps (regs_with (Plain (Mem (own_code 31))) (Plain g_code) (Plain g_data)
+    (Plain (Mem (stack 118 116))) (Plain (Mem (own_data 90))) zero_ (Plain f_code) (Plain f_data)) pushed) []
+    0
+
+abbrev pub o18 : OState
+o18 = state (maps (regs_with (Plain (Mem (own_code 32))) (Plain g_code) (Plain g_data)
+    (Plain (Mem (stack 118 116))) (Plain (Mem (own_data 90))) zero_ (Plain f_code) (Plain f_data)) pushed) []
+    0
+
+abbrev pub o19 : OState
+o19 = state (maps (regs_with (Plain (Mem (own_code 33))) (Plain g_code) (Plain g_data)
+    (Plain (Mem (stack 118 116))) (Plain (Mem (own_data 90))) zero_ (Plain g_code) (Plain f_data)) pushed) []
+    0
+
+abbrev pub o20 : OState
+o20 = state (maps (regs_with (Plain (Mem (own_code 34))) (Plain g_code) (Plain g_data)
+    (Plain (Mem (stack 118 116))) (Plain (Mem (own_data 91))) zero_ (Plain g_code) (Plain f_data)) pushed) []
+    0
+
+abbrev pub o21 : OState
+o21 = state (maps (regs_with (Plain (Mem (own_code 35))) (Plain g_code) (Plain g_data)
+    (Plain (Mem (stack 118 116))) (Plain (Mem (own_data 91))) zero_ (Plain g_code) (Plain g_data)) pushed) []
+    0
+
+abbrev pub o22 : OState
+o22 = state (maps (regs_with (Plain (Mem (own_code 36))) (Plain g_code) (Plain g_data)
+    (Plain (Mem (stack 118 116))) (Plain (Mem (own_data 90))) zero_ (Plain g_code) (Plain g_data)) pushed) []
+    0
+
+abbrev pub o23 : OState
+o23 = state (maps (regs_with (Plain (Mem (own_code 37))) (Plain g_code) (Plain g_data)
+    (Plain (Mem (stack 118 116))) (Plain (Mem (own_data 90))) zero_ (Plain g_code) (Plain g_data)) pushed) []
+    0
+
+abbrev pub o24 : OState
+o24 = state (maps (regs_with (Plain (Mem (own_code 38))) (Plain g_code) (Plain g_data)
+    (Plain (Mem (stack 118 116))) (Plain (Mem (own_data 90))) zero_ (Plain g_code) (Plain g_data)) pushed) []
+    0
+
+abbrev pub o25 : OState
+o25 = state (maps (regs_with (Plain (Mem (own_code 39))) (Plain g_code) (Plain g_data)
+    (Plain (Mem (stack 118 116))) (Plain (Mem (own_data 90))) zero_ (Plain g_code) (Plain g_data)) pushed) []
+    0
+
+-- ---- it comes to its call
+
+pub entry_made : Makes o8 o9 20 None
+unfolding overlay_step weight_of step_event case_of entry_step own_stack need faces owner_of entry_code
+    call_code
+    return_code
+entry_made = record { goes_on = refl; weight = refl; event = refl }
+
+pub step9 : Makes o9 o10 1 None
+unfolding faces owner_of start_cell part_word entry_code call_code return_code
+step9 =
+    own_step o9 o10.maps 23 (Store Stk Rcode) refl (omega arith) (omega arith)
+    (has 23 (as_word (Store Stk Rcode)) refl) tt
+    (store_straight Stk Rcode) refl
+    (store_goes look Plain Stk Rcode (Mem (own_code 24)) o9.maps o9.maps (stack 118 118) 118 zero_ refl refl
+    refl (omega arith) (omega arith)
+    zero118 (stays look Plain o9.maps (R Rcode) refl))
+
+pub step10 : Makes o10 o11 1 None
+unfolding faces owner_of start_cell part_word entry_code call_code return_code
+step10 =
+    own_step o10 o11.maps 24 (Cca Stk (Imm (negsuc 0))) refl (omega arith) (omega arith)
+    (has_in one_pushed one_pushed_same 24 (as_word (Cca Stk (Imm (negsuc 0)))) (omega arith) refl)
+    (record { sfits = omega arith })
+    (cca_straight Stk (Imm (negsuc 0))) refl
+    (cca_goes look Plain Stk (Imm (negsuc 0)) (Mem (own_code 25)) o10.maps (stack 118 118) (negsuc 0)
+    (pos 117) refl refl refl refl refl)
+
+pub step11 : Makes o11 o12 1 None
+unfolding faces owner_of start_cell part_word entry_code call_code return_code
+step11 =
+    own_step o11 o12.maps 25 (Store Stk Rdata) refl (omega arith) (omega arith)
+    (has_in one_pushed one_pushed_same 25 (as_word (Store Stk Rdata)) (omega arith) refl) tt
+    (store_straight Stk Rdata) refl
+    (store_goes look Plain Stk Rdata (Mem (own_code 26)) o11.maps o11.maps (stack 118 117) 117 zero_ refl refl
+    refl (omega arith) (omega arith)
+    still117 (stays look Plain o11.maps (R Rdata) refl))
+
+pub step12 : Makes o12 o13 1 None
+unfolding faces owner_of start_cell part_word entry_code call_code return_code
+step12 =
+    own_step o12 o13.maps 26 (Cca Stk (Imm (negsuc 0))) refl (omega arith) (omega arith)
+    (has_in pushed pushed_same 26 (as_word (Cca Stk (Imm (negsuc 0)))) (omega arith) refl)
+    (record { sfits = omega arith })
+    (cca_straight Stk (Imm (negsuc 0))) refl
+    (cca_goes look Plain Stk (Imm (negsuc 0)) (Mem (own_code 27)) o12.maps (stack 118 117) (negsuc 0)
+    (pos 116) refl refl refl refl refl)
+
+pub step13 : Makes o13 o14 1 None
+unfolding faces owner_of start_cell part_word entry_code call_code return_code
+step13 =
+    own_step o13 o14.maps 27 (zero_of A0) refl (omega arith) (omega arith)
+    (has_in pushed pushed_same 27 (as_word (zero_of A0)) (omega arith) refl) (record { sfits = omega arith })
+    (move_straight A0 (Imm (pos 0))) refl
+    (set_goes look Plain A0 (pos 0) (Mem (own_code 28)) o13.maps refl)
+
+pub step14 : Makes o14 o15 1 None
+unfolding faces owner_of start_cell part_word entry_code call_code return_code
+step14 =
+    own_step o14 o15.maps 28 (zero_of A1) refl (omega arith) (omega arith)
+    (has_in pushed pushed_same 28 (as_word (zero_of A1)) (omega arith) refl) (record { sfits = omega arith })
+    (move_straight A1 (Imm (pos 0))) refl
+    (set_goes look Plain A1 (pos 0) (Mem (own_code 29)) o14.maps refl)
+
+pub step15 : Makes o15 o16 1 None
+unfolding faces owner_of start_cell part_word entry_code call_code return_code
+step15 =
+    own_step o15 o16.maps 29 (zero_of A2) refl (omega arith) (omega arith)
+    (has_in pushed pushed_same 29 (as_word (zero_of A2)) (omega arith) refl) (record { sfits = omega arith })
+    (move_straight A2 (Imm (pos 0))) refl
+    (set_goes look Plain A2 (pos 0) (Mem (own_code 30)) o15.maps refl)
+
+pub step16 : Makes o16 o17 1 None
+unfolding faces owner_of start_cell part_word entry_code call_code return_code
+step16 =
+    own_step o16 o17.maps 30 (zero_of A3) refl (omega arith) (omega arith)
+    (has_in pushed pushed_same 30 (as_word (zero_of A3)) (omega arith) refl) (record { sfits = omega arith })
+    (move_straight A3 (Imm (pos 0))) refl
+    (set_goes look Plain A3 (pos 0) (Mem (own_code 31)) o16.maps refl)
+
+pub step17 : Makes o17 o18 1 None
+unfolding faces owner_of start_cell part_word entry_code call_code return_code
+step17 =
+    own_step o17 o18.maps 31 (Cca Dat (Imm (pos 0))) refl (omega arith) (omega arith)
+    (has_in pushed pushed_same 31 (as_word (Cca Dat (Imm (pos 0)))) (omega arith) refl)
+    (record { sfits = omega arith })
+    (cca_straight Dat (Imm (pos 0))) refl
+    (cca_goes look Plain Dat (Imm (pos 0)) (Mem (own_code 32)) o17.maps (own_data 90) (pos 0) (pos 90) refl
+    refl refl refl refl)
+
+pub step18 : Makes o18 o19 1 None
+unfolding faces owner_of start_cell part_word entry_code call_code return_code
+step18 =
+    own_step o18 o19.maps 32 (Load C1 Dat) refl (omega arith) (omega arith)
+    (has_in pushed pushed_same 32 (as_word (Load C1 Dat)) (omega arith) refl) tt
+    (load_straight C1 Dat) refl
+    (load_goes look Plain C1 Dat (Mem (own_code 33)) o18.maps (own_data 90) 90 (Plain g_code) g_code refl refl
+    refl refl
+    (omega arith) (omega arith) (has_in pushed pushed_same 90 g_code (omega arith) refl) refl refl refl)
+
+pub step19 : Makes o19 o20 1 None
+unfolding faces owner_of start_cell part_word entry_code call_code return_code
+step19 =
+    own_step o19 o20.maps 33 (Cca Dat (Imm (pos 1))) refl (omega arith) (omega arith)
+    (has_in pushed pushed_same 33 (as_word (Cca Dat (Imm (pos 1)))) (omega arith) refl)
+    (record { sfits = omega arith })
+    (cca_straight Dat (Imm (pos 1))) refl
+    (cca_goes look Plain Dat (Imm (pos 1)) (Mem (own_code 34)) o19.maps (own_data 90) (pos 1) (pos 91) refl
+    refl refl refl refl)
+
+pub step20 : Makes o20 o21 1 None
+unfolding faces owner_of start_cell part_word entry_code call_code return_code
+step20 =
+    own_step o20 o21.maps 34 (Load C2 Dat) refl (omega arith) (omega arith)
+    (has_in pushed pushed_same 34 (as_word (Load C2 Dat)) (omega arith) refl) tt
+    (load_straight C2 Dat) refl
+    (load_goes look Plain C2 Dat (Mem (own_code 35)) o20.maps (own_data 91) 91 (Plain g_data) g_data refl refl
+    refl refl
+    (omega arith) (omega arith) (has_in pushed pushed_same 91 g_data (omega arith) refl) refl refl refl)
+
+pub step21 : Makes o21 o22 1 None
+unfolding faces owner_of start_cell part_word entry_code call_code return_code
+step21 =
+    own_step o21 o22.maps 35 (Cca Dat (Imm (negsuc 0))) refl (omega arith) (omega arith)
+    (has_in pushed pushed_same 35 (as_word (Cca Dat (Imm (negsuc 0)))) (omega arith) refl)
+    (record { sfits = omega arith })
+    (cca_straight Dat (Imm (negsuc 0))) refl
+    (cca_goes look Plain Dat (Imm (negsuc 0)) (Mem (own_code 36)) o21.maps (own_data 91) (negsuc 0) (pos 90)
+    refl refl refl refl refl)
+
+pub step22 : Makes o22 o23 1 None
+unfolding faces owner_of start_cell part_word entry_code call_code return_code
+step22 =
+    own_step o22 o23.maps 36 (zero_of G0) refl (omega arith) (omega arith)
+    (has_in pushed pushed_same 36 (as_word (zero_of G0)) (omega arith) refl) (record { sfits = omega arith })
+    (move_straight G0 (Imm (pos 0))) refl
+    (set_goes look Plain G0 (pos 0) (Mem (own_code 37)) o22.maps refl)
+
+pub step23 : Makes o23 o24 1 None
+unfolding faces owner_of start_cell part_word entry_code call_code return_code
+step23 =
+    own_step o23 o24.maps 37 (zero_of G1) refl (omega arith) (omega arith)
+    (has_in pushed pushed_same 37 (as_word (zero_of G1)) (omega arith) refl) (record { sfits = omega arith })
+    (move_straight G1 (Imm (pos 0))) refl
+    (set_goes look Plain G1 (pos 0) (Mem (own_code 38)) o23.maps refl)
+
+pub step24 : Makes o24 o25 1 None
+unfolding faces owner_of start_cell part_word entry_code call_code return_code
+step24 =
+    own_step o24 o25.maps 38 (zero_of G2) refl (omega arith) (omega arith)
+    (has_in pushed pushed_same 38 (as_word (zero_of G2)) (omega arith) refl) (record { sfits = omega arith })
+    (move_straight G2 (Imm (pos 0))) refl
+    (set_goes look Plain G2 (pos 0) (Mem (own_code 39)) o24.maps refl)
+
+-- ---- the call
+
+abbrev pub frame : OpenFrame
+frame = record {
+  call = 0;
+  site = 0;
+  base = 116;
+  end = 118;
+  words = Plain (Mem (own_data 90)) ∷ Plain g_data ∷ Plain g_code ∷ [];
+}
+
+abbrev pub taken : Cells
+taken = without pushed 116 118
+
+abbrev pub call_event : Event
+call_event = Called false 0 116 118
+
+abbrev pub o26 : OState
+o26 = state (maps (regs_with (Plain (Mem (its_code 104))) (RetCode 0) (RetData 0)
+    (Plain (Mem (stack 115 115))) (Plain (Mem (its_data 106))) zero_ (Plain g_code) (Plain g_data)) taken)
+    (frame ∷ []) 1
+
+in116 : cell pushed 116 ≡ Some zero_
+in116 =
+    cell-set_other one_pushed 117 116 (Plain g_data) (let ne : 116 ≢ 117 = omega arith in ne)
+    ∙ cell-set_other M 118 116 (Plain g_code) (let ne : 116 ≢ 118 = omega arith in ne) ∙ zero116
+
+in117 : cell pushed 117 ≡ Some (Plain g_data)
+in117 = cell-set_same one_pushed 117 (Plain g_data)
+
+in118 : cell pushed 118 ≡ Some (Plain g_code)
+in118 =
+    cell-set_other one_pushed 117 118 (Plain g_data) (let ne : 118 ≢ 117 = omega arith in ne)
+    ∙ cell-set_same M 118 (Plain g_code)
+
+there : all_there pushed 116 3 ≡ true
+unfolding all_there
+there = rw (in116, in117, in118)
+
+words : words_from Plain pushed 117 2 ≡ Plain g_data ∷ Plain g_code ∷ []
+unfolding words_from
+words = rw (in117, in118)
+
+call_case : case_of L o25.maps ≡ Call 0
+unfolding case_of faces owner_of entry_code call_code return_code
+call_case = refl
+
+abbrev at_jump : State OWord
+at_jump = maps
+    (regs_with (Plain (Mem (own_code 54))) (RetCode 0) (RetData 0) (Plain (Mem (stack 115 115)))
+    (Plain (Mem (own_data 90))) zero_ (Plain g_code) (Plain g_data)) taken
+
+call_row : row look Plain (Xjmp C1 C2) (Int (pos 0)) at_jump ≡ went o26.maps
+call_row =
+    xjmp_goes look Plain C1 C2 (Int (pos 0)) at_jump at_jump 30 (its_code 104) (MemC (its_data 106)) refl refl
+    refl
+    refl refl (stays look Plain at_jump (R C2) refl)
+
+call_goes : call_step L 0 o25 ≡ goes o26
+unfolding call_step need ask own_stack site_code faces owner_of entry_code call_code return_code
+call_goes = rw (there, words, call_row)
+
+call_told : event_after L (note_by L o25 (Call 0)) o26 ≡ Some call_event
+unfolding faces opens owner_of entry_code call_code return_code
+call_told = refl
+
+pub call_made : Makes o25 o26 16 (Some call_event)
+unfolding overlay_step weight_of step_event
+call_made = record {
+  goes_on = ap (λ c. step_by L c o25) call_case ∙ call_goes;
+  weight = ap (weight_by o25.maps) call_case;
+  event = ap (λ c. event_after L (note_by L o25 c) o26) call_case ∙ call_told;
+}
+
+-- ---- the return
+
+abbrev pub given_back : Cells
+given_back = put_back taken 116 (zero_ ∷ Plain g_data ∷ Plain g_code ∷ [])
+
+abbrev pub return_event : Event
+return_event = Returned false 0 116 118
+
+abbrev pub o27 : OState
+o27 = state (maps (regs_with (Plain (Mem (own_code 65))) (RetCode 0) zero_ (Plain (Mem (stack 118 116)))
+    (Plain (Mem (own_data 90))) zero_ (Plain g_code) (Plain g_data)) given_back) [] 1
+
+still : cell taken 104 ≡ Some (Plain (as_word (Xjmp Rcode Rdata)))
+unfolding start_cell part_word entry_code call_code return_code
+still =
+    cell-without_out pushed 116 118 104 (inl (omega arith))
+    ∙ has_in pushed pushed_same 104 (as_word (Xjmp Rcode Rdata)) (omega arith) refl
+
+back_case : case_of L o26.maps ≡ Back Rcode Rdata
+unfolding case_of faces owner_of entry_code call_code return_code
+back_case =
+    ap (λ f. case_trusted L (trusted_at L (faces look o26.maps Pc)) (case_fetched o26.maps f))
+    (its_fetch o26.maps 104 (Xjmp Rcode Rdata) refl (omega arith) (omega arith) still tt)
+
+back_goes : return_step L Rcode Rdata o26 ≡ goes o27
+unfolding return_step need ask own_stack site_code faces owner_of entry_code call_code return_code
+back_goes = refl
+
+back_told : event_after L (note_by L o26 (Back Rcode Rdata)) o27 ≡ Some return_event
+unfolding faces owner_of entry_code call_code return_code
+back_told = refl
+
+pub return_made : Makes o26 o27 11 (Some return_event)
+unfolding overlay_step weight_of step_event
+return_made = record {
+  goes_on = ap (λ c. step_by L c o26) back_case ∙ back_goes;
+  weight = ap (weight_by o26.maps) back_case;
+  event = ap (λ c. event_after L (note_by L o26 c) o27) back_case ∙ back_told;
+}
+
+-- ---- behind it memory is as at the start, but for the words that came back
+
+pub given_back_same : IsSame given_back
+unfolding put_back
+given_back_same =
+    let s : IsSame taken = λ a lt. cell-without_out pushed 116 118 a (inl lt) ∙ pushed_same a lt in
+    let t = set_above taken 116 zero_ s (omega arith) in
+    let u = set_above (set_cell taken 116 zero_) 117 (Plain g_data) t (omega arith) in
+    set_above (set_cell (set_cell taken 116 zero_) 117 (Plain g_data)) 118 (Plain g_code) u (omega arith)
+
+pub data117 : cell given_back 117 ≡ Some (Plain g_data)
+unfolding put_back
+data117 =
+    let m = set_cell taken 116 zero_ in
+    cell-set_other (set_cell m 117 (Plain g_data)) 118 117 (Plain g_code)
+    (let ne : 117 ≢ 118 = omega arith in ne)
+    ∙ cell-set_same m 117 (Plain g_data)
+
+pub code118 : cell given_back 118 ≡ Some (Plain g_code)
+unfolding put_back
+code118 = cell-set_same (set_cell (set_cell taken 116 zero_) 117 (Plain g_data)) 118 (Plain g_code)

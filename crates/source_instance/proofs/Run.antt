@@ -1,0 +1,302 @@
+-- The run: the module is entered, calls, is answered and leaves.
+use Rattle.std.proofs.Common.{◌≡◌, ℕ, ◌+◌, pos, false, List, [], ◌∷◌, ◌++◌, Option, Some, None, refl, subst}
+use Rattle.std.proofs.Common.{arith, map, ap, ◌∙◌, ℤ, ◌≤◌}
+use Rattle.cap_words.specs.declared.Word.{Word}
+use Rattle.cap_words.specs.declared.Word.TheVariants.{Int, Mem}
+use Rattle.lcm_machine.specs.Row.{faces}
+use Rattle.lcm_machine.specs.Cells.{cell}
+use Rattle.lcm_machine.proofs.Offers.{cell-without_in}
+use Rattle.call_sequence.specs.Sequences.{call_code, return_code, entry_code}
+use Rattle.component_linker.specs.Owners.{owner_of}
+use Rattle.overlay_machine.specs.declared.events.Event.{Event}
+use Rattle.overlay_machine.specs.State.{OState, word_of}
+use Rattle.overlay_machine.specs.Layout.{site_code}
+use Rattle.overlay_machine.specs.Flat.{flat, beside}
+use Rattle.overlay_machine.specs.Step.{weight_of}
+use Rattle.overlay_machine.specs.Events.{step_event}
+use Rattle.trace_tool.specs.Layout.{part_name, entry_name, site_of}
+use Rattle.trace_tool.specs.Views.{flat_view}
+use Rattle.trace_tool.specs.Lines.{Line, Args, out, call, ret, enter, leave, lines_for}
+use Rattle.trace_tool.specs.Alike.{StartLinesAgree}
+use Rattle.trace_tool.specs.Told.{Told}
+use Rattle.trace_tool.specs.Told as told
+use Rattle.source_events.specs.declared.FeedBack.TheVariants as way
+use Rattle.source_events.specs.declared.FeedPair.{FeedPair}
+use Rattle.source_events.specs.declared.FeedPair.TheVariants.{Nothing}
+use Rattle.source_events.specs.declared.Item.{Item}
+use Rattle.source_events.specs.declared.Item.TheVariants.{Enter, Ret}
+use Rattle.source_events.specs.declared.OutArg.{OutArg}
+use Rattle.source_events.specs.declared.OutArg.TheVariants as given
+use Rattle.source_events.specs.declared.OutEvent.{OutEvent}
+use Rattle.source_events.specs.declared.OutEvent.TheVariants.{CallOut, LeaveOut}
+use Rattle.template_runs.specs.Runs.{is_inside}
+use Rattle.source_laws.specs.Sources.{Shows, SourcesMean}
+use Rattle.source_laws.specs.Sources as shown
+use Rattle.source_laws.specs.Trace.{outs_of, items_of, weighed}
+use Rattle.proc_program.specs.Lower.{part_of}
+use Rattle.source_instance.specs.There.{Visit, SourceThere}
+use Rattle.run_items.specs.Items.{EventsAreTold, event_told}
+use Rattle.source_starts.specs.Sources.{AreSources}
+use Rattle.source_starts.specs.RunMeans.{MeaningEnds}
+use Rattle.proc_semantics.specs.Values.{World}
+use Rattle.source_events.specs.declared.End.TheVariants.{Waiting}
+use Rattle.proc_language.specs.declared.module.ModuleFields.{ModuleFields}
+use Rattle.component_linker.specs.Parts.{PartSeen}
+use Rattle.component_linker.specs.Started.{StartSeen}
+use Rattle.overlay_machine.specs.Starting.{IsStartOf}
+use Rattle.trace_tool.specs.Feed as line
+use Rattle.source_instance.proofs.Module.{source}
+use Rattle.source_instance.proofs.Parts.{parts, second, are_sources}
+use Rattle.source_instance.proofs.Start.{start, is_start_of}
+use Rattle.source_instance.proofs.Machine.{L, Makes, own_data, stack, g_code, g_data}
+use Rattle.source_instance.proofs.Enters as enters
+use Rattle.source_instance.proofs.Calls as calls
+use Rattle.source_instance.proofs.Leaves as leaves
+
+-- ---- a run that tells lines, and shows what goes out and what comes in
+
+record Comes (j : ℕ) (ls : List Line) (es : List line.OutEvent) (is : List Item) (p : OState) : Type 0 where
+  pub lines : Told L enters.o0 j ls p
+  pub weight : ℕ
+  pub shows : Shows L enters.o0 j weight es is p
+
+begins : Comes 0 [] [] [] enters.o0
+begins = record { lines = told.none_yet; weight = 0; shows = shown.none_yet }
+
+-- the lines and items of a step's event
+record Tells (q : OState) (v : Option Event) (ls : List Line) (es : List line.OutEvent)
+    (is : List Item) : Type 0 where
+  pub lines : lines_for L (flat_view L q) v ≡ ls
+  pub outs : outs_of L (flat_view L q) v ≡ es
+  pub items : items_of L (flat_view L q) v ≡ is
+
+-- one more step, whatever it tells
+tells : {j n : ℕ} {ls more : List Line} {es going : List line.OutEvent} {is coming : List Item} {p q : OState}
+    {v : Option Event} → Comes j ls es is p → Makes p q n v → Tells q v more going coming
+    → Comes (j + n) (ls ++ more) (es ++ going) (is ++ coming) q
+tells {j} {n} {ls} {more} {es} {going} {is} {coming} {p} {q} {v} r m t = record {
+  lines =
+      subst (λ (k : ℕ). Told L enters.o0 (j + k) (ls ++ more) q) m.weight
+      (subst (λ (xs : List Line). Told L enters.o0 (j + weight_of L p) (ls ++ xs) q)
+      (ap (lines_for L (flat_view L q)) m.event ∙ t.lines) (told.and_then r.lines m.goes_on));
+  weight = next_weight;
+  shows =
+      subst (λ (k : ℕ). Shows L enters.o0 (j + k) next_weight (es ++ going) (is ++ coming) q) m.weight
+      (subst (λ (xs : List line.OutEvent). Shows L enters.o0 (j + weight_of L p) next_weight (es ++ xs)
+      (is ++ coming) q) (ap (outs_of L (flat_view L q)) m.event ∙ t.outs)
+      (subst (λ (xs : List Item). Shows L enters.o0 (j + weight_of L p) next_weight
+      (es ++ outs_of L (flat_view L q) (step_event L p q)) (is ++ xs) q)
+      (ap (items_of L (flat_view L q)) m.event ∙ t.items) (shown.and_then r.shows m.goes_on)));
+}
+  where
+    next_weight : ℕ
+    next_weight = r.weight + weighed L (is_inside L p) (weight_of L p)
+
+no_event : {q : OState} → Tells q None [] [] []
+no_event = record { lines = refl; outs = refl; items = refl }
+
+-- ---- what the four events tell
+
+abbrev zeros : Args
+zeros = record { a0 = Int (pos 0); a1 = Int (pos 0); a2 = Int (pos 0); a3 = Int (pos 0) }
+
+abbrev ints : List (Option ℤ)
+ints = Some (pos 0) ∷ Some (pos 0) ∷ Some (pos 0) ∷ Some (pos 0) ∷ []
+
+abbrev halves : List OutArg
+halves = given.Int (pos 0) ∷ given.Int (pos 0) ∷ given.Int (pos 0) ∷ given.Int (pos 0) ∷ []
+
+abbrev no_pairs : List FeedPair
+no_pairs = Nothing ∷ Nothing ∷ Nothing ∷ []
+
+abbrev stack_word : Word
+stack_word = Mem (stack 118 118)
+
+abbrev frame_words : List Word
+frame_words = Mem (own_data 90) ∷ g_data ∷ g_code ∷ []
+
+abbrev enter_line : Line
+enter_line = enter (116 ∷ []) (102 ∷ []) stack_word zeros out
+
+abbrev call_line : Line
+call_line = call false (116 ∷ []) 0 116 118 zeros frame_words
+
+abbrev ret_line : Line
+ret_line = ret false (116 ∷ []) 0 116 118 (Int (pos 0)) frame_words
+
+abbrev leave_line : Line
+leave_line = leave (116 ∷ []) (Int (pos 0))
+
+abbrev enter_item : Item
+enter_item = Enter (116 ∷ []) (102 ∷ []) (Some 8) ints no_pairs way.Out
+
+abbrev ret_item : Item
+ret_item = Ret (116 ∷ []) 0 116 (Some (pos 0))
+
+abbrev call_out : OutEvent
+call_out = CallOut (116 ∷ []) 0 halves
+
+abbrev leave_out : OutEvent
+leave_out = LeaveOut (116 ∷ []) (pos 0)
+
+enter_told : Tells enters.o8 (Some enters.entry_event) (enter_line ∷ []) [] (enter_item ∷ [])
+unfolding flat owner_of part_name entry_name entry_code call_code return_code
+enter_told = record { lines = refl; outs = refl; items = refl }
+
+gone : (a : ℕ) → 116 ≤ a → a ≤ 118 → cell calls.taken a ≡ None
+gone a low high = cell-without_in calls.pushed 116 118 a low high
+
+call_told : Tells calls.o26 (Some calls.call_event) (call_line ∷ []) (event_told call_out ∷ []) []
+unfolding flat beside word_of site_code owner_of part_name site_of entry_code call_code return_code
+call_told = record {
+  lines = rw (
+    gone 116 (omega arith) (omega arith),
+    gone 117 (omega arith) (omega arith),
+    gone 118 (omega arith) (omega arith),
+  );
+  outs = refl;
+  items = refl;
+}
+
+ret_told : Tells calls.o27 (Some calls.return_event) (ret_line ∷ []) [] (ret_item ∷ [])
+unfolding flat owner_of part_name site_of entry_code call_code return_code
+ret_told = record { lines = rw (calls.data117, calls.code118); outs = refl; items = refl }
+
+leave_told : Tells leaves.o49 (Some leaves.leave_event) (leave_line ∷ []) (event_told leave_out ∷ []) []
+unfolding flat owner_of part_name entry_code call_code return_code
+leave_told = record { lines = refl; outs = refl; items = refl }
+
+-- ---- all steps
+
+to_enter : Comes 7 [] [] [] enters.o7
+to_enter =
+    let r0 = tells begins enters.step0 no_event in
+    let r1 = tells r0 enters.step1 no_event in
+    let r2 = tells r1 enters.step2 no_event in
+    let r3 = tells r2 enters.step3 no_event in
+    let r4 = tells r3 enters.step4 no_event in
+    let r5 = tells r4 enters.step5 no_event in
+    tells r5 enters.step6 no_event
+
+entered : Comes 8 (enter_line ∷ []) [] (enter_item ∷ []) enters.o8
+entered = tells to_enter enters.step7 enter_told
+
+to_call : Comes 44 (enter_line ∷ []) [] (enter_item ∷ []) calls.o25
+to_call =
+    let r0 = tells entered calls.entry_made no_event in
+    let r1 = tells r0 calls.step9 no_event in
+    let r2 = tells r1 calls.step10 no_event in
+    let r3 = tells r2 calls.step11 no_event in
+    let r4 = tells r3 calls.step12 no_event in
+    let r5 = tells r4 calls.step13 no_event in
+    let r6 = tells r5 calls.step14 no_event in
+    let r7 = tells r6 calls.step15 no_event in
+    let r8 = tells r7 calls.step16 no_event in
+    let r9 = tells r8 calls.step17 no_event in
+    let r10 = tells r9 calls.step18 no_event in
+    let r11 = tells r10 calls.step19 no_event in
+    let r12 = tells r11 calls.step20 no_event in
+    let r13 = tells r12 calls.step21 no_event in
+    let r14 = tells r13 calls.step22 no_event in
+    let r15 = tells r14 calls.step23 no_event in
+    tells r15 calls.step24 no_event
+
+called : Comes 60 (enter_line ∷ call_line ∷ []) (event_told call_out ∷ []) (enter_item ∷ []) calls.o26
+called = tells to_call calls.call_made call_told
+
+answered : Comes 71 (enter_line ∷ call_line ∷ ret_line ∷ []) (event_told call_out ∷ [])
+    (enter_item ∷ ret_item ∷ []) calls.o27
+answered = tells called calls.return_made ret_told
+
+to_leave : Comes 92 (enter_line ∷ call_line ∷ ret_line ∷ []) (event_told call_out ∷ [])
+    (enter_item ∷ ret_item ∷ []) leaves.o48
+to_leave =
+    let r0 = tells answered leaves.step27 no_event in
+    let r1 = tells r0 leaves.step28 no_event in
+    let r2 = tells r1 leaves.step29 no_event in
+    let r3 = tells r2 leaves.step30 no_event in
+    let r4 = tells r3 leaves.step31 no_event in
+    let r5 = tells r4 leaves.step32 no_event in
+    let r6 = tells r5 leaves.step33 no_event in
+    let r7 = tells r6 leaves.step34 no_event in
+    let r8 = tells r7 leaves.step35 no_event in
+    let r9 = tells r8 leaves.step36 no_event in
+    let r10 = tells r9 leaves.step37 no_event in
+    let r11 = tells r10 leaves.step38 no_event in
+    let r12 = tells r11 leaves.step39 no_event in
+    let r13 = tells r12 leaves.step40 no_event in
+    let r14 = tells r13 leaves.step41 no_event in
+    let r15 = tells r14 leaves.step42 no_event in
+    let r16 = tells r15 leaves.step43 no_event in
+    let r17 = tells r16 leaves.step44 no_event in
+    let r18 = tells r17 leaves.step45 no_event in
+    let r19 = tells r18 leaves.step46 no_event in
+    tells r19 leaves.step47 no_event
+
+left : Comes 93 (enter_line ∷ call_line ∷ ret_line ∷ leave_line ∷ [])
+    (event_told call_out ∷ event_told leave_out ∷ [])
+    (enter_item ∷ ret_item ∷ []) leaves.o49
+left = tells to_leave leaves.step48 leave_told
+
+outside : is_inside L leaves.o49 ≡ false
+unfolding faces owner_of entry_code call_code return_code
+outside = refl
+
+-- ---- what it shows
+
+abbrev visit : Visit
+visit = record {
+  part = 116 ∷ [];
+  name = 102 ∷ [];
+  stk = stack_word;
+  left = 8;
+  args = zeros;
+  values = ints;
+  pairs = no_pairs;
+  site = 0;
+  base = 116;
+  last = 118;
+  words = frame_words;
+  given = zeros;
+  outs = halves;
+  answer = pos 0;
+  result = pos 0;
+}
+
+abbrev world : World
+world = map part_of (source ∷ [])
+
+-- where it stands outside, the meaning waits, and its events are told as those of the run are
+means : SourcesMean world 8 start → EventsAreTold
+    → MeaningEnds world 8 (enter_item ∷ ret_item ∷ []) (call_out ∷ leave_out ∷ []) Waiting
+means mean told =
+    let w = (mean 93 left.weight _ _ leaves.o49 left.shows).waits outside in
+    record {
+      enough = w.enough;
+      ends = λ f le. (w.ends f le).0;
+      told = λ f le. told _ _ (w.ends f le).1;
+    }
+
+abbrev SourcesMeanSo : Type 0
+SourcesMeanSo =
+    (modules : List ModuleFields) (ps : List PartSeen) (size : ℕ) (s : StartSeen) → IsStartOf ps size s
+    → AreSources modules ps → SourcesMean (map part_of modules) size s
+
+-- the plain run writes what the overlay's steps tell
+pub source_there : StartLinesAgree → SourcesMeanSo → EventsAreTold → SourceThere
+source_there agree mean told = record {
+  modules = source ∷ [];
+  parts = parts;
+  size = 8;
+  start = start;
+  linked = is_start_of;
+  sources = are_sources;
+  other = second;
+  other_in = (1, omega arith, refl);
+  untrusted = refl;
+  visit = visit;
+  steps = 93;
+  lines = (agree parts 8 start is_start_of).matched 93
+      (enter_line ∷ call_line ∷ ret_line ∷ leave_line ∷ []) leaves.o49 left.lines;
+  means = means (mean (source ∷ []) parts 8 start is_start_of are_sources) told;
+}
