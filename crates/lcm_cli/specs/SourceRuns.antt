@@ -1,5 +1,5 @@
 -- Runs of parts of which every trusted one is a source.
-use Rattle.std.specs.Prelude.{◌≡◌, ℕ, Bool, true, false, List, [], ◌∷◌, map, Ok}
+use Rattle.std.specs.Prelude.{◌≡◌, ℕ, ◌≤◌, Bool, true, false, List, [], ◌∷◌, ◌++◌, map, Ok}
 use Rattle.outside_io.specs.FilesSeen.{FilesSeen}
 use Rattle.outside_io.specs.SinkSeen.{Adds}
 use Rattle.outside_io.specs.Whole.{GivesWhole as ComesWhole}
@@ -13,9 +13,14 @@ use Rattle.proc_sources.specs.Sources.{module_in}
 use Rattle.component_linker.specs.Started.{StartSeen}
 use Rattle.module_rules.specs.Rules.{stack_base_of, ruled}
 use Rattle.run_feed.specs.Feed.{fed}
+use Rattle.source_events.specs.declared.End.{End}
 use Rattle.source_events.specs.declared.Item.{Item}
-use Rattle.source_starts.specs.RunMeans.{RunMeans}
+use Rattle.source_events.specs.declared.Told.{Told}
+use Rattle.source_starts.specs.RunMeans.{RunMeans, MeaningEnds, MeaningBegins}
 use Rattle.trace_tool.specs.Layout.{layout}
+use Rattle.trace_tool.specs.Feed.{outs_of, OutEvent as Event}
+use Rattle.trace_tool.specs.Headline.{written as written_lines}
+use Rattle.run_items.specs.Items.{event_told}
 use Rattle.file_plans.specs.declared.TheConstants.{LONGEST_FILE}
 use Rattle.lcm_cli.specs.declared.status.Status.{Status}
 use Rattle.lcm_cli.specs.Parts.{is_trusted}
@@ -62,11 +67,24 @@ pub record SourcesRun (words : List PartWord) (stack steps : ℕ) (old : Outside
   pub means : RunMeans (map part_of modules) stack given.from.start steps
   pub feed : IsFeed modules stack given.from.start steps means.items
 
--- what `mean` wrote and answered is of the very meaning that the run's lines are told by
-pub record TellsOfRun (modules : List ModuleFields) (stack fuel : ℕ) (items : List Item) (old : Outside)
+-- what `mean` wrote and answered is of the very meaning that the run's lines are told by: with fuel enough,
+-- where that meaning ends, it tells just the events that went out by those lines; else it begins with them
+pub record TellsOfRun (words : List PartWord) (stack steps : ℕ) (first : Outside) (answered : Status)
+    (last : Outside) (run : SourcesRun words stack steps first answered last) (fuel : ℕ) (old : Outside)
     (status : Status) (new : Outside) : Type 0 where
-  pub status_is : status ≡ meaning_status (meaning (map part_of modules) stack items fuel).end
-  pub written : Adds old.sink (told_text (meaning (map part_of modules) stack items fuel)) new.sink
+  pub told : Told
+  pub told_is : told ≡ meaning (map part_of run.modules) stack run.means.items fuel
+  pub status_is : status ≡ meaning_status told.end
+  pub written : Adds old.sink (told_text told) new.sink
+  pub tells : (end : End)
+      (ends : MeaningEnds (map part_of run.modules) stack run.means.items run.means.events end)
+      → ends.enough ≤ fuel
+      → (told.end ≡ end) × (map event_told told.events ≡ outs_of (written_lines run.given.from.start steps))
+  pub begins :
+      (begun : MeaningBegins (map part_of run.modules) stack run.means.items run.means.events)
+      → begun.enough ≤ fuel
+      → (more : List Event) × (map event_told told.events
+      ≡ outs_of (written_lines run.given.from.start steps) ++ more)
 
 -- wherever `mean` is asked of the sources of a run, over the text of that run
 abbrev pub MeanTellsRuns : Type 0
@@ -78,4 +96,4 @@ MeanTellsRuns =
     (before : Outside) (ended : Status) (after : Outside)
     (mean : MeaningGiven sources stack fuel feed before ended after)
     → mean.modules ≡ run.modules → mean.text ≡ text_of_run run.given.from.start steps
-    → TellsOfRun run.modules stack fuel run.means.items before ended after
+    → TellsOfRun words stack steps old status new run fuel before ended after
