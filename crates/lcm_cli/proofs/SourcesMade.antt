@@ -71,6 +71,7 @@ sources_run laws asked old ended new a words stack steps e sources r =
       given = given;
       modules = g.modules;
       came = g.came;
+      sources = g.are;
       means = means;
       feed = feed_of laws.begin laws.tells laws.keep g.modules from.parts stack from.start steps is
           g.are means.items means.came;

@@ -16,6 +16,7 @@ use Rattle.run_feed.specs.Feed.{fed}
 use Rattle.source_events.specs.declared.End.{End}
 use Rattle.source_events.specs.declared.Item.{Item}
 use Rattle.source_events.specs.declared.Told.{Told}
+use Rattle.source_starts.specs.Sources.{AreSources}
 use Rattle.source_starts.specs.RunMeans.{RunMeans, MeaningEnds, MeaningBegins}
 use Rattle.trace_tool.specs.Layout.{layout}
 use Rattle.trace_tool.specs.Feed.{outs_of, OutEvent as Event}
@@ -47,9 +48,8 @@ SourcesCame (w ∷ words) old modules new =
     (text : List ℕ) × (mid : FilesSeen) × ComesWhole old w.name LONGEST_FILE text mid
     × SpelledBy (is_trusted w.mark) text modules (λ others. SourcesCame words mid others new)
 
--- the text of the run is a feed over which `mean` may be asked of just these modules: they keep the rules of
--- a meaning, the feed's reader takes from the text what came in, and its base is that of the first module's
--- stack
+-- the text of the run is a feed of these modules: they keep the rules of a meaning, the feed's reader takes
+-- from the text what came in, and its base is that of the first module's stack
 pub record IsFeed (modules : List ModuleFields) (stack : ℕ) (start : StartSeen) (steps : ℕ)
     (items : List Item) : Type 0 where
   pub rules : ruled modules stack ≡ Ok tt
@@ -57,18 +57,21 @@ pub record IsFeed (modules : List ModuleFields) (stack : ℕ) (start : StartSeen
   pub base : (m : ModuleFields) (others : List ModuleFields) → modules ≡ m ∷ others
       → stack_base_of modules ≡ (layout start).stack.base
 
--- a run whose trusted parts are sources: the plain run gave the status, the text and the machine; what its
--- lines tell is what the modules mean, by the feed that its text is
+-- a run whose trusted parts are sources: the plain run gave the status, the text and the machine; the trusted
+-- parts that it started from are the components of the modules, in their order; what its lines tell is what
+-- these modules mean, by the feed that its text is
 pub record SourcesRun (words : List PartWord) (stack steps : ℕ) (old : Outside) (status : Status)
     (new : Outside) : Type 0 where
   pub given : RunGiven (what.Parts words stack) steps old status new
   pub modules : List ModuleFields
   pub came : SourcesCame words old.files modules new.files
+  pub sources : AreSources modules given.from.parts
   pub means : RunMeans (map part_of modules) stack given.from.start steps
   pub feed : IsFeed modules stack given.from.start steps means.items
 
--- what `mean` wrote and answered is of the very meaning that the run's lines are told by: with fuel enough,
--- where that meaning ends, it tells just the events that went out by those lines; else it begins with them
+-- what `mean` wrote and answered is of the very meaning that the run's lines are told by. With fuel enough it
+-- tells just the events that went out by those lines, wherever they are all of the meaning's; and it begins
+-- with them where they are a front of those
 pub record TellsOfRun (words : List PartWord) (stack steps : ℕ) (first : Outside) (answered : Status)
     (last : Outside) (run : SourcesRun words stack steps first answered last) (fuel : ℕ) (old : Outside)
     (status : Status) (new : Outside) : Type 0 where

@@ -29,10 +29,11 @@ pub fn one_answer()
         → IsWritten held (plan_in asked) a → IsWritten held (plan_in asked) b → a ≡ b }
 {}
 
-/// `mean`, asked of the sources of a run over the text of that run, writes the text of the very meaning that
-/// the run's lines are told by: under every large enough fuel it tells the outgoing events of that text, or,
-/// where trusted code was still running, begins with them. That it isn't refused there is in `SourcesRun`:
-/// the sources keep its rules, and the text is a feed.
+/// `mean`, asked of the sources of a run over the text of that run, with the same size of stack, writes the
+/// text of the very meaning that the run's lines are told by, where it ends with 0, 1 or 2: with fuel enough
+/// it tells just the events that went out by that text, or, where trusted code was still running, begins with
+/// them. Neither the rules of a meaning nor the form of a feed refuse it (`SourcesRun`); the length of the
+/// text may.
 pub fn mean_tells_runs()
     ensures { MeanTellsRuns }
 {}

@@ -67,10 +67,11 @@ pub record RunMeans (world : World) (size : ℕ) (s : StartSeen) (steps : ℕ) :
   pub overlay : OState
   pub matched : Matched s at overlay
   pub greatest : StopsAt (layout s) steps at overlay
-  -- of the instructions up to it so many are of steps of trusted code
+  -- of the instructions up to it so many are of steps that began in trusted code
   pub weight : ℕ
   pub shows : Shows (layout s) (overlay_at s).state at weight (outs_of (written s steps)) items overlay
-  -- code that isn't trusted runs there: the meaning waits for an item
+  -- code that isn't trusted runs there: the meaning waits for an item (a return that such code began, and
+  -- that fails in a sequence of trusted code, belongs here)
   pub waits : runs_trusted s at ≡ false → MeaningEnds world size items events Waiting
   -- trusted code runs there: the meaning comes at least as far
   pub goes_on : runs_trusted s at ≡ true → MeaningBegins world size items events
@@ -83,7 +84,7 @@ pub record RunMeans (world : World) (size : ℕ) (s : StartSeen) (steps : ℕ) :
       → last_step (plain steps s.state) ≡ Failed cause pc
       → MeaningEnds world size items events Fail
       × MeaningTakes world size items events (weight + weight_of (layout s) overlay)
-  -- a tick of the meaning pays for 200 instructions of trusted code at most
+  -- a tick of the meaning pays for at most 200 instructions of such steps
   pub slow : MeaningTakes world size items events weight
 
 -- of every run of linked sources
