@@ -1,18 +1,17 @@
 -- The module comes to its call, and the adversary goes right back.
-use Rattle.std.proofs.Common.{◌≡◌, ℕ, pos, negsuc, true, false, [], ◌∷◌, Some, None}
-use Rattle.std.proofs.Common.{refl, ap, ◌∙◌, arith, inl, ◌≢◌}
+use Rattle.std.proofs.Common.{◌≡◌, ℕ, pos, negsuc, true, false, [], ◌∷◌, Some, None, refl, ap, ◌∙◌, arith}
+use Rattle.std.proofs.Common.{inl, ◌≢◌}
 use Rattle.cap_words.specs.declared.Word.TheVariants.{Int, Mem}
 use Rattle.cap_words.specs.declared.Content.TheVariants.{Mem as MemC}
-use Rattle.lcm_isa.specs.declared.Reg.TheVariants.{Pc, Rcode, Rdata, Stk, Dat, C1, C2, A0, A1, A2, A3}
-use Rattle.lcm_isa.specs.declared.Reg.TheVariants.{G0, G1, G2}
+use Rattle.lcm_isa.specs.declared.Reg.TheVariants.{Pc, Rcode, Rdata, Stk, Dat, T2, C1, C2, A0, A1, A2, A3, G0}
+use Rattle.lcm_isa.specs.declared.Reg.TheVariants.{G1, G2}
 use Rattle.lcm_isa.specs.declared.Operand.TheVariants.{R, Imm}
 use Rattle.lcm_isa.specs.declared.Instr.TheVariants.{Load, Store, Cca, Xjmp}
-use Rattle.lcm_machine.specs.declared.Place.TheVariants.{R}
+use Rattle.lcm_machine.specs.declared.Place.TheVariants.{R, Cell}
 use Rattle.lcm_machine.specs.Maps.{State}
 use Rattle.lcm_machine.specs.Cells.{cell, set_cell, all_there, words_from, without, put_back}
 use Rattle.lcm_machine.specs.Row.{faces, opens, row, went}
-use Rattle.lcm_machine.proofs.Offers.{stays, load_goes, cca_goes, set_goes, store_goes, xjmp_goes}
-use Rattle.lcm_machine.proofs.Offers.{cell-without_out, cell-set_other, cell-set_same}
+use Rattle.lcm_machine.proofs.Offers.{stays, xjmp_goes, cell-without_out, cell-set_other, cell-set_same}
 use Rattle.call_sequence.specs.Sequences.{call_code, return_code, entry_code}
 use Rattle.component_linker.specs.Regions.{regions_of}
 use Rattle.component_linker.specs.Start.{start_cell, part_word}
@@ -26,18 +25,16 @@ use Rattle.overlay_machine.specs.State.{OpenFrame, OState, Cells}
 use Rattle.overlay_machine.specs.Words.{look}
 use Rattle.overlay_machine.specs.Layout.{trusted_at, site_code}
 use Rattle.overlay_machine.specs.Step.{goes, need, ask, own_stack, case_fetched, case_trusted, case_of}
-use Rattle.overlay_machine.specs.Step.{entry_step, call_step, return_step, step_by, weight_by}
-use Rattle.overlay_machine.specs.Step.{overlay_step, weight_of}
+use Rattle.overlay_machine.specs.Step.{entry_step, call_step, return_step, step_by, weight_by, overlay_step}
+use Rattle.overlay_machine.specs.Step.{weight_of}
 use Rattle.overlay_machine.specs.Events.{note_by, event_after, step_event}
 use Rattle.proc_templates.specs.Items.{zero_of}
 use Rattle.source_instance.proofs.Module.{as_word}
 use Rattle.source_instance.proofs.Parts.{parts}
 use Rattle.source_instance.proofs.Machine.{L, M, has, IsSame, at_start, has_in, set_above, zero_, regs_with}
-use Rattle.source_instance.proofs.Machine.{maps}
-use Rattle.source_instance.proofs.Machine.{state, own_code, own_data, its_code, its_data, stack, f_code}
-use Rattle.source_instance.proofs.Machine.{f_data}
-use Rattle.source_instance.proofs.Machine.{g_code, g_data, Makes, own_step, its_fetch}
-use Rattle.source_instance.proofs.Machine.{load_straight, store_straight, cca_straight, move_straight}
+use Rattle.source_instance.proofs.Machine.{maps, state, own_code, own_data, its_code, its_data, stack, g_code}
+use Rattle.source_instance.proofs.Machine.{g_data, Makes, own_stands, its_fetch, after, loads, stores, adds}
+use Rattle.source_instance.proofs.Machine.{clears}
 use Rattle.source_instance.proofs.Enters.{o8}
 
 -- ---- memory: the words of the return are pushed
@@ -75,242 +72,184 @@ still117 = cell-set_other M 118 117 (Plain g_code) (let ne : 117 ≢ 118 = omega
 -- ---- the states
 
 abbrev pub o9 : OState
-o9 = state (maps (regs_with (Plain (Mem (own_code 23))) (Plain g_code) (Plain g_data)
-    (Plain (Mem (stack 118 118))) (Plain (Mem (own_data 90))) zero_ (Plain f_code) (Plain f_data)) M) [] 0
+o9 = after o8 (own_code 23) (R T2) zero_
 
 abbrev pub o10 : OState
-o10 = state (maps (regs_with (Plain (Mem (own_code 24))) (Plain g_code) (Plain g_data)
-    (Plain (Mem (stack 118 118))) (Plain (Mem (own_data 90))) zero_ (Plain f_code) (Plain f_data)) one_pushed)
-    [] 0
+o10 = after o9 (own_code 24) (Cell 118) (Plain g_code)
 
 abbrev pub o11 : OState
-o11 = state (maps (regs_with (Plain (Mem (own_code 25))) (Plain g_code) (Plain g_data)
-    (Plain (Mem (stack 118 117))) (Plain (Mem (own_data 90))) zero_ (Plain f_code) (Plain f_data)) one_pushed)
-    [] 0
+o11 = after o10 (own_code 25) (R Stk) (Plain (Mem (stack 118 117)))
 
 abbrev pub o12 : OState
-o12 = state (maps (regs_with (Plain (Mem (own_code 26))) (Plain g_code) (Plain g_data)
-    (Plain (Mem (stack 118 117))) (Plain (Mem (own_data 90))) zero_ (Plain f_code) (Plain f_data)) pushed) []
-    0
+o12 = after o11 (own_code 26) (Cell 117) (Plain g_data)
 
 abbrev pub o13 : OState
-o13 = state (maps (regs_with (Plain (Mem (own_code 27))) (Plain g_code) (Plain g_data)
-    (Plain (Mem (stack 118 116))) (Plain (Mem (own_data 90))) zero_ (Plain f_code) (Plain f_data)) pushed) []
-    0
+o13 = after o12 (own_code 27) (R Stk) (Plain (Mem (stack 118 116)))
 
 abbrev pub o14 : OState
-o14 = state (maps (regs_with (Plain (Mem (own_code 28))) (Plain g_code) (Plain g_data)
-    (Plain (Mem (stack 118 116))) (Plain (Mem (own_data 90))) zero_ (Plain f_code) (Plain f_data)) pushed) []
-    0
+o14 = after o13 (own_code 28) (R A0) zero_
 
 abbrev pub o15 : OState
-o15 = state (maps (regs_with (Plain (Mem (own_code 29))) (Plain g_code) (Plain g_data)
-    (Plain (Mem (stack 118 116))) (Plain (Mem (own_data 90))) zero_ (Plain f_code) (Plain f_data)) pushed) []
-    0
+o15 = after o14 (own_code 29) (R A1) zero_
 
 abbrev pub o16 : OState
-o16 = state (maps (regs_with (Plain (Mem (own_code 30))) (Plain g_code) (Plain g_data)
-    (Plain (Mem (stack 118 116))) (Plain (Mem (own_data 90))) zero_ (Plain f_code) (Plain f_data)) pushed) []
-    0
+o16 = after o15 (own_code 30) (R A2) zero_
 
 abbrev pub o17 : OState
-o17 = state (maps (regs_with (Plain (Mem (own_code 31))) (Plain g_code) (Plain g_data)
-    (Plain (Mem (stack 118 116))) (Plain (Mem (own_data 90))) zero_ (Plain f_code) (Plain f_data)) pushed) []
-    0
+o17 = after o16 (own_code 31) (R A3) zero_
 
 abbrev pub o18 : OState
-o18 = state (maps (regs_with (Plain (Mem (own_code 32))) (Plain g_code) (Plain g_data)
-    (Plain (Mem (stack 118 116))) (Plain (Mem (own_data 90))) zero_ (Plain f_code) (Plain f_data)) pushed) []
-    0
+o18 = after o17 (own_code 32) (R Dat) (Plain (Mem (own_data 90)))
 
 abbrev pub o19 : OState
-o19 = state (maps (regs_with (Plain (Mem (own_code 33))) (Plain g_code) (Plain g_data)
-    (Plain (Mem (stack 118 116))) (Plain (Mem (own_data 90))) zero_ (Plain g_code) (Plain f_data)) pushed) []
-    0
+o19 = after o18 (own_code 33) (R C1) (Plain g_code)
 
 abbrev pub o20 : OState
-o20 = state (maps (regs_with (Plain (Mem (own_code 34))) (Plain g_code) (Plain g_data)
-    (Plain (Mem (stack 118 116))) (Plain (Mem (own_data 91))) zero_ (Plain g_code) (Plain f_data)) pushed) []
-    0
+o20 = after o19 (own_code 34) (R Dat) (Plain (Mem (own_data 91)))
 
 abbrev pub o21 : OState
-o21 = state (maps (regs_with (Plain (Mem (own_code 35))) (Plain g_code) (Plain g_data)
-    (Plain (Mem (stack 118 116))) (Plain (Mem (own_data 91))) zero_ (Plain g_code) (Plain g_data)) pushed) []
-    0
+o21 = after o20 (own_code 35) (R C2) (Plain g_data)
 
 abbrev pub o22 : OState
-o22 = state (maps (regs_with (Plain (Mem (own_code 36))) (Plain g_code) (Plain g_data)
-    (Plain (Mem (stack 118 116))) (Plain (Mem (own_data 90))) zero_ (Plain g_code) (Plain g_data)) pushed) []
-    0
+o22 = after o21 (own_code 36) (R Dat) (Plain (Mem (own_data 90)))
 
 abbrev pub o23 : OState
-o23 = state (maps (regs_with (Plain (Mem (own_code 37))) (Plain g_code) (Plain g_data)
-    (Plain (Mem (stack 118 116))) (Plain (Mem (own_data 90))) zero_ (Plain g_code) (Plain g_data)) pushed) []
-    0
+o23 = after o22 (own_code 37) (R G0) zero_
 
 abbrev pub o24 : OState
-o24 = state (maps (regs_with (Plain (Mem (own_code 38))) (Plain g_code) (Plain g_data)
-    (Plain (Mem (stack 118 116))) (Plain (Mem (own_data 90))) zero_ (Plain g_code) (Plain g_data)) pushed) []
-    0
+o24 = after o23 (own_code 38) (R G1) zero_
 
 abbrev pub o25 : OState
-o25 = state (maps (regs_with (Plain (Mem (own_code 39))) (Plain g_code) (Plain g_data)
-    (Plain (Mem (stack 118 116))) (Plain (Mem (own_data 90))) zero_ (Plain g_code) (Plain g_data)) pushed) []
-    0
+o25 = after o24 (own_code 39) (R G2) zero_
 
 -- ---- it comes to its call
 
 pub entry_made : Makes o8 o9 20 None
 unfolding overlay_step weight_of step_event case_of entry_step own_stack need faces owner_of entry_code
-    call_code
-    return_code
+    call_code return_code
 entry_made = record { goes_on = refl; weight = refl; event = refl }
 
 pub step9 : Makes o9 o10 1 None
 unfolding faces owner_of start_cell part_word entry_code call_code return_code
 step9 =
-    own_step o9 o10.maps 23 (Store Stk Rcode) refl (omega arith) (omega arith)
-    (has 23 (as_word (Store Stk Rcode)) refl) tt
-    (store_straight Stk Rcode) refl
-    (store_goes look Plain Stk Rcode (Mem (own_code 24)) o9.maps o9.maps (stack 118 118) 118 zero_ refl refl
-    refl (omega arith) (omega arith)
-    zero118 (stays look Plain o9.maps (R Rcode) refl))
+    stores o9 (own_code 24) Rcode 118 zero_
+    (own_stands o9 23 (Store Stk Rcode) refl (omega arith) (omega arith) (has 23 _ refl) tt refl)
+    refl (omega arith) (omega arith) zero118 refl
 
 pub step10 : Makes o10 o11 1 None
 unfolding faces owner_of start_cell part_word entry_code call_code return_code
 step10 =
-    own_step o10 o11.maps 24 (Cca Stk (Imm (negsuc 0))) refl (omega arith) (omega arith)
-    (has_in one_pushed one_pushed_same 24 (as_word (Cca Stk (Imm (negsuc 0)))) (omega arith) refl)
-    (record { sfits = omega arith })
-    (cca_straight Stk (Imm (negsuc 0))) refl
-    (cca_goes look Plain Stk (Imm (negsuc 0)) (Mem (own_code 25)) o10.maps (stack 118 118) (negsuc 0)
-    (pos 117) refl refl refl refl refl)
+    adds o10 (own_code 25) Stk (negsuc 0) (stack 118 118) (pos 117)
+    (own_stands o10 24 (Cca Stk (Imm (negsuc 0))) refl (omega arith) (omega arith)
+    (has_in one_pushed one_pushed_same 24 _ (omega arith) refl) (record { sfits = omega arith }) refl)
+    refl refl refl refl
 
 pub step11 : Makes o11 o12 1 None
 unfolding faces owner_of start_cell part_word entry_code call_code return_code
 step11 =
-    own_step o11 o12.maps 25 (Store Stk Rdata) refl (omega arith) (omega arith)
-    (has_in one_pushed one_pushed_same 25 (as_word (Store Stk Rdata)) (omega arith) refl) tt
-    (store_straight Stk Rdata) refl
-    (store_goes look Plain Stk Rdata (Mem (own_code 26)) o11.maps o11.maps (stack 118 117) 117 zero_ refl refl
-    refl (omega arith) (omega arith)
-    still117 (stays look Plain o11.maps (R Rdata) refl))
+    stores o11 (own_code 26) Rdata 117 zero_
+    (own_stands o11 25 (Store Stk Rdata) refl (omega arith) (omega arith)
+    (has_in one_pushed one_pushed_same 25 _ (omega arith) refl) tt refl)
+    refl (omega arith) (omega arith) still117 refl
 
 pub step12 : Makes o12 o13 1 None
 unfolding faces owner_of start_cell part_word entry_code call_code return_code
 step12 =
-    own_step o12 o13.maps 26 (Cca Stk (Imm (negsuc 0))) refl (omega arith) (omega arith)
-    (has_in pushed pushed_same 26 (as_word (Cca Stk (Imm (negsuc 0)))) (omega arith) refl)
-    (record { sfits = omega arith })
-    (cca_straight Stk (Imm (negsuc 0))) refl
-    (cca_goes look Plain Stk (Imm (negsuc 0)) (Mem (own_code 27)) o12.maps (stack 118 117) (negsuc 0)
-    (pos 116) refl refl refl refl refl)
+    adds o12 (own_code 27) Stk (negsuc 0) (stack 118 117) (pos 116)
+    (own_stands o12 26 (Cca Stk (Imm (negsuc 0))) refl (omega arith) (omega arith)
+    (has_in pushed pushed_same 26 _ (omega arith) refl) (record { sfits = omega arith }) refl)
+    refl refl refl refl
 
 pub step13 : Makes o13 o14 1 None
 unfolding faces owner_of start_cell part_word entry_code call_code return_code
 step13 =
-    own_step o13 o14.maps 27 (zero_of A0) refl (omega arith) (omega arith)
-    (has_in pushed pushed_same 27 (as_word (zero_of A0)) (omega arith) refl) (record { sfits = omega arith })
-    (move_straight A0 (Imm (pos 0))) refl
-    (set_goes look Plain A0 (pos 0) (Mem (own_code 28)) o13.maps refl)
+    clears o13 (own_code 28) A0
+    (own_stands o13 27 (zero_of A0) refl (omega arith) (omega arith)
+    (has_in pushed pushed_same 27 _ (omega arith) refl) (record { sfits = omega arith }) refl) refl
 
 pub step14 : Makes o14 o15 1 None
 unfolding faces owner_of start_cell part_word entry_code call_code return_code
 step14 =
-    own_step o14 o15.maps 28 (zero_of A1) refl (omega arith) (omega arith)
-    (has_in pushed pushed_same 28 (as_word (zero_of A1)) (omega arith) refl) (record { sfits = omega arith })
-    (move_straight A1 (Imm (pos 0))) refl
-    (set_goes look Plain A1 (pos 0) (Mem (own_code 29)) o14.maps refl)
+    clears o14 (own_code 29) A1
+    (own_stands o14 28 (zero_of A1) refl (omega arith) (omega arith)
+    (has_in pushed pushed_same 28 _ (omega arith) refl) (record { sfits = omega arith }) refl) refl
 
 pub step15 : Makes o15 o16 1 None
 unfolding faces owner_of start_cell part_word entry_code call_code return_code
 step15 =
-    own_step o15 o16.maps 29 (zero_of A2) refl (omega arith) (omega arith)
-    (has_in pushed pushed_same 29 (as_word (zero_of A2)) (omega arith) refl) (record { sfits = omega arith })
-    (move_straight A2 (Imm (pos 0))) refl
-    (set_goes look Plain A2 (pos 0) (Mem (own_code 30)) o15.maps refl)
+    clears o15 (own_code 30) A2
+    (own_stands o15 29 (zero_of A2) refl (omega arith) (omega arith)
+    (has_in pushed pushed_same 29 _ (omega arith) refl) (record { sfits = omega arith }) refl) refl
 
 pub step16 : Makes o16 o17 1 None
 unfolding faces owner_of start_cell part_word entry_code call_code return_code
 step16 =
-    own_step o16 o17.maps 30 (zero_of A3) refl (omega arith) (omega arith)
-    (has_in pushed pushed_same 30 (as_word (zero_of A3)) (omega arith) refl) (record { sfits = omega arith })
-    (move_straight A3 (Imm (pos 0))) refl
-    (set_goes look Plain A3 (pos 0) (Mem (own_code 31)) o16.maps refl)
+    clears o16 (own_code 31) A3
+    (own_stands o16 30 (zero_of A3) refl (omega arith) (omega arith)
+    (has_in pushed pushed_same 30 _ (omega arith) refl) (record { sfits = omega arith }) refl) refl
 
 pub step17 : Makes o17 o18 1 None
 unfolding faces owner_of start_cell part_word entry_code call_code return_code
 step17 =
-    own_step o17 o18.maps 31 (Cca Dat (Imm (pos 0))) refl (omega arith) (omega arith)
-    (has_in pushed pushed_same 31 (as_word (Cca Dat (Imm (pos 0)))) (omega arith) refl)
-    (record { sfits = omega arith })
-    (cca_straight Dat (Imm (pos 0))) refl
-    (cca_goes look Plain Dat (Imm (pos 0)) (Mem (own_code 32)) o17.maps (own_data 90) (pos 0) (pos 90) refl
-    refl refl refl refl)
+    adds o17 (own_code 32) Dat (pos 0) (own_data 90) (pos 90)
+    (own_stands o17 31 (Cca Dat (Imm (pos 0))) refl (omega arith) (omega arith)
+    (has_in pushed pushed_same 31 _ (omega arith) refl) (record { sfits = omega arith }) refl)
+    refl refl refl refl
 
 pub step18 : Makes o18 o19 1 None
 unfolding faces owner_of start_cell part_word entry_code call_code return_code
 step18 =
-    own_step o18 o19.maps 32 (Load C1 Dat) refl (omega arith) (omega arith)
-    (has_in pushed pushed_same 32 (as_word (Load C1 Dat)) (omega arith) refl) tt
-    (load_straight C1 Dat) refl
-    (load_goes look Plain C1 Dat (Mem (own_code 33)) o18.maps (own_data 90) 90 (Plain g_code) g_code refl refl
+    loads o18 (own_code 33) C1 Dat (own_data 90) 90 g_code
+    (own_stands o18 32 (Load C1 Dat) refl (omega arith) (omega arith)
+    (has_in pushed pushed_same 32 _ (omega arith) refl) tt refl)
+    refl refl refl refl (omega arith) (omega arith) (has_in pushed pushed_same 90 g_code (omega arith) refl)
     refl refl
-    (omega arith) (omega arith) (has_in pushed pushed_same 90 g_code (omega arith) refl) refl refl refl)
 
 pub step19 : Makes o19 o20 1 None
 unfolding faces owner_of start_cell part_word entry_code call_code return_code
 step19 =
-    own_step o19 o20.maps 33 (Cca Dat (Imm (pos 1))) refl (omega arith) (omega arith)
-    (has_in pushed pushed_same 33 (as_word (Cca Dat (Imm (pos 1)))) (omega arith) refl)
-    (record { sfits = omega arith })
-    (cca_straight Dat (Imm (pos 1))) refl
-    (cca_goes look Plain Dat (Imm (pos 1)) (Mem (own_code 34)) o19.maps (own_data 90) (pos 1) (pos 91) refl
-    refl refl refl refl)
+    adds o19 (own_code 34) Dat (pos 1) (own_data 90) (pos 91)
+    (own_stands o19 33 (Cca Dat (Imm (pos 1))) refl (omega arith) (omega arith)
+    (has_in pushed pushed_same 33 _ (omega arith) refl) (record { sfits = omega arith }) refl)
+    refl refl refl refl
 
 pub step20 : Makes o20 o21 1 None
 unfolding faces owner_of start_cell part_word entry_code call_code return_code
 step20 =
-    own_step o20 o21.maps 34 (Load C2 Dat) refl (omega arith) (omega arith)
-    (has_in pushed pushed_same 34 (as_word (Load C2 Dat)) (omega arith) refl) tt
-    (load_straight C2 Dat) refl
-    (load_goes look Plain C2 Dat (Mem (own_code 35)) o20.maps (own_data 91) 91 (Plain g_data) g_data refl refl
+    loads o20 (own_code 35) C2 Dat (own_data 91) 91 g_data
+    (own_stands o20 34 (Load C2 Dat) refl (omega arith) (omega arith)
+    (has_in pushed pushed_same 34 _ (omega arith) refl) tt refl)
+    refl refl refl refl (omega arith) (omega arith) (has_in pushed pushed_same 91 g_data (omega arith) refl)
     refl refl
-    (omega arith) (omega arith) (has_in pushed pushed_same 91 g_data (omega arith) refl) refl refl refl)
 
 pub step21 : Makes o21 o22 1 None
 unfolding faces owner_of start_cell part_word entry_code call_code return_code
 step21 =
-    own_step o21 o22.maps 35 (Cca Dat (Imm (negsuc 0))) refl (omega arith) (omega arith)
-    (has_in pushed pushed_same 35 (as_word (Cca Dat (Imm (negsuc 0)))) (omega arith) refl)
-    (record { sfits = omega arith })
-    (cca_straight Dat (Imm (negsuc 0))) refl
-    (cca_goes look Plain Dat (Imm (negsuc 0)) (Mem (own_code 36)) o21.maps (own_data 91) (negsuc 0) (pos 90)
-    refl refl refl refl refl)
+    adds o21 (own_code 36) Dat (negsuc 0) (own_data 91) (pos 90)
+    (own_stands o21 35 (Cca Dat (Imm (negsuc 0))) refl (omega arith) (omega arith)
+    (has_in pushed pushed_same 35 _ (omega arith) refl) (record { sfits = omega arith }) refl)
+    refl refl refl refl
 
 pub step22 : Makes o22 o23 1 None
 unfolding faces owner_of start_cell part_word entry_code call_code return_code
 step22 =
-    own_step o22 o23.maps 36 (zero_of G0) refl (omega arith) (omega arith)
-    (has_in pushed pushed_same 36 (as_word (zero_of G0)) (omega arith) refl) (record { sfits = omega arith })
-    (move_straight G0 (Imm (pos 0))) refl
-    (set_goes look Plain G0 (pos 0) (Mem (own_code 37)) o22.maps refl)
+    clears o22 (own_code 37) G0
+    (own_stands o22 36 (zero_of G0) refl (omega arith) (omega arith)
+    (has_in pushed pushed_same 36 _ (omega arith) refl) (record { sfits = omega arith }) refl) refl
 
 pub step23 : Makes o23 o24 1 None
 unfolding faces owner_of start_cell part_word entry_code call_code return_code
 step23 =
-    own_step o23 o24.maps 37 (zero_of G1) refl (omega arith) (omega arith)
-    (has_in pushed pushed_same 37 (as_word (zero_of G1)) (omega arith) refl) (record { sfits = omega arith })
-    (move_straight G1 (Imm (pos 0))) refl
-    (set_goes look Plain G1 (pos 0) (Mem (own_code 38)) o23.maps refl)
+    clears o23 (own_code 38) G1
+    (own_stands o23 37 (zero_of G1) refl (omega arith) (omega arith)
+    (has_in pushed pushed_same 37 _ (omega arith) refl) (record { sfits = omega arith }) refl) refl
 
 pub step24 : Makes o24 o25 1 None
 unfolding faces owner_of start_cell part_word entry_code call_code return_code
 step24 =
-    own_step o24 o25.maps 38 (zero_of G2) refl (omega arith) (omega arith)
-    (has_in pushed pushed_same 38 (as_word (zero_of G2)) (omega arith) refl) (record { sfits = omega arith })
-    (move_straight G2 (Imm (pos 0))) refl
-    (set_goes look Plain G2 (pos 0) (Mem (own_code 39)) o24.maps refl)
+    clears o24 (own_code 39) G2
+    (own_stands o24 38 (zero_of G2) refl (omega arith) (omega arith)
+    (has_in pushed pushed_same 38 _ (omega arith) refl) (record { sfits = omega arith }) refl) refl
 
 -- ---- the call
 
@@ -330,9 +269,9 @@ abbrev pub call_event : Event
 call_event = Called false 0 116 118
 
 abbrev pub o26 : OState
-o26 = state (maps (regs_with (Plain (Mem (its_code 104))) (RetCode 0) (RetData 0)
-    (Plain (Mem (stack 115 115))) (Plain (Mem (its_data 106))) zero_ (Plain g_code) (Plain g_data)) taken)
-    (frame ∷ []) 1
+o26 = state
+    (maps (regs_with (Plain (Mem (its_code 104))) (RetCode 0) (RetData 0) (Plain (Mem (stack 115 115)))
+    (Plain (Mem (its_data 106))) (Plain g_code) (Plain g_data)) taken) (frame ∷ []) 1
 
 in116 : cell pushed 116 ≡ Some zero_
 in116 =
@@ -362,7 +301,7 @@ call_case = refl
 abbrev at_jump : State OWord
 at_jump = maps
     (regs_with (Plain (Mem (own_code 54))) (RetCode 0) (RetData 0) (Plain (Mem (stack 115 115)))
-    (Plain (Mem (own_data 90))) zero_ (Plain g_code) (Plain g_data)) taken
+    (Plain (Mem (own_data 90))) (Plain g_code) (Plain g_data)) taken
 
 call_row : row look Plain (Xjmp C1 C2) (Int (pos 0)) at_jump ≡ went o26.maps
 call_row =
@@ -395,8 +334,9 @@ abbrev pub return_event : Event
 return_event = Returned false 0 116 118
 
 abbrev pub o27 : OState
-o27 = state (maps (regs_with (Plain (Mem (own_code 65))) (RetCode 0) zero_ (Plain (Mem (stack 118 116)))
-    (Plain (Mem (own_data 90))) zero_ (Plain g_code) (Plain g_data)) given_back) [] 1
+o27 = state
+    (maps (regs_with (Plain (Mem (own_code 65))) (RetCode 0) zero_ (Plain (Mem (stack 118 116)))
+    (Plain (Mem (own_data 90))) (Plain g_code) (Plain g_data)) given_back) [] 1
 
 still : cell taken 104 ≡ Some (Plain (as_word (Xjmp Rcode Rdata)))
 unfolding start_cell part_word entry_code call_code return_code

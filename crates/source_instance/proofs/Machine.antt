@@ -1,5 +1,5 @@
--- The overlay of the start: its cells, its states, and its steps of instructions that don't jump.
-use Rattle.std.proofs.Common.{◌≡◌, ℕ, ◌+◌, ◌≤◌, ◌<◌, pos, List, Option, Some, None}
+-- The overlay of the start: its cells, its states, and its steps by instruction.
+use Rattle.std.proofs.Common.{◌≡◌, ℕ, ◌+◌, ◌≤◌, ◌<◌, pos, true, false, List, Option, Some, None, ℤ, ◌+ℤ◌}
 use Rattle.std.proofs.Common.{refl, ap, ◌∙◌, arith, le-leb}
 use Rattle.std.specs.Prelude.{option_map}
 use Rattle.cap_words.specs.declared.Word.{Word}
@@ -8,18 +8,26 @@ use Rattle.cap_words.specs.declared.Sealable.TheVariants.{Mem as MemIn}
 use Rattle.cap_words.specs.declared.Perm.TheVariants.{Rw, Rwx}
 use Rattle.cap_words.specs.declared.Lin.TheVariants.{Normal, Linear}
 use Rattle.cap_words.specs.declared.CapFields.{CapFields}
+use Rattle.cap_words.specs.Linear.{is_linear}
+use Rattle.cap_words.specs.Face.{face_of}
+use Rattle.cap_words.specs.Faces.{may_read, face_linear}
 use Rattle.lcm_isa.specs.declared.Instr.{Instr}
-use Rattle.lcm_isa.specs.declared.Reg.TheVariants.{Pc}
+use Rattle.lcm_isa.specs.declared.Reg.TheVariants.{Pc, Stk}
 use Rattle.lcm_isa.specs.declared.Reg.{Reg}
-use Rattle.lcm_isa.specs.declared.Operand.{Operand}
-use Rattle.lcm_isa.specs.declared.Instr.TheVariants.{Load, Store, Cca, Move, Plus, Jmp}
+use Rattle.lcm_isa.specs.declared.Operand.TheVariants.{R, Imm}
+use Rattle.lcm_isa.specs.declared.Instr.TheVariants.{Load, Store, Cca, Move}
 use Rattle.lcm_isa.specs.Numbers.{IsInstr}
 use Rattle.lcm_isa.proofs.NumberLemmas.{decode_of-number_of}
+use Rattle.lcm_machine.specs.declared.Place.{Place}
+use Rattle.lcm_machine.specs.declared.Place.TheVariants.{R, Cell}
+use Rattle.lcm_machine.specs.Table.{is_pc, fits_64}
+use Rattle.lcm_machine.specs.Places.{reg}
 use Rattle.lcm_machine.specs.Maps.{Regs, State}
 use Rattle.lcm_machine.specs.Cells.{cell, set_cell}
-use Rattle.lcm_machine.specs.Row.{faces, cell_faces, look_face, fetch, some, row, went}
+use Rattle.lcm_machine.specs.Row.{faces, cell_faces, look_face, fetch, some, row, went, put}
 use Rattle.lcm_machine.specs.Runs.{code_cap}
-use Rattle.lcm_machine.proofs.Offers.{cell-set_other, shows, fetch_at, step_at}
+use Rattle.lcm_machine.proofs.Offers.{cell-set_other, shows, fetch_at, step_at, stays, load_goes, store_goes}
+use Rattle.lcm_machine.proofs.Offers.{cca_goes, set_goes, move_goes}
 use Rattle.component_linker.specs.Start.{start_cell}
 use Rattle.overlay_machine.specs.declared.words.OWord.{OWord}
 use Rattle.overlay_machine.specs.declared.words.OWord.TheVariants.{Plain}
@@ -36,6 +44,7 @@ use Rattle.overlay_machine.specs.Seen.{IsOverlayOf}
 use Rattle.overlay_machine.specs.Starting.{overlay_at}
 use Rattle.overlay_machine.proofs.Offers.{is_overlay, start_word_is}
 use Rattle.trace_tool.specs.Layout.{layout}
+use Rattle.proc_templates.specs.Items.{zero_of}
 use Rattle.source_instance.proofs.Module.{as_word}
 use Rattle.source_instance.proofs.Parts.{parts}
 use Rattle.source_instance.proofs.Start.{start, spans, cells_are, is_start_of}
@@ -74,15 +83,15 @@ set_above m q w same high a lt = cell-set_other m q a w (omega (arith, high, lt)
 abbrev pub zero_ : OWord
 zero_ = Plain (Int (pos 0))
 
-abbrev pub regs_with : (pc rcode rdata stk dat t2 c1 c2 : OWord) → Regs OWord
-regs_with pc rcode rdata stk dat t2 c1 c2 = record {
+abbrev pub regs_with : (pc rcode rdata stk dat c1 c2 : OWord) → Regs OWord
+regs_with pc rcode rdata stk dat c1 c2 = record {
   pc = pc;
   rcode = rcode;
   rdata = rdata;
   stk = stk;
   dat = dat;
   t1 = zero_;
-  t2 = t2;
+  t2 = zero_;
   c1 = c1;
   c2 = c2;
   a0 = zero_;
@@ -137,47 +146,18 @@ pub record Makes (o q : OState) (n : ℕ) (e : Option Event) : Type 0 where
   pub weight : weight_of L o ≡ n
   pub event : step_event L o q ≡ e
 
--- an instruction that is no `xjmp`
-pub record IsStraight (i : Instr) : Type 0 where
-  pub other : (s : State OWord) (next : Word) → case_fetched s (some i next) ≡ Other
-  pub opens_none : (s : State OWord) (next : Word) → jump_seal s (some i next) ≡ None
+-- pc leads to an instruction, before another word of pc, where no call and no entry begins
+pub record Stands (o : OState) (i : Instr) (next : CapFields) : Type 0 where
+  pub fetched : fetch (faces look o.maps Pc) (cell_faces look o.maps) ≡ some i (Mem next)
+  pub place : case_trusted L (trusted_at L (faces look o.maps Pc)) Other ≡ Other
 
--- it doesn't stand where a call or an entry begins
-quiet : (o : OState) (m : State OWord) (i : Instr) (next : Word) → IsStraight i
-    → fetch (faces look o.maps Pc) (cell_faces look o.maps) ≡ some i next
-    → case_trusted L (trusted_at L (faces look o.maps Pc)) Other ≡ Other
-    → row look Plain i next o.maps ≡ went m → Makes o (state m o.frames o.calls) 1 None
-unfolding overlay_step weight_of step_event case_of other_step
-quiet o m i next straight f place does = record {
-  goes_on =
-      ap (λ c. step_by L c o) case
-      ∙ ap (with_frames o.frames o.calls) (step_at look Plain o.maps i next f ∙ does);
-  weight = ap (weight_by o.maps) case;
-  event =
-      ap (λ c. event_after L (note_by L o c) q) case
-      ∙ ap (λ x. event_after L (note_jump (from_part) (jump_seal o.maps x)) q) f
-      ∙ ap (λ x. event_after L (note_jump (from_part) x) q) (straight.opens_none o.maps next);
+pub own_stands : (o : OState) (a : ℕ) (i : Instr) → look o.maps.regs.pc ≡ Mem (own_code a) → 1 ≤ a → a ≤ 87
+    → cell o.maps.cells a ≡ Some (Plain (as_word i)) → IsInstr i
+    → case_trusted L (trusted_at L (faces look o.maps Pc)) Other ≡ Other → Stands o i (own_code (a + 1))
+own_stands o a i pc low high there ok place = record {
+  fetched = fetch_at look Plain o.maps 1 87 a i pc low high (ap (look_face look) there) ok;
+  place = place;
 }
-  where
-    q : OState
-    q = state m o.frames o.calls
-
-    from_part : Option ℕ
-    from_part = option_map (λ p. p.part) (owner_now L o)
-
-    case : case_of L o.maps ≡ Other
-    case =
-        ap (λ x. case_trusted L (trusted_at L (faces look o.maps Pc)) (case_fetched o.maps x)) f
-        ∙ ap (case_trusted L (trusted_at L (faces look o.maps Pc))) (straight.other o.maps next) ∙ place
-
--- an instruction of the module
-pub own_step : (o : OState) (m : State OWord) (a : ℕ) (i : Instr) → look o.maps.regs.pc ≡ Mem (own_code a)
-    → 1 ≤ a → a ≤ 87 → cell o.maps.cells a ≡ Some (Plain (as_word i)) → IsInstr i → IsStraight i
-    → case_trusted L (trusted_at L (faces look o.maps Pc)) Other ≡ Other
-    → row look Plain i (Mem (own_code (a + 1))) o.maps ≡ went m → Makes o (state m o.frames o.calls) 1 None
-own_step o m a i pc low high there ok straight place does =
-    quiet o m i (Mem (own_code (a + 1))) straight
-    (fetch_at look Plain o.maps 1 87 a i pc low high (ap (look_face look) there) ok) place does
 
 -- what is fetched of the adversary's code
 pub its_fetch : (s : State OWord) (a : ℕ) (i : Instr) → look s.regs.pc ≡ Mem (its_code a) → 96 ≤ a → a ≤ 104
@@ -193,28 +173,78 @@ its_fetch s a i pc low high there ok =
       decode_of-number_of i ok,
     )
 
--- an instruction of the adversary
-pub its_step : (o : OState) (m : State OWord) (a : ℕ) (i : Instr) → look o.maps.regs.pc ≡ Mem (its_code a)
-    → 96 ≤ a → a ≤ 104 → cell o.maps.cells a ≡ Some (Plain (as_word i)) → IsInstr i → IsStraight i
-    → case_trusted L (trusted_at L (faces look o.maps Pc)) Other ≡ Other
-    → row look Plain i (Mem (its_code (a + 1))) o.maps ≡ went m → Makes o (state m o.frames o.calls) 1 None
-its_step o m a i pc low high there ok straight place does =
-    quiet o m i (Mem (its_code (a + 1))) straight (its_fetch o.maps a i pc low high there ok) place does
+pub its_stands : (o : OState) (a : ℕ) (i : Instr) → look o.maps.regs.pc ≡ Mem (its_code a) → 96 ≤ a → a ≤ 104
+    → cell o.maps.cells a ≡ Some (Plain (as_word i)) → IsInstr i
+    → case_trusted L (trusted_at L (faces look o.maps Pc)) Other ≡ Other → Stands o i (its_code (a + 1))
+its_stands o a i pc low high there ok place =
+    record { fetched = its_fetch o.maps a i pc low high there ok; place = place }
 
-pub load_straight : (a b : Reg) → IsStraight (Load a b)
-load_straight a b = record { other = λ s n. refl; opens_none = λ s n. refl }
+-- a step by the table: only an `xjmp` has an event, by the seal that it opens
+pub by_row : (o : OState) (m : State OWord) (i : Instr) (next : CapFields) → Stands o i next
+    → case_fetched o.maps (some i (Mem next)) ≡ Other → row look Plain i (Mem next) o.maps ≡ went m
+    → Makes o (state m o.frames o.calls) 1
+    (event_after L (note_jump (option_map (λ p. p.part) (owner_now L o))
+    (jump_seal o.maps (some i (Mem next))))
+    (state m o.frames o.calls))
+unfolding overlay_step weight_of step_event case_of other_step
+by_row o m i next at other does = record {
+  goes_on =
+      ap (λ c. step_by L c o) case
+      ∙ ap (with_frames o.frames o.calls) (step_at look Plain o.maps i (Mem next) at.fetched ∙ does);
+  weight = ap (weight_by o.maps) case;
+  event =
+      ap (λ c. event_after L (note_by L o c) q) case
+      ∙ ap (λ x. event_after L (note_jump (option_map (λ p. p.part) (owner_now L o)) (jump_seal o.maps x)) q)
+      at.fetched;
+}
+  where
+    q : OState
+    q = state m o.frames o.calls
 
-pub store_straight : (a b : Reg) → IsStraight (Store a b)
-store_straight a b = record { other = λ s n. refl; opens_none = λ s n. refl }
+    case : case_of L o.maps ≡ Other
+    case =
+        ap (λ x. case_trusted L (trusted_at L (faces look o.maps Pc)) (case_fetched o.maps x)) at.fetched
+        ∙ ap (case_trusted L (trusted_at L (faces look o.maps Pc))) other ∙ at.place
 
-pub cca_straight : (a : Reg) (n : Operand) → IsStraight (Cca a n)
-cca_straight a n = record { other = λ s next. refl; opens_none = λ s next. refl }
+-- ---- by instruction: a place is set, and pc goes on
 
-pub plus_straight : (a b : Reg) (n : Operand) → IsStraight (Plus a b n)
-plus_straight a b n = record { other = λ s next. refl; opens_none = λ s next. refl }
+abbrev pub after : OState → CapFields → Place → OWord → OState
+after o next p w = state (put (put o.maps p w) (R Pc) (Plain (Mem next))) o.frames o.calls
 
-pub jmp_straight : (a : Reg) → IsStraight (Jmp a)
-jmp_straight a = record { other = λ s n. refl; opens_none = λ s n. refl }
+pub loads : (o : OState) (next : CapFields) (r b : Reg) (c : CapFields) (at : ℕ) (w : Word)
+    → Stands o (Load r b) next → is_pc r ≡ false → look (reg o.maps.regs b) ≡ Mem c → may_read c.perm ≡ true
+    → c.addr ≡ pos at → c.base ≤ at → at ≤ c.end → cell o.maps.cells at ≡ Some (Plain w) → is_linear w ≡ false
+    → face_linear (face_of w) ≡ false → Makes o (after o next (R r) (Plain w)) 1 None
+loads o next r b c at w stands no_pc is may addr low high there normal shown =
+    by_row o (after o next (R r) (Plain w)).maps (Load r b) next stands refl
+    (load_goes look Plain r b (Mem next) o.maps c at (Plain w) w no_pc is may addr low high there refl normal
+    shown)
 
-pub move_straight : (a : Reg) (n : Operand) → IsStraight (Move a n)
-move_straight a n = record { other = λ s next. refl; opens_none = λ s next. refl }
+pub stores : (o : OState) (next : CapFields) (r : Reg) (at : ℕ) (w : OWord) → Stands o (Store Stk r) next
+    → look o.maps.regs.stk ≡ Mem (stack 118 at) → 111 ≤ at → at ≤ 118 → cell o.maps.cells at ≡ Some w
+    → is_linear (look (reg o.maps.regs r)) ≡ false
+    → Makes o (after o next (Cell at) (reg o.maps.regs r)) 1 None
+stores o next r at w stands is low high there normal =
+    by_row o (after o next (Cell at) (reg o.maps.regs r)).maps (Store Stk r) next stands refl
+    (store_goes look Plain Stk r (Mem next) o.maps o.maps (stack 118 at) at w is refl refl low high there
+    (stays look Plain o.maps (R r) normal))
+
+pub adds : (o : OState) (next : CapFields) (r : Reg) (z : ℤ) (c : CapFields) (to : ℤ)
+    → Stands o (Cca r (Imm z)) next → is_pc r ≡ false → look (reg o.maps.regs r) ≡ Mem c → c.addr +ℤ z ≡ to
+    → fits_64 to ≡ true → Makes o (after o next (R r) (Plain (Mem (record c { addr = to })))) 1 None
+adds o next r z c to stands no_pc is sum fits =
+    by_row o (after o next (R r) (Plain (Mem (record c { addr = to })))).maps (Cca r (Imm z)) next stands refl
+    (cca_goes look Plain r (Imm z) (Mem next) o.maps c z to no_pc is refl sum fits)
+
+pub clears : (o : OState) (next : CapFields) (r : Reg) → Stands o (zero_of r) next → is_pc r ≡ false
+    → Makes o (after o next (R r) zero_) 1 None
+clears o next r stands no_pc =
+    by_row o (after o next (R r) zero_).maps (zero_of r) next stands refl
+    (set_goes look Plain r (pos 0) (Mem next) o.maps no_pc)
+
+pub copies : (o : OState) (next : CapFields) (r b : Reg) → Stands o (Move r (R b)) next → is_pc r ≡ false
+    → is_linear (look (reg o.maps.regs b)) ≡ false
+    → Makes o (after o next (R r) (reg o.maps.regs b)) 1 None
+copies o next r b stands no_pc normal =
+    by_row o (after o next (R r) (reg o.maps.regs b)).maps (Move r (R b)) next stands refl
+    (move_goes look Plain r b (Mem next) o.maps o.maps no_pc (stays look Plain o.maps (R b) normal))

@@ -1,7 +1,7 @@
 -- The module's component, and an adversary whose main enters it and whose `g` goes right back. They keep the
 -- rules.
-use Rattle.std.proofs.Common.{◌≡◌, ℕ, zero, suc, pos, Bool, true, false, List, [], ◌∷◌, map}
-use Rattle.std.proofs.Common.{Some, None, Ok, refl, sym, ap, arith, subst, rules}
+use Rattle.std.proofs.Common.{◌≡◌, ℕ, zero, suc, pos, Bool, true, false, List, [], ◌∷◌, map, Some, None, Ok}
+use Rattle.std.proofs.Common.{refl, sym, ap, arith, subst, rules}
 use Rattle.std.specs.Prelude.{slice_get}
 use Rattle.cap_words.specs.Names.{is_name}
 use Rattle.cap_words.specs.declared.Word.TheVariants.{Int}
@@ -21,12 +21,10 @@ use Rattle.call_sequence.specs.Sequences.{call_code, return_code, entry_code}
 use Rattle.component_linker.specs.Parts.{PartSeen, IsPart}
 use Rattle.component_linker.specs.Pairs.{NoneIsBroken, IsFirstBrokenIn, by_part}
 use Rattle.component_linker.specs.Links.{rules_l, rule_at, l1, l2, l3, l4, l5, l6, l7, l8, l9, l10}
-use Rattle.component_linker.specs.Standing.{placed}
 use Rattle.component_linker.proofs.FirstIn.{first_broken_in}
 use Rattle.source_starts.specs.Sources.{AreSources}
 use Rattle.source_instance.proofs.Module.{source, limits, resolved, as_word, trusted, is_compiled}
-use Rattle.source_instance.proofs.Module.{component_fits}
-use Rattle.source_instance.proofs.Module.{flow_kept}
+use Rattle.source_instance.proofs.Module.{component_fits, flow_kept}
 
 -- ---- the adversary
 
@@ -69,27 +67,9 @@ adversary_fits = record {
   seals = (omega arith, omega arith);
   linear = (omega arith, omega arith);
   code_base = omega arith;
-  code = (
-    (omega arith, omega arith),
-    (
-      search rules,
-      (
-        search rules,
-        (
-          search rules,
-          (
-            search rules,
-            (search rules, (search rules, (search rules, (search rules, (search rules, tt))))),
-          ),
-        ),
-      ),
-    ),
-  );
+  code = ((omega arith, omega arith), search (rules, arith));
   data_base = omega arith;
-  data_words = (
-    (omega arith, omega arith),
-    (search rules, (search rules, (search rules, (search rules, tt)))),
-  );
+  data_words = ((omega arith, omega arith), search (rules, arith));
   imports = (omega arith, ((refl, refl, omega arith, refl), ((refl, refl, omega arith, refl), tt)));
   exports = (omega arith, ((refl, refl, omega arith), ((refl, refl, omega arith), tt)));
   sites = (omega arith, tt);
@@ -159,9 +139,6 @@ room_checked = refl
 pub has_room : NoneIsBroken (l10 parts ∷ [])
 has_room =
     subst (IsFirstBrokenIn rule_at (l10 parts ∷ [])) room_checked (first_broken_in rule_at (l10 parts ∷ []))
-
-pub stand : placed parts 8 ≡ parts
-stand = refl
 
 -- ---- and they are sources
 

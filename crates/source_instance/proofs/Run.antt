@@ -1,25 +1,40 @@
 -- The run: the module is entered, calls, is answered and leaves.
 use Rattle.std.proofs.Common.{◌≡◌, ℕ, ◌+◌, pos, false, List, [], ◌∷◌, ◌++◌, Option, Some, None, refl, subst}
-use Rattle.std.proofs.Common.{arith, map, ap, ◌∙◌, ℤ, ◌≤◌}
+use Rattle.std.proofs.Common.{sym, arith, map, ap, ◌∙◌, ℤ, ◌≤◌}
 use Rattle.cap_words.specs.declared.Word.{Word}
 use Rattle.cap_words.specs.declared.Word.TheVariants.{Int, Mem}
+use Rattle.cap_words.specs.Face.{face_of}
+use Rattle.lcm_isa.specs.declared.Reg.TheVariants.{Pc}
+use Rattle.lcm_machine.specs.Places.{reg}
+use Rattle.lcm_machine.specs.Run.{plain}
 use Rattle.lcm_machine.specs.Row.{faces}
 use Rattle.lcm_machine.specs.Cells.{cell}
 use Rattle.lcm_machine.proofs.Offers.{cell-without_in}
 use Rattle.call_sequence.specs.Sequences.{call_code, return_code, entry_code}
 use Rattle.component_linker.specs.Owners.{owner_of}
+use Rattle.component_linker.specs.Parts.{PartSeen}
+use Rattle.component_linker.specs.Started.{StartSeen}
+use Rattle.overlay_machine.specs.declared.words.OWord.TheVariants.{Plain}
 use Rattle.overlay_machine.specs.declared.events.Event.{Event}
 use Rattle.overlay_machine.specs.State.{OState, word_of}
 use Rattle.overlay_machine.specs.Layout.{site_code}
-use Rattle.overlay_machine.specs.Flat.{flat, beside}
+use Rattle.overlay_machine.specs.Flat.{IsFlat, flat, beside}
 use Rattle.overlay_machine.specs.Step.{weight_of}
 use Rattle.overlay_machine.specs.Events.{step_event}
-use Rattle.trace_tool.specs.Layout.{part_name, entry_name, site_of}
+use Rattle.overlay_machine.specs.Runs.{Reached}
+use Rattle.overlay_machine.specs.Runs as reached
+use Rattle.overlay_machine.specs.Starting.{IsStartOf}
+use Rattle.trace_tool.specs.Layout.{layout, is_trusted, part_name, entry_name, site_of}
 use Rattle.trace_tool.specs.Views.{flat_view}
 use Rattle.trace_tool.specs.Lines.{Line, Args, out, call, ret, enter, leave, lines_for}
 use Rattle.trace_tool.specs.Alike.{StartLinesAgree}
 use Rattle.trace_tool.specs.Told.{Told}
 use Rattle.trace_tool.specs.Told as told
+use Rattle.trace_tool.specs.Feed as line
+use Rattle.trace_tool.specs.Feed.{outs_of as outs_in, items_of as items_in}
+use Rattle.trace_tool.specs.Headline.{HeadlineHolds, written}
+use Rattle.proc_language.specs.declared.module.ModuleFields.{ModuleFields}
+use Rattle.proc_program.specs.Lower.{part_of}
 use Rattle.source_events.specs.declared.FeedBack.TheVariants as way
 use Rattle.source_events.specs.declared.FeedPair.{FeedPair}
 use Rattle.source_events.specs.declared.FeedPair.TheVariants.{Nothing}
@@ -29,26 +44,20 @@ use Rattle.source_events.specs.declared.OutArg.{OutArg}
 use Rattle.source_events.specs.declared.OutArg.TheVariants as given
 use Rattle.source_events.specs.declared.OutEvent.{OutEvent}
 use Rattle.source_events.specs.declared.OutEvent.TheVariants.{CallOut, LeaveOut}
+use Rattle.source_events.specs.declared.End.TheVariants.{Waiting}
+use Rattle.proc_semantics.specs.Values.{World}
+use Rattle.run_items.specs.Items.{EventsAreTold, event_told, item_of}
 use Rattle.template_runs.specs.Runs.{is_inside}
 use Rattle.source_laws.specs.Sources.{Shows, SourcesMean}
 use Rattle.source_laws.specs.Sources as shown
 use Rattle.source_laws.specs.Trace.{outs_of, items_of, weighed}
-use Rattle.proc_program.specs.Lower.{part_of}
-use Rattle.source_instance.specs.There.{Visit, SourceThere}
-use Rattle.run_items.specs.Items.{EventsAreTold, event_told}
 use Rattle.source_starts.specs.Sources.{AreSources}
-use Rattle.source_starts.specs.RunMeans.{MeaningEnds}
-use Rattle.proc_semantics.specs.Values.{World}
-use Rattle.source_events.specs.declared.End.TheVariants.{Waiting}
-use Rattle.proc_language.specs.declared.module.ModuleFields.{ModuleFields}
-use Rattle.component_linker.specs.Parts.{PartSeen}
-use Rattle.component_linker.specs.Started.{StartSeen}
-use Rattle.overlay_machine.specs.Starting.{IsStartOf}
-use Rattle.trace_tool.specs.Feed as line
+use Rattle.source_starts.specs.RunMeans.{MeaningEnds, runs_trusted}
+use Rattle.source_instance.specs.There.{SourceThere}
 use Rattle.source_instance.proofs.Module.{source}
 use Rattle.source_instance.proofs.Parts.{parts, second, are_sources}
 use Rattle.source_instance.proofs.Start.{start, is_start_of}
-use Rattle.source_instance.proofs.Machine.{L, Makes, own_data, stack, g_code, g_data}
+use Rattle.source_instance.proofs.Machine.{L, Makes, own_data, its_code, stack, g_code, g_data}
 use Rattle.source_instance.proofs.Enters as enters
 use Rattle.source_instance.proofs.Calls as calls
 use Rattle.source_instance.proofs.Leaves as leaves
@@ -56,12 +65,13 @@ use Rattle.source_instance.proofs.Leaves as leaves
 -- ---- a run that tells lines, and shows what goes out and what comes in
 
 record Comes (j : ℕ) (ls : List Line) (es : List line.OutEvent) (is : List Item) (p : OState) : Type 0 where
+  pub reached : Reached L enters.o0 j p
   pub lines : Told L enters.o0 j ls p
   pub weight : ℕ
   pub shows : Shows L enters.o0 j weight es is p
 
 begins : Comes 0 [] [] [] enters.o0
-begins = record { lines = told.none_yet; weight = 0; shows = shown.none_yet }
+begins = record { reached = reached.begins; lines = told.none_yet; weight = 0; shows = shown.none_yet }
 
 -- the lines and items of a step's event
 record Tells (q : OState) (v : Option Event) (ls : List Line) (es : List line.OutEvent)
@@ -75,6 +85,8 @@ tells : {j n : ℕ} {ls more : List Line} {es going : List line.OutEvent} {is co
     {v : Option Event} → Comes j ls es is p → Makes p q n v → Tells q v more going coming
     → Comes (j + n) (ls ++ more) (es ++ going) (is ++ coming) q
 tells {j} {n} {ls} {more} {es} {going} {is} {coming} {p} {q} {v} r m t = record {
+  reached =
+      subst (λ (k : ℕ). Reached L enters.o0 (j + k) q) m.weight (reached.goes_on r.reached m.goes_on);
   lines =
       subst (λ (k : ℕ). Told L enters.o0 (j + k) (ls ++ more) q) m.weight
       (subst (λ (xs : List Line). Told L enters.o0 (j + weight_of L p) (ls ++ xs) q)
@@ -103,8 +115,8 @@ zeros = record { a0 = Int (pos 0); a1 = Int (pos 0); a2 = Int (pos 0); a3 = Int 
 abbrev ints : List (Option ℤ)
 ints = Some (pos 0) ∷ Some (pos 0) ∷ Some (pos 0) ∷ Some (pos 0) ∷ []
 
-abbrev halves : List OutArg
-halves = given.Int (pos 0) ∷ given.Int (pos 0) ∷ given.Int (pos 0) ∷ given.Int (pos 0) ∷ []
+abbrev numbers : List OutArg
+numbers = given.Int (pos 0) ∷ given.Int (pos 0) ∷ given.Int (pos 0) ∷ given.Int (pos 0) ∷ []
 
 abbrev no_pairs : List FeedPair
 no_pairs = Nothing ∷ Nothing ∷ Nothing ∷ []
@@ -134,7 +146,7 @@ abbrev ret_item : Item
 ret_item = Ret (116 ∷ []) 0 116 (Some (pos 0))
 
 abbrev call_out : OutEvent
-call_out = CallOut (116 ∷ []) 0 halves
+call_out = CallOut (116 ∷ []) 0 numbers
 
 abbrev leave_out : OutEvent
 leave_out = LeaveOut (116 ∷ []) (pos 0)
@@ -238,53 +250,54 @@ left : Comes 93 (enter_line ∷ call_line ∷ ret_line ∷ leave_line ∷ [])
     (enter_item ∷ ret_item ∷ []) leaves.o49
 left = tells to_leave leaves.step48 leave_told
 
-outside : is_inside L leaves.o49 ≡ false
+stands_outside : is_inside L leaves.o49 ≡ false
 unfolding faces owner_of entry_code call_code return_code
-outside = refl
+stands_outside = refl
 
--- ---- what it shows
+-- the plain run stands where the overlay does
+runs_outside : (s : StartSeen) (n : ℕ) (o : OState) (w : Word) → IsFlat (layout s) o (plain n s.state).maps
+    → reg o.maps.regs Pc ≡ Plain w → is_trusted (layout s) (face_of w) ≡ false → runs_trusted s n ≡ false
+unfolding faces flat
+runs_outside s n o w same is free =
+    ap (λ x. is_trusted (layout s) (face_of x)) (same.regs Pc ∙ ap (flat (layout s) o.frames) is) ∙ free
 
-abbrev visit : Visit
-visit = record {
-  part = 116 ∷ [];
-  name = 102 ∷ [];
-  stk = stack_word;
-  left = 8;
-  args = zeros;
-  values = ints;
-  pairs = no_pairs;
-  site = 0;
-  base = 116;
-  last = 118;
-  words = frame_words;
-  given = zeros;
-  outs = halves;
-  answer = pos 0;
-  result = pos 0;
-}
+stops_outside : is_trusted L (face_of (Mem (its_code 104))) ≡ false
+unfolding owner_of entry_code call_code return_code
+stops_outside = refl
+
+-- ---- what it writes and means
+
+abbrev all_lines : List Line
+all_lines = enter_line ∷ call_line ∷ ret_line ∷ leave_line ∷ []
+
+-- the plain run writes what the overlay's steps tell
+it_writes : StartLinesAgree → written start 93 ≡ all_lines
+it_writes agree = (agree parts 8 start is_start_of).matched 93 all_lines leaves.o49 left.lines
+
+came : StartLinesAgree → map item_of (items_in 111 (written start 93)) ≡ enter_item ∷ ret_item ∷ []
+came agree = ap (λ ls. map item_of (items_in 111 ls)) (it_writes agree)
 
 abbrev world : World
 world = map part_of (source ∷ [])
 
 -- where it stands outside, the meaning waits, and its events are told as those of the run are
-means : SourcesMean world 8 start → EventsAreTold
+it_means : SourcesMean world 8 start → EventsAreTold
     → MeaningEnds world 8 (enter_item ∷ ret_item ∷ []) (call_out ∷ leave_out ∷ []) Waiting
-means mean told =
-    let w = (mean 93 left.weight _ _ leaves.o49 left.shows).waits outside in
+it_means mean told =
+    let w = (mean 93 left.weight _ _ leaves.o49 left.shows).waits stands_outside in
     record {
       enough = w.enough;
       ends = λ f le. (w.ends f le).0;
       told = λ f le. told _ _ (w.ends f le).1;
     }
 
-abbrev SourcesMeanSo : Type 0
-SourcesMeanSo =
+abbrev StartsMean : Type 0
+StartsMean =
     (modules : List ModuleFields) (ps : List PartSeen) (size : ℕ) (s : StartSeen) → IsStartOf ps size s
     → AreSources modules ps → SourcesMean (map part_of modules) size s
 
--- the plain run writes what the overlay's steps tell
-pub source_there : StartLinesAgree → SourcesMeanSo → EventsAreTold → SourceThere
-source_there agree mean told = record {
+pub source_there : HeadlineHolds → StartLinesAgree → StartsMean → EventsAreTold → SourceThere
+source_there headline agree mean told = record {
   modules = source ∷ [];
   parts = parts;
   size = 8;
@@ -294,9 +307,32 @@ source_there agree mean told = record {
   other = second;
   other_in = (1, omega arith, refl);
   untrusted = refl;
-  visit = visit;
   steps = 93;
-  lines = (agree parts 8 start is_start_of).matched 93
-      (enter_line ∷ call_line ∷ ret_line ∷ leave_line ∷ []) leaves.o49 left.lines;
-  means = means (mean (source ∷ []) parts 8 start is_start_of are_sources) told;
+  steps_are = refl;
+  overlay = leaves.o49;
+  matched = left.reached;
+  outside =
+      runs_outside start 93 leaves.o49 (Mem (its_code 104))
+      ((headline parts 8 start is_start_of).agrees.matched 93 leaves.o49 left.reached).1 refl stops_outside;
+  part = 116 ∷ [];
+  name = 102 ∷ [];
+  stk = stack_word;
+  args = zeros;
+  site = 0;
+  base = 116;
+  last = 118;
+  given = zeros;
+  words = frame_words;
+  answer = pos 0;
+  result = pos 0;
+  lines = it_writes agree;
+  left = 8;
+  came = came agree;
+  outs = numbers;
+  events = call_out ∷ leave_out ∷ [];
+  events_are = refl;
+  went = ap outs_in (it_writes agree);
+  means =
+      subst (λ items. MeaningEnds world 8 items (call_out ∷ leave_out ∷ []) Waiting) (sym (came agree))
+      (it_means (mean (source ∷ []) parts 8 start is_start_of are_sources) told);
 }

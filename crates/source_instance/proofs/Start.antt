@@ -1,18 +1,20 @@
 -- The start of the two parts, with a stack of eight words.
-use Rattle.std.proofs.Common.{◌≡◌, ℕ, zero, suc, ◌<◌, inl, inr, Bool, true, false, List, [], ◌∷◌, map}
+use Rattle.std.proofs.Common.{rules, ◌≡◌, ℕ, zero, suc, ◌<◌, inl, inr, Bool, true, false, List, [], ◌∷◌, map}
 use Rattle.std.proofs.Common.{Option, Some, None, refl, sym, ap, ◌∙◌, arith, subst}
 use Rattle.std.specs.Prelude.{slice_get, nat_le, ◌||◌}
 use Rattle.std.specs.List.{Contains, AllPairs}
-use Rattle.lcm_isa.specs.Numbers.{number_of}
-use Rattle.call_sequence.specs.Sequences.{call_code, return_code, entry_code}
 use Rattle.std.proofs.lemmas.Bool.{cases_lt, leb-true, and_parts}
 use Rattle.std.proofs.lemmas.List.Sorted.{IsPermutation-refl}
+use Rattle.std.specs.Ordering.{nat_cmp}
+use Rattle.std.specs.FinMap.{FinMap}
 use Rattle.cap_words.specs.declared.Word.{Word}
+use Rattle.lcm_isa.specs.Numbers.{number_of}
 use Rattle.lcm_machine.specs.declared.cells.Span.{Span}
 use Rattle.lcm_machine.specs.Cells.{cell}
 use Rattle.lcm_machine.specs.Regions.{Region}
 use Rattle.lcm_machine.proofs.Offers.{contains_cases, bases_rise}
 use Rattle.lcm_machine.specs.Spans.{AreSpans}
+use Rattle.call_sequence.specs.Sequences.{call_code, return_code, entry_code}
 use Rattle.component_linker.specs.declared.owners.Site.{Site}
 use Rattle.component_linker.specs.declared.owners.Owner.{Owner}
 use Rattle.component_linker.specs.Parts.{PartSeen}
@@ -40,6 +42,9 @@ main = record {
 abbrev pub spans : List Span
 spans = map region_span (regions_of parts 8)
 
+abbrev memory : FinMap nat_cmp Word
+memory = filled (start_cell parts 8) 1048576
+
 abbrev site : Site
 site = record { part = 0; index = 0; seal = 12; at = 39 }
 
@@ -52,11 +57,7 @@ second_owner = owner_of 1 second
 abbrev pub start : StartSeen
 start = record {
   state = record {
-    maps = record {
-      regs = start_regs parts 8 main;
-      cells = filled (start_cell parts 8) 1048576;
-      spans = spans;
-    };
+    maps = record { regs = start_regs parts 8 main; cells = memory; spans = spans };
     count = 0;
     end = None;
   };
@@ -90,33 +91,17 @@ none_if : (o : Option Word) → ((w : Word) → o ≡ Some w → ⊥) → o ≡ 
 none_if None h = refl
 none_if (Some w) h = absurd (h w refl)
 
-pub cells_are : (a : ℕ) → cell (filled (start_cell parts 8) 1048576) a ≡ start_cell parts 8 a
-cells_are a = elim (cases_lt a 1048576) as (λ _. cell (filled (start_cell parts 8) 1048576) a ≡ start_cell
-    parts 8 a) [
-      | inl lt ↦ filled_below (start_cell parts 8) 1048576 a lt
-      | inr ge ↦ filled_past (start_cell parts 8) 1048576 a ge
-          ∙ sym (none_if (start_cell parts 8 a) (λ w e. (let lt = in_bounds a w e in omega (arith, lt, ge))))
-    ]
+pub cells_are : (a : ℕ) → cell memory a ≡ start_cell parts 8 a
+cells_are a = elim (cases_lt a 1048576) as (λ _. cell memory a ≡ start_cell parts 8 a) [
+  | inl lt ↦ filled_below (start_cell parts 8) 1048576 a lt
+  | inr ge ↦ filled_past (start_cell parts 8) 1048576 a ge
+      ∙ sym (none_if (start_cell parts 8 a) (λ w e. (let lt = in_bounds a w e in omega (arith, lt, ge))))
+]
 
 -- the regions stand in ascending order already
 spans_rise : AreSpans 0 spans
 unfolding regions_of number_of entry_code call_code return_code
-spans_rise = (
-  omega arith,
-  omega arith,
-  omega arith,
-  (
-    omega arith,
-    omega arith,
-    omega arith,
-    (
-      omega arith,
-      omega arith,
-      omega arith,
-      (omega arith, omega arith, omega arith, (omega arith, omega arith, omega arith, tt)),
-    ),
-  ),
-)
+spans_rise = search (rules, arith)
 
 main_found : main_of parts ≡ Some main
 unfolding number_of entry_code call_code return_code

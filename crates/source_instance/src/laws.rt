@@ -3,7 +3,7 @@ ghost use Rattle.source_instance.specs.There.{SourceThere};
 
 use run_items::laws::events_are_told;
 use source_starts::laws::sources_mean;
-use trace_tool::laws::start_lines_agree;
+use trace_tool::laws::{start_lines_agree, the_headline};
 
 /// There is a module and a part that isn't trusted, which link, and from their start a run in which that
 /// part enters a procedure of the module; the procedure calls out, is answered, and leaves. And by the
@@ -12,6 +12,7 @@ use trace_tool::laws::start_lines_agree;
 pub fn a_source_is_entered()
     ensures { SourceThere }
 {
+    the_headline();
     start_lines_agree();
     sources_mean();
     events_are_told();
