@@ -9,15 +9,26 @@ use std::alloc::{AllocError, Global};
 use std::test::Fail;
 
 // Files, and the run or the trace whose text each holds.
-static FEEDS: [(&str, &str); 3] = [
+static FEEDS: [(&str, &str); 5] = [
     ("bank.feed", "run --stack 64 t:bank.prc u:teller.asm"),
     ("rec.feed", "run --stack 64 t:rec.prc u:gives.asm"),
     ("two.feed", "trace --stack 64 t:two.prc u:enters.asm"),
+    // Cut off in trusted code: before the call, and in a loop.
+    (
+        "begun.feed",
+        "run --stack 64 --steps 80 t:bank.prc u:teller.asm",
+    ),
+    ("spin.feed", "run --stack 64 --steps 100000 t:spin.prc"),
 ];
 
 // Files, and what each holds.
-static TEXTS: [(&str, &str); 4] = [
+static TEXTS: [(&str, &str); 5] = [
     ("cut.prc", "module"),
+    (
+        "spin.prc",
+        "module spin code 4096 data 8192 closure 10 returns 11 0 stack 65536; \
+         export proc main() { while 1 == 1 { } }",
+    ),
     (
         "unknown.prc",
         "module m code 1 data 3 closure 0 returns 1 0 stack 9; proc f() { return x; }",
@@ -26,7 +37,7 @@ static TEXTS: [(&str, &str); 4] = [
     ("short.feed", "halted 0 steps 1\nenter bank\n"),
 ];
 
-static MEANINGS: [Case<'static>; 8] = [
+static MEANINGS: [Case<'static>; 10] = [
     (
         "mean --stack 64 --feed bank.feed t:bank.prc",
         Status::Done,
@@ -44,6 +55,20 @@ static MEANINGS: [Case<'static>; 8] = [
         "mean --stack 64 --steps 11 --feed bank.feed t:bank.prc",
         Status::StepsUsed,
         "fuel ticks 11\n",
+        None,
+    ),
+    // The run told nothing yet of what its source goes on to do.
+    (
+        "mean --stack 64 --feed begun.feed t:bank.prc",
+        Status::Done,
+        "call bank 0 105 0 0 0\nwaiting ticks 12\n",
+        None,
+    ),
+    // A run of 100,000 instructions takes 500 ticks at least.
+    (
+        "mean --stack 64 --steps 499 --feed spin.feed t:spin.prc",
+        Status::StepsUsed,
+        "fuel ticks 499\n",
         None,
     ),
     // What a source is compiled to isn't asked.
@@ -156,11 +181,11 @@ fn add_feed(alloc: Global, files: &mut MemFiles, name: &str, line: &str) -> Resu
 
 fn all_files(alloc: Global) -> Result<MemFiles, AllocError> {
     let mut files = files(alloc)?;
-    for (name, line) in &FEEDS {
-        add_feed(alloc, &mut files, name, line)?;
-    }
     for (name, text) in &TEXTS {
         files.add(name, text.as_bytes())?;
+    }
+    for (name, line) in &FEEDS {
+        add_feed(alloc, &mut files, name, line)?;
     }
     add_long(alloc, &mut files, "long.feed", 4_194_305)?;
     Ok(files)
