@@ -103,15 +103,6 @@ module _ (m : Part) where
             omega (arith, q, lt))
       ]
 
-  pub zero_at : (j : ℕ) → j < pair_count m → slice_get (data_of m) j ≡ Some (Int (pos 0))
-  unfolding data_of
-  zero_at j lt = get-left (replicate (pair_count m) (Int (pos 0))) _ j _ (zeros (pair_count m) j lt)
-    where
-      zeros : (n j : ℕ) → j < n → slice_get (replicate n (Int (pos 0))) j ≡ Some (Int (pos 0))
-      zeros zero j lt = absurd (omega (arith, lt))
-      zeros (suc n) zero lt = refl
-      zeros (suc n) (suc j) lt = zeros n j (omega (arith, lt))
-
   pub global_at : (o : ℕ) (z : ℤ) → slice_get m.globals o ≡ Some z
       → slice_get (data_of m) (pair_count m + o) ≡ Some (Int z)
   unfolding data_of

@@ -63,7 +63,7 @@ use Rattle.source_starts.proofs.Halves.{half_of, trusted_pair}
 use Rattle.source_starts.proofs.Fitted.{globals-length, shares}
 use Rattle.source_starts.proofs.Sourced.{shared_is, procs-length, numbered, fits, code_length}
 use Rattle.source_starts.proofs.Stores.{StoreIs, data_size, sets}
-use Rattle.source_starts.proofs.ModulePairs.{PairWords, ImportPair, OwnCode, OwnData, own_pair, import_pair}
+use Rattle.source_starts.proofs.ModulePairs.{OwnCode, OwnData, own_pair, import_pair}
 use Rattle.source_starts.proofs.ModulePairs.{module_fits}
 use Rattle.source_starts.proofs.ModulePairs.{home_trusted}
 use Rattle.source_starts.proofs.ModulePairs as words

@@ -20,7 +20,7 @@ use Rattle.proc_templates.specs.Compiled.{pair_count, data_count}
 use Rattle.proc_templates.proofs.Limited.{data-length}
 use Rattle.proc_semantics.specs.Values.{Store, word_at, set_word}
 use Rattle.template_runs.proofs.Data.{mem_with, mem_same, mem_other}
-use Rattle.source_starts.proofs.Worlds.{NamesApart, Home, one_home, one_source, one_place}
+use Rattle.source_starts.proofs.Worlds.{NamesApart, Home, one_home, one_place}
 
 -- ---- lists
 
@@ -130,14 +130,6 @@ module _ (modules : List ModuleFields) (g : Link) (linked : Linked g) (apart : N
 
       row_other : (j : ℕ) → j ≢ i → slice_index_or (set_word st i o v) j [] ≡ slice_index_or st j []
       row_other j ne = set_other st i j (slice_set (slice_index_or st i []) o v) [] ne
-
-      same_count : (q : PartSeen) (k : Homed i q) → length (part_of k.source).globals ≡ Count
-      same_count q k = ap (λ (m : ModuleFields). length (part_of m).globals)
-          (one_source modules g.parts i q p k h)
-
-      same_pairs : (q : PartSeen) (k : Homed i q) → pair_count (part_of k.source) ≡ Pairs
-      same_pairs q k = ap (λ (m : ModuleFields). pair_count (part_of m))
-          (one_source modules g.parts i q p k h)
 
       same_base : (q : PartSeen) (k : Homed i q) → q.component.data_base ≡ p.component.data_base
       same_base q k = ap (λ (x : PartSeen). x.component.data_base) (one_place modules g.parts i q p k h)
