@@ -237,7 +237,7 @@ ret_keeps entry line (Some rest) no_enter is h = record {
       subst (λ r. IsRetForm (fields r)) (same_behind (codes "ret out ") line rest more is e)
       (ret_is_form rest (sym (some_map (ret_in rest) Ret) ∙ h));
   pass = λ more yes e.
-    other_front (codes "ret out ") line rest (codes "pass " ++ more) is e (no_pass_ret more);
+      other_front (codes "ret out ") line rest (codes "pass " ++ more) is e (no_pass_ret more);
 }
 ret_keeps entry line None no_enter is h =
     pass_keeps entry line (behind (codes "pass ") line) no_enter is refl h
@@ -250,7 +250,7 @@ enter_keeps entry line (Some rest) is h = record {
       (enter_is_form rest (sym (some_map (enter_in rest) Enter) ∙ h));
   ret = λ more e. other_front (codes "enter ") line rest (codes "ret out " ++ more) is e (no_ret_enter more);
   pass = λ more yes e.
-    other_front (codes "enter ") line rest (codes "pass " ++ more) is e (no_pass_enter more);
+      other_front (codes "enter ") line rest (codes "pass " ++ more) is e (no_pass_enter more);
 }
 enter_keeps entry line None is h = ret_keeps entry line (behind (codes "ret out ") line) is refl h
 
