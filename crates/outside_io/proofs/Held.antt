@@ -36,7 +36,7 @@ find-map q (e ∷ es) =
 pub get-files_of : (m : TextMap) (q : List ℕ) → finite.get (files_of m.entries) q ≡ option_map (λ v. v.items) (tree.get_by_text m q)
 get-files_of m q = finite.get-from_entries nat_list_cmp_total _ q ∙ find-map q m.entries
 
-same_name-bytes_eq : (q name : List ℕ) → eq_by_cmp (slice_cmp nat_cmp) q name ≡ bytes_eq name q
+pub same_name-bytes_eq : (q name : List ℕ) → eq_by_cmp (slice_cmp nat_cmp) q name ≡ bytes_eq name q
 same_name-bytes_eq q name = (eq_by_cmp_equiv nat_list_cmp_total).symm q name ∙ is_eq-slice_cmp name q
 
 get-insert_by_bytes : (files : FilesByName) (name bytes q : List ℕ) → finite.get (finite.insert files name bytes) q ≡ cond (bytes_eq name q) (Some bytes) (finite.get files q)
@@ -102,6 +102,10 @@ fails_nowhere is_set inside calls found file same fails unset there =
 -- a read that failed, for one of the two causes
 pub fails_here : {P : Type 0} → P → (true ≡ true → P) × (P → true ≡ true)
 fails_here p = (λ _. p, λ _. refl)
+
+-- a read that went, of a file that is there
+pub fails_not : {found : Option (List ℕ)} {file : List ℕ} → found ≡ Some file → (false ≡ true → IsNone found) × (IsNone found → false ≡ true)
+fails_not there = (λ e. absurd (false≢true e), λ none. absurd (false≢true (sym none ∙ ap is_some there)))
 
 pub set_call : (is_set : Bool) (inside calls : CallNumbers) → inside ≡ calls → IsTrue is_set ↔ NextFails inside → is_set ≡ true → NextFails calls
 set_call is_set inside calls same fails set = subst NextFails same (fails.0 set)

@@ -1,3 +1,7 @@
+pub mod Filed
+pub mod Filling
 pub mod Held
+pub mod Lying
+pub mod Named
 pub mod Reading
 pub mod Writing

@@ -5,5 +5,8 @@ pub mod FileCounts
 pub mod Host
 pub mod Whole
 pub mod Memory
+pub mod Shelf
+pub mod SafeSink
+pub mod SafeFiles
 pub mod Writes
 pub mod FaultTexts

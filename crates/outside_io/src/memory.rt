@@ -81,7 +81,7 @@ impl MemFiles {
 }
 
 // Copies the bytes of the file from `at` on to the front of `buf`, as many as fit.
-fn copy_part(file: &[u8], at: u64, buf: &mut [u8]) -> usize
+pub(crate) fn copy_part(file: &[u8], at: u64, buf: &mut [u8]) -> usize
     ensures count { result ≡ min (length buf.new) (length file.now - at) }
     ensures bytes { take result buf.new ≡ take result (drop at file.now) }
 {

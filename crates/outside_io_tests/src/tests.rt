@@ -1,8 +1,10 @@
+ghost use Rattle.std.specs.Prelude.{◌<◌, length};
 ghost use Rattle.outside_io.specs.FilesSeen.{IsFileName};
 
 use arrayvec::ArrayVec;
 use outside_io::{
-    Failed, Files, HostFiles, HostSink, LONGEST_NAME, MemFiles, MemSink, ReadEnd, Sink, read_whole,
+    Failed, Files, HostFiles, HostSink, LONGEST_NAME, MemFiles, MemSink, ReadEnd, SafeFiles,
+    SafeSink, Sink, read_whole,
 };
 use std::alloc::{AllocError, AllocGlobal, Global};
 use std::cell::RefCell;
@@ -104,6 +106,12 @@ fn length_read(
     Ok((length, files.counts().reads()))
 }
 
+fn length_reserved(rt: &impl Abort, alloc: Global) -> Result<usize, Fail> {
+    let mut files = SafeFiles::reserve(alloc, 1, 6)?;
+    assert!(rt; files.add("a", b"hello"));
+    Ok(read_whole(alloc, &mut files, "a", 5)?.len())
+}
+
 #[test]
 fn a_whole_file_is_read_up_to_the_limit(rt: HostRuntime) -> Result<(), Fail> {
     let alloc = rt.alloc();
@@ -114,6 +122,7 @@ fn a_whole_file_is_read_up_to_the_limit(rt: HostRuntime) -> Result<(), Fail> {
         length_read(alloc, 40_000, 39_999)?,
         (Err(ReadEnd::TooLong), 3)
     );
+    assert_eq!(rt; length_reserved(&rt, alloc)?, 5);
     Ok(())
 }
 
@@ -270,5 +279,97 @@ fn a_line_goes_to_the_standard_output(rt: HostRuntime) -> Result<(), Fail> {
     let mut sink = HostSink::new(&rt);
     sink.write(b"written\n")?;
     assert_eq!(rt; (sink.writes(), sink.faults()), (1, 0));
+    Ok(())
+}
+
+fn write_to<S: Sink>(sink: &mut S, piece: &str) -> Result<(), Failed>
+    requires { 0 < length piece.now }
+{
+    sink.write(piece.as_bytes())
+}
+
+// A write to the sink gives `want`, and leaves it with these bytes and counts.
+fn writes<const ROOM: usize>(
+    rt: &impl Abort,
+    sink: &mut SafeSink<ROOM>,
+    piece: &str,
+    want: Result<(), Failed>,
+    left: &str,
+    counts: (u64, u64),
+)
+    requires { 0 < length piece.now }
+{
+    assert_eq!(rt; write_to(sink, piece), want);
+    assert_eq!(rt; sink.bytes(), left.as_bytes());
+    assert_eq!(rt; (sink.writes(), sink.faults()), counts);
+}
+
+fn fill(rt: &impl Abort, five: &mut SafeSink<5>, four: &mut SafeSink<4>, none: &mut SafeSink<0>) {
+    writes(rt, five, "abc", Ok(()), "abc", (1, 0));
+    writes(rt, five, "de", Ok(()), "abcde", (2, 0));
+    writes(rt, five, "f", Err(Failed), "abcde", (3, 1));
+    writes(rt, five, "gh", Err(Failed), "abcde", (4, 2));
+    writes(rt, four, "abc", Ok(()), "abc", (1, 0));
+    writes(rt, four, "de", Err(Failed), "abcd", (2, 1));
+    writes(rt, none, "a", Err(Failed), "", (1, 1));
+}
+
+#[test]
+fn a_reserved_sink_takes_what_fits(rt: HostRuntime) -> Result<(), Fail> {
+    let mut five = SafeSink::reserve(rt.alloc())?;
+    let mut four = SafeSink::reserve(rt.alloc())?;
+    let mut none = SafeSink::reserve(rt.alloc())?;
+    fill(&rt, &mut five, &mut four, &mut none);
+    Ok(())
+}
+
+// Reads of the file from the byte `at` on, four bytes at most.
+fn reads(rt: &impl Abort, files: &mut SafeFiles, name: &str, at: u64, want: &str)
+    requires { IsFileName name.now }
+{
+    let mut buf = [0; 4];
+    assert_eq!(rt; files.read(name, at, &mut buf), Ok(want.len()));
+    assert!(rt; buf.starts_with(want.as_bytes()));
+}
+
+// Two files at most, and ten bytes of names and contents.
+fn add_within(rt: &impl Abort, files: &mut SafeFiles) {
+    assert!(rt; files.add("a", b"12345"));
+    assert!(rt; files.add("b", b"678"));
+    assert!(rt; !files.add("b", b"6789"));
+    reads(rt, files, "b", 0, "678");
+    assert!(rt; files.add("b", b""));
+    assert!(rt; !files.add("c", b""));
+    assert!(rt; files.add("a", b"hello777"));
+    assert!(rt; !files.add("a", b"too long."));
+    reads(rt, files, "a", 0, "hell");
+    reads(rt, files, "a", 4, "o777");
+    reads(rt, files, "a", 7, "7");
+    reads(rt, files, "a", 8, "");
+    reads(rt, files, "b", 0, "");
+    assert_eq!(rt; (files.counts().reads(), files.counts().given()), (6, 12));
+}
+
+fn put_within(rt: &impl Abort, files: &mut SafeFiles) {
+    assert_eq!(rt; files.put("c", b"x"), Err(Failed));
+    assert_eq!(rt; files.put("a", b"hi"), Ok(()));
+    assert_eq!(rt; files.put("bb", b""), Err(Failed));
+    assert_eq!(rt; files.put("b", b"12345"), Ok(()));
+    reads(rt, files, "a", 0, "hi");
+    reads(rt, files, "b", 1, "2345");
+    assert_eq!(rt; files.read("bb", 0, &mut [0; 4]), Err(Failed));
+    let counts = files.counts();
+    assert_eq!(rt; (counts.failed_puts(), counts.last_failed_put()), (2, "bb"));
+    assert_eq!(rt;
+        (counts.failed_reads(), counts.last_failed_read()),
+        (1, "bb")
+    );
+}
+
+#[test]
+fn reserved_files_keep_within_their_numbers(rt: HostRuntime) -> Result<(), Fail> {
+    let mut files = SafeFiles::reserve(rt.alloc(), 2, 10)?;
+    add_within(&rt, &mut files);
+    put_within(&rt, &mut files);
     Ok(())
 }

@@ -1,0 +1,11 @@
+use Rattle.std.proofs.Common.{◌≡◌, ◌+◌, ◌++◌, take, vec_len, vec_capacity}
+use Rattle.std.specs.Vec.{vec_ptr}
+use Rattle.outside_io.proofs.reserved.append.Given as goal
+
+abbrev pub invariant-loop-byte : goal.invariant-loop-byte
+invariant-loop-byte l = record {
+  items : l.bytes.items ≡ l.fn.bytes.items ++ take l.byte-index l.piece;
+  len : vec_len l.bytes ≡ vec_len l.fn.bytes + l.byte-index;
+  capacity : vec_capacity l.bytes ≡ vec_capacity l.fn.bytes;
+  in_place : vec_ptr l.bytes ≡ vec_ptr l.fn.bytes;
+}
