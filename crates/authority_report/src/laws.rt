@@ -1,0 +1,30 @@
+//! Laws of runs and of reports. The functions do nothing: what is said stands in their clauses.
+ghost use Rattle.authority_report.specs.Bounds.{WordsBoundRuns};
+ghost use Rattle.authority_report.specs.Entered.{HalvesUnsealed, ReportsBoundRuns};
+ghost use Rattle.authority_report.specs.One.{ReportsAreOne, TextsAreOne};
+
+/// A run does no more than the words allow that it begins with.
+///
+/// Let the words of all registers, and of all cells that may be read, give no more than an authority.
+/// Then each step fetches, loads, stores, empties and seals only as the authority allows, up to and with
+/// the first that jumps under a seal that isn't an own one; and each cell that may not be written stays.
+pub fn words_bound_runs()
+    ensures { WordsBoundRuns }
+{}
+
+/// A part runs within what is reported of it.
+///
+/// Let a program begin at one of the part's entries, with its data. Then, up to and with the first jump
+/// under a seal that isn't the part's, each cell that a step fetches can be run, each that it loads can be
+/// read, each that it stores to or empties can be written, and what it seals with is a seal of the
+/// report. Each cell that can't be written is as at the start.
+pub fn reports_bound_runs()
+    ensures bound { ReportsBoundRuns }
+    ensures halves { HalvesUnsealed }
+{}
+
+/// There is one report of a part, and so there is one text of the reports of a start.
+pub fn reports_are_one()
+    ensures report { ReportsAreOne }
+    ensures text { TextsAreOne }
+{}

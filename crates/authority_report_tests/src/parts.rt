@@ -1,0 +1,86 @@
+//! Parts of texts, their starts, and what is told of them.
+ghost use Rattle.authority_report.specs.Entered.{IsLinked};
+
+use assembler::assemble;
+use authority_report::reach_text;
+use component_linker::{Part, Start, accept, link};
+use proc_sources::component_of;
+use std::alloc::{AllocError, Global};
+use std::process::Abort;
+
+/// A part that is assembled of a text.
+pub(crate) fn assembled(rt: &impl Abort, alloc: Global, text: &str, trusted: bool) -> Part {
+    assert!(rt; text.len() < 4_000_000);
+    let Ok(component) = assemble(alloc, text.as_bytes()) else {
+        panic!(rt; "not assembled");
+    };
+    match accept(component, trusted) {
+        Ok(part) => part,
+        Err(broken) => panic!(rt; "{broken}"),
+    }
+}
+
+/// A trusted part that is compiled of a source.
+pub(crate) fn compiled(rt: &impl Abort, alloc: Global, text: &str) -> Part {
+    assert!(rt; text.len() < 4_000_000);
+    let Ok(component) = component_of(alloc, text.as_bytes()) else {
+        panic!(rt; "not compiled");
+    };
+    match accept(component, true) {
+        Ok(part) => part,
+        Err(broken) => panic!(rt; "{broken}"),
+    }
+}
+
+/// The start of parts, with a stack of so many words.
+pub(crate) fn linked(rt: &impl Abort, alloc: Global, parts: &[Part], size: u32) -> Start
+    ensures { IsLinked result }
+{
+    assert!(rt; parts.len() < 100);
+    match link(alloc, parts, size) {
+        Ok(start) => start,
+        Err(_) => panic!(rt; "not linked"),
+    }
+}
+
+// What is told of parts is this text.
+fn tells(rt: &impl Abort, alloc: Global, parts: &[Part], size: u32, wanted: &str) {
+    let start = linked(rt, alloc, parts, size);
+    let Ok(text) = reach_text(alloc, &start) else {
+        panic!(rt; "no memory");
+    };
+    match std::str::from_utf8(text.as_slice()) {
+        Ok(text) => assert_eq!(rt; text, wanted),
+        Err(_) => panic!(rt; "not a text"),
+    }
+}
+
+/// What is told of one part is this text.
+pub(crate) fn one_tells(
+    rt: &impl Abort,
+    alloc: Global,
+    part: Part,
+    size: u32,
+    wanted: &str,
+) -> Result<(), AllocError> {
+    let mut parts = Vec::new(alloc);
+    parts.push(part)?;
+    tells(rt, alloc, &parts, size, wanted);
+    Ok(())
+}
+
+/// What is told of two parts is this text.
+pub(crate) fn two_tell(
+    rt: &impl Abort,
+    alloc: Global,
+    first: Part,
+    second: Part,
+    size: u32,
+    wanted: &str,
+) -> Result<(), AllocError> {
+    let mut parts = Vec::new(alloc);
+    parts.push(first)?;
+    parts.push(second)?;
+    tells(rt, alloc, &parts, size, wanted);
+    Ok(())
+}

@@ -1,0 +1,185 @@
+-- One stretch more is taken.
+use Rattle.std.proofs.Common.{◌≡◌, ◌⊎◌, ℕ, ◌+◌, ◌<◌, ◌≤◌, Bool, true, false, ◌&&◌, ◌||◌, List, [], ◌∷◌}
+use Rattle.std.proofs.Common.{◌++◌, refl, sym, ap, ◌∙◌, arith, inl, inr, length-append}
+use Rattle.std.specs.Prelude.{nat_le, nat_lt}
+use Rattle.std.proofs.lemmas.Bool.{cases_lt, lt-ltb, le-leb, le-ltb, lt-leb, or_cases}
+use Rattle.std.proofs.Math.Bool.{or-true, or-false}
+use Rattle.std.proofs.lemmas.List.Folds.{list_any-append}
+use Rattle.cap_words.specs.declared.TheConstants.{LAST_PLACE}
+use Rattle.place_sets.specs.declared.set.Stretch.{Stretch}
+use Rattle.place_sets.specs.Has.{has}
+use Rattle.place_sets.specs.Takes.{is_left, Takes}
+use Rattle.place_sets.proofs.FreeLemmas.{fewer_free, no_more_free}
+
+-- the places of a stretch below another place
+abbrev pub below_in : ℕ → ℕ → ℕ → ℕ → Bool
+below_in base end from a = nat_le base a && (nat_lt a from && nat_le a end)
+
+pub takes_none : (old : List ℕ) (left : List Stretch) (base end : ℕ)
+    → Takes (below_in base end base) old left old left
+takes_none old left base end = record {
+  taken = λ a. none a;
+  kept = λ a h. h;
+  fresh = λ a e h. absurd (let f : false ≡ true = sym e ∙ h in cc);
+  only = λ a h. inl h;
+  fewer = omega arith;
+}
+  where
+    none : (a : ℕ) → has old a ≡ (below_in base end base a || has old a)
+    none a = elim (cases_lt a base) as (λ _. has old a ≡ (below_in base end base a || has old a)) [
+      | inl lt ↦ rw (lt-leb base a lt) refl
+      | inr ge ↦ rw (le-leb base a ge, le-ltb a base ge) refl
+    ]
+
+module _ (old : List ℕ) (left : List Stretch) (base end from : ℕ) (new : List ℕ) (more : List Stretch)
+    (low : base ≤ from) (takes : Takes (below_in base end from) old left new more) where
+  -- a list that has the same places
+  takes_as : (next : List ℕ) → ((a : ℕ) → has next a ≡ has new a)
+      → Takes (below_in base end from) old left next more
+  takes_as next same = record {
+    taken = λ a. same a ∙ takes.taken a;
+    kept = takes.kept;
+    fresh = λ a e h. takes.fresh a e (sym (same a) ∙ h);
+    only = λ a h. elim (takes.only a h) as (λ _. (is_left left a ≡ true) ⊎ (has next a ≡ true)) [
+      | inl k ↦ inl k
+      | inr k ↦ inr (same a ∙ k)
+    ];
+    fewer = (
+        let k = no_more_free new next (λ a h. same a ∙ h) (LAST_PLACE + 1) in
+        let f = takes.fewer in
+        omega (arith, k, f)
+        );
+  }
+
+  -- where the rest is there already
+  takes_rest : ((a : ℕ) → from ≤ a → a ≤ end → has new a ≡ true)
+      → Takes (λ a. nat_le base a && nat_le a end) old left new more
+  takes_rest rest = record {
+    taken = all;
+    kept = takes.kept;
+    fresh = takes.fresh;
+    only = takes.only;
+    fewer = takes.fewer;
+  }
+    where
+      all : (a : ℕ) → has new a ≡ ((nat_le base a && nat_le a end) || has old a)
+      all a = elim (cases_lt a base) as (λ _. has new a ≡ ((nat_le base a && nat_le a end) || has old a)) [
+        | inl lt ↦ takes.taken a ∙ rw (lt-leb base a lt) refl
+        | inr ge ↦
+            elim (cases_lt end a) as (λ _. has new a ≡ ((nat_le base a && nat_le a end) || has old a)) [
+              | inl out ↦ takes.taken a ∙ rw (le-leb base a ge, lt-leb a end out)
+                  (both (nat_lt a from) (has old a))
+              | inr in_it ↦
+                  elim (cases_lt a from) as (λ _. has new a ≡ ((nat_le base a && nat_le a end) || has old a)) [
+                    | inl before ↦ takes.taken a ∙ rw (le-leb base a ge, le-leb a end in_it, lt-ltb a from before)
+                        refl
+                    | inr after ↦ rest a after in_it ∙ rw (le-leb base a ge, le-leb a end in_it) refl
+                  ]
+            ]
+      ]
+        where
+          both : (b c : Bool) → ((true && (b && false)) || c) ≡ ((true && false) || c)
+          both true c = refl
+          both false c = refl
+
+  module _ (s : Stretch) (next : List ℕ) (bounds : (from ≤ s.base) × (s.base ≤ s.end) × (s.end ≤ end))
+      (small : end ≤ LAST_PLACE)
+      (before : (a : ℕ) → from ≤ a → a < s.base → has new a ≡ true)
+      (free : (a : ℕ) → s.base ≤ a → a ≤ s.end → has new a ≡ false)
+      (now : (a : ℕ) → has next a ≡ ((nat_le s.base a && nat_le a s.end) || has new a)) where
+    grown : (a : ℕ) → has new a ≡ true → has next a ≡ true
+    grown a h = now a ∙ rw h (or-true (nat_le s.base a && nat_le a s.end))
+
+    first : has next s.base ≡ true
+    first = let b = bounds.1 in now s.base ∙ rw (le-leb s.base s.base (omega arith), le-leb s.base s.end b)
+        refl
+
+    taken' : (a : ℕ) → has next a ≡ (below_in base end (s.end + 1) a || has old a)
+    taken' a =
+        let x = bounds.0 in
+        let y = bounds.1 in
+        let z = bounds.2 in
+        elim (cases_lt a from) as (λ _. has next a ≡ (below_in base end (s.end + 1) a || has old a)) [
+          | inl lt ↦
+              (now a ∙ rw (lt-leb s.base a (omega (arith, lt, x))) (takes.taken a
+              ∙ rw (lt-ltb a from lt, lt-ltb a (s.end + 1) (omega (arith, lt, x, y))) refl))
+          | inr ge ↦
+              elim (cases_lt s.end a) as (λ _. has next a ≡ (below_in base end (s.end + 1) a || has old a)) [
+                | inl past ↦
+                    (now a ∙ rw (lt-leb a s.end past) (ap (λ b. b || has new a) (none (nat_le s.base a))
+                    ∙ takes.taken a ∙ rw (le-ltb a from ge, le-ltb a (s.end + 1) (omega (arith, past))) refl))
+                | inr in_it ↦
+                    elim (cases_lt a s.base) as (λ _. has next a
+                    ≡ (below_in base end (s.end + 1) a || has old a)) [
+                      | inl mid ↦ grown a (before a ge mid)
+                          ∙ rw (
+                            le-leb base a (omega (arith, ge, low)),
+                            lt-ltb a (s.end + 1) (omega (arith, in_it)),
+                            le-leb a end (omega (arith, in_it, z)),
+                          ) refl
+                      | inr inside ↦ now a ∙ rw (
+                        le-leb s.base a inside,
+                        le-leb a s.end in_it,
+                        le-leb base a (omega (arith, ge, low)),
+                        lt-ltb a (s.end + 1) (omega (arith, in_it)),
+                        le-leb a end (omega (arith, in_it, z)),
+                      ) refl
+                    ]
+              ]
+        ]
+      where
+        none : (b : Bool) → (b && false) ≡ false
+        none true = refl
+        none false = refl
+
+    left_more : (a : ℕ) → is_left (more ++ s ∷ []) a
+        ≡ (is_left more a || ((nat_le s.base a && nat_le a s.end) || false))
+    left_more a = list_any-append (λ s. nat_le s.base a && nat_le a s.end) more (s ∷ [])
+
+    kept' : (a : ℕ) → is_left more a ≡ true → is_left (more ++ s ∷ []) a ≡ true
+    kept' a h = left_more a ∙ rw h refl
+
+    fresh' : (a : ℕ) → has old a ≡ false → has next a ≡ true → is_left (more ++ s ∷ []) a ≡ true
+    fresh' a e h = elim (or_cases (nat_le s.base a && nat_le a s.end) (has new a) (sym (now a) ∙ h)) as (λ _.
+        is_left (more ++ s ∷ []) a ≡ true) [
+          | inl mine ↦ left_more a ∙ rw mine (or-true (is_left more a))
+          | inr there ↦ kept' a (takes.fresh a e there)
+        ]
+
+    only' : (a : ℕ) → is_left (more ++ s ∷ []) a ≡ true → (is_left left a ≡ true) ⊎ (has next a ≡ true)
+    only' a h = elim (or_cases (is_left more a) _ (sym (left_more a) ∙ h)) as (λ _. (is_left left a ≡ true)
+        ⊎ (has next a ≡ true)) [
+          | inl there ↦
+              elim (takes.only a there) as (λ _. (is_left left a ≡ true) ⊎ (has next a ≡ true)) [
+                | inl k ↦
+                    inl k
+                | inr k ↦ inr (grown a k)
+              ]
+          | inr mine ↦ inr (now a ∙ rw (sym (or-false (nat_le s.base a && nat_le a s.end)) ∙ mine) refl)
+        ]
+
+    pub takes_more : Takes (below_in base end (s.end + 1)) old left next (more ++ s ∷ [])
+    takes_more = record {
+      taken = taken';
+      kept = λ a h. kept' a (takes.kept a h);
+      fresh = fresh';
+      only = only';
+      fewer = (
+          let k = fewer_free new next grown (LAST_PLACE + 1) s.base (let b = bounds in let x = b.1 in
+          let y = b.2 in omega (arith, x, y, small)) (free s.base (omega arith) bounds.1) first in
+          let f = takes.fewer in
+          let l = length-append more (s ∷ []) in
+          omega (arith, k, f, l)
+          );
+    }
+
+-- nothing is free in the rest of the stretch
+pub takes_all : (old : List ℕ) (left : List Stretch) (base end from : ℕ) (new next : List ℕ)
+    (more : List Stretch)
+    → base ≤ from → Takes (below_in base end from) old left new more → ((a : ℕ) → has next a ≡ has new a)
+    → ((a : ℕ) → from ≤ a → a ≤ end → has new a ≡ true)
+    → Takes (λ a. nat_le base a && nat_le a end) old left next more
+takes_all old left base end from new next more low takes same rest =
+    takes_rest old left base end from next more low
+    (takes_as old left base end from new more low takes next same)
+    (λ a l h. same a ∙ rest a l h)
