@@ -1,0 +1,4 @@
+pub mod FaultText
+pub mod Commands
+pub mod Script
+pub mod Laws
