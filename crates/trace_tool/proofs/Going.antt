@@ -43,7 +43,7 @@ pieces_grow : (l : Layout) (r : Run) (n : ℕ)
 pieces_grow l r n = lines_pieces-append (lines_of l (begun r) n) (line_next l (watched l (begun r) n))
 
 -- once the machine has ended, there are no more lines
-abbrev HasEnded : Run → Type 0
+abbrev pub HasEnded : Run → Type 0
 HasEnded r = answer r ≡ Went → ⊥
 
 end_of_ended : (r : Run) → HasEnded r → (o : Option End) → r.end ≡ o → (e : End) × (r.end ≡ Some e)
@@ -58,7 +58,7 @@ not_went Went x y ended = absurd (ended refl)
 not_went Halted x y ended = refl
 not_went (Failed cause at) x y ended = refl
 
-no_line : (l : Layout) (w : Watched) → HasEnded (next_state w.run) → line_next l w ≡ []
+pub no_line : (l : Layout) (w : Watched) → HasEnded (next_state w.run) → line_next l w ≡ []
 unfolding line_next
 no_line l w ended = ap (lines_for l (view_of (next_state w.run).maps)) (not_went (answer (next_state w.run)) (event_after l (noted l w.run.maps) w.inward (view_of (next_state w.run).maps)) None ended)
 
@@ -73,42 +73,82 @@ no_more_lines l r i (suc n) le ended = elim (cases_lt n i) as (λ _. lines_of l 
       ap (λ x. lines_of l (begun r) n ++ x) none ∙ append-nil (lines_of l (begun r) n) ∙ no_more_lines l r i n below ended)
 ]
 
--- n instructions went, and their lines were written
-pub record Going (init : StartSeen) (sink : SinkSeen) (n : ℕ) (start : StartSeen) (inward : Bool) (now : SinkSeen) : Type 0 where
+-- n instructions went
+pub record Gone (init : StartSeen) (n : ℕ) (start : StartSeen) (inward : Bool) : Type 0 where
   pub same : start ≡ record init { state = start.state }
   pub at : watching start inward ≡ watched (layout init) (begun init.state) n
   pub went : answer start.state ≡ Went
   pub count : start.state.count ≤ init.state.count + n
-  pub told : AddsPieces sink (pieces_upto (layout init) init.state n) now
 
-pub going_none : (init : StartSeen) (sink : SinkSeen) → init.state.end ≡ None
-    → Going init sink 0 init false sink
-going_none init sink fresh = record {
+pub gone_none : (init : StartSeen) → init.state.end ≡ None → Gone init 0 init false
+gone_none init fresh = record {
   same = refl;
   at = refl;
   went = ap answer_by fresh;
   count = omega arith;
-  told = pieces_none sink;
 }
 
-going_layout : (init : StartSeen) (sink : SinkSeen) (n : ℕ) (start : StartSeen) (inward : Bool) (now : SinkSeen)
-    → Going init sink n start inward now → layout start ≡ layout init
-going_layout init sink n start inward now g = ap layout g.same
+gone_layout : (init : StartSeen) (n : ℕ) (start : StartSeen) (inward : Bool) → Gone init n start inward
+    → layout start ≡ layout init
+gone_layout init n start inward g = ap layout g.same
 
-going_line : (init : StartSeen) (sink : SinkSeen) (n : ℕ) (start : StartSeen) (inward : Bool) (now : SinkSeen)
-    → Going init sink n start inward now
-    → line_next (layout start) (watching start inward) ≡ line_next (layout init) (watched (layout init) (begun init.state) n)
-going_line init sink n start inward now g =
-    ap (λ l. line_next l (watching start inward)) (going_layout init sink n start inward now g) ∙ ap (line_next (layout init)) g.at
+-- the lines of one instruction more
+pub gone_line : (init : StartSeen) (n : ℕ) (start : StartSeen) (inward : Bool) → Gone init n start inward
+    → line_next (layout start) (watching start inward)
+    ≡ line_next (layout init) (watched (layout init) (begun init.state) n)
+gone_line init n start inward g =
+    ap (λ l. line_next l (watching start inward)) (gone_layout init n start inward g)
+    ∙ ap (line_next (layout init)) g.at
+
+-- the state
+pub gone_run : (init : StartSeen) (n : ℕ) (start : StartSeen) (inward : Bool) → Gone init n start inward
+    → start.state ≡ plain n init.state
+gone_run init n start inward g =
+    ap (λ (w : Watched). w.run) g.at ∙ watched_run (layout init) init.state n
+
+pub gone_same : (init : StartSeen) (n : ℕ) (start : StartSeen) (inward : Bool) → Gone init n start inward
+    → start ≡ record init { state = plain n init.state }
+gone_same init n start inward g =
+    g.same ∙ ap (λ (x : Run). let t : StartSeen = record init { state = x } in t)
+    (gone_run init n start inward g)
 
 -- the state after one instruction more
-pub next_same : (init : StartSeen) (sink : SinkSeen) (n : ℕ) (start : StartSeen) (inward : Bool) (now : SinkSeen) (next : StartSeen)
-    → Going init sink n start inward now
-    → next ≡ record start { state = next_state start.state }
+pub next_same : (init : StartSeen) (n : ℕ) (start : StartSeen) (inward : Bool) (next : StartSeen)
+    → Gone init n start inward → next ≡ record start { state = next_state start.state }
     → next ≡ record init { state = plain (suc n) init.state }
-next_same init sink n start inward now next g e =
-    let run : start.state ≡ plain n init.state = ap (λ (w : Watched). w.run) g.at ∙ watched_run (layout init) init.state n in
-    e ∙ ap (λ (s : StartSeen). let t : StartSeen = record s { state = next_state start.state } in t) g.same ∙ ap (λ (r : Run). let t : StartSeen = record init { state = next_state r } in t) run
+next_same init n start inward next g e =
+    e ∙ ap (λ (s : StartSeen). let t : StartSeen = record s { state = next_state start.state } in t) g.same
+    ∙ ap (λ (r : Run). let t : StartSeen = record init { state = next_state r } in t)
+    (gone_run init n start inward g)
+
+pub gone_more : (init : StartSeen) (n : ℕ) (start : StartSeen) (inward : Bool) (next : StartSeen)
+    (inward2 : Bool) → Gone init n start inward → next ≡ record start { state = next_state start.state }
+    → inward2 ≡ (watched_next (layout start) (watching start inward)).inward
+    → answer (next_state start.state) ≡ Went → Gone init (n + 1) next inward2
+gone_more init n start inward next inward2 g e i went =
+    let state : next.state ≡ next_state start.state = ap (λ (s : StartSeen). s.state) e in
+    let same = next_same init n start inward next g e in
+    rw add-one (record {
+      same = same ∙ ap (λ (r : Run). let t : StartSeen = record init { state = r } in t)
+          (sym (ap (λ (s : StartSeen). s.state) same));
+      at = ap (λ (r : Run). let t : Watched = record { run = r; inward = inward2 } in t) state
+          ∙ ap (λ (b : Bool). let t : Watched = record { run = next_state start.state; inward = b } in t) i
+          ∙ ap (λ l. watched_next l (watching start inward)) (gone_layout init n start inward g)
+          ∙ ap (watched_next (layout init)) g.at;
+      went = ap answer state ∙ went;
+      count = (
+          let a : next.state.count ≡ (next_state start.state).count = ap (λ (r : Run). r.count) state in
+          let b : (next_state start.state).count ≤ start.state.count + 1 = count_next start.state in
+          let k : start.state.count ≤ init.state.count + n = g.count in
+          omega arith
+          );
+    })
+
+-- and their lines were written
+pub record Going (init : StartSeen) (sink : SinkSeen) (n : ℕ) (start : StartSeen) (inward : Bool)
+    (now : SinkSeen) : Type 0 where
+  pub gone : Gone init n start inward
+  pub told : AddsPieces sink (pieces_upto (layout init) init.state n) now
 
 pub going_more : (init : StartSeen) (sink : SinkSeen) (n : ℕ) (start : StartSeen) (inward : Bool) (now : SinkSeen) (next : StartSeen) (inward2 : Bool) (after : SinkSeen)
     → Going init sink n start inward now
@@ -117,19 +157,11 @@ pub going_more : (init : StartSeen) (sink : SinkSeen) (n : ℕ) (start : StartSe
     → answer (next_state start.state) ≡ Went
     → AddsPieces now (lines_pieces (line_next (layout start) (watching start inward))) after
     → Going init sink (n + 1) next inward2 after
-going_more init sink n start inward now next inward2 after g e i went w =
-    let state : next.state ≡ next_state start.state = ap (λ (s : StartSeen). s.state) e in
-    rw add-one (record {
-      same = next_same init sink n start inward now next g e ∙ ap (λ (r : Run). let t : StartSeen = record init { state = r } in t) (sym (ap (λ (s : StartSeen). s.state) (next_same init sink n start inward now next g e)));
-      at =
-          ap (λ (r : Run). let t : Watched = record { run = r; inward = inward2 } in t) state
-          ∙ ap (λ (b : Bool). let t : Watched = record { run = next_state start.state; inward = b } in t) i
-          ∙ ap (λ l. watched_next l (watching start inward)) (going_layout init sink n start inward now g)
-          ∙ ap (watched_next (layout init)) g.at;
-      went = ap answer state ∙ went;
-      count = (let a : next.state.count ≡ (next_state start.state).count = ap (λ (r : Run). r.count) state in let b : (next_state start.state).count ≤ start.state.count + 1 = count_next start.state in let k : start.state.count ≤ init.state.count + n = g.count in omega arith);
-      told = rw (pieces_grow (layout init) init.state n) (pieces_then sink now after _ _ g.told (subst (λ x. AddsPieces now (lines_pieces x) after) (going_line init sink n start inward now g) w));
-    })
+going_more init sink n start inward now next inward2 after g e i went w = record {
+  gone = gone_more init n start inward next inward2 g.gone e i went;
+  told = rw (add-one, pieces_grow (layout init) init.state n) (pieces_then sink now after _ _ g.told
+      (subst (λ x. AddsPieces now (lines_pieces x) after) (gone_line init n start inward g.gone) w));
+}
 
 -- the pieces of a run are its text
 run_joined : (l : Layout) (r : Run) (n : ℕ) → concat (run_pieces l r n) ≡ run_text l r n
@@ -154,9 +186,9 @@ pub line_fails : (init : StartSeen) (sink : SinkSeen) (n steps : ℕ) (start : S
     → FailsAtPiece now (lines_pieces (line_next (layout start) (watching start inward))) after
     → Runs init steps sink next after WriteFault
 line_fails init sink n steps start inward now next after g lt e f =
-    let mine : FailsAtPiece now (pieces_next (layout init) init.state n) after = subst (λ x. FailsAtPiece now (lines_pieces x) after) (going_line init sink n start inward now g) f in
+    let mine : FailsAtPiece now (pieces_next (layout init) init.state n) after = subst (λ x. FailsAtPiece now (lines_pieces x) after) (gone_line init n start inward g.gone) f in
     record {
-      made = (suc n, (omega arith), next_same init sink n start inward now next g e);
+      made = (suc n, (omega arith), next_same init n start inward next g.gone e);
       at = inl (n, refl, (now, g.told, mine));
       text = run_text_fails (layout init) init.state steps sink after
           (run_fails (layout init) init.state sink after (suc n) steps (omega arith)
@@ -221,8 +253,8 @@ pub ends_running : (init : StartSeen) (sink : SinkSeen) (n : ℕ) (start : Start
     → Going init sink n start inward now
     → line ≡ end_line start.state → EndsBy now line Running after result → Runs init n sink start after result
 ends_running init sink n start inward now after line result g last e =
-    let run : start.state ≡ plain n init.state = ap (λ (w : Watched). w.run) g.at ∙ watched_run (layout init) init.state n in
-    ends init sink n n start now after Went line result (omega arith) (g.same ∙ ap (λ (x : Run). let t : StartSeen = record init { state = x } in t) run) refl refl g.told (sym g.went) last e
+    ends init sink n n start now after Went line result (omega arith) (gone_same init n start inward g.gone)
+    refl refl g.told (sym g.gone.went) last e
 
 -- the machine ended
 pub ends_early : (init : StartSeen) (sink : SinkSeen) (n steps : ℕ) (start : StartSeen) (inward : Bool) (now : SinkSeen) (next : StartSeen) (mid after : SinkSeen) (step : Step) (line : List ℕ) (result : RunEnd)
@@ -232,13 +264,13 @@ pub ends_early : (init : StartSeen) (sink : SinkSeen) (n steps : ℕ) (start : S
     → line ≡ end_line next.state → EndsBy mid line (end_of step) after result
     → Runs init steps sink next after result
 ends_early init sink n steps start inward now next mid after step line result g lt e is ended w last f =
-    let same = next_same init sink n start inward now next g e in
+    let same = next_same init n start inward next g.gone e in
     let state : next.state ≡ plain (suc n) init.state = ap (λ (s : StartSeen). s.state) same in
     let answers : step ≡ answer next.state = is ∙ ap answer (sym (ap (λ (s : StartSeen). s.state) e)) in
     let over : HasEnded (plain (suc n) init.state) = λ k. ended (answers ∙ ap answer state ∙ k) in
     ends init sink (suc n) steps next mid after step line result (omega arith) same
     (no_more_lines (layout init) init.state (suc n) steps (omega arith) over) (stays_ended (suc n) steps init.state (omega arith) over)
-    (rw (pieces_grow (layout init) init.state n) (pieces_then sink now mid _ _ g.told (subst (λ x. AddsPieces now (lines_pieces x) mid) (going_line init sink n start inward now g) w)))
+    (rw (pieces_grow (layout init) init.state n) (pieces_then sink now mid _ _ g.told (subst (λ x. AddsPieces now (lines_pieces x) mid) (gone_line init n start inward g.gone) w)))
     answers last f
 
 -- the line of an instruction that went

@@ -3,6 +3,7 @@ mod LineLemmas
 mod Names
 mod Shown
 pub mod Going
+pub mod Counting
 pub mod Split
 pub mod Tracing
 mod Untrusted

@@ -8,6 +8,7 @@ pub mod Pairs
 pub mod Texts
 pub mod EndLines
 pub mod Runs
+pub mod Counts
 pub mod Traces
 pub mod Told
 pub mod Alike

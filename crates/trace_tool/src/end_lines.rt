@@ -1,7 +1,8 @@
-//! The line that a run ends with.
-ghost use Rattle.std.specs.Prelude.{◌≡◌, ◌+◌, ◌≤◌, ◌<◌, length, ◌++◌};
+//! The line that a run ends with, and other lines that tell where a machine is.
+ghost use Rattle.std.specs.Prelude.{◌≡◌, ◌+◌, ◌≤◌, ◌<◌, length, ◌++◌, codes};
 ghost use Rattle.arrayvec.specs.ArrayString.{array_string_len};
 ghost use Rattle.lcm_isa.specs.declared.Reg.TheVariants.{Pc};
+ghost use Rattle.lcm_machine.specs.Places.{reg};
 ghost use Rattle.lcm_machine.specs.Run.{answer};
 ghost use Rattle.trace_tool.specs.EndLines.{cause_text, pc_text, steps_text, halted_text, failed_text, failed_by_text};
 ghost use Rattle.trace_tool.specs.EndLines.{running_text, end_line};
@@ -12,8 +13,8 @@ use itoa::Buffer;
 use lcm_isa::Reg;
 use lcm_machine::{FailCause, LcmState, Step};
 
-/// The longest end line has 163 bytes.
-pub(crate) type EndLine = ArrayString<192>;
+/// A line. The longest end line has 163 bytes.
+pub type EndLine = ArrayString<192>;
 
 fn cause_text(cause: FailCause) -> &'static str
     ensures text { result.now ≡ cause_text cause }
@@ -114,8 +115,9 @@ fn failed_by_line<V: Shown>(view: &V, cause: FailCause, steps: u64) -> EndLine
     line
 }
 
-/// The end line of a plain run, which came to this step.
-pub(crate) fn end_line(state: &LcmState, step: Step) -> EndLine
+/// The end line of a plain run, which came to this step, with its newline. `docs/COMMANDS.md` has its
+/// forms.
+pub fn end_line(state: &LcmState, step: Step) -> EndLine
     requires { step ≡ answer state.now }
     ensures bytes { result.bytes ≡ end_line state.now }
     ensures some { 0 < length result.bytes }
@@ -125,4 +127,20 @@ pub(crate) fn end_line(state: &LcmState, step: Step) -> EndLine
         Step::Halted => halted_line(state, state.count()),
         Step::Failed(cause, _) => failed_by_line(state, cause, state.count()),
     }
+}
+
+/// Where a plain machine is: a word, pc's address or `-`, and how many steps it made, as `WORD PC steps N`,
+/// and a newline.
+pub fn place_line(word: &str, state: &LcmState) -> EndLine
+    requires { length word.now ≤ 16 }
+    ensures bytes { let pc = reg state.now.maps.regs Pc in
+        result.bytes ≡ word.now ++ (codes " " ++ (pc_text pc ++ steps_text state.now.count)) }
+    ensures some { 0 < length result.bytes }
+{
+    let mut line = EndLine::new();
+    line.push_str(word);
+    line.push_str(" ");
+    push_pc(&mut line, state);
+    push_steps(&mut line, state.count());
+    line
 }

@@ -5,7 +5,8 @@
 //! them. docs/OVERLAY.md tells the events, docs/COMMANDS.md the texts.
 #![tactic(auto)]
 
-mod end_line;
+mod count;
+mod end_lines;
 mod event;
 mod find;
 mod gap;
@@ -18,5 +19,7 @@ mod trace;
 mod view;
 mod write;
 
+pub use count::{Counted, run_counted};
+pub use end_lines::{EndLine, end_line, place_line};
 pub use run::{RunEnd, run_plain};
 pub use trace::run_overlay;

@@ -12,7 +12,7 @@ ghost use Rattle.trace_tool.specs.Gaps.{IsGap};
 ghost use Rattle.trace_tool.specs.Texts.{lines_pieces};
 ghost use Rattle.trace_tool.specs.Runs.{watching, watched_next, line_next, end_of, Runs, EndsBy};
 
-use crate::end_line::end_line;
+use crate::end_lines::end_line;
 use crate::event::event_after;
 use crate::gap::{Gap, gap_around};
 use crate::laws::the_headline;

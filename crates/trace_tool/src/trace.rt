@@ -7,7 +7,7 @@ ghost use Rattle.trace_tool.specs.Headline.{Headline};
 ghost use Rattle.overlay_machine.specs.Seen.{IsOverlayOf};
 ghost use Rattle.trace_tool.specs.Traces.{Traces};
 
-use crate::end_line::{failed_line, halted_line, running_line};
+use crate::end_lines::{failed_line, halted_line, running_line};
 use crate::laws::the_headline;
 use crate::run::{RunEnd, finish};
 use crate::write::tell;
