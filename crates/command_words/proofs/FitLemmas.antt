@@ -12,15 +12,16 @@ use Rattle.command_words.specs.Name.{is_file_name, file_name_in, file_of}
 use Rattle.command_words.specs.Number.{number_in, number_or, steps_in, size_in, seed_in}
 use Rattle.command_words.specs.Part.{mark_in, ending_in, part_in, parts_in, some_parts_in, one_part_in, image_in, one_image_in}
 use Rattle.command_words.specs.Action.{action_in, image_or_parts, is_assembler, is_module, is_source, linked_in, run_in, assemble_in, compile_in, part_alone_in, link_in, mean_in, generate_in, asked_of, asked_in}
+use Rattle.command_words.specs.Action.{reach_in, debug_in}
 use Rattle.command_words.specs.Fits.{Fits, FitsLinked, FitsName, FitsPart, FitsParts, FitsStack, FitsSteps}
 use Rattle.command_words.specs.declared.TheConstants.{MOST_PARTS, GREATEST_SEED}
 use Rattle.command_words.specs.declared.part.PartWord.{PartWord}
 use Rattle.command_words.specs.declared.command.Linked.{Linked}
 use Rattle.command_words.specs.declared.command.Linked.TheVariants.{Parts, Image}
 use Rattle.command_words.specs.declared.command.Command.{Command}
-use Rattle.command_words.specs.declared.command.LinkDeed.TheVariants.{Run, Trace}
+use Rattle.command_words.specs.declared.command.LinkDeed.TheVariants.{Run, Trace, Reach}
 use Rattle.command_words.specs.declared.command.ComponentDeed.TheVariants.{Put, Show}
-use Rattle.command_words.specs.declared.command.Command.TheVariants.{Links, Takes, Checks, Mean, Generate}
+use Rattle.command_words.specs.declared.command.Command.TheVariants.{Links, Takes, Checks, Mean, Generate, Debug}
 use Rattle.command_words.specs.declared.action.Action.{Action}
 use Rattle.command_words.specs.declared.action.Action.TheVariants as action
 
@@ -188,6 +189,17 @@ generate_fits : (t : Taken) → IfSome (generate_in t) Fits
 unfolding generate_in
 generate_fits t = unless _ _ Fits (made (seed_in t.seed) Generate (λ n. n ≤ GREATEST_SEED) Fits (seed_fits t.seed) (λ seed s. s))
 
+reach_fits : (t : Taken) → IfSome (reach_in t) Fits
+unfolding reach_in
+reach_fits t = unless _ _ Fits (
+    next (linked_in t.parts t.stack) _ FitsLinked Fits (linked_fits t.parts t.stack) (λ what w. (w, tt)))
+
+debug_fits : (t : Taken) → IfSome (debug_in t) Fits
+unfolding debug_in
+debug_fits t = unless _ _ Fits (
+    next (file_of t.feed) _ FitsName Fits (file_fits t.feed) (λ script n.
+    next (linked_in t.parts t.stack) _ FitsLinked Fits (linked_fits t.parts t.stack) (λ what w. (w, n))))
+
 asked_of_fits : (a : Action) (t : Taken) → IfSome (asked_of a t) Fits
 asked_of_fits action.Run t = made (run_in t) (λ p. Links p.0 (Run p.1)) FitsRun Fits (run_fits t) (λ p h. h)
 asked_of_fits action.Trace t = made (run_in t) (λ p. Links p.0 (Trace p.1)) FitsRun Fits (run_fits t) (λ p h. h)
@@ -198,6 +210,8 @@ asked_of_fits action.Check t = made (part_alone_in t) Checks FitsPart Fits (part
 asked_of_fits action.Link t = link_fits t
 asked_of_fits action.Mean t = mean_fits t
 asked_of_fits action.Generate t = generate_fits t
+asked_of_fits action.Reach t = reach_fits t
+asked_of_fits action.Debug t = debug_fits t
 
 asked_fits : (words : List Text) → IfSome (asked_in words) Fits
 asked_fits words = any (rows words) _ Fits (λ found. any (taken_of found).action _ Fits (λ word.

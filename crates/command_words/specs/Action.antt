@@ -15,10 +15,11 @@ use Rattle.command_words.specs.declared.part.Ending.TheVariants.{Source, Assembl
 use Rattle.command_words.specs.declared.part.PartWord.{PartWord}
 use Rattle.command_words.specs.declared.command.Linked.{Linked}
 use Rattle.command_words.specs.declared.command.Linked.TheVariants.{Parts, Image}
-use Rattle.command_words.specs.declared.command.LinkDeed.TheVariants.{Run, Trace, Store}
+use Rattle.command_words.specs.declared.command.LinkDeed.TheVariants.{Run, Trace, Store, Reach}
 use Rattle.command_words.specs.declared.command.ComponentDeed.TheVariants.{Put, Show}
 use Rattle.command_words.specs.declared.command.Command.{Command}
 use Rattle.command_words.specs.declared.command.Command.TheVariants.{Links, Takes, Checks, Mean, Generate}
+use Rattle.command_words.specs.declared.command.Command.TheVariants.{Debug}
 use Rattle.command_words.specs.declared.action.Action.{Action}
 use Rattle.command_words.specs.declared.action.Action.TheVariants as action
 
@@ -32,7 +33,9 @@ action_in word =
     else (if bytes_eq word (codes "check") then Some action.Check
     else (if bytes_eq word (codes "link") then Some action.Link
     else (if bytes_eq word (codes "mean") then Some action.Mean
-    else (if bytes_eq word (codes "generate") then Some action.Generate else None))))))))
+    else (if bytes_eq word (codes "generate") then Some action.Generate
+    else (if bytes_eq word (codes "reach") then Some action.Reach
+    else (if bytes_eq word (codes "debug") then Some action.Debug else None))))))))))
 
 -- one of these options is used
 abbrev pub any_used : List (Option Text) → Bool
@@ -111,6 +114,17 @@ generate_in t =
     if is_some t.parts || any_used (t.stack ∷ t.steps ∷ t.out ∷ t.feed ∷ []) then None
     else option_map Generate (seed_in t.seed)
 
+unfoldable pub reach_in : Taken → Option Command
+reach_in t = if any_used (t.steps ∷ t.out ∷ t.feed ∷ t.seed ∷ []) then None else do
+  what ← linked_in t.parts t.stack
+  Some (Links what Reach)
+
+unfoldable pub debug_in : Taken → Option Command
+debug_in t = if any_used (t.steps ∷ t.out ∷ t.seed ∷ []) then None else do
+  script ← file_of t.feed
+  what ← linked_in t.parts t.stack
+  Some (Debug what script)
+
 -- what an action asks for
 abbrev pub asked_of : Action → Taken → Option Command
 asked_of action.Run t = option_map (λ p. Links p.0 (Run p.1)) (run_in t)
@@ -122,6 +136,8 @@ asked_of action.Check t = option_map Checks (part_alone_in t)
 asked_of action.Link t = link_in t
 asked_of action.Mean t = mean_in t
 asked_of action.Generate t = generate_in t
+asked_of action.Reach t = reach_in t
+asked_of action.Debug t = debug_in t
 
 -- what the words ask for; none where the command line doesn't take them, or they break a rule of their action
 abbrev pub asked_in : List Text → Option Command

@@ -8,11 +8,12 @@ use Rattle.command_words.specs.declared.part.PartWord.{PartWord}
 use Rattle.command_words.specs.declared.command.Linked.{Linked}
 use Rattle.command_words.specs.declared.command.Linked.TheVariants.{Parts, Image}
 use Rattle.command_words.specs.declared.command.LinkDeed.{LinkDeed}
-use Rattle.command_words.specs.declared.command.LinkDeed.TheVariants.{Run, Trace, Store}
+use Rattle.command_words.specs.declared.command.LinkDeed.TheVariants.{Run, Trace, Store, Reach}
 use Rattle.command_words.specs.declared.command.ComponentDeed.{ComponentDeed}
 use Rattle.command_words.specs.declared.command.ComponentDeed.TheVariants.{Put, Show}
 use Rattle.command_words.specs.declared.command.Command.{Command}
 use Rattle.command_words.specs.declared.command.Command.TheVariants.{Links, Takes, Checks, Mean, Generate}
+use Rattle.command_words.specs.declared.command.Command.TheVariants.{Debug}
 
 -- 1 to 255 bytes, of which the first isn't `-`
 abbrev pub FitsName : Text → Type 0
@@ -41,6 +42,7 @@ abbrev pub FitsLinkDeed : LinkDeed → Type 0
 FitsLinkDeed (Run steps) = FitsSteps steps
 FitsLinkDeed (Trace steps) = FitsSteps steps
 FitsLinkDeed (Store out) = FitsName out
+FitsLinkDeed Reach = Unit {0}
 
 abbrev pub FitsComponentDeed : ComponentDeed → Type 0
 FitsComponentDeed (Put out) = FitsName out
@@ -52,3 +54,4 @@ Fits (Takes part deed) = FitsPart part × FitsComponentDeed deed
 Fits (Checks part) = FitsPart part
 Fits (Mean modules size fuel feed) = FitsParts modules × FitsStack size × FitsSteps fuel × FitsName feed
 Fits (Generate seed) = seed ≤ GREATEST_SEED
+Fits (Debug what script) = FitsLinked what × FitsName script

@@ -5,6 +5,7 @@ ghost use Rattle.command_words.specs.Texts.{Text, texts, text_of, all_texts};
 ghost use Rattle.command_words.specs.Views.{taken_in};
 ghost use Rattle.command_words.specs.Action.{action_in, linked_in, run_in, assemble_in, compile_in};
 ghost use Rattle.command_words.specs.Action.{part_alone_in, link_in, is_module, mean_in, generate_in};
+ghost use Rattle.command_words.specs.Action.{reach_in, debug_in};
 ghost use Rattle.command_words.specs.Action.{asked_of, asked_in};
 ghost use Rattle.command_words.specs.Fits.{Fits};
 
@@ -28,6 +29,8 @@ enum Action {
     Link,
     Mean,
     Generate,
+    Reach,
+    Debug,
 }
 
 #[tactic(auto, unfolding(crate::specs::Action::action_in))]
@@ -44,6 +47,8 @@ fn action_named(word: &str) -> Option<Action>
         "link" => Some(Action::Link),
         "mean" => Some(Action::Mean),
         "generate" => Some(Action::Generate),
+        "reach" => Some(Action::Reach),
+        "debug" => Some(Action::Debug),
         _ => None,
     }
 }
@@ -214,6 +219,35 @@ fn generate<'a>(taken: &Taken<'_, 'a>) -> Option<Command<'a>>
     Some(Command::Generate(seed))
 }
 
+#[tactic(auto, unfolding(crate::specs::Action::reach_in))]
+fn reach<'a>(alloc: Global, taken: &Taken<'_, 'a>) -> Result<Option<Command<'a>>, AllocError>
+    ensures { IfOk result (λ r. r ≡ reach_in (taken_in taken.now)) }
+{
+    if any_used(&[taken.steps, taken.out, taken.feed, taken.seed]) {
+        return Ok(None);
+    }
+    match linked_of(alloc, taken.parts, taken.stack)? {
+        Some(what) => Ok(Some(Command::Links(what, LinkDeed::Reach))),
+        None => Ok(None),
+    }
+}
+
+#[tactic(auto, unfolding(crate::specs::Action::debug_in))]
+fn debug<'a>(alloc: Global, taken: &Taken<'_, 'a>) -> Result<Option<Command<'a>>, AllocError>
+    ensures { IfOk result (λ r. r ≡ debug_in (taken_in taken.now)) }
+{
+    if any_used(&[taken.steps, taken.out, taken.seed]) {
+        return Ok(None);
+    }
+    let Some(script) = file_of(taken.feed) else {
+        return Ok(None);
+    };
+    match linked_of(alloc, taken.parts, taken.stack)? {
+        Some(what) => Ok(Some(Command::Debug(what, script))),
+        None => Ok(None),
+    }
+}
+
 // The action with its parts and options.
 fn asked_of<'a>(
     alloc: Global,
@@ -244,6 +278,8 @@ fn asked_of<'a>(
         Action::Link => link(alloc, taken),
         Action::Mean => mean(alloc, taken),
         Action::Generate => Ok(generate(taken)),
+        Action::Reach => reach(alloc, taken),
+        Action::Debug => debug(alloc, taken),
     }
 }
 

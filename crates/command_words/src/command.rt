@@ -22,6 +22,8 @@ pub enum LinkDeed<'a> {
     Trace(Steps),
     /// `link`: the image is put into a file.
     Store(FileName<'a>),
+    /// `reach`: what each part can reach is written.
+    Reach,
 }
 
 /// What is done with one component.
@@ -44,6 +46,8 @@ pub enum Command<'a> {
     Checks(PartWord<'a>),
     /// `mean`: what modules mean, with the size of the stack and the fuel, over the feed of a file.
     Mean(PartWords<'a>, u32, Steps, FileName<'a>),
-    /// `generate`: the component of a seed.
+    /// `generate`: the load of a seed.
     Generate(Seed),
+    /// `debug`: what links is debugged by the script of a file.
+    Debug(Linked<'a>, FileName<'a>),
 }

@@ -36,7 +36,7 @@ impl Steps {
     }
 }
 
-/// The number that a generated component comes of: up to [`GREATEST_SEED`]. A contract sees it.
+/// The number that a generated load comes of: up to [`GREATEST_SEED`]. A contract sees it.
 #[derive(Clone, Copy, Debug, PartialEq, Eq)]
 pub struct Seed {
     number: u32,

@@ -43,6 +43,7 @@ fn links_text(alloc: Global, what: &Linked<'_>, deed: &LinkDeed<'_>) -> Result<S
         LinkDeed::Run(steps) => format!(in alloc; "run {what} {}", steps.number()),
         LinkDeed::Trace(steps) => format!(in alloc; "trace {what} {}", steps.number()),
         LinkDeed::Store(out) => format!(in alloc; "store {what} {}", out.as_str()),
+        LinkDeed::Reach => format!(in alloc; "reach {what}"),
     }
 }
 
@@ -77,6 +78,9 @@ fn command_text(alloc: Global, command: &Command<'_>) -> Result<String, AllocErr
             mean_text(alloc, modules, *size, fuel.number(), feed.as_str())
         }
         Command::Generate(seed) => format!(in alloc; "generate {}", seed.number()),
+        Command::Debug(what, script) => {
+            format!(in alloc; "debug {} {}", linked_text(alloc, what)?, script.as_str())
+        }
     }
 }
 
@@ -110,7 +114,7 @@ fn is_command(alloc: Global, line: &str) -> Result<bool, AllocError> {
     Ok(told(alloc, line)?.as_str() != "usage")
 }
 
-static ACTIONS: [(&str, &str); 22] = [
+static ACTIONS: [(&str, &str); 26] = [
     ("run u:one.asm", "run u-asm(one.asm) 4096 1000000"),
     ("run one.img", "run image(one.img) 1000000"),
     (
@@ -144,6 +148,10 @@ static ACTIONS: [(&str, &str); 22] = [
     ("mean t:one.asm --feed f", "usage"),
     ("generate --seed 1", "generate 1"),
     ("generate", "usage"),
+    ("reach u:one.asm", "reach u-asm(one.asm) 4096"),
+    ("reach one.img", "reach image(one.img)"),
+    ("debug one.img --feed script", "debug image(one.img) script"),
+    ("debug u:one.asm", "usage"),
     ("fly u:one.asm", "usage"),
 ];
 
@@ -266,7 +274,7 @@ fn each_line_asks_for_its_command(rt: HostRuntime) -> Result<(), Fail> {
 }
 
 // A command, and which options may be added to it.
-static ADDED: [(&str, &[&str]); 11] = [
+static ADDED: [(&str, &[&str]); 15] = [
     ("run u:a.asm", &["--stack", "--steps"]),
     ("run a.img", &["--steps"]),
     ("trace u:a.asm", &["--stack", "--steps"]),
@@ -278,6 +286,10 @@ static ADDED: [(&str, &[&str]); 11] = [
     ("link u:a.asm --out x", &["--stack"]),
     ("mean t:a.prc --feed x", &["--stack", "--steps"]),
     ("generate --seed 7", &[]),
+    ("reach u:a.asm", &["--stack"]),
+    ("reach a.img", &[]),
+    ("debug u:a.asm --feed x", &["--stack"]),
+    ("debug a.img --feed x", &[]),
 ];
 
 // Whether the line is a command with this option behind it.
@@ -303,7 +315,7 @@ fn options_that_an_action_does_not_name_are_usage(rt: HostRuntime) -> Result<(),
 }
 
 // An action with its options, a part word, and the least and the most of them.
-static COUNTS: [(&str, &str, usize, usize); 9] = [
+static COUNTS: [(&str, &str, usize, usize); 11] = [
     ("run", "u:a.asm", 1, 16),
     ("trace", "u:a.asm", 1, 16),
     ("asm --out x", "u:a.asm", 1, 1),
@@ -313,6 +325,8 @@ static COUNTS: [(&str, &str, usize, usize); 9] = [
     ("link --out x", "u:a.asm", 1, 16),
     ("mean --feed x", "t:a.prc", 1, 16),
     ("generate --seed 7", "u:a.asm", 0, 0),
+    ("reach", "u:a.asm", 1, 16),
+    ("debug --feed x", "u:a.asm", 1, 16),
 ];
 
 fn push_parts(line: &mut String, part: &str, count: usize) -> Result<(), AllocError> {

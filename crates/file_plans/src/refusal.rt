@@ -13,7 +13,7 @@ use std::alloc::{AllocError, AllocFailed};
 /// the image.
 #[derive(Clone, Copy, Debug, PartialEq, Eq)]
 pub enum Refusal {
-    /// The words are no command, or ask for something that isn't built.
+    /// The words are no command.
     Usage,
     /// A file could not be read.
     ReadFault,
@@ -31,6 +31,8 @@ pub enum Refusal {
     Image(ImageFault),
     /// This line of the feed's file, counted from 1, is the first that has not the form that it must have.
     Feed(u64),
+    /// This line of the script's file, counted from 1, is the first bad one.
+    Script(u32),
 }
 
 /// Why a call goes no further.

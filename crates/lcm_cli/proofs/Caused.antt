@@ -38,16 +38,17 @@ use Rattle.file_plans.specs.Plans.{Plan, Reads, Ends, Made, Comes}
 use Rattle.source_events.specs.declared.End.{End}
 use Rattle.source_events.specs.declared.End.TheVariants as end
 use Rattle.meaning_tool.specs.Subjects.{Subject, told_of}
-use Rattle.lcm_cli.specs.Commands.{Task, Run, Trace, Put, Write, Tell, plan_in, is_command}
+use Rattle.lcm_cli.specs.Commands.{Telling, Task, Run, Trace, Reach, Debug, Put, Write, Tell, plan_in}
 use Rattle.lcm_cli.specs.Answers.{Answer, Outside, end_status, meaning_status, writes, ran, traced, tells}
 use Rattle.lcm_cli.specs.Answers.{refused, IsAnswerOf, IsPut}
 use Rattle.lcm_cli.specs.Answers.{whole, unput, unwritten, Answers, answer, nothing}
 use Rattle.lcm_cli.specs.Causes.{IsTurn, IsUnread, IsLong, IsUndecoded, IsUncompiled, IsUnassembled}
-use Rattle.lcm_cli.specs.Causes.{IsUnloaded, Breaks}
+use Rattle.lcm_cli.specs.Causes.{IsUnloaded, IsUnscripted, IsUnmade, Breaks}
+use Rattle.debug_tool.specs.Replies.{debug_text}
 use Rattle.lcm_cli.specs.Causes.{Runs}
 use Rattle.lcm_cli.specs.Causes.{Traces, Means, IsAtRest, PutsFile, Tells, out_of, Wrote, IsUnfed, Causes}
 use Rattle.lcm_cli.specs.Causes.{Promised}
-use Rattle.lcm_cli.proofs.Why.{WhyIs, why_is, unplanned}
+use Rattle.lcm_cli.proofs.Why.{WhyIs, why_is}
 use Rattle.lcm_cli.proofs.Put.{put_of}
 use Rattle.lcm_cli.proofs.Settled.{complete, puts_rose}
 
@@ -102,7 +103,7 @@ Caused asked old new status.StepsUsed =
     Runs asked old.files new.files (λ step. step ≡ Went)
     ⊎ (Traces asked old.files new.files run_end.Running
     ⊎ Means asked old.files new.files (λ e. e ≡ end.OutOfFuel))
-Caused asked old new status.Usage = is_command asked ≡ false
+Caused asked old new status.Usage = asked ≡ None
 Caused asked old new status.ReadFault =
     Rose old.files.failed_reads new.files.failed_reads × IsUnread (plan_in asked) old.files new.files
 Caused asked old new status.WriteFault =
@@ -117,24 +118,27 @@ Caused asked old new status.AsmRefused =
     × IsUnassembled (plan_in asked) old.files index f new.files
 Caused asked old new status.SourceRefused =
     (index : ℕ) × (f : SourceFault) × Wrote (refusal.Source index f) old new
-    × IsUncompiled (plan_in asked) old.files index f new.files
+    × (IsUncompiled (plan_in asked) old.files index f new.files ⊎ IsUnmade asked (refusal.Source index f))
 Caused asked old new status.FileRefused =
     ((index : ℕ) × (f : FileFault) × Wrote (refusal.File index f) old new
     × IsUndecoded (plan_in asked) old.files index f new.files)
     ⊎ (((f : ImageFault) × (image_status f ≡ status.FileRefused) × Wrote (refusal.Image f) old new
     × IsUnloaded asked old.files f new.files)
-    ⊎ ((line : ℕ) × Wrote (refusal.Feed line) old new × IsUnfed asked old.files line new.files))
+    ⊎ (((line : ℕ) × Wrote (refusal.Feed line) old new × IsUnfed asked old.files line new.files)
+    ⊎ ((line : ℕ) × Wrote (refusal.Script line) old new
+    × IsUnscripted (plan_in asked) old.files line new.files)))
 Caused asked old new status.RuleBroken =
     (r : RuleAt) × Wrote (refusal.Rule r) old new
     × (Breaks asked old.files r new.files ⊎ IsUnloaded asked old.files (image.Rule r) new.files)
 
-run_caused : (asked : Option Command) (old new : Outside) (i : ImageSeen) (steps : ℕ)
-    → Comes (plan_in asked) old.files (Ok (Run i steps)) new.files → (start : StartSeen)
+run_caused : (asked : Option Command) (old new : Outside) (i : ImageSeen) (steps : ℕ) (telling : Telling)
+    → Comes (plan_in asked) old.files (Ok (Run i steps telling)) new.files → (start : StartSeen)
     → IsStartOf i.parts i.stack start → (step : Step) → last_step (plain steps start.state) ≡ step
     → Caused asked old new (end_status (end_of step))
-run_caused asked old new i steps c start s Went e = inl (i, steps, c, start, s, e)
-run_caused asked old new i steps c start s Halted e = inl (i, steps, c, start, s, e)
-run_caused asked old new i steps c start s (Failed cause at) e = inl (i, steps, c, start, s, (cause, at, e))
+run_caused asked old new i steps telling c start s Went e = inl (i, steps, telling, c, start, s, e)
+run_caused asked old new i steps telling c start s Halted e = inl (i, steps, telling, c, start, s, e)
+run_caused asked old new i steps telling c start s (Failed cause at) e =
+    inl (i, steps, telling, c, start, s, (cause, at, e))
 
 trace_caused : (asked : Option Command) (old new : Outside) (i : ImageSeen) (steps : ℕ)
     → Comes (plan_in asked) old.files (Ok (Trace i steps)) new.files
@@ -181,7 +185,8 @@ err_caused asked old new (refusal.Source index f) h w = (index, f, w, h)
 err_caused asked old new (refusal.File index f) h w = inl (index, f, w, h)
 err_caused asked old new (refusal.Rule r) h w = (r, w, inl h)
 err_caused asked old new (refusal.Image f) h w = image_caused asked old new f h w
-err_caused asked old new (refusal.Feed line) h w = inr (inr (line, w, h))
+err_caused asked old new (refusal.Feed line) h w = inr (inr (inl (line, w, h)))
+err_caused asked old new (refusal.Script line) h w = inr (inr (inr (line, w, h)))
 
 -- what is told at the end, where no file was put
 unput_seen : (seen new : FilesSeen) (a b : Answer) → a ≡ b → b.file ≡ None → IsPut seen a.file new → new
@@ -191,10 +196,10 @@ unput_seen seen new a b e n p = subst (λ f. IsPut seen f new) (ap (λ (x : Answ
 due_caused : (asked : Option Command) (old new : Outside) (seen : FilesSeen) (due : Result Task Refusal)
     (a : Answer) → Comes (plan_in asked) old.files due seen → IsAnswerOf due a → IsPut seen a.file new.files
     → Adds old.sink a.text new.sink → Caused asked old new a.status
-due_caused asked old new seen (Ok (Run i steps)) a c x p w =
-    let n : new.files ≡ seen = unput_seen seen new.files a (ran x.0 steps) x.2 refl p in
+due_caused asked old new seen (Ok (Run i steps telling)) a c x p w =
+    let n : new.files ≡ seen = unput_seen seen new.files a (ran x.0 steps telling) x.2 refl p in
     subst (λ (b : Answer). Caused asked old new b.status) (sym x.2)
-    (run_caused asked old new i steps (rw n c) x.0 x.1 (last_step (plain steps x.0.state)) refl)
+    (run_caused asked old new i steps telling (rw n c) x.0 x.1 (last_step (plain steps x.0.state)) refl)
 due_caused asked old new seen (Ok (Trace i steps)) a c x p w =
     let n : new.files ≡ seen = unput_seen seen new.files a (traced x.1 steps) x.4 refl p in
     subst (λ (b : Answer). Caused asked old new b.status) (sym x.4)
@@ -204,7 +209,17 @@ due_caused asked old new seen (Ok (Put name d)) a c x p w =
     (inr (inr (inl (name, d, seen, c, x.0, subst (λ (b : Answer). IsPut seen b.file new.files) x.1 p))))
 due_caused asked old new seen (Ok (Write text)) a c x p w =
     let n : new.files ≡ seen = unput_seen seen new.files a (writes status.Done text) x refl p in
-    subst (λ (b : Answer). Caused asked old new b.status) (sym x) (inr (inr (inr (inl (text, rw n c)))))
+    subst (λ (b : Answer). Caused asked old new b.status) (sym x)
+    (inr (inr (inr (inl (Write text, tt, rw n c)))))
+due_caused asked old new seen (Ok (Reach i)) a c x p w =
+    let n : new.files ≡ seen = unput_seen seen new.files a (writes status.Done x.1) x.4 refl p in
+    subst (λ (b : Answer). Caused asked old new b.status) (sym x.4)
+    (inr (inr (inr (inl (Reach i, tt, rw n c)))))
+due_caused asked old new seen (Ok (Debug i script)) a c x p w =
+    let n : new.files ≡ seen =
+    unput_seen seen new.files a (writes status.Done (debug_text x.0.state script)) x.2 refl p in
+    subst (λ (b : Answer). Caused asked old new b.status) (sym x.2)
+    (inr (inr (inr (inl (Debug i script, tt, rw n c)))))
 due_caused asked old new seen (Ok (Tell s fuel)) a c x p w =
     let n : new.files ≡ seen = unput_seen seen new.files a (tells (told_of s fuel)) x refl p in
     subst (λ (b : Answer). Caused asked old new b.status) (sym x)
@@ -212,7 +227,7 @@ due_caused asked old new seen (Ok (Tell s fuel)) a c x p w =
 due_caused asked old new seen (Err why) a c x p w =
     let n : new.files ≡ seen = unput_seen seen new.files a (refused why) x refl p in
     subst (λ (b : Answer). Caused asked old new b.status) (sym x)
-    (err_caused asked old new why (why_is asked (is_command asked) refl old.files new.files why (rw n c))
+    (err_caused asked old new why (why_is asked old.files new.files why (rw n c))
     (subst (λ (b : Answer). Adds old.sink b.text new.sink) x w))
 
 -- ---- each cause
@@ -262,12 +277,13 @@ promised asked old ended new a = record {
 
 -- ---- words that are no command
 
-due_usage : (asked : Option Command) (old new : FilesSeen) (due : Result Task Refusal) → is_command asked
-    ≡ false → Comes (plan_in asked) old due new → due ≡ Err refusal.Usage
-due_usage asked old new due f c = (subst (λ p. Comes p old due new) (unplanned asked f) c).0
+due_usage : (asked : Option Command) (old new : FilesSeen) (due : Result Task Refusal) → asked ≡ None
+    → Comes (plan_in asked) old due new → due ≡ Err refusal.Usage
+due_usage None old new due f c = c.0
+due_usage (Some command) old new due f c = absurd (cc)
 
 pub usage : (asked : Option Command) (old : Outside) (ended : Status) (new : Outside)
-    → Answers (plan_in asked) old ended new → is_command asked ≡ false
+    → Answers (plan_in asked) old ended new → asked ≡ None
     → (ended ≡ status.Usage) ⊎ ((ended ≡ status.WriteFault) ⊎ (ended ≡ status.NoMemory))
 usage asked old ended new (nothing n) f = inr (inr n.status_is)
 usage asked old ended new (answer due a seen c x (unput g i w u k s)) f = inr (inl s)

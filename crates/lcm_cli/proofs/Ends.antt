@@ -82,14 +82,15 @@ abbrev pub Foreign : Refusal → Type 0
 Foreign refusal.Usage = Unit {0}
 Foreign (refusal.Image f) = Unit {0}
 Foreign (refusal.Feed line) = Unit {0}
+Foreign (refusal.Script line) = Unit {0}
 Foreign _ = ⊥
 
 pub foreign : (x why : Refusal) → Foreign why → x ≡ why → Foreign x
 foreign x why h e = subst Foreign (sym e) h
 
 -- a file is read, and its bytes are such or have a fault that is told otherwise
-pub never_told : {A F : Type 0} (why : Refusal) → Foreign why → (name : List ℕ) (index : ℕ) (told : F → Refusal)
-    (gives : List ℕ → Result A F) → ((f : F) → told f ≢ why)
+pub never_told : {A F : Type 0} (why : Refusal) → Foreign why → (name : List ℕ) (index : ℕ)
+    (told : F → Refusal) (gives : List ℕ → Result A F) → ((f : F) → told f ≢ why)
     → Never (let p : Plan A = Reads name index (λ bytes. unless told (gives bytes)) in p) why
 never_told why h name index told gives differ =
     never_reads name index (λ bytes. unless told (gives bytes)) why (foreign (refusal.TooLong index) why h)
@@ -148,6 +149,7 @@ abbrev pub NotOfImage : Refusal → Type 0
 NotOfImage refusal.Usage = Unit {0}
 NotOfImage (refusal.Rule r) = Unit {0}
 NotOfImage (refusal.Feed line) = Unit {0}
+NotOfImage (refusal.Script line) = Unit {0}
 NotOfImage _ = ⊥
 
 not_of_image : (x why : Refusal) → NotOfImage why → x ≡ why → NotOfImage x

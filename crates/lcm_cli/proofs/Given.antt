@@ -9,21 +9,38 @@ use Rattle.lcm_cli.specs.declared.status.Status.TheVariants.{Done}
 use Rattle.lcm_cli.specs.declared.job.Job.{Job}
 use Rattle.lcm_cli.specs.declared.job.Job.TheVariants as job
 use Rattle.file_plans.specs.Plans.{Plan}
-use Rattle.lcm_cli.specs.Commands.{Task}
-use Rattle.lcm_cli.specs.Jobs.{Does, FollowsTask}
-use Rattle.lcm_cli.specs.Answers.{Outside, Gives, whole, unwritten, Answers, answer, Tells, outside}
+use Rattle.generated_load.specs.Loads.{load_steps}
+use Rattle.lcm_cli.specs.Commands.{Lines, Totals, Task, Run, Trace, Reach, Debug, Put, Write, Tell}
+use Rattle.debug_tool.specs.Replies.{debug_text}
+use Rattle.lcm_cli.specs.Jobs.{IsTextOf, Does, FollowsTask}
+use Rattle.lcm_cli.specs.Answers.{Outside, Gives, whole, unwritten, Answers, answer, nothing, Tells, outside}
+use Rattle.lcm_cli.specs.Answers.{GivesOrNothing}
+use Rattle.file_plans.proofs.Follow.{only_again, comes_quiet}
 use Rattle.lcm_cli.specs.Answers.{with_files, writes, meaning_status, said, puts, ran, traced, IsAnswerOf}
 use Rattle.lcm_cli.specs.Answers.{job_answer}
 use Rattle.lcm_cli.specs.Answers.{IsReady}
 
+text_answers : (t : Task) (text : List ℕ) → IsTextOf t text → IsAnswerOf (Ok t) (writes Done text)
+text_answers (Write own) text d = ap (writes Done) d
+text_answers (Reach i) text d = (d.0, text, d.1, d.2, refl)
+text_answers (Run i steps telling) text d = absurd d
+text_answers (Trace i steps) text d = absurd d
+text_answers (Debug i script) text d = absurd d
+text_answers (Put name content) text d = absurd d
+text_answers (Tell subject fuel) text d = absurd d
+
 does_answers : (t : Task) (j : Job) → Does t j → IsAnswerOf (Ok t) (job_answer j)
 does_answers t (job.Run start steps) d =
-    subst (λ u. IsAnswerOf (Ok u) (ran start steps)) (sym d.1) (start, d.2, refl)
+    subst (λ u. IsAnswerOf (Ok u) (ran start steps Lines)) (sym d.1) (start, d.2, refl)
+does_answers t (job.Generate start load) d =
+    subst (λ u. IsAnswerOf (Ok u) (ran start load_steps (Totals load))) (sym d.1) (start, d.2, refl)
 does_answers t (job.Trace start overlay steps) d =
     subst (λ u. IsAnswerOf (Ok u) (traced overlay steps)) (sym d.1) (start, overlay, d.2, d.3, refl)
+does_answers t (job.Debug start script) d =
+    subst (λ u. IsAnswerOf (Ok u) (writes Done (debug_text start.state script))) (sym d.1) (start, d.2, refl)
 does_answers t (job.Put out bytes) d =
     subst (λ u. IsAnswerOf (Ok u) (puts out bytes)) (sym d.1) (d.2, ap (puts out) d.3)
-does_answers t (job.Write text) d = subst (λ u. IsAnswerOf (Ok u) (writes Done text)) (sym d) refl
+does_answers t (job.Write text) d = text_answers t text d
 does_answers t job.Say d = subst (λ u. IsAnswerOf (Ok u) said) (sym d) refl
 does_answers t (job.Tell meant) d =
     subst (λ u. IsAnswerOf (Ok u) (writes (meaning_status meant.end) meant.text)) (sym d.2)
@@ -31,6 +48,8 @@ does_answers t (job.Tell meant) d =
 
 does_ready : (t : Task) (j : Job) → Does t j → IsReady j
 does_ready t (job.Run start steps) d = (d.2.starts.state.count, d.2.starts.state.end)
+does_ready t (job.Generate start load) d = (d.2.starts.state.count, d.2.starts.state.end)
+does_ready t (job.Debug start script) d = (d.2.starts.state.count, d.2.starts.state.end)
 does_ready t (job.Trace start overlay steps) d = d.3
 does_ready t (job.Put out bytes) d = tt
 does_ready t (job.Write text) d = tt
@@ -42,8 +61,15 @@ ready plan old new j f = does_ready f.0 j f.2
 
 pub answered : (plan : Plan Task) (old : Outside) (j : Job) (seen : FilesSeen) (status : Status)
     (new : Outside) → FollowsTask plan old.files (Ok j) seen
-    → Gives (with_files old seen) (job_answer j) status new → Answers plan old status new
-answered plan old j seen status new f g = answer (Ok f.0) (job_answer j) seen f.1 (does_answers f.0 j f.2) g
+    → GivesOrNothing (with_files old seen) (job_answer j) status new → Answers plan old status new
+answered plan old j seen status new f (inl g) =
+    answer (Ok f.0) (job_answer j) seen f.1 (does_answers f.0 j f.2) g
+answered plan old j seen status new f (inr n) = nothing (record {
+  status_is = n.status_is;
+  quiet = only_again old.files seen new.files (comes_quiet plan old.files seen f.0 f.1) n.quiet;
+  unwritten = n.unwritten;
+  kept_is = n.kept_is;
+})
 
 pub tells_gives : (files : FilesSeen) (old new : SinkSeen) (kept : Option Machine) (status result : Status)
     (text : List ℕ) → Tells old text status result new

@@ -7,11 +7,15 @@ pub mod Tasks
 pub mod Reasons
 pub mod Modules
 pub mod Settled
+pub mod Loads
+pub mod Debugs
 pub mod Why
 pub mod Put
 pub mod Caused
 pub mod RunsMade
 pub mod MeaningMade
+pub mod LoadsMade
+pub mod DebugsMade
 pub mod Rising
 pub mod OneStart
 pub mod OneOverlay
@@ -20,3 +24,4 @@ pub mod SourceWords
 pub mod SourceFeeds
 pub mod SourcesMade
 pub mod SourceTexts
+pub mod SafeSinks

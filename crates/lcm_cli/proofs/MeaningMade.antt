@@ -27,8 +27,8 @@ module _ (words : List PartWord) (size fuel : ℕ) (feed : List ℕ) (old : Outs
       let p : new.files ≡ seen = g.put in
       let at : told_of s fuel ≡ meaning (map part_of s.modules) size s.feed fuel =
       ap (λ n. meaning (map part_of s.modules) n s.feed fuel) c.size_is in
-      let h : GivesWhole (with_files old seen) (tells (meaning (map part_of s.modules) size s.feed fuel)) ended
-      new = subst (λ t. GivesWhole (with_files old seen) (tells t) ended new) at g in
+      let h : GivesWhole (with_files old seen) (tells (meaning (map part_of s.modules) size s.feed fuel))
+      ended new = subst (λ t. GivesWhole (with_files old seen) (tells t) ended new) at g in
       record {
         modules = s.modules;
         mid = c.mid;

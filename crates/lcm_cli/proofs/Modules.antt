@@ -255,7 +255,8 @@ record BehindCame (size : ℕ) (feed : List ℕ) (modules : List ModuleFields) (
   is : subject_by size modules items ≡ s
 
 behind_came : (count size : ℕ) (feed : List ℕ) (modules : List ModuleFields) (mid new : FilesSeen)
-    (s : Subject) → Comes (subject_of count size feed modules) mid (Ok s) new → BehindCame size feed modules mid s new
+    (s : Subject) → Comes (subject_of count size feed modules) mid (Ok s) new
+    → BehindCame size feed modules mid s new
 unfolding subject_of
 behind_came count size feed modules mid new s h =
     elim (comes_split (unless refusal.Rule (ruled modules size)) _ mid new (Ok s) h)

@@ -3,6 +3,9 @@ use Rattle.std.proofs.Common.{◌≡◌, ℕ, ◌<◌, ◌≤◌, ◌⊎◌, Lis
 use Rattle.std.proofs.Common.{arith, inl, inr}
 use Rattle.std.specs.Prelude.{Result, Ok, Err}
 use Rattle.command_words.specs.declared.command.Command.{Command}
+use Rattle.authority_report.specs.One.{TextsAreOne}
+use Rattle.authority_report.specs.Text.{IsReachText}
+use Rattle.debug_tool.specs.Replies.{debug_text}
 use Rattle.component_linker.specs.Standing.{placed}
 use Rattle.component_linker.specs.Started.{StartSeen}
 use Rattle.overlay_machine.specs.Seen.{OverlaySeen, IsOverlayOf}
@@ -10,8 +13,10 @@ use Rattle.file_plans.specs.declared.TheConstants.{LONGEST_FILE}
 use Rattle.file_plans.specs.declared.refusal.Refusal.{Refusal}
 use Rattle.file_plans.specs.declared.refusal.Refusal.TheVariants as refusal
 use Rattle.file_plans.specs.Plans.{Plan, Reads, Ends, Made}
-use Rattle.lcm_cli.specs.Commands.{Task, Run, Trace, Put, Write, Tell, plan_in}
-use Rattle.lcm_cli.specs.Answers.{Answer, IsAnswerOf, ran, traced, Settles, IsWritten}
+use Rattle.lcm_cli.specs.Commands.{Task, Run, Trace, Reach, Debug, Put, Write, Tell}
+use Rattle.lcm_cli.specs.Commands.{plan_in}
+use Rattle.lcm_cli.specs.Answers.{Answer, IsAnswerOf, writes, ran, traced, Settles, IsWritten}
+use Rattle.lcm_cli.specs.declared.status.Status.TheVariants.{Done}
 use Rattle.lcm_cli.proofs.OneStart.{one_start}
 use Rattle.lcm_cli.proofs.OneOverlay.{one_overlay}
 
@@ -55,20 +60,27 @@ one_due held (Reads name index next) due last (b, e, h) (d, f, k) =
 
 -- ---- and so one answer
 
-one_of : (due : Result Task Refusal) (a b : Answer) → IsAnswerOf due a → IsAnswerOf due b → a ≡ b
-one_of (Err why) a b h k = h ∙ sym k
-one_of (Ok (Put name c)) a b h k = h.1 ∙ sym k.1
-one_of (Ok (Write text)) a b h k = h ∙ sym k
-one_of (Ok (Tell subject fuel)) a b h k = h ∙ sym k
-one_of (Ok (Run i steps)) a b h k =
+one_of : TextsAreOne → (due : Result Task Refusal) (a b : Answer) → IsAnswerOf due a
+    → IsAnswerOf due b → a ≡ b
+one_of one (Err why) a b h k = h ∙ sym k
+one_of one (Ok (Put name c)) a b h k = h.1 ∙ sym k.1
+one_of one (Ok (Write text)) a b h k = h ∙ sym k
+one_of one (Ok (Tell subject fuel)) a b h k = h ∙ sym k
+one_of one (Ok (Run i steps telling)) a b h k =
     let e = one_start (placed i.parts i.stack) i.stack h.0 k.0 h.1.rules h.1.starts k.1.starts in
-    h.2 ∙ ap (λ (m : StartSeen). ran m steps) e ∙ sym k.2
-one_of (Ok (Trace i steps)) a b h k =
+    h.2 ∙ ap (λ (m : StartSeen). ran m steps telling) e ∙ sym k.2
+one_of one (Ok (Trace i steps)) a b h k =
     let e = one_start (placed i.parts i.stack) i.stack h.0 k.0 h.2.rules h.2.starts k.2.starts in
     h.4 ∙ ap (λ (o : OverlaySeen). traced o steps)
     (one_overlay k.0 h.1 k.1 (subst (λ m. IsOverlayOf m h.1) e h.3) k.3) ∙ sym k.4
+one_of one (Ok (Debug i script)) a b h k =
+    let e : h.0 ≡ k.0 = one_start (placed i.parts i.stack) i.stack h.0 k.0 h.1.rules h.1.starts k.1.starts in
+    h.2 ∙ ap (λ (m : StartSeen). writes Done (debug_text m.state script)) e ∙ sym k.2
+one_of one (Ok (Reach i)) a b h k =
+    let e : h.0 ≡ k.0 = one_start (placed i.parts i.stack) i.stack h.0 k.0 h.2.rules h.2.starts k.2.starts in
+    h.4 ∙ ap (writes Done) (one k.0 h.1 k.1 (subst (λ s. IsReachText s h.1) e h.3) k.3) ∙ sym k.4
 
-pub one_answer : (asked : Option Command) (held : List ℕ → Option (List ℕ)) (a b : Answer)
+pub one_answer : TextsAreOne → (asked : Option Command) (held : List ℕ → Option (List ℕ)) (a b : Answer)
     → IsWritten held (plan_in asked) a → IsWritten held (plan_in asked) b → a ≡ b
-one_answer asked held a b h k =
-    one_of k.0 a b (subst (λ d. IsAnswerOf d a) (one_due held (plan_in asked) h.0 k.0 h.1 k.1) h.2) k.2
+one_answer one asked held a b h k =
+    one_of one k.0 a b (subst (λ d. IsAnswerOf d a) (one_due held (plan_in asked) h.0 k.0 h.1 k.1) h.2) k.2

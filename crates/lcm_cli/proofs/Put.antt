@@ -8,6 +8,7 @@ use Rattle.command_words.specs.declared.command.LinkDeed.TheVariants as link_dee
 use Rattle.command_words.specs.declared.command.ComponentDeed.{ComponentDeed}
 use Rattle.command_words.specs.declared.command.ComponentDeed.TheVariants as component_deed
 use Rattle.command_words.specs.declared.command.Command.{Command}
+use Rattle.command_words.specs.declared.command.Command.TheVariants as asked
 use Rattle.command_words.specs.declared.command.Command.TheVariants.{Links, Takes, Checks, Mean, Generate}
 use Rattle.component_file.specs.declared.component.ComponentFields.{ComponentFields}
 use Rattle.image_loader.specs.declared.fault.ImageFault.{ImageFault}
@@ -17,6 +18,7 @@ use Rattle.trace_tool.specs.declared.run.RunEnd.{RunEnd}
 use Rattle.trace_tool.specs.declared.run.RunEnd.TheVariants as run_end
 use Rattle.trace_tool.specs.Runs.{end_of}
 use Rattle.trace_tool.specs.Traces.{trace_of}
+use Rattle.generated_load.specs.Loads.{load_of}
 use Rattle.lcm_machine.specs.Run.{answer as last_step, plain}
 use Rattle.file_plans.specs.declared.refusal.Refusal.{Refusal}
 use Rattle.file_plans.specs.declared.refusal.Refusal.TheVariants as refusal
@@ -28,16 +30,18 @@ use Rattle.lcm_cli.specs.Parts.{component_at, part_at}
 use Rattle.source_events.specs.declared.End.{End}
 use Rattle.source_events.specs.declared.End.TheVariants as end
 use Rattle.meaning_tool.specs.Subjects.{told_of, subject_in}
-use Rattle.lcm_cli.specs.Commands.{Task, Run, Trace, Put, Write, Tell, Content, spelling_of, IsReadAgain}
-use Rattle.lcm_cli.specs.Commands.{is_built}
-use Rattle.lcm_cli.specs.Commands.{linked_in, link_task, component_task, built_plan, plan_in, is_command}
+use Rattle.lcm_cli.specs.Commands.{Task, Run, Trace, Reach, Debug, Put, Write, Tell}
+use Rattle.lcm_cli.specs.Commands.{Content, spelling_of, IsReadAgain}
+use Rattle.lcm_cli.specs.Commands.{linked_in, link_task, component_task, plan_of, plan_in}
+use Rattle.lcm_cli.specs.Commands.{Totals}
+use Rattle.lcm_cli.specs.Loads.{load_image}
 use Rattle.lcm_cli.specs.Answers.{Answer, NewFile, Outside, end_status, meaning_status, ran, traced, tells}
 use Rattle.lcm_cli.specs.Answers.{puts}
 use Rattle.lcm_cli.specs.Answers.{refused, IsAnswerOf}
 use Rattle.lcm_cli.specs.Answers.{IsPut, GivesWhole, whole, unput, unwritten, Answers, answer, nothing}
 use Rattle.lcm_cli.specs.Causes.{PutsFile, link_out, component_out, out_of, Stay, OthersStay, StayAt}
 use Rattle.lcm_cli.specs.Causes.{PutsWhole}
-use Rattle.lcm_cli.proofs.Why.{planned, unplanned}
+use Rattle.lcm_cli.proofs.Debugs.{debug_came}
 use Rattle.lcm_cli.proofs.Tasks.{made_of}
 use Rattle.lcm_cli.proofs.Settled.{puts_rose}
 
@@ -47,6 +51,7 @@ link_puts : (deed : LinkDeed) (i : ImageSeen) (name : List ℕ) (d : Content)
     → Put name d ≡ link_task deed i → link_out deed ≡ Some name
 link_puts (link_deed.Run steps) i name d e = absurd (cc)
 link_puts (link_deed.Trace steps) i name d e = absurd (cc)
+link_puts link_deed.Reach i name d e = absurd (cc)
 link_puts (link_deed.Store out) i name d e = let n : out ≡ name = cc in ap (λ m. Some m) n
 
 component_puts : (deed : ComponentDeed) (c : ComponentFields) (name : List ℕ) (d : Content)
@@ -54,30 +59,29 @@ component_puts : (deed : ComponentDeed) (c : ComponentFields) (name : List ℕ) 
 component_puts (component_deed.Put out) c name d e = let n : out ≡ name = cc in ap (λ m. Some m) n
 component_puts component_deed.Show c name d e = absurd (cc)
 
-put_built : (c : Command) (old seen : FilesSeen) (name : List ℕ) (d : Content) → is_built c ≡ true
-    → Comes (built_plan c) old (Ok (Put name d)) seen → out_of (Some c) ≡ Some name
-put_built (Links l deed) old seen name d e h =
+put_of_command : (c : Command) (old seen : FilesSeen) (name : List ℕ) (d : Content)
+    → Comes (plan_of c) old (Ok (Put name d)) seen → out_of (Some c) ≡ Some name
+put_of_command (Links l deed) old seen name d h =
     let m = made_of (linked_in l) (link_task deed) old seen (Put name d) h in link_puts deed m.0 name d m.2
-put_built (Takes word deed) old seen name d e h =
+put_of_command (Takes word deed) old seen name d h =
     let m = made_of (component_at 0 word) (component_task deed) old seen (Put name d) h in
     component_puts deed m.0 name d m.2
-put_built (Checks word) old seen name d e h =
+put_of_command (Checks word) old seen name d h =
     absurd (let m = (made_of (part_at 0 word) _ old seen (Put name d) h).2 in cc)
-put_built (Mean words size fuel feed) old seen name d e h =
+put_of_command (Mean words size fuel feed) old seen name d h =
     absurd (let m = (made_of (subject_in words size feed) _ old seen (Put name d) h).2 in cc)
-put_built (Generate seed) old seen name d e h = absurd (cc)
+put_of_command (asked.Debug l script) old seen name d h =
+    absurd (let m = (debug_came l script old (Put name d) seen h).task in cc)
+put_of_command (Generate seed) old seen name d h =
+    absurd (let m = (made_of (load_image (load_of seed)) _ old seen (Put name d) h).2 in cc)
 
 no_ok : {A : Type 0} (x : A) (why : Refusal) → (let r : Result A Refusal = Ok x in r) ≡ Err why → ⊥
 no_ok x why e = cc
 
-put_in : (asked : Option Command) (b : Bool) → is_command asked ≡ b → (old seen : FilesSeen) (name : List ℕ)
-    (d : Content) → Comes (plan_in asked) old (Ok (Put name d)) seen → out_of asked ≡ Some name
-put_in asked false f old seen name d h =
-    absurd (no_ok (Put name d) refusal.Usage
-    (subst (λ p. Comes p old (Ok (Put name d)) seen) (unplanned asked f) h).0)
-put_in None true f old seen name d h = absurd (cc)
-put_in (Some c) true f old seen name d h =
-    put_built c old seen name d f (subst (λ p. Comes p old (Ok (Put name d)) seen) (planned c f) h)
+put_in : (asked : Option Command) (old seen : FilesSeen) (name : List ℕ) (d : Content)
+    → Comes (plan_in asked) old (Ok (Put name d)) seen → out_of asked ≡ Some name
+put_in None old seen name d h = absurd (no_ok (Put name d) refusal.Usage h.0)
+put_in (Some c) old seen name d h = put_of_command c old seen name d h
 
 -- ---- an answer with a file
 
@@ -88,9 +92,11 @@ IsOfPut due a =
     × (a ≡ puts name (spelling_of d))
 
 file_cases : (due : Result Task Refusal) (a : Answer) → IsAnswerOf due a → (a.file ≡ None) ⊎ IsOfPut due a
-file_cases (Ok (Run i steps)) a x = inl (ap (λ (b : Answer). b.file) x.2)
+file_cases (Ok (Run i steps telling)) a x = inl (ap (λ (b : Answer). b.file) x.2)
 file_cases (Ok (Trace i steps)) a x = inl (ap (λ (b : Answer). b.file) x.4)
 file_cases (Ok (Put name d)) a x = inr (name, d, refl, x.0, x.1)
+file_cases (Ok (Debug i script)) a x = inl (ap (λ (b : Answer). b.file) x.2)
+file_cases (Ok (Reach i)) a x = inl (ap (λ (b : Answer). b.file) x.4)
 file_cases (Ok (Write text)) a x = inl (ap (λ (b : Answer). b.file) x)
 file_cases (Ok (Tell subject fuel)) a x = inl (ap (λ (b : Answer). b.file) x)
 file_cases (Err why) a x = inl (ap (λ (b : Answer). b.file) x)
@@ -119,7 +125,7 @@ put_of asked due a f old seen c x e = elim (file_cases due a x) as (λ _. IsFile
         p.1,
         subst (λ m. Comes (plan_in asked) old (Ok (Put m p.1)) seen) (sym n) came,
         ap (λ (g : NewFile). g.bytes) k,
-        put_in asked (is_command asked) refl old seen p.0 p.1 came ∙ ap (λ m. Some m) (sym n),
+        put_in asked old seen p.0 p.1 came ∙ ap (λ m. Some m) (sym n),
         p.3,
       )
       )
@@ -208,15 +214,18 @@ why_none (refusal.File index f) a e = e
 why_none (refusal.Rule r) a e = e
 why_none (refusal.Image f) a e = image_none f a e
 why_none (refusal.Feed line) a e = e
+why_none (refusal.Script line) a e = e
 
 puts_none : (due : Result Task Refusal) (a : Answer) → IsAnswerOf due a → PutsNone a.status a
-puts_none (Ok (Run i steps)) a x =
+puts_none (Ok (Run i steps telling)) a x =
     subst (λ (b : Answer). PutsNone b.status b) (sym x.2)
-    (end_none (end_of (last_step (plain steps x.0.state))) (ran x.0 steps) refl)
+    (end_none (end_of (last_step (plain steps x.0.state))) (ran x.0 steps telling) refl)
 puts_none (Ok (Trace i steps)) a x =
     subst (λ (b : Answer). PutsNone b.status b) (sym x.4)
     (end_none (trace_of steps x.1).end (traced x.1 steps) refl)
 puts_none (Ok (Put name d)) a x = subst (λ (b : Answer). PutsNone b.status b) (sym x.1) tt
+puts_none (Ok (Debug i script)) a x = subst (λ (b : Answer). PutsNone b.status b) (sym x.2) tt
+puts_none (Ok (Reach i)) a x = subst (λ (b : Answer). PutsNone b.status b) (sym x.4) tt
 puts_none (Ok (Write text)) a x = subst (λ (b : Answer). PutsNone b.status b) (sym x) tt
 puts_none (Ok (Tell s fuel)) a x =
     subst (λ (b : Answer). PutsNone b.status b) (sym x)

@@ -25,7 +25,7 @@ use Rattle.lcm_cli.specs.Parts.{is_trusted, broken_in, linked, loaded, form_by, 
 use Rattle.lcm_cli.specs.Commands.{linked_parts, linked_image, linked_in}
 use Rattle.proc_sources.specs.Sources.{sourced}
 use Rattle.lcm_cli.specs.Causes.{IsTurn, IsUnread, IsLong, IsUndecoded, IsUncompiled, IsUnassembled}
-use Rattle.lcm_cli.specs.Causes.{PartBreaks, SomeBreaks}
+use Rattle.lcm_cli.specs.Causes.{IsUnscripted, PartBreaks, SomeBreaks}
 use Rattle.lcm_cli.specs.Causes.{AllBreak, LinkBreaks, LinkedCame}
 use Rattle.lcm_cli.proofs.Ends.{comes_split, same_err, ended_unless, not_made, no_rule}
 use Rattle.lcm_cli.proofs.Linking.{image_with, loaded_read}
@@ -70,6 +70,7 @@ FileReason plan old (refusal.File index f) new = IsUndecoded plan old index f ne
 FileReason plan old (refusal.Rule r) new = ⊤
 FileReason plan old (refusal.Image f) new = ⊤
 FileReason plan old (refusal.Feed line) new = ⊤
+FileReason plan old (refusal.Script line) new = IsUnscripted plan old line new
 
 pub reason_first : {A B : Type 0} (p : Plan A) (f : A → Plan B) (old new : FilesSeen) (why : Refusal)
     → FileReason p old why new → FileReason (p >>= f) old why new
@@ -85,6 +86,8 @@ reason_first p f old new (refusal.File index x) h =
 reason_first p f old new (refusal.Rule r) h = tt
 reason_first p f old new (refusal.Image x) h = tt
 reason_first p f old new (refusal.Feed line) h = tt
+reason_first p f old new (refusal.Script line) h =
+    (h.0, (h.1.0, h.1.1, turn_first p f old h.1.1 h.1.0 h.0 h.1.2, h.1.3, h.1.4, h.1.5))
 
 reason_next : {A B : Type 0} (p : Plan A) (f : A → Plan B) (old mid new : FilesSeen) (x : A) (why : Refusal)
     → Comes p old (Ok x) mid → FileReason (f x) mid why new → FileReason (p >>= f) old why new
@@ -102,6 +105,8 @@ reason_next p f old mid new x (refusal.File index y) c h =
 reason_next p f old mid new x (refusal.Rule r) c h = tt
 reason_next p f old mid new x (refusal.Image y) c h = tt
 reason_next p f old mid new x (refusal.Feed line) c h = tt
+reason_next p f old mid new x (refusal.Script line) c h =
+    (h.0, (h.1.0, h.1.1, turn_next p f old mid h.1.1 x h.1.0 h.0 c h.1.2, h.1.3, h.1.4, h.1.5))
 
 -- wherever a plan ends the call, it has a reason
 pub record Reasoned {A : Type 0} (plan : Plan A) : Type 0 where
@@ -130,13 +135,15 @@ reasoned_rule told r k = record {
       let s = e.2 in rw s (k e.0 old new);
 }
 
--- a file is read, and then its bytes alone say how the plan goes on: it ends since the file is too long or unread, or by its bytes
+-- a file is read, and then its bytes alone say how the plan goes on: it ends since the file is too long or
+-- unread, or by its bytes
 abbrev pub ByBytes : {A : Type 0} → List ℕ → ℕ → (List ℕ → Plan A) → Type 0
 ByBytes {A} name index next = (old mid new : FilesSeen) (bytes : List ℕ) (why : Refusal)
     → GivesWhole old name LONGEST_FILE bytes mid → Comes (next bytes) mid (Err why) new
     → FileReason (let p : Plan A = Reads name index next in p) old why new
 
-pub reads_reasoned : {A : Type 0} (name : List ℕ) (index : ℕ) (next : List ℕ → Plan A) → ByBytes name index next
+pub reads_reasoned : {A : Type 0} (name : List ℕ) (index : ℕ) (next : List ℕ → Plan A)
+    → ByBytes name index next
     → Reasoned (let p : Plan A = Reads name index next in p)
 reads_reasoned {A} name index next k = record { gives = by }
   where

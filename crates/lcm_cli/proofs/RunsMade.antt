@@ -9,6 +9,7 @@ use Rattle.command_words.specs.declared.command.LinkDeed.{LinkDeed}
 use Rattle.command_words.specs.declared.command.LinkDeed.TheVariants as link_deed
 use Rattle.command_words.specs.declared.command.Command.{Command}
 use Rattle.command_words.specs.declared.command.Command.TheVariants.{Links}
+use Rattle.authority_report.specs.Entered.{IsLinked, ReportsBoundRuns}
 use Rattle.component_linker.specs.Parts.{PartSeen}
 use Rattle.image_loader.specs.declared.fault.ImageFault.{ImageFault}
 use Rattle.image_loader.specs.declared.fault.ImageFault.TheVariants as image
@@ -31,11 +32,13 @@ use Rattle.lcm_cli.specs.declared.status.Status.{Status}
 use Rattle.lcm_cli.specs.declared.status.Status.TheVariants as status
 use Rattle.lcm_cli.specs.Refusals.{refusal_text, refusal_status, image_status}
 use Rattle.file_plans.specs.Plans.{Plan, Comes}
-use Rattle.lcm_cli.specs.Commands.{Task, Run, Trace, linked_in, link_task, for_task, plan_in}
-use Rattle.lcm_cli.specs.Answers.{Answer, NewFile, Outside, with_files, end_status, ran, traced, refused}
+use Rattle.lcm_cli.specs.Commands.{Lines, Task, Run, Trace, linked_in, link_task, for_task, plan_in}
+use Rattle.lcm_cli.specs.Answers.{Answer, NewFile, Outside, with_files, end_status, writes, ran, traced}
+use Rattle.lcm_cli.specs.Answers.{refused}
 use Rattle.lcm_cli.specs.Answers.{IsPut, IsAnswerOf}
 use Rattle.lcm_cli.specs.Answers.{GivesWhole, whole, unput, unwritten, Answers, answer, nothing}
 use Rattle.lcm_cli.specs.Causes.{IsRunStatus, LinkedCame, Started, text_of_run, RunGiven, TraceGiven, IsCut}
+use Rattle.lcm_cli.specs.Causes.{ReachGiven}
 use Rattle.lcm_cli.specs.Causes.{RunCut, TraceCut}
 use Rattle.lcm_cli.proofs.Tasks.{err_of, made_of}
 use Rattle.lcm_cli.proofs.Reasons.{in_made}
@@ -61,6 +64,7 @@ no_run (refusal.File index f) h = h
 no_run (refusal.Rule r) h = h
 no_run (refusal.Image f) h = no_image_run f h
 no_run (refusal.Feed line) h = h
+no_run (refusal.Script line) h = h
 
 -- a status of a run is of no refusal
 pub refused_none : (why : Refusal) (a : Answer) (ended : Status) → a ≡ refused why → ended ≡ a.status
@@ -70,7 +74,7 @@ refused_none why a ended x e r = no_run why (subst IsRunStatus (e ∙ ap (λ (b 
 -- ---- the start of what is linked
 
 -- what came of the image, and the start of its parts
-abbrev started : HeadlineHolds → (l : Linked) (old seen : FilesSeen) (i : ImageSeen) (start : StartSeen)
+abbrev pub started : HeadlineHolds → (l : Linked) (old seen : FilesSeen) (i : ImageSeen) (start : StartSeen)
     → Comes (linked_in l) old (Ok i) seen → IsStartOf i.parts i.stack start → Started l old seen
 started all l old seen i start c s =
     let came = in_made l old seen i c in
@@ -85,7 +89,7 @@ started all l old seen i start c s =
     }
 
 -- what was due to a deed: a refusal, or what is done with the image that came
-data DeedDue (l : Linked) (deed : LinkDeed) (old seen : FilesSeen) (a : Answer) : Type 0 where
+pub data DeedDue (l : Linked) (deed : LinkDeed) (old seen : FilesSeen) (a : Answer) : Type 0 where
   told : (why : Refusal) → Comes (linked_in l) old (Err why) seen → a ≡ refused why
       → DeedDue l deed old seen a
   made : (i : ImageSeen) → Comes (linked_in l) old (Ok i) seen → IsAnswerOf (Ok (link_task deed i)) a
@@ -99,7 +103,7 @@ due_of l deed old seen (Ok task) a c x =
     let m = made_of (linked_in l) (link_task deed) old seen task c in
     made m.0 m.1 (subst (λ t. IsAnswerOf (Ok t) a) m.2 x)
 
-asked_due : (asked : Option Command) (l : Linked) (deed : LinkDeed) → asked ≡ Some (Links l deed)
+pub asked_due : (asked : Option Command) (l : Linked) (deed : LinkDeed) → asked ≡ Some (Links l deed)
     → (old seen : FilesSeen) (due : Result Task Refusal) (a : Answer) → Comes (plan_in asked) old due seen
     → IsAnswerOf due a → DeedDue l deed old seen a
 asked_due asked l deed e old seen due a c x =
@@ -116,8 +120,8 @@ pub record WholeRun (plan : Plan Task) (old : Outside) (ended : Status) (new : O
   pub is : IsAnswerOf due gives
   pub given : GivesWhole (with_files old seen) gives ended new
 
-pub whole_run : (plan : Plan Task) (old : Outside) (ended : Status) (new : Outside) → Answers plan old ended new
-    → IsRunStatus ended → WholeRun plan old ended new
+pub whole_run : (plan : Plan Task) (old : Outside) (ended : Status) (new : Outside)
+    → Answers plan old ended new → IsRunStatus ended → WholeRun plan old ended new
 whole_run plan old ended new (nothing n) r = absurd (subst IsRunStatus n.status_is r)
 whole_run plan old ended new (answer due a seen c x (unput f i w u k s)) r = absurd (subst IsRunStatus s r)
 whole_run plan old ended new (answer due a seen c x (unwritten p f k s)) r = absurd (subst IsRunStatus s r)
@@ -130,7 +134,7 @@ given_run : HeadlineHolds → (l : Linked) (steps : ℕ) (old : Outside) (seen :
 given_run all l steps old seen ended new a (told why c e) g r =
     absurd (refused_none why a ended e g.status_is r)
 given_run all l steps old seen ended new a (made i c x) g r =
-    let h : GivesWhole (with_files old seen) (ran x.0 steps) ended new =
+    let h : GivesWhole (with_files old seen) (ran x.0 steps Lines) ended new =
     subst (λ b. GivesWhole (with_files old seen) b ended new) x.2 g in
     let p : new.files ≡ seen = h.put in
     record {
@@ -199,7 +203,7 @@ no_image_cut (image.Trailing at) e = cc
 no_image_cut (image.File part f) e = cc
 no_image_cut image.NoMemory e = cc
 
-no_cut : (why : Refusal) → status.WriteFault ≡ refusal_status why → ⊥
+pub no_cut : (why : Refusal) → status.WriteFault ≡ refusal_status why → ⊥
 no_cut refusal.Usage e = cc
 no_cut refusal.ReadFault e = cc
 no_cut (refusal.TooLong index) e = cc
@@ -209,29 +213,31 @@ no_cut (refusal.File index f) e = cc
 no_cut (refusal.Rule r) e = cc
 no_cut (refusal.Image f) e = no_image_cut f e
 no_cut (refusal.Feed line) e = cc
+no_cut (refusal.Script line) e = cc
 
-never_cut : (end : RunEnd) → end ≢ run_end.WriteFault → end_status end ≢ status.WriteFault
+pub never_cut : (end : RunEnd) → end ≢ run_end.WriteFault → end_status end ≢ status.WriteFault
 never_cut run_end.Halted n e = absurd (cc)
 never_cut run_end.Failed n e = absurd (cc)
 never_cut run_end.Running n e = absurd (cc)
 never_cut run_end.WriteFault n e = n refl
 
-run_never : (step : Step) → end_of step ≢ run_end.WriteFault
+pub run_never : (step : Step) → end_of step ≢ run_end.WriteFault
 run_never Went e = cc
 run_never Halted e = cc
 run_never (Failed cause at) e = cc
 
--- the answer that was due where a write failed: of one without a file, and with another status, the text failed
-record Cut (plan : Plan Task) (old new : Outside) : Type 0 where
-  due : Result Task Refusal
-  gives : Answer
-  seen : FilesSeen
-  came : Comes plan old.files due seen
-  is : IsAnswerOf due gives
-  fails : gives.file ≡ None → gives.status ≢ status.WriteFault
+-- the answer that was due where a write failed: of one without a file, and with another status, the text
+-- failed
+pub record Cut (plan : Plan Task) (old new : Outside) : Type 0 where
+  pub due : Result Task Refusal
+  pub gives : Answer
+  pub seen : FilesSeen
+  pub came : Comes plan old.files due seen
+  pub is : IsAnswerOf due gives
+  pub fails : gives.file ≡ None → gives.status ≢ status.WriteFault
       → (new.files ≡ seen) × FailsToWrite old.sink gives.text new.sink
 
-cut_of : (plan : Plan Task) (old : Outside) (ended : Status) (new : Outside) → Answers plan old ended new
+pub cut_of : (plan : Plan Task) (old : Outside) (ended : Status) (new : Outside) → Answers plan old ended new
     → ended ≡ status.WriteFault → Cut plan old new
 cut_of plan old ended new (nothing n) e = absurd (let q : status.NoMemory
     ≡ status.WriteFault = sym n.status_is ∙ e in cc)
@@ -274,6 +280,44 @@ cut_by {old = old} {new = new} k b e n w =
     (λ q. w (sym (ap (λ (a : Answer). a.status) e) ∙ q)) in
     (f.0, cut_text old new k.gives b e f.1)
 
+-- of a start, what linking leaves it as
+pub linked_as : (parts : List PartSeen) (size : ℕ) (s : StartSeen) → IsStartOf parts size s → IsLinked s
+linked_as parts size s h = record {
+  parts = placed parts size;
+  size = size;
+  accepted = h.accepted;
+  rules = h.rules;
+  starts = h.starts;
+}
+
+given_reach : HeadlineHolds → ReportsBoundRuns → (l : Linked) (old : Outside) (seen : FilesSeen)
+    (ended : Status) (new : Outside) (a : Answer) → DeedDue l link_deed.Reach old.files seen a
+    → GivesWhole (with_files old seen) a ended new → IsRunStatus ended → ReachGiven l old ended new
+given_reach all bounds l old seen ended new a (told why c e) g r =
+    absurd (refused_none why a ended e g.status_is r)
+given_reach all bounds l old seen ended new a (made i c x) g r =
+    let h : GivesWhole (with_files old seen) (writes status.Done x.1) ended new =
+    subst (λ b. GivesWhole (with_files old seen) b ended new) x.4 g in
+    let p : new.files ≡ seen = h.put in
+    record {
+      from = started all l old.files new.files i x.0
+          (subst (λ z. Comes (linked_in l) old.files (Ok i) z) (sym p) c) x.2;
+      text = x.1;
+      text_is = x.3;
+      bound = λ part r. bounds x.0 part r (linked_as i.parts i.stack x.0 x.2);
+      status_is = h.status_is;
+      written = h.written;
+      kept_is = h.kept_is;
+    }
+
+pub reaches : HeadlineHolds → ReportsBoundRuns → (asked : Option Command) (old : Outside)
+    (ended : Status) (new : Outside) → Answers (plan_in asked) old ended new → (l : Linked)
+    → asked ≡ Some (Links l link_deed.Reach) → IsRunStatus ended → ReachGiven l old ended new
+reaches all bounds asked old ended new a l e r =
+    let w = whole_run (plan_in asked) old ended new a r in
+    given_reach all bounds l old w.seen ended new w.gives
+    (asked_due asked l link_deed.Reach e old.files w.seen w.due w.gives w.came w.is) w.given r
+
 refused_cut : {plan : Plan Task} {old new : Outside} (l : Linked) (k : Cut plan old new) (why : Refusal)
     → Comes (linked_in l) old.files (Err why) k.seen → k.gives ≡ refused why
     → (w : Refusal) × Comes (linked_in l) old.files (Err w) new.files
@@ -287,7 +331,8 @@ cut_run : HeadlineHolds → (l : Linked) (steps : ℕ) (plan : Plan Task) (old n
     → DeedDue l (link_deed.Run steps) old.files k.seen k.gives → RunCut l steps old new
 cut_run all l steps plan old new k (told why c e) = inl (refused_cut l k why c e)
 cut_run all l steps plan old new k (made i c x) =
-    let f = cut_by k (ran x.0 steps) x.2 refl (never_cut _ (run_never (last_step (plain steps x.0.state)))) in
+    let f = cut_by k (ran x.0 steps Lines) x.2 refl
+    (never_cut _ (run_never (last_step (plain steps x.0.state)))) in
     inr (
       started all l old.files new.files i x.0
           (subst (λ z. Comes (linked_in l) old.files (Ok i) z) (sym f.0) c) x.1,

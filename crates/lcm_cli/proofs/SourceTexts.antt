@@ -32,7 +32,8 @@ front_told xs ys p = (map event_told p.0, ap (map event_told) p.1 ∙ map-append
 tells_of : (words : List PartWord) (stack steps : ℕ) (old : Outside) (status : Status) (new : Outside)
     (run : SourcesRun words stack steps old status new) (fuel : ℕ) (before : Outside) (ended : Status)
     (after : Outside) (told : Told)
-    → told ≡ meaning (map part_of run.modules) stack run.means.items fuel → ended ≡ meaning_status told.end
+    → told ≡ meaning (map part_of run.meant.modules) stack run.meant.means.items fuel
+    → ended ≡ meaning_status told.end
     → Adds before.sink (told_text told) after.sink
     → TellsOfRun words stack steps old status new run fuel before ended after
 tells_of words stack steps old status new run fuel before ended after told is status_is adds =
@@ -44,28 +45,28 @@ tells_of words stack steps old status new run fuel before ended after told is st
       tells = λ end ends enough. (
         ap (λ t. t.end) is ∙ ends.ends fuel enough,
         ap (λ t. map event_told t.events) is ∙ ap (map event_told) (ends.told fuel enough)
-            ∙ sym run.means.out,
+            ∙ sym run.meant.means.out,
       );
       begins = λ begun enough.
           let front =
-          front_told run.means.events told.events
-          (subst (λ t. Prefix run.means.events t.events) (sym is) (begun.begins fuel enough)) in
-          (front.0, front.1 ∙ ap (λ es. es ++ front.0) (sym run.means.out));
+          front_told run.meant.means.events told.events
+          (subst (λ t. Prefix run.meant.means.events t.events) (sym is) (begun.begins fuel enough)) in
+          (front.0, front.1 ∙ ap (λ es. es ++ front.0) (sym run.meant.means.out));
     }
 
 pub mean_tells : MeanTellsRuns
 mean_tells words stack steps old status new run m ms is sources fuel feed before ended after mean same text =
     let start = run.given.from.start in
     let base : stack_base_of mean.modules ≡ (layout start).stack.base =
-    ap stack_base_of same ∙ run.feed.base m ms is in
+    ap stack_base_of same ∙ run.meant.feed.base m ms is in
     let read : fed (layout start).stack.base (text_of_run start steps) ≡ Ok mean.items =
     subst (λ b. fed b (text_of_run start steps) ≡ Ok mean.items) base
     (subst (λ t. fed (stack_base_of mean.modules) t ≡ Ok mean.items) text mean.is_feed) in
-    let items : mean.items ≡ run.means.items =
-    same_items mean.items run.means.items (sym read ∙ run.feed.read) in
+    let items : mean.items ≡ run.meant.means.items =
+    same_items mean.items run.meant.means.items (sym read ∙ run.meant.feed.read) in
     let told : meaning (map part_of mean.modules) stack mean.items fuel
-    ≡ meaning (map part_of run.modules) stack run.means.items fuel =
+    ≡ meaning (map part_of run.meant.modules) stack run.meant.means.items fuel =
     ap (λ ms. meaning (map part_of ms) stack mean.items fuel) same
-    ∙ ap (λ xs. meaning (map part_of run.modules) stack xs fuel) items in
+    ∙ ap (λ xs. meaning (map part_of run.meant.modules) stack xs fuel) items in
     tells_of words stack steps old status new run fuel before ended after
     (meaning (map part_of mean.modules) stack mean.items fuel) told mean.status_is mean.written

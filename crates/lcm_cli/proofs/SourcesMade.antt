@@ -1,5 +1,7 @@
 -- What a run of sources was given from, and what its sources mean.
-use Rattle.std.proofs.Common.{◌≡◌, ℕ, List, Option, Some, sym, ap, subst, ◌∙◌}
+use Rattle.std.proofs.Common.{◌≡◌, ℕ, List, Option, Some, sym, ap, subst, ◌∙◌, inl, inr}
+use Rattle.outside_io.specs.FilesSeen.{FilesSeen}
+use Rattle.outside_io.specs.SinkSeen.{FailsToWrite}
 use Rattle.std.specs.Prelude.{map, Ok}
 use Rattle.command_words.specs.declared.part.PartWord.{PartWord}
 use Rattle.command_words.specs.declared.command.Command.{Command}
@@ -22,11 +24,13 @@ use Rattle.run_items.specs.Items.{item_of, TextsTellItems}
 use Rattle.trace_tool.specs.Feed.{items_of}
 use Rattle.trace_tool.specs.Layout.{layout}
 use Rattle.lcm_cli.specs.declared.status.Status.{Status}
+use Rattle.lcm_cli.specs.declared.status.Status.TheVariants.{WriteFault}
 use Rattle.lcm_cli.specs.Commands.{plan_in}
 use Rattle.lcm_cli.specs.Answers.{Outside, Answers}
-use Rattle.lcm_cli.specs.Causes.{IsRunStatus, RunGiven}
-use Rattle.lcm_cli.specs.SourceRuns.{AllSources, IsFeed, SourcesRun}
-use Rattle.lcm_cli.proofs.RunsMade.{runs}
+use Rattle.lcm_cli.specs.Causes.{IsRunStatus, Started, RunGiven}
+use Rattle.lcm_cli.specs.SourceRuns.{AllSources, IsFeed, SourcesMean, SourcesRun, SourcesCut}
+use Rattle.lcm_cli.specs.SourceRuns.{SourcesTold}
+use Rattle.lcm_cli.proofs.RunsMade.{runs, run_cut}
 use Rattle.lcm_cli.proofs.SourceWords.{SourceLaws, gathered}
 use Rattle.lcm_cli.proofs.SourceFeeds.{among, each_resolved}
 
@@ -53,22 +57,16 @@ pub record RunLaws : Type 0 where
   pub tells : TextsTellItems
   pub keep : LinkedModulesKeepRules
 
-pub sources_run : RunLaws → (asked : Option Command) (old : Outside) (ended : Status) (new : Outside)
-    → Answers (plan_in asked) old ended new → (words : List PartWord) (stack steps : ℕ)
-    → asked ≡ Some (Links (what.Parts words stack) (link_deed.Run steps)) → AllSources words
-    → IsRunStatus ended
-    → SourcesRun words stack steps old ended new
-sources_run laws asked old ended new a words stack steps e sources r =
-    let given : RunGiven (what.Parts words stack) steps old ended new =
-    runs laws.headline asked old ended new a (what.Parts words stack) steps e r in
-    let from = given.from in
-    let g = gathered laws.sources words 0 old.files new.files from.parts sources from.came.0 in
+-- what the sources of a start mean, whose parts came
+sources_mean : RunLaws → (words : List PartWord) (stack steps : ℕ) (old new : FilesSeen) → AllSources words
+    → (from : Started (what.Parts words stack) old new) → SourcesMean words stack steps old new from
+sources_mean laws words stack steps old new sources from =
+    let g = gathered laws.sources words 0 old new from.parts sources from.came.0 in
     let is : IsStartOf from.parts stack from.start =
     subst (λ n. IsStartOf from.parts n from.start) from.came.1 from.linked_start in
     let means : RunMeans (map part_of g.modules) stack from.start steps =
     laws.mean g.modules from.parts stack from.start is g.are steps in
     record {
-      given = given;
       modules = g.modules;
       came = g.came;
       sources = g.are;
@@ -76,3 +74,40 @@ sources_run laws asked old ended new a words stack steps e sources r =
       feed = feed_of laws.begin laws.tells laws.keep g.modules from.parts stack from.start steps is
           g.are means.items means.came;
     }
+
+sources_run : RunLaws → (asked : Option Command) (old : Outside) (ended : Status) (new : Outside)
+    → Answers (plan_in asked) old ended new → (words : List PartWord) (stack steps : ℕ)
+    → asked ≡ Some (Links (what.Parts words stack) (link_deed.Run steps)) → AllSources words
+    → IsRunStatus ended
+    → SourcesRun words stack steps old ended new
+sources_run laws asked old ended new a words stack steps e sources r =
+    let given : RunGiven (what.Parts words stack) steps old ended new =
+    runs laws.headline asked old ended new a (what.Parts words stack) steps e r in
+    record {
+      given = given;
+      meant = sources_mean laws words stack steps old.files new.files sources given.from;
+    }
+
+sources_cut : RunLaws → (asked : Option Command) (old : Outside) (ended : Status) (new : Outside)
+    → Answers (plan_in asked) old ended new → (words : List PartWord) (stack steps : ℕ)
+    → asked ≡ Some (Links (what.Parts words stack) (link_deed.Run steps)) → AllSources words
+    → ended ≡ WriteFault → SourcesCut words stack steps old new
+sources_cut laws asked old ended new a words stack steps e sources w =
+    elim (run_cut laws.headline asked old ended new a (what.Parts words stack) steps e w)
+    as (λ _. SourcesCut words stack steps old new) [
+      | inl r ↦ inl r
+      | inr c ↦ inr (
+        c.0,
+        sources_mean laws words stack steps old.files new.files sources c.0,
+        subst (λ t. FailsToWrite old.sink t new.sink) c.2 c.3,
+      )
+    ]
+
+pub sources_told : RunLaws → (asked : Option Command) (old : Outside) (ended : Status) (new : Outside)
+    → Answers (plan_in asked) old ended new → (words : List PartWord) (stack steps : ℕ)
+    → asked ≡ Some (Links (what.Parts words stack) (link_deed.Run steps)) → AllSources words
+    → SourcesTold words stack steps old ended new
+sources_told laws asked old ended new a words stack steps e sources = (
+  sources_run laws asked old ended new a words stack steps e sources,
+  sources_cut laws asked old ended new a words stack steps e sources,
+)

@@ -1,52 +1,52 @@
 -- Why plans of words end.
-use Rattle.std.proofs.Common.{◌≡◌, ℕ, List, Option, Some, None, refl, sym, subst, true, false}
-use Rattle.std.specs.Prelude.{Bool, Err}
+use Rattle.std.proofs.Common.{◌≡◌, ◌⊎◌, ℕ, List, Option, Some, None, refl, sym, subst, inl, inr}
+use Rattle.std.specs.Prelude.{Err}
 use Rattle.outside_io.specs.FilesSeen.{FilesSeen}
 use Rattle.command_words.specs.declared.command.Linked.{Linked}
 use Rattle.command_words.specs.declared.command.Linked.TheVariants as what
 use Rattle.command_words.specs.declared.command.LinkDeed.{LinkDeed}
 use Rattle.command_words.specs.declared.command.ComponentDeed.{ComponentDeed}
 use Rattle.command_words.specs.declared.command.Command.{Command}
+use Rattle.command_words.specs.declared.command.Command.TheVariants as asked
 use Rattle.command_words.specs.declared.command.Command.TheVariants.{Links, Takes, Checks, Mean, Generate}
 use Rattle.command_words.specs.declared.part.PartWord.{PartWord}
 use Rattle.component_linker.specs.declared.fault.RuleAt.{RuleAt}
+use Rattle.generated_load.specs.Loads.{load_of}
 use Rattle.image_loader.specs.declared.fault.ImageFault.{ImageFault}
 use Rattle.file_plans.specs.declared.refusal.Refusal.{Refusal}
 use Rattle.file_plans.specs.declared.refusal.Refusal.TheVariants as refusal
 use Rattle.file_plans.specs.Plans.{Plan, Ends, Made, Comes}
 use Rattle.lcm_cli.specs.Parts.{component_at, part_at}
 use Rattle.meaning_tool.specs.Subjects.{subject_in}
-use Rattle.lcm_cli.specs.Commands.{Task, is_built, linked_in, for_task}
-use Rattle.lcm_cli.specs.Commands.{link_task, component_task, built_plan, plan_in, is_command}
+use Rattle.lcm_cli.specs.Commands.{Task, linked_in, for_task, link_task, component_task, plan_of, plan_in}
+use Rattle.lcm_cli.specs.Commands.{debug_plan}
+use Rattle.lcm_cli.specs.Loads.{load_image}
 use Rattle.lcm_cli.specs.Causes.{IsUnread, IsLong, IsUndecoded, IsUncompiled, IsUnassembled, IsUnloaded}
-use Rattle.lcm_cli.specs.Causes.{Breaks, IsUnfed}
+use Rattle.lcm_cli.specs.Causes.{IsUnscripted}
+use Rattle.lcm_cli.specs.Causes.{IsUnmade, Breaks, IsUnfed}
 use Rattle.lcm_cli.proofs.Ends.{Never, same_err, never_linked, never_image, never_component, never_part}
 use Rattle.lcm_cli.proofs.Ends.{no_rule}
 use Rattle.lcm_cli.proofs.Reasons.{reason_first, Reasoned, in_reasoned, component_reasoned}
 use Rattle.lcm_cli.proofs.Reasons.{part_reasoned, linked_break, part_breaks, image_fails}
+use Rattle.lcm_cli.proofs.Loads.{never_load, load_ended}
+use Rattle.lcm_cli.proofs.Debugs.{debug_reasoned, never_debug, debug_breaks, debug_unloaded}
 use Rattle.lcm_cli.proofs.Modules.{never_subject, subject_reasoned, modules_break, feed_fails}
 use Rattle.lcm_cli.proofs.Tasks.{err_of}
-
--- words that are a command that is built have its plan, and all others are refused at once
-pub planned : (c : Command) → is_built c ≡ true → plan_in (Some c) ≡ built_plan c
-planned c e = rw e refl
-
-pub unplanned : (asked : Option Command) → is_command asked ≡ false → plan_in asked ≡ Ends refusal.Usage
-unplanned None e = refl
-unplanned (Some c) e = rw e refl
 
 -- ---- why a plan of the words ends
 
 abbrev pub WhyIs : {A : Type 0} → Option Command → Plan A → FilesSeen → Refusal → FilesSeen → Type 0
-WhyIs asked plan old refusal.Usage new = is_command asked ≡ false
+WhyIs asked plan old refusal.Usage new = asked ≡ None
 WhyIs asked plan old refusal.ReadFault new = IsUnread plan old new
 WhyIs asked plan old (refusal.TooLong index) new = IsLong plan old index new
 WhyIs asked plan old (refusal.Assembly index f) new = IsUnassembled plan old index f new
-WhyIs asked plan old (refusal.Source index f) new = IsUncompiled plan old index f new
+WhyIs asked plan old (refusal.Source index f) new =
+    IsUncompiled plan old index f new ⊎ IsUnmade asked (refusal.Source index f)
 WhyIs asked plan old (refusal.File index f) new = IsUndecoded plan old index f new
 WhyIs asked plan old (refusal.Rule r) new = Breaks asked old r new
 WhyIs asked plan old (refusal.Image f) new = IsUnloaded asked old f new
 WhyIs asked plan old (refusal.Feed line) new = IsUnfed asked old line new
+WhyIs asked plan old (refusal.Script line) new = IsUnscripted plan old line new
 
 -- what a plan says of its ends, where it is part of what the words ask for
 record Explains {A : Type 0} (asked : Option Command) (plan : Plan A) (old new : FilesSeen) : Type 0 where
@@ -63,11 +63,13 @@ why_from asked plan old new refusal.ReadFault t h = t.reasoned.gives old new ref
 why_from asked plan old new (refusal.TooLong index) t h = t.reasoned.gives old new (refusal.TooLong index) h
 why_from asked plan old new (refusal.Assembly index f) t h =
     t.reasoned.gives old new (refusal.Assembly index f) h
-why_from asked plan old new (refusal.Source index f) t h = t.reasoned.gives old new (refusal.Source index f) h
+why_from asked plan old new (refusal.Source index f) t h =
+    inl (t.reasoned.gives old new (refusal.Source index f) h)
 why_from asked plan old new (refusal.File index f) t h = t.reasoned.gives old new (refusal.File index f) h
 why_from asked plan old new (refusal.Rule r) t h = t.breaks r h
 why_from asked plan old new (refusal.Image f) t h = t.unloaded f h
 why_from asked plan old new (refusal.Feed line) t h = t.unfed line h
+why_from asked plan old new (refusal.Script line) t h = t.reasoned.gives old new (refusal.Script line) h
 
 -- what is read says why a task doesn't come
 why_first : {A : Type 0} (asked : Option Command) (p : Plan A) (f : A → Task) (old new : FilesSeen)
@@ -79,13 +81,16 @@ why_first asked p f old new (refusal.TooLong index) h =
     reason_first p (λ x. Made (f x)) old new (refusal.TooLong index) h
 why_first asked p f old new (refusal.Assembly index y) h =
     reason_first p (λ x. Made (f x)) old new (refusal.Assembly index y) h
-why_first asked p f old new (refusal.Source index y) h =
-    reason_first p (λ x. Made (f x)) old new (refusal.Source index y) h
+why_first asked p f old new (refusal.Source index y) (inl h) =
+    inl (reason_first p (λ x. Made (f x)) old new (refusal.Source index y) h)
+why_first asked p f old new (refusal.Source index y) (inr h) = inr h
 why_first asked p f old new (refusal.File index y) h =
     reason_first p (λ x. Made (f x)) old new (refusal.File index y) h
 why_first asked p f old new (refusal.Rule r) h = h
 why_first asked p f old new (refusal.Image y) h = h
 why_first asked p f old new (refusal.Feed line) h = h
+why_first asked p f old new (refusal.Script line) h =
+    reason_first p (λ x. Made (f x)) old new (refusal.Script line) h
 
 why_task : {A : Type 0} (asked : Option Command) (p : Plan A) (f : A → Task) (old new : FilesSeen)
     (why : Refusal) → Explains asked p old new → Comes (for_task p f) old (Err why) new
@@ -142,37 +147,63 @@ mean_explains words size fuel feed old new = record {
   unfed = feed_fails words size fuel feed old new;
 }
 
+debug_explains : (l : Linked) (script : List ℕ) (old new : FilesSeen)
+    → Explains (Some (asked.Debug l script)) (debug_plan l script) old new
+debug_explains l script old new = record {
+  reasoned = debug_reasoned l script;
+  no_usage = never_debug refusal.Usage tt tt (never_image refusal.Usage tt) l script;
+  breaks = debug_breaks l script old new;
+  unloaded = debug_unloaded l script old new;
+  unfed = λ line h. absurd (never_debug (refusal.Feed line) tt tt (never_image (refusal.Feed line) tt) l
+      script old new h);
+}
+
+-- ---- a load, which reads nothing: it is refused as a source, or breaks a rule
+
+load_why : (seed : ℕ) (old new : FilesSeen) (why : Refusal)
+    → Comes (load_image (load_of seed)) old (Err why) new
+    → WhyIs (Some (Generate seed)) (plan_of (Generate seed)) old why new
+load_why seed old new (refusal.Source index f) h =
+    inr (load_ended (load_of seed) (refusal.Source index f) old new h)
+load_why seed old new (refusal.Rule r) h = load_ended (load_of seed) (refusal.Rule r) old new h
+load_why seed old new refusal.Usage h = absurd (never_load refusal.Usage tt (load_of seed) old new h)
+load_why seed old new refusal.ReadFault h = absurd (never_load refusal.ReadFault tt (load_of seed) old new h)
+load_why seed old new (refusal.TooLong index) h =
+    absurd (never_load (refusal.TooLong index) tt (load_of seed) old new h)
+load_why seed old new (refusal.Assembly index f) h =
+    absurd (never_load (refusal.Assembly index f) tt (load_of seed) old new h)
+load_why seed old new (refusal.File index f) h =
+    absurd (never_load (refusal.File index f) tt (load_of seed) old new h)
+load_why seed old new (refusal.Image f) h = absurd (never_load (refusal.Image f) tt (load_of seed) old new h)
+load_why seed old new (refusal.Script line) h =
+    absurd (never_load (refusal.Script line) tt (load_of seed) old new h)
+load_why seed old new (refusal.Feed line) h =
+    absurd (never_load (refusal.Feed line) tt (load_of seed) old new h)
+
 -- ---- and so of the words' plan
 
-built_why : (c : Command) (old new : FilesSeen) (why : Refusal) → is_built c ≡ true
-    → Comes (built_plan c) old (Err why) new → WhyIs (Some c) (built_plan c) old why new
-built_why (Links l deed) old new why e h =
+command_why : (c : Command) (old new : FilesSeen) (why : Refusal)
+    → Comes (plan_of c) old (Err why) new → WhyIs (Some c) (plan_of c) old why new
+command_why (Links l deed) old new why h =
     why_task (Some (Links l deed)) (linked_in l) (link_task deed) old new why
     (links_explain l deed old new) h
-built_why (Takes word deed) old new why e h =
+command_why (Takes word deed) old new why h =
     why_task (Some (Takes word deed)) (component_at 0 word) (component_task deed) old new why
     (component_explains word deed old new) h
-built_why (Checks word) old new why e h =
+command_why (Checks word) old new why h =
     why_task (Some (Checks word)) (part_at 0 word) _ old new why (part_explains word old new) h
-built_why (Mean words size fuel feed) old new why e h =
+command_why (Mean words size fuel feed) old new why h =
     why_task (Some (Mean words size fuel feed)) (subject_in words size feed) _ old new why
     (mean_explains words size fuel feed old new) h
-built_why (Generate seed) old new why e h = absurd (cc)
+command_why (asked.Debug l script) old new why h =
+    why_from (Some (asked.Debug l script)) (debug_plan l script) old new why
+    (debug_explains l script old new) h
+command_why (Generate seed) old new why h =
+    load_why seed old new why (err_of (load_image (load_of seed)) _ old new why h)
 
-why_usage : (asked : Option Command) (old new : FilesSeen) (why : Refusal) → is_command asked ≡ false
-    → Comes (let p : Plan Task = Ends refusal.Usage in p) old (Err why) new
-    → WhyIs asked (plan_in asked) old why new
-why_usage asked old new why f h =
-    let e = same_err {A = Task} refusal.Usage why (sym h.0) in
-    subst (λ w. WhyIs asked (plan_in asked) old w new) (sym e) f
-
-pub why_is : (asked : Option Command) (b : Bool) → is_command asked ≡ b
-    → (old new : FilesSeen) (why : Refusal)
+pub why_is : (asked : Option Command) (old new : FilesSeen) (why : Refusal)
     → Comes (plan_in asked) old (Err why) new → WhyIs asked (plan_in asked) old why new
-why_is asked false f old new why h =
-    why_usage asked old new why f (subst (λ p. Comes p old (Err why) new) (unplanned asked f) h)
-why_is None true f old new why h = absurd (cc)
-why_is (Some c) true f old new why h =
-    let p = planned c f in
-    subst (λ q. WhyIs (Some c) q old why new) (sym p)
-    (built_why c old new why f (subst (λ q. Comes q old (Err why) new) p h))
+why_is None old new why h =
+    let e = same_err {A = Task} refusal.Usage why (sym h.0) in
+    subst (λ w. WhyIs None (plan_in None) old w new) (sym e) refl
+why_is (Some c) old new why h = command_why c old new why h

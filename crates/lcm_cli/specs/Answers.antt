@@ -4,6 +4,9 @@ use Rattle.outside_io.specs.Counts.{Rose}
 use Rattle.outside_io.specs.FilesSeen.{FilesSeen, Puts, FailsToPut}
 use Rattle.outside_io.specs.SinkSeen.{SinkSeen, Adds, FailsToWrite}
 use Rattle.outside_io.specs.Whole.{OnlyGave}
+use Rattle.authority_report.specs.Text.{IsReachText}
+use Rattle.debug_tool.specs.Replies.{debug_text}
+use Rattle.generated_load.specs.Loads.{load_steps}
 use Rattle.lcm_machine.specs.Run.{Run as Machine, answer as last_step, plain}
 use Rattle.overlay_machine.specs.Starting.{IsStartOf}
 use Rattle.component_linker.specs.Started.{StartSeen}
@@ -28,7 +31,10 @@ use Rattle.lcm_cli.specs.declared.job.Job.{Job}
 use Rattle.lcm_cli.specs.declared.job.Job.TheVariants as job
 use Rattle.lcm_cli.specs.Refusals.{refusal_text, refusal_status}
 use Rattle.file_plans.specs.Plans.{Plan, Reads, Ends, Made, Comes}
-use Rattle.lcm_cli.specs.Commands.{Task, Run, Trace, Put, Write, Tell, spelling_of, IsReadAgain, ok_text}
+use Rattle.lcm_cli.specs.Commands.{Telling, Lines, Totals, Task, Run, Trace, Reach, Debug, Put, Write}
+use Rattle.lcm_cli.specs.Commands.{Tell, spelling_of}
+use Rattle.lcm_cli.specs.Commands.{IsReadAgain, ok_text}
+use Rattle.lcm_cli.specs.Loads.{totals_text}
 
 -- a file that is put, by its name and its bytes
 pub record NewFile : Type 0 where
@@ -56,11 +62,17 @@ end_status run_end.Failed = MachineFailed
 end_status run_end.Running = StepsUsed
 end_status run_end.WriteFault = WriteFault
 
--- of the plain run from a start: its lines and its end line, and the machine as it left it
-abbrev pub ran : StartSeen → ℕ → Answer
-ran start steps =
+-- what is told of the plain run from a start
+abbrev pub told_run : Telling → StartSeen → ℕ → List ℕ
+told_run Lines start steps = run_text (layout start) start.state steps
+told_run (Totals load) start steps = totals_text load start steps
+
+-- of that run: what is told of it, and the machine as it left it
+abbrev pub ran : StartSeen → ℕ → Telling → Answer
+ran start steps telling =
     let left = plain steps start.state in
-    record (writes (end_status (end_of (last_step left))) (run_text (layout start) start.state steps)) { machine = Some left }
+    let told = writes (end_status (end_of (last_step left))) (told_run telling start steps) in
+    record told { machine = Some left }
 
 -- of an overlay's run: its lines and its end line
 abbrev pub traced : OverlaySeen → ℕ → Answer
@@ -83,14 +95,20 @@ said = writes Done ok_text
 abbrev pub puts : List ℕ → List ℕ → Answer
 puts name bytes = record said { file = Some (record { name = name; bytes = bytes }) }
 
--- the answer to what came of a plan: that of the plain run of the start that the image's parts link to or of its
--- overlay, the file, whose bytes give again what was put, the text, that of the meaning, or the refusal's
+-- the answer to what came of a plan: that of the plain run of the start that the image's parts link to or of
+-- its overlay, the text of what its parts can reach, the replies of a debugger, the file, whose bytes give
+-- again what was put, the text, that of the meaning, or the refusal's
 abbrev pub IsAnswerOf : Result Task Refusal → Answer → Type 0
-IsAnswerOf (Ok (Run i steps)) a =
-    (start : StartSeen) × IsStartOf i.parts i.stack start × (a ≡ ran start steps)
+IsAnswerOf (Ok (Run i steps telling)) a =
+    (start : StartSeen) × IsStartOf i.parts i.stack start × (a ≡ ran start steps telling)
 IsAnswerOf (Ok (Trace i steps)) a =
-    (start : StartSeen) × (overlay : OverlaySeen) × IsStartOf i.parts i.stack start × IsOverlayOf start overlay
-    × (a ≡ traced overlay steps)
+    (start : StartSeen) × (overlay : OverlaySeen) × IsStartOf i.parts i.stack start
+    × IsOverlayOf start overlay × (a ≡ traced overlay steps)
+IsAnswerOf (Ok (Reach i)) a =
+    (start : StartSeen) × (text : List ℕ) × IsStartOf i.parts i.stack start × IsReachText start text
+    × (a ≡ writes Done text)
+IsAnswerOf (Ok (Debug i script)) a =
+    (start : StartSeen) × IsStartOf i.parts i.stack start × (a ≡ writes Done (debug_text start.state script))
 IsAnswerOf (Ok (Put name content)) a = IsReadAgain content × (a ≡ puts name (spelling_of content))
 IsAnswerOf (Ok (Write text)) a = a ≡ writes Done text
 IsAnswerOf (Ok (Tell subject fuel)) a = a ≡ tells (told_of subject fuel)
@@ -143,7 +161,12 @@ pub record GivesNothing (old : Outside) (status : Status) (new : Outside) : Type
 abbrev pub with_files : Outside → FilesSeen → Outside
 with_files old seen = record old { files = seen }
 
--- the answer to what came of the plan is given, or nothing is; `seen` is what the files tell once they were read
+-- an answer is given, or nothing is
+abbrev pub GivesOrNothing : Outside → Answer → Status → Outside → Type 0
+GivesOrNothing old a status new = Gives old a status new ⊎ GivesNothing old status new
+
+-- the answer to what came of the plan is given, or nothing is; `seen` is what the files tell once they were
+-- read
 pub data Answers (plan : Plan Task) (old : Outside) (status : Status) (new : Outside) : Type 0 where
   answer : (due : Result Task Refusal) (a : Answer) (seen : FilesSeen) → Comes plan old.files due seen
       → IsAnswerOf due a → Gives (with_files old seen) a status new → Answers plan old status new
@@ -174,8 +197,8 @@ pub record IsQuiet (old new : Outside) : Type 0 where
 abbrev pub IsComplete : Plan Task → Outside → Status → Outside → Type 0
 IsComplete plan old status new =
     (held : List ℕ → Option (List ℕ)) → old.files.contents ≡ Some held → IsQuiet old new
-    → (status ≡ NoMemory) ⊎ ((a : Answer) × (seen : FilesSeen) × IsWritten held plan a × OnlyGave old.files seen
-    × GivesWhole (with_files old seen) a status new)
+    → (status ≡ NoMemory) ⊎ ((a : Answer) × (seen : FilesSeen) × IsWritten held plan a
+    × OnlyGave old.files seen × GivesWhole (with_files old seen) a status new)
 
 -- ---- bodies
 
@@ -186,15 +209,19 @@ Tells old text status result new =
 
 -- the answer of a job
 abbrev pub job_answer : Job → Answer
-job_answer (job.Run start steps) = ran start steps
+job_answer (job.Run start steps) = ran start steps Lines
+job_answer (job.Generate start load) = ran start load_steps (Totals load)
 job_answer (job.Trace start overlay steps) = traced overlay steps
 job_answer (job.Put out bytes) = puts out bytes
 job_answer (job.Write text) = writes Done text
+job_answer (job.Debug start script) = writes Done (debug_text start.state script)
 job_answer job.Say = said
 job_answer (job.Tell meant) = writes (meaning_status meant.end) meant.text
 
 -- the machine of a job made no step yet, and its overlay is that of its start
 abbrev pub IsReady : Job → Type 0
 IsReady (job.Run start steps) = (start.state.count ≡ 0) × (start.state.end ≡ None)
+IsReady (job.Generate start load) = (start.state.count ≡ 0) × (start.state.end ≡ None)
+IsReady (job.Debug start script) = (start.state.count ≡ 0) × (start.state.end ≡ None)
 IsReady (job.Trace start overlay steps) = IsOverlayOf start overlay
 IsReady _ = Unit {0}

@@ -1,5 +1,5 @@
 -- The causes: what holds of a call wherever it ends with a status.
-use Rattle.std.specs.Prelude.{◌≡◌, ◌⊎◌, ℕ, ◌+◌, ℤ, false, List, [], ◌∷◌, map, Option, Some, None, Ok, Err}
+use Rattle.std.specs.Prelude.{◌≡◌, ◌⊎◌, ℕ, ◌+◌, ℤ, List, [], ◌∷◌, map, Option, Some, None, Ok, Err}
 use Rattle.outside_io.specs.Counts.{Rose}
 use Rattle.outside_io.specs.FilesSeen.{FilesSeen, Puts, KeepsOthers}
 use Rattle.outside_io.specs.SinkSeen.{Adds, FailsToWrite}
@@ -12,7 +12,8 @@ use Rattle.command_words.specs.declared.command.LinkDeed.TheVariants as link_dee
 use Rattle.command_words.specs.declared.command.ComponentDeed.{ComponentDeed}
 use Rattle.command_words.specs.declared.command.ComponentDeed.TheVariants as component_deed
 use Rattle.command_words.specs.declared.command.Command.{Command}
-use Rattle.command_words.specs.declared.command.Command.TheVariants.{Links, Takes, Checks, Mean}
+use Rattle.command_words.specs.declared.command.Command.TheVariants.{Links, Takes, Checks, Mean, Generate}
+use Rattle.command_words.specs.declared.command.Command.TheVariants.{Debug}
 use Rattle.asm_fields.specs.declared.fault.AsmFault.{AsmFault}
 use Rattle.assembler.specs.Assembled.{assembled}
 use Rattle.component_file.specs.declared.fault.FileFault.{FileFault}
@@ -23,6 +24,18 @@ use Rattle.component_linker.specs.declared.fault.RuleAt.{RuleAt}
 use Rattle.component_linker.specs.Parts.{PartSeen}
 use Rattle.image_loader.specs.declared.fault.ImageFault.{ImageFault}
 use Rattle.image_loader.specs.declared.fault.ImageFault.TheVariants as image
+use Rattle.authority_report.specs.declared.reach.Reach.{Reach as Reached}
+use Rattle.authority_report.specs.Report.{Reports}
+use Rattle.authority_report.specs.Entered.{BoundsRuns}
+use Rattle.authority_report.specs.Text.{IsReachText}
+use Rattle.debug_script.specs.declared.command.Command.{Command as Line}
+use Rattle.debug_script.specs.declared.fault.ScriptFault.{ScriptFault}
+use Rattle.debug_script.specs.Script.{scripted}
+use Rattle.debug_tool.specs.Replies.{debug_text, after_commands}
+use Rattle.step_back.specs.declared.debugger.TheConstants.{MOST_DEPTH}
+use Rattle.step_back.specs.Debug.{begun}
+use Rattle.step_back.specs.Calls.{Remembers}
+use Rattle.generated_load.specs.Loads.{load_of, load_steps}
 use Rattle.image_loader.specs.Image.{ImageSeen}
 use Rattle.image_loader.specs.Reading.{image_of}
 use Rattle.overlay_machine.specs.Starting.{IsStartOf}
@@ -62,8 +75,11 @@ use Rattle.lcm_cli.specs.Refusals.{refusal_text, image_status}
 use Rattle.file_plans.specs.Plans.{Plan, Reads, Ends, Made, each_at, Comes}
 use Rattle.component_linker.specs.Accepted.{accepted}
 use Rattle.lcm_cli.specs.Parts.{is_trusted, linked, loaded, component_at, part_at}
-use Rattle.lcm_cli.specs.Commands.{Content, spelling_of, IsReadAgain, Run, Trace, Put, Write, Tell}
-use Rattle.lcm_cli.specs.Commands.{is_command}
+use Rattle.lcm_cli.specs.Commands.{Content, spelling_of, IsReadAgain, Telling, Run, Trace, Put, Write}
+use Rattle.lcm_cli.specs.Commands.{Task, Reach, Tell}
+use Rattle.lcm_cli.specs.Commands as task
+use Rattle.lcm_cli.specs.Loads.{load_image, totals_text}
+use Rattle.lcm_cli.specs.Debugs.{script_line}
 use Rattle.lcm_cli.specs.Commands.{linked_in, plan_in}
 use Rattle.lcm_cli.specs.Answers.{Outside, Answers, IsComplete, end_status, meaning_status}
 
@@ -108,9 +124,16 @@ IsUnassembled plan old index f new = Holds plan old index new (λ text. assemble
 abbrev pub IsUncompiled : {A : Type 0} → Plan A → FilesSeen → ℕ → SourceFault → FilesSeen → Type 0
 IsUncompiled plan old index f new = Holds plan old index new (λ text. sourced text ≡ Err f)
 
+-- the text in the file of this index is no script, and this is its first bad line
+abbrev pub IsUnscripted : {A : Type 0} → Plan A → FilesSeen → ℕ → FilesSeen → Type 0
+IsUnscripted plan old line new =
+    (index : ℕ) × Holds plan old index new
+    (λ text. (f : ScriptFault) × (scripted text ≡ Err f) × (line ≡ script_line f))
+
 -- the name of an image word
 abbrev pub image_in : Option Command → Option (List ℕ)
 image_in (Some (Links (what.Image name) deed)) = Some name
+image_in (Some (Debug (what.Image name) script)) = Some name
 image_in _ = None
 
 -- the file of the image word came whole, and its bytes are no image whose parts link, with this first fault
@@ -119,8 +142,8 @@ IsUnloaded asked old f new =
     (name : List ℕ) × (image_in asked ≡ Some name) × (bytes : List ℕ)
     × ComesWhole old name LONGEST_FILE bytes new × (loaded bytes ≡ Err f)
 
--- the modules of the words came, and then the text of the feed's file, of which this line is the first that has
--- not the form that it must have
+-- the modules of the words came, and then the text of the feed's file, of which this line is the first that
+-- has not the form that it must have
 abbrev pub IsUnfed : Option Command → FilesSeen → ℕ → FilesSeen → Type 0
 IsUnfed (Some (Mean words size fuel feed)) old line new =
     (modules : List ModuleFields) × (mid : FilesSeen) × Comes (each_at module_at 0 words) old (Ok modules) mid
@@ -160,19 +183,27 @@ ModulesBreak old words size r new =
     (modules : List ModuleFields) × Comes (each_at module_at 0 words) old (Ok modules) new
     × (ruled modules size ≡ Err r)
 
--- a rule that the command asks for is broken by the parts of its words
+-- the load of the words' seed, which no file holds, is refused so
+abbrev pub IsUnmade : Option Command → Refusal → Type 0
+IsUnmade (Some (Generate seed)) why = load_image (load_of seed) ≡ Ends why
+IsUnmade _ why = ⊥
+
+-- a rule that the command asks for is broken by the parts of its words, or by those of its load
 abbrev pub Breaks : Option Command → FilesSeen → RuleAt → FilesSeen → Type 0
 Breaks (Some (Links (what.Parts words size) deed)) old r new = LinkBreaks old words size r new
+Breaks (Some (Debug (what.Parts words size) script)) old r new = LinkBreaks old words size r new
 Breaks (Some (Checks word)) old r new = PartBreaks old 0 word r new
 Breaks (Some (Mean words size fuel feed)) old r new = ModulesBreak old words size r new
+Breaks (Some (Generate seed)) old r new = IsUnmade (Some (Generate seed)) (refusal.Rule r)
 Breaks _ old r new = ⊥
 
 -- ---- runs
 
--- the image came, and the plain run of its start came to this
+-- the image came, or the load was made, and the plain run of its start came to this
 abbrev pub Runs : Option Command → FilesSeen → FilesSeen → (Step → Type 0) → Type 0
 Runs asked old new P =
-    (i : ImageSeen) × (steps : ℕ) × Comes (plan_in asked) old (Ok (Run i steps)) new
+    (i : ImageSeen) × (steps : ℕ) × (telling : Telling)
+    × Comes (plan_in asked) old (Ok (Run i steps telling)) new
     × (start : StartSeen) × IsStartOf i.parts i.stack start × P (last_step (plain steps start.state))
 
 -- the image came, and the run of its start's overlay came to this
@@ -195,17 +226,24 @@ IsAtRest e = ((v : ℤ) × (e ≡ meaning_end.Halt v)) ⊎ (e ≡ meaning_end.Wa
 
 -- ---- files that are put, and texts that are written
 
--- the component or the image that the words ask for came, and its file was put under the name of `--out`, whose
--- bytes give just this component or image again
+-- the component or the image that the words ask for came, and its file was put under the name of `--out`,
+-- whose bytes give just this component or image again
 abbrev pub PutsFile : Option Command → FilesSeen → FilesSeen → Type 0
 PutsFile asked old new =
     (name : List ℕ) × (content : Content) × (seen : FilesSeen)
     × Comes (plan_in asked) old (Ok (Put name content)) seen × IsReadAgain content
     × Puts seen new name (spelling_of content)
 
--- what is read came, and this text was to be written, and nothing else to be done
+-- a task that asks for a text to be written: its own, of what parts can reach, or of a debugger's replies
+abbrev pub AsksForText : Task → Type 0
+AsksForText (Write text) = Unit {0}
+AsksForText (Reach i) = Unit {0}
+AsksForText (task.Debug i script) = Unit {0}
+AsksForText _ = ⊥
+
+-- what is read came, and a text was to be written, and nothing else to be done
 abbrev pub Tells : Option Command → FilesSeen → FilesSeen → Type 0
-Tells asked old new = (text : List ℕ) × Comes (plan_in asked) old (Ok (Write text)) new
+Tells asked old new = (t : Task) × AsksForText t × Comes (plan_in asked) old (Ok t) new
 
 -- the name of `--out`
 abbrev pub link_out : LinkDeed → Option (List ℕ)
@@ -239,7 +277,7 @@ pub record Causes (asked : Option Command) (old : Outside) (status : Status) (ne
   pub steps_used : status ≡ StepsUsed → Runs asked old.files new.files (λ step. step ≡ Went)
       ⊎ (Traces asked old.files new.files run_end.Running
       ⊎ Means asked old.files new.files (λ e. e ≡ meaning_end.OutOfFuel))
-  pub usage : status ≡ Usage → is_command asked ≡ false
+  pub usage : status ≡ Usage → asked ≡ None
   pub read_fault : status ≡ ReadFault
       → Rose old.files.failed_reads new.files.failed_reads × IsUnread (plan_in asked) old.files new.files
   -- a write failed, or the put of the file of `--out`
@@ -251,18 +289,21 @@ pub record Causes (asked : Option Command) (old : Outside) (status : Status) (ne
       × IsLong (plan_in asked) old.files index new.files
   pub asm_refused : status ≡ AsmRefused → (index : ℕ) × (f : AsmFault)
       × Wrote (refusal.Assembly index f) old new × IsUnassembled (plan_in asked) old.files index f new.files
-  -- the bytes of a part's file are no component, those of an image's file no image, or the text of a feed's file
-  -- no feed
+  -- the bytes of a part's file are no component, those of an image's file no image, or the text of a feed's
+  -- file no feed
   pub file_refused : status ≡ FileRefused → ((index : ℕ) × (f : FileFault)
       × Wrote (refusal.File index f) old new × IsUndecoded (plan_in asked) old.files index f new.files)
       ⊎ (((f : ImageFault) × (image_status f ≡ FileRefused) × Wrote (refusal.Image f) old new
       × IsUnloaded asked old.files f new.files)
-      ⊎ ((line : ℕ) × Wrote (refusal.Feed line) old new × IsUnfed asked old.files line new.files))
+      ⊎ (((line : ℕ) × Wrote (refusal.Feed line) old new × IsUnfed asked old.files line new.files)
+      ⊎ ((line : ℕ) × Wrote (refusal.Script line) old new
+      × IsUnscripted (plan_in asked) old.files line new.files)))
   -- parts of words break a rule, or those of an image do
   pub rule_broken : status ≡ RuleBroken → (r : RuleAt) × Wrote (refusal.Rule r) old new
       × (Breaks asked old.files r new.files ⊎ IsUnloaded asked old.files (image.Rule r) new.files)
   pub source_refused : status ≡ SourceRefused → (index : ℕ) × (f : SourceFault)
-      × Wrote (refusal.Source index f) old new × IsUncompiled (plan_in asked) old.files index f new.files
+      × Wrote (refusal.Source index f) old new
+      × (IsUncompiled (plan_in asked) old.files index f new.files ⊎ IsUnmade asked (refusal.Source index f))
 
 -- ---- files that stay
 
@@ -304,8 +345,8 @@ LinkedCame (what.Image name) old parts size new =
     × (image_of bytes ≡ Ok (record { stack = size; parts = parts }))
 
 -- the words or the image made parts that keep the rules, and this is the start that they link to. It has the
--- headline: the plain run agrees with the run of the start's overlay, its calls and returns are bracketed, and
--- its frames are private.
+-- headline: the plain run agrees with the run of the start's overlay, its calls and returns are bracketed,
+-- and its frames are private.
 pub record Started (l : Linked) (old new : FilesSeen) : Type 0 where
   pub parts : List PartSeen
   pub size : ℕ
@@ -326,8 +367,48 @@ pub record RunGiven (l : Linked) (steps : ℕ) (old : Outside) (status : Status)
   pub written : Adds old.sink (text_of_run from.start steps) new.sink
   pub kept_is : new.kept ≡ Some (plain steps from.start.state)
 
--- the run of the start's overlay gave the status and the text, and no machine. Its lines are those that a plain
--- run of as many instructions writes.
+-- the load of a seed links, and the plain run of its start gave the status, the text and the machine: its
+-- totals where it halted, and else its end line. The start has the headline.
+pub record LoadGiven (seed : ℕ) (old : Outside) (status : Status) (new : Outside) : Type 0 where
+  pub image : ImageSeen
+  pub made : load_image (load_of seed) ≡ Made image
+  pub start : StartSeen
+  pub linked_start : IsStartOf image.parts image.stack start
+  pub headline : Headline start
+  pub status_is : status ≡ end_status (end_of (last_step (plain load_steps start.state)))
+  pub written : Adds old.sink (totals_text (load_of seed) start load_steps) new.sink
+  pub kept_is : new.kept ≡ Some (plain load_steps start.state)
+  pub files_stay : new.files ≡ old.files
+
+-- what links came and keeps the rules, and the text of what the parts of its start can reach was written.
+-- From each of its entries a part runs within its report.
+pub record ReachGiven (l : Linked) (old : Outside) (status : Status) (new : Outside) : Type 0 where
+  pub from : Started l old.files new.files
+  pub text : List ℕ
+  pub text_is : IsReachText from.start text
+  pub bound : (part : ℕ) (r : Reached) → Reports from.start part r → BoundsRuns from.start part r
+  pub status_is : status ≡ Done
+  pub written : Adds old.sink text new.sink
+  pub kept_is : new.kept ≡ old.kept
+
+-- what links came and keeps the rules, and then the script's file; the replies of a debugger to its commands,
+-- from the start on, were written. Whatever they are, the debugger was in a state of the plain run, and
+-- remembers the states before it.
+pub record DebugGiven (l : Linked) (script : List ℕ) (old : Outside) (status : Status) (new : Outside)
+    : Type 0 where
+  pub mid : FilesSeen
+  pub from : Started l old.files mid
+  pub text : List ℕ
+  pub script_came : ComesWhole mid script LONGEST_FILE text new.files
+  pub lines : List Line
+  pub is_script : scripted text ≡ Ok lines
+  pub status_is : status ≡ Done
+  pub written : Adds old.sink (debug_text from.start.state lines) new.sink
+  pub kept_is : new.kept ≡ old.kept
+  pub remembers : Remembers from.start.state (after_commands lines (begun from.start.state MOST_DEPTH))
+
+-- the run of the start's overlay gave the status and the text, and no machine. Its lines are those that a
+-- plain run of as many instructions writes.
 pub record TraceGiven (l : Linked) (steps : ℕ) (old : Outside) (status : Status)
     (new : Outside) : Type 0 where
   pub from : Started l old.files new.files

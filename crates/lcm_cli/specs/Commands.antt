@@ -1,6 +1,5 @@
 -- What each command does: it reads, with its files in the order of refusals, and what came is for a task.
-use Rattle.std.specs.Prelude.{◌≡◌, ℕ, Bool, true, false, List, codes, Option, Some, None, Ok}
-use Rattle.std.specs.Prelude.{if◌then◌else◌}
+use Rattle.std.specs.Prelude.{◌≡◌, ℕ, List, length, codes, Option, Some, None, Ok}
 use Rattle.command_words.specs.declared.part.PartWord.{PartWord}
 use Rattle.command_words.specs.declared.command.Linked.{Linked}
 use Rattle.command_words.specs.declared.command.Linked.TheVariants as what
@@ -10,15 +9,21 @@ use Rattle.command_words.specs.declared.command.ComponentDeed.{ComponentDeed}
 use Rattle.command_words.specs.declared.command.ComponentDeed.TheVariants as component_deed
 use Rattle.command_words.specs.declared.command.Command.{Command}
 use Rattle.command_words.specs.declared.command.Command.TheVariants.{Links, Takes, Checks, Mean, Generate}
+use Rattle.command_words.specs.declared.command.Command.TheVariants as asked
 use Rattle.component_file.specs.declared.component.ComponentFields.{ComponentFields}
 use Rattle.component_file.specs.Spelling.{spelling}
 use Rattle.component_file.specs.Reading.{decoded}
+use Rattle.debug_script.specs.declared.command.Command.{Command as Line}
 use Rattle.disassembler.specs.Disassembled.{disassembled}
+use Rattle.generated_load.specs.declared.load.Load.{Load}
+use Rattle.generated_load.specs.Loads.{load_of, load_steps}
 use Rattle.image_loader.specs.Image.{ImageSeen, image_bytes}
 use Rattle.file_plans.specs.declared.refusal.Refusal.TheVariants as refusal
 use Rattle.file_plans.specs.Plans.{Plan, Ends, Made, ◌>>=◌, file, unless, each_at}
 use Rattle.meaning_tool.specs.Subjects.{Subject, subject_in}
 use Rattle.lcm_cli.specs.Parts.{linked, loaded, component_at, part_at}
+use Rattle.lcm_cli.specs.Loads.{load_image}
+use Rattle.lcm_cli.specs.Debugs.{script_at}
 
 -- what a file that is put holds: a component, or an image
 pub data Content : Type 0 where
@@ -35,26 +40,25 @@ abbrev pub IsReadAgain : Content → Type 0
 IsReadAgain (OfComponent c) = decoded (spelling c) ≡ Ok c
 IsReadAgain (OfImage i) = loaded (image_bytes i) ≡ Ok i
 
--- what is left to do once the files came: to run the start of an image, or its overlay; to put a file under a
+-- what is told of a run: its lines and its end line; or, of a load, its totals
+pub data Telling : Type 0 where
+  Lines : Telling
+  Totals : (load : Load) → Telling
+
+-- what is left to do once the files came: to run the start of an image, or its overlay, or
+-- to tell what its parts can reach; to debug it by a script; to put a file under a
 -- name, and then to write `ok`; to write a text; or to tell a meaning under so much fuel
 pub data Task : Type 0 where
-  Run : (image : ImageSeen) (steps : ℕ) → Task
+  Run : (image : ImageSeen) (steps : ℕ) (telling : Telling) → Task
   Trace : (image : ImageSeen) (steps : ℕ) → Task
+  Reach : (image : ImageSeen) → Task
+  Debug : (image : ImageSeen) (script : List Line) → Task
   Put : (name : List ℕ) (content : Content) → Task
   Write : (text : List ℕ) → Task
   Tell : (subject : Subject) (fuel : ℕ) → Task
 
 abbrev pub ok_text : List ℕ
 ok_text = codes "ok\n"
-
--- ---- what is built: all but `generate`
-
-abbrev pub is_built : Command → Bool
-is_built (Links l deed) = true
-is_built (Takes word deed) = true
-is_built (Checks word) = true
-is_built (Mean words size fuel feed) = true
-is_built (Generate seed) = false
 
 -- ---- parts that link, with the size of their stack
 
@@ -78,13 +82,21 @@ linked_in (what.Image name) = linked_image name
 -- ---- what is done with what came
 
 abbrev pub link_task : LinkDeed → ImageSeen → Task
-link_task (link_deed.Run steps) i = Run i steps
+link_task (link_deed.Run steps) i = Run i steps Lines
 link_task (link_deed.Trace steps) i = Trace i steps
 link_task (link_deed.Store out) i = Put out (OfImage i)
+link_task link_deed.Reach i = Reach i
 
 abbrev pub component_task : ComponentDeed → ComponentFields → Task
 component_task (component_deed.Put out) c = Put out (OfComponent c)
 component_task component_deed.Show c = Write (disassembled c)
+
+-- what links, and then the script, whose index is the number of parts
+unfoldable pub debug_plan : Linked → List ℕ → Plan Task
+debug_plan l script = do
+  i ← linked_in l
+  lines ← script_at script (length i.parts)
+  Made (Debug i lines)
 
 -- ---- what each command comes to
 
@@ -94,24 +106,19 @@ for_task plan task = do
   x ← plan
   Made (task x)
 
--- parts that link, or an image; one component, of which no rule is asked; one part with its own rules; or
--- modules and a feed
-abbrev pub built_plan : Command → Plan Task
-built_plan (Links l deed) = for_task (linked_in l) (link_task deed)
-built_plan (Takes word deed) = for_task (component_at 0 word) (component_task deed)
-built_plan (Checks word) = for_task (part_at 0 word) (λ part. Write ok_text)
-built_plan (Mean words size fuel feed) = for_task (subject_in words size feed) (λ subject. Tell subject fuel)
-built_plan (Generate seed) = Ends refusal.Usage
-
--- ---- what words ask for: what isn't built is refused as what is no command
-
+-- parts that link, or an image; one component, of which no rule is asked; one part with its own rules;
+-- modules and a feed; or a load
 abbrev pub plan_of : Command → Plan Task
-plan_of c = if is_built c then built_plan c else Ends refusal.Usage
+plan_of (Links l deed) = for_task (linked_in l) (link_task deed)
+plan_of (Takes word deed) = for_task (component_at 0 word) (component_task deed)
+plan_of (Checks word) = for_task (part_at 0 word) (λ part. Write ok_text)
+plan_of (Mean words size fuel feed) = for_task (subject_in words size feed) (λ subject. Tell subject fuel)
+plan_of (asked.Debug l script) = debug_plan l script
+plan_of (Generate seed) =
+    for_task (load_image (load_of seed)) (λ image. Run image load_steps (Totals (load_of seed)))
+
+-- ---- what words ask for
 
 abbrev pub plan_in : Option Command → Plan Task
 plan_in None = Ends refusal.Usage
 plan_in (Some c) = plan_of c
-
-abbrev pub is_command : Option Command → Bool
-is_command None = false
-is_command (Some c) = is_built c

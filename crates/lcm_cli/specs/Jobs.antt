@@ -1,6 +1,8 @@
 -- A job of the code, beside the task of the plan.
 use Rattle.std.specs.Prelude.{◌≡◌, ℕ, List, Result, Ok, Err}
 use Rattle.outside_io.specs.FilesSeen.{FilesSeen}
+use Rattle.authority_report.specs.Text.{IsReachText}
+use Rattle.generated_load.specs.Loads.{load_steps}
 use Rattle.overlay_machine.specs.Starting.{IsStartOf}
 use Rattle.component_linker.specs.Started.{StartSeen}
 use Rattle.overlay_machine.specs.Seen.{IsOverlayOf}
@@ -10,20 +12,32 @@ use Rattle.lcm_cli.specs.declared.job.Job.TheVariants as job
 use Rattle.file_plans.specs.declared.refusal.Stop.{Stop}
 use Rattle.file_plans.specs.Plans.{Plan, Made, Meets, FollowsAs}
 use Rattle.meaning_tool.specs.Subjects.{Subject, IsMeant}
-use Rattle.lcm_cli.specs.Commands.{Task, Run, Trace, Put, Write, Tell, Content, OfImage, spelling_of}
+use Rattle.lcm_cli.specs.Commands.{Telling, Lines, Totals, Task, Run, Trace, Reach, Debug, Put, Write, Tell}
+use Rattle.lcm_cli.specs.Commands.{Content}
+use Rattle.lcm_cli.specs.Commands.{OfImage, spelling_of}
 use Rattle.lcm_cli.specs.Commands.{IsReadAgain}
 use Rattle.lcm_cli.specs.Commands.{ok_text}
 
--- the job runs from the start of the task's image, or from its overlay, or has the bytes of its file, its text
--- or that of its meaning
+-- the text that a task asks to be written: its own, or that of what the parts of its image can reach
+abbrev pub IsTextOf : Task → List ℕ → Type 0
+IsTextOf (Write t) text = text ≡ t
+IsTextOf (Reach i) text = (start : StartSeen) × IsStartOf i.parts i.stack start × IsReachText start text
+IsTextOf _ text = ⊥
+
+-- the job runs from the start of the task's image or load, or from its overlay, or has the bytes of its file,
+-- its text or that of its meaning
 abbrev pub Does : Task → Job → Type 0
 Does task (job.Run start steps) =
-    (i : ImageSeen) × (task ≡ Run i steps) × IsStartOf i.parts i.stack start
+    (i : ImageSeen) × (task ≡ Run i steps Lines) × IsStartOf i.parts i.stack start
+Does task (job.Generate start load) =
+    (i : ImageSeen) × (task ≡ Run i load_steps (Totals load)) × IsStartOf i.parts i.stack start
 Does task (job.Trace start overlay steps) =
     (i : ImageSeen) × (task ≡ Trace i steps) × IsStartOf i.parts i.stack start × IsOverlayOf start overlay
 Does task (job.Put out bytes) =
     (content : Content) × (task ≡ Put out content) × IsReadAgain content × (bytes ≡ spelling_of content)
-Does task (job.Write text) = task ≡ Write text
+Does task (job.Write text) = IsTextOf task text
+Does task (job.Debug start script) =
+    (i : ImageSeen) × (task ≡ Debug i script) × IsStartOf i.parts i.stack start
 Does task job.Say = task ≡ Write ok_text
 Does task (job.Tell meant) = (s : Subject) × (fuel : ℕ) × (task ≡ Tell s fuel) × IsMeant fuel s meant
 

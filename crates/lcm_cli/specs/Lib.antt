@@ -1,8 +1,11 @@
 pub mod Status
 pub mod Refusals
 pub mod Parts
+pub mod Loads
+pub mod Debugs
 pub mod Commands
 pub mod Jobs
 pub mod Answers
 pub mod Causes
 pub mod SourceRuns
+pub mod SafeRuns

@@ -1,5 +1,5 @@
--- The parts of part words: read, length, form, rules C, and K where it is trusted; and then the rules L of all of
--- them. And those of an image.
+-- The parts of part words: read, length, form, rules C, and K where it is trusted; and then the rules L of
+-- all of them. And those of an image.
 use Rattle.std.specs.Prelude.{ℕ, Bool, true, false, List, map, Result, Ok, Err}
 use Rattle.assembler.specs.Assembled.{assembled}
 use Rattle.command_words.specs.declared.part.Mark.{Mark}

@@ -81,6 +81,10 @@ image_text f = form_text f
 abbrev pub feed_text : ℕ → List ℕ
 feed_text line = codes "feed " ++ decimal line ++ codes "\n"
 
+-- the line of the script
+abbrev pub script_text : ℕ → List ℕ
+script_text line = codes "script " ++ decimal line ++ codes "\n"
+
 abbrev pub image_status : ImageFault → Status
 image_status (image.Rule broken) = status.RuleBroken
 image_status f = status.FileRefused
@@ -95,6 +99,7 @@ refusal_text (refusal.File part f) = file_text part f
 refusal_text (refusal.Rule broken) = rule_line broken
 refusal_text (refusal.Image f) = image_text f
 refusal_text (refusal.Feed line) = feed_text line
+refusal_text (refusal.Script line) = script_text line
 
 abbrev pub refusal_status : Refusal → Status
 refusal_status refusal.Usage = status.Usage
@@ -106,3 +111,4 @@ refusal_status (refusal.File part f) = status.FileRefused
 refusal_status (refusal.Rule broken) = status.RuleBroken
 refusal_status (refusal.Image f) = image_status f
 refusal_status (refusal.Feed line) = status.FileRefused
+refusal_status (refusal.Script line) = status.FileRefused

@@ -1,7 +1,7 @@
 -- Runs of parts of which every trusted one is a source.
-use Rattle.std.specs.Prelude.{◌≡◌, ℕ, ◌≤◌, Bool, true, false, List, [], ◌∷◌, ◌++◌, map, Ok}
+use Rattle.std.specs.Prelude.{◌≡◌, ◌⊎◌, ℕ, ◌≤◌, Bool, true, false, List, [], ◌∷◌, ◌++◌, map, Ok, Err}
 use Rattle.outside_io.specs.FilesSeen.{FilesSeen}
-use Rattle.outside_io.specs.SinkSeen.{Adds}
+use Rattle.outside_io.specs.SinkSeen.{Adds, FailsToWrite}
 use Rattle.outside_io.specs.Whole.{GivesWhole as ComesWhole}
 use Rattle.command_words.specs.declared.command.Linked.TheVariants as what
 use Rattle.command_words.specs.declared.part.Ending.TheVariants.{Source}
@@ -23,12 +23,17 @@ use Rattle.trace_tool.specs.Feed.{outs_of, OutEvent as Event}
 use Rattle.trace_tool.specs.Headline.{written as written_lines}
 use Rattle.run_items.specs.Items.{event_told}
 use Rattle.file_plans.specs.declared.TheConstants.{LONGEST_FILE}
+use Rattle.file_plans.specs.declared.refusal.Refusal.{Refusal}
+use Rattle.file_plans.specs.Plans.{Comes}
 use Rattle.lcm_cli.specs.declared.status.Status.{Status}
 use Rattle.lcm_cli.specs.Parts.{is_trusted}
+use Rattle.lcm_cli.specs.Commands.{linked_in}
+use Rattle.lcm_cli.specs.Refusals.{refusal_text}
 use Rattle.proc_semantics.specs.Meaning.{meaning}
 use Rattle.meaning_text.specs.Text.{told_text}
 use Rattle.lcm_cli.specs.Answers.{Outside, meaning_status}
-use Rattle.lcm_cli.specs.Causes.{RunGiven, text_of_run, MeaningGiven}
+use Rattle.lcm_cli.specs.declared.status.Status.TheVariants.{WriteFault}
+use Rattle.lcm_cli.specs.Causes.{IsRunStatus, Started, RunGiven, text_of_run, MeaningGiven}
 
 -- every trusted word is a source
 abbrev pub AllSources : List PartWord → Type 0
@@ -57,17 +62,38 @@ pub record IsFeed (modules : List ModuleFields) (stack : ℕ) (start : StartSeen
   pub base : (m : ModuleFields) (others : List ModuleFields) → modules ≡ m ∷ others
       → stack_base_of modules ≡ (layout start).stack.base
 
--- a run whose trusted parts are sources: the plain run gave the status, the text and the machine; the trusted
--- parts that it started from are the components of the modules, in their order; what its lines tell is what
--- these modules mean, by the feed that its text is
+-- the trusted parts that a run starts from are the components of the modules that the words' texts spell, in
+-- their order; what its lines tell is what these modules mean, by the feed that its text is
+pub record SourcesMean (words : List PartWord) (stack steps : ℕ) (old new : FilesSeen)
+    (from : Started (what.Parts words stack) old new) : Type 0 where
+  pub modules : List ModuleFields
+  pub came : SourcesCame words old modules new
+  pub sources : AreSources modules from.parts
+  pub means : RunMeans (map part_of modules) stack from.start steps
+  pub feed : IsFeed modules stack from.start steps means.items
+
+-- a run whose trusted parts are sources: the plain run gave the status, the text and the machine, and its
+-- lines are told by what the sources mean
 pub record SourcesRun (words : List PartWord) (stack steps : ℕ) (old : Outside) (status : Status)
     (new : Outside) : Type 0 where
   pub given : RunGiven (what.Parts words stack) steps old status new
-  pub modules : List ModuleFields
-  pub came : SourcesCame words old.files modules new.files
-  pub sources : AreSources modules given.from.parts
-  pub means : RunMeans (map part_of modules) stack given.from.start steps
-  pub feed : IsFeed modules stack given.from.start steps means.items
+  pub meant : SourcesMean words stack steps old.files new.files given.from
+
+-- the sink failed at the line of the refusal that was due, or at the text of such a run, whose lines, also
+-- those that weren't written, are told by what the sources mean
+abbrev pub SourcesCut : List PartWord → ℕ → ℕ → Outside → Outside → Type 0
+SourcesCut words stack steps old new =
+    ((why : Refusal) × Comes (linked_in (what.Parts words stack)) old.files (Err why) new.files
+    × FailsToWrite old.sink (refusal_text why) new.sink)
+    ⊎ ((from : Started (what.Parts words stack) old.files new.files)
+    × SourcesMean words stack steps old.files new.files from
+    × FailsToWrite old.sink (text_of_run from.start steps) new.sink)
+
+-- what is promised of a run of sources, by its status
+abbrev pub SourcesTold : List PartWord → ℕ → ℕ → Outside → Status → Outside → Type 0
+SourcesTold words stack steps old status new =
+    (IsRunStatus status → SourcesRun words stack steps old status new)
+    × (status ≡ WriteFault → SourcesCut words stack steps old new)
 
 -- what `mean` wrote and answered is of the very meaning that the run's lines are told by. With fuel enough it
 -- tells just the events that went out by those lines, wherever they are all of the meaning's; and it begins
@@ -76,15 +102,17 @@ pub record TellsOfRun (words : List PartWord) (stack steps : ℕ) (first : Outsi
     (last : Outside) (run : SourcesRun words stack steps first answered last) (fuel : ℕ) (old : Outside)
     (status : Status) (new : Outside) : Type 0 where
   pub told : Told
-  pub told_is : told ≡ meaning (map part_of run.modules) stack run.means.items fuel
+  pub told_is : told ≡ meaning (map part_of run.meant.modules) stack run.meant.means.items fuel
   pub status_is : status ≡ meaning_status told.end
   pub written : Adds old.sink (told_text told) new.sink
   pub tells : (end : End)
-      (ends : MeaningEnds (map part_of run.modules) stack run.means.items run.means.events end)
+      (ends : MeaningEnds (map part_of run.meant.modules) stack run.meant.means.items
+      run.meant.means.events end)
       → ends.enough ≤ fuel
       → (told.end ≡ end) × (map event_told told.events ≡ outs_of (written_lines run.given.from.start steps))
   pub begins :
-      (begun : MeaningBegins (map part_of run.modules) stack run.means.items run.means.events)
+      (begun : MeaningBegins (map part_of run.meant.modules) stack run.meant.means.items
+      run.meant.means.events)
       → begun.enough ≤ fuel
       → (more : List Event) × (map event_told told.events
       ≡ outs_of (written_lines run.given.from.start steps) ++ more)
@@ -94,9 +122,9 @@ abbrev pub MeanTellsRuns : Type 0
 MeanTellsRuns =
     (words : List PartWord) (stack steps : ℕ) (old : Outside) (status : Status) (new : Outside)
     (run : SourcesRun words stack steps old status new) (m : ModuleFields) (others : List ModuleFields)
-    → run.modules ≡ m ∷ others
+    → run.meant.modules ≡ m ∷ others
     → (sources : List PartWord) (fuel : ℕ) (feed : List ℕ)
     (before : Outside) (ended : Status) (after : Outside)
     (mean : MeaningGiven sources stack fuel feed before ended after)
-    → mean.modules ≡ run.modules → mean.text ≡ text_of_run run.given.from.start steps
+    → mean.modules ≡ run.meant.modules → mean.text ≡ text_of_run run.given.from.start steps
     → TellsOfRun words stack steps old status new run fuel before ended after

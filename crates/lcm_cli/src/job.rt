@@ -2,22 +2,29 @@
 ghost use Rattle.std.specs.Prelude.{◌≡◌, ◌≤◌, IfOk, IfErr, length};
 ghost use Rattle.command_words.specs.declared.command.LinkDeed.TheVariants as link_deed;
 ghost use Rattle.lcm_cli.specs.Parts.{part_at, component_at};
-ghost use Rattle.lcm_cli.specs.Commands.{is_built, ok_text, Write, linked_in, link_task, component_task};
-ghost use Rattle.lcm_cli.specs.Commands.{for_task};
-ghost use Rattle.lcm_cli.specs.Commands.{built_plan, plan_of, Tell};
+ghost use Rattle.generated_load.specs.Loads.{load_of, load_steps};
+ghost use Rattle.outside_io.specs.FilesSeen.{FilesSeen};
+ghost use Rattle.lcm_cli.specs.Commands.{ok_text, Run, Write, Tell, Totals};
+ghost use Rattle.lcm_cli.specs.Commands.{linked_in, link_task, component_task, for_task, plan_of};
+ghost use Rattle.lcm_cli.specs.Loads.{load_image};
 ghost use Rattle.lcm_cli.specs.Jobs.{Does, FollowsTask};
 ghost use Rattle.meaning_tool.specs.Subjects.{subject_in};
 
+use crate::debugging::debug_job;
+use crate::load::load_start;
 use crate::part::{component, part};
 use crate::start::{image_bytes, start};
+use authority_report::reach_text;
 use cap_words::Items;
 use command_words::{
-    Command, ComponentDeed, FileName, LinkDeed, Linked, PartWord, PartWords, Steps,
+    Command, ComponentDeed, FileName, LinkDeed, Linked, PartWord, PartWords, Seed, Steps,
 };
 use component_file::{Component, encode_component};
 use component_linker::Start;
+use debug_script::Script;
 use disassembler::disassemble;
-use file_plans::{Refusal, Stop};
+use file_plans::Stop;
+use generated_load::{Load, load_of};
 use meaning_tool::{Meaning, meant};
 use outside_io::Files;
 use overlay_machine::Overlay;
@@ -28,8 +35,12 @@ use std::alloc::Global;
 pub(crate) enum Job<'a> {
     /// To run from this start for so many steps, and to write how the run ended.
     Run(Start, Steps),
+    /// To run from this start of this load, and to write the totals of the run.
+    Generate(Start, Load),
     /// To run this overlay of this start up to so much weight, and to write how the run ended.
     Trace(Start, Overlay, Steps),
+    /// To debug from this start by this script, and to write the replies.
+    Debug(Start, Script),
     /// To put these bytes into the file of this name, and then to write `ok`.
     Put(FileName<'a>, Items<u8>),
     /// To write this text.
@@ -83,6 +94,16 @@ fn store<'a, F: Files>(
     Ok(Job::Put(out, bytes))
 }
 
+// Makes the text of what parts can reach.
+fn reach<'a, F: Files>(alloc: Global, files: &mut F, what: &Linked<'_>) -> Result<Job<'a>, Stop>
+    ensures { FollowsTask (for_task (linked_in what.now) (link_task link_deed.Reach))
+        (F.seen files.old) result (F.seen files.new) }
+{
+    let start = start(alloc, files, what)?;
+    let text = reach_text(alloc, &start)?;
+    Ok(Job::Write(text))
+}
+
 // What is done with what links.
 fn link_job<'a, F: Files>(
     alloc: Global,
@@ -97,6 +118,7 @@ fn link_job<'a, F: Files>(
         LinkDeed::Run(steps) => run(alloc, files, what, steps),
         LinkDeed::Trace(steps) => trace(alloc, files, what, steps),
         LinkDeed::Store(out) => store(alloc, files, what, out),
+        LinkDeed::Reach => reach(alloc, files, what),
     }
 }
 
@@ -164,32 +186,14 @@ fn mean_job<'a, F: Files>(
     Ok(Job::Tell(meant))
 }
 
-// Whether the command is built.
-fn is_built(command: &Command<'_>) -> bool
-    ensures { result ≡ is_built command.now }
+// Makes the start of a load.
+fn generate_job<'a>(alloc: Global, seed: Seed) -> Result<Job<'a>, Stop>
+    ensures { (seen : FilesSeen) → FollowsTask (for_task (load_image (load_of seed))
+        (λ image. Run image load_steps (Totals (load_of seed)))) seen result seen }
 {
-    match command {
-        Command::Links(_, _) | Command::Takes(_, _) | Command::Checks(_) => true,
-        Command::Mean(_, _, _, _) => true,
-        Command::Generate(_) => false,
-    }
-}
-
-// Reads the files of a command that is built.
-fn built_job<'a, F: Files>(
-    alloc: Global,
-    files: &mut F,
-    command: Command<'a>,
-) -> Result<Job<'a>, Stop>
-    ensures { FollowsTask (built_plan command.entry) (F.seen files.old) result (F.seen files.new) }
-{
-    match command {
-        Command::Links(what, deed) => link_job(alloc, files, &what, deed),
-        Command::Takes(word, deed) => component_job(alloc, files, &word, deed),
-        Command::Checks(word) => part_job(alloc, files, &word),
-        Command::Mean(words, size, fuel, feed) => mean_job(alloc, files, &words, size, fuel, &feed),
-        Command::Generate(_) => Err(Stop::Refused(Refusal::Usage)),
-    }
+    let load = load_of(seed.number());
+    let start = load_start(alloc, load)?;
+    Ok(Job::Generate(start, load))
 }
 
 /// Reads the files of a command in their order, and answers what is left to do.
@@ -200,9 +204,12 @@ pub(crate) fn job_of<'a, F: Files>(
 ) -> Result<Job<'a>, Stop>
     ensures { FollowsTask (plan_of command.entry) (F.seen files.old) result (F.seen files.new) }
 {
-    if is_built(&command) {
-        built_job(alloc, files, command)
-    } else {
-        Err(Stop::Refused(Refusal::Usage))
+    match command {
+        Command::Links(what, deed) => link_job(alloc, files, &what, deed),
+        Command::Takes(word, deed) => component_job(alloc, files, &word, deed),
+        Command::Checks(word) => part_job(alloc, files, &word),
+        Command::Mean(words, size, fuel, feed) => mean_job(alloc, files, &words, size, fuel, &feed),
+        Command::Debug(what, script) => debug_job(alloc, files, &what, &script),
+        Command::Generate(seed) => generate_job(alloc, seed),
     }
 }

@@ -10,6 +10,9 @@ ghost use Rattle.lcm_cli.specs.Parts.{linked, loaded};
 ghost use Rattle.lcm_cli.specs.Commands.{plan_in};
 ghost use Rattle.lcm_cli.specs.Answers.{Answer, IsWritten};
 ghost use Rattle.lcm_cli.specs.SourceRuns.{MeanTellsRuns};
+ghost use Rattle.lcm_cli.specs.SafeRuns.{SafeSinksHoldRuns};
+
+use authority_report::laws::reports_are_one;
 
 /// Parts together are refused for the first of the rules of linking that they break, in the first part and
 /// at the first place there, and for nothing else.
@@ -27,7 +30,9 @@ pub fn linked_images_are_loaded()
 pub fn one_answer()
     ensures { (asked : Option Command) (held : List ℕ → Option (List ℕ)) (a b : Answer)
         → IsWritten held (plan_in asked) a → IsWritten held (plan_in asked) b → a ≡ b }
-{}
+{
+    reports_are_one();
+}
 
 /// `mean`, asked of the sources of a run over the text of that run, with the same size of stack, writes the
 /// text of the very meaning that the run's lines are told by, where it ends with 0, 1 or 2: with fuel enough
@@ -36,4 +41,10 @@ pub fn one_answer()
 /// text may.
 pub fn mean_tells_runs()
     ensures { MeanTellsRuns }
+{}
+
+/// Over an empty [`SafeSink`](outside_io::SafeSink) that has room for a byte more at least than the text that
+/// is due, no `run` ends with WriteFault: a write of it fails only where it leaves the sink full.
+pub fn safe_sinks_hold_runs()
+    ensures { SafeSinksHoldRuns }
 {}

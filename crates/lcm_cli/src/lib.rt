@@ -1,9 +1,11 @@
 //! The top call: all that the program does, over files and a sink that the caller hands in.
 #![tactic(auto)]
 
+mod debugging;
 mod job;
 pub mod laws;
 mod lines;
+mod load;
 mod part;
 mod refusal_line;
 mod start;

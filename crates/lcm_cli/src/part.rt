@@ -43,8 +43,8 @@ fn assemble_at(alloc: Global, index: u32, text: &[u8]) -> Result<Component, Stop
     }
 }
 
-// The component of a source.
-fn compile_at(alloc: Global, index: u32, text: &[u8]) -> Result<Component, Stop>
+/// The component of a source.
+pub(crate) fn compile_at(alloc: Global, index: u32, text: &[u8]) -> Result<Component, Stop>
     requires { length text.now < 2 ^ 32 }
     ensures { Meets (unless (refusal.Source index) (sourced text.now)) result }
 {
@@ -87,10 +87,10 @@ fn is_trusted(mark: Mark) -> bool
     mark == Mark::Trusted
 }
 
-// The part of a component that keeps its own rules.
-fn accept_at(component: Component, index: u32, trusted: bool) -> Result<Part, Stop>
-    ensures { Meets (unless (broken_in index) (accepted (record { component = component; trusted = trusted })))
-        result }
+/// The part of a component that keeps its own rules.
+pub(crate) fn accept_at(component: Component, index: u32, trusted: bool) -> Result<Part, Stop>
+    ensures { Meets (unless (broken_in index)
+        (accepted (record { component = component; trusted = trusted }))) result }
 {
     match accept(component, trusted) {
         Ok(part) => Ok(part),

@@ -3,7 +3,8 @@ ghost use Rattle.std.specs.Prelude.{◌≡◌, ◌+◌, ◌≤◌, ◌<◌, ◌+
 ghost use Rattle.arrayvec.specs.ArrayString.{array_string_len};
 ghost use Rattle.lcm_cli.specs.Refusals.{asm_number_text, assembly_text, file_text, rule_line, form_text};
 ghost use Rattle.lcm_cli.specs.Refusals.{source_number_text, source_place, source_text};
-ghost use Rattle.lcm_cli.specs.Refusals.{image_text, feed_text, image_status, refusal_text, refusal_status};
+ghost use Rattle.lcm_cli.specs.Refusals.{image_text, feed_text, script_text, image_status};
+ghost use Rattle.lcm_cli.specs.Refusals.{refusal_text, refusal_status};
 
 use crate::status::Status;
 use arrayvec::ArrayString;
@@ -156,6 +157,15 @@ fn push_feed(line: &mut ArrayString<64>, number: u64)
     line.push_str("\n");
 }
 
+fn push_script(line: &mut ArrayString<64>, number: u32)
+    requires { line.old.bytes ≡ [] }
+    ensures { line.new.bytes ≡ script_text number }
+{
+    line.push_str("script ");
+    push_number(line, number);
+    line.push_str("\n");
+}
+
 /// The line that a refusal writes.
 pub(crate) fn refusal_line(why: Refusal) -> ArrayString<64>
     ensures text { result.bytes ≡ refusal_text why }
@@ -176,6 +186,7 @@ pub(crate) fn refusal_line(why: Refusal) -> ArrayString<64>
         Refusal::Rule(broken) => push_rule(&mut line, broken),
         Refusal::Image(fault) => push_image(&mut line, fault),
         Refusal::Feed(number) => push_feed(&mut line, number),
+        Refusal::Script(number) => push_script(&mut line, number),
     }
     line
 }
@@ -202,6 +213,6 @@ pub(crate) fn refusal_status(why: Refusal) -> Status
         Refusal::File(_, _) => Status::FileRefused,
         Refusal::Rule(_) => Status::RuleBroken,
         Refusal::Image(fault) => image_status(fault),
-        Refusal::Feed(_) => Status::FileRefused,
+        Refusal::Feed(_) | Refusal::Script(_) => Status::FileRefused,
     }
 }

@@ -18,8 +18,8 @@ use image_loader::{ImageFault, load_image, write_image};
 use outside_io::Files;
 use std::alloc::Global;
 
-// The start of parts that keep the rules of linking.
-fn start_of(alloc: Global, parts: &Items<Part>, size: u32) -> Result<Start, Stop>
+/// The start of parts that keep the rules of linking.
+pub(crate) fn start_of(alloc: Global, parts: &Items<Part>, size: u32) -> Result<Start, Stop>
     requires { length parts.now < 2 ^ 32 }
     ensures rules { Meets (unless Rule (linked parts.now size)) (without result) }
     ensures linked { IfOk result (IsStartOf parts.now size) }

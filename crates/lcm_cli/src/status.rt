@@ -12,7 +12,7 @@ pub enum Status {
     MachineFailed,
     /// The machine neither halted nor failed within its steps or its weight, or the meaning ran out of fuel.
     StepsUsed,
-    /// The words are no command, or ask for something that isn't built.
+    /// The words are no command.
     Usage,
     /// A file could not be read.
     ReadFault,

@@ -1,31 +1,40 @@
 //! The top call.
-ghost use Rattle.std.specs.Prelude.{◌≡◌, ◌⊎◌, ◌<◌, ℕ, List, Some, None, false, length};
+ghost use Rattle.std.specs.Prelude.{◌≡◌, ◌⊎◌, ◌<◌, ◌≤◌, ◌^◌, ℕ, List, Some, None, length};
 ghost use Rattle.command_words.specs.declared.command.LinkDeed.TheVariants as link_deed;
-ghost use Rattle.command_words.specs.declared.command.Command.TheVariants.{Links, Mean};
+ghost use Rattle.command_words.specs.declared.command.Command.TheVariants.{Links, Mean, Generate};
+ghost use Rattle.command_words.specs.declared.command.Command.TheVariants as asked;
 ghost use Rattle.command_words.specs.declared.part.PartWord.{PartWord};
 ghost use Rattle.command_words.specs.declared.command.Linked.{Linked};
 ghost use Rattle.command_words.specs.declared.command.Linked.TheVariants as what;
 ghost use Rattle.command_words.specs.Action.{asked_in};
 ghost use Rattle.command_words.specs.Texts.{texts};
 ghost use Rattle.lcm_cli.specs.declared.job.Job.TheVariants as job;
-ghost use Rattle.lcm_cli.specs.Commands.{plan_in, is_command};
+ghost use Rattle.lcm_cli.specs.Commands.{plan_in, Totals};
+ghost use Rattle.trace_tool.specs.Runs.{end_of};
 ghost use Rattle.lcm_cli.specs.Jobs.{FollowsTask};
 ghost use Rattle.overlay_machine.specs.Seen.{IsOverlayOf};
-ghost use Rattle.lcm_cli.specs.Answers.{Answers, Gives, Tells, outside, end_status, meaning_status, refused};
-ghost use Rattle.lcm_cli.specs.Answers.{job_answer, IsReady};
+ghost use Rattle.lcm_cli.specs.Answers.{ran, Answers, Gives, Tells, outside, end_status};
+ghost use Rattle.lcm_cli.specs.Answers.{meaning_status, refused};
+ghost use Rattle.lcm_cli.specs.Answers.{GivesOrNothing, job_answer, IsReady};
 ghost use Rattle.lcm_cli.specs.Causes.{Promised, IsRunStatus, RunGiven, TraceGiven, RunCut, TraceCut};
-ghost use Rattle.lcm_cli.specs.Causes.{StayAt, PutsWhole, MeaningGiven};
-ghost use Rattle.lcm_cli.specs.SourceRuns.{AllSources, SourcesRun};
+ghost use Rattle.lcm_cli.specs.Causes.{StayAt, PutsWhole, MeaningGiven, LoadGiven, ReachGiven, DebugGiven};
+ghost use Rattle.lcm_cli.specs.SourceRuns.{AllSources, SourcesTold};
 
 use crate::job::{Job, job_of};
 use crate::lines::write_lines;
+use crate::load::totals;
 use crate::refusal_line::{refusal_line, refusal_status};
 use crate::status::Status;
+use authority_report::laws::reports_bound_runs;
 use cap_words::Items;
 use command_words::{FileName, Steps, WordsFault, command_of};
 use component_linker::Start;
+use debug_script::Script;
+use debug_tool::laws::commands_remember;
+use debug_tool::{DebugFault, debug};
 use file_plans::{Refusal, Stop};
-use lcm_machine::LcmState;
+use generated_load::{Load, load_steps};
+use lcm_machine::{LcmState, Step};
 use linked_modules::laws::linked_modules_keep_rules;
 use meaning_tool::Meaning;
 use outside_io::{Files, Sink};
@@ -37,7 +46,7 @@ use source_events::End;
 use source_starts::laws::{runs_mean, stacks_begin};
 use std::alloc::Global;
 use trace_tool::laws::the_headline;
-use trace_tool::{RunEnd, run_overlay, run_plain};
+use trace_tool::{RunEnd, run_counted, run_overlay, run_plain};
 
 // Writes a text, and answers the status, or WriteFault where the sink fails.
 fn tell<S: Sink>(out: &mut S, text: &str, status: Status) -> Status
@@ -75,6 +84,43 @@ fn give_run<S: Sink>(start: Start, steps: Steps, out: &mut S, kept: &mut Option<
             *kept = Some(start.into_state());
             end_status(end)
         }
+    }
+}
+
+// The status of a run that came to this step.
+fn step_status(step: Step) -> Status
+    ensures { result ≡ end_status (end_of step) }
+{
+    match step {
+        Step::Went => Status::StepsUsed,
+        Step::Halted => Status::Done,
+        Step::Failed(_, _) => Status::MachineFailed,
+    }
+}
+
+// Runs a load, writes the totals of the run, and hands the machine over where they were written.
+fn give_load<S: Sink>(
+    start: Start,
+    load: Load,
+    steps: u64,
+    out: &mut S,
+    kept: &mut Option<LcmState>,
+) -> Status
+    requires fresh { start.state.count ≡ 0 }
+    requires goes { start.state.end ≡ None }
+    requires count { steps ≤ 2 ^ 63 }
+    ensures { (files : _) → Gives (outside files (S.seen out.old) kept.old)
+        (ran start steps (Totals load)) result (outside files (S.seen out.new) kept.new) }
+{
+    let mut start = start;
+    let run = run_counted(&mut start, steps);
+    let line = totals(load, run, start.state());
+    match out.write(line.as_bytes()) {
+        Ok(()) => {
+            *kept = Some(start.into_state());
+            step_status(run.last)
+        }
+        Err(_) => Status::WriteFault,
     }
 }
 
@@ -132,19 +178,36 @@ fn give_meaning<S: Sink>(meant: &Meaning, out: &mut S) -> Status
     give_text(&meant.text, meaning_status(meant.end), out)
 }
 
+// Debugs from a start by a script, and writes the replies; or memory is refused before the first.
+fn give_debug<S: Sink>(alloc: Global, start: Start, script: &Script, out: &mut S) -> Status
+    requires fresh { start.state.count ≡ 0 }
+    requires goes { start.state.end ≡ None }
+    ensures { (files : _) (kept : _) → GivesOrNothing (outside files (S.seen out.old) kept)
+        (job_answer (job.Debug start script.now)) result (outside files (S.seen out.new) kept) }
+{
+    match debug(alloc, start, script, out) {
+        Ok(()) => Status::Done,
+        Err(DebugFault::WriteFault) => Status::WriteFault,
+        Err(DebugFault::NoMemory) => Status::NoMemory,
+    }
+}
+
 // Does what is left to do, and tells of it.
 fn give<F: Files, S: Sink>(
+    alloc: Global,
     job: Job<'_>,
     files: &mut F,
     out: &mut S,
     kept: &mut Option<LcmState>,
 ) -> Status
     requires { IsReady job }
-    ensures { Gives (outside (F.seen files.old) (S.seen out.old) kept.old) (job_answer job.entry)
+    ensures { GivesOrNothing (outside (F.seen files.old) (S.seen out.old) kept.old) (job_answer job.entry)
         result (outside (F.seen files.new) (S.seen out.new) kept.new) }
 {
     match job {
         Job::Run(start, steps) => give_run(start, steps, out, kept),
+        Job::Generate(start, load) => give_load(start, load, load_steps(), out, kept),
+        Job::Debug(start, script) => give_debug(alloc, start, &script, out),
         Job::Trace(start, overlay, steps) => give_trace(&start, overlay, steps, out),
         Job::Put(name, bytes) => give_file(&name, &bytes, files, out),
         Job::Write(text) => give_text(&text, Status::Done, out),
@@ -185,7 +248,7 @@ fn answer<F: Files, S: Sink>(
         result (outside (F.seen files.new) (S.seen out.new) kept.new) }
 {
     match job_in(alloc, words, files) {
-        Ok(job) => give(job, files, out, kept),
+        Ok(job) => give(alloc, job, files, out, kept),
         Err(Stop::Refused(why)) => refuse(why, out),
         Err(Stop::NoMemory) => Status::NoMemory,
     }
@@ -200,14 +263,19 @@ fn answer<F: Files, S: Sink>(
 /// `NAME.img`, checks and links its parts anew, and runs them so. Where all of that was written, `kept`
 /// holds the machine as the run left it; in every other case, and after any other action, it is as
 /// before. `trace` does the same with the overlay of that start, for as long as the weight of its steps
-/// is at most `--steps`. `link` reads and links parts as `run` does, puts their image under the name of
+/// is at most `--steps`. `reach` takes what `run` takes, and writes what each part of that start can read,
+/// write, run and seal by. `debug` takes them with the script of `--feed`, and writes the replies of a
+/// debugger to its commands. `link` reads and links parts as `run` does, puts their image under the name of
 /// `--out`, and then writes `ok`. `check` reads one part in the same way, `u:NAME` or, by the rules of
 /// trusted parts, `t:NAME`, and writes `ok`. `asm` reads one part, of either mark and a name in `.asm`,
 /// `compile` one of a name in `.prc`; both ask no rules, put its component's file under the name of
 /// `--out`, and then write `ok`. `dis` reads one part of either mark, asks no rules, and writes its
 /// text. `mean` reads 1 to 16 sources `t:NAME.prc` and the feed of `--feed`, and writes what the sources
 /// mean under that feed with a stack of `--stack` words and `--steps` ticks of fuel: a line for each event,
-/// and the end line. Any other words write `usage`.
+/// and the end line. `generate` makes a load from `--seed`, links it as `run` links parts, runs it for
+/// 10,000,000 instructions or up to its end, and writes its numbers, the word in a0 and how many calls
+/// `run` would tell of, or the end line where it didn't halt; `kept` is as after `run`. Any other words
+/// write `usage`.
 pub fn stk_main<F: Files, S: Sink>(
     alloc: Global,
     words: &Vec<String>,
@@ -231,11 +299,11 @@ pub fn stk_main<F: Files, S: Sink>(
         result (outside (F.seen files.new) (S.seen out.new) kept.new) }
 
     // Where every trusted part of a run is a source: what the run's lines tell is what the sources mean,
-    // with the events that code outside caused as input, whatever that code is.
+    // with the events that code outside caused as input, whatever that code is; also where the sink failed.
     ensures sourced { (words_of : List PartWord) (stack steps : ℕ)
         → asked_in (texts words.now.items)
         ≡ Some (Links (what.Parts words_of stack) (link_deed.Run steps))
-        → AllSources words_of → IsRunStatus result → SourcesRun words_of stack steps
+        → AllSources words_of → SourcesTold words_of stack steps
         (outside (F.seen files.old) (S.seen out.old) kept.old)
         result (outside (F.seen files.new) (S.seen out.new) kept.new) }
 
@@ -243,6 +311,20 @@ pub fn stk_main<F: Files, S: Sink>(
     ensures traced { (l : Linked) (steps : ℕ)
         → asked_in (texts words.now.items) ≡ Some (Links l (link_deed.Trace steps))
         → IsRunStatus result → TraceGiven l steps
+        (outside (F.seen files.old) (S.seen out.old) kept.old)
+        result (outside (F.seen files.new) (S.seen out.new) kept.new) }
+
+    // What `reach` writes: what each part of such a start can reach.
+    ensures reached { (l : Linked)
+        → asked_in (texts words.now.items) ≡ Some (Links l link_deed.Reach)
+        → IsRunStatus result → ReachGiven l
+        (outside (F.seen files.old) (S.seen out.old) kept.old)
+        result (outside (F.seen files.new) (S.seen out.new) kept.new) }
+
+    // What `debug` writes: the replies to a script's commands. A state that they tell of is one of the run.
+    ensures debugged { (l : Linked) (script : List ℕ)
+        → asked_in (texts words.now.items) ≡ Some (asked.Debug l script)
+        → IsRunStatus result → DebugGiven l script
         (outside (F.seen files.old) (S.seen out.old) kept.old)
         result (outside (F.seen files.new) (S.seen out.new) kept.new) }
 
@@ -265,17 +347,26 @@ pub fn stk_main<F: Files, S: Sink>(
         (outside (F.seen files.old) (S.seen out.old) kept.old)
         result (outside (F.seen files.new) (S.seen out.new) kept.new) }
 
-    // Words that are no command that is built are refused, unless the sink fails or memory is refused.
-    ensures usage { is_command (asked_in (texts words.now.items)) ≡ false
+    // What a generated load's run writes, answers and hands over. Its start has the headline.
+    ensures generated { (seed : ℕ) → asked_in (texts words.now.items) ≡ Some (Generate seed)
+        → IsRunStatus result → LoadGiven seed
+        (outside (F.seen files.old) (S.seen out.old) kept.old)
+        result (outside (F.seen files.new) (S.seen out.new) kept.new) }
+
+    // Words that are no command are refused, unless the sink fails or memory is refused.
+    ensures usage { asked_in (texts words.now.items) ≡ None
         → (result ≡ Status.Usage) ⊎ ((result ≡ Status.WriteFault) ⊎ (result ≡ Status.NoMemory)) }
 
     // No file is changed but that of `--out`, and that one only where the status is Done or WriteFault.
-    ensures files_stay { StayAt (asked_in (texts words.now.items)) (F.seen files.old) result (F.seen files.new) }
+    ensures files_stay { StayAt (asked_in (texts words.now.items)) (F.seen files.old) result
+        (F.seen files.new) }
 
     // Where no put failed, the file of `--out` is as before or has the bytes of the component or the image.
     ensures put_whole { PutsWhole (asked_in (texts words.now.items)) (F.seen files.old) (F.seen files.new) }
 {
     the_headline();
+    reports_bound_runs();
+    commands_remember();
     a_start_has_one_overlay();
     sources_are_modules();
     runs_mean();

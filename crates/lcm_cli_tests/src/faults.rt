@@ -1,6 +1,8 @@
 //! Faults outside.
-use crate::call::{files, is_told, is_told_unwritten};
+use crate::call::{Case, files, is_told, is_told_unwritten};
+use crate::sources;
 use lcm_cli::Status;
+use outside_io::MemFiles;
 use std::alloc::{AllocError, Global};
 use std::process::Abort;
 use std::test::Fail;
@@ -14,12 +16,41 @@ fn is_unread(rt: &impl Abort, alloc: Global, number: u32) -> Result<(), AllocErr
     is_told(rt, alloc, &mut files, case)
 }
 
+// Where the call of this number fails, reads and puts counted together.
+fn fails_at(
+    rt: &impl Abort,
+    alloc: Global,
+    files: &mut MemFiles,
+    number: u32,
+    case: Case<'_>,
+) -> Result<(), AllocError> {
+    files.fail_at(number);
+    is_told(rt, alloc, files, case)
+}
+
+// Each read of two sources, and each read and the put of an image that is linked.
+fn each_read_and_put_fails(rt: &impl Abort, alloc: Global) -> Result<(), AllocError> {
+    for number in [1, 2, 3, 4] {
+        let deposit = "run --stack 64 --steps 1000 t:bank.prc u:teller.asm";
+        let case = (deposit, Status::ReadFault, "read fault\n", None);
+        fails_at(rt, alloc, &mut sources::files(alloc)?, number, case)?;
+    }
+    let link = "link --stack 4 --out one.img u:one.asm";
+    for number in [1, 2] {
+        let case = (link, Status::ReadFault, "read fault\n", None);
+        fails_at(rt, alloc, &mut files(alloc)?, number, case)?;
+    }
+    let case = (link, Status::WriteFault, "", None);
+    fails_at(rt, alloc, &mut files(alloc)?, 3, case)
+}
+
 #[test]
 fn a_read_that_fails_is_told_at_each_part(rt: HostRuntime) -> Result<(), Fail> {
     // Each of these files is read by two calls: the second one gives no more bytes.
     for number in [1, 2, 3, 4] {
         is_unread(&rt, rt.alloc(), number)?;
     }
+    each_read_and_put_fails(&rt, rt.alloc())?;
     let mut files = files(rt.alloc())?;
     files.fail_at(5);
     let case = (TWO_PARTS, Status::Done, "halted 0 steps 1\n", Some(1));

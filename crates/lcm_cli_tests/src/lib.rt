@@ -10,6 +10,8 @@ mod faults;
 #[cfg(test)]
 mod images;
 #[cfg(test)]
+mod loads;
+#[cfg(test)]
 mod meanings;
 #[cfg(test)]
 mod movable;
@@ -21,6 +23,8 @@ mod runs;
 mod source_faults;
 #[cfg(test)]
 mod sources;
+#[cfg(test)]
+mod starts;
 #[cfg(test)]
 mod texts;
 #[cfg(test)]

@@ -158,7 +158,7 @@ second: xjmp rcode g1
 ";
 
 // Files, and the code and the data of the part `adv` in each.
-static ADVERSARIES: [(&str, &str, &str); 3] = [
+static ADVERSARIES: [(&str, &str, &str); 6] = [
     (
         "twice.asm",
         TWICE,
@@ -170,6 +170,24 @@ static ADVERSARIES: [(&str, &str, &str); 3] = [
         ".int 0\n.int 0\n.import two dbl 0\n",
     ),
     ("gives.asm", "move a0 data\nxjmp rcode rdata\n", ".int 0\n"),
+    // It stores the data half of its way back, and writes over it.
+    (
+        "hides.asm",
+        "store stk rdata\nmove g0 0\nstore stk g0\nxjmp rcode rdata\n",
+        ".int 0\n",
+    ),
+    // It goes back with the lower part of its stack.
+    (
+        "upper.asm",
+        "split stk g0 stk 65560\nxjmp rcode rdata\n",
+        ".int 0\n",
+    ),
+    // It calls `main` each time that it is called.
+    (
+        "calls.asm",
+        "load c1 data\ncca data 1\nload c2 data\nxjmp c1 c2\n",
+        ".int 0\n.int 0\n.import rec main 0\n",
+    ),
 ];
 
 fn add_sources(alloc: Global, files: &mut MemFiles) -> Result<(), AllocError> {
@@ -254,7 +272,7 @@ const MOVED_FRAME_TWICE: &str =
 const TWO_FRAME: &str = " cap(rw,nor,8192,8197,8192) 3 0 0\n";
 
 // The lines of events that some calls write, and the calls, each with what it writes behind them.
-static RUNS: [(&[&str], &[Case<'static>]); 13] = [
+static RUNS: [(&[&str], &[Case<'static>]); 16] = [
     // Files that later calls read.
     (
         &[],
@@ -476,15 +494,98 @@ static RUNS: [(&[&str], &[Case<'static>]); 13] = [
             ),
         ],
     ),
+    // An option's value stands behind a blank, or a `=`.
+    (
+        &[
+            REC_CALLED,
+            REC_FRAME,
+            "ret out rec 0 65596 65599 0 :",
+            REC_FRAME,
+        ],
+        &[
+            (
+                "run --stack 64 t:rec.prc u:back.asm",
+                Status::Done,
+                "halted 7 steps 75\n",
+                Some(75),
+            ),
+            (
+                "run --stack=64 t:rec.prc u:back.asm",
+                Status::Done,
+                "halted 7 steps 75\n",
+                Some(75),
+            ),
+        ],
+    ),
     // The stack is too small for its frame.
     (
         &[],
-        &[(
-            "run --stack 4 t:rec.prc u:back.asm",
-            Status::MachineFailed,
-            "failed 4149 F13 steps 52\n",
-            Some(52),
-        )],
+        &[
+            (
+                "run --stack 4 t:rec.prc u:back.asm",
+                Status::MachineFailed,
+                "failed 4149 F13 steps 52\n",
+                Some(52),
+            ),
+            (
+                "trace --stack 4 t:rec.prc u:back.asm",
+                Status::MachineFailed,
+                "failed 4142 steps 44\n",
+                None,
+            ),
+        ],
+    ),
+    // What it hid or kept is missing where it goes back.
+    (
+        &[REC_CALLED, REC_FRAME],
+        &[
+            (
+                "run --stack 64 t:rec.prc u:hides.asm",
+                Status::MachineFailed,
+                "failed 12291 F6 steps 64\n",
+                Some(64),
+            ),
+            (
+                "trace --stack 64 t:rec.prc u:hides.asm",
+                Status::MachineFailed,
+                "failed 12291 steps 63\n",
+                None,
+            ),
+            (
+                "run --stack 64 t:rec.prc u:upper.asm",
+                Status::MachineFailed,
+                "failed 4158 F14 steps 63\n",
+                Some(63),
+            ),
+            (
+                "trace --stack 64 t:rec.prc u:upper.asm",
+                Status::MachineFailed,
+                "failed 12289 steps 61\n",
+                None,
+            ),
+        ],
+    ),
+    // The stack is used up by calls that stay open.
+    (
+        &[
+            "call out rec 0 65540 65543 0 0 0 0 :",
+            REC_FRAME,
+            "enter rec main cap(rw,lin,65536,65539,65539) 0 0 0 0 pair:rec:0:65540\n",
+        ],
+        &[
+            (
+                "run --stack 8 t:rec.prc u:calls.asm",
+                Status::MachineFailed,
+                "failed 4149 F13 steps 116\n",
+                Some(116),
+            ),
+            (
+                "trace --stack 8 t:rec.prc u:calls.asm",
+                Status::MachineFailed,
+                "failed 4142 steps 108\n",
+                None,
+            ),
+        ],
     ),
     // The steps end amid the words of a call, of which a trace makes one step.
     (
@@ -561,21 +662,59 @@ fn sources_run_with_the_parts_beside_them(rt: HostRuntime) -> Result<(), Fail> {
     Ok(())
 }
 
+// The pieces in which the run of a deposit is written: an entry is one write; a call and a return are each a
+// head, five words and a newline; a leave and the end line are one.
+static PIECES: [&str; 17] = [
+    ENTERED,
+    "call out bank 0 65595 65599 105 0 0 0 :",
+    " cap(rw,nor,8192,8196,8192)",
+    " 105",
+    " 5",
+    " sealed(21,cap(rw,nor,16384,16385,16384))",
+    " sealed(21,cap(rwx,nor,12288,12303,12301))",
+    "\n",
+    "ret out bank 0 65595 65599 105 :",
+    " cap(rw,nor,8192,8196,8192)",
+    " 105",
+    " 5",
+    " sealed(21,cap(rw,nor,16384,16385,16384))",
+    " sealed(21,cap(rwx,nor,12288,12303,12301))",
+    "\n",
+    LEFT,
+    "halted 105 steps 136\n",
+];
+
 static DEPOSITS_UNWRITTEN: [&str; 2] = [
     "run --stack 64 --steps 1000 t:bank.prc u:teller.asm",
     "trace --stack 64 --steps 1000 t:bank.prc u:teller.asm",
 ];
 
-// An entry is one write; a call is a head, five words and a newline; then the return begins.
-fn ninth_write_fails(
+// Where this write fails, the pieces before it stand, of a run and of a trace.
+fn write_fails(
+    rt: &impl Abort,
+    alloc: Global,
+    files: &mut MemFiles,
+    number: u32,
+    text: &str,
+) -> Result<(), AllocError> {
+    for line in &DEPOSITS_UNWRITTEN {
+        let case = (*line, Status::WriteFault, text, None);
+        is_told_unwritten(rt, alloc, files, number, case)?;
+    }
+    Ok(())
+}
+
+fn each_write_fails(
     rt: &impl Abort,
     alloc: Global,
     files: &mut MemFiles,
 ) -> Result<(), AllocError> {
-    let text = format!(in alloc; "{ENTERED}{CALLED}{BEHIND}")?;
-    for line in &DEPOSITS_UNWRITTEN {
-        let case = (*line, Status::WriteFault, text.as_str(), None);
-        is_told_unwritten(rt, alloc, files, 9, case)?;
+    let mut text = String::new(alloc);
+    let mut number = 0;
+    for piece in &PIECES {
+        number += 1;
+        write_fails(rt, alloc, files, number, text.as_str())?;
+        text.push_str(piece)?;
     }
     Ok(())
 }
@@ -623,7 +762,7 @@ fn machines_are_kept(
 #[test]
 fn a_run_that_is_cut_leaves_its_lines_or_its_machine(rt: HostRuntime) -> Result<(), Fail> {
     let mut files = files(rt.alloc())?;
-    ninth_write_fails(&rt, rt.alloc(), &mut files)?;
+    each_write_fails(&rt, rt.alloc(), &mut files)?;
     machines_are_kept(&rt, rt.alloc(), &mut files)?;
     Ok(())
 }

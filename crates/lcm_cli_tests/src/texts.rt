@@ -123,7 +123,7 @@ fn one(alloc: Global, linear: &str, code: &str, data: &str) -> Result<String, Al
 }
 
 // A linear area, words of code and of data, and what a run of the part comes to.
-static LINEAR: [(&str, &str, &str, Case<'static>); 5] = [
+static LINEAR: [(&str, &str, &str, Case<'static>); 7] = [
     (
         "",
         "split stk g0 stk 65539\nhalt\n",
@@ -175,6 +175,29 @@ static LINEAR: [(&str, &str, &str, Case<'static>); 5] = [
         ".cap rw lin 65600 65615 65600\n",
         (
             "run --stack 64 u:one.asm",
+            Status::RuleBroken,
+            "rule 1 L1 0\n",
+            None,
+        ),
+    ),
+    // The overlay does the same.
+    (
+        ".linear 65601 16\n",
+        "load g0 data\nsplice stk stk g0\nhalt\n",
+        ".cap rw lin 65601 65616 65601\n",
+        (
+            "trace --stack 64 u:one.asm",
+            Status::MachineFailed,
+            "failed 101 steps 1\n",
+            None,
+        ),
+    ),
+    (
+        ".linear 65600 16\n",
+        "load g0 data\nsplice stk stk g0\nhalt\n",
+        ".cap rw lin 65600 65615 65600\n",
+        (
+            "trace --stack 64 u:one.asm",
             Status::RuleBroken,
             "rule 1 L1 0\n",
             None,

@@ -72,7 +72,7 @@ static REFUSED: [&str; 29] = [
     "mean --feed one.txt u:one.prc",
     "mean --feed one.txt t:one.asm",
     // What isn't built yet.
-    "generate --seed 1",
+    "generate --steps 5 --seed 1",
 ];
 
 #[test]

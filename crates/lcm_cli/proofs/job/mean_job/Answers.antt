@@ -12,7 +12,8 @@ use Rattle.lcm_cli.specs.Jobs.{FollowsTask}
 use Rattle.lcm_cli.proofs.Tasks.{task_done, task_stops}
 use Rattle.lcm_cli.proofs.job.mean_job.Goals as goal
 
-module _ (words slice : List PartWord) (size : ℕ) (feed : List ℕ) (old new : FilesSeen) (same : slice ≡ words) where
+module _ (words slice : List PartWord) (size : ℕ) (feed : List ℕ) (old new : FilesSeen)
+    (same : slice ≡ words) where
   -- nothing came for a meaning
   stops : (s : Stop) → (let r : Result Subject Stop = Err s in Follows (subject_in slice size feed) old r new)
       → (let r : Result Subject Stop = Err s in Follows (subject_in words size feed) old r new)

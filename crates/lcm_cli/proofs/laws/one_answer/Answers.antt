@@ -2,4 +2,4 @@ use Rattle.lcm_cli.proofs.OneAnswer.{one_answer}
 use Rattle.lcm_cli.proofs.laws.one_answer.Goals as goal
 
 pub returns : goal.returns
-returns c = one_answer
+returns c = one_answer c.reports_are_one.ensures.text

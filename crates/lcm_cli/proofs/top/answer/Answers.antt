@@ -12,4 +12,5 @@ returns-in-Ok g c = answered _ _ c.in-Ok.job _ _ _ c.in-Ok.ensures c.give.ensure
 
 pub returns-in-Err-Refused : goal.returns-in-Err-Refused
 returns-in-Err-Refused g c = answer (Err c.in-Err-Refused.why) _ _
-    (rw c.in-Err-Refused.field-0-is at c.in-Err-Refused.ensures) refl (c.refuse.ensures _ _)
+    (rw c.in-Err-Refused.field-0-is at c.in-Err-Refused.ensures) refl
+    (rw c.in-Err-Refused.field-0-is at (c.refuse.ensures (g.F.Files.seen c.job_in.new.files) c.args.kept.now))

@@ -3,9 +3,11 @@ use Rattle.command_words.specs.Action.{asked_in}
 use Rattle.command_words.specs.Texts.{texts}
 use Rattle.lcm_cli.proofs.Caused.{promised, usage}
 use Rattle.lcm_cli.proofs.Put.{files_stay, put_whole}
+use Rattle.lcm_cli.proofs.LoadsMade.{loads}
+use Rattle.lcm_cli.proofs.DebugsMade.{debugs}
 use Rattle.lcm_cli.proofs.MeaningMade.{means}
-use Rattle.lcm_cli.proofs.SourcesMade.{sources_run}
-use Rattle.lcm_cli.proofs.RunsMade.{runs, traces, run_cut, trace_cut}
+use Rattle.lcm_cli.proofs.SourcesMade.{sources_told}
+use Rattle.lcm_cli.proofs.RunsMade.{runs, traces, reaches, run_cut, trace_cut}
 use Rattle.lcm_cli.proofs.top.stk_main.Goals as goal
 
 pub returns-clause-promised : goal.returns-clause-promised
@@ -18,6 +20,14 @@ returns-clause-ran g c = runs c.the_headline.ensures.holds (asked_in (texts c.ar
 
 pub returns-clause-traced : goal.returns-clause-traced
 returns-clause-traced g c = traces c.the_headline.ensures.holds c.a_start_has_one_overlay.ensures
+    (asked_in (texts c.args.words.now.items)) _ _ _ (rw c.as_slice.ensures.value at c.answer.ensures)
+
+pub returns-clause-reached : goal.returns-clause-reached
+returns-clause-reached g c = reaches c.the_headline.ensures.holds c.reports_bound_runs.ensures.bound
+    (asked_in (texts c.args.words.now.items)) _ _ _ (rw c.as_slice.ensures.value at c.answer.ensures)
+
+pub returns-clause-debugged : goal.returns-clause-debugged
+returns-clause-debugged g c = debugs c.the_headline.ensures.holds c.commands_remember.ensures
     (asked_in (texts c.args.words.now.items)) _ _ _ (rw c.as_slice.ensures.value at c.answer.ensures)
 
 pub returns-clause-run_cut : goal.returns-clause-run_cut
@@ -44,8 +54,12 @@ pub returns-clause-meant : goal.returns-clause-meant
 returns-clause-meant g c = means (asked_in (texts c.args.words.now.items)) _ _ _
     (rw c.as_slice.ensures.value at c.answer.ensures)
 
+pub returns-clause-generated : goal.returns-clause-generated
+returns-clause-generated g c = loads c.the_headline.ensures.holds
+    (asked_in (texts c.args.words.now.items)) _ _ _ (rw c.as_slice.ensures.value at c.answer.ensures)
+
 pub returns-clause-sourced : goal.returns-clause-sourced
-returns-clause-sourced g c = sources_run
+returns-clause-sourced g c = sources_told
     (record {
       headline = c.the_headline.ensures.holds;
       sources = record {

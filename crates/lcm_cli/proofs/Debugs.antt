@@ -1,0 +1,219 @@
+-- What links and is debugged: why its plan ends, and what comes of it.
+use Rattle.std.proofs.Common.{◌≡◌, ◌≢◌, ℕ, ◌<◌, ◌≤◌, ◌^◌, List, length, Some, refl, sym, subst, ◌∙◌, inl, inr}
+use Rattle.std.proofs.Common.{arith}
+use Rattle.std.specs.Prelude.{Result, Ok, Err}
+use Rattle.outside_io.specs.FilesSeen.{FilesSeen}
+use Rattle.outside_io.specs.Whole.{GivesWhole}
+use Rattle.command_words.specs.declared.command.Linked.{Linked}
+use Rattle.command_words.specs.declared.command.Linked.TheVariants as what
+use Rattle.command_words.specs.declared.command.Command.TheVariants as asked
+use Rattle.component_linker.specs.declared.TheConstants.{MOST_PARTS}
+use Rattle.component_linker.specs.declared.fault.RuleAt.{RuleAt}
+use Rattle.component_linker.specs.Parts.{PartSeen}
+use Rattle.component_linker.specs.Standing.{free_of, placed}
+use Rattle.component_linker.specs.Started.{StartSeen}
+use Rattle.component_linker.proofs.LinksKept.{are_linked}
+use Rattle.component_linker.proofs.Settling.{as_many}
+use Rattle.overlay_machine.specs.Starting.{IsStartOf}
+use Rattle.debug_script.specs.declared.command.Command.{Command as Line}
+use Rattle.debug_script.specs.declared.fault.ScriptFault.{ScriptFault}
+use Rattle.debug_script.specs.Script.{scripted}
+use Rattle.image_loader.specs.declared.fault.ImageFault.{ImageFault}
+use Rattle.image_loader.specs.Image.{ImageSeen}
+use Rattle.file_plans.specs.declared.TheConstants.{LONGEST_FILE}
+use Rattle.file_plans.specs.declared.refusal.Refusal.{Refusal}
+use Rattle.file_plans.specs.declared.refusal.Refusal.TheVariants as refusal
+use Rattle.file_plans.specs.declared.refusal.Stop.{Stop}
+use Rattle.file_plans.specs.Plans.{Plan, Made, ◌>>=◌, unless, whole, too_long, unread, Comes, Follows}
+use Rattle.file_plans.proofs.Follow.{comes_bind, comes_made, follows_bind, follows_end}
+use Rattle.lcm_cli.specs.declared.job.Job.TheVariants as job
+use Rattle.lcm_cli.specs.Jobs.{FollowsTask}
+use Rattle.lcm_cli.specs.Commands.{Task, Debug, linked_in, debug_plan}
+use Rattle.lcm_cli.specs.Debugs.{unscripted, script_at}
+use Rattle.lcm_cli.specs.Causes.{Breaks, IsUnloaded}
+use Rattle.lcm_cli.proofs.Ends.{Never, Foreign, comes_split, same_err, ended_unless, not_made, never_bind}
+use Rattle.lcm_cli.proofs.Ends.{never_reads, never_unless, never_linked, never_image}
+use Rattle.lcm_cli.proofs.Reasons.{Reasoned, ByBytes, reason_by, reads_reasoned, reasoned_bind, reasoned_made}
+use Rattle.lcm_cli.proofs.Reasons.{in_reasoned, linked_break, image_fails}
+
+-- the script behind what links
+abbrev pub behind : List ℕ → ImageSeen → Plan Task
+behind script i = script_at script (length i.parts) >>= (λ lines. Made (Debug i lines))
+
+-- ---- why it ends
+
+script_by : (name : List ℕ) (index : ℕ) → ByBytes name index (λ text. unless unscripted (scripted text))
+script_by name index =
+    reason_by unscripted scripted name index
+    (λ old mid text f w e. (index, (name, old, inl (refl, refl, refl), text, w, (f, e, refl))))
+
+script_reasoned : (name : List ℕ) (index : ℕ) → Reasoned (script_at name index)
+unfolding script_at
+script_reasoned name index =
+    reads_reasoned name index (λ text. unless unscripted (scripted text)) (script_by name index)
+
+pub debug_reasoned : (l : Linked) (script : List ℕ) → Reasoned (debug_plan l script)
+unfolding debug_plan
+debug_reasoned l script =
+    reasoned_bind (linked_in l) (behind script) (in_reasoned l)
+    (λ i. reasoned_bind (script_at script (length i.parts)) _ (script_reasoned script (length i.parts))
+    (λ lines. reasoned_made (Debug i lines)))
+
+-- a script ends by its own file alone
+abbrev pub NotOfScript : Refusal → Type 0
+NotOfScript refusal.Usage = Unit {0}
+NotOfScript (refusal.Rule r) = Unit {0}
+NotOfScript (refusal.Image f) = Unit {0}
+NotOfScript (refusal.Feed line) = Unit {0}
+NotOfScript _ = ⊥
+
+not_of_script : (x why : Refusal) → NotOfScript why → x ≡ why → NotOfScript x
+not_of_script x why h e = subst NotOfScript (sym e) h
+
+never_script : (why : Refusal) → NotOfScript why → (name : List ℕ) (index : ℕ)
+    → Never (script_at name index) why
+unfolding script_at
+never_script why h name index =
+    never_reads name index (λ text. unless unscripted (scripted text)) why
+    (not_of_script (refusal.TooLong index) why h) (not_of_script refusal.ReadFault why h)
+    (λ text. never_unless unscripted (scripted text) why (λ f. not_of_script (unscripted f) why h))
+
+never_behind : (why : Refusal) → NotOfScript why → (script : List ℕ) (i : ImageSeen)
+    → Never (behind script i) why
+never_behind why h script i =
+    never_bind (script_at script (length i.parts)) _ why (never_script why h script (length i.parts))
+    (λ lines. not_made (Debug i lines) why)
+
+never_in : (why : Refusal) → Foreign why → ((name : List ℕ) → Never (linked_in (what.Image name)) why)
+    → (l : Linked) → Never (linked_in l) why
+never_in why h image (what.Parts words size) = never_linked why h words size
+never_in why h image (what.Image name) = image name
+
+pub never_debug : (why : Refusal) → NotOfScript why → Foreign why
+    → ((name : List ℕ) → Never (linked_in (what.Image name)) why) → (l : Linked) (script : List ℕ)
+    → Never (debug_plan l script) why
+unfolding debug_plan
+never_debug why s h image l script =
+    never_bind (linked_in l) (behind script) why (never_in why h image l) (never_behind why s script)
+
+-- where its script is not why it ends, what links is
+ends_first : (l : Linked) (script : List ℕ) (old new : FilesSeen) (why : Refusal) → NotOfScript why
+    → Comes (debug_plan l script) old (Err why) new → Comes (linked_in l) old (Err why) new
+unfolding debug_plan
+ends_first l script old new why s h =
+    elim (comes_split (linked_in l) (behind script) old new (Err why) h)
+    as (λ _. Comes (linked_in l) old (Err why) new) [
+      | inl k ↦ absurd (never_behind why s script k.0 k.1 new k.3)
+      | inr k ↦ (let e = same_err why k.0 k.2 in rw (← e) k.1)
+    ]
+
+pub debug_breaks : (l : Linked) (script : List ℕ) (old new : FilesSeen) (r : RuleAt)
+    → Comes (debug_plan l script) old (Err (refusal.Rule r)) new
+    → Breaks (Some (asked.Debug l script)) old r new
+debug_breaks (what.Parts words size) script old new r h =
+    linked_break words size old new r
+    (ends_first (what.Parts words size) script old new (refusal.Rule r) tt h)
+debug_breaks (what.Image name) script old new r h =
+    never_image (refusal.Rule r) tt name old new
+    (ends_first (what.Image name) script old new (refusal.Rule r) tt h)
+
+pub debug_unloaded : (l : Linked) (script : List ℕ) (old new : FilesSeen) (f : ImageFault)
+    → Comes (debug_plan l script) old (Err (refusal.Image f)) new
+    → IsUnloaded (Some (asked.Debug l script)) old f new
+debug_unloaded (what.Parts words size) script old new f h =
+    absurd (never_linked (refusal.Image f) tt words size old new
+    (ends_first (what.Parts words size) script old new (refusal.Image f) tt h))
+debug_unloaded (what.Image name) script old new f h =
+    let g = image_fails name old new f (ends_first (what.Image name) script old new (refusal.Image f) tt h) in
+    (name, refl, g.0, g.1, g.2)
+
+-- ---- what comes of it
+
+-- what links came, and then the script's file
+pub record DebugCame (l : Linked) (script : List ℕ) (old : FilesSeen) (t : Task) (new : FilesSeen)
+    : Type 0 where
+  pub image : ImageSeen
+  pub mid : FilesSeen
+  pub came : Comes (linked_in l) old (Ok image) mid
+  pub text : List ℕ
+  pub script_came : GivesWhole mid script LONGEST_FILE text new
+  pub lines : List Line
+  pub is_script : scripted text ≡ Ok lines
+  pub task : t ≡ Debug image lines
+
+same_task : (x y : Task) → (let r : Result Task Refusal = Ok x in r) ≡ Ok y → x ≡ y
+same_task x y e = cc
+
+module _ (l : Linked) (script : List ℕ) (old : FilesSeen) (t : Task) (new : FilesSeen) where
+  came_by : (i : ImageSeen) (mid : FilesSeen) → Comes (linked_in l) old (Ok i) mid → (text : List ℕ)
+      (seen : FilesSeen) → GivesWhole mid script LONGEST_FILE text seen
+      → (r : Result (List Line) ScriptFault) → scripted text ≡ r
+      → Comes (unless unscripted r >>= (λ lines. Made (Debug i lines))) seen (Ok t) new
+      → DebugCame l script old t new
+  came_by i mid c text seen w (Ok lines) e h = record {
+    image = i;
+    mid = mid;
+    came = c;
+    text = text;
+    script_came = subst (λ z. GivesWhole mid script LONGEST_FILE text z) (sym h.1) w;
+    lines = lines;
+    is_script = e;
+    task = same_task t (Debug i lines) h.0;
+  }
+  came_by i mid c text seen w (Err f) e h = absurd (let k = h.0 in cc)
+
+  came_behind : (i : ImageSeen) (mid : FilesSeen) → Comes (linked_in l) old (Ok i) mid
+      → Comes (behind script i) mid (Ok t) new → DebugCame l script old t new
+  unfolding script_at
+  came_behind i mid c (whole text seen w h) = came_by i mid c text seen w (scripted text) refl h
+  came_behind i mid c (too_long k e) = absurd (cc)
+  came_behind i mid c (unread k e) = absurd (cc)
+
+  pub debug_came : Comes (debug_plan l script) old (Ok t) new → DebugCame l script old t new
+  unfolding debug_plan
+  debug_came h =
+      elim (comes_split (linked_in l) (behind script) old new (Ok t) h)
+      as (λ _. DebugCame l script old t new) [
+        | inl k ↦ came_behind k.0 k.1 k.2 k.3
+        | inr k ↦ absurd (let e = k.2 in cc)
+      ]
+
+-- ---- bodies
+
+-- a start has an owner for each part
+count_of : (parts : List PartSeen) (size : ℕ) (start : StartSeen) → IsStartOf parts size start
+    → length start.owners ≡ length parts
+count_of parts size start is = is.starts.owners.count ∙ as_many (free_of parts size) parts
+
+pub few_owners : (parts : List PartSeen) (size : ℕ) (start : StartSeen) → IsStartOf parts size start
+    → length start.owners < 2 ^ 32
+few_owners parts size start is =
+    let count : length start.owners ≡ length (placed parts size) = is.starts.owners.count in
+    let few : length (placed parts size) ≤ MOST_PARTS =
+    (are_linked (placed parts size) size is.accepted is.rules).few in
+    omega (arith, count, few)
+
+module _ (l : Linked) (script : List ℕ) (i : ImageSeen) (start : StartSeen) (index : ℕ)
+    (old mid new : FilesSeen) (c : Comes (linked_in l) old (Ok i) mid) (is : IsStartOf i.parts i.stack start)
+    (e : index ≡ length start.owners) where
+  pub debug_follows : (lines : List Line) → Comes (script_at script index) mid (Ok lines) new
+      → FollowsTask (debug_plan l script) old (Ok (job.Debug start lines)) new
+  unfolding debug_plan
+  debug_follows lines s =
+      let k : Comes (script_at script (length i.parts)) mid (Ok lines) new =
+      subst (λ n. Comes (script_at script n) mid (Ok lines) new) (e ∙ count_of i.parts i.stack start is) s
+      in (
+        Debug i lines,
+        comes_bind (linked_in l) (behind script) old mid new i (Ok (Debug i lines)) c
+            (comes_made (script_at script (length i.parts)) (λ x. Debug i x) mid new lines k),
+        (i, refl, is),
+      )
+
+  pub debug_stops : (s : Stop) → Follows (script_at script index) mid (Err s) new
+      → FollowsTask (debug_plan l script) old (Err s) new
+  unfolding debug_plan
+  debug_stops s h =
+      let k : Follows (script_at script (length i.parts)) mid (Err s) new =
+      subst (λ n. Follows (script_at script n) mid (Err s) new) (e ∙ count_of i.parts i.stack start is) h in
+      follows_bind (linked_in l) (behind script) old mid new i (Err s) c
+      (follows_end (script_at script (length i.parts)) (λ x. Made (Debug i x)) mid new s k)

@@ -1,0 +1,169 @@
+-- Plans that read nothing, and the loads that they make.
+use Rattle.std.proofs.Common.{◌≡◌, ◌⊎◌, ℕ, List, [], ◌∷◌, Option, Some, refl, sym, ap, subst, ◌∙◌, inl, inr}
+use Rattle.std.proofs.Common.{true, false}
+use Rattle.std.specs.Prelude.{Result, Ok, Err, IfOk}
+use Rattle.outside_io.specs.FilesSeen.{FilesSeen}
+use Rattle.component_linker.specs.Accepted.{accepted}
+use Rattle.component_linker.specs.Parts.{PartSeen}
+use Rattle.component_linker.specs.Started.{StartSeen}
+use Rattle.image_loader.specs.Image.{ImageSeen}
+use Rattle.generated_load.specs.declared.TheConstants.{LOAD_STACK}
+use Rattle.generated_load.specs.declared.load.Load.{Load}
+use Rattle.generated_load.specs.Loads.{load_of, load_steps, module_text, adder}
+use Rattle.proc_sources.specs.Sources.{sourced}
+use Rattle.file_plans.specs.declared.refusal.Refusal.{Refusal}
+use Rattle.file_plans.specs.declared.refusal.Refusal.TheVariants as refusal
+use Rattle.file_plans.specs.declared.refusal.Stop.{Stop}
+use Rattle.file_plans.specs.declared.refusal.Stop.TheVariants.{Refused, NoMemory}
+use Rattle.file_plans.specs.Plans.{Plan, Reads, Ends, Made, ◌>>=◌, unless, Comes, Meets}
+use Rattle.lcm_cli.specs.Parts.{broken_in, linked}
+use Rattle.lcm_cli.specs.Loads.{load_module, load_other, load_parts, load_image}
+use Rattle.lcm_cli.specs.Jobs.{without, MeetsStart, FollowsTask}
+use Rattle.lcm_cli.specs.Commands.{Task, Run, Totals, for_task}
+use Rattle.lcm_cli.specs.declared.job.Job.TheVariants as job
+use Rattle.overlay_machine.specs.Starting.{IsStartOf}
+use Rattle.file_plans.proofs.Follow.{comes_same}
+use Rattle.lcm_cli.proofs.Tasks.{task_done}
+use Rattle.lcm_cli.proofs.Ends.{Never, same_err, not_made, never_unless, never_bind}
+use Rattle.lcm_cli.proofs.Linking.{image_with}
+
+-- ---- bodies
+
+pub meets_bind : {A B : Type 0} (p : Plan A) (f : A → Plan B) (x : A) (r : Result B Stop) → p ≡ Made x
+    → Meets (f x) r → Meets (p >>= f) r
+meets_bind p f x r e m = rw e m
+
+pub meets_end : {A B : Type 0} (p : Plan A) (f : A → Plan B) (s : Stop) → Meets p (Err s)
+    → Meets (p >>= f) (Err s)
+meets_end p f (Refused why) m = rw m refl
+meets_end p f NoMemory m = tt
+
+-- the parts were made, and linking them gave this
+pub load_starts : (load : Load) (parts : List PartSeen) (r : Result StartSeen Stop)
+    → load_parts load ≡ Made parts → Meets (unless refusal.Rule (linked parts LOAD_STACK)) (without r)
+    → IfOk r (IsStartOf parts LOAD_STACK) → MeetsStart (load_image load) r
+unfolding load_image
+load_starts load parts (Ok s) e m links = (image_with LOAD_STACK parts, rw (e, m) refl, links)
+load_starts load parts (Err (Refused why)) e m links = rw (e, m) refl
+load_starts load parts (Err NoMemory) e m links = tt
+
+-- the task of a load that was made
+abbrev pub task_of : ℕ → ImageSeen → Task
+task_of seed i = Run i load_steps (Totals (load_of seed))
+
+pub load_done : (seed : ℕ) (load : Load) (start : StartSeen) → load ≡ load_of seed
+    → MeetsStart (load_image load) (Ok start) → (seen : FilesSeen)
+    → FollowsTask (for_task (load_image (load_of seed)) (task_of seed)) seen
+    (Ok (job.Generate start load)) seen
+load_done seed load start e m seen =
+    let h : MeetsStart (load_image (load_of seed)) (Ok start) =
+    subst (λ x. MeetsStart (load_image x) (Ok start)) e m in
+    task_done (load_image (load_of seed)) (task_of seed) seen seen h.0 (job.Generate start load)
+    (comes_same (load_image (load_of seed)) (Made h.0) seen seen (Ok h.0) h.1 (refl, refl))
+    (h.0, ap (λ x. Run h.0 load_steps (Totals x)) (sym e), h.2)
+
+-- ---- what comes of a plan that reads nothing
+
+abbrev pub IsSettled : {A : Type 0} → Plan A → Type 0
+IsSettled {A} p = ((x : A) × (p ≡ Made x)) ⊎ ((why : Refusal) × (p ≡ Ends why))
+
+settled_unless : {A F : Type 0} (told : F → Refusal) (r : Result A F) → IsSettled (unless told r)
+settled_unless told (Ok x) = inl (x, refl)
+settled_unless told (Err f) = inr (told f, refl)
+
+settled_bind : {A B : Type 0} (p : Plan A) (f : A → Plan B) → IsSettled p → ((x : A) → IsSettled (f x))
+    → IsSettled (p >>= f)
+settled_bind p f (inl m) k = rw m.1 (k m.0)
+settled_bind p f (inr e) k = rw e.1 (inr (e.0, refl))
+
+settled_parts : (load : Load) → IsSettled (load_parts load)
+unfolding load_module load_other load_parts
+settled_parts load =
+    settled_bind _ _
+    (settled_bind _ _ (settled_unless (refusal.Source 0) (sourced (module_text load)))
+    (λ c. settled_unless (broken_in 0) (accepted (record { component = c; trusted = true }))))
+    (λ first. settled_bind _ _
+    (settled_unless (broken_in 1) (accepted (record { component = adder load; trusted = false })))
+    (λ second. inl (_, refl)))
+
+settled_image : (load : Load) → IsSettled (load_image load)
+unfolding load_image
+settled_image load =
+    settled_bind (load_parts load) _ (settled_parts load)
+    (λ parts. settled_bind _ _ (settled_unless refusal.Rule (linked parts LOAD_STACK)) (λ u. inl (_, refl)))
+
+same_ok : {A : Type 0} (x y : A) → (let r : Result A Refusal = Ok x in r) ≡ Ok y → x ≡ y
+same_ok x y e = cc
+
+made_by : {A : Type 0} (p : Plan A) (x : A) (old new : FilesSeen) → IsSettled p → Comes p old (Ok x) new
+    → p ≡ Made x
+made_by p x old new (inl m) h =
+    let c : Comes (Made m.0) old (Ok x) new = subst (λ q. Comes q old (Ok x) new) m.1 h in
+    m.1 ∙ (let e = same_ok x m.0 c.0 in rw e refl)
+made_by {A} p x old new (inr e) h =
+    let c : Comes (let q : Plan A = Ends e.0 in q) old (Ok x) new =
+    subst (λ q. Comes q old (Ok x) new) e.1 h in
+    absurd (let k = c.0 in cc)
+
+ended_by : {A : Type 0} (p : Plan A) (why : Refusal) (old new : FilesSeen) → IsSettled p
+    → Comes p old (Err why) new → p ≡ Ends why
+ended_by {A} p why old new (inl m) h =
+    let c : Comes (Made m.0) old (Err why) new = subst (λ q. Comes q old (Err why) new) m.1 h in
+    absurd (let k = c.0 in cc)
+ended_by {A} p why old new (inr e) h =
+    let c : Comes (let q : Plan A = Ends e.0 in q) old (Err why) new =
+    subst (λ q. Comes q old (Err why) new) e.1 h in
+    e.1 ∙ (let k : why ≡ e.0 = same_err {A = A} e.0 why (sym c.0) in rw k refl)
+
+pub load_made : (load : Load) (image : ImageSeen) (old new : FilesSeen)
+    → Comes (load_image load) old (Ok image) new → load_image load ≡ Made image
+load_made load image old new h = made_by (load_image load) image old new (settled_image load) h
+
+pub comes_stays : (load : Load) (image : ImageSeen) (old new : FilesSeen)
+    → Comes (load_image load) old (Ok image) new → new ≡ old
+comes_stays load image old new h =
+    (subst (λ q. Comes q old (Ok image) new) (load_made load image old new h) h).1
+
+pub load_ended : (load : Load) (why : Refusal) (old new : FilesSeen)
+    → Comes (load_image load) old (Err why) new → load_image load ≡ Ends why
+load_ended load why old new h = ended_by (load_image load) why old new (settled_image load) h
+
+-- ---- how no load ends
+
+abbrev NotOfLoad : Refusal → Type 0
+NotOfLoad (refusal.Source index f) = ⊥
+NotOfLoad (refusal.Rule r) = ⊥
+NotOfLoad _ = Unit {0}
+
+not_of_load : (x why : Refusal) → NotOfLoad why → x ≡ why → NotOfLoad x
+not_of_load x why h e = subst NotOfLoad (sym e) h
+
+never_module : (why : Refusal) → NotOfLoad why → (load : Load) → Never (load_module load) why
+unfolding load_module
+never_module why h load =
+    never_bind _ _ why
+    (never_unless (refusal.Source 0) (sourced (module_text load)) why
+    (λ f. not_of_load (refusal.Source 0 f) why h))
+    (λ c. never_unless (broken_in 0) (accepted (record { component = c; trusted = true })) why
+    (λ b. not_of_load (broken_in 0 b) why h))
+
+never_other : (why : Refusal) → NotOfLoad why → (load : Load) → Never (load_other load) why
+unfolding load_other
+never_other why h load =
+    never_unless (broken_in 1) (accepted (record { component = adder load; trusted = false })) why
+    (λ b. not_of_load (broken_in 1 b) why h)
+
+never_parts : (why : Refusal) → NotOfLoad why → (load : Load) → Never (load_parts load) why
+unfolding load_parts
+never_parts why h load =
+    never_bind (load_module load) _ why (never_module why h load)
+    (λ first. never_bind (load_other load) _ why (never_other why h load)
+    (λ second. not_made (first ∷ second ∷ []) why))
+
+pub never_load : (why : Refusal) → NotOfLoad why → (load : Load) → Never (load_image load) why
+unfolding load_image
+never_load why h load =
+    never_bind (load_parts load) _ why (never_parts why h load)
+    (λ parts. never_bind (unless refusal.Rule (linked parts LOAD_STACK)) _ why
+    (never_unless refusal.Rule (linked parts LOAD_STACK) why (λ r. not_of_load (refusal.Rule r) why h))
+    (λ u. not_made (image_with LOAD_STACK parts) why))

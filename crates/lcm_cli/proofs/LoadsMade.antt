@@ -1,0 +1,58 @@
+-- What the run of a load was given from, and what it wrote.
+use Rattle.std.proofs.Common.{◌≡◌, ℕ, Option, Some, subst, ◌∙◌}
+use Rattle.std.specs.Prelude.{Result, Ok, Err}
+use Rattle.outside_io.specs.FilesSeen.{FilesSeen}
+use Rattle.command_words.specs.declared.command.Command.{Command}
+use Rattle.command_words.specs.declared.command.Command.TheVariants.{Generate}
+use Rattle.component_linker.specs.Standing.{placed}
+use Rattle.image_loader.specs.Image.{ImageSeen}
+use Rattle.generated_load.specs.Loads.{load_of, load_steps}
+use Rattle.trace_tool.specs.Headline.{HeadlineHolds}
+use Rattle.file_plans.specs.declared.refusal.Refusal.{Refusal}
+use Rattle.file_plans.specs.Plans.{Comes}
+use Rattle.lcm_cli.specs.declared.status.Status.{Status}
+use Rattle.lcm_cli.specs.Loads.{load_image}
+use Rattle.lcm_cli.specs.Commands.{Task, Run, Totals, for_task, plan_in}
+use Rattle.lcm_cli.specs.Answers.{Answer, Outside, with_files, ran, IsAnswerOf, GivesWhole, Answers}
+use Rattle.lcm_cli.specs.Causes.{IsRunStatus, LoadGiven}
+use Rattle.lcm_cli.proofs.Loads.{task_of, load_made, comes_stays}
+use Rattle.lcm_cli.proofs.Tasks.{made_of}
+use Rattle.lcm_cli.proofs.RunsMade.{refused_none, whole_run}
+
+module _ (all : HeadlineHolds) (seed : ℕ) (old : Outside) (ended : Status) (new : Outside) where
+  given_load : (seen : FilesSeen) (i : ImageSeen) (a : Answer)
+      → Comes (load_image (load_of seed)) old.files (Ok i) seen
+      → IsAnswerOf (Ok (task_of seed i)) a
+      → GivesWhole (with_files old seen) a ended new → LoadGiven seed old ended new
+  given_load seen i a c x g =
+      let h : GivesWhole (with_files old seen) (ran x.0 load_steps (Totals (load_of seed))) ended new =
+      subst (λ b. GivesWhole (with_files old seen) b ended new) x.2 g in
+      let p : new.files ≡ seen = h.put in
+      record {
+        image = i;
+        made = load_made (load_of seed) i old.files seen c;
+        start = x.0;
+        linked_start = x.1;
+        headline = all (placed i.parts i.stack) i.stack x.0 x.1;
+        status_is = h.status_is;
+        written = h.written;
+        kept_is = h.kept_is;
+        files_stay = p ∙ comes_stays (load_of seed) i old.files seen c;
+      }
+
+  given_due : (seen : FilesSeen) (due : Result Task Refusal) (a : Answer)
+      → Comes (for_task (load_image (load_of seed)) (task_of seed)) old.files due seen
+      → IsAnswerOf due a → GivesWhole (with_files old seen) a ended new → IsRunStatus ended
+      → LoadGiven seed old ended new
+  given_due seen (Err why) a c x g r = absurd (refused_none why a ended x g.status_is r)
+  given_due seen (Ok task) a c x g r =
+      let m = made_of (load_image (load_of seed)) (task_of seed) old.files seen task c in
+      given_load seen m.0 a m.1 (subst (λ t. IsAnswerOf (Ok t) a) m.2 x) g
+
+pub loads : HeadlineHolds → (asked : Option Command) (old : Outside) (ended : Status) (new : Outside)
+    → Answers (plan_in asked) old ended new → (seed : ℕ) → asked ≡ Some (Generate seed) → IsRunStatus ended
+    → LoadGiven seed old ended new
+loads all asked old ended new a seed e r =
+    let w = whole_run (plan_in asked) old ended new a r in
+    given_due all seed old ended new w.seen w.due w.gives
+    (subst (λ q. Comes (plan_in q) old.files w.due w.seen) e w.came) w.is w.given r

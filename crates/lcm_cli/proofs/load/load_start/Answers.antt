@@ -1,0 +1,15 @@
+use Rattle.std.proofs.lemmas.Result.{err_from_is_err_and}
+use Rattle.lcm_cli.specs.Loads.{load_parts, load_image}
+use Rattle.lcm_cli.proofs.Loads.{meets_end, load_starts}
+use Rattle.lcm_cli.proofs.load.load_start.Goals as goal
+
+pub returns-in_err-parts : goal.returns-in_err-parts
+unfolding load_image
+returns-in_err-parts c =
+    let p = err_from_is_err_and c.from_residual.result c.from_residual.ensures.1 in
+    rw (p.1, p.2) (meets_end (load_parts c.args.load) _ c.in_err-parts.field-0.0 c.in_err-parts.ensures.are)
+
+pub returns : goal.returns
+returns c =
+    load_starts c.args.load c.in_ok-parts.parts c.start_of.result c.in_ok-parts.ensures.are
+    c.start_of.ensures.rules c.start_of.ensures.linked
