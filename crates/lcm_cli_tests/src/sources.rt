@@ -710,9 +710,9 @@ fn each_write_fails(
     files: &mut MemFiles,
 ) -> Result<(), AllocError> {
     let mut text = String::new(alloc);
-    let mut number = 0;
+    let mut number: u32 = 0;
     for piece in &PIECES {
-        number += 1;
+        number = number.saturating_add(1);
         write_fails(rt, alloc, files, number, text.as_str())?;
         text.push_str(piece)?;
     }
