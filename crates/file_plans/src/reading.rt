@@ -12,7 +12,7 @@ use std::alloc::Global;
 /// The bytes of a file whose turn it is, at most [`LONGEST_FILE`] of them.
 ///
 /// `index` is what a refusal tells of it: the index of its part, 0 for an image, and the number of parts for
-/// a feed.
+/// a feed or a script.
 pub fn read<F: Files>(
     alloc: Global,
     files: &mut F,

@@ -17,7 +17,8 @@ pub enum Refusal {
     Usage,
     /// A file could not be read.
     ReadFault,
-    /// The file of this part is too long; an image is part 0, and a feed has the number of parts.
+    /// The file of this part is too long; an image is part 0, and a feed or a script has
+    /// the number of parts.
     TooLong(u32),
     /// The assembler text of this part spells no component.
     Assembly(u32, AsmFault),

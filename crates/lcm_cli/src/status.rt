@@ -26,7 +26,7 @@ pub enum Status {
     AsmRefused,
     /// A source is refused: for its text, for a name, or for the size of what it is compiled to.
     SourceRefused,
-    /// The bytes of a file are no component, no image, or no feed.
+    /// The bytes of a file are no component, no image, no feed, or no script.
     FileRefused,
     /// A rule of a part, or of the parts together, is broken.
     RuleBroken,
