@@ -1,21 +1,27 @@
 -- What the words of a return do, for words of any kind.
-use Rattle.std.proofs.Common.{◌≡◌, ℕ, ◌+◌, ◌≤◌, pos, ℤ, ◌+ℤ◌, ◌-ℤ◌, true, false, [], ◌∷◌, refl, ap, sym, ◌∙◌}
+use Rattle.std.proofs.Common.{◌≡◌, ◌≢◌, ℕ, ◌+◌, ◌≤◌, pos, ℤ, ◌+ℤ◌, ◌-ℤ◌, true, [], ◌∷◌, refl, ap, sym}
+use Rattle.std.proofs.Common.{◌∙◌}
 use Rattle.std.proofs.Common.{arith, rules, FitsSigned, w32}
 use Rattle.std.proofs.lemmas.Int.{ints}
 use Rattle.std.specs.Ordering.{nat_cmp}
 use Rattle.std.specs.FinMap.{FinMap}
 use Rattle.cap_words.specs.declared.Word.{Word}
-use Rattle.cap_words.specs.declared.Word.TheVariants.{Mem}
-use Rattle.cap_words.specs.Linear.{is_linear, zero_word}
+use Rattle.cap_words.specs.declared.TheConstants.{LAST_PLACE}
+use Rattle.cap_words.specs.declared.CapFields.{CapFields}
+use Rattle.cap_words.specs.declared.Word.TheVariants.{Int, Mem}
+use Rattle.cap_words.specs.Faces.{same_kind}
+use Rattle.cap_words.specs.Linear.{is_linear, lin_is, zero_word}
 use Rattle.lcm_isa.specs.declared.Reg.TheVariants.{Stk, Dat}
 use Rattle.lcm_isa.specs.declared.Instr.TheVariants.{Splice, Fail}
 use Rattle.lcm_machine.specs.declared.FailCause.TheVariants.{F4}
-use Rattle.lcm_machine.specs.Cells.{cell, set_cell}
-use Rattle.lcm_machine.specs.Row.{went, faces}
-use Rattle.lcm_machine.specs.Runs.{Stands, code_cap}
+use Rattle.lcm_machine.specs.Cells.{set_cell}
+use Rattle.lcm_machine.specs.Maps.{State}
+use Rattle.lcm_machine.specs.Row.{Outcome, went, faces, step_of}
+use Rattle.lcm_machine.specs.Runs.{run_of, Stands, code_cap}
 use Rattle.lcm_machine.proofs.Offers.{is_linear-face, go, ran, stop, stays, leaves, fail_fails, move_goes}
 use Rattle.lcm_machine.proofs.Offers.{set_goes, store_goes, load_goes, cca_goes, getb_goes, minus_goes}
-use Rattle.lcm_machine.proofs.Offers.{splice_goes, jnz_goes, jnz_jumps, splice_fails, stops}
+use Rattle.lcm_machine.proofs.Offers.{splice_goes, jnz_goes, jnz_jumps, splice_fails, stops, run_one}
+use Rattle.lcm_machine.proofs.Offers.{run_then, step_row}
 use Rattle.call_sequence.specs.Sequences.{return_code, distance}
 use Rattle.call_sequence.specs.SequenceRuns.{stack_cap, Outside, HasReturn, ReturnRuns, ReturnApartFails}
 use Rattle.call_sequence.specs.SequenceRuns.{ReturnOffBaseFails}
@@ -31,57 +37,89 @@ module _ {W : Type 0} (look : W → Word) (plain : Word → W) where
       stops look plain s base last at (Splice Stk Stk Dat) hpc (omega (arith, ai)) (omega (arith, en)) (h.code.0, tt) tt (splice_fails look plain Stk Stk Dat _ s _ _ refl refl refl cannot)
 
 module _ {W : Type 0} (look : W → Word) (plain : Word → W) (seen : (x : Word) → look (plain x) ≡ x) where
+  -- the test of where the joined stack begins
+  abbrev pub tested : State W → ℕ → ℕ → ℕ → ℕ → CapFields → ℤ → State W
+  tested s base last to fail c z = record s {
+    regs = record s.regs {
+      pc = plain (Mem (code_cap base last to));
+      stk = plain (Mem c);
+      dat = zero_word plain;
+      t1 = plain (Int z);
+      t2 = plain (Mem (code_cap base last fail));
+    };
+  }
+
+  module _ (s : State W) (base last at sb : ℕ) (low high : CapFields) (h : HasReturn look s.cells base last at sb) (hpc : look s.regs.pc ≡ Mem (code_cap base last at)) (hstk : look s.regs.stk ≡ Mem low) (hdat : look s.regs.dat ≡ Mem high)
+      (ll : lin_is low.lin ≡ true) (lh : lin_is high.lin ≡ true) (same : same_kind low high ≡ true) (joint : low.end + 1 ≡ high.base) (s1 : low.base ≤ LAST_PLACE) (s2 : sb ≤ LAST_PLACE) where
+    abbrev pub joined : CapFields
+    joined = record high { base = low.base }
+
+    -- the five words before it
+    five : (r : Outcome W)
+        → step_of look plain (tested s base last (at + 1 + 1 + 1 + 1 + 1) (base + h.fail) joined (pos low.base -ℤ pos sb)) ≡ r
+        → run_of look plain 6 s ≡ r
+    unfolding return_code
+    five r e =
+        let code = h.code in
+        let n : ℤ = distance (h.offset + 3) h.fail in
+        let ai = h.at_is in
+        let en = h.ends in
+        let sm = h.small in
+        let fh : base + h.fail ≤ last = h.fails.1 in
+        let sf : base + h.fail ≤ 1048575 = omega (arith, fh, sm) in
+        let fn : FitsSigned w32 n = near_operand (h.offset + 3) h.fail (omega (arith, ai, en, sm)) (omega (arith, sf)) in
+        let to_fail : pos (at + 1 + 1 + 1) +ℤ n ≡ pos (base + h.fail) = leads (at + 1 + 1 + 1) base (h.offset + 3) h.fail (omega (arith, ai)) in
+        go look plain _ _ _ base last (at) _ hpc (omega (arith, ai)) (omega (arith, en)) code.0 tt (splice_goes look plain _ _ _ _ _ _ _ low high refl hstk hdat same joint (leaves look plain _ _ (ap is_linear hstk ∙ ll)) (leaves look plain _ _ (ap is_linear hdat ∙ lh)))
+        ∙ go look plain _ _ _ base last (at + 1) _ (seen _) (omega (arith, ai)) (omega (arith, en)) code.1.0 tt (getb_goes look plain _ _ _ _ (Mem joined) refl (seen _))
+        ∙ go look plain _ _ _ base last (at + 1 + 1) _ (seen _) (omega (arith, ai)) (omega (arith, en)) code.1.1.0 (small_operand sb s2) (minus_goes look plain _ _ _ _ _ (pos low.base) (pos sb) (pos low.base -ℤ pos sb) refl (seen _) refl refl (fits_less low.base sb s1 s2))
+        ∙ go look plain _ _ _ base last (at + 1 + 1 + 1) _ (seen _) (omega (arith, ai)) (omega (arith, en)) code.1.1.1.0 tt (move_goes look plain _ _ _ _ _ refl (stays look plain _ _ (ap is_linear (seen _))))
+        ∙ go look plain _ _ _ base last (at + 1 + 1 + 1 + 1) _ (seen _) (omega (arith, ai)) (omega (arith, en)) code.1.1.1.1.0 fn (cca_goes look plain _ _ _ _ (code_cap base last (at + 1 + 1 + 1)) n (pos (base + h.fail)) refl (seen _) refl to_fail (fits_small (base + h.fail) sf))
+        ∙ run_one look plain _ ∙ e
+
+    -- the sixth goes on where it begins at the stack's base, and else to the `fail`
+    pub return_tests : low.base ≡ sb
+        → run_of look plain 6 s ≡ went (tested s base last (at + 6) (base + h.fail) joined (pos 0))
+    unfolding return_code
+    return_tests e =
+        let code = h.code in
+        let ai = h.at_is in
+        let en = h.ends in
+        let z : pos low.base -ℤ pos sb ≡ pos 0 = omega (arith, ints, e) in
+        let next : at + 1 + 1 + 1 + 1 + 1 + 1 ≡ at + 6 = omega arith in
+        five _ (step_row look plain _ base last (at + 1 + 1 + 1 + 1 + 1) _ (seen _) (omega (arith, ai)) (omega (arith, en)) code.1.1.1.1.1.0 tt
+        ∙ jnz_goes look plain _ _ _ _ (pos low.base -ℤ pos sb) (seen _) (rw z refl) ∙ ap (λ y. went (tested s base last (at + 1 + 1 + 1 + 1 + 1 + 1) (base + h.fail) joined y)) z ∙ ap (λ y. went (tested s base last y (base + h.fail) joined (pos 0))) next)
+
+    pub return_turns : low.base ≢ sb
+        → run_of look plain 6 s ≡ went (tested s base last (base + h.fail) (base + h.fail) joined (pos low.base -ℤ pos sb))
+    unfolding return_code
+    return_turns ne =
+        let code = h.code in
+        let ai = h.at_is in
+        let en = h.ends in
+        five _ (step_row look plain _ base last (at + 1 + 1 + 1 + 1 + 1) _ (seen _) (omega (arith, ai)) (omega (arith, en)) code.1.1.1.1.1.0 tt
+        ∙ jnz_jumps look plain _ _ _ _ _ (pos low.base -ℤ pos sb) (seen _) (not_zero low.base sb ne) (stays look plain _ _ (ap is_linear (seen _))))
+
   pub return_runs : ReturnRuns look plain
   unfolding return_code
   return_runs s base last at sb low b end to w h hpc hstk hdat joint sl le small out there lin =
       let code = h.code in
-      let n : ℤ = distance (h.offset + 3) h.fail in
-      let fail = base + h.fail in
       let ai = h.at_is in
       let en = h.ends in
-      let sm = h.small in
-      let fh : fail ≤ last = h.fails.1 in
-      let fl : base ≤ fail = omega arith in
-      let sf : fail ≤ 1048575 = omega (arith, fh, sm) in
-      let fn : FitsSigned w32 n = near_operand (h.offset + 3) h.fail (omega (arith, ai, en, sm)) (omega (arith, sf)) in
-      let to_fail : pos (at + 1 + 1 + 1) +ℤ n ≡ pos fail = leads (at + 1 + 1 + 1) base (h.offset + 3) h.fail (omega (arith, ai)) in
-      let same : pos sb -ℤ pos sb ≡ pos 0 = omega (arith, ints) in
       let m' : FinMap nat_cmp W = set_cell s.cells b (zero_word plain) in
       let c : Stands look m' at (return_code h.fail h.offset sb) = Stands-outside look s.cells b _ base last at (return_code h.fail h.offset sb) out (omega (arith, ai)) (omega (arith, en)) code in
+      let six : at + 6 ≡ at + 1 + 1 + 1 + 1 + 1 + 1 = omega arith in
       let ends : at + 1 + 1 + 1 + 1 + 1 + 1 + 1 + 1 + 1 + 1 ≡ at + 10 = omega arith in
-      go look plain _ _ _ base last (at) _ hpc (omega (arith, ai)) (omega (arith, en)) code.0 tt (splice_goes look plain _ _ _ _ _ _ _ (record (stack_cap sb low 0) { addr = to }) (stack_cap b end b) refl hstk hdat refl joint (leaves look plain _ _ (ap is_linear hstk)) (leaves look plain _ _ (ap is_linear hdat)))
-      ∙ go look plain _ _ _ base last (at + 1) _ (seen _) (omega (arith, ai)) (omega (arith, en)) code.1.0 tt (getb_goes look plain _ _ _ _ (Mem (stack_cap sb end b)) refl (seen _))
-      ∙ go look plain _ _ _ base last (at + 1 + 1) _ (seen _) (omega (arith, ai)) (omega (arith, en)) code.1.1.0 (small_operand sb (omega (arith, sl, le, small))) (minus_goes look plain _ _ _ _ _ (pos sb) (pos sb) (pos 0) refl (seen _) refl same refl)
-      ∙ go look plain _ _ _ base last (at + 1 + 1 + 1) _ (seen _) (omega (arith, ai)) (omega (arith, en)) code.1.1.1.0 tt (move_goes look plain _ _ _ _ _ refl (stays look plain _ _ (ap is_linear (seen _))))
-      ∙ go look plain _ _ _ base last (at + 1 + 1 + 1 + 1) _ (seen _) (omega (arith, ai)) (omega (arith, en)) code.1.1.1.1.0 fn (cca_goes look plain _ _ _ _ (code_cap base last (at + 1 + 1 + 1)) n (pos fail) refl (seen _) refl to_fail (fits_small fail sf))
-      ∙ go look plain _ _ _ base last (at + 1 + 1 + 1 + 1 + 1) _ (seen _) (omega (arith, ai)) (omega (arith, en)) code.1.1.1.1.1.0 tt (jnz_goes look plain _ _ _ _ (pos 0) (seen _) refl)
-      ∙ go look plain _ _ _ base last (at + 1 + 1 + 1 + 1 + 1 + 1) _ (seen _) (omega (arith, ai)) (omega (arith, en)) code.1.1.1.1.1.1.0 tt (load_goes look plain _ _ _ _ (stack_cap sb end b) b w _ refl (seen _) refl refl sl le there refl lin (sym (is_linear-face (look w)) ∙ lin))
+      run_then look plain 6 4 s _ _ (return_tests s base last at sb (record (stack_cap sb low 0) { addr = to }) (stack_cap b end b) h hpc hstk hdat refl refl refl joint (omega (arith, sl, le, small)) (omega (arith, sl, le, small)) refl ∙ ap (λ y. went (tested s base last y (base + h.fail) (stack_cap sb end b) (pos 0))) six)
+      (go look plain _ _ _ base last (at + 1 + 1 + 1 + 1 + 1 + 1) _ (seen _) (omega (arith, ai)) (omega (arith, en)) code.1.1.1.1.1.1.0 tt (load_goes look plain _ _ _ _ (stack_cap sb end b) b w _ refl (seen _) refl refl sl le there refl lin (sym (is_linear-face (look w)) ∙ lin))
       ∙ go look plain _ _ _ base last (at + 1 + 1 + 1 + 1 + 1 + 1 + 1) _ (seen _) (omega (arith, ai)) (omega (arith, en)) code.1.1.1.1.1.1.1.0 (search rules) (set_goes look plain _ _ _ _ refl)
       ∙ go look plain _ _ _ base last (at + 1 + 1 + 1 + 1 + 1 + 1 + 1 + 1) _ (seen _) (omega (arith, ai)) (omega (arith, en)) code.1.1.1.1.1.1.1.1.0 tt (store_goes look plain _ _ _ _ _ (stack_cap sb end b) b w (seen _) refl refl sl le there (stays look plain _ _ (ap is_linear (seen _))))
       ∙ go look plain _ _ _ base last (at + 1 + 1 + 1 + 1 + 1 + 1 + 1 + 1 + 1) _ (seen _) (omega (arith, ai)) (omega (arith, en)) c.1.1.1.1.1.1.1.1.1.0 (search rules) (set_goes look plain _ _ _ _ refl)
-      ∙ ran look plain _ ∙ ap (λ k. went (record s { regs = record s.regs { pc = plain (Mem (code_cap base last k)); stk = plain (Mem (stack_cap sb end b)); dat = w; t1 = zero_word plain; t2 = zero_word plain }; cells = m' })) ends
+      ∙ ran look plain _ ∙ ap (λ k. went (record s { regs = record s.regs { pc = plain (Mem (code_cap base last k)); stk = plain (Mem (stack_cap sb end b)); dat = w; t1 = zero_word plain; t2 = zero_word plain }; cells = m' })) ends)
 
   pub return_off_base : ReturnOffBaseFails look plain
-  unfolding return_code
   return_off_base s base last at sb low high h hpc hstk hdat ll lh same joint s1 s2 ne =
-      let code = h.code in
-      let n : ℤ = distance (h.offset + 3) h.fail in
-      let fail = base + h.fail in
-      let ai = h.at_is in
-      let en = h.ends in
-      let sm = h.small in
-      let fh : fail ≤ last = h.fails.1 in
-      let fl : base ≤ fail = omega arith in
-      let sf : fail ≤ 1048575 = omega (arith, fh, sm) in
-      let fn : FitsSigned w32 n = near_operand (h.offset + 3) h.fail (omega (arith, ai, en, sm)) (omega (arith, sf)) in
-      let to_fail : pos (at + 1 + 1 + 1) +ℤ n ≡ pos fail = leads (at + 1 + 1 + 1) base (h.offset + 3) h.fail (omega (arith, ai)) in
-      go look plain _ _ _ base last (at) _ hpc (omega (arith, ai)) (omega (arith, en)) code.0 tt (splice_goes look plain _ _ _ _ _ _ _ low high refl hstk hdat same joint (leaves look plain _ _ (ap is_linear hstk ∙ ll)) (leaves look plain _ _ (ap is_linear hdat ∙ lh)))
-      ∙ go look plain _ _ _ base last (at + 1) _ (seen _) (omega (arith, ai)) (omega (arith, en)) code.1.0 tt (getb_goes look plain _ _ _ _ (Mem (record high { base = low.base })) refl (seen _))
-      ∙ go look plain _ _ _ base last (at + 1 + 1) _ (seen _) (omega (arith, ai)) (omega (arith, en)) code.1.1.0 (small_operand sb s2) (minus_goes look plain _ _ _ _ _ (pos low.base) (pos sb) (pos low.base -ℤ pos sb) refl (seen _) refl refl (fits_less low.base sb s1 s2))
-      ∙ go look plain _ _ _ base last (at + 1 + 1 + 1) _ (seen _) (omega (arith, ai)) (omega (arith, en)) code.1.1.1.0 tt (move_goes look plain _ _ _ _ _ refl (stays look plain _ _ (ap is_linear (seen _))))
-      ∙ go look plain _ _ _ base last (at + 1 + 1 + 1 + 1) _ (seen _) (omega (arith, ai)) (omega (arith, en)) code.1.1.1.1.0 fn (cca_goes look plain _ _ _ _ (code_cap base last (at + 1 + 1 + 1)) n (pos fail) refl (seen _) refl to_fail (fits_small fail sf))
-      ∙ go look plain _ _ _ base last (at + 1 + 1 + 1 + 1 + 1) _ (seen _) (omega (arith, ai)) (omega (arith, en)) code.1.1.1.1.1.0 tt (jnz_jumps look plain _ _ _ _ _ (pos low.base -ℤ pos sb) (seen _) (not_zero low.base sb ne) (stays look plain _ _ (ap is_linear (seen _))))
-      ∙ stop look plain _ _ base last fail Fail F4 (seen _) fl fh h.fails.0.0 tt (fail_fails look plain _ _)
+      run_then look plain 6 1 s _ _ (return_turns s base last at sb low high h hpc hstk hdat ll lh same joint s1 s2 ne)
+      (let fh = h.fails.1 in stop look plain _ _ base last (base + h.fail) Fail F4 (seen _) (omega arith) fh h.fails.0.0 tt (fail_fails look plain _ _))
 
 -- a return stands as before where a cell outside its code is set
 pub HasReturn-set : {W : Type 0} (look : W → Word) (m : FinMap nat_cmp W) (base last at sb a : ℕ) (w : W)

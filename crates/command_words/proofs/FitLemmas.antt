@@ -1,5 +1,6 @@
 -- What words ask for keeps the bounds.
-use Rattle.std.proofs.Common.{◌≡◌, refl, ap, subst, suc, arith, ℕ, ◌≤◌, Bool, true, false, List, [], ◌∷◌, length, Option, Some, None}
+use Rattle.std.proofs.Common.{◌≡◌, refl, ap, subst, suc, arith, ℕ, ◌≤◌, Bool, true, false, List, [], ◌∷◌}
+use Rattle.std.proofs.Common.{length, Option, Some, None}
 use Rattle.std.specs.Prelude.{IfSome, is_some, nat_le, nat_lt, option_and_then, option_map, if◌then◌else◌}
 use Rattle.std.specs.List.{All, list_all}
 use Rattle.std.specs.Str.{all_ascii_digits}
@@ -10,9 +11,12 @@ use Rattle.command_words.specs.Texts.{Text}
 use Rattle.command_words.specs.Line.{Taken, rows, taken_of}
 use Rattle.command_words.specs.Name.{is_file_name, file_name_in, file_of}
 use Rattle.command_words.specs.Number.{number_in, number_or, steps_in, size_in, seed_in}
-use Rattle.command_words.specs.Part.{mark_in, ending_in, part_in, parts_in, some_parts_in, one_part_in, image_in, one_image_in}
-use Rattle.command_words.specs.Action.{action_in, image_or_parts, is_assembler, is_module, is_source, linked_in, run_in, assemble_in, compile_in, part_alone_in, link_in, mean_in, generate_in, asked_of, asked_in}
-use Rattle.command_words.specs.Action.{reach_in, debug_in}
+use Rattle.command_words.specs.Part.{mark_in, ending_in, part_in, parts_in, some_parts_in, one_part_in}
+use Rattle.command_words.specs.Part.{image_in, one_image_in}
+use Rattle.command_words.specs.Action.{action_in, image_or_parts, is_assembler, is_module, is_source}
+use Rattle.command_words.specs.Action.{linked_in, run_in, assemble_in, compile_in, part_alone_in, link_in}
+use Rattle.command_words.specs.Action.{mean_in, generate_in, asked_of, asked_in}
+use Rattle.command_words.specs.Action.{reach_in, debug_in, audit_in}
 use Rattle.command_words.specs.Fits.{Fits, FitsLinked, FitsName, FitsPart, FitsParts, FitsStack, FitsSteps}
 use Rattle.command_words.specs.declared.TheConstants.{MOST_PARTS, GREATEST_SEED}
 use Rattle.command_words.specs.declared.part.PartWord.{PartWord}
@@ -21,33 +25,40 @@ use Rattle.command_words.specs.declared.command.Linked.TheVariants.{Parts, Image
 use Rattle.command_words.specs.declared.command.Command.{Command}
 use Rattle.command_words.specs.declared.command.LinkDeed.TheVariants.{Run, Trace, Reach}
 use Rattle.command_words.specs.declared.command.ComponentDeed.TheVariants.{Put, Show}
-use Rattle.command_words.specs.declared.command.Command.TheVariants.{Links, Takes, Checks, Mean, Generate, Debug}
+use Rattle.command_words.specs.declared.command.Command.TheVariants.{Links, Takes, Checks, Mean, Generate}
+use Rattle.command_words.specs.declared.command.Command.TheVariants.{Debug, Audit}
 use Rattle.command_words.specs.declared.action.Action.{Action}
 use Rattle.command_words.specs.declared.action.Action.TheVariants as action
 
 -- one thing after another
-next : {A B : Type 0} (o : Option A) (f : A → Option B) (Q : A → Type 0) (P : B → Type 0) → IfSome o Q → ((a : A) → Q a → IfSome (f a) P) → IfSome (option_and_then f o) P
+next : {A B : Type 0} (o : Option A) (f : A → Option B) (Q : A → Type 0) (P : B → Type 0) → IfSome o Q
+    → ((a : A) → Q a → IfSome (f a) P) → IfSome (option_and_then f o) P
 next None f Q P q h = tt
 next (Some a) f Q P q h = h a q
 
 -- one thing of which nothing is asked after another
-any : {A B : Type 0} (o : Option A) (f : A → Option B) (P : B → Type 0) → ((a : A) → IfSome (f a) P) → IfSome (option_and_then f o) P
+any : {A B : Type 0} (o : Option A) (f : A → Option B) (P : B → Type 0) → ((a : A) → IfSome (f a) P)
+    → IfSome (option_and_then f o) P
 any None f P h = tt
 any (Some a) f P h = h a
 
-made : {A B : Type 0} (o : Option A) (f : A → B) (Q : A → Type 0) (P : B → Type 0) → IfSome o Q → ((a : A) → Q a → P (f a)) → IfSome (option_map f o) P
+made : {A B : Type 0} (o : Option A) (f : A → B) (Q : A → Type 0) (P : B → Type 0) → IfSome o Q
+    → ((a : A) → Q a → P (f a)) → IfSome (option_map f o) P
 made None f Q P q h = tt
 made (Some a) f Q P q h = h a q
 
-unless : {A : Type 0} (b : Bool) (o : Option A) (P : A → Type 0) → IfSome o P → IfSome (if b then None else o) P
+unless : {A : Type 0} (b : Bool) (o : Option A) (P : A → Type 0) → IfSome o P
+    → IfSome (if b then None else o) P
 unless true o P h = tt
 unless false o P h = h
 
-where_true : {A : Type 0} (b : Bool) (o : Option A) (P : A → Type 0) → (b ≡ true → IfSome o P) → IfSome (if b then o else None) P
+where_true : {A : Type 0} (b : Bool) (o : Option A) (P : A → Type 0) → (b ≡ true → IfSome o P)
+    → IfSome (if b then o else None) P
 where_true true o P h = h refl
 where_true false o P h = tt
 
-number_fits : (least most : ℕ) (word : Text) → IfSome (number_in least most word) (λ n. (least ≤ n) × (n ≤ most))
+number_fits : (least most : ℕ) (word : Text)
+    → IfSome (number_in least most word) (λ n. (least ≤ n) × (n ≤ most))
 unfolding number_in
 number_fits least most word =
     let n = digits_value 10 word in
@@ -57,7 +68,8 @@ number_fits least most word =
     let r = and_parts (nat_le least n) (nat_le n most) q.1 in
     (leb-true least n r.0, leb-true n most r.1))
 
-number_or_fits : (least most otherwise : ℕ) (word : Option Text) → (least ≤ otherwise) × (otherwise ≤ most) → IfSome (number_or least most otherwise word) (λ n. (least ≤ n) × (n ≤ most))
+number_or_fits : (least most otherwise : ℕ) (word : Option Text) → (least ≤ otherwise) × (otherwise ≤ most)
+    → IfSome (number_or least most otherwise word) (λ n. (least ≤ n) × (n ≤ most))
 number_or_fits least most otherwise None h = h
 number_or_fits least most otherwise (Some word) h = number_fits least most word
 
@@ -104,9 +116,11 @@ unfolding some_parts_in
 some_parts_fit None = tt
 some_parts_fit (Some words) = where_true _ (parts_in words) FitsParts (λ e.
     let p = and_parts (nat_le 1 (length words)) (nat_le (length words) MOST_PARTS) e in
-    by (parts_in words) (leb-true 1 (length words) p.0) (leb-true (length words) MOST_PARTS p.1) (parts_fit words))
+    by (parts_in words) (leb-true 1 (length words) p.0) (leb-true (length words) MOST_PARTS p.1)
+    (parts_fit words))
   where
-    by : (o : Option (List PartWord)) → 1 ≤ length words → length words ≤ MOST_PARTS → IfSome o (λ ps. (length ps ≡ length words) × All FitsPart ps) → IfSome o FitsParts
+    by : (o : Option (List PartWord)) → 1 ≤ length words → length words ≤ MOST_PARTS
+        → IfSome o (λ ps. (length ps ≡ length words) × All FitsPart ps) → IfSome o FitsParts
     by None low high h = tt
     by (Some ps) low high h = record { some = rw h.0 low; few = rw h.0 high; each = h.1 }
 
@@ -119,7 +133,9 @@ one_part_fits (Some (word ∷ more ∷ words)) = tt
 
 image_fits : (word : Text) → IfSome (image_in word) FitsName
 unfolding image_in
-image_fits word = unless (is_some (mark_in word)) _ FitsName (where_true _ (file_name_in word) FitsName (λ e. name_fits word))
+image_fits word =
+    unless (is_some (mark_in word)) _ FitsName
+    (where_true _ (file_name_in word) FitsName (λ e. name_fits word))
 
 one_image_fits : (words : Option (List Text)) → IfSome (one_image_in words) FitsName
 unfolding one_image_in
@@ -129,7 +145,9 @@ one_image_fits (Some (word ∷ [])) = image_fits word
 one_image_fits (Some (word ∷ more ∷ words)) = tt
 
 parts_linked_fit : (words : Option (List Text)) (stack : Option Text)
-    → IfSome (option_and_then (λ size. option_and_then (λ parts. Some (Parts parts size)) (some_parts_in words)) (size_in stack)) FitsLinked
+    → IfSome
+    (option_and_then (λ size. option_and_then (λ parts. Some (Parts parts size)) (some_parts_in words))
+    (size_in stack)) FitsLinked
 parts_linked_fit words stack =
     next (size_in stack) _ FitsStack FitsLinked (size_fits stack) (λ size s.
     next (some_parts_in words) _ FitsParts FitsLinked (some_parts_fit words) (λ parts p. (p, s)))
@@ -187,7 +205,9 @@ mean_fits t = unless _ _ Fits (
 
 generate_fits : (t : Taken) → IfSome (generate_in t) Fits
 unfolding generate_in
-generate_fits t = unless _ _ Fits (made (seed_in t.seed) Generate (λ n. n ≤ GREATEST_SEED) Fits (seed_fits t.seed) (λ seed s. s))
+generate_fits t =
+    unless _ _ Fits
+    (made (seed_in t.seed) Generate (λ n. n ≤ GREATEST_SEED) Fits (seed_fits t.seed) (λ seed s. s))
 
 reach_fits : (t : Taken) → IfSome (reach_in t) Fits
 unfolding reach_in
@@ -200,18 +220,25 @@ debug_fits t = unless _ _ Fits (
     next (file_of t.feed) _ FitsName Fits (file_fits t.feed) (λ script n.
     next (linked_in t.parts t.stack) _ FitsLinked Fits (linked_fits t.parts t.stack) (λ what w. (w, n))))
 
+audit_fits : (t : Taken) → IfSome (audit_in t) Fits
+unfolding audit_in
+audit_fits t = unless _ _ Fits (made (file_of t.feed) Audit FitsName Fits (file_fits t.feed) (λ text n. n))
+
 asked_of_fits : (a : Action) (t : Taken) → IfSome (asked_of a t) Fits
 asked_of_fits action.Run t = made (run_in t) (λ p. Links p.0 (Run p.1)) FitsRun Fits (run_fits t) (λ p h. h)
-asked_of_fits action.Trace t = made (run_in t) (λ p. Links p.0 (Trace p.1)) FitsRun Fits (run_fits t) (λ p h. h)
+asked_of_fits action.Trace t = made (run_in t) (λ p. Links p.0 (Trace p.1)) FitsRun Fits (run_fits t)
+    (λ p h. h)
 asked_of_fits action.Assemble t = assemble_fits t
 asked_of_fits action.Compile t = compile_fits t
-asked_of_fits action.Disassemble t = made (part_alone_in t) (λ p. Takes p Show) FitsPart Fits (part_alone_fits t) (λ p h. (h, tt))
+asked_of_fits action.Disassemble t =
+    made (part_alone_in t) (λ p. Takes p Show) FitsPart Fits (part_alone_fits t) (λ p h. (h, tt))
 asked_of_fits action.Check t = made (part_alone_in t) Checks FitsPart Fits (part_alone_fits t) (λ p h. h)
 asked_of_fits action.Link t = link_fits t
 asked_of_fits action.Mean t = mean_fits t
 asked_of_fits action.Generate t = generate_fits t
 asked_of_fits action.Reach t = reach_fits t
 asked_of_fits action.Debug t = debug_fits t
+asked_of_fits action.Audit t = audit_fits t
 
 asked_fits : (words : List Text) → IfSome (asked_in words) Fits
 asked_fits words = any (rows words) _ Fits (λ found. any (taken_of found).action _ Fits (λ word.

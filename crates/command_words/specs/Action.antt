@@ -19,7 +19,7 @@ use Rattle.command_words.specs.declared.command.LinkDeed.TheVariants.{Run, Trace
 use Rattle.command_words.specs.declared.command.ComponentDeed.TheVariants.{Put, Show}
 use Rattle.command_words.specs.declared.command.Command.{Command}
 use Rattle.command_words.specs.declared.command.Command.TheVariants.{Links, Takes, Checks, Mean, Generate}
-use Rattle.command_words.specs.declared.command.Command.TheVariants.{Debug}
+use Rattle.command_words.specs.declared.command.Command.TheVariants.{Debug, Audit}
 use Rattle.command_words.specs.declared.action.Action.{Action}
 use Rattle.command_words.specs.declared.action.Action.TheVariants as action
 
@@ -35,7 +35,8 @@ action_in word =
     else (if bytes_eq word (codes "mean") then Some action.Mean
     else (if bytes_eq word (codes "generate") then Some action.Generate
     else (if bytes_eq word (codes "reach") then Some action.Reach
-    else (if bytes_eq word (codes "debug") then Some action.Debug else None))))))))))
+    else (if bytes_eq word (codes "debug") then Some action.Debug
+    else (if bytes_eq word (codes "audit") then Some action.Audit else None)))))))))))
 
 -- one of these options is used
 abbrev pub any_used : List (Option Text) → Bool
@@ -125,6 +126,11 @@ debug_in t = if any_used (t.steps ∷ t.out ∷ t.seed ∷ []) then None else do
   what ← linked_in t.parts t.stack
   Some (Debug what script)
 
+unfoldable pub audit_in : Taken → Option Command
+audit_in t =
+    if is_some t.parts || any_used (t.stack ∷ t.steps ∷ t.out ∷ t.seed ∷ []) then None
+    else option_map Audit (file_of t.feed)
+
 -- what an action asks for
 abbrev pub asked_of : Action → Taken → Option Command
 asked_of action.Run t = option_map (λ p. Links p.0 (Run p.1)) (run_in t)
@@ -138,6 +144,7 @@ asked_of action.Mean t = mean_in t
 asked_of action.Generate t = generate_in t
 asked_of action.Reach t = reach_in t
 asked_of action.Debug t = debug_in t
+asked_of action.Audit t = audit_in t
 
 -- what the words ask for; none where the command line doesn't take them, or they break a rule of their action
 abbrev pub asked_in : List Text → Option Command

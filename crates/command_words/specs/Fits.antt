@@ -13,7 +13,7 @@ use Rattle.command_words.specs.declared.command.ComponentDeed.{ComponentDeed}
 use Rattle.command_words.specs.declared.command.ComponentDeed.TheVariants.{Put, Show}
 use Rattle.command_words.specs.declared.command.Command.{Command}
 use Rattle.command_words.specs.declared.command.Command.TheVariants.{Links, Takes, Checks, Mean, Generate}
-use Rattle.command_words.specs.declared.command.Command.TheVariants.{Debug}
+use Rattle.command_words.specs.declared.command.Command.TheVariants.{Debug, Audit}
 
 -- 1 to 255 bytes, of which the first isn't `-`
 abbrev pub FitsName : Text → Type 0
@@ -55,3 +55,4 @@ Fits (Checks part) = FitsPart part
 Fits (Mean modules size fuel feed) = FitsParts modules × FitsStack size × FitsSteps fuel × FitsName feed
 Fits (Generate seed) = seed ≤ GREATEST_SEED
 Fits (Debug what script) = FitsLinked what × FitsName script
+Fits (Audit text) = FitsName text

@@ -5,7 +5,7 @@ ghost use Rattle.command_words.specs.Texts.{Text, texts, text_of, all_texts};
 ghost use Rattle.command_words.specs.Views.{taken_in};
 ghost use Rattle.command_words.specs.Action.{action_in, linked_in, run_in, assemble_in, compile_in};
 ghost use Rattle.command_words.specs.Action.{part_alone_in, link_in, is_module, mean_in, generate_in};
-ghost use Rattle.command_words.specs.Action.{reach_in, debug_in};
+ghost use Rattle.command_words.specs.Action.{reach_in, debug_in, audit_in};
 ghost use Rattle.command_words.specs.Action.{asked_of, asked_in};
 ghost use Rattle.command_words.specs.Fits.{Fits};
 
@@ -31,6 +31,7 @@ enum Action {
     Generate,
     Reach,
     Debug,
+    Audit,
 }
 
 #[tactic(auto, unfolding(crate::specs::Action::action_in))]
@@ -49,6 +50,7 @@ fn action_named(word: &str) -> Option<Action>
         "generate" => Some(Action::Generate),
         "reach" => Some(Action::Reach),
         "debug" => Some(Action::Debug),
+        "audit" => Some(Action::Audit),
         _ => None,
     }
 }
@@ -248,6 +250,17 @@ fn debug<'a>(alloc: Global, taken: &Taken<'_, 'a>) -> Result<Option<Command<'a>>
     }
 }
 
+#[tactic(auto, unfolding(crate::specs::Action::audit_in))]
+fn audit<'a>(taken: &Taken<'_, 'a>) -> Option<Command<'a>>
+    ensures { result ≡ audit_in (taken_in taken.now) }
+{
+    if taken.parts.is_some() || any_used(&[taken.stack, taken.steps, taken.out, taken.seed]) {
+        return None;
+    }
+    let text = file_of(taken.feed)?;
+    Some(Command::Audit(text))
+}
+
 // The action with its parts and options.
 fn asked_of<'a>(
     alloc: Global,
@@ -280,6 +293,7 @@ fn asked_of<'a>(
         Action::Generate => Ok(generate(taken)),
         Action::Reach => reach(alloc, taken),
         Action::Debug => debug(alloc, taken),
+        Action::Audit => Ok(audit(taken)),
     }
 }
 

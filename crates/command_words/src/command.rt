@@ -50,4 +50,6 @@ pub enum Command<'a> {
     Generate(Seed),
     /// `debug`: what links is debugged by the script of a file.
     Debug(Linked<'a>, FileName<'a>),
+    /// `audit`: the text of a file is audited as that of a run.
+    Audit(FileName<'a>),
 }

@@ -7,6 +7,7 @@
 mod action;
 mod command;
 mod fault;
+pub mod laws;
 mod line;
 mod name;
 mod number;

@@ -78,6 +78,7 @@ fn command_text(alloc: Global, command: &Command<'_>) -> Result<String, AllocErr
             mean_text(alloc, modules, *size, fuel.number(), feed.as_str())
         }
         Command::Generate(seed) => format!(in alloc; "generate {}", seed.number()),
+        Command::Audit(text) => format!(in alloc; "audit {}", text.as_str()),
         Command::Debug(what, script) => {
             format!(in alloc; "debug {} {}", linked_text(alloc, what)?, script.as_str())
         }
@@ -152,6 +153,9 @@ static ACTIONS: [(&str, &str); 26] = [
     ("reach one.img", "reach image(one.img)"),
     ("debug one.img --feed script", "debug image(one.img) script"),
     ("debug u:one.asm", "usage"),
+    ("audit --feed run.txt", "audit run.txt"),
+    ("audit", "usage"),
+    ("audit u:one.asm --feed run.txt", "usage"),
     ("fly u:one.asm", "usage"),
 ];
 

@@ -11,6 +11,7 @@ pub mod Laying
 pub mod Owners
 pub mod Listing
 pub mod Started
+pub mod LinkedStarts
 pub mod SealsApart
 pub mod TrustedCode
 pub mod DataWords

@@ -7,6 +7,7 @@ use component_file::FileFault;
 use component_linker::RuleAt;
 use image_loader::ImageFault;
 use proc_sources::SourceFault;
+use run_audit::AuditFault;
 use std::alloc::{AllocError, AllocFailed};
 
 /// What a refusal tells. A part is told by its index among the part words, or in
@@ -34,6 +35,8 @@ pub enum Refusal {
     Feed(u64),
     /// This line of the script's file, counted from 1, is the first bad one.
     Script(u32),
+    /// The text is no trace of a run.
+    Audit(AuditFault),
 }
 
 /// Why a call goes no further.

@@ -14,8 +14,8 @@ use Rattle.component_linker.specs.declared.fault.RuleAt.{RuleAt}
 use Rattle.image_loader.specs.declared.fault.ImageFault.{ImageFault}
 use Rattle.image_loader.specs.declared.fault.ImageFault.TheVariants as image
 use Rattle.image_loader.specs.Image.{ImageSeen}
-use Rattle.overlay_machine.specs.Starting.{IsStartOf}
 use Rattle.component_linker.specs.Started.{StartSeen}
+use Rattle.component_linker.specs.LinkedStarts.{IsStartOf}
 use Rattle.overlay_machine.specs.Seen.{OverlaySeen, IsOverlayOf, next_overlay, answer_of}
 use Rattle.trace_tool.specs.declared.run.RunEnd.{RunEnd}
 use Rattle.trace_tool.specs.declared.run.RunEnd.TheVariants as run_end
@@ -33,6 +33,7 @@ use Rattle.file_plans.specs.declared.refusal.Refusal.TheVariants as refusal
 use Rattle.lcm_cli.specs.declared.status.Status.{Status}
 use Rattle.lcm_cli.specs.declared.status.Status.TheVariants as status
 use Rattle.proc_sources.specs.declared.fault.SourceFault.{SourceFault}
+use Rattle.run_audit.specs.declared.fault.AuditFault.{AuditFault}
 use Rattle.lcm_cli.specs.Refusals.{refusal_status, image_status}
 use Rattle.file_plans.specs.Plans.{Plan, Reads, Ends, Made, Comes}
 use Rattle.source_events.specs.declared.End.{End}
@@ -43,7 +44,7 @@ use Rattle.lcm_cli.specs.Answers.{Answer, Outside, end_status, meaning_status, w
 use Rattle.lcm_cli.specs.Answers.{refused, IsAnswerOf, IsPut}
 use Rattle.lcm_cli.specs.Answers.{whole, unput, unwritten, Answers, answer, nothing}
 use Rattle.lcm_cli.specs.Causes.{IsTurn, IsUnread, IsLong, IsUndecoded, IsUncompiled, IsUnassembled}
-use Rattle.lcm_cli.specs.Causes.{IsUnloaded, IsUnscripted, IsUnmade, Breaks}
+use Rattle.lcm_cli.specs.Causes.{IsUnloaded, IsUnscripted, IsUnaudited, IsUnmade, Breaks}
 use Rattle.debug_tool.specs.Replies.{debug_text}
 use Rattle.lcm_cli.specs.Causes.{Runs}
 use Rattle.lcm_cli.specs.Causes.{Traces, Means, IsAtRest, PutsFile, Tells, out_of, Wrote, IsUnfed, Causes}
@@ -119,6 +120,8 @@ Caused asked old new status.AsmRefused =
 Caused asked old new status.SourceRefused =
     (index : ℕ) × (f : SourceFault) × Wrote (refusal.Source index f) old new
     × (IsUncompiled (plan_in asked) old.files index f new.files ⊎ IsUnmade asked (refusal.Source index f))
+Caused asked old new status.AuditRefused =
+    (f : AuditFault) × Wrote (refusal.Audit f) old new × IsUnaudited (plan_in asked) old.files f new.files
 Caused asked old new status.FileRefused =
     ((index : ℕ) × (f : FileFault) × Wrote (refusal.File index f) old new
     × IsUndecoded (plan_in asked) old.files index f new.files)
@@ -187,6 +190,7 @@ err_caused asked old new (refusal.Rule r) h w = (r, w, inl h)
 err_caused asked old new (refusal.Image f) h w = image_caused asked old new f h w
 err_caused asked old new (refusal.Feed line) h w = inr (inr (inl (line, w, h)))
 err_caused asked old new (refusal.Script line) h w = inr (inr (inr (line, w, h)))
+err_caused asked old new (refusal.Audit f) h w = (f, w, h)
 
 -- what is told at the end, where no file was put
 unput_seen : (seen new : FilesSeen) (a b : Answer) → a ≡ b → b.file ≡ None → IsPut seen a.file new → new
@@ -265,6 +269,7 @@ causes asked old ended new c = record {
   file_refused = λ e. subst (Caused asked old new) e c;
   rule_broken = λ e. subst (Caused asked old new) e c;
   source_refused = λ e. subst (Caused asked old new) e c;
+  audit_refused = λ e. subst (Caused asked old new) e c;
 }
 
 pub promised : (asked : Option Command) (old : Outside) (ended : Status) (new : Outside)

@@ -14,7 +14,6 @@ use Rattle.component_linker.specs.Standing.{free_of, placed}
 use Rattle.component_linker.specs.Started.{StartSeen}
 use Rattle.component_linker.proofs.LinksKept.{are_linked}
 use Rattle.component_linker.proofs.Settling.{as_many}
-use Rattle.overlay_machine.specs.Starting.{IsStartOf}
 use Rattle.debug_script.specs.declared.command.Command.{Command as Line}
 use Rattle.debug_script.specs.declared.fault.ScriptFault.{ScriptFault}
 use Rattle.debug_script.specs.Script.{scripted}
@@ -26,6 +25,7 @@ use Rattle.file_plans.specs.declared.refusal.Refusal.TheVariants as refusal
 use Rattle.file_plans.specs.declared.refusal.Stop.{Stop}
 use Rattle.file_plans.specs.Plans.{Plan, Made, ◌>>=◌, unless, whole, too_long, unread, Comes, Follows}
 use Rattle.file_plans.proofs.Follow.{comes_bind, comes_made, follows_bind, follows_end}
+use Rattle.component_linker.specs.LinkedStarts.{IsStartOf}
 use Rattle.lcm_cli.specs.declared.job.Job.TheVariants as job
 use Rattle.lcm_cli.specs.Jobs.{FollowsTask}
 use Rattle.lcm_cli.specs.Commands.{Task, Debug, linked_in, debug_plan}
@@ -65,6 +65,7 @@ NotOfScript refusal.Usage = Unit {0}
 NotOfScript (refusal.Rule r) = Unit {0}
 NotOfScript (refusal.Image f) = Unit {0}
 NotOfScript (refusal.Feed line) = Unit {0}
+NotOfScript (refusal.Audit f) = Unit {0}
 NotOfScript _ = ⊥
 
 not_of_script : (x why : Refusal) → NotOfScript why → x ≡ why → NotOfScript x

@@ -9,7 +9,6 @@ use Rattle.command_words.specs.declared.command.Command.TheVariants as asked
 use Rattle.debug_tool.specs.Laws.{CommandsRemember}
 use Rattle.debug_tool.specs.Replies.{debug_text}
 use Rattle.step_back.specs.declared.debugger.TheConstants.{MOST_DEPTH}
-use Rattle.trace_tool.specs.Headline.{HeadlineHolds}
 use Rattle.file_plans.specs.declared.TheConstants.{LONGEST_FILE}
 use Rattle.file_plans.specs.declared.refusal.Refusal.{Refusal}
 use Rattle.file_plans.specs.Plans.{Comes}
@@ -19,9 +18,9 @@ use Rattle.lcm_cli.specs.Commands.{Task, Debug, plan_in, debug_plan}
 use Rattle.lcm_cli.specs.Answers.{Answer, Outside, with_files, writes, IsAnswerOf, GivesWhole, Answers}
 use Rattle.lcm_cli.specs.Causes.{IsRunStatus, DebugGiven}
 use Rattle.lcm_cli.proofs.Debugs.{DebugCame, debug_came}
-use Rattle.lcm_cli.proofs.RunsMade.{started, refused_none, whole_run}
+use Rattle.lcm_cli.proofs.RunsMade.{StartLaws, started, refused_none, whole_run}
 
-module _ (all : HeadlineHolds) (remember : CommandsRemember) (l : Linked) (script : List ℕ) (old : Outside)
+module _ (all : StartLaws) (remember : CommandsRemember) (l : Linked) (script : List ℕ) (old : Outside)
     (ended : Status) (new : Outside) where
   given_debug : (seen : FilesSeen) (t : Task) (a : Answer) (c : DebugCame l script old.files t seen)
       → IsAnswerOf (Ok (Debug c.image c.lines)) a → GivesWhole (with_files old seen) a ended new
@@ -51,7 +50,7 @@ module _ (all : HeadlineHolds) (remember : CommandsRemember) (l : Linked) (scrip
       let m = debug_came l script old.files t seen c in
       given_debug seen t a m (subst (λ u. IsAnswerOf (Ok u) a) m.task x) g
 
-pub debugs : HeadlineHolds → CommandsRemember → (words : Option Command) (old : Outside) (ended : Status)
+pub debugs : StartLaws → CommandsRemember → (words : Option Command) (old : Outside) (ended : Status)
     (new : Outside) → Answers (plan_in words) old ended new → (l : Linked) (script : List ℕ)
     → words ≡ Some (asked.Debug l script) → IsRunStatus ended → DebugGiven l script old ended new
 debugs all remember words old ended new a l script e r =

@@ -83,6 +83,7 @@ Foreign refusal.Usage = Unit {0}
 Foreign (refusal.Image f) = Unit {0}
 Foreign (refusal.Feed line) = Unit {0}
 Foreign (refusal.Script line) = Unit {0}
+Foreign (refusal.Audit f) = Unit {0}
 Foreign _ = ⊥
 
 pub foreign : (x why : Refusal) → Foreign why → x ≡ why → Foreign x
@@ -150,6 +151,7 @@ NotOfImage refusal.Usage = Unit {0}
 NotOfImage (refusal.Rule r) = Unit {0}
 NotOfImage (refusal.Feed line) = Unit {0}
 NotOfImage (refusal.Script line) = Unit {0}
+NotOfImage (refusal.Audit f) = Unit {0}
 NotOfImage _ = ⊥
 
 not_of_image : (x why : Refusal) → NotOfImage why → x ≡ why → NotOfImage x

@@ -9,6 +9,7 @@ pub mod Modules
 pub mod Settled
 pub mod Loads
 pub mod Debugs
+pub mod Audits
 pub mod Why
 pub mod Put
 pub mod Caused

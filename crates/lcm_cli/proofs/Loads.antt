@@ -16,12 +16,12 @@ use Rattle.file_plans.specs.declared.refusal.Refusal.TheVariants as refusal
 use Rattle.file_plans.specs.declared.refusal.Stop.{Stop}
 use Rattle.file_plans.specs.declared.refusal.Stop.TheVariants.{Refused, NoMemory}
 use Rattle.file_plans.specs.Plans.{Plan, Reads, Ends, Made, ◌>>=◌, unless, Comes, Meets}
+use Rattle.component_linker.specs.LinkedStarts.{IsStartOf}
 use Rattle.lcm_cli.specs.Parts.{broken_in, linked}
 use Rattle.lcm_cli.specs.Loads.{load_module, load_other, load_parts, load_image}
 use Rattle.lcm_cli.specs.Jobs.{without, MeetsStart, FollowsTask}
 use Rattle.lcm_cli.specs.Commands.{Task, Run, Totals, for_task}
 use Rattle.lcm_cli.specs.declared.job.Job.TheVariants as job
-use Rattle.overlay_machine.specs.Starting.{IsStartOf}
 use Rattle.file_plans.proofs.Follow.{comes_same}
 use Rattle.lcm_cli.proofs.Tasks.{task_done}
 use Rattle.lcm_cli.proofs.Ends.{Never, same_err, not_made, never_unless, never_bind}

@@ -7,7 +7,6 @@ use Rattle.command_words.specs.declared.command.Command.TheVariants.{Generate}
 use Rattle.component_linker.specs.Standing.{placed}
 use Rattle.image_loader.specs.Image.{ImageSeen}
 use Rattle.generated_load.specs.Loads.{load_of, load_steps}
-use Rattle.trace_tool.specs.Headline.{HeadlineHolds}
 use Rattle.file_plans.specs.declared.refusal.Refusal.{Refusal}
 use Rattle.file_plans.specs.Plans.{Comes}
 use Rattle.lcm_cli.specs.declared.status.Status.{Status}
@@ -17,9 +16,9 @@ use Rattle.lcm_cli.specs.Answers.{Answer, Outside, with_files, ran, IsAnswerOf, 
 use Rattle.lcm_cli.specs.Causes.{IsRunStatus, LoadGiven}
 use Rattle.lcm_cli.proofs.Loads.{task_of, load_made, comes_stays}
 use Rattle.lcm_cli.proofs.Tasks.{made_of}
-use Rattle.lcm_cli.proofs.RunsMade.{refused_none, whole_run}
+use Rattle.lcm_cli.proofs.RunsMade.{StartLaws, refused_none, whole_run}
 
-module _ (all : HeadlineHolds) (seed : ℕ) (old : Outside) (ended : Status) (new : Outside) where
+module _ (all : StartLaws) (seed : ℕ) (old : Outside) (ended : Status) (new : Outside) where
   given_load : (seen : FilesSeen) (i : ImageSeen) (a : Answer)
       → Comes (load_image (load_of seed)) old.files (Ok i) seen
       → IsAnswerOf (Ok (task_of seed i)) a
@@ -33,7 +32,8 @@ module _ (all : HeadlineHolds) (seed : ℕ) (old : Outside) (ended : Status) (ne
         made = load_made (load_of seed) i old.files seen c;
         start = x.0;
         linked_start = x.1;
-        headline = all (placed i.parts i.stack) i.stack x.0 x.1;
+        calls = all.calls (placed i.parts i.stack) i.stack x.0 x.1;
+        headline = all.headline (placed i.parts i.stack) i.stack x.0 x.1;
         status_is = h.status_is;
         written = h.written;
         kept_is = h.kept_is;
@@ -49,7 +49,7 @@ module _ (all : HeadlineHolds) (seed : ℕ) (old : Outside) (ended : Status) (ne
       let m = made_of (load_image (load_of seed)) (task_of seed) old.files seen task c in
       given_load seen m.0 a m.1 (subst (λ t. IsAnswerOf (Ok t) a) m.2 x) g
 
-pub loads : HeadlineHolds → (asked : Option Command) (old : Outside) (ended : Status) (new : Outside)
+pub loads : StartLaws → (asked : Option Command) (old : Outside) (ended : Status) (new : Outside)
     → Answers (plan_in asked) old ended new → (seed : ℕ) → asked ≡ Some (Generate seed) → IsRunStatus ended
     → LoadGiven seed old ended new
 loads all asked old ended new a seed e r =

@@ -12,7 +12,7 @@ use Rattle.lcm_machine.proofs.CellLemmas.{same_cells}
 use Rattle.component_linker.specs.Started.{StartSeen}
 use Rattle.component_linker.specs.declared.owners.Site.{Site}
 use Rattle.component_linker.specs.declared.owners.Owner.{Owner}
-use Rattle.overlay_machine.specs.declared.layout.Layout.{Layout}
+use Rattle.trusted_border.specs.declared.layout.Layout.{Layout}
 use Rattle.overlay_machine.specs.declared.overlay.OEnd.{OEnd}
 use Rattle.overlay_machine.specs.declared.words.OWord.{OWord}
 use Rattle.overlay_machine.specs.State.{OpenFrame, OState}

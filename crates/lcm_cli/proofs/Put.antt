@@ -30,6 +30,7 @@ use Rattle.lcm_cli.specs.Parts.{component_at, part_at}
 use Rattle.source_events.specs.declared.End.{End}
 use Rattle.source_events.specs.declared.End.TheVariants as end
 use Rattle.meaning_tool.specs.Subjects.{told_of, subject_in}
+use Rattle.lcm_cli.specs.Audits.{audit_at}
 use Rattle.lcm_cli.specs.Commands.{Task, Run, Trace, Reach, Debug, Put, Write, Tell}
 use Rattle.lcm_cli.specs.Commands.{Content, spelling_of, IsReadAgain}
 use Rattle.lcm_cli.specs.Commands.{linked_in, link_task, component_task, plan_of, plan_in}
@@ -72,6 +73,8 @@ put_of_command (Mean words size fuel feed) old seen name d h =
     absurd (let m = (made_of (subject_in words size feed) _ old seen (Put name d) h).2 in cc)
 put_of_command (asked.Debug l script) old seen name d h =
     absurd (let m = (debug_came l script old (Put name d) seen h).task in cc)
+put_of_command (asked.Audit text) old seen name d h =
+    absurd (let m = (made_of (audit_at text) _ old seen (Put name d) h).2 in cc)
 put_of_command (Generate seed) old seen name d h =
     absurd (let m = (made_of (load_image (load_of seed)) _ old seen (Put name d) h).2 in cc)
 
@@ -215,6 +218,7 @@ why_none (refusal.Rule r) a e = e
 why_none (refusal.Image f) a e = image_none f a e
 why_none (refusal.Feed line) a e = e
 why_none (refusal.Script line) a e = e
+why_none (refusal.Audit f) a e = e
 
 puts_none : (due : Result Task Refusal) (a : Answer) → IsAnswerOf due a → PutsNone a.status a
 puts_none (Ok (Run i steps telling)) a x =
@@ -247,6 +251,7 @@ stay_by asked a old new status.AsmRefused n o k = k n
 stay_by asked a old new status.SourceRefused n o k = k n
 stay_by asked a old new status.FileRefused n o k = k n
 stay_by asked a old new status.RuleBroken n o k = k n
+stay_by asked a old new status.AuditRefused n o k = k n
 
 pub files_stay : (asked : Option Command) (old : Outside) (ended : Status) (new : Outside)
     → Answers (plan_in asked) old ended new → StayAt asked old.files ended new.files

@@ -25,7 +25,7 @@ use Rattle.lcm_cli.specs.Parts.{is_trusted, broken_in, linked, loaded, form_by, 
 use Rattle.lcm_cli.specs.Commands.{linked_parts, linked_image, linked_in}
 use Rattle.proc_sources.specs.Sources.{sourced}
 use Rattle.lcm_cli.specs.Causes.{IsTurn, IsUnread, IsLong, IsUndecoded, IsUncompiled, IsUnassembled}
-use Rattle.lcm_cli.specs.Causes.{IsUnscripted, PartBreaks, SomeBreaks}
+use Rattle.lcm_cli.specs.Causes.{IsUnscripted, IsUnaudited, PartBreaks, SomeBreaks}
 use Rattle.lcm_cli.specs.Causes.{AllBreak, LinkBreaks, LinkedCame}
 use Rattle.lcm_cli.proofs.Ends.{comes_split, same_err, ended_unless, not_made, no_rule}
 use Rattle.lcm_cli.proofs.Linking.{image_with, loaded_read}
@@ -71,6 +71,7 @@ FileReason plan old (refusal.Rule r) new = ⊤
 FileReason plan old (refusal.Image f) new = ⊤
 FileReason plan old (refusal.Feed line) new = ⊤
 FileReason plan old (refusal.Script line) new = IsUnscripted plan old line new
+FileReason plan old (refusal.Audit f) new = IsUnaudited plan old f new
 
 pub reason_first : {A B : Type 0} (p : Plan A) (f : A → Plan B) (old new : FilesSeen) (why : Refusal)
     → FileReason p old why new → FileReason (p >>= f) old why new
@@ -87,6 +88,8 @@ reason_first p f old new (refusal.Rule r) h = tt
 reason_first p f old new (refusal.Image x) h = tt
 reason_first p f old new (refusal.Feed line) h = tt
 reason_first p f old new (refusal.Script line) h =
+    (h.0, (h.1.0, h.1.1, turn_first p f old h.1.1 h.1.0 h.0 h.1.2, h.1.3, h.1.4, h.1.5))
+reason_first p f old new (refusal.Audit x) h =
     (h.0, (h.1.0, h.1.1, turn_first p f old h.1.1 h.1.0 h.0 h.1.2, h.1.3, h.1.4, h.1.5))
 
 reason_next : {A B : Type 0} (p : Plan A) (f : A → Plan B) (old mid new : FilesSeen) (x : A) (why : Refusal)
@@ -106,6 +109,8 @@ reason_next p f old mid new x (refusal.Rule r) c h = tt
 reason_next p f old mid new x (refusal.Image y) c h = tt
 reason_next p f old mid new x (refusal.Feed line) c h = tt
 reason_next p f old mid new x (refusal.Script line) c h =
+    (h.0, (h.1.0, h.1.1, turn_next p f old mid h.1.1 x h.1.0 h.0 c h.1.2, h.1.3, h.1.4, h.1.5))
+reason_next p f old mid new x (refusal.Audit y) c h =
     (h.0, (h.1.0, h.1.1, turn_next p f old mid h.1.1 x h.1.0 h.0 c h.1.2, h.1.3, h.1.4, h.1.5))
 
 -- wherever a plan ends the call, it has a reason

@@ -1,6 +1,6 @@
 -- What a run or a trace was given from, and what it wrote.
 use Rattle.std.proofs.Common.{◌≡◌, ◌≢◌, ℕ, List, Option, Some, None, refl, sym, ap, subst, ◌∙◌, inl, inr}
-use Rattle.std.proofs.Common.{true, false}
+use Rattle.std.proofs.Common.{◌<◌, ◌^◌, arith, true, false}
 use Rattle.std.specs.Prelude.{◌↔◌, Result, Ok, Err, Bool}
 use Rattle.outside_io.specs.FilesSeen.{FilesSeen}
 use Rattle.outside_io.specs.SinkSeen.{FailsToWrite}
@@ -14,10 +14,14 @@ use Rattle.component_linker.specs.Parts.{PartSeen}
 use Rattle.image_loader.specs.declared.fault.ImageFault.{ImageFault}
 use Rattle.image_loader.specs.declared.fault.ImageFault.TheVariants as image
 use Rattle.image_loader.specs.Image.{ImageSeen}
-use Rattle.overlay_machine.specs.Starting.{IsLinkedStart, IsStartOf, overlay_at}
+use Rattle.component_linker.specs.LinkedStarts.{IsLinkedStart, IsStartOf}
+use Rattle.overlay_machine.specs.Starting.{overlay_at}
 use Rattle.component_linker.specs.Standing.{placed}
 use Rattle.component_linker.specs.Started.{StartSeen}
 use Rattle.overlay_machine.specs.Seen.{OverlaySeen, IsOverlayOf}
+use Rattle.audited_runs.specs.Audited.{RunsPass}
+use Rattle.command_words.specs.Fits.{Fits}
+use Rattle.trace_tool.specs.OpenCalls.{OpenCallsAreKept}
 use Rattle.trace_tool.specs.Headline.{HeadlineHolds}
 use Rattle.trace_tool.specs.declared.run.RunEnd.{RunEnd}
 use Rattle.trace_tool.specs.declared.run.RunEnd.TheVariants as run_end
@@ -65,6 +69,7 @@ no_run (refusal.Rule r) h = h
 no_run (refusal.Image f) h = no_image_run f h
 no_run (refusal.Feed line) h = h
 no_run (refusal.Script line) h = h
+no_run (refusal.Audit f) h = h
 
 -- a status of a run is of no refusal
 pub refused_none : (why : Refusal) (a : Answer) (ended : Status) → a ≡ refused why → ended ≡ a.status
@@ -73,8 +78,16 @@ refused_none why a ended x e r = no_run why (subst IsRunStatus (e ∙ ap (λ (b 
 
 -- ---- the start of what is linked
 
+-- what holds of all starts that are linked
+pub record StartLaws : Type 0 where
+  pub calls : OpenCallsAreKept
+  pub headline : HeadlineHolds
+
+pub both : OpenCallsAreKept → HeadlineHolds → StartLaws
+both calls headline = record { calls = calls; headline = headline }
+
 -- what came of the image, and the start of its parts
-abbrev pub started : HeadlineHolds → (l : Linked) (old seen : FilesSeen) (i : ImageSeen) (start : StartSeen)
+abbrev pub started : StartLaws → (l : Linked) (old seen : FilesSeen) (i : ImageSeen) (start : StartSeen)
     → Comes (linked_in l) old (Ok i) seen → IsStartOf i.parts i.stack start → Started l old seen
 started all l old seen i start c s =
     let came = in_made l old seen i c in
@@ -85,7 +98,8 @@ started all l old seen i start c s =
       keep = came.1;
       start = start;
       linked_start = s;
-      headline = all (placed i.parts i.stack) i.stack start s;
+      calls = all.calls (placed i.parts i.stack) i.stack start s;
+      headline = all.headline (placed i.parts i.stack) i.stack start s;
     }
 
 -- what was due to a deed: a refusal, or what is done with the image that came
@@ -128,12 +142,12 @@ whole_run plan old ended new (answer due a seen c x (unwritten p f k s)) r = abs
 whole_run plan old ended new (answer due a seen c x (whole g)) r =
     record { due = due; gives = a; seen = seen; came = c; is = x; given = g }
 
-given_run : HeadlineHolds → (l : Linked) (steps : ℕ) (old : Outside) (seen : FilesSeen) (ended : Status)
-    (new : Outside) (a : Answer) → DeedDue l (link_deed.Run steps) old.files seen a
+given_run : StartLaws → RunsPass → (l : Linked) (steps : ℕ) (old : Outside) (seen : FilesSeen) (ended : Status)
+    (new : Outside) (a : Answer) → steps < 2 ^ 64 → DeedDue l (link_deed.Run steps) old.files seen a
     → GivesWhole (with_files old seen) a ended new → IsRunStatus ended → RunGiven l steps old ended new
-given_run all l steps old seen ended new a (told why c e) g r =
+given_run all pass l steps old seen ended new a small (told why c e) g r =
     absurd (refused_none why a ended e g.status_is r)
-given_run all l steps old seen ended new a (made i c x) g r =
+given_run all pass l steps old seen ended new a small (made i c x) g r =
     let h : GivesWhole (with_files old seen) (ran x.0 steps Lines) ended new =
     subst (λ b. GivesWhole (with_files old seen) b ended new) x.2 g in
     let p : new.files ≡ seen = h.put in
@@ -142,15 +156,22 @@ given_run all l steps old seen ended new a (made i c x) g r =
           (subst (λ z. Comes (linked_in l) old.files (Ok i) z) (sym p) c) x.1;
       status_is = h.status_is;
       written = h.written;
+      audited = pass (placed i.parts i.stack) i.stack x.0 x.1 steps small;
       kept_is = h.kept_is;
     }
 
-pub runs : HeadlineHolds → (asked : Option Command) (old : Outside) (ended : Status) (new : Outside)
+-- so many steps as a command asks for
+few_steps : (l : Linked) (steps : ℕ) → Fits (Links l (link_deed.Run steps)) → steps < 2 ^ 64
+few_steps l steps h = let k = h.1.1 in omega (arith, k)
+
+pub runs : StartLaws → RunsPass → (asked : Option Command) → ((c : Command) → asked ≡ Some c → Fits c)
+    → (old : Outside) (ended : Status) (new : Outside)
     → Answers (plan_in asked) old ended new → (l : Linked) (steps : ℕ)
     → asked ≡ Some (Links l (link_deed.Run steps)) → IsRunStatus ended → RunGiven l steps old ended new
-runs all asked old ended new a l steps e r =
+runs all pass asked fits old ended new a l steps e r =
     let w = whole_run (plan_in asked) old ended new a r in
-    given_run all l steps old w.seen ended new w.gives
+    given_run all pass l steps old w.seen ended new w.gives
+    (few_steps l steps (fits (Links l (link_deed.Run steps)) e))
     (asked_due asked l (link_deed.Run steps) e old.files w.seen w.due w.gives w.came w.is) w.given r
 
 -- a linked start has one overlay
@@ -159,7 +180,7 @@ OverlaysAreOne =
     (parts : List PartSeen) (size : ℕ) (s : StartSeen) → IsLinkedStart parts size s
     → (o : OverlaySeen) → IsOverlayOf s o ↔ (o ≡ overlay_at s)
 
-given_trace : HeadlineHolds → OverlaysAreOne → (l : Linked) (steps : ℕ) (old : Outside) (seen : FilesSeen)
+given_trace : StartLaws → OverlaysAreOne → (l : Linked) (steps : ℕ) (old : Outside) (seen : FilesSeen)
     (ended : Status) (new : Outside) (a : Answer) → DeedDue l (link_deed.Trace steps) old.files seen a
     → GivesWhole (with_files old seen) a ended new → IsRunStatus ended → TraceGiven l steps old ended new
 given_trace all one l steps old seen ended new a (told why c e) g r =
@@ -182,7 +203,7 @@ given_trace all one l steps old seen ended new a (made i c x) g r =
       kept_is = h.kept_is;
     }
 
-pub traces : HeadlineHolds → OverlaysAreOne → (asked : Option Command) (old : Outside) (ended : Status)
+pub traces : StartLaws → OverlaysAreOne → (asked : Option Command) (old : Outside) (ended : Status)
     (new : Outside) → Answers (plan_in asked) old ended new → (l : Linked) (steps : ℕ)
     → asked ≡ Some (Links l (link_deed.Trace steps)) → IsRunStatus ended → TraceGiven l steps old ended new
 traces all one asked old ended new a l steps e r =
@@ -214,6 +235,7 @@ no_cut (refusal.Rule r) e = cc
 no_cut (refusal.Image f) e = no_image_cut f e
 no_cut (refusal.Feed line) e = cc
 no_cut (refusal.Script line) e = cc
+no_cut (refusal.Audit f) e = cc
 
 pub never_cut : (end : RunEnd) → end ≢ run_end.WriteFault → end_status end ≢ status.WriteFault
 never_cut run_end.Halted n e = absurd (cc)
@@ -290,7 +312,7 @@ linked_as parts size s h = record {
   starts = h.starts;
 }
 
-given_reach : HeadlineHolds → ReportsBoundRuns → (l : Linked) (old : Outside) (seen : FilesSeen)
+given_reach : StartLaws → ReportsBoundRuns → (l : Linked) (old : Outside) (seen : FilesSeen)
     (ended : Status) (new : Outside) (a : Answer) → DeedDue l link_deed.Reach old.files seen a
     → GivesWhole (with_files old seen) a ended new → IsRunStatus ended → ReachGiven l old ended new
 given_reach all bounds l old seen ended new a (told why c e) g r =
@@ -310,7 +332,7 @@ given_reach all bounds l old seen ended new a (made i c x) g r =
       kept_is = h.kept_is;
     }
 
-pub reaches : HeadlineHolds → ReportsBoundRuns → (asked : Option Command) (old : Outside)
+pub reaches : StartLaws → ReportsBoundRuns → (asked : Option Command) (old : Outside)
     (ended : Status) (new : Outside) → Answers (plan_in asked) old ended new → (l : Linked)
     → asked ≡ Some (Links l link_deed.Reach) → IsRunStatus ended → ReachGiven l old ended new
 reaches all bounds asked old ended new a l e r =
@@ -326,7 +348,7 @@ refused_cut {old = old} {new = new} l k why c e =
     let f = cut_by k (refused why) e refl (λ q. no_cut why (sym q)) in
     (why, subst (λ z. Comes (linked_in l) old.files (Err why) z) (sym f.0) c, f.1)
 
-cut_run : HeadlineHolds → (l : Linked) (steps : ℕ) (plan : Plan Task) (old new : Outside)
+cut_run : StartLaws → (l : Linked) (steps : ℕ) (plan : Plan Task) (old new : Outside)
     (k : Cut plan old new)
     → DeedDue l (link_deed.Run steps) old.files k.seen k.gives → RunCut l steps old new
 cut_run all l steps plan old new k (told why c e) = inl (refused_cut l k why c e)
@@ -341,7 +363,7 @@ cut_run all l steps plan old new k (made i c x) =
       f.1,
     )
 
-cut_trace : HeadlineHolds → (l : Linked) (steps : ℕ) (plan : Plan Task) (old new : Outside)
+cut_trace : StartLaws → (l : Linked) (steps : ℕ) (plan : Plan Task) (old new : Outside)
     (k : Cut plan old new)
     → DeedDue l (link_deed.Trace steps) old.files k.seen k.gives → TraceCut l steps old new
 cut_trace all l steps plan old new k (told why c e) = inl (refused_cut l k why c e)
@@ -355,7 +377,7 @@ cut_trace all l steps plan old new k (made i c x) =
       f.1,
     )
 
-pub run_cut : HeadlineHolds → (asked : Option Command) (old : Outside) (ended : Status) (new : Outside)
+pub run_cut : StartLaws → (asked : Option Command) (old : Outside) (ended : Status) (new : Outside)
     → Answers (plan_in asked) old ended new → (l : Linked) (steps : ℕ)
     → asked ≡ Some (Links l (link_deed.Run steps)) → ended ≡ status.WriteFault → RunCut l steps old new
 run_cut all asked old ended new a l steps e r =
@@ -363,7 +385,7 @@ run_cut all asked old ended new a l steps e r =
     cut_run all l steps (plan_in asked) old new k
     (asked_due asked l (link_deed.Run steps) e old.files k.seen k.due k.gives k.came k.is)
 
-pub trace_cut : HeadlineHolds → (asked : Option Command) (old : Outside) (ended : Status) (new : Outside)
+pub trace_cut : StartLaws → (asked : Option Command) (old : Outside) (ended : Status) (new : Outside)
     → Answers (plan_in asked) old ended new → (l : Linked) (steps : ℕ)
     → asked ≡ Some (Links l (link_deed.Trace steps)) → ended ≡ status.WriteFault → TraceCut l steps old new
 trace_cut all asked old ended new a l steps e r =

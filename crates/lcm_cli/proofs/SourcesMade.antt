@@ -10,8 +10,10 @@ use Rattle.command_words.specs.declared.command.Linked.TheVariants as what
 use Rattle.command_words.specs.declared.command.LinkDeed.TheVariants as link_deed
 use Rattle.component_linker.specs.Parts.{PartSeen}
 use Rattle.component_linker.specs.Started.{StartSeen}
-use Rattle.overlay_machine.specs.Starting.{IsStartOf}
-use Rattle.trace_tool.specs.Headline.{HeadlineHolds, written}
+use Rattle.component_linker.specs.LinkedStarts.{IsStartOf}
+use Rattle.audited_runs.specs.Audited.{RunsPass}
+use Rattle.command_words.specs.Fits.{Fits}
+use Rattle.trace_tool.specs.Runs.{written}
 use Rattle.proc_language.specs.declared.module.ModuleFields.{ModuleFields}
 use Rattle.proc_program.specs.Lower.{part_of}
 use Rattle.source_starts.specs.Sources.{AreSources}
@@ -30,7 +32,7 @@ use Rattle.lcm_cli.specs.Answers.{Outside, Answers}
 use Rattle.lcm_cli.specs.Causes.{IsRunStatus, Started, RunGiven}
 use Rattle.lcm_cli.specs.SourceRuns.{AllSources, IsFeed, SourcesMean, SourcesRun, SourcesCut}
 use Rattle.lcm_cli.specs.SourceRuns.{SourcesTold}
-use Rattle.lcm_cli.proofs.RunsMade.{runs, run_cut}
+use Rattle.lcm_cli.proofs.RunsMade.{StartLaws, runs, run_cut}
 use Rattle.lcm_cli.proofs.SourceWords.{SourceLaws, gathered}
 use Rattle.lcm_cli.proofs.SourceFeeds.{among, each_resolved}
 
@@ -50,7 +52,8 @@ feed_of begin tells keep modules parts size s steps is are items came = record {
 
 -- what holds of all runs and sources
 pub record RunLaws : Type 0 where
-  pub headline : HeadlineHolds
+  pub starts : StartLaws
+  pub pass : RunsPass
   pub sources : SourceLaws
   pub mean : RunsMean
   pub begin : StacksBegin
@@ -75,14 +78,15 @@ sources_mean laws words stack steps old new sources from =
           g.are means.items means.came;
     }
 
-sources_run : RunLaws → (asked : Option Command) (old : Outside) (ended : Status) (new : Outside)
+sources_run : RunLaws → (asked : Option Command) → ((c : Command) → asked ≡ Some c → Fits c)
+    → (old : Outside) (ended : Status) (new : Outside)
     → Answers (plan_in asked) old ended new → (words : List PartWord) (stack steps : ℕ)
     → asked ≡ Some (Links (what.Parts words stack) (link_deed.Run steps)) → AllSources words
     → IsRunStatus ended
     → SourcesRun words stack steps old ended new
-sources_run laws asked old ended new a words stack steps e sources r =
+sources_run laws asked fits old ended new a words stack steps e sources r =
     let given : RunGiven (what.Parts words stack) steps old ended new =
-    runs laws.headline asked old ended new a (what.Parts words stack) steps e r in
+    runs laws.starts laws.pass asked fits old ended new a (what.Parts words stack) steps e r in
     record {
       given = given;
       meant = sources_mean laws words stack steps old.files new.files sources given.from;
@@ -93,7 +97,7 @@ sources_cut : RunLaws → (asked : Option Command) (old : Outside) (ended : Stat
     → asked ≡ Some (Links (what.Parts words stack) (link_deed.Run steps)) → AllSources words
     → ended ≡ WriteFault → SourcesCut words stack steps old new
 sources_cut laws asked old ended new a words stack steps e sources w =
-    elim (run_cut laws.headline asked old ended new a (what.Parts words stack) steps e w)
+    elim (run_cut laws.starts asked old ended new a (what.Parts words stack) steps e w)
     as (λ _. SourcesCut words stack steps old new) [
       | inl r ↦ inl r
       | inr c ↦ inr (
@@ -103,11 +107,12 @@ sources_cut laws asked old ended new a words stack steps e sources w =
       )
     ]
 
-pub sources_told : RunLaws → (asked : Option Command) (old : Outside) (ended : Status) (new : Outside)
+pub sources_told : RunLaws → (asked : Option Command) → ((c : Command) → asked ≡ Some c → Fits c)
+    → (old : Outside) (ended : Status) (new : Outside)
     → Answers (plan_in asked) old ended new → (words : List PartWord) (stack steps : ℕ)
     → asked ≡ Some (Links (what.Parts words stack) (link_deed.Run steps)) → AllSources words
     → SourcesTold words stack steps old ended new
-sources_told laws asked old ended new a words stack steps e sources = (
-  sources_run laws asked old ended new a words stack steps e sources,
+sources_told laws asked fits old ended new a words stack steps e sources = (
+  sources_run laws asked fits old ended new a words stack steps e sources,
   sources_cut laws asked old ended new a words stack steps e sources,
 )

@@ -22,13 +22,15 @@ use Rattle.lcm_cli.specs.Commands.{Task, linked_in, for_task, link_task, compone
 use Rattle.lcm_cli.specs.Commands.{debug_plan}
 use Rattle.lcm_cli.specs.Loads.{load_image}
 use Rattle.lcm_cli.specs.Causes.{IsUnread, IsLong, IsUndecoded, IsUncompiled, IsUnassembled, IsUnloaded}
-use Rattle.lcm_cli.specs.Causes.{IsUnscripted}
+use Rattle.lcm_cli.specs.Causes.{IsUnscripted, IsUnaudited}
 use Rattle.lcm_cli.specs.Causes.{IsUnmade, Breaks, IsUnfed}
 use Rattle.lcm_cli.proofs.Ends.{Never, same_err, never_linked, never_image, never_component, never_part}
 use Rattle.lcm_cli.proofs.Ends.{no_rule}
 use Rattle.lcm_cli.proofs.Reasons.{reason_first, Reasoned, in_reasoned, component_reasoned}
 use Rattle.lcm_cli.proofs.Reasons.{part_reasoned, linked_break, part_breaks, image_fails}
 use Rattle.lcm_cli.proofs.Loads.{never_load, load_ended}
+use Rattle.lcm_cli.specs.Audits.{audit_at}
+use Rattle.lcm_cli.proofs.Audits.{audit_reasoned, never_audit}
 use Rattle.lcm_cli.proofs.Debugs.{debug_reasoned, never_debug, debug_breaks, debug_unloaded}
 use Rattle.lcm_cli.proofs.Modules.{never_subject, subject_reasoned, modules_break, feed_fails}
 use Rattle.lcm_cli.proofs.Tasks.{err_of}
@@ -47,6 +49,7 @@ WhyIs asked plan old (refusal.Rule r) new = Breaks asked old r new
 WhyIs asked plan old (refusal.Image f) new = IsUnloaded asked old f new
 WhyIs asked plan old (refusal.Feed line) new = IsUnfed asked old line new
 WhyIs asked plan old (refusal.Script line) new = IsUnscripted plan old line new
+WhyIs asked plan old (refusal.Audit f) new = IsUnaudited plan old f new
 
 -- what a plan says of its ends, where it is part of what the words ask for
 record Explains {A : Type 0} (asked : Option Command) (plan : Plan A) (old new : FilesSeen) : Type 0 where
@@ -70,6 +73,7 @@ why_from asked plan old new (refusal.Rule r) t h = t.breaks r h
 why_from asked plan old new (refusal.Image f) t h = t.unloaded f h
 why_from asked plan old new (refusal.Feed line) t h = t.unfed line h
 why_from asked plan old new (refusal.Script line) t h = t.reasoned.gives old new (refusal.Script line) h
+why_from asked plan old new (refusal.Audit f) t h = t.reasoned.gives old new (refusal.Audit f) h
 
 -- what is read says why a task doesn't come
 why_first : {A : Type 0} (asked : Option Command) (p : Plan A) (f : A → Task) (old new : FilesSeen)
@@ -91,6 +95,8 @@ why_first asked p f old new (refusal.Image y) h = h
 why_first asked p f old new (refusal.Feed line) h = h
 why_first asked p f old new (refusal.Script line) h =
     reason_first p (λ x. Made (f x)) old new (refusal.Script line) h
+why_first asked p f old new (refusal.Audit y) h =
+    reason_first p (λ x. Made (f x)) old new (refusal.Audit y) h
 
 why_task : {A : Type 0} (asked : Option Command) (p : Plan A) (f : A → Task) (old new : FilesSeen)
     (why : Refusal) → Explains asked p old new → Comes (for_task p f) old (Err why) new
@@ -158,6 +164,16 @@ debug_explains l script old new = record {
       script old new h);
 }
 
+audit_explains : (name : List ℕ) (old new : FilesSeen)
+    → Explains (Some (asked.Audit name)) (audit_at name) old new
+audit_explains name old new = record {
+  reasoned = audit_reasoned name;
+  no_usage = never_audit refusal.Usage (λ e. cc) (λ e. cc) (λ f e. cc) name;
+  breaks = λ r h. never_audit (refusal.Rule r) (λ e. cc) (λ e. cc) (λ f e. cc) name old new h;
+  unloaded = λ f h. absurd (never_audit (refusal.Image f) (λ e. cc) (λ e. cc) (λ f e. cc) name old new h);
+  unfed = λ line h. absurd (never_audit (refusal.Feed line) (λ e. cc) (λ e. cc) (λ f e. cc) name old new h);
+}
+
 -- ---- a load, which reads nothing: it is refused as a source, or breaks a rule
 
 load_why : (seed : ℕ) (old new : FilesSeen) (why : Refusal)
@@ -177,6 +193,7 @@ load_why seed old new (refusal.File index f) h =
 load_why seed old new (refusal.Image f) h = absurd (never_load (refusal.Image f) tt (load_of seed) old new h)
 load_why seed old new (refusal.Script line) h =
     absurd (never_load (refusal.Script line) tt (load_of seed) old new h)
+load_why seed old new (refusal.Audit f) h = absurd (never_load (refusal.Audit f) tt (load_of seed) old new h)
 load_why seed old new (refusal.Feed line) h =
     absurd (never_load (refusal.Feed line) tt (load_of seed) old new h)
 
@@ -198,6 +215,8 @@ command_why (Mean words size fuel feed) old new why h =
 command_why (asked.Debug l script) old new why h =
     why_from (Some (asked.Debug l script)) (debug_plan l script) old new why
     (debug_explains l script old new) h
+command_why (asked.Audit name) old new why h =
+    why_task (Some (asked.Audit name)) (audit_at name) _ old new why (audit_explains name old new) h
 command_why (Generate seed) old new why h =
     load_why seed old new why (err_of (load_image (load_of seed)) _ old new why h)
 

@@ -8,8 +8,8 @@ use Rattle.authority_report.specs.Text.{IsReachText}
 use Rattle.debug_tool.specs.Replies.{debug_text}
 use Rattle.generated_load.specs.Loads.{load_steps}
 use Rattle.lcm_machine.specs.Run.{Run as Machine, answer as last_step, plain}
-use Rattle.overlay_machine.specs.Starting.{IsStartOf}
 use Rattle.component_linker.specs.Started.{StartSeen}
+use Rattle.component_linker.specs.LinkedStarts.{IsStartOf}
 use Rattle.overlay_machine.specs.Seen.{OverlaySeen, IsOverlayOf}
 use Rattle.trace_tool.specs.declared.run.RunEnd.{RunEnd}
 use Rattle.trace_tool.specs.declared.run.RunEnd.TheVariants as run_end

@@ -31,6 +31,8 @@ use Rattle.authority_report.specs.Text.{IsReachText}
 use Rattle.debug_script.specs.declared.command.Command.{Command as Line}
 use Rattle.debug_script.specs.declared.fault.ScriptFault.{ScriptFault}
 use Rattle.debug_script.specs.Script.{scripted}
+use Rattle.run_audit.specs.declared.fault.AuditFault.{AuditFault}
+use Rattle.run_audit.specs.Traces.{IsTrace, HasFault}
 use Rattle.debug_tool.specs.Replies.{debug_text, after_commands}
 use Rattle.step_back.specs.declared.debugger.TheConstants.{MOST_DEPTH}
 use Rattle.step_back.specs.Debug.{begun}
@@ -38,14 +40,15 @@ use Rattle.step_back.specs.Calls.{Remembers}
 use Rattle.generated_load.specs.Loads.{load_of, load_steps}
 use Rattle.image_loader.specs.Image.{ImageSeen}
 use Rattle.image_loader.specs.Reading.{image_of}
-use Rattle.overlay_machine.specs.Starting.{IsStartOf}
 use Rattle.component_linker.specs.Started.{StartSeen}
+use Rattle.component_linker.specs.LinkedStarts.{IsStartOf}
 use Rattle.overlay_machine.specs.Seen.{OverlaySeen, IsOverlayOf}
 use Rattle.trace_tool.specs.declared.run.RunEnd.{RunEnd}
 use Rattle.trace_tool.specs.declared.run.RunEnd.TheVariants as run_end
-use Rattle.trace_tool.specs.Headline.{Headline, written}
+use Rattle.trace_tool.specs.Runs.{written, run_text, end_of}
+use Rattle.trace_tool.specs.OpenCalls.{CallsAreKept}
+use Rattle.trace_tool.specs.Headline.{Headline}
 use Rattle.trace_tool.specs.Layout.{layout}
-use Rattle.trace_tool.specs.Runs.{run_text, end_of}
 use Rattle.trace_tool.specs.Traces.{trace_of, trace_text}
 use Rattle.lcm_machine.specs.declared.FailCause.{FailCause}
 use Rattle.lcm_machine.specs.declared.Step.{Step}
@@ -70,8 +73,8 @@ use Rattle.file_plans.specs.declared.refusal.Refusal.TheVariants as refusal
 use Rattle.lcm_cli.specs.declared.status.Status.{Status}
 use Rattle.lcm_cli.specs.declared.status.Status.TheVariants.{Done, MachineFailed, StepsUsed, Usage, ReadFault}
 use Rattle.lcm_cli.specs.declared.status.Status.TheVariants.{WriteFault, NoMemory, TooLong, AsmRefused}
-use Rattle.lcm_cli.specs.declared.status.Status.TheVariants.{SourceRefused, FileRefused, RuleBroken}
-use Rattle.lcm_cli.specs.Refusals.{refusal_text, image_status}
+use Rattle.lcm_cli.specs.declared.status.Status.TheVariants.{SourceRefused, FileRefused, RuleBroken, AuditRefused}
+use Rattle.lcm_cli.specs.Refusals.{refusal_text, audit_text, image_status}
 use Rattle.file_plans.specs.Plans.{Plan, Reads, Ends, Made, each_at, Comes}
 use Rattle.component_linker.specs.Accepted.{accepted}
 use Rattle.lcm_cli.specs.Parts.{is_trusted, linked, loaded, component_at, part_at}
@@ -80,7 +83,7 @@ use Rattle.lcm_cli.specs.Commands.{Task, Reach, Tell}
 use Rattle.lcm_cli.specs.Commands as task
 use Rattle.lcm_cli.specs.Loads.{load_image, totals_text}
 use Rattle.lcm_cli.specs.Debugs.{script_line}
-use Rattle.lcm_cli.specs.Commands.{linked_in, plan_in}
+use Rattle.lcm_cli.specs.Commands.{ok_text, linked_in, plan_in}
 use Rattle.lcm_cli.specs.Answers.{Outside, Answers, IsComplete, end_status, meaning_status}
 
 -- ---- files
@@ -129,6 +132,10 @@ abbrev pub IsUnscripted : {A : Type 0} → Plan A → FilesSeen → ℕ → File
 IsUnscripted plan old line new =
     (index : ℕ) × Holds plan old index new
     (λ text. (f : ScriptFault) × (scripted text ≡ Err f) × (line ≡ script_line f))
+
+-- the text in the file of this index is no trace of a run, and this is what its first line that spoils it does
+abbrev pub IsUnaudited : {A : Type 0} → Plan A → FilesSeen → AuditFault → FilesSeen → Type 0
+IsUnaudited plan old f new = (index : ℕ) × Holds plan old index new (λ text. HasFault text f)
 
 -- the name of an image word
 abbrev pub image_in : Option Command → Option (List ℕ)
@@ -304,6 +311,8 @@ pub record Causes (asked : Option Command) (old : Outside) (status : Status) (ne
   pub source_refused : status ≡ SourceRefused → (index : ℕ) × (f : SourceFault)
       × Wrote (refusal.Source index f) old new
       × (IsUncompiled (plan_in asked) old.files index f new.files ⊎ IsUnmade asked (refusal.Source index f))
+  pub audit_refused : status ≡ AuditRefused → (f : AuditFault) × Wrote (refusal.Audit f) old new
+      × IsUnaudited (plan_in asked) old.files f new.files
 
 -- ---- files that stay
 
@@ -344,8 +353,9 @@ LinkedCame (what.Image name) old parts size new =
     (bytes : List ℕ) × ComesWhole old name LONGEST_FILE bytes new
     × (image_of bytes ≡ Ok (record { stack = size; parts = parts }))
 
--- the words or the image made parts that keep the rules, and this is the start that they link to. It has the
--- headline: the plain run agrees with the run of the start's overlay, its calls and returns are bracketed,
+-- the words or the image made parts that keep the rules, and this is the start that they link to. Its calls are
+-- kept: each ret line closes the newest open call, whose range only its own return uses till then. And it has
+-- the headline: the plain run agrees with the run of the start's overlay, its calls and returns are bracketed,
 -- and its frames are private.
 pub record Started (l : Linked) (old new : FilesSeen) : Type 0 where
   pub parts : List PartSeen
@@ -354,26 +364,30 @@ pub record Started (l : Linked) (old new : FilesSeen) : Type 0 where
   pub keep : linked parts size ≡ Ok tt
   pub start : StartSeen
   pub linked_start : IsStartOf parts size start
+  pub calls : CallsAreKept start
   pub headline : Headline start
 
 -- the text of the plain run from a start: its lines and its end line
 abbrev pub text_of_run : StartSeen → ℕ → List ℕ
 text_of_run start steps = run_text (layout start) start.state steps
 
--- the plain run of the start gave the status, the text and the machine
+-- the plain run of the start gave the status, the text and the machine. By itself its text is seen to be a
+-- trace, in which calls and returns are bracketed
 pub record RunGiven (l : Linked) (steps : ℕ) (old : Outside) (status : Status) (new : Outside) : Type 0 where
   pub from : Started l old.files new.files
   pub status_is : status ≡ end_status (end_of (last_step (plain steps from.start.state)))
   pub written : Adds old.sink (text_of_run from.start steps) new.sink
+  pub audited : IsTrace (text_of_run from.start steps)
   pub kept_is : new.kept ≡ Some (plain steps from.start.state)
 
 -- the load of a seed links, and the plain run of its start gave the status, the text and the machine: its
--- totals where it halted, and else its end line. The start has the headline.
+-- totals where it halted, and else its end line. The start's calls are kept, and it has the headline.
 pub record LoadGiven (seed : ℕ) (old : Outside) (status : Status) (new : Outside) : Type 0 where
   pub image : ImageSeen
   pub made : load_image (load_of seed) ≡ Made image
   pub start : StartSeen
   pub linked_start : IsStartOf image.parts image.stack start
+  pub calls : CallsAreKept start
   pub headline : Headline start
   pub status_is : status ≡ end_status (end_of (last_step (plain load_steps start.state)))
   pub written : Adds old.sink (totals_text (load_of seed) start load_steps) new.sink
@@ -434,6 +448,28 @@ pub record MeaningGiven (words : List PartWord) (size fuel : ℕ) (feed : List �
   pub status_is : status ≡ meaning_status (meaning (map part_of modules) size items fuel).end
   pub written : Adds old.sink (told_text (meaning (map part_of modules) size items fuel)) new.sink
   pub kept_is : new.kept ≡ old.kept
+
+-- the file of `--feed` came, its text is a trace of a run, and `ok` was written
+pub record AuditPasses (name : List ℕ) (old new : Outside) : Type 0 where
+  pub text : List ℕ
+  pub came : ComesWhole old.files name LONGEST_FILE text new.files
+  pub is_trace : IsTrace text
+  pub written : Adds old.sink ok_text new.sink
+  pub kept_is : new.kept ≡ old.kept
+
+-- it came, and the first line that spoils its text was told
+pub record AuditFails (name : List ℕ) (old new : Outside) : Type 0 where
+  pub text : List ℕ
+  pub came : ComesWhole old.files name LONGEST_FILE text new.files
+  pub fault : AuditFault
+  pub is_fault : HasFault text fault
+  pub written : Adds old.sink (audit_text fault) new.sink
+  pub kept_is : new.kept ≡ old.kept
+
+-- what is promised of an audit, by its status
+abbrev pub AuditTold : List ℕ → Outside → Status → Outside → Type 0
+AuditTold name old status new =
+    (status ≡ Done → AuditPasses name old new) × (status ≡ AuditRefused → AuditFails name old new)
 
 -- the sink failed at the line of the refusal that was due, or at the text of such a start's run
 abbrev pub IsCut : (l : Linked) → (StartSeen → List ℕ → Type 0) → Outside → Outside → Type 0

@@ -24,6 +24,7 @@ use Rattle.meaning_tool.specs.Subjects.{Subject, subject_in}
 use Rattle.lcm_cli.specs.Parts.{linked, loaded, component_at, part_at}
 use Rattle.lcm_cli.specs.Loads.{load_image}
 use Rattle.lcm_cli.specs.Debugs.{script_at}
+use Rattle.lcm_cli.specs.Audits.{audit_at}
 
 -- what a file that is put holds: a component, or an image
 pub data Content : Type 0 where
@@ -107,13 +108,14 @@ for_task plan task = do
   Made (task x)
 
 -- parts that link, or an image; one component, of which no rule is asked; one part with its own rules;
--- modules and a feed; or a load
+-- modules and a feed; a load; or a text that is audited
 abbrev pub plan_of : Command → Plan Task
 plan_of (Links l deed) = for_task (linked_in l) (link_task deed)
 plan_of (Takes word deed) = for_task (component_at 0 word) (component_task deed)
 plan_of (Checks word) = for_task (part_at 0 word) (λ part. Write ok_text)
 plan_of (Mean words size fuel feed) = for_task (subject_in words size feed) (λ subject. Tell subject fuel)
 plan_of (asked.Debug l script) = debug_plan l script
+plan_of (asked.Audit name) = for_task (audit_at name) (λ u. Write ok_text)
 plan_of (Generate seed) =
     for_task (load_image (load_of seed)) (λ image. Run image load_steps (Totals (load_of seed)))
 

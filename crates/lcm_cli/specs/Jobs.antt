@@ -3,8 +3,8 @@ use Rattle.std.specs.Prelude.{◌≡◌, ℕ, List, Result, Ok, Err}
 use Rattle.outside_io.specs.FilesSeen.{FilesSeen}
 use Rattle.authority_report.specs.Text.{IsReachText}
 use Rattle.generated_load.specs.Loads.{load_steps}
-use Rattle.overlay_machine.specs.Starting.{IsStartOf}
 use Rattle.component_linker.specs.Started.{StartSeen}
+use Rattle.component_linker.specs.LinkedStarts.{IsStartOf}
 use Rattle.overlay_machine.specs.Seen.{IsOverlayOf}
 use Rattle.image_loader.specs.Image.{ImageSeen, image_bytes}
 use Rattle.lcm_cli.specs.declared.job.Job.{Job}

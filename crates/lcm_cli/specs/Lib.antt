@@ -3,6 +3,7 @@ pub mod Refusals
 pub mod Parts
 pub mod Loads
 pub mod Debugs
+pub mod Audits
 pub mod Commands
 pub mod Jobs
 pub mod Answers

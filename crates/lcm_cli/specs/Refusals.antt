@@ -19,6 +19,8 @@ use Rattle.proc_compiler.specs.Fault.{fault_number as compile_number}
 use Rattle.proc_compiler.specs.declared.fault.CompileFault.TheVariants as compile
 use Rattle.proc_sources.specs.declared.fault.SourceFault.{SourceFault}
 use Rattle.proc_sources.specs.declared.fault.SourceFault.TheVariants as source
+use Rattle.run_audit.specs.declared.fault.AuditFault.{AuditFault}
+use Rattle.run_audit.specs.Fault.{fault_number as audit_number, fault_line}
 use Rattle.file_plans.specs.declared.refusal.Refusal.{Refusal}
 use Rattle.file_plans.specs.declared.refusal.Refusal.TheVariants as refusal
 use Rattle.lcm_cli.specs.declared.status.Status.{Status}
@@ -85,6 +87,11 @@ feed_text line = codes "feed " ++ decimal line ++ codes "\n"
 abbrev pub script_text : ℕ → List ℕ
 script_text line = codes "script " ++ decimal line ++ codes "\n"
 
+-- the fault's number and its line
+abbrev pub audit_text : AuditFault → List ℕ
+audit_text f =
+    codes "audit " ++ decimal (audit_number f) ++ codes " " ++ decimal (fault_line f) ++ codes "\n"
+
 abbrev pub image_status : ImageFault → Status
 image_status (image.Rule broken) = status.RuleBroken
 image_status f = status.FileRefused
@@ -100,6 +107,7 @@ refusal_text (refusal.Rule broken) = rule_line broken
 refusal_text (refusal.Image f) = image_text f
 refusal_text (refusal.Feed line) = feed_text line
 refusal_text (refusal.Script line) = script_text line
+refusal_text (refusal.Audit f) = audit_text f
 
 abbrev pub refusal_status : Refusal → Status
 refusal_status refusal.Usage = status.Usage
@@ -112,3 +120,4 @@ refusal_status (refusal.Rule broken) = status.RuleBroken
 refusal_status (refusal.Image f) = image_status f
 refusal_status (refusal.Feed line) = status.FileRefused
 refusal_status (refusal.Script line) = status.FileRefused
+refusal_status (refusal.Audit f) = status.AuditRefused

@@ -20,7 +20,7 @@ use Rattle.source_starts.specs.Sources.{AreSources}
 use Rattle.source_starts.specs.RunMeans.{RunMeans, MeaningEnds, MeaningBegins}
 use Rattle.trace_tool.specs.Layout.{layout}
 use Rattle.trace_tool.specs.Feed.{outs_of, OutEvent as Event}
-use Rattle.trace_tool.specs.Headline.{written as written_lines}
+use Rattle.trace_tool.specs.Runs.{written as written_lines}
 use Rattle.run_items.specs.Items.{event_told}
 use Rattle.file_plans.specs.declared.TheConstants.{LONGEST_FILE}
 use Rattle.file_plans.specs.declared.refusal.Refusal.{Refusal}

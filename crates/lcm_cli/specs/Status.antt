@@ -4,6 +4,7 @@ use Rattle.lcm_cli.specs.declared.status.Status.{Status}
 use Rattle.lcm_cli.specs.declared.status.Status.TheVariants.{Done, MachineFailed, StepsUsed, Usage, ReadFault}
 use Rattle.lcm_cli.specs.declared.status.Status.TheVariants.{WriteFault, NoMemory, TooLong, AsmRefused}
 use Rattle.lcm_cli.specs.declared.status.Status.TheVariants.{SourceRefused, FileRefused, RuleBroken}
+use Rattle.lcm_cli.specs.declared.status.Status.TheVariants.{AuditRefused}
 
 abbrev pub status_number : Status → ℕ
 status_number Done = 0
@@ -18,3 +19,4 @@ status_number AsmRefused = 15
 status_number SourceRefused = 16
 status_number FileRefused = 17
 status_number RuleBroken = 18
+status_number AuditRefused = 20

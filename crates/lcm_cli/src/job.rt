@@ -2,6 +2,10 @@
 ghost use Rattle.std.specs.Prelude.{◌≡◌, ◌≤◌, IfOk, IfErr, length};
 ghost use Rattle.command_words.specs.declared.command.LinkDeed.TheVariants as link_deed;
 ghost use Rattle.lcm_cli.specs.Parts.{part_at, component_at};
+ghost use Rattle.lcm_cli.specs.Audits.{audit_at};
+ghost use Rattle.run_audit.specs.Audit.{audited};
+ghost use Rattle.file_plans.specs.Plans.{Follows, Meets, unless};
+ghost use Rattle.file_plans.specs.declared.refusal.Refusal.TheVariants as refusal;
 ghost use Rattle.generated_load.specs.Loads.{load_of, load_steps};
 ghost use Rattle.outside_io.specs.FilesSeen.{FilesSeen};
 ghost use Rattle.lcm_cli.specs.Commands.{ok_text, Run, Write, Tell, Totals};
@@ -23,11 +27,12 @@ use component_file::{Component, encode_component};
 use component_linker::Start;
 use debug_script::Script;
 use disassembler::disassemble;
-use file_plans::Stop;
+use file_plans::{Refusal, Stop, read};
 use generated_load::{Load, load_of};
 use meaning_tool::{Meaning, meant};
 use outside_io::Files;
 use overlay_machine::Overlay;
+use run_audit::{AuditFault, audit};
 use std::alloc::Global;
 
 /// What is left to do.
@@ -186,6 +191,39 @@ fn mean_job<'a, F: Files>(
     Ok(Job::Tell(meant))
 }
 
+// Whether a text is a trace.
+fn audit_text(alloc: Global, text: &[u8]) -> Result<(), Stop>
+    ensures { Meets (unless refusal.Audit (audited text.now)) result }
+{
+    match audit(alloc, text) {
+        Ok(()) => Ok(()),
+        Err(AuditFault::NoMemory) => Err(Stop::NoMemory),
+        Err(fault) => Err(Stop::Refused(Refusal::Audit(fault))),
+    }
+}
+
+// Reads a text, and audits it.
+#[tactic(auto, using(file_plans::proofs::Follow::follows_end), unfolding(crate::specs::Audits::audit_at))]
+fn audit_file<F: Files>(alloc: Global, files: &mut F, name: &FileName<'_>) -> Result<(), Stop>
+    ensures { Follows (audit_at name.now) (F.seen files.old) result (F.seen files.new) }
+{
+    let text = read(alloc, files, name, 0)?;
+    audit_text(alloc, text.as_slice())
+}
+
+// Audits the text of a file.
+fn audit_job<'a, F: Files>(
+    alloc: Global,
+    files: &mut F,
+    name: &FileName<'_>,
+) -> Result<Job<'a>, Stop>
+    ensures { FollowsTask (for_task (audit_at name.now) (λ u. Write ok_text))
+        (F.seen files.old) result (F.seen files.new) }
+{
+    audit_file(alloc, files, name)?;
+    Ok(Job::Say)
+}
+
 // Makes the start of a load.
 fn generate_job<'a>(alloc: Global, seed: Seed) -> Result<Job<'a>, Stop>
     ensures { (seen : FilesSeen) → FollowsTask (for_task (load_image (load_of seed))
@@ -211,5 +249,6 @@ pub(crate) fn job_of<'a, F: Files>(
         Command::Mean(words, size, fuel, feed) => mean_job(alloc, files, &words, size, fuel, &feed),
         Command::Debug(what, script) => debug_job(alloc, files, &what, &script),
         Command::Generate(seed) => generate_job(alloc, seed),
+        Command::Audit(name) => audit_job(alloc, files, &name),
     }
 }

@@ -3,7 +3,7 @@ ghost use Rattle.std.specs.Prelude.{◌≡◌, ◌+◌, ◌≤◌, ◌<◌, ◌+
 ghost use Rattle.arrayvec.specs.ArrayString.{array_string_len};
 ghost use Rattle.lcm_cli.specs.Refusals.{asm_number_text, assembly_text, file_text, rule_line, form_text};
 ghost use Rattle.lcm_cli.specs.Refusals.{source_number_text, source_place, source_text};
-ghost use Rattle.lcm_cli.specs.Refusals.{image_text, feed_text, script_text, image_status};
+ghost use Rattle.lcm_cli.specs.Refusals.{image_text, feed_text, script_text, audit_text, image_status};
 ghost use Rattle.lcm_cli.specs.Refusals.{refusal_text, refusal_status};
 
 use crate::status::Status;
@@ -17,6 +17,7 @@ use itoa::Buffer;
 use proc_compiler::CompileFault;
 use proc_grammar::ParseFault;
 use proc_sources::SourceFault;
+use run_audit::AuditFault;
 
 fn push_number(line: &mut ArrayString<64>, number: u32)
     requires { array_string_len line.old ≤ 50 }
@@ -166,6 +167,18 @@ fn push_script(line: &mut ArrayString<64>, number: u32)
     line.push_str("\n");
 }
 
+fn push_audit(line: &mut ArrayString<64>, fault: AuditFault)
+    requires { line.old.bytes ≡ [] }
+    ensures { line.new.bytes ≡ audit_text fault }
+{
+    let mut digits = Buffer::new();
+    line.push_str("audit ");
+    push_number(line, u32::from(fault.number()));
+    line.push_str(" ");
+    line.push_str(digits.format(fault.line()));
+    line.push_str("\n");
+}
+
 /// The line that a refusal writes.
 pub(crate) fn refusal_line(why: Refusal) -> ArrayString<64>
     ensures text { result.bytes ≡ refusal_text why }
@@ -187,6 +200,7 @@ pub(crate) fn refusal_line(why: Refusal) -> ArrayString<64>
         Refusal::Image(fault) => push_image(&mut line, fault),
         Refusal::Feed(number) => push_feed(&mut line, number),
         Refusal::Script(number) => push_script(&mut line, number),
+        Refusal::Audit(fault) => push_audit(&mut line, fault),
     }
     line
 }
@@ -214,5 +228,6 @@ pub(crate) fn refusal_status(why: Refusal) -> Status
         Refusal::Rule(_) => Status::RuleBroken,
         Refusal::Image(fault) => image_status(fault),
         Refusal::Feed(_) | Refusal::Script(_) => Status::FileRefused,
+        Refusal::Audit(_) => Status::AuditRefused,
     }
 }

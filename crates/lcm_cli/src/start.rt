@@ -1,10 +1,10 @@
 //! What links: its start, or its image, of parts or of an image's file.
 ghost use Rattle.std.specs.Prelude.{◌≡◌, ◌<◌, ◌≤◌, ◌^◌, Ok, IfOk, length};
 ghost use Rattle.command_words.specs.declared.TheConstants.{MOST_PARTS};
-ghost use Rattle.overlay_machine.specs.Starting.{IsStartOf};
 ghost use Rattle.image_loader.specs.Image.{ImageSeen, Spells};
 ghost use Rattle.file_plans.specs.declared.refusal.Refusal.TheVariants.{Rule, Image};
 ghost use Rattle.file_plans.specs.Plans.{Meets, unless};
+ghost use Rattle.component_linker.specs.LinkedStarts.{IsStartOf};
 ghost use Rattle.lcm_cli.specs.Parts.{linked, loaded};
 ghost use Rattle.lcm_cli.specs.Commands.{linked_parts, linked_image, linked_in};
 ghost use Rattle.lcm_cli.specs.Jobs.{without, FollowsStart, FollowsImage, MeetsStart};

@@ -30,10 +30,13 @@ pub enum Status {
     FileRefused,
     /// A rule of a part, or of the parts together, is broken.
     RuleBroken,
+    /// A text is no trace of a run.
+    AuditRefused,
 }
 
 impl Status {
-    /// The exit status: 0 to 2 after a run or a meaning, 0 also for what was written, 10 to 18 else.
+    /// The exit status: 0 to 2 after a run or a meaning, 0 also for what was written, 10 to 18 and 20
+    /// else.
     pub fn number(self) -> u8
         ensures { result ≡ status_number self }
     {
@@ -50,6 +53,7 @@ impl Status {
             Status::SourceRefused => 16,
             Status::FileRefused => 17,
             Status::RuleBroken => 18,
+            Status::AuditRefused => 20,
         }
     }
 }

@@ -18,6 +18,7 @@ ghost use Rattle.lcm_cli.specs.Answers.{meaning_status, refused};
 ghost use Rattle.lcm_cli.specs.Answers.{GivesOrNothing, job_answer, IsReady};
 ghost use Rattle.lcm_cli.specs.Causes.{Promised, IsRunStatus, RunGiven, TraceGiven, RunCut, TraceCut};
 ghost use Rattle.lcm_cli.specs.Causes.{StayAt, PutsWhole, MeaningGiven, LoadGiven, ReachGiven, DebugGiven};
+ghost use Rattle.lcm_cli.specs.Causes.{AuditTold};
 ghost use Rattle.lcm_cli.specs.SourceRuns.{AllSources, SourcesTold};
 
 use crate::job::{Job, job_of};
@@ -25,8 +26,10 @@ use crate::lines::write_lines;
 use crate::load::totals;
 use crate::refusal_line::{refusal_line, refusal_status};
 use crate::status::Status;
+use audited_runs::laws::runs_pass;
 use authority_report::laws::reports_bound_runs;
 use cap_words::Items;
+use command_words::laws::commands_fit;
 use command_words::{FileName, Steps, WordsFault, command_of};
 use component_linker::Start;
 use debug_script::Script;
@@ -45,7 +48,7 @@ use run_items::laws::texts_tell_items;
 use source_events::End;
 use source_starts::laws::{runs_mean, stacks_begin};
 use std::alloc::Global;
-use trace_tool::laws::the_headline;
+use trace_tool::laws::{open_calls_are_kept, the_headline};
 use trace_tool::{RunEnd, run_counted, run_overlay, run_plain};
 
 // Writes a text, and answers the status, or WriteFault where the sink fails.
@@ -274,8 +277,9 @@ fn answer<F: Files, S: Sink>(
 /// mean under that feed with a stack of `--stack` words and `--steps` ticks of fuel: a line for each event,
 /// and the end line. `generate` makes a load from `--seed`, links it as `run` links parts, runs it for
 /// 10,000,000 instructions or up to its end, and writes its numbers, the word in a0 and how many calls
-/// `run` would tell of, or the end line where it didn't halt; `kept` is as after `run`. Any other words
-/// write `usage`.
+/// `run` would tell of, or the end line where it didn't halt; `kept` is as after `run`. `audit` reads the
+/// text of `--feed`, and writes `ok` where it is a trace of a run in which calls and returns are bracketed;
+/// else it tells the first line that spoils it. Any other words write `usage`.
 pub fn stk_main<F: Files, S: Sink>(
     alloc: Global,
     words: &Vec<String>,
@@ -290,8 +294,10 @@ pub fn stk_main<F: Files, S: Sink>(
         (outside (F.seen files.old) (S.seen out.old) kept.old)
         result (outside (F.seen files.new) (S.seen out.new) kept.new) }
 
-    // What a run writes, answers and hands over, and that its start has the headline: the plain machine
-    // agrees with the overlay, returns are bracketed, frames are private.
+    // What a run writes, answers and hands over, and what holds of its start. Its calls are kept: each ret
+    // line closes the newest open call, whose range only its own return uses till then. And it has the
+    // headline: the plain machine agrees with the overlay, returns are bracketed, frames are private. The
+    // text passes an audit.
     ensures ran { (l : Linked) (steps : ℕ)
         → asked_in (texts words.now.items) ≡ Some (Links l (link_deed.Run steps))
         → IsRunStatus result → RunGiven l steps
@@ -328,7 +334,13 @@ pub fn stk_main<F: Files, S: Sink>(
         (outside (F.seen files.old) (S.seen out.old) kept.old)
         result (outside (F.seen files.new) (S.seen out.new) kept.new) }
 
-    // Where the sink failed at a run's text, or at a trace's, the start has the headline all the same.
+    // What `audit` answers: whether the text is a trace of a run, or else the first line that spoils it.
+    ensures audited { (name : List ℕ) → asked_in (texts words.now.items) ≡ Some (asked.Audit name)
+        → AuditTold name
+        (outside (F.seen files.old) (S.seen out.old) kept.old)
+        result (outside (F.seen files.new) (S.seen out.new) kept.new) }
+
+    // Where the sink failed at a run's text, or at a trace's, the same holds of the start.
     ensures run_cut { (l : Linked) (steps : ℕ)
         → asked_in (texts words.now.items) ≡ Some (Links l (link_deed.Run steps))
         → result ≡ Status.WriteFault → RunCut l steps
@@ -347,7 +359,7 @@ pub fn stk_main<F: Files, S: Sink>(
         (outside (F.seen files.old) (S.seen out.old) kept.old)
         result (outside (F.seen files.new) (S.seen out.new) kept.new) }
 
-    // What a generated load's run writes, answers and hands over. Its start has the headline.
+    // What a generated load's run writes, answers and hands over. The same holds of its start.
     ensures generated { (seed : ℕ) → asked_in (texts words.now.items) ≡ Some (Generate seed)
         → IsRunStatus result → LoadGiven seed
         (outside (F.seen files.old) (S.seen out.old) kept.old)
@@ -365,8 +377,11 @@ pub fn stk_main<F: Files, S: Sink>(
     ensures put_whole { PutsWhole (asked_in (texts words.now.items)) (F.seen files.old) (F.seen files.new) }
 {
     the_headline();
+    open_calls_are_kept();
     reports_bound_runs();
     commands_remember();
+    commands_fit();
+    runs_pass();
     a_start_has_one_overlay();
     sources_are_modules();
     runs_mean();

@@ -51,7 +51,7 @@ unfolding parts
 parts_len mark text =
     omega (arith, length-slice_split (is_mark mark) text, count_by-le-length (is_mark mark) text)
 
-parts_some : (mark : ℕ) (text : List ℕ) → 0 < length (parts mark text)
+pub parts_some : (mark : ℕ) (text : List ℕ) → 0 < length (parts mark text)
 unfolding parts
 parts_some mark text = omega (arith, length-slice_split (is_mark mark) text)
 

@@ -24,9 +24,10 @@ use Rattle.cap_words.specs.Names.{is_digit}
 use Rattle.cap_words.specs.Text.{perm_name, lin_name, range_text, cap_text, seal_text, sealable_text}
 use Rattle.cap_words.specs.Text.{sealed_text, word_text_of}
 use Rattle.cap_words.specs.WordBytes.{ContentFits, WordFits}
+use Rattle.line_fields.specs.declared.TheConstants.{LAST_NATURAL}
 use Rattle.line_fields.specs.Cuts.{cut, behind}
 use Rattle.line_fields.specs.Numbers.{are_digits, number_in, integer_in}
-use Rattle.line_fields.specs.Words.{perm_named, lin_named, range_in, cap_in, seals_behind, content_behind}
+use Rattle.line_fields.specs.Words.{HasText, perm_named, lin_named, range_in, cap_in, seals_behind, content_behind}
 use Rattle.line_fields.specs.Words.{content_in, sealed_in, as_word, unsealed_or, word_behind, candidate_in}
 use Rattle.line_fields.specs.Words.{where_text, word_in}
 use Rattle.line_fields.proofs.Numbers.{digits_of_decimal, number_again, integer_again, number_is, integer_is}
@@ -186,7 +187,7 @@ unsealed_again (SealIn s) h =
     let k = content_again (SealIn s) [] h in
     rw n (ap (option_map as_word) k)
 
-candidate_again : (w : Word) → WordFits w → candidate_in (word_text_of w) ≡ Some w
+candidate_again : (w : Word) → HasText w → candidate_in (word_text_of w) ≡ Some w
 unfolding candidate_in sealed_in behind
 candidate_again (Int z) h =
     let b = not_sealed z h in
@@ -197,23 +198,30 @@ candidate_again (Mem c) h =
 candidate_again (Seal s) h =
     ap candidate_in (sym (no_rest (seal_text s)) ∙ text_then (SealIn s) []) ∙ unsealed_again (SealIn s) h
 candidate_again (Sealed n x) h =
-    let most : n ≤ LAST_PLACE = h.0 in
+    let most : n ≤ LAST_NATURAL = h.0 in
     let one =
     cut_front 44 (decimal n) (content_then x (41 ∷ []))
     (decimal_free 44 n (inl (omega arith)) (omega (arith, most))) in
-    let seal = number_again LAST_PLACE n most (omega (arith, most)) in
+    let seal = number_again LAST_NATURAL n most (omega (arith, most)) in
     let k = content_again x (41 ∷ []) h.1 in
     ap candidate_in (sealed_then n x) ∙ rw (one, seal, k) refl
 
 -- a word is what its text is read as
-word_again : (w : Word) → WordFits w → word_in (word_text_of w) ≡ Some w
+word_again : (w : Word) → HasText w → word_in (word_text_of w) ≡ Some w
 unfolding word_in
 word_again w h =
     let same : bytes_eq (word_text_of w) (word_text_of w) ≡ true =
     (bytes_eq-Decides (word_text_of w) (word_text_of w)).1 refl in
     ap (where_text (word_text_of w)) (candidate_again w h) ∙ rw same refl
 
-pub text_is_word : (w : Word) (text : List ℕ) → WordFits w × (text ≡ word_text_of w) → word_in text ≡ Some w
+-- the words of a machine have texts
+pub fits_has_text : (w : Word) → WordFits w → HasText w
+fits_has_text (Int n) h = h
+fits_has_text (Mem c) h = h
+fits_has_text (Seal s) h = h
+fits_has_text (Sealed n x) h = let k = h.0 in (omega (arith, k), h.1)
+
+pub text_is_word : (w : Word) (text : List ℕ) → HasText w × (text ≡ word_text_of w) → word_in text ≡ Some w
 text_is_word w text h = ap word_in h.1 ∙ word_again w h.0
 
 -- ---- and back
@@ -262,43 +270,43 @@ content_fits : (text : List ℕ) (x : Sealable) → content_in text ≡ Some x �
 unfolding content_in
 content_fits text x h = content_fits_by text (behind (codes "cap(") text) x h
 
-sealed_fits : (text : List ℕ) (w : Word) → sealed_in text ≡ Some w → WordFits w
+sealed_fits : (text : List ℕ) (w : Word) → sealed_in text ≡ Some w → HasText w
 unfolding sealed_in
 sealed_fits text w h =
     let a = some_from (cut 44 text) _ w h in
-    let b = some_from (number_in LAST_PLACE a.0.0) _ w a.2 in
+    let b = some_from (number_in LAST_NATURAL a.0.0) _ w a.2 in
     let d = some_from (content_in a.0.1) _ w b.2 in
     let same : Sealed b.0 d.0 ≡ w = (let g = d.2 in cc) in
-    subst WordFits same
-    ((number_is LAST_PLACE b.0 a.0.0 (omega arith) b.1).0, content_fits a.0.1 d.0 d.1)
+    subst HasText same
+    ((number_is LAST_NATURAL b.0 a.0.0 (omega arith) b.1).0, content_fits a.0.1 d.0 d.1)
 
-as_word_fits : (x : Sealable) → ContentFits x → WordFits (as_word x)
+as_word_fits : (x : Sealable) → ContentFits x → HasText (as_word x)
 as_word_fits (MemIn c) h = h
 as_word_fits (SealIn s) h = h
 
 unsealed_fits : (text : List ℕ) (o : Option ℤ) (w : Word) → integer_in text ≡ o → unsealed_or text o ≡ Some w
-    → WordFits w
-unsealed_fits text (Some n) w e h = let same : Int n ≡ w = cc in subst WordFits same (integer_is n text e).0
+    → HasText w
+unsealed_fits text (Some n) w e h = let same : Int n ≡ w = cc in subst HasText same (integer_is n text e).0
 unsealed_fits text None w e h =
     let k = some_of (content_in text) as_word w h in
-    subst WordFits k.2 (as_word_fits k.0 (content_fits text k.0 k.1))
+    subst HasText k.2 (as_word_fits k.0 (content_fits text k.0 k.1))
 
-word_fits_by : (text : List ℕ) (o : Option (List ℕ)) (w : Word) → word_behind text o ≡ Some w → WordFits w
+word_fits_by : (text : List ℕ) (o : Option (List ℕ)) (w : Word) → word_behind text o ≡ Some w → HasText w
 word_fits_by text None w h = unsealed_fits text (integer_in text) w refl h
 word_fits_by text (Some rest) w h = sealed_fits rest w h
 
-candidate_fits : (text : List ℕ) (w : Word) → candidate_in text ≡ Some w → WordFits w
+candidate_fits : (text : List ℕ) (w : Word) → candidate_in text ≡ Some w → HasText w
 unfolding candidate_in
 candidate_fits text w h = word_fits_by text (behind (codes "sealed(") text) w h
 
 has_text : (text : List ℕ) (o : Option Word) (w : Word) → candidate_in text ≡ o → where_text text o ≡ Some w
-    → WordFits w × (text ≡ word_text_of w)
+    → HasText w × (text ≡ word_text_of w)
 has_text text None w e h = absurd cc
 has_text text (Some x) w e h =
     let k = chosen (bytes_eq (word_text_of x) text) x w h in
-    subst (λ (y : Word). WordFits y × (text ≡ word_text_of y)) k.1
+    subst (λ (y : Word). HasText y × (text ≡ word_text_of y)) k.1
     (candidate_fits text x e, sym ((bytes_eq-Decides (word_text_of x) text).0 k.0))
 
-pub word_is : (w : Word) (text : List ℕ) → word_in text ≡ Some w → WordFits w × (text ≡ word_text_of w)
+pub word_is : (w : Word) (text : List ℕ) → word_in text ≡ Some w → HasText w × (text ≡ word_text_of w)
 unfolding word_in
 word_is w text h = has_text text (candidate_in text) w refl h

@@ -50,6 +50,11 @@ abbrev pub is_none_left : List (List ℕ) → Bool
 is_none_left [] = true
 is_none_left (t ∷ ts) = false
 
+-- of what is read, where no field is left
+abbrev pub whole : {A : Type 0} → Option (A × List (List ℕ)) → Option A
+whole None = None
+whole (Some x) = where_true (is_none_left x.1) x.0
+
 -- the answer, seen by view, and the fields left are what is read
 abbrev pub GivesAs : {X A : Type 0} → (X → A) → Option X → List (List ℕ) → Option (A × List (List ℕ)) → Type 0
 GivesAs view None left read = read ≡ None

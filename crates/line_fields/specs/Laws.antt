@@ -4,9 +4,8 @@ use Rattle.std.specs.Int.{w64}
 use Rattle.std.specs.Fmt.{signed_decimal}
 use Rattle.cap_words.specs.declared.Word.{Word}
 use Rattle.cap_words.specs.Text.{word_text_of}
-use Rattle.cap_words.specs.WordBytes.{WordFits}
 use Rattle.line_fields.specs.Numbers.{number_in, integer_in}
-use Rattle.line_fields.specs.Words.{word_in}
+use Rattle.line_fields.specs.Words.{HasText, word_in}
 use Rattle.line_fields.specs.declared.forms.Back.{Back}
 use Rattle.line_fields.specs.declared.forms.Handed.{Handed}
 use Rattle.line_fields.specs.Forms.{back_in, BackFits, back_text, handed_in, HandedFits, handed_text}
@@ -21,9 +20,8 @@ abbrev pub IntegersAreRead : Type 0
 IntegersAreRead =
     (z : ℤ) (text : List ℕ) → (integer_in text ≡ Some z) ↔ (FitsSigned w64 z × (text ≡ signed_decimal z))
 
--- a word is one that a machine has
 abbrev pub WordsAreRead : Type 0
-WordsAreRead = (w : Word) (text : List ℕ) → (word_in text ≡ Some w) ↔ (WordFits w × (text ≡ word_text_of w))
+WordsAreRead = (w : Word) (text : List ℕ) → (word_in text ≡ Some w) ↔ (HasText w × (text ≡ word_text_of w))
 
 abbrev pub BacksAreRead : Type 0
 BacksAreRead = (b : Back) (text : List ℕ) → (back_in text ≡ Some b) ↔ (BackFits b × (text ≡ back_text b))

@@ -1,5 +1,6 @@
 -- Words read of their texts: from the front as some word, which must then have this text.
-use Rattle.std.specs.Prelude.{ℕ, ℤ, nat_le, List, [], ◌∷◌, codes, find, Option, Some, None, option_map}
+use Rattle.std.specs.Prelude.{ℕ, ℤ, ◌≤◌, nat_le, Bool, List, [], ◌∷◌, codes, find, Option, Some, None}
+use Rattle.std.specs.Prelude.{option_map, is_some}
 use Rattle.std.specs.Str.{bytes_eq}
 use Rattle.cap_words.specs.declared.TheConstants.{LAST_PLACE}
 use Rattle.cap_words.specs.declared.Perm.{Perm}
@@ -13,9 +14,18 @@ use Rattle.cap_words.specs.declared.Sealable.TheVariants.{Mem as MemIn, Seal as 
 use Rattle.cap_words.specs.declared.Word.{Word}
 use Rattle.cap_words.specs.declared.Word.TheVariants.{Int, Mem, Seal, Sealed}
 use Rattle.cap_words.specs.Text.{perm_name, lin_name, word_text_of}
+use Rattle.cap_words.specs.WordBytes.{ContentFits, WordFits}
+use Rattle.line_fields.specs.declared.TheConstants.{LAST_NATURAL}
 use Rattle.line_fields.specs.Options.{◌>>=◌, where_true}
 use Rattle.line_fields.specs.Cuts.{cut, behind}
 use Rattle.line_fields.specs.Numbers.{number_in, integer_in}
+
+-- a word that has a text: one of a machine, but that any number of 32 bits does for the seal of a sealed word
+abbrev pub HasText : Word → Type 0
+HasText (Int n) = WordFits (Int n)
+HasText (Mem c) = WordFits (Mem c)
+HasText (Seal s) = WordFits (Seal s)
+HasText (Sealed seal content) = (seal ≤ LAST_NATURAL) × ContentFits content
 
 -- the first that has the name
 abbrev pub named : {A : Type 0} → (A → List ℕ) → List A → List ℕ → Option A
@@ -66,7 +76,7 @@ content_in text = content_behind text (behind (codes "cap(") text)
 unfoldable pub sealed_in : List ℕ → Option Word
 sealed_in text = do
   seal ← cut 44 text
-  number ← number_in LAST_PLACE seal.0
+  number ← number_in LAST_NATURAL seal.0
   content ← content_in seal.1
   Some (Sealed number content)
 
@@ -93,3 +103,6 @@ where_text text (Some w) = where_true (bytes_eq (word_text_of w) text) w
 -- the word that the text is that of
 unfoldable pub word_in : List ℕ → Option Word
 word_in text = where_text text (candidate_in text)
+
+abbrev pub is_word : List ℕ → Bool
+is_word text = is_some (word_in text)

@@ -8,7 +8,7 @@ pub fn numbers_are_read()
     ensures integers { IntegersAreRead }
 {}
 
-/// A word that a machine has is read of its text alone.
+/// A word is read of its text alone.
 pub fn words_are_read()
     ensures { WordsAreRead }
 {}

@@ -3,12 +3,14 @@ ghost use Rattle.std.specs.Prelude.{◌≡◌};
 ghost use Rattle.std.specs.Str.{bytes_eq};
 ghost use Rattle.cap_words.specs.Names.{is_name};
 ghost use Rattle.line_fields.specs.Numbers.{natural_in};
+ghost use Rattle.line_fields.specs.Words.{is_word};
 ghost use Rattle.line_fields.specs.Forms.{back_in, handed_in};
 ghost use Rattle.line_fields.specs.Fields.{fields, lines, field, meant, tested, is_none_left, GivesAs};
 
 use crate::forms::{self, Back, Handed, is_text};
 use crate::marks::cut;
 use crate::number;
+use crate::word::is_word;
 use cap_words::is_name;
 use std::marker::Model;
 
@@ -105,6 +107,15 @@ impl<'a> Parts<'a> {
     {
         let field = self.part()?;
         if is_name(field) { Some(field) } else { None }
+    }
+
+    /// The next part, which is the text of a word.
+    #[tactic(auto, unfolding(crate::specs::Fields::tested))]
+    pub fn word(&mut self) -> Option<&'a [u8]>
+        ensures { GivesAs (λ t. t.now) result self.new (tested is_word self.old) }
+    {
+        let field = self.part()?;
+        if is_word(field) { Some(field) } else { None }
     }
 
     /// The next part, which is a number of 32 bits.

@@ -18,7 +18,7 @@ pub use forms::{Back, Handed, back_in, handed_in, is_text};
 pub use left::Parts;
 pub use marks::{behind, cut};
 pub use number::{integer_in, natural_in, number_in};
-pub use word::word_in;
+pub use word::{is_word, word_in};
 
 /// The largest number of 32 bits.
 pub const LAST_NATURAL: u64 = 4_294_967_295;

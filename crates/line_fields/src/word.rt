@@ -6,10 +6,10 @@ ghost use Rattle.std.specs.Prelude.{◌≡◌, ◌≤◌, IfSome};
 ghost use Rattle.cap_words.specs.declared.TheConstants.{LAST_PLACE};
 ghost use Rattle.line_fields.specs.Numbers.{number_in};
 ghost use Rattle.line_fields.specs.Words.{perm_named, lin_named, range_in, cap_in, content_in, sealed_in};
-ghost use Rattle.line_fields.specs.Words.{candidate_in, word_in};
+ghost use Rattle.line_fields.specs.Words.{candidate_in, word_in, is_word};
 
 use crate::marks::{behind, cut};
-use crate::number::{integer_in, number_in};
+use crate::number::{integer_in, natural_in, number_in};
 use cap_words::{
     Cap, CapFields, LAST_PLACE, Lin, Perm, SealCap, SealFields, Sealable, Word, word_text,
 };
@@ -100,7 +100,7 @@ fn sealed_in(text: &[u8]) -> Option<Word>
     ensures { result ≡ sealed_in text.now }
 {
     let (seal, rest) = cut(text, b',')?;
-    let seal = place_in(seal)?;
+    let seal = natural_in(seal)?;
     let content = content_in(rest)?;
     Some(Word::Sealed(seal, content))
 }
@@ -122,7 +122,8 @@ fn candidate_in(text: &[u8]) -> Option<Word>
     }
 }
 
-/// The word that a text is that of, and `None` exactly where it is the text of no word that a machine has.
+/// The word that a text is that of, and `None` exactly where it is the text of none. Any number of 32 bits
+/// does for the seal of a sealed word; the numbers of capabilities are those of a machine.
 #[tactic(auto, unfolding(crate::specs::Words::word_in))]
 pub fn word_in(text: &[u8]) -> Option<Word>
     ensures { result ≡ word_in text.now }
@@ -133,4 +134,11 @@ pub fn word_in(text: &[u8]) -> Option<Word>
     } else {
         None
     }
+}
+
+/// Whether it is the text of a word.
+pub fn is_word(text: &[u8]) -> bool
+    ensures { result ≡ is_word text.now }
+{
+    word_in(text).is_some()
 }

@@ -16,8 +16,8 @@ use Rattle.lcm_machine.specs.Runs.{run_of, code_cap}
 use Rattle.lcm_machine.proofs.Offers.{row_mapped, is_linear-face}
 use Rattle.call_sequence.specs.SequenceRuns.{stack_cap, at_xjmp}
 use Rattle.call_sequence.proofs.CallLaws.{call_jumps}
-use Rattle.overlay_machine.specs.declared.layout.Layout.{Layout}
-use Rattle.overlay_machine.specs.declared.layout.SiteCode.{SiteCode}
+use Rattle.trusted_border.specs.declared.layout.Layout.{Layout}
+use Rattle.trusted_border.specs.declared.layout.SiteCode.{SiteCode}
 use Rattle.overlay_machine.specs.declared.words.OWord.{OWord}
 use Rattle.overlay_machine.specs.declared.words.OWord.TheVariants.{Plain}
 use Rattle.overlay_machine.specs.Words.{look, is_plain}

@@ -14,12 +14,12 @@ use Rattle.lcm_machine.specs.declared.plan.Effect.{Effect}
 use Rattle.lcm_machine.specs.Plan.{Plan, Goes, Fails}
 use Rattle.lcm_machine.specs.Maps.{State}
 use Rattle.lcm_machine.specs.Row.{row, outcome, plan_in, opens, faces}
-use Rattle.overlay_machine.specs.declared.layout.Layout.{Layout}
+use Rattle.trusted_border.specs.declared.layout.Layout.{Layout}
+use Rattle.trusted_border.specs.declared.layout.SiteCode.{SiteCode}
+use Rattle.trusted_border.specs.Layout.{site_code}
 use Rattle.overlay_machine.specs.declared.words.OWord.{OWord}
 use Rattle.overlay_machine.specs.declared.words.OWord.TheVariants.{Plain}
-use Rattle.overlay_machine.specs.declared.layout.SiteCode.{SiteCode}
 use Rattle.overlay_machine.specs.Words.{look, is_plain}
-use Rattle.overlay_machine.specs.Layout.{site_code}
 use Rattle.overlay_machine.specs.State.{OState}
 use Rattle.lcm_machine.specs.Cells.{all_there}
 use Rattle.overlay_machine.specs.Step.{goes, fails, ask, need, with_frames, own_stack, if_own, is_own_stack}

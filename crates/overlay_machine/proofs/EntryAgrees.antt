@@ -20,7 +20,7 @@ use Rattle.lcm_machine.specs.Runs.{run_of, code_cap}
 use Rattle.lcm_machine.specs.Mapped.{SameFaces}
 use Rattle.call_sequence.specs.SequenceRuns.{is_stack_at}
 use Rattle.call_sequence.proofs.EntryLaws.{entry_runs, entry_fails}
-use Rattle.overlay_machine.specs.declared.layout.Layout.{Layout}
+use Rattle.trusted_border.specs.declared.layout.Layout.{Layout}
 use Rattle.overlay_machine.specs.declared.words.OWord.{OWord}
 use Rattle.overlay_machine.specs.declared.words.OWord.TheVariants.{Plain}
 use Rattle.overlay_machine.specs.Words.{look}

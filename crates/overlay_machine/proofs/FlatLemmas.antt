@@ -21,7 +21,7 @@ use Rattle.lcm_machine.specs.Refusals.{HasFailed}
 use Rattle.lcm_machine.specs.Mapped.{mapped_or, EndsMapped}
 use Rattle.call_sequence.specs.Sequences.{call_code, return_code, entry_code}
 use Rattle.call_sequence.specs.SequenceRuns.{HasCall, HasReturn, HasEntry, FailsAt}
-use Rattle.overlay_machine.specs.declared.layout.Layout.{Layout}
+use Rattle.trusted_border.specs.declared.layout.Layout.{Layout}
 use Rattle.overlay_machine.specs.declared.words.OWord.{OWord}
 use Rattle.overlay_machine.specs.declared.words.OWord.TheVariants.{Plain, RetCode, RetData}
 use Rattle.overlay_machine.specs.Words.{look, is_plain}

@@ -7,7 +7,7 @@ use Rattle.cap_words.specs.Linear.{zero_word}
 use Rattle.lcm_machine.specs.Cells.{cell, set_cell, all_there, words_from, put_back}
 use Rattle.lcm_machine.specs.Mapped.{mapped_or}
 use Rattle.lcm_machine.proofs.Offers.{cell-set_same}
-use Rattle.overlay_machine.specs.declared.layout.Layout.{Layout}
+use Rattle.trusted_border.specs.declared.layout.Layout.{Layout}
 use Rattle.overlay_machine.specs.declared.words.OWord.{OWord}
 use Rattle.overlay_machine.specs.declared.words.OWord.TheVariants.{Plain, RetCode, RetData}
 use Rattle.overlay_machine.specs.State.{OpenFrame, Cells, word_of, frame_of}

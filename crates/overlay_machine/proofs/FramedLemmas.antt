@@ -1,5 +1,5 @@
 -- The word that a frame has at an address, found from the newest frame on.
-use Rattle.std.proofs.Common.{◌≡◌, ◌≤◌, ◌<◌, ◌⊎◌, inl, inr, ℕ, zero, suc, ◌+◌, ◌-◌, true, false, List, []}
+use Rattle.std.proofs.Common.{◌≡◌, ◌≤◌, ◌<◌, ◌⊎◌, inl, inr, ℕ, zero, suc, ◌+◌, ◌-◌, List, []}
 use Rattle.std.proofs.Common.{◌∷◌, length, drop, refl, ap, subst, arith, Some, None, Option, IsSome, lt-ltb}
 use Rattle.std.proofs.Common.{le-ltb}
 use Rattle.std.specs.Prelude.{slice_get}
@@ -7,10 +7,10 @@ use Rattle.std.specs.Option.{option_or}
 use Rattle.std.proofs.lemmas.Option.{slice_get_past, slice_get-get_or}
 use Rattle.lcm_machine.specs.declared.cells.Span.{Span}
 use Rattle.cap_words.specs.Linear.{zero_word}
+use Rattle.trusted_border.specs.declared.layout.Layout.{Layout}
 use Rattle.frame_region.specs.Frames.{FrameSeen, head_of, item_at}
 use Rattle.overlay_machine.specs.declared.words.OWord.{OWord}
 use Rattle.overlay_machine.specs.declared.words.OWord.TheVariants.{Plain}
-use Rattle.overlay_machine.specs.declared.layout.Layout.{Layout}
 use Rattle.overlay_machine.specs.declared.frames.Frame.{Frame}
 use Rattle.overlay_machine.specs.State.{word_of, framed}
 use Rattle.overlay_machine.specs.Machine.{frame_seen, frames_of, AreWhole, AreFull}

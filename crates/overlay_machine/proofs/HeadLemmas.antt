@@ -3,9 +3,9 @@ use Rattle.std.proofs.Common.{◌≡◌, ◌≤◌, ℕ, zero, suc, ◌+◌, Boo
 use Rattle.std.specs.Prelude.{find, option_map, ◌==◌, if◌then◌else◌}
 use Rattle.cap_words.specs.Ranges.{IsRange}
 use Rattle.lcm_machine.specs.declared.cells.Span.{Span}
+use Rattle.trusted_border.specs.declared.layout.Layout.{Layout}
 use Rattle.frame_region.specs.Frames.{FrameSeen, head_of}
 use Rattle.overlay_machine.specs.declared.words.OWord.{OWord}
-use Rattle.overlay_machine.specs.declared.layout.Layout.{Layout}
 use Rattle.overlay_machine.specs.declared.frames.Frame.{Frame}
 use Rattle.overlay_machine.specs.State.{frame_of}
 use Rattle.overlay_machine.specs.Machine.{frames_of, head_with, AreWhole}

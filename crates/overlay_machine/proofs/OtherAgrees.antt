@@ -14,13 +14,13 @@ use Rattle.lcm_machine.specs.Row.{faces, cell_faces, fetch, some}
 use Rattle.lcm_machine.specs.Runs.{run_of}
 use Rattle.lcm_machine.specs.Mapped.{IsFree, SameContents}
 use Rattle.lcm_machine.proofs.Offers.{step_mapped, run_one}
-use Rattle.overlay_machine.specs.declared.layout.Layout.{Layout}
+use Rattle.trusted_border.specs.declared.layout.Layout.{Layout}
+use Rattle.trusted_border.specs.Layout.{trusted_at, site_at, is_entry}
 use Rattle.overlay_machine.specs.declared.words.OWord.{OWord}
 use Rattle.overlay_machine.specs.declared.words.OWord.TheVariants.{Plain}
 use Rattle.overlay_machine.specs.declared.cases.Case.{Case}
 use Rattle.overlay_machine.specs.declared.cases.Case.TheVariants.{Call, Entry, Back, Other}
 use Rattle.overlay_machine.specs.Words.{look, is_plain}
-use Rattle.overlay_machine.specs.Layout.{trusted_at, site_at, is_entry}
 use Rattle.overlay_machine.specs.State.{OState}
 use Rattle.overlay_machine.specs.Step.{case_at, case_trusted, case_fetched, case_of, other_step}
 use Rattle.overlay_machine.specs.Flat.{flat, beside, IsFlat}

@@ -16,7 +16,7 @@ use Rattle.cap_words.specs.Linear.{lin_is}
 use Rattle.lcm_machine.specs.Maps.{State}
 use Rattle.lcm_machine.specs.Row.{faces}
 use Rattle.call_sequence.specs.SequenceRuns.{stack_cap}
-use Rattle.overlay_machine.specs.declared.layout.Layout.{Layout}
+use Rattle.trusted_border.specs.declared.layout.Layout.{Layout}
 use Rattle.overlay_machine.specs.declared.words.OWord.{OWord}
 use Rattle.overlay_machine.specs.Words.{look}
 use Rattle.overlay_machine.specs.State.{OpenFrame}

@@ -11,10 +11,10 @@ use Rattle.cap_words.specs.Linear.{lin_is}
 use Rattle.lcm_machine.specs.Runs.{code_cap}
 use Rattle.lcm_machine.specs.Refusals.{Refuses}
 use Rattle.call_sequence.specs.SequenceRuns.{stack_cap}
-use Rattle.overlay_machine.specs.declared.layout.Layout.{Layout}
-use Rattle.overlay_machine.specs.declared.layout.SiteCode.{SiteCode}
+use Rattle.trusted_border.specs.declared.layout.Layout.{Layout}
+use Rattle.trusted_border.specs.declared.layout.SiteCode.{SiteCode}
+use Rattle.trusted_border.specs.Layout.{site_code}
 use Rattle.overlay_machine.specs.declared.words.OWord.TheVariants.{RetCode, RetData}
-use Rattle.overlay_machine.specs.Layout.{site_code}
 use Rattle.overlay_machine.specs.State.{OpenFrame, frame_of}
 use Rattle.overlay_machine.specs.Flat.{flat, flat_code, flat_data, flat_range}
 use Rattle.overlay_machine.specs.Agree.{IsForeign}

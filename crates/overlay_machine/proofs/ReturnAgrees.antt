@@ -33,13 +33,13 @@ use Rattle.lcm_machine.proofs.Offers.{reg-set_other, run_one, failed_more, then_
 use Rattle.lcm_machine.proofs.Offers.{xjmp_runs_fails}
 use Rattle.call_sequence.specs.SequenceRuns.{stack_cap, HasReturn}
 use Rattle.call_sequence.proofs.ReturnLaws.{return_runs, return_apart, return_off_base}
-use Rattle.overlay_machine.specs.declared.layout.Layout.{Layout}
-use Rattle.overlay_machine.specs.declared.layout.SiteCode.{SiteCode}
+use Rattle.trusted_border.specs.declared.layout.Layout.{Layout}
+use Rattle.trusted_border.specs.declared.layout.SiteCode.{SiteCode}
+use Rattle.trusted_border.specs.Layout.{site_code}
 use Rattle.overlay_machine.specs.declared.words.OWord.{OWord}
 use Rattle.overlay_machine.specs.declared.words.OWord.TheVariants.{Plain, RetCode, RetData}
 use Rattle.overlay_machine.specs.declared.cases.Case.TheVariants.{Back}
 use Rattle.overlay_machine.specs.Words.{look, is_plain, is_ret_code}
-use Rattle.overlay_machine.specs.Layout.{site_code}
 use Rattle.overlay_machine.specs.State.{OpenFrame, OState, word_of, framed, frame_of}
 use Rattle.overlay_machine.specs.Step.{goes, fails, weight_by, ask, need, own_stack, resumed, return_by}
 use Rattle.overlay_machine.specs.Step.{return_step}
@@ -109,7 +109,7 @@ module _ (l : Layout) (r1 r2 : Reg) (o : OState) (t : State Word) (at_return : A
   row_fails : HasFailed (row id id (Xjmp r1 r2) at_return.next t) → HasFailed (run_of id id 1 t)
   row_fails h = rw plain_row h
 
-  refuses : (x y : Option Opened) → opened_of (fl x1) ≡ x → opened_of (fl x2) ≡ y → Refuses x y
+  pub refuses : (x y : Option Opened) → opened_of (fl x1) ≡ x → opened_of (fl x2) ≡ y → Refuses x y
       → HasFailed (run_of id id 1 t)
   refuses x y ex ey h = row_fails (xjmp_fails id id r1 r2 at_return.next t x y (ap opened_of (m.regs r1) ∙ ex) (ap opened_of (m.regs r2) ∙ ey) h)
 
@@ -134,14 +134,14 @@ module _ (l : Layout) (r1 r2 : Reg) (o : OState) (t : State Word) (at_return : A
     abbrev code : CapFields
     code = code_cap s.base s.end (s.at + 16)
 
-    plain_second : (w : Word) → x2 ≡ Plain w → HasFailed (run_of id id 1 t)
+    pub plain_second : (w : Word) → x2 ≡ Plain w → HasFailed (run_of id id 1 t)
     plain_second w e = by_opened (opened_of w) refl
       where
         by_opened : (y : Option Opened) → opened_of w ≡ y → HasFailed (run_of id id 1 t)
         by_opened None ey = refuses _ None ex (plain_opened r2 w e ∙ ey) tt
         by_opened (Some y) ey = refuses _ (Some y) ex (plain_opened r2 w e ∙ ey) (inl (λ q. at_return.foreign r2 w (inr refl) e y i s ey es (sym q)))
 
-    code_second : (j : ℕ) → x2 ≡ RetCode j → HasFailed (run_of id id 1 t)
+    pub code_second : (j : ℕ) → x2 ≡ RetCode j → HasFailed (run_of id id 1 t)
     code_second j e = elim (opened-code l o.frames j (site_code l j) refl) as (λ _. HasFailed (run_of id id 1 t)) [
       | inl h ↦ refuses _ None ex (ap (λ x. opened_of (fl x)) e ∙ h) tt
       | inr h ↦ elim (cases_eq s.seal (h.0).seal) as (λ _. HasFailed (run_of id id 1 t)) [
@@ -198,7 +198,7 @@ module _ (l : Layout) (r1 r2 : Reg) (o : OState) (t : State Word) (at_return : A
         pub code_is : HasReturn id s1.cells s.base s.end (s.at + 16) l.stack.base
         code_is = HasReturn-flat l o t m k s.base s.end (s.at + 16) l.stack.base stands.back
 
-        cannot_join : CannotJoin (face_of s1.regs.stk) (Memory half) → HasFailed (run_of id id 11 t)
+        pub cannot_join : CannotJoin (face_of s1.regs.stk) (Memory half) → HasFailed (run_of id id 11 t)
         cannot_join h =
             then_failed id id 1 10 t s1 jumps (failed_more id id 1 9 s1
             (return_apart id id s1 s.base s.end (s.at + 16) l.stack.base code_is refl h))
@@ -215,7 +215,7 @@ module _ (l : Layout) (r1 r2 : Reg) (o : OState) (t : State Word) (at_return : A
             ]
 
         -- and is then the overlay's
-        stk_plain : (c : CapFields) → s1.regs.stk ≡ Mem c → look o.maps.regs.stk ≡ Mem c
+        pub stk_plain : (c : CapFields) → s1.regs.stk ≡ Mem c → look o.maps.regs.stk ≡ Mem c
         stk_plain c e = elim (cases_reg Stk r2) as (λ _. look o.maps.regs.stk ≡ Mem c) [
           | inl same ↦ (let q : Int (pos 0) ≡ Mem c = sym (reg-set_same t.regs Stk (Int (pos 0))) ∙ ap (λ r. reg (set_reg t.regs r (Int (pos 0))) Stk) same ∙ e in cc)
           | inr ne ↦ (let q : reg t.regs Stk ≡ Mem c = sym (reg-set_other t.regs r2 Stk (Int (pos 0)) ne) ∙ e in
@@ -327,7 +327,7 @@ module _ (l : Layout) (r1 r2 : Reg) (o : OState) (t : State Word) (at_return : A
   abbrev Both : Type 0
   Both = Agrees l (return_by l x1 x2 r2 o.frames o) (run_of id id (if is_ret_code x1 then 11 else 1) t)
 
-  code_none : (i : ℕ) → x1 ≡ RetCode i → site_code l i ≡ None → opened_of (fl x1) ≡ None
+  pub code_none : (i : ℕ) → x1 ≡ RetCode i → site_code l i ≡ None → opened_of (fl x1) ≡ None
   unfolding flat
   code_none i e q = ap (λ x. opened_of (fl x)) e ∙ ap (λ x. opened_of (flat_code x)) q
 
@@ -336,7 +336,7 @@ module _ (l : Layout) (r1 r2 : Reg) (o : OState) (t : State Word) (at_return : A
   unfolding flat
   code_some i s e q = ap (λ x. opened_of (fl x)) e ∙ ap (λ x. opened_of (flat_code x)) q
 
-  data_none : (n : ℕ) → x2 ≡ RetData n → frame_of o.frames n ≡ None → opened_of (fl x2) ≡ None
+  pub data_none : (n : ℕ) → x2 ≡ RetData n → frame_of o.frames n ≡ None → opened_of (fl x2) ≡ None
   unfolding flat
   data_none n e q = ap (λ x. opened_of (fl x)) e ∙ ap (λ x. opened_of (flat_data l x)) q
 

@@ -15,7 +15,7 @@ use Rattle.lcm_machine.specs.Table.{ask as plan_ask, need as plan_need}
 use Rattle.lcm_machine.specs.Row.{Outcome, went, halted, failed, step_of, row, outcome, plan_in}
 use Rattle.lcm_machine.specs.Runs.{and_then, run_of}
 use Rattle.lcm_machine.proofs.Offers.{run_of-add, run_then, run_one}
-use Rattle.overlay_machine.specs.declared.layout.Layout.{Layout}
+use Rattle.trusted_border.specs.declared.layout.Layout.{Layout}
 use Rattle.overlay_machine.specs.declared.words.OWord.{OWord}
 use Rattle.overlay_machine.specs.declared.words.OWord.TheVariants.{Plain, RetCode, RetData}
 use Rattle.overlay_machine.specs.declared.cases.Case.{Case}

@@ -27,13 +27,13 @@ use Rattle.lcm_machine.proofs.Offers.{opened-memory}
 use Rattle.call_sequence.specs.SequenceRuns.{stack_cap, HasCall}
 use Rattle.call_sequence.proofs.CallLaws.{call_at_base, call_outside}
 use Rattle.call_sequence.proofs.ReturnLaws.{return_apart, HasReturn-set}
-use Rattle.overlay_machine.specs.declared.layout.Layout.{Layout}
-use Rattle.overlay_machine.specs.declared.layout.SiteCode.{SiteCode}
+use Rattle.trusted_border.specs.declared.layout.Layout.{Layout}
+use Rattle.trusted_border.specs.declared.layout.SiteCode.{SiteCode}
+use Rattle.trusted_border.specs.Layout.{site_code}
 use Rattle.overlay_machine.specs.declared.words.OWord.{OWord}
 use Rattle.overlay_machine.specs.declared.words.OWord.TheVariants.{Plain, RetCode, RetData}
 use Rattle.overlay_machine.specs.declared.cases.Case.TheVariants.{Call}
 use Rattle.overlay_machine.specs.Words.{is_plain, is_ret_code}
-use Rattle.overlay_machine.specs.Layout.{site_code}
 use Rattle.overlay_machine.specs.State.{OState, frame_of}
 use Rattle.overlay_machine.specs.Step.{fails, call_step, need, ask, weight_by}
 use Rattle.overlay_machine.specs.Flat.{flat, IsFlat}

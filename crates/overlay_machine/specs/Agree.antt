@@ -21,20 +21,20 @@ use Rattle.lcm_machine.specs.Places.{reg}
 use Rattle.lcm_machine.specs.Mapped.{SameFaces}
 use Rattle.lcm_machine.specs.Regions.{memory_of}
 use Rattle.lcm_machine.specs.Row.{Outcome, went, halted, failed, faces, cell_faces, fetch, some, word_at}
-use Rattle.lcm_machine.specs.Runs.{run_of, code_cap}
+use Rattle.lcm_machine.specs.Runs.{code_cap}
 use Rattle.lcm_machine.specs.Table.{target}
 use Rattle.call_sequence.specs.SequenceRuns.{stack_cap, Outside, HasCall, HasReturn, HasEntry}
 use Rattle.call_sequence.specs.declared.TheConstants.{CALL_WORDS}
+use Rattle.trusted_border.specs.declared.layout.Layout.{Layout}
+use Rattle.trusted_border.specs.declared.layout.SiteCode.{SiteCode}
+use Rattle.trusted_border.specs.Layout.{site_code}
 use Rattle.overlay_machine.specs.declared.words.OWord.{OWord}
 use Rattle.overlay_machine.specs.declared.words.OWord.TheVariants.{Plain, RetCode, RetData}
 use Rattle.overlay_machine.specs.declared.cases.Case.{Case}
 use Rattle.overlay_machine.specs.declared.cases.Case.TheVariants.{Call, Entry, Back, Other}
-use Rattle.overlay_machine.specs.declared.layout.Layout.{Layout}
-use Rattle.overlay_machine.specs.declared.layout.SiteCode.{SiteCode}
 use Rattle.overlay_machine.specs.Words.{look}
-use Rattle.overlay_machine.specs.Layout.{site_code}
 use Rattle.overlay_machine.specs.State.{OpenFrame, OState, Cells, word_of, framed, frame_of}
-use Rattle.overlay_machine.specs.Step.{Ending, goes, halts, fails, case_of, overlay_step, weight_of}
+use Rattle.overlay_machine.specs.Step.{Ending, goes, halts, fails}
 use Rattle.overlay_machine.specs.Flat.{flat, IsFlat}
 
 -- ---- that they agree

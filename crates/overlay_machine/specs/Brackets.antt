@@ -1,7 +1,7 @@
 -- What it is that openings and closings are bracketed, and what is told of frames.
 use Rattle.std.specs.Prelude.{◌≡◌, ℕ, zero, suc, List, [], ◌∷◌, map}
 use Rattle.cap_words.specs.declared.Word.{Word}
-use Rattle.overlay_machine.specs.declared.layout.Layout.{Layout}
+use Rattle.trusted_border.specs.declared.layout.Layout.{Layout}
 use Rattle.overlay_machine.specs.State.{OpenFrame}
 use Rattle.overlay_machine.specs.Flat.{flat}
 

@@ -15,12 +15,12 @@ use Rattle.component_linker.specs.Parts.{PartSeen}
 use Rattle.flow_check.specs.Kinds.{Row}
 use Rattle.flow_check.specs.Walk.{RowAt}
 use Rattle.flow_check.specs.Holds.{data_cap, Fits, PcAt}
+use Rattle.trusted_border.specs.declared.layout.Layout.{Layout}
+use Rattle.trusted_border.specs.declared.layout.SiteCode.{SiteCode}
+use Rattle.trusted_border.specs.Layout.{site_code}
 use Rattle.overlay_machine.specs.declared.words.OWord.{OWord}
 use Rattle.overlay_machine.specs.declared.words.OWord.TheVariants.{Plain}
-use Rattle.overlay_machine.specs.declared.layout.Layout.{Layout}
-use Rattle.overlay_machine.specs.declared.layout.SiteCode.{SiteCode}
 use Rattle.overlay_machine.specs.Words.{look}
-use Rattle.overlay_machine.specs.Layout.{site_code}
 use Rattle.overlay_machine.specs.State.{OpenFrame, OState, Cells, word_of, framed}
 use Rattle.overlay_machine.specs.Step.{Ending, overlay_step, weight_of}
 use Rattle.overlay_machine.specs.Flat.{IsFlat}

@@ -1,5 +1,4 @@
 pub mod Words
-pub mod Layout
 pub mod State
 pub mod Step
 pub mod Cases

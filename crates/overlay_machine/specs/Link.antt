@@ -8,8 +8,8 @@ use Rattle.call_sequence.specs.SequenceRuns.{Outside}
 use Rattle.component_linker.specs.Parts.{PartSeen}
 use Rattle.component_linker.specs.Regions.{code_span, data_span, linear_span, region, regions_of, in_regions}
 use Rattle.flow_check.specs.Holds.{Ranges}
+use Rattle.trusted_border.specs.declared.layout.Layout.{Layout}
 use Rattle.overlay_machine.specs.declared.words.OWord.TheVariants.{Plain}
-use Rattle.overlay_machine.specs.declared.layout.Layout.{Layout}
 use Rattle.overlay_machine.specs.State.{OpenFrame, Cells, framed}
 
 pub record Link : Type 0 where

@@ -16,8 +16,8 @@ use Rattle.component_linker.specs.declared.owners.Owner.{Owner}
 use Rattle.component_linker.specs.Parts.{PartSeen, IsPart}
 use Rattle.component_linker.specs.Regions.{stack_span}
 use Rattle.component_linker.specs.TrustedCode.{all_seals}
-use Rattle.overlay_machine.specs.declared.layout.SiteCode.{SiteCode}
-use Rattle.overlay_machine.specs.Layout.{runs_part, site_at, site_code, is_entry}
+use Rattle.trusted_border.specs.declared.layout.SiteCode.{SiteCode}
+use Rattle.trusted_border.specs.Layout.{runs_part, site_at, site_code, is_entry}
 use Rattle.overlay_machine.specs.Link.{Link, IsTrusted, IsUsable, regions, ranges_of, code_region}
 use Rattle.overlay_machine.specs.Link.{data_region}
 use Rattle.overlay_machine.specs.Safe.{IsOpenSeal}

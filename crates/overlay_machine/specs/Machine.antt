@@ -14,12 +14,12 @@ use Rattle.lcm_machine.specs.Cells.{cell, without}
 use Rattle.lcm_machine.specs.Spans.{in_spans}
 use Rattle.lcm_machine.specs.Runs.{code_cap}
 use Rattle.lcm_machine.specs.Row.{perform, put}
+use Rattle.trusted_border.specs.declared.layout.Layout.{Layout}
+use Rattle.trusted_border.specs.declared.layout.SiteCode.{SiteCode}
 use Rattle.frame_region.specs.Frames.{FrameSeen, sizes, older}
 use Rattle.call_sequence.specs.declared.TheConstants.{CALL_WORDS, RETURN_WORDS, ENTRY_WORDS}
 use Rattle.overlay_machine.specs.declared.words.OWord.{OWord}
 use Rattle.overlay_machine.specs.declared.words.OWord.TheVariants.{Plain, RetCode, RetData}
-use Rattle.overlay_machine.specs.declared.layout.Layout.{Layout}
-use Rattle.overlay_machine.specs.declared.layout.SiteCode.{SiteCode}
 use Rattle.overlay_machine.specs.declared.frames.Frame.{Frame}
 use Rattle.overlay_machine.specs.declared.machine.Machine.{Machine}
 use Rattle.overlay_machine.specs.declared.machine.Outcome.{Outcome}

@@ -1,10 +1,9 @@
 -- Words that go to the newest frame, and come back.
-use Rattle.std.specs.Prelude.{◌≡◌, ◌≤◌, ◌<◌, ℕ, zero, suc, ◌+◌, ◌-◌, List, [], ◌∷◌, ◌++◌, length}
-use Rattle.std.specs.Prelude.{None, IsTrue}
+use Rattle.std.specs.Prelude.{◌≡◌, ◌≤◌, ℕ, zero, suc, ◌+◌, ◌-◌, List, [], ◌∷◌, ◌++◌, length}
 use Rattle.cap_words.specs.Linear.{zero_word}
 use Rattle.lcm_machine.specs.Maps.{State}
-use Rattle.lcm_machine.specs.Cells.{cell, drop_cell, all_there, words_from, without, put_back}
-use Rattle.frame_region.specs.Frames.{FrameSeen, RegionSeen}
+use Rattle.lcm_machine.specs.Cells.{drop_cell, words_from, without, put_back}
+use Rattle.frame_region.specs.Frames.{FrameSeen}
 use Rattle.overlay_machine.specs.declared.words.OWord.{OWord}
 use Rattle.overlay_machine.specs.declared.words.OWord.TheVariants.{Plain}
 use Rattle.overlay_machine.specs.declared.frames.Frame.{Frame}

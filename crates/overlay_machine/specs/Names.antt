@@ -1,60 +1,23 @@
--- Names and numbers of a layout, and what they are of the trusted parts of a linked start.
-use Rattle.std.specs.Prelude.{◌≡◌, ℕ, ◌+◌, ◌-◌, ◌==◌, ℤ, true, List, [], Option, Some, None, find, length, slice_get}
+-- What the names and numbers of a layout are of the trusted parts of a linked start.
+use Rattle.std.specs.Prelude.{◌≡◌, ℕ, ◌+◌, ◌==◌, ℤ, true, List, Some, find, slice_get}
 use Rattle.std.specs.List.{Contains}
 use Rattle.cap_words.specs.declared.Face.TheVariants.{Memory}
 use Rattle.component_file.specs.declared.component.Export.{Export}
 use Rattle.flow_check.specs.Holds.{code_at}
 use Rattle.flow_check.specs.Places.{begins_entry}
 use Rattle.component_linker.specs.declared.owners.Site.{Site}
-use Rattle.component_linker.specs.declared.owners.Entry.{Entry}
-use Rattle.component_linker.specs.declared.owners.Owner.{Owner}
 use Rattle.component_linker.specs.Parts.{PartSeen}
 use Rattle.component_linker.specs.Owners.{owner_of}
 use Rattle.component_linker.specs.Started.{StartSeen}
-use Rattle.overlay_machine.specs.declared.layout.Layout.{Layout}
-use Rattle.overlay_machine.specs.declared.layout.SiteCode.{SiteCode}
-use Rattle.overlay_machine.specs.Layout.{trusted_owner, site_at, site_code}
-use Rattle.overlay_machine.specs.Events.{closure_owner, entry_number, site_of_seal}
+use Rattle.component_linker.specs.LinkedStarts.{IsLinkedStart}
+use Rattle.trusted_border.specs.declared.layout.Layout.{Layout}
+use Rattle.trusted_border.specs.declared.layout.SiteCode.{SiteCode}
+use Rattle.trusted_border.specs.Layout.{trusted_owner, site_at, site_code}
+use Rattle.trusted_border.specs.Names.{part_name, entry_name, site_of}
+use Rattle.trusted_border.specs.Reaches.{closure_owner, entry_number, site_of_seal}
 use Rattle.overlay_machine.specs.Link.{ranges_of}
 use Rattle.overlay_machine.specs.Linked.{any_pc, SiteOf}
-use Rattle.overlay_machine.specs.Starting.{IsLinkedStart, overlay_at}
-
--- ---- of a layout
-
--- empty where a number is of none, which no event of a start has
-abbrev pub name_of : Option Owner → List ℕ
-name_of None = []
-name_of (Some o) = o.name
-
-abbrev pub numbered_owner : Layout → ℕ → Option Owner
-numbered_owner l part = find (λ o. o.part == part) l.owners
-
-unfoldable pub part_name : Layout → ℕ → List ℕ
-part_name l part = name_of (numbered_owner l part)
-
-abbrev pub entry_text : Option Entry → List ℕ
-entry_text None = []
-entry_text (Some e) = e.name
-
-abbrev pub entry_of : ℕ → Option Owner → Option Entry
-entry_of k None = None
-entry_of k (Some o) = slice_get o.entries k
-
-unfoldable pub entry_name : Layout → ℕ → ℕ → List ℕ
-entry_name l part k = entry_text (entry_of k (numbered_owner l part))
-
--- the site of a number, and that of part 0 at index 0 where it is of none
-abbrev pub no_site : Site
-no_site = record { part = 0; index = 0; seal = 0; at = 0 }
-
-abbrev pub site_or : Option Site → Site
-site_or None = no_site
-site_or (Some s) = s
-
-unfoldable pub site_of : Layout → ℕ → Site
-site_of l i = site_or (slice_get l.sites i)
-
--- ---- of the trusted parts of a linked start
+use Rattle.overlay_machine.specs.Starting.{overlay_at}
 
 -- a part of a number has one owner: that of its closure seal, and the one who runs wherever pc is over its
 -- code; and the name of its number is its component's

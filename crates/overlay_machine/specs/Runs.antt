@@ -5,11 +5,10 @@ use Rattle.lcm_machine.specs.declared.FailCause.{FailCause}
 use Rattle.lcm_machine.specs.Maps.{State}
 use Rattle.lcm_machine.specs.Row.{Outcome, went, halted, failed, step_of}
 use Rattle.lcm_machine.specs.Runs.{run_of}
-use Rattle.overlay_machine.specs.declared.layout.Layout.{Layout}
+use Rattle.trusted_border.specs.declared.layout.Layout.{Layout}
 use Rattle.overlay_machine.specs.State.{OState}
-use Rattle.overlay_machine.specs.Step.{goes, halts, fails, case_of, overlay_step, weight_of}
+use Rattle.overlay_machine.specs.Step.{goes, halts, fails, overlay_step, weight_of}
 use Rattle.overlay_machine.specs.Flat.{IsFlat}
-use Rattle.overlay_machine.specs.Agree.{EndAlike, Looks, ReadyFor}
 
 -- a matched point: from an overlay, at the sum of the weights of steps that went, the overlay after them
 pub data Reached (l : Layout) (o : OState) : ℕ → OState → Type 0 where

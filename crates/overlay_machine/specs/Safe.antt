@@ -13,10 +13,10 @@ use Rattle.lcm_machine.specs.Regions.{Region}
 use Rattle.component_linker.specs.Parts.{PartSeen}
 use Rattle.component_linker.specs.Start.{Exported, code_half, data_half}
 use Rattle.component_linker.specs.SealsApart.{is_seal_of}
+use Rattle.trusted_border.specs.declared.layout.SiteCode.{SiteCode}
+use Rattle.trusted_border.specs.Layout.{site_code}
 use Rattle.overlay_machine.specs.declared.words.OWord.{OWord}
 use Rattle.overlay_machine.specs.declared.words.OWord.TheVariants.{Plain, RetCode, RetData}
-use Rattle.overlay_machine.specs.declared.layout.SiteCode.{SiteCode}
-use Rattle.overlay_machine.specs.Layout.{site_code}
 use Rattle.overlay_machine.specs.State.{OpenFrame, framed, frame_of}
 use Rattle.overlay_machine.specs.Link.{Link, IsTrusted, IsUntrusted, IsUsable}
 

@@ -1,16 +1,14 @@
 -- The overlay of a start, and what that of a linked start begins with and comes to.
-use Rattle.std.specs.Prelude.{◌≡◌, ◌<◌, ℕ, true, false, List, [], ◌∷◌, length, map, None, Some, slice_get}
+use Rattle.std.specs.Prelude.{◌≡◌, ◌<◌, ℕ, true, false, List, [], length, map, None}
 use Rattle.std.specs.Ordering.{nat_cmp}
 use Rattle.std.specs.FinMap as finite
 use Rattle.std.specs.List.{Contains}
 use Rattle.cap_words.specs.declared.Word.{Word}
 use Rattle.lcm_machine.specs.Maps.{State}
 use Rattle.lcm_machine.specs.Row.{went}
-use Rattle.component_linker.specs.Parts.{PartSeen, IsPart}
-use Rattle.component_linker.specs.Standing.{placed}
-use Rattle.component_linker.specs.Pairs.{NoneIsBroken}
-use Rattle.component_linker.specs.Links.{l10, rules_l}
-use Rattle.component_linker.specs.Started.{StartSeen, Starts}
+use Rattle.component_linker.specs.Parts.{PartSeen}
+use Rattle.component_linker.specs.Started.{StartSeen}
+use Rattle.component_linker.specs.LinkedStarts.{IsLinkedStart}
 use Rattle.overlay_machine.specs.declared.words.OWord.TheVariants.{Plain}
 use Rattle.overlay_machine.specs.State.{OState, Cells}
 use Rattle.overlay_machine.specs.Copies.{plain_regs}
@@ -42,22 +40,6 @@ overlay_at s =
     }
 
 -- ---- of linked parts
-
--- each part keeps its own rules
-abbrev pub AreParts : List PartSeen → Type 0
-AreParts parts = (k : ℕ) (p : PartSeen) → slice_get parts k ≡ Some p → IsPart p
-
--- Each part keeps the rules C, and K where it is trusted; together they keep the rules L with this size of stack;
--- and this is their start. Of no part more is asked.
-pub record IsLinkedStart (parts : List PartSeen) (size : ℕ) (s : StartSeen) : Type 0 where
-  pub accepted : AreParts parts
-  pub room : NoneIsBroken (l10 parts ∷ [])
-  pub rules : NoneIsBroken (rules_l parts size)
-  pub starts : Starts parts size s
-
--- parts link to this start with a stack of a size: it is that of the parts where they are placed
-abbrev pub IsStartOf : List PartSeen → ℕ → StartSeen → Type 0
-IsStartOf parts size s = IsLinkedStart (placed parts size) size s
 
 -- of whatever parts it is the start: they are linked in the overlay's layout, and the invariant holds of the overlay
 -- and the start's own registers and cells

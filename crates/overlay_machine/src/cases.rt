@@ -7,12 +7,12 @@ ghost use Rattle.overlay_machine.specs.Words.{look};
 ghost use Rattle.overlay_machine.specs.Step.{case_of, case_fetched, own_stack, weight_by};
 ghost use Rattle.overlay_machine.specs.Cases.{IsWithin};
 
-use crate::layout::Layout;
 use crate::words::OWord;
 use call_sequence::{CALL_WORDS, ENTRY_WORDS, RETURN_WORDS};
 use cap_words::CapFields;
 use lcm_isa::{Instr, Reg};
 use lcm_machine::state::State;
+use trusted_border::Layout;
 
 /// What a step is.
 #[derive(Clone, Copy)]

@@ -8,7 +8,6 @@ ghost use Rattle.lcm_machine.specs.Row.{put};
 ghost use Rattle.overlay_machine.specs.Seen.{start_word};
 ghost use Rattle.overlay_machine.specs.Copies.{plain_regs, copied, AreCopiedTo};
 
-use crate::layout::Layout;
 use crate::words::OWord;
 use cap_words::{Items, LAST_PLACE, SealRange};
 use component_linker::{Call, Entry, Owner, Start};
@@ -16,6 +15,7 @@ use lcm_isa::Reg;
 use lcm_machine::state::State;
 use lcm_machine::{LcmState, Place, Span};
 use std::alloc::{AllocError, Global};
+use trusted_border::Layout;
 
 fn copy_name(alloc: Global, name: &[u8]) -> Result<Items<u8>, AllocError>
     ensures { IfOk result (λ n. n ≡ name.now) }

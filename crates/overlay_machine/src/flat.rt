@@ -8,12 +8,12 @@ ghost use Rattle.overlay_machine.specs.Flat.{flat, flat_code, flat_data};
 ghost use Rattle.overlay_machine.specs.Events.{head_of};
 
 use crate::frames::Frame;
-use crate::layout::{Layout, SiteCode};
 use crate::machine::Machine;
 use crate::words::OWord;
 use call_sequence::CALL_WORDS;
 use cap_words::{Cap, Lin, Perm, Sealable, Word};
 use frame_region::Region;
+use trusted_border::{Layout, SiteCode};
 
 // Under the seal of a site, its part's code at the word behind the call.
 fn code_half(code: SiteCode) -> Word

@@ -3,7 +3,8 @@ ghost use Rattle.std.specs.Prelude.{◌≡◌, ◌↔◌, ℕ, List};
 ghost use Rattle.cap_words.specs.declared.Word.{Word};
 ghost use Rattle.lcm_machine.specs.Maps.{State};
 ghost use Rattle.lcm_machine.specs.Row.{went};
-ghost use Rattle.overlay_machine.specs.declared.layout.Layout.{Layout};
+ghost use Rattle.component_linker.specs.LinkedStarts.{IsLinkedStart};
+ghost use Rattle.trusted_border.specs.declared.layout.Layout.{Layout};
 ghost use Rattle.overlay_machine.specs.State.{OState};
 ghost use Rattle.overlay_machine.specs.Step.{halts, overlay_step, weight_of};
 ghost use Rattle.overlay_machine.specs.Flat.{StandsForOne};
@@ -16,7 +17,7 @@ ghost use Rattle.overlay_machine.specs.Privacy.{AllFramesArePrivate};
 ghost use Rattle.component_linker.specs.Parts.{PartSeen};
 ghost use Rattle.component_linker.specs.Started.{StartSeen};
 ghost use Rattle.overlay_machine.specs.Seen.{OverlaySeen, IsOverlayOf};
-ghost use Rattle.overlay_machine.specs.Starting.{IsLinkedStart, overlay_at, StartsBegin, AgreesFromStart};
+ghost use Rattle.overlay_machine.specs.Starting.{overlay_at, StartsBegin, AgreesFromStart};
 ghost use Rattle.overlay_machine.specs.Starting.{StartThere};
 ghost use Rattle.overlay_machine.specs.Names.{StartsTellNames};
 

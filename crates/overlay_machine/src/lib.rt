@@ -9,18 +9,14 @@
 
 mod cases;
 mod copies;
-mod events;
 mod flat;
 mod frames;
 pub mod laws;
-mod layout;
 mod machine;
 mod notes;
 mod overlay;
-pub mod reach;
 mod words;
 
-pub use events::{Back, Event};
 pub use frames::Frame;
 pub use overlay::{OStep, Overlay};
 pub use words::OWord;

@@ -18,7 +18,6 @@ ghost use Rattle.overlay_machine.specs.Machine.{at_jump, at_return, at_entry};
 
 use crate::cases::{Case, own_stack};
 use crate::frames::{Frame, all_there, close_frame, open_frame};
-use crate::layout::{Layout, SiteCode};
 use crate::words::OWord;
 use call_sequence::{CALL_WORDS, ENTRY_WORDS, RETURN_WORDS};
 use cap_words::{Cap, CapFields, LAST_PLACE, Lin, Perm, Word};
@@ -27,6 +26,7 @@ use lcm_isa::Reg;
 use lcm_machine::plan::Effect;
 use lcm_machine::state::State;
 use lcm_machine::{Place, Step};
+use trusted_border::{Layout, SiteCode};
 
 /// What a step came to.
 #[derive(Clone, Copy)]

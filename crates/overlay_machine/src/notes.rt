@@ -4,26 +4,26 @@ ghost use Rattle.std.specs.Option.{option_copied};
 ghost use Rattle.cap_words.specs.Face.{FaceInOrder, ContentInOrder};
 ghost use Rattle.lcm_isa.specs.declared.Reg.TheVariants.{Pc, C1};
 ghost use Rattle.lcm_machine.specs.Row.{faces, opens, cell_faces, fetch};
+ghost use Rattle.trusted_border.specs.Layout.{number_of};
+ghost use Rattle.trusted_border.specs.Reaches.{entry_number, closure_owner, site_of_seal, content_base};
+ghost use Rattle.trusted_border.specs.Reaches.{hop_by, back_under, jump_plan, goes_on, back_of};
 ghost use Rattle.overlay_machine.specs.Words.{look};
-ghost use Rattle.overlay_machine.specs.Layout.{number_of};
 ghost use Rattle.overlay_machine.specs.Machine.{Fits, overlay_of, frames_of};
-ghost use Rattle.overlay_machine.specs.Events.{entry_number, closure_owner, site_of_seal, content_base};
-ghost use Rattle.overlay_machine.specs.Events.{hop_by, back_under, jump_plan, goes_on, back_of, owner_now};
+ghost use Rattle.overlay_machine.specs.Events.{owner_now};
 ghost use Rattle.overlay_machine.specs.Events.{note_call, site_opened, jump_seal, note_by, called, entered};
 ghost use Rattle.overlay_machine.specs.Events.{jumped, event_after};
 
 use crate::cases::Case;
-use crate::events::{Back, Event};
 use crate::frames::Frame;
-use crate::layout::Layout;
 use crate::machine::Machine;
-use crate::reach::{content_base, entry_number, hop_by, owner_closed, site_sealed};
 use crate::words::OWord;
 use cap_words::{Opened, Word};
 use component_linker::Owner;
 use lcm_isa::{Instr, Reg};
 use lcm_machine::Place;
 use lcm_machine::state::State;
+use trusted_border::reach::{content_base, entry_number, hop_by, owner_closed, site_sealed};
+use trusted_border::{Back, Event, Layout};
 
 /// What is noted of a state before a step.
 #[derive(Clone, Copy)]

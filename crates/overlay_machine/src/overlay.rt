@@ -15,10 +15,8 @@ ghost use Rattle.overlay_machine.specs.Starting.{Begins};
 
 use crate::cases::{next_case, weight};
 use crate::copies::{layout_of, maps_of};
-use crate::events::Event;
 use crate::frames::framed;
 use crate::laws::starts_begin;
-use crate::layout::{Layout, stack_cells};
 use crate::machine::{Machine, Outcome};
 use crate::words::OWord;
 use arrayvec::ArrayString;
@@ -26,9 +24,11 @@ use cap_words::{Opened, Word, word_text};
 use component_linker::Start;
 use frame_region::Region;
 use lcm_isa::Reg;
+use lcm_machine::Span;
 use lcm_machine::state::State;
 use std::alloc::{AllocError, Global};
 use std::marker::Model;
+use trusted_border::{Event, Layout};
 
 /// What a step came to: that it went, with what is told of it, or how the machine ended.
 #[derive(Clone, Copy, PartialEq, Eq, Debug)]
@@ -57,6 +57,14 @@ impl OEnd {
     }
 }
 
+// How many addresses a stack has. One that ends below its base, as no start has it, counts as one of
+// a single word.
+fn stack_cells(stack: Span) -> u32
+    ensures { stack.end - stack.base ≤ result }
+{
+    stack.end.saturating_sub(stack.base).saturating_add(1)
+}
+
 /// An overlay machine. A contract sees the sites, owners and stack of its start, its state, the
 /// weight of the steps that went, and, once it has ended, how.
 ///
@@ -77,7 +85,7 @@ impl Model for Overlay {
     ghost use Rattle.std.specs.Coded.{codes, coded_ℕ};
     ghost use Rattle.std.specs.Ordering.{nat_cmp};
     ghost use Rattle.std.specs.FinMap as map;
-    ghost use Rattle.overlay_machine.specs.contracts.layout.Layout as layout_contracts;
+    ghost use Rattle.trusted_border.specs.contracts.layout.Layout as layout_contracts;
     ghost use Rattle.overlay_machine.specs.contracts.words.OWord as word_contracts;
     ghost use Rattle.overlay_machine.specs.Seen.{OverlaySeen, Holds};
     ghost use Rattle.overlay_machine.specs.Machine.{overlay_of};

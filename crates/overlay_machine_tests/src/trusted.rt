@@ -7,10 +7,11 @@ use component_file::Component;
 use component_linker::{Part, Start, accept};
 use lcm_isa::Reg;
 use lcm_machine::{LcmState, Place};
-use overlay_machine::{Back, Event, OStep, Overlay};
+use overlay_machine::{OStep, Overlay};
 use std::alloc::{AllocError, Global};
 use std::process::Abort;
 use std::test::Fail;
+use trusted_border::{Back, Event};
 use worked_parts::{CALL, CALL_ON, ENTRY, RETURN};
 
 // The trusted part `t`. Its code is from 4096 on: `fail`, the literal, the entry `main` at offset 2, and a

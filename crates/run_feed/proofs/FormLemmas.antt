@@ -10,13 +10,13 @@ use Rattle.line_fields.specs.Cuts.{behind}
 use Rattle.line_fields.specs.Numbers.{natural_in}
 use Rattle.line_fields.specs.Forms.{back_in, handed_in}
 use Rattle.line_fields.specs.Fields.{Reader, goes_on, ◌>>=◌, done, field, unless_none, meant, tested}
-use Rattle.line_fields.specs.Fields.{is_none_left, fields}
+use Rattle.line_fields.specs.Fields.{is_none_left, whole, fields}
 use Rattle.line_fields.proofs.Fronts.{behind_front, behind_is}
 use Rattle.line_fields.proofs.Numbers.{chosen, some_of}
 use Rattle.run_feed.specs.declared.line.FeedLine.{FeedLine}
 use Rattle.run_feed.specs.declared.line.FeedLine.TheVariants.{Enter, Ret, Pass, Other}
 use Rattle.run_feed.specs.Seen.{EnterSeen, RetSeen, PassSeen}
-use Rattle.run_feed.specs.Lines.{entered, answered, passed, whole, begun, enter_in, ret_in, pass_in}
+use Rattle.run_feed.specs.Lines.{entered, answered, passed, begun, enter_in, ret_in, pass_in}
 use Rattle.run_feed.specs.Lines.{pass_seen, ret_seen, enter_seen, seen, is_enter}
 use Rattle.run_feed.specs.Bad.{IsEnterForm, IsRetForm, IsPassForm, KeepsForm, begins_enter}
 

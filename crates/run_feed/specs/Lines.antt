@@ -2,11 +2,10 @@
 use Rattle.std.specs.Prelude.{ℕ, Bool, true, false, List, codes, Option, Some, None, option_map}
 use Rattle.std.specs.Str.{bytes_eq}
 use Rattle.cap_words.specs.Names.{is_name}
-use Rattle.line_fields.specs.Options.{where_true}
 use Rattle.line_fields.specs.Cuts.{behind}
 use Rattle.line_fields.specs.Numbers.{natural_in}
 use Rattle.line_fields.specs.Forms.{back_in, handed_in}
-use Rattle.line_fields.specs.Fields.{Reader, ◌>>=◌, done, field, meant, tested, is_none_left, fields}
+use Rattle.line_fields.specs.Fields.{Reader, ◌>>=◌, done, field, meant, tested, whole, fields}
 use Rattle.run_feed.specs.declared.line.FeedLine.{FeedLine}
 use Rattle.run_feed.specs.declared.line.FeedLine.TheVariants.{Enter, Ret, Pass, Other}
 use Rattle.run_feed.specs.Seen.{EnterSeen, RetSeen, PassSeen}
@@ -42,11 +41,6 @@ passed = do
   p1 ← meant handed_in
   p2 ← meant handed_in
   done (record { p0 = p0; p1 = p1; p2 = p2 })
-
--- no field is left
-abbrev pub whole : {A : Type 0} → Option (A × List (List ℕ)) → Option A
-whole None = None
-whole (Some x) = where_true (is_none_left x.1) x.0
 
 -- any fields are left
 abbrev pub begun : {A : Type 0} → Option (A × List (List ℕ)) → Option A

@@ -21,14 +21,16 @@ use Rattle.run_feed.specs.Lines.{seen}
 use Rattle.run_items.proofs.High.{IsHigh, decimal_high, signed_high, word_high, IsOneLine, line_join}
 use Rattle.run_items.proofs.High.{high_line}
 
--- the text is that of a line which is passed over
-pub record IsPassedOver (text : List ℕ) : Type 0 where
-  pub line : List ℕ
+-- the text is this line with its newline, and the line is passed over
+pub record PassesOver (line text : List ℕ) : Type 0 where
   pub is : text ≡ line ++ codes "\n"
   pub read : (entry : Bool) → seen entry line ≡ Some Other
   pub one : IsOneLine line
 
-cause_high : (f : FailCause) → IsHigh (cause_text f)
+abbrev pub IsPassedOver : List ℕ → Type 0
+IsPassedOver text = (line : List ℕ) × PassesOver line text
+
+pub cause_high : (f : FailCause) → IsHigh (cause_text f)
 cause_high F1 = record { all = refl }
 cause_high F2 = record { all = refl }
 cause_high F3 = record { all = refl }
@@ -44,7 +46,7 @@ cause_high F12 = record { all = refl }
 cause_high F13 = record { all = refl }
 cause_high F14 = record { all = refl }
 
-pc_high : (w : Word) → IsHigh (pc_text w)
+pub pc_high : (w : Word) → IsHigh (pc_text w)
 pc_high (Mem c) = signed_high c.addr
 pc_high (Int n) = record { all = refl }
 pc_high (Seal s) = record { all = refl }
@@ -79,53 +81,70 @@ unfolding seen behind
 failed_read true rest = refl
 failed_read false rest = refl
 
-pub halted_is : (v : View) (n : ℕ) → IsPassedOver (halted_text v n)
+-- ---- end lines, without their newline
+
+abbrev pub halted_body : View → ℕ → List ℕ
+halted_body v n = codes "halted " ++ (word_text_of (v.reg A0) ++ (codes " steps " ++ decimal n))
+
+abbrev pub running_body : View → ℕ → List ℕ
+running_body v n = codes "running " ++ (pc_text (v.reg Pc) ++ (codes " steps " ++ decimal n))
+
+abbrev pub failed_body : View → ℕ → List ℕ
+failed_body v n = codes "failed " ++ (pc_text (v.reg Pc) ++ (codes " steps " ++ decimal n))
+
+abbrev pub failed_by_body : View → FailCause → ℕ → List ℕ
+failed_by_body v f n =
+    codes "failed " ++ (pc_text (v.reg Pc) ++ (codes " " ++ (cause_text f ++ (codes " steps " ++ decimal n))))
+
+pub halted_is : (v : View) (n : ℕ) → PassesOver (halted_body v n) (halted_text v n)
 halted_is v n =
     let t = word_text_of (v.reg A0) in
     record {
-      line = codes "halted " ++ (t ++ (codes " steps " ++ decimal n));
       is = regroup (codes "halted ") t (codes " steps ") (decimal n) (codes "\n");
       read = λ entry. halted_read entry (t ++ (codes " steps " ++ decimal n));
       one = field_line {name = codes "halted "} (record { free = refl }) (word_high (v.reg A0)) n;
     }
 
-pub running_is : (v : View) (n : ℕ) → IsPassedOver (running_text v n)
+pub running_is : (v : View) (n : ℕ) → PassesOver (running_body v n) (running_text v n)
 running_is v n =
     let t = pc_text (v.reg Pc) in
     record {
-      line = codes "running " ++ (t ++ (codes " steps " ++ decimal n));
       is = regroup (codes "running ") t (codes " steps ") (decimal n) (codes "\n");
       read = λ entry. running_read entry (t ++ (codes " steps " ++ decimal n));
       one = field_line {name = codes "running "} (record { free = refl }) (pc_high (v.reg Pc)) n;
     }
 
-pub failed_is : (v : View) (n : ℕ) → IsPassedOver (failed_text v n)
+pub failed_is : (v : View) (n : ℕ) → PassesOver (failed_body v n) (failed_text v n)
 failed_is v n =
     let t = pc_text (v.reg Pc) in
     record {
-      line = codes "failed " ++ (t ++ (codes " steps " ++ decimal n));
       is = regroup (codes "failed ") t (codes " steps ") (decimal n) (codes "\n");
       read = λ entry. failed_read entry (t ++ (codes " steps " ++ decimal n));
       one = field_line {name = codes "failed "} (record { free = refl }) (pc_high (v.reg Pc)) n;
     }
 
-failed_by_is : (v : View) (f : FailCause) (n : ℕ) → IsPassedOver (failed_by_text v f n)
+failed_by_is : (v : View) (f : FailCause) (n : ℕ) → PassesOver (failed_by_body v f n) (failed_by_text v f n)
 failed_by_is v f n =
     let t = pc_text (v.reg Pc) in
     let c = cause_text f in
     let blank : IsOneLine (codes " ") = record { free = refl } in
     let name : IsOneLine (codes "failed ") = record { free = refl } in
     record {
-      line = codes "failed " ++ (t ++ (codes " " ++ (c ++ (codes " steps " ++ decimal n))));
       is = regroup_two (codes "failed ") t (codes " ") c (codes " steps ") (decimal n) (codes "\n");
       read = λ entry. failed_read entry (t ++ (codes " " ++ (c ++ (codes " steps " ++ decimal n))));
       one = line_join name (line_join (high_line (pc_high (v.reg Pc))) (field_line blank (cause_high f) n));
     }
 
-by_answer : (e : Step) (r : Run) → IsPassedOver (line_at e r)
+-- of a plain run
+abbrev pub end_body : Step → Run → List ℕ
+end_body Went r = running_body (view_of r.maps) r.count
+end_body Halted r = halted_body (view_of r.maps) r.count
+end_body (Failed f at) r = failed_by_body (view_of r.maps) f r.count
+
+by_answer : (e : Step) (r : Run) → PassesOver (end_body e r) (line_at e r)
 by_answer Went r = running_is (view_of r.maps) r.count
 by_answer Halted r = halted_is (view_of r.maps) r.count
 by_answer (Failed f at) r = failed_by_is (view_of r.maps) f r.count
 
-pub end_is : (r : Run) → IsPassedOver (end_line r)
+pub end_is : (r : Run) → PassesOver (end_body (answer r) r) (end_line r)
 end_is r = by_answer (answer r) r

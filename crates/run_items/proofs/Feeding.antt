@@ -103,18 +103,18 @@ before l ls t =
     ∙ append_assoc (body l) (codes "\n") (lines_text ls ++ t)
 
 -- the lines of a text, the last one passed over
-lines_are : (l : Line) (ls : List Line) (t : List ℕ) → LineFits l
+pub lines_are : (l : Line) (ls : List Line) (t : List ℕ) → LineFits l
     → lines (lines_text (l ∷ ls) ++ t) ≡ body l ∷ lines (lines_text ls ++ t)
 lines_are l ls t h =
     let free = (line_seen l h).one.free in
     one_before (lines_text (l ∷ ls) ++ t) (body l) (lines_text ls ++ t) (before l ls t) free
 
-end_line_is : (t : List ℕ) (e : IsPassedOver t) → lines t ≡ e.line ∷ [] ∷ []
-end_line_is t e = one_before t e.line [] e.is e.one.free ∙ ap (λ ts. e.line ∷ ts) no_more
+pub end_line_is : (t : List ℕ) (e : IsPassedOver t) → lines t ≡ e.0 ∷ [] ∷ []
+end_line_is t e = one_before t e.0 [] e.1.is e.1.one.free ∙ ap (λ ts. e.0 ∷ ts) no_more
 
 pairs_are : (ls : List Line) (t : List ℕ) → LinesFit ls → IsPassedOver t
     → HasPairs ls (lines (lines_text ls ++ t))
-pairs_are [] t h e = ap pairs_behind (end_line_is t e) ∙ ap pairs_of (e.read true)
+pairs_are [] t h e = ap pairs_behind (end_line_is t e) ∙ ap pairs_of (e.1.read true)
 pairs_are (l ∷ ls) t h e =
     ap pairs_behind (lines_are l ls t h.0) ∙ ap pairs_of ((line_seen l h.0).read true) ∙ pairs_told l
 
@@ -128,7 +128,7 @@ fed_end : (base n : ℕ) (entry : Bool) (t : List ℕ) → IsPassedOver t → fe
 unfolding fed_from
 fed_end base n entry t e =
     ap (fed_from base entry n) (end_line_is t e)
-    ∙ ap (λ s. told base n ([] ∷ []) s (λ b. fed_from base b (n + 1) ([] ∷ []))) (e.read entry)
+    ∙ ap (λ s. told base n ([] ∷ []) s (λ b. fed_from base b (n + 1) ([] ∷ []))) (e.1.read entry)
     ∙ empty_last base (n + 1)
 
 fed_all : (base n : ℕ) (entry : Bool) (ls : List Line) (t : List ℕ) → LinesFit ls → IsPassedOver t

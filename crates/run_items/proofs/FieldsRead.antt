@@ -24,7 +24,7 @@ use Rattle.line_fields.specs.Words.{word_in}
 use Rattle.line_fields.specs.Forms.{entry_in, call_in, back_in, handed_in}
 use Rattle.line_fields.proofs.Numbers.{number_again, integer_again, integer_is}
 use Rattle.line_fields.proofs.Fronts.{cut_front, decimal_free}
-use Rattle.line_fields.proofs.WordTexts.{text_is_word}
+use Rattle.line_fields.proofs.WordTexts.{fits_has_text, text_is_word}
 use Rattle.run_feed.specs.Feed.{left_of}
 use Rattle.run_items.proofs.High.{IsHigh, high_join, decimal_high, name_high, name_free, name_is}
 
@@ -34,7 +34,7 @@ pub natural_again : (n : ℕ) → n ≤ 4294967295 → natural_in (decimal n) �
 natural_again n h = number_again 4294967295 n h (omega (arith, h))
 
 pub word_again : (w : Word) → WordFits w → word_in (word_text_of w) ≡ Some w
-word_again w h = text_is_word w (word_text_of w) (h, refl)
+word_again w h = text_is_word w (word_text_of w) (fits_has_text w h, refl)
 
 -- where the text of a word is that of an integer, it is this integer
 int_only : (w : Word) (z : ℤ) → WordFits w → integer_in (word_text_of w) ≡ Some z → w ≡ Int z

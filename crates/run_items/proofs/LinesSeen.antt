@@ -10,10 +10,10 @@ use Rattle.trace_tool.specs.Texts.{direction, field, words_text, args_text, plac
 use Rattle.trace_tool.specs.Texts.{passed_text, head_text, words_of, line_text}
 use Rattle.trace_tool.specs.Fits.{IsName, LineFits}
 use Rattle.line_fields.specs.Cuts.{behind}
-use Rattle.line_fields.specs.Fields.{meant, tested}
+use Rattle.line_fields.specs.Fields.{meant, tested, whole}
 use Rattle.run_feed.specs.declared.line.FeedLine.{FeedLine}
 use Rattle.run_feed.specs.declared.line.FeedLine.TheVariants.{Enter, Ret, Pass, Other}
-use Rattle.run_feed.specs.Lines.{whole, begun, entered, answered, passed, enter_in, ret_in, pass_in, seen}
+use Rattle.run_feed.specs.Lines.{begun, entered, answered, passed, enter_in, ret_in, pass_in, seen}
 use Rattle.run_items.proofs.High.{IsHigh, decimal_high, word_high, name_high, name_is, IsOneLine, line_join}
 use Rattle.run_items.proofs.High.{high_line}
 use Rattle.run_items.proofs.Spaced.{spaced, AllHigh, fields_are, spaced_line, words_spaced, words_high}

@@ -12,13 +12,13 @@ abbrev Ends : Traced → Type 0
 Ends t = IsPassedOver t.last
 
 stopped_ends : (o : OverlaySeen) → Ends (stopped o)
-stopped_ends o = running_is (overlay_view o) o.weight
+stopped_ends o = (_, running_is (overlay_view o) o.weight)
 
 step_ends : (e : OStep) (o : OverlaySeen) (more : OverlaySeen → Traced) → ((p : OverlaySeen) → Ends (more p))
     → Ends (traced_by e o more)
 step_ends (Went event) o more h = h (next_overlay o)
-step_ends Halted o more h = halted_is (overlay_view (next_overlay o)) (weight_with o)
-step_ends Failed o more h = failed_is (overlay_view (next_overlay o)) o.weight
+step_ends Halted o more h = (_, halted_is (overlay_view (next_overlay o)) (weight_with o))
+step_ends Failed o more h = (_, failed_is (overlay_view (next_overlay o)) o.weight)
 
 either_ends : (b : Bool) (t u : Traced) → Ends t → Ends u → Ends (if b then t else u)
 either_ends true t u h k = h

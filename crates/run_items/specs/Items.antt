@@ -3,14 +3,14 @@
 use Rattle.std.specs.Prelude.{◌≡◌, ℕ, List, map, Ok}
 use Rattle.component_linker.specs.Parts.{PartSeen}
 use Rattle.component_linker.specs.Started.{StartSeen}
-use Rattle.overlay_machine.specs.Starting.{IsLinkedStart, overlay_at}
+use Rattle.component_linker.specs.LinkedStarts.{IsLinkedStart}
+use Rattle.overlay_machine.specs.Starting.{overlay_at}
 use Rattle.trace_tool.specs.Layout.{layout}
 use Rattle.trace_tool.specs.Lines.{Return, out, bad, hop, pair, Passed, nothing, bad_pair, out_pair, hop_pair}
-use Rattle.trace_tool.specs.Runs.{run_text}
+use Rattle.trace_tool.specs.Runs.{run_text, written}
 use Rattle.trace_tool.specs.Traces.{trace_text}
 use Rattle.trace_tool.specs.Feed as line
 use Rattle.trace_tool.specs.Feed.{items_of}
-use Rattle.trace_tool.specs.Headline.{written}
 use Rattle.source_events.specs.declared.FeedBack.{FeedBack}
 use Rattle.source_events.specs.declared.FeedBack.TheVariants as back
 use Rattle.source_events.specs.declared.FeedPair.{FeedPair}

@@ -16,14 +16,14 @@ use Rattle.call_sequence.specs.Sequences.{call_code, return_code, entry_code}
 use Rattle.component_linker.specs.Regions.{regions_of}
 use Rattle.component_linker.specs.Start.{start_cell, part_word}
 use Rattle.component_linker.specs.Owners.{owner_of}
+use Rattle.trusted_border.specs.declared.events.Event.{Event}
+use Rattle.trusted_border.specs.declared.events.Event.TheVariants.{Called, Returned}
+use Rattle.trusted_border.specs.Layout.{trusted_at, site_code}
 use Rattle.overlay_machine.specs.declared.words.OWord.{OWord}
 use Rattle.overlay_machine.specs.declared.words.OWord.TheVariants.{Plain, RetCode, RetData}
 use Rattle.overlay_machine.specs.declared.cases.Case.TheVariants.{Call, Back}
-use Rattle.overlay_machine.specs.declared.events.Event.{Event}
-use Rattle.overlay_machine.specs.declared.events.Event.TheVariants.{Called, Returned}
 use Rattle.overlay_machine.specs.State.{OpenFrame, OState, Cells}
 use Rattle.overlay_machine.specs.Words.{look}
-use Rattle.overlay_machine.specs.Layout.{trusted_at, site_code}
 use Rattle.overlay_machine.specs.Step.{goes, need, ask, own_stack, case_fetched, case_trusted, case_of}
 use Rattle.overlay_machine.specs.Step.{entry_step, call_step, return_step, step_by, weight_by, overlay_step}
 use Rattle.overlay_machine.specs.Step.{weight_of}

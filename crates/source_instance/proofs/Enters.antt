@@ -12,10 +12,10 @@ use Rattle.lcm_machine.specs.Table as table
 use Rattle.call_sequence.specs.Sequences.{call_code, return_code, entry_code}
 use Rattle.component_linker.specs.Start.{start_cell, start_regs, part_word}
 use Rattle.component_linker.specs.Owners.{owner_of}
+use Rattle.trusted_border.specs.declared.events.Back.TheVariants.{Out}
+use Rattle.trusted_border.specs.declared.events.Event.{Event}
+use Rattle.trusted_border.specs.declared.events.Event.TheVariants.{Entered}
 use Rattle.overlay_machine.specs.declared.words.OWord.TheVariants.{Plain}
-use Rattle.overlay_machine.specs.declared.events.Back.TheVariants.{Out}
-use Rattle.overlay_machine.specs.declared.events.Event.{Event}
-use Rattle.overlay_machine.specs.declared.events.Event.TheVariants.{Entered}
 use Rattle.overlay_machine.specs.State.{OState}
 use Rattle.overlay_machine.specs.Words.{look}
 use Rattle.overlay_machine.specs.Flat.{flat}

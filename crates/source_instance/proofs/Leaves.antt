@@ -14,9 +14,9 @@ use Rattle.lcm_machine.proofs.Goes.{jmp_goes, plus_goes}
 use Rattle.call_sequence.specs.Sequences.{call_code, return_code, entry_code}
 use Rattle.component_linker.specs.Start.{start_cell, part_word}
 use Rattle.component_linker.specs.Owners.{owner_of}
+use Rattle.trusted_border.specs.declared.events.Event.{Event}
+use Rattle.trusted_border.specs.declared.events.Event.TheVariants.{Left}
 use Rattle.overlay_machine.specs.declared.words.OWord.TheVariants.{Plain}
-use Rattle.overlay_machine.specs.declared.events.Event.{Event}
-use Rattle.overlay_machine.specs.declared.events.Event.TheVariants.{Left}
 use Rattle.overlay_machine.specs.State.{OState, Cells}
 use Rattle.overlay_machine.specs.Words.{look}
 use Rattle.proc_templates.specs.Items.{zero_of}

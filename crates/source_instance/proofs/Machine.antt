@@ -29,14 +29,14 @@ use Rattle.lcm_machine.specs.Runs.{code_cap}
 use Rattle.lcm_machine.proofs.Offers.{cell-set_other, shows, fetch_at, step_at, stays, load_goes, store_goes}
 use Rattle.lcm_machine.proofs.Offers.{cca_goes, set_goes, move_goes}
 use Rattle.component_linker.specs.Start.{start_cell}
+use Rattle.trusted_border.specs.declared.layout.Layout.{Layout}
+use Rattle.trusted_border.specs.declared.events.Event.{Event}
+use Rattle.trusted_border.specs.Layout.{trusted_at}
 use Rattle.overlay_machine.specs.declared.words.OWord.{OWord}
 use Rattle.overlay_machine.specs.declared.words.OWord.TheVariants.{Plain}
 use Rattle.overlay_machine.specs.declared.cases.Case.TheVariants.{Other}
-use Rattle.overlay_machine.specs.declared.layout.Layout.{Layout}
-use Rattle.overlay_machine.specs.declared.events.Event.{Event}
 use Rattle.overlay_machine.specs.State.{OpenFrame, OState, Cells}
 use Rattle.overlay_machine.specs.Words.{look}
-use Rattle.overlay_machine.specs.Layout.{trusted_at}
 use Rattle.overlay_machine.specs.Step.{goes, with_frames, case_fetched, case_trusted, case_of, other_step}
 use Rattle.overlay_machine.specs.Step.{step_by, weight_by, overlay_step, weight_of}
 use Rattle.overlay_machine.specs.Events.{jump_seal, note_by, note_jump, event_after, owner_now, step_event}

@@ -14,16 +14,16 @@ use Rattle.call_sequence.specs.Sequences.{call_code, return_code, entry_code}
 use Rattle.component_linker.specs.Owners.{owner_of}
 use Rattle.component_linker.specs.Parts.{PartSeen}
 use Rattle.component_linker.specs.Started.{StartSeen}
+use Rattle.component_linker.specs.LinkedStarts.{IsStartOf}
+use Rattle.trusted_border.specs.declared.events.Event.{Event}
+use Rattle.trusted_border.specs.Layout.{site_code}
 use Rattle.overlay_machine.specs.declared.words.OWord.TheVariants.{Plain}
-use Rattle.overlay_machine.specs.declared.events.Event.{Event}
 use Rattle.overlay_machine.specs.State.{OState, word_of}
-use Rattle.overlay_machine.specs.Layout.{site_code}
 use Rattle.overlay_machine.specs.Flat.{IsFlat, flat, beside}
 use Rattle.overlay_machine.specs.Step.{weight_of}
 use Rattle.overlay_machine.specs.Events.{step_event}
 use Rattle.overlay_machine.specs.Runs.{Reached}
 use Rattle.overlay_machine.specs.Runs as reached
-use Rattle.overlay_machine.specs.Starting.{IsStartOf}
 use Rattle.trace_tool.specs.Layout.{layout, is_trusted, part_name, entry_name, site_of}
 use Rattle.trace_tool.specs.Views.{flat_view}
 use Rattle.trace_tool.specs.Lines.{Line, Args, out, call, ret, enter, leave, lines_for}
@@ -32,7 +32,8 @@ use Rattle.trace_tool.specs.Told.{Told}
 use Rattle.trace_tool.specs.Told as told
 use Rattle.trace_tool.specs.Feed as line
 use Rattle.trace_tool.specs.Feed.{outs_of as outs_in, items_of as items_in}
-use Rattle.trace_tool.specs.Headline.{HeadlineHolds, written}
+use Rattle.trace_tool.specs.Runs.{written}
+use Rattle.trace_tool.specs.Headline.{HeadlineHolds}
 use Rattle.proc_language.specs.declared.module.ModuleFields.{ModuleFields}
 use Rattle.proc_program.specs.Lower.{part_of}
 use Rattle.source_events.specs.declared.FeedBack.TheVariants as way

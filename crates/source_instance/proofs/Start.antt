@@ -28,7 +28,7 @@ use Rattle.component_linker.proofs.RegionFacts.{all_within}
 use Rattle.component_linker.proofs.SealsKept.{same_site}
 use Rattle.component_linker.proofs.StartCells.{cell_in_region}
 use Rattle.component_linker.proofs.ExampleLink.{filled, filled_past, filled_below}
-use Rattle.overlay_machine.specs.Starting.{IsStartOf}
+use Rattle.component_linker.specs.LinkedStarts.{IsStartOf}
 use Rattle.source_instance.proofs.Parts.{first, second, parts, each, keeps, has_room}
 
 -- ---- the start

@@ -6,12 +6,13 @@ use Rattle.cap_words.specs.declared.Word.{Word}
 use Rattle.cap_words.specs.declared.Word.TheVariants.{Int}
 use Rattle.component_linker.specs.Parts.{PartSeen}
 use Rattle.component_linker.specs.Started.{StartSeen}
+use Rattle.component_linker.specs.LinkedStarts.{IsStartOf}
 use Rattle.overlay_machine.specs.State.{OState}
-use Rattle.overlay_machine.specs.Starting.{IsStartOf}
 use Rattle.trace_tool.specs.Layout.{layout}
 use Rattle.trace_tool.specs.Lines.{Args, out, call, ret, enter, leave}
 use Rattle.trace_tool.specs.Feed.{integers_in, outs_of, items_of}
-use Rattle.trace_tool.specs.Headline.{Matched, written}
+use Rattle.trace_tool.specs.Runs.{written}
+use Rattle.trace_tool.specs.Headline.{Matched}
 use Rattle.proc_language.specs.declared.module.ModuleFields.{ModuleFields}
 use Rattle.proc_program.specs.Lower.{part_of}
 use Rattle.source_events.specs.declared.FeedBack.TheVariants as back

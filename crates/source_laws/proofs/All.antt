@@ -3,12 +3,12 @@ use Rattle.std.proofs.Common.{◌≡◌, inl, inr, ℕ, zero, suc, ◌+◌, ◌<
 use Rattle.std.proofs.Common.{sym, ap, ◌∙◌, subst, arith}
 use Rattle.std.specs.Prelude.{map}
 use Rattle.std.proofs.lemmas.Bool.{cases_eq}
+use Rattle.trusted_border.specs.declared.events.Back.TheVariants.{Out as OutBack, Bad, Hop}
+use Rattle.trusted_border.specs.Reaches.{back_of}
 use Rattle.overlay_machine.specs.declared.words.OWord.{OWord}
 use Rattle.overlay_machine.specs.declared.words.OWord.TheVariants.{Plain}
 use Rattle.cap_words.specs.declared.Word.TheVariants.{Int, Mem}
 use Rattle.overlay_machine.specs.Words.{look}
-use Rattle.overlay_machine.specs.declared.events.Back.TheVariants.{Out as OutBack, Bad, Hop}
-use Rattle.overlay_machine.specs.Events.{back_of}
 use Rattle.overlay_machine.specs.Safe.{IsSafe}
 use Rattle.overlay_machine.specs.Starting.{overlay_at}
 use Rattle.component_linker.specs.Started.{StartSeen}

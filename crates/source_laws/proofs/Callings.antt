@@ -27,10 +27,10 @@ use Rattle.lcm_machine.specs.Table.{fits_64, runs_in}
 use Rattle.lcm_machine.specs.Row.{row, failed, faces}
 use Rattle.flow_check.specs.Holds.{code_at, data_cap, stack_cap}
 use Rattle.component_linker.specs.Parts.{PartSeen}
+use Rattle.trusted_border.specs.declared.layout.SiteCode.{SiteCode}
+use Rattle.trusted_border.specs.Reaches.{site_of_seal}
 use Rattle.overlay_machine.specs.declared.words.OWord.{OWord}
 use Rattle.overlay_machine.specs.declared.words.OWord.TheVariants.{Plain, RetCode, RetData}
-use Rattle.overlay_machine.specs.declared.layout.SiteCode.{SiteCode}
-use Rattle.overlay_machine.specs.Events.{site_of_seal}
 use Rattle.overlay_machine.specs.Words.{look, is_plain, is_ret_code}
 use Rattle.overlay_machine.specs.State.{OpenFrame, OState}
 use Rattle.overlay_machine.specs.Flat.{flat}

@@ -11,10 +11,10 @@ use Rattle.lcm_machine.specs.Places.{reg}
 use Rattle.lcm_machine.specs.Table.{fits_64, unsealed}
 use Rattle.flow_check.specs.Holds.{data_cap, stack_cap, code_at}
 use Rattle.component_linker.specs.Parts.{PartSeen}
+use Rattle.trusted_border.specs.declared.layout.SiteCode.{SiteCode}
+use Rattle.trusted_border.specs.declared.events.Event.TheVariants.{Called, Returned as ReturnedTo}
 use Rattle.overlay_machine.specs.declared.words.OWord.{OWord}
 use Rattle.overlay_machine.specs.declared.words.OWord.TheVariants.{Plain}
-use Rattle.overlay_machine.specs.declared.layout.SiteCode.{SiteCode}
-use Rattle.overlay_machine.specs.declared.events.Event.TheVariants.{Called, Returned as ReturnedTo}
 use Rattle.overlay_machine.specs.Words.{look}
 use Rattle.overlay_machine.specs.State.{OpenFrame, OState}
 use Rattle.overlay_machine.specs.Step.{own_stack, new_frame}

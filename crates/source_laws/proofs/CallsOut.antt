@@ -1,4 +1,6 @@
 -- A call of the outside, from its site to the word behind `plus g0 a0 0`.
+use Rattle.trusted_border.specs.declared.layout.SiteCode.{SiteCode}
+use Rattle.trusted_border.specs.declared.events.Event.TheVariants.{Called}
 use Rattle.source_laws.proofs.Upto.{upto, failing, UpTo, go_out, spend}
 use Rattle.template_runs.proofs.Taking.{int_back, out_of, took, take_law, take_fails, flat_int}
 use Rattle.template_runs.proofs.Calls.{called_valid, called_data, SiteHere, Pair, called_to, call_makes}
@@ -17,8 +19,6 @@ use Rattle.lcm_machine.specs.Table.{fits_64}
 use Rattle.component_linker.specs.Parts.{PartSeen}
 use Rattle.overlay_machine.specs.declared.words.OWord.{OWord}
 use Rattle.overlay_machine.specs.declared.words.OWord.TheVariants.{Plain}
-use Rattle.overlay_machine.specs.declared.layout.SiteCode.{SiteCode}
-use Rattle.overlay_machine.specs.declared.events.Event.TheVariants.{Called}
 use Rattle.overlay_machine.specs.Words.{look}
 use Rattle.overlay_machine.specs.State.{OpenFrame, OState}
 use Rattle.overlay_machine.specs.Step.{new_frame}

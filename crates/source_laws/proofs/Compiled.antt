@@ -1,5 +1,6 @@
 -- A procedure of the modules does what it means, given where its compiled code stands and what its names lead
 -- to.
+use Rattle.trusted_border.specs.declared.layout.SiteCode.{SiteCode}
 use Rattle.source_laws.proofs.Upto.{upto, UpTo, spend}
 use Rattle.std.proofs.Common.{◌≡◌, ℕ, zero, suc, ◌+◌, ◌-◌, ◌*◌, ◌<◌, ◌≤◌, ℤ, pos, List, [], ◌∷◌, ◌++◌, length}
 use Rattle.std.proofs.Common.{replicate, Some, None, true, refl, sym, ap, ◌∙◌, subst, arith, length-append}
@@ -16,7 +17,6 @@ use Rattle.flow_check.specs.Places.{begins_site}
 use Rattle.component_linker.specs.Parts.{PartSeen}
 use Rattle.overlay_machine.specs.declared.words.OWord.{OWord}
 use Rattle.overlay_machine.specs.declared.words.OWord.TheVariants.{Plain}
-use Rattle.overlay_machine.specs.declared.layout.SiteCode.{SiteCode}
 use Rattle.overlay_machine.specs.Words.{look}
 use Rattle.overlay_machine.specs.State.{OpenFrame, OState}
 use Rattle.overlay_machine.specs.Link.{Link, IsTrusted}

@@ -13,16 +13,17 @@ use Rattle.lcm_machine.specs.Cells.{cell}
 use Rattle.flow_check.specs.Holds.{stack_cap as stack_at, data_cap, PcAt}
 use Rattle.component_linker.specs.Parts.{PartSeen}
 use Rattle.component_linker.specs.declared.owners.Owner.{Owner}
+use Rattle.trusted_border.specs.declared.events.Event.TheVariants.{Left}
+use Rattle.trusted_border.specs.declared.events.Back.{Back}
+use Rattle.trusted_border.specs.declared.events.Back.TheVariants.{Out as OutBack, Bad, Hop}
+use Rattle.trusted_border.specs.Reaches.{back_of}
 use Rattle.overlay_machine.specs.declared.words.OWord.{OWord}
 use Rattle.overlay_machine.specs.declared.words.OWord.TheVariants.{Plain, RetCode, RetData}
-use Rattle.overlay_machine.specs.declared.events.Event.TheVariants.{Left}
-use Rattle.overlay_machine.specs.declared.events.Back.{Back}
-use Rattle.overlay_machine.specs.declared.events.Back.TheVariants.{Out as OutBack, Bad, Hop}
 use Rattle.overlay_machine.specs.Words.{look, is_plain}
 use Rattle.overlay_machine.specs.State.{OpenFrame, OState, frame_of}
 use Rattle.overlay_machine.specs.Step.{fails, own_stack, overlay_step}
 use Rattle.overlay_machine.specs.Flat.{flat}
-use Rattle.overlay_machine.specs.Events.{back_of, owner_now}
+use Rattle.overlay_machine.specs.Events.{owner_now}
 use Rattle.overlay_machine.specs.Link.{Link, IsTrusted, ranges_of}
 use Rattle.overlay_machine.specs.Safe.{IsMet, IsSafe}
 use Rattle.overlay_machine.specs.Linked.{Linked}

@@ -14,21 +14,21 @@ use Rattle.lcm_machine.specs.Cells.{cell}
 use Rattle.lcm_machine.specs.Table.{ask, need}
 use Rattle.flow_check.specs.Holds.{stack_cap as stack_at}
 use Rattle.component_linker.specs.Parts.{PartSeen}
+use Rattle.trusted_border.specs.declared.layout.SiteCode.{SiteCode}
+use Rattle.trusted_border.specs.declared.events.Event.TheVariants.{Left, Returned as ReturnedTo}
+use Rattle.trusted_border.specs.declared.events.Back.{Back}
+use Rattle.trusted_border.specs.declared.events.Back.TheVariants.{Out, Bad, Hop, Pair}
+use Rattle.trusted_border.specs.Layout.{site_code}
+use Rattle.trusted_border.specs.Reaches.{back_of, site_of_seal}
 use Rattle.overlay_machine.specs.declared.words.OWord.{OWord}
 use Rattle.overlay_machine.specs.declared.words.OWord.TheVariants.{Plain, RetCode, RetData}
 use Rattle.overlay_machine.specs.declared.cases.Case.TheVariants.{Other, Back as BackCase}
-use Rattle.overlay_machine.specs.declared.layout.SiteCode.{SiteCode}
-use Rattle.overlay_machine.specs.declared.events.Event.TheVariants.{Left, Returned as ReturnedTo}
-use Rattle.overlay_machine.specs.declared.events.Back.{Back}
-use Rattle.overlay_machine.specs.declared.events.Back.TheVariants.{Out, Bad, Hop, Pair}
 use Rattle.overlay_machine.specs.Words.{look, is_plain}
-use Rattle.overlay_machine.specs.Layout.{site_code}
 use Rattle.overlay_machine.specs.State.{OpenFrame, OState, frame_of}
 use Rattle.overlay_machine.specs.Step.{fails, step_by, return_step, return_by, own_stack}
 use Rattle.overlay_machine.specs.Step.{overlay_step}
 use Rattle.overlay_machine.specs.Step as step
 use Rattle.overlay_machine.specs.Flat.{flat}
-use Rattle.overlay_machine.specs.Events.{back_of, site_of_seal}
 use Rattle.overlay_machine.specs.Link.{Link, ranges_of}
 use Rattle.std.specs.List.{Contains}
 use Rattle.overlay_machine.specs.Safe.{IsMet, IsSafe}

@@ -10,10 +10,10 @@ use Rattle.lcm_isa.proofs.NumberLemmas.{number_of-decode_of, decode_of-fits}
 use Rattle.flow_check.specs.Places.{begins_site}
 use Rattle.flow_check.specs.Walk.{instr_at, instr_in}
 use Rattle.component_linker.specs.Parts.{PartSeen}
+use Rattle.trusted_border.specs.declared.layout.SiteCode.{SiteCode}
+use Rattle.trusted_border.specs.Layout.{site_at}
 use Rattle.overlay_machine.specs.Link.{Link, IsTrusted}
 use Rattle.overlay_machine.specs.Linked.{Linked}
-use Rattle.overlay_machine.specs.declared.layout.SiteCode.{SiteCode}
-use Rattle.overlay_machine.specs.Layout.{site_at}
 use Rattle.overlay_machine.proofs.invariant.View.{site_of}
 use Rattle.trace_tool.specs.Layout.{site_of as numbered_site}
 use Rattle.proc_templates.specs.Items.{Spot, Item, does, guards, goes, goes_if, finishes, label, site, entry}

@@ -5,10 +5,11 @@ use Rattle.flow_check.specs.Places.{begins_entry}
 use Rattle.component_linker.specs.Parts.{PartSeen}
 use Rattle.component_linker.specs.Started.{StartSeen}
 use Rattle.component_linker.specs.declared.owners.Owner.{Owner}
+use Rattle.trusted_border.specs.declared.layout.SiteCode.{SiteCode}
+use Rattle.trusted_border.specs.Layout.{site_code}
+use Rattle.trusted_border.specs.Reaches.{site_of_seal}
 use Rattle.overlay_machine.specs.declared.words.OWord.{OWord}
-use Rattle.overlay_machine.specs.declared.layout.SiteCode.{SiteCode}
-use Rattle.overlay_machine.specs.Layout.{site_code}
-use Rattle.overlay_machine.specs.Events.{owner_now, site_of_seal}
+use Rattle.overlay_machine.specs.Events.{owner_now}
 use Rattle.overlay_machine.specs.State.{OState}
 use Rattle.overlay_machine.specs.Starting.{overlay_at}
 use Rattle.overlay_machine.specs.Link.{Link, IsTrusted}

@@ -15,16 +15,17 @@ use Rattle.lcm_machine.specs.Table.{fits_64}
 use Rattle.flow_check.specs.Holds.{data_cap, PcAt}
 use Rattle.flow_check.specs.Places.{begins_entry}
 use Rattle.component_linker.specs.Parts.{PartSeen}
+use Rattle.trusted_border.specs.declared.layout.SiteCode.{SiteCode}
+use Rattle.trusted_border.specs.Layout.{site_code}
+use Rattle.trusted_border.specs.Reaches.{back_of}
 use Rattle.overlay_machine.specs.declared.words.OWord.{OWord}
 use Rattle.overlay_machine.specs.declared.words.OWord.TheVariants.{Plain, RetCode, RetData}
 use Rattle.component_linker.specs.declared.owners.Owner.{Owner}
-use Rattle.overlay_machine.specs.declared.layout.SiteCode.{SiteCode}
 use Rattle.overlay_machine.specs.Words.{look}
-use Rattle.overlay_machine.specs.Layout.{site_code}
 use Rattle.overlay_machine.specs.State.{OpenFrame, OState, frame_of}
 use Rattle.overlay_machine.specs.Step.{own_stack, is_own_stack}
 use Rattle.overlay_machine.specs.Flat.{flat, flat_code, flat_range, flat_data}
-use Rattle.overlay_machine.specs.Events.{back_of, owner_now}
+use Rattle.overlay_machine.specs.Events.{owner_now}
 use Rattle.overlay_machine.specs.Link.{Link, IsTrusted, ranges_of}
 use Rattle.overlay_machine.specs.Linked.{Linked}
 use Rattle.overlay_machine.proofs.invariant.ReturnKept.{Returned}

@@ -11,12 +11,13 @@ use Rattle.flow_check.specs.Holds.{data_cap, PcAt}
 use Rattle.flow_check.specs.Places.{begins_entry}
 use Rattle.component_linker.specs.Parts.{PartSeen}
 use Rattle.component_linker.specs.declared.owners.Owner.{Owner}
-use Rattle.overlay_machine.specs.declared.events.Event.{Event}
-use Rattle.overlay_machine.specs.declared.events.Event.TheVariants.{Entered}
+use Rattle.trusted_border.specs.declared.events.Event.{Event}
+use Rattle.trusted_border.specs.declared.events.Event.TheVariants.{Entered}
+use Rattle.trusted_border.specs.Reaches.{entry_number, back_of}
 use Rattle.overlay_machine.specs.Words.{look}
 use Rattle.overlay_machine.specs.State.{OState}
 use Rattle.overlay_machine.specs.Step.{Ending, goes, halts, fails, overlay_step, weight_of}
-use Rattle.overlay_machine.specs.Events.{step_event, entered, shown as shown_word, entry_number, back_of}
+use Rattle.overlay_machine.specs.Events.{step_event, entered, shown as shown_word}
 use Rattle.overlay_machine.specs.Link.{Link, IsTrusted, ranges_of}
 use Rattle.overlay_machine.specs.Linked.{Linked}
 use Rattle.overlay_machine.proofs.invariant.ReturnKept.{Returned}

@@ -4,11 +4,11 @@ use Rattle.std.specs.Prelude.{ℕ, zero, suc, ◌+◌, ℤ, Bool, true, false, L
 use Rattle.std.specs.Prelude.{None}
 use Rattle.cap_words.specs.declared.Word.{Word}
 use Rattle.lcm_isa.specs.declared.Reg.TheVariants.{Stk, A0}
-use Rattle.overlay_machine.specs.declared.layout.Layout.{Layout}
-use Rattle.overlay_machine.specs.declared.events.Back.{Back}
-use Rattle.overlay_machine.specs.declared.events.Back.TheVariants.{Out, Bad, Hop, Pair}
-use Rattle.overlay_machine.specs.declared.events.Event.{Event}
-use Rattle.overlay_machine.specs.declared.events.Event.TheVariants.{Called, Returned, Entered, Left}
+use Rattle.trusted_border.specs.declared.layout.Layout.{Layout}
+use Rattle.trusted_border.specs.declared.events.Back.{Back}
+use Rattle.trusted_border.specs.declared.events.Back.TheVariants.{Out, Bad, Hop, Pair}
+use Rattle.trusted_border.specs.declared.events.Event.{Event}
+use Rattle.trusted_border.specs.declared.events.Event.TheVariants.{Called, Returned, Entered, Left}
 use Rattle.overlay_machine.specs.State.{OState}
 use Rattle.overlay_machine.specs.Step.{Ending, goes, halts, fails, overlay_step, weight_of}
 use Rattle.overlay_machine.specs.Events.{step_event}

@@ -19,18 +19,19 @@ use Rattle.component_linker.specs.declared.owners.Owner.{Owner}
 use Rattle.component_linker.specs.Owners.{owner_of}
 use Rattle.component_linker.specs.Parts.{PartSeen}
 use Rattle.component_linker.specs.Started.{StartSeen}
+use Rattle.component_linker.specs.LinkedStarts.{IsLinkedStart}
+use Rattle.trusted_border.specs.Layout.{runs_part}
+use Rattle.trusted_border.specs.Reaches.{closure_owner, hop_in, hop_by, hop_to, entry_number}
 use Rattle.overlay_machine.specs.declared.words.OWord.{OWord}
 use Rattle.overlay_machine.specs.declared.words.OWord.TheVariants.{Plain, RetCode, RetData}
 use Rattle.overlay_machine.specs.Words.{look}
-use Rattle.overlay_machine.specs.Layout.{runs_part}
 use Rattle.overlay_machine.specs.State.{OpenFrame, OState}
 use Rattle.overlay_machine.specs.Flat.{flat}
-use Rattle.overlay_machine.specs.Events.{closure_owner, hop_in, hop_by, hop_to, entry_number}
 use Rattle.overlay_machine.specs.Link.{Link, ranges_of}
 use Rattle.overlay_machine.specs.Linked.{Linked}
 use Rattle.overlay_machine.specs.Names.{NamesTold}
 use Rattle.overlay_machine.specs.Safe.{IsSafeCap}
-use Rattle.overlay_machine.specs.Starting.{IsLinkedStart, overlay_at}
+use Rattle.overlay_machine.specs.Starting.{overlay_at}
 use Rattle.overlay_machine.proofs.starts.ListFacts.{index_of}
 use Rattle.overlay_machine.proofs.starts.NameFacts.{starts_tell_names}
 use Rattle.overlay_machine.proofs.invariant.Crossing.{Leads_to, to_safe, to_entry, leads_to, whole_data}

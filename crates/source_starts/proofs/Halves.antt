@@ -15,10 +15,10 @@ use Rattle.component_linker.specs.declared.owners.Site.{Site}
 use Rattle.component_linker.specs.declared.owners.Owner.{Owner}
 use Rattle.component_linker.specs.Parts.{PartSeen}
 use Rattle.component_linker.specs.Start.{Exported, code_half, data_half, code_of, data_of}
+use Rattle.trusted_border.specs.declared.layout.SiteCode.{SiteCode}
+use Rattle.trusted_border.specs.Layout.{runs_part, site_code}
+use Rattle.trusted_border.specs.Reaches.{site_of_seal}
 use Rattle.overlay_machine.specs.declared.words.OWord.TheVariants.{Plain}
-use Rattle.overlay_machine.specs.declared.layout.SiteCode.{SiteCode}
-use Rattle.overlay_machine.specs.Layout.{runs_part, site_code}
-use Rattle.overlay_machine.specs.Events.{site_of_seal}
 use Rattle.overlay_machine.specs.Link.{Link, IsTrusted, IsUntrusted, ranges_of}
 use Rattle.overlay_machine.specs.Linked.{Linked}
 use Rattle.overlay_machine.specs.Safe.{IsOpenSeal}

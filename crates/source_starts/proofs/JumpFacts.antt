@@ -23,10 +23,10 @@ use Rattle.lcm_machine.specs.Maps.{State}
 use Rattle.lcm_machine.specs.Table.{ask, need, memory_content, unsealed, runs_in, no_effect, made}
 use Rattle.lcm_machine.specs.Row.{pc_at, plan_in, opens, outcome, row, failed}
 use Rattle.lcm_machine.proofs.Offers.{Gives, gives_goes, Gives-effect, Gives-ask, Gives-need, is_linear-face}
+use Rattle.trusted_border.specs.Reaches.{jump_plan, goes_on}
 use Rattle.overlay_machine.specs.declared.words.OWord.{OWord}
 use Rattle.overlay_machine.specs.declared.words.OWord.TheVariants.{Plain, RetCode, RetData}
 use Rattle.overlay_machine.specs.Words.{look}
-use Rattle.overlay_machine.specs.Events.{jump_plan, goes_on}
 use Rattle.trace_tool.specs.Pairs.{if_normal, content_linear}
 use Rattle.template_runs.proofs.Checks.{is_half}
 use Rattle.source_laws.proofs.Arguments.{Half}

@@ -32,6 +32,7 @@ use Rattle.component_linker.proofs.LinksKept.{in_part, stack_fits}
 use Rattle.component_linker.proofs.RuleLemmas.{slice_get-take}
 use Rattle.component_linker.proofs.Found.{given}
 use Rattle.component_linker.proofs.StartWords.{IsExport, main_is_there}
+use Rattle.component_linker.specs.LinkedStarts.{IsLinkedStart}
 use Rattle.overlay_machine.specs.declared.words.OWord.TheVariants.{Plain}
 use Rattle.overlay_machine.specs.Words.{look}
 use Rattle.overlay_machine.specs.State.{OState}
@@ -40,7 +41,7 @@ use Rattle.overlay_machine.specs.Link.{Link, IsTrusted, ranges_of}
 use Rattle.overlay_machine.specs.Linked.{Linked}
 use Rattle.overlay_machine.specs.Safe.{IsSafe}
 use Rattle.overlay_machine.specs.Invariant.{Invariant, PcPart, at_fail, at_row, outside}
-use Rattle.overlay_machine.specs.Starting.{IsLinkedStart, overlay_at}
+use Rattle.overlay_machine.specs.Starting.{overlay_at}
 use Rattle.overlay_machine.proofs.OwnStack.{own_from}
 use Rattle.overlay_machine.proofs.starts.ListFacts.{listed_at, index_of, any_is, any_of, found_is}
 use Rattle.overlay_machine.proofs.starts.ListFacts.{position_is}

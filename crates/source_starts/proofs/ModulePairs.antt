@@ -18,12 +18,13 @@ use Rattle.component_linker.specs.Parts.{PartSeen}
 use Rattle.component_linker.specs.Start.{Exported, code_half, data_half, code_of, data_of, imported}
 use Rattle.component_linker.specs.Started.{StartSeen}
 use Rattle.component_linker.proofs.StartWords.{IsExport}
+use Rattle.component_linker.specs.LinkedStarts.{IsLinkedStart}
 use Rattle.overlay_machine.specs.declared.words.OWord.{OWord}
 use Rattle.overlay_machine.specs.declared.words.OWord.TheVariants.{Plain}
 use Rattle.overlay_machine.specs.Link.{Link, IsTrusted, IsUntrusted, ranges_of}
 use Rattle.overlay_machine.specs.Linked.{Linked}
 use Rattle.overlay_machine.specs.Invariant.{Invariant}
-use Rattle.overlay_machine.specs.Starting.{IsLinkedStart, overlay_at}
+use Rattle.overlay_machine.specs.Starting.{overlay_at}
 use Rattle.overlay_machine.proofs.starts.ListFacts.{listed_at}
 use Rattle.proc_language.specs.declared.module.ModuleFields.{ModuleFields}
 use Rattle.proc_language.specs.Limits.{Each, IsModule}

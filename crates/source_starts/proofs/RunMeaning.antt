@@ -3,14 +3,16 @@ use Rattle.std.proofs.Common.{◌≡◌, ℕ, ◌+◌, Bool, true, false, List, 
 use Rattle.component_linker.specs.Parts.{PartSeen}
 use Rattle.component_linker.specs.Standing.{placed}
 use Rattle.component_linker.specs.Started.{StartSeen}
+use Rattle.component_linker.specs.LinkedStarts.{IsStartOf}
 use Rattle.overlay_machine.specs.Step.{weight_of}
-use Rattle.overlay_machine.specs.Starting.{IsStartOf, overlay_at, StartsBegin}
+use Rattle.overlay_machine.specs.Starting.{overlay_at, StartsBegin}
 use Rattle.overlay_machine.proofs.starts.ListFacts.{listed_at}
 use Rattle.overlay_machine.proofs.starts.OneOverlay.{is_overlay}
 use Rattle.trace_tool.specs.Layout.{layout}
 use Rattle.trace_tool.specs.StepLines.{StepsTellSo}
 use Rattle.trace_tool.specs.Feed.{outs_of, items_of, OutsJoin, ItemsJoin, EntriesAreItems}
-use Rattle.trace_tool.specs.Headline.{HeadlineHolds, written}
+use Rattle.trace_tool.specs.Runs.{written}
+use Rattle.trace_tool.specs.Headline.{HeadlineHolds}
 use Rattle.run_items.specs.Items.{item_of, EventsAreTold}
 use Rattle.proc_language.specs.declared.module.ModuleFields.{ModuleFields}
 use Rattle.proc_program.specs.Lower.{part_of}

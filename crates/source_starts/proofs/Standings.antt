@@ -12,13 +12,15 @@ use Rattle.component_linker.specs.declared.owners.Site.{Site}
 use Rattle.component_linker.specs.Parts.{PartSeen}
 use Rattle.component_linker.specs.Started.{StartSeen}
 use Rattle.component_linker.proofs.PartKept.{sites_in}
+use Rattle.component_linker.specs.LinkedStarts.{IsLinkedStart}
+use Rattle.trusted_border.specs.declared.layout.SiteCode.{SiteCode}
+use Rattle.trusted_border.specs.Names.{site_of, part_name}
 use Rattle.overlay_machine.specs.declared.words.OWord.{OWord}
-use Rattle.overlay_machine.specs.declared.layout.SiteCode.{SiteCode}
 use Rattle.overlay_machine.specs.Link.{Link, IsTrusted, ranges_of}
 use Rattle.overlay_machine.specs.Linked.{Linked}
 use Rattle.overlay_machine.specs.Invariant.{Invariant}
-use Rattle.overlay_machine.specs.Names.{NamesTold, declared_site, site_of, part_name}
-use Rattle.overlay_machine.specs.Starting.{IsLinkedStart, overlay_at}
+use Rattle.overlay_machine.specs.Names.{NamesTold, declared_site}
+use Rattle.overlay_machine.specs.Starting.{overlay_at}
 use Rattle.overlay_machine.proofs.starts.ListFacts.{listed_at, index_of, any_of}
 use Rattle.overlay_machine.proofs.starts.NameFacts.{starts_tell_names}
 use Rattle.proc_language.specs.declared.module.ModuleFields.{ModuleFields}

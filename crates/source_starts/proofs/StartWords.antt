@@ -23,13 +23,14 @@ use Rattle.component_linker.proofs.OwnWords.{OwnWord, own_code, own_data}
 use Rattle.component_linker.proofs.PartWords.{from_inv, slot_inv}
 use Rattle.component_linker.proofs.PartKept.{slots_in}
 use Rattle.component_linker.proofs.StartWords.{IsExport, imported_there}
+use Rattle.component_linker.specs.LinkedStarts.{IsLinkedStart}
 use Rattle.overlay_machine.specs.declared.words.OWord.{OWord}
 use Rattle.overlay_machine.specs.declared.words.OWord.TheVariants.{Plain}
 use Rattle.overlay_machine.specs.Link.{Link, IsTrusted, IsUntrusted, ranges_of, regions, data_region}
 use Rattle.overlay_machine.specs.Linked.{Linked}
 use Rattle.overlay_machine.specs.Safe.{IsOpenSeal}
 use Rattle.overlay_machine.specs.Keeping.{link_of}
-use Rattle.overlay_machine.specs.Starting.{IsLinkedStart, overlay_at}
+use Rattle.overlay_machine.specs.Starting.{overlay_at}
 use Rattle.overlay_machine.specs.Invariant.{Invariant}
 use Rattle.overlay_machine.proofs.starts.ListFacts.{listed_at}
 use Rattle.overlay_machine.proofs.starts.OneOverlay.{start_word_is, is_overlay}

@@ -12,17 +12,19 @@ use Rattle.component_linker.specs.Owners.{owner_of}
 use Rattle.component_linker.specs.Parts.{PartSeen}
 use Rattle.component_linker.specs.Standing.{placed}
 use Rattle.component_linker.specs.Started.{StartSeen}
+use Rattle.component_linker.specs.LinkedStarts.{IsLinkedStart, IsStartOf}
+use Rattle.trusted_border.specs.declared.layout.SiteCode.{SiteCode}
+use Rattle.trusted_border.specs.Layout.{site_code, trusted_owner}
+use Rattle.trusted_border.specs.Reaches.{site_of_seal, entry_number}
 use Rattle.overlay_machine.specs.declared.words.OWord.{OWord}
 use Rattle.overlay_machine.specs.declared.words.OWord.TheVariants.{Plain}
-use Rattle.overlay_machine.specs.declared.layout.SiteCode.{SiteCode}
-use Rattle.overlay_machine.specs.Layout.{site_code, trusted_owner}
 use Rattle.overlay_machine.specs.State.{OState}
-use Rattle.overlay_machine.specs.Events.{owner_now, site_of_seal, entry_number}
+use Rattle.overlay_machine.specs.Events.{owner_now}
 use Rattle.overlay_machine.specs.Link.{Link, IsTrusted, ranges_of}
 use Rattle.overlay_machine.specs.Linked.{Linked}
 use Rattle.overlay_machine.specs.Names.{NamesTold, EntryNamed}
 use Rattle.overlay_machine.specs.Invariant.{Invariant}
-use Rattle.overlay_machine.specs.Starting.{IsLinkedStart, IsStartOf, overlay_at, StartsBegin}
+use Rattle.overlay_machine.specs.Starting.{overlay_at, StartsBegin}
 use Rattle.overlay_machine.proofs.starts.ListFacts.{index_of}
 use Rattle.overlay_machine.proofs.starts.NameFacts.{starts_tell_names}
 use Rattle.overlay_machine.proofs.starts.OneOverlay.{is_overlay}

@@ -10,13 +10,15 @@ use Rattle.lcm_machine.specs.Row.{faces}
 use Rattle.lcm_machine.specs.Run.{plain, answer as last_step}
 use Rattle.component_linker.specs.Parts.{PartSeen}
 use Rattle.component_linker.specs.Started.{StartSeen}
+use Rattle.component_linker.specs.LinkedStarts.{IsStartOf}
 use Rattle.overlay_machine.specs.State.{OState}
 use Rattle.overlay_machine.specs.Step.{weight_of}
-use Rattle.overlay_machine.specs.Starting.{IsStartOf, overlay_at}
+use Rattle.overlay_machine.specs.Starting.{overlay_at}
 use Rattle.trace_tool.specs.Layout.{layout, is_trusted}
 use Rattle.trace_tool.specs.Feed.{outs_of, items_of}
 use Rattle.trace_tool.specs.Told.{StopsAt}
-use Rattle.trace_tool.specs.Headline.{Matched, written}
+use Rattle.trace_tool.specs.Runs.{written}
+use Rattle.trace_tool.specs.Headline.{Matched}
 use Rattle.run_items.specs.Items.{item_of, event_told}
 use Rattle.proc_language.specs.declared.module.ModuleFields.{ModuleFields}
 use Rattle.proc_program.specs.Lower.{part_of}

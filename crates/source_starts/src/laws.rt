@@ -2,9 +2,9 @@
 ghost use Rattle.std.specs.Prelude.{ℕ, List, map};
 ghost use Rattle.component_linker.specs.Parts.{PartSeen};
 ghost use Rattle.component_linker.specs.Started.{StartSeen};
-ghost use Rattle.overlay_machine.specs.Starting.{IsStartOf};
 ghost use Rattle.proc_language.specs.declared.module.ModuleFields.{ModuleFields};
 ghost use Rattle.proc_program.specs.Lower.{part_of};
+ghost use Rattle.component_linker.specs.LinkedStarts.{IsStartOf};
 ghost use Rattle.source_laws.specs.Sources.{SourcesMean};
 ghost use Rattle.source_starts.specs.Sources.{AreSources};
 ghost use Rattle.source_starts.specs.RunMeans.{RunsMean, StacksBegin};

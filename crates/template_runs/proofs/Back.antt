@@ -23,14 +23,15 @@ use Rattle.lcm_machine.specs.Row.{faces, opens, perform, plan_in, outcome, row}
 use Rattle.component_linker.specs.Parts.{PartSeen}
 use Rattle.component_linker.specs.declared.owners.Owner.{Owner}
 use Rattle.component_linker.specs.declared.owners.Site.{Site}
+use Rattle.trusted_border.specs.declared.events.Event.TheVariants.{Left}
+use Rattle.trusted_border.specs.declared.events.Back.TheVariants.{Out, Bad, Hop}
+use Rattle.trusted_border.specs.Reaches.{jump_plan, goes_on, back_if, back_under, back_of, hop_in}
+use Rattle.trusted_border.specs.Reaches.{hop_by, hop_to, closure_owner, entry_number, site_of_seal}
 use Rattle.overlay_machine.specs.declared.words.OWord.TheVariants.{Plain}
-use Rattle.overlay_machine.specs.declared.events.Event.TheVariants.{Left}
-use Rattle.overlay_machine.specs.declared.events.Back.TheVariants.{Out, Bad, Hop}
 use Rattle.overlay_machine.specs.Words.{look, is_plain}
 use Rattle.overlay_machine.specs.State.{OState}
 use Rattle.overlay_machine.specs.Step.{fails, with_frames, overlay_step}
-use Rattle.overlay_machine.specs.Events.{owner_now, jump_plan, goes_on, back_if, back_under, back_of, hop_in}
-use Rattle.overlay_machine.specs.Events.{hop_by, hop_to, closure_owner, entry_number, site_of_seal}
+use Rattle.overlay_machine.specs.Events.{owner_now}
 use Rattle.overlay_machine.specs.Link.{Link, IsTrusted, ranges_of}
 use Rattle.overlay_machine.specs.Safe.{IsSafe}
 use Rattle.overlay_machine.specs.Linked.{Linked}

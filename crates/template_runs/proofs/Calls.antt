@@ -27,17 +27,18 @@ use Rattle.lcm_machine.proofs.Goes.{stays, xjmp_goes}
 use Rattle.lcm_machine.proofs.Stretches.{cell-without_out}
 use Rattle.flow_check.specs.Holds.{stack_cap}
 use Rattle.component_linker.specs.Parts.{PartSeen}
+use Rattle.trusted_border.specs.declared.layout.SiteCode.{SiteCode}
+use Rattle.trusted_border.specs.declared.events.Event.TheVariants.{Called}
+use Rattle.trusted_border.specs.Layout.{site_at, site_code}
+use Rattle.trusted_border.specs.Reaches.{site_of_seal}
 use Rattle.overlay_machine.specs.declared.words.OWord.{OWord}
 use Rattle.overlay_machine.specs.declared.words.OWord.TheVariants.{Plain}
 use Rattle.overlay_machine.specs.declared.cases.Case.TheVariants.{Call}
-use Rattle.overlay_machine.specs.declared.layout.SiteCode.{SiteCode}
-use Rattle.overlay_machine.specs.declared.events.Event.TheVariants.{Called}
 use Rattle.overlay_machine.specs.Words.{look, is_plain}
-use Rattle.overlay_machine.specs.Layout.{site_at, site_code}
 use Rattle.overlay_machine.specs.State.{OpenFrame, OState, Cells, framed, word_of}
 use Rattle.overlay_machine.specs.Step.{goes, case_of, step_by, call_step, ask, need, own_stack, new_frame}
 use Rattle.overlay_machine.specs.Step.{at_call, with_frames, overlay_step, weight_of, weight_by, resumed}
-use Rattle.overlay_machine.specs.Events.{step_event, note_by, note_call, site_opened, site_of_seal}
+use Rattle.overlay_machine.specs.Events.{step_event, note_by, note_call, site_opened}
 use Rattle.overlay_machine.specs.Events.{event_after}
 use Rattle.overlay_machine.specs.Link.{Link, IsTrusted, ranges_of}
 use Rattle.overlay_machine.specs.Linked.{Linked, SiteOf}

@@ -29,14 +29,14 @@ use Rattle.flow_check.specs.Holds.{data_cap, code_at, PcAt}
 use Rattle.flow_check.specs.Places.{begins_entry}
 use Rattle.component_linker.specs.Parts.{PartSeen}
 use Rattle.component_linker.specs.declared.owners.Owner.{Owner}
+use Rattle.trusted_border.specs.declared.layout.SiteCode.{SiteCode}
+use Rattle.trusted_border.specs.declared.events.Event.TheVariants.{Returned as ReturnedTo, Left}
+use Rattle.trusted_border.specs.Layout.{site_code}
 use Rattle.overlay_machine.specs.declared.words.OWord.{OWord}
 use Rattle.overlay_machine.specs.declared.words.OWord.TheVariants.{Plain, RetCode, RetData}
 use Rattle.overlay_machine.specs.declared.cases.Case.{Case}
 use Rattle.overlay_machine.specs.declared.cases.Case.TheVariants.{Back, Other}
-use Rattle.overlay_machine.specs.declared.layout.SiteCode.{SiteCode}
-use Rattle.overlay_machine.specs.declared.events.Event.TheVariants.{Returned as ReturnedTo, Left}
 use Rattle.overlay_machine.specs.Words.{look, is_plain, is_ret_code}
-use Rattle.overlay_machine.specs.Layout.{site_code}
 use Rattle.overlay_machine.specs.State.{OpenFrame, OState}
 use Rattle.overlay_machine.specs.Step.{goes, ask, need, case_of, case_fetched, step_by, other_step}
 use Rattle.overlay_machine.specs.Step.{return_step, return_by, resumed, own_stack, with_frames, overlay_step}

@@ -26,11 +26,11 @@ use Rattle.call_sequence.specs.declared.TheConstants.{ENTRY_WORDS}
 use Rattle.flow_check.specs.Holds.{data_cap, stack_cap}
 use Rattle.flow_check.specs.Places.{begins_entry}
 use Rattle.component_linker.specs.Parts.{PartSeen}
+use Rattle.trusted_border.specs.Layout.{site_at}
 use Rattle.overlay_machine.specs.declared.words.OWord.{OWord}
 use Rattle.overlay_machine.specs.declared.words.OWord.TheVariants.{Plain}
 use Rattle.overlay_machine.specs.declared.cases.Case.TheVariants.{Entry}
 use Rattle.overlay_machine.specs.Words.{look}
-use Rattle.overlay_machine.specs.Layout.{site_at}
 use Rattle.overlay_machine.specs.State.{OpenFrame, OState}
 use Rattle.overlay_machine.specs.Step.{goes, fails, case_of, step_by, entry_step, need as needs, own_stack}
 use Rattle.overlay_machine.specs.Step.{overlay_step, weight_of, weight_by}

@@ -16,18 +16,18 @@ use Rattle.lcm_machine.specs.Places.{reg}
 use Rattle.lcm_machine.specs.Table.{ask, need}
 use Rattle.lcm_machine.specs.Refusals.{Refuses}
 use Rattle.component_linker.specs.Parts.{PartSeen}
+use Rattle.trusted_border.specs.declared.layout.Layout.{Layout}
+use Rattle.trusted_border.specs.declared.layout.SiteCode.{SiteCode}
+use Rattle.trusted_border.specs.declared.events.Back.TheVariants.{Bad}
+use Rattle.trusted_border.specs.Layout.{site_code}
+use Rattle.trusted_border.specs.Reaches.{back_of, back_if, jump_plan, goes_on}
 use Rattle.overlay_machine.specs.declared.words.OWord.{OWord}
 use Rattle.overlay_machine.specs.declared.words.OWord.TheVariants.{Plain, RetCode, RetData}
-use Rattle.overlay_machine.specs.declared.layout.Layout.{Layout}
-use Rattle.overlay_machine.specs.declared.layout.SiteCode.{SiteCode}
 use Rattle.overlay_machine.specs.declared.cases.Case.TheVariants.{Other, Back as BackCase}
-use Rattle.overlay_machine.specs.declared.events.Back.TheVariants.{Bad}
 use Rattle.overlay_machine.specs.Words.{is_plain}
-use Rattle.overlay_machine.specs.Layout.{site_code}
 use Rattle.overlay_machine.specs.State.{OState, frame_of}
 use Rattle.overlay_machine.specs.Step.{fails, step_by, return_step, return_by, overlay_step}
 use Rattle.overlay_machine.specs.Flat.{flat}
-use Rattle.overlay_machine.specs.Events.{back_of, back_if, jump_plan, goes_on}
 use Rattle.overlay_machine.specs.Link.{Link}
 use Rattle.overlay_machine.specs.Linked.{Linked}
 use Rattle.overlay_machine.specs.Safe.{IsSafe, IsMet}

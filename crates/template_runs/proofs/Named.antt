@@ -7,9 +7,9 @@ use Rattle.flow_check.specs.Places.{begins_entry}
 use Rattle.component_linker.specs.Parts.{PartSeen}
 use Rattle.component_linker.specs.Owners.{owner_of}
 use Rattle.component_linker.specs.declared.owners.Owner.{Owner}
+use Rattle.trusted_border.specs.Reaches.{closure_owner, entry_number}
 use Rattle.overlay_machine.specs.Link.{Link, IsTrusted, ranges_of}
 use Rattle.overlay_machine.specs.Names.{NamesTold}
-use Rattle.overlay_machine.specs.Events.{closure_owner, entry_number}
 use Rattle.overlay_machine.proofs.starts.ListFacts.{index_of}
 
 -- of each trusted part its owner, and of each of its entries a number

@@ -37,17 +37,18 @@ use Rattle.component_linker.specs.Parts.{PartSeen}
 use Rattle.component_linker.specs.declared.owners.Owner.{Owner}
 use Rattle.component_linker.proofs.Found.{found}
 use Rattle.component_linker.proofs.StartWords.{listed_at}
+use Rattle.trusted_border.specs.declared.events.Event.TheVariants.{Returned as ReturnedTo}
+use Rattle.trusted_border.specs.Layout.{trusted_owner, runs_part}
+use Rattle.trusted_border.specs.Reaches.{closure_owner}
 use Rattle.overlay_machine.specs.declared.words.OWord.{OWord}
 use Rattle.overlay_machine.specs.declared.words.OWord.TheVariants.{Plain}
 use Rattle.overlay_machine.specs.declared.cases.Case.{Case}
 use Rattle.overlay_machine.specs.declared.cases.Case.TheVariants.{Call, Entry, Back, Other}
-use Rattle.overlay_machine.specs.declared.events.Event.TheVariants.{Returned as ReturnedTo}
 use Rattle.overlay_machine.specs.Words.{look}
-use Rattle.overlay_machine.specs.Layout.{trusted_owner, runs_part}
 use Rattle.overlay_machine.specs.State.{OpenFrame, OState, Cells}
 use Rattle.overlay_machine.specs.Step.{goes, case_of, case_fetched, step_by, other_step, overlay_step}
 use Rattle.overlay_machine.specs.Events.{step_event, note_by, note_return, note_jump, event_after, owner_now}
-use Rattle.overlay_machine.specs.Events.{jump_seal, closure_owner, entered}
+use Rattle.overlay_machine.specs.Events.{jump_seal, entered}
 use Rattle.overlay_machine.specs.Link.{Link, IsTrusted, ranges_of, data_region}
 use Rattle.overlay_machine.specs.Safe.{IsSafeCap, IsOpenSeal}
 use Rattle.overlay_machine.specs.Linked.{Linked}

@@ -7,7 +7,7 @@ use Rattle.lcm_isa.specs.declared.Instr.{Instr}
 use Rattle.lcm_isa.specs.declared.Instr.TheVariants.{Move, Cca, Jmp, Jnz, Xjmp}
 use Rattle.flow_check.specs.Places.{begins_entry}
 use Rattle.component_linker.specs.Parts.{PartSeen}
-use Rattle.overlay_machine.specs.declared.layout.SiteCode.{SiteCode}
+use Rattle.trusted_border.specs.declared.layout.SiteCode.{SiteCode}
 use Rattle.overlay_machine.specs.Link.{Link}
 use Rattle.overlay_machine.specs.Linked.{Linked}
 use Rattle.trace_tool.specs.Layout.{site_of}

@@ -19,11 +19,11 @@ use Rattle.lcm_machine.proofs.RowLemmas.{step_at}
 use Rattle.flow_check.specs.Holds.{PcAt}
 use Rattle.flow_check.specs.Places.{begins_entry, begins_site}
 use Rattle.component_linker.specs.Parts.{PartSeen}
+use Rattle.trusted_border.specs.Layout.{trusted_at, site_at}
 use Rattle.overlay_machine.specs.declared.words.OWord.{OWord}
 use Rattle.overlay_machine.specs.declared.words.OWord.TheVariants.{Plain}
 use Rattle.overlay_machine.specs.declared.cases.Case.TheVariants.{Other}
 use Rattle.overlay_machine.specs.Words.{look}
-use Rattle.overlay_machine.specs.Layout.{trusted_at, site_at}
 use Rattle.overlay_machine.specs.State.{OState}
 use Rattle.overlay_machine.specs.Step.{case_of, case_fetched, step_by, other_step, with_frames, overlay_step}
 use Rattle.overlay_machine.specs.Step.{weight_of, weight_by}

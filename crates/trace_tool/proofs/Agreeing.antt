@@ -11,7 +11,7 @@ use Rattle.lcm_machine.specs.Row.{Outcome, went, halted, failed, step_of}
 use Rattle.lcm_machine.specs.Run.{Run, moved, next_state, plain, fresh, EndsAs}
 use Rattle.lcm_machine.proofs.Offers.{plain_more, plain_ends}
 use Rattle.component_linker.specs.Started.{StartSeen}
-use Rattle.overlay_machine.specs.declared.layout.Layout.{Layout}
+use Rattle.trusted_border.specs.declared.layout.Layout.{Layout}
 use Rattle.overlay_machine.specs.State.{OState}
 use Rattle.overlay_machine.specs.Step.{halts, overlay_step, weight_of}
 use Rattle.overlay_machine.specs.Flat.{IsFlat}
@@ -22,7 +22,7 @@ use Rattle.trace_tool.specs.Views.{flat_view}
 use Rattle.trace_tool.specs.Headline.{Matched, OverlayHalts, PlainEnds, Agrees}
 
 -- the machine after n instructions that went, and the next one
-abbrev gone : State Word → ℕ → Run
+abbrev pub gone : State Word → ℕ → Run
 gone u n = record { maps = u; count = n; end = None }
 
 ended_none : (e : End) (o : Option End) → o ≡ Some e → o ≡ None → ⊥
@@ -33,7 +33,7 @@ module _ (t : State Word) where
   at_state n u e = subst (λ o. EndsAs n o (plain n (fresh t))) e (plain_ends n t)
 
   -- what has not ended has gone on
-  has_gone : (n : ℕ) → (plain n (fresh t)).end ≡ None → (u : State Word) × (plain_run n t ≡ went u)
+  pub has_gone : (n : ℕ) → (plain n (fresh t)).end ≡ None → (u : State Word) × (plain_run n t ≡ went u)
   has_gone n h = by_outcome (plain_run n t) refl (plain_ends n t)
     where
       by_outcome : (o : Outcome Word) → plain_run n t ≡ o → EndsAs n o (plain n (fresh t))

@@ -3,7 +3,7 @@ use Rattle.std.proofs.Common.{◌≡◌, ◌⊎◌, inl, inr, ℕ, ◌+◌, ◌�
 use Rattle.std.proofs.Common.{arith, subst}
 use Rattle.std.proofs.lemmas.List.{append-nil}
 use Rattle.cap_words.specs.declared.Word.{Word}
-use Rattle.overlay_machine.specs.declared.layout.Layout.{Layout}
+use Rattle.trusted_border.specs.declared.layout.Layout.{Layout}
 use Rattle.overlay_machine.specs.State.{OState}
 use Rattle.overlay_machine.specs.Step.{goes, overlay_step, weight_of}
 use Rattle.overlay_machine.specs.Events.{step_event}

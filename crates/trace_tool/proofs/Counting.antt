@@ -1,14 +1,12 @@
 -- A run of some instructions, with the calls that were counted so far.
 use Rattle.std.proofs.Common.{◌≡◌, ℕ, suc, ◌+◌, ◌<◌, ◌≤◌, Bool, true, false, List, [], ◌∷◌, ◌++◌, Option, Some, None}
-use Rattle.std.proofs.Common.{refl, sym, ap, ◌∙◌, arith, add-one, subst}
-use Rattle.std.specs.Prelude.{if◌then◌else◌}
-use Rattle.lcm_machine.specs.declared.Step.{Step}
+use Rattle.std.proofs.Common.{refl, sym, ap, ◌∙◌, arith, add-one}
 use Rattle.lcm_machine.specs.declared.Step.TheVariants.{Went}
 use Rattle.lcm_machine.specs.Run.{Run, next_state, plain, answer}
 use Rattle.component_linker.specs.Started.{StartSeen}
-use Rattle.overlay_machine.specs.declared.layout.Layout.{Layout}
-use Rattle.overlay_machine.specs.declared.events.Event.{Event}
-use Rattle.overlay_machine.specs.declared.events.Event.TheVariants.{Called, Returned, Entered, Left}
+use Rattle.trusted_border.specs.declared.layout.Layout.{Layout}
+use Rattle.trusted_border.specs.declared.events.Event.{Event}
+use Rattle.trusted_border.specs.declared.events.Event.TheVariants.{Called, Returned, Entered, Left}
 use Rattle.trace_tool.specs.declared.count.Counted.{Counted}
 use Rattle.trace_tool.specs.Layout.{layout}
 use Rattle.trace_tool.specs.Views.{View, view_of}
@@ -19,7 +17,7 @@ use Rattle.trace_tool.specs.Pairs.{pairs_of, no_pairs}
 use Rattle.trace_tool.specs.Runs.{begun, watching, watched, watched_next, line_next, lines_of}
 use Rattle.trace_tool.specs.Counts.{calls_in, calls_of_run, calls_of, Counts}
 use Rattle.trace_tool.proofs.Going.{HasEnded, no_line, no_more_lines, stays_ended, event_lines}
-use Rattle.trace_tool.proofs.Going.{Gone, gone_none, gone_line, gone_same, gone_more, next_same}
+use Rattle.trace_tool.proofs.Going.{Gone, gone_line, gone_same, gone_more, next_same}
 
 -- ---- lines
 

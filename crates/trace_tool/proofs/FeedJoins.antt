@@ -5,7 +5,7 @@ use Rattle.std.proofs.lemmas.Bool.{and_parts}
 use Rattle.std.proofs.lemmas.List.{append_assoc}
 use Rattle.cap_words.specs.declared.Word.{Word}
 use Rattle.lcm_isa.specs.declared.Reg.TheVariants.{Stk}
-use Rattle.overlay_machine.specs.declared.layout.Layout.{Layout}
+use Rattle.trusted_border.specs.declared.layout.Layout.{Layout}
 use Rattle.trace_tool.specs.declared.pairs.Pair.{Pair}
 use Rattle.trace_tool.specs.declared.pairs.Pair.TheVariants.{Nothing, Bad, Out, Hop}
 use Rattle.trace_tool.specs.declared.pairs.Pairs.{Pairs}

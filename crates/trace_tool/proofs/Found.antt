@@ -14,7 +14,7 @@ use Rattle.cap_words.specs.declared.CapFields.{CapFields}
 use Rattle.component_linker.specs.declared.owners.Owner.{Owner}
 use Rattle.component_linker.proofs.Halved as halved
 use Rattle.component_linker.proofs.SiteSearch.{less_is, greater_is}
-use Rattle.overlay_machine.specs.Layout.{runs_part}
+use Rattle.trusted_border.specs.Layout.{runs_part}
 
 abbrev Rise : List Owner → Type 0
 Rise os = AllPairs (λ (o q : Owner). o.code.base < q.code.base) os

@@ -17,8 +17,8 @@ use Rattle.lcm_machine.specs.Row.{faces, pc_of, pc_at}
 use Rattle.lcm_machine.specs.Run.{Run, next_state, answer, jump_by, next_jump}
 use Rattle.component_linker.specs.declared.owners.Site.{Site}
 use Rattle.component_linker.specs.Started.{StartSeen}
-use Rattle.overlay_machine.specs.declared.layout.Layout.{Layout}
-use Rattle.overlay_machine.specs.Layout.{numbered, trusted_owner}
+use Rattle.trusted_border.specs.declared.layout.Layout.{Layout}
+use Rattle.trusted_border.specs.Layout.{numbered, trusted_owner}
 use Rattle.trace_tool.specs.declared.gap.Gap.{Gap}
 use Rattle.trace_tool.specs.Layout.{layout, no_site, site_before, site_word}
 use Rattle.trace_tool.specs.Gaps.{has, IsGap}

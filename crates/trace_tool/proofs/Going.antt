@@ -11,8 +11,8 @@ use Rattle.lcm_machine.specs.declared.End.{End}
 use Rattle.lcm_machine.specs.Run.{Run, next_state, plain, answer, answer_by}
 use Rattle.lcm_machine.proofs.Offers.{count_next, plain_ended}
 use Rattle.component_linker.specs.Started.{StartSeen}
-use Rattle.overlay_machine.specs.declared.layout.Layout.{Layout}
-use Rattle.overlay_machine.specs.declared.events.Event.{Event}
+use Rattle.trusted_border.specs.declared.layout.Layout.{Layout}
+use Rattle.trusted_border.specs.declared.events.Event.{Event}
 use Rattle.trace_tool.specs.declared.run.RunEnd.{RunEnd}
 use Rattle.trace_tool.specs.declared.run.RunEnd.TheVariants.{Running, WriteFault}
 use Rattle.trace_tool.specs.Layout.{layout}
@@ -24,7 +24,7 @@ use Rattle.trace_tool.specs.EndLines.{end_line}
 use Rattle.trace_tool.specs.Runs.{Watched, begun, watching, if_went, watched, watched_next, line_next}
 use Rattle.trace_tool.specs.Runs.{lines_of, run_text, run_pieces, end_of, RunsTo, RunFaults, Runs, EndsBy}
 use Rattle.outside_io.specs.Writes.{AddsPieces, FailsAtPiece}
-use Rattle.outside_io.proofs.Writing.{pieces_none, pieces_then, pieces_fail, fail_more, fails_upto}
+use Rattle.outside_io.proofs.Writing.{pieces_then, pieces_fail, fail_more, fails_upto}
 use Rattle.outside_io.proofs.Writing.{text_failed}
 use Rattle.trace_tool.proofs.LineLemmas.{lines_pieces-append, joined_with}
 

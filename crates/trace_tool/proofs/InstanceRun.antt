@@ -25,13 +25,13 @@ use Rattle.call_sequence.specs.Sequences.{call_code, return_code, entry_code}
 use Rattle.component_linker.specs.Regions.{regions_of}
 use Rattle.component_linker.specs.Start.{start_cell, start_regs, part_word}
 use Rattle.component_linker.specs.Owners.{owner_of}
+use Rattle.trusted_border.specs.declared.layout.Layout.{Layout}
+use Rattle.trusted_border.specs.Layout.{trusted_at, site_code}
 use Rattle.overlay_machine.specs.declared.words.OWord.{OWord}
 use Rattle.overlay_machine.specs.declared.words.OWord.TheVariants.{Plain, RetCode, RetData}
 use Rattle.overlay_machine.specs.declared.cases.Case.TheVariants.{Call, Back, Other}
-use Rattle.overlay_machine.specs.declared.layout.Layout.{Layout}
 use Rattle.overlay_machine.specs.State.{OpenFrame, OState, Cells, word_of}
 use Rattle.overlay_machine.specs.Words.{look}
-use Rattle.overlay_machine.specs.Layout.{trusted_at, site_code}
 use Rattle.overlay_machine.specs.Flat.{flat, beside}
 use Rattle.overlay_machine.specs.Step.{goes, ask, need, own_stack, with_frames, case_fetched, case_trusted}
 use Rattle.overlay_machine.specs.Step.{case_of, call_step, entry_step, return_step, other_step, step_by}
@@ -51,7 +51,7 @@ use Rattle.component_linker.proofs.ExampleLink.{start, spans, cells_are}
 
 -- ---- the cells of the overlay
 
-abbrev L : Layout
+abbrev pub L : Layout
 L = layout start
 
 abbrev M : Cells
@@ -131,7 +131,7 @@ code n = Plain (Mem (code_cap 1 52 n))
 abbrev stack : ℕ → OWord
 stack e = Plain (Mem (record { perm = Rw; lin = Linear; base = 67; end = e; addr = pos e }))
 
-abbrev own_data : ℕ → CapFields
+abbrev pub own_data : ℕ → CapFields
 own_data n = record { perm = Rw; lin = Normal; base = 54; end = 55; addr = pos n }
 
 abbrev its_code : CapFields
@@ -140,7 +140,7 @@ its_code = record { perm = Rwx; lin = Normal; base = 57; end = 58; addr = pos 57
 abbrev its_data : CapFields
 its_data = record { perm = Rw; lin = Normal; base = 60; end = 62; addr = pos 60 }
 
-abbrev o0 : OState
+abbrev pub o0 : OState
 o0 = (overlay_at start).state
 
 abbrev o1 : OState
@@ -155,13 +155,13 @@ o3 = state (regs_with (code 23) zero_ zero_ (stack 70) (Plain (Mem (own_data 55)
 abbrev o4 : OState
 o4 = state (regs_with (code 24) zero_ zero_ (stack 70) (Plain (Mem (own_data 55))) (Plain code_word) (Plain data_word)) M [] 0
 
-abbrev frame : OpenFrame
+abbrev pub frame : OpenFrame
 frame = record { call = 0; site = 0; base = 70; end = 70; words = Plain (Mem (own_data 55)) ∷ [] }
 
-abbrev o5 : OState
+abbrev pub o5 : OState
 o5 = state (regs_with (Plain (Mem its_code)) (RetCode 0) (RetData 0) (stack 69) (Plain (Mem its_data)) (Plain code_word) (Plain data_word)) (without M 70 70) (frame ∷ []) 1
 
-abbrev o6 : OState
+abbrev pub o6 : OState
 o6 = state (regs_with (code 50) (RetCode 0) zero_ (stack 70) (Plain (Mem (own_data 55))) (Plain code_word) (Plain data_word)) (put_back (without M 70 70) 70 (zero_ ∷ [])) [] 1
 
 -- ---- the entry
@@ -277,7 +277,7 @@ weight4 = ap (weight_by o4.maps) case4
 abbrev zeros : Args
 zeros = record { a0 = Int (pos 0); a1 = Int (pos 0); a2 = Int (pos 0); a3 = Int (pos 0) }
 
-abbrev call_line : Line
+abbrev pub call_line : Line
 call_line = call false (116 ∷ []) 0 70 70 zeros (Mem (own_data 55) ∷ [])
 
 abbrev ret_line : Line
@@ -299,11 +299,11 @@ fetch5 : fetch (faces look o5.maps Pc) (cell_faces look o5.maps) ≡ some (Xjmp 
 unfolding faces cell_faces
 fetch5 = rw (still57, decode_of-number_of (Xjmp Rcode Rdata) tt)
 
-case5 : case_of L o5.maps ≡ Back Rcode Rdata
+pub case5 : case_of L o5.maps ≡ Back Rcode Rdata
 unfolding case_of faces owner_of entry_code call_code return_code
 case5 = ap (λ f. case_trusted L (trusted_at L (faces look o5.maps Pc)) (case_fetched o5.maps f)) fetch5
 
-returned5 : return_step L Rcode Rdata o5 ≡ goes o6
+pub returned5 : return_step L Rcode Rdata o5 ≡ goes o6
 unfolding return_step need ask own_stack site_code faces owner_of entry_code call_code return_code
 returned5 = refl
 
@@ -311,7 +311,7 @@ step5 : overlay_step L o5 ≡ goes o6
 unfolding overlay_step
 step5 = ap (λ c. step_by L c o5) case5 ∙ returned5
 
-weight5 : weight_of L o5 ≡ 11
+pub weight5 : weight_of L o5 ≡ 11
 unfolding weight_of
 weight5 = ap (weight_by o5.maps) case5
 
@@ -343,7 +343,7 @@ told3 = next_told 1 [] told2 step2 weight2 lines2
 told4 : Told L o0 23 [] o4
 told4 = next_told 1 [] told3 step3 weight3 lines3
 
-told5 : Told L o0 39 (call_line ∷ []) o5
+pub told5 : Told L o0 39 (call_line ∷ []) o5
 told5 = next_told 16 (call_line ∷ []) told4 step4 weight4 lines4
 
 told6 : Told L o0 50 (call_line ∷ ret_line ∷ []) o6

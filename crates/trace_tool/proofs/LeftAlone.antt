@@ -6,7 +6,7 @@ use Rattle.lcm_machine.specs.Maps.{State}
 use Rattle.lcm_machine.specs.Run.{Run, plain, fresh}
 use Rattle.lcm_machine.specs.Touched.{Untouched}
 use Rattle.component_linker.specs.Started.{StartSeen}
-use Rattle.overlay_machine.specs.declared.layout.Layout.{Layout}
+use Rattle.trusted_border.specs.declared.layout.Layout.{Layout}
 use Rattle.overlay_machine.specs.State.{OState}
 use Rattle.overlay_machine.specs.Step.{weight_of}
 use Rattle.overlay_machine.specs.Runs.{Reached, begins, goes_on, RunsAgree}
@@ -14,18 +14,18 @@ use Rattle.overlay_machine.specs.Brackets.{Depth}
 use Rattle.overlay_machine.specs.Starting.{overlay_at}
 use Rattle.trace_tool.specs.Layout.{layout}
 use Rattle.trace_tool.specs.Lines.{Line, call}
-use Rattle.trace_tool.specs.Runs.{begun, lines_of}
+use Rattle.trace_tool.specs.Runs.{begun, lines_of, written}
 use Rattle.trace_tool.specs.Told.{Told, none_yet, and_then, step_lines}
 use Rattle.trace_tool.specs.Brackets.{marks_in, IsRet, CallsArePrivate}
 use Rattle.trace_tool.specs.Alike.{LinesAgree}
-use Rattle.trace_tool.specs.Headline.{written, LinesOfSteps, FramesAreLeftAlone, EachCallIsPrivate}
+use Rattle.trace_tool.specs.Headline.{LinesOfSteps, FramesAreLeftAlone, EachCallIsPrivate}
 use Rattle.trace_tool.proofs.StepTold.{reached_by}
 use Rattle.trace_tool.proofs.CallLines.{one_tells}
 use Rattle.trace_tool.proofs.Agreeing.{HaltsAlone, state_is}
 
 -- ---- lines of steps
 
-told_of : (l : Layout) (o : OState) (j : ℕ) (p : OState) → Reached l o j p
+pub told_of : (l : Layout) (o : OState) (j : ℕ) (p : OState) → Reached l o j p
     → (ls : List Line) × Told l o j ls p
 told_of l o _ _ begins = ([], none_yet)
 told_of l o _ q (goes_on {j = j} {p = p} r e) = let k = told_of l o j p r in (k.0 ++ step_lines l p q, and_then k.1 e)

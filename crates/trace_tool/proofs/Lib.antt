@@ -18,6 +18,7 @@ mod CallLines
 mod LeftAlone
 pub mod alike
 pub mod fit
+pub mod privacy
 mod OwnPairs
 mod OwnEntries
 mod StepTold

@@ -8,9 +8,9 @@ use Rattle.lcm_isa.specs.declared.Reg.TheVariants.{Dat}
 use Rattle.lcm_machine.specs.Maps.{State}
 use Rattle.lcm_machine.specs.Row.{went}
 use Rattle.lcm_machine.proofs.Offers.{run_then}
-use Rattle.overlay_machine.specs.declared.layout.Layout.{Layout}
-use Rattle.overlay_machine.specs.declared.events.Event.{Event}
-use Rattle.overlay_machine.specs.declared.events.Event.TheVariants.{Called, Returned, Entered, Left}
+use Rattle.trusted_border.specs.declared.layout.Layout.{Layout}
+use Rattle.trusted_border.specs.declared.events.Event.{Event}
+use Rattle.trusted_border.specs.declared.events.Event.TheVariants.{Called, Returned, Entered, Left}
 use Rattle.overlay_machine.specs.State.{OState}
 use Rattle.overlay_machine.specs.Events.{step_event}
 use Rattle.overlay_machine.specs.Step.{goes, overlay_step, weight_of}
@@ -27,7 +27,8 @@ use Rattle.trace_tool.specs.Pairs.{no_pairs, pairs_of}
 use Rattle.trace_tool.specs.Lines.{Args, Passed, Line, call, pass, list_of, words_from, passed_of, pass_lines}
 use Rattle.trace_tool.specs.Lines.{line_of, lines_for}
 use Rattle.trace_tool.specs.Told.{step_lines, Told, none_yet as nothing_yet, and_then as tells}
-use Rattle.trace_tool.specs.Brackets.{LineTold, mark_of, marks_in, line_told, lines_told, LinesAreBracketed}
+use Rattle.trace_tool.specs.OpenCalls.{LineTold}
+use Rattle.trace_tool.specs.Brackets.{mark_of, marks_in, line_told, lines_told, LinesAreBracketed}
 use Rattle.trace_tool.specs.Brackets.{RangeIsPrivate, CallsArePrivate}
 
 -- the words of lines are those of marks

@@ -27,16 +27,17 @@ use Rattle.flow_check.specs.Places.{begins_entry}
 use Rattle.component_linker.specs.declared.owners.Owner.{Owner}
 use Rattle.component_linker.specs.declared.owners.Entry.{Entry}
 use Rattle.component_linker.specs.Parts.{PartSeen}
-use Rattle.overlay_machine.specs.declared.layout.Layout.{Layout}
-use Rattle.overlay_machine.specs.declared.events.Back.{Back}
-use Rattle.overlay_machine.specs.declared.events.Event.{Event}
-use Rattle.overlay_machine.specs.declared.events.Event.TheVariants.{Entered, Left}
+use Rattle.trusted_border.specs.declared.layout.Layout.{Layout}
+use Rattle.trusted_border.specs.declared.events.Back.{Back}
+use Rattle.trusted_border.specs.declared.events.Event.{Event}
+use Rattle.trusted_border.specs.declared.events.Event.TheVariants.{Entered, Left}
+use Rattle.trusted_border.specs.Layout.{number_of, is_entry}
+use Rattle.trusted_border.specs.Reaches.{entry_number, closure_owner, back_of}
 use Rattle.overlay_machine.specs.declared.notes.Note.{Note}
 use Rattle.overlay_machine.specs.declared.notes.Note.TheVariants.{Nothing, Calls, Returns, Jumps}
 use Rattle.overlay_machine.specs.Words.{look}
-use Rattle.overlay_machine.specs.Layout.{number_of, is_entry}
 use Rattle.overlay_machine.specs.State.{OpenFrame, OState}
-use Rattle.overlay_machine.specs.Events.{entry_number, closure_owner, back_of, owner_now, shown, called}
+use Rattle.overlay_machine.specs.Events.{owner_now, shown, called}
 use Rattle.overlay_machine.specs.Events.{entered, jumped, event_after, note_by, step_event}
 use Rattle.overlay_machine.specs.Step.{case_of}
 use Rattle.overlay_machine.specs.Link.{Link, IsTrusted, IsStackCell, ranges_of}

@@ -12,19 +12,19 @@ use Rattle.lcm_machine.specs.Plan.{Fails}
 use Rattle.lcm_machine.specs.Runs.{code_cap}
 use Rattle.lcm_machine.specs.Table.{need, ask}
 use Rattle.call_sequence.specs.declared.TheConstants.{CALL_WORDS}
+use Rattle.trusted_border.specs.declared.layout.Layout.{Layout}
+use Rattle.trusted_border.specs.declared.layout.SiteCode.{SiteCode}
+use Rattle.trusted_border.specs.Layout.{site_code}
+use Rattle.trusted_border.specs.Reaches.{jump_plan, goes_on}
 use Rattle.overlay_machine.specs.declared.words.OWord.{OWord}
 use Rattle.overlay_machine.specs.declared.words.OWord.TheVariants.{Plain, RetCode, RetData}
-use Rattle.overlay_machine.specs.declared.layout.Layout.{Layout}
-use Rattle.overlay_machine.specs.declared.layout.SiteCode.{SiteCode}
 use Rattle.overlay_machine.specs.Words.{look}
-use Rattle.overlay_machine.specs.Layout.{site_code}
 use Rattle.overlay_machine.specs.State.{OpenFrame, OState, frame_of}
 use Rattle.overlay_machine.specs.Flat.{flat, flat_code, flat_range, flat_data}
 use Rattle.overlay_machine.specs.Agree.{IsForeign}
 use Rattle.overlay_machine.specs.Link.{Link}
 use Rattle.overlay_machine.specs.Linked.{Linked}
 use Rattle.overlay_machine.specs.Safe.{IsSafe, IsMet}
-use Rattle.overlay_machine.specs.Events.{jump_plan, goes_on}
 use Rattle.overlay_machine.proofs.Offers.{foreign}
 use Rattle.trace_tool.specs.declared.pairs.Pair.TheVariants.{Nothing}
 use Rattle.trace_tool.specs.Pairs.{if_normal, pair_if, pair_of, own_goes, own_pair, PairsAreOwn}

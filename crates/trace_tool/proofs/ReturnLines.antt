@@ -5,18 +5,19 @@ use Rattle.lcm_isa.specs.declared.Reg.{Reg}
 use Rattle.lcm_isa.specs.declared.Reg.TheVariants.{Pc, Rcode, Rdata, C1}
 use Rattle.lcm_machine.specs.Row.{faces, opens, cell_faces, fetch}
 use Rattle.component_linker.specs.declared.owners.Owner.{Owner}
+use Rattle.trusted_border.specs.declared.layout.Layout.{Layout}
+use Rattle.trusted_border.specs.declared.events.Event.{Event}
+use Rattle.trusted_border.specs.declared.events.Event.TheVariants.{Called, Returned, Entered, Left}
+use Rattle.trusted_border.specs.Reaches.{entry_number, closure_owner, back_of}
 use Rattle.overlay_machine.specs.declared.cases.Case.{Case}
 use Rattle.overlay_machine.specs.declared.cases.Case.TheVariants.{Call, Entry, Back, Other}
-use Rattle.overlay_machine.specs.declared.layout.Layout.{Layout}
 use Rattle.overlay_machine.specs.declared.frames.Frame.{Frame}
-use Rattle.overlay_machine.specs.declared.events.Event.{Event}
-use Rattle.overlay_machine.specs.declared.events.Event.TheVariants.{Called, Returned, Entered, Left}
 use Rattle.overlay_machine.specs.declared.notes.Note.{Note}
 use Rattle.overlay_machine.specs.declared.notes.Note.TheVariants.{Nothing, Calls, Returns, Jumps}
 use Rattle.overlay_machine.specs.Words.{look}
 use Rattle.overlay_machine.specs.State.{OpenFrame, OState}
 use Rattle.overlay_machine.specs.Step.{case_of}
-use Rattle.overlay_machine.specs.Events.{entry_number, closure_owner, back_of, note_call, site_opened, owner_now, note_jump, jump_seal, note_by, called, shown, entered, jumped, event_after, step_event}
+use Rattle.overlay_machine.specs.Events.{note_call, site_opened, owner_now, note_jump, jump_seal, note_by, called, shown, entered, jumped, event_after, step_event}
 use Rattle.trace_tool.specs.Views.{flat_view}
 use Rattle.trace_tool.specs.Lines.{lines_for}
 use Rattle.trace_tool.specs.Told.{step_lines}

@@ -1,7 +1,7 @@
 -- The lines of a run in two parts.
 use Rattle.std.proofs.Common.{◌≡◌, ℕ, zero, suc, ◌+◌, ◌++◌, sym, ap, ◌∙◌, arith}
 use Rattle.std.proofs.lemmas.List.{append_assoc, append-nil}
-use Rattle.overlay_machine.specs.declared.layout.Layout.{Layout}
+use Rattle.trusted_border.specs.declared.layout.Layout.{Layout}
 use Rattle.trace_tool.specs.Runs.{Watched, watched, watched_next, line_next, lines_of}
 
 pub watched_split : (l : Layout) (w : Watched) (m n : ℕ) → watched l w (m + n) ≡ watched l (watched l w m) n

@@ -4,15 +4,15 @@ use Rattle.std.proofs.Common.{◌++◌, Option, Some, None, refl, sym, ap, ◌�
 use Rattle.std.specs.Prelude.{if◌then◌else◌}
 use Rattle.std.specs.List.{concat}
 use Rattle.std.proofs.lemmas.List.{append_assoc, append-nil}
+use Rattle.trusted_border.specs.declared.layout.Layout.{Layout}
+use Rattle.trusted_border.specs.declared.events.Event.{Event}
 use Rattle.overlay_machine.proofs.Offers.{weight_some}
 use Rattle.outside_io.specs.SinkSeen.{SinkSeen, Adds, FailsToWrite}
 use Rattle.outside_io.specs.Writes.{AddsPieces, FailsAtPiece}
 use Rattle.outside_io.proofs.Writing.{pieces_none, pieces_then, pieces_fail, fail_more, text_failed}
 use Rattle.component_linker.specs.Started.{StartSeen}
-use Rattle.overlay_machine.specs.declared.layout.Layout.{Layout}
 use Rattle.overlay_machine.specs.declared.cases.Case.{Case}
 use Rattle.overlay_machine.specs.declared.cases.Case.TheVariants.{Call, Entry, Back, Other}
-use Rattle.overlay_machine.specs.declared.events.Event.{Event}
 use Rattle.overlay_machine.specs.declared.overlay.OEnd.{OEnd}
 use Rattle.overlay_machine.specs.declared.overlay.OStep.TheVariants.{Went, Halted, Failed}
 use Rattle.lcm_machine.specs.Maps.{State}

@@ -16,11 +16,11 @@ use Rattle.lcm_machine.specs.Maps.{State}
 use Rattle.lcm_machine.specs.Row.{jump_at}
 use Rattle.lcm_machine.specs.Run.{next_state, plain, answer}
 use Rattle.component_linker.specs.declared.owners.Owner.{Owner}
-use Rattle.overlay_machine.specs.declared.layout.Layout.{Layout}
-use Rattle.overlay_machine.specs.declared.events.Event.{Event}
-use Rattle.overlay_machine.specs.Layout.{runs_part, trusted_owner}
-use Rattle.overlay_machine.specs.Events.{closure_owner}
 use Rattle.component_linker.specs.Started.{StartSeen}
+use Rattle.trusted_border.specs.declared.layout.Layout.{Layout}
+use Rattle.trusted_border.specs.declared.events.Event.{Event}
+use Rattle.trusted_border.specs.Layout.{runs_part, trusted_owner}
+use Rattle.trusted_border.specs.Reaches.{closure_owner}
 use Rattle.trace_tool.specs.declared.run.RunEnd.{RunEnd}
 use Rattle.trace_tool.specs.Layout.{layout, site_word}
 use Rattle.trace_tool.specs.Views.{View, view_of}

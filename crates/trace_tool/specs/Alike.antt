@@ -5,13 +5,14 @@ use Rattle.lcm_machine.specs.Maps.{State}
 use Rattle.lcm_machine.specs.Run.{fresh}
 use Rattle.component_linker.specs.Parts.{PartSeen}
 use Rattle.component_linker.specs.Started.{StartSeen}
-use Rattle.overlay_machine.specs.declared.layout.Layout.{Layout}
+use Rattle.component_linker.specs.LinkedStarts.{IsLinkedStart}
+use Rattle.trusted_border.specs.declared.layout.Layout.{Layout}
 use Rattle.overlay_machine.specs.State.{OState}
 use Rattle.overlay_machine.specs.Step.{weight_of}
 use Rattle.overlay_machine.specs.Link.{Link}
 use Rattle.overlay_machine.specs.Linked.{Linked}
 use Rattle.overlay_machine.specs.Invariant.{Invariant}
-use Rattle.overlay_machine.specs.Starting.{IsLinkedStart, overlay_at}
+use Rattle.overlay_machine.specs.Starting.{overlay_at}
 use Rattle.trace_tool.specs.Layout.{layout}
 use Rattle.trace_tool.specs.Lines.{Line}
 use Rattle.trace_tool.specs.Runs.{begun, lines_of}

@@ -4,7 +4,7 @@ use Rattle.cap_words.specs.declared.Word.{Word}
 use Rattle.lcm_machine.specs.Maps.{State}
 use Rattle.lcm_machine.specs.Row.{went}
 use Rattle.lcm_machine.specs.Touched.{Untouched}
-use Rattle.overlay_machine.specs.declared.layout.Layout.{Layout}
+use Rattle.trusted_border.specs.declared.layout.Layout.{Layout}
 use Rattle.overlay_machine.specs.State.{OpenFrame, OState}
 use Rattle.overlay_machine.specs.Step.{goes, overlay_step, weight_of}
 use Rattle.overlay_machine.specs.Seen.{OverlaySeen}
@@ -12,6 +12,7 @@ use Rattle.overlay_machine.specs.Runs.{plain_run}
 use Rattle.overlay_machine.specs.Brackets.{FrameTold, Mark, opens, closes, Brackets, frames_told, Depth}
 use Rattle.trace_tool.specs.Layout.{part_name, site_of}
 use Rattle.trace_tool.specs.Lines.{Args, Line, call, ret, enter, pass, leave}
+use Rattle.trace_tool.specs.OpenCalls.{LineTold}
 use Rattle.trace_tool.specs.Told.{step_lines, Told}
 use Rattle.trace_tool.specs.Traces.{trace_of}
 
@@ -20,14 +21,6 @@ abbrev pub IsRet : List Line → Type 0
 IsRet ls =
     (inward : Bool) × (part : List ℕ) × (site : ℕ) × (base : ℕ) × (last : ℕ) × (a0 : Word) × (words : List Word)
     × (ls ≡ ret inward part site base last a0 words ∷ [])
-
--- a frame as its lines tell it
-pub record LineTold : Type 0 where
-  pub part : List ℕ
-  pub site : ℕ
-  pub base : ℕ
-  pub last : ℕ
-  pub words : List Word
 
 -- a call line opens, and a ret line closes
 abbrev pub mark_of : Line → List (Mark LineTold)

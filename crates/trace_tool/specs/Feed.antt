@@ -1,5 +1,5 @@
 -- What lines tell of trusted code as a whole: what goes out of it, and what comes in, one after another.
-use Rattle.std.specs.Prelude.{◌≡◌, ℕ, ◌+◌, ◌-◌, ◌==◌, ◌++◌, Bool, true, false, ◌&&◌, ℤ, List, [], ◌∷◌}
+use Rattle.std.specs.Prelude.{◌≡◌, ℕ, ◌+◌, ◌-◌, ◌==◌, ◌++◌, true, false, ◌&&◌, ℤ, List, [], ◌∷◌}
 use Rattle.std.specs.Prelude.{Option, Some, None, if◌then◌else◌}
 use Rattle.cap_words.specs.declared.CapFields.{CapFields}
 use Rattle.cap_words.specs.declared.Word.{Word}
@@ -8,9 +8,9 @@ use Rattle.cap_words.specs.Faces.{perm_number}
 use Rattle.cap_words.specs.Linear.{lin_is}
 use Rattle.lcm_isa.specs.declared.Reg.TheVariants.{Stk}
 use Rattle.lcm_machine.specs.Table.{fits_64}
-use Rattle.overlay_machine.specs.declared.layout.Layout.{Layout}
-use Rattle.overlay_machine.specs.declared.events.Back.{Back}
-use Rattle.overlay_machine.specs.declared.events.Event.TheVariants.{Entered}
+use Rattle.trusted_border.specs.declared.layout.Layout.{Layout}
+use Rattle.trusted_border.specs.declared.events.Back.{Back}
+use Rattle.trusted_border.specs.declared.events.Event.TheVariants.{Entered}
 use Rattle.trace_tool.specs.declared.pairs.Pairs.{Pairs}
 use Rattle.trace_tool.specs.Layout.{part_name, entry_name}
 use Rattle.trace_tool.specs.Views.{View}

@@ -6,11 +6,11 @@ use Rattle.cap_words.specs.Names.{is_name}
 use Rattle.lcm_machine.specs.Run.{plain}
 use Rattle.component_linker.specs.Parts.{PartSeen}
 use Rattle.component_linker.specs.Started.{StartSeen}
-use Rattle.overlay_machine.specs.Starting.{IsLinkedStart}
 use Rattle.lcm_machine.specs.Fitting.{MapsFit}
+use Rattle.component_linker.specs.LinkedStarts.{IsLinkedStart}
 use Rattle.trace_tool.specs.Lines.{Args, Return, out, bad, hop, pair, Passed, nothing, hop_pair, Line}
 use Rattle.trace_tool.specs.Lines.{call, ret, enter, pass, leave}
-use Rattle.trace_tool.specs.Headline.{written}
+use Rattle.trace_tool.specs.Runs.{written}
 
 -- ---- lines
 

@@ -7,7 +7,7 @@ use Rattle.lcm_isa.specs.declared.Reg.{Reg}
 use Rattle.lcm_isa.specs.declared.Reg.TheVariants.{Rcode, Rdata}
 use Rattle.lcm_isa.specs.declared.Instr.TheVariants.{Xjmp}
 use Rattle.lcm_machine.specs.Table.{plan}
-use Rattle.overlay_machine.specs.Events.{goes_on}
+use Rattle.trusted_border.specs.Reaches.{goes_on}
 
 -- the two, as those of rcode and of any other register
 abbrev pub of_halves : Opened → Opened → Reg → Option Opened

@@ -13,19 +13,21 @@ use Rattle.lcm_machine.specs.Run.{plain}
 use Rattle.lcm_machine.specs.Touched.{Untouched}
 use Rattle.component_linker.specs.Parts.{PartSeen}
 use Rattle.component_linker.specs.Started.{StartSeen}
+use Rattle.component_linker.specs.LinkedStarts.{IsLinkedStart}
 use Rattle.overlay_machine.specs.State.{OState}
 use Rattle.overlay_machine.specs.Step.{goes, halts, fails, overlay_step, weight_of}
 use Rattle.overlay_machine.specs.Flat.{IsFlat}
 use Rattle.overlay_machine.specs.Runs.{Reached}
 use Rattle.overlay_machine.specs.Brackets.{Brackets, Depth}
-use Rattle.overlay_machine.specs.Starting.{IsLinkedStart, StartThere, overlay_at}
+use Rattle.overlay_machine.specs.Starting.{StartThere, overlay_at}
 use Rattle.trace_tool.specs.Layout.{layout}
 use Rattle.trace_tool.specs.Views.{flat_view}
 use Rattle.trace_tool.specs.Lines.{Line, Args, call, ret}
-use Rattle.trace_tool.specs.Runs.{begun, lines_of}
+use Rattle.trace_tool.specs.Runs.{written}
 use Rattle.trace_tool.specs.Told.{Told, StopsAt}
 use Rattle.trace_tool.specs.Traces.{trace_of}
-use Rattle.trace_tool.specs.Brackets.{LineTold, marks_in, IsRet}
+use Rattle.trace_tool.specs.OpenCalls.{LineTold}
+use Rattle.trace_tool.specs.Brackets.{marks_in, IsRet}
 
 -- ---- the words of it
 
@@ -73,12 +75,8 @@ pub record Agrees (s : StartSeen) : Type 0 where
 
 -- ---- what is written
 
--- the event lines that `run` writes of so many instructions
-abbrev pub written : StartSeen → ℕ → List Line
-written s n = lines_of (layout s) (begun s.state) n
-
--- they are the lines of the overlay's first steps, up to the greatest matched point that is at most so many
--- instructions
+-- the event lines that `run` writes are those of the overlay's first steps, up to the greatest matched point
+-- that is at most so many instructions
 abbrev pub LinesOfSteps : StartSeen → ℕ → Type 0
 LinesOfSteps s n =
     (j : ℕ) × (p : OState) × Told (layout s) (overlay_at s).state j (written s n) p × StopsAt (layout s) n j p

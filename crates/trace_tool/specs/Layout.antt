@@ -3,11 +3,11 @@ use Rattle.std.specs.Prelude.{ℕ, ◌-◌, nat_le, Bool, Option, None, if◌the
 use Rattle.std.specs.Prelude.{is_some, option_map, option_and_then}
 use Rattle.cap_words.specs.declared.Face.{Face}
 use Rattle.component_linker.specs.Started.{StartSeen}
-use Rattle.overlay_machine.specs.declared.layout.Layout.{Layout}
-use Rattle.overlay_machine.specs.Layout.{trusted_owner, trusted_at, site_at}
+use Rattle.trusted_border.specs.declared.layout.Layout.{Layout}
+use Rattle.trusted_border.specs.Layout.{trusted_owner, trusted_at, site_at}
 -- the names of numbers are a layout's own
-pub use Rattle.overlay_machine.specs.Names.{name_of, numbered_owner, entry_text, entry_of, no_site, site_or}
-unfoldable pub use Rattle.overlay_machine.specs.Names.{part_name, entry_name, site_of}
+pub use Rattle.trusted_border.specs.Names.{name_of, numbered_owner, entry_text, entry_of, no_site, site_or}
+unfoldable pub use Rattle.trusted_border.specs.Names.{part_name, entry_name, site_of}
 
 abbrev pub layout : StartSeen → Layout
 layout s = record { sites = s.sites; owners = s.owners; stack = s.stack }

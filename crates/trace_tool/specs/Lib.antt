@@ -17,3 +17,4 @@ pub mod Headline
 pub mod Fits
 pub mod StepLines
 pub mod Feed
+pub mod OpenCalls

@@ -9,12 +9,13 @@ use Rattle.cap_words.specs.Linear.{lin_is}
 use Rattle.lcm_isa.specs.declared.Reg.TheVariants.{Rdata, A0, A1, A2, A3}
 use Rattle.lcm_machine.specs.Maps.{State}
 use Rattle.lcm_machine.specs.Places.{reg}
+use Rattle.trusted_border.specs.declared.layout.Layout.{Layout}
+use Rattle.trusted_border.specs.declared.events.Back.{Back}
+use Rattle.trusted_border.specs.declared.events.Back.TheVariants.{Hop as HopBack}
+use Rattle.trusted_border.specs.declared.events.Event.TheVariants.{Entered}
+use Rattle.trusted_border.specs.Reaches.{closure_owner, hop_in, jump_plan, goes_on}
 use Rattle.overlay_machine.specs.declared.words.OWord.{OWord}
 use Rattle.overlay_machine.specs.declared.words.OWord.TheVariants.{Plain}
-use Rattle.overlay_machine.specs.declared.layout.Layout.{Layout}
-use Rattle.overlay_machine.specs.declared.events.Back.{Back}
-use Rattle.overlay_machine.specs.declared.events.Back.TheVariants.{Hop as HopBack}
-use Rattle.overlay_machine.specs.declared.events.Event.TheVariants.{Entered}
 use Rattle.overlay_machine.specs.Words.{look}
 use Rattle.overlay_machine.specs.State.{OState}
 use Rattle.overlay_machine.specs.Step.{Ending, goes, halts, fails, return_by}
@@ -23,7 +24,7 @@ use Rattle.overlay_machine.specs.Link.{Link}
 use Rattle.overlay_machine.specs.Linked.{Linked}
 use Rattle.overlay_machine.specs.Safe.{IsSafe}
 use Rattle.overlay_machine.specs.Invariant.{Invariant}
-use Rattle.overlay_machine.specs.Events.{closure_owner, hop_in, jump_plan, goes_on, step_event}
+use Rattle.overlay_machine.specs.Events.{step_event}
 use Rattle.trace_tool.specs.declared.pairs.Pair.{Pair}
 use Rattle.trace_tool.specs.declared.pairs.Pair.TheVariants.{Nothing, Bad, Out, Hop}
 use Rattle.trace_tool.specs.declared.pairs.Pairs.{Pairs}

@@ -6,8 +6,8 @@ use Rattle.lcm_machine.specs.declared.Step.{Step}
 use Rattle.lcm_machine.specs.declared.Step.TheVariants.{Went, Halted, Failed}
 use Rattle.lcm_machine.specs.Run.{Run, next_state, plain, answer}
 use Rattle.component_linker.specs.Started.{StartSeen}
-use Rattle.overlay_machine.specs.declared.layout.Layout.{Layout}
-use Rattle.overlay_machine.specs.declared.events.Event.{Event}
+use Rattle.trusted_border.specs.declared.layout.Layout.{Layout}
+use Rattle.trusted_border.specs.declared.events.Event.{Event}
 use Rattle.trace_tool.specs.declared.run.RunEnd.{RunEnd}
 use Rattle.trace_tool.specs.declared.run.RunEnd.TheVariants.{Halted as RunHalted, Failed as RunFailed}
 use Rattle.trace_tool.specs.declared.run.RunEnd.TheVariants.{Running, WriteFault}
@@ -61,6 +61,10 @@ watched l w (suc n) = watched_next l (watched l w n)
 abbrev pub lines_of : Layout → Watched → ℕ → List Line
 lines_of l w zero = []
 lines_of l w (suc n) = lines_of l w n ++ line_next l (watched l w n)
+
+-- the event lines that are written of so many instructions of a start
+abbrev pub written : StartSeen → ℕ → List Line
+written s n = lines_of (layout s) (begun s.state) n
 
 -- the text of a run: its lines, and the end line
 unfoldable pub run_text : Layout → Run → ℕ → List ℕ

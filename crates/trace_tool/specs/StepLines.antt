@@ -1,8 +1,8 @@
 -- What lines one step has, and that the lines of runs are those of steps.
 use Rattle.std.specs.Prelude.{ℕ, List, [], ◌∷◌, ◌++◌, Option}
 use Rattle.cap_words.specs.declared.Word.{Word}
-use Rattle.overlay_machine.specs.declared.layout.Layout.{Layout}
-use Rattle.overlay_machine.specs.declared.events.Event.{Event}
+use Rattle.trusted_border.specs.declared.layout.Layout.{Layout}
+use Rattle.trusted_border.specs.declared.events.Event.{Event}
 use Rattle.overlay_machine.specs.State.{OState}
 use Rattle.trace_tool.specs.Views.{View}
 use Rattle.trace_tool.specs.Lines.{Args, Return, Passed, Line, enter, pass, lines_for}

@@ -1,6 +1,6 @@
 -- The lines of the overlay's steps up to a matched point, and that a trace writes those up to its limit.
 use Rattle.std.specs.Prelude.{◌≡◌, ◌⊎◌, ℕ, ◌+◌, ◌≤◌, ◌<◌, ◌++◌, List, [], None}
-use Rattle.overlay_machine.specs.declared.layout.Layout.{Layout}
+use Rattle.trusted_border.specs.declared.layout.Layout.{Layout}
 use Rattle.overlay_machine.specs.State.{OState}
 use Rattle.overlay_machine.specs.Step.{goes, halts, fails, overlay_step, weight_of}
 use Rattle.overlay_machine.specs.Events.{step_event}

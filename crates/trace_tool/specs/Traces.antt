@@ -3,7 +3,7 @@ use Rattle.std.specs.Prelude.{◌≡◌, ◌⊎◌, ◌≤◌, ℕ, zero, suc, �
 use Rattle.std.specs.Prelude.{if◌then◌else◌, None}
 use Rattle.outside_io.specs.SinkSeen.{SinkSeen, Adds, FailsToWrite}
 use Rattle.outside_io.specs.Writes.{AddsPieces}
-use Rattle.overlay_machine.specs.declared.events.Event.{Event}
+use Rattle.trusted_border.specs.declared.events.Event.{Event}
 use Rattle.overlay_machine.specs.declared.overlay.OStep.{OStep}
 use Rattle.overlay_machine.specs.declared.overlay.OStep.TheVariants.{Went, Halted, Failed}
 use Rattle.overlay_machine.specs.Step.{weight_of}

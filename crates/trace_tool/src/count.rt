@@ -9,7 +9,7 @@ use crate::event::event_after;
 use crate::note::{inward_after, noted};
 use component_linker::Start;
 use lcm_machine::Step;
-use overlay_machine::Event;
+use trusted_border::Event;
 
 /// What the last step of a run answered, and how many `call` lines the run writes.
 #[derive(Clone, Copy, PartialEq, Eq, Debug)]

@@ -4,7 +4,7 @@ ghost use Rattle.std.specs.Option.{option_copied};
 ghost use Rattle.cap_words.specs.Face.{FaceInOrder, ContentInOrder, face_of, opened_of};
 ghost use Rattle.lcm_isa.specs.declared.Reg.TheVariants.{Rcode, Rdata, Stk};
 ghost use Rattle.lcm_machine.specs.Places.{reg};
-ghost use Rattle.overlay_machine.specs.Events.{site_of_seal, closure_owner, back_under, back_of};
+ghost use Rattle.trusted_border.specs.Reaches.{site_of_seal, closure_owner, back_under, back_of};
 ghost use Rattle.trace_tool.specs.Layout.{layout};
 ghost use Rattle.trace_tool.specs.Views.{view_of};
 ghost use Rattle.trace_tool.specs.Events.{reaches_trusted, called, returned, entered, leapt, event_after};
@@ -16,8 +16,8 @@ use cap_words::{Content, Opened};
 use component_linker::{Owner, Start};
 use lcm_isa::Reg;
 use lcm_machine::LcmState;
-use overlay_machine::reach::{content_base, entry_number};
-use overlay_machine::{Back, Event};
+use trusted_border::reach::{content_base, entry_number};
+use trusted_border::{Back, Event};
 
 // Where an `xjmp` of two halves goes, by their seal.
 fn back_under(start: &Start, code: Opened, half: Opened) -> Back

@@ -5,13 +5,13 @@ ghost use Rattle.std.specs.Option.{option_copied};
 ghost use Rattle.cap_words.specs.Face.{FaceInOrder};
 ghost use Rattle.component_linker.specs.Owners.{AreLaid};
 ghost use Rattle.cap_words.specs.declared.TheConstants.{LONGEST_NAME};
-ghost use Rattle.overlay_machine.specs.Layout.{runs_part, trusted_owner, trusted_at, number_of, site_at};
-ghost use Rattle.overlay_machine.specs.Events.{closure_owner, site_of_seal};
+ghost use Rattle.trusted_border.specs.Layout.{runs_part, trusted_owner, trusted_at, number_of, site_at};
+ghost use Rattle.trusted_border.specs.Reaches.{closure_owner, site_of_seal};
 ghost use Rattle.trace_tool.specs.Layout.{layout, site_word, site_before, part_name, entry_name, site_of};
 
 use cap_words::{CapFields, Face};
 use component_linker::{Entry, Owner, Site, Start};
-use overlay_machine::reach::{numbered, owner_closed, runs_part, site_sealed};
+use trusted_border::reach::{numbered, owner_closed, runs_part, site_sealed};
 
 // The number of the site whose call begins at an address.
 fn site_at(start: &Start, at: u32) -> Option<u32>

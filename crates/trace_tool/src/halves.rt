@@ -1,15 +1,15 @@
 //! What an `xjmp` of two sealed words would do.
 ghost use Rattle.std.specs.Prelude.{◌≡◌};
 ghost use Rattle.cap_words.specs.Face.{ContentInOrder};
-ghost use Rattle.overlay_machine.specs.Events.{closure_owner, hop_in};
+ghost use Rattle.trusted_border.specs.Reaches.{closure_owner, hop_in};
 ghost use Rattle.trace_tool.specs.Layout.{layout};
 ghost use Rattle.trace_tool.specs.Halves.{halves_go};
 
 use crate::find::closure_owner;
 use cap_words::{Content, Opened};
 use component_linker::Start;
-use overlay_machine::Back;
-use overlay_machine::reach::hop_by;
+use trusted_border::Back;
+use trusted_border::reach::hop_by;
 
 /// Whether it would go.
 #[tactic(auto, unfolding(lcm_machine::specs::Table::need, lcm_machine::specs::Table::ask))]

@@ -12,6 +12,7 @@ ghost use Rattle.overlay_machine.specs.Keeping.{HoldsFor};
 ghost use Rattle.trace_tool.specs.Told.{TracesSteps};
 ghost use Rattle.trace_tool.specs.Brackets.{LinesAreBracketed, TraceIsBracketed, CallsArePrivate};
 ghost use Rattle.trace_tool.specs.Headline.{Headline, HeadlineHolds, CallThere};
+ghost use Rattle.trace_tool.specs.OpenCalls.{OpenCallsAreKept, CallsAreKept, UseThere};
 ghost use Rattle.trace_tool.specs.Pairs.{PairsAreOwn, PassesAreOwn};
 ghost use Rattle.trace_tool.specs.StepLines.{StepsTellSo, RunsAreOfSteps, ToldAreOfSteps};
 ghost use Rattle.trace_tool.specs.Feed.{OutsJoin, ItemsJoin, EntriesAreItems};
@@ -72,6 +73,29 @@ pub fn the_headline()
     start_lines_agree();
     lines_are_bracketed();
     call_lines_are_private();
+}
+
+/// What is told of the plain machine alone, of every linked start.
+///
+/// Each `ret` line closes the newest `call` line that is open, and has its part, site, base, last and
+/// words. While a `call` line is open, no instruction touches an address of its range, whether it is
+/// inside a sequence, fails, or is the last before the run was cut off; but for two that touch the
+/// first address alone: those of the return of the call's own site that load the call's first word and
+/// wipe it, behind an `xjmp` that opened the pair that the call sealed.
+///
+/// There is such a use: in the run of the parts of the headline, which calls and comes back.
+pub fn open_calls_are_kept()
+    ensures kept { OpenCallsAreKept }
+    ensures of_a_return { (made : CallThere) × CallsAreKept made.there.start }
+    ensures of_a_use { UseThere }
+{
+    starts_begin();
+    a_start_has_one_overlay();
+    linked_starts_agree();
+    a_halt_weighs_one();
+    start_lines_agree();
+    lines_are_bracketed();
+    the_headline();
 }
 
 /// The plain run writes the lines of the overlay's steps, where the invariant of linked parts holds.

@@ -9,7 +9,7 @@ use crate::view::Shown;
 use cap_words::{Content, Opened};
 use component_linker::Start;
 use lcm_isa::Reg;
-use overlay_machine::Back;
+use trusted_border::Back;
 
 /// Of an argument register and the next one.
 #[derive(Clone, Copy)]

@@ -3,8 +3,9 @@ ghost use Rattle.std.specs.Prelude.{◌≡◌, ◌+◌, ◌<◌, ◌≤◌, ◌^
 ghost use Rattle.std.specs.Prelude.{ℕ, List};
 ghost use Rattle.std.specs.List.{list_any};
 ghost use Rattle.component_linker.specs.Parts.{PartSeen};
-ghost use Rattle.overlay_machine.specs.Starting.{IsLinkedStart};
+ghost use Rattle.component_linker.specs.LinkedStarts.{IsLinkedStart};
 ghost use Rattle.trace_tool.specs.Headline.{Headline};
+ghost use Rattle.trace_tool.specs.OpenCalls.{CallsAreKept};
 ghost use Rattle.outside_io.specs.Writes.{Writes};
 ghost use Rattle.lcm_machine.specs.Run.{next_state, answer};
 ghost use Rattle.trace_tool.specs.Layout.{layout};
@@ -15,7 +16,7 @@ ghost use Rattle.trace_tool.specs.Runs.{watching, watched_next, line_next, end_o
 use crate::end_lines::end_line;
 use crate::event::event_after;
 use crate::gap::{Gap, gap_around};
-use crate::laws::the_headline;
+use crate::laws::{open_calls_are_kept, the_headline};
 use crate::note::{inward_after, noted};
 use crate::write::{tell, write};
 use component_linker::Start;
@@ -131,15 +132,18 @@ fn run_untrusted<S: Sink>(start: &mut Start, steps: u64, out: &mut S) -> RunEnd
 /// failed: the run stops there, and a front of the whole text stands.
 ///
 /// Of a linked start the headline holds, which is said of what this writes and of the states that it
-/// goes through.
+/// goes through; and so does what is told of the plain machine alone: its calls are kept.
 pub fn run_plain<S: Sink>(start: &mut Start, steps: u64, out: &mut S) -> RunEnd
     requires fresh { start.old.state.end ≡ None }
     requires count { start.old.state.count + steps ≤ 2 ^ 63 }
     ensures runs { Runs start.old steps (S.seen out.old) start.new (S.seen out.new) result }
     ensures headline { (parts : List PartSeen) (size : ℕ) → IsLinkedStart parts size start.old
         → Headline start.old }
+    ensures calls { (parts : List PartSeen) (size : ℕ) → IsLinkedStart parts size start.old
+        → CallsAreKept start.old }
 {
     the_headline();
+    open_calls_are_kept();
     if !has_trusted(start) {
         return run_untrusted(start, steps, out);
     }

@@ -2,7 +2,7 @@
 ghost use Rattle.std.specs.Prelude.{◌≡◌, ◌≤◌, ◌^◌};
 ghost use Rattle.std.specs.Prelude.{ℕ, List};
 ghost use Rattle.component_linker.specs.Parts.{PartSeen};
-ghost use Rattle.overlay_machine.specs.Starting.{IsLinkedStart};
+ghost use Rattle.component_linker.specs.LinkedStarts.{IsLinkedStart};
 ghost use Rattle.trace_tool.specs.Headline.{Headline};
 ghost use Rattle.overlay_machine.specs.Seen.{IsOverlayOf};
 ghost use Rattle.trace_tool.specs.Traces.{Traces};

@@ -20,7 +20,7 @@ use component_linker::Start;
 use itoa::Buffer;
 use lcm_isa::Reg;
 use outside_io::{Failed, Sink};
-use overlay_machine::{Back, Event};
+use trusted_border::{Back, Event};
 
 // Room for the longest head.
 const ROOM: usize = 1_024;

@@ -25,21 +25,22 @@ use Rattle.lcm_machine.specs.Row.{faces, opens as opens_in, put, step_of, went, 
 use Rattle.lcm_machine.specs.Runs.{code_cap}
 use Rattle.component_linker.specs.declared.owners.Site.{Site}
 use Rattle.component_linker.specs.declared.owners.Owner.{Owner}
-use Rattle.overlay_machine.specs.declared.layout.Layout.{Layout}
-use Rattle.overlay_machine.specs.declared.layout.SiteCode.{SiteCode}
+use Rattle.trusted_border.specs.declared.layout.Layout.{Layout}
+use Rattle.trusted_border.specs.declared.layout.SiteCode.{SiteCode}
+use Rattle.trusted_border.specs.declared.events.Event.{Event}
+use Rattle.trusted_border.specs.declared.events.Event.TheVariants.{Entered, Left}
+use Rattle.trusted_border.specs.Layout.{numbered}
+use Rattle.trusted_border.specs.Reaches.{site_of_seal, closure_owner, entry_number, back_of}
 use Rattle.overlay_machine.specs.declared.words.OWord.{OWord}
 use Rattle.overlay_machine.specs.declared.words.OWord.TheVariants.{Plain}
 use Rattle.overlay_machine.specs.declared.cases.Case.{Case}
 use Rattle.overlay_machine.specs.declared.cases.Case.TheVariants.{Call, Entry, Back, Other}
-use Rattle.overlay_machine.specs.declared.events.Event.{Event}
-use Rattle.overlay_machine.specs.declared.events.Event.TheVariants.{Entered, Left}
 use Rattle.overlay_machine.specs.declared.notes.Note.TheVariants.{Calls}
 use Rattle.overlay_machine.specs.Words.{look, is_plain}
-use Rattle.overlay_machine.specs.Layout.{numbered}
 use Rattle.overlay_machine.specs.State.{OpenFrame, OState, Cells, framed, word_of}
 use Rattle.overlay_machine.specs.Step.{goes, case_of, step_by, overlay_step, weight_of, other_step, new_frame, resumed, first_word, rest_words}
 use Rattle.overlay_machine.specs.Flat.{flat, beside}
-use Rattle.overlay_machine.specs.Events.{site_of_seal, site_opened, owner_now, note_call, note_return, note_jump, note_by, jump_seal, closure_owner, entry_number, back_of, shown, entered as event_entered, jumped, event_after, step_event}
+use Rattle.overlay_machine.specs.Events.{site_opened, owner_now, note_call, note_return, note_jump, note_by, jump_seal, shown, entered as event_entered, jumped, event_after, step_event}
 use Rattle.overlay_machine.specs.Agree.{ReadyFor, AtSite, AtEntry, AtReturn, FrameSound, IsKnown, AllKnown, IsForeign}
 use Rattle.overlay_machine.specs.Runs.{Reached, begins, goes_on, plain_run}
 use Rattle.overlay_machine.specs.Brackets.{FrameTold, Mark, opens, closes, Brackets, at_end, one_opens, one_closes, frame_told, frames_told}

@@ -32,12 +32,12 @@ use Rattle.flow_check.specs.Holds.{data_cap, HasKind}
 use Rattle.flow_check.proofs.Fitting.{is_safe}
 use Rattle.component_linker.specs.Parts.{PartSeen}
 use Rattle.component_linker.specs.Regions.{in_regions}
+use Rattle.trusted_border.specs.declared.layout.Layout.{Layout}
+use Rattle.trusted_border.specs.declared.layout.SiteCode.{SiteCode}
+use Rattle.trusted_border.specs.Layout.{site_code}
 use Rattle.overlay_machine.specs.declared.words.OWord.{OWord}
 use Rattle.overlay_machine.specs.declared.words.OWord.TheVariants.{Plain, RetCode, RetData}
-use Rattle.overlay_machine.specs.declared.layout.Layout.{Layout}
-use Rattle.overlay_machine.specs.declared.layout.SiteCode.{SiteCode}
 use Rattle.overlay_machine.specs.Words.{look, is_plain}
-use Rattle.overlay_machine.specs.Layout.{site_code}
 use Rattle.overlay_machine.specs.State.{OpenFrame, OState, Cells, framed, word_of}
 use Rattle.overlay_machine.specs.Flat.{flat}
 use Rattle.overlay_machine.specs.Step.{goes, own_stack, new_frame, at_call, call_step}

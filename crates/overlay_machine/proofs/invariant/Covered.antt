@@ -15,8 +15,8 @@ use Rattle.lcm_machine.specs.Regions.{Region, IsLinearAt, memory_of, is_over, wo
 use Rattle.lcm_machine.specs.Counts.{places, cover_count}
 use Rattle.lcm_machine.proofs.Offers.{contains_cases, contains_none, count_some, counted, once_counts}
 use Rattle.lcm_machine.proofs.Offers.{counts_once, has_place, covered_counts}
+use Rattle.trusted_border.specs.declared.layout.Layout.{Layout}
 use Rattle.overlay_machine.specs.declared.words.OWord.{OWord}
-use Rattle.overlay_machine.specs.declared.layout.Layout.{Layout}
 use Rattle.overlay_machine.specs.State.{OpenFrame, OState, Cells, framed}
 use Rattle.overlay_machine.specs.Flat.{flat, beside, IsFlat}
 use Rattle.overlay_machine.specs.Invariant.{LiesBelow, FramesLie}

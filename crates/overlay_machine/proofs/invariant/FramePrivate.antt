@@ -15,9 +15,9 @@ use Rattle.lcm_machine.specs.Touched.{Untouched}
 use Rattle.lcm_machine.proofs.Offers.{untouched_then}
 use Rattle.call_sequence.specs.SequenceRuns.{stack_cap, Outside}
 use Rattle.flow_check.specs.Holds.{code_at}
+use Rattle.trusted_border.specs.declared.layout.Layout.{Layout}
 use Rattle.overlay_machine.specs.declared.words.OWord.{OWord}
 use Rattle.overlay_machine.specs.declared.words.OWord.TheVariants.{Plain, RetCode, RetData}
-use Rattle.overlay_machine.specs.declared.layout.Layout.{Layout}
 use Rattle.overlay_machine.specs.declared.cases.Case.{Case}
 use Rattle.overlay_machine.specs.declared.cases.Case.TheVariants.{Call, Entry, Back, Other}
 use Rattle.overlay_machine.specs.Words.{look, is_plain, is_ret_code}
@@ -75,6 +75,18 @@ module _ (g : Link) (linked : Linked g) where
   abbrev l : Layout
   l = g.layout
 
+  -- an address of a frame is one of the stack, and has no cell
+  pub where_is : (o : OState) (t : State Word) → Invariant g o t → (a : ℕ) (w : OWord)
+      → framed o.frames a ≡ Some w
+      → (l.stack.base ≤ a) × (a ≤ l.stack.end) × (cell o.maps.cells a ≡ None)
+  where_is o t inv a w fa =
+      let b = framed_by o.frames a w fa in
+      let s = lies_of l o.maps.cells o.calls o.frames b.0 inv.frames b.1 in
+      let r = word_in_frame l o.maps.cells b.0 a w s b.2 in
+      let lo = r.0 in
+      let hi = r.1 in
+      ((let x = s.above in omega (arith, x, lo)), (let x = s.within in omega (arith, x, hi)), s.gone a r.0 r.1)
+
   module _ (o : OState) (t : State Word) (inv : Invariant g o t) (q : OState) (step : overlay_step g.layout o ≡ goes q) where
     m : IsFlat l o t
     m = inv.flat
@@ -86,14 +98,8 @@ module _ (g : Link) (linked : Linked g) where
     plain_goes = went_on g q _ (subst (λ e. KeepsAgreeing g e (run_of (λ w. w) (λ w. w) (weight_of l o) t)) step (kept g linked o t inv))
 
     module _ (a : ℕ) (w v : OWord) (fa : framed o.frames a ≡ Some w) (fq : framed q.frames a ≡ Some v) where
-      where_is : (l.stack.base ≤ a) × (a ≤ l.stack.end) × (cell o.maps.cells a ≡ None)
-      where_is =
-          let b = framed_by o.frames a w fa in
-          let s = lies_of l o.maps.cells o.calls o.frames b.0 inv.frames b.1 in
-          let r = word_in_frame l o.maps.cells b.0 a w s b.2 in
-          let lo = r.0 in
-          let hi = r.1 in
-          ((let x = s.above in omega (arith, x, lo)), (let x = s.within in omega (arith, x, hi)), s.gone a r.0 r.1)
+      abbrev here : (l.stack.base ≤ a) × (a ≤ l.stack.end) × (cell o.maps.cells a ≡ None)
+      here = where_is o t inv a w fa
 
       call_by : (i : ℕ) (r : AtSite l i o) (u : State Word)
           → run_of (λ w. w) (λ w. w) (weight_by o.maps (Call i)) t ≡ went u → Called l i o q
@@ -108,7 +114,7 @@ module _ (g : Link) (linked : Linked g) where
           let le : b.0 + 1 ≤ r.end = (let f = ap (λ y. y.end) c in let y = x.within in omega (arith, at, f, y)) in
           let n : (if is_ret_code o.maps.regs.c1 then 17 else 16) ≡ 16 = ap (λ y. if y then 17 else 16) (no_ret_code o.maps.regs.c1 x.plain1) in
           untouched_by a (weight_by o.maps (Call i)) 16 t n
-          (call_quiet l o t m k a where_is.0 where_is.1 w fa where_is.2 i r b.0 to b.2 le u (goes_by (weight_by o.maps (Call i)) 16 t u n ran))
+          (call_quiet l o t m k a here.0 here.1 w fa here.2 i r b.0 to b.2 le u (goes_by (weight_by o.maps (Call i)) 16 t u n ran))
 
       entry_by : (at : ℕ) → View g o.frames o.maps (Entry at) → (r : AtEntry l at o)
           → step_by l (Entry at) o ≡ goes q → Untouched (λ w. w) (λ w. w) a 20 t
@@ -118,8 +124,8 @@ module _ (g : Link) (linked : Linked g) where
           let c : code_cap r.base r.end at ≡ code_at (ranges_of p) off = cc in
           let b1 = ap (λ y. y.base) c in
           let b2 = ap (λ y. y.end) c in
-          let away : Outside a r.base r.end = elim (stack_apart g linked p ip a where_is.0 where_is.1) as (λ _. Outside a r.base r.end) [ inl x ↦ inl (omega (arith, x, b1)) | inr x ↦ inr (omega (arith, x, b2)) ] in
-          entry_quiet l o t m k a where_is.0 where_is.1 w fa where_is.2 at r n.0 n.1 away
+          let away : Outside a r.base r.end = elim (stack_apart g linked p ip a here.0 here.1) as (λ _. Outside a r.base r.end) [ inl x ↦ inl (omega (arith, x, b1)) | inr x ↦ inr (omega (arith, x, b2)) ] in
+          entry_quiet l o t m k a here.0 here.1 w fa here.2 at r n.0 n.1 away
       entry_by at (in_part p off ip ne ns st ec) r e = absurd (never_entry o.maps _ at ec)
       entry_by at (out h ec) r e = absurd (never_entry o.maps _ at ec)
 
@@ -130,7 +136,7 @@ module _ (g : Link) (linked : Linked g) where
           let fr : FramesLie l o.maps.cells o.calls (x.frame ∷ x.older) = subst (λ y. FramesLie l o.maps.cells o.calls y) x.frames_are inv.frames in
           let gone = frames_apart l o.maps.cells o.calls x.frame x.older a v fr older in
           let n : (if is_ret_code (reg o.maps.regs r1) then 11 else 1) ≡ 11 = ap (λ y. if is_ret_code y then 11 else 1) x.code_is in
-          untouched_by a (weight_by o.maps (Back r1 r2)) 11 t n (return_quiet l o t m k a where_is.0 where_is.1 w fa where_is.2 r1 r2 r q x
+          untouched_by a (weight_by o.maps (Back r1 r2)) 11 t n (return_quiet l o t m k a here.0 here.1 w fa here.2 r1 r2 r q x
           (λ e. not_base x fr.0 (ap (word_of x.frame) e ∙ gone)))
         where
           not_base : (x : Returned l r1 r2 o q) → FrameLies l o.maps.cells x.frame
@@ -143,7 +149,7 @@ module _ (g : Link) (linked : Linked g) where
       quiet_by (Call i) x r u ran e = call_by i r u ran (called l i o q e)
       quiet_by (Entry at) x r u ran e = entry_by at x r e
       quiet_by (Back r1 r2) x r u ran e = back_by r1 r2 r (returned l r1 r2 o q e)
-      quiet_by Other x r u ran e = other_quiet l o t m k a where_is.0 where_is.1 w fa where_is.2 r
+      quiet_by Other x r u ran e = other_quiet l o t m k a here.0 here.1 w fa here.2 r
 
       -- an address that is in a frame before and after a step isn't touched
       pub step_quiet : Untouched (λ w. w) (λ w. w) a (weight_of l o) t
@@ -230,14 +236,10 @@ module _ (g : Link) (linked : Linked g) where
     private_return n f a lt low high j p r e r1 r2 c =
         let s = matched j p r in
         let w = framed_of p s.0 s.2 n f e a low high in
-        let b = framed_by p.frames a w.0 w.1 in
-        let so = lies_of l p.maps.cells p.calls p.frames b.0 s.2.frames b.1 in
-        let rg = word_in_frame l p.maps.cells b.0 a w.0 so b.2 in
-        let lo = rg.0 in
-        let hi = rg.1 in
+        let h = where_is p s.0 s.2 a w.0 w.1 in
         let rd : ReadyFor l p (Back r1 r2) = subst (λ y. ReadyFor l p y) c (ready g linked p s.0 s.2) in
         untouched_then (λ w. w) (λ w. w) a j 1 t s.0 (private n f a lt low high j p r e) s.1
-        (back_first l p s.0 s.2.flat (looks g linked p s.0 s.2) a (let x = so.above in omega (arith, x, lo)) (let x = so.within in omega (arith, x, hi)) w.0 w.1 (so.gone a rg.0 rg.1) r1 r2 rd)
+        (back_first l p s.0 s.2.flat (looks g linked p s.0 s.2) a h.0 h.1 w.0 w.1 h.2 r1 r2 rd)
 
     pub frames_private : FramesArePrivate g o t
     frames_private = record {

@@ -3,9 +3,9 @@ use Rattle.std.proofs.Common.{◌≡◌, inl, inr, ℕ, zero, suc, ◌+◌, ◌-
 use Rattle.std.proofs.Common.{None, IsSome, is_some, refl, ap, sym, ◌∙◌, arith}
 use Rattle.std.proofs.lemmas.Bool.{cases_lt}
 use Rattle.lcm_machine.specs.Cells.{cell, words_from, without, put_back}
+use Rattle.trusted_border.specs.declared.layout.Layout.{Layout}
 use Rattle.overlay_machine.specs.declared.words.OWord.TheVariants.{Plain}
 use Rattle.overlay_machine.specs.declared.words.OWord.{OWord}
-use Rattle.overlay_machine.specs.declared.layout.Layout.{Layout}
 use Rattle.overlay_machine.specs.State.{OpenFrame, OState, Cells}
 use Rattle.overlay_machine.specs.Step.{new_frame}
 use Rattle.overlay_machine.specs.Invariant.{FrameLies, LiesBelow, FramesLie}

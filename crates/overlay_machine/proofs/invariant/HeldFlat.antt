@@ -16,12 +16,12 @@ use Rattle.lcm_machine.specs.Row.{word_at}
 use Rattle.lcm_machine.specs.Mapped.{mapped_or}
 use Rattle.lcm_machine.specs.Regions.{Region, IsLinearAt, memory_of, HeldOnce}
 use Rattle.lcm_machine.proofs.Offers.{bounds_over}
+use Rattle.trusted_border.specs.declared.layout.Layout.{Layout}
+use Rattle.trusted_border.specs.declared.layout.SiteCode.{SiteCode}
+use Rattle.trusted_border.specs.Layout.{site_code}
 use Rattle.overlay_machine.specs.declared.words.OWord.{OWord}
 use Rattle.overlay_machine.specs.declared.words.OWord.TheVariants.{Plain, RetCode, RetData}
-use Rattle.overlay_machine.specs.declared.layout.Layout.{Layout}
-use Rattle.overlay_machine.specs.declared.layout.SiteCode.{SiteCode}
 use Rattle.overlay_machine.specs.Words.{look}
-use Rattle.overlay_machine.specs.Layout.{site_code}
 use Rattle.overlay_machine.specs.State.{OpenFrame, OState, framed, frame_of}
 use Rattle.call_sequence.specs.SequenceRuns.{stack_cap}
 use Rattle.overlay_machine.specs.Flat.{flat, flat_data, flat_range, beside, IsFlat}

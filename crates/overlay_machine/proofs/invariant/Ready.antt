@@ -36,13 +36,13 @@ use Rattle.flow_check.proofs.Fitting.{is_safe}
 use Rattle.flow_check.proofs.LocalFacts.{site_flows}
 use Rattle.component_linker.specs.Parts.{PartSeen}
 use Rattle.component_linker.specs.TrustedCode.{all_seals}
+use Rattle.trusted_border.specs.declared.layout.SiteCode.{SiteCode}
+use Rattle.trusted_border.specs.Layout.{site_code}
 use Rattle.overlay_machine.specs.declared.words.OWord.{OWord}
 use Rattle.overlay_machine.specs.declared.words.OWord.TheVariants.{Plain, RetCode, RetData}
-use Rattle.overlay_machine.specs.declared.layout.SiteCode.{SiteCode}
 use Rattle.overlay_machine.specs.declared.cases.Case.{Case}
 use Rattle.overlay_machine.specs.declared.cases.Case.TheVariants.{Call, Entry, Back, Other}
 use Rattle.overlay_machine.specs.Words.{look, is_plain}
-use Rattle.overlay_machine.specs.Layout.{site_code}
 use Rattle.overlay_machine.specs.State.{OpenFrame, OState, Cells, framed, frame_of}
 use Rattle.overlay_machine.specs.Step.{case_fetched, case_of, rest_words}
 use Rattle.overlay_machine.specs.Flat.{flat, flat_code, flat_data, flat_range}

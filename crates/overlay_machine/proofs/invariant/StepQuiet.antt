@@ -1,5 +1,6 @@
 -- No plain instruction of an overlay step touches an address that is in a frame before and after it.
-use Rattle.std.proofs.Common.{◌≡◌, ◌≢◌, inl, inr, ℕ, ◌+◌, ◌-◌, ◌≤◌, pos, true, Some, None, refl, sym, ap, ◌∙◌}
+use Rattle.std.proofs.Common.{◌≡◌, ◌≢◌, inl, inr, ℕ, ◌+◌, ◌-◌, ◌≤◌, pos, true, List, ◌∷◌, Some, None, refl}
+use Rattle.std.proofs.Common.{sym, ap, ◌∙◌}
 use Rattle.std.proofs.Common.{arith, is_some}
 use Rattle.std.specs.Prelude.{slice_get}
 use Rattle.std.specs.Option.{option_or}
@@ -31,10 +32,10 @@ use Rattle.call_sequence.specs.SequenceRuns.{stack_cap, Outside, at_xjmp}
 use Rattle.call_sequence.proofs.CallLaws.{call_jumps}
 use Rattle.call_sequence.proofs.EntryLaws.{entry_runs}
 use Rattle.call_sequence.proofs.ReturnLaws.{return_runs}
+use Rattle.trusted_border.specs.declared.layout.Layout.{Layout}
+use Rattle.trusted_border.specs.declared.layout.SiteCode.{SiteCode}
 use Rattle.overlay_machine.specs.declared.words.OWord.{OWord}
 use Rattle.overlay_machine.specs.declared.words.OWord.TheVariants.{Plain}
-use Rattle.overlay_machine.specs.declared.layout.Layout.{Layout}
-use Rattle.overlay_machine.specs.declared.layout.SiteCode.{SiteCode}
 use Rattle.overlay_machine.specs.Words.{look}
 use Rattle.overlay_machine.specs.State.{OpenFrame, OState, framed, frame_of, word_of}
 use Rattle.overlay_machine.specs.Step.{own_stack}
@@ -56,6 +57,17 @@ id w = w
 -- a step that doesn't touch an address
 untouched_one : (a : ℕ) (t : State Word) → (Touches id t a → ⊥) → Untouched id id a 1 t
 untouched_one a t h = (h, after_each (Untouched id id a 0) (step_of id id t) (λ v e. tt))
+
+-- the first cell of the newest frame has its first word
+pub newest_first : (l : Layout) (o : OState) (t : State Word) → IsFlat l o t
+    → (f : OpenFrame) (fs : List OpenFrame)
+    → o.frames ≡ f ∷ fs → (s : FrameSound l o.maps.cells f) → cell t.cells f.base ≡ Some s.first
+unfolding beside flat
+newest_first l o t m f fs e s =
+    let z : f.base - f.base ≡ 0 = omega arith in
+    let first : word_of f f.base ≡ Some (Plain s.first) = word_of-within f f.base (omega arith) ∙ ap (slice_get f.words) z ∙ ap (λ ws. slice_get ws 0) s.words in
+    let there : framed o.frames f.base ≡ Some (Plain s.first) = ap (λ y. framed y f.base) e ∙ ap (λ y. option_or y (framed fs f.base)) first in
+    m.cells f.base ∙ ap (λ y. mapped_or (flat l o.frames) y (beside l o.frames f.base)) (s.gone f.base (omega arith) s.order) ∙ ap (λ y. mapped_or (flat l o.frames) y None) there
 
 -- an `xjmp` goes whatever the cells are
 xjmp_same : (s u : State Word) (next : Word) (m : _) → row id id (Xjmp C1 C2) next s ≡ went u
@@ -178,15 +190,8 @@ module _ (l : Layout) (o : OState) (t : State Word) (m : IsFlat l o t) (k : Look
       its : HasSite l o.maps.cells x.site
       its = rd.sites F.site x.site x.site_is
 
-      first_word_is : framed o.frames F.base ≡ Some (Plain sound.first)
-      first_word_is =
-          let z : F.base - F.base ≡ 0 = omega arith in
-          let f : word_of F F.base ≡ Some (Plain sound.first) = word_of-within F F.base (omega arith) ∙ ap (slice_get F.words) z ∙ ap (λ ws. slice_get ws 0) sound.words in
-          ap (λ y. framed y F.base) x.frames_are ∙ ap (λ y. option_or y (framed x.older F.base)) f
-
       first_cell : cell t.cells F.base ≡ Some sound.first
-      unfolding beside flat
-      first_cell = m.cells F.base ∙ ap (λ y. mapped_or (flat l o.frames) y (beside l o.frames F.base)) (sound.gone F.base (omega arith) sound.order) ∙ ap (λ y. mapped_or (flat l o.frames) y None) first_word_is
+      first_cell = newest_first l o t m F x.older x.frames_are sound
 
       pub return_quiet : Untouched id id a 11 t
       return_quiet =

@@ -28,12 +28,12 @@ use Rattle.flow_check.specs.Holds.{code_at, PcAt}
 use Rattle.flow_check.specs.Places.{begins_entry, begins_site}
 use Rattle.component_linker.specs.declared.owners.Owner.{Owner}
 use Rattle.component_linker.specs.Parts.{PartSeen}
+use Rattle.trusted_border.specs.declared.layout.SiteCode.{SiteCode}
+use Rattle.trusted_border.specs.Layout.{runs_part, trusted_at, site_at, site_code, is_entry}
 use Rattle.overlay_machine.specs.declared.words.OWord.{OWord}
-use Rattle.overlay_machine.specs.declared.layout.SiteCode.{SiteCode}
 use Rattle.overlay_machine.specs.declared.cases.Case.{Case}
 use Rattle.overlay_machine.specs.declared.cases.Case.TheVariants.{Call, Entry, Other}
 use Rattle.overlay_machine.specs.Words.{look}
-use Rattle.overlay_machine.specs.Layout.{runs_part, trusted_at, site_at, site_code, is_entry}
 use Rattle.overlay_machine.specs.State.{OpenFrame}
 use Rattle.overlay_machine.specs.Step.{case_at, case_fetched, case_of}
 use Rattle.overlay_machine.specs.Link.{Link, IsTrusted, ranges_of, CodeIn}

@@ -26,10 +26,10 @@ use Rattle.component_linker.specs.Parts.{PartSeen}
 use Rattle.component_linker.specs.Owners.{IsSite, AreSites, AreOwners, owner_of, entry_of}
 use Rattle.component_linker.specs.Linked.{Linked}
 use Rattle.component_linker.proofs.RegionFacts.{apart_parts, code_in, whole}
-use Rattle.overlay_machine.specs.declared.layout.Layout.{Layout}
-use Rattle.overlay_machine.specs.declared.layout.SiteCode.{SiteCode}
-use Rattle.overlay_machine.specs.Layout.{runs_part, trusted_owner, numbered, site_at, is_entry, with_code}
-use Rattle.overlay_machine.specs.Layout.{code_in as code_among, site_code}
+use Rattle.trusted_border.specs.declared.layout.Layout.{Layout}
+use Rattle.trusted_border.specs.declared.layout.SiteCode.{SiteCode}
+use Rattle.trusted_border.specs.Layout.{runs_part, trusted_owner, numbered, site_at, is_entry, with_code}
+use Rattle.trusted_border.specs.Layout.{code_in as code_among, site_code}
 use Rattle.overlay_machine.specs.Linked.{any_pc}
 use Rattle.overlay_machine.specs.Names.{declared_site}
 use Rattle.overlay_machine.proofs.starts.ListFacts.{first_is, later_is, listed_at, index_of, one_at, found_is}

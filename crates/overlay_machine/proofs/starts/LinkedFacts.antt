@@ -19,9 +19,9 @@ use Rattle.component_linker.proofs.LinksKept.{are_linked}
 use Rattle.component_linker.proofs.CodeStands.{SitesStand, EntriesStand}
 use Rattle.component_linker.proofs.PartKept.{seals_end}
 use Rattle.component_linker.proofs.RegionFacts.{part_region_of, stack_region_of, all_within}
-use Rattle.overlay_machine.specs.declared.layout.Layout.{Layout}
-use Rattle.overlay_machine.specs.declared.layout.SiteCode.{SiteCode}
-use Rattle.overlay_machine.specs.Layout.{site_at, site_code}
+use Rattle.trusted_border.specs.declared.layout.Layout.{Layout}
+use Rattle.trusted_border.specs.declared.layout.SiteCode.{SiteCode}
+use Rattle.trusted_border.specs.Layout.{site_at, site_code}
 use Rattle.overlay_machine.specs.Link.{Link, IsTrusted, IsUntrusted, IsUsable, own_code, own_data, own_linear, the_stack, code_region, data_region, stack_region}
 use Rattle.overlay_machine.specs.Safe.{IsOpenSeal}
 use Rattle.overlay_machine.specs.Linked.{SiteOf, Linked}

@@ -10,7 +10,7 @@ use Rattle.component_linker.proofs.RegionFacts.{apart_all}
 use Rattle.component_linker.proofs.SealsKept.{parts_apart, sites_apart}
 use Rattle.component_linker.proofs.StartIs.{started_once}
 use Rattle.component_linker.proofs.CodeStands.{SitesStand, EntriesStand, code_stands, trusted_stand}
-use Rattle.overlay_machine.specs.Starting.{IsLinkedStart}
+use Rattle.component_linker.specs.LinkedStarts.{IsLinkedStart}
 
 pub links_of : SitesStand → EntriesStand → (parts : List PartSeen) (size : ℕ) (s : StartSeen) → IsLinkedStart parts size s → LinksTo parts size s
 links_of sites entries parts size s is =

@@ -1,5 +1,5 @@
 -- The names and numbers that the layout of a linked start tells of its trusted parts.
-use Rattle.std.proofs.Common.{◌≡◌, inl, inr, ℕ, ◌+◌, ◌^◌, true, false, not, cond, List, [], ◌∷◌, length, map}
+use Rattle.std.proofs.Common.{◌≡◌, inl, inr, ℕ, ◌+◌, ◌^◌, true, not, cond, List, [], ◌∷◌, length, map}
 use Rattle.std.proofs.Common.{Some, refl, sym, ap, subst, ◌∙◌, arith, eq-eqb, le-leb, lt-ltb}
 use borrow.Author.Tests.{eqb-true}
 use Rattle.std.specs.Prelude.{slice_get, ◌==◌, ◌&&◌, IsTrue, option_map, option_and_then}
@@ -20,17 +20,19 @@ use Rattle.component_linker.specs.SealsApart.{is_seal_of, PartsApart, SitesApart
 use Rattle.component_linker.specs.Linked.{Linked}
 use Rattle.component_linker.proofs.LinksKept.{are_linked}
 use Rattle.component_linker.proofs.SealsKept.{parts_apart, sites_apart}
-use Rattle.overlay_machine.specs.declared.layout.Layout.{Layout}
-use Rattle.overlay_machine.specs.declared.layout.SiteCode.{SiteCode}
-use Rattle.overlay_machine.specs.Layout.{numbered, site_code}
-use Rattle.overlay_machine.specs.Events.{closure_owner, site_of_seal}
+use Rattle.component_linker.specs.LinkedStarts.{AreParts}
+use Rattle.trusted_border.specs.declared.layout.Layout.{Layout}
+use Rattle.trusted_border.specs.declared.layout.SiteCode.{SiteCode}
+use Rattle.trusted_border.specs.Layout.{numbered, site_code}
+use Rattle.trusted_border.specs.Reaches.{closure_owner, site_of_seal}
+use Rattle.trusted_border.specs.Names.{part_name, entry_text, entry_name, site_or, site_of}
+use Rattle.trusted_border.specs.Names as names
 use Rattle.overlay_machine.specs.Link.{ranges_of}
 use Rattle.overlay_machine.specs.Linked.{SiteOf}
-use Rattle.overlay_machine.specs.Starting.{AreParts, overlay_at}
-use Rattle.overlay_machine.specs.Names.{part_name, entry_text, entry_name, site_or, site_of, PartNamed}
+use Rattle.overlay_machine.specs.Starting.{overlay_at}
+use Rattle.overlay_machine.specs.Names.{PartNamed}
 use Rattle.overlay_machine.specs.Names.{EntryNamed, declared_site, SiteNumbered, SiteTold, NamesTold}
 use Rattle.overlay_machine.specs.Names.{StartsTellNames}
-use Rattle.overlay_machine.specs.Names as names
 use Rattle.overlay_machine.proofs.starts.ListFacts.{listed_at, index_of, one_at, found_is, is_found}
 use Rattle.overlay_machine.proofs.starts.ListFacts.{only_found, any_of, position_is, is_placed}
 use Rattle.overlay_machine.proofs.starts.PartFacts.{export_within}

@@ -12,11 +12,12 @@ use Rattle.component_linker.specs.Parts.{PartSeen}
 use Rattle.component_linker.specs.Started.{StartSeen}
 use Rattle.component_linker.proofs.LinksKept.{are_linked}
 use Rattle.component_linker.proofs.StartCells.{spans_are_regions, cell_in_region}
+use Rattle.component_linker.specs.LinkedStarts.{IsLinkedStart}
 use Rattle.overlay_machine.specs.declared.words.OWord.TheVariants.{Plain}
 use Rattle.overlay_machine.specs.Copies.{plain_regs}
 use Rattle.overlay_machine.specs.Seen.{OverlaySeen, IsOverlayOf, start_word}
 use Rattle.overlay_machine.proofs.Mapping.{reg_mapped, found_mapped}
-use Rattle.overlay_machine.specs.Starting.{plain_cells, overlay_at, IsLinkedStart}
+use Rattle.overlay_machine.specs.Starting.{plain_cells, overlay_at}
 
 -- ---- cells of plain words
 

@@ -2,7 +2,8 @@
 use Rattle.std.proofs.Common.{true, false, refl, arith}
 use Rattle.component_linker.proofs.ExampleParts.{caller, other, pair, each, keeps}
 use Rattle.component_linker.proofs.ExampleLink.{start, has_room, starts}
-use Rattle.overlay_machine.specs.Starting.{overlay_at, IsLinkedStart, StartThere}
+use Rattle.component_linker.specs.LinkedStarts.{IsLinkedStart}
+use Rattle.overlay_machine.specs.Starting.{overlay_at, StartThere}
 use Rattle.overlay_machine.proofs.starts.OneOverlay.{is_overlay}
 
 pub is_linked : IsLinkedStart pair 4 start

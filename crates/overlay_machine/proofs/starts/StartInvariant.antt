@@ -3,6 +3,7 @@ use Rattle.std.proofs.Common.{◌≡◌, inl, ℕ, ◌+◌, ◌≤◌, Bool, tru
 use Rattle.std.proofs.Common.{refl, sym, ap, subst, ◌∙◌, arith}
 use Rattle.std.specs.Prelude.{slice_get, option_map, ◌&&◌, not, is_some, if◌then◌else◌}
 use Rattle.std.specs.List.{Contains}
+use Rattle.trusted_border.specs.declared.layout.Layout.{Layout}
 use Rattle.overlay_machine.proofs.FlatLemmas.{flat-plain}
 use Rattle.cap_words.specs.declared.Word.{Word}
 use Rattle.cap_words.specs.declared.Word.TheVariants.{Mem}
@@ -34,7 +35,6 @@ use Rattle.component_linker.proofs.StartWords.{IsExport, main_is_there}
 use Rattle.component_linker.proofs.StartCells.{cell_in_region, region_has_cell}
 use Rattle.overlay_machine.specs.declared.words.OWord.{OWord}
 use Rattle.overlay_machine.specs.declared.words.OWord.TheVariants.{Plain}
-use Rattle.overlay_machine.specs.declared.layout.Layout.{Layout}
 use Rattle.overlay_machine.specs.Words.{look}
 use Rattle.overlay_machine.specs.State.{OpenFrame, framed}
 use Rattle.overlay_machine.specs.Flat.{flat, beside, IsFlat}

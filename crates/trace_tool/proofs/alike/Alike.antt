@@ -1,8 +1,11 @@
 -- From the invariant: what each step writes, and so what a run does.
-use Rattle.std.proofs.Common.{◌≡◌, ℕ, zero, suc, ◌+◌, ◌-◌, ◌<◌, ◌≤◌, Bool, true, false, List, [], ◌++◌, Some}
+use Rattle.std.proofs.Common.{◌≡◌, ℕ, zero, suc, ◌+◌, ◌-◌, ◌<◌, ◌≤◌, Bool, true, List, [], ◌++◌, Some}
 use Rattle.std.proofs.Common.{refl, sym, ap, ◌∙◌, arith, subst}
 use Rattle.std.specs.Prelude.{if◌then◌else◌}
 use Rattle.std.proofs.lemmas.List.{append-nil}
+use Rattle.trusted_border.specs.declared.layout.Layout.{Layout}
+use Rattle.trusted_border.specs.declared.layout.SiteCode.{SiteCode}
+use Rattle.trusted_border.specs.Layout.{site_code}
 use Rattle.overlay_machine.proofs.Offers.{no_ret_code, never_entry, flat-mem, HasEntry-flat, code_some}
 use Rattle.overlay_machine.proofs.Offers.{good_at, View, at_entry, in_part, failing, out, view, ready, looks}
 use Rattle.overlay_machine.proofs.Offers.{called, returned, kept}
@@ -22,9 +25,6 @@ use Rattle.overlay_machine.specs.declared.words.OWord.{OWord}
 use Rattle.overlay_machine.specs.declared.words.OWord.TheVariants.{Plain, RetCode, RetData}
 use Rattle.overlay_machine.specs.declared.cases.Case.{Case}
 use Rattle.overlay_machine.specs.declared.cases.Case.TheVariants.{Call, Entry, Back, Other}
-use Rattle.overlay_machine.specs.declared.layout.Layout.{Layout}
-use Rattle.overlay_machine.specs.declared.layout.SiteCode.{SiteCode}
-use Rattle.overlay_machine.specs.Layout.{site_code}
 use Rattle.overlay_machine.specs.Words.{look, is_ret_code}
 use Rattle.overlay_machine.specs.State.{OState}
 use Rattle.overlay_machine.specs.Step.{goes, case_fetched, case_of, step_by, overlay_step, weight_by}
@@ -32,7 +32,7 @@ use Rattle.overlay_machine.specs.Step.{weight_of}
 use Rattle.overlay_machine.specs.Flat.{IsFlat}
 use Rattle.overlay_machine.specs.Agree.{Looks, AtSite, AtEntry, AtReturn, ReadyFor}
 use Rattle.overlay_machine.specs.Events.{note_by, event_after as told_after, step_event}
-use Rattle.overlay_machine.specs.Runs.{Reached, begins, goes_on, plain_run}
+use Rattle.overlay_machine.specs.Runs.{Reached, plain_run}
 use Rattle.overlay_machine.specs.Link.{Link, IsTrusted}
 use Rattle.overlay_machine.specs.Linked.{Linked}
 use Rattle.overlay_machine.specs.Invariant.{Invariant, KeepsAgreeing}

@@ -16,9 +16,9 @@ use Rattle.flow_check.specs.Places.{begins_entry, begins_site}
 use Rattle.flow_check.proofs.Walks.{Inside, no_row_inside}
 use Rattle.flow_check.proofs.Placed.{placed_lists}
 use Rattle.component_linker.specs.Parts.{PartSeen}
+use Rattle.trusted_border.specs.declared.layout.SiteCode.{SiteCode}
 use Rattle.overlay_machine.specs.declared.words.OWord.{OWord}
 use Rattle.overlay_machine.specs.declared.cases.Case.TheVariants.{Back, Other}
-use Rattle.overlay_machine.specs.declared.layout.SiteCode.{SiteCode}
 use Rattle.overlay_machine.specs.Words.{look}
 use Rattle.overlay_machine.specs.State.{OpenFrame}
 use Rattle.overlay_machine.specs.Link.{Link, IsTrusted, ranges_of}

@@ -25,7 +25,7 @@ use Rattle.lcm_machine.specs.Runs.{Stands, code_cap}
 use Rattle.lcm_machine.proofs.Offers.{Gives, gives_goes, Gives-effect, Gives-ask, Gives-need, Gives-by_cap}
 use Rattle.lcm_machine.proofs.Offers.{Gives-if, reg-set_other, fail_fails, move_goes, cca_goes, stays}
 use Rattle.lcm_machine.proofs.Offers.{step_row}
-use Rattle.overlay_machine.specs.declared.layout.Layout.{Layout}
+use Rattle.trusted_border.specs.declared.layout.Layout.{Layout}
 use Rattle.trace_tool.proofs.alike.Calm.{id, Calm}
 use Rattle.trace_tool.proofs.alike.Straight.{is_straight, is_store, Num, performed_num, straight_goes}
 use Rattle.trace_tool.proofs.alike.Laying.{quiet_at, no_jump, NoEnd, AreStraight, stands_kept, calm_code}
@@ -81,12 +81,12 @@ planned s s' r (Fails f) ne h e = cc
 planned s s' r Halts ne h e = cc
 planned s s' r (Goes x) ne h e = let q : perform id id s x ≡ s' = cc in let k = Gives-effect h in rw (← q, k.2) (only_t2 s r k.0 k.1 ne)
 
-t2_stays : (s s' : State Word) (i : Instr) (next : Word) (r : Reg) → dest i ≡ Some r → T2 ≢ r
+pub t2_stays : (s s' : State Word) (i : Instr) (next : Word) (r : Reg) → dest i ≡ Some r → T2 ≢ r
     → row id id i next s ≡ went s' → reg s'.regs T2 ≡ reg s.regs T2
 unfolding row plan_in
 t2_stays s s' i next r d ne e = planned s s' r _ ne (plan-Only (faces id s) (opens id s) _ next r i d) e
 
-abbrev Tested : Word → State Word → State Word → Type 0
+abbrev pub Tested : Word → State Word → State Word → Type 0
 Tested next s s' = (((s'.regs.pc ≡ next) × (reg s'.regs T2 ≡ reg s.regs T2)) ⊎ (s'.regs.pc ≡ reg s.regs T2)) × ((q : ℕ) (z : ℤ) → Num s q z → Num s' q z)
 
 tests_on : (s : State Word) (next : Word)
@@ -109,7 +109,7 @@ test_planned s s' next (Goes x) h e = let q : perform id id s x ≡ s' = cc in e
   | inr k ↦ rw (← q, k) (inr (tests_pc s), λ a z. performed_num s (record no_effect { moved = Some (record { from = R T2; to = R Pc }) }) a z tt)
 ]
 
-test_goes : (s s' : State Word) (next : Word) (r : Reg) → row id id (Jnz T2 r) next s ≡ went s'
+pub test_goes : (s s' : State Word) (next : Word) (r : Reg) → row id id (Jnz T2 r) next s ≡ went s'
     → Tested next s s'
 unfolding row plan_in
 test_goes s s' next r e = test_planned s s' next _ (plan-Tests (faces id s) (opens id s) None next r) e

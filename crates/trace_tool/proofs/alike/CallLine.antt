@@ -22,19 +22,20 @@ use Rattle.lcm_machine.proofs.Offers.{failed_more, step_row}
 use Rattle.call_sequence.specs.Sequences.{call_code}
 use Rattle.call_sequence.specs.SequenceRuns.{stack_cap, HasCall}
 use Rattle.call_sequence.proofs.CallLaws.{call_runs}
+use Rattle.trusted_border.specs.declared.layout.Layout.{Layout}
+use Rattle.trusted_border.specs.declared.layout.SiteCode.{SiteCode}
+use Rattle.trusted_border.specs.declared.events.Event.TheVariants.{Called as CalledEvent}
+use Rattle.trusted_border.specs.Layout.{site_code, trusted_owner}
+use Rattle.trusted_border.specs.Reaches.{site_of_seal}
 use Rattle.overlay_machine.specs.declared.words.OWord.{OWord}
 use Rattle.overlay_machine.specs.declared.words.OWord.TheVariants.{Plain, RetCode, RetData}
 use Rattle.overlay_machine.specs.declared.cases.Case.TheVariants.{Call}
-use Rattle.overlay_machine.specs.declared.layout.Layout.{Layout}
-use Rattle.overlay_machine.specs.declared.layout.SiteCode.{SiteCode}
-use Rattle.overlay_machine.specs.declared.events.Event.TheVariants.{Called as CalledEvent}
-use Rattle.overlay_machine.specs.Layout.{site_code, trusted_owner}
 use Rattle.overlay_machine.specs.Words.{look, is_plain}
 use Rattle.overlay_machine.specs.State.{OState}
 use Rattle.overlay_machine.specs.Step.{goes, call_step, new_frame}
 use Rattle.overlay_machine.specs.Flat.{flat, IsFlat}
 use Rattle.overlay_machine.specs.Agree.{AtSite, Looks}
-use Rattle.overlay_machine.specs.Events.{site_of_seal, site_opened, note_call, note_by}
+use Rattle.overlay_machine.specs.Events.{site_opened, note_call, note_by}
 use Rattle.overlay_machine.specs.Events.{event_after as told_after, called as called_told}
 use Rattle.overlay_machine.specs.Link.{Link}
 use Rattle.overlay_machine.specs.Linked.{Linked}

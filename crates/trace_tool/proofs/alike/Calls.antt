@@ -17,7 +17,7 @@ use Rattle.lcm_machine.specs.Row.{faces}
 use Rattle.lcm_machine.specs.Runs.{Stands, code_cap}
 use Rattle.call_sequence.specs.Sequences.{call_code, distance}
 use Rattle.call_sequence.specs.SequenceRuns.{Outside, HasCall}
-use Rattle.overlay_machine.specs.declared.layout.Layout.{Layout}
+use Rattle.trusted_border.specs.declared.layout.Layout.{Layout}
 use Rattle.trace_tool.proofs.alike.Calm.{id, Calm}
 use Rattle.trace_tool.proofs.alike.Laying.{NoEnd, AreStraight, calm_store}
 use Rattle.overlay_machine.proofs.Offers.{target_bounds}
@@ -28,6 +28,20 @@ call_middle to_literal site =
     Move T1 (InReg Pc) ∷ Cca T1 (Imm to_literal) ∷ Load T2 T1 ∷ Cca T2 (Imm site) ∷ Geta T1 Stk
     ∷ Minus T1 T1 (Imm (pos 1)) ∷ Split Stk Rdata Stk (InReg T1) ∷ Cca Stk (Imm (negsuc 0)) ∷ Cseal Rdata T2
     ∷ Move Rcode (InReg Pc) ∷ Cca Rcode (Imm (pos 6)) ∷ Cseal Rcode T2 ∷ Move T1 (Imm (pos 0)) ∷ Move T2 (Imm (pos 0)) ∷ []
+
+-- a store by stk goes into its range
+pub stored_in : (s : State Word) (c : CapFields) → s.regs.stk ≡ Mem c → (q : ℕ)
+    → target (Store Stk Dat) (faces id s) ≡ Some q → (c.base ≤ q) × (q ≤ c.end)
+unfolding faces
+stored_in s c stk q e =
+    let b = target_bounds (face_of s.regs.stk) q e in
+    let same : Memory c ≡ Memory b.0 = sym (ap face_of stk) ∙ b.1 in
+    let k : c ≡ b.0 = cc in
+    let lo = ap (λ y. y.base) k in
+    let hi = ap (λ y. y.end) k in
+    let b2 = b.2 in
+    let b3 = b.3 in
+    (omega (arith, lo, b2), omega (arith, hi, b3))
 
 stands_front : (t : State Word) (at : ℕ) (is js : List Instr) → Stands id t.cells at (is ++ js)
     → Stands id t.cells at is
@@ -57,11 +71,5 @@ module _ (l : Layout) (s : State Word) (base last at seal : ℕ) (h : HasCall id
     where
       out : (q : ℕ) → target (Store Stk Dat) (faces id s) ≡ Some q → base ≤ q → q ≤ last → ⊥
       out q e low high =
-          let b = target_bounds (face_of s.regs.stk) q e in
-          let same : Memory c ≡ Memory b.0 = sym (ap face_of stk) ∙ b.1 in
-          let k : c ≡ b.0 = cc in
-          let lo = ap (λ y. y.base) k in
-          let hi = ap (λ y. y.end) k in
-          let b2 = b.2 in
-          let b3 = b.3 in
-          elim (apart q (omega (arith, lo, b2)) (omega (arith, hi, b3))) as (λ _. ⊥) [ inl y ↦ omega (arith, y, low) | inr y ↦ omega (arith, y, high) ]
+          let b = stored_in s c stk q e in
+          elim (apart q b.0 b.1) as (λ _. ⊥) [ inl y ↦ omega (arith, y, low) | inr y ↦ omega (arith, y, high) ]

@@ -10,7 +10,7 @@ use Rattle.lcm_machine.specs.Maps.{State}
 use Rattle.lcm_machine.specs.Row.{Outcome, went, halted, failed, faces, jump_at, step_of}
 use Rattle.lcm_machine.specs.Run.{Run, moved, next_state, answer}
 use Rattle.lcm_machine.specs.Runs.{and_then, run_of}
-use Rattle.overlay_machine.specs.declared.layout.Layout.{Layout}
+use Rattle.trusted_border.specs.declared.layout.Layout.{Layout}
 use Rattle.trace_tool.specs.declared.note.Note.{Note}
 use Rattle.trace_tool.specs.declared.note.Note.TheVariants.{Nothing}
 use Rattle.trace_tool.specs.Layout.{site_word}

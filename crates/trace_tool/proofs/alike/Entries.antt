@@ -13,7 +13,7 @@ use Rattle.lcm_machine.specs.Maps.{State}
 use Rattle.lcm_machine.specs.Runs.{code_cap}
 use Rattle.call_sequence.specs.Sequences.{entry_code, distance}
 use Rattle.call_sequence.specs.SequenceRuns.{HasEntry}
-use Rattle.overlay_machine.specs.declared.layout.Layout.{Layout}
+use Rattle.trusted_border.specs.declared.layout.Layout.{Layout}
 use Rattle.trace_tool.proofs.alike.Calm.{id, Calm}
 use Rattle.trace_tool.proofs.alike.Laying.{NoEnd}
 use Rattle.trace_tool.proofs.alike.Armed.{Armed, rest, tests, keeps, calm_arming}

@@ -18,8 +18,8 @@ use Rattle.lcm_machine.specs.Table.{target}
 use Rattle.lcm_machine.specs.Row.{faces, look_face, row, went, jump_of, jump_in, jump_at}
 use Rattle.lcm_machine.specs.Runs.{Stands, code_cap}
 use Rattle.lcm_machine.proofs.Offers.{shows, fetch_at, step_row, row_others}
-use Rattle.overlay_machine.specs.declared.layout.Layout.{Layout}
-use Rattle.overlay_machine.specs.Layout.{trusted_owner}
+use Rattle.trusted_border.specs.declared.layout.Layout.{Layout}
+use Rattle.trusted_border.specs.Layout.{trusted_owner}
 use Rattle.trace_tool.specs.Layout.{site_before, site_word}
 use Rattle.trace_tool.proofs.alike.Calm.{id, IsQuiet, Calm}
 use Rattle.trace_tool.proofs.alike.Straight.{is_straight, is_store, Num, straight_goes}

@@ -5,7 +5,7 @@ use Rattle.lcm_machine.specs.Maps.{State}
 use Rattle.lcm_machine.specs.Row.{Outcome, went, halted, failed, step_of}
 use Rattle.lcm_machine.specs.Run.{next_state}
 use Rattle.lcm_machine.specs.Runs.{and_then, run_of}
-use Rattle.overlay_machine.specs.declared.layout.Layout.{Layout}
+use Rattle.trusted_border.specs.declared.layout.Layout.{Layout}
 use Rattle.overlay_machine.specs.State.{OState}
 use Rattle.overlay_machine.specs.Step.{Ending, goes, halts, fails}
 use Rattle.overlay_machine.specs.Flat.{IsFlat}

@@ -16,19 +16,20 @@ use Rattle.lcm_machine.specs.Row.{plan_in, Outcome, went, halted, failed, step_o
 use Rattle.lcm_machine.specs.Runs.{run_of}
 use Rattle.lcm_machine.proofs.Offers.{fetch_commutes, run_one, fetched_row}
 use Rattle.component_linker.specs.declared.owners.Owner.{Owner}
+use Rattle.trusted_border.specs.declared.layout.Layout.{Layout}
+use Rattle.trusted_border.specs.declared.events.Event.TheVariants.{Entered, Left}
+use Rattle.trusted_border.specs.Layout.{trusted_owner}
+use Rattle.trusted_border.specs.Reaches.{closure_owner, entry_number, back_of}
 use Rattle.overlay_machine.specs.declared.words.OWord.{OWord}
 use Rattle.overlay_machine.specs.declared.words.OWord.TheVariants.{Plain}
 use Rattle.overlay_machine.specs.declared.cases.Case.TheVariants.{Other}
-use Rattle.overlay_machine.specs.declared.layout.Layout.{Layout}
-use Rattle.overlay_machine.specs.declared.events.Event.TheVariants.{Entered, Left}
-use Rattle.overlay_machine.specs.Layout.{trusted_owner}
 use Rattle.overlay_machine.specs.Words.{look, is_plain}
 use Rattle.overlay_machine.specs.State.{OpenFrame, OState}
 use Rattle.overlay_machine.specs.Step.{goes, case_fetched, with_frames, other_step}
 use Rattle.overlay_machine.specs.Flat.{flat, beside, IsFlat}
 use Rattle.overlay_machine.specs.Agree.{Looks, FramesFree}
-use Rattle.overlay_machine.specs.Events.{owner_now, jump_seal, note_jump, note_by, closure_owner}
-use Rattle.overlay_machine.specs.Events.{entry_number, back_of, jumped, event_after as told_after}
+use Rattle.overlay_machine.specs.Events.{owner_now, jump_seal, note_jump, note_by}
+use Rattle.overlay_machine.specs.Events.{jumped, event_after as told_after}
 use Rattle.overlay_machine.specs.Link.{Link}
 use Rattle.overlay_machine.specs.Linked.{Linked}
 use Rattle.overlay_machine.proofs.Offers.{flat-opened, plain_both, free_pc, View}

@@ -27,11 +27,11 @@ use Rattle.call_sequence.specs.Sequences.{return_code}
 use Rattle.call_sequence.specs.SequenceRuns.{stack_cap, HasReturn}
 use Rattle.call_sequence.proofs.ReturnLaws.{return_runs}
 use Rattle.component_linker.specs.declared.owners.Owner.{Owner}
+use Rattle.trusted_border.specs.declared.layout.Layout.{Layout}
+use Rattle.trusted_border.specs.declared.events.Event.TheVariants.{Returned as ReturnedEvent}
+use Rattle.trusted_border.specs.Layout.{trusted_owner}
 use Rattle.overlay_machine.specs.declared.words.OWord.TheVariants.{Plain}
 use Rattle.overlay_machine.specs.declared.cases.Case.TheVariants.{Back}
-use Rattle.overlay_machine.specs.declared.layout.Layout.{Layout}
-use Rattle.overlay_machine.specs.declared.events.Event.TheVariants.{Returned as ReturnedEvent}
-use Rattle.overlay_machine.specs.Layout.{trusted_owner}
 use Rattle.overlay_machine.specs.Words.{look}
 use Rattle.overlay_machine.specs.State.{OpenFrame, OState, word_of, framed, frame_of}
 use Rattle.overlay_machine.specs.Flat.{flat, beside, IsFlat}

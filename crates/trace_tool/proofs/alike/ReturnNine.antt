@@ -1,8 +1,7 @@
 -- Nine of the ten words of a return.
-use Rattle.std.proofs.Common.{◌≡◌, ℕ, ◌+◌, ◌≤◌, ℤ, pos, ◌+ℤ◌, ◌-ℤ◌, false, Some, refl, sym, ap, ◌∙◌, arith}
-use Rattle.std.proofs.Common.{rules, FitsSigned, w32}
-use Rattle.std.proofs.lemmas.Int.{ints}
-use Rattle.call_sequence.proofs.LawLemmas.{fits_small, small_operand, near_operand, leads}
+use Rattle.std.proofs.Common.{◌≡◌, ℕ, ◌+◌, ◌≤◌, ℤ, pos, false, Some, refl, sym, ap, ◌∙◌, arith}
+use Rattle.std.proofs.Common.{rules}
+use Rattle.call_sequence.proofs.ReturnLaws.{tested, return_tests}
 use Rattle.cap_words.specs.declared.TheConstants.{LAST_PLACE}
 use Rattle.cap_words.specs.declared.Word.{Word}
 use Rattle.cap_words.specs.declared.Word.TheVariants.{Mem}
@@ -11,9 +10,9 @@ use Rattle.lcm_machine.specs.Cells.{cell, set_cell}
 use Rattle.lcm_machine.specs.Maps.{State}
 use Rattle.lcm_machine.specs.Row.{went}
 use Rattle.lcm_machine.specs.Runs.{run_of, code_cap}
-use Rattle.lcm_machine.proofs.Offers.{is_linear-face, set_goes, go, ran, stays, leaves, move_goes, store_goes}
-use Rattle.lcm_machine.proofs.Offers.{load_goes, cca_goes, getb_goes, minus_goes, splice_goes, jnz_goes}
-use Rattle.call_sequence.specs.Sequences.{return_code, distance}
+use Rattle.lcm_machine.proofs.Offers.{is_linear-face, set_goes, go, ran, run_then, stays, store_goes}
+use Rattle.lcm_machine.proofs.Offers.{load_goes}
+use Rattle.call_sequence.specs.Sequences.{return_code}
 use Rattle.call_sequence.specs.SequenceRuns.{stack_cap, Outside, HasReturn}
 use Rattle.trace_tool.proofs.alike.Calm.{id}
 
@@ -36,23 +35,14 @@ pub return_nine : (s : State Word) (base last at sb low b end : ℕ) (to : ℤ) 
 unfolding return_code
 return_nine s base last at sb low b end to w h hpc hstk hdat joint sl le small out there lin =
     let code = h.code in
-    let n : ℤ = distance (h.offset + 3) h.fail in
     let ai = h.at_is in
     let en = h.ends in
-    let sm = h.small in
-    let fh : base + h.fail ≤ last = h.fails.1 in
-    let sf : base + h.fail ≤ 1048575 = omega (arith, fh, sm) in
-    let fn : FitsSigned w32 n = near_operand (h.offset + 3) h.fail (omega (arith, ai, en, sm)) (omega (arith, sf)) in
-    let to_fail : pos (at + 1 + 1 + 1) +ℤ n ≡ pos (base + h.fail) = leads (at + 1 + 1 + 1) base (h.offset + 3) h.fail (omega (arith, ai)) in
-    let same : pos sb -ℤ pos sb ≡ pos 0 = omega (arith, ints) in
+    let six : at + 6 ≡ at + 1 + 1 + 1 + 1 + 1 + 1 = omega arith in
     let ends : at + 1 + 1 + 1 + 1 + 1 + 1 + 1 + 1 + 1 ≡ at + 9 = omega arith in
-    go id id _ _ _ base last (at) _ hpc (omega (arith, ai)) (omega (arith, en)) code.0 tt (splice_goes id id _ _ _ _ _ _ _ (record (stack_cap sb low 0) { addr = to }) (stack_cap b end b) refl hstk hdat refl joint (leaves id id _ _ (ap is_linear hstk)) (leaves id id _ _ (ap is_linear hdat)))
-    ∙ go id id _ _ _ base last (at + 1) _ refl (omega (arith, ai)) (omega (arith, en)) code.1.0 tt (getb_goes id id _ _ _ _ (Mem (stack_cap sb end b)) refl refl)
-    ∙ go id id _ _ _ base last (at + 1 + 1) _ refl (omega (arith, ai)) (omega (arith, en)) code.1.1.0 (small_operand sb (omega (arith, sl, le, small))) (minus_goes id id _ _ _ _ _ (pos sb) (pos sb) (pos 0) refl refl refl same refl)
-    ∙ go id id _ _ _ base last (at + 1 + 1 + 1) _ refl (omega (arith, ai)) (omega (arith, en)) code.1.1.1.0 tt (move_goes id id _ _ _ _ _ refl (stays id id _ _ refl))
-    ∙ go id id _ _ _ base last (at + 1 + 1 + 1 + 1) _ refl (omega (arith, ai)) (omega (arith, en)) code.1.1.1.1.0 fn (cca_goes id id _ _ _ _ (code_cap base last (at + 1 + 1 + 1)) n (pos (base + h.fail)) refl refl refl to_fail (fits_small (base + h.fail) sf))
-    ∙ go id id _ _ _ base last (at + 1 + 1 + 1 + 1 + 1) _ refl (omega (arith, ai)) (omega (arith, en)) code.1.1.1.1.1.0 tt (jnz_goes id id _ _ _ _ (pos 0) refl refl)
-    ∙ go id id _ _ _ base last (at + 1 + 1 + 1 + 1 + 1 + 1) _ refl (omega (arith, ai)) (omega (arith, en)) code.1.1.1.1.1.1.0 tt (load_goes id id _ _ _ _ (stack_cap sb end b) b w _ refl refl refl refl sl le there refl lin (sym (is_linear-face w) ∙ lin))
+    run_then id id 6 3 s _ _
+    (return_tests id id (λ x. refl) s base last at sb (record (stack_cap sb low 0) { addr = to }) (stack_cap b end b) h hpc hstk hdat refl refl refl joint (omega (arith, sl, le, small)) (omega (arith, sl, le, small)) refl
+    ∙ ap (λ k. went (tested id id (λ x. refl) s base last k (base + h.fail) (stack_cap sb end b) (pos 0))) six)
+    (go id id _ _ _ base last (at + 1 + 1 + 1 + 1 + 1 + 1) _ refl (omega (arith, ai)) (omega (arith, en)) code.1.1.1.1.1.1.0 tt (load_goes id id _ _ _ _ (stack_cap sb end b) b w _ refl refl refl refl sl le there refl lin (sym (is_linear-face w) ∙ lin))
     ∙ go id id _ _ _ base last (at + 1 + 1 + 1 + 1 + 1 + 1 + 1) _ refl (omega (arith, ai)) (omega (arith, en)) code.1.1.1.1.1.1.1.0 (search rules) (set_goes id id _ _ _ _ refl)
     ∙ go id id _ _ _ base last (at + 1 + 1 + 1 + 1 + 1 + 1 + 1 + 1) _ refl (omega (arith, ai)) (omega (arith, en)) code.1.1.1.1.1.1.1.1.0 tt (store_goes id id _ _ _ _ _ (stack_cap sb end b) b w refl refl refl sl le there (stays id id _ _ refl))
-    ∙ ran id id _ ∙ ap (λ k. went (record s { regs = record s.regs { pc = Mem (code_cap base last k); stk = Mem (stack_cap sb end b); dat = w; t1 = zero_word id; t2 = Mem (code_cap base last (base + h.fail)) }; cells = set_cell s.cells b (zero_word id) })) ends
+    ∙ ran id id _ ∙ ap (λ k. went (record s { regs = record s.regs { pc = Mem (code_cap base last k); stk = Mem (stack_cap sb end b); dat = w; t1 = zero_word id; t2 = Mem (code_cap base last (base + h.fail)) }; cells = set_cell s.cells b (zero_word id) })) ends)

@@ -22,15 +22,15 @@ use Rattle.lcm_machine.specs.Runs.{code_cap}
 use Rattle.lcm_machine.proofs.Offers.{fetch_mapped}
 use Rattle.call_sequence.specs.Sequences.{return_code, distance}
 use Rattle.call_sequence.specs.SequenceRuns.{HasReturn}
+use Rattle.trusted_border.specs.declared.layout.Layout.{Layout}
+use Rattle.trusted_border.specs.declared.layout.SiteCode.{SiteCode}
+use Rattle.trusted_border.specs.Layout.{site_code}
+use Rattle.trusted_border.specs.Reaches.{closure_owner}
 use Rattle.overlay_machine.specs.declared.cases.Case.TheVariants.{Back}
-use Rattle.overlay_machine.specs.declared.layout.Layout.{Layout}
-use Rattle.overlay_machine.specs.declared.layout.SiteCode.{SiteCode}
-use Rattle.overlay_machine.specs.Layout.{site_code}
 use Rattle.overlay_machine.specs.Words.{look}
 use Rattle.overlay_machine.specs.State.{OState}
 use Rattle.overlay_machine.specs.Flat.{flat, beside, IsFlat}
 use Rattle.overlay_machine.specs.Agree.{AtReturn, Looks}
-use Rattle.overlay_machine.specs.Events.{closure_owner}
 use Rattle.overlay_machine.specs.Link.{Link}
 use Rattle.overlay_machine.specs.Linked.{Linked}
 use Rattle.overlay_machine.proofs.Offers.{HasReturn-flat, beside-none, View}

@@ -2,14 +2,14 @@
 use Rattle.std.proofs.Common.{◌≡◌, inl, inr, ℕ, zero, suc, ◌+◌, ◌-◌, ◌<◌, ◌≤◌, pos, Bool, true, false, List}
 use Rattle.std.proofs.Common.{[], ◌∷◌, length, Option, Some, None, refl, sym, ap, ◌∙◌, arith, subst, leb-true}
 use Rattle.std.proofs.Common.{le-leb, lt-ltb, eq-eqb, get_or}
-use Rattle.std.specs.Prelude.{if◌then◌else◌, ◌==◌, ◌^◌, ◌&&◌, nat_le, nat_lt, slice_get, is_some, position}
+use Rattle.std.specs.Prelude.{if◌then◌else◌, ◌==◌, ◌^◌, ◌&&◌, nat_le, nat_lt, slice_get, is_some, find, position}
 use Rattle.std.specs.Prelude.{option_and_then, IsTrue}
 use Rattle.std.specs.List.{position_or_len}
 use Rattle.std.proofs.lemmas.Bool.{cases_lt, eqb-true, ltb-true, and_parts}
 use Rattle.std.proofs.lemmas.Bool.Decides.{nat_tests}
 use Rattle.std.proofs.lemmas.List.Sums.{fails_before_first}
 use Rattle.std.proofs.lemmas.Grind.{common_steps}
-use Rattle.std.proofs.lemmas.Option.{get_or_from_slice_get, slice_get_within, same_Some}
+use Rattle.std.proofs.lemmas.Option.{get_or_from_slice_get, slice_get_within}
 use Rattle.cap_words.specs.declared.Word.{Word}
 use Rattle.cap_words.specs.declared.Opened.{Opened}
 use Rattle.cap_words.specs.Face.{opened_of}
@@ -19,10 +19,11 @@ use Rattle.component_file.specs.Limits.{Chain, SiteFits}
 use Rattle.component_linker.specs.declared.owners.Site.{Site}
 use Rattle.component_linker.specs.declared.owners.Owner.{Owner}
 use Rattle.component_linker.specs.Parts.{PartSeen}
-use Rattle.overlay_machine.specs.declared.layout.SiteCode.{SiteCode}
-use Rattle.overlay_machine.specs.Layout.{numbered, number_of, site_at, site_code, code_in}
+use Rattle.trusted_border.specs.declared.layout.SiteCode.{SiteCode}
+use Rattle.trusted_border.specs.Layout.{numbered, number_of, site_at, site_code, code_in, with_code, is_code}
+use Rattle.trusted_border.specs.Reaches.{site_of_seal, closure_owner}
 use Rattle.overlay_machine.specs.Agree.{IsForeign}
-use Rattle.overlay_machine.specs.Events.{site_of_seal, site_opened, closure_owner}
+use Rattle.overlay_machine.specs.Events.{site_opened}
 use Rattle.overlay_machine.specs.Link.{Link, IsTrusted, ranges_of}
 use Rattle.overlay_machine.specs.Linked.{any_pc, SiteOf, Linked}
 use Rattle.overlay_machine.proofs.Offers.{found_is, position_is, site_of}
@@ -77,6 +78,23 @@ distinct b (x ∷ xs) h zero (suc j) o ei ej = absurd (let up = above x xs h.1 j
 distinct b (x ∷ xs) h (suc i) zero o ei ej = absurd (let up = above x xs h.1 i o ei in let k = some_nat x o ej in omega (arith, up, k))
 distinct b (x ∷ xs) h (suc i) (suc j) o ei ej = let e = distinct (Some x) xs h.1 i j o ei ej in omega (arith, e)
 
+-- the code of a site has its seal and its address
+code_of_site : (os : List Owner) (x : Site) (s : SiteCode) → code_in os x ≡ Some s
+    → (x.seal ≡ s.seal) × (x.at ≡ s.at)
+code_of_site os x s e = by_owner (find (λ o. o.part == x.part) os) e
+  where
+    by_test : (o : Owner) (b : Bool)
+        → (if b then Some (record { seal = x.seal; base = o.code.base; end = o.code.end; at = x.at }) else None) ≡ Some s
+        → (x.seal ≡ s.seal) × (x.at ≡ s.at)
+    by_test o true h =
+        let k : record { seal = x.seal; base = o.code.base; end = o.code.end; at = x.at } ≡ s = cc in
+        (ap (λ (y : SiteCode). y.seal) k, ap (λ (y : SiteCode). y.at) k)
+    by_test o false h = cc
+
+    by_owner : (r : Option Owner) → option_and_then (with_code x) r ≡ Some s → (x.seal ≡ s.seal) × (x.at ≡ s.at)
+    by_owner None h = cc
+    by_owner (Some o) h = by_test o (is_code o.code) h
+
 module _ (g : Link) (linked : Linked g) where
   -- ---- by words
 
@@ -130,16 +148,16 @@ module _ (g : Link) (linked : Linked g) where
       let u = linked.listed i p.0 p.1 in
       (u.0, u.1, u.2 ∙ eqb-true (p.0).seal n p.2)
 
-  site_listed : (i : ℕ) (s : SiteCode) → site_code g.layout i ≡ Some s
-      → (x : Site) × (slice_get g.layout.sites i ≡ Some x) × (x.seal ≡ s.seal)
+  pub site_listed : (i : ℕ) (s : SiteCode) → site_code g.layout i ≡ Some s
+      → (x : Site) × (slice_get g.layout.sites i ≡ Some x) × (x.seal ≡ s.seal) × (x.at ≡ s.at)
   unfolding site_code
   site_listed i s e = by_site (slice_get g.layout.sites i) refl e
     where
       by_site : (r : Option Site) → slice_get g.layout.sites i ≡ r
           → option_and_then (code_in g.layout.owners) r ≡ Some s
-          → (x : Site) × (slice_get g.layout.sites i ≡ Some x) × (x.seal ≡ s.seal)
+          → (x : Site) × (slice_get g.layout.sites i ≡ Some x) × (x.seal ≡ s.seal) × (x.at ≡ s.at)
       by_site None m h = cc
-      by_site (Some x) m h = (let u = linked.listed i x m in (x, m, sym u.2 ∙ ap (λ (y : SiteCode). y.seal) (same_Some u.0 s (sym u.1 ∙ e))))
+      by_site (Some x) m h = (let k = code_of_site g.layout.owners x s h in (x, m, k.0, k.1))
 
   pub seal_there : (i : ℕ) (s : SiteCode) → site_code g.layout i ≡ Some s
       → is_some (site_of_seal g.layout s.seal) ≡ true

@@ -33,14 +33,14 @@ use Rattle.component_linker.specs.Parts.{PartSeen}
 use Rattle.component_linker.specs.Linked.{AreClosed}
 use Rattle.component_linker.specs.Owners.{AreOwners, AreSites}
 use Rattle.component_linker.proofs.LinksKept.{are_linked}
-use Rattle.overlay_machine.specs.declared.layout.Layout.{Layout}
-use Rattle.overlay_machine.specs.declared.events.Back.{Back}
-use Rattle.overlay_machine.specs.declared.events.Back.TheVariants.{Out, Bad, Hop, Pair}
-use Rattle.overlay_machine.specs.declared.events.Event.{Event}
-use Rattle.overlay_machine.specs.declared.events.Event.TheVariants.{Called, Returned, Entered, Left}
-use Rattle.overlay_machine.specs.Layout.{runs_part, trusted_owner, trusted_at, number_of, site_at}
-use Rattle.overlay_machine.specs.Events.{entry_number, closure_owner, site_of_seal, content_base, hop_to}
-use Rattle.overlay_machine.specs.Events.{hop_in, back_under, back_if, back_of, goes_on, jump_plan}
+use Rattle.trusted_border.specs.declared.layout.Layout.{Layout}
+use Rattle.trusted_border.specs.declared.events.Back.{Back}
+use Rattle.trusted_border.specs.declared.events.Back.TheVariants.{Out, Bad, Hop, Pair}
+use Rattle.trusted_border.specs.declared.events.Event.{Event}
+use Rattle.trusted_border.specs.declared.events.Event.TheVariants.{Called, Returned, Entered, Left}
+use Rattle.trusted_border.specs.Layout.{runs_part, trusted_owner, trusted_at, number_of, site_at}
+use Rattle.trusted_border.specs.Reaches.{entry_number, closure_owner, site_of_seal, content_base, hop_to}
+use Rattle.trusted_border.specs.Reaches.{hop_in, back_under, back_if, back_of, goes_on, jump_plan}
 use Rattle.overlay_machine.proofs.Offers.{found_is}
 use Rattle.trace_tool.specs.declared.note.Note.{Note}
 use Rattle.trace_tool.specs.declared.note.Note.TheVariants.{Nothing, Last, Leap}

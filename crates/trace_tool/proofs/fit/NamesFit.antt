@@ -14,8 +14,8 @@ use Rattle.component_linker.specs.Parts.{PartSeen}
 use Rattle.component_linker.specs.Linked.{AreClosed}
 use Rattle.component_linker.specs.Owners.{entry_of, owner_of, IsOwner, AreOwners, IsSite, AreSites}
 use Rattle.component_linker.proofs.Found.{map_inv}
-use Rattle.overlay_machine.specs.declared.layout.Layout.{Layout}
-use Rattle.overlay_machine.specs.Layout.{numbered, number_of}
+use Rattle.trusted_border.specs.declared.layout.Layout.{Layout}
+use Rattle.trusted_border.specs.Layout.{numbered, number_of}
 use Rattle.overlay_machine.proofs.Offers.{listed_at, only_found, position_is}
 use Rattle.trace_tool.specs.Layout.{name_of, numbered_owner, part_name, entry_text, entry_of as entry_in}
 use Rattle.trace_tool.specs.Layout.{entry_name, site_or, site_of}

@@ -4,11 +4,11 @@ use Rattle.std.proofs.lemmas.Result.{err_from_is_err_and}
 use Rattle.outside_io.specs.FilesSeen.{FilesSeen}
 use Rattle.command_words.specs.declared.part.PartWord.{PartWord}
 use Rattle.component_linker.specs.Parts.{PartSeen}
-use Rattle.overlay_machine.specs.Starting.{IsStartOf}
 use Rattle.component_linker.specs.Started.{StartSeen}
 use Rattle.file_plans.specs.declared.refusal.Stop.{Stop}
 use Rattle.file_plans.specs.declared.refusal.Refusal.TheVariants.{Rule}
 use Rattle.file_plans.specs.Plans.{unless, each_at, Comes, Meets}
+use Rattle.component_linker.specs.LinkedStarts.{IsStartOf}
 use Rattle.lcm_cli.specs.Parts.{linked, part_at}
 use Rattle.lcm_cli.specs.Commands.{linked_parts}
 use Rattle.lcm_cli.specs.Jobs.{without, FollowsStart}

@@ -1,12 +1,12 @@
 use Rattle.std.proofs.Common.{sym, subst, ◌≡◌}
 use Rattle.std.specs.Prelude.{Ok, Err}
 use Rattle.file_plans.specs.declared.refusal.Refusal.TheVariants.{Rule}
+use Rattle.component_linker.specs.LinkedStarts.{IsStartOf}
 use Rattle.lcm_cli.specs.Parts.{linked}
 use Rattle.component_linker.proofs.DropFirst.{keeps_all}
 use Rattle.component_linker.specs.Standing.{placed}
 use Rattle.file_plans.proofs.Follow.{unless_made, unless_ended}
 use Rattle.lcm_cli.proofs.FirstOf.{linked_none, linked_broken}
-use Rattle.overlay_machine.specs.Starting.{IsStartOf}
 use Rattle.lcm_cli.proofs.start.start_of.Goals as goal
 
 pub returns-in-Ok-clause-rules : goal.returns-in-Ok-clause-rules

@@ -4,10 +4,11 @@ use Rattle.command_words.specs.Texts.{texts}
 use Rattle.lcm_cli.proofs.Caused.{promised, usage}
 use Rattle.lcm_cli.proofs.Put.{files_stay, put_whole}
 use Rattle.lcm_cli.proofs.LoadsMade.{loads}
+use Rattle.lcm_cli.proofs.Audits.{audits}
 use Rattle.lcm_cli.proofs.DebugsMade.{debugs}
 use Rattle.lcm_cli.proofs.MeaningMade.{means}
 use Rattle.lcm_cli.proofs.SourcesMade.{sources_told}
-use Rattle.lcm_cli.proofs.RunsMade.{runs, traces, reaches, run_cut, trace_cut}
+use Rattle.lcm_cli.proofs.RunsMade.{both, runs, traces, reaches, run_cut, trace_cut}
 use Rattle.lcm_cli.proofs.top.stk_main.Goals as goal
 
 pub returns-clause-promised : goal.returns-clause-promised
@@ -15,27 +16,36 @@ returns-clause-promised g c = promised (asked_in (texts c.args.words.now.items))
     (rw c.as_slice.ensures.value at c.answer.ensures)
 
 pub returns-clause-ran : goal.returns-clause-ran
-returns-clause-ran g c = runs c.the_headline.ensures.holds (asked_in (texts c.args.words.now.items)) _ _ _
+returns-clause-ran g c = runs (both c.open_calls_are_kept.ensures.kept c.the_headline.ensures.holds)
+    c.runs_pass.ensures
+    (asked_in (texts c.args.words.now.items)) (c.commands_fit.ensures (texts c.args.words.now.items)) _ _ _
     (rw c.as_slice.ensures.value at c.answer.ensures)
 
 pub returns-clause-traced : goal.returns-clause-traced
-returns-clause-traced g c = traces c.the_headline.ensures.holds c.a_start_has_one_overlay.ensures
+returns-clause-traced g c = traces (both c.open_calls_are_kept.ensures.kept c.the_headline.ensures.holds)
+    c.a_start_has_one_overlay.ensures
     (asked_in (texts c.args.words.now.items)) _ _ _ (rw c.as_slice.ensures.value at c.answer.ensures)
 
 pub returns-clause-reached : goal.returns-clause-reached
-returns-clause-reached g c = reaches c.the_headline.ensures.holds c.reports_bound_runs.ensures.bound
+returns-clause-reached g c = reaches (both c.open_calls_are_kept.ensures.kept c.the_headline.ensures.holds)
+    c.reports_bound_runs.ensures.bound
     (asked_in (texts c.args.words.now.items)) _ _ _ (rw c.as_slice.ensures.value at c.answer.ensures)
 
 pub returns-clause-debugged : goal.returns-clause-debugged
-returns-clause-debugged g c = debugs c.the_headline.ensures.holds c.commands_remember.ensures
+returns-clause-debugged g c = debugs (both c.open_calls_are_kept.ensures.kept c.the_headline.ensures.holds)
+    c.commands_remember.ensures
     (asked_in (texts c.args.words.now.items)) _ _ _ (rw c.as_slice.ensures.value at c.answer.ensures)
 
+pub returns-clause-audited : goal.returns-clause-audited
+returns-clause-audited g c = audits (asked_in (texts c.args.words.now.items)) _ _ _
+    (rw c.as_slice.ensures.value at c.answer.ensures)
+
 pub returns-clause-run_cut : goal.returns-clause-run_cut
-returns-clause-run_cut g c = run_cut c.the_headline.ensures.holds
+returns-clause-run_cut g c = run_cut (both c.open_calls_are_kept.ensures.kept c.the_headline.ensures.holds)
     (asked_in (texts c.args.words.now.items)) _ _ _ (rw c.as_slice.ensures.value at c.answer.ensures)
 
 pub returns-clause-trace_cut : goal.returns-clause-trace_cut
-returns-clause-trace_cut g c = trace_cut c.the_headline.ensures.holds
+returns-clause-trace_cut g c = trace_cut (both c.open_calls_are_kept.ensures.kept c.the_headline.ensures.holds)
     (asked_in (texts c.args.words.now.items)) _ _ _ (rw c.as_slice.ensures.value at c.answer.ensures)
 
 pub returns-clause-usage : goal.returns-clause-usage
@@ -55,13 +65,14 @@ returns-clause-meant g c = means (asked_in (texts c.args.words.now.items)) _ _ _
     (rw c.as_slice.ensures.value at c.answer.ensures)
 
 pub returns-clause-generated : goal.returns-clause-generated
-returns-clause-generated g c = loads c.the_headline.ensures.holds
+returns-clause-generated g c = loads (both c.open_calls_are_kept.ensures.kept c.the_headline.ensures.holds)
     (asked_in (texts c.args.words.now.items)) _ _ _ (rw c.as_slice.ensures.value at c.answer.ensures)
 
 pub returns-clause-sourced : goal.returns-clause-sourced
 returns-clause-sourced g c = sources_told
     (record {
-      headline = c.the_headline.ensures.holds;
+      starts = both c.open_calls_are_kept.ensures.kept c.the_headline.ensures.holds;
+      pass = c.runs_pass.ensures;
       sources = record {
         limits = c.sources_are_modules.ensures.limits;
         resolved = c.sources_are_modules.ensures.resolved;
@@ -72,4 +83,5 @@ returns-clause-sourced g c = sources_told
       tells = c.texts_tell_items.ensures.runs;
       keep = c.linked_modules_keep_rules.ensures;
     })
-    (asked_in (texts c.args.words.now.items)) _ _ _ (rw c.as_slice.ensures.value at c.answer.ensures)
+    (asked_in (texts c.args.words.now.items)) (c.commands_fit.ensures (texts c.args.words.now.items)) _ _ _
+    (rw c.as_slice.ensures.value at c.answer.ensures)

@@ -3,9 +3,8 @@ use Rattle.lcm_machine.specs.Run.{plain}
 use Rattle.overlay_machine.specs.Starting.{overlay_at}
 use Rattle.trace_tool.specs.Texts.{lines_text}
 use Rattle.trace_tool.specs.EndLines.{end_line}
-use Rattle.trace_tool.specs.Runs.{run_text}
+use Rattle.trace_tool.specs.Runs.{run_text, written}
 use Rattle.trace_tool.specs.Traces.{trace_of}
-use Rattle.trace_tool.specs.Headline.{written}
 use Rattle.run_feed.specs.Feed.{fed}
 use Rattle.run_items.proofs.EndLinesSeen.{end_is}
 use Rattle.run_items.proofs.TraceEnds.{trace_ends}
@@ -16,7 +15,7 @@ pub returns-clause-runs : goal.returns-clause-runs
 unfolding run_text
 returns-clause-runs c = λ parts size s is base n.
     fed_is base (written s n) (end_line (plain n s.state)) (c.lines_fit.ensures.lines parts size s is n)
-    (end_is (plain n s.state))
+    (_, end_is (plain n s.state))
 
 pub returns-clause-traces : goal.returns-clause-traces
 returns-clause-traces c = λ parts size s is base limit.

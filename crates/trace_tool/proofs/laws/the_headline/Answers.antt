@@ -6,7 +6,8 @@ use Rattle.trace_tool.specs.Layout.{layout}
 use Rattle.trace_tool.specs.Lines.{Line}
 use Rattle.trace_tool.specs.Told.{Told}
 use Rattle.trace_tool.specs.Traces.{trace_of}
-use Rattle.trace_tool.specs.Brackets.{LineTold, marks_in, lines_told}
+use Rattle.trace_tool.specs.OpenCalls.{LineTold}
+use Rattle.trace_tool.specs.Brackets.{marks_in, lines_told}
 use Rattle.trace_tool.specs.Headline.{LinesOfSteps}
 use Rattle.trace_tool.proofs.Agreeing.{agrees, start_fresh}
 use Rattle.trace_tool.proofs.InstanceRun.{call_there}

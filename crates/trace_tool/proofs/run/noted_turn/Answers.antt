@@ -3,7 +3,7 @@ use Rattle.outside_io.specs.Writes.{AddsPieces, FailsAtPiece}
 use Rattle.lcm_machine.specs.declared.Step.TheVariants.{Went}
 use Rattle.lcm_machine.specs.Run.{Run, next_state, answer}
 use Rattle.component_linker.specs.Started.{StartSeen}
-use Rattle.overlay_machine.specs.declared.events.Event.{Event}
+use Rattle.trusted_border.specs.declared.events.Event.{Event}
 use Rattle.trace_tool.specs.Layout.{layout}
 use Rattle.trace_tool.specs.Views.{view_of}
 use Rattle.trace_tool.specs.Events.{noted, event_after}

@@ -32,3 +32,15 @@ returns-in-Err-clause-headline g c = λ parts size is. c.the_headline.ensures.ho
 
 pub returns-clause-headline : goal.returns-clause-headline
 returns-clause-headline g c = λ parts size is. c.the_headline.ensures.holds parts size c.args.start.now is
+
+pub returns-then-not-has_trusted-clause-calls : goal.returns-then-not-has_trusted-clause-calls
+returns-then-not-has_trusted-clause-calls g c = λ parts size is. c.open_calls_are_kept.ensures.kept parts size c.args.start.now is
+
+pub returns-then-ne-clause-calls : goal.returns-then-ne-clause-calls
+returns-then-ne-clause-calls g c = λ parts size is. c.open_calls_are_kept.ensures.kept parts size c.args.start.now is
+
+pub returns-in-Err-clause-calls : goal.returns-in-Err-clause-calls
+returns-in-Err-clause-calls g c = λ parts size is. c.open_calls_are_kept.ensures.kept parts size c.args.start.now is
+
+pub returns-clause-calls : goal.returns-clause-calls
+returns-clause-calls g c = λ parts size is. c.open_calls_are_kept.ensures.kept parts size c.args.start.now is

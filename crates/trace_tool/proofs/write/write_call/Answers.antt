@@ -1,5 +1,5 @@
 use Rattle.std.proofs.Common.{rules, ◌∙◌}
-use Rattle.overlay_machine.specs.declared.events.Event.TheVariants.{Called}
+use Rattle.trusted_border.specs.declared.events.Event.TheVariants.{Called}
 use Rattle.trace_tool.specs.Layout.{layout}
 use Rattle.trace_tool.specs.Lines.{line_of}
 use Rattle.trace_tool.proofs.LineLemmas.{head_fails, line_written}

@@ -1,6 +1,6 @@
 use Rattle.std.proofs.Common.{rules, ◌∙◌, ◌+◌, ◌-◌, refl}
 use Rattle.lcm_isa.specs.declared.Reg.TheVariants.{Dat}
-use Rattle.overlay_machine.specs.declared.events.Event.TheVariants.{Returned}
+use Rattle.trusted_border.specs.declared.events.Event.TheVariants.{Returned}
 use Rattle.trace_tool.specs.Layout.{layout}
 use Rattle.trace_tool.specs.Lines.{words_from, line_of}
 use Rattle.trace_tool.proofs.LineLemmas.{head_fails, word_fails, word_written}

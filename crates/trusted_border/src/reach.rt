@@ -2,8 +2,8 @@
 ghost use Rattle.std.specs.Prelude.{◌≡◌, ◌==◌, ◌&&◌, position, find};
 ghost use Rattle.std.specs.Option.{option_copied};
 ghost use Rattle.cap_words.specs.Face.{FaceInOrder, ContentInOrder};
-ghost use Rattle.overlay_machine.specs.Layout.{runs_part, numbered, number_of};
-ghost use Rattle.overlay_machine.specs.Events.{entry_number, content_base, hop_by};
+ghost use Rattle.trusted_border.specs.Layout.{runs_part, numbered, number_of};
+ghost use Rattle.trusted_border.specs.Reaches.{entry_number, content_base, hop_by};
 
 use crate::events::Back;
 use cap_words::{CapFields, Content, Face};

@@ -1,11 +1,11 @@
-//! What the overlay keeps of a start, and what it finds there.
+//! What is kept of a start, and what is found there.
 ghost use Rattle.std.specs.Prelude.{◌≡◌, ◌==◌, ◌&&◌, ◌≤◌, ◌-◌, IfSome, find, slice_get};
 ghost use Rattle.std.specs.List.{list_any};
 ghost use Rattle.std.specs.Option.{option_copied};
 ghost use Rattle.cap_words.specs.Face.{FaceInOrder};
 ghost use Rattle.cap_words.specs.Ranges.{IsRange};
-ghost use Rattle.overlay_machine.specs.Layout.{runs_part, trusted_owner, trusted_at, numbered, site_at};
-ghost use Rattle.overlay_machine.specs.Layout.{is_entry, is_code, with_code, code_in, site_code};
+ghost use Rattle.trusted_border.specs.Layout.{runs_part, trusted_owner, trusted_at, numbered, site_at};
+ghost use Rattle.trusted_border.specs.Layout.{is_entry, is_code, with_code, code_in, site_code};
 
 use crate::reach::{numbered, runs_part};
 use cap_words::{CapFields, Face, Items, LAST_PLACE};
@@ -100,7 +100,7 @@ fn has_any_entry(owners: &[Owner], at: u32) -> bool
 
 impl Layout {
     /// The trusted part whose code pc runs, where there is one.
-    pub(crate) fn trusted_owner(&self, pc: Face) -> Option<&Owner>
+    pub fn trusted_owner(&self, pc: Face) -> Option<&Owner>
         ensures { option_copied result ≡ trusted_owner self.now pc }
     {
         let Face::Memory(c) = pc else {
@@ -110,7 +110,7 @@ impl Layout {
     }
 
     /// Where pc is trusted, the address at which it stands, if that is in its range.
-    pub(crate) fn trusted_at(&self, pc: Face) -> Option<u32>
+    pub fn trusted_at(&self, pc: Face) -> Option<u32>
         requires { FaceInOrder pc }
         ensures is { result ≡ trusted_at self.now pc }
         ensures within { IfSome result (λ a. a ≤ LAST_PLACE) }
@@ -120,14 +120,14 @@ impl Layout {
     }
 
     /// The number of the site whose call begins at an address.
-    pub(crate) fn site_at(&self, at: u32) -> Option<u32>
+    pub fn site_at(&self, at: u32) -> Option<u32>
         ensures { result ≡ site_at self.now at }
     {
         numbered(self.sites.place_at(at)?)
     }
 
     /// Whether an entry of a trusted part is at an address.
-    pub(crate) fn is_entry(&self, at: u32) -> bool
+    pub fn is_entry(&self, at: u32) -> bool
         ensures { result ≡ is_entry self.now at }
     {
         has_any_entry(self.owners.as_slice(), at)
@@ -135,19 +135,11 @@ impl Layout {
 
     /// The site of a number, with its part's code, where there is one.
     #[tactic(auto, unfolding(crate::specs::Layout::site_code))]
-    pub(crate) fn site_code(&self, number: u32) -> Option<SiteCode>
+    pub fn site_code(&self, number: u32) -> Option<SiteCode>
         ensures is { result ≡ site_code self.now number }
         ensures in_order { IfSome result (λ s. IsRange s.base s.end) }
     {
         let site = numbered_site(self.sites.as_slice(), number)?;
         code_in(self.owners.as_slice(), site)
     }
-}
-
-/// How many addresses a stack has. One that ends below its base, as no start has it, counts as one of
-/// a single word.
-pub(crate) fn stack_cells(stack: Span) -> u32
-    ensures { stack.end - stack.base ≤ result }
-{
-    stack.end.saturating_sub(stack.base).saturating_add(1)
 }

@@ -11,8 +11,8 @@ use Rattle.cap_words.specs.Linear.{lin_is}
 use Rattle.lcm_machine.specs.declared.cells.Span.{Span}
 use Rattle.component_linker.specs.declared.owners.Site.{Site}
 use Rattle.component_linker.specs.declared.owners.Owner.{Owner}
-use Rattle.overlay_machine.specs.declared.layout.Layout.{Layout}
-use Rattle.overlay_machine.specs.declared.layout.SiteCode.{SiteCode}
+use Rattle.trusted_border.specs.declared.layout.Layout.{Layout}
+use Rattle.trusted_border.specs.declared.layout.SiteCode.{SiteCode}
 
 -- normal, with rx, over the whole code of a trusted part
 abbrev pub runs_part : CapFields → Owner → Bool

@@ -1,0 +1,183 @@
+-- No line of a run spoils it in an audit.
+use Rattle.std.proofs.Common.{◌≡◌, ℕ, zero, suc, ◌+◌, ◌<◌, ◌≤◌, Bool, true, false, List, [], ◌∷◌, ◌++◌}
+use Rattle.std.proofs.Common.{length, Option, Some, None, Result, Ok, refl, sym, ap, ◌∙◌, subst, arith}
+use Rattle.std.proofs.Common.{eq-eqb}
+use Rattle.std.specs.Prelude.{if◌then◌else◌, map, nat_lt, ◌==◌}
+use Rattle.std.proofs.lemmas.List.{map-append}
+use Rattle.std.proofs.lemmas.Bool.{lt-ltb}
+use Rattle.cap_words.specs.declared.Word.{Word}
+use Rattle.cap_words.specs.Text.{word_text_of}
+use Rattle.trusted_border.specs.declared.layout.Layout.{Layout}
+use Rattle.trusted_border.specs.declared.events.Event.{Event}
+use Rattle.overlay_machine.specs.State.{OpenFrame, OState, Cells}
+use Rattle.overlay_machine.specs.Step.{goes, overlay_step, weight_of}
+use Rattle.overlay_machine.specs.Events.{step_event}
+use Rattle.overlay_machine.specs.Flat.{flat}
+use Rattle.overlay_machine.specs.Invariant.{FrameLies, LiesBelow, FramesLie}
+use Rattle.overlay_machine.specs.Runs.{Reached, begins, goes_on}
+use Rattle.overlay_machine.specs.Brackets.{frame_told, Brackets, at_end, one_opens, one_closes}
+use Rattle.trace_tool.specs.Views.{flat_view}
+use Rattle.trace_tool.specs.Lines.{Passed, Line, call, ret, enter, pass, leave, passed_of, pass_lines}
+use Rattle.trace_tool.specs.Lines.{line_of, lines_for}
+use Rattle.trace_tool.specs.Pairs.{pairs_of, no_pairs}
+use Rattle.trusted_border.specs.declared.events.Event.TheVariants.{Called, Returned, Entered, Left}
+use Rattle.trace_tool.specs.Told.{step_lines, Told, none_yet, and_then}
+use Rattle.trace_tool.specs.OpenCalls.{LineTold}
+use Rattle.trace_tool.specs.Brackets.{mark_of, marks_in, line_told, lines_told, LinesAreBracketed}
+use Rattle.run_audit.specs.declared.fault.AuditFault.{AuditFault}
+use Rattle.run_audit.specs.declared.line.Line.TheVariants.{Call, Ret, Enter, Pass, Leave}
+use Rattle.run_audit.specs.Told.{ToldSeen, is_wide, is_below, same_told}
+use Rattle.run_audit.specs.Audit.{OpenSeen, nothing_open, below_newest, stepped, goes_on as goes_on_with}
+use Rattle.run_audit.specs.Audit.{followed}
+use Rattle.run_audit.proofs.Same.{told_decides}
+use Rattle.run_audit.proofs.Steps.{followed_append}
+use Rattle.audited_runs.specs.Audited.{told_seen, line_seen}
+
+as_many : {A B : Type 0} (f : A → B) (xs : List A) → length (map f xs) ≡ length xs
+as_many f [] = refl
+as_many f (x ∷ xs) = ap suc (as_many f xs)
+
+-- ---- what frames tell lies as frames do
+
+abbrev Below : LineTold → List LineTold → Type 0
+Below f [] = Unit {0}
+Below f (g ∷ gs) = f.last < g.base
+
+abbrev Lie : List LineTold → Type 0
+Lie [] = Unit {0}
+Lie (f ∷ fs) = (f.base + length f.words ≡ f.last + 1) × Below f fs × Lie fs
+
+told_below : (l : Layout) (f : OpenFrame) (fs : List OpenFrame) (x : LineTold) → x.last ≡ f.end
+    → LiesBelow f fs → Below x (lines_told l fs)
+told_below l f [] x e h = tt
+told_below l f (g ∷ gs) x e h = omega (arith, e, h)
+
+pub frames_lie : (l : Layout) (m : Cells) (n : ℕ) (fs : List OpenFrame) → FramesLie l m n fs
+    → Lie (lines_told l fs)
+frames_lie l m n [] h = tt
+frames_lie l m n (f ∷ fs) h = (
+  omega (arith, h.0.words, as_many (flat l fs) f.words),
+  told_below l f fs (line_told l (frame_told l f fs)) refl h.2,
+  frames_lie l m f.call fs h.3,
+)
+
+-- ---- one line
+
+abbrev IsNoPass : Line → Type 0
+IsNoPass (pass p0 p1 p2) = ⊥
+IsNoPass _ = Unit {0}
+
+abbrev opened_at : List LineTold → Bool → OpenSeen
+opened_at fs entered = record { calls = map told_seen fs; entered = entered }
+
+wide : (f : LineTold) → f.base + length f.words ≡ f.last + 1 → is_wide (told_seen f) ≡ true
+wide f h = eq-eqb _ _ (ap (λ n. f.base + n) (as_many word_text_of f.words) ∙ h)
+
+below : (f : LineTold) (fs : List LineTold) → Below f fs
+    → below_newest (told_seen f) (map told_seen fs) ≡ true
+below f [] h = refl
+below f (g ∷ gs) h = lt-ltb _ _ h
+
+same : (t : ToldSeen) → same_told t t ≡ true
+same t = (told_decides t t).1 refl
+
+opens_one : (f : LineTold) (fs : List LineTold) (n : ℕ) (b : Bool) → Lie (f ∷ fs)
+    → stepped (opened_at fs b) n (Call (told_seen f)) ≡ Ok (opened_at (f ∷ fs) false)
+unfolding stepped
+opens_one f fs n b h = let w = wide f h.0 in let v = below f fs h.1 in rw (w, v) refl
+
+closes_one : (f : LineTold) (fs : List LineTold) (n : ℕ) (b : Bool) → Lie (f ∷ fs)
+    → stepped (opened_at (f ∷ fs) b) n (Ret (told_seen f)) ≡ Ok (opened_at fs false)
+unfolding stepped
+closes_one f fs n b h = let w = wide f h.0 in let v = same (told_seen f) in rw (w, v) refl
+
+-- of the events but an entry
+one : (x : Line) (ps qs : List LineTold) → (b : Bool) → IsNoPass x → Brackets LineTold ps (mark_of x ++ []) qs
+    → Lie ps → Lie qs → (n : ℕ)
+    → (c : Bool) × (stepped (opened_at ps b) n (line_seen x) ≡ Ok (opened_at qs c))
+unfolding stepped
+one (call inward part site base last args words) ps _ b other (one_opens (at_end _)) lp lq n = (
+  false,
+  opens_one (record { part = part; site = site; base = base; last = last; words = words }) ps n b
+      lq,
+)
+one (ret inward part site base last a0 words) _ qs b other (one_closes (at_end _)) lp lq n = (
+  false,
+  closes_one (record { part = part; site = site; base = base; last = last; words = words }) qs n b
+      lp,
+)
+one (enter part export stk args back) ps _ b other (at_end _) lp lq n = (true, refl)
+one (pass p0 p1 p2) ps qs b other h lp lq n = absurd other
+one (leave part a0) ps _ b other (at_end _) lp lq n = (false, refl)
+
+-- what stands behind an enter line
+behind_enter : (b : Bool) (x y z : Passed) (ps qs : List LineTold)
+    → Brackets LineTold ps (marks_in (if b then [] else pass x y z ∷ [])) qs → (n : ℕ)
+    → (c : Bool) × (followed (opened_at ps true) n (map line_seen (if b then [] else pass x y z ∷ [])) ≡ Ok
+    (opened_at qs c))
+unfolding stepped
+behind_enter true x y z ps _ (at_end _) n = (true, refl)
+behind_enter false x y z ps _ (at_end _) n = (false, refl)
+
+enter_goes : (ps : List LineTold) (b : Bool) (n : ℕ) (x : Line) (xs : List Line) → line_seen x ≡ Enter
+    → followed (opened_at ps b) n (map line_seen (x ∷ xs)) ≡ followed (opened_at ps true) (n + 1)
+    (map line_seen xs)
+unfolding stepped
+enter_goes ps b n x xs e =
+    ap (λ y. goes_on_with (stepped (opened_at ps b) n y) (λ t. followed t (n + 1) (map line_seen xs))) e
+
+single : (x : Line) (ps qs : List LineTold) (b : Bool) → IsNoPass x
+    → Brackets LineTold ps (mark_of x ++ []) qs → Lie ps → Lie qs → (n : ℕ)
+    → (c : Bool) × (followed (opened_at ps b) n (map line_seen (x ∷ [])) ≡ Ok (opened_at qs c))
+single x ps qs b other h lp lq n =
+    let k = one x ps qs b other h lp lq n in
+    (k.0, ap (λ r. goes_on_with r (λ t. followed t (n + 1) [])) k.1)
+
+none_or_some : (l : Layout) (q : OState) (e : Option Event) (ps qs : List LineTold)
+    → Brackets LineTold ps (marks_in (lines_for l (flat_view l q) e)) qs → Lie ps → Lie qs
+    → (n : ℕ) (b : Bool)
+    → (c : Bool) × (followed (opened_at ps b) n (map line_seen (lines_for l (flat_view l q) e)) ≡ Ok
+    (opened_at qs c))
+none_or_some l q None ps _ (at_end _) lp lq n b = (b, refl)
+none_or_some l q (Some (Called inward i base last)) ps qs h lp lq n b =
+    single (line_of l (flat_view l q) (Called inward i base last)) ps qs b tt h lp lq n
+none_or_some l q (Some (Returned inward i base last)) ps qs h lp lq n b =
+    single (line_of l (flat_view l q) (Returned inward i base last)) ps qs b tt h lp lq n
+none_or_some l q (Some (Entered part k back)) ps qs h lp lq n b =
+    let v = flat_view l q in
+    let p = pairs_of l v in
+    let r = behind_enter (no_pairs p) (passed_of l p.p0) (passed_of l p.p1) (passed_of l p.p2) ps qs h
+    (n + 1) in
+    (r.0, enter_goes ps b n (line_of l v (Entered part k back)) (pass_lines l p) refl ∙ r.1)
+none_or_some l q (Some (Left part)) ps qs h lp lq n b =
+    single (line_of l (flat_view l q) (Left part)) ps qs b tt h lp lq n
+
+-- ---- all lines
+
+told_reached : {l : Layout} {o : OState} (j : ℕ) (ls : List Line) (p : OState) → Told l o j ls p
+    → Reached l o j p
+told_reached _ _ _ none_yet = begins
+told_reached _ _ _ (and_then {j = j} {ls = ls} {p = p} r e) = goes_on (told_reached j ls p r) e
+
+module _ (l : Layout) (o : OState) (lies : (j : ℕ) (p : OState) → Reached l o j p
+    → Lie (lines_told l p.frames))
+    (brackets : (j : ℕ) (p : OState) → Reached l o j p → LinesAreBracketed l p) where
+  pub follows : (j : ℕ) (ls : List Line) (p : OState) → Told l o j ls p
+      → (b : Bool)
+      × (followed (opened_at (lines_told l o.frames) false) 1 (map line_seen ls) ≡ Ok
+      (opened_at (lines_told l p.frames) b))
+  follows _ _ _ none_yet = (false, refl)
+  follows _ _ q (and_then {j = j} {ls = ls} {p = p} r e) =
+      let at = told_reached j ls p r in
+      let before = follows j ls p r in
+      let xs = map line_seen ls in
+      let ys = map line_seen (step_lines l p q) in
+      let step = none_or_some l q (step_event l p q) (lines_told l p.frames) (lines_told l q.frames)
+      (brackets j p at (0 + weight_of l p) ([] ++ step_lines l p q) q (and_then none_yet e))
+      (lies j p at) (lies (j + weight_of l p) q (goes_on at e)) (1 + length xs) before.0 in (
+        step.0,
+        ap (followed (opened_at (lines_told l o.frames) false) 1) (map-append line_seen ls (step_lines l p q))
+            ∙ followed_append (opened_at (lines_told l o.frames) false) 1 xs ys
+            ∙ ap (λ k. goes_on_with k (λ t. followed t (1 + length xs) ys)) before.1
+            ∙ step.1,
+      )

@@ -1,0 +1,4 @@
+mod Followed
+mod Spelled
+mod EndsRead
+mod Passing

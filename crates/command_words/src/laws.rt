@@ -1,0 +1,11 @@
+//! What holds of commands. The function does nothing; its contract is the law.
+ghost use Rattle.std.specs.Prelude.{◌≡◌, List, Some};
+ghost use Rattle.command_words.specs.Texts.{Text};
+ghost use Rattle.command_words.specs.declared.command.Command.{Command};
+ghost use Rattle.command_words.specs.Action.{asked_in};
+ghost use Rattle.command_words.specs.Fits.{Fits};
+
+/// Names, numbers and counts of what words ask for are within their bounds.
+pub fn commands_fit()
+    ensures { (words : List Text) (c : Command) → asked_in words ≡ Some c → Fits c }
+{}

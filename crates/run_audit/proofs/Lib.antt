@@ -1,0 +1,5 @@
+pub mod Same
+pub mod Steps
+pub mod Grammar
+pub mod Clean
+pub mod Found
