@@ -1,0 +1,9 @@
+pub mod Tree
+pub mod Codes
+pub mod View
+pub mod Deep
+pub mod StmtView
+pub mod StmtDeep
+pub mod Tokens
+pub mod Erased
+pub mod Limits

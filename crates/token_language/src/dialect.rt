@@ -1,0 +1,10 @@
+//! The two languages.
+
+/// The language that a source is written in.
+#[derive(Clone, Copy, Debug, PartialEq, Eq)]
+pub enum Dialect {
+    /// That of plain modules.
+    Plain,
+    /// That of modules with tokens.
+    Tokens,
+}

@@ -1,0 +1,16 @@
+//! Modules with tokens: the tree of a source in the language of tokens.
+//!
+//! A token is what a procedure makes, hands over and spends. All else is as in the plain language, whose
+//! module is what is left without the tokens.
+#![tactic(auto)]
+
+mod dialect;
+mod module;
+mod tree;
+
+pub use dialect::Dialect;
+pub use module::{TokenLocal, TokenModule, TokenModuleFields, TokenParam, TokenProc};
+pub use tree::{TokenArg, TokenCall, TokenExpr, TokenExprKind, TokenStmt, TokenStmtKind};
+
+/// The most tokens of a procedure, those that it is given among them.
+pub const MOST_TOKENS: u32 = 60;
