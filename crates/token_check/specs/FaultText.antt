@@ -1,0 +1,15 @@
+-- How the faults of tokens print.
+use Rattle.std.specs.Prelude.{ℕ, ◌++◌, List, codes, decimal}
+use Rattle.token_check.specs.declared.fault.TokenFault.{TokenFault}
+use Rattle.token_check.specs.declared.fault.TokenFault.TheVariants as fault
+
+-- what is wrong at a byte
+abbrev at_byte : ℕ → List ℕ → List ℕ
+at_byte at what = codes "byte " ++ decimal at ++ what
+
+abbrev pub token_fault_text : TokenFault → List ℕ
+token_fault_text (fault.Empty at) = at_byte at (codes ": this token is empty")
+token_fault_text (fault.Full at) = at_byte at (codes ": this token is full")
+token_fault_text (fault.Kept at) = at_byte at (codes ": a token is still full")
+token_fault_text (fault.Split at) = at_byte at (codes ": other tokens are full on another way")
+token_fault_text (fault.Dead at) = at_byte at (codes ": nothing leads here")
