@@ -7,6 +7,7 @@ use component_linker::{Part, Start, accept, link};
 use proc_sources::component_of;
 use std::alloc::{AllocError, Global};
 use std::process::Abort;
+use token_language::Dialect;
 
 /// A part that is assembled of a text.
 pub(crate) fn assembled(rt: &impl Abort, alloc: Global, text: &str, trusted: bool) -> Part {
@@ -23,7 +24,7 @@ pub(crate) fn assembled(rt: &impl Abort, alloc: Global, text: &str, trusted: boo
 /// A trusted part that is compiled of a source.
 pub(crate) fn compiled(rt: &impl Abort, alloc: Global, text: &str) -> Part {
     assert!(rt; text.len() < 4_000_000);
-    let Ok(component) = component_of(alloc, text.as_bytes()) else {
+    let Ok(component) = component_of(alloc, Dialect::Plain, text.as_bytes()) else {
         panic!(rt; "not compiled");
     };
     match accept(component, true) {

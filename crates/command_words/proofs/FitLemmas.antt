@@ -11,12 +11,13 @@ use Rattle.command_words.specs.Texts.{Text}
 use Rattle.command_words.specs.Line.{Taken, rows, taken_of}
 use Rattle.command_words.specs.Name.{is_file_name, file_name_in, file_of}
 use Rattle.command_words.specs.Number.{number_in, number_or, steps_in, size_in, seed_in}
-use Rattle.command_words.specs.Part.{mark_in, ending_in, part_in, parts_in, some_parts_in, one_part_in}
+use Rattle.command_words.specs.Part.{mark_in, ending_in, may_be, has_tokens}
+use Rattle.command_words.specs.Part.{part_in, parts_in, some_parts_in, one_part_in}
 use Rattle.command_words.specs.Part.{image_in, one_image_in}
 use Rattle.command_words.specs.Action.{action_in, image_or_parts, is_assembler, is_module, is_source}
 use Rattle.command_words.specs.Action.{linked_in, run_in, assemble_in, compile_in, part_alone_in, link_in}
 use Rattle.command_words.specs.Action.{mean_in, generate_in, asked_of, asked_in}
-use Rattle.command_words.specs.Action.{reach_in, debug_in, audit_in}
+use Rattle.command_words.specs.Action.{reach_in, debug_in, audit_in, erase_in}
 use Rattle.command_words.specs.Fits.{Fits, FitsLinked, FitsName, FitsPart, FitsParts, FitsStack, FitsSteps}
 use Rattle.command_words.specs.declared.TheConstants.{MOST_PARTS, GREATEST_SEED}
 use Rattle.command_words.specs.declared.part.PartWord.{PartWord}
@@ -26,7 +27,7 @@ use Rattle.command_words.specs.declared.command.Command.{Command}
 use Rattle.command_words.specs.declared.command.LinkDeed.TheVariants.{Run, Trace, Reach}
 use Rattle.command_words.specs.declared.command.ComponentDeed.TheVariants.{Put, Show}
 use Rattle.command_words.specs.declared.command.Command.TheVariants.{Links, Takes, Checks, Mean, Generate}
-use Rattle.command_words.specs.declared.command.Command.TheVariants.{Debug, Audit}
+use Rattle.command_words.specs.declared.command.Command.TheVariants.{Debug, Audit, Erase}
 use Rattle.command_words.specs.declared.action.Action.{Action}
 use Rattle.command_words.specs.declared.action.Action.TheVariants as action
 
@@ -101,7 +102,8 @@ file_fits word = any word file_name_in FitsName name_fits
 part_fits : (word : Text) → IfSome (part_in word) FitsPart
 unfolding part_in
 part_fits word = any (mark_in word) _ FitsPart (λ marked. any (ending_in marked.1) _ FitsPart (λ ending.
-    next (file_name_in marked.1) _ FitsName FitsPart (name_fits marked.1) (λ name h. h)))
+    next (file_name_in marked.1) _ FitsName FitsPart (name_fits marked.1) (λ name h.
+    where_true (may_be marked.0 ending) _ FitsPart (λ e. h))))
 
 parts_fit : (words : List Text) → IfSome (parts_in words) (λ ps. (length ps ≡ length words) × All FitsPart ps)
 unfolding parts_in
@@ -224,6 +226,13 @@ audit_fits : (t : Taken) → IfSome (audit_in t) Fits
 unfolding audit_in
 audit_fits t = unless _ _ Fits (made (file_of t.feed) Audit FitsName Fits (file_fits t.feed) (λ text n. n))
 
+erase_fits : (t : Taken) → IfSome (erase_in t) Fits
+unfolding erase_in
+erase_fits t = unless _ _ Fits (
+    next (one_part_in t.parts) _ FitsPart Fits (one_part_fits t.parts) (λ part p.
+    next (file_of t.out) _ FitsName Fits (file_fits t.out) (λ out o.
+    where_true (has_tokens part.ending) (Some (Erase part out)) Fits (λ e. (p, o)))))
+
 asked_of_fits : (a : Action) (t : Taken) → IfSome (asked_of a t) Fits
 asked_of_fits action.Run t = made (run_in t) (λ p. Links p.0 (Run p.1)) FitsRun Fits (run_fits t) (λ p h. h)
 asked_of_fits action.Trace t = made (run_in t) (λ p. Links p.0 (Trace p.1)) FitsRun Fits (run_fits t)
@@ -239,6 +248,7 @@ asked_of_fits action.Generate t = generate_fits t
 asked_of_fits action.Reach t = reach_fits t
 asked_of_fits action.Debug t = debug_fits t
 asked_of_fits action.Audit t = audit_fits t
+asked_of_fits action.Erase t = erase_fits t
 
 asked_fits : (words : List Text) → IfSome (asked_in words) Fits
 asked_fits words = any (rows words) _ Fits (λ found. any (taken_of found).action _ Fits (λ word.

@@ -7,9 +7,8 @@ use Rattle.command_words.specs.Texts.{Text}
 use Rattle.command_words.specs.Line.{Taken, rows, taken_of}
 use Rattle.command_words.specs.Name.{file_of}
 use Rattle.command_words.specs.Number.{steps_in, size_in, seed_in}
-use Rattle.command_words.specs.Part.{◌>>=◌, some_parts_in, one_part_in, one_image_in}
-use Rattle.command_words.specs.declared.part.Mark.{Mark}
-use Rattle.command_words.specs.declared.part.Mark.TheVariants.{Trusted, Untrusted}
+use Rattle.command_words.specs.Part.{◌>>=◌, dialect_of, has_tokens, is_trusted}
+use Rattle.command_words.specs.Part.{some_parts_in, one_part_in, one_image_in}
 use Rattle.command_words.specs.declared.part.Ending.{Ending}
 use Rattle.command_words.specs.declared.part.Ending.TheVariants.{Source, Assembler, Component}
 use Rattle.command_words.specs.declared.part.PartWord.{PartWord}
@@ -19,7 +18,7 @@ use Rattle.command_words.specs.declared.command.LinkDeed.TheVariants.{Run, Trace
 use Rattle.command_words.specs.declared.command.ComponentDeed.TheVariants.{Put, Show}
 use Rattle.command_words.specs.declared.command.Command.{Command}
 use Rattle.command_words.specs.declared.command.Command.TheVariants.{Links, Takes, Checks, Mean, Generate}
-use Rattle.command_words.specs.declared.command.Command.TheVariants.{Debug, Audit}
+use Rattle.command_words.specs.declared.command.Command.TheVariants.{Debug, Audit, Erase}
 use Rattle.command_words.specs.declared.action.Action.{Action}
 use Rattle.command_words.specs.declared.action.Action.TheVariants as action
 
@@ -36,25 +35,20 @@ action_in word =
     else (if bytes_eq word (codes "generate") then Some action.Generate
     else (if bytes_eq word (codes "reach") then Some action.Reach
     else (if bytes_eq word (codes "debug") then Some action.Debug
-    else (if bytes_eq word (codes "audit") then Some action.Audit else None)))))))))))
+    else (if bytes_eq word (codes "audit") then Some action.Audit
+    else (if bytes_eq word (codes "erase") then Some action.Erase else None))))))))))))
 
 -- one of these options is used
 abbrev pub any_used : List (Option Text) → Bool
 any_used = list_any is_some
 
 abbrev pub is_source : Ending → Bool
-is_source Source = true
-is_source Assembler = false
-is_source Component = false
+is_source ending = is_some (dialect_of ending)
 
 abbrev pub is_assembler : Ending → Bool
-is_assembler Source = false
+is_assembler (Source dialect) = false
 is_assembler Assembler = true
 is_assembler Component = false
-
-abbrev pub is_trusted : Mark → Bool
-is_trusted Trusted = true
-is_trusted Untrusted = false
 
 abbrev pub image_or_parts : Option Text → Option (List Text) → Option Text → Option Linked
 image_or_parts (Some name) words stack = if is_some stack then None else Some (Image name)
@@ -98,7 +92,7 @@ link_in t = if any_used (t.steps ∷ t.feed ∷ t.seed ∷ []) then None else do
   parts ← some_parts_in t.parts
   Some (Links (Parts parts size) (Store out))
 
--- `t:NAME.prc`
+-- `t:NAME.prc` or `t:NAME.tok`
 abbrev pub is_module : PartWord → Bool
 is_module p = is_trusted p.mark && is_source p.ending
 
@@ -131,6 +125,12 @@ audit_in t =
     if is_some t.parts || any_used (t.stack ∷ t.steps ∷ t.out ∷ t.seed ∷ []) then None
     else option_map Audit (file_of t.feed)
 
+unfoldable pub erase_in : Taken → Option Command
+erase_in t = if any_used (t.stack ∷ t.steps ∷ t.feed ∷ t.seed ∷ []) then None else do
+  part ← one_part_in t.parts
+  out ← file_of t.out
+  if has_tokens part.ending then Some (Erase part out) else None
+
 -- what an action asks for
 abbrev pub asked_of : Action → Taken → Option Command
 asked_of action.Run t = option_map (λ p. Links p.0 (Run p.1)) (run_in t)
@@ -145,6 +145,7 @@ asked_of action.Generate t = generate_in t
 asked_of action.Reach t = reach_in t
 asked_of action.Debug t = debug_in t
 asked_of action.Audit t = audit_in t
+asked_of action.Erase t = erase_in t
 
 -- what the words ask for; none where the command line doesn't take them, or they break a rule of their action
 abbrev pub asked_in : List Text → Option Command

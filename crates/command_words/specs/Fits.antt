@@ -13,7 +13,7 @@ use Rattle.command_words.specs.declared.command.ComponentDeed.{ComponentDeed}
 use Rattle.command_words.specs.declared.command.ComponentDeed.TheVariants.{Put, Show}
 use Rattle.command_words.specs.declared.command.Command.{Command}
 use Rattle.command_words.specs.declared.command.Command.TheVariants.{Links, Takes, Checks, Mean, Generate}
-use Rattle.command_words.specs.declared.command.Command.TheVariants.{Debug, Audit}
+use Rattle.command_words.specs.declared.command.Command.TheVariants.{Debug, Audit, Erase}
 
 -- 1 to 255 bytes, of which the first isn't `-`
 abbrev pub FitsName : Text → Type 0
@@ -56,3 +56,4 @@ Fits (Mean modules size fuel feed) = FitsParts modules × FitsStack size × Fits
 Fits (Generate seed) = seed ≤ GREATEST_SEED
 Fits (Debug what script) = FitsLinked what × FitsName script
 Fits (Audit text) = FitsName text
+Fits (Erase part out) = FitsPart part × FitsName out

@@ -1,6 +1,6 @@
 -- Part words and image words.
-use Rattle.std.specs.Prelude.{List, [], ◌∷◌, nat_eq, nat_le, length, drop, codes, Option, Some}
-use Rattle.std.specs.Prelude.{None, option_and_then, is_some, ◌&&◌, if◌then◌else◌}
+use Rattle.std.specs.Prelude.{List, [], ◌∷◌, nat_eq, nat_le, length, drop, codes, Option, Some, Bool, true}
+use Rattle.std.specs.Prelude.{false, None, option_and_then, is_some, ◌&&◌, ◌||◌, not, if◌then◌else◌}
 use Rattle.std.specs.List.{starts_with, ends_with}
 use Rattle.command_words.specs.Texts.{Text}
 use Rattle.command_words.specs.Name.{file_name_in}
@@ -10,6 +10,8 @@ use Rattle.command_words.specs.declared.part.Mark.TheVariants.{Trusted, Untruste
 use Rattle.command_words.specs.declared.part.Ending.{Ending}
 use Rattle.command_words.specs.declared.part.Ending.TheVariants.{Source, Assembler, Component}
 use Rattle.command_words.specs.declared.part.PartWord.{PartWord}
+use Rattle.token_language.specs.declared.dialect.Dialect.{Dialect}
+use Rattle.token_language.specs.declared.dialect.Dialect.TheVariants.{Plain, Tokens}
 
 infixl 10 ◌>>=◌
 abbrev pub ◌>>=◌ : {A B : Type 0} → Option A → (A → Option B) → Option B
@@ -23,9 +25,30 @@ mark_in word =
 
 unfoldable pub ending_in : Text → Option Ending
 ending_in name =
-    if ends_with nat_eq name (codes ".prc") then Some Source
+    if ends_with nat_eq name (codes ".prc") then Some (Source Plain)
+    else (if ends_with nat_eq name (codes ".tok") then Some (Source Tokens)
     else (if ends_with nat_eq name (codes ".asm") then Some Assembler
-    else (if ends_with nat_eq name (codes ".stc") then Some Component else None))
+    else (if ends_with nat_eq name (codes ".stc") then Some Component else None)))
+
+-- the language of a source
+abbrev pub dialect_of : Ending → Option Dialect
+dialect_of (Source dialect) = Some dialect
+dialect_of Assembler = None
+dialect_of Component = None
+
+abbrev pub has_tokens : Ending → Bool
+has_tokens (Source Tokens) = true
+has_tokens (Source Plain) = false
+has_tokens Assembler = false
+has_tokens Component = false
+
+abbrev pub is_trusted : Mark → Bool
+is_trusted Trusted = true
+is_trusted Untrusted = false
+
+-- a source with tokens is trusted
+abbrev pub may_be : Mark → Ending → Bool
+may_be mark ending = is_trusted mark || not (has_tokens ending)
 
 -- `t:NAME` or `u:NAME`, where NAME is a file's name with one of the endings
 unfoldable pub part_in : Text → Option PartWord
@@ -33,7 +56,7 @@ part_in word = do
   marked ← mark_in word
   ending ← ending_in marked.1
   name ← file_name_in marked.1
-  Some (record { mark = marked.0; ending = ending; name = name })
+  if may_be marked.0 ending then Some (record { mark = marked.0; ending = ending; name = name }) else None
 
 -- the part of each word, where each is a part word
 unfoldable pub parts_in : List Text → Option (List PartWord)

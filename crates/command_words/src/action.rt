@@ -5,7 +5,7 @@ ghost use Rattle.command_words.specs.Texts.{Text, texts, text_of, all_texts};
 ghost use Rattle.command_words.specs.Views.{taken_in};
 ghost use Rattle.command_words.specs.Action.{action_in, linked_in, run_in, assemble_in, compile_in};
 ghost use Rattle.command_words.specs.Action.{part_alone_in, link_in, is_module, mean_in, generate_in};
-ghost use Rattle.command_words.specs.Action.{reach_in, debug_in, audit_in};
+ghost use Rattle.command_words.specs.Action.{reach_in, debug_in, audit_in, erase_in};
 ghost use Rattle.command_words.specs.Action.{asked_of, asked_in};
 ghost use Rattle.command_words.specs.Fits.{Fits};
 
@@ -32,6 +32,7 @@ enum Action {
     Reach,
     Debug,
     Audit,
+    Erase,
 }
 
 #[tactic(auto, unfolding(crate::specs::Action::action_in))]
@@ -51,6 +52,7 @@ fn action_named(word: &str) -> Option<Action>
         "reach" => Some(Action::Reach),
         "debug" => Some(Action::Debug),
         "audit" => Some(Action::Audit),
+        "erase" => Some(Action::Erase),
         _ => None,
     }
 }
@@ -133,7 +135,7 @@ fn compile<'a>(taken: &Taken<'_, 'a>) -> Option<Command<'a>>
     }
     let part = one_part(taken.parts)?;
     let out = file_of(taken.out)?;
-    if part.ending == Ending::Source {
+    if part.ending.is_source() {
         Some(Command::Takes(part, ComponentDeed::Put(out)))
     } else {
         None
@@ -173,7 +175,7 @@ fn link<'a>(alloc: Global, taken: &Taken<'_, 'a>) -> Result<Option<Command<'a>>,
 fn is_module(part: &PartWord<'_>) -> bool
     ensures { result ≡ is_module part.now }
 {
-    part.mark == Mark::Trusted && part.ending == Ending::Source
+    part.mark == Mark::Trusted && part.ending.is_source()
 }
 
 fn are_modules(parts: &[PartWord<'_>]) -> bool
@@ -261,6 +263,22 @@ fn audit<'a>(taken: &Taken<'_, 'a>) -> Option<Command<'a>>
     Some(Command::Audit(text))
 }
 
+#[tactic(auto, unfolding(crate::specs::Action::erase_in))]
+fn erase<'a>(taken: &Taken<'_, 'a>) -> Option<Command<'a>>
+    ensures { result ≡ erase_in (taken_in taken.now) }
+{
+    if any_used(&[taken.stack, taken.steps, taken.feed, taken.seed]) {
+        return None;
+    }
+    let part = one_part(taken.parts)?;
+    let out = file_of(taken.out)?;
+    if part.ending.has_tokens() {
+        Some(Command::Erase(part, out))
+    } else {
+        None
+    }
+}
+
 // The action with its parts and options.
 fn asked_of<'a>(
     alloc: Global,
@@ -294,6 +312,7 @@ fn asked_of<'a>(
         Action::Reach => reach(alloc, taken),
         Action::Debug => debug(alloc, taken),
         Action::Audit => Ok(audit(taken)),
+        Action::Erase => Ok(erase(taken)),
     }
 }
 

@@ -52,4 +52,6 @@ pub enum Command<'a> {
     Debug(Linked<'a>, FileName<'a>),
     /// `audit`: the text of a file is audited as that of a run.
     Audit(FileName<'a>),
+    /// `erase`: the text of a part without its tokens is put into a file.
+    Erase(PartWord<'a>, FileName<'a>),
 }

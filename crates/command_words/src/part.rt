@@ -2,14 +2,15 @@
 ghost use Rattle.std.specs.Prelude.{◌≡◌, ◌≤◌, length, IfOk, IfSome, nat_eq};
 ghost use Rattle.std.specs.Option.{option_map};
 ghost use Rattle.std.specs.List.{ends_with};
-ghost use Rattle.command_words.specs.Part.{mark_in, ending_in, part_in, parts_in, some_parts_in};
-ghost use Rattle.command_words.specs.Part.{one_part_in, image_in, one_image_in};
+ghost use Rattle.command_words.specs.Part.{mark_in, ending_in, has_tokens, may_be, part_in, parts_in};
+ghost use Rattle.command_words.specs.Part.{dialect_of, some_parts_in, one_part_in, image_in, one_image_in};
 ghost use Rattle.command_words.specs.Texts.{texts_of, all_texts};
 
 use crate::MOST_PARTS;
 use crate::name::FileName;
 use std::alloc::{AllocError, Global};
 use std::marker::Model;
+use token_language::Dialect;
 
 /// What stands before a part's name.
 #[derive(Clone, Copy, Debug, PartialEq, Eq)]
@@ -23,15 +24,50 @@ pub enum Mark {
 /// What a part's name ends in, which says what its file holds.
 #[derive(Clone, Copy, Debug, PartialEq, Eq)]
 pub enum Ending {
-    /// `.prc`, a source.
-    Source,
+    /// `.prc` or `.tok`, a source in this language.
+    Source(Dialect),
     /// `.asm`, an assembler text.
     Assembler,
     /// `.stc`, a component.
     Component,
 }
 
-/// A part word: `t:NAME` or `u:NAME`, where NAME has one of the endings.
+impl Ending {
+    ghost use Rattle.std.specs.Prelude.{is_some};
+    ghost use Rattle.command_words.specs.Part.{dialect_of, has_tokens};
+
+    /// The language of a source.
+    pub fn dialect(self) -> Option<Dialect>
+        ensures { result ≡ dialect_of self }
+    {
+        match self {
+            Ending::Source(dialect) => Some(dialect),
+            Ending::Assembler => None,
+            Ending::Component => None,
+        }
+    }
+
+    /// Whether the file is a source.
+    pub fn is_source(self) -> bool
+        ensures { result ≡ is_some (dialect_of self) }
+    {
+        self.dialect().is_some()
+    }
+
+    /// Whether the file is a source with tokens.
+    pub fn has_tokens(self) -> bool
+        ensures { result ≡ has_tokens self }
+    {
+        match self {
+            Ending::Source(Dialect::Tokens) => true,
+            Ending::Source(Dialect::Plain) => false,
+            Ending::Assembler => false,
+            Ending::Component => false,
+        }
+    }
+}
+
+/// A part word: `t:NAME` or `u:NAME`, where NAME has one of the endings; a source with tokens is trusted.
 #[derive(Debug, Drop)]
 pub struct PartWord<'a> {
     /// Whether the part is trusted.
@@ -94,7 +130,9 @@ fn ending_of(name: &str) -> Option<Ending>
     ensures { result ≡ ending_in name.now }
 {
     if ends(name, ".prc") {
-        Some(Ending::Source)
+        Some(Ending::Source(Dialect::Plain))
+    } else if ends(name, ".tok") {
+        Some(Ending::Source(Dialect::Tokens))
     } else if ends(name, ".asm") {
         Some(Ending::Assembler)
     } else if ends(name, ".stc") {
@@ -102,6 +140,13 @@ fn ending_of(name: &str) -> Option<Ending>
     } else {
         None
     }
+}
+
+// Whether a file with this ending may have this mark.
+fn may_be(mark: Mark, ending: Ending) -> bool
+    ensures { result ≡ may_be mark ending }
+{
+    mark == Mark::Trusted || !ending.has_tokens()
 }
 
 // A part word.
@@ -112,7 +157,11 @@ fn part_of<'a>(word: &'a str) -> Option<PartWord<'a>>
     let (mark, name) = mark_of(word)?;
     let ending = ending_of(name)?;
     let name = FileName::new(name)?;
-    Some(PartWord { mark, ending, name })
+    if may_be(mark, ending) {
+        Some(PartWord { mark, ending, name })
+    } else {
+        None
+    }
 }
 
 // An image word: a file's name that has no mark and ends in `.img`.

@@ -7,6 +7,7 @@ use command_words::{
 use std::alloc::{AllocError, Global};
 use std::process::Abort;
 use std::test::Fail;
+use token_language::Dialect;
 
 fn part_text(alloc: Global, part: &PartWord<'_>) -> Result<String, AllocError> {
     let mark = match part.mark {
@@ -14,7 +15,8 @@ fn part_text(alloc: Global, part: &PartWord<'_>) -> Result<String, AllocError> {
         Mark::Untrusted => "u",
     };
     let ending = match part.ending {
-        Ending::Source => "source",
+        Ending::Source(Dialect::Plain) => "source",
+        Ending::Source(Dialect::Tokens) => "tokens",
         Ending::Assembler => "asm",
         Ending::Component => "component",
     };
@@ -79,6 +81,9 @@ fn command_text(alloc: Global, command: &Command<'_>) -> Result<String, AllocErr
         }
         Command::Generate(seed) => format!(in alloc; "generate {}", seed.number()),
         Command::Audit(text) => format!(in alloc; "audit {}", text.as_str()),
+        Command::Erase(part, out) => {
+            format!(in alloc; "erase {} {}", part_text(alloc, part)?, out.as_str())
+        }
         Command::Debug(what, script) => {
             format!(in alloc; "debug {} {}", linked_text(alloc, what)?, script.as_str())
         }
@@ -115,7 +120,7 @@ fn is_command(alloc: Global, line: &str) -> Result<bool, AllocError> {
     Ok(told(alloc, line)?.as_str() != "usage")
 }
 
-static ACTIONS: [(&str, &str); 26] = [
+static ACTIONS: [(&str, &str); 34] = [
     ("run u:one.asm", "run u-asm(one.asm) 4096 1000000"),
     ("run one.img", "run image(one.img) 1000000"),
     (
@@ -156,6 +161,23 @@ static ACTIONS: [(&str, &str); 26] = [
     ("audit --feed run.txt", "audit run.txt"),
     ("audit", "usage"),
     ("audit u:one.asm --feed run.txt", "usage"),
+    (
+        "erase t:one.tok --out one.prc",
+        "erase t-tokens(one.tok) one.prc",
+    ),
+    ("erase t:one.tok", "usage"),
+    ("erase t:one.prc --out two.prc", "usage"),
+    ("erase u:one.tok --out one.prc", "usage"),
+    (
+        "compile t:one.tok --out one.stc",
+        "put t-tokens(one.tok) one.stc",
+    ),
+    (
+        "mean t:one.tok t:two.prc --feed f",
+        "mean t-tokens(one.tok)t-source(two.prc) 4096 1000000 f",
+    ),
+    ("run t:one.tok", "run t-tokens(one.tok) 4096 1000000"),
+    ("asm t:one.tok --out one.stc", "usage"),
     ("fly u:one.asm", "usage"),
 ];
 
@@ -237,7 +259,7 @@ static NUMBERS: [(&str, &str); 22] = [
     ("mean t:one.prc --feed f --steps 0", "usage"),
 ];
 
-static NAMES: [(&str, &str); 20] = [
+static NAMES: [(&str, &str); 21] = [
     ("check u:.asm", "check u-asm(.asm)"),
     ("check u:a.prc.asm", "check u-asm(a.prc.asm)"),
     ("check t:t:a.asm", "check t-asm(t:a.asm)"),
@@ -245,6 +267,7 @@ static NAMES: [(&str, &str); 20] = [
     ("check u:asm", "usage"),
     ("check u:one", "usage"),
     ("check u:one.tok", "usage"),
+    ("check t:one.tok", "check t-tokens(one.tok)"),
     ("check u:one.ASM", "usage"),
     ("check U:one.asm", "usage"),
     ("check one.asm", "usage"),
@@ -278,7 +301,7 @@ fn each_line_asks_for_its_command(rt: HostRuntime) -> Result<(), Fail> {
 }
 
 // A command, and which options may be added to it.
-static ADDED: [(&str, &[&str]); 15] = [
+static ADDED: [(&str, &[&str]); 16] = [
     ("run u:a.asm", &["--stack", "--steps"]),
     ("run a.img", &["--steps"]),
     ("trace u:a.asm", &["--stack", "--steps"]),
@@ -294,6 +317,7 @@ static ADDED: [(&str, &[&str]); 15] = [
     ("reach a.img", &[]),
     ("debug u:a.asm --feed x", &["--stack"]),
     ("debug a.img --feed x", &[]),
+    ("erase t:a.tok --out x", &[]),
 ];
 
 // Whether the line is a command with this option behind it.
@@ -319,11 +343,12 @@ fn options_that_an_action_does_not_name_are_usage(rt: HostRuntime) -> Result<(),
 }
 
 // An action with its options, a part word, and the least and the most of them.
-static COUNTS: [(&str, &str, usize, usize); 11] = [
+static COUNTS: [(&str, &str, usize, usize); 12] = [
     ("run", "u:a.asm", 1, 16),
     ("trace", "u:a.asm", 1, 16),
     ("asm --out x", "u:a.asm", 1, 1),
     ("compile --out x", "t:a.prc", 1, 1),
+    ("erase --out x", "t:a.tok", 1, 1),
     ("dis", "u:a.asm", 1, 1),
     ("check", "u:a.asm", 1, 1),
     ("link --out x", "u:a.asm", 1, 16),

@@ -99,8 +99,9 @@ never_told why h name index told gives differ =
 
 never_form : (why : Refusal) → Foreign why → (ending : Ending) (name : List ℕ) (index : ℕ)
     → Never (let p : Plan _ = Reads name index (form_by ending index) in p) why
-never_form why h Source name index =
-    never_told why h name index (refusal.Source index) sourced (λ f. foreign (refusal.Source index f) why h)
+never_form why h (Source d) name index =
+    never_told why h name index (refusal.Source index) (sourced d)
+    (λ f. foreign (refusal.Source index f) why h)
 never_form why h Assembler name index =
     never_told why h name index (refusal.Assembly index) assembled
     (λ f. foreign (refusal.Assembly index f) why h)
@@ -175,7 +176,8 @@ no_rule_by name index told gives r differ =
 
 no_rule_form : (ending : Ending) (name : List ℕ) (index : ℕ) (r : RuleAt)
     → Never (let p : Plan _ = Reads name index (form_by ending index) in p) (refusal.Rule r)
-no_rule_form Source name index r = no_rule_by name index (refusal.Source index) sourced r (λ f e. cc)
+no_rule_form (Source d) name index r =
+    no_rule_by name index (refusal.Source index) (sourced d) r (λ f e. cc)
 no_rule_form Assembler name index r = no_rule_by name index (refusal.Assembly index) assembled r (λ f e. cc)
 no_rule_form Component name index r = no_rule_by name index (refusal.File index) decoded r (λ f e. cc)
 

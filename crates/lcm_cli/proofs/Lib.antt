@@ -10,6 +10,8 @@ pub mod Settled
 pub mod Loads
 pub mod Debugs
 pub mod Audits
+pub mod Alongside
+pub mod Erasures
 pub mod Why
 pub mod Put
 pub mod Caused

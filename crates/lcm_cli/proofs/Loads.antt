@@ -11,6 +11,7 @@ use Rattle.generated_load.specs.declared.TheConstants.{LOAD_STACK}
 use Rattle.generated_load.specs.declared.load.Load.{Load}
 use Rattle.generated_load.specs.Loads.{load_of, load_steps, module_text, adder}
 use Rattle.proc_sources.specs.Sources.{sourced}
+use Rattle.token_language.specs.declared.dialect.Dialect.TheVariants.{Plain}
 use Rattle.file_plans.specs.declared.refusal.Refusal.{Refusal}
 use Rattle.file_plans.specs.declared.refusal.Refusal.TheVariants as refusal
 use Rattle.file_plans.specs.declared.refusal.Stop.{Stop}
@@ -80,7 +81,7 @@ settled_parts : (load : Load) → IsSettled (load_parts load)
 unfolding load_module load_other load_parts
 settled_parts load =
     settled_bind _ _
-    (settled_bind _ _ (settled_unless (refusal.Source 0) (sourced (module_text load)))
+    (settled_bind _ _ (settled_unless (refusal.Source 0) (sourced Plain (module_text load)))
     (λ c. settled_unless (broken_in 0) (accepted (record { component = c; trusted = true }))))
     (λ first. settled_bind _ _
     (settled_unless (broken_in 1) (accepted (record { component = adder load; trusted = false })))
@@ -142,7 +143,7 @@ never_module : (why : Refusal) → NotOfLoad why → (load : Load) → Never (lo
 unfolding load_module
 never_module why h load =
     never_bind _ _ why
-    (never_unless (refusal.Source 0) (sourced (module_text load)) why
+    (never_unless (refusal.Source 0) (sourced Plain (module_text load)) why
     (λ f. not_of_load (refusal.Source 0 f) why h))
     (λ c. never_unless (broken_in 0) (accepted (record { component = c; trusted = true })) why
     (λ b. not_of_load (broken_in 0 b) why h))

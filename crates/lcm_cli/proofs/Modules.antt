@@ -17,7 +17,9 @@ use Rattle.file_plans.specs.declared.TheConstants.{LONGEST_FILE}
 use Rattle.file_plans.specs.declared.refusal.Refusal.{Refusal}
 use Rattle.file_plans.specs.declared.refusal.Refusal.TheVariants as refusal
 use Rattle.file_plans.specs.Plans.{Made, ◌>>=◌, unless, each_at, whole, too_long, unread, Comes}
-use Rattle.meaning_tool.specs.Subjects.{Subject, module_at, feed_line, unfed, feed_at, subject_of, subject_in}
+use Rattle.meaning_tool.specs.Subjects.{Subject, language_of, module_at, feed_line, unfed, feed_at}
+use Rattle.meaning_tool.specs.Subjects.{subject_of, subject_in}
+use Rattle.token_language.specs.declared.dialect.Dialect.{Dialect}
 use Rattle.lcm_cli.specs.Causes.{IsUnfed, ModulesBreak}
 use Rattle.lcm_cli.proofs.Ends.{Never, comes_split, same_err, ended_unless, not_made, never_unless}
 use Rattle.lcm_cli.proofs.Ends.{never_bind}
@@ -50,15 +52,16 @@ never_feed why h name index base =
 
 -- ---- how no modules end: as words that are no command, as an image, as a feed, or by a rule
 
-never_module : (why : Refusal) → Foreign why → (index : ℕ) (w : PartWord) → Never (module_at index w) why
+pub never_module : (why : Refusal) → Foreign why → (index : ℕ) (w : PartWord) → Never (module_at index w) why
 unfolding module_at
 never_module why h index w =
-    never_told why h w.name index (refusal.Source index) module_in
+    never_told why h w.name index (refusal.Source index) (module_in (language_of w.ending))
     (λ f. foreign (refusal.Source index f) why h)
 
-no_rule_module : (r : RuleAt) (index : ℕ) (w : PartWord) → Never (module_at index w) (refusal.Rule r)
+pub no_rule_module : (r : RuleAt) (index : ℕ) (w : PartWord) → Never (module_at index w) (refusal.Rule r)
 unfolding module_at
-no_rule_module r index w = no_rule_by w.name index (refusal.Source index) module_in r (λ f e. cc)
+no_rule_module r index w =
+    no_rule_by w.name index (refusal.Source index) (module_in (language_of w.ending)) r (λ f e. cc)
 
 never_subject_of : (why : Refusal) → Foreign why → NotOfFeed why → (count size : ℕ) (feed : List ℕ)
     (modules : List ModuleFields) → Never (subject_of count size feed modules) why
@@ -80,15 +83,16 @@ never_subject why h k words size feed =
 -- ---- wherever reading them ends the call, it has a reason
 
 -- a text that spells no module has no component, by the same fault
-unsourced : (text : List ℕ) (f : SourceFault) → module_in text ≡ Err f → sourced text ≡ Err f
+unsourced : (d : Dialect) (text : List ℕ) (f : SourceFault) → module_in d text ≡ Err f → sourced d text ≡ Err f
 unfolding sourced
-unsourced text f e = rw e refl
+unsourced d text f e = rw e refl
 
-module_reasoned : (index : ℕ) (w : PartWord) → Reasoned (module_at index w)
+pub module_reasoned : (index : ℕ) (w : PartWord) → Reasoned (module_at index w)
 unfolding module_at
 module_reasoned index w =
-    reads_reasoned w.name index _ (reason_by (refusal.Source index) module_in w.name index
-    (λ old mid text f g e. (w.name, old, inl (refl, refl, refl), text, g, unsourced text f e)))
+    let d = language_of w.ending in
+    reads_reasoned w.name index _ (reason_by (refusal.Source index) (module_in d) w.name index
+    (λ old mid text f g e. (w.name, old, inl (refl, refl, refl), text, g, (d, unsourced d text f e))))
 
 feed_reasoned : (name : List ℕ) (index base : ℕ) → Reasoned (feed_at name index base)
 unfolding feed_at

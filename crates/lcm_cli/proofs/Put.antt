@@ -29,10 +29,10 @@ use Rattle.file_plans.specs.Plans.{Plan, Reads, Ends, Made, whole as came_whole,
 use Rattle.lcm_cli.specs.Parts.{component_at, part_at}
 use Rattle.source_events.specs.declared.End.{End}
 use Rattle.source_events.specs.declared.End.TheVariants as end
-use Rattle.meaning_tool.specs.Subjects.{told_of, subject_in}
+use Rattle.meaning_tool.specs.Subjects.{told_of, module_at, subject_in}
 use Rattle.lcm_cli.specs.Audits.{audit_at}
 use Rattle.lcm_cli.specs.Commands.{Task, Run, Trace, Reach, Debug, Put, Write, Tell}
-use Rattle.lcm_cli.specs.Commands.{Content, spelling_of, IsReadAgain}
+use Rattle.lcm_cli.specs.Commands.{Content, OfModule, spelling_of, IsReadAgain}
 use Rattle.lcm_cli.specs.Commands.{linked_in, link_task, component_task, plan_of, plan_in}
 use Rattle.lcm_cli.specs.Commands.{Totals}
 use Rattle.lcm_cli.specs.Loads.{load_image}
@@ -75,6 +75,9 @@ put_of_command (asked.Debug l script) old seen name d h =
     absurd (let m = (debug_came l script old (Put name d) seen h).task in cc)
 put_of_command (asked.Audit text) old seen name d h =
     absurd (let m = (made_of (audit_at text) _ old seen (Put name d) h).2 in cc)
+put_of_command (asked.Erase word out) old seen name d h =
+    let m = made_of (module_at 0 word) (λ m. Put out (OfModule m)) old seen (Put name d) h in
+    let n : out ≡ name = let e = m.2 in cc in ap (λ z. Some z) n
 put_of_command (Generate seed) old seen name d h =
     absurd (let m = (made_of (load_image (load_of seed)) _ old seen (Put name d) h).2 in cc)
 

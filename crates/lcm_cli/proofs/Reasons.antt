@@ -24,6 +24,7 @@ use Rattle.component_linker.specs.Accepted.{accepted}
 use Rattle.lcm_cli.specs.Parts.{is_trusted, broken_in, linked, loaded, form_by, component_at, part_at}
 use Rattle.lcm_cli.specs.Commands.{linked_parts, linked_image, linked_in}
 use Rattle.proc_sources.specs.Sources.{sourced}
+use Rattle.token_language.specs.declared.dialect.Dialect.{Dialect}
 use Rattle.lcm_cli.specs.Causes.{IsTurn, IsUnread, IsLong, IsUndecoded, IsUncompiled, IsUnassembled}
 use Rattle.lcm_cli.specs.Causes.{IsUnscripted, IsUnaudited, PartBreaks, SomeBreaks}
 use Rattle.lcm_cli.specs.Causes.{AllBreak, LinkBreaks, LinkedCame}
@@ -174,10 +175,10 @@ module _ {A F : Type 0} (told : F → Refusal) (gives : List ℕ → Result A F)
       let P : Refusal → FilesSeen → Type 0 = λ v z. FileReason Told old v z in
       subst (P why) (sym e.3) (subst (λ v. P v mid) (sym e.2) (k old mid bytes e.0 w e.1))
 
-source_by : (name : List ℕ) (index : ℕ) → ByBytes name index (form_by Source index)
-source_by name index =
-    reason_by (refusal.Source index) sourced name index
-    (λ old mid bytes f w e. (name, old, inl (refl, refl, refl), bytes, w, e))
+source_by : (d : Dialect) (name : List ℕ) (index : ℕ) → ByBytes name index (form_by (Source d) index)
+source_by d name index =
+    reason_by (refusal.Source index) (sourced d) name index
+    (λ old mid bytes f w e. (name, old, inl (refl, refl, refl), bytes, w, (d, e)))
 
 text_by : (name : List ℕ) (index : ℕ) → ByBytes name index (form_by Assembler index)
 text_by name index =
@@ -190,7 +191,7 @@ file_by name index =
     (λ old mid bytes f w e. (name, old, inl (refl, refl, refl), bytes, w, e))
 
 form_by_bytes : (ending : Ending) (name : List ℕ) (index : ℕ) → ByBytes name index (form_by ending index)
-form_by_bytes Source name index = source_by name index
+form_by_bytes (Source d) name index = source_by d name index
 form_by_bytes Assembler name index = text_by name index
 form_by_bytes Component name index = file_by name index
 

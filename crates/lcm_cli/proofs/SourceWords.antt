@@ -7,6 +7,9 @@ use Rattle.outside_io.specs.Whole.{GivesWhole}
 use Rattle.command_words.specs.declared.part.Ending.{Ending}
 use Rattle.command_words.specs.declared.part.Ending.TheVariants.{Source, Assembler, Component}
 use Rattle.command_words.specs.declared.part.PartWord.{PartWord}
+use Rattle.command_words.specs.Action.{is_source}
+use Rattle.token_language.specs.declared.dialect.Dialect.{Dialect}
+use Rattle.meaning_tool.specs.Subjects.{language_of}
 use Rattle.component_file.specs.declared.component.ComponentFields.{ComponentFields}
 use Rattle.component_check.specs.declared.rule.Group.TheVariants.{C}
 use Rattle.component_check.specs.RuleText.{broken_at}
@@ -51,13 +54,14 @@ pub record PartCame (w : PartWord) (old : FilesSeen) (p : PartSeen) (new : Files
   pub text : List ℕ
   pub came : GivesWhole old w.name LONGEST_FILE text new
   pub marked : p.trusted ≡ is_trusted w.mark
-  pub source : w.ending ≡ Source → sourced text ≡ Ok p.component
+  pub source : is_source w.ending ≡ true → sourced (language_of w.ending) text ≡ Ok p.component
 
 -- the form that the bytes have
 formed : (ending : Ending) (index : ℕ) (text : List ℕ) (c : ComponentFields) (old new : FilesSeen)
-    → Comes (form_by ending index text) old (Ok c) new → (ending ≡ Source → sourced text ≡ Ok c) × (new ≡ old)
-formed Source index text c old new h =
-    let e = unless_came (refusal.Source index) (sourced text) c old new h in (λ s. e.0, e.1)
+    → Comes (form_by ending index text) old (Ok c) new
+    → (is_source ending ≡ true → sourced (language_of ending) text ≡ Ok c) × (new ≡ old)
+formed (Source d) index text c old new h =
+    let e = unless_came (refusal.Source index) (sourced d text) c old new h in (λ s. e.0, e.1)
 formed Assembler index text c old new h =
     let e = unless_came (refusal.Assembly index) (assembled text) c old new h in (λ s. absurd (cc), e.1)
 formed Component index text c old new h =
@@ -67,7 +71,7 @@ formed Component index text c old new h =
 record FileCame (w : PartWord) (old : FilesSeen) (c : ComponentFields) (new : FilesSeen) : Type 0 where
   pub text : List ℕ
   pub came : GivesWhole old w.name LONGEST_FILE text new
-  pub source : w.ending ≡ Source → sourced text ≡ Ok c
+  pub source : is_source w.ending ≡ true → sourced (language_of w.ending) text ≡ Ok c
 
 file_came : (index : ℕ) (w : PartWord) (c : ComponentFields) (old new : FilesSeen)
     → Comes (component_at index w) old (Ok c) new → FileCame w old c new
@@ -101,10 +105,10 @@ part_came index w p old new h =
 
 -- what holds of sources
 pub record SourceLaws : Type 0 where
-  pub limits : (text : List ℕ) (m : ModuleFields) → module_in text ≡ Ok m → IsModule m
-  pub resolved : (text : List ℕ) (m : ModuleFields) → module_in text ≡ Ok m → name_faults m ≡ []
-  pub compiled_from : (text : List ℕ) (c : ComponentFields) → sourced text ≡ Ok c
-      → (m : ModuleFields) × (module_in text ≡ Ok m) × (c ≡ compiled m)
+  pub limits : (d : Dialect) (text : List ℕ) (m : ModuleFields) → module_in d text ≡ Ok m → IsModule m
+  pub resolved : (d : Dialect) (text : List ℕ) (m : ModuleFields) → module_in d text ≡ Ok m → name_faults m ≡ []
+  pub compiled_from : (d : Dialect) (text : List ℕ) (c : ComponentFields) → sourced d text ≡ Ok c
+      → (m : ModuleFields) × (module_in d text ≡ Ok m) × (c ≡ compiled m)
 
 -- the modules of words, and that the trusted parts are their components
 pub record Gathered (words : List PartWord) (old : FilesSeen) (parts : List PartSeen) (new : FilesSeen) : Type
@@ -136,15 +140,17 @@ module _ (laws : SourceLaws) where
 
   with_part : (w : PartWord) (words : List PartWord) (p : PartSeen) (ps : List PartSeen)
       (old mid new : FilesSeen) (b : Bool) → is_trusted w.mark ≡ b
-      → (is_trusted w.mark ≡ true → w.ending ≡ Source) → PartCame w old p mid → Gathered words mid ps new
+      → (is_trusted w.mark ≡ true → is_source w.ending ≡ true) → PartCame w old p mid
+      → Gathered words mid ps new
       → Gathered (w ∷ words) old (p ∷ ps) new
   with_part w words p ps old mid new true e s c g =
-      let k = laws.compiled_from c.text p.component (c.source (s e)) in
+      let d = language_of w.ending in
+      let k = laws.compiled_from d c.text p.component (c.source (s e)) in
       record {
         modules = k.0 ∷ g.modules;
         came = (c.text, mid, c.came, rw e (k.1, g.came));
-        are = with_source p k.0 ps g.modules (c.marked ∙ e) k.2 (laws.limits c.text k.0 k.1)
-            (laws.resolved c.text k.0 k.1) g.are;
+        are = with_source p k.0 ps g.modules (c.marked ∙ e) k.2 (laws.limits d c.text k.0 k.1)
+            (laws.resolved d c.text k.0 k.1) g.are;
       }
   with_part w words p ps old mid new false e s c g = record {
     modules = g.modules;

@@ -17,7 +17,7 @@ use Rattle.file_plans.specs.declared.refusal.Refusal.{Refusal}
 use Rattle.file_plans.specs.declared.refusal.Refusal.TheVariants as refusal
 use Rattle.file_plans.specs.Plans.{Plan, Ends, Made, Comes}
 use Rattle.lcm_cli.specs.Parts.{component_at, part_at}
-use Rattle.meaning_tool.specs.Subjects.{subject_in}
+use Rattle.meaning_tool.specs.Subjects.{module_at, subject_in}
 use Rattle.lcm_cli.specs.Commands.{Task, linked_in, for_task, link_task, component_task, plan_of, plan_in}
 use Rattle.lcm_cli.specs.Commands.{debug_plan}
 use Rattle.lcm_cli.specs.Loads.{load_image}
@@ -32,6 +32,7 @@ use Rattle.lcm_cli.proofs.Loads.{never_load, load_ended}
 use Rattle.lcm_cli.specs.Audits.{audit_at}
 use Rattle.lcm_cli.proofs.Audits.{audit_reasoned, never_audit}
 use Rattle.lcm_cli.proofs.Debugs.{debug_reasoned, never_debug, debug_breaks, debug_unloaded}
+use Rattle.lcm_cli.proofs.Modules.{never_module, no_rule_module, module_reasoned}
 use Rattle.lcm_cli.proofs.Modules.{never_subject, subject_reasoned, modules_break, feed_fails}
 use Rattle.lcm_cli.proofs.Tasks.{err_of}
 
@@ -174,6 +175,16 @@ audit_explains name old new = record {
   unfed = λ line h. absurd (never_audit (refusal.Feed line) (λ e. cc) (λ e. cc) (λ f e. cc) name old new h);
 }
 
+module_explains : (word : PartWord) (out : List ℕ) (old new : FilesSeen)
+    → Explains (Some (asked.Erase word out)) (module_at 0 word) old new
+module_explains word out old new = record {
+  reasoned = module_reasoned 0 word;
+  no_usage = never_module refusal.Usage tt 0 word;
+  breaks = λ r h. no_rule_module r 0 word old new h;
+  unloaded = λ f h. absurd (never_module (refusal.Image f) tt 0 word old new h);
+  unfed = λ line h. absurd (never_module (refusal.Feed line) tt 0 word old new h);
+}
+
 -- ---- a load, which reads nothing: it is refused as a source, or breaks a rule
 
 load_why : (seed : ℕ) (old new : FilesSeen) (why : Refusal)
@@ -217,6 +228,8 @@ command_why (asked.Debug l script) old new why h =
     (debug_explains l script old new) h
 command_why (asked.Audit name) old new why h =
     why_task (Some (asked.Audit name)) (audit_at name) _ old new why (audit_explains name old new) h
+command_why (asked.Erase word out) old new why h =
+    why_task (Some (asked.Erase word out)) (module_at 0 word) _ old new why (module_explains word out old new) h
 command_why (Generate seed) old new why h =
     load_why seed old new why (err_of (load_image (load_of seed)) _ old new why h)
 

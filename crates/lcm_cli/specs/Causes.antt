@@ -14,6 +14,7 @@ use Rattle.command_words.specs.declared.command.ComponentDeed.TheVariants as com
 use Rattle.command_words.specs.declared.command.Command.{Command}
 use Rattle.command_words.specs.declared.command.Command.TheVariants.{Links, Takes, Checks, Mean, Generate}
 use Rattle.command_words.specs.declared.command.Command.TheVariants.{Debug}
+use Rattle.command_words.specs.declared.command.Command.TheVariants as asked
 use Rattle.asm_fields.specs.declared.fault.AsmFault.{AsmFault}
 use Rattle.assembler.specs.Assembled.{assembled}
 use Rattle.component_file.specs.declared.fault.FileFault.{FileFault}
@@ -58,6 +59,7 @@ use Rattle.proc_language.specs.declared.module.ModuleFields.{ModuleFields}
 use Rattle.proc_program.specs.Lower.{part_of}
 use Rattle.proc_sources.specs.declared.fault.SourceFault.{SourceFault}
 use Rattle.proc_sources.specs.Sources.{sourced}
+use Rattle.token_language.specs.declared.dialect.Dialect.{Dialect}
 use Rattle.source_events.specs.declared.Item.{Item}
 use Rattle.source_events.specs.declared.End.{End}
 use Rattle.source_events.specs.declared.End.TheVariants as meaning_end
@@ -123,9 +125,11 @@ IsUndecoded plan old index f new = Holds plan old index new (λ bytes. decoded b
 abbrev pub IsUnassembled : {A : Type 0} → Plan A → FilesSeen → ℕ → AsmFault → FilesSeen → Type 0
 IsUnassembled plan old index f new = Holds plan old index new (λ text. assembled text ≡ Err f)
 
--- the text in the file of this index is a source that has no component, with this first fault
+-- the text in the file of this index is a source, of one of the languages, that has no component, with this
+-- first fault
 abbrev pub IsUncompiled : {A : Type 0} → Plan A → FilesSeen → ℕ → SourceFault → FilesSeen → Type 0
-IsUncompiled plan old index f new = Holds plan old index new (λ text. sourced text ≡ Err f)
+IsUncompiled plan old index f new =
+    Holds plan old index new (λ text. (d : Dialect) × (sourced d text ≡ Err f))
 
 -- the text in the file of this index is no script, and this is its first bad line
 abbrev pub IsUnscripted : {A : Type 0} → Plan A → FilesSeen → ℕ → FilesSeen → Type 0
@@ -233,8 +237,8 @@ IsAtRest e = ((v : ℤ) × (e ≡ meaning_end.Halt v)) ⊎ (e ≡ meaning_end.Wa
 
 -- ---- files that are put, and texts that are written
 
--- the component or the image that the words ask for came, and its file was put under the name of `--out`,
--- whose bytes give just this component or image again
+-- the component, the image or the module that the words ask for came, and its file was put under the name of
+-- `--out`, whose bytes give just this component or image again, or a module alike
 abbrev pub PutsFile : Option Command → FilesSeen → FilesSeen → Type 0
 PutsFile asked old new =
     (name : List ℕ) × (content : Content) × (seen : FilesSeen)
@@ -264,6 +268,7 @@ component_out component_deed.Show = None
 abbrev pub out_of : Option Command → Option (List ℕ)
 out_of (Some (Links l deed)) = link_out deed
 out_of (Some (Takes word deed)) = component_out deed
+out_of (Some (asked.Erase word out)) = Some out
 out_of _ = None
 
 -- the refusal's line was written

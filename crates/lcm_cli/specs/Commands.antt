@@ -20,26 +20,33 @@ use Rattle.generated_load.specs.Loads.{load_of, load_steps}
 use Rattle.image_loader.specs.Image.{ImageSeen, image_bytes}
 use Rattle.file_plans.specs.declared.refusal.Refusal.TheVariants as refusal
 use Rattle.file_plans.specs.Plans.{Plan, Ends, Made, ◌>>=◌, file, unless, each_at}
-use Rattle.meaning_tool.specs.Subjects.{Subject, subject_in}
+use Rattle.alike_modules.specs.Alike.{IsParsedBack, IsSourceOf}
+use Rattle.meaning_tool.specs.Subjects.{Subject, module_at, subject_in}
+use Rattle.proc_language.specs.declared.module.ModuleFields.{ModuleFields}
+use Rattle.proc_print.specs.Printed.{printed}
 use Rattle.lcm_cli.specs.Parts.{linked, loaded, component_at, part_at}
 use Rattle.lcm_cli.specs.Loads.{load_image}
 use Rattle.lcm_cli.specs.Debugs.{script_at}
 use Rattle.lcm_cli.specs.Audits.{audit_at}
 
--- what a file that is put holds: a component, or an image
+-- what a file that is put holds: a component, an image, or the text of a module
 pub data Content : Type 0 where
   OfComponent : (component : ComponentFields) → Content
   OfImage : (image : ImageSeen) → Content
+  OfModule : (m : ModuleFields) → Content
 
 -- its bytes
 abbrev pub spelling_of : Content → List ℕ
 spelling_of (OfComponent c) = spelling c
 spelling_of (OfImage i) = image_bytes i
+spelling_of (OfModule m) = printed m
 
--- decoded, or loaded with all the rules, its bytes give just this content again
+-- decoded, or loaded with all the rules, its bytes give just this content again; of a module, where they are
+-- parsed at all, they are a source of a module that is the same but for its places
 abbrev pub IsReadAgain : Content → Type 0
 IsReadAgain (OfComponent c) = decoded (spelling c) ≡ Ok c
 IsReadAgain (OfImage i) = loaded (image_bytes i) ≡ Ok i
+IsReadAgain (OfModule m) = IsParsedBack m → IsSourceOf (printed m) m
 
 -- what is told of a run: its lines and its end line; or, of a load, its totals
 pub data Telling : Type 0 where
@@ -108,7 +115,7 @@ for_task plan task = do
   Made (task x)
 
 -- parts that link, or an image; one component, of which no rule is asked; one part with its own rules;
--- modules and a feed; a load; or a text that is audited
+-- modules and a feed; a load; a text that is audited; or one module
 abbrev pub plan_of : Command → Plan Task
 plan_of (Links l deed) = for_task (linked_in l) (link_task deed)
 plan_of (Takes word deed) = for_task (component_at 0 word) (component_task deed)
@@ -116,6 +123,7 @@ plan_of (Checks word) = for_task (part_at 0 word) (λ part. Write ok_text)
 plan_of (Mean words size fuel feed) = for_task (subject_in words size feed) (λ subject. Tell subject fuel)
 plan_of (asked.Debug l script) = debug_plan l script
 plan_of (asked.Audit name) = for_task (audit_at name) (λ u. Write ok_text)
+plan_of (asked.Erase word out) = for_task (module_at 0 word) (λ m. Put out (OfModule m))
 plan_of (Generate seed) =
     for_task (load_image (load_of seed)) (λ image. Run image load_steps (Totals (load_of seed)))
 

@@ -9,4 +9,5 @@ pub mod Jobs
 pub mod Answers
 pub mod Causes
 pub mod SourceRuns
+pub mod Erasures
 pub mod SafeRuns

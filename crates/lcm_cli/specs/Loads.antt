@@ -16,6 +16,7 @@ use Rattle.generated_load.specs.declared.TheConstants.{LOAD_STACK}
 use Rattle.generated_load.specs.declared.load.Load.{Load}
 use Rattle.generated_load.specs.Loads.{module_text, adder}
 use Rattle.proc_sources.specs.Sources.{sourced}
+use Rattle.token_language.specs.declared.dialect.Dialect.TheVariants.{Plain}
 use Rattle.file_plans.specs.declared.refusal.Refusal.TheVariants as refusal
 use Rattle.file_plans.specs.Plans.{Plan, Made, ◌>>=◌, unless}
 use Rattle.lcm_cli.specs.Parts.{broken_in, linked}
@@ -23,7 +24,7 @@ use Rattle.lcm_cli.specs.Parts.{broken_in, linked}
 -- its two parts, each by its own rules: the trusted module, compiled, and the untrusted part
 unfoldable pub load_module : Load → Plan PartSeen
 load_module load = do
-  c ← unless (refusal.Source 0) (sourced (module_text load))
+  c ← unless (refusal.Source 0) (sourced Plain (module_text load))
   unless (broken_in 0) (accepted (record { component = c; trusted = true }))
 
 unfoldable pub load_other : Load → Plan PartSeen

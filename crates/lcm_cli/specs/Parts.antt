@@ -60,7 +60,7 @@ is_trusted Untrusted = false
 
 -- the component that bytes are in their form
 abbrev pub form_by : Ending → ℕ → List ℕ → Plan ComponentFields
-form_by Source index text = unless (refusal.Source index) (sourced text)
+form_by (Source d) index text = unless (refusal.Source index) (sourced d text)
 form_by Assembler index text = unless (refusal.Assembly index) (assembled text)
 form_by Component index bytes = unless (refusal.File index) (decoded bytes)
 

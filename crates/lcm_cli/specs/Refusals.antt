@@ -15,6 +15,7 @@ use Rattle.proc_grammar.specs.declared.fault.ParseFault.{ParseFault}
 use Rattle.proc_grammar.specs.declared.fault.ParseFault.TheVariants as parse
 use Rattle.proc_grammar.specs.Fault.{fault_number as parse_number, fault_place as parse_place}
 use Rattle.proc_names.specs.Faults.{fault_number as name_number, fault_place as name_place}
+use Rattle.token_check.specs.Faults.{fault_number as token_number, fault_place as token_place}
 use Rattle.proc_compiler.specs.Fault.{fault_number as compile_number}
 use Rattle.proc_compiler.specs.declared.fault.CompileFault.TheVariants as compile
 use Rattle.proc_sources.specs.declared.fault.SourceFault.{SourceFault}
@@ -50,6 +51,7 @@ parse_number_text f = decimal (parse_number f)
 abbrev pub source_number_text : SourceFault → List ℕ
 source_number_text (source.Text f) = parse_number_text f
 source_number_text (source.Name f) = decimal (name_number f)
+source_number_text (source.Token f) = decimal (token_number f)
 source_number_text (source.Size f) = decimal (compile_number f)
 source_number_text source.NoMemory = decimal (compile_number compile.NoMemory)
 
@@ -57,6 +59,7 @@ source_number_text source.NoMemory = decimal (compile_number compile.NoMemory)
 abbrev pub source_place : SourceFault → ℕ
 source_place (source.Text f) = parse_place f
 source_place (source.Name f) = name_place f
+source_place (source.Token f) = token_place f
 source_place (source.Size f) = 0
 source_place source.NoMemory = 0
 

@@ -4,12 +4,14 @@ use Rattle.outside_io.specs.FilesSeen.{FilesSeen}
 use Rattle.outside_io.specs.SinkSeen.{Adds, FailsToWrite}
 use Rattle.outside_io.specs.Whole.{GivesWhole as ComesWhole}
 use Rattle.command_words.specs.declared.command.Linked.TheVariants as what
-use Rattle.command_words.specs.declared.part.Ending.TheVariants.{Source}
 use Rattle.command_words.specs.declared.part.PartWord.{PartWord}
+use Rattle.command_words.specs.Action.{is_source}
 use Rattle.proc_language.specs.declared.module.ModuleFields.{ModuleFields}
 use Rattle.proc_language.specs.Limits.{Each}
 use Rattle.proc_program.specs.Lower.{part_of}
 use Rattle.proc_sources.specs.Sources.{module_in}
+use Rattle.token_language.specs.declared.dialect.Dialect.{Dialect}
+use Rattle.meaning_tool.specs.Subjects.{language_of}
 use Rattle.component_linker.specs.Started.{StartSeen}
 use Rattle.module_rules.specs.Rules.{stack_base_of, ruled}
 use Rattle.run_feed.specs.Feed.{fed}
@@ -37,13 +39,14 @@ use Rattle.lcm_cli.specs.Causes.{IsRunStatus, Started, RunGiven, text_of_run, Me
 
 -- every trusted word is a source
 abbrev pub AllSources : List PartWord → Type 0
-AllSources words = Each (λ (w : PartWord). is_trusted w.mark ≡ true → w.ending ≡ Source) words
+AllSources words = Each (λ (w : PartWord). is_trusted w.mark ≡ true → is_source w.ending ≡ true) words
 
--- of a trusted word, the text spells the first of the modules; the others are left to the words behind it
-abbrev pub SpelledBy : Bool → List ℕ → List ModuleFields → (List ModuleFields → Type 0) → Type 0
-SpelledBy true text [] rest = ⊥
-SpelledBy true text (m ∷ modules) rest = (module_in text ≡ Ok m) × rest modules
-SpelledBy false text modules rest = rest modules
+-- of a trusted word, the text spells the first of the modules, in this language; the others are left to the
+-- words behind it
+abbrev pub SpelledBy : Bool → Dialect → List ℕ → List ModuleFields → (List ModuleFields → Type 0) → Type 0
+SpelledBy true d text [] rest = ⊥
+SpelledBy true d text (m ∷ modules) rest = (module_in d text ≡ Ok m) × rest modules
+SpelledBy false d text modules rest = rest modules
 
 -- the files of words came whole, one after another, and the modules are those that the texts of trusted words
 -- spell
@@ -51,7 +54,8 @@ abbrev pub SourcesCame : List PartWord → FilesSeen → List ModuleFields → F
 SourcesCame [] old modules new = (modules ≡ []) × (new ≡ old)
 SourcesCame (w ∷ words) old modules new =
     (text : List ℕ) × (mid : FilesSeen) × ComesWhole old w.name LONGEST_FILE text mid
-    × SpelledBy (is_trusted w.mark) text modules (λ others. SourcesCame words mid others new)
+    × SpelledBy (is_trusted w.mark) (language_of w.ending) text modules
+    (λ others. SourcesCame words mid others new)
 
 -- the text of the run is a feed of these modules: they keep the rules of a meaning, the feed's reader takes
 -- from the text what came in, and its base is that of the first module's stack

@@ -1,5 +1,5 @@
 //! What is left to do once the files of a command came.
-ghost use Rattle.std.specs.Prelude.{◌≡◌, ◌≤◌, IfOk, IfErr, length};
+ghost use Rattle.std.specs.Prelude.{◌≡◌, ◌≤◌, IfOk, IfErr, length, []};
 ghost use Rattle.command_words.specs.declared.command.LinkDeed.TheVariants as link_deed;
 ghost use Rattle.lcm_cli.specs.Parts.{part_at, component_at};
 ghost use Rattle.lcm_cli.specs.Audits.{audit_at};
@@ -8,16 +8,18 @@ ghost use Rattle.file_plans.specs.Plans.{Follows, Meets, unless};
 ghost use Rattle.file_plans.specs.declared.refusal.Refusal.TheVariants as refusal;
 ghost use Rattle.generated_load.specs.Loads.{load_of, load_steps};
 ghost use Rattle.outside_io.specs.FilesSeen.{FilesSeen};
-ghost use Rattle.lcm_cli.specs.Commands.{ok_text, Run, Write, Tell, Totals};
+ghost use Rattle.lcm_cli.specs.Commands.{ok_text, OfModule, Run, Put, Write, Tell, Totals};
 ghost use Rattle.lcm_cli.specs.Commands.{linked_in, link_task, component_task, for_task, plan_of};
 ghost use Rattle.lcm_cli.specs.Loads.{load_image};
 ghost use Rattle.lcm_cli.specs.Jobs.{Does, FollowsTask};
-ghost use Rattle.meaning_tool.specs.Subjects.{subject_in};
+ghost use Rattle.meaning_tool.specs.Subjects.{module_at, subject_in};
+ghost use Rattle.proc_names.specs.NameFaults.{name_faults};
 
 use crate::debugging::debug_job;
 use crate::load::load_start;
 use crate::part::{component, part};
 use crate::start::{image_bytes, start};
+use alike_modules::laws::printed_modules_are_sources;
 use authority_report::reach_text;
 use cap_words::Items;
 use command_words::{
@@ -29,9 +31,11 @@ use debug_script::Script;
 use disassembler::disassemble;
 use file_plans::{Refusal, Stop, read};
 use generated_load::{Load, load_of};
-use meaning_tool::{Meaning, meant};
+use meaning_tool::{Meaning, meant, module};
 use outside_io::Files;
 use overlay_machine::Overlay;
+use proc_language::Module;
+use proc_print::print;
 use run_audit::{AuditFault, audit};
 use std::alloc::Global;
 
@@ -224,6 +228,32 @@ fn audit_job<'a, F: Files>(
     Ok(Job::Say)
 }
 
+// The text of a module whose names are resolved.
+fn module_text<'a>(alloc: Global, m: &Module, out: FileName<'a>) -> Result<Job<'a>, Stop>
+    requires { name_faults m.now ≡ [] }
+    ensures does { IfOk result (Does (Put out.entry (OfModule m.now))) }
+    ensures stops { IfErr result (λ stop. stop ≡ Stop.NoMemory) }
+{
+    printed_modules_are_sources();
+    let _limits = m.fields();
+    let text = print(alloc, m)?;
+    Ok(Job::Put(out, Items::of(text)))
+}
+
+// Reads a module, and makes its text.
+fn erase_job<'a, F: Files>(
+    alloc: Global,
+    files: &mut F,
+    word: &PartWord<'a>,
+    out: FileName<'a>,
+) -> Result<Job<'a>, Stop>
+    ensures { FollowsTask (for_task (module_at 0 word.now) (λ m. Put out.entry (OfModule m)))
+        (F.seen files.old) result (F.seen files.new) }
+{
+    let module = module(alloc, files, 0, word)?;
+    module_text(alloc, &module, out)
+}
+
 // Makes the start of a load.
 fn generate_job<'a>(alloc: Global, seed: Seed) -> Result<Job<'a>, Stop>
     ensures { (seen : FilesSeen) → FollowsTask (for_task (load_image (load_of seed))
@@ -250,5 +280,6 @@ pub(crate) fn job_of<'a, F: Files>(
         Command::Debug(what, script) => debug_job(alloc, files, &what, &script),
         Command::Generate(seed) => generate_job(alloc, seed),
         Command::Audit(name) => audit_job(alloc, files, &name),
+        Command::Erase(word, out) => erase_job(alloc, files, &word, out),
     }
 }

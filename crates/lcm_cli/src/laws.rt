@@ -11,8 +11,11 @@ ghost use Rattle.lcm_cli.specs.Commands.{plan_in};
 ghost use Rattle.lcm_cli.specs.Answers.{Answer, IsWritten};
 ghost use Rattle.lcm_cli.specs.SourceRuns.{MeanTellsRuns};
 ghost use Rattle.lcm_cli.specs.SafeRuns.{SafeSinksHoldRuns};
+ghost use Rattle.lcm_cli.specs.Erasures.{TokensAreGone};
 
+use alike_modules::laws::{alike_modules_mean_the_same, printed_modules_are_sources};
 use authority_report::laws::reports_are_one;
+use proc_sources::laws::sources_are_modules;
 
 /// Parts together are refused for the first of the rules of linking that they break, in the first part and
 /// at the first place there, and for nothing else.
@@ -42,6 +45,17 @@ pub fn one_answer()
 pub fn mean_tells_runs()
     ensures { MeanTellsRuns }
 {}
+
+/// A source with tokens gives what its erasure gives: whatever `run`, `trace`, `link`, `reach`, `debug`,
+/// `mean`, `check`, `compile` and `dis` are asked of parts, the answer is the same where such a part stands
+/// beside the text of its module without tokens: the text, the status, the file and the machine.
+pub fn tokens_are_gone()
+    ensures { TokensAreGone }
+{
+    sources_are_modules();
+    alike_modules_mean_the_same();
+    printed_modules_are_sources();
+}
 
 /// Over an empty [`SafeSink`](outside_io::SafeSink) that has room for a byte more at least than the text that
 /// is due, no `run` ends with WriteFault: a write of it fails only where it leaves the sink full.

@@ -16,6 +16,7 @@ use itoa::Buffer;
 use lcm_isa::Reg;
 use lcm_machine::{LcmState, Step};
 use std::alloc::Global;
+use token_language::Dialect;
 use trace_tool::{Counted, EndLine, end_line};
 
 // The trusted module.
@@ -23,7 +24,7 @@ fn module_part(alloc: Global, load: Load) -> Result<Part, Stop>
     ensures { Meets (load_module load) result }
 {
     let text = module_text(load);
-    let component = compile_at(alloc, 0, text.as_bytes())?;
+    let component = compile_at(alloc, 0, Dialect::Plain, text.as_bytes())?;
     accept_at(component, 0, true)
 }
 

@@ -18,6 +18,7 @@ use file_plans::{Refusal, Stop, read};
 use outside_io::Files;
 use proc_sources::{SourceFault, component_of};
 use std::alloc::Global;
+use token_language::Dialect;
 
 // The component that the bytes of a file spell.
 fn decode_at(alloc: Global, index: u32, bytes: &[u8]) -> Result<Component, Stop>
@@ -43,12 +44,17 @@ fn assemble_at(alloc: Global, index: u32, text: &[u8]) -> Result<Component, Stop
     }
 }
 
-/// The component of a source.
-pub(crate) fn compile_at(alloc: Global, index: u32, text: &[u8]) -> Result<Component, Stop>
+/// The component of a source in this language.
+pub(crate) fn compile_at(
+    alloc: Global,
+    index: u32,
+    dialect: Dialect,
+    text: &[u8],
+) -> Result<Component, Stop>
     requires { length text.now < 2 ^ 32 }
-    ensures { Meets (unless (refusal.Source index) (sourced text.now)) result }
+    ensures { Meets (unless (refusal.Source index) (sourced dialect text.now)) result }
 {
-    match component_of(alloc, text) {
+    match component_of(alloc, dialect, text) {
         Ok(component) => Ok(component),
         Err(SourceFault::NoMemory) => Err(Stop::NoMemory),
         Err(fault) => Err(Stop::Refused(Refusal::Source(index, fault))),
@@ -61,7 +67,7 @@ fn form(alloc: Global, ending: Ending, index: u32, bytes: &[u8]) -> Result<Compo
     ensures { Meets (form_by ending index bytes.now) result }
 {
     match ending {
-        Ending::Source => compile_at(alloc, index, bytes),
+        Ending::Source(dialect) => compile_at(alloc, index, dialect, bytes),
         Ending::Assembler => assemble_at(alloc, index, bytes),
         Ending::Component => decode_at(alloc, index, bytes),
     }

@@ -82,6 +82,7 @@ fn push_source_number(line: &mut ArrayString<64>, fault: SourceFault)
         }
         SourceFault::Text(fault) => push_number(line, u32::from(fault.number())),
         SourceFault::Name(fault) => push_number(line, u32::from(fault.number())),
+        SourceFault::Token(fault) => push_number(line, u32::from(fault.number())),
         SourceFault::Size(fault) => push_number(line, u32::from(fault.number())),
         SourceFault::NoMemory => push_number(line, u32::from(CompileFault::NoMemory.number())),
     }
@@ -94,6 +95,7 @@ fn source_place(fault: SourceFault) -> u32
     match fault {
         SourceFault::Text(fault) => fault.place(),
         SourceFault::Name(fault) => fault.place(),
+        SourceFault::Token(fault) => fault.place(),
         SourceFault::Size(_) | SourceFault::NoMemory => 0,
     }
 }

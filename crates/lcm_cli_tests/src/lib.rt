@@ -30,6 +30,8 @@ mod starts;
 #[cfg(test)]
 mod texts;
 #[cfg(test)]
+mod tokens;
+#[cfg(test)]
 mod trusted;
 #[cfg(test)]
 mod words;

@@ -1,6 +1,10 @@
 -- What a meaning is asked of, in the order in which it is read, and what is told.
-use Rattle.std.specs.Prelude.{◌≡◌, ℕ, List, length, map, Result, Ok, Err}
+use Rattle.std.specs.Prelude.{◌≡◌, ℕ, List, length, map, Result, Ok, Err, unwrap_or}
+use Rattle.command_words.specs.declared.part.Ending.{Ending}
 use Rattle.command_words.specs.declared.part.PartWord.{PartWord}
+use Rattle.command_words.specs.Part.{dialect_of}
+use Rattle.token_language.specs.declared.dialect.Dialect.{Dialect}
+use Rattle.token_language.specs.declared.dialect.Dialect.TheVariants.{Plain}
 use Rattle.component_linker.specs.declared.fault.RuleAt.{RuleAt}
 use Rattle.proc_language.specs.declared.module.ModuleFields.{ModuleFields}
 use Rattle.proc_program.specs.Lower.{part_of}
@@ -26,11 +30,15 @@ pub record Subject : Type 0 where
   pub size : ℕ
   pub feed : List Item
 
--- read, length, form, names
+-- the language of a source; of other files nothing is asked
+abbrev pub language_of : Ending → Dialect
+language_of ending = unwrap_or (dialect_of ending) Plain
+
+-- read, length, form, names, and with tokens their typing
 unfoldable pub module_at : ℕ → PartWord → Plan ModuleFields
 module_at index word = do
   text ← file word.name index
-  unless (refusal.Source index) (module_in text)
+  unless (refusal.Source index) (module_in (language_of word.ending) text)
 
 -- the first line of a feed that has not the form that it must have
 abbrev pub feed_line : FeedFault → ℕ

@@ -8,4 +8,5 @@ mod feed;
 mod modules;
 mod telling;
 
+pub use modules::module;
 pub use telling::{Meaning, meant};

@@ -1,43 +1,56 @@
 //! The modules of words.
-ghost use Rattle.std.specs.Prelude.{◌≡◌, ◌<◌, ◌≤◌, ◌^◌, IfOk, length};
+ghost use Rattle.std.specs.Prelude.{◌≡◌, ◌<◌, ◌≤◌, ◌^◌, [], IfOk, length};
 ghost use Rattle.command_words.specs.declared.TheConstants.{MOST_PARTS};
+ghost use Rattle.proc_names.specs.NameFaults.{name_faults};
 ghost use Rattle.proc_sources.specs.Sources.{module_in};
 ghost use Rattle.file_plans.specs.declared.refusal.Refusal.TheVariants as refusal;
 ghost use Rattle.file_plans.specs.Plans.{Follows, Meets, unless, each_at};
-ghost use Rattle.meaning_tool.specs.Subjects.{module_at};
+ghost use Rattle.meaning_tool.specs.Subjects.{language_of, module_at};
 
 use cap_words::Items;
-use command_words::PartWord;
+use command_words::{Ending, PartWord};
 use file_plans::{Refusal, Stop, read};
 use outside_io::Files;
 use proc_language::Module;
 use proc_sources::{SourceFault, module_of};
 use std::alloc::Global;
+use token_language::Dialect;
 
-// The module that a text spells, with its names resolved.
-fn form(alloc: Global, index: u32, text: &[u8]) -> Result<Module, Stop>
-    requires { length text.now < 2 ^ 32 }
-    ensures { Meets (unless (refusal.Source index) (module_in text.now)) result }
+fn language_of(ending: Ending) -> Dialect
+    ensures { result ≡ language_of ending }
 {
-    match module_of(alloc, text) {
+    ending.dialect().unwrap_or(Dialect::Plain)
+}
+
+// The module that a text in this language spells, with its names resolved.
+fn form(alloc: Global, index: u32, dialect: Dialect, text: &[u8]) -> Result<Module, Stop>
+    requires { length text.now < 2 ^ 32 }
+    ensures exact { Meets (unless (refusal.Source index) (module_in dialect text.now)) result }
+    ensures fine { IfOk result (λ m. name_faults m ≡ []) }
+{
+    match module_of(alloc, dialect, text) {
         Ok(module) => Ok(module),
         Err(SourceFault::NoMemory) => Err(Stop::NoMemory),
         Err(fault) => Err(Stop::Refused(Refusal::Source(index, fault))),
     }
 }
 
-// The module of a part word.
+/// The module of a part word: of a source with tokens what is left of it without them.
+///
+/// It stops where the file can't be read or is too long, and where the text is no module, a name leads
+/// nowhere or a token isn't spent just once, in this order; or where memory is refused.
 #[tactic(auto, using(file_plans::proofs::Follow::follows_end), unfolding(crate::specs::Subjects::module_at))]
-fn module<F: Files>(
+pub fn module<F: Files>(
     alloc: Global,
     files: &mut F,
     index: u32,
     word: &PartWord<'_>,
 ) -> Result<Module, Stop>
-    ensures { Follows (module_at index word.now) (F.seen files.old) result (F.seen files.new) }
+    ensures is { Follows (module_at index word.now) (F.seen files.old) result (F.seen files.new) }
+    ensures fine { IfOk result (λ m. name_faults m ≡ []) }
 {
     let text = read(alloc, files, &word.name, index)?;
-    form(alloc, index, text.as_slice())
+    form(alloc, index, language_of(word.ending), text.as_slice())
 }
 
 /// The modules of part words, one after another.

@@ -137,16 +137,16 @@ value_again : (e : Expr) → ExprAgain e → (room : ℕ) → nesting e + 1 ≤ 
     → Again (arg plain_trees true room (inner_expr plain_trees true room) used) (expr_pieces e) (IsValue e)
 unfolding arg_value
 value_again e again room h used few =
-    right (at (append-nil (expr_pieces e))
-    (step (inner_again e again room h (nat_lt used 4) (below_four used few)) (λ x same. done same)))
+    right (right (at (append-nil (expr_pieces e))
+    (step (inner_again e again room h (nat_lt used 4) (below_four used few)) (λ x same. done same))))
 
 proc_again : (f : Name) → NameFits f → (room : ℕ) → (used : ℕ) → used + 2 ≤ 4
     → Again (arg plain_trees true room (inner_expr plain_trees true room) used)
     (a_word (codes "proc") ∷ named f) (IsProc f)
 unfolding arg_proc
 proc_again f fit room used few =
-    left (step (a_word_again (codes "proc")) (λ _ _. step (test (below_four (used + 1) (omega arith)))
-    (λ _ _. step (name_again f fit) (λ g same. done same))))
+    right (left (step (a_word_again (codes "proc")) (λ _ _. step (test (below_four (used + 1) (omega arith)))
+    (λ _ _. step (name_again f fit) (λ g same. done same)))))
 
 abbrev many_args : ℕ → ℕ → Phrase (List Arg)
 many_args room used = many (behind_arg plain_trees)

@@ -27,7 +27,9 @@ use Rattle.proc_grammar.specs.Lexemes.{end_round, curly, end_curly}
 use Rattle.phrases.specs.Phrase.{many}
 use Rattle.proc_grammar.specs.Grammar.{Phrase}
 use Rattle.proc_grammar.specs.Grammar.{import_item, length_part, minus_part, initial_part, global_item}
-use Rattle.proc_grammar.specs.Grammar.{arity_part, param, next_param, some_params, params, local_item}
+use Rattle.proc_grammar.specs.Grammar.{arity_part, plain_param, param, next_param, some_params, params}
+use Rattle.proc_grammar.specs.Grammar.{plain_local, local_item, Taken, none_taken, behind_local}
+use Rattle.proc_grammar.specs.Grammar.{behind_params}
 use Rattle.proc_grammar.specs.Grammar.{movable_part, field, header, proc_behind, proc_item, one_more}
 use Rattle.proc_grammar.specs.Grammar.{room_in_body, behind_param, signed, is_initial, is_arity, is_length}
 use Rattle.proc_grammar.specs.Grammar.{is_address, is_return_count}
@@ -51,17 +53,27 @@ upto n most h = grind (arith, nat_tests)
 
 -- ---- lists of items, of which there are at most so many
 
-module _ {A : Type 0} (pieces_of : A → List Piece) (unplaced_item : A → A) (p : ℕ → Phrase A) (most : ℕ)
+-- by what is counted of those before
+module _ {S A : Type 0} (next : S → A → S) (count : S → ℕ) (counts : (s : S) (x : A) → count (next s x)
+    ≡ count s + 1) (pieces_of : A → List Piece) (unplaced_item : A → A) (p : S → Phrase A) (most : ℕ)
     (Fits : A → Type 0)
-    (again : (x : A) → Fits x → (count : ℕ) → count < most → Again (p count) (pieces_of x)
+    (again : (x : A) → Fits x → (s : S) → count s < most → Again (p s) (pieces_of x)
     (λ y. unplaced_item y ≡ unplaced_item x)) where
-  pub items_again : (xs : List A) → Each Fits xs → (count : ℕ) → count + length xs ≤ most
-      → Again (many one_more p count) (flat_map pieces_of xs)
+  pub items_by_again : (xs : List A) → Each Fits xs → (s : S) → count s + length xs ≤ most
+      → Again (many next p s) (flat_map pieces_of xs)
       (λ ys. map unplaced_item ys ≡ map unplaced_item xs)
-  items_again [] fits count few = no_items refl
-  items_again (x ∷ xs) fits count few =
-      item (again x fits.0 count (omega arith)) (λ y same. good (λ ys alike. λ i. same i ∷ alike i)
-      (items_again xs fits.1 (count + 1) (omega arith)))
+  items_by_again [] fits s few = no_items refl
+  items_by_again (x ∷ xs) fits s few =
+      item (again x fits.0 s (omega arith)) (λ y same. good (λ ys alike. λ i. same i ∷ alike i)
+      (items_by_again xs fits.1 (next s y) (let one = counts s y in omega (arith, one))))
+
+pub items_again : {A : Type 0} (pieces_of : A → List Piece) (unplaced_item : A → A) (p : ℕ → Phrase A)
+    (most : ℕ) (Fits : A → Type 0)
+    → ((x : A) → Fits x → (n : ℕ) → n < most → Again (p n) (pieces_of x)
+    (λ y. unplaced_item y ≡ unplaced_item x))
+    → (xs : List A) → Each Fits xs → (n : ℕ) → n + length xs ≤ most
+    → Again (many one_more p n) (flat_map pieces_of xs) (λ ys. map unplaced_item ys ≡ map unplaced_item xs)
+items_again = items_by_again one_more (λ n. n) (λ n x. refl)
 
 -- ---- imports
 
@@ -159,20 +171,21 @@ registers_some : (given : Option ℕ) → 1 ≤ param_registers given
 registers_some None = omega arith
 registers_some (Some n) = omega arith
 
-param_again : (p : Param) → ParamFits p → (used : ℕ) → used + param_registers p.arity ≤ MOST_REGISTERS
+param_again : (p : Param) → ParamFits p → (used : Taken)
+    → used.slots + param_registers p.arity ≤ MOST_REGISTERS
     → Again (param plain_trees true used) (param_pieces p) (AlikeP p)
-unfolding param
+unfolding plain_param
 param_again p fits used few =
     let some = registers_some p.arity in
-    step (name_again p.name fits.0) (λ y same. step (test (below used 4 (omega arith)))
-    (λ _ _. arity_again p.name y p.arity used same fits.1 few))
+    right (step (name_again p.name fits.0) (λ y same. step (test (below used.slots 4 (omega arith)))
+    (λ _ _. arity_again p.name y p.arity used.slots same fits.1 few)))
 
 params_more : (p : Param) (ps : List Param) → params_registers (p ∷ ps) ≡ param_registers p.arity +
     params_registers ps
 params_more p ps = sum_by-cons (λ q. param_registers q.arity) p ps
 
-more_params_again : (ps : List Param) → Each ParamFits ps → (used : ℕ)
-    → used + params_registers ps ≤ MOST_REGISTERS
+more_params_again : (ps : List Param) → Each ParamFits ps → (used : Taken)
+    → used.slots + params_registers ps ≤ MOST_REGISTERS
     → Again (many (behind_param plain_trees) (next_param plain_trees true) used) (more_params ps)
     (λ qs. map unplaced_param qs ≡ map unplaced_param ps)
 more_params_again [] fits used few = no_items refl
@@ -180,9 +193,8 @@ more_params_again (p ∷ ps) fits used few =
     item (step {P = λ u. Unit {0}} {Q = AlikeP p} (a_sign_again comma (codes ",") refl)
     (λ _ _. param_again p fits.0 used (omega (arith, params_more p ps))))
     (λ q same. good (λ qs alike. λ i. same.0 i ∷ alike i)
-    (subst (λ n. Again (many (behind_param plain_trees) (next_param plain_trees true) n) (more_params ps)
-    (λ qs. map unplaced_param qs ≡ map unplaced_param ps)) (ap (λ k. used + k) (sym same.1))
-    (more_params_again ps fits.1 (used + param_registers p.arity) (omega (arith, params_more p ps)))))
+    (more_params_again ps fits.1 (behind_param plain_trees used q)
+    (let registers = same.1 in omega (arith, registers, params_more p ps))))
 
 pub params_again : (ps : List Param) → Each ParamFits ps → params_registers ps ≤ MOST_REGISTERS
     → Again (params plain_trees true) (within (codes "(") (params_pieces ps) (codes ")"))
@@ -194,19 +206,18 @@ params_again [] fits few =
 params_again (p ∷ ps) fits few =
     step (a_sign_again round (codes "(") refl)
     (λ _ _. right (at (sym (append_assoc (param_pieces p) (more_params ps) (a_sign (codes ")") ∷ [])))
-    (step {P = AlikeP p} (param_again p fits.0 0 (omega (arith, params_more p ps))) (λ q same.
-    step (subst (λ n. Again (many (behind_param plain_trees) (next_param plain_trees true) n)
-    (more_params ps) (λ qs. map unplaced_param qs ≡ map unplaced_param ps)) (ap (λ k. 0 + k) (sym same.1))
-    (more_params_again ps fits.1 (0 + param_registers p.arity) (omega (arith, params_more p ps))))
+    (step {P = AlikeP p} (param_again p fits.0 none_taken (omega (arith, params_more p ps))) (λ q same.
+    step (more_params_again ps fits.1 (behind_param plain_trees none_taken q)
+    (let registers = same.1 in omega (arith, registers, params_more p ps)))
     (λ qs alike. step (a_sign_again end_round (codes ")") refl) (λ _ _. done (λ i. same.0 i ∷ alike i)))))))
 
-pub local_again : (x : Name) → NameFits x → (count : ℕ) → count < MOST_LOCALS
-    → Again (local_item plain_trees true count) (local_pieces x) (λ y. unplaced_name y ≡ unplaced_name x)
-unfolding local_item
-local_again x fits count few =
-    step (a_word_again (codes "local")) (λ _ _. step (test (below count MOST_LOCALS few))
+local_again : (x : Name) → NameFits x → (used : Taken) → used.slots < MOST_LOCALS
+    → Again (local_item plain_trees true used) (local_pieces x) (λ y. unplaced_name y ≡ unplaced_name x)
+unfolding plain_local
+local_again x fits used few =
+    right (step (a_word_again (codes "local")) (λ _ _. step (test (below used.slots MOST_LOCALS few))
     (λ _ _. step (name_again x fits) (λ y same. step (a_sign_again semicolon (codes ";") refl)
-    (λ _ _. done (renamed x y same)))))
+    (λ _ _. done (renamed x y same))))))
 
 -- ---- procedures
 
@@ -241,8 +252,9 @@ proc_behind_again p h place =
     step (a_sign_again curly (codes "{") refl)
     (λ _ _. at (sym (append_assoc (flat_map local_pieces p.locals) (block_pieces (block_of p.body))
     (a_sign (codes "}") ∷ [])))
-    (step (items_again local_pieces unplaced_name (local_item plain_trees true) MOST_LOCALS NameFits
-    local_again p.locals h.fits.locals.1 0 (omega (arith, h.fits.locals.0))) (λ ls same_locals.
+    (step (items_by_again (behind_local plain_trees) (λ used. used.slots) (λ used x. refl) local_pieces
+    unplaced_name (local_item plain_trees true) MOST_LOCALS NameFits local_again p.locals h.fits.locals.1
+    (behind_params plain_trees ps) (omega (arith, h.fits.locals.0))) (λ ls same_locals.
     step (block_again (block_of p.body) h.fits.body room_in_body h.shallow) (λ body alike.
     step (a_sign_again end_curly (codes "}") refl) (λ _ _.
     done (λ i. record {

@@ -14,7 +14,8 @@ use Rattle.proc_grammar.specs.Lexemes.{sign, round, square, assign, semicolon, c
 use Rattle.phrases.specs.Phrase.{◌>>=◌, one, only, many, nothing}
 use Rattle.proc_grammar.specs.Grammar.{Phrase}
 use Rattle.proc_grammar.specs.Grammar.{expr, set_part, set_at_part, calls_part, target_part, name_stmt, block}
-use Rattle.proc_grammar.specs.Grammar.{if_stmt, while_stmt, return_stmt, halt_stmt, stmt as a_stmt}
+use Rattle.proc_grammar.specs.Grammar.{if_stmt, while_stmt, return_stmt, halt_stmt, plain_stmt}
+use Rattle.proc_grammar.specs.Grammar.{stmt as a_stmt}
 use Rattle.proc_grammar.specs.Grammar.{stmts_with, stmts}
 use Rattle.proc_print.specs.Printed.{sign as a_sign, within, in_curly, expr_pieces, stmt_pieces}
 use Rattle.proc_print.specs.Printed.{block_pieces}
@@ -157,8 +158,8 @@ halt_again place e fits room h =
 -- ---- the whole
 
 abbrev pub StmtAgain : Stmt → Type 0
-StmtAgain s = (room : ℕ) → stmt_nesting s ≤ room → Again (a_stmt plain_trees true room (inner_stmts room))
-    (stmt_pieces s) (AlikeS s)
+StmtAgain s = (room : ℕ) → stmt_nesting s ≤ room
+    → Again (plain_stmt plain_trees true room (inner_stmts room)) (stmt_pieces s) (AlikeS s)
 
 abbrev ManyAgain : Block → Type 0
 ManyAgain b = (room : ℕ) → block_nesting b ≤ room
@@ -195,7 +196,7 @@ mutual
   many_stmts_again : (b : Block) → BlockFits b → ManyAgain b
   many_stmts_again no_stmts fits room h = no_items refl
   many_stmts_again (stmt s b) fits room h =
-      item (stmt_again s fits.0 room (omega arith))
+      item (right (right (stmt_again s fits.0 room (omega arith))))
       (λ x same. good (λ xs alike. λ i. stmt (same i) (alike i))
       (many_stmts_again b fits.1 room (omega arith)))
 

@@ -6,6 +6,7 @@ use Rattle.std.specs.Str.{bytes_eq}
 use Rattle.text_scan.specs.declared.token.TokenKind.{TokenKind}
 use Rattle.text_scan.specs.declared.token.TokenKind.TheVariants as kinds
 use Rattle.proc_language.specs.declared.TheConstants.{MOST_ITEMS, MOST_REGISTERS, MOST_LOCALS, MOST_TERMS}
+use Rattle.proc_language.specs.declared.TheConstants.{MOST_TOKENS}
 use Rattle.proc_language.specs.declared.tree.Name.{Name}
 use Rattle.proc_language.specs.declared.tree.Op.{Op}
 use Rattle.proc_language.specs.declared.module.Import.{Import}
@@ -16,22 +17,25 @@ use Rattle.phrases.specs.Phrase.{then, only, ◌or◌}
 use Rattle.phrases.proofs.Blames as blames
 use Rattle.phrases.proofs.Blames.{IsToken, is_token, is_tested, blames_then, blames_token, blames_done}
 use Rattle.phrases.proofs.Blames.{blames_none, blames_known, blames_map, blames_holds, blames_one}
-use Rattle.phrases.proofs.Blames.{blames_case, blames_either, blames_many}
+use Rattle.phrases.proofs.Blames.{blames_as, blames_case, blames_either, blames_many}
 use Rattle.phrases.proofs.Heads.{Is, Head, Heads, heads_one, heads_then, heads_or, heads_as}
 use Rattle.proc_grammar.specs.declared.fault.ParseFault.TheVariants.{Range, TooMany}
 use Rattle.proc_grammar.specs.Fault.{limit_place}
 use Rattle.proc_grammar.specs.Makes.{Makes}
-use Rattle.proc_grammar.specs.Lexemes.{Lexeme, Meaning, Numeral, word, word_in, sign, sign_in, a_name}
-use Rattle.proc_grammar.specs.Lexemes.{name_in, name_text, taken, a_number, number_in, a_start, a_proc}
+use Rattle.proc_grammar.specs.Lexemes.{Lexeme, Meaning, Numeral, word, word_in, words_of, token_word, sign}
+use Rattle.proc_grammar.specs.Lexemes.{sign_in, a_name, a_local, name_in, name_text, taken, a_number}
+use Rattle.proc_grammar.specs.Lexemes.{number_in, a_start, a_proc}
 use Rattle.proc_grammar.specs.Lexemes.{adding, dot, comma, semicolon, slash, assign, dash, round}
 use Rattle.proc_grammar.specs.Lexemes.{square, curly, end_round, end_square, end_curly}
 use Rattle.proc_grammar.specs.Grammar.{Phrase, kept, is_short, is_address, is_return_count, is_arity}
 use Rattle.proc_grammar.specs.Grammar.{is_length, is_literal, is_initial, signed, behind_param, behind_arg}
-use Rattle.proc_grammar.specs.Grammar.{behind_local, one_more, operated, sum_of}
+use Rattle.proc_grammar.specs.Grammar.{behind_local, behind_params, one_more, operated, sum_of, Taken}
+use Rattle.proc_grammar.specs.Grammar.{none_taken, from_tokens}
 use Rattle.proc_grammar.specs.Grammar as grammar
-use Rattle.proc_grammar.specs.Reader.{Reader, tells, one, expected}
+use Rattle.proc_grammar.specs.Reader.{Reader, tells, one, expected, case_token}
 use Rattle.proc_grammar.specs.Reading as reading
 use Rattle.proc_grammar.proofs.Tokens.{name_token, number_token, word_token, sign_token, adding_token}
+use Rattle.proc_grammar.proofs.Added.{heads_added}
 use Rattle.proc_grammar.proofs.Exprs.{number_spelled, open_next}
 use Rattle.proc_grammar.proofs.Stmts.{stmt_heads}
 
@@ -124,6 +128,14 @@ word_is w = is_token tells (word w) (λ a. a) (word_places w)
 
 sign_is : (s : ℕ) → IsToken tells (phrases.one (sign s)) (one (sign s)) (λ a. a)
 sign_is s = is_token tells (sign s) (λ a. a) (sign_places s)
+
+-- what begins with a word of tokens, before others
+blames_added : {N A : Type 0} {fuel : ℕ} {K : ℕ → Type 0} {Q : N → ℕ → Phrase A} {R : Phrase A}
+    {f : N → ℕ → Reader A} {r : Reader A} (o : Option N) (w : List ℕ)
+    → ((k : N) (at : ℕ) → Blames fuel (λ n. K n ⊎ (n ≡ at)) (Q k at) (f k at)) → Blames fuel K R r
+    → Blames fuel K (from_tokens o (λ k. then (phrases.one (word w)) (Q k)) or R) (case_token o w f r)
+blames_added None w added other = blames_as (λ l x h. inr h) other
+blames_added (Some k) w added other = blames_case (λ a. a) (word_places w) (added k) other
 
 module _ (limits : Bool) (fuel : ℕ) {K : ℕ → Type 0} where
   num_blames : (test : ℕ → Bool) → Blames fuel K (grammar.num false test) (reading.next_num limits test)
@@ -239,11 +251,12 @@ lift h = blames_known (λ n e. absurd e) h
 -- ---- parameters and locals
 
 module _ {E A S P V R M : Type 0} (T : Makes E A S P V R M) (limits : Bool) (fuel : ℕ) where
-  param_blames : {K : ℕ → Type 0} (used : ℕ) → Blames fuel K (grammar.param T false used)
-      (reading.next_param T limits fuel used)
-  unfolding grammar.param reading.next_param grammar.arity_part reading.arity_behind
-  param_blames used =
-      blames_token (λ x. x.at) (name_is T.words limits fuel) (name_blames T.words limits fuel) (λ x.
+  plain_param_blames : {K : ℕ → Type 0} (used : ℕ) → Blames fuel K (grammar.plain_param T false used)
+      (reading.plain_param T limits fuel used)
+  unfolding grammar.plain_param reading.plain_param grammar.arity_part reading.arity_behind
+  plain_param_blames used =
+      blames_token (λ x. x.at) (name_is (words_of T.tokens) limits fuel)
+      (name_blames (words_of T.tokens) limits fuel) (λ x.
       blames_holds _ (kept limits (nat_lt used MOST_REGISTERS)) true (TooMany x.at) x.at refl (inr refl) refl
       (
       blames_case (λ a. a) (sign_places slash) (λ at.
@@ -252,12 +265,22 @@ module _ {E A S P V R M : Type 0} (T : Makes E A S P V R M) (limits : Bool) (fue
       blames_map (T.callback x) (num_blames limits fuel is_arity)))
       (blames_done (T.param x))))
 
-  another_param_blames : {K : ℕ → Type 0} (used : ℕ) → Blames fuel K (grammar.next_param T false used)
+  param_blames : {K : ℕ → Type 0} (used : Taken) → Blames fuel K (grammar.param T false used)
+      (reading.next_param T limits fuel used)
+  unfolding reading.next_param grammar.token_param reading.token_param
+  param_blames used =
+      blames_added T.tokens (codes "token") (λ makes at.
+      blames_token (λ x. x.at) (name_is (words_of T.tokens) limits fuel)
+      (name_blames (words_of T.tokens) limits fuel) (λ x.
+      blames_holds _ (kept limits (nat_lt used.tokens MOST_TOKENS)) true (TooMany x.at) x.at refl (inr refl)
+      refl (blames_done (makes.param x)))) (plain_param_blames used.slots)
+
+  another_param_blames : {K : ℕ → Type 0} (used : Taken) → Blames fuel K (grammar.next_param T false used)
       (reading.another_param T limits fuel used)
   unfolding reading.another_param
   another_param_blames used = blames_then (sign_one fuel comma refl) (λ _. param_blames used)
 
-  param_full : (used : ℕ) (t : List Lexeme) (x : P) → grammar.next_param T false used t x → 1 ≤ length t
+  param_full : (used : Taken) (t : List Lexeme) (x : P) → grammar.next_param T false used t x → 1 ≤ length t
   param_full used t x p = let h : Heads (Is (sign comma)) (grammar.next_param T false used) =
       heads_then _ (heads_one (sign comma)) in full_head t (h t x p)
 
@@ -267,24 +290,46 @@ module _ {E A S P V R M : Type 0} (T : Makes E A S P V R M) (limits : Bool) (fue
   params_blames =
       blames_then (sign_one fuel round refl) (λ _.
       blames_case (λ a. a) (sign_places end_round) (λ end. blames_done [])
-      (blames_then (param_blames 0) (λ first.
+      (blames_then (param_blames none_taken) (λ first.
       blames_then (blames_many (sign comma) (behind_param T) (reading.another_param T limits fuel)
-      another_param_blames param_full fuel (behind_param T 0 first) (omega arith)) (λ others.
+      another_param_blames param_full fuel (behind_param T none_taken first) (omega arith)) (λ others.
       blames_then (sign_one fuel end_round refl) (λ _. blames_done (first ∷ others))))))
 
-  local_blames : {K : ℕ → Type 0} (count : ℕ) → Blames fuel K (grammar.local_item T false count)
-      (reading.next_local T limits fuel count)
-  unfolding grammar.local_item reading.next_local
-  local_blames count =
+  plain_local_blames : {K : ℕ → Type 0} (count : ℕ) → Blames fuel K (grammar.plain_local T false count)
+      (reading.plain_local T limits fuel count)
+  unfolding grammar.plain_local reading.plain_local
+  plain_local_blames count =
       blames_token (λ a. a) (word_is (codes "local")) (word_one fuel (codes "local")) (λ at.
       blames_holds _ (kept limits (nat_lt count MOST_LOCALS)) true (TooMany at) at refl (inr refl) refl (
-      blames_then (name_blames T.words limits fuel) (λ x.
+      blames_then (name_blames (words_of T.tokens) limits fuel) (λ x.
       blames_then (sign_one fuel semicolon refl) (λ _. blames_done (T.local x)))))
 
-  local_full : (count : ℕ) (t : List Lexeme) (x : V) → grammar.local_item T false count t x → 1 ≤ length t
-  unfolding grammar.local_item
-  local_full count t x p = let h : Heads (Is (word (codes "local"))) (grammar.local_item T false count) =
-      heads_then _ (heads_one (word (codes "local"))) in full_head t (h t x p)
+  local_blames : {K : ℕ → Type 0} (used : Taken) → Blames fuel K (grammar.local_item T false used)
+      (reading.next_local T limits fuel used)
+  unfolding reading.next_local grammar.token_local reading.token_local
+  local_blames used =
+      blames_added T.tokens (codes "token") (λ makes at.
+      blames_token (λ x. x.at) (name_is (words_of T.tokens) limits fuel)
+      (name_blames (words_of T.tokens) limits fuel) (λ x.
+      blames_holds _ (kept limits (nat_lt used.tokens MOST_TOKENS)) true (TooMany x.at) x.at refl (inr refl)
+      refl (blames_then (sign_one fuel semicolon refl) (λ _. blames_done (makes.local x)))))
+      (plain_local_blames used.slots)
+
+  local_full : (used : Taken) (t : List Lexeme) (x : V) → grammar.local_item T false used t x → 1 ≤ length t
+  unfolding grammar.plain_local grammar.token_local
+  local_full used t x p =
+      let h : Heads (λ u. Is (token_word T.tokens (codes "token")) u ⊎ Is (word (codes "local")) u)
+      (grammar.local_item T false used) =
+      heads_or (heads_as (heads_added _ T.tokens (codes "token")) (λ u g. inl g))
+      (heads_as (heads_then _ (heads_one (word (codes "local")))) (λ u g. inr g)) in
+      full_head t (h t x p)
+
+  locals_blames : {K : ℕ → Type 0} (ps : List P)
+      → Blames fuel K (phrases.many (behind_local T) (grammar.local_item T false) (behind_params T ps))
+      (reading.next_locals T limits fuel ps)
+  unfolding reading.next_locals
+  locals_blames ps = blames_many (a_local T.tokens) (behind_local T) (reading.next_local T limits fuel)
+      local_blames local_full fuel (behind_params T ps) (omega arith)
 
   -- ---- expressions
 
@@ -300,13 +345,16 @@ module _ {E A S P V R M : Type 0} (T : Makes E A S P V R M) (limits : Bool) (fue
 
     arg_blames : {K : ℕ → Type 0} (used : ℕ) → Blames fuel K (grammar.arg T false (suc room) inner' used)
         (reading.next_arg T limits fuel room r used)
-    unfolding grammar.arg_proc grammar.arg_value reading.next_arg reading.arg_proc reading.arg_value
+    unfolding grammar.token_arg grammar.arg_proc grammar.arg_value reading.next_arg reading.token_arg
+        reading.plain_arg reading.arg_proc reading.arg_value
     arg_blames used =
-        blames_case (λ a. a) (word_places (codes "proc")) (λ at.
+        blames_added T.tokens (codes "token")
+        (λ makes at. blames_map makes.arg (name_blames (words_of T.tokens) limits fuel))
+        (blames_case (λ a. a) (word_places (codes "proc")) (λ at.
         blames_holds _ (kept limits (nat_lt (used + 1) MOST_REGISTERS)) true (TooMany at) at refl
         (inr refl) refl (
-        blames_map T.pass (name_blames T.words limits fuel)))
-        (blames_map T.value (lift (each (kept limits (nat_lt used MOST_REGISTERS)))))
+        blames_map T.pass (name_blames (words_of T.tokens) limits fuel)))
+        (blames_map T.value (lift (each (kept limits (nat_lt used MOST_REGISTERS))))))
 
     another_arg_blames : {K : ℕ → Type 0} (used : ℕ)
         → Blames fuel K (grammar.next_arg T false (suc room) inner' used)
@@ -346,7 +394,8 @@ module _ {E A S P V R M : Type 0} (T : Makes E A S P V R M) (limits : Bool) (fue
         (reading.name_term T limits fuel room r fits)
     unfolding grammar.name_term reading.name_term
     name_term_blames fits =
-        blames_token (λ x. x.at) (name_is T.words limits fuel) (name_blames T.words limits fuel) (λ x.
+        blames_token (λ x. x.at) (name_is (words_of T.tokens) limits fuel)
+        (name_blames (words_of T.tokens) limits fuel) (λ x.
         blames_holds _ fits true (TooMany x.at) x.at refl (inr refl) refl (behind_name_blames x))
 
     term_blames : {K : ℕ → Type 0} (fits : Bool)
@@ -420,7 +469,8 @@ module _ {E A S P V R M : Type 0} (T : Makes E A S P V R M) (limits : Bool) (fue
       unfolding grammar.block reading.next_block
       block_blames =
           blames_token (λ a. a) (sign_is curly) (sign_one fuel curly refl) (λ at.
-          blames_holds _ (nat_lt 0 room) (nat_lt 0 (suc room)) (TooMany at) at refl (inr refl) (open_next room)
+          blames_holds _ (nat_lt 0 room) (nat_lt 0 (suc room)) (TooMany at) at refl (inr refl)
+          (open_next room)
           (
           blames_then (lift each) (λ body. blames_then (sign_one fuel end_curly refl)
           (λ end. blames_done (body, end)))))
@@ -461,13 +511,13 @@ module _ {E A S P V R M : Type 0} (T : Makes E A S P V R M) (limits : Bool) (fue
       name_stmt_blames : {K : ℕ → Type 0} → Blames fuel K (grammar.name_stmt T false (suc room) inner')
           (reading.name_stmt T limits fuel room r)
       unfolding grammar.name_stmt reading.name_stmt
-      name_stmt_blames = blames_then (name_blames T.words limits fuel) target_blames
+      name_stmt_blames = blames_then (name_blames (words_of T.tokens) limits fuel) target_blames
 
-      stmt_blames : {K : ℕ → Type 0} → Blames fuel K (grammar.stmt T false (suc room) inner')
-          (reading.next_stmt T limits fuel room r)
-      unfolding reading.next_stmt grammar.if_stmt grammar.while_stmt grammar.return_stmt grammar.halt_stmt
+      plain_stmt_blames : {K : ℕ → Type 0} → Blames fuel K (grammar.plain_stmt T false (suc room) inner')
+          (reading.plain_stmt T limits fuel room r)
+      unfolding reading.plain_stmt grammar.if_stmt grammar.while_stmt grammar.return_stmt grammar.halt_stmt
           reading.if_behind reading.while_behind reading.return_behind reading.halt_behind
-      stmt_blames =
+      plain_stmt_blames =
           blames_either (λ at.
           blames_then expr (λ e. blames_then block_blames (λ body. else_blames at e body.0 body.1)))
           (blames_either (λ at.
@@ -476,10 +526,24 @@ module _ {E A S P V R M : Type 0} (T : Makes E A S P V R M) (limits : Bool) (fue
           (blames_either (λ at. ended_blames (λ e end. T.halt at end e))
           name_stmt_blames)))
 
+      token_blames : {K : ℕ → Type 0} (made : ℕ → ℕ → Name → S) (at : ℕ)
+          → Blames fuel K (then (grammar.a_word T false) (λ x. then (phrases.one (sign semicolon))
+          (λ end. only (made at end x)))) (reading.token_behind T limits fuel made at)
+      unfolding reading.token_behind
+      token_blames made at = blames_then (name_blames (words_of T.tokens) limits fuel) (λ x.
+          blames_then (sign_one fuel semicolon refl) (λ end. blames_done (made at end x)))
+
+      stmt_blames : {K : ℕ → Type 0} → Blames fuel K (grammar.stmt T false (suc room) inner')
+          (reading.next_stmt T limits fuel room r)
+      unfolding reading.next_stmt grammar.token_stmt
+      stmt_blames =
+          blames_added T.tokens (codes "make") (λ makes at. token_blames makes.make at)
+          (blames_added T.tokens (codes "spend") (λ makes at. token_blames makes.spend at) plain_stmt_blames)
+
       stmts_with_blames : {K : ℕ → Type 0} → Blames fuel K (grammar.stmts_with T false (suc room) inner')
           (reading.stmts_with T limits fuel room r)
       unfolding grammar.stmts_with reading.stmts_with
-      stmts_with_blames = blames_many (a_start T.words) (λ u s. u)
+      stmts_with_blames = blames_many (a_start T.tokens) (λ u s. u)
           (λ (u : Unit {0}). reading.next_stmt T limits fuel room r) (λ u. stmt_blames)
           (λ u t x p. full_head t (stmt_heads T false (suc room) inner' t x p)) fuel tt (omega arith)
 
@@ -500,11 +564,10 @@ module _ {E A S P V R M : Type 0} (T : Makes E A S P V R M) (limits : Bool) (fue
       (reading.proc_behind T limits fuel room at shared)
   unfolding grammar.proc_behind reading.proc_behind
   proc_behind_blames room at shared =
-      blames_then (name_blames T.words limits fuel) (λ x.
+      blames_then (name_blames (words_of T.tokens) limits fuel) (λ x.
       blames_then (params_blames T limits fuel) (λ params.
       blames_then (sign_one fuel curly refl) (λ _.
-      blames_then (blames_many (word (codes "local")) (behind_local T) (reading.next_local T limits fuel)
-      (local_blames T limits fuel) (local_full T limits fuel) fuel 0 (omega arith)) (λ locals.
+      blames_then (locals_blames T limits fuel params) (λ locals.
       blames_then (lift (stmts_blames room)) (λ body.
       blames_then (sign_one fuel end_curly refl) (λ end.
       blames_done (T.proc at end shared x params locals body)))))))
@@ -530,29 +593,35 @@ module _ {E A S P V R M : Type 0} (T : Makes E A S P V R M) (limits : Bool) (fue
       (heads_as (heads_then _ (heads_one (word (codes "proc")))) (λ u g. inr g)) in
       full_head t (h t x p)
 
-  import_full : (count : ℕ) (t : List Lexeme) (x : Import) → grammar.import_item T.words false count t x
+  import_full : (count : ℕ) (t : List Lexeme) (x : Import) → grammar.import_item
+      (words_of T.tokens) false count t x
       → 1 ≤ length t
   unfolding grammar.import_item
   import_full count t x p = let h : Heads (Is (word (codes "import")))
-      (grammar.import_item T.words false count) = heads_then _ (heads_one (word (codes "import"))) in
+      (grammar.import_item (words_of T.tokens) false count) = heads_then _
+      (heads_one (word (codes "import"))) in
       full_head t (h t x p)
 
-  global_full : (count : ℕ) (t : List Lexeme) (x : Global) → grammar.global_item T.words false count t x
+  global_full : (count : ℕ) (t : List Lexeme) (x : Global) → grammar.global_item
+      (words_of T.tokens) false count t x
       → 1 ≤ length t
   unfolding grammar.global_item
   global_full count t x p = let h : Heads (Is (word (codes "global")))
-      (grammar.global_item T.words false count) = heads_then _ (heads_one (word (codes "global"))) in
+      (grammar.global_item (words_of T.tokens) false count) = heads_then _
+      (heads_one (word (codes "global"))) in
       full_head t (h t x p)
 
   pub module_blames : (room : ℕ) → Blames fuel Nowhere (grammar.a_module T false (suc room))
       (reading.next_module T limits fuel room)
   unfolding grammar.a_module reading.next_module
   module_blames room =
-      blames_then (header_blames T.words limits fuel) (λ head.
-      blames_then (blames_many (word (codes "import")) one_more (reading.next_import T.words limits)
-      (import_blames T.words limits fuel) import_full fuel 0 (omega arith)) (λ imports.
-      blames_then (blames_many (word (codes "global")) one_more (reading.next_global T.words limits)
-      (global_blames T.words limits fuel) global_full fuel 0 (omega arith)) (λ globals.
+      blames_then (header_blames (words_of T.tokens) limits fuel) (λ head.
+      blames_then
+      (blames_many (word (codes "import")) one_more (reading.next_import (words_of T.tokens) limits)
+      (import_blames (words_of T.tokens) limits fuel) import_full fuel 0 (omega arith)) (λ imports.
+      blames_then
+      (blames_many (word (codes "global")) one_more (reading.next_global (words_of T.tokens) limits)
+      (global_blames (words_of T.tokens) limits fuel) global_full fuel 0 (omega arith)) (λ globals.
       blames_then (proc_blames room 0) (λ first.
       blames_map (λ procs. T.module_of head imports globals (first ∷ procs))
       (blames_many a_proc one_more (reading.next_proc T limits fuel room) (proc_blames room)

@@ -1,13 +1,15 @@
 -- The readers of expressions.
 use Rattle.std.proofs.Common.{◌≡◌, Bool, true, false, ℕ, zero, suc, ◌+◌, List, [], ◌∷◌}
-use Rattle.std.proofs.Common.{Some, None, refl, ap, inl, inr, ◌⊎◌, arith, cond}
+use Rattle.std.proofs.Common.{Option, Some, None, refl, ap, inl, inr, ◌⊎◌, arith, cond}
 use Rattle.std.specs.Prelude.{codes, nat_lt, ◌==◌, IsTrue}
 use Rattle.text_scan.specs.declared.token.TokenKind.TheVariants as kinds
 use Rattle.proc_language.specs.declared.tree.Name.{Name}
 use Rattle.proc_language.specs.Words.{is_reserved}
 use Rattle.proc_grammar.specs.Makes.{Makes}
-use Rattle.proc_grammar.specs.Lexemes.{Lexeme, Meaning, word, sign, a_name, a_number, adding, added}
-use Rattle.proc_grammar.specs.Lexemes.{comparing, compared, square, round, end_square, end_round, comma}
+use Rattle.proc_grammar.specs.Lexemes.{Lexeme, Meaning, word, words_of, token_word, taken}
+use Rattle.proc_grammar.specs.Lexemes.{token_words, sign, a_name, a_number, adding, added, comparing}
+use Rattle.proc_grammar.specs.Lexemes.{compared, square, round, end_square}
+use Rattle.proc_grammar.specs.Lexemes.{end_round, comma}
 use Rattle.phrases.specs.Phrase as phrases
 use Rattle.phrases.specs.Phrase.{then, only, ◌or◌, where_true}
 use Rattle.proc_language.specs.declared.TheConstants.{MOST_REGISTERS, MOST_TERMS}
@@ -30,6 +32,8 @@ use Rattle.phrases.proofs.Heads.{Is, Head, Heads, head_more, heads_one, heads_th
 use Rattle.phrases.proofs.Heads.{heads_many, none_there, began, begins_head, reads_up_to, reads_map}
 use Rattle.phrases.proofs.Heads.{map_ahead, many_ahead, or_ahead, head_ahead, only_ahead, Lacks}
 use Rattle.proc_grammar.proofs.Items.{reads_any, name_reads, range_apart}
+use Rattle.proc_grammar.proofs.Added.{reads_added, heads_added, name_no_token, word_no_token, sign_no_token}
+use Rattle.proc_grammar.proofs.Added.{number_no_token, token_no_sign}
 
 -- ---- what ends them
 
@@ -116,6 +120,13 @@ starts_no_word words w h u = elim [
   ]
 ]
 
+starts_no_token : {K : Type 0} (o : Option K) (w : List ℕ) → taken token_words w ≡ true → (u : Lexeme)
+    → Starts (words_of o) u → token_word o w u ≡ None
+starts_no_token o w own u = elim [
+  | inl h ↦ number_no_token o w u h
+  | inr c ↦ elim c [ inl h ↦ sign_no_token o w round u h | inr h ↦ name_no_token o w own u h ]
+]
+
 none_ends : {A : Type 0} (m : Meaning A) (k : List Lexeme) → meant_in m k ≡ None → Ends m k
 none_ends m k e = ap is_there e
 
@@ -125,7 +136,7 @@ open_next room = grind arith
 module _ {E A S P V R M : Type 0} (T : Makes E A S P V R M) (limits : Bool) (fuel : ℕ) (room : ℕ)
     (inner inner' : Bool → Phrase E) (r : Bool → Reader E)
     (each : (fits : Bool) → Reads fuel (inner fits) (inner' true) ExprEnds (r fits))
-    (heads : (fits : Bool) → Heads (Starts T.words) (inner fits)) where
+    (heads : (fits : Bool) → Heads (Starts (words_of T.tokens)) (inner fits)) where
   pub index_reads : (at : ℕ) → Reads fuel (grammar.index T limits room inner)
       (grammar.index T false (suc room) inner') Any (reading.next_index T limits fuel room r at)
   unfolding grammar.index reading.next_index
@@ -136,23 +147,34 @@ module _ {E A S P V R M : Type 0} (T : Makes E A S P V R M) (limits : Bool) (fue
 
   pub arg_reads : (used : ℕ) → Reads fuel (grammar.arg T limits room inner used)
       (grammar.arg T false (suc room) inner' used) ExprEnds (reading.next_arg T limits fuel room r used)
-  unfolding grammar.arg_proc grammar.arg_value reading.next_arg reading.arg_proc reading.arg_value is_reserved
+  unfolding grammar.token_arg grammar.arg_proc grammar.arg_value reading.next_arg reading.token_arg
+      reading.plain_arg reading.arg_proc reading.arg_value is_reserved
   arg_reads used =
-      reads_case (λ at. reads_any (reads_holds _ (kept limits (nat_lt (used + 1) MOST_REGISTERS)) true
-      (TooMany at) (many_apart at) refl (reads_map T.pass (name_reads T.words limits fuel))))
+      reads_added T.tokens (codes "token")
+      (λ makes at. reads_any (reads_map makes.arg (name_reads (words_of T.tokens) limits fuel)))
+      (reads_case (λ at. reads_any (reads_holds _ (kept limits (nat_lt (used + 1) MOST_REGISTERS)) true
+      (TooMany at) (many_apart at) refl (reads_map T.pass (name_reads (words_of T.tokens) limits fuel))))
       (reads_map T.value (each (kept limits (nat_lt used MOST_REGISTERS))))
       (head_ahead (Lacks (word (codes "proc"))) ExprEnds
       (heads_then _ (heads (kept limits (nat_lt used MOST_REGISTERS))))
-      (λ k h. none_there (word (codes "proc")) h (starts_no_word T.words (codes "proc") refl)))
+      (λ k h. none_there (word (codes "proc")) h (starts_no_word (words_of T.tokens) (codes "proc") refl))))
+      (or_ahead (Lacks (token_word T.tokens (codes "token"))) ExprEnds
+      (heads_then _ (heads_one (word (codes "proc"))))
+      (λ k h. none_there _ h (word_no_token T.tokens (codes "proc") (codes "token") refl))
+      (head_ahead (Lacks (token_word T.tokens (codes "token"))) ExprEnds
+      (heads_then _ (heads (kept limits (nat_lt used MOST_REGISTERS))))
+      (λ k h. none_there _ h (starts_no_token T.tokens (codes "token") refl))))
 
-  -- `proc`, or what begins a term
+  -- `token`, `proc`, or what begins a term
   ArgStarts : Lexeme → Type 0
-  ArgStarts u = Is (word (codes "proc")) u ⊎ Starts T.words u
+  ArgStarts u = Is (token_word T.tokens (codes "token")) u ⊎ Is (word (codes "proc")) u
+      ⊎ Starts (words_of T.tokens) u
 
   arg_heads : (used : ℕ) → Heads ArgStarts (grammar.arg T limits room inner used)
-  unfolding grammar.arg_proc grammar.arg_value ArgStarts
-  arg_heads used = heads_or (heads_as (heads_then _ (heads_one (word (codes "proc")))) (λ u h. inl h))
-      (heads_as (heads_then _ (heads (kept limits (nat_lt used MOST_REGISTERS)))) (λ u h. inr h))
+  unfolding grammar.token_arg grammar.arg_proc grammar.arg_value ArgStarts
+  arg_heads used = heads_or (heads_as (heads_added _ T.tokens (codes "token")) (λ u h. inl h))
+      (heads_or (heads_as (heads_then _ (heads_one (word (codes "proc")))) (λ u h. inr (inl h)))
+      (heads_as (heads_then _ (heads (kept limits (nat_lt used MOST_REGISTERS)))) (λ u h. inr (inr h))))
 
   another_reads : (used : ℕ) → Reads fuel (grammar.next_arg T limits room inner used)
       (grammar.next_arg T false (suc room) inner' used) ExprEnds
@@ -211,9 +233,11 @@ module _ {E A S P V R M : Type 0} (T : Makes E A S P V R M) (limits : Bool) (fue
   no_end : (u : Lexeme) → ArgStarts u → sign end_round u ≡ None
   unfolding ArgStarts
   no_end u = elim [
-    | inl (at, e) ↦ word_apart end_round (codes "proc") u at e
-    | inr h ↦ starts_no_sign T.words
-        end_round refl u h
+    | inl h ↦ token_no_sign T.tokens end_round (codes "token") u h
+    | inr c ↦ elim c [
+      | inl (at, e) ↦ word_apart end_round (codes "proc") u at e
+      | inr h ↦ starts_no_sign (words_of T.tokens) end_round refl u h
+    ]
   ]
 
   pub args_reads : (at : ℕ) → Reads fuel (grammar.args T limits room inner)
@@ -239,18 +263,19 @@ module _ {E A S P V R M : Type 0} (T : Makes E A S P V R M) (limits : Bool) (fue
       (λ k h. none_there (sign square) h (λ u (at, e). sign_apart round square refl u at e))
       (only_ahead (Lacks (sign square)) TermEnds (T.var x.at x) (λ k h. h.0)))
 
-  name_heads : Heads (Is (a_name T.words)) (grammar.name T.words limits)
+  name_heads : Heads (Is (a_name (words_of T.tokens))) (grammar.name (words_of T.tokens) limits)
   unfolding grammar.name
-  name_heads = heads_then _ (heads_one (a_name T.words))
+  name_heads = heads_then _ (heads_one (a_name (words_of T.tokens)))
 
   name_term_reads : (fits : Bool) → Reads fuel (grammar.name_term T limits room inner fits)
       (grammar.name_term T false (suc room) inner' true) TermEnds
       (reading.name_term T limits fuel room r fits)
   unfolding grammar.name_term reading.name_term
-  name_term_reads fits = reads_next (name_reads T.words limits fuel) (λ x.
+  name_term_reads fits = reads_next (name_reads (words_of T.tokens) limits fuel) (λ x.
       reads_holds _ fits true (TooMany x.at) (many_apart x.at) refl (behind_name_reads x))
 
-  name_term_heads : (fits : Bool) → Heads (Is (a_name T.words)) (grammar.name_term T limits room inner fits)
+  name_term_heads : (fits : Bool) → Heads (Is (a_name (words_of T.tokens)))
+      (grammar.name_term T limits room inner fits)
   unfolding grammar.name_term
   name_term_heads fits = heads_then _ name_heads
 
@@ -270,15 +295,15 @@ module _ {E A S P V R M : Type 0} (T : Makes E A S P V R M) (limits : Bool) (fue
       (λ e. heads_then _ (heads_one (sign end_round))) (ends_by end_round refl refl refl refl)))))
       (name_term_reads fits)
       (head_ahead (Lacks (sign round)) TermEnds (name_term_heads fits)
-      (λ k h. none_there (sign round) h (λ u (x, e). name_apart T.words round u x e))))
+      (λ k h. none_there (sign round) h (λ u (x, e). name_apart (words_of T.tokens) round u x e))))
       (or_ahead (Lacks a_number) TermEnds (heads_then _ (heads_one (sign round)))
       (λ k h. none_there a_number h
       (λ u (at, e). no_number u (kinds.Sign round) (sign_kind round u at e) refl))
       (head_ahead (Lacks a_number) TermEnds (name_term_heads fits)
       (λ k h. none_there a_number h
-      (λ u (x, e). no_number u kinds.Name (name_kind T.words u x e).0 refl))))
+      (λ u (x, e). no_number u kinds.Name (name_kind (words_of T.tokens) u x e).0 refl))))
 
-  pub term_heads : (fits : Bool) → Heads (Starts T.words) (grammar.term T limits room inner fits)
+  pub term_heads : (fits : Bool) → Heads (Starts (words_of T.tokens)) (grammar.term T limits room inner fits)
   unfolding grammar.number_term grammar.bracket_term
   term_heads fits = heads_or (heads_as (heads_then _ (heads_one a_number)) (λ u h. inl h))
       (heads_or (heads_as (heads_then _ (heads_one (sign round))) (λ u h. inr (inl h)))
@@ -330,7 +355,8 @@ module _ {E A S P V R M : Type 0} (T : Makes E A S P V R M) (limits : Bool) (fue
       (λ left. or_ahead SumEnds ExprEnds (heads_then _ (heads_one comparing)) ends_comparing
       (only_ahead SumEnds ExprEnds left (λ k h. h.0)))
 
-  pub expr_with_heads : (fits : Bool) → Heads (Starts T.words) (grammar.expr_with T limits room inner fits)
+  pub expr_with_heads : (fits : Bool) → Heads (Starts (words_of T.tokens))
+      (grammar.expr_with T limits room inner fits)
   unfolding grammar.expr_with grammar.sum
   expr_with_heads fits = heads_then _ (heads_then _ (term_heads fits))
 
@@ -361,13 +387,13 @@ module _ {E A S P V R M : Type 0} (T : Makes E A S P V R M) (limits : Bool) (fue
   no_reads : (fits : Bool) → Reads fuel phrases.nothing (grammar.expr T false zero true) ExprEnds expected
   no_reads fits = reads_any (reads_none distinct (number_spelled T zero (λ f. phrases.nothing)))
 
-  no_heads : (fits : Bool) → Heads (Starts T.words) (phrases.nothing {A = E})
+  no_heads : (fits : Bool) → Heads (Starts (words_of T.tokens)) (phrases.nothing {A = E})
   no_heads fits t x p = absurd p
 
   expr_both : (room : ℕ)
       → ((fits : Bool) → Reads fuel (grammar.expr T limits room fits) (grammar.expr T false (suc room) true)
       ExprEnds (reading.next_expr T limits fuel room fits))
-      × ((fits : Bool) → Heads (Starts T.words) (grammar.expr T limits room fits))
+      × ((fits : Bool) → Heads (Starts (words_of T.tokens)) (grammar.expr T limits room fits))
   expr_both zero = (
     expr_with_reads T limits fuel zero (λ f. phrases.nothing) (grammar.expr T false zero)
         (λ f. expected) no_reads no_heads,
@@ -386,7 +412,8 @@ module _ {E A S P V R M : Type 0} (T : Makes E A S P V R M) (limits : Bool) (fue
       (grammar.expr T false (suc room) true) ExprEnds (reading.next_expr T limits fuel room fits)
   expr_reads room = (expr_both room).0
 
-  pub expr_heads : (room : ℕ) (fits : Bool) → Heads (Starts T.words) (grammar.expr T limits room fits)
+  pub expr_heads : (room : ℕ) (fits : Bool) → Heads (Starts (words_of T.tokens))
+      (grammar.expr T limits room fits)
   expr_heads room = (expr_both room).1
 
   pub inner_reads : (room : ℕ) (fits : Bool) → Reads fuel (grammar.inner_expr T limits room fits)
@@ -394,6 +421,7 @@ module _ {E A S P V R M : Type 0} (T : Makes E A S P V R M) (limits : Bool) (fue
   inner_reads zero fits = no_reads fits
   inner_reads (suc room) fits = expr_reads room fits
 
-  pub inner_heads : (room : ℕ) (fits : Bool) → Heads (Starts T.words) (grammar.inner_expr T limits room fits)
+  pub inner_heads : (room : ℕ) (fits : Bool) → Heads (Starts (words_of T.tokens))
+      (grammar.inner_expr T limits room fits)
   inner_heads zero fits = no_heads fits
   inner_heads (suc room) fits = expr_heads room fits

@@ -1,5 +1,6 @@
 mod Told
 mod Tokens
+mod Added
 mod Items
 mod Exprs
 mod Stmts
@@ -8,4 +9,7 @@ mod Loosely
 pub mod Whole
 mod Blamed
 pub mod Stops
+pub mod Limits
+mod Leaves
+pub mod Within
 pub mod Fits

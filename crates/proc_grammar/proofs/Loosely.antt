@@ -3,17 +3,21 @@ use Rattle.std.proofs.Common.{◌≡◌, Bool, true, false, ℕ, zero, suc, ◌+
 use Rattle.std.proofs.Common.{refl, arith}
 use Rattle.std.specs.Prelude.{codes, nat_lt}
 use Rattle.proc_grammar.specs.declared.fault.ParseFault.TheVariants.{Range, TooMany}
+use Rattle.proc_language.specs.declared.tree.Name.{Name}
 use Rattle.proc_grammar.specs.Makes.{Makes}
-use Rattle.proc_grammar.specs.Lexemes.{word, sign, a_name, a_number, adding, comparing, a_start, a_proc}
-use Rattle.proc_grammar.specs.Lexemes.{square, round, end_round, comma, slash, assign}
+use Rattle.proc_grammar.specs.Lexemes.{word, words_of, sign, a_name, a_number, adding, comparing, a_start}
+use Rattle.proc_grammar.specs.Lexemes.{a_local, a_proc, square, round, end_round, comma, slash, assign}
 use Rattle.proc_language.specs.declared.TheConstants.{MOST_REGISTERS, MOST_TERMS, MOST_ITEMS, MOST_LOCALS}
+use Rattle.proc_language.specs.declared.TheConstants.{MOST_TOKENS}
 use Rattle.proc_grammar.specs.Grammar.{kept, is_short, is_literal, behind_arg, behind_param}
-use Rattle.proc_grammar.specs.Grammar.{behind_local, one_more, is_arity, is_length, is_initial, is_address}
-use Rattle.proc_grammar.specs.Grammar.{is_return_count}
+use Rattle.proc_grammar.specs.Grammar.{behind_local, behind_params, one_more, is_arity, is_length, is_initial}
+use Rattle.proc_grammar.specs.Grammar.{is_address, is_return_count, Taken, none_taken}
 use Rattle.proc_grammar.specs.Reader.{Reader, tells, one, expected}
 use Rattle.proc_grammar.specs.Reading.{next_name, next_num, next_import, next_length, next_minus}
 use Rattle.proc_grammar.specs.Reading.{next_initial, next_global, next_field, next_movable, next_header}
-use Rattle.proc_grammar.specs.Reading.{arg_value, arg_proc, next_arg, another_arg, some_args, next_args}
+use Rattle.proc_grammar.specs.Reading.{arg_value, arg_proc, token_arg, plain_arg, token_behind}
+use Rattle.proc_grammar.specs.Reading.{plain_stmt, plain_param, token_param, plain_local, token_local}
+use Rattle.proc_grammar.specs.Reading.{next_locals, next_arg, another_arg, some_args, next_args}
 use Rattle.proc_grammar.specs.Reading.{next_index, number_term, behind_name, name_term, bracket_term}
 use Rattle.proc_grammar.specs.Reading.{next_term, another_term, next_sum, next_comparison, expr_with}
 use Rattle.proc_grammar.specs.Reading.{next_expr, inner_expr, set_behind, set_at_behind, calls_behind}
@@ -22,6 +26,7 @@ use Rattle.proc_grammar.specs.Reading.{while_behind, return_behind, halt_behind,
 use Rattle.proc_grammar.specs.Reading.{next_stmts, arity_behind, next_param, another_param, some_params}
 use Rattle.proc_grammar.specs.Reading.{next_params, next_local, proc_behind, next_proc, next_module}
 use Rattle.proc_grammar.proofs.Items.{range_apart}
+use Rattle.proc_grammar.proofs.Added.{loose_added}
 use Rattle.phrases.proofs.Loose as loose
 use Rattle.phrases.proofs.Loose.{loose_same, loose_then, loose_case, loose_holds, loose_many}
 use Rattle.proc_grammar.proofs.Told.{distinct, many_apart}
@@ -33,9 +38,10 @@ both : (b : Bool) → b ≡ true → b ≡ true
 both b e = e
 
 module _ {E A S P V R M : Type 0} (T : Makes E A S P V R M) (n k : ℕ) (le : n ≤ k) where
-  l_name : Looser (next_name T.words true) (next_name T.words false)
+  l_name : Looser (next_name (words_of T.tokens) true) (next_name (words_of T.tokens) false)
   unfolding next_name
-  l_name = loose_then (loose_same (one (a_name T.words))) (λ x. loose_holds _ _ (kept true (is_short x))
+  l_name = loose_then (loose_same (one (a_name (words_of T.tokens))))
+      (λ x. loose_holds _ _ (kept true (is_short x))
       (kept false (is_short x)) (Range x.at) (Range x.at) (range_apart x.at) (λ e. refl)
       (λ _o _u. loose_same _))
 
@@ -45,7 +51,8 @@ module _ {E A S P V R M : Type 0} (T : Makes E A S P V R M) (n k : ℕ) (le : n 
       (kept false (test m.value)) (Range m.at) (Range m.at) (range_apart m.at) (λ e. refl)
       (λ _o _u. loose_same _))
 
-  l_import : (count : ℕ) → Looser (next_import T.words true count) (next_import T.words false count)
+  l_import : (count : ℕ) → Looser (next_import (words_of T.tokens) true count)
+      (next_import (words_of T.tokens) false count)
   unfolding next_import
   l_import count = loose_then (loose_same (one (word (codes "import"))))
       (λ at. loose_holds _ _ (kept true (nat_lt (count) MOST_ITEMS)) (kept false (nat_lt (count) MOST_ITEMS))
@@ -70,7 +77,8 @@ module _ {E A S P V R M : Type 0} (T : Makes E A S P V R M) (n k : ℕ) (le : n 
       (λ at. loose_then (l_minus) (λ negative. loose_then (l_num (is_initial negative)) (λ m. loose_same _)))
       (loose_same _)
 
-  l_global : (count : ℕ) → Looser (next_global T.words true count) (next_global T.words false count)
+  l_global : (count : ℕ) → Looser (next_global (words_of T.tokens) true count)
+      (next_global (words_of T.tokens) false count)
   unfolding next_global
   l_global count = loose_then (loose_same (one (word (codes "global"))))
       (λ at. loose_holds _ _ (kept true (nat_lt (count) MOST_ITEMS)) (kept false (nat_lt (count) MOST_ITEMS))
@@ -88,13 +96,14 @@ module _ {E A S P V R M : Type 0} (T : Makes E A S P V R M) (n k : ℕ) (le : n 
 
     l_arg : (o : nat_lt 0 room ≡ true) (used : ℕ) → Looser (next_arg T true n room r used)
         (next_arg T false k room' r' used)
-    unfolding next_arg arg_proc arg_value
-    l_arg o used = loose_case (word (codes "proc"))
+    unfolding next_arg token_arg plain_arg arg_proc arg_value
+    l_arg o used = loose_added T.tokens (codes "token") (λ makes at. loose_then (l_name) (λ x. loose_same _))
+        (loose_case (word (codes "proc"))
         (λ at. loose_holds _ _ (kept true (nat_lt (used + 1) MOST_REGISTERS))
         (kept false (nat_lt (used + 1) MOST_REGISTERS)) (TooMany at) (TooMany at) (many_apart at)
         (λ e. refl) (λ _o _u. loose_then (l_name) (λ f. loose_same _)))
         (loose_then (each o (kept true (nat_lt used MOST_REGISTERS))
-        (kept false (nat_lt used MOST_REGISTERS)) (λ e. refl)) (λ e. loose_same _))
+        (kept false (nat_lt used MOST_REGISTERS)) (λ e. refl)) (λ e. loose_same _)))
 
     l_another : (o : nat_lt 0 room ≡ true) (used : ℕ) → Looser (another_arg T true n room r used)
         (another_arg T false k room' r' used)
@@ -234,16 +243,26 @@ module _ {E A S P V R M : Type 0} (T : Makes E A S P V R M) (n k : ℕ) (le : n 
     unfolding name_stmt
     l_name_stmt = loose_then (l_name) l_target
 
-    l_stmt : Looser (next_stmt T true n room r) (next_stmt T false k room' r')
-    unfolding next_stmt
-    l_stmt = loose_case (word (codes "if")) l_if
+    l_plain_stmt : Looser (plain_stmt T true n room r) (plain_stmt T false k room' r')
+    unfolding plain_stmt
+    l_plain_stmt = loose_case (word (codes "if")) l_if
         (loose_case (word (codes "while")) l_while
         (loose_case (word (codes "return")) l_return
         (loose_case (word (codes "halt")) l_halt l_name_stmt)))
 
+    l_token_behind : (made : ℕ → ℕ → Name → S) (at : ℕ) → Looser (token_behind T true n made at)
+        (token_behind T false k made at)
+    unfolding token_behind
+    l_token_behind made at = loose_then (l_name) (λ x. loose_same _)
+
+    l_stmt : Looser (next_stmt T true n room r) (next_stmt T false k room' r')
+    unfolding next_stmt
+    l_stmt = loose_added T.tokens (codes "make") (λ makes. l_token_behind makes.make)
+        (loose_added T.tokens (codes "spend") (λ makes. l_token_behind makes.spend) l_plain_stmt)
+
     l_stmts_with : Looser (stmts_with T true n room r) (stmts_with T false k room' r')
     unfolding stmts_with
-    l_stmts_with = loose_many distinct (a_start T.words) (λ u s. u) (λ u. l_stmt) n k le tt
+    l_stmts_with = loose_many distinct (a_start T.tokens) (λ u s. u) (λ u. l_stmt) n k le tt
 
   l_stmts : (room room' : ℕ) → room ≤ room' → Looser (next_stmts T true n room) (next_stmts T false k room')
   l_stmts zero zero le = l_stmts_with zero zero le expected expected (λ o. absurd (none_open o))
@@ -253,9 +272,9 @@ module _ {E A S P V R M : Type 0} (T : Makes E A S P V R M) (n k : ℕ) (le : n 
   l_stmts (suc room) (suc room') le = l_stmts_with (suc room) (suc room') le (next_stmts T true n room)
       (next_stmts T false k room') (λ o. l_stmts room room' (omega (arith, le)))
 
-  l_param : (used : ℕ) → Looser (next_param T true n used) (next_param T false k used)
-  unfolding next_param arity_behind
-  l_param used = loose_then (l_name) (λ x. loose_holds _ _ (kept true (nat_lt (used) MOST_REGISTERS))
+  l_plain_param : (used : ℕ) → Looser (plain_param T true n used) (plain_param T false k used)
+  unfolding plain_param arity_behind
+  l_plain_param used = loose_then (l_name) (λ x. loose_holds _ _ (kept true (nat_lt (used) MOST_REGISTERS))
       (kept false (nat_lt (used) MOST_REGISTERS)) (TooMany x.at) (TooMany x.at) (many_apart x.at) (λ e. refl)
       (λ _o _u. loose_case (sign slash)
       (λ at. loose_holds _ _ (kept true (nat_lt (used + 1) MOST_REGISTERS))
@@ -263,25 +282,45 @@ module _ {E A S P V R M : Type 0} (T : Makes E A S P V R M) (n k : ℕ) (le : n 
       (many_apart x.at) (λ e. refl)
       (λ _o _u. loose_then (l_num is_arity) (λ m. loose_same _))) (loose_same _)))
 
-  l_another_param : (used : ℕ) → Looser (another_param T true n used) (another_param T false k used)
+  l_param : (used : Taken) → Looser (next_param T true n used) (next_param T false k used)
+  unfolding next_param token_param
+  l_param used = loose_added T.tokens (codes "token")
+      (λ makes at. loose_then (l_name) (λ x. loose_holds _ _ (kept true (nat_lt used.tokens MOST_TOKENS))
+      (kept false (nat_lt used.tokens MOST_TOKENS)) (TooMany x.at) (TooMany x.at) (many_apart x.at)
+      (λ e. refl) (λ _o _u. loose_same _))) (l_plain_param used.slots)
+
+  l_another_param : (used : Taken) → Looser (another_param T true n used) (another_param T false k used)
   unfolding another_param
   l_another_param used = loose_then (loose_same _) (λ _c. l_param used)
 
   l_some_params : Looser (some_params T true n) (some_params T false k)
   unfolding some_params
-  l_some_params = loose_then (l_param 0)
+  l_some_params = loose_then (l_param none_taken)
       (λ first. loose_then (loose_many distinct (sign comma) (behind_param T) l_another_param n k le
-      (behind_param T 0 first)) (λ others. loose_same _))
+      (behind_param T none_taken first)) (λ others. loose_same _))
 
   l_params : Looser (next_params T true n) (next_params T false k)
   unfolding next_params
   l_params = loose_then (loose_same _) (λ _r. loose_case (sign end_round) (λ end. loose_same _) l_some_params)
 
-  l_local : (count : ℕ) → Looser (next_local T true n count) (next_local T false k count)
-  unfolding next_local
-  l_local count = loose_then (loose_same _) (λ at. loose_holds _ _ (kept true (nat_lt (count) MOST_LOCALS))
+  l_plain_local : (count : ℕ) → Looser (plain_local T true n count) (plain_local T false k count)
+  unfolding plain_local
+  l_plain_local count = loose_then (loose_same _)
+      (λ at. loose_holds _ _ (kept true (nat_lt (count) MOST_LOCALS))
       (kept false (nat_lt (count) MOST_LOCALS)) (TooMany at) (TooMany at) (many_apart at) (λ e. refl)
       (λ _o _u. loose_then (l_name) (λ x. loose_same _)))
+
+  l_local : (used : Taken) → Looser (next_local T true n used) (next_local T false k used)
+  unfolding next_local token_local
+  l_local used = loose_added T.tokens (codes "token")
+      (λ makes at. loose_then (l_name) (λ x. loose_holds _ _ (kept true (nat_lt used.tokens MOST_TOKENS))
+      (kept false (nat_lt used.tokens MOST_TOKENS)) (TooMany x.at) (TooMany x.at) (many_apart x.at)
+      (λ e. refl) (λ _o _u. loose_same _))) (l_plain_local used.slots)
+
+  l_locals : (params : List P) → Looser (next_locals T true n params) (next_locals T false k params)
+  unfolding next_locals
+  l_locals params = loose_many distinct (a_local T.tokens) (behind_local T) l_local n k le
+      (behind_params T params)
 
   l_proc_behind : (room room' : ℕ) (more : room ≤ room') (at : ℕ) (shared : Bool)
       → Looser (proc_behind T true n room at shared) (proc_behind T false k room' at shared)
@@ -290,8 +329,8 @@ module _ {E A S P V R M : Type 0} (T : Makes E A S P V R M) (n k : ℕ) (le : n 
       loose_then (l_name)
       (λ x. loose_then (l_params)
       (λ params. loose_then (loose_same _)
-      (λ _c. loose_then (loose_many distinct (word (codes "local")) (behind_local T) l_local n k
-      le 0) (λ locals. loose_then (l_stmts room room' more) (λ body. loose_same _)))))
+      (λ _c. loose_then (l_locals params)
+      (λ locals. loose_then (l_stmts room room' more) (λ body. loose_same _)))))
 
   l_proc : (room room' : ℕ) (more : room ≤ room') (count : ℕ) → Looser (next_proc T true n room count)
       (next_proc T false k room' count)
@@ -312,7 +351,7 @@ module _ {E A S P V R M : Type 0} (T : Makes E A S P V R M) (n k : ℕ) (le : n 
   unfolding next_movable
   l_movable = loose_same _
 
-  l_header : Looser (next_header T.words true) (next_header T.words false)
+  l_header : Looser (next_header (words_of T.tokens) true) (next_header (words_of T.tokens) false)
   unfolding next_header
   l_header = loose_then (loose_same _)
       (λ at. loose_then (l_name)

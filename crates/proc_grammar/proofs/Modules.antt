@@ -5,12 +5,14 @@ use Rattle.std.specs.Prelude.{codes, nat_lt, ◌==◌}
 use Rattle.proc_language.specs.declared.tree.Name.{Name}
 use Rattle.proc_language.specs.Words.{is_reserved}
 use Rattle.proc_grammar.specs.Makes.{Makes}
-use Rattle.proc_grammar.specs.Lexemes.{Lexeme, word, sign, a_name, a_proc, either_way, comma, slash}
-use Rattle.proc_grammar.specs.Lexemes.{round, end_round, curly, end_curly, semicolon}
+use Rattle.proc_grammar.specs.Lexemes.{Lexeme, word, words_of, token_word, sign, a_name, a_local, a_proc}
+use Rattle.proc_grammar.specs.Lexemes.{either_way, comma, slash, round, end_round, curly, end_curly}
+use Rattle.proc_grammar.specs.Lexemes.{semicolon}
 use Rattle.phrases.specs.Phrase as phrases
 use Rattle.phrases.specs.Phrase.{then, only, ◌or◌, where_true}
-use Rattle.proc_language.specs.declared.TheConstants.{MOST_REGISTERS, MOST_ITEMS, MOST_LOCALS}
-use Rattle.proc_grammar.specs.Grammar.{Phrase, kept, is_arity, behind_param, behind_local, one_more}
+use Rattle.proc_language.specs.declared.TheConstants.{MOST_REGISTERS, MOST_ITEMS, MOST_LOCALS, MOST_TOKENS}
+use Rattle.proc_grammar.specs.Grammar.{Phrase, kept, is_arity, behind_param, behind_local, behind_params}
+use Rattle.proc_grammar.specs.Grammar.{one_more, Taken, none_taken}
 use Rattle.proc_grammar.specs.Grammar as grammar
 use Rattle.proc_grammar.specs.declared.fault.ParseFault.TheVariants.{TooMany}
 use Rattle.readers.specs.Readers.{done}
@@ -27,18 +29,39 @@ use Rattle.phrases.proofs.Heads.{head_as, heads_many, none_there, began, begins_
 use Rattle.phrases.proofs.Heads.{many_ahead, then_ahead, head_ahead, only_ahead, Lacks}
 use Rattle.proc_grammar.proofs.Items.{reads_any, name_reads, num_reads, import_reads, global_reads}
 use Rattle.proc_grammar.proofs.Items.{header_reads}
-use Rattle.proc_grammar.proofs.Stmts.{StmtStarts, BlockEnds, stmts_reads, stmt_heads}
+use Rattle.proc_grammar.proofs.Added.{reads_added, heads_added, name_no_token, token_no_sign, token_other}
+use Rattle.proc_grammar.proofs.Added.{tokens_apart, sign_no_token, word_no_token}
+use Rattle.proc_grammar.proofs.Stmts.{StmtStarts, PlainStarts, BlockEnds, stmts_reads, stmt_heads}
+use Rattle.proc_grammar.proofs.Stmts.{plain_no_token}
 
 -- no number of registers follows
 abbrev pub NoSlash : List Lexeme → Type 0
 NoSlash = Lacks (sign slash)
 
-abbrev pub NoLocal : List Lexeme → Type 0
-NoLocal = Lacks (word (codes "local"))
+-- no local follows
+abbrev pub NoLocal : {K : Type 0} → Option K → List Lexeme → Type 0
+NoLocal o = Lacks (a_local o)
 
-stmt_no_local : (words : List (List ℕ)) (u : Lexeme) → StmtStarts words u → word (codes "local") u ≡ None
+way_none : (o p : Option ℕ) → o ≡ None → p ≡ None → either_way o p ≡ None
+way_none None None e h = refl
+way_none None (Some b) e h = absurd cc
+way_none (Some c) p e h = absurd cc
+
+way_one : (o p : Option ℕ) (a : ℕ) → o ≡ Some a → either_way o p ≡ Some tt
+way_one None None a e = absurd cc
+way_one None (Some b) a e = refl
+way_one (Some c) None a e = refl
+way_one (Some c) (Some b) a e = refl
+
+way_two : (o p : Option ℕ) (a : ℕ) → p ≡ Some a → either_way o p ≡ Some tt
+way_two None None a e = absurd cc
+way_two None (Some b) a e = refl
+way_two (Some c) None a e = absurd cc
+way_two (Some c) (Some b) a e = refl
+
+plain_no_local : (words : List (List ℕ)) (u : Lexeme) → PlainStarts words u → word (codes "local") u ≡ None
 unfolding is_reserved
-stmt_no_local words u = elim [
+plain_no_local words u = elim [
   | inl h ↦ word_other (codes "if") (codes "local") refl u h
   | inr c ↦ elim c [
     | inl h ↦ word_other (codes "while") (codes "local") refl u h
@@ -53,20 +76,48 @@ stmt_no_local words u = elim [
   ]
 ]
 
+module _ {K : Type 0} where
+  stmt_no_local : (o : Option K) (u : Lexeme) → StmtStarts o u → a_local o u ≡ None
+  unfolding a_local
+  stmt_no_local o u = elim [
+    | inl h ↦ way_none _ _ (token_other o (codes "make") (codes "local") refl u h)
+        (tokens_apart o (codes "make") (codes "token") refl u h)
+    | inr c ↦ elim c [
+      | inl h ↦ way_none _ _ (token_other o (codes "spend") (codes "local") refl u h)
+          (tokens_apart o (codes "spend") (codes "token") refl u h)
+      | inr h ↦ way_none _ _ (plain_no_local (words_of o) u h)
+          (plain_no_token o (codes "token") refl (refl, refl, refl, refl) u h)
+    ]
+  ]
+
+  sign_no_local : (o : Option K) (s : ℕ) (u : Lexeme) → Is (sign s) u → a_local o u ≡ None
+  unfolding a_local
+  sign_no_local o s u (at, e) = way_none _ _ (sign_no_word (codes "local") s u at e)
+      (sign_no_token o (codes "token") s u (at, e))
+
+  -- `token`, or `local`
+  abbrev LocalStarts : Option K → Lexeme → Type 0
+  LocalStarts o u = Is (token_word o (codes "token")) u ⊎ Is (word (codes "local")) u
+
+  local_starts : (o : Option K) (u : Lexeme) → LocalStarts o u → Is (a_local o) u
+  unfolding a_local
+  local_starts o u = elim [
+    | inl (a, e) ↦ (tt, way_two (word (codes "local") u) (token_word o (codes "token") u) a e)
+    | inr (a, e) ↦ (tt, way_one (word (codes "local") u) (token_word o (codes "token") u) a e)
+  ]
+
+  -- `token`, or a name
+  abbrev ParamStarts : Option K → Lexeme → Type 0
+  ParamStarts o u = Is (token_word o (codes "token")) u ⊎ Is (a_name (words_of o)) u
+
+  param_no_sign : (o : Option K) (s : ℕ) (u : Lexeme) → ParamStarts o u → sign s u ≡ None
+  param_no_sign o s u = elim [
+    | inl h ↦ token_no_sign o s (codes "token") u h
+    | inr (x, e) ↦ name_apart (words_of o) s u x e
+  ]
+
 abbrev ProcStarts : Lexeme → Type 0
 ProcStarts u = Is (word (codes "export")) u ⊎ Is (word (codes "proc")) u
-
-way_one : (o p : Option ℕ) (a : ℕ) → o ≡ Some a → either_way o p ≡ Some tt
-way_one None None a e = absurd cc
-way_one None (Some b) a e = refl
-way_one (Some c) None a e = refl
-way_one (Some c) (Some b) a e = refl
-
-way_two : (o p : Option ℕ) (a : ℕ) → p ≡ Some a → either_way o p ≡ Some tt
-way_two None None a e = absurd cc
-way_two None (Some b) a e = refl
-way_two (Some c) None a e = absurd cc
-way_two (Some c) (Some b) a e = refl
 
 proc_starts : (u : Lexeme) → ProcStarts u → Is a_proc u
 unfolding a_proc
@@ -103,25 +154,47 @@ module _ {E A S P V R M : Type 0} (T : Makes E A S P V R M) (limits : Bool) (fue
       (TooMany x.at) (many_apart x.at) refl (reads_map (T.callback x) (num_reads limits fuel is_arity))))
       (reads_any (reads_done (T.param x))) (only_ahead NoSlash NoSlash (T.param x) (λ k h. h))
 
-  param_reads : (used : ℕ) → Reads fuel (grammar.param T limits used) (grammar.param T false used) NoSlash
-      (reading.next_param T limits fuel used)
-  unfolding grammar.param reading.next_param
-  param_reads used = reads_next (name_reads T.words limits fuel)
+  plain_reads : (used : ℕ) → Reads fuel (grammar.plain_param T limits used)
+      (grammar.plain_param T false used) NoSlash (reading.plain_param T limits fuel used)
+  unfolding grammar.plain_param reading.plain_param
+  plain_reads used = reads_next (name_reads (words_of T.tokens) limits fuel)
       (λ x. reads_holds _ (kept limits (nat_lt used MOST_REGISTERS)) true (TooMany x.at)
       (many_apart x.at) refl (arity_reads x used))
 
-  another_reads : (used : ℕ) → Reads fuel (grammar.next_param T limits used)
+  plain_heads : (used : ℕ) → Heads (Is (a_name (words_of T.tokens))) (grammar.plain_param T limits used)
+  unfolding grammar.plain_param grammar.name
+  plain_heads used = heads_then _ (heads_then _ (heads_one (a_name (words_of T.tokens))))
+
+  param_reads : (used : Taken) → Reads fuel (grammar.param T limits used) (grammar.param T false used)
+      NoSlash (reading.next_param T limits fuel used)
+  unfolding grammar.token_param reading.token_param reading.next_param
+  param_reads used =
+      reads_added T.tokens (codes "token") (λ makes at. reads_any (
+      reads_next (name_reads (words_of T.tokens) limits fuel) (λ x.
+      reads_holds _ (kept limits (nat_lt used.tokens MOST_TOKENS)) true (TooMany x.at)
+      (many_apart x.at) refl (reads_done (makes.param x)))))
+      (plain_reads used.slots)
+      (head_ahead (Lacks (token_word T.tokens (codes "token"))) NoSlash (plain_heads used.slots)
+      (λ k h. none_there _ h (name_no_token T.tokens (codes "token") refl)))
+
+  param_heads : (used : Taken) → Heads (ParamStarts T.tokens) (grammar.param T limits used)
+  unfolding grammar.token_param
+  param_heads used = heads_or (heads_as (heads_added _ T.tokens (codes "token")) (λ u h. inl h))
+      (heads_as (plain_heads used.slots) (λ u h. inr h))
+
+  another_reads : (used : Taken) → Reads fuel (grammar.next_param T limits used)
       (grammar.next_param T false used) NoSlash (reading.another_param T limits fuel used)
   unfolding reading.another_param
   another_reads used = reads_next (sign_token fuel comma refl) (λ _. param_reads used)
 
-  commas : (used : ℕ) → Heads (Is (sign comma)) (grammar.next_param T limits used)
+  commas : (used : Taken) → Heads (Is (sign comma)) (grammar.next_param T limits used)
   commas used = heads_then _ (heads_one (sign comma))
 
   sign_ends : (s : ℕ) → (s == slash) ≡ false → (k : List Lexeme) → Head (Is (sign s)) k → NoSlash k
   sign_ends s h k g = none_there (sign slash) g (λ u (at, e). sign_apart s slash h u at e)
 
-  others_reads : (used : ℕ) → Reads fuel (phrases.many (behind_param T) (grammar.next_param T limits) used)
+  others_reads : (used : Taken) → Reads fuel
+      (phrases.many (behind_param T) (grammar.next_param T limits) used)
       (phrases.many (behind_param T) (grammar.next_param T false) used) (Head (Is (sign end_round)))
       (many fuel (sign comma) (behind_param T) (reading.another_param T limits fuel) used)
   others_reads used = reads_many distinct (sign comma) (behind_param T) (reading.another_param T limits fuel)
@@ -145,81 +218,107 @@ module _ {E A S P V R M : Type 0} (T : Makes E A S P V R M) (limits : Bool) (fue
       (reading.some_params T limits fuel)
   unfolding grammar.some_params reading.some_params ListEnds
   some_reads =
-      reads_up_to (param_reads 0) (λ first.
-      reads_up_to (others_reads (behind_param T 0 first)) (λ others.
+      reads_up_to (param_reads none_taken) (λ first.
+      reads_up_to (others_reads (behind_param T none_taken first)) (λ others.
       reads_next (sign_token fuel end_round refl) (λ _. reads_done (first ∷ others)))
       (λ others. heads_then _ (heads_one (sign end_round))) (λ k h. h))
       (λ first. heads_many _ _ _ _ (λ used. heads_as (commas used) (λ u h. inl h))
       (λ others. heads_as (heads_then _ (heads_one (sign end_round))) (λ u h. inr h)))
       list_ends
 
-  some_heads : Heads (Is (a_name T.words)) (grammar.some_params T limits)
-  unfolding grammar.some_params grammar.param grammar.name
-  some_heads = heads_then _ (heads_then _ (heads_then _ (heads_one (a_name T.words))))
+  some_heads : Heads (ParamStarts T.tokens) (grammar.some_params T limits)
+  unfolding grammar.some_params
+  some_heads = heads_then _ (param_heads none_taken)
 
   params_reads : Reads fuel (grammar.params T limits) (grammar.params T false) Any
       (reading.next_params T limits fuel)
   unfolding grammar.params reading.next_params
   params_reads = reads_next (sign_token fuel round refl) (λ _.
       reads_case (λ end. reads_done []) some_reads (head_ahead (Lacks (sign end_round)) Any some_heads
-      (λ k h. none_there (sign end_round) h (λ u (x, e). name_apart T.words end_round u x e))))
+      (λ k h. none_there (sign end_round) h (param_no_sign T.tokens end_round))))
 
-  local_reads : (count : ℕ) → Reads fuel (grammar.local_item T limits count)
-      (grammar.local_item T false count) Any (reading.next_local T limits fuel count)
-  unfolding grammar.local_item reading.next_local
-  local_reads count =
+  plain_local_reads : (count : ℕ) → Reads fuel (grammar.plain_local T limits count)
+      (grammar.plain_local T false count) Any (reading.plain_local T limits fuel count)
+  unfolding grammar.plain_local reading.plain_local
+  plain_local_reads count =
       reads_next (word_token fuel (codes "local")) (λ at.
       reads_holds _ (kept limits (nat_lt count MOST_LOCALS)) true (TooMany at) (many_apart at) refl (
-      reads_next (name_reads T.words limits fuel) (λ x.
+      reads_next (name_reads (words_of T.tokens) limits fuel) (λ x.
       reads_next (sign_token fuel semicolon refl) (λ _. reads_done (T.local x)))))
 
-  local_heads : (count : ℕ) → Heads (Is (word (codes "local"))) (grammar.local_item T limits count)
-  unfolding grammar.local_item
-  local_heads count = heads_then _ (heads_one (word (codes "local")))
+  plain_local_heads : (count : ℕ) → Heads (Is (word (codes "local"))) (grammar.plain_local T limits count)
+  unfolding grammar.plain_local
+  plain_local_heads count = heads_then _ (heads_one (word (codes "local")))
 
-  locals_reads : (count : ℕ) → Reads fuel (phrases.many (behind_local T) (grammar.local_item T limits) count)
-      (phrases.many (behind_local T) (grammar.local_item T false) count) NoLocal
-      (many fuel (word (codes "local")) (behind_local T) (reading.next_local T limits fuel) count)
-  locals_reads count = reads_many distinct (word (codes "local")) (behind_local T)
+  local_reads : (used : Taken) → Reads fuel (grammar.local_item T limits used)
+      (grammar.local_item T false used) Any (reading.next_local T limits fuel used)
+  unfolding grammar.token_local reading.token_local reading.next_local
+  local_reads used =
+      reads_added T.tokens (codes "token") (λ makes at.
+      reads_next (name_reads (words_of T.tokens) limits fuel) (λ x.
+      reads_holds _ (kept limits (nat_lt used.tokens MOST_TOKENS)) true (TooMany x.at)
+      (many_apart x.at) refl (
+      reads_next (sign_token fuel semicolon refl) (λ _. reads_done (makes.local x)))))
+      (plain_local_reads used.slots)
+      (head_ahead (Lacks (token_word T.tokens (codes "token"))) Any (plain_local_heads used.slots)
+      (λ k h. none_there _ h (word_no_token T.tokens (codes "local") (codes "token") refl)))
+
+  local_heads : (used : Taken) → Heads (LocalStarts T.tokens) (grammar.local_item T limits used)
+  unfolding grammar.token_local
+  local_heads used = heads_or (heads_as (heads_added _ T.tokens (codes "token")) (λ u h. inl h))
+      (heads_as (plain_local_heads used.slots) (λ u h. inr h))
+
+  locals_reads : (ps : List P)
+      → Reads fuel (phrases.many (behind_local T) (grammar.local_item T limits) (behind_params T ps))
+      (phrases.many (behind_local T) (grammar.local_item T false) (behind_params T ps)) (NoLocal T.tokens)
+      (reading.next_locals T limits fuel ps)
+  unfolding reading.next_locals
+  locals_reads ps = reads_many distinct (a_local T.tokens) (behind_local T)
       (reading.next_local T limits fuel) local_reads
-      (λ s t x k q. began (word (codes "local")) (head_more t k (local_heads s t x q))) (λ k h. tt)
-      (λ k h. tt) (λ k h. ap is_there h) fuel count (omega arith)
+      (λ s t x k q. began (a_local T.tokens)
+      (head_more t k (head_as (local_heads s t x q) (local_starts T.tokens)))) (λ k h. tt)
+      (λ k h. tt) (λ k h. ap is_there h) fuel (behind_params T ps) (omega arith)
 
   stmts_with_ahead : (room : ℕ) (inner : Phrase (List S)) (t : List Lexeme) (body : List S) (k : List Lexeme)
-      → grammar.stmts_with T limits room inner t body → BlockEnds k → NoLocal (t ++ k)
+      → grammar.stmts_with T limits room inner t body → BlockEnds k → NoLocal T.tokens (t ++ k)
   unfolding grammar.stmts_with
-  stmts_with_ahead room inner = many_ahead NoLocal BlockEnds (λ u s. u)
+  stmts_with_ahead room inner = many_ahead (NoLocal T.tokens) BlockEnds (λ u s. u)
       (λ (u : Unit {0}). grammar.stmt T limits room inner) (λ u. stmt_heads T limits room inner)
-      (λ k h. none_there (word (codes "local")) h (stmt_no_local T.words))
-      (λ k h. none_there (word (codes "local")) h
-      (λ u (at, e). sign_no_word (codes "local") end_curly u at e)) tt
+      (λ k h. none_there (a_local T.tokens) h (stmt_no_local T.tokens))
+      (λ k h. none_there (a_local T.tokens) h (sign_no_local T.tokens end_curly)) tt
 
-  import_heads : (count : ℕ) → Heads (Is (word (codes "import"))) (grammar.import_item T.words limits count)
+  import_heads : (count : ℕ) → Heads (Is (word (codes "import")))
+      (grammar.import_item (words_of T.tokens) limits count)
   unfolding grammar.import_item
   import_heads count = heads_then _ (heads_one (word (codes "import")))
 
-  imports_reads : (count : ℕ) → Reads fuel (phrases.many one_more (grammar.import_item T.words limits) count)
-      (phrases.many one_more (grammar.import_item T.words false) count) (Lacks (word (codes "import")))
-      (many fuel (word (codes "import")) one_more (reading.next_import T.words limits) count)
+  imports_reads : (count : ℕ) → Reads fuel
+      (phrases.many one_more (grammar.import_item (words_of T.tokens) limits) count)
+      (phrases.many one_more (grammar.import_item (words_of T.tokens) false) count)
+      (Lacks (word (codes "import")))
+      (many fuel (word (codes "import")) one_more (reading.next_import (words_of T.tokens) limits) count)
   imports_reads count = reads_many distinct (word (codes "import")) one_more
-      (reading.next_import T.words limits) (import_reads T.words limits fuel)
+      (reading.next_import (words_of T.tokens) limits) (import_reads (words_of T.tokens) limits fuel)
       (λ s t x k q. began (word (codes "import")) (head_more t k (import_heads s t x q))) (λ k h. tt)
       (λ k h. tt) (λ k h. ap is_there h) fuel count (omega arith)
 
-  global_heads : (count : ℕ) → Heads (Is (word (codes "global"))) (grammar.global_item T.words limits count)
+  global_heads : (count : ℕ) → Heads (Is (word (codes "global")))
+      (grammar.global_item (words_of T.tokens) limits count)
   unfolding grammar.global_item
   global_heads count = heads_then _ (heads_one (word (codes "global")))
 
-  globals_reads : (count : ℕ) → Reads fuel (phrases.many one_more (grammar.global_item T.words limits) count)
-      (phrases.many one_more (grammar.global_item T.words false) count) (Lacks (word (codes "global")))
-      (many fuel (word (codes "global")) one_more (reading.next_global T.words limits) count)
+  globals_reads : (count : ℕ) → Reads fuel
+      (phrases.many one_more (grammar.global_item (words_of T.tokens) limits) count)
+      (phrases.many one_more (grammar.global_item (words_of T.tokens) false) count)
+      (Lacks (word (codes "global")))
+      (many fuel (word (codes "global")) one_more (reading.next_global (words_of T.tokens) limits) count)
   globals_reads count = reads_many distinct (word (codes "global")) one_more
-      (reading.next_global T.words limits) (global_reads T.words limits fuel)
+      (reading.next_global (words_of T.tokens) limits) (global_reads (words_of T.tokens) limits fuel)
       (λ s t x k q. began (word (codes "global")) (head_more t k (global_heads s t x q))) (λ k h. tt)
       (λ k h. tt) (λ k h. ap is_there h) fuel count (omega arith)
 
   stmts_ahead : (room : ℕ) (t : List Lexeme) (body : List S) (k : List Lexeme)
-      → grammar.stmts T limits room t body → BlockEnds k → NoLocal (t ++ k)
+      → grammar.stmts T limits room t body → BlockEnds k → NoLocal T.tokens (t ++ k)
   stmts_ahead zero = stmts_with_ahead zero phrases.nothing
   stmts_ahead (suc room) = stmts_with_ahead (suc room) (grammar.stmts T limits room)
 
@@ -229,15 +328,15 @@ module _ {E A S P V R M : Type 0} (T : Makes E A S P V R M) (limits : Bool) (fue
         (reading.proc_behind T limits fuel room at shared)
     unfolding grammar.proc_behind reading.proc_behind
     proc_reads at shared =
-        reads_next (name_reads T.words limits fuel) (λ x.
+        reads_next (name_reads (words_of T.tokens) limits fuel) (λ x.
         reads_next params_reads (λ params.
         reads_next (sign_token fuel curly refl) (λ _.
-        reads_then (locals_reads 0) (λ locals.
+        reads_then (locals_reads params) (λ locals.
         reads_up_to (stmts_reads T limits fuel room) (λ body.
         reads_next (sign_token fuel end_curly refl) (λ end.
         reads_done (T.proc at end shared x params locals body)))
         (λ body. heads_then _ (heads_one (sign end_curly))) (λ k h. h))
-        (λ locals. then_ahead NoLocal BlockEnds Any (stmts_ahead room)
+        (λ locals. then_ahead (NoLocal T.tokens) BlockEnds Any (stmts_ahead room)
         (λ body. heads_then _ (heads_one (sign end_curly))) (λ k h. h)))))
 
     item_reads : (count : ℕ) → Reads fuel (grammar.proc_item T limits room count)
@@ -267,7 +366,7 @@ module _ {E A S P V R M : Type 0} (T : Makes E A S P V R M) (limits : Bool) (fue
         (Ends a_proc) (reading.next_module T limits fuel room)
     unfolding grammar.a_module reading.next_module
     module_reads =
-        reads_next (header_reads T.words limits fuel) (λ head.
+        reads_next (header_reads (words_of T.tokens) limits fuel) (λ head.
         reads_up_to (imports_reads 0) (λ imports.
         reads_up_to (globals_reads 0) (λ globals.
         reads_next (item_reads 0) (λ first.

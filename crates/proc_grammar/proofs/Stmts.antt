@@ -7,9 +7,9 @@ use Rattle.std.specs.Str.{bytes_eq}
 use Rattle.proc_language.specs.declared.tree.Name.{Name}
 use Rattle.proc_language.specs.Words.{is_reserved}
 use Rattle.proc_grammar.specs.Makes.{Makes}
-use Rattle.proc_grammar.specs.Lexemes.{Lexeme, word, sign, a_name, a_start, start_in}
-use Rattle.proc_grammar.specs.Lexemes.{name_text, taken, stmt_words, square, round, curly, end_curly, assign}
-use Rattle.proc_grammar.specs.Lexemes.{semicolon}
+use Rattle.proc_grammar.specs.Lexemes.{Lexeme, word, words_of, token_word, token_words, sign, a_name}
+use Rattle.proc_grammar.specs.Lexemes.{a_start, start_in, name_text, taken, stmt_words, plain_stmt_words}
+use Rattle.proc_grammar.specs.Lexemes.{square, round, curly, end_curly, assign, semicolon}
 use Rattle.phrases.specs.Phrase as phrases
 use Rattle.phrases.specs.Phrase.{then, only, ◌or◌, where_true}
 use Rattle.proc_grammar.specs.Grammar.{Phrase, kept}
@@ -23,8 +23,9 @@ use Rattle.proc_grammar.proofs.Told.{Reads, distinct, many_apart}
 use Rattle.phrases.proofs.Readers.{Any, reads_next, reads_done, reads_case, reads_holds}
 use Rattle.phrases.proofs.Readers.{reads_none}
 use Rattle.phrases.proofs.Repeats.{reads_many}
-use Rattle.proc_grammar.proofs.Tokens.{or_right, reserved_taken, sign_token, sign_kind, name_kind}
+use Rattle.proc_grammar.proofs.Tokens.{or_right, sign_token, sign_kind, name_kind}
 use Rattle.proc_grammar.proofs.Tokens.{word_kind, sign_apart, sign_no_word}
+use Rattle.proc_grammar.proofs.Added.{reads_added, heads_added, name_no_token, word_no_token, tokens_apart}
 use Rattle.proc_grammar.proofs.Tokens.{name_no_word, word_other}
 use Rattle.phrases.proofs.Heads.{Is, Head, Heads, head_more, heads_one, heads_then, heads_or, heads_as}
 use Rattle.phrases.proofs.Heads.{head_as, none_there, began, begins_head, reads_up_to, reads_map, or_ahead}
@@ -35,38 +36,84 @@ use Rattle.proc_grammar.proofs.Exprs.{args_reads, open_next}
 
 -- ---- how they begin
 
-abbrev pub StmtStarts : List (List ℕ) → Lexeme → Type 0
-StmtStarts words u = Is (word (codes "if")) u ⊎ Is (word (codes "while")) u ⊎ Is (word (codes "return")) u
+abbrev pub PlainStarts : List (List ℕ) → Lexeme → Type 0
+PlainStarts words u = Is (word (codes "if")) u ⊎ Is (word (codes "while")) u ⊎ Is (word (codes "return")) u
     ⊎ Is (word (codes "halt")) u ⊎ Is (a_name words) u
 
-module _ (words : List (List ℕ)) where
-  word_starts : (w : List ℕ) → list_any (bytes_eq w) stmt_words ≡ true → (u : Lexeme) → Is (word w) u
-      → Is (a_start words) u
+abbrev pub StmtStarts : {K : Type 0} → Option K → Lexeme → Type 0
+StmtStarts o u = Is (token_word o (codes "make")) u ⊎ Is (token_word o (codes "spend")) u
+    ⊎ PlainStarts (words_of o) u
+
+module _ {K : Type 0} where
+  begins_plain : (o : Option K) (w : List ℕ) → list_any (bytes_eq w) plain_stmt_words ≡ true
+      → list_any (bytes_eq w) (stmt_words o) ≡ true
+  begins_plain None w h = h
+  begins_plain (Some k) w h = or_right (bytes_eq w (codes "make")) _
+      (or_right (bytes_eq w (codes "spend")) _ h)
+
+  word_starts : (o : Option K) (w : List ℕ) → list_any (bytes_eq w) (stmt_words o) ≡ true → (u : Lexeme)
+      → Is (word w) u → Is (a_start o) u
   unfolding a_start
-  word_starts w h u (at, e) =
+  word_starts o w h u (at, e) =
       let k = word_kind w u at e in (
         tt,
-        ap (λ z. start_in words (name_text z u.text)) k.0 ∙ ap (λ z. start_in words (Some z)) k.1
-            ∙ ap (λ b. cond b (Some tt) None) (or_right (not (taken words w)) (list_any (bytes_eq w) stmt_words) h),
+        ap (λ z. start_in o (name_text z u.text)) k.0 ∙ ap (λ z. start_in o (Some z)) k.1
+            ∙ ap (λ b. cond b (Some tt) None) (or_right (not (taken (words_of o) w)) _ h),
       )
 
-  name_starts : (u : Lexeme) → Is (a_name words) u → Is (a_start words) u
+  token_starts : (o : Option K) (w : List ℕ) → ((k : K) → list_any (bytes_eq w) (stmt_words (Some k)) ≡ true)
+      → (u : Lexeme) → Is (token_word o w) u → Is (a_start o) u
+  token_starts None w h u (at, e) = absurd cc
+  token_starts (Some k) w h u is = word_starts (Some k) w (h k) u is
+
+  name_starts : (o : Option K) (u : Lexeme) → Is (a_name (words_of o)) u → Is (a_start o) u
   unfolding a_start
-  name_starts u (x, e) =
-      let k = name_kind words u x e in (
+  name_starts o u (x, e) =
+      let k = name_kind (words_of o) u x e in (
         tt,
-        ap (λ z. start_in words (name_text z u.text)) k.0
-            ∙ ap (λ b. cond (not b || list_any (bytes_eq u.text) stmt_words) (Some tt) None) k.1,
+        ap (λ z. start_in o (name_text z u.text)) k.0
+            ∙ ap (λ b. cond (not b || list_any (bytes_eq u.text) (stmt_words o)) (Some tt) None) k.1,
       )
 
-  stmt_starts : (u : Lexeme) → StmtStarts words u → Is (a_start words) u
-  stmt_starts u = elim [
-    | inl h ↦ word_starts (codes "if") refl u h
+  plain_starts : (o : Option K) (u : Lexeme) → PlainStarts (words_of o) u → Is (a_start o) u
+  plain_starts o u = elim [
+    | inl h ↦ word_starts o (codes "if") (begins_plain o (codes "if") refl) u h
     | inr c ↦ elim c [
-      | inl h ↦ word_starts (codes "while") refl u h
+      | inl h ↦ word_starts o (codes "while") (begins_plain o (codes "while") refl) u h
       | inr d ↦ elim d [
-        | inl h ↦ word_starts (codes "return") refl u h
-        | inr f ↦ elim f [ inl h ↦ word_starts (codes "halt") refl u h | inr h ↦ name_starts u h ]
+        | inl h ↦ word_starts o (codes "return") (begins_plain o (codes "return") refl) u h
+        | inr f ↦ elim f [
+          | inl h ↦ word_starts o (codes "halt") (begins_plain o (codes "halt") refl) u h
+          | inr h ↦ name_starts o u h
+        ]
+      ]
+    ]
+  ]
+
+  stmt_starts : (o : Option K) (u : Lexeme) → StmtStarts o u → Is (a_start o) u
+  stmt_starts o u = elim [
+    | inl h ↦ token_starts o (codes "make") (λ k. refl) u h
+    | inr c ↦ elim c [
+      | inl h ↦ token_starts o (codes "spend") (λ k. refl) u h
+      | inr h ↦ plain_starts o u h
+    ]
+  ]
+
+  -- what begins a statement that any language has is no word of tokens
+  pub plain_no_token : (o : Option K) (w : List ℕ) → taken token_words w ≡ true
+      → (bytes_eq (codes "if") w ≡ false) × (bytes_eq (codes "while") w ≡ false)
+      × (bytes_eq (codes "return") w ≡ false) × (bytes_eq (codes "halt") w ≡ false)
+      → (u : Lexeme) → PlainStarts (words_of o) u → token_word o w u ≡ None
+  plain_no_token o w own apart u = elim [
+    | inl h ↦ word_no_token o (codes "if") w apart.0 u h
+    | inr c ↦ elim c [
+      | inl h ↦ word_no_token o (codes "while") w apart.1 u h
+      | inr d ↦ elim d [
+        | inl h ↦ word_no_token o (codes "return") w apart.2 u h
+        | inr f ↦ elim f [
+          | inl h ↦ word_no_token o (codes "halt") w apart.3 u h
+          | inr h ↦ name_no_token o w own u h
+        ]
       ]
     ]
   ]
@@ -78,23 +125,23 @@ unless (Some x) h = absurd (h x refl)
 none_is_some : {A : Type 0} (o : Option A) (x : A) → o ≡ None → o ≡ Some x → ⊥
 none_is_some o x e h = absurd cc
 
-module _ (words : List (List ℕ)) where
-  else_starts_none : start_in words (Some (codes "else")) ≡ None
+module _ {K : Type 0} where
+  else_starts_none : (o : Option K) → start_in o (Some (codes "else")) ≡ None
   unfolding is_reserved
-  else_starts_none = ap (λ b. cond (not b || list_any (bytes_eq (codes "else")) stmt_words) (Some tt) None)
-      (reserved_taken words (codes "else") refl)
+  else_starts_none None = refl
+  else_starts_none (Some k) = refl
 
-  start_no_else : (u : Lexeme) → Is (a_start words) u → word (codes "else") u ≡ None
+  start_no_else : (o : Option K) (u : Lexeme) → Is (a_start o) u → word (codes "else") u ≡ None
   unfolding a_start
-  start_no_else u (x, e) = unless (word (codes "else") u) (λ at h.
+  start_no_else o u (x, e) = unless (word (codes "else") u) (λ at h.
       let k = word_kind (codes "else") u at h in
-      none_is_some (start_in words (name_text u.kind u.text)) x
-      (ap (λ z. start_in words (name_text z u.text)) k.0 ∙ ap (λ z. start_in words (Some z)) k.1
-      ∙ else_starts_none) e)
+      none_is_some (start_in o (name_text u.kind u.text)) x
+      (ap (λ z. start_in o (name_text z u.text)) k.0 ∙ ap (λ z. start_in o (Some z)) k.1
+      ∙ else_starts_none o) e)
 
-  sign_no_start : (s : ℕ) (u : Lexeme) (at : ℕ) → sign s u ≡ Some at → a_start words u ≡ None
+  sign_no_start : (o : Option K) (s : ℕ) (u : Lexeme) (at : ℕ) → sign s u ≡ Some at → a_start o u ≡ None
   unfolding a_start
-  sign_no_start s u at e = ap (λ z. start_in words (name_text z u.text)) (sign_kind s u at e)
+  sign_no_start o s u at e = ap (λ z. start_in o (name_text z u.text)) (sign_kind s u at e)
 
 -- no `else` follows
 abbrev pub NoElse : List Lexeme → Type 0
@@ -106,18 +153,25 @@ BlockEnds = Head (Is (sign end_curly))
 
 module _ {E A S P V R M : Type 0} (T : Makes E A S P V R M) (limits : Bool) (room : ℕ)
     (inner : Phrase (List S)) where
-  name_heads : Heads (Is (a_name T.words)) (grammar.name_stmt T limits room inner)
+  name_heads : Heads (Is (a_name (words_of T.tokens))) (grammar.name_stmt T limits room inner)
   unfolding grammar.name_stmt grammar.name
-  name_heads = heads_then _ (heads_then _ (heads_one (a_name T.words)))
+  name_heads = heads_then _ (heads_then _ (heads_one (a_name (words_of T.tokens))))
 
-  pub stmt_heads : Heads (StmtStarts T.words) (grammar.stmt T limits room inner)
+  plain_heads : Heads (PlainStarts (words_of T.tokens)) (grammar.plain_stmt T limits room inner)
   unfolding grammar.if_stmt grammar.while_stmt grammar.return_stmt grammar.halt_stmt
-  stmt_heads =
+  plain_heads =
       heads_or (heads_as (heads_then _ (heads_one (word (codes "if")))) (λ u h. inl h))
       (heads_or (heads_as (heads_then _ (heads_one (word (codes "while")))) (λ u h. inr (inl h)))
       (heads_or (heads_as (heads_then _ (heads_one (word (codes "return")))) (λ u h. inr (inr (inl h))))
       (heads_or (heads_as (heads_then _ (heads_one (word (codes "halt")))) (λ u h. inr (inr (inr (inl h)))))
       (heads_as name_heads (λ u h. inr (inr (inr (inr h))))))))
+
+  pub stmt_heads : Heads (StmtStarts T.tokens) (grammar.stmt T limits room inner)
+  unfolding grammar.token_stmt
+  stmt_heads =
+      heads_or (heads_as (heads_added _ T.tokens (codes "make")) (λ u h. inl h))
+      (heads_or (heads_as (heads_added _ T.tokens (codes "spend")) (λ u h. inr (inl h)))
+      (heads_as plain_heads (λ u h. inr (inr h))))
 
 module _ {E A S P V R M : Type 0} (T : Makes E A S P V R M) (limits : Bool) (fuel : ℕ) (room : ℕ)
     (inner inner' : Phrase (List S)) (r : Reader (List S))
@@ -192,19 +246,19 @@ module _ {E A S P V R M : Type 0} (T : Makes E A S P V R M) (limits : Bool) (fue
   name_stmt_reads : Reads fuel (grammar.name_stmt T limits room inner)
       (grammar.name_stmt T false (suc room) inner') NoElse (reading.name_stmt T limits fuel room r)
   unfolding grammar.name_stmt reading.name_stmt
-  name_stmt_reads = reads_any (reads_next (name_reads T.words limits fuel) target_reads)
+  name_stmt_reads = reads_any (reads_next (name_reads (words_of T.tokens) limits fuel) target_reads)
 
   -- a reserved word begins no such statement
   name_end : (w : List ℕ) → is_reserved w ≡ true → (t : List Lexeme) (y : S) (k : List Lexeme)
       → grammar.name_stmt T limits room inner t y → NoElse k → Lacks (word w) (t ++ k)
   name_end w h = head_ahead (Lacks (word w)) NoElse (name_heads T limits room inner)
-      (λ k g. none_there (word w) g (λ u (x, e). name_no_word T.words w h u x e))
+      (λ k g. none_there (word w) g (λ u (x, e). name_no_word (words_of T.tokens) w h u x e))
 
-  pub stmt_reads : Reads fuel (grammar.stmt T limits room inner) (grammar.stmt T false (suc room) inner')
-      NoElse (reading.next_stmt T limits fuel room r)
-  unfolding reading.next_stmt is_reserved grammar.if_stmt grammar.while_stmt grammar.return_stmt
+  plain_reads : Reads fuel (grammar.plain_stmt T limits room inner)
+      (grammar.plain_stmt T false (suc room) inner') NoElse (reading.plain_stmt T limits fuel room r)
+  unfolding reading.plain_stmt is_reserved grammar.if_stmt grammar.while_stmt grammar.return_stmt
       grammar.halt_stmt reading.if_behind reading.while_behind reading.return_behind reading.halt_behind
-  stmt_reads =
+  plain_reads =
       reads_case (λ at. reads_up_to expr
       (λ e. reads_next block_reads (λ body. else_reads at e body.0 body.1))
       (λ e. heads_then _ block_heads) curly_ends)
@@ -231,17 +285,40 @@ module _ {E A S P V R M : Type 0} (T : Makes E A S P V R M) (limits : Bool) (fue
       (λ k h. none_there (word (codes "if")) h (word_other (codes "halt") (codes "if") refl))
       (name_end (codes "if") refl))))
 
+  -- what stands behind the word of a statement of a token
+  token_reads : (made : ℕ → ℕ → Name → S) (at : ℕ)
+      → Reads fuel (then (grammar.a_word T limits) (λ x. then (phrases.one (sign semicolon))
+      (λ end. only (made at end x))))
+      (then (grammar.a_word T false) (λ x. then (phrases.one (sign semicolon)) (λ end. only (made at end x))))
+      NoElse (reading.token_behind T limits fuel made at)
+  unfolding reading.token_behind
+  token_reads made at = reads_any (reads_next (name_reads (words_of T.tokens) limits fuel) (λ x.
+      reads_next (sign_token fuel semicolon refl) (λ end. reads_done (made at end x))))
+
+  pub stmt_reads : Reads fuel (grammar.stmt T limits room inner) (grammar.stmt T false (suc room) inner')
+      NoElse (reading.next_stmt T limits fuel room r)
+  unfolding reading.next_stmt grammar.token_stmt
+  stmt_reads =
+      reads_added T.tokens (codes "make") (λ makes at. token_reads makes.make at)
+      (reads_added T.tokens (codes "spend") (λ makes at. token_reads makes.spend at) plain_reads
+      (head_ahead (Lacks (token_word T.tokens (codes "spend"))) NoElse (plain_heads T limits room inner)
+      (λ k h. none_there _ h (plain_no_token T.tokens (codes "spend") refl (refl, refl, refl, refl)))))
+      (or_ahead (Lacks (token_word T.tokens (codes "make"))) NoElse (heads_added _ T.tokens (codes "spend"))
+      (λ k h. none_there _ h (tokens_apart T.tokens (codes "spend") (codes "make") refl))
+      (head_ahead (Lacks (token_word T.tokens (codes "make"))) NoElse (plain_heads T limits room inner)
+      (λ k h. none_there _ h (plain_no_token T.tokens (codes "make") refl (refl, refl, refl, refl)))))
+
   pub stmts_with_reads : Reads fuel (grammar.stmts_with T limits room inner)
       (grammar.stmts_with T false (suc room) inner') BlockEnds (reading.stmts_with T limits fuel room r)
   unfolding grammar.stmts_with reading.stmts_with
-  stmts_with_reads = reads_many distinct (a_start T.words) (λ u s. u)
+  stmts_with_reads = reads_many distinct (a_start T.tokens) (λ u s. u)
       (λ (u : Unit {0}). reading.next_stmt T limits fuel room r) (λ u. stmt_reads)
-      (λ u t x k q. began (a_start T.words)
-      (head_more t k (head_as (stmt_heads T limits room inner t x q) (stmt_starts T.words))))
-      (λ k h. none_there (word (codes "else")) (begins_head (a_start T.words) k h) (start_no_else T.words))
+      (λ u t x k q. began (a_start T.tokens)
+      (head_more t k (head_as (stmt_heads T limits room inner t x q) (stmt_starts T.tokens))))
+      (λ k h. none_there (word (codes "else")) (begins_head (a_start T.tokens) k h) (start_no_else T.tokens))
       (λ k h. none_there (word (codes "else")) h (λ u (at, e). sign_no_word (codes "else") end_curly u at e))
       (λ k h. ap is_there
-      (none_there (a_start T.words) h (λ u (at, e). sign_no_start T.words end_curly u at e))) fuel tt
+      (none_there (a_start T.tokens) h (λ u (at, e). sign_no_start T.tokens end_curly u at e))) fuel tt
       (omega arith)
 
 -- ---- to any depth

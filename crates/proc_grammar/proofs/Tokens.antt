@@ -167,14 +167,17 @@ reserved_taken [] w e = e
 reserved_taken (v ∷ words) w e = or_right (bytes_eq v w) (taken words w) (reserved_taken words w e)
 
 -- a name is no reserved word
+pub no_word_taken : (words : List (List ℕ)) (w : List ℕ) (u : Lexeme) → u.kind ≡ kinds.Name
+    → taken words u.text ≡ false → taken words w ≡ true → word w u ≡ None
+unfolding word
+no_word_taken words w u k free reserved =
+    let differs : bytes_eq u.text w ≡ false = apart (bytes_eq u.text w)
+    (λ e. clash free (ap (taken words) ((bytes_eq-Decides u.text w).0 e) ∙ reserved)) in
+    ap (λ z. word_in w u.at (name_text z u.text)) k ∙ ap (λ b. cond b (Some u.at) None) differs
+
 pub no_word_name : (words : List (List ℕ)) (w : List ℕ) (u : Lexeme) → u.kind ≡ kinds.Name
     → taken words u.text ≡ false → is_reserved w ≡ true → word w u ≡ None
-unfolding word
-no_word_name words w u k free reserved =
-    let differs : bytes_eq u.text w ≡ false = apart (bytes_eq u.text w)
-    (λ e. clash free (ap (taken words) ((bytes_eq-Decides u.text w).0 e)
-    ∙ reserved_taken words w reserved)) in
-    ap (λ z. word_in w u.at (name_text z u.text)) k ∙ ap (λ b. cond b (Some u.at) None) differs
+no_word_name words w u k free reserved = no_word_taken words w u k free (reserved_taken words w reserved)
 
 pub sign_apart : (s s' : ℕ) → (s == s') ≡ false → (u : Lexeme) (a : ℕ) → sign s u ≡ Some a → sign s' u ≡ None
 sign_apart s s' h u a e = no_sign s' u (kinds.Sign s) (sign_kind s u a e)

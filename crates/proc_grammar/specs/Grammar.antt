@@ -1,11 +1,11 @@
 -- The grammar: which tokens spell which module. Where `limits` is false, the limits on numbers, names and
 -- counts are passed over. `room` is how many brackets may still be opened.
 use Rattle.std.specs.Prelude.{ℕ, zero, suc, ◌+◌, ◌-◌, ◌^◌, nat_le, nat_lt, Bool, true, false, ◌&&◌, ◌||◌, not}
-use Rattle.std.specs.Prelude.{ℤ, pos, neg_ℤ, List, [], ◌∷◌, length, codes, Option, Some, None}
+use Rattle.std.specs.Prelude.{ℤ, pos, neg_ℤ, List, [], ◌∷◌, length, sum_by, codes, Option, Some, None}
 use Rattle.cap_words.specs.declared.TheConstants.{LAST_PLACE, LONGEST_NAME}
 use Rattle.proc_language.specs.declared.TheConstants.{MOST_SEALS, MOST_ITEMS, MOST_REGISTERS, MOST_LOCALS}
 use Rattle.proc_language.specs.declared.TheConstants.{LONGEST_ARRAY, LARGEST_LITERAL, MOST_TERMS}
-use Rattle.proc_language.specs.declared.TheConstants.{MOST_BRACKETS}
+use Rattle.proc_language.specs.declared.TheConstants.{MOST_BRACKETS, MOST_TOKENS}
 use Rattle.proc_language.specs.declared.tree.Name.{Name}
 use Rattle.proc_language.specs.declared.tree.Op.{Op}
 use Rattle.proc_language.specs.declared.module.Import.{Import}
@@ -13,13 +13,19 @@ use Rattle.proc_language.specs.declared.module.Global.{Global}
 use Rattle.phrases.specs.Phrase as phrases
 use Rattle.phrases.specs.Phrase.{◌>>=◌, only, one, ◌or◌, where_true, nothing, many}
 use Rattle.proc_grammar.specs.declared.header.Header.{Header}
-use Rattle.proc_grammar.specs.Makes.{Makes}
-use Rattle.proc_grammar.specs.Lexemes.{Lexeme, word, a_name, a_number, sign}
+use Rattle.proc_grammar.specs.declared.taken.Taken as taken
+use Rattle.proc_grammar.specs.Makes.{Makes, TokenMakes}
+use Rattle.proc_grammar.specs.Lexemes.{Lexeme, word, words_of, a_name, a_number, sign}
 use Rattle.proc_grammar.specs.Lexemes.{adding, comparing, dot, comma, semicolon, slash, assign, dash}
 use Rattle.proc_grammar.specs.Lexemes.{round, square, curly, end_round, end_square, end_curly}
 
 abbrev pub Phrase : Type 0 → Type 1
 Phrase = phrases.Phrase Lexeme
+
+-- what stands only where there are tokens
+abbrev pub from_tokens : {K A : Type 0} → Option K → (K → Phrase A) → Phrase A
+from_tokens None p = nothing
+from_tokens (Some k) p = p k
 
 -- ---- limits
 
@@ -58,16 +64,33 @@ signed false n = pos n
 abbrev pub one_more : {A : Type 0} → ℕ → A → ℕ
 one_more n x = n + 1
 
+-- what parameters or locals take: registers or slots, and tokens
+abbrev pub Taken : Type 0
+Taken = taken.Taken
+
+abbrev pub none_taken : Taken
+none_taken = record { slots = 0; tokens = 0 }
+
 module _ {E A S P V R M : Type 0} (T : Makes E A S P V R M) where
-  -- the registers that are taken behind a parameter, and behind an argument
-  abbrev pub behind_param : ℕ → P → ℕ
-  behind_param used p = used + T.param_registers p
+  -- what is taken behind a parameter, an argument or a local
+  abbrev pub behind_param : Taken → P → Taken
+  behind_param used p = record {
+    slots = used.slots + T.param_registers p;
+    tokens = used.tokens + T.param_tokens p;
+  }
 
   abbrev pub behind_arg : ℕ → A → ℕ
   behind_arg used a = used + T.registers a
 
-  abbrev pub behind_local : ℕ → V → ℕ
-  behind_local count x = count + T.local_count x
+  abbrev pub behind_local : Taken → V → Taken
+  behind_local used x = record {
+    slots = used.slots + T.local_count x;
+    tokens = used.tokens + T.local_tokens x;
+  }
+
+  -- what is taken where the locals begin behind these parameters
+  abbrev pub behind_params : List P → Taken
+  behind_params params = record { slots = 0; tokens = sum_by T.param_tokens params }
 
   -- an operation stands where its first operand does
   abbrev pub operated : Op → E → E → E
@@ -176,7 +199,7 @@ module _ (words : List (List ℕ)) (limits : Bool) where
 
 module _ {E A S P V R M : Type 0} (T : Makes E A S P V R M) (limits : Bool) where
   abbrev pub a_word : Phrase Name
-  a_word = name T.words limits
+  a_word = name (words_of T.tokens) limits
 
   -- ---- parameters and locals
 
@@ -187,21 +210,31 @@ module _ {E A S P V R M : Type 0} (T : Makes E A S P V R M) (limits : Bool) wher
     n ← num limits is_arity
     only (T.callback x n)) or only (T.param x)
 
-  unfoldable pub param : ℕ → Phrase P
-  param used = do
+  unfoldable pub plain_param : ℕ → Phrase P
+  plain_param used = do
     x ← a_word
     _ ← within limits used MOST_REGISTERS
     arity_part x used
 
-  abbrev pub next_param : ℕ → Phrase P
+  unfoldable pub token_param : ℕ → TokenMakes A S P V → Phrase P
+  token_param tokens makes = do
+    _ ← one (word (codes "token"))
+    x ← a_word
+    _ ← within limits tokens MOST_TOKENS
+    only (makes.param x)
+
+  abbrev pub param : Taken → Phrase P
+  param used = from_tokens T.tokens (token_param used.tokens) or plain_param used.slots
+
+  abbrev pub next_param : Taken → Phrase P
   next_param used = do
     _ ← one (sign comma)
     param used
 
   unfoldable pub some_params : Phrase (List P)
   some_params = do
-    first ← param 0
-    others ← many (behind_param T) next_param (behind_param T 0 first)
+    first ← param none_taken
+    others ← many (behind_param T) next_param (behind_param T none_taken first)
     _ ← one (sign end_round)
     only (first ∷ others)
 
@@ -215,16 +248,33 @@ module _ {E A S P V R M : Type 0} (T : Makes E A S P V R M) (limits : Bool) wher
     _ ← one (sign round)
     no_params or some_params
 
-  unfoldable pub local_item : ℕ → Phrase V
-  local_item count = do
+  unfoldable pub plain_local : ℕ → Phrase V
+  plain_local count = do
     _ ← one (word (codes "local"))
     _ ← within limits count MOST_LOCALS
     x ← a_word
     _ ← one (sign semicolon)
     only (T.local x)
 
+  unfoldable pub token_local : ℕ → TokenMakes A S P V → Phrase V
+  token_local tokens makes = do
+    _ ← one (word (codes "token"))
+    x ← a_word
+    _ ← within limits tokens MOST_TOKENS
+    _ ← one (sign semicolon)
+    only (makes.local x)
+
+  abbrev pub local_item : Taken → Phrase V
+  local_item used = from_tokens T.tokens (token_local used.tokens) or plain_local used.slots
+
   -- ---- expressions. `fits` says that the first token stands within the limits of what it is part of;
   -- `inner` are the expressions inside one more bracket
+
+  unfoldable pub token_arg : TokenMakes A S P V → Phrase A
+  token_arg makes = do
+    _ ← one (word (codes "token"))
+    x ← a_word
+    only (makes.arg x)
 
   module _ (room : ℕ) (inner : Bool → Phrase E) where
     -- a bracket is opened
@@ -244,7 +294,7 @@ module _ {E A S P V R M : Type 0} (T : Makes E A S P V R M) (limits : Bool) wher
       only (T.pass f)
 
     abbrev pub arg : ℕ → Phrase A
-    arg used = arg_proc used or arg_value used
+    arg used = from_tokens T.tokens token_arg or arg_proc used or arg_value used
 
     abbrev pub next_arg : ℕ → Phrase A
     next_arg used = do
@@ -348,6 +398,20 @@ module _ {E A S P V R M : Type 0} (T : Makes E A S P V R M) (limits : Bool) wher
 
   -- ---- statements. `inner` are those inside one more bracket
 
+  -- of a token
+  unfoldable pub token_stmt : List ℕ → (ℕ → ℕ → Name → S) → Phrase S
+  token_stmt w made = do
+    at ← one (word w)
+    x ← a_word
+    end ← one (sign semicolon)
+    only (made at end x)
+
+  abbrev pub make_stmt : TokenMakes A S P V → Phrase S
+  make_stmt makes = token_stmt (codes "make") makes.make
+
+  abbrev pub spend_stmt : TokenMakes A S P V → Phrase S
+  spend_stmt makes = token_stmt (codes "spend") makes.spend
+
   module _ (room : ℕ) (inner : Phrase (List S)) where
     unfoldable pub set_part : Name → Phrase S
     set_part x = do
@@ -423,8 +487,11 @@ module _ {E A S P V R M : Type 0} (T : Makes E A S P V R M) (limits : Bool) wher
       end ← one (sign semicolon)
       only (T.halt at end e)
 
+    abbrev pub plain_stmt : Phrase S
+    plain_stmt = if_stmt or while_stmt or return_stmt or halt_stmt or name_stmt
+
     abbrev pub stmt : Phrase S
-    stmt = if_stmt or while_stmt or return_stmt or halt_stmt or name_stmt
+    stmt = from_tokens T.tokens make_stmt or from_tokens T.tokens spend_stmt or plain_stmt
 
     unfoldable pub stmts_with : Phrase (List S)
     stmts_with = many (λ u s. u) (λ (u : Unit {0}). stmt) tt
@@ -441,7 +508,7 @@ module _ {E A S P V R M : Type 0} (T : Makes E A S P V R M) (limits : Bool) wher
       x ← a_word
       ps ← params
       _ ← one (sign curly)
-      locals ← many (behind_local T) local_item 0
+      locals ← many (behind_local T) local_item (behind_params T ps)
       body ← stmts room
       end ← one (sign end_curly)
       only (T.proc at end shared x ps locals body)
@@ -464,9 +531,9 @@ module _ {E A S P V R M : Type 0} (T : Makes E A S P V R M) (limits : Bool) wher
 
     unfoldable pub a_module : Phrase M
     a_module = do
-      head ← header T.words limits
-      imports ← many one_more (import_item T.words limits) 0
-      globals ← many one_more (global_item T.words limits) 0
+      head ← header (words_of T.tokens) limits
+      imports ← many one_more (import_item (words_of T.tokens) limits) 0
+      globals ← many one_more (global_item (words_of T.tokens) limits) 0
       first ← proc_item 0
       procs ← many one_more proc_item 1
       only (T.module_of head imports globals (first ∷ procs))

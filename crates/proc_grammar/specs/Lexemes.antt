@@ -49,6 +49,15 @@ word_in w at (Some text) = if bytes_eq text w then Some at else None
 unfoldable pub word : List ℕ → Meaning ℕ
 word w t = word_in w t.at (name_text t.kind t.text)
 
+-- the words of tokens
+abbrev pub token_words : List (List ℕ)
+token_words = codes "token" ∷ codes "make" ∷ codes "spend" ∷ []
+
+-- the reserved words beside those of the language: those of tokens, where there are tokens
+abbrev pub words_of : {K : Type 0} → Option K → List (List ℕ)
+words_of None = []
+words_of (Some k) = token_words
+
 -- a reserved word, of the language or one of these
 abbrev pub taken : List (List ℕ) → List ℕ → Bool
 taken [] text = is_reserved text
@@ -145,14 +154,27 @@ either_way _ _ = Some tt
 unfoldable pub a_proc : Meaning (Unit {0})
 a_proc t = either_way (word (codes "export") t) (word (codes "proc") t)
 
-abbrev pub stmt_words : List (List ℕ)
-stmt_words = codes "if" ∷ codes "while" ∷ codes "return" ∷ codes "halt" ∷ []
+-- a word that stands only where there are tokens
+abbrev pub token_word : {K : Type 0} → Option K → List ℕ → Meaning ℕ
+token_word None w t = None
+token_word (Some k) w t = word w t
+
+unfoldable pub a_local : {K : Type 0} → Option K → Meaning (Unit {0})
+a_local tokens t = either_way (word (codes "local") t) (token_word tokens (codes "token") t)
+
+abbrev pub plain_stmt_words : List (List ℕ)
+plain_stmt_words = codes "if" ∷ codes "while" ∷ codes "return" ∷ codes "halt" ∷ []
+
+abbrev pub stmt_words : {K : Type 0} → Option K → List (List ℕ)
+stmt_words None = plain_stmt_words
+stmt_words (Some k) = codes "make" ∷ codes "spend" ∷ plain_stmt_words
 
 -- a name, or a word that begins a statement
-abbrev pub start_in : List (List ℕ) → Option (List ℕ) → Option (Unit {0})
-start_in words None = None
-start_in words (Some text) =
-    if not (taken words text) || list_any (bytes_eq text) stmt_words then Some tt else None
+abbrev pub start_in : {K : Type 0} → Option K → Option (List ℕ) → Option (Unit {0})
+start_in tokens None = None
+start_in tokens (Some text) =
+    if not (taken (words_of tokens) text) || list_any (bytes_eq text) (stmt_words tokens)
+    then Some tt else None
 
-unfoldable pub a_start : List (List ℕ) → Meaning (Unit {0})
-a_start words t = start_in words (name_text t.kind t.text)
+unfoldable pub a_start : {K : Type 0} → Option K → Meaning (Unit {0})
+a_start tokens t = start_in tokens (name_text t.kind t.text)

@@ -1,16 +1,22 @@
 -- What trees are made of: expressions E, arguments A, statements S, parameters P, locals V, procedures R
 -- and modules M. A first number is the place of the first token; where there are two, the second is that
 -- of the last one.
-use Rattle.std.specs.Prelude.{ℕ, Bool, List}
+use Rattle.std.specs.Prelude.{ℕ, Bool, List, Option}
 use Rattle.proc_language.specs.declared.tree.Name.{Name}
 use Rattle.proc_language.specs.declared.tree.Op.{Op}
 use Rattle.proc_language.specs.declared.module.Import.{Import}
 use Rattle.proc_language.specs.declared.module.Global.{Global}
 use Rattle.proc_grammar.specs.declared.header.Header.{Header}
 
+-- what a language has besides that has tokens
+pub record TokenMakes (A S P V : Type 0) : Type 0 where
+  pub param : Name → P
+  pub local : Name → V
+  pub arg : Name → A
+  pub make : ℕ → ℕ → Name → S
+  pub spend : ℕ → ℕ → Name → S
+
 pub record Makes (E A S P V R M : Type 0) : Type 0 where
-  -- reserved words beside those of the language
-  pub words : List (List ℕ)
   pub number : ℕ → ℕ → E
   pub var : ℕ → Name → E
   pub element : ℕ → Name → E → E
@@ -33,8 +39,13 @@ pub record Makes (E A S P V R M : Type 0) : Type 0 where
   pub callback : Name → ℕ → P
   -- how many registers a parameter takes
   pub param_registers : P → ℕ
+  -- how many tokens it is
+  pub param_tokens : P → ℕ
   pub local : Name → V
   -- as how many locals one counts
   pub local_count : V → ℕ
+  -- how many tokens it is
+  pub local_tokens : V → ℕ
   pub proc : ℕ → ℕ → Bool → Name → List P → List V → List S → R
   pub module_of : Header → List Import → List Global → List R → M
+  pub tokens : Option (TokenMakes A S P V)

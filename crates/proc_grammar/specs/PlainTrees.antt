@@ -1,5 +1,5 @@
--- The trees of the language. They have no place of a last token, and no reserved words of their own.
-use Rattle.std.specs.Prelude.{ℕ, [], Some, None}
+-- The trees of the language. They have no place of a last token, and there are no tokens.
+use Rattle.std.specs.Prelude.{ℕ, Some, None}
 use Rattle.proc_language.specs.declared.tree.Name.{Name}
 use Rattle.proc_language.specs.declared.tree.Arg.{Arg}
 use Rattle.proc_language.specs.declared.tree.Arg.TheVariants.{Value, Proc as Pass}
@@ -28,7 +28,6 @@ registers_of (Pass f) = 2
 
 abbrev pub plain_trees : Makes Expr Arg Stmt Param Name Proc ModuleFields
 plain_trees = record {
-  words = [];
   number = number;
   var = var;
   element = element;
@@ -49,8 +48,10 @@ plain_trees = record {
   param = λ x. record { name = x; arity = None };
   callback = λ x n. record { name = x; arity = Some n };
   param_registers = λ p. param_registers p.arity;
+  param_tokens = λ p. 0;
   local = λ x. x;
   local_count = λ x. 1;
+  local_tokens = λ x. 0;
   proc = λ at end shared x params locals body. record {
     at = at;
     shared = shared;
@@ -73,4 +74,5 @@ plain_trees = record {
     globals = globals;
     procs = procs;
   };
+  tokens = None;
 }

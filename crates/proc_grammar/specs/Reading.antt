@@ -5,6 +5,7 @@ use Rattle.std.specs.Prelude.{ℕ, zero, suc, ◌+◌, ◌^◌, nat_lt, Bool, tr
 use Rattle.std.specs.Prelude.{ℤ, List, [], ◌∷◌, length, codes, Option, Some, None, Result, Ok, Err, ◌==◌}
 use Rattle.std.specs.Prelude.{if◌then◌else◌}
 use Rattle.proc_language.specs.declared.TheConstants.{MOST_ITEMS, MOST_REGISTERS, MOST_LOCALS, MOST_TERMS}
+use Rattle.proc_language.specs.declared.TheConstants.{MOST_TOKENS}
 use Rattle.proc_language.specs.declared.tree.Name.{Name}
 use Rattle.proc_language.specs.declared.tree.Op.{Op}
 use Rattle.proc_language.specs.declared.module.Import.{Import}
@@ -12,16 +13,18 @@ use Rattle.proc_language.specs.declared.module.Global.{Global}
 use Rattle.readers.specs.Readers.{◌>>=◌, done, holds}
 use Rattle.phrases.specs.Reading.{case_next}
 use Rattle.proc_grammar.specs.declared.header.Header.{Header}
-use Rattle.proc_grammar.specs.Makes.{Makes}
-use Rattle.proc_grammar.specs.Lexemes.{Lexeme, Numeral, word, a_name, a_number, sign, a_start, a_proc}
+use Rattle.proc_grammar.specs.Makes.{Makes, TokenMakes}
+use Rattle.proc_grammar.specs.Lexemes.{Lexeme, Numeral, word, words_of, a_name, a_number, sign, a_start}
+use Rattle.proc_grammar.specs.Lexemes.{a_local, a_proc}
 use Rattle.proc_grammar.specs.Lexemes.{adding, comparing, dot, comma, semicolon, slash, assign, dash}
 use Rattle.proc_grammar.specs.Lexemes.{round, square, curly, end_round, end_square, end_curly}
 use Rattle.proc_grammar.specs.Grammar.{kept, is_short, is_address, is_return_count, is_arity, is_length}
 use Rattle.proc_grammar.specs.Grammar.{is_literal, is_initial, signed, behind_param, behind_arg, behind_local}
-use Rattle.proc_grammar.specs.Grammar.{one_more, operated, sum_of, room_in_body}
+use Rattle.proc_grammar.specs.Grammar.{behind_params, one_more, operated, sum_of, room_in_body, Taken}
+use Rattle.proc_grammar.specs.Grammar.{none_taken}
 use Rattle.proc_grammar.specs.declared.fault.ParseFault.{ParseFault}
 use Rattle.proc_grammar.specs.declared.fault.ParseFault.TheVariants.{Expected, Range, TooMany}
-use Rattle.proc_grammar.specs.Reader.{Input, Reader, place, expected, one, many}
+use Rattle.proc_grammar.specs.Reader.{Input, Reader, place, expected, one, many, case_token}
 
 -- ---- numbers
 
@@ -129,7 +132,7 @@ module _ (words : List (List ℕ)) (limits : Bool) where
 
 module _ {E A S P V R M : Type 0} (T : Makes E A S P V R M) (limits : Bool) (fuel : ℕ) where
   abbrev pub next_word : Reader Name
-  next_word = next_name T.words limits
+  next_word = next_name (words_of T.tokens) limits
 
   -- ---- parameters and locals
 
@@ -139,21 +142,32 @@ module _ {E A S P V R M : Type 0} (T : Makes E A S P V R M) (limits : Bool) (fue
     n ← next_num limits is_arity
     done (T.callback x n)
 
-  unfoldable pub next_param : ℕ → Reader P
-  next_param used = do
+  unfoldable pub plain_param : ℕ → Reader P
+  plain_param used = do
     x ← next_word
     _ ← within limits used MOST_REGISTERS x.at
     case_next (sign slash) (λ at. arity_behind x used) (done (T.param x))
 
-  unfoldable pub another_param : ℕ → Reader P
+  -- behind `token`
+  unfoldable pub token_param : ℕ → TokenMakes A S P V → Reader P
+  token_param tokens makes = do
+    x ← next_word
+    _ ← within limits tokens MOST_TOKENS x.at
+    done (makes.param x)
+
+  unfoldable pub next_param : Taken → Reader P
+  next_param used =
+      case_token T.tokens (codes "token") (λ makes at. token_param used.tokens makes) (plain_param used.slots)
+
+  unfoldable pub another_param : Taken → Reader P
   another_param used = do
     _ ← one (sign comma)
     next_param used
 
   unfoldable pub some_params : Reader (List P)
   some_params = do
-    first ← next_param 0
-    others ← many fuel (sign comma) (behind_param T) another_param (behind_param T 0 first)
+    first ← next_param none_taken
+    others ← many fuel (sign comma) (behind_param T) another_param (behind_param T none_taken first)
     _ ← one (sign end_round)
     done (first ∷ others)
 
@@ -162,16 +176,37 @@ module _ {E A S P V R M : Type 0} (T : Makes E A S P V R M) (limits : Bool) (fue
     _ ← one (sign round)
     case_next (sign end_round) (λ end. done []) some_params
 
-  unfoldable pub next_local : ℕ → Reader V
-  next_local count = do
+  unfoldable pub plain_local : ℕ → Reader V
+  plain_local count = do
     at ← one (word (codes "local"))
     _ ← within limits count MOST_LOCALS at
     x ← next_word
     _ ← one (sign semicolon)
     done (T.local x)
 
+  -- behind `token`
+  unfoldable pub token_local : ℕ → TokenMakes A S P V → Reader V
+  token_local tokens makes = do
+    x ← next_word
+    _ ← within limits tokens MOST_TOKENS x.at
+    _ ← one (sign semicolon)
+    done (makes.local x)
+
+  unfoldable pub next_local : Taken → Reader V
+  next_local used =
+      case_token T.tokens (codes "token") (λ makes at. token_local used.tokens makes) (plain_local used.slots)
+
+  unfoldable pub next_locals : List P → Reader (List V)
+  next_locals params = many fuel (a_local T.tokens) (behind_local T) next_local (behind_params T params)
+
   -- ---- expressions. `fits` says that the first token stands within the limits of what it is part of;
   -- `inner` reads the expressions inside one more bracket
+
+  -- behind `token`
+  unfoldable pub token_arg : TokenMakes A S P V → Reader A
+  token_arg makes = do
+    x ← next_word
+    done (makes.arg x)
 
   module _ (room : ℕ) (inner : Bool → Reader E) where
     -- the bracket at this place is opened
@@ -189,8 +224,11 @@ module _ {E A S P V R M : Type 0} (T : Makes E A S P V R M) (limits : Bool) (fue
       f ← next_word
       done (T.pass f)
 
+    unfoldable pub plain_arg : ℕ → Reader A
+    plain_arg used = case_next (word (codes "proc")) (arg_proc used) (arg_value used)
+
     unfoldable pub next_arg : ℕ → Reader A
-    next_arg used = case_next (word (codes "proc")) (arg_proc used) (arg_value used)
+    next_arg used = case_token T.tokens (codes "token") (λ makes at. token_arg makes) (plain_arg used)
 
     unfoldable pub another_arg : ℕ → Reader A
     another_arg used = do
@@ -294,6 +332,13 @@ module _ {E A S P V R M : Type 0} (T : Makes E A S P V R M) (limits : Bool) (fue
 
   -- ---- statements. `inner` reads those inside one more bracket
 
+  -- behind the word of a statement of a token
+  unfoldable pub token_behind : (ℕ → ℕ → Name → S) → ℕ → Reader S
+  token_behind made at = do
+    x ← next_word
+    end ← one (sign semicolon)
+    done (made at end x)
+
   module _ (room : ℕ) (inner : Reader (List S)) where
     unfoldable pub set_behind : Name → Reader S
     set_behind x = do
@@ -367,15 +412,20 @@ module _ {E A S P V R M : Type 0} (T : Makes E A S P V R M) (limits : Bool) (fue
       end ← one (sign semicolon)
       done (T.halt at end e)
 
-    unfoldable pub next_stmt : Reader S
-    next_stmt =
+    unfoldable pub plain_stmt : Reader S
+    plain_stmt =
         case_next (word (codes "if")) if_behind
         (case_next (word (codes "while")) while_behind
         (case_next (word (codes "return")) return_behind
         (case_next (word (codes "halt")) halt_behind name_stmt)))
 
+    unfoldable pub next_stmt : Reader S
+    next_stmt =
+        case_token T.tokens (codes "make") (λ makes. token_behind makes.make)
+        (case_token T.tokens (codes "spend") (λ makes. token_behind makes.spend) plain_stmt)
+
     unfoldable pub stmts_with : Reader (List S)
-    stmts_with = many fuel (a_start T.words) (λ u s. u) (λ (u : Unit {0}). next_stmt) tt
+    stmts_with = many fuel (a_start T.tokens) (λ u s. u) (λ (u : Unit {0}). next_stmt) tt
 
   abbrev pub next_stmts : ℕ → Reader (List S)
   next_stmts zero = stmts_with zero expected
@@ -394,7 +444,7 @@ module _ {E A S P V R M : Type 0} (T : Makes E A S P V R M) (limits : Bool) (fue
       x ← next_word
       params ← next_params
       _ ← one (sign curly)
-      locals ← many fuel (word (codes "local")) (behind_local T) next_local 0
+      locals ← next_locals params
       body ← next_stmts room
       end ← one (sign end_curly)
       done (T.proc at end shared x params locals body)
@@ -418,9 +468,9 @@ module _ {E A S P V R M : Type 0} (T : Makes E A S P V R M) (limits : Bool) (fue
     -- a module; more may follow
     unfoldable pub next_module : Reader M
     next_module = do
-      header ← next_header T.words limits
-      imports ← many fuel (word (codes "import")) one_more (next_import T.words limits) 0
-      globals ← many fuel (word (codes "global")) one_more (next_global T.words limits) 0
+      header ← next_header (words_of T.tokens) limits
+      imports ← many fuel (word (codes "import")) one_more (next_import (words_of T.tokens) limits) 0
+      globals ← many fuel (word (codes "global")) one_more (next_global (words_of T.tokens) limits) 0
       first ← next_proc 0
       procs ← many fuel a_proc one_more next_proc 1
       done (T.module_of header imports globals (first ∷ procs))

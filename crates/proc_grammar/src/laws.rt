@@ -6,62 +6,12 @@ ghost use Rattle.proc_grammar.specs.declared.fault.ParseFault.{ParseFault};
 ghost use Rattle.proc_grammar.specs.declared.fault.ParseFault.TheVariants.{Expected};
 ghost use Rattle.proc_grammar.specs.Lexemes.{Lexeme};
 ghost use Rattle.proc_grammar.specs.Tokens.{IsLexeme};
-ghost use Rattle.proc_grammar.specs.Makes.{Makes};
 ghost use Rattle.proc_grammar.specs.PlainTrees.{plain_trees};
 ghost use Rattle.proc_grammar.specs.Grammar.{IsText};
 ghost use Rattle.proc_grammar.specs.Reading.{parsed};
 ghost use Rattle.proc_grammar.specs.Stuck.{IsExpected, IsBeyond, StandsIn};
 
-use proc_language::{Arg, Expr, ModuleFields, Name, Param, Proc, Stmt};
-
-/// A language of this grammar: its trees, and what they are made of.
-pub trait Language {
-    /// An expression.
-    type Expr: Drop;
-
-    /// An argument.
-    type Arg: Drop;
-
-    /// A statement.
-    type Stmt: Drop;
-
-    /// A parameter.
-    type Param: Drop;
-
-    /// A local.
-    type Local: Drop;
-
-    /// A procedure.
-    type Proc: Drop;
-
-    /// A module.
-    type Module: Drop;
-
-    ghost made: { Makes Self.Expr Self.Arg Self.Stmt Self.Param Self.Local Self.Proc Self.Module };
-}
-
-/// The language itself.
-pub struct Plain {}
-
-impl Language for Plain {
-    ghost use Rattle.proc_grammar.specs.PlainTrees.{plain_trees};
-
-    type Expr = Expr;
-
-    type Arg = Arg;
-
-    type Stmt = Stmt;
-
-    type Param = Param;
-
-    type Local = Name;
-
-    type Proc = Proc;
-
-    type Module = ModuleFields;
-
-    ghost made = { plain_trees };
-}
+use crate::language::Language;
 
 /// What is read is spelled, and what is spelled is read, with as much fuel as there are tokens; tokens
 /// spell one module at most.

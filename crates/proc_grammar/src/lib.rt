@@ -3,7 +3,13 @@
 
 mod fault;
 mod header;
+mod language;
 pub mod laws;
+mod plain;
+mod taken;
 
 pub use fault::ParseFault;
 pub use header::Header;
+pub use language::Language;
+pub use plain::Plain;
+pub use taken::Taken;

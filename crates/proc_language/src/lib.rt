@@ -25,6 +25,9 @@ pub const MOST_REGISTERS: u32 = 4;
 /// The most locals of a procedure.
 pub const MOST_LOCALS: u32 = 64;
 
+/// The most tokens of a procedure, its parameters and locals together, where the language has tokens.
+pub const MOST_TOKENS: u32 = 60;
+
 /// The most elements of an array.
 pub const LONGEST_ARRAY: u32 = 4_096;
 

@@ -1,4 +1,4 @@
 mod NeedLemmas
-mod FirstLemmas
+pub mod FirstLemmas
 mod TwiceLemmas
 mod CallLemmas

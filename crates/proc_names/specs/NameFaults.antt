@@ -4,6 +4,7 @@ use Rattle.std.specs.Prelude.{map, slice_get, Option, Some, None, option_map, Re
 use Rattle.std.specs.Option.{option_map_or, option_and_then}
 use Rattle.proc_language.specs.declared.tree.Name.{Name}
 use Rattle.proc_language.specs.declared.module.Import.{Import}
+use Rattle.proc_language.specs.declared.module.Global.{Global}
 use Rattle.proc_language.specs.declared.module.Param.{Param}
 use Rattle.proc_language.specs.declared.module.Proc.{Proc}
 use Rattle.proc_language.specs.declared.module.ModuleFields.{ModuleFields}
@@ -130,8 +131,12 @@ twice [] = []
 twice (x ∷ xs) = again x xs ++ twice xs
 
 -- imports by the name after the dot
+abbrev pub names_of_items : {P : Type 0} → (P → Name) → List Import → List Global → List P → List Name
+names_of_items name_of imports globals procs =
+    map (λ i. i.name) imports ++ (map (λ g. g.name) globals ++ map name_of procs)
+
 abbrev pub item_names : ModuleFields → List Name
-item_names m = map (λ i. i.name) m.imports ++ (map (λ g. g.name) m.globals ++ map (λ p. p.name) m.procs)
+item_names m = names_of_items (λ p. p.name) m.imports m.globals m.procs
 
 abbrev pub own_names : Proc → List Name
 own_names p = map (λ q. q.name) p.params ++ p.locals

@@ -4,6 +4,7 @@ use Rattle.std.specs.Prelude.{Option, Some, None}
 use Rattle.std.specs.Option.{option_map_or}
 use Rattle.std.specs.Str.{bytes_eq}
 use Rattle.proc_language.specs.declared.tree.Name.{Name}
+use Rattle.proc_language.specs.declared.module.Import.{Import}
 use Rattle.proc_language.specs.declared.module.Global.{Global}
 use Rattle.proc_language.specs.declared.module.Param.{Param}
 use Rattle.proc_language.specs.declared.module.Proc.{Proc}
@@ -53,22 +54,32 @@ param_at params i = if is_callback params i then variable_of.Other else variable
 abbrev pub global_at : List Global → ℕ → Variable
 global_at globals i = if is_array globals i then variable_of.Array i else variable_of.Global i
 
+-- what no procedure hides: the names of the procedures are told
+abbrev pub item_variable : {P : Type 0} → (P → Name) → List Import → List Global → List P → Name → Variable
+item_variable name_of imports globals procs x =
+    or_else (index_of (λ g. g.name) globals x) (global_at globals) (
+    if is_there (λ i. i.name) imports x || is_there name_of procs x
+    then variable_of.Other else variable_of.Missing)
+
 unfoldable pub variable_named : ModuleFields → Proc → Name → Variable
 variable_named m p x =
     or_else (index_of (λ q. q.name) p.params x) (param_at p.params) (
     or_else (index_of (λ y. y) p.locals x) variable_of.Local (
-    or_else (index_of (λ g. g.name) m.globals x) (global_at m.globals) (
-    if is_there (λ i. i.name) m.imports x || is_there (λ q. q.name) m.procs x
-    then variable_of.Other else variable_of.Missing)))
+    item_variable (λ q. q.name) m.imports m.globals m.procs x))
 
 -- ---- calls: of a callback, an import or a procedure
+
+-- what is no callback
+abbrev pub item_callee : {P : Type 0} → (P → Name) → List Import → List Global → List P → Name → Callee
+item_callee name_of imports globals procs f =
+    or_else (index_of (λ i. i.name) imports f) callee_of.Import (
+    or_else (index_of name_of procs f) callee_of.Proc (
+    if is_there (λ g. g.name) globals f then callee_of.Other else callee_of.Missing))
 
 unfoldable pub callee_named : ModuleFields → Proc → Name → Callee
 callee_named m p f =
     or_else (callback_index p.params f) callee_of.Callback (
-    or_else (index_of (λ i. i.name) m.imports f) callee_of.Import (
-    or_else (index_of (λ q. q.name) m.procs f) callee_of.Proc (
-    if is_there (λ g. g.name) m.globals f then callee_of.Other else callee_of.Missing)))
+    item_callee (λ q. q.name) m.imports m.globals m.procs f)
 
 -- ---- what is passed on: a callback, an import or a shared procedure
 

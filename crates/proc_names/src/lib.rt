@@ -13,6 +13,9 @@ mod uses;
 pub use fault::{NameFault, earlier};
 pub use named::{Named, index_of, same};
 pub use need::{frame_words, params_registers, words_needed};
-pub use repeats::twice;
-pub use scope::{Callee, Variable, callee_named, passed_named, variable_named};
-pub use uses::resolve;
+pub use repeats::{items_twice, twice, twice_in_two};
+pub use scope::{
+    Callee, Variable, callee_named, is_there, item_callee, item_variable, passed_named,
+    variable_named,
+};
+pub use uses::{array_fault, import_arity, passed_fault, plain_fault, resolve, unless};

@@ -3,11 +3,11 @@ ghost use Rattle.std.specs.Prelude.{◌≡◌, ◌++◌, map, not};
 ghost use Rattle.proc_names.specs.declared.fault.NameFault.TheVariants.{Twice};
 ghost use Rattle.proc_names.specs.Faults.{first, unless};
 ghost use Rattle.proc_names.specs.Names.{same};
-ghost use Rattle.proc_names.specs.NameFaults.{again, twice, item_names, own_names};
+ghost use Rattle.proc_names.specs.NameFaults.{again, twice, names_of_items, own_names};
 
 use crate::fault::{NameFault, earlier};
 use crate::named::{Named, same};
-use proc_language::{ModuleFields, Name, Proc};
+use proc_language::{Global, Import, Name, Proc};
 
 // The first item that has the name again.
 #[tactic(auto, using(crate::proofs::FirstLemmas::firsts))]
@@ -45,8 +45,9 @@ pub fn twice<T: Named>(items: &[T]) -> Option<NameFault>
     found
 }
 
+/// Where a name stands that an item before has, in two lists one behind the other: the first such place.
 #[tactic(auto, using(crate::proofs::TwiceLemmas::twices))]
-fn twice_in_two<T: Named, U: Named>(items: &[T], others: &[U]) -> Option<NameFault>
+pub fn twice_in_two<T: Named, U: Named>(items: &[T], others: &[U]) -> Option<NameFault>
     ensures { result ≡ first (twice (map T.name_of items.now ++ map U.name_of others.now)) }
 {
     let mut found = None;
@@ -59,14 +60,17 @@ fn twice_in_two<T: Named, U: Named>(items: &[T], others: &[U]) -> Option<NameFau
     earlier(found, twice(others))
 }
 
+/// Where the name of an item of a module stands that one before has: the first such place.
 #[tactic(auto, using(crate::proofs::TwiceLemmas::twices))]
-pub(crate) fn items_twice(m: &ModuleFields) -> Option<NameFault>
-    ensures { result ≡ first (twice (item_names m.now)) }
+pub fn items_twice<P: Named>(
+    imports: &[Import],
+    globals: &[Global],
+    procs: &[P],
+) -> Option<NameFault>
+    ensures { result ≡ first (twice (names_of_items P.name_of imports.now globals.now procs.now)) }
 {
-    let globals = m.globals.as_slice();
-    let procs = m.procs.as_slice();
     let mut found = None;
-    let mut rest = m.imports.as_slice();
+    let mut rest = imports;
     while let Some((item, behind)) = rest.split_first() {
         let here = earlier(
             again(&item.name, behind),

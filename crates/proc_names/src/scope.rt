@@ -1,10 +1,11 @@
 //! Where names lead.
 ghost use Rattle.std.specs.Prelude.{◌≡◌, is_some, position};
 ghost use Rattle.proc_names.specs.Names.{is_there, is_callback, is_array, callback_index, shared_index};
-ghost use Rattle.proc_names.specs.Names.{variable_named, callee_named, is_taken, passed_named};
+ghost use Rattle.proc_names.specs.Names.{variable_named, item_variable, callee_named, item_callee, is_taken};
+ghost use Rattle.proc_names.specs.Names.{passed_named};
 
 use crate::named::{Named, index_of, same};
-use proc_language::{Global, ModuleFields, Name, Param, Proc};
+use proc_language::{Global, Import, ModuleFields, Name, Param, Proc};
 
 /// What a name leads to, where it stands for a variable: each by its index in the lists of the
 /// procedure or the module.
@@ -40,7 +41,8 @@ pub enum Callee {
     Missing,
 }
 
-fn is_there<T: Named>(items: &[T], x: &Name) -> bool
+/// Whether some item has the name.
+pub fn is_there<T: Named>(items: &[T], x: &Name) -> bool
     ensures { result ≡ is_there T.name_of items.now x.now }
 {
     index_of(items, x).is_some()
@@ -81,7 +83,23 @@ pub fn variable_named(m: &ModuleFields, p: &Proc, x: &Name) -> Variable
     if let Some(i) = index_of(p.locals.as_slice(), x) {
         return Variable::Local(i);
     }
-    let globals = m.globals.as_slice();
+    item_variable(
+        m.imports.as_slice(),
+        m.globals.as_slice(),
+        m.procs.as_slice(),
+        x,
+    )
+}
+
+/// What a variable's name leads to that no procedure has of its own.
+pub fn item_variable<P: Named>(
+    imports: &[Import],
+    globals: &[Global],
+    procs: &[P],
+    x: &Name,
+) -> Variable
+    ensures { result ≡ item_variable P.name_of imports.now globals.now procs.now x.now }
+{
     if let Some(i) = index_of(globals, x) {
         return if is_array(globals, i) {
             Variable::Array(i)
@@ -89,7 +107,7 @@ pub fn variable_named(m: &ModuleFields, p: &Proc, x: &Name) -> Variable
             Variable::Global(i)
         };
     }
-    if is_there(m.imports.as_slice(), x) || is_there(m.procs.as_slice(), x) {
+    if is_there(imports, x) || is_there(procs, x) {
         return Variable::Other;
     }
     Variable::Missing
@@ -118,13 +136,30 @@ pub fn callee_named(m: &ModuleFields, p: &Proc, f: &Name) -> Callee
     if let Some(i) = callback_index(p.params.as_slice(), f) {
         return Callee::Callback(i);
     }
-    if let Some(i) = index_of(m.imports.as_slice(), f) {
+    item_callee(
+        m.imports.as_slice(),
+        m.globals.as_slice(),
+        m.procs.as_slice(),
+        f,
+    )
+}
+
+/// What the name of a call leads to that is no callback.
+pub fn item_callee<P: Named>(
+    imports: &[Import],
+    globals: &[Global],
+    procs: &[P],
+    f: &Name,
+) -> Callee
+    ensures { result ≡ item_callee P.name_of imports.now globals.now procs.now f.now }
+{
+    if let Some(i) = index_of(imports, f) {
         return Callee::Import(i);
     }
-    if let Some(i) = index_of(m.procs.as_slice(), f) {
+    if let Some(i) = index_of(procs, f) {
         return Callee::Proc(i);
     }
-    if is_there(m.globals.as_slice(), f) {
+    if is_there(globals, f) {
         return Callee::Other;
     }
     Callee::Missing

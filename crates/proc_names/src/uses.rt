@@ -36,7 +36,12 @@ pub fn resolve(m: &Module) -> Result<(), NameFault>
 fn first_fault(m: &ModuleFields) -> Option<NameFault>
     ensures { result ≡ first (name_faults m.now) }
 {
-    earlier(items_twice(m), procs_fault(m, m.procs.as_slice()))
+    let twice = items_twice(
+        m.imports.as_slice(),
+        m.globals.as_slice(),
+        m.procs.as_slice(),
+    );
+    earlier(twice, procs_fault(m, m.procs.as_slice()))
 }
 
 fn procs_fault(m: &ModuleFields, procs: &[Proc]) -> Option<NameFault>
@@ -56,22 +61,22 @@ fn proc_fault(m: &ModuleFields, p: &Proc) -> Option<NameFault>
     earlier(own_twice(p), block_fault(m, p, p.body.as_slice()))
 }
 
-// What is wrong with a variable that is used without an index.
-fn plain_fault(m: &ModuleFields, p: &Proc, x: &Name) -> Option<NameFault>
-    ensures { result ≡ first (plain_faults x.now (variable_named m.now p.now x.now)) }
+/// What is wrong with a name that is used without an index, by what it leads to.
+pub fn plain_fault(x: &Name, leads: Variable) -> Option<NameFault>
+    ensures { result ≡ first (plain_faults x.now leads) }
 {
-    match variable_named(m, p, x) {
+    match leads {
         Variable::Param(_) | Variable::Local(_) | Variable::Global(_) => None,
         Variable::Array(_) | Variable::Other => Some(NameFault::WrongKind(x.at)),
         Variable::Missing => Some(NameFault::Unknown(x.at)),
     }
 }
 
-// What is wrong with a variable that is used with an index.
-fn array_fault(m: &ModuleFields, p: &Proc, x: &Name) -> Option<NameFault>
-    ensures { result ≡ first (array_faults x.now (variable_named m.now p.now x.now)) }
+/// What is wrong with a name that is used with an index, by what it leads to.
+pub fn array_fault(x: &Name, leads: Variable) -> Option<NameFault>
+    ensures { result ≡ first (array_faults x.now leads) }
 {
-    match variable_named(m, p, x) {
+    match leads {
         Variable::Array(_) => None,
         Variable::Missing => Some(NameFault::Unknown(x.at)),
         _ => Some(NameFault::WrongKind(x.at)),
@@ -107,7 +112,8 @@ fn callback_arity(params: &[Param], i: usize) -> Option<u32>
     }
 }
 
-fn import_arity(imports: &[Import], i: usize) -> Option<u32>
+/// How many registers the import of an index takes.
+pub fn import_arity(imports: &[Import], i: usize) -> Option<u32>
     ensures { result ≡ import_arity imports.now i }
 {
     match imports.get(i) {
@@ -138,7 +144,8 @@ fn fit_proc(args: &[Arg], procs: &[Proc], i: usize) -> bool
     }
 }
 
-fn unless(holds: bool, fault: NameFault) -> Option<NameFault>
+/// A fault where something doesn't hold.
+pub fn unless(holds: bool, fault: NameFault) -> Option<NameFault>
     ensures { result ≡ first (unless holds fault) }
 {
     if holds { None } else { Some(fault) }
@@ -165,11 +172,11 @@ fn call_fault(m: &ModuleFields, p: &Proc, call: &Call) -> Option<NameFault>
     }
 }
 
-// What is wrong with a name that is passed on.
-fn passed_fault(m: &ModuleFields, p: &Proc, f: &Name) -> Option<NameFault>
-    ensures { result ≡ first (passed_faults f.now (passed_named m.now p.now f.now)) }
+/// What is wrong with a name that is passed on, by what it leads to.
+pub fn passed_fault(f: &Name, leads: Callee) -> Option<NameFault>
+    ensures { result ≡ first (passed_faults f.now leads) }
 {
-    match passed_named(m, p, f) {
+    match leads {
         Callee::Callback(_) | Callee::Import(_) | Callee::Proc(_) => None,
         Callee::Other => Some(NameFault::WrongKind(f.at)),
         Callee::Missing => Some(NameFault::Unknown(f.at)),
@@ -183,8 +190,11 @@ fn expr_fault(m: &ModuleFields, p: &Proc, e: &Expr) -> Option<NameFault>
 {
     match &e.kind {
         ExprKind::Number(_) => None,
-        ExprKind::Var(x) => plain_fault(m, p, x),
-        ExprKind::Element(x, index) => earlier(array_fault(m, p, x), expr_fault(m, p, index)),
+        ExprKind::Var(x) => plain_fault(x, variable_named(m, p, x)),
+        ExprKind::Element(x, index) => earlier(
+            array_fault(x, variable_named(m, p, x)),
+            expr_fault(m, p, index),
+        ),
         ExprKind::Call(call) => earlier(
             call_fault(m, p, call),
             args_fault(m, p, call.args.as_slice()),
@@ -201,7 +211,10 @@ fn args_fault(m: &ModuleFields, p: &Proc, args: &[Arg]) -> Option<NameFault>
     match args.split_first() {
         None => None,
         Some((Arg::Value(e), rest)) => earlier(expr_fault(m, p, e), args_fault(m, p, rest)),
-        Some((Arg::Proc(f), rest)) => earlier(passed_fault(m, p, f), args_fault(m, p, rest)),
+        Some((Arg::Proc(f), rest)) => earlier(
+            passed_fault(f, passed_named(m, p, f)),
+            args_fault(m, p, rest),
+        ),
     }
 }
 
@@ -211,9 +224,12 @@ fn stmt_fault(m: &ModuleFields, p: &Proc, s: &Stmt) -> Option<NameFault>
     ensures { result ≡ first (stmt_faults m.now p.now s.now) }
 {
     match &s.kind {
-        StmtKind::Set(x, e) => earlier(plain_fault(m, p, x), expr_fault(m, p, e)),
+        StmtKind::Set(x, e) => earlier(
+            plain_fault(x, variable_named(m, p, x)),
+            expr_fault(m, p, e),
+        ),
         StmtKind::SetAt(x, index, e) => earlier(
-            array_fault(m, p, x),
+            array_fault(x, variable_named(m, p, x)),
             earlier(expr_fault(m, p, index), expr_fault(m, p, e)),
         ),
         StmtKind::Call(call) => earlier(

@@ -1,6 +1,6 @@
 -- The tokens of a text that end no line, and what is read of them.
-use Rattle.std.proofs.Common.{◌≡◌, Bool, true, false, cond, ℕ, zero, suc, ◌+◌, ◌-◌, ◌≤◌, ◌<◌, map, List, []}
-use Rattle.std.proofs.Common.{◌∷◌, ◌++◌, length, take, drop, Option, Some, None, refl, sym, ap, ◌∙◌, arith}
+use Rattle.std.proofs.Common.{◌≡◌, Bool, true, false, cond, ℕ, ◌+◌, ◌-◌, ◌≤◌, ◌<◌, map, List, []}
+use Rattle.std.proofs.Common.{◌∷◌, ◌++◌, length, drop, Some, None, refl, sym, ap, ◌∙◌, arith}
 use Rattle.std.proofs.Common.{subst, inl, inr, ◌⊎◌}
 use Rattle.std.specs.Prelude.{Result, Ok, Err, IfOk, IfErr, IsOkAnd, All, slice_range}
 use Rattle.std.proofs.lemmas.List.{length-take}
@@ -9,16 +9,14 @@ use Rattle.text_scan.specs.declared.token.TokenKind.{TokenKind}
 use Rattle.text_scan.specs.declared.token.TokenKind.TheVariants as kinds
 use Rattle.text_scan.specs.declared.token.Token.{Token}
 use Rattle.text_scan.specs.declared.fault.ScanFault.{ScanFault}
-use Rattle.text_scan.specs.declared.fault.ScanFault.TheVariants as scans
-use Rattle.readers.specs.Answers as answers
-use Rattle.text_scan.specs.Fault as scan
 use Rattle.text_scan.specs.Tokens.{scanned}
-use Rattle.text_scan.specs.Grammar.{HasTokens, HasFault, IsSpelled, IsTokenText, Placed}
+use Rattle.text_scan.specs.Grammar.{HasTokens, IsSpelled, IsTokenText, Placed}
 use Rattle.proc_language.specs.Limits.{IsModule}
 use Rattle.proc_language.specs.declared.module.ModuleFields.{ModuleFields}
 use Rattle.proc_grammar.specs.declared.fault.ParseFault.{ParseFault}
 use Rattle.proc_grammar.specs.declared.fault.ParseFault.TheVariants.{Scan, Expected, Range, TooMany, NoMemory}
-use Rattle.proc_grammar.specs.Fault.{AnswersAs, Fails, limit_place, of_scan}
+use Rattle.proc_grammar.specs.Fault.{AnswersAs, Fails, limit_place}
+use Rattle.proc_grammar.specs.Makes.{Makes}
 use Rattle.proc_grammar.specs.Grammar.{IsText}
 use Rattle.proc_grammar.specs.Lexemes.{Lexeme, lexemes, seen, is_line_end}
 use Rattle.proc_grammar.specs.PlainTrees.{plain_trees}
@@ -30,8 +28,8 @@ use Rattle.proc_grammar.proofs.Fits.{is_module}
 use Rattle.proc_grammar.proofs.Whole.{found, only, one_module, expected_is}
 use Rattle.proc_grammar.proofs.Stops.{told, fault_is}
 use Rattle.proc_parse.specs.Answers.{InText}
-use Rattle.proc_parse.specs.Text.{proper, parsed_scan, parsed_text, Spells, Stops, Passes, IsFault}
-use Rattle.proc_parse.specs.Text.{PassesBefore}
+use Rattle.proc_parse.specs.Texts.{proper, parsed_scan, parsed_text, Spells, Stops, Passes, IsFault}
+use Rattle.proc_parse.specs.Texts.{PassesBefore}
 
 map_cond : (text : List ℕ) (b : Bool) (t : Token) (xs ys : List Token)
     → map (seen text) (cond b xs (t ∷ ys)) ≡ cond b (map (seen text) xs) (seen text t ∷ map (seen text) ys)
@@ -136,212 +134,23 @@ stands_before (x ∷ b) t u rest end h = stands_before b t u rest end h.1
 some_is : (p n : ℕ) → Some p ≡ Some n → p ≡ n
 some_is p n e = cc
 
-passes_before : (text : List ℕ) (at : ℕ) (e : ParseFault) (n : ℕ) → limit_place e ≡ Some n → n < at
-    → Passes text e → PassesBefore text at e
-passes_before text at (Scan s) n is lt h = absurd (let none : None ≡ Some n = is in cc)
-passes_before text at (Expected p) n is lt h = absurd (let none : None ≡ Some n = is in cc)
-passes_before text at (Range p) n is lt h = (let same = some_is p n is in omega (arith, same, lt), h)
-passes_before text at (TooMany p) n is lt h = (let same = some_is p n is in omega (arith, same, lt), h)
-passes_before text at NoMemory n is lt h = absurd (let none : None ≡ Some n = is in cc)
-
 no_limit : (e : ParseFault) (at n : ℕ) → e ≡ Expected at → limit_place e ≡ Some n → ⊥
 no_limit e at n is limit = let none : None ≡ Some n = sym (ap limit_place is) ∙ limit in cc
 
--- ---- what is spelled keeps the limits
+-- ---- the bytes of tokens are those of their kinds
 
 proper_cond : (b : Bool) (l : List Lexeme) (x : Lexeme) → IsLexeme x → All IsLexeme l
     → All IsLexeme (cond b l (x ∷ l))
 proper_cond true l x h hs = hs
 proper_cond false l x h hs = All-cons IsLexeme x l h hs
 
-lexemes_proper : (text : List ℕ) (tokens : List Token) → All (IsSpelled text) tokens
+pub lexemes_proper : (text : List ℕ) (tokens : List Token) → All (IsSpelled text) tokens
     → All IsLexeme (lexemes text tokens)
 lexemes_proper text [] h = All-nil IsLexeme
 lexemes_proper text (t ∷ tokens) h =
     proper_cond (is_line_end t.kind) (lexemes text tokens) (seen text t)
     (All-head (IsSpelled text) t tokens h)
     (lexemes_proper text tokens (All-tail (IsSpelled text) t tokens h))
-
-pub answer_module : (text : List ℕ) (tokens : List Token) (result : Result ModuleFields ParseFault)
-    → AnswersAs (λ m. m) result (parsed plain_trees full (lexemes text tokens) (length text))
-    → All (IsSpelled text) tokens → IfOk result IsModule
-answer_module text tokens (Ok m) e h = is_module (lexemes text tokens) m (lexemes_proper text tokens h)
-    (found plain_trees full (lexemes text tokens) (length text) m e)
-answer_module text tokens (Err f) e h = tt
-
-pub spelled_module : (text : List ℕ) (m : ModuleFields) → ((tokens : List Token) → HasTokens text tokens
-    → All (IsSpelled text) tokens) → Spells text m → IsModule m
-spelled_module text m spelled (tokens, has, is) = is_module (lexemes text tokens) m
-    (lexemes_proper text tokens (spelled tokens has)) is
-
--- a text spells one module
-pub one_module_spelled : (text : List ℕ) (m m' : ModuleFields)
-    → ((tokens others : List Token) → HasTokens text tokens → HasTokens text others → tokens ≡ others)
-    → Spells text m → Spells text m' → m ≡ m'
-one_module_spelled text m m' same (tokens, has, is) (others, there, other) =
-    one_module plain_trees (lexemes text tokens) m m' is (subst (λ l. IsText plain_trees (lexemes text l) m')
-    (same others tokens there has) other)
-
--- ---- what is answered of the tokens of a text
-
-no_scan : {tokens : List Lexeme} (s : ScanFault) → ((at : ℕ) × (Scan s ≡ Expected at))
-    ⊎ IsBeyond plain_trees tokens (Scan s) → ⊥
-no_scan s = elim [
-  | inl (at, e) ↦ absurd cc
-  | inr beyond ↦ (let none : None ≡ Some beyond.token.at = beyond.there in absurd cc)
-]
-
-answer_ok : (result read : Result ModuleFields ParseFault) (m : ModuleFields)
-    → AnswersAs (λ m. m) result read → read ≡ Ok m → IsOkAnd result (λ v. v ≡ m) ⊎ (result ≡ Err NoMemory)
-answer_ok (Ok x) read m e is = inl (let same : Ok x ≡ Ok m = sym e ∙ is in cc)
-answer_ok (Err (Scan s)) read m e is = absurd (let same : Err (Scan s) ≡ Ok m = sym e ∙ is in cc)
-answer_ok (Err (Expected at)) read m e is = absurd (let same : Err (Expected at) ≡ Ok m = sym e ∙ is in cc)
-answer_ok (Err (Range at)) read m e is = absurd (let same : Err (Range at) ≡ Ok m = sym e ∙ is in cc)
-answer_ok (Err (TooMany at)) read m e is = absurd (let same : Err (TooMany at) ≡ Ok m = sym e ∙ is in cc)
-answer_ok (Err NoMemory) read m e is = inr refl
-
-answer_err : (result read : Result ModuleFields ParseFault) (f : ParseFault) → AnswersAs (λ m. m) result read
-    → read ≡ Err f → (result ≡ Err f) ⊎ (result ≡ Err NoMemory)
-answer_err (Ok x) read f e is = absurd (let same : Ok x ≡ Err f = sym e ∙ is in cc)
-answer_err (Err (Scan s)) read f e is = inl (sym e ∙ is)
-answer_err (Err (Expected at)) read f e is = inl (sym e ∙ is)
-answer_err (Err (Range at)) read f e is = inl (sym e ∙ is)
-answer_err (Err (TooMany at)) read f e is = inl (sym e ∙ is)
-answer_err (Err NoMemory) read f e is = inr refl
-
-module _ (text : List ℕ) (tokens : List Token) (has : HasTokens text tokens) (short : length tokens ≤ full)
-  where
-    few : length (lexemes text tokens) ≤ full
-    few = let le = lexemes_le text tokens in omega (arith, le, short)
-
-    passed : (e : ParseFault) (n : ℕ) → limit_place e ≡ Some n → parsed plain_trees full (lexemes text tokens)
-        (length text) ≡ Err e → Passes text e
-    passed e n limit is = elim (fault_is plain_trees full (lexemes text tokens) (length text) e few is) [
-      | inl (at, same) ↦ absurd (no_limit e at n same limit)
-      | inr beyond ↦ (tokens, has, beyond)
-    ]
-
-    fault_found : (f : ParseFault) → Fails f (parsed plain_trees full (lexemes text tokens) (length text))
-        → IsFault text f
-    fault_found (Scan s) e =
-        absurd (no_scan s (fault_is plain_trees full (lexemes text tokens) (length text) (Scan s) few e))
-    fault_found (Expected at) e =
-        (tokens, has, expected_is plain_trees full (lexemes text tokens) (length text) at e)
-    fault_found (Range at) e = passed (Range at) at refl e
-    fault_found (TooMany at) e = passed (TooMany at) at refl e
-    fault_found NoMemory e = tt
-
-    pub answer_found : (result : Result ModuleFields ParseFault) → AnswersAs (λ m. m) result
-        (parsed plain_trees full (lexemes text tokens) (length text)) → IfOk result (Spells text)
-    answer_found (Ok m) e = (tokens, has, found plain_trees full (lexemes text tokens) (length text) m e)
-    answer_found (Err f) e = tt
-
-    pub answer_fails : (result : Result ModuleFields ParseFault) → AnswersAs (λ m. m) result
-        (parsed plain_trees full (lexemes text tokens) (length text)) → IfErr result (IsFault text)
-    answer_fails (Ok m) e = tt
-    answer_fails (Err f) e = fault_found f e
-
-    -- these are the text's tokens
-    module _ (one : (others : List Token) → HasTokens text others → tokens ≡ others) where
-      pub answer_only : (result : Result ModuleFields ParseFault) → AnswersAs (λ m. m) result
-          (parsed plain_trees full (lexemes text tokens) (length text)) → (m : ModuleFields) → Spells text m
-          → IsOkAnd result (λ v. v ≡ m) ⊎ (result ≡ Err NoMemory)
-      answer_only result e m (others, there, is) =
-          answer_ok result (parsed plain_trees full (lexemes text tokens) (length text)) m e
-          (only plain_trees full (lexemes text tokens) (length text) m few
-          (subst (λ l. IsText plain_trees (lexemes text l) m) (sym (one others there)) is))
-
-      module _ (placed : Placed 0 (length text) tokens) (spelled : All (IsSpelled text) tokens) where
-        before : (at : ℕ) (stop : IsExpected plain_trees (lexemes text tokens) (length text) at)
-            (e : ParseFault) → parsed plain_trees full (lexemes text tokens) (length text) ≡ Err e
-            → StandsIn stop.before e → PassesBefore text at e
-        before at stop e is (front, t, behind, parts, limit) =
-            let whole : lexemes text tokens ≡ (front ++ t ∷ behind) ++ stop.rest = stop.parts
-            ∙ ap (λ l. l ++ stop.rest) parts in
-            let ascends = subst (λ l. Ascends l (length text)) whole (ascend text 0 tokens placed spelled) in
-            let lt = stands_before front t behind stop.rest (length text) ascends in
-            let place = stop.there in
-            passes_before text at e t.at limit (omega (arith, lt, place)) (passed e t.at limit is)
-
-        pub answer_stops : (result : Result ModuleFields ParseFault) → AnswersAs (λ m. m) result
-            (parsed plain_trees full (lexemes text tokens) (length text)) → (at : ℕ) → Stops text at
-            → (result ≡ Err (Expected at))
-            ⊎ (((fault : ParseFault) × (result ≡ Err fault) × PassesBefore text at fault)
-            ⊎ (result ≡ Err NoMemory))
-        answer_stops result e at (others, there, other) =
-            let stop = subst (λ l. IsExpected plain_trees (lexemes text l) (length text) at)
-            (sym (one others there)) other in
-            elim (told plain_trees full (lexemes text tokens) (length text) at few stop) [
-              | inl is ↦ elim (answer_err result (parsed plain_trees full (lexemes text tokens) (length text))
-                  (Expected at) e is) [ inl same ↦ inl same | inr none ↦ inr (inr none) ]
-              | inr (fault, is, stands) ↦ elim (answer_err result
-                  (parsed plain_trees full (lexemes text tokens) (length text)) fault e is) [
-                    | inl same ↦ inr (inl (fault, same, before at stop fault is stands))
-                    | inr none ↦ inr
-                        (inr none)
-                  ]
-            ]
-
--- ---- where there are no tokens
-
-abbrev refused_scan : ScanFault → Result (List Token) ScanFault
-refused_scan f = Err f
-
-abbrev pub refused : ScanFault → Result ModuleFields ParseFault
-refused f = Err (of_scan f)
-
-module _ (text : List ℕ) where
-  pub none_exact : (f : ScanFault) → answers.Fails scan.is_refusal f (scanned text) → AnswersAs (λ m. m) (refused f)
-      (parsed_text text)
-  none_exact (scans.BadByte at) e = ap (parsed_scan text) e
-  none_exact (scans.NumberTooLarge at) e = ap (parsed_scan text) e
-  none_exact (scans.LineTooLong line) e = ap (parsed_scan text) e
-  none_exact scans.NoMemory e = tt
-
-  pub none_fails : (f : ScanFault) → (f ≡ scans.NoMemory) ⊎ HasFault text f → IsFault text (of_scan f)
-  none_fails (scans.BadByte at) e = elim e [ inl h ↦ absurd cc | inr h ↦ h ]
-  none_fails (scans.NumberTooLarge at) e = elim e [ inl h ↦ absurd cc | inr h ↦ h ]
-  none_fails (scans.LineTooLong line) e = elim e [ inl h ↦ absurd cc | inr h ↦ h ]
-  none_fails scans.NoMemory e = tt
-
-  scan_refused : (f : ScanFault) → refused_scan f ≡ Err scans.NoMemory → refused f ≡ Err NoMemory
-  scan_refused f e = let same : f ≡ scans.NoMemory = cc in ap (λ g. Err (of_scan g)) same
-
-  -- what is told of a text without tokens is its fault, or that memory was refused
-  scan_told : (f fault : ScanFault) → refused_scan f ≡ Err fault → (refused f ≡ Err (Scan fault))
-      ⊎ (refused f ≡ Err NoMemory)
-  scan_told (scans.BadByte at) fault e = inl (let same : scans.BadByte at ≡ fault = cc in
-      ap (λ g. Err (Scan g)) same)
-  scan_told (scans.NumberTooLarge at) fault e = inl (let same : scans.NumberTooLarge at ≡ fault = cc in
-      ap (λ g. Err (Scan g)) same)
-  scan_told (scans.LineTooLong line) fault e = inl (let same : scans.LineTooLong line ≡ fault = cc in
-      ap (λ g. Err (Scan g)) same)
-  scan_told scans.NoMemory fault e = inr refl
-
-  pub none_scans : (f : ScanFault)
-      → ((fault : ScanFault) → HasFault text fault → (refused_scan f ≡ Err fault)
-      ⊎ (refused_scan f ≡ Err scans.NoMemory))
-      → (fault : ScanFault) → HasFault text fault → (refused f ≡ Err (Scan fault))
-      ⊎ (refused f ≡ Err NoMemory)
-  none_scans f told fault h =
-      elim (told fault h) [ inl e ↦ scan_told f fault e | inr e ↦ inr (scan_refused f e) ]
-
-  none_tokens : (f : ScanFault) → ((tokens : List Token) → HasTokens text tokens → ⊥
-      ⊎ (refused_scan f ≡ Err scans.NoMemory)) → (tokens : List Token) → HasTokens text tokens
-      → refused f ≡ Err NoMemory
-  none_tokens f only tokens has = elim (only tokens has) [ inl e ↦ absurd e | inr e ↦ scan_refused f e ]
-
-  pub none_only : (f : ScanFault) → ((tokens : List Token) → HasTokens text tokens → ⊥
-      ⊎ (refused_scan f ≡ Err scans.NoMemory)) → (m : ModuleFields) → Spells text m
-      → IsOkAnd (refused f) (λ v. v ≡ m) ⊎ (refused f ≡ Err NoMemory)
-  none_only f only m (tokens, has, is) = inr (none_tokens f only tokens has)
-
-  pub none_stops : (f : ScanFault) → ((tokens : List Token) → HasTokens text tokens → ⊥
-      ⊎ (refused_scan f ≡ Err scans.NoMemory)) → (at : ℕ) → Stops text at
-      → (refused f ≡ Err (Expected at))
-      ⊎ (((fault : ParseFault) × (refused f ≡ Err fault) × PassesBefore text at fault)
-      ⊎ (refused f ≡ Err NoMemory))
-  none_stops f only at (tokens, has, is) = inr (inr (none_tokens f only tokens has))
 
 pub ok_tokens : (tokens others : List Token) → (let r : Result (List Token) ScanFault = Ok tokens in r) ≡ Ok
     others → tokens ≡ others
@@ -365,3 +174,156 @@ few_from text low (t ∷ tokens) p h =
 pub lexemes_few : (text : List ℕ) (tokens : List Token) → Placed 0 (length text) tokens
     → All (IsSpelled text) tokens → length (lexemes text tokens) ≤ length text
 lexemes_few text tokens p h = let few = few_from text 0 tokens p h in omega (arith, few)
+
+module _ {E A S P V R M : Type 0} (T : Makes E A S P V R M) where
+  passes_before : (text : List ℕ) (at : ℕ) (e : ParseFault) (n : ℕ) → limit_place e ≡ Some n → n < at
+      → Passes T text e → PassesBefore T text at e
+  passes_before text at (Scan s) n is lt h = absurd (let none : None ≡ Some n = is in cc)
+  passes_before text at (Expected p) n is lt h = absurd (let none : None ≡ Some n = is in cc)
+  passes_before text at (Range p) n is lt h = (let same = some_is p n is in omega (arith, same, lt), h)
+  passes_before text at (TooMany p) n is lt h = (let same = some_is p n is in omega (arith, same, lt), h)
+  passes_before text at NoMemory n is lt h = absurd (let none : None ≡ Some n = is in cc)
+
+  -- a text spells one module
+  pub one_module_spelled : (text : List ℕ) (m m' : M)
+      → ((tokens others : List Token) → HasTokens text tokens → HasTokens text others → tokens ≡ others)
+      → Spells T text m → Spells T text m' → m ≡ m'
+  one_module_spelled text m m' same (tokens, has, is) (others, there, other) =
+      one_module T (lexemes text tokens) m m' is (subst (λ l. IsText T (lexemes text l) m')
+      (same others tokens there has) other)
+
+  -- a text spells one module, which is what is read of it
+  pub spelled_read : (text : List ℕ) (m : M) → length text ≤ full
+      → ((tokens : List Token) → HasTokens text tokens → Placed 0 (length text) tokens)
+      → ((tokens : List Token) → HasTokens text tokens → All (IsSpelled text) tokens)
+      → ((tokens : List Token) → HasTokens text tokens → scanned text ≡ Ok tokens)
+      → Spells T text m → parsed_text T text ≡ Ok m
+  spelled_read text m short placed spelled scans (tokens, has, is) =
+      let few = lexemes_few text tokens (placed tokens has) (spelled tokens has) in
+      ap (parsed_scan T text) (scans tokens has)
+      ∙ only T full (lexemes text tokens) (length text) m (omega (arith, short, few)) is
+
+  pub spelled_proper : (text : List ℕ) (m : M)
+      → ((tokens : List Token) → HasTokens text tokens → All (IsSpelled text) tokens) → Spells T text m
+      → (tokens : List Lexeme) × All IsLexeme tokens × IsText T tokens m
+  spelled_proper text m spelled (tokens, has, is) =
+      (lexemes text tokens, lexemes_proper text tokens (spelled tokens has), is)
+
+  -- ---- what is answered of the tokens of a text
+
+  no_scan : {tokens : List Lexeme} (s : ScanFault) → ((at : ℕ) × (Scan s ≡ Expected at))
+      ⊎ IsBeyond T tokens (Scan s) → ⊥
+  no_scan s = elim [
+    | inl (at, e) ↦ absurd cc
+    | inr beyond ↦ (let none : None ≡ Some beyond.token.at = beyond.there in absurd cc)
+  ]
+
+  answer_ok : (result read : Result M ParseFault) (m : M)
+      → AnswersAs (λ m. m) result read → read ≡ Ok m → IsOkAnd result (λ v. v ≡ m) ⊎ (result ≡ Err NoMemory)
+  answer_ok (Ok x) read m e is = inl (let same : Ok x ≡ Ok m = sym e ∙ is in cc)
+  answer_ok (Err (Scan s)) read m e is = absurd (let same : Err (Scan s) ≡ Ok m = sym e ∙ is in cc)
+  answer_ok (Err (Expected at)) read m e is = absurd (let same : Err (Expected at) ≡ Ok m = sym e ∙ is in cc)
+  answer_ok (Err (Range at)) read m e is = absurd (let same : Err (Range at) ≡ Ok m = sym e ∙ is in cc)
+  answer_ok (Err (TooMany at)) read m e is = absurd (let same : Err (TooMany at) ≡ Ok m = sym e ∙ is in cc)
+  answer_ok (Err NoMemory) read m e is = inr refl
+
+  answer_err : (result read : Result M ParseFault) (f : ParseFault) → AnswersAs (λ m. m) result read
+      → read ≡ Err f → (result ≡ Err f) ⊎ (result ≡ Err NoMemory)
+  answer_err (Ok x) read f e is = absurd (let same : Ok x ≡ Err f = sym e ∙ is in cc)
+  answer_err (Err (Scan s)) read f e is = inl (sym e ∙ is)
+  answer_err (Err (Expected at)) read f e is = inl (sym e ∙ is)
+  answer_err (Err (Range at)) read f e is = inl (sym e ∙ is)
+  answer_err (Err (TooMany at)) read f e is = inl (sym e ∙ is)
+  answer_err (Err NoMemory) read f e is = inr refl
+
+  module _ (text : List ℕ) (tokens : List Token) (has : HasTokens text tokens) (short : length tokens ≤ full)
+    where
+      few : length (lexemes text tokens) ≤ full
+      few = let le = lexemes_le text tokens in omega (arith, le, short)
+
+      passed : (e : ParseFault) (n : ℕ) → limit_place e ≡ Some n → parsed T full (lexemes text tokens)
+          (length text) ≡ Err e → Passes T text e
+      passed e n limit is = elim (fault_is T full (lexemes text tokens) (length text) e few is) [
+        | inl (at, same) ↦ absurd (no_limit e at n same limit)
+        | inr beyond ↦ (tokens, has, beyond)
+      ]
+
+      fault_found : (f : ParseFault) → Fails f (parsed T full (lexemes text tokens) (length text))
+          → IsFault T text f
+      fault_found (Scan s) e =
+          absurd (no_scan s (fault_is T full (lexemes text tokens) (length text) (Scan s) few e))
+      fault_found (Expected at) e =
+          (tokens, has, expected_is T full (lexemes text tokens) (length text) at e)
+      fault_found (Range at) e = passed (Range at) at refl e
+      fault_found (TooMany at) e = passed (TooMany at) at refl e
+      fault_found NoMemory e = tt
+
+      pub answer_found : (result : Result M ParseFault) → AnswersAs (λ m. m) result
+          (parsed T full (lexemes text tokens) (length text)) → IfOk result (Spells T text)
+      answer_found (Ok m) e = (tokens, has, found T full (lexemes text tokens) (length text) m e)
+      answer_found (Err f) e = tt
+
+      pub answer_fails : (result : Result M ParseFault) → AnswersAs (λ m. m) result
+          (parsed T full (lexemes text tokens) (length text)) → IfErr result (IsFault T text)
+      answer_fails (Ok m) e = tt
+      answer_fails (Err f) e = fault_found f e
+
+      -- these are the text's tokens
+      module _ (one : (others : List Token) → HasTokens text others → tokens ≡ others) where
+        pub answer_only : (result : Result M ParseFault) → AnswersAs (λ m. m) result
+            (parsed T full (lexemes text tokens) (length text)) → (m : M) → Spells T text m
+            → IsOkAnd result (λ v. v ≡ m) ⊎ (result ≡ Err NoMemory)
+        answer_only result e m (others, there, is) =
+            answer_ok result (parsed T full (lexemes text tokens) (length text)) m e
+            (only T full (lexemes text tokens) (length text) m few
+            (subst (λ l. IsText T (lexemes text l) m) (sym (one others there)) is))
+
+        module _ (placed : Placed 0 (length text) tokens) (spelled : All (IsSpelled text) tokens) where
+          before : (at : ℕ) (stop : IsExpected T (lexemes text tokens) (length text) at)
+              (e : ParseFault) → parsed T full (lexemes text tokens) (length text) ≡ Err e
+              → StandsIn stop.before e → PassesBefore T text at e
+          before at stop e is (front, t, behind, parts, limit) =
+              let whole : lexemes text tokens ≡ (front ++ t ∷ behind) ++ stop.rest = stop.parts
+              ∙ ap (λ l. l ++ stop.rest) parts in
+              let ascends = subst (λ l. Ascends l (length text)) whole
+              (ascend text 0 tokens placed spelled) in
+              let lt = stands_before front t behind stop.rest (length text) ascends in
+              let place = stop.there in
+              passes_before text at e t.at limit (omega (arith, lt, place)) (passed e t.at limit is)
+
+          pub answer_stops : (result : Result M ParseFault) → AnswersAs (λ m. m) result
+              (parsed T full (lexemes text tokens) (length text)) → (at : ℕ) → Stops T text at
+              → (result ≡ Err (Expected at))
+              ⊎ (((fault : ParseFault) × (result ≡ Err fault) × PassesBefore T text at fault)
+              ⊎ (result ≡ Err NoMemory))
+          answer_stops result e at (others, there, other) =
+              let stop = subst (λ l. IsExpected T (lexemes text l) (length text) at)
+              (sym (one others there)) other in
+              elim (told T full (lexemes text tokens) (length text) at few stop) [
+                | inl is ↦ elim (answer_err result (parsed T full (lexemes text tokens) (length text))
+                    (Expected at) e is) [ inl same ↦ inl same | inr none ↦ inr (inr none) ]
+                | inr (fault, is, stands) ↦ elim (answer_err result
+                    (parsed T full (lexemes text tokens) (length text)) fault e is) [
+                      | inl same ↦ inr (inl (fault, same, before at stop fault is stands))
+                      | inr none ↦ inr
+                          (inr none)
+                    ]
+              ]
+
+-- ---- what is read is spelled
+
+pub read_spelled : {E A S P V R M : Type 0} (T : Makes E A S P V R M) (text : List ℕ) (m : M)
+    → ((tokens : List Token) → scanned text ≡ Ok tokens → HasTokens text tokens)
+    → (r : Result (List Token) ScanFault) → scanned text ≡ r → parsed_scan T text r ≡ Ok m → Spells T text m
+read_spelled T text m has (Ok tokens) s e =
+    (tokens, has tokens s, found T full (lexemes text tokens) (length text) m e)
+read_spelled T text m has (Err f) s e = absurd (cc)
+
+-- ---- what is spelled in the language itself keeps the limits
+
+pub answer_module : (text : List ℕ) (tokens : List Token) (result : Result ModuleFields ParseFault)
+    → AnswersAs (λ m. m) result (parsed plain_trees full (lexemes text tokens) (length text))
+    → All (IsSpelled text) tokens → IfOk result IsModule
+answer_module text tokens (Ok m) e h = is_module (lexemes text tokens) m (lexemes_proper text tokens h)
+    (found plain_trees full (lexemes text tokens) (length text) m e)
+answer_module text tokens (Err f) e h = tt

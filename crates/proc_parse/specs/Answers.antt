@@ -1,9 +1,12 @@
 -- What the calls of reading answer.
-use Rattle.std.specs.Prelude.{◌≡◌, ℕ, ◌+◌, ◌≤◌, List, [], ◌∷◌, length, Option, Some, None, Result, Ok, Err}
+use Rattle.std.specs.Prelude.{◌≡◌, ℕ, ◌+◌, ◌≤◌, List, [], ◌∷◌, length, Option, Some, None, Result}
+use Rattle.std.specs.Prelude.{Ok, Err}
 use Rattle.text_scan.specs.declared.token.Token.{Token}
 use Rattle.phrases.specs.Reading.{behind}
 use Rattle.proc_grammar.specs.declared.fault.ParseFault.{ParseFault}
 use Rattle.proc_grammar.specs.Fault.{Fails}
+use Rattle.proc_language.specs.declared.TheConstants.{MOST_TOKENS}
+use Rattle.proc_grammar.specs.Grammar.{Taken}
 use Rattle.proc_grammar.specs.Reader.{Input}
 
 -- the tokens lie within the text
@@ -25,3 +28,12 @@ Gives answer left read = GivesAs (λ x. x) answer left read
 abbrev pub left_by : {A : Type 0} → Option A → Input → Input
 left_by None i = i
 left_by (Some x) i = behind i
+
+-- what is read where the language has tokens, by what it makes of them
+abbrev pub GivesBy : {K A : Type 0} → Option K → Result A ParseFault → Input
+    → (K → Result (A × Input) ParseFault) → Type 0
+GivesBy {K} tokens answer left read = (makes : K) → tokens ≡ Some makes → Gives answer left (read makes)
+
+-- not more slots than these, and no more tokens than a procedure may have
+abbrev pub AreFew : ℕ → Taken → Type 0
+AreFew most used = (used.slots ≤ most) × (used.tokens ≤ MOST_TOKENS)

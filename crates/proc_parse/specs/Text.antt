@@ -1,57 +1,31 @@
--- The module that a text spells, or its first fault.
-use Rattle.std.specs.Prelude.{◌<◌, ℕ, List, [], ◌∷◌, length, Result, Ok, Err}
-use Rattle.std.specs.Prelude.{if◌then◌else◌}
+-- The module that a text spells in the language itself, or its first fault.
+use Rattle.std.specs.Prelude.{ℕ, List, Result}
 use Rattle.text_scan.specs.declared.token.Token.{Token}
 use Rattle.text_scan.specs.declared.fault.ScanFault.{ScanFault}
-use Rattle.text_scan.specs.Tokens.{scanned}
-use Rattle.text_scan.specs.Grammar.{HasTokens, HasFault}
 use Rattle.proc_language.specs.declared.module.ModuleFields.{ModuleFields}
 use Rattle.proc_grammar.specs.declared.fault.ParseFault.{ParseFault}
-use Rattle.proc_grammar.specs.declared.fault.ParseFault.TheVariants.{Scan, Expected, Range, TooMany, NoMemory}
-use Rattle.proc_grammar.specs.Grammar.{IsText}
-use Rattle.proc_grammar.specs.Lexemes.{lexemes, is_line_end}
 use Rattle.proc_grammar.specs.PlainTrees.{plain_trees}
-use Rattle.proc_grammar.specs.Reading.{full, parsed}
-use Rattle.proc_grammar.specs.Stuck.{IsExpected, IsBeyond}
-
--- the tokens that end no line
-abbrev pub proper : List Token → List Token
-proper [] = []
-proper (t ∷ tokens) = if is_line_end t.kind then proper tokens else t ∷ proper tokens
+use Rattle.proc_parse.specs.Texts as texts
 
 abbrev pub parsed_scan : List ℕ → Result (List Token) ScanFault → Result ModuleFields ParseFault
-parsed_scan text (Ok tokens) = parsed plain_trees full (lexemes text tokens) (length text)
-parsed_scan text (Err e) = Err (Scan e)
+parsed_scan = texts.parsed_scan plain_trees
 
 -- the module of the text, or its first fault
 abbrev pub parsed_text : List ℕ → Result ModuleFields ParseFault
-parsed_text text = parsed_scan text (scanned text)
+parsed_text = texts.parsed_text plain_trees
 
 -- the text spells the module
 abbrev pub Spells : List ℕ → ModuleFields → Type 0
-Spells text m = (tokens : List Token) × HasTokens text tokens × IsText plain_trees (lexemes text tokens) m
+Spells = texts.Spells plain_trees
 
 -- the text's tokens before this place begin a module, and with the token or the text's end there none goes on
 abbrev pub Stops : List ℕ → ℕ → Type 0
-Stops text at =
-    (tokens : List Token) × HasTokens text tokens × IsExpected plain_trees (lexemes text tokens)
-    (length text) at
-
--- the text's tokens up to that of the fault begin a module, and there it passes a limit
-abbrev pub Passes : List ℕ → ParseFault → Type 0
-Passes text fault =
-    (tokens : List Token) × HasTokens text tokens × IsBeyond plain_trees (lexemes text tokens) fault
+Stops = texts.Stops plain_trees
 
 -- a fault is one of the text
 abbrev pub IsFault : List ℕ → ParseFault → Type 0
-IsFault text (Scan fault) = HasFault text fault
-IsFault text (Expected at) = Stops text at
-IsFault text (Range at) = Passes text (Range at)
-IsFault text (TooMany at) = Passes text (TooMany at)
-IsFault text NoMemory = Unit {0}
+IsFault = texts.IsFault plain_trees
 
 -- a limit is passed before this place
 abbrev pub PassesBefore : List ℕ → ℕ → ParseFault → Type 0
-PassesBefore text at (Range p) = (p < at) × Passes text (Range p)
-PassesBefore text at (TooMany p) = (p < at) × Passes text (TooMany p)
-PassesBefore text at _ = ⊥
+PassesBefore = texts.PassesBefore plain_trees

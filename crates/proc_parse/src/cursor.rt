@@ -1,17 +1,17 @@
 //! What is left of the tokens.
-ghost use Rattle.std.specs.Prelude.{[], ◌≡◌, ◌==◌, ◌<◌, ◌≤◌, nat_le, true, map, length, option_map, IfOk};
-ghost use Rattle.std.specs.Prelude.{Some};
+ghost use Rattle.std.specs.Prelude.{◌≡◌, ◌==◌, ◌<◌, ◌≤◌, nat_le, true, map, length, option_map, IfOk};
+ghost use Rattle.std.specs.Prelude.{Some, IfSome, is_some};
 ghost use Rattle.proc_parse.specs.Answers.{InText, GivesAs, Gives, left_by};
 ghost use Rattle.phrases.specs.Reading.{next_means, behind, is_there};
 ghost use Rattle.proc_grammar.specs.Lexemes.{seen, word, a_name, a_number, sign, adding, comparing};
-ghost use Rattle.proc_grammar.specs.Lexemes.{a_start, start_in, a_proc};
+ghost use Rattle.proc_grammar.specs.Lexemes.{a_start, start_in, a_proc, a_local, words_of, token_word};
 ghost use Rattle.proc_grammar.specs.Reader.{place, one};
 ghost use Rattle.proc_grammar.specs.Reading.{next_name, next_num};
 ghost use Rattle.std.specs.Str.{bytes_eq};
 
 use cap_words::{Items, LONGEST_NAME};
-use proc_grammar::ParseFault;
-use proc_language::{Name, Op, is_reserved};
+use proc_grammar::{Language, ParseFault};
+use proc_language::{Name, Op};
 use std::alloc::Global;
 use std::marker::Model;
 use text_scan::{Token, TokenKind};
@@ -126,17 +126,25 @@ impl<'a, 'b> Cursor<'a, 'b> {
         self.is_word(b"export") || self.is_word(b"proc")
     }
 
+    /// Whether a local begins here.
+    #[tactic(auto, unfolding(proc_grammar::specs::Lexemes::a_local))]
+    pub fn starts_local<L: Language>(&self) -> bool
+        ensures { result ≡ is_there (next_means (a_local L.made.tokens) self.now) }
+    {
+        self.is_word(b"local") || (L::has_tokens() && self.is_word(b"token"))
+    }
+
     /// Whether a statement begins here.
     #[tactic(auto, unfolding(proc_grammar::specs::Lexemes::a_start))]
-    pub fn starts_stmt(&self) -> bool
-        ensures { result ≡ is_there (next_means (a_start []) self.now) }
+    pub fn starts_stmt<L: Language>(&self) -> bool
+        ensures { result ≡ is_there (next_means (a_start L.made.tokens) self.now) }
     {
         let Some(token) = self.rest.first() else {
             return false;
         };
         let (at, len) = (token.at as usize, token.len as usize);
         match token.kind {
-            TokenKind::Name => starts_stmt(&self.text[at..at + len]),
+            TokenKind::Name => starts_stmt::<L>(&self.text[at..at + len]),
             _ => false,
         }
     }
@@ -149,6 +157,19 @@ impl<'a, 'b> Cursor<'a, 'b> {
         let at = self.at_word(wanted)?;
         self.skip();
         Some(at)
+    }
+
+    /// Takes the next token where it is this word and the language has tokens, and tells its place.
+    #[tactic(auto, using(crate::proofs::Steps::token_word_there, crate::proofs::Steps::token_word_nowhere))]
+    pub fn take_token_word<L: Language>(&mut self, wanted: &[u8]) -> Option<u32>
+        ensures value { result ≡ next_means (token_word L.made.tokens wanted.now) self.old }
+        ensures left { self.new ≡ left_by result self.old }
+        ensures there { IfSome result (λ at. is_some L.made.tokens ≡ true) }
+    {
+        if !L::has_tokens() {
+            return None;
+        }
+        self.take_word(wanted)
     }
 
     /// Takes the next token where it is this sign, and tells its place.
@@ -185,15 +206,15 @@ impl<'a, 'b> Cursor<'a, 'b> {
 
     // The name that stands next, and its place.
     #[tactic(auto, unfolding(proc_grammar::specs::Lexemes::a_name))]
-    fn at_name(&self) -> Option<(&'a [u8], u32)>
+    fn at_name<L: Language>(&self) -> Option<(&'a [u8], u32)>
         ensures { option_map (λ n. record { text = n.0.now; at = n.1 })
-            result ≡ next_means (a_name []) self.now }
+            result ≡ next_means (a_name (words_of L.made.tokens)) self.now }
     {
         let token = self.rest.first()?;
         let (at, len) = (token.at as usize, token.len as usize);
         let text = &self.text[at..at + len];
         match token.kind {
-            TokenKind::Name if !is_reserved(text) => Some((text, token.at)),
+            TokenKind::Name if !L::is_reserved(text) => Some((text, token.at)),
             _ => None,
         }
     }
@@ -212,10 +233,10 @@ impl<'a, 'b> Cursor<'a, 'b> {
 
     /// A name of at most [`LONGEST_NAME`] bytes.
     #[tactic(auto, unfolding(phrases::specs::Reading::one, phrases::specs::Reading::case_next, proc_grammar::specs::Reading::next_name))]
-    pub fn name(&mut self, alloc: Global) -> Result<Name, ParseFault>
-        ensures { Gives result self.new (next_name [] true self.old) }
+    pub fn name<L: Language>(&mut self, alloc: Global) -> Result<Name, ParseFault>
+        ensures { Gives result self.new (next_name (words_of L.made.tokens) true self.old) }
     {
-        let Some((text, at)) = self.at_name() else {
+        let Some((text, at)) = self.at_name::<L>() else {
             return Err(ParseFault::Expected(self.place()));
         };
         self.skip();
@@ -298,11 +319,14 @@ impl<'a, 'b> Cursor<'a, 'b> {
     }
 }
 
-// Whether a statement begins with it: a name, or one of four words.
-fn starts_stmt(text: &[u8]) -> bool
-    ensures { result ≡ is_there (start_in [] (Some text.now)) }
+// Whether a statement begins with it: a name, or a word for that.
+fn starts_stmt<L: Language>(text: &[u8]) -> bool
+    ensures { result ≡ is_there (start_in L.made.tokens (Some text.now)) }
 {
-    if !is_reserved(text) {
+    if !L::is_reserved(text) {
+        return true;
+    }
+    if L::has_tokens() && (is_same(text, b"make") || is_same(text, b"spend")) {
         return true;
     }
     is_same(text, b"if")

@@ -1,9 +1,9 @@
 //! Imports, globals and the header.
-ghost use Rattle.std.specs.Prelude.{[], ◌≡◌, true, nat_le, ◌<◌, ◌≤◌, codes, IfOk, OnOk, Ok};
+ghost use Rattle.std.specs.Prelude.{◌≡◌, true, nat_le, ◌<◌, ◌≤◌, codes, IfOk, OnOk, Ok};
 ghost use Rattle.proc_parse.specs.Answers.{GivesAs, Gives};
 ghost use Rattle.proc_language.specs.declared.TheConstants.{MOST_ITEMS};
 ghost use Rattle.proc_grammar.specs.Grammar.{is_initial, is_length, is_return_count, signed, one_more};
-ghost use Rattle.proc_grammar.specs.Lexemes.{word};
+ghost use Rattle.proc_grammar.specs.Lexemes.{word, words_of};
 ghost use Rattle.proc_grammar.specs.Reader.{many};
 ghost use Rattle.proc_grammar.specs.Reading.{full, next_num, next_field, next_length, next_minus};
 ghost use Rattle.proc_grammar.specs.Reading.{next_initial, next_movable};
@@ -11,7 +11,7 @@ ghost use Rattle.proc_grammar.specs.Reading.{next_import, next_global, next_head
 
 use crate::cursor::Cursor;
 use cap_words::LAST_PLACE;
-use proc_grammar::{Header, ParseFault};
+use proc_grammar::{Header, Language, ParseFault};
 use proc_language::{Global, Import, LONGEST_ARRAY, MOST_ITEMS, MOST_REGISTERS, MOST_SEALS};
 use std::alloc::Global as Heap;
 
@@ -19,26 +19,34 @@ use std::alloc::Global as Heap;
 const BEYOND_I64: u64 = 9_223_372_036_854_775_808;
 
 /// The imports.
-pub fn imports(alloc: Heap, tokens: &mut Cursor<'_, '_>) -> Result<Vec<Import>, ParseFault>
+pub fn imports<L: Language>(
+    alloc: Heap,
+    tokens: &mut Cursor<'_, '_>,
+) -> Result<Vec<Import>, ParseFault>
     ensures { GivesAs (λ v. v.items) result tokens.new
-        (many full (word (codes "import")) one_more (next_import [] true) 0 tokens.old) }
+        (many full (word (codes "import")) one_more
+        (next_import (words_of L.made.tokens) true) 0 tokens.old) }
 {
     let mut imports = Vec::new(alloc);
     while tokens.is_word(b"import") {
-        let next = import(alloc, tokens, imports.len() as u32)?;
+        let next = import::<L>(alloc, tokens, imports.len() as u32)?;
         imports.push(next)?;
     }
     Ok(imports)
 }
 
 /// The globals.
-pub fn globals(alloc: Heap, tokens: &mut Cursor<'_, '_>) -> Result<Vec<Global>, ParseFault>
+pub fn globals<L: Language>(
+    alloc: Heap,
+    tokens: &mut Cursor<'_, '_>,
+) -> Result<Vec<Global>, ParseFault>
     ensures { GivesAs (λ v. v.items) result tokens.new
-        (many full (word (codes "global")) one_more (next_global [] true) 0 tokens.old) }
+        (many full (word (codes "global")) one_more
+        (next_global (words_of L.made.tokens) true) 0 tokens.old) }
 {
     let mut globals = Vec::new(alloc);
     while tokens.is_word(b"global") {
-        let next = global(alloc, tokens, globals.len() as u32)?;
+        let next = global::<L>(alloc, tokens, globals.len() as u32)?;
         globals.push(next)?;
     }
     Ok(globals)
@@ -46,17 +54,21 @@ pub fn globals(alloc: Heap, tokens: &mut Cursor<'_, '_>) -> Result<Vec<Global>, 
 
 /// The import after so many.
 #[tactic(auto, unfolding(proc_grammar::specs::Reading::next_import))]
-pub fn import(alloc: Heap, tokens: &mut Cursor<'_, '_>, count: u32) -> Result<Import, ParseFault>
-    ensures exact { Gives result tokens.new (next_import [] true count tokens.old) }
+pub fn import<L: Language>(
+    alloc: Heap,
+    tokens: &mut Cursor<'_, '_>,
+    count: u32,
+) -> Result<Import, ParseFault>
+    ensures exact { Gives result tokens.new (next_import (words_of L.made.tokens) true count tokens.old) }
     ensures few { OnOk result (count < MOST_ITEMS) }
 {
     let at = tokens.word(b"import")?;
     if count >= MOST_ITEMS {
         return Err(ParseFault::TooMany(at));
     }
-    let part = tokens.name(alloc)?;
+    let part = tokens.name::<L>(alloc)?;
     tokens.sign(b'.')?;
-    let name = tokens.name(alloc)?;
+    let name = tokens.name::<L>(alloc)?;
     tokens.sign(b'/')?;
     let arity = tokens.up_to(MOST_REGISTERS)?;
     tokens.sign(b';')?;
@@ -156,15 +168,19 @@ fn initial(tokens: &mut Cursor<'_, '_>) -> Result<Option<i64>, ParseFault>
 
 /// The global after so many.
 #[tactic(auto, unfolding(proc_grammar::specs::Reading::next_global))]
-fn global(alloc: Heap, tokens: &mut Cursor<'_, '_>, count: u32) -> Result<Global, ParseFault>
-    ensures exact { Gives result tokens.new (next_global [] true count tokens.old) }
+fn global<L: Language>(
+    alloc: Heap,
+    tokens: &mut Cursor<'_, '_>,
+    count: u32,
+) -> Result<Global, ParseFault>
+    ensures exact { Gives result tokens.new (next_global (words_of L.made.tokens) true count tokens.old) }
     ensures few { OnOk result (count < MOST_ITEMS) }
 {
     let at = tokens.word(b"global")?;
     if count >= MOST_ITEMS {
         return Err(ParseFault::TooMany(at));
     }
-    let name = tokens.name(alloc)?;
+    let name = tokens.name::<L>(alloc)?;
     let length = length(tokens)?;
     let initial = initial(tokens)?;
     tokens.sign(b';')?;
@@ -207,11 +223,11 @@ fn movable(tokens: &mut Cursor<'_, '_>) -> bool
 
 /// What stands before the items.
 #[tactic(auto, unfolding(proc_grammar::specs::Reading::next_header))]
-pub fn header(alloc: Heap, tokens: &mut Cursor<'_, '_>) -> Result<Header, ParseFault>
-    ensures { Gives result tokens.new (next_header [] true tokens.old) }
+pub fn header<L: Language>(alloc: Heap, tokens: &mut Cursor<'_, '_>) -> Result<Header, ParseFault>
+    ensures { Gives result tokens.new (next_header (words_of L.made.tokens) true tokens.old) }
 {
     let at = tokens.word(b"module")?;
-    let name = tokens.name(alloc)?;
+    let name = tokens.name::<L>(alloc)?;
     let code = field(tokens, b"code")?;
     let data_base = field(tokens, b"data")?;
     let closure = field(tokens, b"closure")?;

@@ -6,9 +6,11 @@ mod exprs;
 mod items;
 pub mod laws;
 mod module;
+mod plain;
 mod procs;
 mod source;
 mod stmts;
 
+pub use plain::parse;
 pub use proc_grammar::ParseFault;
-pub use source::parse;
+pub use source::parse_in;

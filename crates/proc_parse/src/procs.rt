@@ -1,174 +1,327 @@
 //! Procedures.
-ghost use Rattle.std.specs.Prelude.{◌≡◌, true, codes, ◌<◌, ◌≤◌, ◌+◌, IfOk, OnOk, Ok};
+ghost use Rattle.std.specs.Prelude.{◌≡◌, true, codes, ◌<◌, ◌≤◌, ◌+◌, IfOk, OnOk, Ok, sum_by, is_some};
 ghost use Rattle.proc_parse.specs.Answers.{GivesAs, Gives};
 ghost use Rattle.proc_parse.specs.Loops.{params_behind, procs_list, procs_behind};
-ghost use Rattle.proc_grammar.specs.Lexemes.{word};
 ghost use Rattle.proc_language.specs.declared.TheConstants.{MOST_ITEMS, MOST_REGISTERS, MOST_LOCALS};
-ghost use Rattle.proc_language.specs.Limits.{param_registers};
-ghost use Rattle.proc_grammar.specs.Grammar.{behind_local, room_in_body};
-ghost use Rattle.proc_grammar.specs.PlainTrees.{plain_trees};
+ghost use Rattle.proc_language.specs.declared.TheConstants.{MOST_TOKENS};
+ghost use Rattle.proc_grammar.specs.Lexemes.{a_local};
 ghost use Rattle.proc_grammar.specs.Reader.{many};
+ghost use Rattle.proc_grammar.specs.Grammar.{behind_param, behind_local, none_taken, room_in_body};
+ghost use Rattle.proc_parse.specs.Answers.{AreFew, GivesBy};
 ghost use Rattle.proc_grammar.specs.Reading.{full, arity_behind, next_param, another_param, some_params};
-ghost use Rattle.proc_grammar.specs.Reading.{next_params, next_local};
+ghost use Rattle.proc_grammar.specs.Reading.{next_params, next_local, plain_param, token_param};
+ghost use Rattle.proc_grammar.specs.Reading.{plain_local, token_local};
 ghost use Rattle.proc_grammar.specs.Reading.{next_stmts, proc_behind, next_proc};
 
 use crate::cursor::Cursor;
 use crate::stmts::whole_body;
 use cap_words::Items;
-use proc_grammar::ParseFault;
-use proc_language::{MOST_BRACKETS, MOST_ITEMS, MOST_LOCALS, MOST_REGISTERS, Name, Param, Proc};
+use proc_grammar::{Language, ParseFault, Taken};
+use proc_language::{MOST_BRACKETS, MOST_ITEMS, MOST_LOCALS, MOST_REGISTERS, MOST_TOKENS, Name};
 use std::alloc::Global;
+
+const NONE_TAKEN: Taken = Taken {
+    slots: 0,
+    tokens: 0,
+};
 
 // The number of registers behind the `/` of a callback that is a parameter behind so many registers.
 #[tactic(auto, unfolding(proc_grammar::specs::Reading::arity_behind))]
-fn callback(tokens: &mut Cursor<'_, '_>, name: Name, used: u32) -> Result<Param, ParseFault>
+fn callback<L: Language>(
+    tokens: &mut Cursor<'_, '_>,
+    name: Name,
+    used: u32,
+) -> Result<L::Param, ParseFault>
     requires { used ≤ MOST_REGISTERS }
-    ensures exact { Gives result tokens.new (arity_behind plain_trees true full name used tokens.old) }
-    ensures few { IfOk result (λ p. used + param_registers p.arity ≤ MOST_REGISTERS) }
+    ensures exact { Gives result tokens.new (arity_behind L.made true full name used tokens.old) }
+    ensures slots { IfOk result (λ p. used + L.made.param_registers p ≤ MOST_REGISTERS) }
+    ensures tokens { IfOk result (λ p. L.made.param_tokens p ≡ 0) }
 {
     if used + 1 >= MOST_REGISTERS {
         return Err(ParseFault::TooMany(name.at));
     }
-    let arity = Some(tokens.up_to(MOST_REGISTERS)?);
-    Ok(Param { name, arity })
+    let arity = tokens.up_to(MOST_REGISTERS)?;
+    Ok(L::callback_of(name, arity))
 }
 
-// A parameter behind others that take so many registers.
-#[tactic(auto, unfolding(proc_grammar::specs::Reading::next_param, phrases::specs::Reading::case_next))]
-fn param(alloc: Global, tokens: &mut Cursor<'_, '_>, used: u32) -> Result<Param, ParseFault>
+// A parameter that is no token, behind others that take so many registers.
+#[tactic(auto, unfolding(proc_grammar::specs::Reading::plain_param, phrases::specs::Reading::case_next))]
+fn plain_param<L: Language>(
+    alloc: Global,
+    tokens: &mut Cursor<'_, '_>,
+    used: u32,
+) -> Result<L::Param, ParseFault>
     requires { used ≤ MOST_REGISTERS }
-    ensures exact { Gives result tokens.new (next_param plain_trees true full used tokens.old) }
-    ensures few { IfOk result (λ p. used + param_registers p.arity ≤ MOST_REGISTERS) }
+    ensures exact { Gives result tokens.new (plain_param L.made true full used tokens.old) }
+    ensures slots { IfOk result (λ p. used + L.made.param_registers p ≤ MOST_REGISTERS) }
+    ensures tokens { IfOk result (λ p. L.made.param_tokens p ≡ 0) }
 {
-    let name = tokens.name(alloc)?;
+    let name = tokens.name::<L>(alloc)?;
     if used >= MOST_REGISTERS {
         return Err(ParseFault::TooMany(name.at));
     }
     if tokens.take_sign(b'/').is_some() {
-        return callback(tokens, name, used);
+        return callback::<L>(tokens, name, used);
     }
-    Ok(Param { name, arity: None })
+    Ok(L::param_of(name))
+}
+
+// A parameter that is a token, behind `token` and so many other tokens.
+#[tactic(auto, unfolding(proc_grammar::specs::Reading::token_param))]
+fn token_param<L: Language>(
+    alloc: Global,
+    tokens: &mut Cursor<'_, '_>,
+    held: u32,
+) -> Result<L::Param, ParseFault>
+    requires { is_some L.made.tokens ≡ true }
+    ensures exact { GivesBy L.made.tokens result tokens.new
+        (λ makes. token_param L.made true full held makes tokens.old) }
+    ensures slots { IfOk result (λ p. L.made.param_registers p ≡ 0) }
+    ensures tokens { IfOk result (λ p. held + L.made.param_tokens p ≤ MOST_TOKENS) }
+{
+    let name = tokens.name::<L>(alloc)?;
+    if held >= MOST_TOKENS {
+        return Err(ParseFault::TooMany(name.at));
+    }
+    Ok(L::token_param_of(name).unwrap())
+}
+
+// A parameter behind others that take so much.
+#[tactic(auto, unfolding(proc_grammar::specs::Reading::next_param))]
+fn param<L: Language>(
+    alloc: Global,
+    tokens: &mut Cursor<'_, '_>,
+    used: Taken,
+) -> Result<L::Param, ParseFault>
+    requires { AreFew MOST_REGISTERS used }
+    ensures exact { Gives result tokens.new (next_param L.made true full used tokens.old) }
+    ensures few { IfOk result (λ p. AreFew MOST_REGISTERS (behind_param L.made used p)) }
+{
+    match tokens.take_token_word::<L>(b"token") {
+        Some(_) => token_param::<L>(alloc, tokens, used.tokens),
+        None => plain_param::<L>(alloc, tokens, used.slots),
+    }
 }
 
 #[tactic(auto, unfolding(proc_grammar::specs::Reading::another_param))]
-fn another(alloc: Global, tokens: &mut Cursor<'_, '_>, used: u32) -> Result<Param, ParseFault>
-    requires { used ≤ MOST_REGISTERS }
-    ensures exact { Gives result tokens.new (another_param plain_trees true full used tokens.old) }
-    ensures few { IfOk result (λ p. used + param_registers p.arity ≤ MOST_REGISTERS) }
+fn another<L: Language>(
+    alloc: Global,
+    tokens: &mut Cursor<'_, '_>,
+    used: Taken,
+) -> Result<L::Param, ParseFault>
+    requires { AreFew MOST_REGISTERS used }
+    ensures exact { Gives result tokens.new (another_param L.made true full used tokens.old) }
+    ensures few { IfOk result (λ p. AreFew MOST_REGISTERS (behind_param L.made used p)) }
 {
     tokens.sign(b',')?;
-    param(alloc, tokens, used)
+    param::<L>(alloc, tokens, used)
 }
 
-fn registers(param: &Param) -> u32
-    ensures { result ≡ param_registers param.now.arity }
+// What is taken behind a parameter.
+fn behind_param<L: Language>(used: Taken, param: &L::Param) -> Taken
+    requires { AreFew MOST_REGISTERS (behind_param L.made used param.now) }
+    ensures { result ≡ behind_param L.made used param.now }
 {
-    match param.arity {
-        None => 1,
-        Some(_) => 2,
+    Taken {
+        slots: used.slots + L::param_registers_of(param),
+        tokens: used.tokens + L::param_tokens_of(param),
     }
+}
+
+// Parameters, and how many tokens they are.
+#[derive(Drop)]
+struct ParamList<P: Drop> {
+    params: Vec<P>,
+    tokens: u32,
 }
 
 // The parameters behind the first one, and that.
-fn more_params(
+fn more_params<L: Language>(
     alloc: Global,
     tokens: &mut Cursor<'_, '_>,
-    first: Param,
-) -> Result<Vec<Param>, ParseFault>
-    requires { param_registers first.arity ≤ MOST_REGISTERS }
-    ensures { GivesAs (λ v. v.items) result tokens.new (params_behind first tokens.old) }
+    first: L::Param,
+) -> Result<ParamList<L::Param>, ParseFault>
+    requires { AreFew MOST_REGISTERS (behind_param L.made none_taken first) }
+    ensures exact { GivesAs (λ p. p.params.items) result tokens.new
+        (params_behind L.made first tokens.old) }
+    ensures count { IfOk result (λ p. p.tokens ≡ sum_by L.made.param_tokens p.params.items) }
+    ensures few { IfOk result (λ p. p.tokens ≤ MOST_TOKENS) }
 {
-    let mut used = registers(&first);
+    let mut used = behind_param::<L>(NONE_TAKEN, &first);
     let mut params = Vec::new(alloc);
     params.push(first)?;
     while tokens.is_sign(b',') {
-        let next = another(alloc, tokens, used)?;
-        used += registers(&next);
+        let next = another::<L>(alloc, tokens, used)?;
+        used = behind_param::<L>(used, &next);
         params.push(next)?;
     }
-    Ok(params)
+    let tokens = used.tokens;
+    Ok(ParamList { params, tokens })
 }
 
 #[tactic(auto, unfolding(proc_grammar::specs::Reading::some_params))]
-fn some_params(alloc: Global, tokens: &mut Cursor<'_, '_>) -> Result<Vec<Param>, ParseFault>
-    ensures { GivesAs (λ v. v.items) result tokens.new (some_params plain_trees true full tokens.old) }
+fn some_params<L: Language>(
+    alloc: Global,
+    tokens: &mut Cursor<'_, '_>,
+) -> Result<ParamList<L::Param>, ParseFault>
+    ensures exact { GivesAs (λ p. p.params.items) result tokens.new
+        (some_params L.made true full tokens.old) }
+    ensures count { IfOk result (λ p. p.tokens ≡ sum_by L.made.param_tokens p.params.items) }
+    ensures few { IfOk result (λ p. p.tokens ≤ MOST_TOKENS) }
 {
-    let first = param(alloc, tokens, 0)?;
-    let params = more_params(alloc, tokens, first)?;
+    let first = param::<L>(alloc, tokens, NONE_TAKEN)?;
+    let params = more_params::<L>(alloc, tokens, first)?;
     tokens.sign(b')')?;
     Ok(params)
 }
 
 // The list of parameters in its brackets.
 #[tactic(auto, unfolding(proc_grammar::specs::Reading::next_params, phrases::specs::Reading::case_next))]
-fn params(alloc: Global, tokens: &mut Cursor<'_, '_>) -> Result<Vec<Param>, ParseFault>
-    ensures { GivesAs (λ v. v.items) result tokens.new (next_params plain_trees true full tokens.old) }
+fn params<L: Language>(
+    alloc: Global,
+    tokens: &mut Cursor<'_, '_>,
+) -> Result<ParamList<L::Param>, ParseFault>
+    ensures exact { GivesAs (λ p. p.params.items) result tokens.new
+        (next_params L.made true full tokens.old) }
+    ensures count { IfOk result (λ p. p.tokens ≡ sum_by L.made.param_tokens p.params.items) }
+    ensures few { IfOk result (λ p. p.tokens ≤ MOST_TOKENS) }
 {
     tokens.sign(b'(')?;
     if tokens.take_sign(b')').is_some() {
-        return Ok(Vec::new(alloc));
+        let params = Vec::new(alloc);
+        return Ok(ParamList { params, tokens: 0 });
     }
-    some_params(alloc, tokens)
+    some_params::<L>(alloc, tokens)
 }
 
-// The local after so many.
-#[tactic(auto, unfolding(proc_grammar::specs::Reading::next_local))]
-fn local(alloc: Global, tokens: &mut Cursor<'_, '_>, count: u32) -> Result<Name, ParseFault>
-    ensures exact { Gives result tokens.new (next_local plain_trees true full count tokens.old) }
-    ensures few { OnOk result (count < MOST_LOCALS) }
+// A local that is no token, behind so many.
+#[tactic(auto, unfolding(proc_grammar::specs::Reading::plain_local))]
+fn plain_local<L: Language>(
+    alloc: Global,
+    tokens: &mut Cursor<'_, '_>,
+    count: u32,
+) -> Result<L::Local, ParseFault>
+    ensures exact { Gives result tokens.new (plain_local L.made true full count tokens.old) }
+    ensures slots { IfOk result (λ x. count + L.made.local_count x ≤ MOST_LOCALS) }
+    ensures tokens { IfOk result (λ x. L.made.local_tokens x ≡ 0) }
 {
     let at = tokens.word(b"local")?;
     if count >= MOST_LOCALS {
         return Err(ParseFault::TooMany(at));
     }
-    let name = tokens.name(alloc)?;
+    let name = tokens.name::<L>(alloc)?;
     tokens.sign(b';')?;
-    Ok(name)
+    Ok(L::local_of(name))
 }
 
-fn locals(alloc: Global, tokens: &mut Cursor<'_, '_>) -> Result<Vec<Name>, ParseFault>
-    ensures { GivesAs (λ v. v.items) result tokens.new
-        (many full (word (codes "local")) (behind_local plain_trees)
-        (next_local plain_trees true full) 0 tokens.old) }
+// A local that is a token, behind `token` and so many other tokens.
+#[tactic(auto, unfolding(proc_grammar::specs::Reading::token_local))]
+fn token_local<L: Language>(
+    alloc: Global,
+    tokens: &mut Cursor<'_, '_>,
+    held: u32,
+) -> Result<L::Local, ParseFault>
+    requires { is_some L.made.tokens ≡ true }
+    ensures exact { GivesBy L.made.tokens result tokens.new
+        (λ makes. token_local L.made true full held makes tokens.old) }
+    ensures slots { IfOk result (λ x. L.made.local_count x ≡ 0) }
+    ensures tokens { IfOk result (λ x. held + L.made.local_tokens x ≤ MOST_TOKENS) }
 {
+    let name = tokens.name::<L>(alloc)?;
+    if held >= MOST_TOKENS {
+        return Err(ParseFault::TooMany(name.at));
+    }
+    tokens.sign(b';')?;
+    Ok(L::token_local_of(name).unwrap())
+}
+
+// A local behind what takes so much.
+#[tactic(auto, unfolding(proc_grammar::specs::Reading::next_local))]
+fn local<L: Language>(
+    alloc: Global,
+    tokens: &mut Cursor<'_, '_>,
+    used: Taken,
+) -> Result<L::Local, ParseFault>
+    requires { AreFew MOST_LOCALS used }
+    ensures exact { Gives result tokens.new (next_local L.made true full used tokens.old) }
+    ensures few { IfOk result (λ x. AreFew MOST_LOCALS (behind_local L.made used x)) }
+{
+    match tokens.take_token_word::<L>(b"token") {
+        Some(_) => token_local::<L>(alloc, tokens, used.tokens),
+        None => plain_local::<L>(alloc, tokens, used.slots),
+    }
+}
+
+// What is taken behind a local.
+fn behind_local<L: Language>(used: Taken, local: &L::Local) -> Taken
+    requires { AreFew MOST_LOCALS (behind_local L.made used local.now) }
+    ensures { result ≡ behind_local L.made used local.now }
+{
+    Taken {
+        slots: used.slots + L::local_count_of(local),
+        tokens: used.tokens + L::local_tokens_of(local),
+    }
+}
+
+// The locals behind parameters that are so many tokens.
+fn locals<L: Language>(
+    alloc: Global,
+    tokens: &mut Cursor<'_, '_>,
+    held: u32,
+) -> Result<Vec<L::Local>, ParseFault>
+    requires { held ≤ MOST_TOKENS }
+    ensures { GivesAs (λ v. v.items) result tokens.new
+        (many full (a_local L.made.tokens) (behind_local L.made) (next_local L.made true full)
+        (record { slots = 0; tokens = held }) tokens.old) }
+{
+    let mut used = Taken {
+        slots: 0,
+        tokens: held,
+    };
     let mut locals = Vec::new(alloc);
-    while tokens.is_word(b"local") {
-        let next = local(alloc, tokens, locals.len() as u32)?;
+    while tokens.starts_local::<L>() {
+        let next = local::<L>(alloc, tokens, used)?;
+        used = behind_local::<L>(used, &next);
         locals.push(next)?;
     }
     Ok(locals)
 }
 
 // A procedure behind its `proc`.
-#[tactic(auto, unfolding(proc_grammar::specs::Reading::proc_behind))]
-fn behind_proc(
+#[tactic(auto, unfolding(proc_grammar::specs::Reading::proc_behind, proc_grammar::specs::Reading::next_locals))]
+fn behind_proc<L: Language>(
     alloc: Global,
     tokens: &mut Cursor<'_, '_>,
     at: u32,
     shared: bool,
-) -> Result<Proc, ParseFault>
-    ensures { Gives result tokens.new (proc_behind plain_trees true full room_in_body at shared tokens.old) }
+) -> Result<L::Proc, ParseFault>
+    ensures { Gives result tokens.new (proc_behind L.made true full room_in_body at shared tokens.old) }
 {
-    let name = tokens.name(alloc)?;
-    let params = Items::of(params(alloc, tokens)?);
+    let name = tokens.name::<L>(alloc)?;
+    let params = params::<L>(alloc, tokens)?;
     tokens.sign(b'{')?;
-    let locals = Items::of(locals(alloc, tokens)?);
-    let body = Items::of(whole_body(alloc, tokens, MOST_BRACKETS - 1)?);
-    tokens.sign(b'}')?;
-    Ok(Proc {
+    let locals = Items::of(locals::<L>(alloc, tokens, params.tokens)?);
+    let body = Items::of(whole_body::<L>(alloc, tokens, MOST_BRACKETS - 1)?);
+    let end = tokens.sign(b'}')?;
+    Ok(L::proc_of(
         at,
+        end,
         shared,
         name,
-        params,
+        Items::of(params.params),
         locals,
         body,
-    })
+    ))
 }
 
 // The procedure after so many.
 #[tactic(auto, unfolding(proc_grammar::specs::Reading::next_proc, phrases::specs::Reading::case_next))]
-fn proc(alloc: Global, tokens: &mut Cursor<'_, '_>, count: u32) -> Result<Proc, ParseFault>
-    ensures exact { Gives result tokens.new (next_proc plain_trees true full room_in_body count tokens.old) }
+fn proc<L: Language>(
+    alloc: Global,
+    tokens: &mut Cursor<'_, '_>,
+    count: u32,
+) -> Result<L::Proc, ParseFault>
+    ensures exact { Gives result tokens.new (next_proc L.made true full room_in_body count tokens.old) }
     ensures few { OnOk result (count < MOST_ITEMS) }
 {
     if let Some(at) = tokens.take_word(b"export") {
@@ -176,35 +329,38 @@ fn proc(alloc: Global, tokens: &mut Cursor<'_, '_>, count: u32) -> Result<Proc, 
             return Err(ParseFault::TooMany(at));
         }
         tokens.word(b"proc")?;
-        return behind_proc(alloc, tokens, at, true);
+        return behind_proc::<L>(alloc, tokens, at, true);
     }
     let at = tokens.word(b"proc")?;
     if count >= MOST_ITEMS {
         return Err(ParseFault::TooMany(at));
     }
-    behind_proc(alloc, tokens, at, false)
+    behind_proc::<L>(alloc, tokens, at, false)
 }
 
 /// The procedures.
 #[tactic(auto, unfolding(crate::specs::Loops::procs_list))]
-pub fn procs(alloc: Global, tokens: &mut Cursor<'_, '_>) -> Result<Vec<Proc>, ParseFault>
-    ensures { GivesAs (λ v. v.items) result tokens.new (procs_list tokens.old) }
-{
-    let first = proc(alloc, tokens, 0)?;
-    more_procs(alloc, tokens, first)
-}
-
-fn more_procs(
+pub fn procs<L: Language>(
     alloc: Global,
     tokens: &mut Cursor<'_, '_>,
-    first: Proc,
-) -> Result<Vec<Proc>, ParseFault>
-    ensures { GivesAs (λ v. v.items) result tokens.new (procs_behind first tokens.old) }
+) -> Result<Vec<L::Proc>, ParseFault>
+    ensures { GivesAs (λ v. v.items) result tokens.new (procs_list L.made tokens.old) }
+{
+    let first = proc::<L>(alloc, tokens, 0)?;
+    more_procs::<L>(alloc, tokens, first)
+}
+
+fn more_procs<L: Language>(
+    alloc: Global,
+    tokens: &mut Cursor<'_, '_>,
+    first: L::Proc,
+) -> Result<Vec<L::Proc>, ParseFault>
+    ensures { GivesAs (λ v. v.items) result tokens.new (procs_behind L.made first tokens.old) }
 {
     let mut procs = Vec::new(alloc);
     procs.push(first)?;
     while tokens.starts_proc() {
-        let next = proc(alloc, tokens, procs.len() as u32)?;
+        let next = proc::<L>(alloc, tokens, procs.len() as u32)?;
         procs.push(next)?;
     }
     Ok(procs)

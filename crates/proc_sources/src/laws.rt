@@ -1,20 +1,40 @@
-//! What holds of sources. This function does nothing; its contract is the laws.
+//! What holds of sources. These functions do nothing; their contracts are the laws.
 ghost use Rattle.std.specs.Prelude.{◌≡◌, ℕ, List, [], Ok};
 ghost use Rattle.component_file.specs.declared.component.ComponentFields.{ComponentFields};
 ghost use Rattle.proc_language.specs.declared.module.ModuleFields.{ModuleFields};
 ghost use Rattle.proc_language.specs.Limits.{IsModule};
 ghost use Rattle.proc_names.specs.NameFaults.{name_faults};
 ghost use Rattle.proc_templates.specs.Compiled.{compiled};
-ghost use Rattle.proc_sources.specs.Sources.{module_in, sourced};
+ghost use Rattle.token_language.specs.declared.dialect.Dialect.{Dialect};
+ghost use Rattle.token_language.specs.declared.dialect.Dialect.TheVariants.{Tokens};
+ghost use Rattle.token_language.specs.declared.module.TokenModuleFields.{TokenModuleFields};
+ghost use Rattle.token_language.specs.Erased.{erased};
+ghost use Rattle.token_language.specs.Limits.{IsTokenModule};
+ghost use Rattle.token_names.specs.TokenFaults.{IsTokenResolved};
+ghost use Rattle.token_check.specs.Typing.{IsTyped};
+ghost use Rattle.proc_sources.specs.Sources.{token_module_in, module_in, sourced};
 
 /// The module of a source keeps the limits of modules, and its names are resolved. The component that a
 /// source has is the compiled module.
 pub fn sources_are_modules()
-    ensures limits { (text : List ℕ) (m : ModuleFields) → module_in text ≡ Ok m → IsModule m }
-    ensures resolved { (text : List ℕ) (m : ModuleFields) → module_in text ≡ Ok m → name_faults m ≡ [] }
-    ensures compiled { (text : List ℕ) (c : ComponentFields) → sourced text ≡ Ok c
-        → (m : ModuleFields) × (module_in text ≡ Ok m) × (c ≡ compiled m) }
+    ensures limits { (d : Dialect) (text : List ℕ) (m : ModuleFields) → module_in d text ≡ Ok m → IsModule m }
+    ensures resolved { (d : Dialect) (text : List ℕ) (m : ModuleFields)
+        → module_in d text ≡ Ok m → name_faults m ≡ [] }
+    ensures compiled { (d : Dialect) (text : List ℕ) (c : ComponentFields) → sourced d text ≡ Ok c
+        → (m : ModuleFields) × (module_in d text ≡ Ok m) × (c ≡ compiled m) }
 {
-    text_scan::laws::tokens_are_pieces();
-    text_scan::laws::reading_keeps_the_grammar();
+    proc_parse::laws::texts_spell_modules();
+    token_parse::laws::texts_spell_modules();
+    token_names::laws::erased_modules_are_resolved();
+}
+
+/// The module of a source with tokens is what is left of one that keeps the limits, whose names are resolved
+/// and whose tokens are spent once each on every way.
+pub fn tokens_are_erased()
+    ensures { (text : List ℕ) (m : ModuleFields) → module_in Tokens text ≡ Ok m
+        → (t : TokenModuleFields) × (token_module_in text ≡ Ok t) × IsTokenModule t × IsTokenResolved t
+        × IsTyped t × (m ≡ erased t) }
+{
+    token_parse::laws::texts_spell_modules();
+    token_check::laws::walks_are_typed();
 }

@@ -4,8 +4,12 @@ ghost use Rattle.readers.specs.Answers.{AnswersUnlessRefused};
 ghost use Rattle.readers.specs.Readers.{told_by};
 ghost use Rattle.proc_parse.specs.Text.{parsed_text};
 ghost use Rattle.proc_names.specs.NameFaults.{name_faults, resolved};
-ghost use Rattle.proc_sources.specs.declared.fault.SourceFault.TheVariants.{Text, Name, Size};
-ghost use Rattle.proc_sources.specs.Sources.{is_refusal, compile_answer, module_in, sourced};
+ghost use Rattle.token_parse.specs.Text.{parsed_text as parsed_tokens};
+ghost use Rattle.token_names.specs.TokenFaults.{IsTokenResolved, resolved_tokens};
+ghost use Rattle.token_check.specs.Walk.{module_walk};
+ghost use Rattle.proc_sources.specs.declared.fault.SourceFault.TheVariants.{Text, Name, Token, Size};
+ghost use Rattle.proc_sources.specs.Sources.{is_refusal, text_fault, compile_answer, plain_in};
+ghost use Rattle.proc_sources.specs.Sources.{token_module_in, erased_in, module_in, sourced};
 
 use crate::fault::SourceFault;
 use component_file::Component;
@@ -15,6 +19,21 @@ use proc_language::Module;
 use proc_names::resolve;
 use proc_parse::parse;
 use std::alloc::Global;
+use token_check::check_tokens;
+use token_erase::erase;
+use token_language::{Dialect, TokenModule};
+use token_names::resolve_tokens;
+use token_parse::parse_tokens;
+
+// A fault of a text, or that memory was refused.
+fn text_fault(fault: ParseFault) -> SourceFault
+    ensures { result ≡ text_fault fault }
+{
+    match fault {
+        ParseFault::NoMemory => SourceFault::NoMemory,
+        fault => SourceFault::Text(fault),
+    }
+}
 
 // The module that a text spells.
 fn parsed(alloc: Global, text: &[u8]) -> Result<Module, SourceFault>
@@ -23,8 +42,7 @@ fn parsed(alloc: Global, text: &[u8]) -> Result<Module, SourceFault>
 {
     match parse(alloc, text) {
         Ok(module) => Ok(module),
-        Err(ParseFault::NoMemory) => Err(SourceFault::NoMemory),
-        Err(fault) => Err(SourceFault::Text(fault)),
+        Err(fault) => Err(text_fault(fault)),
     }
 }
 
@@ -39,19 +57,91 @@ fn check_names(m: &Module) -> Result<(), SourceFault>
     }
 }
 
-/// The module that a text spells, whose names are resolved.
-///
-/// A fault is the first: of the text, or of its names. `NoMemory` may come for any text.
-#[tactic(auto, unfolding(crate::specs::Sources::module_in))]
-pub fn module_of(alloc: Global, text: &[u8]) -> Result<Module, SourceFault>
+// The module that a text without tokens spells.
+#[tactic(auto, unfolding(crate::specs::Sources::plain_in))]
+fn plain_module(alloc: Global, text: &[u8]) -> Result<Module, SourceFault>
     requires { length text.now < 2 ^ 32 }
-    // Which module, or which fault.
-    ensures exact { AnswersUnlessRefused is_refusal result (module_in text.now) }
+    ensures exact { AnswersUnlessRefused is_refusal result (plain_in text.now) }
     ensures fine { IfOk result (λ m. name_faults m ≡ []) }
 {
     let module = parsed(alloc, text)?;
     check_names(&module)?;
     Ok(module)
+}
+
+// The module with tokens that a text spells.
+fn tokens_parsed(alloc: Global, text: &[u8]) -> Result<TokenModule, SourceFault>
+    requires { length text.now < 2 ^ 32 }
+    ensures { AnswersUnlessRefused is_refusal result (told_by Text (parsed_tokens text.now)) }
+{
+    match parse_tokens(alloc, text) {
+        Ok(module) => Ok(module),
+        Err(fault) => Err(text_fault(fault)),
+    }
+}
+
+// Whether its names lead to what fits.
+fn check_token_names(m: &TokenModule) -> Result<(), SourceFault>
+    ensures names { result ≡ told_by Name (resolved_tokens m.now) }
+    ensures fine { IfOk result (λ _. IsTokenResolved m.now) }
+{
+    match resolve_tokens(m) {
+        Ok(()) => Ok(()),
+        Err(fault) => Err(SourceFault::Name(fault)),
+    }
+}
+
+// Whether its tokens are spent once each.
+fn check_typing(m: &TokenModule) -> Result<(), SourceFault>
+    ensures { result ≡ told_by Token (module_walk m.now) }
+{
+    match check_tokens(m) {
+        Ok(()) => Ok(()),
+        Err(fault) => Err(SourceFault::Token(fault)),
+    }
+}
+
+// The module with tokens that a text spells, whose names are resolved and whose tokens are spent once each.
+#[tactic(auto, unfolding(crate::specs::Sources::token_module_in))]
+fn token_module(alloc: Global, text: &[u8]) -> Result<TokenModule, SourceFault>
+    requires { length text.now < 2 ^ 32 }
+    ensures exact { AnswersUnlessRefused is_refusal result (token_module_in text.now) }
+    ensures fine { IfOk result IsTokenResolved }
+{
+    let module = tokens_parsed(alloc, text)?;
+    check_token_names(&module)?;
+    check_typing(&module)?;
+    Ok(module)
+}
+
+// What is left of the module of a text without its tokens.
+#[tactic(auto, unfolding(crate::specs::Sources::erased_in))]
+fn erased_module(alloc: Global, text: &[u8]) -> Result<Module, SourceFault>
+    requires { length text.now < 2 ^ 32 }
+    ensures exact { AnswersUnlessRefused is_refusal result (erased_in text.now) }
+    ensures fine { IfOk result (λ m. name_faults m ≡ []) }
+{
+    let module = token_module(alloc, text)?;
+    match erase(alloc, &module) {
+        Ok(erased) => Ok(erased),
+        Err(_) => Err(SourceFault::NoMemory),
+    }
+}
+
+/// The module that a text in this language spells, whose names are resolved; of a text with tokens what is
+/// left of it without them.
+///
+/// A fault is the first: of the text, of its names, or of its tokens. `NoMemory` may come for any text.
+pub fn module_of(alloc: Global, dialect: Dialect, text: &[u8]) -> Result<Module, SourceFault>
+    requires { length text.now < 2 ^ 32 }
+    // Which module, or which fault.
+    ensures exact { AnswersUnlessRefused is_refusal result (module_in dialect text.now) }
+    ensures fine { IfOk result (λ m. name_faults m ≡ []) }
+{
+    match dialect {
+        Dialect::Plain => plain_module(alloc, text),
+        Dialect::Tokens => erased_module(alloc, text),
+    }
 }
 
 // The component of a module whose names are resolved.
@@ -66,16 +156,16 @@ fn compiled(alloc: Global, m: &Module) -> Result<Component, SourceFault>
     }
 }
 
-/// The component of the module that a text spells.
+/// The component of the module that a text in this language spells.
 ///
-/// A fault is the first: of the text, of its names, or of the size of what it is compiled to. `NoMemory`
-/// may come for any text.
+/// A fault is the first: of the text, of its names, of its tokens, or of the size of what it is compiled
+/// to. `NoMemory` may come for any text.
 #[tactic(auto, unfolding(crate::specs::Sources::sourced))]
-pub fn component_of(alloc: Global, text: &[u8]) -> Result<Component, SourceFault>
+pub fn component_of(alloc: Global, dialect: Dialect, text: &[u8]) -> Result<Component, SourceFault>
     requires { length text.now < 2 ^ 32 }
     // Which component, or which fault.
-    ensures { AnswersUnlessRefused is_refusal result (sourced text.now) }
+    ensures { AnswersUnlessRefused is_refusal result (sourced dialect text.now) }
 {
-    let module = module_of(alloc, text)?;
+    let module = module_of(alloc, dialect, text)?;
     compiled(alloc, &module)
 }

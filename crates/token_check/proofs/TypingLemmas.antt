@@ -290,7 +290,8 @@ clear_last end (Some s) h = lets_go_back end s None h refl
 
 proc_typed : (p : TokenProc) (after : After) → Goes (proc_walk p) after → ProcTyped p
 proc_typed p after h =
-    let q = parts (block_walk (tokens_of p) (block_of p.body) (Some (at_first p))) (at_last p.end) after h in (
+    let w = block_walk (tokens_of p) (block_of p.body) (Some (at_first p)) in
+    let q = parts w (at_last p.end) after h in (
       q.0,
       block_typed (tokens_of p) (block_of p.body) (Some (at_first p)) q.0 q.1,
       last_clear p.end q.0 after q.2,

@@ -11,7 +11,7 @@ use Rattle.token_language.specs.Tree.{spend, Block, no_stmts, stmt}
 use Rattle.token_language.specs.StmtView.{block_of}
 use Rattle.token_check.specs.declared.fault.TokenFault.{TokenFault}
 use Rattle.token_check.specs.declared.fault.TokenFault.TheVariants as fault
-use Rattle.token_language.specs.declared.TheConstants.{MOST_TOKENS}
+use Rattle.proc_language.specs.declared.TheConstants.{MOST_TOKENS}
 use Rattle.token_language.specs.Tokens.{tokens_of}
 use Rattle.token_check.specs.Tokens.{Full, is_full, is_clear, equal_sets, none_full, params_full, token_at}
 

@@ -5,9 +5,9 @@ ghost use Rattle.token_language.specs.Tokens.{tokens_of};
 ghost use Rattle.token_check.specs.Walk.{filled, emptied, joined, comes_back, let_go, at_first};
 
 use crate::fault::TokenFault;
-use proc_language::Name;
+use proc_language::{MOST_TOKENS, Name};
 use proc_names::same;
-use token_language::{MOST_TOKENS, TokenLocal, TokenParam, TokenProc};
+use token_language::{TokenLocal, TokenParam, TokenProc};
 
 /// For each token of a procedure, by its place, whether it is full.
 pub(crate) type Full = [bool; TOKENS];

@@ -1,7 +1,7 @@
 -- What a module with tokens is: without its tokens it keeps the limits, and no procedure has too many.
 use Rattle.std.specs.Prelude.{◌≤◌, length}
 use Rattle.proc_language.specs.Limits.{IsModule, Each}
-use Rattle.token_language.specs.declared.TheConstants.{MOST_TOKENS}
+use Rattle.proc_language.specs.declared.TheConstants.{MOST_TOKENS}
 use Rattle.token_language.specs.declared.module.TokenProc.{TokenProc}
 use Rattle.token_language.specs.declared.module.TokenModuleFields.{TokenModuleFields}
 use Rattle.token_language.specs.Tokens.{tokens_of}

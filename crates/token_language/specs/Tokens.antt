@@ -1,4 +1,4 @@
--- The tokens of a procedure.
+-- The names of what a procedure has of its own, and those of its tokens.
 use Rattle.std.specs.Prelude.{List, [], ◌∷◌, ◌++◌}
 use Rattle.proc_language.specs.declared.tree.Name.{Name}
 use Rattle.token_language.specs.declared.module.TokenParam.{TokenParam}
@@ -6,6 +6,16 @@ use Rattle.token_language.specs.declared.module.TokenParam.TheVariants as param
 use Rattle.token_language.specs.declared.module.TokenLocal.{TokenLocal}
 use Rattle.token_language.specs.declared.module.TokenLocal.TheVariants as local
 use Rattle.token_language.specs.declared.module.TokenProc.{TokenProc}
+
+abbrev pub param_name : TokenParam → Name
+param_name (param.Plain q) = q.name
+param_name (param.Token x) = x
+
+abbrev pub local_name : TokenLocal → Name
+local_name (local.Plain x) = x
+local_name (local.Token x) = x
+
+-- ---- tokens
 
 abbrev pub param_tokens : List TokenParam → List Name
 param_tokens [] = []

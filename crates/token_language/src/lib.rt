@@ -6,11 +6,9 @@
 
 mod dialect;
 mod module;
+mod named;
 mod tree;
 
 pub use dialect::Dialect;
 pub use module::{TokenLocal, TokenModule, TokenModuleFields, TokenParam, TokenProc};
 pub use tree::{TokenArg, TokenCall, TokenExpr, TokenExprKind, TokenStmt, TokenStmtKind};
-
-/// The most tokens of a procedure, those that it is given among them.
-pub const MOST_TOKENS: u32 = 60;

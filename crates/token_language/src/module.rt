@@ -75,7 +75,7 @@ pub struct TokenModuleFields {
 /// A module with tokens. A contract sees its fields.
 ///
 /// Without its tokens it keeps the limits of a plain module, and each of its procedures has at most
-/// [`MOST_TOKENS`](crate::MOST_TOKENS) tokens.
+/// [`MOST_TOKENS`](proc_language::MOST_TOKENS) tokens.
 #[derive(Debug, Drop)]
 pub struct TokenModule {
     fields: TokenModuleFields,

@@ -1,4 +1,3 @@
-use Rattle.std.proofs.Common.{refl}
 use Rattle.std.proofs.lemmas.Result.{err_from_is_err_and}
 use Rattle.command_words.specs.declared.command.LinkDeed.TheVariants.{Reach}
 use Rattle.lcm_cli.specs.declared.job.Job.TheVariants as job

@@ -17,13 +17,13 @@ returns-in_err-module-clause-are g c =
     let p = err_from_is_err_and c.from_residual.result c.from_residual.ensures.1 in
     rw (p.1, p.2) (so_end module_at c.args.words.now _ c.loop-word.word-index _ _ _ _ c.word-item.result _
     c.loop-word.invariant.so_far c.loop-word.invariant.index c.loop-word-test.true c.word-item.is
-    c.in_err-module.ensures)
+    c.in_err-module.ensures.is)
 
 pub returns-in_err-push-clause-are : goal.returns-in_err-push-clause-are
 returns-in_err-push-clause-are g c =
     let p = err_from_is_err_and c.from_residual-in_err-push.result c.from_residual-in_err-push.ensures.1 in
     rw (p.1, p.2) (so_none module_at c.args.words.now _ c.loop-word.word-index _ _ _ _ c.word-item.result _
-    c.loop-word.invariant.so_far c.in_ok-module.ensures)
+    c.loop-word.invariant.so_far c.in_ok-module.ensures.is)
 
 pub returns-clause-are : goal.returns-clause-are
 returns-clause-are g c = rw c.of.ensures (so_all module_at c.args.words.now _ c.loop-word.word-index _ _
@@ -39,5 +39,5 @@ loop-word-preserved g c = record {
   so_far = rw c.in_ok-push.ensures.items
       (so_more module_at c.args.words.now _ c.loop-word.word-index _ _ _ _ c.word-item.result _
       c.loop-word.invariant.so_far c.loop-word.invariant.index c.loop-word-test.true c.word-item.is
-      c.in_ok-module.ensures);
+      c.in_ok-module.ensures.is);
 }

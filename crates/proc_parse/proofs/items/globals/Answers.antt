@@ -2,45 +2,55 @@ use Rattle.std.proofs.Common.{◌≡◌, ◌∙◌, sym, ap, subst, arith, Ok, t
 use Rattle.std.specs.Prelude.{codes}
 use Rattle.std.proofs.lemmas.Result.{err_from_is_err_and}
 use Rattle.proc_grammar.specs.Fault.{Fails}
-use Rattle.proc_grammar.specs.Lexemes.{word}
+use Rattle.proc_grammar.specs.Grammar.{one_more}
+use Rattle.proc_grammar.specs.Lexemes.{word, words_of}
 use Rattle.proc_grammar.specs.Reading.{full, next_global}
-use Rattle.proc_parse.proofs.Steps.{large, counted_begin, counted_step, counted_fault, counted_end}
+use Rattle.proc_parse.specs.Loops.{in_all}
+use Rattle.proc_parse.proofs.Steps.{large, all_begin, all_step, all_fault, all_end}
 use Rattle.proc_parse.proofs.items.globals.Goals as goal
 
 pub loop-alloc-init : goal.loop-alloc-init
-loop-alloc-init c =
+loop-alloc-init g c =
     let none = c.new-globals.ensures.items in
+    let items = next_global (words_of g.L.Language.made.tokens) true in
     record {
-      told = counted_begin (word (codes "global")) (next_global [] true) full c.args.tokens.now
+      told = ap (λ n. in_all (word (codes "global")) one_more items full c.new-globals.result.items n
+          c.args.tokens.now) (ap length none)
+          ∙ all_begin (word (codes "global")) one_more items full 0 c.args.tokens.now
           c.new-globals.result.items none;
       few = omega (arith, ap length none);
     }
 
 pub returns-in_err-next : goal.returns-in_err-next
-returns-in_err-next c =
+returns-in_err-next g c =
     let p = err_from_is_err_and c.from_residual.result c.from_residual.ensures.1 in
-    let fails = subst (λ n. Fails c.in_err-next.field-0.0 (next_global [] true n c.loop-alloc.tokens))
+    let items = next_global (words_of g.L.Language.made.tokens) true in
+    let fails = subst (λ n. Fails c.in_err-next.field-0.0 (items n c.loop-alloc.tokens))
     (c.len.ensures ∙ c.loop-alloc.globals.ok.0) c.in_err-next.ensures.exact in
-    rw (p.1, p.2) (counted_fault (word (codes "global")) (next_global [] true) full
-    c.loop-alloc.globals.items c.loop-alloc.tokens c.in_err-next.field-0.0 _ c.loop-alloc.invariant.told
-    (omega (arith, large, c.loop-alloc.invariant.few)) (sym c.is_word.ensures
-    ∙ c.loop-alloc-test.true) fails)
+    rw (p.1, p.2) (all_fault (word (codes "global")) one_more items full c.loop-alloc.globals.items
+    (length c.loop-alloc.globals.items) c.loop-alloc.tokens c.in_err-next.field-0.0 _
+    c.loop-alloc.invariant.told (omega (arith, large, c.loop-alloc.invariant.few))
+    (sym c.is_word.ensures ∙ c.loop-alloc-test.true) fails)
 
 pub loop-alloc-preserved : goal.loop-alloc-preserved
-loop-alloc-preserved c =
+loop-alloc-preserved g c =
     let len = ap length c.in_ok-push.ensures.items ∙ length-append c.loop-alloc.globals.items
     (c.in_ok-next.next ∷ []) in
-    let reads = subst (λ n. next_global [] true n c.loop-alloc.tokens ≡ Ok
+    let items = next_global (words_of g.L.Language.made.tokens) true in
+    let reads = subst (λ n. items n c.loop-alloc.tokens ≡ Ok
     (c.in_ok-next.next, c.global.new.tokens)) (c.len.ensures ∙ c.loop-alloc.globals.ok.0)
     c.in_ok-next.ensures.exact in
     record {
-      told = counted_step (word (codes "global")) (next_global [] true) full c.loop-alloc.globals.items
-          c.loop-alloc.tokens c.in_ok-next.next c.global.new.tokens _ c.push.new.self.items
-          c.loop-alloc.invariant.told (omega (arith, large, c.loop-alloc.invariant.few))
-          (sym c.is_word.ensures ∙ c.loop-alloc-test.true) reads c.in_ok-push.ensures.items;
+      told = all_step (word (codes "global")) one_more items full c.loop-alloc.globals.items
+          (length c.loop-alloc.globals.items) c.loop-alloc.tokens c.in_ok-next.next c.global.new.tokens _
+          c.push.new.self.items _ c.loop-alloc.invariant.told
+          (omega (arith, large, c.loop-alloc.invariant.few))
+          (sym c.is_word.ensures ∙ c.loop-alloc-test.true) reads c.in_ok-push.ensures.items len;
       few = omega (arith, len, c.len.ensures, c.loop-alloc.globals.ok.0, c.in_ok-next.ensures.few);
     }
 
 pub returns : goal.returns
-returns c = counted_end (word (codes "global")) (next_global [] true) full c.loop-alloc.globals.items
-    c.loop-alloc.tokens _ c.loop-alloc.invariant.told (sym c.is_word.ensures ∙ c.loop-alloc-test.false)
+returns g c = all_end (word (codes "global")) one_more (next_global
+    (words_of g.L.Language.made.tokens) true) full
+    c.loop-alloc.globals.items (length c.loop-alloc.globals.items) c.loop-alloc.tokens _
+    c.loop-alloc.invariant.told (sym c.is_word.ensures ∙ c.loop-alloc-test.false)

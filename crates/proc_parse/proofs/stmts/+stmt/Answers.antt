@@ -1,34 +1,39 @@
-use Rattle.std.proofs.Common.{◌∙◌, ◌<◌, sym, ap, subst, arith, true, length, ◌∷◌, [], length-append}
+use Rattle.std.proofs.Common.{◌∙◌, ◌<◌, refl, sym, ap, subst, arith, true, length, ◌∷◌, [], length-append}
+use Rattle.std.specs.Prelude.{codes}
 use Rattle.std.proofs.lemmas.Result.{err_from_is_err_and}
-use Rattle.proc_grammar.specs.PlainTrees.{plain_trees}
-use Rattle.proc_grammar.specs.Reading.{full, next_stmt, inner_stmts, stmts_with}
+use Rattle.proc_grammar.specs.Reading.{full, next_stmt, inner_stmts, stmts_with, token_behind, plain_stmt}
 use Rattle.proc_grammar.specs.Lexemes.{a_start}
+use Rattle.proc_grammar.specs.Makes.{TokenMakes}
+use Rattle.proc_grammar.specs.Reader.{case_token}
 use Rattle.proc_parse.specs.Answers.{GivesAs}
-use Rattle.proc_parse.proofs.Steps.{full_is, plain_begin, plain_step, plain_fault, plain_end, inner_stmts_is}
+use Rattle.proc_parse.proofs.Steps.{full_is, all_begin, all_step, all_fault, all_end, inner_stmts_is}
+use Rattle.proc_parse.proofs.Steps.{of_token, of_none}
 use Rattle.proc_parse.proofs.stmts.+stmt.Goals as goal
 
 pub inner-returns : goal.inner-returns
-inner-returns n c = subst (λ r. GivesAs (λ v. v.items) c.stmts.result c.stmts.new.tokens r)
-    (sym (inner_stmts_is c.args.room c.args.tokens.now c.requires)) c.stmts.ensures
+inner-returns g n c = subst (λ r. GivesAs (λ v. v.items) c.stmts.result c.stmts.new.tokens r)
+    (sym (inner_stmts_is g.L.Language.made c.args.room c.args.tokens.now c.requires)) c.stmts.ensures
 
 pub stmts-loop-alloc-init : goal.stmts-loop-alloc-init
-stmts-loop-alloc-init n c = plain_begin (a_start [])
-    (λ (u : Unit {0}). next_stmt plain_trees true full c.args.room
-    (inner_stmts plain_trees true full c.args.room)) c.args.tokens.now c.new-stmts.result.items
+stmts-loop-alloc-init g n c = all_begin (a_start g.L.Language.made.tokens) (λ u s. u)
+    (λ (u : Unit {0}). next_stmt g.L.Language.made true full c.args.room
+    (inner_stmts g.L.Language.made true full c.args.room)) full tt c.args.tokens.now c.new-stmts.result.items
     c.new-stmts.ensures.items
 
 pub stmts-returns-in_err-next : goal.stmts-returns-in_err-next
 unfolding stmts_with
-stmts-returns-in_err-next n c =
+stmts-returns-in_err-next g n c =
     let p = err_from_is_err_and c.from_residual.result c.from_residual.ensures.1 in
-    rw (p.1, p.2) (plain_fault (a_start []) (λ (u : Unit {0}). next_stmt plain_trees true full c.args.room
-    (inner_stmts plain_trees true full c.args.room)) c.loop-alloc.stmts.items c.loop-alloc.tokens
+    rw (p.1, p.2) (all_fault (a_start g.L.Language.made.tokens) (λ u s. u)
+    (λ (u : Unit {0}). next_stmt g.L.Language.made true full c.args.room
+    (inner_stmts g.L.Language.made true full c.args.room)) full c.loop-alloc.stmts.items tt
+    c.loop-alloc.tokens
     c.in_err-next.field-0.0 _ c.loop-alloc.invariant
     (grind (arith, full_is, c.loop-alloc.stmts.ok, c.loop-alloc.stmts.small))
     (sym c.starts_stmt.ensures ∙ c.loop-alloc-test.true) c.in_err-next.ensures)
 
 pub stmts-loop-alloc-smaller : goal.stmts-loop-alloc-smaller
-stmts-loop-alloc-smaller n c =
+stmts-loop-alloc-smaller g n c =
     let len = ap length c.in_ok-push.ensures.items ∙ length-append c.loop-alloc.stmts.items
     (c.in_ok-next.next ∷ []) in
     let few : length c.loop-alloc.stmts.items < full = grind (
@@ -40,16 +45,64 @@ stmts-loop-alloc-smaller n c =
     omega (arith, len, few)
 
 pub stmts-loop-alloc-preserved : goal.stmts-loop-alloc-preserved
-stmts-loop-alloc-preserved n c =
-    plain_step (a_start []) (λ (u : Unit {0}). next_stmt plain_trees true full c.args.room
-    (inner_stmts plain_trees true full c.args.room)) c.loop-alloc.stmts.items c.loop-alloc.tokens
-    c.in_ok-next.next c.stmt.new.tokens _ c.push.new.self.items c.loop-alloc.invariant
+stmts-loop-alloc-preserved g n c =
+    all_step (a_start g.L.Language.made.tokens) (λ u s. u) (λ (u : Unit {0}). next_stmt g.L.Language.made
+    true full c.args.room
+    (inner_stmts g.L.Language.made true full c.args.room)) full c.loop-alloc.stmts.items tt
+    c.loop-alloc.tokens
+    c.in_ok-next.next c.stmt.new.tokens _ c.push.new.self.items tt c.loop-alloc.invariant
     (grind (arith, full_is, c.loop-alloc.stmts.ok, c.loop-alloc.stmts.small))
     (sym c.starts_stmt.ensures ∙ c.loop-alloc-test.true) c.in_ok-next.ensures
-    c.in_ok-push.ensures.items
+    c.in_ok-push.ensures.items refl
 
 pub stmts-returns : goal.stmts-returns
 unfolding stmts_with
-stmts-returns n c = plain_end (a_start []) (λ (u : Unit {0}). next_stmt plain_trees true full c.args.room
-    (inner_stmts plain_trees true full c.args.room)) c.loop-alloc.stmts.items c.loop-alloc.tokens _
+stmts-returns g n c = all_end (a_start g.L.Language.made.tokens) (λ u s. u)
+    (λ (u : Unit {0}). next_stmt g.L.Language.made true full c.args.room
+    (inner_stmts g.L.Language.made true full c.args.room)) full c.loop-alloc.stmts.items tt
+    c.loop-alloc.tokens _
     c.loop-alloc.invariant (sym c.starts_stmt.ensures ∙ c.loop-alloc-test.false)
+
+pub stmt-returns-in-Some : goal.stmt-returns-in-Some
+unfolding next_stmt
+stmt-returns-in-Some g n c =
+    let makes = λ (k : TokenMakes _ _ _ _). token_behind g.L.Language.made true full k.make in
+    let spends = λ (k : TokenMakes _ _ _ _). token_behind g.L.Language.made true full k.spend in
+    let plain = plain_stmt g.L.Language.made true full c.args.room
+    (inner_stmts g.L.Language.made true full c.args.room) in
+    let others = case_token g.L.Language.made.tokens (codes "spend") spends plain in
+    of_token (codes "make") makes others c.args.tokens.now (λ x. x) c.make_stmt.result c.make_stmt.new.tokens
+    g.L.Language.made.tokens _ c.take_token_word.new.self (sym c.in-Some.ensures.value)
+    c.in-Some.ensures.left c.make_stmt.ensures
+
+pub stmt-returns-in-Some-take_token_word : goal.stmt-returns-in-Some-take_token_word
+unfolding next_stmt
+stmt-returns-in-Some-take_token_word g n c =
+    let makes = λ (k : TokenMakes _ _ _ _). token_behind g.L.Language.made true full k.make in
+    let spends = λ (k : TokenMakes _ _ _ _). token_behind g.L.Language.made true full k.spend in
+    let plain = plain_stmt g.L.Language.made true full c.args.room
+    (inner_stmts g.L.Language.made true full c.args.room) in
+    let others = case_token g.L.Language.made.tokens (codes "spend") spends plain in
+    of_none (codes "make") makes others c.args.tokens.now (λ x. x) c.spend_stmt.result c.spend_stmt.new.tokens
+    g.L.Language.made.tokens c.take_token_word.new.self (sym c.in_default.ensures.value)
+    c.in_default.ensures.left
+    (of_token (codes "spend") spends plain c.take_token_word.new.self (λ x. x) c.spend_stmt.result
+    c.spend_stmt.new.tokens g.L.Language.made.tokens _ c.take_token_word-2.new.self
+    (sym c.in-Some-take_token_word.ensures.value) c.in-Some-take_token_word.ensures.left
+    c.spend_stmt.ensures)
+
+pub stmt-returns : goal.stmt-returns
+unfolding next_stmt
+stmt-returns g n c =
+    let makes = λ (k : TokenMakes _ _ _ _). token_behind g.L.Language.made true full k.make in
+    let spends = λ (k : TokenMakes _ _ _ _). token_behind g.L.Language.made true full k.spend in
+    let plain = plain_stmt g.L.Language.made true full c.args.room
+    (inner_stmts g.L.Language.made true full c.args.room) in
+    let others = case_token g.L.Language.made.tokens (codes "spend") spends plain in
+    of_none (codes "make") makes others c.args.tokens.now (λ x. x) c.plain_stmt.result c.plain_stmt.new.tokens
+    g.L.Language.made.tokens c.take_token_word.new.self (sym c.in_default.ensures.value)
+    c.in_default.ensures.left
+    (of_none (codes "spend") spends plain c.take_token_word.new.self (λ x. x) c.plain_stmt.result
+    c.plain_stmt.new.tokens g.L.Language.made.tokens c.take_token_word-2.new.self
+    (sym c.in_default-take_token_word.ensures.value) c.in_default-take_token_word.ensures.left
+    c.plain_stmt.ensures)

@@ -3,19 +3,19 @@ use Rattle.text_scan.specs.declared.token.Token.{Token}
 use Rattle.text_scan.specs.Grammar.{HasTokens}
 use Rattle.proc_grammar.specs.Fault.{AnswersAs}
 use Rattle.proc_grammar.specs.Lexemes.{lexemes}
-use Rattle.proc_grammar.specs.PlainTrees.{plain_trees}
 use Rattle.proc_grammar.specs.Reading.{full, parsed}
-use Rattle.proc_parse.specs.Text.{parsed_scan}
+use Rattle.proc_parse.specs.Texts.{parsed_scan}
 use Rattle.proc_parse.proofs.Texts.{answer_found, answer_only, answer_fails, answer_stops}
 use Rattle.proc_parse.proofs.Steps.{full_is}
-use Rattle.proc_parse.proofs.source.parse.Goals as goal
+use Rattle.proc_parse.proofs.source.parse_in.Goals as goal
 
 pub returns : goal.returns
-returns c =
+returns g c =
+    let made = g.L.Language.made in
     let text = c.args.text.now in
     let tokens = c.in_ok-tokens.tokens.items in
     let read = subst (λ l. AnswersAs (λ m. m) c.parse_scanned.result
-    (parsed plain_trees full (lexemes text l) (length text))) c.as_slice.ensures.value
+    (parsed made full (lexemes text l) (length text))) c.as_slice.ensures.value
     c.parse_scanned.ensures in
     let has = c.in_ok-tokens.ensures.found in
     let short : length tokens ≤ full = grind (
@@ -28,12 +28,12 @@ returns c =
     elim (c.in_ok-tokens.ensures.only others there) [ inl e ↦ e | inr e ↦ absurd cc ] in
     record {
       exact = subst (λ r. AnswersAs (λ m. m) c.parse_scanned.result r)
-          (ap (parsed_scan text) (sym c.in_ok-tokens.ensures.exact)) read;
-      found = answer_found text tokens has short c.parse_scanned.result read;
-      only = answer_only text tokens has short one c.parse_scanned.result read;
-      fails = answer_fails text tokens has short c.parse_scanned.result read;
+          (ap (parsed_scan made text) (sym c.in_ok-tokens.ensures.exact)) read;
+      found = answer_found made text tokens has short c.parse_scanned.result read;
+      only = answer_only made text tokens has short one c.parse_scanned.result read;
+      fails = answer_fails made text tokens has short c.parse_scanned.result read;
       scans = λ fault h. elim (c.in_ok-tokens.ensures.first fault h)
           [ inl e ↦ absurd cc | inr e ↦ absurd cc ];
-      stops = answer_stops text tokens has short one c.in_ok-tokens.ensures.placed
+      stops = answer_stops made text tokens has short one c.in_ok-tokens.ensures.placed
           c.in_ok-tokens.ensures.spelled c.parse_scanned.result read;
     }

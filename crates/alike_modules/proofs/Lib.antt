@@ -1,0 +1,9 @@
+pub mod Lists
+pub mod Counts
+pub mod Names
+pub mod Programs
+pub mod Faults
+pub mod Pieces
+pub mod Rules
+pub mod Sources
+pub mod Same

@@ -1,0 +1,40 @@
+//! What holds of modules that are alike: the same but for their places. These functions do nothing; their
+//! contracts are the laws.
+ghost use Rattle.std.specs.Prelude.{◌≡◌, ℕ, List, [], map};
+ghost use Rattle.proc_language.specs.declared.module.ModuleFields.{ModuleFields};
+ghost use Rattle.proc_language.specs.Limits.{IsModule};
+ghost use Rattle.proc_language.specs.Unplaced.{IsAlike};
+ghost use Rattle.proc_names.specs.NameFaults.{name_faults};
+ghost use Rattle.proc_print.specs.Printed.{printed};
+ghost use Rattle.proc_program.specs.Lower.{part_of};
+ghost use Rattle.proc_sources.specs.Sources.{compile_answer};
+ghost use Rattle.module_rules.specs.Rules.{ruled, stack_base_of};
+ghost use Rattle.alike_modules.specs.Alike.{AreAlike, IsParsedBack, IsSourceOf};
+
+/// Modules that are alike have the same text, run as the same program, and have the same component or the
+/// same fault of compiling. Where the names of one are resolved, so are those of the other.
+#[tactic(auto, using(crate::proofs::Same::of_modules))]
+pub fn alike_modules_are_compiled_alike()
+    ensures text { (a b : ModuleFields) → IsAlike a b → printed a ≡ printed b }
+    ensures program { (a b : ModuleFields) → IsAlike a b → part_of a ≡ part_of b }
+    ensures component { (a b : ModuleFields) → IsAlike a b → compile_answer a ≡ compile_answer b }
+    ensures names { (a b : ModuleFields) → IsAlike a b → name_faults a ≡ [] → name_faults b ≡ [] }
+{}
+
+/// Lists of modules that are alike keep the same rules or break the same first one, have the same stack base,
+/// and run as the same programs: so they have the same meaning.
+#[tactic(auto, using(crate::proofs::Same::of_lists))]
+pub fn alike_modules_mean_the_same()
+    ensures rules { (ms ns : List ModuleFields) (size : ℕ) → AreAlike ms ns → ruled ms size ≡ ruled ns size }
+    ensures base { (ms ns : List ModuleFields) → AreAlike ms ns → stack_base_of ms ≡ stack_base_of ns }
+    ensures programs { (ms ns : List ModuleFields) → AreAlike ms ns → map part_of ms ≡ map part_of ns }
+{}
+
+/// The text of a module whose names are resolved is a source of a module that is alike, and of the same
+/// component, where that text is parsed at all.
+pub fn printed_modules_are_sources()
+    ensures { (m : ModuleFields) → IsModule m → name_faults m ≡ [] → IsParsedBack m
+        → IsSourceOf (printed m) m }
+{
+    proc_again::laws::what_is_printed_is_parsed();
+}

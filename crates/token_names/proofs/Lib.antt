@@ -1,0 +1,3 @@
+mod FoundLemmas
+mod TokenLemmas
+pub mod ErasedLemmas

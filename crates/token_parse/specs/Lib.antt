@@ -1,0 +1,2 @@
+pub mod TokenTrees
+pub mod Text
