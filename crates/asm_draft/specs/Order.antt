@@ -4,7 +4,8 @@ use Rattle.std.specs.Prelude.{Option, Some, None}
 use Rattle.asm_labels.specs.declared.labels.Section.{Section}
 use Rattle.asm_labels.specs.declared.labels.Section.TheVariants as section
 use Rattle.asm_fields.specs.declared.directives.Item.{Item}
-use Rattle.asm_fields.specs.declared.directives.Item.TheVariants.{Name, Stack, Closure, Movable, Seals, Linear}
+use Rattle.asm_fields.specs.declared.directives.Item.TheVariants.{Name, Stack, Closure, Movable, Seals}
+use Rattle.asm_fields.specs.declared.directives.Item.TheVariants.{Linear}
 use Rattle.asm_fields.specs.declared.directives.Item.TheVariants.{Code, Data, Import, Export, Site, Fail}
 use Rattle.asm_fields.specs.declared.directives.Item.TheVariants.{Literal, Row}
 

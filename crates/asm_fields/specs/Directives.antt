@@ -1,7 +1,8 @@
 -- The directives: what a `.` stands before.
 use Rattle.std.specs.Prelude.{ℕ, List, [], ◌∷◌, codes, Option}
 use Rattle.asm_fields.specs.declared.directives.Item.{Item}
-use Rattle.asm_fields.specs.declared.directives.Item.TheVariants.{Name, Stack, Closure, Movable, Seals, Linear}
+use Rattle.asm_fields.specs.declared.directives.Item.TheVariants.{Name, Stack, Closure, Movable, Seals}
+use Rattle.asm_fields.specs.declared.directives.Item.TheVariants.{Linear}
 use Rattle.asm_fields.specs.declared.directives.Item.TheVariants.{Code, Data, Import, Export, Site, Fail}
 use Rattle.asm_fields.specs.declared.directives.Item.TheVariants.{Literal, Row}
 use Rattle.asm_fields.specs.declared.directives.WordKind.{WordKind}

@@ -1,5 +1,6 @@
 -- The table of labels as a list.
-use Rattle.std.proofs.Common.{◌≡◌, ℕ, Bool, true, false, cond, List, [], ◌∷◌, ◌++◌, map, Option, Some, None, Result, Ok, Err, refl, ap, sym, subst}
+use Rattle.std.proofs.Common.{◌≡◌, ℕ, Bool, true, false, cond, List, [], ◌∷◌, ◌++◌, map, Option, Some, None}
+use Rattle.std.proofs.Common.{Result, Ok, Err, refl, ap, sym, subst}
 use Rattle.std.specs.Prelude.{◌<◌, IfSome, OnOk, OnErr}
 use Rattle.std.specs.Borrow.{Bor}
 use Rattle.std.specs.Str.{bytes_eq}
@@ -31,7 +32,8 @@ added k l (e ∷ es) h =
     let r = added k l es p.1 in
     rw new (ap (λ t. (e.0.now, e.1) ∷ t) r)
 
-pub one_more : (name : List ℕ) (l : Label) (labels : List (List ℕ × Label)) → AreWithin labels → l.offset < 65536
+pub one_more : (name : List ℕ) (l : Label) (labels : List (List ℕ × Label)) → AreWithin labels
+    → l.offset < 65536
     → AreWithin (labels ++ (name, l) ∷ [])
 one_more name l [] h lt = (lt, tt)
 one_more name l (m ∷ labels) h lt = (h.0, one_more name l labels h.1 lt)
@@ -46,7 +48,10 @@ pub within : (name : List ℕ) (labels : List (List ℕ × Label)) → AreWithin
 within name [] h = tt
 within name (m ∷ labels) h = first (bytes_eq name m.0) m.1 (label_of name labels) h.0 (within name labels h.1)
 
-pub kept : {A E : Type 0} (r : Result A E) (old new inserted : Entries) → OnOk r (new ≡ inserted) → OnErr r (new ≡ old)
+pub kept : {A E : Type 0} (r : Result A E) (old new inserted : Entries) → OnOk r (new ≡ inserted)
+    → OnErr r (new ≡ old)
     → AreWithin (seen inserted) → AreWithin (seen old) → AreWithin (seen new)
-kept (Ok x) old new inserted is same h k = let P : Entries → Type 0 = λ es. AreWithin (seen es) in subst P (sym is) h
-kept (Err e) old new inserted is same h k = let P : Entries → Type 0 = λ es. AreWithin (seen es) in subst P (sym same) k
+kept (Ok x) old new inserted is same h k = let P : Entries → Type 0 =
+    λ es. AreWithin (seen es) in subst P (sym is) h
+kept (Err e) old new inserted is same h k = let P : Entries → Type 0 =
+    λ es. AreWithin (seen es) in subst P (sym same) k

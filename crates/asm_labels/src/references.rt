@@ -2,7 +2,8 @@
 ghost use Rattle.std.specs.Prelude.{◌≡◌, ◌<◌, ◌≤◌, ℕ, length, slice_get, [], ◌∷◌, ◌++◌};
 ghost use Rattle.std.specs.Prelude.{Some, None, OnOk, OnErr};
 ghost use Rattle.std.specs.List.{AllByRecursion};
-ghost use Rattle.asm_labels.specs.References.{value_of, user_word, user_place, word_resolved, IsReady, AreReady};
+ghost use Rattle.asm_labels.specs.References.{value_of, user_word, user_place, word_resolved, IsReady};
+ghost use Rattle.asm_labels.specs.References.{AreReady};
 ghost use Rattle.asm_labels.specs.References.{resolved, Resolves, HasOwn, WaitsForNone};
 
 use crate::fixup::Fixup;

@@ -515,7 +515,8 @@ split stk rdata stk t1=2672853
 .cap rwx nor 0 1048575 -9223372036854775808=cap(rwx,nor,0,1048575,-9223372036854775808)
 .seal 1048575 1048575 -1=seal(1048575,1048575,-1)";
 
-// Instructions, the first of which has offset 0. The data has the labels `front` and, 2 words further, `back`.
+// Instructions, the first of which has offset 0. The data has the labels `front` and, 2 words further,
+// `back`.
 const INSTRS: &[u8] = b"first: fail=fail
 halt
 jmp rcode

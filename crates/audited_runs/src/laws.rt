@@ -1,12 +1,13 @@
-//! What holds of the lines of runs and of their audit. These functions do nothing; their contracts are the laws.
+//! What holds of the lines of runs and of their audit. These functions do nothing; their contracts are the
+//! laws.
 ghost use Rattle.audited_runs.specs.Audited.{LinesAreFollowed, RunsPass};
 
 use overlay_machine::laws::{a_start_has_one_overlay, linked_starts_agree, starts_begin};
 use trace_tool::laws::{lines_are_bracketed, lines_fit, the_headline};
 
 /// No line of a run from a linked start spoils it in an audit, however many instructions it makes: calls and
-/// returns have as many words as their ranges have addresses, each call lies below all that are open, and each
-/// return is that of the newest.
+/// returns have as many words as their ranges have addresses, each call lies below all that are open, and
+/// each return is that of the newest.
 pub fn lines_are_followed()
     ensures { LinesAreFollowed }
 {

@@ -32,7 +32,8 @@ use Rattle.call_sequence.proofs.LawLemmas.{Stands-outside, differs}
 -- the stack can't be split below its base
 below_base : (sb se : ℕ) (z : ℤ) → pos sb -ℤ pos 1 ≡ z → can_split (stack_cap sb se sb) z ≡ false
 below_base zero se z e = rw (← e) refl
-below_base (suc n) se z e = let k : pos (suc n) -ℤ pos 1 ≡ pos n = omega (arith, ints) in rw (← e, k) (rw (lt-leb (suc n) n (omega arith)) refl)
+below_base (suc n) se z e = let k : pos (suc n) -ℤ pos 1 ≡ pos n =
+    omega (arith, ints) in rw (← e, k) (rw (lt-leb (suc n) n (omega arith)) refl)
 
 module _ {W : Type 0} (look : W → Word) (plain : Word → W) where
   pub call_outside : CallOutsideFails look plain
@@ -40,7 +41,8 @@ module _ {W : Type 0} (look : W → Word) (plain : Word → W) where
   call_outside s base last at seal c h hpc hstk out =
       let ai = h.at_is in
       let en = h.ends in
-      stops look plain s base last at (Store Stk Dat) hpc (omega (arith, ai)) (omega (arith, en)) (h.code.0, tt) tt (store_fails look plain Stk Dat _ s c hstk out)
+      stops look plain s base last at (Store Stk Dat) hpc (omega (arith, ai)) (omega (arith, en))
+      (h.code.0, tt) tt (store_fails look plain Stk Dat _ s c hstk out)
 
 module _ {W : Type 0} (look : W → Word) (plain : Word → W) (seen : (x : Word) → look (plain x) ≡ x) where
   pub call_runs : CallRuns look plain
@@ -55,18 +57,23 @@ module _ {W : Type 0} (look : W → Word) (plain : Word → W) (seen : (x : Word
       let sm = h.small in
       let ll : base ≤ lit = omega arith in
       let lh : lit ≤ last = h.literal_in in
-      let fn : FitsSigned w32 n = near_operand (h.offset + 1) h.literal (omega (arith, ai, en, sm)) (omega (arith, lh, sm)) in
+      let fn : FitsSigned w32 n =
+      near_operand (h.offset + 1) h.literal (omega (arith, ai, en, sm)) (omega (arith, lh, sm)) in
       let ss = h.small_seal in
       let si = h.seal_is in
       let fs : FitsSigned w32 (pos h.number) = small_operand h.number (omega (arith, si, ss)) in
-      let e : pos (at + 1) +ℤ n ≡ pos lit = leads (at + 1) base (h.offset + 1) h.literal (omega (arith, ai)) in
+      let e : pos (at + 1) +ℤ n ≡ pos lit =
+      leads (at + 1) base (h.offset + 1) h.literal (omega (arith, ai)) in
       let cur : q.cur +ℤ pos h.number ≡ pos seal = ap (λ z. z +ℤ pos h.number) h.first ∙ ap pos si in
       let flit : fits_64 (pos lit) ≡ true = fits_small lit (omega (arith, lh, sm)) in
       let fseal : fits_64 (pos seal) ≡ true = fits_small seal ss in
       let m' : FinMap nat_cmp W = set_cell s.cells (b + 1) s.regs.dat in
       let low : base ≤ at = omega (arith, ai) in
-      let c : Stands look m' at (call_code h.literal h.offset h.number) = Stands-outside look s.cells (b + 1) _ base last at (call_code h.literal h.offset h.number) out low (omega (arith, en)) code in
-      let literal' : cell m' lit ≡ Some h.word = cell-set_other s.cells (b + 1) lit _ (differs (b + 1) base last lit out ll lh) ∙ h.word_is in
+      let c : Stands look m' at (call_code h.literal h.offset h.number) =
+      Stands-outside look s.cells (b + 1) _ base last at (call_code h.literal h.offset h.number)
+      out low (omega (arith, en)) code in
+      let literal' : cell m' lit ≡ Some h.word =
+      cell-set_other s.cells (b + 1) lit _ (differs (b + 1) base last lit out ll lh) ∙ h.word_is in
       let fb : fits_64 (pos b) ≡ true = fits_small b (omega (arith, sh, small)) in
       let minus1 : pos (b + 1) -ℤ pos 1 ≡ pos b = omega (arith, ints) in
       let minus2 : pos (b + 1) +ℤ negsuc 0 ≡ pos b = omega (arith, ints) in
@@ -74,22 +81,69 @@ module _ {W : Type 0} (look : W → Word) (plain : Word → W) (seen : (x : Word
       let fsix : fits_64 (pos (at + 16)) ≡ true = fits_small (at + 16) (omega (arith, en, sm)) in
       let ends : at + 1 + 1 + 1 + 1 + 1 + 1 + 1 + 1 + 1 + 1 + 1 + 1 + 1 + 1 + 1 ≡ at + 15 = omega arith in
       let ql : q.base ≤ seal = omega (arith, si) in
-      go look plain _ _ _ base last (at) _ hpc (omega (arith, ai)) (omega (arith, en)) code.0 tt (store_goes look plain _ _ _ _ _ (stack_cap sb se (b + 1)) (b + 1) w hstk refl refl (omega (arith, sl)) sh there (stays look plain _ _ hdat))
-      ∙ go look plain _ _ _ base last (at + 1) _ (seen _) (omega (arith, ai)) (omega (arith, en)) c.1.0 tt (move_goes look plain _ _ _ _ _ refl (stays look plain _ _ (ap is_linear (seen _))))
-      ∙ go look plain _ _ _ base last (at + 1 + 1) _ (seen _) (omega (arith, ai)) (omega (arith, en)) c.1.1.0 fn (cca_goes look plain _ _ _ _ (code_cap base last (at + 1)) n (pos lit) refl (seen _) refl e flit)
-      ∙ go look plain _ _ _ base last (at + 1 + 1 + 1) _ (seen _) (omega (arith, ai)) (omega (arith, en)) c.1.1.1.0 tt (load_goes look plain _ _ _ _ (code_cap base last lit) lit h.word (Seal q) refl (seen _) refl refl ll lh literal' h.shows refl refl)
-      ∙ go look plain _ _ _ base last (at + 1 + 1 + 1 + 1) _ (seen _) (omega (arith, ai)) (omega (arith, en)) c.1.1.1.1.0 fs (cca_seal_goes look plain _ _ _ _ q (pos h.number) (pos seal) refl h.shows refl cur fseal)
-      ∙ go look plain _ _ _ base last (at + 1 + 1 + 1 + 1 + 1) _ (seen _) (omega (arith, ai)) (omega (arith, en)) c.1.1.1.1.1.0 tt (geta_goes look plain _ _ _ _ (Mem (stack_cap sb se (b + 1))) refl hstk)
-      ∙ go look plain _ _ _ base last (at + 1 + 1 + 1 + 1 + 1 + 1) _ (seen _) (omega (arith, ai)) (omega (arith, en)) c.1.1.1.1.1.1.0 (search rules) (minus_goes look plain _ _ _ _ _ (pos (b + 1)) (pos 1) (pos b) refl (seen _) refl minus1 fb)
-      ∙ go look plain _ _ _ base last (at + 1 + 1 + 1 + 1 + 1 + 1 + 1) _ (seen _) (omega (arith, ai)) (omega (arith, en)) c.1.1.1.1.1.1.1.0 tt (split_goes look plain _ _ _ _ _ _ _ (stack_cap sb se (b + 1)) b refl refl hstk (number_in look plain _ _ (pos b) (seen _)) sl (omega arith) (leaves look plain _ _ (ap is_linear hstk)))
-      ∙ go look plain _ _ _ base last (at + 1 + 1 + 1 + 1 + 1 + 1 + 1 + 1) _ (seen _) (omega (arith, ai)) (omega (arith, en)) c.1.1.1.1.1.1.1.1.0 (search rules) (cca_goes look plain _ _ _ _ (stack_cap sb b (b + 1)) (negsuc 0) (pos b) refl (seen _) refl minus2 fb)
-      ∙ go look plain _ _ _ base last (at + 1 + 1 + 1 + 1 + 1 + 1 + 1 + 1 + 1) _ (seen _) (omega (arith, ai)) (omega (arith, en)) c.1.1.1.1.1.1.1.1.1.0 tt (cseal_goes look plain _ _ _ _ (stack_cap (b + 1) se (b + 1)) (record q { cur = pos seal }) seal refl (seen _) (seen _) refl ql h.seal_in)
-      ∙ go look plain _ _ _ base last (at + 1 + 1 + 1 + 1 + 1 + 1 + 1 + 1 + 1 + 1) _ (seen _) (omega (arith, ai)) (omega (arith, en)) c.1.1.1.1.1.1.1.1.1.1.0 tt (move_goes look plain _ _ _ _ _ refl (stays look plain _ _ (ap is_linear (seen _))))
-      ∙ go look plain _ _ _ base last (at + 1 + 1 + 1 + 1 + 1 + 1 + 1 + 1 + 1 + 1 + 1) _ (seen _) (omega (arith, ai)) (omega (arith, en)) c.1.1.1.1.1.1.1.1.1.1.1.0 (search rules) (cca_goes look plain _ _ _ _ (code_cap base last (at + 1 + 1 + 1 + 1 + 1 + 1 + 1 + 1 + 1 + 1)) (pos 6) (pos (at + 16)) refl (seen _) refl (ap pos six) fsix)
-      ∙ go look plain _ _ _ base last (at + 1 + 1 + 1 + 1 + 1 + 1 + 1 + 1 + 1 + 1 + 1 + 1) _ (seen _) (omega (arith, ai)) (omega (arith, en)) c.1.1.1.1.1.1.1.1.1.1.1.1.0 tt (cseal_goes look plain _ _ _ _ (code_cap base last (at + 16)) (record q { cur = pos seal }) seal refl (seen _) (seen _) refl ql h.seal_in)
-      ∙ go look plain _ _ _ base last (at + 1 + 1 + 1 + 1 + 1 + 1 + 1 + 1 + 1 + 1 + 1 + 1 + 1) _ (seen _) (omega (arith, ai)) (omega (arith, en)) c.1.1.1.1.1.1.1.1.1.1.1.1.1.0 (search rules) (set_goes look plain _ _ _ _ refl)
-      ∙ go look plain _ _ _ base last (at + 1 + 1 + 1 + 1 + 1 + 1 + 1 + 1 + 1 + 1 + 1 + 1 + 1 + 1) _ (seen _) (omega (arith, ai)) (omega (arith, en)) c.1.1.1.1.1.1.1.1.1.1.1.1.1.1.0 (search rules) (set_goes look plain _ _ _ _ refl)
-      ∙ ran look plain _ ∙ ap (λ k. went (record s { regs = record (at_xjmp plain s base last at seal sb se b).regs { pc = plain (Mem (code_cap base last k)) }; cells = m' })) ends
+      go look plain _ _ _ base last (at) _ hpc (omega (arith, ai)) (omega (arith, en))
+      code.0 tt
+      (store_goes look plain _ _ _ _ _ (stack_cap sb se (b + 1)) (b + 1)
+      w hstk refl refl (omega (arith, sl)) sh there (stays look plain _ _ hdat))
+      ∙ go look plain _ _ _ base last (at + 1) _ (seen _) (omega (arith, ai)) (omega (arith, en))
+      c.1.0 tt (move_goes look plain _ _ _ _ _ refl (stays look plain _ _ (ap is_linear (seen _))))
+      ∙ go look plain _ _ _ base last (at + 1 + 1) _ (seen _) (omega (arith, ai)) (omega (arith, en))
+      c.1.1.0 fn
+      (cca_goes look plain _ _ _ _ (code_cap base last (at + 1)) n (pos lit) refl (seen _) refl e flit)
+      ∙ go look plain _ _ _ base last (at + 1 + 1 + 1) _ (seen _) (omega (arith, ai)) (omega (arith, en))
+      c.1.1.1.0 tt
+      (load_goes look plain _ _ _ _ (code_cap base last lit) lit h.word (Seal q) refl (seen _)
+      refl refl ll lh literal' h.shows refl refl)
+      ∙ go look plain _ _ _ base last (at + 1 + 1 + 1 + 1) _ (seen _) (omega (arith, ai)) (omega (arith, en))
+      c.1.1.1.1.0 fs
+      (cca_seal_goes look plain _ _ _ _ q (pos h.number) (pos seal) refl h.shows refl cur fseal)
+      ∙ go look plain _ _ _ base last (at + 1 + 1 + 1 + 1 + 1) _ (seen _) (omega (arith, ai))
+      (omega (arith, en))
+      c.1.1.1.1.1.0 tt (geta_goes look plain _ _ _ _ (Mem (stack_cap sb se (b + 1))) refl hstk)
+      ∙ go look plain _ _ _ base last (at + 1 + 1 + 1 + 1 + 1 + 1) _ (seen _) (omega (arith, ai))
+      (omega (arith, en)) c.1.1.1.1.1.1.0 (search rules)
+      (minus_goes look plain _ _ _ _ _ (pos (b + 1)) (pos 1) (pos b) refl (seen _) refl minus1 fb)
+      ∙ go look plain _ _ _ base last (at + 1 + 1 + 1 + 1 + 1 + 1 + 1) _ (seen _) (omega (arith, ai))
+      (omega (arith, en))
+      c.1.1.1.1.1.1.1.0 tt
+      (split_goes look plain _ _ _ _ _ _ _ (stack_cap sb se (b + 1))
+      b refl refl hstk (number_in look plain _ _ (pos b) (seen _)) sl (omega arith)
+      (leaves look plain _ _ (ap is_linear hstk)))
+      ∙ go look plain _ _ _ base last (at + 1 + 1 + 1 + 1 + 1 + 1 + 1 + 1) _ (seen _) (omega (arith, ai))
+      (omega (arith, en)) c.1.1.1.1.1.1.1.1.0 (search rules)
+      (cca_goes look plain _ _ _ _ (stack_cap sb b (b + 1)) (negsuc 0) (pos b) refl (seen _)
+      refl minus2 fb)
+      ∙ go look plain _ _ _ base last (at + 1 + 1 + 1 + 1 + 1 + 1 + 1 + 1 + 1) _ (seen _) (omega (arith, ai))
+      (omega (arith, en))
+      c.1.1.1.1.1.1.1.1.1.0 tt
+      (cseal_goes look plain _ _ _ _ (stack_cap (b + 1) se (b + 1)) (record q { cur = pos seal })
+      seal refl (seen _) (seen _) refl ql h.seal_in)
+      ∙ go look plain _ _ _ base last (at + 1 + 1 + 1 + 1 + 1 + 1 + 1 + 1 + 1 + 1) _ (seen _)
+      (omega (arith, ai)) (omega (arith, en))
+      c.1.1.1.1.1.1.1.1.1.1.0 tt
+      (move_goes look plain _ _ _ _ _ refl (stays look plain _ _ (ap is_linear (seen _))))
+      ∙ go look plain _ _ _ base last (at + 1 + 1 + 1 + 1 + 1 + 1 + 1 + 1 + 1 + 1 + 1) _ (seen _)
+      (omega (arith, ai)) (omega (arith, en)) c.1.1.1.1.1.1.1.1.1.1.1.0 (search rules)
+      (cca_goes look plain _ _ _ _ (code_cap base last (at + 1 + 1 + 1 + 1 + 1 + 1 + 1 + 1 + 1 + 1))
+      (pos 6) (pos (at + 16)) refl (seen _) refl (ap pos six) fsix)
+      ∙ go look plain _ _ _ base last (at + 1 + 1 + 1 + 1 + 1 + 1 + 1 + 1 + 1 + 1 + 1 + 1) _ (seen _)
+      (omega (arith, ai)) (omega (arith, en))
+      c.1.1.1.1.1.1.1.1.1.1.1.1.0 tt
+      (cseal_goes look plain _ _ _ _ (code_cap base last (at + 16)) (record q { cur = pos seal })
+      seal refl (seen _) (seen _) refl ql h.seal_in)
+      ∙ go look plain _ _ _ base last (at + 1 + 1 + 1 + 1 + 1 + 1 + 1 + 1 + 1 + 1 + 1 + 1 + 1) _ (seen _)
+      (omega (arith, ai)) (omega (arith, en)) c.1.1.1.1.1.1.1.1.1.1.1.1.1.0 (search rules)
+      (set_goes look plain _ _ _ _ refl)
+      ∙ go look plain _ _ _ base last (at + 1 + 1 + 1 + 1 + 1 + 1 + 1 + 1 + 1 + 1 + 1 + 1 + 1 + 1) _ (seen _)
+      (omega (arith, ai)) (omega (arith, en)) c.1.1.1.1.1.1.1.1.1.1.1.1.1.1.0 (search rules)
+      (set_goes look plain _ _ _ _ refl)
+      ∙ ran look plain _
+      ∙ ap (λ k.
+      went (record s {
+        regs = record (at_xjmp plain s base last at seal sb se b).regs
+            { pc = plain (Mem (code_cap base last k)) };
+        cells = m';
+      })) ends
 
   -- the call's last word, once a cell outside the code was set
   xjmp_stands : (m : FinMap nat_cmp W) (base last at seal a : ℕ) (w : W) → HasCall look m base last at seal
@@ -99,7 +153,9 @@ module _ {W : Type 0} (look : W → Word) (plain : Word → W) (seen : (x : Word
   xjmp_stands m base last at seal a w h out =
       let ai = h.at_is in
       let en = h.ends in
-      let c : Stands look (set_cell m a w) at (call_code h.literal h.offset h.number) = Stands-outside look m a w base last at (call_code h.literal h.offset h.number) out (omega (arith, ai)) (omega (arith, en)) h.code in
+      let c : Stands look (set_cell m a w) at (call_code h.literal h.offset h.number) =
+      Stands-outside look m a w base last at (call_code h.literal h.offset h.number)
+      out (omega (arith, ai)) (omega (arith, en)) h.code in
       let e : at + 1 + 1 + 1 + 1 + 1 + 1 + 1 + 1 + 1 + 1 + 1 + 1 + 1 + 1 + 1 ≡ at + 15 = omega arith in
       rw (← e) c.1.1.1.1.1.1.1.1.1.1.1.1.1.1.1.0
 
@@ -109,9 +165,11 @@ module _ {W : Type 0} (look : W → Word) (plain : Word → W) (seen : (x : Word
       let en = h.ends in
       let t : State W = at_xjmp plain s base last at seal sb se b in
       let e : at + 15 + 1 ≡ at + 16 = omega arith in
-      run_then look plain 15 1 s t _ (call_runs s base last at seal sb se b w h hpc hstk hdat sl sh small out there)
+      run_then look plain 15 1 s t _
+      (call_runs s base last at seal sb se b w h hpc hstk hdat sl sh small out there)
       (run_one look plain t
-      ∙ step_row look plain t base last (at + 15) (Xjmp C1 C2) (seen _) (omega (arith, ai)) (omega (arith, en)) (xjmp_stands s.cells base last at seal (b + 1) s.regs.dat h out) tt
+      ∙ step_row look plain t base last (at + 15) (Xjmp C1 C2) (seen _) (omega (arith, ai))
+      (omega (arith, en)) (xjmp_stands s.cells base last at seal (b + 1) s.regs.dat h out) tt
       ∙ ap (λ k. row look plain (Xjmp C1 C2) (Mem (code_cap base last k)) t) e)
 
   pub call_at_base : CallAtBaseFails look plain
@@ -126,31 +184,73 @@ module _ {W : Type 0} (look : W → Word) (plain : Word → W) (seen : (x : Word
       let sm = h.small in
       let ll : base ≤ lit = omega arith in
       let lh : lit ≤ last = h.literal_in in
-      let fn : FitsSigned w32 n = near_operand (h.offset + 1) h.literal (omega (arith, ai, en, sm)) (omega (arith, lh, sm)) in
+      let fn : FitsSigned w32 n =
+      near_operand (h.offset + 1) h.literal (omega (arith, ai, en, sm)) (omega (arith, lh, sm)) in
       let ss = h.small_seal in
       let si = h.seal_is in
       let fs : FitsSigned w32 (pos h.number) = small_operand h.number (omega (arith, si, ss)) in
-      let e : pos (at + 1) +ℤ n ≡ pos lit = leads (at + 1) base (h.offset + 1) h.literal (omega (arith, ai)) in
+      let e : pos (at + 1) +ℤ n ≡ pos lit =
+      leads (at + 1) base (h.offset + 1) h.literal (omega (arith, ai)) in
       let cur : q.cur +ℤ pos h.number ≡ pos seal = ap (λ z. z +ℤ pos h.number) h.first ∙ ap pos si in
       let flit : fits_64 (pos lit) ≡ true = fits_small lit (omega (arith, lh, sm)) in
       let fseal : fits_64 (pos seal) ≡ true = fits_small seal ss in
       let m' : FinMap nat_cmp W = set_cell s.cells sb s.regs.dat in
       let low : base ≤ at = omega (arith, ai) in
-      let c : Stands look m' at (call_code h.literal h.offset h.number) = Stands-outside look s.cells sb _ base last at (call_code h.literal h.offset h.number) out low (omega (arith, en)) code in
-      let literal' : cell m' lit ≡ Some h.word = cell-set_other s.cells sb lit _ (differs sb base last lit out ll lh) ∙ h.word_is in
+      let c : Stands look m' at (call_code h.literal h.offset h.number) =
+      Stands-outside look s.cells sb _ base last at (call_code h.literal h.offset h.number)
+      out low (omega (arith, en)) code in
+      let literal' : cell m' lit ≡ Some h.word =
+      cell-set_other s.cells sb lit _ (differs sb base last lit out ll lh) ∙ h.word_is in
       let z : ℤ = pos sb -ℤ pos 1 in
       let fz : fits_64 z ≡ true = fits_less sb 1 (omega (arith, sh, small)) (omega arith) in
       let ends : at + 1 + 1 + 1 + 1 + 1 + 1 + 1 ≡ at + 7 = omega arith in
-      let t : State W = record s { regs = record s.regs { pc = plain (Mem (code_cap base last (at + 7))); t1 = plain (Int z); t2 = plain (Seal (record q { cur = pos seal })) }; cells = m' } in
+      let t : State W =
+      record s {
+        regs =
+            record s.regs {
+              pc = plain (Mem (code_cap base last (at + 7)));
+              t1 = plain (Int z);
+              t2 =
+                  plain (Seal (record q { cur = pos seal }));
+            };
+        cells = m';
+      } in
       let to_split : run_of look plain 7 s ≡ went t =
-      go look plain _ _ _ base last (at) _ hpc (omega (arith, ai)) (omega (arith, en)) code.0 tt (store_goes look plain _ _ _ _ _ (stack_cap sb se sb) sb w hstk refl refl (omega arith) sh there (stays look plain _ _ hdat))
-      ∙ go look plain _ _ _ base last (at + 1) _ (seen _) (omega (arith, ai)) (omega (arith, en)) c.1.0 tt (move_goes look plain _ _ _ _ _ refl (stays look plain _ _ (ap is_linear (seen _))))
-      ∙ go look plain _ _ _ base last (at + 1 + 1) _ (seen _) (omega (arith, ai)) (omega (arith, en)) c.1.1.0 fn (cca_goes look plain _ _ _ _ (code_cap base last (at + 1)) n (pos lit) refl (seen _) refl e flit)
-      ∙ go look plain _ _ _ base last (at + 1 + 1 + 1) _ (seen _) (omega (arith, ai)) (omega (arith, en)) c.1.1.1.0 tt (load_goes look plain _ _ _ _ (code_cap base last lit) lit h.word (Seal q) refl (seen _) refl refl ll lh literal' h.shows refl refl)
-      ∙ go look plain _ _ _ base last (at + 1 + 1 + 1 + 1) _ (seen _) (omega (arith, ai)) (omega (arith, en)) c.1.1.1.1.0 fs (cca_seal_goes look plain _ _ _ _ q (pos h.number) (pos seal) refl h.shows refl cur fseal)
-      ∙ go look plain _ _ _ base last (at + 1 + 1 + 1 + 1 + 1) _ (seen _) (omega (arith, ai)) (omega (arith, en)) c.1.1.1.1.1.0 tt (geta_goes look plain _ _ _ _ (Mem (stack_cap sb se sb)) refl hstk)
-      ∙ go look plain _ _ _ base last (at + 1 + 1 + 1 + 1 + 1 + 1) _ (seen _) (omega (arith, ai)) (omega (arith, en)) c.1.1.1.1.1.1.0 (search rules) (minus_goes look plain _ _ _ _ _ (pos sb) (pos 1) z refl (seen _) refl refl fz)
-      ∙ ran look plain _ ∙ ap (λ k. went (record s { regs = record s.regs { pc = plain (Mem (code_cap base last k)); t1 = plain (Int z); t2 = plain (Seal (record q { cur = pos seal })) }; cells = m' })) ends in
+      go look plain _ _ _ base last (at) _ hpc (omega (arith, ai)) (omega (arith, en))
+      code.0 tt
+      (store_goes look plain _ _ _ _ _ (stack_cap sb se sb) sb w hstk refl refl (omega arith)
+      sh there (stays look plain _ _ hdat))
+      ∙ go look plain _ _ _ base last (at + 1) _ (seen _) (omega (arith, ai)) (omega (arith, en))
+      c.1.0 tt (move_goes look plain _ _ _ _ _ refl (stays look plain _ _ (ap is_linear (seen _))))
+      ∙ go look plain _ _ _ base last (at + 1 + 1) _ (seen _) (omega (arith, ai)) (omega (arith, en))
+      c.1.1.0 fn
+      (cca_goes look plain _ _ _ _ (code_cap base last (at + 1)) n (pos lit) refl (seen _) refl e flit)
+      ∙ go look plain _ _ _ base last (at + 1 + 1 + 1) _ (seen _) (omega (arith, ai)) (omega (arith, en))
+      c.1.1.1.0 tt
+      (load_goes look plain _ _ _ _ (code_cap base last lit) lit h.word (Seal q) refl (seen _)
+      refl refl ll lh literal' h.shows refl refl)
+      ∙ go look plain _ _ _ base last (at + 1 + 1 + 1 + 1) _ (seen _) (omega (arith, ai)) (omega (arith, en))
+      c.1.1.1.1.0 fs
+      (cca_seal_goes look plain _ _ _ _ q (pos h.number) (pos seal) refl h.shows refl cur fseal)
+      ∙ go look plain _ _ _ base last (at + 1 + 1 + 1 + 1 + 1) _ (seen _) (omega (arith, ai))
+      (omega (arith, en))
+      c.1.1.1.1.1.0 tt (geta_goes look plain _ _ _ _ (Mem (stack_cap sb se sb)) refl hstk)
+      ∙ go look plain _ _ _ base last (at + 1 + 1 + 1 + 1 + 1 + 1) _ (seen _) (omega (arith, ai))
+      (omega (arith, en)) c.1.1.1.1.1.1.0 (search rules)
+      (minus_goes look plain _ _ _ _ _ (pos sb) (pos 1) z refl (seen _) refl refl fz)
+      ∙ ran look plain _
+      ∙ ap (λ k.
+      went (record s {
+        regs = record s.regs {
+          pc = plain (Mem (code_cap base last k));
+          t1 = plain (Int z);
+          t2 =
+              plain (Seal (record q { cur = pos seal }));
+        };
+        cells = m';
+      })) ends in
       then_failed look plain 7 1 s t to_split
-      (stops look plain t base last (at + 7) (Split Stk Rdata Stk (InReg T1)) (seen _) (omega (arith, ai)) (omega (arith, en)) (rw (← ends) c.1.1.1.1.1.1.1.0, tt) tt
-      (split_fails look plain Stk Rdata Stk (InReg T1) _ t (stack_cap sb se sb) z refl refl hstk (number_in look plain t T1 z (seen _)) (below_base sb se _ refl)))
+      (stops look plain t base last (at + 7) (Split Stk Rdata Stk (InReg T1)) (seen _) (omega (arith, ai))
+      (omega (arith, en)) (rw (← ends) c.1.1.1.1.1.1.1.0, tt) tt
+      (split_fails look plain Stk Rdata Stk (InReg T1) _ t (stack_cap sb se sb)
+      z refl refl hstk (number_in look plain t T1 z (seen _)) (below_base sb se _ refl)))

@@ -24,8 +24,12 @@ small_operand n h = record { sfits = omega (arith, h) }
 -- the distance of two places is an operand, and leads from the one to the other
 pub near_operand : (from to : ℕ) → from ≤ LAST_PLACE → to ≤ LAST_PLACE → FitsSigned w32 (distance from to)
 near_operand from to h g = elim (cases_lt to from) as (λ _. FitsSigned w32 (distance from to)) [
-  | inl lt ↦ (let e : pos to -ℤ pos from ≡ negsuc (from - to - 1) = omega (arith, ints, lt) in rw e (record { sfits = omega (arith, h, g) }))
-  | inr ge ↦ (let e : pos to -ℤ pos from ≡ pos (to - from) = omega (arith, ints, ge) in rw e (record { sfits = omega (arith, h, g) }))
+  | inl lt ↦
+      (let e : pos to -ℤ pos from ≡ negsuc (from - to - 1) =
+      omega (arith, ints, lt) in rw e (record { sfits = omega (arith, h, g) }))
+  | inr ge ↦
+      (let e : pos to -ℤ pos from ≡ pos (to - from) =
+      omega (arith, ints, ge) in rw e (record { sfits = omega (arith, h, g) }))
 ]
 
 pub leads : (a base from to : ℕ) → a ≡ base + from → pos a +ℤ distance from to ≡ pos (base + to)
@@ -40,16 +44,23 @@ not_zero a b ne = not_zero_int (pos a -ℤ pos b) (λ e. let same : a ≡ b = om
 
 pub fits_less : (a b : ℕ) → a ≤ LAST_PLACE → b ≤ LAST_PLACE → fits_64 (pos a -ℤ pos b) ≡ true
 fits_less a b h g = elim (cases_lt a b) as (λ _. fits_64 (pos a -ℤ pos b) ≡ true) [
-  | inl lt ↦ (let e : pos a -ℤ pos b ≡ negsuc (b - a - 1) = omega (arith, ints, lt) in rw e (lt-ltb (b - a - 1) (2 ^ 63) (omega (arith, h, g))))
-  | inr ge ↦ (let e : pos a -ℤ pos b ≡ pos (a - b) = omega (arith, ints, ge) in rw e (fits_small (a - b) (omega (arith, h))))
+  | inl lt ↦
+      (let e : pos a -ℤ pos b ≡ negsuc (b - a - 1) =
+      omega (arith, ints, lt) in rw e (lt-ltb (b - a - 1) (2 ^ 63) (omega (arith, h, g))))
+  | inr ge ↦
+      (let e : pos a -ℤ pos b ≡ pos (a - b) =
+      omega (arith, ints, ge) in rw e (fits_small (a - b) (omega (arith, h))))
 ]
 
 -- code within a range stands as before where a cell outside is set
-pub Stands-outside : {W : Type 0} (look : W → Word) (m : FinMap nat_cmp W) (a : ℕ) (w : W) (base last at : ℕ) (is : List Instr)
+pub Stands-outside : {W : Type 0} (look : W → Word) (m : FinMap nat_cmp W) (a : ℕ) (w : W) (base last at : ℕ)
+    (is : List Instr)
     → Outside a base last → base ≤ at → at + length is ≤ last + 1 → Stands look m at is
     → Stands look (set_cell m a w) at is
-Stands-outside look m a w base last at is (inl below) low high h = Stands-set_below look m a w at is (omega (arith, below, low)) h
-Stands-outside look m a w base last at is (inr above) low high h = Stands-set look m a w at is (omega (arith, above, high)) h
+Stands-outside look m a w base last at is (inl below) low high h =
+    Stands-set_below look m a w at is (omega (arith, below, low)) h
+Stands-outside look m a w base last at is (inr above) low high h =
+    Stands-set look m a w at is (omega (arith, above, high)) h
 
 pub differs : (a base last q : ℕ) → Outside a base last → base ≤ q → q ≤ last → q ≢ a
 differs a base last q (inl below) low high = omega (arith, below, low)

@@ -34,7 +34,8 @@ module _ {W : Type 0} (look : W → Word) (plain : Word → W) where
   return_apart s base last at sb h hpc cannot =
       let ai = h.at_is in
       let en = h.ends in
-      stops look plain s base last at (Splice Stk Stk Dat) hpc (omega (arith, ai)) (omega (arith, en)) (h.code.0, tt) tt (splice_fails look plain Stk Stk Dat _ s _ _ refl refl refl cannot)
+      stops look plain s base last at (Splice Stk Stk Dat) hpc (omega (arith, ai)) (omega (arith, en))
+      (h.code.0, tt) tt (splice_fails look plain Stk Stk Dat _ s _ _ refl refl refl cannot)
 
 module _ {W : Type 0} (look : W → Word) (plain : Word → W) (seen : (x : Word) → look (plain x) ≡ x) where
   -- the test of where the joined stack begins
@@ -49,14 +50,18 @@ module _ {W : Type 0} (look : W → Word) (plain : Word → W) (seen : (x : Word
     };
   }
 
-  module _ (s : State W) (base last at sb : ℕ) (low high : CapFields) (h : HasReturn look s.cells base last at sb) (hpc : look s.regs.pc ≡ Mem (code_cap base last at)) (hstk : look s.regs.stk ≡ Mem low) (hdat : look s.regs.dat ≡ Mem high)
-      (ll : lin_is low.lin ≡ true) (lh : lin_is high.lin ≡ true) (same : same_kind low high ≡ true) (joint : low.end + 1 ≡ high.base) (s1 : low.base ≤ LAST_PLACE) (s2 : sb ≤ LAST_PLACE) where
+  module _ (s : State W) (base last at sb : ℕ) (low high : CapFields)
+      (h : HasReturn look s.cells base last at sb) (hpc : look s.regs.pc ≡ Mem (code_cap base last at))
+      (hstk : look s.regs.stk ≡ Mem low) (hdat : look s.regs.dat ≡ Mem high)
+      (ll : lin_is low.lin ≡ true) (lh : lin_is high.lin ≡ true) (same : same_kind low high ≡ true)
+      (joint : low.end + 1 ≡ high.base) (s1 : low.base ≤ LAST_PLACE) (s2 : sb ≤ LAST_PLACE) where
     abbrev pub joined : CapFields
     joined = record high { base = low.base }
 
     -- the five words before it
     five : (r : Outcome W)
-        → step_of look plain (tested s base last (at + 1 + 1 + 1 + 1 + 1) (base + h.fail) joined (pos low.base -ℤ pos sb)) ≡ r
+        → step_of look plain
+        (tested s base last (at + 1 + 1 + 1 + 1 + 1) (base + h.fail) joined (pos low.base -ℤ pos sb)) ≡ r
         → run_of look plain 6 s ≡ r
     unfolding return_code
     five r e =
@@ -67,13 +72,28 @@ module _ {W : Type 0} (look : W → Word) (plain : Word → W) (seen : (x : Word
         let sm = h.small in
         let fh : base + h.fail ≤ last = h.fails.1 in
         let sf : base + h.fail ≤ 1048575 = omega (arith, fh, sm) in
-        let fn : FitsSigned w32 n = near_operand (h.offset + 3) h.fail (omega (arith, ai, en, sm)) (omega (arith, sf)) in
-        let to_fail : pos (at + 1 + 1 + 1) +ℤ n ≡ pos (base + h.fail) = leads (at + 1 + 1 + 1) base (h.offset + 3) h.fail (omega (arith, ai)) in
-        go look plain _ _ _ base last (at) _ hpc (omega (arith, ai)) (omega (arith, en)) code.0 tt (splice_goes look plain _ _ _ _ _ _ _ low high refl hstk hdat same joint (leaves look plain _ _ (ap is_linear hstk ∙ ll)) (leaves look plain _ _ (ap is_linear hdat ∙ lh)))
-        ∙ go look plain _ _ _ base last (at + 1) _ (seen _) (omega (arith, ai)) (omega (arith, en)) code.1.0 tt (getb_goes look plain _ _ _ _ (Mem joined) refl (seen _))
-        ∙ go look plain _ _ _ base last (at + 1 + 1) _ (seen _) (omega (arith, ai)) (omega (arith, en)) code.1.1.0 (small_operand sb s2) (minus_goes look plain _ _ _ _ _ (pos low.base) (pos sb) (pos low.base -ℤ pos sb) refl (seen _) refl refl (fits_less low.base sb s1 s2))
-        ∙ go look plain _ _ _ base last (at + 1 + 1 + 1) _ (seen _) (omega (arith, ai)) (omega (arith, en)) code.1.1.1.0 tt (move_goes look plain _ _ _ _ _ refl (stays look plain _ _ (ap is_linear (seen _))))
-        ∙ go look plain _ _ _ base last (at + 1 + 1 + 1 + 1) _ (seen _) (omega (arith, ai)) (omega (arith, en)) code.1.1.1.1.0 fn (cca_goes look plain _ _ _ _ (code_cap base last (at + 1 + 1 + 1)) n (pos (base + h.fail)) refl (seen _) refl to_fail (fits_small (base + h.fail) sf))
+        let fn : FitsSigned w32 n =
+        near_operand (h.offset + 3) h.fail (omega (arith, ai, en, sm)) (omega (arith, sf)) in
+        let to_fail : pos (at + 1 + 1 + 1) +ℤ n ≡ pos (base + h.fail) =
+        leads (at + 1 + 1 + 1) base (h.offset + 3) h.fail (omega (arith, ai)) in
+        go look plain _ _ _ base last (at) _ hpc (omega (arith, ai)) (omega (arith, en))
+        code.0 tt
+        (splice_goes look plain _ _ _ _ _ _ _ low high refl hstk hdat same joint
+        (leaves look plain _ _ (ap is_linear hstk ∙ ll)) (leaves look plain _ _ (ap is_linear hdat ∙ lh)))
+        ∙ go look plain _ _ _ base last (at + 1) _ (seen _) (omega (arith, ai)) (omega (arith, en))
+        code.1.0 tt (getb_goes look plain _ _ _ _ (Mem joined) refl (seen _))
+        ∙ go look plain _ _ _ base last (at + 1 + 1) _ (seen _) (omega (arith, ai)) (omega (arith, en))
+        code.1.1.0 (small_operand sb s2)
+        (minus_goes look plain _ _ _ _ _ (pos low.base) (pos sb) (pos low.base -ℤ pos sb) refl (seen _)
+        refl refl (fits_less low.base sb s1 s2))
+        ∙ go look plain _ _ _ base last (at + 1 + 1 + 1) _ (seen _) (omega (arith, ai)) (omega (arith, en))
+        code.1.1.1.0 tt
+        (move_goes look plain _ _ _ _ _ refl (stays look plain _ _ (ap is_linear (seen _))))
+        ∙ go look plain _ _ _ base last (at + 1 + 1 + 1 + 1) _ (seen _) (omega (arith, ai))
+        (omega (arith, en))
+        code.1.1.1.1.0 fn
+        (cca_goes look plain _ _ _ _ (code_cap base last (at + 1 + 1 + 1)) n (pos (base + h.fail))
+        refl (seen _) refl to_fail (fits_small (base + h.fail) sf))
         ∙ run_one look plain _ ∙ e
 
     -- the sixth goes on where it begins at the stack's base, and else to the `fail`
@@ -86,18 +106,24 @@ module _ {W : Type 0} (look : W → Word) (plain : Word → W) (seen : (x : Word
         let en = h.ends in
         let z : pos low.base -ℤ pos sb ≡ pos 0 = omega (arith, ints, e) in
         let next : at + 1 + 1 + 1 + 1 + 1 + 1 ≡ at + 6 = omega arith in
-        five _ (step_row look plain _ base last (at + 1 + 1 + 1 + 1 + 1) _ (seen _) (omega (arith, ai)) (omega (arith, en)) code.1.1.1.1.1.0 tt
-        ∙ jnz_goes look plain _ _ _ _ (pos low.base -ℤ pos sb) (seen _) (rw z refl) ∙ ap (λ y. went (tested s base last (at + 1 + 1 + 1 + 1 + 1 + 1) (base + h.fail) joined y)) z ∙ ap (λ y. went (tested s base last y (base + h.fail) joined (pos 0))) next)
+        five _ (step_row look plain _ base last (at + 1 + 1 + 1 + 1 + 1) _ (seen _) (omega (arith, ai))
+        (omega (arith, en)) code.1.1.1.1.1.0 tt
+        ∙ jnz_goes look plain _ _ _ _ (pos low.base -ℤ pos sb) (seen _) (rw z refl)
+        ∙ ap (λ y. went (tested s base last (at + 1 + 1 + 1 + 1 + 1 + 1) (base + h.fail) joined y)) z
+        ∙ ap (λ y. went (tested s base last y (base + h.fail) joined (pos 0))) next)
 
     pub return_turns : low.base ≢ sb
-        → run_of look plain 6 s ≡ went (tested s base last (base + h.fail) (base + h.fail) joined (pos low.base -ℤ pos sb))
+        → run_of look plain 6 s
+        ≡ went (tested s base last (base + h.fail) (base + h.fail) joined (pos low.base -ℤ pos sb))
     unfolding return_code
     return_turns ne =
         let code = h.code in
         let ai = h.at_is in
         let en = h.ends in
-        five _ (step_row look plain _ base last (at + 1 + 1 + 1 + 1 + 1) _ (seen _) (omega (arith, ai)) (omega (arith, en)) code.1.1.1.1.1.0 tt
-        ∙ jnz_jumps look plain _ _ _ _ _ (pos low.base -ℤ pos sb) (seen _) (not_zero low.base sb ne) (stays look plain _ _ (ap is_linear (seen _))))
+        five _ (step_row look plain _ base last (at + 1 + 1 + 1 + 1 + 1) _ (seen _) (omega (arith, ai))
+        (omega (arith, en)) code.1.1.1.1.1.0 tt
+        ∙ jnz_jumps look plain _ _ _ _ _ (pos low.base -ℤ pos sb) (seen _) (not_zero low.base sb ne)
+        (stays look plain _ _ (ap is_linear (seen _))))
 
   pub return_runs : ReturnRuns look plain
   unfolding return_code
@@ -106,20 +132,49 @@ module _ {W : Type 0} (look : W → Word) (plain : Word → W) (seen : (x : Word
       let ai = h.at_is in
       let en = h.ends in
       let m' : FinMap nat_cmp W = set_cell s.cells b (zero_word plain) in
-      let c : Stands look m' at (return_code h.fail h.offset sb) = Stands-outside look s.cells b _ base last at (return_code h.fail h.offset sb) out (omega (arith, ai)) (omega (arith, en)) code in
+      let c : Stands look m' at (return_code h.fail h.offset sb) =
+      Stands-outside look s.cells b _ base last at (return_code h.fail h.offset sb)
+      out (omega (arith, ai)) (omega (arith, en)) code in
       let six : at + 6 ≡ at + 1 + 1 + 1 + 1 + 1 + 1 = omega arith in
       let ends : at + 1 + 1 + 1 + 1 + 1 + 1 + 1 + 1 + 1 + 1 ≡ at + 10 = omega arith in
-      run_then look plain 6 4 s _ _ (return_tests s base last at sb (record (stack_cap sb low 0) { addr = to }) (stack_cap b end b) h hpc hstk hdat refl refl refl joint (omega (arith, sl, le, small)) (omega (arith, sl, le, small)) refl ∙ ap (λ y. went (tested s base last y (base + h.fail) (stack_cap sb end b) (pos 0))) six)
-      (go look plain _ _ _ base last (at + 1 + 1 + 1 + 1 + 1 + 1) _ (seen _) (omega (arith, ai)) (omega (arith, en)) code.1.1.1.1.1.1.0 tt (load_goes look plain _ _ _ _ (stack_cap sb end b) b w _ refl (seen _) refl refl sl le there refl lin (sym (is_linear-face (look w)) ∙ lin))
-      ∙ go look plain _ _ _ base last (at + 1 + 1 + 1 + 1 + 1 + 1 + 1) _ (seen _) (omega (arith, ai)) (omega (arith, en)) code.1.1.1.1.1.1.1.0 (search rules) (set_goes look plain _ _ _ _ refl)
-      ∙ go look plain _ _ _ base last (at + 1 + 1 + 1 + 1 + 1 + 1 + 1 + 1) _ (seen _) (omega (arith, ai)) (omega (arith, en)) code.1.1.1.1.1.1.1.1.0 tt (store_goes look plain _ _ _ _ _ (stack_cap sb end b) b w (seen _) refl refl sl le there (stays look plain _ _ (ap is_linear (seen _))))
-      ∙ go look plain _ _ _ base last (at + 1 + 1 + 1 + 1 + 1 + 1 + 1 + 1 + 1) _ (seen _) (omega (arith, ai)) (omega (arith, en)) c.1.1.1.1.1.1.1.1.1.0 (search rules) (set_goes look plain _ _ _ _ refl)
-      ∙ ran look plain _ ∙ ap (λ k. went (record s { regs = record s.regs { pc = plain (Mem (code_cap base last k)); stk = plain (Mem (stack_cap sb end b)); dat = w; t1 = zero_word plain; t2 = zero_word plain }; cells = m' })) ends)
+      run_then look plain 6 4 s _ _
+      (return_tests s base last at sb (record (stack_cap sb low 0) { addr = to }) (stack_cap b end b)
+      h hpc hstk hdat refl refl refl joint (omega (arith, sl, le, small)) (omega (arith, sl, le, small))
+      refl ∙ ap (λ y. went (tested s base last y (base + h.fail) (stack_cap sb end b) (pos 0))) six)
+      (go look plain _ _ _ base last (at + 1 + 1 + 1 + 1 + 1 + 1) _ (seen _) (omega (arith, ai))
+      (omega (arith, en))
+      code.1.1.1.1.1.1.0 tt
+      (load_goes look plain _ _ _ _ (stack_cap sb end b) b w _ refl (seen _)
+      refl refl sl le there refl lin (sym (is_linear-face (look w)) ∙ lin))
+      ∙ go look plain _ _ _ base last (at + 1 + 1 + 1 + 1 + 1 + 1 + 1) _ (seen _) (omega (arith, ai))
+      (omega (arith, en)) code.1.1.1.1.1.1.1.0 (search rules) (set_goes look plain _ _ _ _ refl)
+      ∙ go look plain _ _ _ base last (at + 1 + 1 + 1 + 1 + 1 + 1 + 1 + 1) _ (seen _) (omega (arith, ai))
+      (omega (arith, en))
+      code.1.1.1.1.1.1.1.1.0 tt
+      (store_goes look plain _ _ _ _ _ (stack_cap sb end b) b w (seen _)
+      refl refl sl le there (stays look plain _ _ (ap is_linear (seen _))))
+      ∙ go look plain _ _ _ base last (at + 1 + 1 + 1 + 1 + 1 + 1 + 1 + 1 + 1) _ (seen _) (omega (arith, ai))
+      (omega (arith, en)) c.1.1.1.1.1.1.1.1.1.0 (search rules) (set_goes look plain _ _ _ _ refl)
+      ∙ ran look plain _
+      ∙ ap (λ k.
+      went (record s {
+        regs = record s.regs {
+          pc = plain (Mem (code_cap base last k));
+          stk = plain (Mem (stack_cap sb end b));
+          dat = w;
+          t1 =
+              zero_word plain;
+          t2 = zero_word plain;
+        };
+        cells = m';
+      })) ends)
 
   pub return_off_base : ReturnOffBaseFails look plain
   return_off_base s base last at sb low high h hpc hstk hdat ll lh same joint s1 s2 ne =
-      run_then look plain 6 1 s _ _ (return_turns s base last at sb low high h hpc hstk hdat ll lh same joint s1 s2 ne)
-      (let fh = h.fails.1 in stop look plain _ _ base last (base + h.fail) Fail F4 (seen _) (omega arith) fh h.fails.0.0 tt (fail_fails look plain _ _))
+      run_then look plain 6 1 s _ _
+      (return_turns s base last at sb low high h hpc hstk hdat ll lh same joint s1 s2 ne)
+      (let fh = h.fails.1 in stop look plain _ _ base last (base + h.fail) Fail F4 (seen _) (omega arith)
+      fh h.fails.0.0 tt (fail_fails look plain _ _))
 
 -- a return stands as before where a cell outside its code is set
 pub HasReturn-set : {W : Type 0} (look : W → Word) (m : FinMap nat_cmp W) (base last at sb a : ℕ) (w : W)
@@ -133,8 +188,13 @@ HasReturn-set look m base last at sb a w out h =
       offset = h.offset;
       fail = h.fail;
       at_is = h.at_is;
-      code = Stands-outside look m a w base last at (return_code h.fail h.offset sb) out (omega (arith, ai)) (omega (arith, en)) h.code;
+      code = Stands-outside look m a w base last at (return_code h.fail h.offset sb) out (omega (arith, ai))
+          (omega (arith, en)) h.code;
       ends = h.ends;
       small = h.small;
-      fails = (Stands-outside look m a w base last (base + h.fail) (Fail ∷ []) out (omega arith) (omega (arith, fi)) h.fails.0, h.fails.1);
+      fails = (
+        Stands-outside look m a w base last (base + h.fail) (Fail ∷ []) out (omega arith)
+            (omega (arith, fi)) h.fails.0,
+        h.fails.1,
+      );
     }

@@ -30,9 +30,12 @@ some_none false x o e = cc
 stands : (words : List Word) (at : ℕ) (code : List Instr) → is_some (code_difference words at code) ≡ false
     → CodeStands words at code
 stands words at [] e = λ k i h. cc
-stands words at (x ∷ xs) e = by_place (some_none (is_int (slice_get words at) (pos (number_of x))) at (code_difference words (at + 1) xs) e) (stands words (at + 1) xs)
+stands words at (x ∷ xs) e =
+    by_place (some_none (is_int (slice_get words at) (pos (number_of x)))
+    at (code_difference words (at + 1) xs) e) (stands words (at + 1) xs)
   where
-    by_place : (is_int (slice_get words at) (pos (number_of x)) ≡ true) × (is_some (code_difference words (at + 1) xs) ≡ false)
+    by_place : (is_int (slice_get words at) (pos (number_of x)) ≡ true)
+        × (is_some (code_difference words (at + 1) xs) ≡ false)
         → (is_some (code_difference words (at + 1) xs) ≡ false → CodeStands words (at + 1) xs)
         → (k : ℕ) (i : Instr) → slice_get (x ∷ xs) k ≡ Some i
         → slice_get words (at + k) ≡ Some (Int (pos (number_of i)))
@@ -50,13 +53,17 @@ neither (Some x) b e = cc
 
 pub site_code : (c : ComponentFields) (index : ℕ) → is_site c index ≡ true → SiteStands c index
 unfolding is_site sequence_difference
-site_code c index e = by_offsets c.fail_at c.literal_at refl refl (not-true (is_some (site_difference c index)) (and_parts (nat_le (slice_index c.sites index + SITE_WORDS) (length c.code)) _ e).1)
+site_code c index e =
+    by_offsets c.fail_at c.literal_at refl refl
+    (not-true (is_some (site_difference c index))
+    (and_parts (nat_le (slice_index c.sites index + SITE_WORDS) (length c.code)) _ e).1)
   where
     by_code : (fail literal : ℕ) → c.fail_at ≡ Some fail → c.literal_at ≡ Some literal
         → is_some (sequence_difference c index fail literal) ≡ false → SiteStands c index
     by_code fail literal f l d =
         let at = slice_index c.sites index in
-        let n = neither (code_difference c.code at (call_code literal at index)) (code_difference c.code (at + CALL_WORDS) (return_code fail (at + CALL_WORDS) c.stack_base)) d in
+        let n = neither (code_difference c.code at (call_code literal at index))
+        (code_difference c.code (at + CALL_WORDS) (return_code fail (at + CALL_WORDS) c.stack_base)) d in
         record {
           fail = fail;
           literal = literal;
@@ -83,5 +90,6 @@ entry_words_stand c at e = by_fail c.fail_at refl e
         record {
           fail = fail;
           fail_is = m;
-          entry = stands c.code at (entry_code fail at c.stack_base) (not-true (is_some (code_difference c.code at (entry_code fail at c.stack_base))) b.1);
+          entry = stands c.code at (entry_code fail at c.stack_base)
+              (not-true (is_some (code_difference c.code at (entry_code fail at c.stack_base))) b.1);
         }

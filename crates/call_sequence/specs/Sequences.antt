@@ -4,7 +4,8 @@ use Rattle.lcm_isa.specs.declared.Reg.TheVariants.{Pc, Rcode, Rdata, Stk, Dat, T
 use Rattle.lcm_isa.specs.declared.Operand.TheVariants.{R, Imm}
 use Rattle.lcm_isa.specs.declared.Instr.{Instr}
 use Rattle.lcm_isa.specs.declared.Instr.TheVariants.{Jnz, Gettype, Geta, Getb, Gete, Getp, Getlin, Move}
-use Rattle.lcm_isa.specs.declared.Instr.TheVariants.{Store, Load, Cca, Minus, Seta2b, Xjmp, Cseal, Split, Splice}
+use Rattle.lcm_isa.specs.declared.Instr.TheVariants.{Store, Load, Cca, Minus, Seta2b, Xjmp, Cseal, Split}
+use Rattle.lcm_isa.specs.declared.Instr.TheVariants.{Splice}
 use Rattle.lcm_isa.specs.Numbers.{number_of}
 
 -- what has to be added to an offset to come to another

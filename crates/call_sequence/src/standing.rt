@@ -1,7 +1,8 @@
 //! Whether sequences stand in a component's code.
 ghost use Rattle.std.specs.Prelude.{◌≡◌, ◌<◌, ◌≤◌, ◌+◌, ◌^◌, length, slice_index, slice_get};
 ghost use Rattle.component_file.specs.Limits.{IsComponent};
-ghost use Rattle.call_sequence.specs.Standing.{is_int, difference, sequence_difference, site_difference, is_site, is_entry};
+ghost use Rattle.call_sequence.specs.Standing.{is_int, difference, sequence_difference, site_difference};
+ghost use Rattle.call_sequence.specs.Standing.{is_site, is_entry};
 
 use crate::sequences::{call_words, entry_words, return_words};
 use crate::{CALL_WORDS, ENTRY_WORDS, SITE_WORDS};

@@ -45,7 +45,8 @@ pub given_at : {X Y : Type 0} (f : X → Option Y) (xs : List X) (k : ℕ) (x : 
     → ((j : ℕ) (z : X) (u : Y) → j < k → slice_get xs j ≡ Some z → f z ≡ Some u → ⊥)
     → first_given f xs ≡ Some y
 given_at f [] k x y at is none = absurd cc
-given_at f (z ∷ zs) zero x y at is none = let e : z ≡ x = cc in ap (λ o. option_or o (first_given f zs)) (ap f e ∙ is)
+given_at f (z ∷ zs) zero x y at is none = let e : z ≡ x =
+    cc in ap (λ o. option_or o (first_given f zs)) (ap f e ∙ is)
 given_at f (z ∷ zs) (suc k) x y at is none =
     by_first (f z) refl (given_at f zs k x y at is (λ j w u lt a b. none (suc j) w u (omega (arith, lt)) a b))
   where
@@ -59,7 +60,9 @@ unfolding part_word
 own_word parts p o w is =
     let c = p.component in
     let back : c.code_base + o - c.code_base ≡ o = omega arith in
-    let here : from c.code_base (slice_get c.code) (c.code_base + o) ≡ Some w = from_yes c.code_base (slice_get c.code) (c.code_base + o) (omega arith) ∙ ap (slice_get c.code) back ∙ is in
+    let here : from c.code_base (slice_get c.code) (c.code_base + o) ≡ Some w =
+    from_yes c.code_base (slice_get c.code) (c.code_base + o) (omega arith) ∙ ap (slice_get c.code) back
+    ∙ is in
     ap (λ x. option_or x (from c.data_base (data_word parts c) (c.code_base + o))) here
 
 -- the word that a part has at an address stands there
@@ -69,7 +72,9 @@ pub part_stands : (parts : List PartSeen) (size : ℕ) (s : Run) → Linked part
 unfolding start_cell
 part_stands parts size s linked start k a p w at here =
     let first = given_at (part_word parts a) parts k p w at here before in
-    start.cells a ∙ ap (λ x. option_or x (if in_regions a (regions_of parts size) then Some (Int (pos 0)) else None)) first
+    start.cells a
+    ∙ ap (λ x. option_or x (if in_regions a (regions_of parts size) then Some (Int (pos 0)) else None))
+    first
   where
     before : (j : ℕ) (q : PartSeen) (u : Word) → j < k → slice_get parts j ≡ Some q
         → part_word parts a q ≡ Some u → ⊥
@@ -90,7 +95,8 @@ stands_in : (cells : FinMap nat_cmp Word) (base : ℕ) (words : List Word)
 stands_in cells base words each at [] h = tt
 stands_in cells base words each at (i ∷ is) h =
     let zero_more : at + 0 ≡ at = omega arith in
-    let here : slice_get words at ≡ Some (Int (pos (number_of i))) = ap (slice_get words) (sym zero_more) ∙ h 0 i refl in
+    let here : slice_get words at ≡ Some (Int (pos (number_of i))) =
+    ap (slice_get words) (sym zero_more) ∙ h 0 i refl in
     let further : base + (at + 1) ≡ base + at + 1 = omega arith in (
       ap (look_face (λ w. w)) (each at (Int (pos (number_of i))) here),
       subst (λ a. Stands (λ w. w) cells a is) further (stands_in cells base words each (at + 1) is (later h)),
@@ -116,12 +122,22 @@ zero_is None e = absurd cc
 
 pub fail_of : (p : PartSeen) → IsPart p → p.trusted ≡ true → FailAt p.component
 unfolding c12
-fail_of p h trusted = by_offset p.component.fail_at refl (not-false _ (kept p h 12 1 (c12 p.component) (twelfth p trusted) (omega arith)))
+fail_of p h trusted =
+    by_offset p.component.fail_at refl
+    (not-false _ (kept p h 12 1 (c12 p.component) (twelfth p trusted) (omega arith)))
   where
     by_offset : (o : Option ℕ) → p.component.fail_at ≡ o
         → is_zero_word (code_at p.component p.component.fail_at) ≡ true → FailAt p.component
-    by_offset None e z = let f : false ≡ true = sym (ap (λ o. is_zero_word (code_at p.component o)) e) ∙ z in absurd cc
-    by_offset (Some o) e z = record { offset = o; is = e; word = zero_is (slice_get p.component.code o) (sym (ap (λ o. is_zero_word (code_at p.component o)) e) ∙ z) }
+    by_offset None e z = let f : false ≡ true =
+        sym (ap (λ o. is_zero_word (code_at p.component o)) e) ∙ z in absurd cc
+    by_offset (Some o) e z =
+        record {
+          offset = o;
+          is = e;
+          word =
+              zero_is (slice_get p.component.code o)
+              (sym (ap (λ o. is_zero_word (code_at p.component o)) e) ∙ z);
+        }
 
 -- the offset of the literal
 pub record LiteralAt (c : ComponentFields) : Type 0 where
@@ -141,11 +157,13 @@ tests false b c e = absurd cc
 over_seals : (c : ComponentFields) (o : Option Word) → is_over_seals c o ≡ true
     → o ≡ Some (Seal (all_seals c))
 over_seals c (Some (Seal s)) e =
-    let t = tests (s.base == c.seals.base) (s.end + 1 == c.seals.base + c.seals.count) (int_eq s.cur (pos c.seals.base)) e in
+    let t = tests (s.base == c.seals.base) (s.end + 1 == c.seals.base + c.seals.count)
+    (int_eq s.cur (pos c.seals.base)) e in
     let base = eqb-true s.base c.seals.base t.0 in
     let end = eqb-true (s.end + 1) (c.seals.base + c.seals.count) t.1 in
     let last : s.end ≡ c.seals.base + c.seals.count - 1 = omega (arith, end) in
-    let same : s ≡ all_seals c = same_seals s (all_seals c) base last ((Decides-int_eq s.cur (pos c.seals.base)).0 t.2) in
+    let same : s ≡ all_seals c =
+    same_seals s (all_seals c) base last ((Decides-int_eq s.cur (pos c.seals.base)).0 t.2) in
     ap (λ x. Some (Seal x)) same
 over_seals c (Some (Int n)) e = absurd cc
 over_seals c (Some (Mem m)) e = absurd cc
@@ -156,7 +174,10 @@ pub literal_of : (p : PartSeen) → IsPart p → p.trusted ≡ true → 0 < leng
     → LiteralAt p.component
 unfolding c12
 literal_of p h trusted some =
-    let fine : (has_sites p.component && not (is_over_seals p.component (code_at p.component p.component.literal_at))) ≡ false = kept p h 12 3 (c12 p.component) (twelfth p trusted) (omega arith) in
+    let fine :
+    (has_sites p.component
+    && not (is_over_seals p.component (code_at p.component p.component.literal_at))) ≡ false =
+    kept p h 12 3 (c12 p.component) (twelfth p trusted) (omega arith) in
     by_offset p.component.literal_at refl (asked _ _ (lt-ltb 0 (length p.component.sites) some) fine)
   where
     asked : (a b : Bool) → a ≡ true → (a && not b) ≡ false → b ≡ true
@@ -166,21 +187,25 @@ literal_of p h trusted some =
     by_offset : (o : Option ℕ) → p.component.literal_at ≡ o
         → is_over_seals p.component (code_at p.component p.component.literal_at) ≡ true
         → LiteralAt p.component
-    by_offset None e z = let f : false ≡ true = sym (ap (λ o. is_over_seals p.component (code_at p.component o)) e) ∙ z in absurd cc
+    by_offset None e z = let f : false ≡ true =
+        sym (ap (λ o. is_over_seals p.component (code_at p.component o)) e) ∙ z in absurd cc
     by_offset (Some o) e z = record {
       offset = o;
       is = e;
-      word = over_seals p.component (slice_get p.component.code o) (sym (ap (λ o. is_over_seals p.component (code_at p.component o)) e) ∙ z);
+      word = over_seals p.component (slice_get p.component.code o)
+          (sym (ap (λ o. is_over_seals p.component (code_at p.component o)) e) ∙ z);
     }
 
 -- ---- the code of a trusted part
 
 -- what the rules K say of sites and of entries
 abbrev pub SitesStand : Type 0
-SitesStand = (c : ComponentFields) → IsComponent c → IsKept c → (i : ℕ) → i < length c.sites → seq.SiteStands c i
+SitesStand = (c : ComponentFields) → IsComponent c → IsKept c → (i : ℕ) → i < length c.sites
+    → seq.SiteStands c i
 
 abbrev pub EntriesStand : Type 0
-EntriesStand = (c : ComponentFields) → IsComponent c → IsKept c → (o : ℕ) → begins_entry c o ≡ true → seq.EntryStands c o
+EntriesStand = (c : ComponentFields) → IsComponent c → IsKept c → (o : ℕ) → begins_entry c o ≡ true
+    → seq.EntryStands c o
 
 one : {x y : ℕ} (o : Option ℕ) → o ≡ Some x → o ≡ Some y → x ≡ y
 one {x} {y} o e f = let g : Some x ≡ Some y = sym e ∙ f in cc
@@ -189,7 +214,8 @@ pub any_of : {A : Type 0} (f : A → Bool) (xs : List A) (x : A) → Contains xs
     → list_any f xs ≡ true
 any_of f [] x m t = absurd (omega (arith, m.1))
 any_of f (y ∷ ys) x (zero, lt, e) t = let h : f y ≡ true = ap f e ∙ t in rw h refl
-any_of f (y ∷ ys) x (suc k, lt, e) t = let h : list_any f ys ≡ true = any_of f ys x (k, omega (arith, lt), e) t in rw h (or_right (f y) true refl)
+any_of f (y ∷ ys) x (suc k, lt, e) t = let h : list_any f ys ≡ true =
+    any_of f ys x (k, omega (arith, lt), e) t in rw h (or_right (f y) true refl)
 
 entry_begins : (c : ComponentFields) (e : Export) → Contains c.exports e → begins_entry c e.offset ≡ true
 unfolding begins_entry
@@ -223,21 +249,27 @@ trusted_stand sites entries parts size s each linked start k p at trusted =
     stands = stands_in s.maps.cells p.component.code_base p.component.code word
 
     fails : StandsIn s.maps p.component fail.offset (Fail ∷ [])
-    fails = (ap (look_face (λ w. w)) (word fail.offset (Int (pos 0)) fail.word) ∙ ap (λ n. Some (Number (pos n))) (sym fail_number), tt)
+    fails = (
+      ap (look_face (λ w. w)) (word fail.offset (Int (pos 0)) fail.word)
+          ∙ ap (λ n. Some (Number (pos n))) (sym fail_number),
+      tt,
+    )
 
     at_entry : (e : Export) → Contains p.component.exports e
         → StandsIn s.maps p.component e.offset (entry_code fail.offset e.offset p.component.stack_base)
     at_entry e m =
         let x = entries p.component part.limits (part.flow trusted) e.offset (entry_begins p.component e m) in
         let same : x.fail ≡ fail.offset = one p.component.fail_at x.fail_is fail.is in
-        subst (λ f. StandsIn s.maps p.component e.offset (entry_code f e.offset p.component.stack_base)) same (stands e.offset (entry_code x.fail e.offset p.component.stack_base) x.entry)
+        subst (λ f. StandsIn s.maps p.component e.offset (entry_code f e.offset p.component.stack_base))
+        same (stands e.offset (entry_code x.fail e.offset p.component.stack_base) x.entry)
 
     at_site : (index offset : ℕ) → slice_get p.component.sites index ≡ Some offset
         → SiteInCells s.maps p.component fail.offset index offset
     at_site index offset is =
         let within = slice_get_within p.component.sites index offset is in
         let x = sites p.component part.limits (part.flow trusted) index within in
-        let o : slice_index p.component.sites index ≡ offset = get_or_from_slice_get p.component.sites index offset 0 is in
+        let o : slice_index p.component.sites index ≡ offset =
+        get_or_from_slice_get p.component.sites index offset 0 is in
         let same : x.fail ≡ fail.offset = one p.component.fail_at x.fail_is fail.is in
         let literal = literal_of p part trusted (omega (arith, within)) in
         let lit : x.literal ≡ literal.offset = one p.component.literal_at x.literal_is literal.is in
@@ -246,8 +278,13 @@ trusted_stand sites entries parts size s each linked start k p at trusted =
           literal_is = literal.is;
           seals = word literal.offset (Seal (all_seals p.component)) literal.word;
           call = stands offset (call_code literal.offset offset index)
-              (subst (λ n. seq.CodeStands p.component.code n (call_code literal.offset n index)) o (subst (λ l. seq.CodeStands p.component.code (slice_index p.component.sites index) (call_code l (slice_index p.component.sites index) index)) lit x.call));
+              (subst (λ n. seq.CodeStands p.component.code n (call_code literal.offset n index))
+              o (subst (λ l. seq.CodeStands p.component.code (slice_index p.component.sites index)
+              (call_code l (slice_index p.component.sites index) index)) lit x.call));
           back = stands (offset + 16) (return_code fail.offset (offset + 16) p.component.stack_base)
-              (subst (λ n. seq.CodeStands p.component.code (n + 16) (return_code fail.offset (n + 16) p.component.stack_base)) o
-              (subst (λ f. seq.CodeStands p.component.code (slice_index p.component.sites index + 16) (return_code f (slice_index p.component.sites index + 16) p.component.stack_base)) same x.back));
+              (subst (λ n. seq.CodeStands p.component.code (n + 16)
+              (return_code fail.offset (n + 16) p.component.stack_base)) o
+              (subst (λ f. seq.CodeStands p.component.code (slice_index p.component.sites index + 16)
+              (return_code f (slice_index p.component.sites index + 16) p.component.stack_base))
+              same x.back));
         }

@@ -39,7 +39,8 @@ code_from_data p kept apart =
     (Contains-append_left y z _ second)
 
 module _ (parts : List PartSeen) (size : ℕ) (s : Run) (linked : Linked parts size)
-    (start : IsStart parts size s) (k : ℕ) (p : PartSeen) (at : slice_get parts k ≡ Some p) (apart : AllPairs Apart (part_regions p)) where
+    (start : IsStart parts size s) (k : ℕ) (p : PartSeen) (at : slice_get parts k ≡ Some p)
+    (apart : AllPairs Apart (part_regions p)) where
   abbrev c : ComponentFields
   c = p.component
 

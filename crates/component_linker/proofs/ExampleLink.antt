@@ -40,7 +40,8 @@ filled f (suc n) = set_slot (filled f n) n (f n)
 pub filled_past : {W : Type 0} (f : ℕ → Option W) (n a : ℕ) → n ≤ a → cell (filled f n) a ≡ None
 unfolding filled cell
 filled_past f zero a le = maps.get-empty nat_cmp a
-filled_past f (suc n) a le = slot_other (filled f n) n a (f n) (omega (arith, le)) ∙ filled_past f n a (omega (arith, le))
+filled_past f (suc n) a le =
+    slot_other (filled f n) n a (f n) (omega (arith, le)) ∙ filled_past f n a (omega (arith, le))
 
 pub filled_below : {W : Type 0} (f : ℕ → Option W) (n a : ℕ) → a < n → cell (filled f n) a ≡ f a
 unfolding filled
@@ -53,7 +54,11 @@ filled_below f (suc n) a lt = elim (cases_eq a n) as (λ _. cell (set_slot (fill
 -- ---- the start
 
 abbrev pub main : Exported
-main = record { part = record { component = caller; trusted = true }; export = record { name = 109 ∷ 97 ∷ 105 ∷ 110 ∷ []; offset = 0; shared = true } }
+main = record {
+  part = record { component = caller; trusted = true };
+  export =
+      record { name = 109 ∷ 97 ∷ 105 ∷ 110 ∷ []; offset = 0; shared = true };
+}
 
 abbrev pub spans : List Span
 spans = map region_span (regions_of pair 4)
@@ -70,7 +75,8 @@ second_owner = owner_of 1 (record { component = other; trusted = false })
 abbrev pub start : StartSeen
 start = record {
   state = record {
-    maps = record { regs = start_regs pair 4 main; cells = filled (start_cell pair 4) 1048576; spans = spans };
+    maps = record
+        { regs = start_regs pair 4 main; cells = filled (start_cell pair 4) 1048576; spans = spans };
     count = 0;
     end = None;
   };
@@ -105,15 +111,37 @@ none_if None h = refl
 none_if (Some w) h = absurd (h w refl)
 
 pub cells_are : (a : ℕ) → cell (filled (start_cell pair 4) 1048576) a ≡ start_cell pair 4 a
-cells_are a = elim (cases_lt a 1048576) as (λ _. cell (filled (start_cell pair 4) 1048576) a ≡ start_cell pair 4 a) [
-  | inl lt ↦ filled_below (start_cell pair 4) 1048576 a lt
-  | inr ge ↦ filled_past (start_cell pair 4) 1048576 a ge ∙ sym (none_if (start_cell pair 4 a) (λ w e. (let lt = in_bounds a w e in omega (arith, lt, ge))))
-]
+cells_are a =
+    elim (cases_lt a 1048576) as (λ _. cell (filled (start_cell pair 4) 1048576) a ≡ start_cell pair 4 a) [
+      | inl lt ↦ filled_below (start_cell pair 4) 1048576 a lt
+      | inr ge ↦ filled_past (start_cell pair 4) 1048576 a ge
+          ∙ sym (none_if (start_cell pair 4 a) (λ w e. (let lt = in_bounds a w e in omega (arith, lt, ge))))
+    ]
 
 -- the regions stand in ascending order already
 spans_rise : AreSpans 0 spans
 unfolding regions_of number_of entry_code call_code return_code
-spans_rise = (omega arith, omega arith, omega arith, (omega arith, omega arith, omega arith, (omega arith, omega arith, omega arith, (omega arith, omega arith, omega arith, (omega arith, omega arith, omega arith, (omega arith, omega arith, omega arith, tt))))))
+spans_rise = (
+  omega arith,
+  omega arith,
+  omega arith,
+  (
+    omega arith,
+    omega arith,
+    omega arith,
+    (
+      omega arith,
+      omega arith,
+      omega arith,
+      (
+        omega arith,
+        omega arith,
+        omega arith,
+        (omega arith, omega arith, omega arith, (omega arith, omega arith, omega arith, tt)),
+      ),
+    ),
+  ),
+)
 
 main_found : main_of pair ≡ Some main
 unfolding number_of entry_code call_code return_code
@@ -145,7 +173,8 @@ second = record { component = other; trusted = false }
 -- the trusted part is the first one
 trusted_first : (k : ℕ) (p : PartSeen) → slice_get pair k ≡ Some p → p.trusted ≡ true → (k ≡ 0) × (first ≡ p)
 trusted_first zero p at t = (refl, cc)
-trusted_first (suc zero) p at t = absurd (let is : second ≡ p = cc in let n : false ≡ true = ap (λ (x : PartSeen). x.trusted) is ∙ t in cc)
+trusted_first (suc zero) p at t =
+    absurd (let is : second ≡ p = cc in let n : false ≡ true = ap (λ (x : PartSeen). x.trusted) is ∙ t in cc)
 trusted_first (suc (suc k)) p at t = absurd cc
 
 site_first : (k o : ℕ) → slice_get (23 ∷ []) k ≡ Some o → (k ≡ 0) × (o ≡ 23)
@@ -153,7 +182,8 @@ site_first zero o e = (refl, (let h : 23 ≡ o = cc in sym h))
 site_first (suc k) o e = absurd cc
 
 is_site : IsSite pair site
-is_site = record { of = first; of_is = refl; trusted = refl; offset = 23; offset_is = refl; seal = refl; at = refl }
+is_site =
+    record { of = first; of_is = refl; trusted = refl; offset = 23; offset_is = refl; seal = refl; at = refl }
 
 site_only : (s : Site) → IsSite pair s → Contains (site ∷ []) s
 site_only s is =
@@ -167,7 +197,8 @@ site_only s is =
     let offset = k.1 in
     let seal = is.seal in
     let at = is.at in
-    let e : site ≡ s = same_site site s (omega (arith, part)) (omega (arith, index)) (omega (arith, seal, seals, index)) (omega (arith, at, code, offset)) in
+    let e : site ≡ s = same_site site s (omega (arith, part)) (omega (arith, index))
+    (omega (arith, seal, seals, index)) (omega (arith, at, code, offset)) in
     (0, omega arith, e)
 
 sites_are : AreSites pair (site ∷ [])
@@ -217,7 +248,10 @@ starts = record { state = is_start; sites = sites_are; owners = owners_are; stac
 pub has_room : NoneIsBroken (l10 pair ∷ [])
 unfolding l10
 has_room zero p i t e b = cc
-has_room (suc zero) zero i t e b = let is : l10 pair ≡ t = cc in let here = subst (λ u. BrokenIn u 0 i) (sym is) b in absurd (omega (arith, here.1.0))
-has_room (suc zero) (suc zero) i t e b = let is : l10 pair ≡ t = cc in let here = subst (λ u. BrokenIn u 1 i) (sym is) b in absurd (omega (arith, here.1.0))
-has_room (suc zero) (suc (suc p)) i t e b = let is : l10 pair ≡ t = cc in let here = subst (λ u. BrokenIn u (suc (suc p)) i) (sym is) b in absurd (omega (arith, here.0))
+has_room (suc zero) zero i t e b = let is : l10 pair ≡ t = cc in let here =
+    subst (λ u. BrokenIn u 0 i) (sym is) b in absurd (omega (arith, here.1.0))
+has_room (suc zero) (suc zero) i t e b = let is : l10 pair ≡ t = cc in let here =
+    subst (λ u. BrokenIn u 1 i) (sym is) b in absurd (omega (arith, here.1.0))
+has_room (suc zero) (suc (suc p)) i t e b = let is : l10 pair ≡ t = cc in let here =
+    subst (λ u. BrokenIn u (suc (suc p)) i) (sym is) b in absurd (omega (arith, here.0))
 has_room (suc (suc n)) p i t e b = cc

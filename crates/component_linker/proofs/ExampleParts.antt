@@ -81,7 +81,13 @@ caller_checked = refl
 
 entry_zero : (o : ℕ) → begins_entry caller o ≡ true → o ≡ 0
 unfolding begins_entry
-entry_zero o e = elim (cases_eq o 0) as (λ _. o ≡ 0) [ inl q ↦ q | inr ne ↦ (let f : (0 == o) ≡ false = ne_eqb 0 o (λ q. ne (sym q)) in let bad : false ≡ true = sym (ap (λ b. b || false) f) ∙ e in cc) ]
+entry_zero o e =
+    elim (cases_eq o 0) as (λ _. o ≡ 0) [
+      | inl q ↦ q
+      | inr ne ↦
+          (let f : (0 == o) ≡ false = ne_eqb 0 o (λ q. ne (sym q)) in let bad : false ≡ true =
+          sym (ap (λ b. b || false) f) ∙ e in cc)
+    ]
 
 entry_fine : entry_is_bad caller 0 ≡ false
 unfolding entry_is_bad is_entry number_of entry_code call_code return_code
@@ -102,7 +108,8 @@ unfolding k1 k2 k4 sequence_difference number_of entry_code call_code return_cod
 others = refl
 
 others_kept : NoneBroken (k1 caller ∷ k2 caller ∷ k4 caller ∷ [])
-others_kept = subst (IsFirstBroken (broken_at K) (k1 caller ∷ k2 caller ∷ k4 caller ∷ [])) others (first_broken (broken_at K) (k1 caller ∷ k2 caller ∷ k4 caller ∷ []))
+others_kept = subst (IsFirstBroken (broken_at K) (k1 caller ∷ k2 caller ∷ k4 caller ∷ []))
+    others (first_broken (broken_at K) (k1 caller ∷ k2 caller ∷ k4 caller ∷ []))
 
 third : (t : Test ℕ) (i : ℕ) → k3 caller ≡ t → BrokenAt t i → ⊥
 unfolding k3
@@ -117,7 +124,8 @@ placed (suc (suc (suc (suc zero)))) i t e b = others_kept 3 i t e b
 placed (suc (suc (suc (suc (suc n))))) i t e b = cc
 
 walked : Comes caller ended
-unfolding next_from at_word at_row past keep begins_entry begins_site declared site_ready flow ask kind_of set_kind instr_at decode_of candidate table all_with number_of entry_code call_code return_code
+unfolding next_from at_word at_row past keep begins_entry begins_site declared site_ready flow ask kind_of
+    set_kind instr_at decode_of candidate table all_with number_of entry_code call_code return_code
 walked = (9, refl)
 
 -- words of instructions fit, and some behind them
@@ -130,8 +138,11 @@ each_fits : (before : Option Word) (is : List Instr) (more : List Word) → list
 each_fits before [] more h k = k before
 each_fits before (i ∷ is) more h k =
     let both = and_parts (is_small i) (list_all is_small is) h in
-    let small : number_of i < 2 ^ 63 = ltb-true (number_of i) (2 ^ 63) both.0 in
-    (((let fits : WordFits (as_word i) = search (rules, small) in fits), tt), each_fits (Some (as_word i)) is more both.1 k)
+    let small : number_of i < 2 ^ 63 = ltb-true (number_of i) (2 ^ 63) both.0 in (
+      ((let fits : WordFits (as_word i) = search (rules, small) in fits), tt),
+      each_fits (Some (as_word i))
+          is more both.1 k,
+    )
 
 caller_fits : IsComponent caller
 unfolding is_name number_of entry_code call_code return_code
@@ -142,7 +153,11 @@ caller_fits = record {
   seals = (omega arith, omega arith);
   linear = (omega arith, omega arith);
   code_base = omega arith;
-  code = ((omega arith, omega arith), each_fits None caller_instrs (caller_seals ∷ []) refl (λ before. (((omega arith, omega arith), search rules), tt)));
+  code = (
+    (omega arith, omega arith),
+    each_fits None caller_instrs (caller_seals ∷ [])
+        refl (λ before. (((omega arith, omega arith), search rules), tt)),
+  );
   data_base = omega arith;
   data_words = ((omega arith, omega arith), ((search rules, tt), ((search rules, tt), tt)));
   imports = (omega arith, ((refl, refl, omega arith, refl), tt));
@@ -165,9 +180,12 @@ other = record {
   seals = record { base = 20; count = 2 };
   linear = record { base = 64; count = 2 };
   code_base = 57;
-  code = as_word (Xjmp Rcode Rdata) ∷ Mem (record { perm = Rwx; lin = Normal; base = 57; end = 58; addr = pos 57 }) ∷ [];
+  code = as_word (Xjmp Rcode Rdata)
+      ∷ Mem (record { perm = Rwx; lin = Normal; base = 57; end = 58; addr = pos 57 }) ∷ [];
   data_base = 60;
-  data_words = Int (pos 0) ∷ Int (pos 0) ∷ Mem (record { perm = Rw; lin = Linear; base = 64; end = 65; addr = pos 64 }) ∷ [];
+  data_words =
+      Int (pos 0) ∷ Int (pos 0) ∷ Mem (record { perm = Rw; lin = Linear; base = 64; end = 65; addr = pos 64 })
+      ∷ [];
   imports = record { part = 116 ∷ []; name = 109 ∷ 97 ∷ 105 ∷ 110 ∷ []; slot = 0 } ∷ [];
   exports = record { name = 102 ∷ []; offset = 0; shared = true } ∷ [];
   sites = [];
@@ -190,9 +208,15 @@ other_fits = record {
   seals = (omega arith, omega arith);
   linear = (omega arith, omega arith);
   code_base = omega arith;
-  code = ((omega arith, omega arith), ((search rules, tt), ((((omega arith, omega arith), search rules), tt), tt)));
+  code = (
+    (omega arith, omega arith),
+    ((search rules, tt), ((((omega arith, omega arith), search rules), tt), tt)),
+  );
   data_base = omega arith;
-  data_words = ((omega arith, omega arith), ((search rules, tt), ((search rules, tt), ((((omega arith, omega arith), search rules), tt), tt))));
+  data_words = (
+    (omega arith, omega arith),
+    ((search rules, tt), ((search rules, tt), ((((omega arith, omega arith), search rules), tt), tt))),
+  );
   imports = (omega arith, ((refl, refl, omega arith, refl), tt));
   exports = (omega arith, ((refl, refl, omega arith), tt));
   sites = (omega arith, tt);
@@ -205,14 +229,24 @@ other_fits = record {
 
 no_rule : (c : ComponentFields) (trusted : Bool) → check_from (broken_at C) 1 (rules_c c trusted) ≡ Ok tt
     → NoneBroken (rules_c c trusted)
-no_rule c trusted e = subst (IsFirstBroken (broken_at C) (rules_c c trusted)) e (first_broken (broken_at C) (rules_c c trusted))
+no_rule c trusted e =
+    subst (IsFirstBroken (broken_at C) (rules_c c trusted)) e (first_broken (broken_at C) (rules_c c trusted))
 
 abbrev pub pair : List PartSeen
 pair = record { component = caller; trusted = true } ∷ record { component = other; trusted = false } ∷ []
 
 pub each : (k : ℕ) (p : PartSeen) → slice_get pair k ≡ Some p → IsPart p
-each zero p at = let is : record { component = caller; trusted = true } ≡ p = cc in subst IsPart is (record { limits = caller_fits; rules = no_rule caller true caller_checked; flow = λ t. record { placed = placed; walked = walked } })
-each (suc zero) p at = let is : record { component = other; trusted = false } ≡ p = cc in subst IsPart is (record { limits = other_fits; rules = no_rule other false other_checked; flow = λ t. absurd cc })
+each zero p at = let is : record { component = caller; trusted = true } ≡ p =
+    cc in subst IsPart is
+    (record {
+      limits = caller_fits;
+      rules = no_rule caller true caller_checked;
+      flow =
+          λ t. record { placed = placed; walked = walked };
+    })
+each (suc zero) p at = let is : record { component = other; trusted = false } ≡ p =
+    cc in subst IsPart is
+    (record { limits = other_fits; rules = no_rule other false other_checked; flow = λ t. absurd cc })
 each (suc (suc k)) p at = absurd cc
 
 linked_checked : check_from rule_at 1 (map by_part (rules_l pair 4)) ≡ Ok tt
@@ -221,4 +255,5 @@ linked_checked = refl
 
 -- with a stack of four words
 pub keeps : NoneIsBroken (rules_l pair 4)
-keeps = subst (IsFirstBrokenIn rule_at (rules_l pair 4)) linked_checked (first_broken_in rule_at (rules_l pair 4))
+keeps = subst (IsFirstBrokenIn rule_at (rules_l pair 4))
+    linked_checked (first_broken_in rule_at (rules_l pair 4))

@@ -29,7 +29,8 @@ option_or_comm (Some a) (Some b) h = absurd (h a b refl refl)
 pub first_given-append : {X Y : Type 0} (f : X → Option Y) (xs ys : List X)
     → first_given f (xs ++ ys) ≡ option_or (first_given f xs) (first_given f ys)
 first_given-append f [] ys = refl
-first_given-append f (x ∷ xs) ys = ap (λ r. option_or (f x) r) (first_given-append f xs ys) ∙ sym (option_or_assoc (f x) (first_given f xs) (first_given f ys))
+first_given-append f (x ∷ xs) ys = ap (λ r. option_or (f x) r) (first_given-append f xs ys)
+    ∙ sym (option_or_assoc (f x) (first_given f xs) (first_given f ys))
 
 -- the item of which something was given
 pub record Given {X Y : Type 0} (f : X → Option Y) (xs : List X) (y : Y) : Type 0 where
@@ -68,7 +69,9 @@ map_inv f (Some x) y h = (x, refl, cc)
 
 pub exported_of : (test : Export → Bool) (p : PartSeen) (x : Exported) → export_that test p ≡ Some x
     → p ≡ x.part
-exported_of test p x h = let m = map_inv (λ e. record { part = p; export = e }) (find test p.component.exports) x h in ap (λ (y : Exported). y.part) m.2
+exported_of test p x h = let m =
+    map_inv (λ e. record { part = p; export = e }) (find test p.component.exports) x h in
+    ap (λ (y : Exported). y.part) m.2
 
 then_inv : (test : Export → Bool) (o : Option PartSeen) (x : Exported)
     → option_and_then (export_that test) o ≡ Some x → (p : PartSeen) × (o ≡ Some p) × (p ≡ x.part)
@@ -78,22 +81,28 @@ then_inv test (Some p) x h = (p, refl, exported_of test p x h)
 pub imported_of : (parts : List PartSeen) (i : Import) (x : Exported) → imported parts i ≡ Some x
     → (k : ℕ) × (slice_get parts k ≡ Some x.part)
 imported_of parts i x h =
-    let m = then_inv (λ e. same_name e.name i.name) (part_named parts i.part) x h in
-    (position_or_len (λ p. same_name p.component.name i.part) parts, found (λ p. same_name p.component.name i.part) parts m.0 m.1 ∙ ap Some m.2)
+    let m = then_inv (λ e. same_name e.name i.name) (part_named parts i.part) x h in (
+      position_or_len (λ p. same_name p.component.name i.part)
+          parts,
+      found (λ p. same_name p.component.name i.part) parts m.0 m.1 ∙ ap Some m.2,
+    )
 
 pub main_there : (parts : List PartSeen) (x : Exported) → main_of parts ≡ Some x
     → (k : ℕ) × (slice_get parts k ≡ Some x.part)
-main_there parts x h = let g = given (export_that is_main) parts x h in (g.index, g.at ∙ ap Some (exported_of is_main g.item x g.is))
+main_there parts x h = let g =
+    given (export_that is_main) parts x h in (g.index, g.at ∙ ap Some (exported_of is_main g.item x g.is))
 
 -- ---- what is left of a list
 
 pub left_at : {X : Type 0} (xs : List X) (i : ℕ) (x : X) → slice_get xs i ≡ Some x
     → drop i xs ≡ x ∷ drop (i + 1) xs
-left_at xs i x h = drop_more xs i x (slice_get_within xs i x h) ∙ ap (λ y. y ∷ drop (i + 1) xs) (get_or_from_slice_get xs i x x h)
+left_at xs i x h = drop_more xs i x (slice_get_within xs i x h)
+    ∙ ap (λ y. y ∷ drop (i + 1) xs) (get_or_from_slice_get xs i x x h)
 
 pub taken_at : {X : Type 0} (xs : List X) (i : ℕ) (x : X) → slice_get xs i ≡ Some x
     → take (i + 1) xs ≡ take i xs ++ x ∷ []
-taken_at xs i x h = take_more xs i x (slice_get_within xs i x h) ∙ ap (λ y. take i xs ++ y ∷ []) (get_or_from_slice_get xs i x x h)
+taken_at xs i x h = take_more xs i x (slice_get_within xs i x h)
+    ∙ ap (λ y. take i xs ++ y ∷ []) (get_or_from_slice_get xs i x x h)
 
 pub found_here : {X : Type 0} (p : X → Bool) (xs : List X) (i : ℕ) (x : X) → slice_get xs i ≡ Some x
     → find p (drop i xs) ≡ find p xs → p x ≡ true → Some x ≡ find p xs
@@ -120,10 +129,12 @@ none_given f xs i x at h n = let l = left_at xs i x at in sym (rw (← h, l, n) 
 -- ---- what code finds
 
 -- the answer of a search over a part's exports, with the part
-pub exported_is : (test : Export → Bool) (p : PartSeen) (es : List Export) (o : Option Export) (r : Option Exported)
+pub exported_is : (test : Export → Bool) (p : PartSeen) (es : List Export) (o : Option Export)
+    (r : Option Exported)
     → r ≡ option_map (λ e. record { part = p; export = e }) o → o ≡ find test es → es ≡ p.component.exports
     → export_that test p ≡ r
-exported_is test p es o r h k e = sym (h ∙ ap (λ x. option_map (λ e. record { part = p; export = e }) x) (k ∙ ap (find test) e))
+exported_is test p es o r h k e =
+    sym (h ∙ ap (λ x. option_map (λ e. record { part = p; export = e }) x) (k ∙ ap (find test) e))
 
 pub imported_is : (parts : List PartSeen) (i : Import) (p : PartSeen) (r : Option Exported)
     → part_named parts i.part ≡ Some p → export_that (λ e. same_name e.name i.name) p ≡ r

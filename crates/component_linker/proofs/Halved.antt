@@ -1,5 +1,6 @@
 -- What a search by halving finds in items whose keys ascend, and that a part's exports ascend.
-use Rattle.std.proofs.Common.{◌≡◌, ◌⊎◌, ℕ, zero, suc, ◌<◌, ◌≤◌, Bool, true, false, List, [], ◌∷◌, length, get_or, Option, Some, None, refl, sym, ap, ◌∙◌, subst, arith, inl, inr}
+use Rattle.std.proofs.Common.{◌≡◌, ◌⊎◌, ℕ, zero, suc, ◌<◌, ◌≤◌, Bool, true, false, List, [], ◌∷◌, length}
+use Rattle.std.proofs.Common.{get_or, Option, Some, None, refl, sym, ap, ◌∙◌, subst, arith, inl, inr}
 use Rattle.std.specs.Prelude.{find, IsTrue}
 use Rattle.std.specs.List.{All, AllPairs, HoldsAt}
 use Rattle.std.specs.List.Sorted.{IsNonDecreasingBy, IsPartitionPoint}
@@ -56,28 +57,35 @@ module _ {X K : Type 0} (f : X → K) (R : K → K → Ordering) (total : IsTota
   ]
 
   searchable : (xs : List X) → Rise xs → IsNonDecreasingBy (λ y. ordering_index (R (f y) key)) xs
-  searchable xs h i j d le lt = elim (cases_eq i j) as (λ _. ordering_index (R (f (get_or xs i d)) key) ≤ ordering_index (R (f (get_or xs j d)) key)) [
-    | inl e ↦ rw e (omega arith)
-    | inr ne ↦ index_up _ _ (earlier (get_or xs i d) (get_or xs j d) (h i j d (omega arith) lt))
-  ]
+  searchable xs h i j d le lt =
+      elim (cases_eq i j)
+      as (λ _. ordering_index (R (f (get_or xs i d)) key) ≤ ordering_index (R (f (get_or xs j d)) key)) [
+        | inl e ↦ rw e (omega arith)
+        | inr ne ↦ index_up _ _ (earlier (get_or xs i d) (get_or xs j d) (h i j d (omega arith) lt))
+      ]
 
-  find_at : (xs : List X) (i : ℕ) (d : X) → Rise xs → i < length xs → R (f (get_or xs i d)) key ≡ Equal → find (λ y. is_eq (R (f y) key)) xs ≡ Some (get_or xs i d)
+  find_at : (xs : List X) (i : ℕ) (d : X) → Rise xs → i < length xs → R (f (get_or xs i d)) key ≡ Equal
+      → find (λ y. is_eq (R (f y) key)) xs ≡ Some (get_or xs i d)
   find_at [] i d h lt e = absurd (omega arith)
   find_at (x ∷ xs) zero d h lt e = rw e refl
   find_at (x ∷ xs) (suc i) d h lt e =
       let low : R (f x) key ≡ Less = below_equal x (get_or xs i d) (h 0 (suc i) d (omega arith) lt) e in
       rw low (find_at xs i d (λ i j d lt le. h (suc i) (suc j) d (omega arith) (omega arith)) (omega arith) e)
 
-  find_none : (xs : List X) → ((j : ℕ) (d : X) → j < length xs → R (f (get_or xs j d)) key ≡ Equal → ⊥) → find (λ y. is_eq (R (f y) key)) xs ≡ None
+  find_none : (xs : List X) → ((j : ℕ) (d : X) → j < length xs → R (f (get_or xs j d)) key ≡ Equal → ⊥)
+      → find (λ y. is_eq (R (f y) key)) xs ≡ None
   find_none [] h = refl
   find_none (x ∷ xs) h =
       let other : is_eq (R (f x) key) ≡ false = not_equal (R (f x) key) (h 0 x (omega arith)) in
       rw other (find_none xs (λ j d lt e. h (suc j) d (omega arith) e))
 
-  pub found : (xs : List X) (i : ℕ) (d : X) → Rise xs → i < length xs → HoldsAt (λ y. R (f y) key ≡ Equal) xs i → find (λ y. is_eq (R (f y) key)) xs ≡ Some (get_or xs i d)
+  pub found : (xs : List X) (i : ℕ) (d : X) → Rise xs → i < length xs
+      → HoldsAt (λ y. R (f y) key ≡ Equal) xs i → find (λ y. is_eq (R (f y) key)) xs ≡ Some (get_or xs i d)
   found xs i d h lt e = find_at xs i d h lt (e d)
 
-  pub missing : (xs : List X) (i : ℕ) → Rise xs → (IsNonDecreasingBy (λ y. ordering_index (R (f y) key)) xs → IsPartitionPoint (λ y. R (f y) key ≡ Less) (λ y. R (f y) key ≡ Greater) xs i) → find (λ y. is_eq (R (f y) key)) xs ≡ None
+  pub missing : (xs : List X) (i : ℕ) → Rise xs
+      → (IsNonDecreasingBy (λ y. ordering_index (R (f y) key)) xs → IsPartitionPoint (λ y. R (f y) key ≡ Less)
+      (λ y. R (f y) key ≡ Greater) xs i) → find (λ y. is_eq (R (f y) key)) xs ≡ None
   missing xs i h split = find_none xs (λ j d lt e. elim (side j) as (λ _. ⊥) [
     | inl low ↦ true≢false (ap is_eq (sym e ∙ (split (searchable xs h)).0 j d (omega arith) low))
     | inr high ↦ true≢false (ap is_eq (sym e ∙ (split (searchable xs h)).1 j d high lt))
@@ -89,25 +97,36 @@ module _ {X K : Type 0} (f : X → K) (R : K → K → Ordering) (total : IsTota
 -- ---- exports by their names
 
 -- the same name is what the order of names doesn't tell apart
-by_name : (es : List Export) (name : List ℕ) → find (λ e. same_name e.name name) es ≡ find (λ e. is_eq (slice_cmp nat_cmp e.name name)) es
+by_name : (es : List Export) (name : List ℕ)
+    → find (λ e. same_name e.name name) es ≡ find (λ e. is_eq (slice_cmp nat_cmp e.name name)) es
 by_name es name = ap (λ (t : Export → Bool). find t es) (λ i e. texts_ties e.name name i)
 
-pub export_found : (es : List Export) (name : List ℕ) (i : ℕ) (d : Export) → Ascend es → i < length es → HoldsAt (λ e. slice_cmp nat_cmp e.name name ≡ Equal) es i → find (λ e. same_name e.name name) es ≡ Some (get_or es i d)
-export_found es name i d h lt at = by_name es name ∙ found (λ (e : Export). e.name) (slice_cmp nat_cmp) nat_list_cmp_total name es i d h lt at
+pub export_found : (es : List Export) (name : List ℕ) (i : ℕ) (d : Export) → Ascend es → i < length es
+    → HoldsAt (λ e. slice_cmp nat_cmp e.name name ≡ Equal) es i
+    → find (λ e. same_name e.name name) es ≡ Some (get_or es i d)
+export_found es name i d h lt at = by_name es name
+    ∙ found (λ (e : Export). e.name) (slice_cmp nat_cmp) nat_list_cmp_total name es i d h lt at
 
-pub export_missing : (es : List Export) (name : List ℕ) (i : ℕ) → Ascend es → (IsNonDecreasingBy (λ e. ordering_index (slice_cmp nat_cmp e.name name)) es → IsPartitionPoint (λ e. slice_cmp nat_cmp e.name name ≡ Less) (λ e. slice_cmp nat_cmp e.name name ≡ Greater) es i) → find (λ e. same_name e.name name) es ≡ None
-export_missing es name i h split = by_name es name ∙ missing (λ (e : Export). e.name) (slice_cmp nat_cmp) nat_list_cmp_total name es i h split
+pub export_missing : (es : List Export) (name : List ℕ) (i : ℕ) → Ascend es
+    → (IsNonDecreasingBy (λ e. ordering_index (slice_cmp nat_cmp e.name name)) es
+    → IsPartitionPoint (λ e. slice_cmp nat_cmp e.name name ≡ Less)
+    (λ e. slice_cmp nat_cmp e.name name ≡ Greater) es i) → find (λ e. same_name e.name name) es ≡ None
+export_missing es name i h split = by_name es name
+    ∙ missing (λ (e : Export). e.name) (slice_cmp nat_cmp) nat_list_cmp_total name es i h split
 
 -- ---- the limits of a component
 
 name_lt_trans : (a b c : List ℕ) → IsTrue (name_lt a b) → IsTrue (name_lt b c) → IsTrue (name_lt a c)
 name_lt_trans a b c h k = ap is_lt (nat_list_cmp_total.trans a b c (less_is _ h) (less_is _ k))
 
-below_all : (b : Export) (es : List Export) → Chain ExportFits (Some b) es → All (λ e. IsTrue (name_lt b.name e.name)) es
+below_all : (b : Export) (es : List Export) → Chain ExportFits (Some b) es
+    → All (λ e. IsTrue (name_lt b.name e.name)) es
 below_all b [] h k d lt = absurd (omega arith)
 below_all b (e ∷ es) h zero d lt = h.0.1
-below_all b (e ∷ es) h (suc k) d lt = name_lt_trans b.name e.name (get_or es k d).name h.0.1 (below_all e es h.1 k d (omega arith))
+below_all b (e ∷ es) h (suc k) d lt =
+    name_lt_trans b.name e.name (get_or es k d).name h.0.1 (below_all e es h.1 k d (omega arith))
 
 pub exports_ascend : (b : Option Export) (es : List Export) → Chain ExportFits b es → Ascend es
 exports_ascend b [] h = λ i j d lt inside. absurd (omega (arith, inside))
-exports_ascend b (e ∷ es) h = AllPairs-cons (λ (a b : Export). IsTrue (name_lt a.name b.name)) e es (below_all e es h.1) (exports_ascend (Some e) es h.1)
+exports_ascend b (e ∷ es) h = AllPairs-cons (λ (a b : Export). IsTrue (name_lt a.name b.name))
+    e es (below_all e es h.1) (exports_ascend (Some e) es h.1)

@@ -23,20 +23,24 @@ lays_none s = record { cells = λ a. refl; rest = refl }
 pub lays_then : (f g : ℕ → Option Word) (s t u : Run) → Lays f s t → Lays g t u
     → Lays (λ a. option_or (g a) (f a)) s u
 lays_then f g s t u h k = record {
-  cells = λ a. k.cells a ∙ ap (λ o. option_or (g a) o) (h.cells a) ∙ sym (option_or_assoc (g a) (f a) (cell s.maps.cells a));
+  cells = λ a. k.cells a ∙ ap (λ o. option_or (g a) o) (h.cells a)
+      ∙ sym (option_or_assoc (g a) (f a) (cell s.maps.cells a));
   rest = k.rest ∙ ap (λ (r : Run). record r { maps = record r.maps { cells = u.maps.cells } }) h.rest;
 }
 
 pub lays_as : (f g : ℕ → Option Word) (s t : Run) → ((a : ℕ) → f a ≡ g a) → Lays f s t → Lays g s t
-lays_as f g s t e h = record { cells = λ a. h.cells a ∙ ap (λ o. option_or o (cell s.maps.cells a)) (e a); rest = h.rest }
+lays_as f g s t e h =
+    record { cells = λ a. h.cells a ∙ ap (λ o. option_or o (cell s.maps.cells a)) (e a); rest = h.rest }
 
 pub lays_put : (s : Run) (at : ℕ) (w : Word)
     → Lays (single at w) s (record s { maps = put s.maps (Cell at) w })
 lays_put s at w = record {
-  cells = λ a. elim (cases_eq a at) as (λ _. cell (set_cell s.maps.cells at w) a ≡ option_or (single at w a) (cell s.maps.cells a)) [
-    | inl e ↦ (let t : (at == at) ≡ true = eq-eqb at at refl in rw (e, t) (cell-set_same s.maps.cells at w))
-    | inr ne ↦ (let f = ne_eqb a at ne in rw f (cell-set_other s.maps.cells at a w ne))
-  ];
+  cells = λ a. elim (cases_eq a at)
+      as (λ _. cell (set_cell s.maps.cells at w) a ≡ option_or (single at w a) (cell s.maps.cells a)) [
+        | inl e ↦
+            (let t : (at == at) ≡ true = eq-eqb at at refl in rw (e, t) (cell-set_same s.maps.cells at w))
+        | inr ne ↦ (let f = ne_eqb a at ne in rw f (cell-set_other s.maps.cells at a w ne))
+      ];
   rest = refl;
 }
 
@@ -60,10 +64,12 @@ upto_none f base a = grind (arith, nat_tests)
 
 pub upto_more : (f : ℕ → Option Word) (base k : ℕ) (w : Word) → f k ≡ Some w → (a : ℕ)
     → option_or (single (base + k) w a) (from base (upto k f) a) ≡ from base (upto (k + 1) f) a
-upto_more f base k w here a = elim (cases_eq a (base + k)) as (λ _. option_or (single (base + k) w a) (from base (upto k f) a) ≡ from base (upto (k + 1) f) a) [
-  | inl e ↦ here_is e
-  | inr ne ↦ elsewhere ne
-]
+upto_more f base k w here a =
+    elim (cases_eq a (base + k))
+    as (λ _. option_or (single (base + k) w a) (from base (upto k f) a) ≡ from base (upto (k + 1) f) a) [
+      | inl e ↦ here_is e
+      | inr ne ↦ elsewhere ne
+    ]
   where
     here_is : a ≡ base + k
         → option_or (single (base + k) w a) (from base (upto k f) a) ≡ from base (upto (k + 1) f) a
@@ -76,10 +82,13 @@ upto_more f base k w here a = elim (cases_eq a (base + k)) as (λ _. option_or (
 
     elsewhere : a ≢ base + k
         → option_or (single (base + k) w a) (from base (upto k f) a) ≡ from base (upto (k + 1) f) a
-    elsewhere ne = let n = ne_eqb a (base + k) ne in rw n (elim (cases_lt a base) as (λ _. from base (upto k f) a ≡ from base (upto (k + 1) f) a) [
-      | inl lt ↦ (let l : nat_le base a ≡ false = grind (arith, nat_tests) in rw l refl)
-      | inr le ↦ (let l = le-leb _ _ le in rw l (ap (λ b. if b then f (a - base) else None) (same_test le)))
-    ])
+    elsewhere ne = let n =
+        ne_eqb a (base + k) ne in
+        rw n (elim (cases_lt a base) as (λ _. from base (upto k f) a ≡ from base (upto (k + 1) f) a) [
+          | inl lt ↦ (let l : nat_le base a ≡ false = grind (arith, nat_tests) in rw l refl)
+          | inr le ↦
+              (let l = le-leb _ _ le in rw l (ap (λ b. if b then f (a - base) else None) (same_test le)))
+        ])
       where
         same_test : base ≤ a → nat_lt (a - base) k ≡ nat_lt (a - base) (k + 1)
         same_test le = let d : a - base ≢ k = omega arith in grind (arith, nat_tests)
@@ -91,11 +100,15 @@ upto_all ws base a = ap (λ o. if nat_le base a then o else None) (all_of (a - b
     all_of : (o : ℕ) → upto (length ws) (slice_get ws) o ≡ slice_get ws o
     all_of o = elim (cases_lt o (length ws)) as (λ _. upto (length ws) (slice_get ws) o ≡ slice_get ws o) [
       | inl lt ↦ (let t = lt-ltb _ _ lt in rw t refl)
-      | inr le ↦ (let t : nat_lt o (length ws) ≡ false = grind (arith, nat_tests) in rw t (sym (slice_get_past ws o le)))
+      | inr le ↦
+          (let t : nat_lt o (length ws) ≡ false =
+          grind (arith, nat_tests) in rw t (sym (slice_get_past ws o le)))
     ]
 
 -- two words, one after the other
 pub lays_two : (s : Run) (at : ℕ) (w v : Word)
-    → Lays (λ a. option_or (single (at + 1) v a) (single at w a)) s (record s { maps = put (put s.maps (Cell at) w) (Cell (at + 1)) v })
-lays_two s at w v = lays_then (single at w) (single (at + 1) v) s (record s { maps = put s.maps (Cell at) w }) (record s { maps = put (put s.maps (Cell at) w) (Cell (at + 1)) v })
+    → Lays (λ a. option_or (single (at + 1) v a) (single at w a))
+    s (record s { maps = put (put s.maps (Cell at) w) (Cell (at + 1)) v })
+lays_two s at w v = lays_then (single at w) (single (at + 1) v) s (record s { maps = put s.maps (Cell at) w })
+    (record s { maps = put (put s.maps (Cell at) w) (Cell (at + 1)) v })
     (lays_put s at w) (lays_put (record s { maps = put s.maps (Cell at) w }) (at + 1) v)

@@ -26,26 +26,32 @@ both_are false b h = absurd cc
 name_is_short : (text : List ℕ) → IsTrue (is_name text) → length text ≤ LONGEST_NAME
 unfolding is_name
 name_is_short text h =
-    let short = both_are (leb 1 (length text)) (leb (length text) LONGEST_NAME) (both_are _ _ (both_are _ _ h).0).0 in
+    let short =
+    both_are (leb 1 (length text)) (leb (length text) LONGEST_NAME) (both_are _ _ (both_are _ _ h).0).0 in
     grind (arith, short.1)
 
 export_name : (xs : List Export) (b : Option Export) (k : ℕ) (e : Export) → Chain ExportFits b xs
     → slice_get xs k ≡ Some e → length e.name ≤ LONGEST_NAME
 export_name [] b k e h at = absurd cc
-export_name (x ∷ xs) b zero e h at = let same : x ≡ e = cc in subst (λ y. length y.name ≤ LONGEST_NAME) same (name_is_short x.name h.0.0)
+export_name (x ∷ xs) b zero e h at = let same : x ≡ e =
+    cc in subst (λ y. length y.name ≤ LONGEST_NAME) same (name_is_short x.name h.0.0)
 export_name (x ∷ xs) b (suc k) e h at = export_name xs (Some x) k e h.1 at
 
-module _ (parts : List PartSeen) (closed : AreClosed parts) (owners : List Owner) (are : AreOwners parts owners) where
+module _ (parts : List PartSeen) (closed : AreClosed parts) (owners : List Owner)
+    (are : AreOwners parts owners) where
   owner_at : (k : ℕ) (o : Owner) → slice_get owners k ≡ Some o → IsOwner parts o
   owner_at k o e =
-      (are.all o).0 (subst (Contains owners) (get_or_from_slice_get owners k o o e) (Contains-get_or owners k o (slice_get_within owners k o e)))
+      (are.all o).0
+      (subst (Contains owners) (get_or_from_slice_get owners k o o e)
+      (Contains-get_or owners k o (slice_get_within owners k o e)))
 
   kept_of : (o : Owner) (is : IsOwner parts o) → Kept is.of
   kept_of o is = closed.kept o.part is.of is.of_is
 
   name_of : (o : Owner) (is : IsOwner parts o) → length o.name ≤ LONGEST_NAME
   unfolding owner_of
-  name_of o is = subst (λ (n : List ℕ). length n ≤ LONGEST_NAME) (sym (ap (λ (q : Owner). q.name) is.is)) (name_is_short is.of.component.name (kept_of o is).limits.name)
+  name_of o is = subst (λ (n : List ℕ). length n ≤ LONGEST_NAME) (sym (ap (λ (q : Owner). q.name) is.is))
+      (name_is_short is.of.component.name (kept_of o is).limits.name)
 
   entry_name : (o : Owner) (is : IsOwner parts o) (n : ℕ) (e : Entry) → slice_get o.entries n ≡ Some e
       → length e.name ≤ LONGEST_NAME
@@ -53,9 +59,11 @@ module _ (parts : List PartSeen) (closed : AreClosed parts) (owners : List Owner
   entry_name o is n e at =
       let c : ComponentFields = is.of.component in
       let there : option_map (entry_of c) (slice_get c.exports n) ≡ Some e =
-      sym (slice_get-map (entry_of c) c.exports n) ∙ ap (λ (q : Owner). slice_get q.entries n) (sym is.is) ∙ at in
+      sym (slice_get-map (entry_of c) c.exports n) ∙ ap (λ (q : Owner). slice_get q.entries n) (sym is.is)
+      ∙ at in
       let x = map_inv (entry_of c) (slice_get c.exports n) e there in
-      subst (λ (y : Entry). length y.name ≤ LONGEST_NAME) x.2 (export_name c.exports None n x.0 (kept_of o is).limits.exports.1 x.1)
+      subst (λ (y : Entry). length y.name ≤ LONGEST_NAME)
+      x.2 (export_name c.exports None n x.0 (kept_of o is).limits.exports.1 x.1)
 
   pub are_laid : {sites : List Site} → AreInOrder sites → AreLaid sites owners
   are_laid in_order = record {

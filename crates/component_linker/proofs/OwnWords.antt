@@ -53,20 +53,26 @@ cap_is c m e = by_lin (lin_is m.lin) refl e
     normal : (a : Bool) → has_all (code_area c) m.base m.end ≡ a → lin_is m.lin ≡ false
         → (a || (not (may_run m.perm) && has_all (data_area c) m.base m.end)) ≡ true → OwnCap c m
     normal true is lin h = over_code lin (range_in c.code_base (length c.code) m is)
-    normal false is lin h = let b = both_of (may_run m.perm) (has_all (data_area c) m.base m.end) h in over_data lin b.0 (range_in c.data_base (length c.data_words) m b.1)
+    normal false is lin h = let b = both_of (may_run m.perm) (has_all (data_area c) m.base m.end) h in
+        over_data lin b.0 (range_in c.data_base (length c.data_words) m b.1)
 
     by_lin : (b : Bool) → lin_is m.lin ≡ b
-        → (if b then (not (may_run m.perm) && has_all c.linear m.base m.end) else (has_all (code_area c) m.base m.end || (not (may_run m.perm) && has_all (data_area c) m.base m.end))) ≡ true
+        → (if b then (not (may_run m.perm) && has_all c.linear m.base m.end)
+        else (has_all (code_area c)
+        m.base m.end || (not (may_run m.perm) && has_all (data_area c) m.base m.end))) ≡ true
         → OwnCap c m
-    by_lin true lin h = let b = both_of (may_run m.perm) (has_all c.linear m.base m.end) h in over_linear lin b.0 (range_in c.linear.base c.linear.count m b.1)
+    by_lin true lin h = let b = both_of (may_run m.perm) (has_all c.linear m.base m.end) h in
+        over_linear lin b.0 (range_in c.linear.base c.linear.count m b.1)
     by_lin false lin h = normal (has_all (code_area c) m.base m.end) refl lin h
 
 own_cap : (p : PartSeen) → IsPart p → (k : ℕ) (m : CapFields) → slice_get (words p.component) k ≡ Some (Mem m)
     → OwnCap p.component m
 unfolding c7
 own_cap p h k m e =
-    let fine : holds_of (is_foreign p.component) (slice_get (words p.component) k) ≡ false = kept p h 7 k (c7 p.component) refl (slice_get_within (words p.component) k (Mem m) e) in
-    cap_is p.component m (not-false (is_own p.component m) (sym (ap (holds_of (is_foreign p.component)) e) ∙ fine))
+    let fine : holds_of (is_foreign p.component) (slice_get (words p.component) k) ≡ false =
+    kept p h 7 k (c7 p.component) refl (slice_get_within (words p.component) k (Mem m) e) in
+    cap_is p.component m
+    (not-false (is_own p.component m) (sym (ap (holds_of (is_foreign p.component)) e) ∙ fine))
 
 -- ---- C9
 
@@ -74,8 +80,10 @@ own_seals : (p : PartSeen) → IsPart p → (k : ℕ) (s : SealFields)
     → slice_get (words p.component) k ≡ Some (Seal s) → OwnSeals p.component s
 unfolding c9
 own_seals p h k s e =
-    let fine : holds_of (is_foreign_seal p.component) (slice_get (words p.component) k) ≡ false = kept p h 9 k (c9 p.component) refl (slice_get_within (words p.component) k (Seal s) e) in
-    within p.component.seals.base s.base s.end (p.component.seals.base + p.component.seals.count) (sym (ap (holds_of (is_foreign_seal p.component)) e) ∙ fine)
+    let fine : holds_of (is_foreign_seal p.component) (slice_get (words p.component) k) ≡ false =
+    kept p h 9 k (c9 p.component) refl (slice_get_within (words p.component) k (Seal s) e) in
+    within p.component.seals.base s.base s.end (p.component.seals.base + p.component.seals.count)
+    (sym (ap (holds_of (is_foreign_seal p.component)) e) ∙ fine)
   where
     within : (a b c d : ℕ) → not (nat_le a b && nat_lt c d) ≡ false → (a ≤ b) × (c < d)
     within a b c d e = (grind (arith, nat_tests), grind (arith, nat_tests))
@@ -99,15 +107,18 @@ own_code p h o w e = own_word p h o w (get_left p.component.code p.component.dat
 
 pub own_data : (p : PartSeen) → IsPart p → (o : ℕ) (w : Word) → slice_get p.component.data_words o ≡ Some w
     → OwnWord p.component w
-own_data p h o w e = own_word p h (length p.component.code + o) w (get_right p.component.code p.component.data_words o w e)
+own_data p h o w e =
+    own_word p h (length p.component.code + o) w (get_right p.component.code p.component.data_words o w e)
 
 -- C11: a trusted part's data are integers
 pub data_number : (p : PartSeen) → IsPart p → p.trusted ≡ true → (o : ℕ) (w : Word)
     → slice_get p.component.data_words o ≡ Some w → (z : ℤ) × (w ≡ Int z)
 unfolding c11
 data_number p h trusted o w e =
-    let eleventh : rule (rules_of p) 11 ≡ Some (c11 p.component) = ap (λ b. rule (rules_c p.component b) 11) trusted in
-    let fine : holds_of is_no_int (slice_get p.component.data_words o) ≡ false = kept p h 11 o (c11 p.component) eleventh (slice_get_within p.component.data_words o w e) in
+    let eleventh : rule (rules_of p) 11 ≡ Some (c11 p.component) =
+    ap (λ b. rule (rules_c p.component b) 11) trusted in
+    let fine : holds_of is_no_int (slice_get p.component.data_words o) ≡ false =
+    kept p h 11 o (c11 p.component) eleventh (slice_get_within p.component.data_words o w e) in
     by_word w (sym (ap (holds_of is_no_int) e) ∙ fine)
   where
     by_word : (w : Word) → is_no_int w ≡ false → (z : ℤ) × (w ≡ Int z)

@@ -45,11 +45,15 @@ ends base count e some = grind (arith, nat_tests)
 
 pub code_ends : (p : PartSeen) → IsPart p → p.component.code_base + length p.component.code ≤ 1048576
 unfolding c1
-code_ends p h = ends p.component.code_base (length p.component.code) (kept p h 1 0 (c1 p.component) refl (omega arith)) h.limits.code.0.0
+code_ends p h =
+    ends p.component.code_base (length p.component.code) (kept p h 1 0 (c1 p.component) refl (omega arith))
+    h.limits.code.0.0
 
 pub data_ends : (p : PartSeen) → IsPart p → p.component.data_base + length p.component.data_words ≤ 1048576
 unfolding c1
-data_ends p h = ends p.component.data_base (length p.component.data_words) (kept p h 1 1 (c1 p.component) refl (omega arith)) h.limits.data_words.0.0
+data_ends p h =
+    ends p.component.data_base (length p.component.data_words)
+    (kept p h 1 1 (c1 p.component) refl (omega arith)) h.limits.data_words.0.0
 
 pub linear_ends : (p : PartSeen) → IsPart p → p.component.linear.base + p.component.linear.count ≤ 1048576
 unfolding c1
@@ -61,13 +65,16 @@ linear_ends p h = by_count p.component.linear.count refl
         let P : ℕ → Type 0 = λ n. p.component.linear.base ≤ last_base n in
         let base : p.component.linear.base ≤ 0 = subst P e h.limits.linear.1 in
         omega (arith, e, base)
-    by_count (suc n) e = ends p.component.linear.base p.component.linear.count (kept p h 1 2 (c1 p.component) refl (omega arith)) (omega (arith, e))
+    by_count (suc n) e =
+        ends p.component.linear.base p.component.linear.count
+        (kept p h 1 2 (c1 p.component) refl (omega arith)) (omega (arith, e))
 
 -- C2: code and data lie apart
 pub code_no_data : (p : PartSeen) → IsPart p → p.component.code_base ≡ p.component.data_base → ⊥
 unfolding c2
 code_no_data p h =
-    meet p.component.code_base (length p.component.code) p.component.data_base (length p.component.data_words) (kept p h 2 0 (c2 p.component) refl (omega arith)) h.limits.code.0.0 h.limits.data_words.0.0
+    meet p.component.code_base (length p.component.code) p.component.data_base (length p.component.data_words)
+    (kept p h 2 0 (c2 p.component) refl (omega arith)) h.limits.code.0.0 h.limits.data_words.0.0
   where
     meet : (a n b m : ℕ) → are_near (record { base = a; count = n }) (record { base = b; count = m }) ≡ false
         → 1 ≤ n → 1 ≤ m → a ≡ b → ⊥
@@ -76,7 +83,9 @@ code_no_data p h =
 -- ---- slots
 
 slot_is : (c : ComponentFields) (k : ℕ) (i : Import) → slice_get c.imports k ≡ Some i → slot_of c k ≡ i.slot
-slot_is c k i e = get_or_from_slice_get (map (λ x. x.slot) c.imports) k i.slot 0 (slice_get-map (λ x. x.slot) c.imports k ∙ ap (option_map (λ x. x.slot)) e)
+slot_is c k i e =
+    get_or_from_slice_get (map (λ x. x.slot) c.imports)
+    k i.slot 0 (slice_get-map (λ x. x.slot) c.imports k ∙ ap (option_map (λ x. x.slot)) e)
 
 slot_fits : (p : PartSeen) → IsPart p → (k : ℕ) (i : Import) → slice_get p.component.imports k ≡ Some i
     → slot_is_bad p.component k ≡ false
@@ -94,7 +103,8 @@ pub slots_in : (p : PartSeen) → IsPart p → (k : ℕ) (i : Import) → slice_
     → i.slot + 1 < length p.component.data_words
 slots_in p h k i e =
     let P : ℕ → Type 0 = λ s. s + 1 < length p.component.data_words in
-    subst P (slot_is p.component k i e) (in_data (length p.component.data_words) (slot_of p.component k) _ (slot_fits p h k i e))
+    subst P (slot_is p.component k i e)
+    (in_data (length p.component.data_words) (slot_of p.component k) _ (slot_fits p h k i e))
 
 behind : (n s r k : ℕ) → (nat_le n (s + 1) || (nat_lt 0 (k + 1) && nat_lt s (r + 2))) ≡ false → r + 2 ≤ s
 behind n s r k e = grind (arith, nat_tests)
@@ -103,9 +113,11 @@ pub slots_apart : (p : PartSeen) → IsPart p → (k : ℕ) (i j : Import)
     → slice_get p.component.imports k ≡ Some i → slice_get p.component.imports (k + 1) ≡ Some j
     → i.slot + 2 ≤ j.slot
 slots_apart p h k i j e f =
-    let before : slot_of p.component (k + 1 - 1) ≡ i.slot = ap (slot_of p.component) (let n : k + 1 - 1 ≡ k = omega arith in n) ∙ slot_is p.component k i e in
+    let before : slot_of p.component (k + 1 - 1) ≡ i.slot =
+    ap (slot_of p.component) (let n : k + 1 - 1 ≡ k = omega arith in n) ∙ slot_is p.component k i e in
     let fits = slot_fits p h (k + 1) j f in
-    let le = behind (length p.component.data_words) (slot_of p.component (k + 1)) (slot_of p.component (k + 1 - 1)) k fits in
+    let le = behind (length p.component.data_words) (slot_of p.component (k + 1))
+    (slot_of p.component (k + 1 - 1)) k fits in
     omega (arith, le, before, slot_is p.component (k + 1) j f)
 
 -- ---- capabilities
@@ -125,21 +137,32 @@ own_range c m e = by_lin (lin_is m.lin) refl
     normal : (a b : Bool) → lin_is m.lin ≡ false → (a ≡ true → HasRange c.code_base (length c.code) m)
         → (b ≡ true → HasRange c.data_base (length c.data_words) m)
         → (a ≡ true) ⊎ (b ≡ true) → IsOwn c m
-    normal a b lin in_code in_words h = elim h as (λ _. IsOwn c m) [ inl x ↦ inl (lin, in_code x) | inr x ↦ inr (inl (lin, in_words x)) ]
+    normal a b lin in_code in_words h =
+        elim h as (λ _. IsOwn c m) [ inl x ↦ inl (lin, in_code x) | inr x ↦ inr (inl (lin, in_words x)) ]
 
     by_lin : (b : Bool) → lin_is m.lin ≡ b → IsOwn c m
     by_lin true lin =
-        let own : (not (may_run m.perm) && has_all c.linear m.base m.end) ≡ true = sym (ap (λ b. if b then (not (may_run m.perm) && has_all c.linear m.base m.end) else (has_all (code_area c) m.base m.end || (not (may_run m.perm) && has_all (data_area c) m.base m.end))) lin) ∙ e in
+        let own : (not (may_run m.perm) && has_all c.linear m.base m.end) ≡ true =
+        sym (ap (λ b. if b then (not (may_run m.perm) && has_all c.linear m.base m.end)
+        else (has_all (code_area c)
+        m.base m.end || (not (may_run m.perm) && has_all (data_area c) m.base m.end))) lin) ∙ e in
         inr (inr (lin, range_in c.linear.base c.linear.count m (and_parts _ _ own).1))
     by_lin false lin =
-        let own : (has_all (code_area c) m.base m.end || (not (may_run m.perm) && has_all (data_area c) m.base m.end)) ≡ true = sym (ap (λ b. if b then (not (may_run m.perm) && has_all c.linear m.base m.end) else (has_all (code_area c) m.base m.end || (not (may_run m.perm) && has_all (data_area c) m.base m.end))) lin) ∙ e in
-        normal _ _ lin (range_in c.code_base (length c.code) m) (λ x. range_in c.data_base (length c.data_words) m (and_parts _ _ x).1) (either _ _ own)
+        let own :
+        (has_all (code_area c)
+        m.base m.end || (not (may_run m.perm) && has_all (data_area c) m.base m.end)) ≡ true =
+        sym (ap (λ b. if b then (not (may_run m.perm) && has_all c.linear m.base m.end)
+        else (has_all (code_area c)
+        m.base m.end || (not (may_run m.perm) && has_all (data_area c) m.base m.end))) lin) ∙ e in
+        normal _ _ lin (range_in c.code_base (length c.code) m)
+        (λ x. range_in c.data_base (length c.data_words) m (and_parts _ _ x).1) (either _ _ own)
 
 pub owns : (p : PartSeen) → IsPart p → (k : ℕ) (m : CapFields)
     → slice_get (words p.component) k ≡ Some (Mem m) → IsOwn p.component m
 unfolding c7
 owns p h k m e =
-    let fine : holds_of (is_foreign p.component) (slice_get (words p.component) k) ≡ false = kept p h 7 k (c7 p.component) refl (slice_get_within (words p.component) k (Mem m) e) in
+    let fine : holds_of (is_foreign p.component) (slice_get (words p.component) k) ≡ false =
+    kept p h 7 k (c7 p.component) refl (slice_get_within (words p.component) k (Mem m) e) in
     let own : not (is_own p.component m) ≡ false = sym (ap (holds_of (is_foreign p.component)) e) ∙ fine in
     own_range p.component m (not-false (is_own p.component m) own)
 
@@ -163,8 +186,11 @@ unfolding c8
 once p h k n m l lt e f m_lin l_lin =
     let c = p.component in
     let none : meets_before c n ≡ false = kept p h 8 n (c8 c) refl (slice_get_within (words c) n (Mem l) f) in
-    let apart : meet (linear_at c k) (linear_at c n) ≡ false = meets_none (λ i. meet (linear_at c i) (linear_at c n)) n none k lt in
-    let both : meet (Some m) (Some l) ≡ false = sym (ap (λ o. meet o (linear_at c n)) (linear_of c k m e m_lin) ∙ ap (meet (Some m)) (linear_of c n l f l_lin)) ∙ apart in
+    let apart : meet (linear_at c k) (linear_at c n) ≡ false =
+    meets_none (λ i. meet (linear_at c i) (linear_at c n)) n none k lt in
+    let both : meet (Some m) (Some l) ≡ false =
+    sym (ap (λ o. meet o (linear_at c n)) (linear_of c k m e m_lin)
+    ∙ ap (meet (Some m)) (linear_of c n l f l_lin)) ∙ apart in
     lie_apart m l both
   where
     lie_apart : (a b : CapFields) → (nat_le a.base b.end && nat_le b.base a.end) ≡ false
@@ -176,7 +202,8 @@ once p h k n m l lt e f m_lin l_lin =
 -- C3: the closure seal is none of the return seals
 pub closure_apart : (p : PartSeen) → IsPart p → has_seal p.component.seals p.component.closure ≡ false
 unfolding c3
-closure_apart p h = second (is_past_end p.component.seals.base p.component.seals.count) (has_seal p.component.seals p.component.closure) (kept p h 3 0 (c3 p.component) refl (omega arith))
+closure_apart p h = second (is_past_end p.component.seals.base p.component.seals.count)
+    (has_seal p.component.seals p.component.closure) (kept p h 3 0 (c3 p.component) refl (omega arith))
   where
     second : (a b : Bool) → (a || b) ≡ false → b ≡ false
     second true b e = absurd cc
@@ -199,7 +226,9 @@ seals_end p h = by_count p.component.seals.count refl
         omega (arith, e, base)
     by_count (suc n) e =
         ends p.component.seals.base p.component.seals.count
-        (first (is_past_end p.component.seals.base p.component.seals.count) (has_seal p.component.seals p.component.closure) (kept p h 3 0 (c3 p.component) refl (omega arith)))
+        (first (is_past_end p.component.seals.base p.component.seals.count)
+        (has_seal p.component.seals p.component.closure)
+        (kept p h 3 0 (c3 p.component) refl (omega arith)))
         (omega (arith, e))
 
 -- C12: a trusted part has a seal for each of its sites
@@ -210,7 +239,8 @@ pub few_sites : (p : PartSeen) → IsPart p → p.trusted ≡ true
     → length p.component.sites ≤ p.component.seals.count
 unfolding c12
 few_sites p h trusted =
-    let fine : nat_lt p.component.seals.count (length p.component.sites) ≡ false = kept p h 12 2 (c12 p.component) (twelfth p trusted) (omega arith) in
+    let fine : nat_lt p.component.seals.count (length p.component.sites) ≡ false =
+    kept p h 12 2 (c12 p.component) (twelfth p trusted) (omega arith) in
     grind (arith, nat_tests)
 
 -- ---- sites
@@ -220,7 +250,9 @@ pub sites_in : (p : PartSeen) → IsPart p → p.trusted ≡ true → (k o : ℕ
     → slice_get p.component.sites k ≡ Some o → o < length p.component.code
 unfolding k1
 sites_in p h trusted k o e =
-    let fits : site_is_bad p.component k ≡ false = nowhere (lists p.component) (h.flow trusted).placed 1 k (k1 p.component) refl (slice_get_within p.component.sites k o e) in
+    let fits : site_is_bad p.component k ≡ false =
+    nowhere (lists p.component) (h.flow trusted).placed 1 k (k1 p.component)
+    refl (slice_get_within p.component.sites k o e) in
     let at : slice_index p.component.sites k ≡ o = get_or_from_slice_get p.component.sites k o 0 e in
     let P : ℕ → Type 0 = λ s. s + 26 ≤ length p.component.code in
     let room = subst P at (has_room (length p.component.code) (slice_index p.component.sites k) _ fits) in

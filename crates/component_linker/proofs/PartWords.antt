@@ -41,7 +41,10 @@ from_inv base f a w h = elim (cases_lt a base) as (λ _. (base ≤ a) × (f (a -
 
 pub from_or : (base : ℕ) (f g : ℕ → Option Word) (a : ℕ)
     → from base (λ o. option_or (f o) (g o)) a ≡ option_or (from base f a) (from base g a)
-from_or base f g a = elim (cases_Bool (nat_le base a)) as (λ _. from base (λ o. option_or (f o) (g o)) a ≡ option_or (from base f a) (from base g a)) [ inl t ↦ rw t refl | inr n ↦ rw n refl ]
+from_or base f g a =
+    elim (cases_Bool (nat_le base a))
+    as (λ _. from base (λ o. option_or (f o) (g o)) a ≡ option_or (from base f a) (from base g a))
+    [ inl t ↦ rw t refl | inr n ↦ rw n refl ]
 
 -- ---- slots
 
@@ -58,13 +61,15 @@ rising : (is : List Import)
     → ((k : ℕ) (i j : Import) → slice_get is k ≡ Some i → slice_get is (k + 1) ≡ Some j → i.slot + 2 ≤ j.slot)
     → (d k : ℕ) (i j : Import) → slice_get is k ≡ Some i → slice_get is (k + 1 + d) ≡ Some j
     → i.slot + 2 ≤ j.slot
-rising is step zero k i j at_k at_n = let e : k + 1 + 0 ≡ k + 1 = omega arith in step k i j at_k (rw e at at_n)
+rising is step zero k i j at_k at_n = let e : k + 1 + 0 ≡ k + 1 =
+    omega arith in step k i j at_k (rw e at at_n)
 rising is step (suc d) k i j at_k at_n =
     let e : k + 1 + suc d ≡ k + 1 + d + 1 = omega arith in
     let at_next : slice_get is (k + 1 + d + 1) ≡ Some j = ap (slice_get is) (sym e) ∙ at_n in
     let within = slice_get_within is (k + 1 + d + 1) j at_next in
     let m : Import = get_or is (k + 1 + d) i in
-    let at_m : slice_get is (k + 1 + d) ≡ Some m = slice_get-get_or is (k + 1 + d) i (omega (arith, within)) in
+    let at_m : slice_get is (k + 1 + d) ≡ Some m =
+    slice_get-get_or is (k + 1 + d) i (omega (arith, within)) in
     let low = rising is step d k i m at_k at_m in
     let high = step (k + 1 + d) m j at_m at_next in
     omega (arith, low, high)
@@ -74,7 +79,8 @@ pub slots_below : (p : PartSeen) → Kept p → (k n : ℕ) (i j : Import) → k
     → i.slot + 2 ≤ j.slot
 slots_below p kept k n i j lt at_k at_n =
     let e : n ≡ k + 1 + (n - k - 1) = omega (arith, lt) in
-    rising p.component.imports kept.slots_apart (n - k - 1) k i j at_k (ap (slice_get p.component.imports) (sym e) ∙ at_n)
+    rising p.component.imports kept.slots_apart (n - k - 1)
+    k i j at_k (ap (slice_get p.component.imports) (sym e) ∙ at_n)
 
 slot_no : (parts : List PartSeen) (o : ℕ) (i : Import) → i.slot ≢ o → i.slot + 1 ≢ o
     → slot_word parts o i ≡ None
@@ -93,35 +99,47 @@ slot_inv parts o i w h = elim (cases_eq i.slot o) as (λ _. (i.slot ≡ o) ⊎ (
 -- an import's two words
 two_words : (parts : List PartSeen) (i : Import) (x : Exported) (base a : ℕ) (r : Option Word)
     → imported parts i ≡ Some x
-    → option_or (single (base + i.slot + 1) (data_half x) a) (option_or (single (base + i.slot) (code_half x) a) r) ≡ option_or (from base (λ o. slot_word parts o i) a) r
-two_words parts i x base a r is = elim (cases_eq a (base + i.slot)) as (λ _. option_or (single (base + i.slot + 1) (data_half x) a) (option_or (single (base + i.slot) (code_half x) a) r) ≡ option_or (from base (λ o. slot_word parts o i) a) r) [
-  | inl e ↦ (
-      let n = ne_eqb a (base + i.slot + 1) (omega (arith, e)) in
-      let t = eq-eqb a (base + i.slot) e in
-      let l = le-leb base a (omega (arith, e)) in
-      let o : (i.slot == (a - base)) ≡ true = eq-eqb i.slot (a - base) (omega (arith, e)) in
-      rw (n, t, l, o, is) refl
-      )
-  | inr ne ↦ elim (cases_eq a (base + i.slot + 1)) as (λ _. option_or (single (base + i.slot + 1) (data_half x) a) (option_or (single (base + i.slot) (code_half x) a) r) ≡ option_or (from base (λ o. slot_word parts o i) a) r) [
-    | inl e ↦ (
-        let t = eq-eqb a (base + i.slot + 1) e in
-        let l = le-leb base a (omega (arith, e)) in
-        let n = ne_eqb i.slot (a - base) (omega (arith, e)) in
-        let o : (i.slot + 1 == (a - base)) ≡ true = eq-eqb (i.slot + 1) (a - base) (omega (arith, e)) in
-        rw (t, l, n, o, is) refl
-        )
-    | inr nx ↦ (
-        let n = ne_eqb a (base + i.slot) ne in
-        let m = ne_eqb a (base + i.slot + 1) nx in
-        rw (m, n) (ap (λ y. option_or y r) (sym (outside ne nx)))
-        )
-  ]
-]
+    → option_or (single (base + i.slot + 1) (data_half x) a)
+    (option_or (single (base + i.slot) (code_half x) a) r)
+    ≡ option_or (from base (λ o. slot_word parts o i) a) r
+two_words parts i x base a r is =
+    elim (cases_eq a (base + i.slot))
+    as (λ _. option_or (single (base + i.slot + 1) (data_half x) a)
+    (option_or (single (base + i.slot) (code_half x) a) r)
+    ≡ option_or (from base (λ o. slot_word parts o i) a) r) [
+      | inl e ↦ (
+          let n = ne_eqb a (base + i.slot + 1) (omega (arith, e)) in
+          let t = eq-eqb a (base + i.slot) e in
+          let l = le-leb base a (omega (arith, e)) in
+          let o : (i.slot == (a - base)) ≡ true = eq-eqb i.slot (a - base) (omega (arith, e)) in
+          rw (n, t, l, o, is) refl
+          )
+      | inr ne ↦
+          elim (cases_eq a (base + i.slot + 1))
+          as (λ _. option_or (single (base + i.slot + 1) (data_half x) a)
+          (option_or (single (base + i.slot) (code_half x) a) r)
+          ≡ option_or (from base (λ o. slot_word parts o i) a) r) [
+            | inl e ↦ (
+                let t = eq-eqb a (base + i.slot + 1) e in
+                let l = le-leb base a (omega (arith, e)) in
+                let n = ne_eqb i.slot (a - base) (omega (arith, e)) in
+                let o : (i.slot + 1 == (a - base)) ≡ true =
+                eq-eqb (i.slot + 1) (a - base) (omega (arith, e)) in
+                rw (t, l, n, o, is) refl
+                )
+            | inr nx ↦ (
+                let n = ne_eqb a (base + i.slot) ne in
+                let m = ne_eqb a (base + i.slot + 1) nx in
+                rw (m, n) (ap (λ y. option_or y r) (sym (outside ne nx)))
+                )
+          ]
+    ]
   where
     outside : a ≢ base + i.slot → a ≢ base + i.slot + 1 → from base (λ o. slot_word parts o i) a ≡ None
     outside ne nx = elim (cases_lt a base) as (λ _. from base (λ o. slot_word parts o i) a ≡ None) [
       | inl lt ↦ from_no base (λ o. slot_word parts o i) a lt
-      | inr le ↦ from_yes base (λ o. slot_word parts o i) a le ∙ slot_no parts (a - base) i (omega (arith, le, ne)) (omega (arith, le, nx))
+      | inr le ↦ from_yes base (λ o. slot_word parts o i) a le
+          ∙ slot_no parts (a - base) i (omega (arith, le, ne)) (omega (arith, le, nx))
     ]
 
 -- the words of the imports before one
@@ -131,7 +149,9 @@ slots_upto parts is k o = first_given (slot_word parts o) (take k is)
 slots_next : (parts : List PartSeen) (is : List Import) (k : ℕ) (i : Import) → slice_get is k ≡ Some i
     → (o : ℕ) → slots_upto parts is (k + 1) o ≡ option_or (slots_upto parts is k o) (slot_word parts o i)
 slots_next parts is k i at o =
-    ap (first_given (slot_word parts o)) (taken_at is k i at) ∙ first_given-append (slot_word parts o) (take k is) (i ∷ []) ∙ ap (λ y. option_or (slots_upto parts is k o) y) (none_after (slot_word parts o i))
+    ap (first_given (slot_word parts o)) (taken_at is k i at)
+    ∙ first_given-append (slot_word parts o) (take k is) (i ∷ [])
+    ∙ ap (λ y. option_or (slots_upto parts is k o) y) (none_after (slot_word parts o i))
 
 slots_differ : (parts : List PartSeen) (p : PartSeen) (k : ℕ) (i : Import) → Kept p
     → slice_get p.component.imports k ≡ Some i → (o : ℕ) (v u : Word) → slot_word parts o i ≡ Some v
@@ -141,32 +161,49 @@ slots_differ parts p k i kept at o v u this before =
     let t = taken_get p.component.imports k g.index g.item g.at in
     let low = slots_below p kept g.index k g.item i t.0 t.1 at in
     elim (slot_inv parts o i v this) as (λ _. ⊥) [
-      | inl e ↦ elim (slot_inv parts o g.item u g.is) as (λ _. ⊥) [ inl d ↦ omega (arith, e, d, low) | inr d ↦ omega (arith, e, d, low) ]
-      | inr e ↦ elim (slot_inv parts o g.item u g.is) as (λ _. ⊥) [ inl d ↦ omega (arith, e, d, low) | inr d ↦ omega (arith, e, d, low) ]
+      | inl e ↦
+          elim (slot_inv parts o g.item u g.is) as (λ _. ⊥)
+          [ inl d ↦ omega (arith, e, d, low) | inr d ↦ omega (arith, e, d, low) ]
+      | inr e ↦
+          elim (slot_inv parts o g.item u g.is) as (λ _. ⊥)
+          [ inl d ↦ omega (arith, e, d, low) | inr d ↦ omega (arith, e, d, low) ]
     ]
 
 pub slots_more : (parts : List PartSeen) (p : PartSeen) (k : ℕ) (i : Import) (x : Exported) → Kept p
     → slice_get p.component.imports k ≡ Some i → imported parts i ≡ Some x → (base a : ℕ)
-    → option_or (single (base + i.slot + 1) (data_half x) a) (option_or (single (base + i.slot) (code_half x) a) (from base (slots_upto parts p.component.imports k) a)) ≡ from base (slots_upto parts p.component.imports (k + 1)) a
+    → option_or (single (base + i.slot + 1) (data_half x) a)
+    (option_or (single (base + i.slot) (code_half x) a)
+    (from base (slots_upto parts p.component.imports k) a))
+    ≡ from base (slots_upto parts p.component.imports (k + 1)) a
 slots_more parts p k i x kept at is base a =
     two_words parts i x base a (from base (slots_upto parts p.component.imports k) a) is
-    ∙ option_or_comm (from base (λ o. slot_word parts o i) a) (from base (slots_upto parts p.component.imports k) a)
-    (λ v u h b. slots_differ parts p k i kept at (a - base) v u (from_inv base (λ o. slot_word parts o i) a v h).1 (from_inv base (slots_upto parts p.component.imports k) a u b).1)
+    ∙ option_or_comm (from base (λ o. slot_word parts o i) a)
+    (from base (slots_upto parts p.component.imports k) a)
+    (λ v u h b. slots_differ parts p k i kept at (a - base)
+    v u (from_inv base (λ o. slot_word parts o i) a v h).1
+    (from_inv base (slots_upto parts p.component.imports k) a u b).1)
     ∙ sym (from_or base (slots_upto parts p.component.imports k) (λ o. slot_word parts o i) a)
-    ∙ ap (λ y. if nat_le base a then y else None) (sym (slots_next parts p.component.imports k i at (a - base)))
+    ∙ ap (λ y. if nat_le base a then y else None)
+    (sym (slots_next parts p.component.imports k i at (a - base)))
 
 pub slots_all : (parts : List PartSeen) (is : List Import) (base a : ℕ)
     → from base (slots_upto parts is (length is)) a ≡ from base (λ o. first_given (slot_word parts o) is) a
-slots_all parts is base a = ap (λ y. if nat_le base a then y else None) (ap (first_given (slot_word parts (a - base))) (take_all (length is) is (omega arith)))
+slots_all parts is base a =
+    ap (λ y. if nat_le base a then y else None)
+    (ap (first_given (slot_word parts (a - base))) (take_all (length is) is (omega arith)))
 
 -- ---- the words of a part
 
 -- laid in this order: data, slots, code
 pub part_words : (parts : List PartSeen) (p : PartSeen) (a : ℕ)
-    → option_or (from p.component.code_base (slice_get p.component.code) a) (option_or (from p.component.data_base (λ o. first_given (slot_word parts o) p.component.imports) a) (from p.component.data_base (slice_get p.component.data_words) a)) ≡ part_word parts a p
+    → option_or (from p.component.code_base (slice_get p.component.code) a)
+    (option_or (from p.component.data_base (λ o. first_given (slot_word parts o) p.component.imports) a)
+    (from p.component.data_base (slice_get p.component.data_words) a)) ≡ part_word parts a p
 unfolding part_word
 part_words parts p a =
-    ap (λ y. option_or (from p.component.code_base (slice_get p.component.code) a) y) (sym (from_or p.component.data_base (λ o. first_given (slot_word parts o) p.component.imports) (slice_get p.component.data_words) a))
+    ap (λ y. option_or (from p.component.code_base (slice_get p.component.code) a) y)
+    (sym (from_or p.component.data_base (λ o. first_given (slot_word parts o) p.component.imports)
+    (slice_get p.component.data_words) a))
 
 -- an address at which a part has a word lies in its code or in its data
 pub record Standing (p : PartSeen) (a : ℕ) : Type 0 where
@@ -177,30 +214,47 @@ pub record Standing (p : PartSeen) (a : ℕ) : Type 0 where
 
 data_within : (parts : List PartSeen) (p : PartSeen) → Kept p → (o : ℕ) (w : Word)
     → data_word parts p.component o ≡ Some w → o < length p.component.data_words
-data_within parts p kept o w h = elim (given_by (first_given (slot_word parts o) p.component.imports) (slice_get p.component.data_words o) w h) as (λ _. o < length p.component.data_words) [
-  | inl s ↦ (
-      let g = given (slot_word parts o) p.component.imports w s in
-      let l = kept.slots_in g.index g.item g.at in
-      elim (slot_inv parts o g.item w g.is) as (λ _. o < length p.component.data_words) [ inl e ↦ omega (arith, l, e) | inr e ↦ omega (arith, l, e) ]
-      )
-  | inr d ↦ slice_get_within p.component.data_words o w d
-]
+data_within parts p kept o w h =
+    elim (given_by (first_given (slot_word parts o) p.component.imports) (slice_get p.component.data_words o)
+    w h) as (λ _. o < length p.component.data_words) [
+      | inl s ↦ (
+          let g = given (slot_word parts o) p.component.imports w s in
+          let l = kept.slots_in g.index g.item g.at in
+          elim (slot_inv parts o g.item w g.is) as (λ _. o < length p.component.data_words)
+          [ inl e ↦ omega (arith, l, e) | inr e ↦ omega (arith, l, e) ]
+          )
+      | inr d ↦ slice_get_within p.component.data_words o w d
+    ]
 
 pub standing : (parts : List PartSeen) (p : PartSeen) → Kept p → (a : ℕ) (w : Word)
     → part_word parts a p ≡ Some w → Standing p a
 unfolding part_word
-standing parts p kept a w h = elim (given_by (from p.component.code_base (slice_get p.component.code) a) (from p.component.data_base (data_word parts p.component) a) w h) as (λ _. Standing p a) [
-  | inl c ↦ (
-      let k = from_inv p.component.code_base (slice_get p.component.code) a w c in
-      let lt = slice_get_within p.component.code (a - p.component.code_base) w k.1 in
-      record { region = whole p.component.code_base (length p.component.code) false; of = code_in p kept.limits.code.0.0; low = k.0; high = omega (arith, k.0, lt) }
-      )
-  | inr d ↦ (
-      let k = from_inv p.component.data_base (data_word parts p.component) a w d in
-      let lt = data_within parts p kept (a - p.component.data_base) w k.1 in
-      record { region = whole p.component.data_base (length p.component.data_words) false; of = data_in p kept.limits.data_words.0.0; low = k.0; high = omega (arith, k.0, lt) }
-      )
-]
+standing parts p kept a w h =
+    elim (given_by (from p.component.code_base (slice_get p.component.code) a)
+    (from p.component.data_base (data_word parts p.component) a) w h) as (λ _. Standing p a) [
+      | inl c ↦ (
+          let k = from_inv p.component.code_base (slice_get p.component.code) a w c in
+          let lt = slice_get_within p.component.code (a - p.component.code_base) w k.1 in
+          record {
+            region = whole p.component.code_base (length p.component.code) false;
+            of =
+                code_in p kept.limits.code.0.0;
+            low = k.0;
+            high = omega (arith, k.0, lt);
+          }
+          )
+      | inr d ↦ (
+          let k = from_inv p.component.data_base (data_word parts p.component) a w d in
+          let lt = data_within parts p kept (a - p.component.data_base) w k.1 in
+          record {
+            region = whole p.component.data_base (length p.component.data_words) false;
+            of =
+                data_in p kept.limits.data_words.0.0;
+            low = k.0;
+            high = omega (arith, k.0, lt);
+          }
+          )
+    ]
 
 -- ---- parts
 
@@ -225,8 +279,11 @@ pub parts_more : (parts : List PartSeen) (k : ℕ) (p : PartSeen) → AreSeparat
     → option_or (part_word parts a p) (parts_upto parts k a) ≡ parts_upto parts (k + 1) a
 parts_more parts k p separate at a =
     option_or_comm (part_word parts a p) (parts_upto parts k a)
-    (λ w v h b. let g = given (part_word parts a) (take k parts) v b in let t = taken_get parts k g.index g.item g.at in separate.apart g.index k a g.item p v w t.0 t.1 at g.is h)
-    ∙ sym (ap (first_given (part_word parts a)) (taken_at parts k p at) ∙ first_given-append (part_word parts a) (take k parts) (p ∷ []) ∙ ap (λ y. option_or (parts_upto parts k a) y) (none_after (part_word parts a p)))
+    (λ w v h b. let g = given (part_word parts a) (take k parts) v b in let t =
+    taken_get parts k g.index g.item g.at in separate.apart g.index k a g.item p v w t.0 t.1 at g.is h)
+    ∙ sym (ap (first_given (part_word parts a)) (taken_at parts k p at)
+    ∙ first_given-append (part_word parts a) (take k parts) (p ∷ [])
+    ∙ ap (λ y. option_or (parts_upto parts k a) y) (none_after (part_word parts a p)))
 
 pub parts_all : (parts : List PartSeen) (a : ℕ)
     → parts_upto parts (length parts) a ≡ first_given (part_word parts a) parts

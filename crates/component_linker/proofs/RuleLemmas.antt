@@ -37,14 +37,16 @@ take_whole (x ∷ xs) (suc n) le = ap (λ ys. x ∷ ys) (take_whole xs n (omega 
 
 -- ---- within a part
 
-pub told_in : {A : Type 0} (test : ℕ → A → Test ℕ) (all : Test ℕ) (parts : List A) (i : ℕ) (p : A) {o : Option ℕ}
+pub told_in : {A : Type 0} (test : ℕ → A → Test ℕ) (all : Test ℕ) (parts : List A) (i : ℕ) (p : A)
+    {o : Option ℕ}
     → slice_get parts i ≡ Some p → o ≡ first_place (test i p)
     → o ≡ first_place (within_or test all i (slice_get parts i))
 told_in test all parts i p is h = h ∙ ap (λ u. first_place (within_or test all i u)) (sym is)
 
 pub told_behind : {A : Type 0} (test : ℕ → A → Test ℕ) (all : Test ℕ) (parts : List A) (i : ℕ) {o : Option ℕ}
     → length parts ≤ i → o ≡ first_place all → o ≡ first_place (within_or test all i (slice_get parts i))
-told_behind test all parts i le h = h ∙ ap (λ u. first_place (within_or test all i u)) (sym (slice_get_past parts i le))
+told_behind test all parts i le h =
+    h ∙ ap (λ u. first_place (within_or test all i u)) (sym (slice_get_past parts i le))
 
 pub told_nowhere : {A : Type 0} (all : Test ℕ) (parts : List A) (i : ℕ) → i < length parts
     → None ≡ first_place (within_or (λ i p. never) all i (slice_get parts i))
@@ -62,7 +64,8 @@ pub each_before : {A : Type 0} (xs : List A) (f : A → Bool) {Says : ℕ → Bo
     → ((j : ℕ) (b : Bool) → j < n → Says j b → b ≡ passes f (slice_get xs j))
     → o ≡ first_place (at_each (take n xs) f)
 each_before xs f {Says} {n} h le k =
-    plain_first (length (take n xs)) (λ j. passes f (slice_get (take n xs) j)) h (taken n xs le) (λ j b lt s. k j b lt s ∙ ap (passes f) (sym (slice_get-take xs n j lt)))
+    plain_first (length (take n xs)) (λ j. passes f (slice_get (take n xs) j)) h (taken n xs le)
+    (λ j b lt s. k j b lt s ∙ ap (passes f) (sym (slice_get-take xs n j lt)))
 
 -- ---- of the first items of a list
 
@@ -91,8 +94,10 @@ pub any_settled : {A : Type 0} (f : A → Bool) (xs : List A) (n i : ℕ) (x : A
 any_settled f [] n i x e lt t = absurd cc
 any_settled f (y ∷ ys) zero i x e lt t = absurd (omega (arith, lt))
 any_settled f (y ∷ ys) (suc n) zero x e lt t = let same : y ≡ x = cc in rw (same, t) refl
-any_settled f (y ∷ ys) (suc n) (suc i) x e lt t = rw (any_settled f ys n i x e (omega (arith, lt)) t) (or_right (f y) true refl)
+any_settled f (y ∷ ys) (suc n) (suc i) x e lt t =
+    rw (any_settled f ys n i x e (omega (arith, lt)) t) (or_right (f y) true refl)
 
 pub sum_more : {A : Type 0} (f : A → ℕ) (xs : List A) (i : ℕ) (x : A) → slice_get xs i ≡ Some x
     → sum_by f (take (i + 1) xs) ≡ sum_by f (take i xs) + f x
-sum_more f xs i x e = sum_by_more f xs i x (slice_get_within xs i x e) ∙ ap (λ y. sum_by f (take i xs) + f y) (get_or_from_slice_get xs i x x e)
+sum_more f xs i x e = sum_by_more f xs i x (slice_get_within xs i x e)
+    ∙ ap (λ y. sum_by f (take i xs) + f y) (get_or_from_slice_get xs i x x e)

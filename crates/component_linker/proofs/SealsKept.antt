@@ -29,7 +29,9 @@ unfolding l2
 earlier parts size h i j p q lt is_p is_q =
     let there : slice_get (take j parts) i ≡ Some p = slice_get-take parts j i lt ∙ is_p in
     let none : passes (share_seals q) (slice_get (take j parts) i) ≡ false
-    = in_part parts (λ k r. at_each (take k parts) (share_seals r)) never j q i is_q (λ b. h 2 j i (l2 parts) refl (slice_get_within parts j q is_q, b)) (slice_get_within (take j parts) i p there) in
+    = in_part parts (λ k r. at_each (take k parts) (share_seals r))
+    never j q i is_q (λ b. h 2 j i (l2 parts) refl (slice_get_within parts j q is_q, b))
+    (slice_get_within (take j parts) i p there) in
     sym (ap (passes (share_seals q)) there) ∙ none
 
 -- no seal is of two parts
@@ -49,7 +51,9 @@ between parts size h i j seal p q is_p is_q in_p in_q = elim (cases_eq i j) as (
 
     apart : (x y : PartSeen) → share_seals x y ≡ false → IsTrue (is_seal_of x seal)
         → IsTrue (is_seal_of y seal) → ⊥
-    apart x y none in_x in_y = no_common x.component.seals y.component.seals x.component.closure y.component.closure seal none in_x in_y
+    apart x y none in_x in_y =
+        no_common x.component.seals y.component.seals x.component.closure y.component.closure seal none in_x
+        in_y
 
 pub parts_apart : (parts : List PartSeen) (size : ℕ)
     → ((k : ℕ) (p : PartSeen) → slice_get parts k ≡ Some p → IsPart p) → NoneIsBroken (rules_l parts size)
@@ -74,8 +78,10 @@ of_first false b e = absurd cc
 own_seal : (parts : List PartSeen) → ((k : ℕ) (p : PartSeen) → slice_get parts k ≡ Some p → IsPart p)
     → (s : Site) (is : IsSite parts s) → has_seal is.of.component.seals s.seal ≡ true
 own_seal parts kept s is =
-    let within : s.index < length is.of.component.sites = slice_get_within is.of.component.sites s.index is.offset is.offset_is in
-    let few : length is.of.component.sites ≤ is.of.component.seals.count = few_sites is.of (kept s.part is.of is.of_is) is.trusted in
+    let within : s.index < length is.of.component.sites =
+    slice_get_within is.of.component.sites s.index is.offset is.offset_is in
+    let few : length is.of.component.sites ≤ is.of.component.seals.count =
+    few_sites is.of (kept s.part is.of is.of_is) is.trusted in
     of_range is.of.component.seals s.index s.seal is.seal (omega arith)
 
 pub sites_apart : (parts : List PartSeen) (sites : List Site)
@@ -89,7 +95,8 @@ sites_apart parts sites kept apart are = record {
 }
   where
     seal_of : (s : Site) (is : IsSite parts s) → IsTrue (is_seal_of is.of s.seal)
-    seal_of s is = or_right (is.of.component.closure == s.seal) (has_seal is.of.component.seals s.seal) (own_seal parts kept s is)
+    seal_of s is = or_right (is.of.component.closure == s.seal) (has_seal is.of.component.seals s.seal)
+        (own_seal parts kept s is)
 
     -- who has a site's seal is its part
     one_part : (s : Site) (is : IsSite parts s) (k : ℕ) (p : PartSeen) → slice_get parts k ≡ Some p
@@ -102,9 +109,13 @@ sites_apart parts sites kept apart are = record {
     closed : (s : Site) (is : IsSite parts s) (k : ℕ) (p : PartSeen) → slice_get parts k ≡ Some p
         → s.seal ≡ p.component.closure → ⊥
     closed s is k p at e =
-        let has : IsTrue (is_seal_of p s.seal) = of_first (p.component.closure == s.seal) (has_seal p.component.seals s.seal) (eq-eqb p.component.closure s.seal (sym e)) in
+        let has : IsTrue (is_seal_of p s.seal) =
+        of_first (p.component.closure == s.seal) (has_seal p.component.seals s.seal)
+        (eq-eqb p.component.closure s.seal (sym e)) in
         let same = one_part s is k p at has in
-        let own : has_seal p.component.seals p.component.closure ≡ true = subst (λ o. has_seal p.component.seals o ≡ true) e (subst (λ q. has_seal q.component.seals s.seal ≡ true) same (own_seal parts kept s is)) in
+        let own : has_seal p.component.seals p.component.closure ≡ true =
+        subst (λ o. has_seal p.component.seals o ≡ true)
+        e (subst (λ q. has_seal q.component.seals s.seal ≡ true) same (own_seal parts kept s is)) in
         let none : false ≡ true = sym (apart.within k p at) ∙ own in
         cc
 
@@ -114,16 +125,24 @@ sites_apart parts sites kept apart are = record {
       where
         by_test : (b : Bool) → is_seal_of p s.seal ≡ b → is_seal_of p s.seal ≡ false
         by_test false e = e
-        by_test true e = let same = one_part s is k p at e in let f : true ≡ false = sym is.trusted ∙ ap (λ q. q.trusted) same ∙ untrusted in cc
+        by_test true e = let same = one_part s is k p at e in let f : true ≡ false =
+            sym is.trusted ∙ ap (λ q. q.trusted) same ∙ untrusted in cc
 
     one : (s t : Site) → IsSite parts s → IsSite parts t → s.seal ≡ t.seal → s ≡ t
     one s t is it e =
-        let part : s.part ≡ t.part = apart.between s.part t.part s.seal is.of it.of is.of_is it.of_is (seal_of s is) (subst (λ o. IsTrue (is_seal_of it.of o)) (sym e) (seal_of t it)) in
-        let of : is.of ≡ it.of = let f : Some is.of ≡ Some it.of = sym is.of_is ∙ ap (slice_get parts) part ∙ it.of_is in cc in
-        let base : is.of.component.seals.base ≡ it.of.component.seals.base = ap (λ p. p.component.seals.base) of in
+        let part : s.part ≡ t.part =
+        apart.between s.part t.part s.seal is.of it.of is.of_is it.of_is (seal_of s is)
+        (subst (λ o. IsTrue (is_seal_of it.of o)) (sym e) (seal_of t it)) in
+        let of : is.of ≡ it.of = let f : Some is.of ≡ Some it.of =
+        sym is.of_is ∙ ap (slice_get parts) part ∙ it.of_is in cc in
+        let base : is.of.component.seals.base ≡ it.of.component.seals.base =
+        ap (λ p. p.component.seals.base) of in
         let index : s.index ≡ t.index = omega (arith, base, is.seal, it.seal, e) in
         let sites : is.of.component.sites ≡ it.of.component.sites = ap (λ p. p.component.sites) of in
-        let offset : is.offset ≡ it.offset = let f : Some is.offset ≡ Some it.offset = sym is.offset_is ∙ ap (λ xs. slice_get xs s.index) sites ∙ ap (slice_get it.of.component.sites) index ∙ it.offset_is in cc in
-        let code : is.of.component.code_base ≡ it.of.component.code_base = ap (λ p. p.component.code_base) of in
+        let offset : is.offset ≡ it.offset = let f : Some is.offset ≡ Some it.offset =
+        sym is.offset_is ∙ ap (λ xs. slice_get xs s.index) sites
+        ∙ ap (slice_get it.of.component.sites) index ∙ it.offset_is in cc in
+        let code : is.of.component.code_base ≡ it.of.component.code_base =
+        ap (λ p. p.component.code_base) of in
         let at : s.at ≡ t.at = omega (arith, code, offset, is.at, it.at) in
         same_site s t part index e at

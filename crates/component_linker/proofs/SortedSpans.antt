@@ -42,7 +42,9 @@ ascending at (s ∷ ss) low fits pairs = (
   low 0 s (omega arith),
   (fits 0 s (omega arith)).0,
   (fits 0 s (omega arith)).1,
-  ascending (s.end + 1) ss (λ k d lt. pairs 0 (suc k) d (omega arith) (omega (arith, lt))) (λ k d lt. fits (suc k) d (omega (arith, lt))) (λ i j d lt in'. pairs (suc i) (suc j) d (omega (arith, lt)) (omega (arith, in'))),
+  ascending (s.end + 1) ss (λ k d lt. pairs 0 (suc k) d (omega arith) (omega (arith, lt)))
+      (λ k d lt. fits (suc k) d (omega (arith, lt)))
+      (λ i j d lt in'. pairs (suc i) (suc j) d (omega (arith, lt)) (omega (arith, in'))),
 )
 
 -- no address is between them, or they share one
@@ -53,7 +55,8 @@ near_flips : (s t : Span) → near s t ≡ near t s
 near_flips s t = and_comm (nat_le s.base (t.end + 1)) (nat_le t.base (s.end + 1))
 
 far : (r q : Region) → Apart r q → near (region_span r) (region_span q) ≡ false
-far r q (inl a) = let e : nat_le q.base (r.end + 1) ≡ false = grind (arith, nat_tests) in rw e (and_right (nat_le r.base (q.end + 1)) false refl)
+far r q (inl a) = let e : nat_le q.base (r.end + 1) ≡ false =
+    grind (arith, nat_tests) in rw e (and_right (nat_le r.base (q.end + 1)) false refl)
 far r q (inr a) = let e : nat_le r.base (q.end + 1) ≡ false = grind (arith, nat_tests) in rw e refl
 
 before_of_far : (s t : Span) → near s t ≡ false → s.base ≤ t.base → t.base ≤ t.end → s.end + 1 ≤ t.base
@@ -84,8 +87,10 @@ distinct rs pairs = IsDistinct-from_apart near (map region_span rs) (λ i j d lt
     let D = as_region d in
     let a = map_at rs i D in
     let b = map_at rs j D in
-    let h = far (get_or rs i D) (get_or rs j D) (pairs i j D lt (omega (arith, in', length-map rs region_span))) in
-    subst (λ x. near x (get_or (map region_span rs) j d) ≡ false) (sym a) (subst (λ y. near (region_span (get_or rs i D)) y ≡ false) (sym b) h))
+    let h = far (get_or rs i D) (get_or rs j D)
+    (pairs i j D lt (omega (arith, in', length-map rs region_span))) in
+    subst (λ x. near x (get_or (map region_span rs) j d) ≡ false) (sym a)
+    (subst (λ y. near (region_span (get_or rs i D)) y ≡ false) (sym b) h))
 
 pub any_region : (a : ℕ) (rs : List Region) → list_any (in_span a) (map region_span rs) ≡ in_regions a rs
 any_region a [] = refl
@@ -101,14 +106,17 @@ fits_all rs h k d lt =
 ordered : (ss : List Span) → IsNonDecreasingBy (λ s. s.base) ss → IsDistinct near ss → All Fits ss
     → AreSpans 0 ss
 ordered ss up apart fits = ascending 0 ss (λ k d lt. omega arith) fits
-    (λ i j d lt in'. before_of_far (get_or ss i d) (get_or ss j d) (apart_from_distinct near ss i j d apart lt in') (up i j d (omega (arith, lt)) in') (fits j d in').0)
+    (λ i j d lt in'. before_of_far (get_or ss i d) (get_or ss j d)
+    (apart_from_distinct near ss i j d apart lt in') (up i j d (omega (arith, lt)) in') (fits j d in').0)
 
 -- ---- of linked parts
 
 pub spans_are : (parts : List PartSeen) (size : ℕ) (stack : Span) → stack_span parts size ≡ Some stack
     → map region_span (flat_map part_regions parts) ++ stack ∷ [] ≡ map region_span (regions_of parts size)
 unfolding regions_of
-spans_are parts size stack is = sym (map-append region_span (flat_map part_regions parts) (region true (stack_span parts size)) ∙ ap (λ o. map region_span (flat_map part_regions parts) ++ map region_span (region true o)) is)
+spans_are parts size stack is =
+    sym (map-append region_span (flat_map part_regions parts) (region true (stack_span parts size))
+    ∙ ap (λ o. map region_span (flat_map part_regions parts) ++ map region_span (region true o)) is)
 
 pub are_spans : (parts : List PartSeen) (size : ℕ) (stack : Span) (ss : List Span) → Linked parts size
     → stack_span parts size ≡ Some stack
@@ -116,9 +124,13 @@ pub are_spans : (parts : List PartSeen) (size : ℕ) (stack : Span) (ss : List S
     → IsNonDecreasingBy (λ s. s.base) ss → AreSpans 0 ss
 are_spans parts size stack ss linked is moved up =
     let xs = map region_span (regions_of parts size) in
-    let moved' : IsPermutation xs ss = subst (λ l. IsPermutation l ss) (spans_are parts size stack is) moved in
-    ordered ss up (IsDistinct-IsPermutation near near_flips xs ss moved' (distinct (regions_of parts size) linked.apart))
-    (All-permutation Fits xs ss moved' (fits_all (regions_of parts size) (λ r m. all_within parts size r linked m)))
+    let moved' : IsPermutation xs ss =
+    subst (λ l. IsPermutation l ss) (spans_are parts size stack is) moved in
+    ordered ss up
+    (IsDistinct-IsPermutation near near_flips xs ss moved'
+    (distinct (regions_of parts size) linked.apart))
+    (All-permutation Fits xs ss moved'
+    (fits_all (regions_of parts size) (λ r m. all_within parts size r linked m)))
 
 pub are_spans_of : (parts : List PartSeen) (size : ℕ) (stack : Span) (ss : List Span)
     → stack_span parts size ≡ Some stack
@@ -134,7 +146,8 @@ pub in_spans_is : (parts : List PartSeen) (size : ℕ) (stack : Span) (ss : List
     → IsPermutation (map region_span (flat_map part_regions parts) ++ stack ∷ []) ss → (a : ℕ)
     → in_spans a ss ≡ in_regions a (regions_of parts size)
 in_spans_is parts size stack ss is moved a =
-    sym (list_any-IsPermutation (in_span a) (map region_span (flat_map part_regions parts) ++ stack ∷ []) ss moved)
+    sym (list_any-IsPermutation (in_span a) (map region_span (flat_map part_regions parts) ++ stack ∷ [])
+    ss moved)
     ∙ ap (list_any (in_span a)) (spans_are parts size stack is) ∙ any_region a (regions_of parts size)
 
 -- ---- memory
@@ -144,7 +157,8 @@ pub room : (parts : List PartSeen) (size : ℕ) → AreClosed parts → (k a : �
     → slice_get parts k ≡ Some p → part_word parts a p ≡ Some w → in_regions a (regions_of parts size) ≡ true
 room parts size closed k a p w at h =
     let s = standing parts p (closed.kept k p at) a w h in
-    in_regions_is a (regions_of parts size) s.region (part_region_of parts size k p s.region at s.of) s.low s.high
+    in_regions_is a (regions_of parts size) s.region (part_region_of parts size k p s.region at s.of)
+    s.low s.high
 
 pub is_slot : (parts : List PartSeen) (size a : ℕ) (ss : List Span)
     → in_spans a ss ≡ in_regions a (regions_of parts size)
@@ -157,7 +171,8 @@ pub cells_are : (parts : List PartSeen) (size a : ℕ) (ss : List Span) (made la
     → cell laid.maps.cells a ≡ option_or (first_given (part_word parts a) parts) (cell made.maps.cells a)
     → cell laid.maps.cells a ≡ start_cell parts size a
 unfolding start_cell
-cells_are parts size a ss made laid e m l = l ∙ ap (λ o. option_or (first_given (part_word parts a) parts) o) (m ∙ is_slot parts size a ss e)
+cells_are parts size a ss made laid e m l =
+    l ∙ ap (λ o. option_or (first_given (part_word parts a) parts) o) (m ∙ is_slot parts size a ss e)
 
 -- one part more
 pub spans_more : (parts : List PartSeen) (k : ℕ) (p : PartSeen) (old new : List Span)
@@ -167,5 +182,7 @@ pub spans_more : (parts : List PartSeen) (k : ℕ) (p : PartSeen) (old new : Lis
 spans_more parts k p old new at before pushed =
     pushed ∙ ap (λ ss. ss ++ map region_span (part_regions p)) before
     ∙ sym (ap (λ ps. map region_span (flat_map part_regions ps)) (taken_at parts k p at)
-    ∙ ap (map region_span) (flat_map-append part_regions (take k parts) (p ∷ []) ∙ ap (λ rs. flat_map part_regions (take k parts) ++ rs) (append-nil (part_regions p)))
+    ∙ ap (map region_span)
+    (flat_map-append part_regions (take k parts) (p ∷ [])
+    ∙ ap (λ rs. flat_map part_regions (take k parts) ++ rs) (append-nil (part_regions p)))
     ∙ map-append region_span (flat_map part_regions (take k parts)) (part_regions p))

@@ -18,7 +18,8 @@ use Rattle.component_linker.proofs.SortedSpans.{any_region, room}
 pub spans_are_regions : (parts : List PartSeen) (size : ℕ) (spans : List Span) → AreSpansOf parts size spans
     → (a : ℕ) → in_spans a spans ≡ in_regions a (regions_of parts size)
 spans_are_regions parts size spans are a =
-    sym (list_any-IsPermutation (in_span a) (map region_span (regions_of parts size)) spans are.same) ∙ any_region a (regions_of parts size)
+    sym (list_any-IsPermutation (in_span a) (map region_span (regions_of parts size)) spans are.same)
+    ∙ any_region a (regions_of parts size)
 
 zero_in : (b : Bool) (w : Word) → (if b then Some (Int (pos 0)) else None) ≡ Some w → b ≡ true
 zero_in true w h = refl
@@ -28,10 +29,15 @@ zero_in false w h = absurd cc
 pub cell_in_region : (parts : List PartSeen) (size a : ℕ) (w : Word) → AreClosed parts
     → start_cell parts size a ≡ Some w → in_regions a (regions_of parts size) ≡ true
 unfolding start_cell
-cell_in_region parts size a w closed h = elim (given_by (first_given (part_word parts a) parts) (if in_regions a (regions_of parts size) then Some (Int (pos 0)) else None) w h) as (λ _. in_regions a (regions_of parts size) ≡ true) [
-  | inl found ↦ (let g = given (part_word parts a) parts w found in room parts size closed g.index a g.item w g.at g.is)
-  | inr z ↦ zero_in (in_regions a (regions_of parts size)) w z
-]
+cell_in_region parts size a w closed h =
+    elim (given_by (first_given (part_word parts a) parts)
+    (if in_regions a (regions_of parts size) then Some (Int (pos 0)) else None) w h)
+    as (λ _. in_regions a (regions_of parts size) ≡ true) [
+      | inl found ↦
+          (let g = given (part_word parts a) parts w found in
+          room parts size closed g.index a g.item w g.at g.is)
+      | inr z ↦ zero_in (in_regions a (regions_of parts size)) w z
+    ]
 
 -- and an address of a region has a cell
 pub region_has_cell : (parts : List PartSeen) (size a : ℕ) → in_regions a (regions_of parts size) ≡ true

@@ -46,7 +46,9 @@ words_of p = p.component.code ++ p.component.data_words
 
 -- where the word of an index stands
 abbrev pub address_of : PartSeen → ℕ → ℕ
-address_of p i = if nat_lt i (length p.component.code) then p.component.code_base + i else p.component.data_base + (i - length p.component.code)
+address_of p i =
+    if nat_lt i (length p.component.code)
+    then p.component.code_base + i else p.component.data_base + (i - length p.component.code)
 
 pub get_left : (xs ys : List Word) (k : ℕ) (w : Word) → slice_get xs k ≡ Some w
     → slice_get (xs ++ ys) k ≡ Some w
@@ -57,14 +59,19 @@ get_left (x ∷ xs) ys (suc k) w h = get_left xs ys k w h
 pub get_right : (xs ys : List Word) (k : ℕ) (w : Word) → slice_get ys k ≡ Some w
     → slice_get (xs ++ ys) (length xs + k) ≡ Some w
 get_right [] ys k w h = let e : 0 + k ≡ k = omega arith in rw e h
-get_right (x ∷ xs) ys k w h = let e : suc (length xs) + k ≡ suc (length xs + k) = omega arith in rw e (get_right xs ys k w h)
+get_right (x ∷ xs) ys k w h = let e : suc (length xs) + k ≡ suc (length xs + k) =
+    omega arith in rw e (get_right xs ys k w h)
 
 -- where the index comes from
 get_cases : (xs ys : List Word) (k : ℕ) (w : Word) → slice_get (xs ++ ys) k ≡ Some w
     → (slice_get xs k ≡ Some w) ⊎ (slice_get ys (k - length xs) ≡ Some w)
 get_cases [] ys k w h = let e : k - 0 ≡ k = omega arith in inr (rw e h)
 get_cases (x ∷ xs) ys zero w h = inl h
-get_cases (x ∷ xs) ys (suc k) w h = let e : suc k - suc (length xs) ≡ k - length xs = omega arith in elim (get_cases xs ys k w h) as (λ _. (slice_get (x ∷ xs) (suc k) ≡ Some w) ⊎ (slice_get ys (suc k - suc (length xs)) ≡ Some w)) [ inl a ↦ inl a | inr b ↦ inr (rw e b) ]
+get_cases (x ∷ xs) ys (suc k) w h = let e : suc k - suc (length xs) ≡ k - length xs =
+    omega arith in
+    elim (get_cases xs ys k w h)
+    as (λ _. (slice_get (x ∷ xs) (suc k) ≡ Some w) ⊎ (slice_get ys (suc k - suc (length xs)) ≡ Some w))
+    [ inl a ↦ inl a | inr b ↦ inr (rw e b) ]
 
 pub each_at : (ws : List Word) (b : Option Word) (k : ℕ) (w : Word)
     → Chain (λ _ x. WordFits x × IsUnsealed x) b ws → slice_get ws k ≡ Some w → WordFits w × IsUnsealed w
@@ -74,10 +81,11 @@ each_at (x ∷ xs) b (suc k) w h at = each_at xs (Some x) k w h.1 at
 
 pub word_fits : (p : PartSeen) (k : ℕ) (w : Word) → Kept p → slice_get (words_of p) k ≡ Some w
     → WordFits w × IsUnsealed w
-word_fits p k w kept at = elim (get_cases p.component.code p.component.data_words k w at) as (λ _. WordFits w × IsUnsealed w) [
-  | inl a ↦ each_at p.component.code None k w kept.limits.code.1 a
-  | inr b ↦ each_at p.component.data_words None (k - length p.component.code) w kept.limits.data_words.1 b
-]
+word_fits p k w kept at =
+    elim (get_cases p.component.code p.component.data_words k w at) as (λ _. WordFits w × IsUnsealed w) [
+      | inl a ↦ each_at p.component.code None k w kept.limits.code.1 a
+      | inr b ↦ each_at p.component.data_words None (k - length p.component.code) w kept.limits.data_words.1 b
+    ]
 
 -- no word of a part is sealed, so a memory capability of one is the word itself
 itself : (w : Word) (c : CapFields) → IsUnsealed w → memory_of w ≡ Some c → w ≡ Mem c
@@ -118,7 +126,8 @@ reg_cap parts size main k G1 c at h = absurd cc
 reg_cap parts size main k G2 c at h = absurd cc
 
 -- the words of an import are halves
-half_cap : (parts : List PartSeen) (size a : ℕ) (i : Import) (x : Option Exported) (first second : Bool) (w : Word) (c : CapFields)
+half_cap : (parts : List PartSeen) (size a : ℕ) (i : Import) (x : Option Exported) (first second : Bool)
+    (w : Word) (c : CapFields)
     → imported parts i ≡ x
     → (if first then option_map code_half x else (if second then option_map data_half x else None)) ≡ Some w
     → memory_of w ≡ Some c → HasCap parts size (Cell a) c
@@ -126,14 +135,17 @@ half_cap parts size a i None true second w c is h m = absurd cc
 half_cap parts size a i None false true w c is h m = absurd cc
 half_cap parts size a i None false false w c is h m = absurd cc
 half_cap parts size a i (Some x) true second w c is h m =
-    let e : code_half x ≡ w = cc in let n : memory_of (code_half x) ≡ Some c = ap memory_of e ∙ m in let k = imported_of parts i x is in over_code k.0 x k.1 cc
+    let e : code_half x ≡ w = cc in let n : memory_of (code_half x) ≡ Some c = ap memory_of e ∙ m in let k =
+    imported_of parts i x is in over_code k.0 x k.1 cc
 half_cap parts size a i (Some x) false true w c is h m =
-    let e : data_half x ≡ w = cc in let n : memory_of (data_half x) ≡ Some c = ap memory_of e ∙ m in let k = imported_of parts i x is in over_data k.0 x.part k.1 cc
+    let e : data_half x ≡ w = cc in let n : memory_of (data_half x) ≡ Some c = ap memory_of e ∙ m in let k =
+    imported_of parts i x is in over_data k.0 x.part k.1 cc
 half_cap parts size a i (Some x) false false w c is h m = absurd cc
 
 slot_cap : (parts : List PartSeen) (size o a : ℕ) (i : Import) (w : Word) (c : CapFields)
     → slot_word parts o i ≡ Some w → memory_of w ≡ Some c → HasCap parts size (Cell a) c
-slot_cap parts size o a i w c h m = half_cap parts size a i (imported parts i) (i.slot == o) (i.slot + 1 == o) w c refl h m
+slot_cap parts size o a i w c h m =
+    half_cap parts size a i (imported parts i) (i.slot == o) (i.slot + 1 == o) w c refl h m
 
 own_cap : (parts : List PartSeen) (size k i a : ℕ) (p : PartSeen) (w : Word) (c : CapFields) → Kept p
     → slice_get parts k ≡ Some p → slice_get (words_of p) i ≡ Some w → address_of p i ≡ a
@@ -157,34 +169,50 @@ word_cap : (parts : List PartSeen) (size k a : ℕ) (p : PartSeen) (w : Word) (c
     → slice_get parts k ≡ Some p → part_word parts a p ≡ Some w → memory_of w ≡ Some c
     → HasCap parts size (Cell a) c
 unfolding part_word
-word_cap parts size k a p w c kept at h m = elim (given_by (from p.component.code_base (slice_get p.component.code) a) (from p.component.data_base (data_word parts p.component) a) w h) as (λ _. HasCap parts size (Cell a) c) [
-  | inl code ↦ (
-      let f = from_inv p.component.code_base (slice_get p.component.code) a w code in
-      own_cap parts size k (a - p.component.code_base) a p w c kept at (get_left p.component.code p.component.data_words (a - p.component.code_base) w f.1)
-      (code_address p a f.0 (slice_get_within p.component.code (a - p.component.code_base) w f.1)) m
-      )
-  | inr words ↦ (
-      let f = from_inv p.component.data_base (data_word parts p.component) a w words in
-      let o = a - p.component.data_base in
-      elim (given_by (first_given (slot_word parts o) p.component.imports) (slice_get p.component.data_words o) w f.1) as (λ _. HasCap parts size (Cell a) c) [
-        | inl slot ↦ (let g = given (slot_word parts o) p.component.imports w slot in slot_cap parts size o a g.item w c g.is m)
-        | inr own ↦ own_cap parts size k (length p.component.code + o) a p w c kept at (get_right p.component.code p.component.data_words o w own) (data_address p a f.0) m
-      ]
-      )
-]
+word_cap parts size k a p w c kept at h m =
+    elim (given_by (from p.component.code_base (slice_get p.component.code) a)
+    (from p.component.data_base (data_word parts p.component) a) w h) as (λ _. HasCap parts size (Cell a) c) [
+      | inl code ↦ (
+          let f = from_inv p.component.code_base (slice_get p.component.code) a w code in
+          own_cap parts size k (a - p.component.code_base)
+          a p w c kept at (get_left p.component.code p.component.data_words (a - p.component.code_base) w f.1)
+          (code_address p a f.0 (slice_get_within p.component.code (a - p.component.code_base) w f.1)) m
+          )
+      | inr words ↦ (
+          let f = from_inv p.component.data_base (data_word parts p.component) a w words in
+          let o = a - p.component.data_base in
+          elim (given_by (first_given (slot_word parts o) p.component.imports)
+          (slice_get p.component.data_words o) w f.1) as (λ _. HasCap parts size (Cell a) c) [
+            | inl slot ↦
+                (let g = given (slot_word parts o) p.component.imports w slot in
+                slot_cap parts size o a g.item w c g.is m)
+            | inr own ↦
+                own_cap parts size k (length p.component.code + o)
+                a p w c kept at (get_right p.component.code p.component.data_words o w own)
+                (data_address p a f.0)
+                m
+          ]
+          )
+    ]
 
 zero_no : (b : Bool) (w : Word) (c : CapFields) → (if b then Some (Int (pos 0)) else None) ≡ Some w
     → memory_of w ≡ Some c → ⊥
-zero_no true w c h m = let e : Int (pos 0) ≡ w = cc in let n : memory_of (Int (pos 0)) ≡ Some c = ap memory_of e ∙ m in cc
+zero_no true w c h m = let e : Int (pos 0) ≡ w = cc in let n : memory_of (Int (pos 0)) ≡ Some c =
+    ap memory_of e ∙ m in cc
 zero_no false w c h m = cc
 
 cell_cap : (parts : List PartSeen) (size a : ℕ) (w : Word) (c : CapFields) → AreClosed parts
     → start_cell parts size a ≡ Some w → memory_of w ≡ Some c → HasCap parts size (Cell a) c
 unfolding start_cell
-cell_cap parts size a w c closed h m = elim (given_by (first_given (part_word parts a) parts) (if in_regions a (regions_of parts size) then Some (Int (pos 0)) else None) w h) as (λ _. HasCap parts size (Cell a) c) [
-  | inl found ↦ (let g = given (part_word parts a) parts w found in word_cap parts size g.index a g.item w c (closed.kept g.index g.item g.at) g.at g.is m)
-  | inr z ↦ absurd (zero_no (in_regions a (regions_of parts size)) w c z m)
-]
+cell_cap parts size a w c closed h m =
+    elim (given_by (first_given (part_word parts a) parts)
+    (if in_regions a (regions_of parts size) then Some (Int (pos 0)) else None) w h)
+    as (λ _. HasCap parts size (Cell a) c) [
+      | inl found ↦
+          (let g = given (part_word parts a) parts w found in
+          word_cap parts size g.index a g.item w c (closed.kept g.index g.item g.at) g.at g.is m)
+      | inr z ↦ absurd (zero_no (in_regions a (regions_of parts size)) w c z m)
+    ]
 
 -- the maps of a start
 pub record StartMaps (parts : List PartSeen) (size : ℕ) (s : State Word) : Type 0 where
@@ -199,15 +227,18 @@ pub cap_at : (parts : List PartSeen) (size : ℕ) (s : State Word) (place : Plac
 cap_at parts size s (R r) w c linked start h m =
     let k = main_there parts start.main start.main_is in
     let e : reg s.regs r ≡ w = cc in
-    reg_cap parts size start.main k.0 r c k.1 (ap (λ (rs : Regs Word). memory_of (reg rs r)) (sym start.regs) ∙ ap memory_of e ∙ m)
-cap_at parts size s (Cell a) w c linked start h m = cell_cap parts size a w c linked.closed (sym (start.cells a) ∙ h) m
+    reg_cap parts size start.main k.0 r c k.1
+    (ap (λ (rs : Regs Word). memory_of (reg rs r)) (sym start.regs) ∙ ap memory_of e ∙ m)
+cap_at parts size s (Cell a) w c linked start h m =
+    cell_cap parts size a w c linked.closed (sym (start.cells a) ∙ h) m
 
 -- ---- each lies in one region
 
 in_part : (parts : List PartSeen) (size k : ℕ) (p : PartSeen) (r : Region) (c : CapFields)
     → slice_get parts k ≡ Some p → Contains (part_regions p) r → r.base ≤ c.base → c.base ≤ c.end
     → c.end ≤ r.end → lin_is c.lin ≡ r.linear → InOneRegion (regions_of parts size) c
-in_part parts size k p r c at m low order high lin = (r, part_region_of parts size k p r at m, low, order, high, lin)
+in_part parts size k p r c at m low order high lin =
+    (r, part_region_of parts size k p r at m, low, order, high, lin)
 
 in_order : (p : PartSeen) (i : ℕ) (c : CapFields) → Kept p → slice_get (words_of p) i ≡ Some (Mem c)
     → c.base ≤ c.end
@@ -218,53 +249,72 @@ own_in : (parts : List PartSeen) (size k : ℕ) (p : PartSeen) (c : CapFields) �
     → InOneRegion (regions_of parts size) c
 own_in parts size k p c kept at order (inl h) =
     let r = whole p.component.code_base (length p.component.code) false in
-    in_part parts size k p r c at (code_in p kept.limits.code.0.0) h.1.0 order (let lt = h.1.1 in omega (arith, lt)) h.0
+    in_part parts size k p r c at (code_in p kept.limits.code.0.0)
+    h.1.0 order (let lt = h.1.1 in omega (arith, lt)) h.0
 own_in parts size k p c kept at order (inr (inl h)) =
     let r = whole p.component.data_base (length p.component.data_words) false in
-    in_part parts size k p r c at (data_in p kept.limits.data_words.0.0) h.1.0 order (let lt = h.1.1 in omega (arith, lt)) h.0
+    in_part parts size k p r c at (data_in p kept.limits.data_words.0.0)
+    h.1.0 order (let lt = h.1.1 in omega (arith, lt)) h.0
 own_in parts size k p c kept at order (inr (inr h)) =
     let r = whole p.component.linear.base p.component.linear.count true in
     let low = h.1.0 in
     let lt = h.1.1 in
-    in_part parts size k p r c at (linear_in p (omega (arith, low, lt, order))) low order (omega (arith, lt)) h.0
+    in_part parts size k p r c at (linear_in p (omega (arith, low, lt, order))) low order (omega (arith, lt))
+    h.0
 
 code_cap_in : (parts : List PartSeen) (size k : ℕ) (x : Exported) → Kept x.part
     → slice_get parts k ≡ Some x.part → InOneRegion (regions_of parts size) (code_of x)
 code_cap_in parts size k x kept at =
     let some = kept.limits.code.0.0 in
-    in_part parts size k x.part (whole x.part.component.code_base (length x.part.component.code) false) (code_of x) at (code_in x.part some) (omega arith) (omega (arith, some)) (omega arith) refl
+    in_part parts size k x.part (whole x.part.component.code_base (length x.part.component.code) false)
+    (code_of x) at (code_in x.part some) (omega arith) (omega (arith, some)) (omega arith) refl
 
 data_cap_in : (parts : List PartSeen) (size k : ℕ) (p : PartSeen) → Kept p → slice_get parts k ≡ Some p
     → InOneRegion (regions_of parts size) (data_of p)
 data_cap_in parts size k p kept at =
     let some = kept.limits.data_words.0.0 in
-    in_part parts size k p (whole p.component.data_base (length p.component.data_words) false) (data_of p) at (data_in p some) (omega arith) (omega (arith, some)) (omega arith) refl
+    in_part parts size k p (whole p.component.data_base (length p.component.data_words) false)
+    (data_of p) at (data_in p some) (omega arith) (omega (arith, some)) (omega arith) refl
 
 pub stack_there : (parts : List PartSeen) (size k : ℕ) (p : PartSeen) → Linked parts size
     → slice_get parts k ≡ Some p
     → Contains (region true (stack_span parts size)) (whole (stack_base_of parts) size true)
-stack_there parts size k p linked at = stack_in parts size k p at linked.size_fits (size_bounds size linked.size_fits).0
+stack_there parts size k p linked at =
+    stack_in parts size k p at linked.size_fits (size_bounds size linked.size_fits).0
 
 stack_cap_in : (parts : List PartSeen) (size k : ℕ) (p : PartSeen) → Linked parts size
     → slice_get parts k ≡ Some p → InOneRegion (regions_of parts size) (stack_of (stack_base_of parts) size)
 stack_cap_in parts size k p linked at =
-    let some = (size_bounds size linked.size_fits).0 in
-    (whole (stack_base_of parts) size true, stack_region_of parts size (whole (stack_base_of parts) size true) (stack_there parts size k p linked at), omega arith, omega (arith, some), omega arith, refl)
+    let some = (size_bounds size linked.size_fits).0 in (
+      whole (stack_base_of parts) size true,
+      stack_region_of parts size (whole (stack_base_of parts) size true)
+          (stack_there parts size k p linked at),
+      omega arith,
+      omega (arith, some),
+      omega arith,
+      refl,
+    )
 
 cap_in : (parts : List PartSeen) (size n : ℕ) (q : PartSeen) (place : Place) (c : CapFields)
     → Linked parts size → slice_get parts n ≡ Some q → HasCap parts size place c
     → InOneRegion (regions_of parts size) c
-cap_in parts size n q place c linked first (over_code k x at is) = subst (InOneRegion (regions_of parts size)) is (code_cap_in parts size k x (linked.closed.kept k x.part at) at)
-cap_in parts size n q place c linked first (over_data k p at is) = subst (InOneRegion (regions_of parts size)) is (data_cap_in parts size k p (linked.closed.kept k p at) at)
-cap_in parts size n q place c linked first (over_stack here is) = subst (InOneRegion (regions_of parts size)) is (stack_cap_in parts size n q linked first)
+cap_in parts size n q place c linked first (over_code k x at is) =
+    subst (InOneRegion (regions_of parts size))
+    is (code_cap_in parts size k x (linked.closed.kept k x.part at) at)
+cap_in parts size n q place c linked first (over_data k p at is) =
+    subst (InOneRegion (regions_of parts size)) is (data_cap_in parts size k p (linked.closed.kept k p at) at)
+cap_in parts size n q place c linked first (over_stack here is) =
+    subst (InOneRegion (regions_of parts size)) is (stack_cap_in parts size n q linked first)
 cap_in parts size n q place c linked first (own_word k i p at word here) =
-    let kept = linked.closed.kept k p at in own_in parts size k p c kept at (in_order p i c kept word) (kept.own i c word)
+    let kept = linked.closed.kept k p at in own_in parts size k p c kept at (in_order p i c kept word)
+    (kept.own i c word)
 
 pub fits : (parts : List PartSeen) (size : ℕ) (s : State Word) → Linked parts size → StartMaps parts size s
     → Fits (λ w. w) (regions_of parts size) s
 fits parts size s linked start place w there c m =
     let k = main_there parts start.main start.main_is in
-    cap_in parts size k.0 start.main.part place c linked k.1 (cap_at parts size s place w c linked start there m)
+    cap_in parts size k.0 start.main.part place c linked k.1
+    (cap_at parts size s place w c linked start there m)
 
 -- ---- no linear address is held twice
 
@@ -285,8 +335,10 @@ linear_range p c lin (inr (inr h)) = h.1
 
 linear_holder : (parts : List PartSeen) (size a : ℕ) (place : Place) (c : CapFields) → Linked parts size
     → HasCap parts size place c → lin_is c.lin ≡ true → c.base ≤ a → a ≤ c.end → Holder parts size place a
-linear_holder parts size a place c linked (over_code k x at is) lin low high = absurd (let e : false ≡ lin_is c.lin = ap (λ (d : CapFields). lin_is d.lin) is in false≢true (e ∙ lin))
-linear_holder parts size a place c linked (over_data k p at is) lin low high = absurd (let e : false ≡ lin_is c.lin = ap (λ (d : CapFields). lin_is d.lin) is in false≢true (e ∙ lin))
+linear_holder parts size a place c linked (over_code k x at is) lin low high =
+    absurd (let e : false ≡ lin_is c.lin = ap (λ (d : CapFields). lin_is d.lin) is in false≢true (e ∙ lin))
+linear_holder parts size a place c linked (over_data k p at is) lin low high =
+    absurd (let e : false ≡ lin_is c.lin = ap (λ (d : CapFields). lin_is d.lin) is in false≢true (e ∙ lin))
 linear_holder parts size a place c linked (over_stack here is) lin low high =
     let b : stack_base_of parts ≡ c.base = ap (λ (d : CapFields). d.base) is in
     let e : stack_base_of parts + size - 1 ≡ c.end = ap (λ (d : CapFields). d.end) is in
@@ -302,7 +354,8 @@ no_overlap r q a (inr e) low high below above = omega (arith, e, low, high, belo
 -- the linear area of a part, at an address of it
 area_there : (p : PartSeen) (a : ℕ) (c : CapFields) → c.base ≤ a → a ≤ c.end
     → HasRange p.component.linear.base p.component.linear.count c
-    → Contains (part_regions p) (whole p.component.linear.base p.component.linear.count true) × (p.component.linear.base ≤ a) × (a ≤ p.component.linear.base + p.component.linear.count - 1)
+    → Contains (part_regions p) (whole p.component.linear.base p.component.linear.count true)
+    × (p.component.linear.base ≤ a) × (a ≤ p.component.linear.base + p.component.linear.count - 1)
 area_there p a c low high range =
     let from' = range.0 in
     let to = range.1 in
@@ -314,8 +367,10 @@ stack_alone : (parts : List PartSeen) (size k a : ℕ) (p : PartSeen) (c : CapFi
     → stack_base_of parts ≤ a → a < stack_base_of parts + size → ⊥
 stack_alone parts size k a p c linked at low high range from' to =
     let area = area_there p a c low high range in
-    no_overlap (whole p.component.linear.base p.component.linear.count true) (whole (stack_base_of parts) size true) a
-    (apart_stack parts size k p (whole p.component.linear.base p.component.linear.count true) (whole (stack_base_of parts) size true) linked.apart at area.0 (stack_there parts size k p linked at))
+    no_overlap (whole p.component.linear.base p.component.linear.count true)
+    (whole (stack_base_of parts) size true) a
+    (apart_stack parts size k p (whole p.component.linear.base p.component.linear.count true)
+    (whole (stack_base_of parts) size true) linked.apart at area.0 (stack_there parts size k p linked at))
     area.1 area.2 from' (omega (arith, to))
 
 parts_alone : (parts : List PartSeen) (size k n a : ℕ) (p q : PartSeen) (c d : CapFields) → Linked parts size
@@ -325,35 +380,52 @@ parts_alone : (parts : List PartSeen) (size k n a : ℕ) (p q : PartSeen) (c d :
 parts_alone parts size k n a p q c d linked lt at_k at_n low high range below above stretch =
     let one = area_there p a c low high range in
     let two = area_there q a d below above stretch in
-    no_overlap (whole p.component.linear.base p.component.linear.count true) (whole q.component.linear.base q.component.linear.count true) a
-    (apart_parts parts size k n p q (whole p.component.linear.base p.component.linear.count true) (whole q.component.linear.base q.component.linear.count true) linked.apart lt at_k at_n one.0 two.0)
+    no_overlap (whole p.component.linear.base p.component.linear.count true)
+    (whole q.component.linear.base q.component.linear.count true) a
+    (apart_parts parts size k n p q (whole p.component.linear.base p.component.linear.count true)
+    (whole q.component.linear.base q.component.linear.count true) linked.apart lt at_k at_n one.0 two.0)
     one.1 one.2 two.1 two.2
 
 words_alone : (p : PartSeen) (i j a : ℕ) (c d : CapFields) → Kept p → i < j
     → slice_get (words_of p) i ≡ Some (Mem c) → slice_get (words_of p) j ≡ Some (Mem d) → lin_is c.lin ≡ true
     → lin_is d.lin ≡ true
     → c.base ≤ a → a ≤ c.end → d.base ≤ a → a ≤ d.end → ⊥
-words_alone p i j a c d kept lt at_i at_j c_lin d_lin low high below above = elim (kept.once i j c d lt at_i at_j c_lin d_lin) as (λ _. ⊥) [ inl e ↦ omega (arith, e, low, high, below, above) | inr e ↦ omega (arith, e, low, high, below, above) ]
+words_alone p i j a c d kept lt at_i at_j c_lin d_lin low high below above =
+    elim (kept.once i j c d lt at_i at_j c_lin d_lin) as (λ _. ⊥)
+    [ inl e ↦ omega (arith, e, low, high, below, above) | inr e ↦ omega (arith, e, low, high, below, above) ]
 
 one_holder : (parts : List PartSeen) (size a : ℕ) (x y : Place) → Linked parts size → Holder parts size x a
     → Holder parts size y a → x ≡ y
 one_holder parts size a x y linked (the_stack here low high) (the_stack there below above) = here ∙ sym there
-one_holder parts size a x y linked (the_stack here low high) (a_word k i p c at word there lin below above range) = absurd (stack_alone parts size k a p c linked at below above range low high)
-one_holder parts size a x y linked (a_word k i p c at word here lin low high range) (the_stack there below above) = absurd (stack_alone parts size k a p c linked at low high range below above)
-one_holder parts size a x y linked (a_word k i p c at word here lin low high range) (a_word n j q d at_n other there linear below above stretch) =
+one_holder parts size a x y linked (the_stack here low high)
+    (a_word k i p c at word there lin below above range) =
+    absurd (stack_alone parts size k a p c linked at below above range low high)
+one_holder parts size a x y linked (a_word k i p c at word here lin low high range)
+    (the_stack there below above) =
+    absurd (stack_alone parts size k a p c linked at low high range below above)
+one_holder parts size a x y linked (a_word k i p c at word here lin low high range)
+    (a_word n j q d at_n other there linear below above stretch) =
     elim (cases_order k n) as (λ _. x ≡ y) [
       | inl same ↦ (
           let e : Some p ≡ Some q = sym at ∙ ap (slice_get parts) same ∙ at_n in
           let pq : p ≡ q = cc in
-          let other' : slice_get (words_of p) j ≡ Some (Mem d) = ap (λ z. slice_get (words_of z) j) pq ∙ other in
+          let other' : slice_get (words_of p) j ≡ Some (Mem d) =
+          ap (λ z. slice_get (words_of z) j) pq ∙ other in
           elim (cases_order i j) as (λ _. x ≡ y) [
-            | inl index ↦ here ∙ ap (λ z. Cell (address_of z i)) pq ∙ ap (λ z. Cell (address_of q z)) index ∙ sym there
-            | inr (inl lt) ↦ absurd (words_alone p i j a c d (linked.closed.kept k p at) lt word other' lin linear low high below above)
-            | inr (inr gt) ↦ absurd (words_alone p j i a d c (linked.closed.kept k p at) gt other' word linear lin below above low high)
+            | inl index ↦ here ∙ ap (λ z. Cell (address_of z i)) pq ∙ ap (λ z. Cell (address_of q z)) index
+                ∙ sym there
+            | inr (inl lt) ↦
+                absurd (words_alone p i j a c d (linked.closed.kept k p at)
+                lt word other' lin linear low high below above)
+            | inr (inr gt) ↦
+                absurd (words_alone p j i a d c (linked.closed.kept k p at)
+                gt other' word linear lin below above low high)
           ]
           )
-      | inr (inl lt) ↦ absurd (parts_alone parts size k n a p q c d linked lt at at_n low high range below above stretch)
-      | inr (inr gt) ↦ absurd (parts_alone parts size n k a q p d c linked gt at_n at below above stretch low high range)
+      | inr (inl lt) ↦
+          absurd (parts_alone parts size k n a p q c d linked lt at at_n low high range below above stretch)
+      | inr (inr gt) ↦
+          absurd (parts_alone parts size n k a q p d c linked gt at_n at below above stretch low high range)
     ]
 
 lin_cases : (b : Bool) → (b ≡ true) ⊎ (b ≡ false)
@@ -361,7 +433,8 @@ lin_cases true = inl refl
 lin_cases false = inr refl
 
 -- what covers an address of a linear region is a linear capability
-holder_of : (parts : List PartSeen) (size a : ℕ) (s : State Word) (place : Place) (o : Option CapFields) (w : Word)
+holder_of : (parts : List PartSeen) (size a : ℕ) (s : State Word) (place : Place) (o : Option CapFields)
+    (w : Word)
     → Linked parts size → StartMaps parts size s → IsLinearAt (regions_of parts size) a
     → word_at s place ≡ Some w → memory_of w ≡ o → IsTrue (is_over o a) → Holder parts size place a
 holder_of parts size a s place None w linked start linear there m over = absurd cc
@@ -371,19 +444,24 @@ holder_of parts size a s place (Some c) w linked start linear there m over =
     let bounds = over_bounds c a over in
     elim (lin_cases (lin_is c.lin)) as (λ _. Holder parts size place a) [
       | inl lin ↦ linear_holder parts size a place c linked cap lin bounds.0 bounds.1
-      | inr normal ↦ absurd (normal_apart (regions_of parts size) c a (apart_all (regions_of parts size) linked.apart) inside normal linear over)
+      | inr normal ↦
+          absurd (normal_apart (regions_of parts size) c a (apart_all (regions_of parts size) linked.apart)
+          inside normal linear over)
     ]
 
 holder_at : (parts : List PartSeen) (size a : ℕ) (s : State Word) (place : Place) (o : Option Word)
     → Linked parts size → StartMaps parts size s → IsLinearAt (regions_of parts size) a
     → word_at s place ≡ o → IsTrue (word_over (λ w. w) o a) → Holder parts size place a
 holder_at parts size a s place None linked start linear there over = absurd cc
-holder_at parts size a s place (Some w) linked start linear there over = holder_of parts size a s place (memory_of w) w linked start linear there refl over
+holder_at parts size a s place (Some w) linked start linear there over =
+    holder_of parts size a s place (memory_of w) w linked start linear there refl over
 
 pub covered_once : (parts : List PartSeen) (size : ℕ) (s : State Word) → Linked parts size
     → StartMaps parts size s → CoveredOnce (λ w. w) (regions_of parts size) s
 covered_once parts size s linked start a linear x y over_x over_y =
-    one_holder parts size a x y linked (holder_at parts size a s x (word_at s x) linked start linear refl over_x) (holder_at parts size a s y (word_at s y) linked start linear refl over_y)
+    one_holder parts size a x y linked
+    (holder_at parts size a s x (word_at s x) linked start linear refl over_x)
+    (holder_at parts size a s y (word_at s y) linked start linear refl over_y)
 
 -- each capability of a start lies in one region, and no linear address is held twice
 pub held_once : (parts : List PartSeen) (size : ℕ) (s : State Word) → Linked parts size

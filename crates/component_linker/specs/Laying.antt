@@ -1,11 +1,13 @@
 -- Words put into cells.
-use Rattle.std.specs.Prelude.{◌≡◌, ℕ, ◌+◌, ◌<◌, ◌≤◌, ◌==◌, List, slice_get, Option, Some, None, IsSome, if◌then◌else◌}
+use Rattle.std.specs.Prelude.{◌≡◌, ℕ, ◌+◌, ◌<◌, ◌≤◌, ◌==◌, List, slice_get, Option, Some, None, IsSome}
+use Rattle.std.specs.Prelude.{if◌then◌else◌}
 use Rattle.std.specs.Option.{option_or}
 use Rattle.cap_words.specs.declared.Word.{Word}
 use Rattle.lcm_machine.specs.Cells.{cell}
 use Rattle.lcm_machine.specs.Run.{Run}
 use Rattle.component_linker.specs.Parts.{PartSeen}
-use Rattle.component_linker.specs.Start.{Exported, first_given, from, code_half, data_half, slot_word, part_word}
+use Rattle.component_linker.specs.Start.{Exported, first_given, from, code_half, data_half, slot_word}
+use Rattle.component_linker.specs.Start.{part_word}
 
 -- so many addresses from a first one on have cells
 abbrev pub HasCells : ℕ → ℕ → Run → Type 0

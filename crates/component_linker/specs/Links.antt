@@ -1,5 +1,7 @@
 -- The rules L, which parts and a stack size keep together. docs/RULES.md has them as a table.
-use Rattle.std.specs.Prelude.{ℕ, zero, suc, ◌+◌, ◌==◌, ◌&&◌, ◌||◌, nat_le, nat_lt, Bool, false, not, List, [], ◌∷◌, length, take, sum_by, slice_index_or, Option, Some, None, is_none, if◌then◌else◌}
+use Rattle.std.specs.Prelude.{ℕ, zero, suc, ◌+◌, ◌==◌, ◌&&◌, ◌||◌, nat_le, nat_lt, Bool, false, not, List, []}
+use Rattle.std.specs.Prelude.{◌∷◌, length, take, sum_by, slice_index_or, Option, Some, None, is_none}
+use Rattle.std.specs.Prelude.{if◌then◌else◌}
 use Rattle.std.specs.List.{list_any}
 use Rattle.cap_words.specs.declared.TheConstants.{LAST_PLACE}
 use Rattle.component_file.specs.declared.TheConstants.{MOST_SITES}
@@ -38,7 +40,8 @@ near_before parts own s = list_any (near_part s) parts || list_any (near s) own
 
 unfoldable pub l1 : List PartSeen → ℕ → PairTest
 l1 parts size = each_part_then parts
-    (λ i p. let own = part_spans p in plainly 3 (λ k. near_before (take i parts) (take k own) (slice_index_or own k None)))
+    (λ i p. let own =
+    part_spans p in plainly 3 (λ k. near_before (take i parts) (take k own) (slice_index_or own k None)))
     (once (near_before parts [] (stack_span parts size)) 0)
 
 -- ---- L2: no seal is a closure seal or a return seal of two parts
@@ -85,7 +88,9 @@ l6 parts = each_part_then parts
 -- ---- L7: the stack bases are equal
 
 unfoldable pub l7 : List PartSeen → PairTest
-l7 parts = each_part parts (λ i p. let base = p.component.stack_base in once (not (base == stack_base_of parts)) base)
+l7 parts =
+    each_part parts
+    (λ i p. let base = p.component.stack_base in once (not (base == stack_base_of parts)) base)
 
 -- ---- L8: the stack has 2 to 65,536 words, and ends at or below 1,048,575
 
@@ -110,7 +115,8 @@ l9 parts = each_part parts (λ i p. once
     (if are_few parts then nat_lt MOST_SITES (sites_upto parts i) else i == MOST_PARTS)
     (if are_few parts then sites_upto parts i else length parts))
 
--- ---- L10: a movable part, where it stands, has addresses and seals that there are, and integers of the machine
+-- ---- L10: a movable part, where it stands, has addresses and seals that there are, and integers of the
+-- machine
 
 -- 0 addresses, 1 seals, 2 integers
 abbrev pub lacks_room : ComponentFields → Test ℕ

@@ -1,5 +1,6 @@
 -- The sites of a start, and who owns which code.
-use Rattle.std.specs.Prelude.{◌≡◌, ◌≢◌, ◌↔◌, ℕ, ◌+◌, ◌<◌, ◌≤◌, true, List, map, length, slice_get, slice_index_or, Some}
+use Rattle.std.specs.Prelude.{◌≡◌, ◌≢◌, ◌↔◌, ℕ, ◌+◌, ◌<◌, ◌≤◌, true, List, map, length, slice_get}
+use Rattle.std.specs.Prelude.{slice_index_or, Some}
 use Rattle.std.specs.List.{AllPairs, Contains}
 use Rattle.cap_words.specs.declared.TheConstants.{LONGEST_NAME}
 use Rattle.component_file.specs.declared.component.ComponentFields.{ComponentFields}

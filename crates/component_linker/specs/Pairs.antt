@@ -1,5 +1,6 @@
 -- Rules over a list of parts: each is tried at the parts in turn, and in a part at some places.
-use Rattle.std.specs.Prelude.{◌≡◌, ℕ, zero, suc, ◌+◌, ◌<◌, ◌⊎◌, Bool, false, List, length, Option, Some, None, is_some, unwrap_or, Result, Ok, Err, slice_get}
+use Rattle.std.specs.Prelude.{◌≡◌, ℕ, zero, suc, ◌+◌, ◌<◌, ◌⊎◌, Bool, false, List, length, Option, Some, None}
+use Rattle.std.specs.Prelude.{is_some, unwrap_or, Result, Ok, Err, slice_get}
 use Rattle.component_check.specs.Places.{Test, BrokenAt, plainly, first_of, first_place}
 use Rattle.component_check.specs.Verdict.{IsBefore}
 use Rattle.component_linker.specs.declared.pairs.PartPlace.{PartPlace}

@@ -1,5 +1,7 @@
 -- What parts start with: the word of each register and of each address.
-use Rattle.std.specs.Prelude.{◌≡◌, ℕ, ◌+◌, ◌-◌, ◌==◌, nat_le, nat_eq, ◌&&◌, Bool, pos, List, [], ◌∷◌, length, find, slice_get, Option, Some, None, option_map, option_and_then, if◌then◌else◌, codes, IsTrue}
+use Rattle.std.specs.Prelude.{◌≡◌, ℕ, ◌+◌, ◌-◌, ◌==◌, nat_le, nat_eq, ◌&&◌, Bool, pos, List, [], ◌∷◌, length}
+use Rattle.std.specs.Prelude.{find, slice_get, Option, Some, None, option_map, option_and_then, if◌then◌else◌}
+use Rattle.std.specs.Prelude.{codes, IsTrue}
 use Rattle.std.specs.List.{AllPairs}
 use Rattle.std.specs.Option.{option_or}
 use Rattle.std.specs.Cmp.Lexicographic.{pointwise}

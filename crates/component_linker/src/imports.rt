@@ -45,7 +45,8 @@ fn is_private(part: &Placed, exported: Option<Exported>) -> bool
 
 fn is_refused(parts: &PlacedParts, part: &Placed, k: usize) -> bool
     requires { k < length part.now.component.imports }
-    ensures { result ≡ passes (λ x. is_private part.now (imported parts.now x)) (slice_get part.now.component.imports k) }
+    ensures { result ≡ passes (λ x. is_private part.now (imported parts.now x))
+        (slice_get part.now.component.imports k) }
 {
     is_private(part, imported(parts, &part.imports()[k]))
 }

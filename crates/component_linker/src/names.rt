@@ -1,7 +1,8 @@
 //! Who is meant by names.
 ghost use Rattle.std.specs.Prelude.{◌≡◌, ◌<◌, option_map, find};
 ghost use Rattle.std.specs.Option.{option_copied};
-ghost use Rattle.component_linker.specs.Start.{same_name, Ascend, exported_by, part_named, imported, is_main, main_of};
+ghost use Rattle.component_linker.specs.Start.{same_name, Ascend, exported_by, part_named, imported, is_main};
+ghost use Rattle.component_linker.specs.Start.{main_of};
 
 use crate::placed::{Placed, PlacedParts};
 use component_file::{Export, Import};

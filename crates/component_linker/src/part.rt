@@ -41,7 +41,8 @@ fn check_trusted(c: &Component, trusted: bool) -> Result<(), Broken>
 
 // All rules that are asked of a component, C before K.
 fn check_part(c: &Component, trusted: bool) -> Result<(), Broken>
-    ensures { let p : PartSeen = record { component = c.now; trusted = trusted } in Accepts p (result_and result (Ok p)) }
+    ensures { let p : PartSeen =
+        record { component = c.now; trusted = trusted } in Accepts p (result_and result (Ok p)) }
 {
     check(c, trusted)?;
     check_trusted(c, trusted)

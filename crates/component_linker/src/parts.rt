@@ -56,7 +56,8 @@ pub(crate) fn l2(parts: &PlacedParts) -> Option<PartPlace>
 
 fn is_named_as(parts: &PlacedParts, part: &Placed, j: usize) -> bool
     requires { j < length parts.now }
-    ensures { result ≡ passes (λ q. same_name part.now.component.name q.component.name) (slice_get parts.now j) }
+    ensures { result ≡ passes (λ q. same_name part.now.component.name q.component.name)
+        (slice_get parts.now j) }
 {
     part.name() == parts.part(j).name()
 }

@@ -1,5 +1,6 @@
 -- The text of a component: its items in their order, each in a line.
-use Rattle.std.specs.Prelude.{ℕ, Bool, true, false, ◌==◌, if◌then◌else◌, ◌++◌, List, [], ◌∷◌, codes, decimal, ℤ, Option, Some, None}
+use Rattle.std.specs.Prelude.{ℕ, Bool, true, false, ◌==◌, if◌then◌else◌, ◌++◌, List, [], ◌∷◌, codes, decimal}
+use Rattle.std.specs.Prelude.{ℤ, Option, Some, None}
 use Rattle.std.specs.List.{flat_map, concat}
 use Rattle.std.specs.Fmt.{signed_decimal}
 use Rattle.cap_words.specs.declared.Word.{Word}

@@ -1,7 +1,8 @@
 //! The lines of data and of items that may be many or missing.
 ghost use Rattle.std.specs.Prelude.{◌≡◌, ◌++◌, ℕ, List, [], ◌∷◌, decimal, OnOk};
 ghost use Rattle.std.specs.List.{flat_map};
-ghost use Rattle.disassembler.specs.Disassembled.{behind_blank, item_line, flag_line, word_line, stretch_line};
+ghost use Rattle.disassembler.specs.Disassembled.{behind_blank, item_line, flag_line, word_line};
+ghost use Rattle.disassembler.specs.Disassembled.{stretch_line};
 ghost use Rattle.disassembler.specs.Disassembled.{optional_line, import_line, export_line, site_line};
 ghost use Rattle.disassembler.specs.Disassembled.{kind_fields, row_line};
 

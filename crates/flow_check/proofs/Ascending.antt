@@ -70,7 +70,8 @@ module _ {A : Type 0} (key : A → ℕ) where
       → key (get_or xs i d) ≤ key (get_or xs j d)
   up_eq xs h i j d le lt = elim (cases_eq i j) as (λ _. key (get_or xs i d) ≤ key (get_or xs j d)) [
     | inl e ↦ rw e (omega arith)
-    | inr ne ↦ (let up : key (get_or xs i d) < key (get_or xs j d) = h.up i j d (omega arith) lt in omega arith)
+    | inr ne ↦
+        (let up : key (get_or xs i d) < key (get_or xs j d) = h.up i j d (omega arith) lt in omega arith)
   ]
 
   pub parted : (xs : List A) (bound : ℕ) → Ascends xs → IsPartitionedBy (λ x. nat_lt (key x) bound) xs
@@ -100,7 +101,9 @@ module _ {A : Type 0} (key : A → ℕ) where
   none_found : (xs : List A) (o : ℕ) (d : A) → ((i : ℕ) → i < length xs → key (get_or xs i d) ≡ o → ⊥)
       → find (λ x. key x == o) xs ≡ None
   none_found [] o d h = refl
-  none_found (x ∷ xs) o d h = rw (eq_not (key x) o (λ k. h 0 (omega arith) k)) (none_found xs o d (λ i lt e. h (suc i) (omega arith) e))
+  none_found (x ∷ xs) o d h =
+      rw (eq_not (key x) o (λ k. h 0 (omega arith) k))
+      (none_found xs o d (λ i lt e. h (suc i) (omega arith) e))
 
   -- an item with another key at the split: none has this one
   split_lacks : (xs : List A) (o i : ℕ) (d : A) → Ascends xs → IsSplitAt key o xs i
@@ -134,7 +137,8 @@ pub sites_up : (c : ComponentFields) → IsComponent c → Ascends (λ s. s) c.s
 sites_up c h = chain_up (λ s. s) SiteFits (λ b x p. lt_true b x p.1) None c.sites h.sites.1
 
 pub rows_up : (c : ComponentFields) → IsComponent c → Ascends (λ (r : KindRow). r.offset) c.rows
-rows_up c h = chain_up (λ (r : KindRow). r.offset) RowFits (λ b x p. lt_true b.offset x.offset p.1) None c.rows h.rows.1
+rows_up c h =
+    chain_up (λ (r : KindRow). r.offset) RowFits (λ b x p. lt_true b.offset x.offset p.1) None c.rows h.rows.1
 
 pub any_none : {A : Type 0} (p : A → Bool) (xs : List A) (d : A)
     → ((j : ℕ) → j < length xs → p (get_or xs j d) ≡ false) → list_any p xs ≡ false
@@ -144,7 +148,9 @@ any_none p (x ∷ xs) d h = rw (h 0 (omega arith)) (any_none p xs d (λ j lt. h 
 -- no site begins here, where none does at the split
 pub no_site : (xs : List ℕ) (o i : ℕ) → Ascends (λ s. s) xs → IsSplitAt (λ s. s) o xs i
     → (i < length xs → get_or xs i 0 ≡ o → ⊥) → list_any (λ s. s == o) xs ≡ false
-no_site xs o i up split ne = any_none (λ s. s == o) xs 0 (λ j lt. eq_not (get_or xs j 0) o (λ e. split_lacks (λ s. s) xs o i 0 up split ne j lt e))
+no_site xs o i up split ne =
+    any_none (λ s. s == o)
+    xs 0 (λ j lt. eq_not (get_or xs j 0) o (λ e. split_lacks (λ s. s) xs o i 0 up split ne j lt e))
 
 -- a site begins here, where it begins at the split
 pub site_begins : (xs : List ℕ) (o i : ℕ) → Ascends (λ s. s) xs → IsSplitAt (λ s. s) o xs i → i < length xs
@@ -153,7 +159,9 @@ site_begins xs o i up split lt = by_test (get_or xs i 0 == o) refl
   where
     by_test : (b : Bool) → (get_or xs i 0 == o) ≡ b → b ≡ list_any (λ s. s == o) xs
     by_test true e = sym (list_any_at (λ s. s == o) xs i 0 lt e)
-    by_test false e = sym (no_site xs o i up split (λ l m. let f : true ≡ false = sym (eq_is (get_or xs i 0) o m) ∙ e in cc))
+    by_test false e =
+        sym (no_site xs o i up split
+        (λ l m. let f : true ≡ false = sym (eq_is (get_or xs i 0) o m) ∙ e in cc))
 
 behind_later : (s n o : ℕ) → o ≤ s → is_behind s n o ≡ false
 behind_later s n o h = grind (arith, nat_tests)
@@ -164,7 +172,9 @@ behind_less r s n o le lt e = grind (arith, nat_tests)
 -- within no site, where all begin here or later
 pub before_sites : (xs : List ℕ) (n o : ℕ) → IsSplitAt (λ s. s) o xs 0
     → list_any (λ s. is_behind s n o) xs ≡ false
-before_sites xs n o split = any_none (λ s. is_behind s n o) xs 0 (λ j lt. behind_later (get_or xs j 0) n o (split.others j 0 (omega arith) lt))
+before_sites xs n o split =
+    any_none (λ s. is_behind s n o)
+    xs 0 (λ j lt. behind_later (get_or xs j 0) n o (split.others j 0 (omega arith) lt))
 
 -- within a site, where it is within the last that begins before
 pub within_last : (xs : List ℕ) (n o i : ℕ) → Ascends (λ s. s) xs → IsSplitAt (λ s. s) o xs (suc i)
@@ -179,7 +189,10 @@ within_last xs n o i up split = by_test (is_behind (get_or xs i 0) n o) refl
 
     by_test : (b : Bool) → is_behind (get_or xs i 0) n o ≡ b → b ≡ list_any (λ s. is_behind s n o) xs
     by_test true e = sym (list_any_at (λ s. is_behind s n o) xs i 0 lt e)
-    by_test false e = sym (any_none (λ s. is_behind s n o) xs 0 (λ j l. elim (side j) as (λ _. is_behind (get_or xs j 0) n o ≡ false) [
-      | inl le ↦ behind_less (get_or xs j 0) (get_or xs i 0) n o (up_eq (λ s. s) xs up j i 0 le lt) (split.below i 0 (omega arith)) e
-      | inr ge ↦ behind_later (get_or xs j 0) n o (split.others j 0 ge l)
-    ]))
+    by_test false e =
+        sym (any_none (λ s. is_behind s n o)
+        xs 0 (λ j l. elim (side j) as (λ _. is_behind (get_or xs j 0) n o ≡ false) [
+          | inl le ↦ behind_less (get_or xs j 0) (get_or xs i 0) n o (up_eq (λ s. s) xs up j i 0 le lt)
+              (split.below i 0 (omega arith)) e
+          | inr ge ↦ behind_later (get_or xs j 0) n o (split.others j 0 ge l)
+        ]))

@@ -38,7 +38,8 @@ entry_of c o d e =
 pub entry_at : (c : ComponentFields) (j : ℕ) (d : Export) → j < length c.exports
     → begins_entry c (get_or c.exports j d).offset ≡ true
 unfolding begins_entry
-entry_at c j d lt = list_any_at (λ (x : Export). x.offset == (get_or c.exports j d).offset) c.exports j d lt (eq_is (get_or c.exports j d).offset (get_or c.exports j d).offset refl)
+entry_at c j d lt = list_any_at (λ (x : Export). x.offset == (get_or c.exports j d).offset)
+    c.exports j d lt (eq_is (get_or c.exports j d).offset (get_or c.exports j d).offset refl)
 
 pub export_fits : (b : Option Export) (es : List Export) → Chain ExportFits b es → (j : ℕ) (d : Export)
     → j < length es → (get_or es j d).offset ≤ LAST_OFFSET
@@ -52,7 +53,8 @@ LeastOf c es i None = (j : ℕ) (d : Export) → j < i → entry_is_bad c (get_o
 LeastOf c es i (Some p) =
     ((j : ℕ) × (j < length es) × ((d : Export) → (get_or es j d).offset ≡ p))
     × (entry_is_bad c p ≡ true)
-    × ((j : ℕ) (d : Export) → j < i → entry_is_bad c (get_or es j d).offset ≡ true → p ≤ (get_or es j d).offset)
+    × ((j : ℕ) (d : Export) → j < i → entry_is_bad c (get_or es j d).offset ≡ true
+    → p ≤ (get_or es j d).offset)
 
 module _ (c : ComponentFields) (es : List Export) (i : ℕ) (lt : i < length es) where
   or_last : (P : ℕ → Type 0) → ((j : ℕ) → j < i → P j) → P i → (j : ℕ) → j < i + 1 → P j
@@ -67,15 +69,34 @@ module _ (c : ComponentFields) (es : List Export) (i : ℕ) (lt : i < length es)
   -- one more export, which isn't bad
   pub least_same : (least : Option ℕ) (x : Export) → x ≡ get_or es i x → entry_is_bad c x.offset ≡ false
       → LeastOf c es i least → LeastOf c es (i + 1) least
-  least_same None x is b h = λ j d l. or_last (λ j. entry_is_bad c (get_or es j d).offset ≡ false) (λ j l. h j d l) (let e : x.offset ≡ (get_or es i d).offset = ap (λ (x : Export). x.offset) is ∙ any_offset i x d lt in rw (← e) b) j l
-  least_same (Some p) x is b h = (h.0, h.1, λ j d l. or_last (λ j. entry_is_bad c (get_or es j d).offset ≡ true → p ≤ (get_or es j d).offset) (λ j l. h.2 j d l) (λ t. absurd (let e : x.offset ≡ (get_or es i d).offset = ap (λ (x : Export). x.offset) is ∙ any_offset i x d lt in let f : true ≡ false = sym t ∙ ap (entry_is_bad c) (sym e) ∙ b in cc)) j l)
+  least_same None x is b h =
+      λ j d l. or_last (λ j. entry_is_bad c (get_or es j d).offset ≡ false) (λ j l. h j d l)
+      (let e : x.offset ≡ (get_or es i d).offset =
+      ap (λ (x : Export). x.offset) is ∙ any_offset i x d lt in rw (← e) b) j l
+  least_same (Some p) x is b h = (
+    h.0,
+    h.1,
+    λ j d l.
+        or_last (λ j. entry_is_bad c (get_or es j d).offset ≡ true → p ≤ (get_or es j d).offset)
+        (λ j l. h.2 j d l)
+        (λ t. absurd
+        (let e : x.offset ≡ (get_or es i d).offset = ap (λ (x : Export). x.offset) is
+        ∙ any_offset i x d lt in let f : true ≡ false = sym t ∙ ap (entry_is_bad c) (sym e) ∙ b in cc)) j l,
+  )
 
   -- one more, which is
   pub least_more : (least : Option ℕ) (x : Export) → x ≡ get_or es i x → entry_is_bad c x.offset ≡ true
       → LeastOf c es i least → LeastOf c es (i + 1) (Some (least_of least x.offset))
   least_more None x is b h =
-      let e : (d : Export) → x.offset ≡ (get_or es i d).offset = λ d. ap (λ (x : Export). x.offset) is ∙ any_offset i x d lt in
-      ((i, lt, λ d. sym (e d)), b, λ j d l. or_last (λ j. entry_is_bad c (get_or es j d).offset ≡ true → x.offset ≤ (get_or es j d).offset) (λ j l t. absurd (let f : true ≡ false = sym t ∙ h j d l in cc)) (λ t. rw (← e d) (omega arith)) j l)
+      let e : (d : Export) → x.offset ≡ (get_or es i d).offset =
+      λ d. ap (λ (x : Export). x.offset) is ∙ any_offset i x d lt in (
+        (i, lt, λ d. sym (e d)),
+        b,
+        λ j d l.
+            or_last (λ j. entry_is_bad c (get_or es j d).offset ≡ true → x.offset ≤ (get_or es j d).offset)
+            (λ j l t. absurd (let f : true ≡ false = sym t ∙ h j d l in cc)) (λ t. rw (← e d) (omega arith))
+            j l,
+      )
   least_more (Some p) x is b h = by_order (order p x.offset)
     where
       order : (p o : ℕ) → ((p ≤ o) × (min p o ≡ p)) ⊎ ((o ≤ p) × (min p o ≡ o))
@@ -86,8 +107,25 @@ module _ (c : ComponentFields) (es : List Export) (i : ℕ) (lt : i < length es)
 
       by_order : ((p ≤ x.offset) × (min p x.offset ≡ p)) ⊎ ((x.offset ≤ p) × (min p x.offset ≡ x.offset))
           → LeastOf c es (i + 1) (Some (min p x.offset))
-      by_order (inl k) = rw k.1 (h.0, h.1, λ j d l. or_last (λ j. entry_is_bad c (get_or es j d).offset ≡ true → p ≤ (get_or es j d).offset) (λ j l. h.2 j d l) (λ t. rw (← e d) k.0) j l)
-      by_order (inr k) = rw k.1 ((i, lt, λ d. sym (e d)), b, λ j d l. or_last (λ j. entry_is_bad c (get_or es j d).offset ≡ true → x.offset ≤ (get_or es j d).offset) (λ j l t. (let low : p ≤ (get_or es j d).offset = h.2 j d l t in let high : x.offset ≤ p = k.0 in omega arith)) (λ t. rw (← e d) (omega arith)) j l)
+      by_order (inl k) =
+          rw k.1 (
+            h.0,
+            h.1,
+            λ j d l.
+                or_last (λ j. entry_is_bad c (get_or es j d).offset ≡ true → p ≤ (get_or es j d).offset)
+                (λ j l. h.2 j d l) (λ t. rw (← e d) k.0) j l,
+          )
+      by_order (inr k) =
+          rw k.1 (
+            (i, lt, λ d. sym (e d)),
+            b,
+            λ j d l.
+                or_last (λ j. entry_is_bad c (get_or es j d).offset ≡ true
+                → x.offset ≤ (get_or es j d).offset)
+                (λ j l t.
+                (let low : p ≤ (get_or es j d).offset = h.2 j d l t in let high : x.offset ≤ p =
+                k.0 in omega arith)) (λ t. rw (← e d) (omega arith)) j l,
+          )
 
 and_false : (a b : Bool) → (a ≡ true → b ≡ false) → (a && b) ≡ false
 and_false true b h = h refl
@@ -108,13 +146,16 @@ module _ (c : ComponentFields) (fits : IsComponent c) where
   least_first (Some p) h =
       let j = h.0.0 in
       let is : (get_or c.exports j no_export).offset ≡ p = h.0.2 no_export in
-      let small : (get_or c.exports j no_export).offset ≤ LAST_OFFSET = export_fits None c.exports fits.exports.1 j no_export h.0.1 in
+      let small : (get_or c.exports j no_export).offset ≤ LAST_OFFSET =
+      export_fits None c.exports fits.exports.1 j no_export h.0.1 in
       let here : begins_entry c p ≡ true = ap (begins_entry c) (sym is) ∙ entry_at c j no_export h.0.1 in (
         omega arith,
         rw (here, h.1) refl,
-        λ o l. and_false (begins_entry c o) (entry_is_bad c o) (λ t. false_from_ne_true (entry_is_bad c o) (λ b.
+        λ o l. and_false (begins_entry c o) (entry_is_bad c o)
+            (λ t. false_from_ne_true (entry_is_bad c o) (λ b.
             let k = entry_of c o no_export t in
-            let low : p ≤ (get_or c.exports k.0 no_export).offset = h.2 k.0 no_export k.1 (ap (entry_is_bad c) k.2 ∙ b) in
+            let low : p ≤ (get_or c.exports k.0 no_export).offset =
+            h.2 k.0 no_export k.1 (ap (entry_is_bad c) k.2 ∙ b) in
             let e : (get_or c.exports k.0 no_export).offset ≡ o = k.2 in
             omega arith)),
       )

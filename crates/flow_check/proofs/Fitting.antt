@@ -111,12 +111,14 @@ module _ {W : Type 0} (look : W → Word) (Safe : W → Type 0) (Has : ℕ → T
   pub fits_set : (row : Row) (rs : Regs W) (r : Reg) (k : Kind) (w : W) → is_pc r ≡ false → FitsRow row rs
       → Kinded k w → FitsRow (set_kind row r k) (set_reg rs r w)
   fits_set row rs r k w p f h =
-      fits_new row rs (set_reg rs r w) r k p f (λ d q ne. reg-set_other rs r d w ne) (rw (reg-set_same rs r w) h)
+      fits_new row rs (set_reg rs r w) r k p f (λ d q ne. reg-set_other rs r d w ne)
+      (rw (reg-set_same rs r w) h)
 
   pub fits_keep : (row : Row) (rs : Regs W) (r : Reg) (w : W) → FitsRow row rs
       → (is_pc r ≡ false → Kinded (kind_of row r) w) → FitsRow row (set_reg rs r w)
   fits_keep row rs r w f h =
-      fits_kept row rs (set_reg rs r w) r f (λ d q ne. reg-set_other rs r d w ne) (λ p. rw (reg-set_same rs r w) (h p))
+      fits_kept row rs (set_reg rs r w) r f (λ d q ne. reg-set_other rs r d w ne)
+      (λ p. rw (reg-set_same rs r w) (h p))
 
   -- what a set pc doesn't change
   pub fits_pc : (row : Row) (rs : Regs W) (w : W) → FitsRow row rs → FitsRow row (set_reg rs Pc w)
@@ -125,7 +127,8 @@ module _ {W : Type 0} (look : W → Word) (Safe : W → Type 0) (Has : ℕ → T
   -- ---- kinds below others
 
   module _ (safe_int : (w : W) (z : ℤ) → look w ≡ Int z → Safe w)
-      (safe_stk : (w : W) (end : ℕ) (at : ℤ) → look w ≡ Mem (stack_cap part end at) → Up Has part end → Safe w) where
+      (safe_stk : (w : W) (end : ℕ) (at : ℤ) → look w ≡ Mem (stack_cap part end at) → Up Has part end
+      → Safe w) where
     pub is_safe : (k : Kind) (w : W) → below_any k ≡ true → Kinded k w → Safe w
     is_safe kind.Any w b h = h
     is_safe kind.Int w b h = safe_int w h.0 h.1
@@ -166,14 +169,16 @@ module _ {W : Type 0} (look : W → Word) (Safe : W → Type 0) (Has : ℕ → T
     same_length [] [] b = refl
     same_length [] (l ∷ ls) b = cc
     same_length (k ∷ ks) [] b = cc
-    same_length (k ∷ ks) (l ∷ ls) b = ap suc (same_length ks ls ((and_parts (kind_below k l) (row_below ks ls) b).1))
+    same_length (k ∷ ks) (l ∷ ls) b =
+        ap suc (same_length ks ls ((and_parts (kind_below k l) (row_below ks ls) b).1))
 
     -- a row that is below another: what fits it fits the other
     pub row_fits : (p q : Row) (rs : Regs W) → row_below p q ≡ true → FitsRow p rs → FitsRow q rs
     unfolding kind_of
     row_fits p q rs b f = record {
       long = sym (same_length p q b) ∙ f.long;
-      each = λ r e. kind_fits (get_or p (reg_number r - 1) kind.Top) (get_or q (reg_number r - 1) kind.Top) (reg rs r) (at_place p q (reg_number r - 1) (same_length p q b) b) (f.each r e);
+      each = λ r e. kind_fits (get_or p (reg_number r - 1) kind.Top) (get_or q (reg_number r - 1) kind.Top)
+          (reg rs r) (at_place p q (reg_number r - 1) (same_length p q b) b) (f.each r e);
     }
       where
         at_place : (p q : Row) (i : ℕ) → length p ≡ length q → row_below p q ≡ true
@@ -182,4 +187,5 @@ module _ {W : Type 0} (look : W → Word) (Safe : W → Type 0) (Has : ℕ → T
         at_place [] (l ∷ ls) i e b = cc
         at_place (k ∷ ks) [] i e b = cc
         at_place (k ∷ ks) (l ∷ ls) zero e b = (and_parts (kind_below k l) (row_below ks ls) b).0
-        at_place (k ∷ ks) (l ∷ ls) (suc i) e b = at_place ks ls i (omega arith) ((and_parts (kind_below k l) (row_below ks ls) b).1)
+        at_place (k ∷ ks) (l ∷ ls) (suc i) e b =
+            at_place ks ls i (omega arith) ((and_parts (kind_below k l) (row_below ks ls) b).1)

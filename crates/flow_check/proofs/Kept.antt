@@ -103,7 +103,8 @@ module _ {W : Type 0} (look : W → Word) (plain : Word → W) (look_plain : (x 
   cleared_regs s r false d ne = refl
 
   cleared_reg : (s : State W) (r : Reg) (b : Bool)
-      → reg (if b then put s (R r) (zero_word plain) else s).regs r ≡ (if b then zero_word plain else reg s.regs r)
+      → reg (if b then put s (R r) (zero_word plain) else s).regs r
+      ≡ (if b then zero_word plain else reg s.regs r)
   cleared_reg s r true = reg-set_same s.regs r (zero_word plain)
   cleared_reg s r false = refl
 
@@ -117,8 +118,10 @@ module _ {W : Type 0} (look : W → Word) (plain : Word → W) (look_plain : (x 
       → FitsRow (set_kind row r (taken (kind_of row r))) (clear look plain s (R r)).regs
   unfolding clear
   fits_taken row s r p f =
-      fits_new look Safe Has part row s.regs _ r (taken (kind_of row r)) p f (λ d q ne. cleared_regs s r (is_linear (look (reg s.regs r))) d ne)
-      (rw (cleared_reg s r (is_linear (look (reg s.regs r)))) (left_kind (kind_of row r) (reg s.regs r) (f.each r p)))
+      fits_new look Safe Has part row s.regs _ r (taken (kind_of row r))
+      p f (λ d q ne. cleared_regs s r (is_linear (look (reg s.regs r))) d ne)
+      (rw (cleared_reg s r (is_linear (look (reg s.regs r))))
+      (left_kind (kind_of row r) (reg s.regs r) (f.each r p)))
 
   -- the word of pc stays
   clear_pc : (s : State W) (o : ℕ) (r : Reg) → r ≡ Pc → PcAt look part o s.regs → clear look plain s (R r) ≡ s
@@ -138,7 +141,8 @@ module _ {W : Type 0} (look : W → Word) (plain : Word → W) (look_plain : (x 
   fits_take row s o r h f = by_pc (is_pc r) refl
     where
       by_pc : (b : Bool) → is_pc r ≡ b
-          → FitsRow (if b then row else set_kind row r (taken (kind_of row r))) (clear look plain s (R r)).regs
+          → FitsRow (if b then row else set_kind row r (taken (kind_of row r)))
+          (clear look plain s (R r)).regs
       by_pc true e = rw (clear_pc s o r (is_pc_is r e) h) f
       by_pc false e = fits_taken row s r e f
 
@@ -169,7 +173,8 @@ module _ {W : Type 0} (look : W → Word) (plain : Word → W) (look_plain : (x 
         → reg s'.regs Dat ≡ plain (unsealed half.content)
         → ((d : Reg) → is_pc d ≡ false → d ≢ Dat → Safe (reg s'.regs d)) → Lands this o row s s' None None
 
-  pub record Kept (this : Instr) (o : ℕ) (row : Row) (t : Option ℕ) (after : Option Row) (s s' : State W) : Type 0 where
+  pub record Kept (this : Instr) (o : ℕ) (row : Row) (t : Option ℕ) (after : Option Row)
+      (s s' : State W) : Type 0 where
     pub lands : Lands this o row s s' t after
     pub safe_cells : SafeCells Safe Open s'.cells
     pub others : SameOthers Open s.cells s'.cells
@@ -179,9 +184,11 @@ module _ {W : Type 0} (look : W → Word) (plain : Word → W) (look_plain : (x 
   after_pc o = Mem (record (code_at part o) { addr = pos (part.code_base + o) +ℤ pos 1 })
 
   next_at : (o : ℕ) (rs : Regs W) → PcAt look part (o + 1) (set_reg rs Pc (plain (after_pc o)))
-  next_at o rs = let e : part.code_base + o + 1 ≡ part.code_base + (o + 1) = omega arith in look_plain (after_pc o) ∙ ap (λ a. Mem (record (code_at part o) { addr = pos a })) e
+  next_at o rs = let e : part.code_base + o + 1 ≡ part.code_base + (o + 1) =
+      omega arith in look_plain (after_pc o) ∙ ap (λ a. Mem (record (code_at part o) { addr = pos a })) e
 
-  module _ (this : Instr) (o : ℕ) (row : Row) (s : State W) (at_pc : PcAt look part o s.regs) (f : FitsRow row s.regs) (safe : SafeCells Safe Open s.cells) where
+  module _ (this : Instr) (o : ℕ) (row : Row) (s : State W) (at_pc : PcAt look part o s.regs)
+      (f : FitsRow row s.regs) (safe : SafeCells Safe Open s.cells) where
     abbrev Done : Option ℕ → Option Row → Effect → Type 0
     Done t after e = Kept this o row t after s (perform look plain s e)
 
@@ -190,7 +197,9 @@ module _ {W : Type 0} (look : W → Word) (plain : Word → W) (look_plain : (x 
         → Gives (Done None (Some (set_kind row r k))) (makes r w (after_pc o))
     unfolding perform
     done_makes r k w p h = gives_goes (record {
-      lands = lands_on (next_at o (set_reg s.regs r (plain w))) (fits_pc look Safe Has part _ (set_reg s.regs r (plain w)) _ (fits_set look Safe Has part row s.regs r k (plain w) p f h));
+      lands = lands_on (next_at o (set_reg s.regs r (plain w)))
+          (fits_pc look Safe Has part _ (set_reg s.regs r (plain w))
+          _ (fits_set look Safe Has part row s.regs r k (plain w) p f h));
       safe_cells = safe;
       others = λ a h. refl;
     })
@@ -200,7 +209,9 @@ module _ {W : Type 0} (look : W → Word) (plain : Word → W) (look_plain : (x 
         → Gives (Done None (Some row)) (makes r w (after_pc o))
     unfolding perform
     done_keeps r w h = gives_goes (record {
-      lands = lands_on (next_at o (set_reg s.regs r (plain w))) (fits_pc look Safe Has part row (set_reg s.regs r (plain w)) _ (fits_keep look Safe Has part row s.regs r (plain w) f h));
+      lands = lands_on (next_at o (set_reg s.regs r (plain w)))
+          (fits_pc look Safe Has part row (set_reg s.regs r (plain w))
+          _ (fits_keep look Safe Has part row s.regs r (plain w) f h));
       safe_cells = safe;
       others = λ a h. refl;
     })
@@ -216,12 +227,14 @@ module _ {W : Type 0} (look : W → Word) (plain : Word → W) (look_plain : (x 
 
     -- a word is moved
     done_moves : (r q : Reg) → is_pc r ≡ false
-        → Gives (Done None (Some (set_kind (take_from row q) r (source o row q)))) (moves (R q) (R r) (Some (after_pc o)))
+        → Gives (Done None (Some (set_kind (take_from row q) r (source o row q))))
+        (moves (R q) (R r) (Some (after_pc o)))
     unfolding perform
     done_moves r q p = gives_goes (record {
       lands = lands_on (next_at o (set_reg (clear look plain s (R q)).regs r (reg s.regs q)))
           (fits_pc look Safe Has part _ (set_reg (clear look plain s (R q)).regs r (reg s.regs q)) _
-          (fits_set look Safe Has part (take_from row q) (clear look plain s (R q)).regs r (source o row q) (reg s.regs q) p (fits_take row s o q at_pc f) (source_kind row s o q at_pc f)));
+          (fits_set look Safe Has part (take_from row q) (clear look plain s (R q)).regs r (source o row q)
+          (reg s.regs q) p (fits_take row s o q at_pc f) (source_kind row s o q at_pc f)));
       safe_cells = rw (take_cells s q) safe;
       others = λ a h. rw (take_cells s q) refl;
     })
@@ -235,9 +248,12 @@ module _ {W : Type 0} (look : W → Word) (plain : Word → W) (look_plain : (x 
         → Gives (Done (Some t) after) (jumps r)
     unfolding perform
     done_jumps r t after e =
-        let k : look (reg s.regs r) ≡ Mem (code_at part t) = (let m = source_kind row s o r at_pc f in rw e at m) in
+        let k : look (reg s.regs r) ≡ Mem (code_at part t) =
+        (let m = source_kind row s o r at_pc f in rw e at m) in
         gives_goes (record {
-          lands = rw (stays_code r t k) (lands_at (ap look (reg-set_same s.regs Pc (reg s.regs r)) ∙ k) (fits_pc look Safe Has part row s.regs (reg s.regs r) f));
+          lands = rw (stays_code r t k)
+              (lands_at (ap look (reg-set_same s.regs Pc (reg s.regs r)) ∙ k)
+              (fits_pc look Safe Has part row s.regs (reg s.regs r) f));
           safe_cells = rw (stays_code r t k) safe;
           others = λ a h. rw (stays_code r t k) refl;
         })
@@ -245,7 +261,11 @@ module _ {W : Type 0} (look : W → Word) (plain : Word → W) (look_plain : (x 
     -- ---- cells
 
     covers_at : (c : CapFields) (z : ℤ) → covers c z ≡ true → (c.base ≤ address z) × (address z ≤ c.end)
-    covers_at c (pos a) h = (leb-true c.base a (and_parts (nat_le c.base a) (nat_le a c.end) h).0, leb-true a c.end (and_parts (nat_le c.base a) (nat_le a c.end) h).1)
+    covers_at c (pos a) h = (
+      leb-true c.base a (and_parts (nat_le c.base a) (nat_le a c.end) h).0,
+      leb-true a c.end
+          (and_parts (nat_le c.base a) (nat_le a c.end) h).1,
+    )
     covers_at c (negsuc a) h = cc
 
     there_at : (c : CapFields) (cells : ℕ → Option Face) (x : Face)
@@ -264,11 +284,14 @@ module _ {W : Type 0} (look : W → Word) (plain : Word → W) (look_plain : (x 
     open_area kind.DataCap w c a g h e low high =
         let m : Memory (data_cap part h.0) ≡ Memory c = sym (ap face_of h.1) ∙ e in
         let n : data_cap part h.0 ≡ c = cc in
-        open_data a (let P : CapFields → Type 0 = λ x. x.base ≤ a in subst P (sym n) low) (let P : CapFields → Type 0 = λ x. a ≤ x.end in subst P (sym n) high)
+        open_data a (let P : CapFields → Type 0 = λ x. x.base ≤ a in subst P (sym n) low)
+        (let P : CapFields → Type 0 = λ x. a ≤ x.end in subst P (sym n) high)
     open_area kind.Stk w c a g h e low high =
         let m : Memory (stack_cap part h.0 h.1) ≡ Memory c = sym (ap face_of h.2) ∙ e in
         let n : stack_cap part h.0 h.1 ≡ c = cc in
-        open_stack a (h.3.1 a (let P : CapFields → Type 0 = λ x. x.base ≤ a in subst P (sym n) low) (let P : CapFields → Type 0 = λ x. a ≤ x.end in subst P (sym n) high))
+        open_stack a
+        (h.3.1 a (let P : CapFields → Type 0 = λ x. x.base ≤ a in subst P (sym n) low)
+        (let P : CapFields → Type 0 = λ x. a ≤ x.end in subst P (sym n) high))
     open_area kind.Any w c a g h e low high = cc
     open_area kind.Int w c a g h e low high = cc
     open_area (kind.Pc p) w c a g h e low high = cc
@@ -278,7 +301,9 @@ module _ {W : Type 0} (look : W → Word) (plain : Word → W) (look_plain : (x 
     set_safe : (m : FinMap nat_cmp W) (a : ℕ) (w : W) → Safe w → SafeCells Safe Open m
         → SafeCells Safe Open (set_cell m a w)
     set_safe m a w h g b v k e = elim (cases_eq b a) as (λ _. Safe v) [
-      | inl same ↦ (let n : Some w ≡ Some v = sym (cell-set_same m a w) ∙ ap (cell (set_cell m a w)) (sym same) ∙ e in let x : w ≡ v = cc in rw (← x) h)
+      | inl same ↦
+          (let n : Some w ≡ Some v = sym (cell-set_same m a w) ∙ ap (cell (set_cell m a w)) (sym same)
+          ∙ e in let x : w ≡ v = cc in rw (← x) h)
       | inr ne ↦ g b v k (sym (cell-set_other m a b w ne) ∙ e)
     ]
 
@@ -291,16 +316,19 @@ module _ {W : Type 0} (look : W → Word) (plain : Word → W) (look_plain : (x 
         → face_there (cell_faces look s) (target_of (face_of (look (reg s.regs r)))) ≡ Some x
         → Open (address c.addr)
     reached r c x g e h =
-        let k : face_there (cell_faces look s) (target_of (Memory c)) ≡ Some x = ap (λ y. face_there (cell_faces look s) (target_of y)) (sym e) ∙ h in
+        let k : face_there (cell_faces look s) (target_of (Memory c)) ≡ Some x =
+        ap (λ y. face_there (cell_faces look s) (target_of y)) (sym e) ∙ h in
         let w = covers_at c c.addr (there_at c (cell_faces look s) x k).0 in
-        open_area (source o row r) (reg s.regs r) c (address c.addr) g (source_kind row s o r at_pc f) e w.0 w.1
+        open_area (source o row r) (reg s.regs r) c (address c.addr) g (source_kind row s o r at_pc f)
+        e w.0 w.1
 
     -- a safe word is stored
     done_store : (r : Reg) (a : ℕ) → Open a → Safe (reg s.regs r)
         → Gives (Done None (Some (take_from row r))) (moves (R r) (Cell a) (Some (after_pc o)))
     unfolding perform
     done_store r a op h = gives_goes (record {
-      lands = lands_on (next_at o (clear look plain s (R r)).regs) (fits_pc look Safe Has part _ (clear look plain s (R r)).regs _ (fits_take row s o r at_pc f));
+      lands = lands_on (next_at o (clear look plain s (R r)).regs)
+          (fits_pc look Safe Has part _ (clear look plain s (R r)).regs _ (fits_take row s o r at_pc f));
       safe_cells = rw (take_cells s r) (set_safe s.cells a (reg s.regs r) h safe);
       others = rw (take_cells s r) (set_others s.cells a (reg s.regs r) op);
     })
@@ -334,13 +362,15 @@ module _ {W : Type 0} (look : W → Word) (plain : Word → W) (look_plain : (x 
         let lin = is_linear (look (word_in plain s (Cell a))) in
         gives_goes (record {
           lands = rw (emptied_regs a lin) (lands_on (next_at o (set_reg s.regs r (word_in plain s (Cell a))))
-              (fits_pc look Safe Has part _ (set_reg s.regs r (word_in plain s (Cell a))) _ (fits_set look Safe Has part row s.regs r kind.Any _ p f (loaded a op))));
+              (fits_pc look Safe Has part _ (set_reg s.regs r (word_in plain s (Cell a)))
+              _ (fits_set look Safe Has part row s.regs r kind.Any _ p f (loaded a op))));
           safe_cells = emptied_safe a lin;
           others = emptied_others a lin op;
         })
 
     safe_source : (r : Reg) → below_any (source o row r) ≡ true → Safe (reg s.regs r)
-    safe_source r b = is_safe look Safe Has part safe_int safe_stk (source o row r) (reg s.regs r) b (source_kind row s o r at_pc f)
+    safe_source r b = is_safe look Safe Has part safe_int safe_stk (source o row r) (reg s.regs r)
+        b (source_kind row s o r at_pc f)
 
     -- ---- the instructions
 
@@ -360,7 +390,8 @@ module _ {W : Type 0} (look : W → Word) (plain : Word → W) (look_plain : (x 
     Flows i t a = flow i o row ≡ flows t a
 
     abbrev Keeps : Instr → Type 0
-    Keeps i = (t : Option ℕ) (a : Option Row) → flow i o row ≡ flows t a → Gives (Done t a) (plan_in look s i (after_pc o))
+    Keeps i = (t : Option ℕ) (a : Option Row) → flow i o row ≡ flows t a
+        → Gives (Done t a) (plan_in look s i (after_pc o))
 
     -- what is left of a flow into a register, after its tests
     into_flows : (r : Reg) (b : Bool) (x : Flow) (t : Option ℕ) (a : Option Row)
@@ -391,10 +422,14 @@ module _ {W : Type 0} (look : W → Word) (plain : Word → W) (look_plain : (x 
     kept_load : (r1 r2 : Reg) → Keeps (Load r1 r2)
     unfolding flow plan_in faces
     kept_load r1 r2 t a e =
-        let area = (ask_flows 6 (is_area (source o row r2)) _ t a (ask_flows 5 (not (is_pc r1)) _ t a e).1).0 in
+        let area =
+        (ask_flows 6 (is_area (source o row r2)) _ t a (ask_flows 5 (not (is_pc r1)) _ t a e).1).0 in
         as_flow _ _ t a _ (into_flows r1 _ _ t a e) (
-        Gives-ask _ _ _ (λ p. Gives-need _ _ _ (λ c m. Gives-ask _ _ _ (λ _. Gives-need _ _ _ (λ x h. Gives-ask _ _ _ (λ _.
-        done_load r1 (address c.addr) (not-true (is_pc r1) p) (reached r2 c x area (memory_is (face_of (look (reg s.regs r2))) c m) h)))))))
+        Gives-ask _ _ _
+        (λ p. Gives-need _ _ _
+        (λ c m. Gives-ask _ _ _ (λ _. Gives-need _ _ _ (λ x h. Gives-ask _ _ _ (λ _.
+        done_load r1 (address c.addr) (not-true (is_pc r1) p)
+        (reached r2 c x area (memory_is (face_of (look (reg s.regs r2))) c m) h)))))))
 
     kept_geta : (r1 r2 : Reg) → Keeps (Geta r1 r2)
     unfolding flow plan_in
@@ -434,7 +469,8 @@ module _ {W : Type 0} (look : W → Word) (plain : Word → W) (look_plain : (x 
         let may = (and_parts (is_area (source o row r1)) _ tests.0).1 in
         as_flow _ _ t a _ tests.1 (
         Gives-need _ _ _ (λ c m. Gives-ask _ _ _ (λ _. Gives-need _ _ _ (λ x h.
-        done_store r2 (address c.addr) (reached r1 c x area (memory_is (face_of (look (reg s.regs r1))) c m) h) (safe_source r2 may)))))
+        done_store r2 (address c.addr)
+        (reached r1 c x area (memory_is (face_of (look (reg s.regs r1))) c m) h) (safe_source r2 may)))))
 
     kept_fail : Keeps Fail
     unfolding plan_in
@@ -464,7 +500,8 @@ module _ {W : Type 0} (look : W → Word) (plain : Word → W) (look_plain : (x 
     kept_jnz r1 r2 t a e =
         let k = by_target_flows (source o row r1) _ t a (ask_flows 6 _ _ t a e).1 in
         as_flow (Some k.0) (Some row) t a _ k.2 (
-        Gives-need _ _ _ (λ z _. Gives-if (is_zero z) _ _ (done_on (Some k.0)) (done_jumps r1 k.0 (Some row) k.1)))
+        Gives-need _ _ _
+        (λ z _. Gives-if (is_zero z) _ _ (done_on (Some k.0)) (done_jumps r1 k.0 (Some row) k.1)))
 
     -- ---- cca
 
@@ -476,8 +513,13 @@ module _ {W : Type 0} (look : W → Word) (plain : Word → W) (look_plain : (x 
         (z, look_plain (Mem (record c { addr = z })) ∙ ap (λ x. Mem (record x { addr = z })) (sym n))
     moved_area kind.Stk w c z g h e =
         let m : Memory (stack_cap part h.0 h.1) ≡ Memory c = sym (ap face_of h.2) ∙ e in
-        let n : stack_cap part h.0 h.1 ≡ c = cc in
-        (h.0, z, look_plain (Mem (record c { addr = z })) ∙ ap (λ x. Mem (record x { addr = z })) (sym n), h.3)
+        let n : stack_cap part h.0 h.1 ≡ c = cc in (
+          h.0,
+          z,
+          look_plain (Mem (record c { addr = z }))
+              ∙ ap (λ x. Mem (record x { addr = z })) (sym n),
+          h.3,
+        )
     moved_area kind.Any w c z g h e = cc
     moved_area kind.Int w c z g h e = cc
     moved_area (kind.Pc p) w c z g h e = cc
@@ -485,8 +527,10 @@ module _ {W : Type 0} (look : W → Word) (plain : Word → W) (look_plain : (x 
 
     area_seals : (k : Kind) (w : W) (q : SealFields) → is_area k ≡ true → Kinded k w
         → face_of (look w) ≡ Seals q → ⊥
-    area_seals kind.DataCap w q g h e = let m : Memory (data_cap part h.0) ≡ Seals q = sym (ap face_of h.1) ∙ e in cc
-    area_seals kind.Stk w q g h e = let m : Memory (stack_cap part h.0 h.1) ≡ Seals q = sym (ap face_of h.2) ∙ e in cc
+    area_seals kind.DataCap w q g h e = let m : Memory (data_cap part h.0) ≡ Seals q =
+        sym (ap face_of h.1) ∙ e in cc
+    area_seals kind.Stk w q g h e = let m : Memory (stack_cap part h.0 h.1) ≡ Seals q =
+        sym (ap face_of h.2) ∙ e in cc
     area_seals kind.Any w q g h e = cc
     area_seals kind.Int w q g h e = cc
     area_seals (kind.Pc p) w q g h e = cc
@@ -503,7 +547,8 @@ module _ {W : Type 0} (look : W → Word) (plain : Word → W) (look_plain : (x 
 
     moved_code : (q p : ℕ) (z : ℤ) → led q z ≡ Some p
         → pos (part.code_base + q) +ℤ z ≡ pos (part.code_base + p)
-    moved_code q p z e = +ℤ_assoc (pos part.code_base) (pos q) z ∙ ap (λ y. pos part.code_base +ℤ y) (in_code_is (pos q +ℤ z) p e)
+    moved_code q p z e = +ℤ_assoc (pos part.code_base) (pos q) z
+        ∙ ap (λ y. pos part.code_base +ℤ y) (in_code_is (pos q +ℤ z) p e)
 
     kept_cca : (r1 : Reg) (n : Operand) → Keeps (Cca r1 n)
     unfolding flow plan_in faces
@@ -516,13 +561,15 @@ module _ {W : Type 0} (look : W → Word) (plain : Word → W) (look_plain : (x 
             let h : Kinded k (reg s.regs r1) = rw m at (f.each r1 (not-true (is_pc r1) p)) in
             Gives-by_cap _ _ _
             (λ c w. Gives-need _ _ _ (λ z _. Gives-ask _ _ _ (λ _.
-            done_keeps r1 (Mem (record c { addr = c.addr +ℤ z })) (λ _. rw m (moved_area k (reg s.regs r1) c (c.addr +ℤ z) g h w)))))
+            done_keeps r1 (Mem (record c { addr = c.addr +ℤ z }))
+            (λ _. rw m (moved_area k (reg s.regs r1) c (c.addr +ℤ z) g h w)))))
             (λ q w. absurd (area_seals k (reg s.regs r1) q g h w))))
 
         by_code : (q p : ℕ) (z : ℤ) → kind_of row r1 ≡ kind.Pc q → n ≡ Imm z → led q z ≡ Some p
             → Gives (Done None (Some (set_kind row r1 (kind.Pc p)))) (plan_in look s (Cca r1 n) (after_pc o))
         by_code q p z m i l = rw i (Gives-ask _ _ _ (λ np.
-            let h : look (reg s.regs r1) ≡ Mem (code_at part q) = rw m at (f.each r1 (not-true (is_pc r1) np)) in
+            let h : look (reg s.regs r1) ≡ Mem (code_at part q) =
+            rw m at (f.each r1 (not-true (is_pc r1) np)) in
             Gives-by_cap _ _ _
             (λ c w.
             let k : Memory (code_at part q) ≡ Memory c = sym (ap face_of h) ∙ w in
@@ -538,7 +585,8 @@ module _ {W : Type 0} (look : W → Word) (plain : Word → W) (look_plain : (x 
 
         by_led : (q : ℕ) (z : ℤ) (l : Option ℕ) → led q z ≡ l → kind_of row r1 ≡ kind.Pc q → n ≡ Imm z
             → led_to row r1 l ≡ flows t a → Gives (Done t a) (plan_in look s (Cca r1 n) (after_pc o))
-        by_led q z (Some p) l m i x = as_flow None (Some (set_kind row r1 (kind.Pc p))) t a _ x (by_code q p z m i l)
+        by_led q z (Some p) l m i x =
+            as_flow None (Some (set_kind row r1 (kind.Pc p))) t a _ x (by_code q p z m i l)
         by_led q z None l m i x = cc
 
         by_operand : (q : ℕ) (v : Operand) → n ≡ v → kind_of row r1 ≡ kind.Pc q
@@ -562,7 +610,8 @@ module _ {W : Type 0} (look : W → Word) (plain : Word → W) (look_plain : (x 
         → test (get_or rs i Dat) ≡ true
     all_get test [] i h lt = absurd (omega arith)
     all_get test (r ∷ rs) zero h lt = (and_parts (test r) (list_all test rs) h).0
-    all_get test (r ∷ rs) (suc i) h lt = all_get test rs i (and_parts (test r) (list_all test rs) h).1 (omega arith)
+    all_get test (r ∷ rs) (suc i) h lt =
+        all_get test rs i (and_parts (test r) (list_all test rs) h).1 (omega arith)
 
     handed_at : shows_nothing row ≡ true → (i : ℕ) → i < 14
         → below_any (kind_of row (get_or handed i Dat)) ≡ true
@@ -590,10 +639,16 @@ module _ {W : Type 0} (look : W → Word) (plain : Word → W) (look_plain : (x 
 
     cleared_safe : (r d : Reg) → Safe (reg s.regs d) → Safe (reg (clear look plain s (R r)).regs d)
     unfolding clear
-    cleared_safe r d h = elim (cases_reg d r) as (λ _. Safe (reg (if is_linear (look (reg s.regs r)) then put s (R r) (zero_word plain) else s).regs d)) [
-      | inl e ↦ (let k : Safe (reg s.regs r) = rw e at h in rw (e, cleared_reg s r (is_linear (look (reg s.regs r)))) (left_kind kind.Any (reg s.regs r) k))
-      | inr ne ↦ rw (cleared_regs s r (is_linear (look (reg s.regs r))) d ne) h
-    ]
+    cleared_safe r d h =
+        elim (cases_reg d r)
+        as (λ _. Safe
+        (reg (if is_linear (look (reg s.regs r)) then put s (R r) (zero_word plain) else s).regs d)) [
+          | inl e ↦
+              (let k : Safe (reg s.regs r) =
+              rw e at h in rw (e, cleared_reg s r (is_linear (look (reg s.regs r))))
+              (left_kind kind.Any (reg s.regs r) k))
+          | inr ne ↦ rw (cleared_regs s r (is_linear (look (reg s.regs r))) d ne) h
+        ]
 
     not_pc : (d : Reg) → is_pc d ≡ false → d ≢ Pc
     not_pc d p e = let k : is_pc d ≡ true = ap is_pc e in let g : true ≡ false = sym k ∙ p in cc
@@ -603,12 +658,23 @@ module _ {W : Type 0} (look : W → Word) (plain : Word → W) (look_plain : (x 
         → opened_of (look (reg s.regs r1)) ≡ Some code → opened_of (look (reg s.regs r2)) ≡ Some half
         → (code.seal == half.seal) ≡ true → memory_content code.content ≡ Some c → may_run c.perm ≡ true
         → not (runs_in half.content) ≡ true
-        → Gives (Done None None) (Goes (record no_effect { spent = Some r2; first = made Pc (Mem c); second = made Dat (unsealed half.content) }))
+        → Gives (Done None None)
+        (Goes (record no_effect
+        { spent = Some r2; first = made Pc (Mem c); second = made Dat (unsealed half.content) }))
     unfolding perform
     done_cross r1 r2 code half c is b1 b2 shows e1 e2 same m run half_data = gives_goes (record {
-      lands = crosses r1 r2 code half c is (safe_source r1 b1) (safe_source r2 b2) e1 e2 same m run half_data refl refl
-          (λ d p ne. rw (reg-set_other (set_reg (clear look plain s (R r2)).regs Pc (plain (Mem c))) Dat d (plain (unsealed half.content)) ne, reg-set_other (clear look plain s (R r2)).regs Pc d (plain (Mem c)) (not_pc d p))
-          (cleared_safe r2 d (is_safe look Safe Has part safe_int safe_stk (kind_of row d) (reg s.regs d) (shows_at shows d p ne) (f.each d p))));
+      lands = crosses r1 r2 code half c is (safe_source r1 b1) (safe_source r2 b2)
+          e1 e2 same m run half_data refl refl
+          (λ d p ne.
+          rw (
+            reg-set_other (set_reg (clear look plain s (R r2)).regs Pc (plain (Mem c)))
+                Dat d (plain (unsealed half.content))
+                ne,
+            reg-set_other (clear look plain s (R r2)).regs Pc d (plain (Mem c)) (not_pc d p),
+          )
+          (cleared_safe r2 d
+          (is_safe look Safe Has part safe_int safe_stk (kind_of row d) (reg s.regs d)
+          (shows_at shows d p ne) (f.each d p))));
       safe_cells = rw (take_cells s r2) safe;
       others = λ a h. rw (take_cells s r2) refl;
     })
@@ -621,7 +687,13 @@ module _ {W : Type 0} (look : W → Word) (plain : Word → W) (look_plain : (x 
         let b2 = (and_parts (below_any (source o row r1)) _ first.0).1 in
         let second = ask_flows 10 _ _ t a first.1 in
         as_flow None None t a _ second.1 (
-        Gives-need _ _ _ (λ code e1. Gives-need _ _ _ (λ half e2. Gives-ask _ _ _ (λ same. Gives-need _ _ _ (λ c m. Gives-ask _ _ _ (λ _. Gives-ask _ _ _ (λ run. Gives-ask _ _ _ (λ half_data.
+        Gives-need _ _ _
+        (λ code e1.
+        Gives-need _ _ _
+        (λ half e2.
+        Gives-ask _ _ _
+        (λ same. Gives-need _ _ _
+        (λ c m. Gives-ask _ _ _ (λ _. Gives-ask _ _ _ (λ run. Gives-ask _ _ _ (λ half_data.
         done_cross r1 r2 code half c is b1 b2 second.0 e1 e2 same m run half_data))))))))
 
     -- ---- every instruction
@@ -656,22 +728,30 @@ module _ {W : Type 0} (look : W → Word) (plain : Word → W) (look_plain : (x 
     -- ---- what a cross-part jump, a load and a store stand on
 
     pub xjmp_shows : (r1 r2 : Reg) (t : Option ℕ) (a : Option Row) → flow (Xjmp r1 r2) o row ≡ flows t a
-        → ((d : Reg) → is_pc d ≡ false → d ≢ Dat → Safe (reg s.regs d)) × Safe (reg s.regs r1) × Safe (reg s.regs r2)
+        → ((d : Reg) → is_pc d ≡ false → d ≢ Dat → Safe (reg s.regs d)) × Safe (reg s.regs r1)
+        × Safe (reg s.regs r2)
     unfolding flow
     xjmp_shows r1 r2 t a e =
         let first = ask_flows 6 _ _ t a e in
         let b1 = (and_parts (below_any (source o row r1)) _ first.0).0 in
         let b2 = (and_parts (below_any (source o row r1)) _ first.0).1 in
-        let second = ask_flows 10 _ _ t a first.1 in
-        ((λ d p ne. is_safe look Safe Has part safe_int safe_stk (kind_of row d) (reg s.regs d) (shows_at second.0 d p ne) (f.each d p)), safe_source r1 b1, safe_source r2 b2)
+        let second = ask_flows 10 _ _ t a first.1 in (
+          (λ d p ne. is_safe look Safe Has part safe_int safe_stk (kind_of row d) (reg s.regs d)
+              (shows_at second.0 d p ne) (f.each d p)),
+          safe_source r1 b1,
+          safe_source r2 b2,
+        )
 
     abbrev pub InArea : ℕ → Type 0
     InArea a = ((part.data_base ≤ a) × (a ≤ part.data_last)) ⊎ Has a
 
     area_in : (k : Kind) (w : W) (a : ℕ) → is_area k ≡ true → Kinded k w
         → target_of (face_of (look w)) ≡ Some a → InArea a
-    area_in kind.DataCap w a g h e = inl (covered (data_cap part h.0) a (sym (ap (λ x. target_of (face_of x)) h.1) ∙ e))
-    area_in kind.Stk w a g h e = let k = covered (stack_cap part h.0 h.1) a (sym (ap (λ x. target_of (face_of x)) h.2) ∙ e) in inr (h.3.1 a k.0 k.1)
+    area_in kind.DataCap w a g h e =
+        inl (covered (data_cap part h.0) a (sym (ap (λ x. target_of (face_of x)) h.1) ∙ e))
+    area_in kind.Stk w a g h e = let k =
+        covered (stack_cap part h.0 h.1) a (sym (ap (λ x. target_of (face_of x)) h.2) ∙ e) in
+        inr (h.3.1 a k.0 k.1)
     area_in kind.Any w a g h e = cc
     area_in kind.Int w a g h e = cc
     area_in (kind.Pc q) w a g h e = cc
@@ -680,6 +760,11 @@ module _ {W : Type 0} (look : W → Word) (plain : Word → W) (look_plain : (x 
     pub target_in : (i : Instr) (t : Option ℕ) (b : Option Row) (a : ℕ) → flow i o row ≡ flows t b
         → target i (faces look s) ≡ Some a → InArea a
     unfolding flow faces
-    target_in (Store r1 r2) t b a e m = area_in (source o row r1) (reg s.regs r1) a (and_parts (is_area (source o row r1)) _ (ask_flows 6 _ _ t b e).0).0 (source_kind row s o r1 at_pc f) m
-    target_in (Load r1 r2) t b a e m = area_in (source o row r2) (reg s.regs r2) a (ask_flows 6 _ _ t b (ask_flows 5 _ _ t b e).1).0 (source_kind row s o r2 at_pc f) m
+    target_in (Store r1 r2) t b a e m =
+        area_in (source o row r1) (reg s.regs r1)
+        a (and_parts (is_area (source o row r1)) _ (ask_flows 6 _ _ t b e).0).0
+        (source_kind row s o r1 at_pc f) m
+    target_in (Load r1 r2) t b a e m =
+        area_in (source o row r2) (reg s.regs r2)
+        a (ask_flows 6 _ _ t b (ask_flows 5 _ _ t b e).1).0 (source_kind row s o r2 at_pc f) m
     target_in _ t b a e m = cc

@@ -29,7 +29,9 @@ broken_first t p e = by_first (first_of t) (first_below_is t.broken t.count) e
 
 pub site_room : (c : ComponentFields) (i : ℕ) → site_is_bad c i ≡ false
     → site_of c i + SITE_WORDS ≤ length c.code
-site_room c i e = le_of (length c.code) (site_of c i + SITE_WORDS) (or_parts (nat_lt (length c.code) (site_of c i + SITE_WORDS)) _ e).0
+site_room c i e =
+    le_of (length c.code) (site_of c i + SITE_WORDS)
+    (or_parts (nat_lt (length c.code) (site_of c i + SITE_WORDS)) _ e).0
 
 -- where K1 is kept, the code has room for each site
 pub has_room : (c : ComponentFields) (i : ℕ) → first_place (k1 c) ≡ None → i < length c.sites

@@ -1,5 +1,6 @@
 -- There is one answer that is right of the flow of a component's code.
-use Rattle.std.proofs.Common.{◌≡◌, ℕ, zero, suc, ◌+◌, ◌<◌, ◌≤◌, inl, inr, Bool, true, false, length, Option, Some, None, Result, Ok, Err, refl, sym, ap, subst, ◌∙◌, arith, lt-ltb}
+use Rattle.std.proofs.Common.{◌≡◌, ℕ, zero, suc, ◌+◌, ◌<◌, ◌≤◌, inl, inr, Bool, true, false, length, Option}
+use Rattle.std.proofs.Common.{Some, None, Result, Ok, Err, refl, sym, ap, subst, ◌∙◌, arith, lt-ltb}
 use borrow.Author.Tests.{ltb-true}
 use Rattle.std.specs.Prelude.{nat_lt, if◌then◌else◌}
 use Rattle.std.specs.Result.{result_and}
@@ -18,7 +19,8 @@ use Rattle.flow_check.specs.declared.walking.Walk.TheVariants.{Before, Ended, Br
 use Rattle.flow_check.specs.Kinds.{Row, entry_row, clean_row}
 use Rattle.flow_check.specs.Lists.{lists}
 use Rattle.flow_check.specs.Places.{begins_entry, begins_site, declared}
-use Rattle.flow_check.specs.Walk.{instr_at, keep, comes_in, site_ready, good_target, flow_of, after_flow, at_row, past, at_word, at_entry, at_end, next_from, next, walk, Comes}
+use Rattle.flow_check.specs.Walk.{instr_at, keep, comes_in, site_ready, good_target, flow_of, after_flow}
+use Rattle.flow_check.specs.Walk.{at_row, past, at_word, at_entry, at_end, next_from, next, walk, Comes}
 use Rattle.flow_check.specs.Verdict.{IsFirstOfFlow, found_by, flow_answer}
 
 -- ---- a walk ends within the code's length
@@ -38,13 +40,17 @@ module _ (c : ComponentFields) (o : ℕ) where
   behind_flow : (r : Row) (f : Flow) → Behind o (after_flow c o r f)
   behind_flow r (Breaks number) = tt
   behind_flow r (Flows None after) = omega arith
-  behind_flow r (Flows (Some t) after) = behind_keep 7 o (good_target c r t) (Before (o + 1) after) (omega arith)
+  behind_flow r (Flows (Some t) after) =
+      behind_keep 7 o (good_target c r t) (Before (o + 1) after) (omega arith)
 
   behind_row : (r : Row) → Behind o (at_row c o r)
   unfolding at_row
   behind_row r = by_site (begins_site c o)
     where
-      by_site : (b : Bool) → Behind o (if b then keep 10 o (site_ready r) (Before (o + SITE_WORDS) (Some clean_row)) else after_flow c o r (flow_of (instr_at c o) o r))
+      by_site : (b : Bool)
+          → Behind o
+          (if b then keep 10 o (site_ready r)
+          (Before (o + SITE_WORDS) (Some clean_row)) else after_flow c o r (flow_of (instr_at c o) o r))
       by_site true = behind_keep 10 o (site_ready r) (Before (o + SITE_WORDS) (Some clean_row)) (omega arith)
       by_site false = behind_flow r (flow_of (instr_at c o) o r)
 
@@ -67,7 +73,8 @@ module _ (c : ComponentFields) (o : ℕ) where
   goes_behind current lt = rw (lt-ltb o (length c.code) lt) (by_entry (begins_entry c o))
     where
       by_entry : (b : Bool) → Behind o (if b then at_entry o current else at_word c o (declared c o) current)
-      by_entry true = behind_keep 8 o (comes_in current entry_row) (Before (o + ENTRY_WORDS) (Some clean_row)) (omega arith)
+      by_entry true = behind_keep 8 o (comes_in current entry_row) (Before (o + ENTRY_WORDS) (Some clean_row))
+          (omega arith)
       by_entry false = behind_word (declared c o) current
 
 module _ (c : ComponentFields) where
@@ -93,7 +100,8 @@ module _ (c : ComponentFields) where
   next_far n (Before o current) h = by_place (nat_lt o (length c.code)) refl
     where
       by_place : (b : Bool) → nat_lt o (length c.code) ≡ b → Far (suc n) (next_from c o current)
-      by_place true e = farther n o (next_from c o current) h (goes_behind c o current (ltb-true o (length c.code) e))
+      by_place true e =
+          farther n o (next_from c o current) h (goes_behind c o current (ltb-true o (length c.code) e))
       by_place false e = rw e (stopped (suc n) current)
 
   far : (n : ℕ) → Far n (walk c n)
@@ -109,30 +117,39 @@ module _ (c : ComponentFields) where
   unfolding next_from
   ends Ended h = refl
   ends (BrokenThere number place) h = refl
-  ends (Before o current) h = let past_end : nat_lt o (length c.code) ≡ false = grind (arith, nat_tests) in rw past_end (ends_there current)
+  ends (Before o current) h = let past_end : nat_lt o (length c.code) ≡ false =
+      grind (arith, nat_tests) in rw past_end (ends_there current)
 
   stays : (w : Walk) (n k : ℕ) → next c w ≡ w → walk c n ≡ w → walk c (k + n) ≡ w
   stays w n zero s e = let k : 0 + n ≡ n = omega arith in rw k e
-  stays w n (suc k) s e = let m : suc k + n ≡ suc (k + n) = omega arith in rw m (ap (next c) (stays w n k s e) ∙ s)
+  stays w n (suc k) s e = let m : suc k + n ≡ suc (k + n) =
+      omega arith in rw m (ap (next c) (stays w n k s e) ∙ s)
 
   comes_to : (w : Walk) → next c w ≡ w → Comes c w → walk c (suc (length c.code)) ≡ w
   comes_to w stops h =
       let n = suc (length c.code) in
       let m : h.0 + n ≡ n + h.0 = omega arith in
-      sym (stays (walk c n) n h.0 (ends (walk c (length c.code)) (far (length c.code))) refl) ∙ ap (walk c) m ∙ stays w h.0 n stops h.1
+      sym (stays (walk c n) n h.0 (ends (walk c (length c.code)) (far (length c.code))) refl) ∙ ap (walk c) m
+      ∙ stays w h.0 n stops h.1
 
 -- ---- what is answered
 
 pub flow_is : (c : ComponentFields) (r : Result (Unit {0}) Broken) → IsFirstOfFlow c r → r ≡ flow_answer c
 unfolding flow_answer
-flow_is c (Ok u) h = sym (ap (λ x. result_and x (found_by (walk c (suc (length c.code))))) (sym (is_tried (broken_at K) (lists c) (Ok tt) h.placed)) ∙ ap found_by (comes_to c Ended refl h.walked))
-flow_is c (Err b) (inl h) = ap (λ x. result_and x (found_by (walk c (suc (length c.code))))) (is_tried (broken_at K) (lists c) (Err b) h)
+flow_is c (Ok u) h =
+    sym (ap (λ x. result_and x (found_by (walk c (suc (length c.code)))))
+    (sym (is_tried (broken_at K) (lists c) (Ok tt) h.placed)) ∙ ap found_by (comes_to c Ended refl h.walked))
+flow_is c (Err b) (inl h) = ap (λ x. result_and x (found_by (walk c (suc (length c.code)))))
+    (is_tried (broken_at K) (lists c) (Err b) h)
 flow_is c (Err b) (inr h) =
     ap (λ e. Err e) h.reported
-    ∙ sym (ap (λ x. result_and x (found_by (walk c (suc (length c.code))))) (sym (is_tried (broken_at K) (lists c) (Ok tt) h.placed)) ∙ ap found_by (comes_to c (BrokenThere h.number h.place) refl h.comes))
+    ∙ sym (ap (λ x. result_and x (found_by (walk c (suc (length c.code)))))
+    (sym (is_tried (broken_at K) (lists c) (Ok tt) h.placed))
+    ∙ ap found_by (comes_to c (BrokenThere h.number h.place) refl h.comes))
 
 -- the walk goes on from no place to that same place
-no_standstill : (c : ComponentFields) (o : ℕ) (current : Option Row) → next c (Before o current) ≡ Before o current → ⊥
+no_standstill : (c : ComponentFields) (o : ℕ) (current : Option Row)
+    → next c (Before o current) ≡ Before o current → ⊥
 unfolding next_from
 no_standstill c o current e = by_place (nat_lt o (length c.code)) refl
   where
@@ -144,18 +161,25 @@ no_standstill c o current e = by_place (nat_lt o (length c.code)) refl
     not_there (Some r) e = cc
 
     by_place : (b : Bool) → nat_lt o (length c.code) ≡ b → ⊥
-    by_place true f = behind_itself (next_from c o current) e (goes_behind c o current (ltb-true o (length c.code) f))
+    by_place true f =
+        behind_itself (next_from c o current) e (goes_behind c o current (ltb-true o (length c.code) f))
     by_place false f = not_there current (sym (let k = f in rw k refl) ∙ e)
 
 pub flow_answer_is : (c : ComponentFields) → IsFirstOfFlow c (flow_answer c)
 unfolding flow_answer
 flow_answer_is c = by_lists (check_from (broken_at K) 1 (lists c)) (first_broken (broken_at K) (lists c))
   where
-    by_walk : NoneBroken (lists c) → (w : Walk) → walk c (suc (length c.code)) ≡ w → next c w ≡ w → IsFirstOfFlow c (found_by w)
+    by_walk : NoneBroken (lists c) → (w : Walk) → walk c (suc (length c.code)) ≡ w → next c w ≡ w
+        → IsFirstOfFlow c (found_by w)
     by_walk f Ended e s = record { placed = f; walked = (suc (length c.code), e) }
-    by_walk f (BrokenThere number place) e s = inr (record { placed = f; number = number; place = place; comes = (suc (length c.code), e); reported = refl })
+    by_walk f (BrokenThere number place) e s =
+        inr (record
+        { placed = f; number = number; place = place; comes = (suc (length c.code), e); reported = refl })
     by_walk f (Before o current) e s = absurd (no_standstill c o current s)
 
-    by_lists : (r : Result (Unit {0}) Broken) → IsFirstBroken (broken_at K) (lists c) r → IsFirstOfFlow c (result_and r (found_by (walk c (suc (length c.code)))))
-    by_lists (Ok u) f = by_walk f (walk c (suc (length c.code))) refl (ends c (walk c (length c.code)) (far c (length c.code)))
+    by_lists : (r : Result (Unit {0}) Broken) → IsFirstBroken (broken_at K) (lists c) r
+        → IsFirstOfFlow c (result_and r (found_by (walk c (suc (length c.code)))))
+    by_lists (Ok u) f =
+        by_walk f (walk c (suc (length c.code)))
+        refl (ends c (walk c (length c.code)) (far c (length c.code)))
     by_lists (Err b) f = inl f

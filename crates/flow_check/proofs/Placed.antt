@@ -75,14 +75,16 @@ module _ (c : ComponentFields) (placed : NoneBroken (lists c)) where
   next_apart i lt =
       let before : suc i - 1 ≡ i = omega arith in
       let h = (or_parts (nat_lt (length c.code) (site_of c (suc i) + SITE_WORDS)) _ (k1_kept (suc i) lt)).1 in
-      le_of (site_of c (suc i)) (site_of c i + SITE_WORDS) (second_false (nat_lt 0 (suc i)) _ (lt-ltb 0 (suc i) (omega arith)) (rw before at h))
+      le_of (site_of c (suc i)) (site_of c i + SITE_WORDS)
+      (second_false (nat_lt 0 (suc i)) _ (lt-ltb 0 (suc i) (omega arith)) (rw before at h))
 
   apart : (i k : ℕ) → suc (k + i) < length c.sites → site_of c i + SITE_WORDS ≤ site_of c (suc (k + i))
   apart i zero lt = let e : suc (0 + i) ≡ suc i = omega arith in rw e (next_apart i (rw e at lt))
   apart i (suc k) lt =
       let e : suc k + i ≡ suc (k + i) = omega arith in
       let less : site_of c i + SITE_WORDS ≤ site_of c (suc (k + i)) = apart i k (omega arith) in
-      let more : site_of c (suc (k + i)) + SITE_WORDS ≤ site_of c (suc (suc (k + i))) = next_apart (suc (k + i)) (rw e at lt) in
+      let more : site_of c (suc (k + i)) + SITE_WORDS ≤ site_of c (suc (suc (k + i))) =
+      next_apart (suc (k + i)) (rw e at lt) in
       rw e (omega arith)
 
   apart_at : (i j : ℕ) → i < j → j < length c.sites → site_of c i + SITE_WORDS ≤ site_of c j
@@ -98,7 +100,10 @@ module _ (c : ComponentFields) (placed : NoneBroken (lists c)) where
 
   pub site_stands : (i : ℕ) → i < length c.sites → is_site c i ≡ true
   unfolding is_site
-  site_stands i lt = rw (k2_kept i lt) (and_from (nat_le (site_of c i + SITE_WORDS) (length c.code)) true (le-leb (site_of c i + SITE_WORDS) (length c.code) (room i lt)) refl)
+  site_stands i lt =
+      rw (k2_kept i lt)
+      (and_from (nat_le (site_of c i + SITE_WORDS) (length c.code))
+      true (le-leb (site_of c i + SITE_WORDS) (length c.code) (room i lt)) refl)
 
   -- ---- entries
 
@@ -106,7 +111,8 @@ module _ (c : ComponentFields) (placed : NoneBroken (lists c)) where
     small : (o : ℕ) → begins_entry c o ≡ true → o < LAST_OFFSET + 1
     small o e =
         let k = entry_of c o no_export e in
-        let l : (get_or c.exports k.0 no_export).offset ≤ LAST_OFFSET = export_fits None c.exports fits.exports.1 k.0 no_export k.1 in
+        let l : (get_or c.exports k.0 no_export).offset ≤ LAST_OFFSET =
+        export_fits None c.exports fits.exports.1 k.0 no_export k.1 in
         let is : (get_or c.exports k.0 no_export).offset ≡ o = k.2 in
         omega arith
 
@@ -114,7 +120,9 @@ module _ (c : ComponentFields) (placed : NoneBroken (lists c)) where
     unfolding k3
     k3_kept o e =
         let h : (begins_entry c o && entry_is_bad c o) ≡ false = unbroken 3 (k3 c) refl o (small o e) in
-        false_from_ne_true (entry_is_bad c o) (λ b. no_contradiction (begins_entry c o && entry_is_bad c o) (and_from (begins_entry c o) (entry_is_bad c o) e b) h)
+        false_from_ne_true (entry_is_bad c o)
+        (λ b. no_contradiction (begins_entry c o && entry_is_bad c o)
+        (and_from (begins_entry c o) (entry_is_bad c o) e b) h)
 
     entry_good : (o : ℕ) → begins_entry c o ≡ true
         → (is_entry c o ≡ true) × (meets_entry c o ≡ false) × (meets_site c o ≡ false)
@@ -147,7 +155,10 @@ module _ (c : ComponentFields) (placed : NoneBroken (lists c)) where
     no_common s o e f low high =
         let k = site_index s e in
         no_contradiction (meets_site c o)
-        (list_any_at (λ x. overlap x SITE_WORDS o ENTRY_WORDS) c.sites k.0 0 k.1 (rw k.2 (and_from (nat_lt s (o + ENTRY_WORDS)) (nat_lt o (s + SITE_WORDS)) (lt-ltb s (o + ENTRY_WORDS) low) (lt-ltb o (s + SITE_WORDS) high))))
+        (list_any_at (λ x. overlap x SITE_WORDS o ENTRY_WORDS)
+        c.sites k.0 0 k.1
+        (rw k.2 (and_from (nat_lt s (o + ENTRY_WORDS)) (nat_lt o (s + SITE_WORDS))
+        (lt-ltb s (o + ENTRY_WORDS) low) (lt-ltb o (s + SITE_WORDS) high))))
         (entry_good o f).2
 
     -- nor have two entries
@@ -156,7 +167,11 @@ module _ (c : ComponentFields) (placed : NoneBroken (lists c)) where
     entries_apart a o e f low high =
         let k = entry_of c a no_export e in
         no_contradiction (meets_entry c o)
-        (list_any_at (λ (x : Export). not (x.offset == o) && overlap x.offset ENTRY_WORDS o ENTRY_WORDS) c.exports k.0 no_export k.1 (rw k.2 (and_from (not (a == o)) (overlap a ENTRY_WORDS o ENTRY_WORDS) (other a o low) (and_from (nat_lt a (o + ENTRY_WORDS)) (nat_lt o (a + ENTRY_WORDS)) (lt-ltb a (o + ENTRY_WORDS) (omega arith)) (lt-ltb o (a + ENTRY_WORDS) high)))))
+        (list_any_at (λ (x : Export). not (x.offset == o) && overlap x.offset ENTRY_WORDS o ENTRY_WORDS)
+        c.exports k.0 no_export k.1
+        (rw k.2 (and_from (not (a == o)) (overlap a ENTRY_WORDS o ENTRY_WORDS) (other a o low)
+        (and_from (nat_lt a (o + ENTRY_WORDS)) (nat_lt o (a + ENTRY_WORDS))
+        (lt-ltb a (o + ENTRY_WORDS) (omega arith)) (lt-ltb o (a + ENTRY_WORDS) high)))))
         (entry_good o f).1
       where
         other : (a o : ℕ) → a < o → not (a == o) ≡ true
@@ -173,9 +188,12 @@ module _ (c : ComponentFields) (placed : NoneBroken (lists c)) where
 
         by_order : (i j : ℕ) → (i < j) ⊎ ((i ≡ j) ⊎ (j < i)) → i < length c.sites → j < length c.sites
             → site_of c i ≡ s → site_of c j ≡ t → ⊥
-        by_order i j (inl l) a b p q = let far : site_of c i + SITE_WORDS ≤ site_of c j = apart_at i j l b in omega arith
-        by_order i j (inr (inl e)) a b p q = let same : site_of c i ≡ site_of c j = ap (site_of c) e in omega arith
-        by_order i j (inr (inr l)) a b p q = let far : site_of c j + SITE_WORDS ≤ site_of c i = apart_at j i l a in omega arith
+        by_order i j (inl l) a b p q = let far : site_of c i + SITE_WORDS ≤ site_of c j =
+            apart_at i j l b in omega arith
+        by_order i j (inr (inl e)) a b p q = let same : site_of c i ≡ site_of c j =
+            ap (site_of c) e in omega arith
+        by_order i j (inr (inr l)) a b p q = let far : site_of c j + SITE_WORDS ≤ site_of c i =
+            apart_at j i l a in omega arith
 
     -- ---- offsets inside
 
@@ -184,18 +202,24 @@ module _ (c : ComponentFields) (placed : NoneBroken (lists c)) where
     outside o h i = by_seq i.seq (or_parts (in_entry c o) (in_site c o) h)
       where
         behind : (s n : ℕ) → s < o → o < s + n → (nat_lt s o && nat_lt o (s + n)) ≡ true
-        behind s n low high = and_from (nat_lt s o) (nat_lt o (s + n)) (lt-ltb s o low) (lt-ltb o (s + n) high)
+        behind s n low high =
+            and_from (nat_lt s o) (nat_lt o (s + n)) (lt-ltb s o low) (lt-ltb o (s + n) high)
 
-        by_seq : ((begins_entry c i.start ≡ true) × (i.size ≡ ENTRY_WORDS)) ⊎ ((begins_site c i.start ≡ true) × (i.size ≡ SITE_WORDS))
+        by_seq : ((begins_entry c i.start ≡ true) × (i.size ≡ ENTRY_WORDS))
+            ⊎ ((begins_site c i.start ≡ true) × (i.size ≡ SITE_WORDS))
             → (in_entry c o ≡ false) × (in_site c o ≡ false) → ⊥
         by_seq (inl e) none =
             let k = entry_of c i.start no_export e.0 in
             let high : o < i.start + ENTRY_WORDS = (let a = i.before_end in let b = e.1 in omega arith) in
-            no_contradiction (in_entry c o) (list_any_at (λ (x : Export). nat_lt x.offset o && nat_lt o (x.offset + ENTRY_WORDS)) c.exports k.0 no_export k.1 (rw k.2 (behind i.start ENTRY_WORDS i.after high))) none.0
+            no_contradiction (in_entry c o)
+            (list_any_at (λ (x : Export). nat_lt x.offset o && nat_lt o (x.offset + ENTRY_WORDS))
+            c.exports k.0 no_export k.1 (rw k.2 (behind i.start ENTRY_WORDS i.after high))) none.0
         by_seq (inr e) none =
             let k = site_index i.start e.0 in
             let high : o < i.start + SITE_WORDS = (let a = i.before_end in let b = e.1 in omega arith) in
-            no_contradiction (in_site c o) (list_any_at (λ s. nat_lt s o && nat_lt o (s + SITE_WORDS)) c.sites k.0 0 k.1 (rw k.2 (behind i.start SITE_WORDS i.after high))) none.1
+            no_contradiction (in_site c o)
+            (list_any_at (λ s. nat_lt s o && nat_lt o (s + SITE_WORDS))
+            c.sites k.0 0 k.1 (rw k.2 (behind i.start SITE_WORDS i.after high))) none.1
 
     pub inside_is : (o : ℕ) → is_inside c o ≡ true → Inside c o
     unfolding in_entry in_site begins_site
@@ -206,7 +230,8 @@ module _ (c : ComponentFields) (placed : NoneBroken (lists c)) where
 
         by_entry : (b : Bool) → in_entry c o ≡ b → (b || in_site c o) ≡ true → Inside c o
         by_entry true e t =
-            let k = any_index (λ (x : Export). nat_lt x.offset o && nat_lt o (x.offset + ENTRY_WORDS)) c.exports no_export e in
+            let k = any_index (λ (x : Export). nat_lt x.offset o && nat_lt o (x.offset + ENTRY_WORDS))
+            c.exports no_export e in
             let m = and_parts _ _ k.2 in
             record {
               start = (get_or c.exports k.0 no_export).offset;
@@ -221,7 +246,11 @@ module _ (c : ComponentFields) (placed : NoneBroken (lists c)) where
             record {
               start = get_or c.sites k.0 0;
               size = SITE_WORDS;
-              seq = inr (list_any_at (λ s. s == get_or c.sites k.0 0) c.sites k.0 0 k.1 (eq_is (get_or c.sites k.0 0) (get_or c.sites k.0 0) refl), refl);
+              seq = inr (
+                list_any_at (λ s. s == get_or c.sites k.0 0)
+                    c.sites k.0 0 k.1 (eq_is (get_or c.sites k.0 0) (get_or c.sites k.0 0) refl),
+                refl,
+              );
               after = lt_true _ _ m.0;
               before_end = lt_true _ _ m.1;
             }
@@ -237,18 +266,24 @@ module _ (c : ComponentFields) (placed : NoneBroken (lists c)) where
     unfolding of_entry
     within_entry o a e low high =
         let k = entry_of c a no_export e in
-        list_any_at (λ (x : Export). nat_le x.offset o && nat_lt o (x.offset + ENTRY_WORDS)) c.exports k.0 no_export k.1
-        (rw k.2 (and_from (nat_le a o) (nat_lt o (a + ENTRY_WORDS)) (le-leb a o low) (lt-ltb o (a + ENTRY_WORDS) high)))
+        list_any_at (λ (x : Export). nat_le x.offset o && nat_lt o (x.offset + ENTRY_WORDS))
+        c.exports k.0 no_export k.1
+        (rw k.2 (and_from (nat_le a o) (nat_lt o (a + ENTRY_WORDS)) (le-leb a o low)
+        (lt-ltb o (a + ENTRY_WORDS) high)))
 
     free_of_entry : (o : ℕ) → of_entry c o ≡ false → (begins_entry c o ≡ false) × (in_entry c o ≡ false)
     unfolding in_entry
     free_of_entry o h = (
-      false_from_ne_true (begins_entry c o) (λ e. no_contradiction (of_entry c o) (within_entry o o e (omega arith) (omega arith)) h),
+      false_from_ne_true (begins_entry c o)
+          (λ e. no_contradiction (of_entry c o) (within_entry o o e (omega arith) (omega arith)) h),
       false_from_ne_true (in_entry c o) (λ e.
-          let k = any_index (λ (x : Export). nat_lt x.offset o && nat_lt o (x.offset + ENTRY_WORDS)) c.exports no_export e in
+          let k = any_index (λ (x : Export). nat_lt x.offset o && nat_lt o (x.offset + ENTRY_WORDS))
+          c.exports no_export e in
           let m = and_parts _ _ k.2 in
           let low : (get_or c.exports k.0 no_export).offset < o = lt_of _ o m.0 in
-          no_contradiction (of_entry c o) (within_entry o (get_or c.exports k.0 no_export).offset (entry_at c k.0 no_export k.1) (omega arith) (lt_of o _ m.1)) h),
+          no_contradiction (of_entry c o)
+          (within_entry o (get_or c.exports k.0 no_export).offset (entry_at c k.0 no_export k.1)
+          (omega arith) (lt_of o _ m.1)) h),
     )
 
     free_row : (o : ℕ) → is_misplaced c o ≡ false
@@ -276,13 +311,28 @@ module _ (c : ComponentFields) (placed : NoneBroken (lists c)) where
             → (i : ℕ) × (i < length c.rows) × (row_offset c i ≡ o)
         by_row None m e = cc
         by_row (Some r) m e =
-            let k = find_index (λ (r : KindRow). r.offset == o) c.rows r no_row m in
-            (k.0, k.1, get_map (λ (r : KindRow). r.offset) c.rows k.0 0 no_row k.1 ∙ eqb-true (get_or c.rows k.0 no_row).offset o k.2)
+            let k = find_index (λ (r : KindRow). r.offset == o) c.rows r no_row m in (
+              k.0,
+              k.1,
+              get_map (λ (r : KindRow). r.offset) c.rows k.0 0 no_row k.1
+                  ∙ eqb-true (get_or c.rows k.0 no_row).offset o k.2,
+            )
 
     pub placed_lists : ListsKept c
     placed_lists = record {
-      entries = λ o e. (entry_room o (entry_stands o e), false_from_ne_true (begins_site c o) (λ s. no_common o o s e (omega arith) (omega arith)), λ i. in_seq_e o e i i.seq);
-      sites = λ o s. (site_fits o s, false_from_ne_true (begins_entry c o) (λ e. no_common o o s e (omega arith) (omega arith)), λ i. in_seq_s o s i i.seq);
+      entries =
+          λ o e. (
+            entry_room o (entry_stands o e),
+            false_from_ne_true (begins_site c o)
+                (λ s. no_common o o s e (omega arith) (omega arith)),
+            λ i. in_seq_e o e i i.seq,
+          );
+      sites = λ o s. (
+        site_fits o s,
+        false_from_ne_true (begins_entry c o)
+            (λ e. no_common o o s e (omega arith) (omega arith)),
+        λ i. in_seq_s o s i i.seq,
+      );
       rows = λ o d e. (let k = row_index o d e in free_row o (rw k.2 at (k4_kept k.0 k.1)));
     }
       where
@@ -290,13 +340,21 @@ module _ (c : ComponentFields) (placed : NoneBroken (lists c)) where
         site_fits o s = let k = site_index o s in rw k.2 at (room k.0 k.1)
 
         in_seq_e : (o : ℕ) → begins_entry c o ≡ true → (i : Inside c o)
-            → ((begins_entry c i.start ≡ true) × (i.size ≡ ENTRY_WORDS)) ⊎ ((begins_site c i.start ≡ true) × (i.size ≡ SITE_WORDS))
+            → ((begins_entry c i.start ≡ true) × (i.size ≡ ENTRY_WORDS))
+            ⊎ ((begins_site c i.start ≡ true) × (i.size ≡ SITE_WORDS))
             → ⊥
-        in_seq_e o e i (inl h) = entries_apart i.start o h.0 e i.after (let a = i.before_end in let b = h.1 in omega arith)
-        in_seq_e o e i (inr h) = no_common i.start o h.0 e (let a = i.after in omega arith) (let a = i.before_end in let b = h.1 in omega arith)
+        in_seq_e o e i (inl h) =
+            entries_apart i.start o h.0 e i.after (let a = i.before_end in let b = h.1 in omega arith)
+        in_seq_e o e i (inr h) =
+            no_common i.start o h.0 e (let a = i.after in omega arith)
+            (let a = i.before_end in let b = h.1 in omega arith)
 
         in_seq_s : (o : ℕ) → begins_site c o ≡ true → (i : Inside c o)
-            → ((begins_entry c i.start ≡ true) × (i.size ≡ ENTRY_WORDS)) ⊎ ((begins_site c i.start ≡ true) × (i.size ≡ SITE_WORDS))
+            → ((begins_entry c i.start ≡ true) × (i.size ≡ ENTRY_WORDS))
+            ⊎ ((begins_site c i.start ≡ true) × (i.size ≡ SITE_WORDS))
             → ⊥
-        in_seq_s o s i (inl h) = no_common o i.start s h.0 (let a = i.before_end in let b = h.1 in omega arith) (let a = i.after in omega arith)
-        in_seq_s o s i (inr h) = sites_apart i.start o h.0 s i.after (let a = i.before_end in let b = h.1 in omega arith)
+        in_seq_s o s i (inl h) =
+            no_common o i.start s h.0 (let a = i.before_end in let b = h.1 in omega arith)
+            (let a = i.after in omega arith)
+        in_seq_s o s i (inr h) =
+            sites_apart i.start o h.0 s i.after (let a = i.before_end in let b = h.1 in omega arith)

@@ -41,7 +41,10 @@ module _ (c : ComponentFields) where
   module _ (fits : IsComponent c) (kept : IsKept c) where
     -- inside an entry or a site there is none
     pub row_outside : (o : ℕ) (r : Row) → RowAt c o r → is_inside c o ≡ false
-    row_outside o r h = false_from_ne_true (is_inside c o) (λ e. no_row_inside c kept.walked (placed_lists c kept.placed fits) o (inside_is c kept.placed fits o e) r h)
+    row_outside o r h =
+        false_from_ne_true (is_inside c o)
+        (λ e. no_row_inside c kept.walked (placed_lists c kept.placed fits)
+        o (inside_is c kept.placed fits o e) r h)
 
     pub each_outside : (o : ℕ) (r : Option Row) → IfSome r (λ row. RowAt c o row)
         → IfSome r (λ row. is_inside c o ≡ false)

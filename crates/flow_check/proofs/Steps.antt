@@ -44,7 +44,8 @@ module _ {W : Type 0} (look : W → Word) (plain : Word → W) (look_plain : (x 
     (limits : IsComponent c) (flows_on : IsKept c) where
   -- the code is as linked
   abbrev pub Linked : State W → Type 0
-  Linked s = (o : ℕ) (z : ℤ) → slice_get c.code o ≡ Some (Int z) → look_face look (cell s.cells (part.code_base + o)) ≡ Some (Number z)
+  Linked s = (o : ℕ) (z : ℤ) → slice_get c.code o ≡ Some (Int z)
+      → look_face look (cell s.cells (part.code_base + o)) ≡ Some (Number z)
 
   -- what holds of a state between two trusted instructions, but that pc stands nowhere in particular
   pub record Kept_rest (s : State W) : Type 0 where
@@ -65,7 +66,8 @@ module _ {W : Type 0} (look : W → Word) (plain : Word → W) (look_plain : (x 
     to_fail : (o : ℕ) → c.fail_at ≡ Some o → PcAt look part o s'.regs → Next s s'
     out : (o : ℕ) (r : Row) (i : Instr) (next : Word)
         → fetch (faces look s Pc) (cell_faces look s) ≡ some i next
-        → Lands look plain look_plain Safe Has Open part safe_int safe_stk open_data open_stack i o r s s' None None
+        → Lands look plain look_plain Safe Has Open part safe_int safe_stk open_data open_stack i o r s s'
+        None None
         → Next s s'
 
   stands_of : (s' : State W) (o : ℕ) (r : Row) → Leads c o r → PcAt look part o s'.regs
@@ -103,13 +105,18 @@ module _ {W : Type 0} (look : W → Word) (plain : Word → W) (look_plain : (x 
 
   pub fetched : (s : State W) (o : ℕ) (i : Instr) → o < length c.code → PcAt look part o s.regs → Linked s
       → instr_at c o ≡ Some i
-      → fetch (faces look s Pc) (cell_faces look s) ≡ some i (Mem (record (code_at part o) { addr = pos (part.code_base + o) +ℤ pos 1 }))
+      → fetch (faces look s Pc)
+      (cell_faces look s)
+      ≡ some i (Mem (record (code_at part o) { addr = pos (part.code_base + o) +ℤ pos 1 }))
   fetched s o i lt h l e =
       let w = int_at o i e in
       let low : part.code_base ≤ part.code_base + o = omega arith in
       let high : part.code_base + o ≤ part.code_last = omega (arith, last) in
-      rw (pc_face s o h) (fetch_some (Memory (code_at part o)) (cell_faces look s) (code_at part o) (part.code_base + o) w.0 i refl refl refl
-      (rw (le-leb part.code_base (part.code_base + o) low, le-leb (part.code_base + o) part.code_last high) refl)
+      rw (pc_face s o h)
+      (fetch_some (Memory (code_at part o)) (cell_faces look s) (code_at part o) (part.code_base + o)
+      w.0 i refl refl refl
+      (rw (le-leb part.code_base (part.code_base + o) low, le-leb (part.code_base + o) part.code_last high)
+      refl)
       (code_face s o w.0 l w.1) w.2)
 
   -- what is known of the state after a plan
@@ -133,13 +140,16 @@ module _ {W : Type 0} (look : W → Word) (plain : Word → W) (look_plain : (x 
       → ((p : ℕ) → t ≡ Some p → (c.fail_at ≡ Some p) ⊎ Leads c p r)
       → Lands look plain look_plain Safe Has Open part safe_int safe_stk open_data open_stack i o r s s' t a
       → Next s s'
-  landed i next s s' got o r t (Some q) on jumps (lands_on p f) = to_row (o + 1) (stands_of s' (o + 1) q (on q refl) p f)
+  landed i next s s' got o r t (Some q) on jumps (lands_on p f) =
+      to_row (o + 1) (stands_of s' (o + 1) q (on q refl) p f)
   landed i next s s' got o r (Some t) a on jumps (lands_at p f) = by_jump (jumps t refl)
     where
       by_jump : (c.fail_at ≡ Some t) ⊎ Leads c t r → Next s s'
       by_jump (inl e) = to_fail t e p
       by_jump (inr l) = to_row t (stands_of s' t r l p f)
-  landed i next s s' got o r None None on jumps (crosses r1 r2 code half x is s1 s2 e1 e2 same m run half_data pc dat others) = out o r i next got (crosses r1 r2 code half x is s1 s2 e1 e2 same m run half_data pc dat others)
+  landed i next s s' got o r None None on jumps
+      (crosses r1 r2 code half x is s1 s2 e1 e2 same m run half_data pc dat others) =
+      out o r i next got (crosses r1 r2 code half x is s1 s2 e1 e2 same m run half_data pc dat others)
 
   -- one step
   pub step_kept : (s s' : State W) (o : ℕ) → StandsAt s o → Kept_rest s → begins_entry c o ≡ false
@@ -149,21 +159,31 @@ module _ {W : Type 0} (look : W → Word) (plain : Word → W) (look_plain : (x 
   step_kept s s' o at rest ne ns e =
       let j = word_flows c limits flows_on o at.there ne ns at.row in
       let f = fetched s o j.instr at.inside at.at_pc rest.linked j.stands in
-      let k = kept look plain look_plain Safe Has Open part safe_int safe_stk open_data open_stack j.instr o at.there s at.at_pc at.fits rest.safe_cells j.instr refl j.target j.after j.flow_is in
-      let d = after_plan s s' (λ x. Kept look plain look_plain Safe Has Open part safe_int safe_stk open_data open_stack j.instr o at.there j.target j.after s x) _ k (sym (step_at look plain s j.instr _ f) ∙ e) in
-      (landed j.instr _ s s' f o at.there j.target j.after j.leads_on j.jumps d.lands, record { linked = still_linked s s' d.others rest.linked; safe_cells = d.safe_cells }, d.others)
+      let k = kept look plain look_plain Safe Has Open part safe_int safe_stk open_data open_stack j.instr o
+      at.there s at.at_pc at.fits rest.safe_cells j.instr refl j.target j.after j.flow_is in
+      let d = after_plan s s'
+      (λ x. Kept look plain look_plain Safe Has Open part safe_int safe_stk open_data open_stack j.instr o
+      at.there j.target j.after s x) _ k (sym (step_at look plain s j.instr _ f) ∙ e) in (
+        landed j.instr _ s s' f o at.there j.target j.after j.leads_on j.jumps d.lands,
+        record
+            { linked = still_linked s s' d.others rest.linked; safe_cells = d.safe_cells },
+        d.others,
+      )
 
   -- what is fetched there, and on what it stands
   pub shows_at_xjmp : (s : State W) (o : ℕ) → StandsAt s o → Kept_rest s → begins_entry c o ≡ false
       → begins_site c o ≡ false → (r1 r2 : Reg) (next : Word)
       → fetch (faces look s Pc) (cell_faces look s) ≡ some (Xjmp r1 r2) next
-      → ((d : Reg) → is_pc d ≡ false → d ≢ Dat → Safe (reg s.regs d)) × Safe (reg s.regs r1) × Safe (reg s.regs r2)
+      → ((d : Reg) → is_pc d ≡ false → d ≢ Dat → Safe (reg s.regs d)) × Safe (reg s.regs r1)
+      × Safe (reg s.regs r2)
   shows_at_xjmp s o at rest ne ns r1 r2 next e =
       let j = word_flows c limits flows_on o at.there ne ns at.row in
       let f = fetched s o j.instr at.inside at.at_pc rest.linked j.stands in
       let same : some j.instr _ ≡ some (Xjmp r1 r2) next = sym f ∙ e in
       let i : j.instr ≡ Xjmp r1 r2 = cc in
-      xjmp_shows look plain look_plain Safe Has Open part safe_int safe_stk open_data open_stack j.instr o at.there s at.at_pc at.fits rest.safe_cells r1 r2 j.target j.after (ap (λ x. flow x o at.there) (sym i) ∙ j.flow_is)
+      xjmp_shows look plain look_plain Safe Has Open part safe_int safe_stk open_data open_stack j.instr o
+      at.there s at.at_pc at.fits rest.safe_cells r1 r2 j.target j.after
+      (ap (λ x. flow x o at.there) (sym i) ∙ j.flow_is)
 
   pub goes_to_area : (s : State W) (o : ℕ) → StandsAt s o → Kept_rest s → begins_entry c o ≡ false
       → begins_site c o ≡ false → (n : Instr) (next : Word) (a : ℕ)
@@ -174,4 +194,6 @@ module _ {W : Type 0} (look : W → Word) (plain : Word → W) (look_plain : (x 
       let f = fetched s o j.instr at.inside at.at_pc rest.linked j.stands in
       let same : some j.instr _ ≡ some n next = sym f ∙ e in
       let i : j.instr ≡ n = cc in
-      target_in look plain look_plain Safe Has Open part safe_int safe_stk open_data open_stack j.instr o at.there s at.at_pc at.fits rest.safe_cells n j.target j.after a (ap (λ x. flow x o at.there) (sym i) ∙ j.flow_is) m
+      target_in look plain look_plain Safe Has Open part safe_int safe_stk open_data open_stack j.instr o
+      at.there s at.at_pc at.fits rest.safe_cells n j.target j.after a
+      (ap (λ x. flow x o at.there) (sym i) ∙ j.flow_is) m

@@ -9,17 +9,22 @@ use Rattle.component_check.proofs.First.{first_broken}
 use Rattle.flow_check.specs.Lists.{lists}
 use Rattle.flow_check.specs.Verdict.{IsFirstOfFlow, WalksTo}
 
-tried : (c : ComponentFields) (r : Result (Unit {0}) Broken) → r ≡ check_from (broken_at K) 1 (lists c) → IsFirstBroken (broken_at K) (lists c) r
+tried : (c : ComponentFields) (r : Result (Unit {0}) Broken) → r ≡ check_from (broken_at K) 1 (lists c)
+    → IsFirstBroken (broken_at K) (lists c) r
 tried c r e = subst (IsFirstBroken (broken_at K) (lists c)) (sym e) (first_broken (broken_at K) (lists c))
 
 -- a rule of the lists is broken
-pub lists_broken : (c : ComponentFields) (r : Result (Unit {0}) Broken) (b : Broken) → r ≡ check_from (broken_at K) 1 (lists c) → r ≡ Err b → IsFirstOfFlow c (Err b)
+pub lists_broken : (c : ComponentFields) (r : Result (Unit {0}) Broken) (b : Broken)
+    → r ≡ check_from (broken_at K) 1 (lists c) → r ≡ Err b → IsFirstOfFlow c (Err b)
 lists_broken c r b e m = inl (subst (IsFirstBroken (broken_at K) (lists c)) m (tried c r e))
 
-pub lists_kept : (c : ComponentFields) (r : Result (Unit {0}) Broken) (u : Unit {0}) → r ≡ check_from (broken_at K) 1 (lists c) → r ≡ Ok u → NoneBroken (lists c)
+pub lists_kept : (c : ComponentFields) (r : Result (Unit {0}) Broken) (u : Unit {0})
+    → r ≡ check_from (broken_at K) 1 (lists c) → r ≡ Ok u → NoneBroken (lists c)
 lists_kept c r u e m = subst (IsFirstBroken (broken_at K) (lists c)) m (tried c r e)
 
 -- none is, and the walk decides
-pub walk_decides : (c : ComponentFields) (r : Result (Unit {0}) Broken) → NoneBroken (lists c) → WalksTo c r → IsFirstOfFlow c r
+pub walk_decides : (c : ComponentFields) (r : Result (Unit {0}) Broken) → NoneBroken (lists c) → WalksTo c r
+    → IsFirstOfFlow c r
 walk_decides c (Ok u) h w = record { placed = h; walked = w }
-walk_decides c (Err b) h w = inr (record { placed = h; number = w.0; place = w.1; comes = w.2; reported = w.3 })
+walk_decides c (Err b) h w =
+    inr (record { placed = h; number = w.0; place = w.1; comes = w.2; reported = w.3 })

@@ -7,7 +7,8 @@ use Rattle.component_check.specs.declared.rule.Group.TheVariants.{K}
 use Rattle.component_check.specs.RuleText.{broken_at}
 use Rattle.component_check.specs.Verdict.{NoneBroken, IsFirst, check_from}
 use Rattle.flow_check.specs.declared.walking.Walk.{Walk}
-use Rattle.flow_check.specs.declared.walking.Walk.TheVariants.{Before as before, Ended as ended, Broken as broken}
+use Rattle.flow_check.specs.declared.walking.Walk.TheVariants.{Before as before, Ended as ended}
+use Rattle.flow_check.specs.declared.walking.Walk.TheVariants.{Broken as broken}
 use Rattle.flow_check.specs.Lists.{lists}
 use Rattle.flow_check.specs.Walk.{Comes, walk}
 
@@ -43,6 +44,7 @@ found_by (before o current) = Ok tt
 found_by ended = Ok tt
 found_by (broken number place) = Err (broken_at K number place)
 
--- the rules of the lists, and then the walk, which has come to its end after one step more than there are words
+-- the rules of the lists, and then the walk, which has come to its end after one step more than there are
+-- words
 unfoldable pub flow_answer : ComponentFields → Result (Unit {0}) Broken
 flow_answer c = result_and (check_from (broken_at K) 1 (lists c)) (found_by (walk c (suc (length c.code))))

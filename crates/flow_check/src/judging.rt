@@ -1,7 +1,8 @@
 //! What each instruction asks of the kinds of the registers, where it may jump, and the row after it.
 ghost use Rattle.std.specs.Prelude.{◌≡◌, Some, None};
 ghost use Rattle.lcm_machine.specs.Table.{is_pc};
-ghost use Rattle.flow_check.specs.Flow.{flow, ask, into, source, is_area, seen, seen_operand, gets, taken, take_from, led, led_to, cca_of, shows_nothing};
+ghost use Rattle.flow_check.specs.Flow.{flow, ask, into, source, is_area, seen, seen_operand, gets, taken};
+ghost use Rattle.flow_check.specs.Flow.{take_from, led, led_to, cca_of, shows_nothing};
 
 use crate::kinds::{Row, below_any, kind_of, set_kind};
 use component_file::{Kind, LAST_OFFSET};

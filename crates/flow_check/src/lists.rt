@@ -6,7 +6,8 @@ ghost use Rattle.component_check.specs.RuleText.{broken_at};
 ghost use Rattle.component_check.specs.Places.{first_place, first_of};
 ghost use Rattle.component_check.specs.Verdict.{check_from};
 ghost use Rattle.call_sequence.specs.Standing.{site_difference};
-ghost use Rattle.flow_check.specs.Lists.{k1, k2, k3, k4, site_is_bad, overlap, meets_entry, meets_site, entry_is_bad, least_of, row_offset, of_entry, is_misplaced, lists};
+ghost use Rattle.flow_check.specs.Lists.{k1, k2, k3, k4, site_is_bad, overlap, meets_entry, meets_site};
+ghost use Rattle.flow_check.specs.Lists.{entry_is_bad, least_of, row_offset, of_entry, is_misplaced, lists};
 
 use crate::places::in_site;
 use call_sequence::{ENTRY_WORDS, SITE_WORDS, is_entry, site_difference};

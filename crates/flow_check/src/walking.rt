@@ -4,7 +4,9 @@ ghost use Rattle.component_file.specs.Limits.{IsComponent};
 ghost use Rattle.component_check.specs.Rules.{is_at};
 ghost use Rattle.flow_check.specs.Kinds.{entry_row, clean_row};
 ghost use Rattle.flow_check.specs.Flow.{is_stk, flow};
-ghost use Rattle.flow_check.specs.Walk.{instr_at, keep, comes_in, is_data, passes, site_ready, good_target, flow_of, after_flow, at_row, past, at_word, at_entry, at_end, next_from};
+ghost use Rattle.flow_check.specs.Walk.{instr_at, keep, comes_in, is_data, passes, site_ready, good_target};
+ghost use Rattle.flow_check.specs.Walk.{flow_of, after_flow, at_row, past, at_word, at_entry, at_end};
+ghost use Rattle.flow_check.specs.Walk.{next_from};
 ghost use Rattle.flow_check.specs.Verdict.{WalksTo, IsFirstOfFlow, flow_answer};
 
 use crate::judging::{Flow, flow_at};

@@ -41,7 +41,8 @@ same_some : {A : Type 0} (x y : Result A Refusal) → (let o : Due A = Some x in
 same_some x y e = cc
 
 module _ {A : Type 0} (held : Held) where
-  pub settled_by : (plan : Plan A) (due : Result A Refusal) → Settles held plan due → settled held plan ≡ Some due
+  pub settled_by : (plan : Plan A) (due : Result A Refusal) → Settles held plan due
+      → settled held plan ≡ Some due
   settled_by (Made x) due h = ap (λ d. Some d) (sym h)
   settled_by (Ends why) due h = ap (λ d. Some d) (sym h)
   settled_by (Reads name index next) due (bytes, e, inl h) =
@@ -59,14 +60,16 @@ module _ {A : Type 0} (held : Held) where
       inr (shorter (length bytes) LONGEST_FILE l, same_some (Err (TooLong index)) due e)
 
   due_of : (name : List ℕ) (index : ℕ) (next : List ℕ → Plan A) (due : Result A Refusal) (o : Option (List ℕ))
-      → held name ≡ o → ((bytes : List ℕ) → settled held (next bytes) ≡ Some due → Settles held (next bytes) due)
+      → held name ≡ o
+      → ((bytes : List ℕ) → settled held (next bytes) ≡ Some due → Settles held (next bytes) due)
       → by_bytes index (λ bytes. settled held (next bytes)) o ≡ Some due
       → Settles held (let p : Plan A = Reads name index next in p) due
   due_of name index next due None h k e = absurd (cc)
   due_of name index next due (Some bytes) h k e =
       (bytes, h, due_at index bytes (nat_le (length bytes) LONGEST_FILE) (next bytes) due refl (k bytes) e)
 
-  pub settles : (plan : Plan A) (due : Result A Refusal) → settled held plan ≡ Some due → Settles held plan due
+  pub settles : (plan : Plan A) (due : Result A Refusal) → settled held plan ≡ Some due
+      → Settles held plan due
   settles (Made x) due e = same_some (Ok x) due e
   settles (Ends why) due e = same_some (Err why) due e
   settles (Reads name index next) due e =
@@ -146,10 +149,12 @@ module _ (held there : Held) where
       → Agree held there R p q → ((a : A) (b : B) → R a b → Agree held there S (f a) (g b))
       → Agree held there S (p >>= f) (q >>= g)
   agree_bind R S p q f g m k =
-      rw (settled_bind held p f, settled_bind there q g) (match_on R S (settled held p) (settled there q) _ _ m k)
+      rw (settled_bind held p f, settled_bind there q g)
+      (match_on R S (settled held p) (settled there q) _ _ m k)
 
   pub each_agree : {A : Type 0} (R : A → A → Type 0) (item : ℕ → PartWord → Plan A)
-      → ((index : ℕ) (w v : PartWord) → IsBeside held there w v → Agree held there R (item index w) (item index v))
+      → ((index : ℕ) (w v : PartWord) → IsBeside held there w v
+      → Agree held there R (item index w) (item index v))
       → (index : ℕ) (ws vs : List PartWord) → AreBeside held there ws vs
       → Agree held there (Pairwise R) (each_at item index ws) (each_at item index vs)
   each_agree R item k index [] [] h = tt

@@ -1,5 +1,6 @@
 -- Parts with tokens and their erasures: each command comes to the same.
-use Rattle.std.proofs.Common.{◌≡◌, ℕ, ◌≤◌, List, [], ◌∷◌, length, Option, Some, None, Bool, true, refl, sym, ap, subst}
+use Rattle.std.proofs.Common.{◌≡◌, ℕ, ◌≤◌, List, [], ◌∷◌, length, Option, Some, None, Bool, true, refl, sym}
+use Rattle.std.proofs.Common.{ap, subst}
 use Rattle.std.proofs.Common.{◌∙◌, le-leb}
 use Rattle.std.specs.Prelude.{◌↔◌, Result, Ok, Err, map}
 use Rattle.command_words.specs.declared.part.Ending.{Ending}
@@ -31,16 +32,19 @@ use Rattle.file_plans.specs.declared.TheConstants.{LONGEST_FILE}
 use Rattle.file_plans.specs.declared.refusal.Refusal.{Refusal}
 use Rattle.file_plans.specs.declared.refusal.Refusal.TheVariants as refusal
 use Rattle.file_plans.specs.Plans.{Plan, Made, unless, each_at}
-use Rattle.meaning_tool.specs.Subjects.{Subject, language_of, module_at, feed_at, unfed, subject_of, subject_in}
+use Rattle.meaning_tool.specs.Subjects.{Subject, language_of, module_at, feed_at, unfed, subject_of}
+use Rattle.meaning_tool.specs.Subjects.{subject_in}
 use Rattle.meaning_tool.specs.Subjects.{told_of}
 use Rattle.lcm_cli.specs.Parts.{is_trusted, broken_in, linked, form_by, component_at, part_at}
 use Rattle.lcm_cli.specs.Debugs.{unscripted, script_at}
-use Rattle.lcm_cli.specs.Commands.{Task, Tell, Debug, linked_parts, linked_in, link_task, component_task, debug_plan}
+use Rattle.lcm_cli.specs.Commands.{Task, Tell, Debug, linked_parts, linked_in, link_task, component_task}
+use Rattle.lcm_cli.specs.Commands.{debug_plan}
 use Rattle.lcm_cli.specs.Commands.{for_task, plan_of}
 use Rattle.lcm_cli.specs.Answers.{Answer, IsAnswerOf, Settles, IsWritten, tells}
 use Rattle.lcm_cli.specs.Erasures.{Held, IsErasure, IsBeside, same, erasure, AreBeside, AskBeside}
 use Rattle.lcm_cli.proofs.Alongside.{Due, by_bytes, settled, settled_by, settles, Match, Agree, agree_bind}
-use Rattle.lcm_cli.proofs.Alongside.{Pairwise, each_agree, all_equal, as_many, told, settled_unless, match_same}
+use Rattle.lcm_cli.proofs.Alongside.{Pairwise, each_agree, all_equal, as_many, told, settled_unless}
+use Rattle.lcm_cli.proofs.Alongside.{match_same}
 
 -- what alike modules have in common, and that an erasure that is read again is alike
 pub record AlikeLaws : Type 0 where
@@ -81,7 +85,8 @@ module _ (laws : AlikeLaws) (held there : Held) where
   same_bytes index f g k (Some bytes) = rw (k bytes) refl
 
   component_is : (over : Held) (index : ℕ) (w : PartWord)
-      → settled over (component_at index w) ≡ by_bytes index (λ b. Some (formed w.ending index b)) (over w.name)
+      → settled over (component_at index w) ≡ by_bytes index (λ b. Some (formed w.ending index b))
+      (over w.name)
   unfolding component_at
   component_is over index w =
       same_bytes index (λ b. settled over (form_by w.ending index b)) (λ b. Some (formed w.ending index b))
@@ -138,11 +143,13 @@ module _ (laws : AlikeLaws) (held there : Held) where
       → Agree held there (λ x y. x ≡ y) (linked_parts ws size) (linked_parts vs size)
   unfolding linked_parts
   linked_agree ws vs size b =
-      agree_bind held there (Pairwise (λ x y. x ≡ y)) (λ x y. x ≡ y) (each_at part_at 0 ws) (each_at part_at 0 vs)
+      agree_bind held there (Pairwise (λ x y. x ≡ y)) (λ x y. x ≡ y) (each_at part_at 0 ws)
+      (each_at part_at 0 vs)
       _ _ (each_agree held there (λ x y. x ≡ y) part_at part_agrees 0 ws vs b) (λ ps qs e.
       rw (sym (all_equal ps qs e))
       (agree_bind held there (λ x y. x ≡ y) (λ x y. x ≡ y) (unless refusal.Rule (linked ps size))
-      (unless refusal.Rule (linked ps size)) _ _ (agree_unless refusal.Rule (linked ps size)) (λ u v f. refl)))
+      (unless refusal.Rule (linked ps size)) _ _ (agree_unless refusal.Rule (linked ps size))
+      (λ u v f. refl)))
 
   -- ---- modules
 
@@ -152,7 +159,8 @@ module _ (laws : AlikeLaws) (held there : Held) where
       (over w.name)
   unfolding module_at
   module_is over index w =
-      same_bytes index (λ b. settled over (unless (refusal.Source index) (module_in (language_of w.ending) b))) _
+      same_bytes index
+      (λ b. settled over (unless (refusal.Source index) (module_in (language_of w.ending) b))) _
       (λ b. settled_unless over (refusal.Source index) (module_in (language_of w.ending) b)) (over w.name)
 
   alike_itself : (r : Due ModuleFields) → Match IsAlike r r
@@ -183,13 +191,15 @@ module _ (laws : AlikeLaws) (held there : Held) where
       ) (sym a.alike)
 
   -- a file that holds the same
-  file_agrees : {A : Type 0} (name : List ℕ) (index : ℕ) (f : List ℕ → Result A Refusal) → there name ≡ held name
+  file_agrees : {A : Type 0} (name : List ℕ) (index : ℕ) (f : List ℕ → Result A Refusal)
+      → there name ≡ held name
       → Match (λ x y. x ≡ y) (by_bytes index (λ b. Some (f b)) (held name))
       (by_bytes index (λ b. Some (f b)) (there name))
   file_agrees name index f e = rw e (match_same (by_bytes index (λ b. Some (f b)) (held name)))
 
   feed_is : (over : Held) (name : List ℕ) (index base : ℕ)
-      → settled over (feed_at name index base) ≡ by_bytes index (λ b. Some (told unfed (fed base b))) (over name)
+      → settled over (feed_at name index base) ≡ by_bytes index (λ b. Some (told unfed (fed base b)))
+      (over name)
   unfolding feed_at
   feed_is over name index base =
       same_bytes index (λ b. settled over (unless unfed (fed base b))) _
@@ -214,7 +224,8 @@ module _ (laws : AlikeLaws) (held there : Held) where
       (agree_bind held there (λ x y. x ≡ y) TellAlike (unless refusal.Rule (ruled xs size))
       (unless refusal.Rule (ruled xs size)) _ _ (agree_unless refusal.Rule (ruled xs size)) (λ u v q.
       agree_bind held there (λ x y. x ≡ y) TellAlike (feed_at feed count (stack_base_of xs))
-      (feed_at feed count (stack_base_of xs)) _ _ (feed_agrees feed count (stack_base_of xs) e) (λ items others r
+      (feed_at feed count (stack_base_of xs)) _ _ (feed_agrees feed count (stack_base_of xs) e)
+      (λ items others r
       fuel. rw (laws.programs xs ms h, r) refl)))
 
   subject_agrees : (ws vs : List PartWord) (size : ℕ) (feed : List ℕ) → there feed ≡ held feed
@@ -223,7 +234,8 @@ module _ (laws : AlikeLaws) (held there : Held) where
   unfolding subject_in
   subject_agrees ws vs size feed e b =
       rw (as_many held there ws vs b)
-      (agree_bind held there (Pairwise IsAlike) TellAlike (each_at module_at 0 ws) (each_at module_at 0 vs) _ _
+      (agree_bind held there (Pairwise IsAlike) TellAlike (each_at module_at 0 ws) (each_at module_at 0 vs)
+      _ _
       (each_agree held there IsAlike module_at module_agrees 0 ws vs b)
       (λ xs ms h. subject_of_agrees (length ws) size feed xs ms e (alike_all xs ms h)))
 
@@ -246,7 +258,8 @@ module _ (laws : AlikeLaws) (held there : Held) where
   same_tasks p q f h = tasks_of (λ x y. x ≡ y) p q f f h (λ x y e. same_task (f x) (f y) (ap f e))
 
   script_is : (over : Held) (name : List ℕ) (index : ℕ)
-      → settled over (script_at name index) ≡ by_bytes index (λ b. Some (told unscripted (scripted b))) (over name)
+      → settled over (script_at name index) ≡ by_bytes index (λ b. Some (told unscripted (scripted b)))
+      (over name)
   unfolding script_at
   script_is over name index =
       same_bytes index (λ b. settled over (unless unscripted (scripted b))) _
@@ -274,12 +287,14 @@ module _ (laws : AlikeLaws) (held there : Held) where
   told_alike s t n fuel e k a =
       rw e (subst (λ (z : Told). (a ≡ tells (told_of s fuel)) ↔ (a ≡ tells z)) (k fuel) ((λ h. h), (λ h. h)))
 
-  commands_agree : (c d : Command) → AskBeside held there c d → Agree held there AnswerAlike (plan_of c) (plan_of d)
+  commands_agree : (c d : Command) → AskBeside held there c d
+      → Agree held there AnswerAlike (plan_of c) (plan_of d)
   commands_agree (Links (what.Parts ws size) deed) (Links (what.Parts vs other) done) h =
       rw (h.1, h.2) (same_tasks (linked_parts ws size) (linked_parts vs size) (link_task deed)
       (linked_agree ws vs size h.0))
   commands_agree (Takes w deed) (Takes v done) h =
-      rw h.1 (same_tasks (component_at 0 w) (component_at 0 v) (component_task deed) (component_agrees 0 w v h.0))
+      rw h.1 (same_tasks (component_at 0 w) (component_at 0 v) (component_task deed)
+      (component_agrees 0 w v h.0))
   commands_agree (Checks w) (Checks v) h =
       same_tasks (part_at 0 w) (part_at 0 v) _ (part_agrees 0 w v h)
   commands_agree (Mean ws size fuel feed) (Mean vs other ticks items) h =

@@ -83,7 +83,8 @@ never_subject why h k words size feed =
 -- ---- wherever reading them ends the call, it has a reason
 
 -- a text that spells no module has no component, by the same fault
-unsourced : (d : Dialect) (text : List ℕ) (f : SourceFault) → module_in d text ≡ Err f → sourced d text ≡ Err f
+unsourced : (d : Dialect) (text : List ℕ) (f : SourceFault) → module_in d text ≡ Err f
+    → sourced d text ≡ Err f
 unfolding sourced
 unsourced d text f e = rw e refl
 

@@ -142,7 +142,8 @@ whole_run plan old ended new (answer due a seen c x (unwritten p f k s)) r = abs
 whole_run plan old ended new (answer due a seen c x (whole g)) r =
     record { due = due; gives = a; seen = seen; came = c; is = x; given = g }
 
-given_run : StartLaws → RunsPass → (l : Linked) (steps : ℕ) (old : Outside) (seen : FilesSeen) (ended : Status)
+given_run : StartLaws → RunsPass
+    → (l : Linked) (steps : ℕ) (old : Outside) (seen : FilesSeen) (ended : Status)
     (new : Outside) (a : Answer) → steps < 2 ^ 64 → DeedDue l (link_deed.Run steps) old.files seen a
     → GivesWhole (with_files old seen) a ended new → IsRunStatus ended → RunGiven l steps old ended new
 given_run all pass l steps old seen ended new a small (told why c e) g r =

@@ -106,7 +106,8 @@ part_came index w p old new h =
 -- what holds of sources
 pub record SourceLaws : Type 0 where
   pub limits : (d : Dialect) (text : List ℕ) (m : ModuleFields) → module_in d text ≡ Ok m → IsModule m
-  pub resolved : (d : Dialect) (text : List ℕ) (m : ModuleFields) → module_in d text ≡ Ok m → name_faults m ≡ []
+  pub resolved : (d : Dialect) (text : List ℕ) (m : ModuleFields) → module_in d text ≡ Ok m
+      → name_faults m ≡ []
   pub compiled_from : (d : Dialect) (text : List ℕ) (c : ComponentFields) → sourced d text ≡ Ok c
       → (m : ModuleFields) × (module_in d text ≡ Ok m) × (c ≡ compiled m)
 

@@ -229,7 +229,8 @@ command_why (asked.Debug l script) old new why h =
 command_why (asked.Audit name) old new why h =
     why_task (Some (asked.Audit name)) (audit_at name) _ old new why (audit_explains name old new) h
 command_why (asked.Erase word out) old new why h =
-    why_task (Some (asked.Erase word out)) (module_at 0 word) _ old new why (module_explains word out old new) h
+    why_task (Some (asked.Erase word out)) (module_at 0 word) _ old new why (module_explains word out old new)
+    h
 command_why (Generate seed) old new why h =
     load_why seed old new why (err_of (load_image (load_of seed)) _ old new why h)
 

@@ -75,7 +75,8 @@ use Rattle.file_plans.specs.declared.refusal.Refusal.TheVariants as refusal
 use Rattle.lcm_cli.specs.declared.status.Status.{Status}
 use Rattle.lcm_cli.specs.declared.status.Status.TheVariants.{Done, MachineFailed, StepsUsed, Usage, ReadFault}
 use Rattle.lcm_cli.specs.declared.status.Status.TheVariants.{WriteFault, NoMemory, TooLong, AsmRefused}
-use Rattle.lcm_cli.specs.declared.status.Status.TheVariants.{SourceRefused, FileRefused, RuleBroken, AuditRefused}
+use Rattle.lcm_cli.specs.declared.status.Status.TheVariants.{SourceRefused, FileRefused, RuleBroken}
+use Rattle.lcm_cli.specs.declared.status.Status.TheVariants.{AuditRefused}
 use Rattle.lcm_cli.specs.Refusals.{refusal_text, audit_text, image_status}
 use Rattle.file_plans.specs.Plans.{Plan, Reads, Ends, Made, each_at, Comes}
 use Rattle.component_linker.specs.Accepted.{accepted}
@@ -137,7 +138,8 @@ IsUnscripted plan old line new =
     (index : ℕ) × Holds plan old index new
     (λ text. (f : ScriptFault) × (scripted text ≡ Err f) × (line ≡ script_line f))
 
--- the text in the file of this index is no trace of a run, and this is what its first line that spoils it does
+-- the text in the file of this index is no trace of a run, and this is what its first line that spoils it
+-- does
 abbrev pub IsUnaudited : {A : Type 0} → Plan A → FilesSeen → AuditFault → FilesSeen → Type 0
 IsUnaudited plan old f new = (index : ℕ) × Holds plan old index new (λ text. HasFault text f)
 
@@ -358,9 +360,11 @@ LinkedCame (what.Image name) old parts size new =
     (bytes : List ℕ) × ComesWhole old name LONGEST_FILE bytes new
     × (image_of bytes ≡ Ok (record { stack = size; parts = parts }))
 
--- the words or the image made parts that keep the rules, and this is the start that they link to. Its calls are
+-- the words or the image made parts that keep the rules, and this is the start that they link to. Its calls
+-- are
 -- kept: each ret line closes the newest open call, whose range only its own return uses till then. And it has
--- the headline: the plain run agrees with the run of the start's overlay, its calls and returns are bracketed,
+-- the headline: the plain run agrees with the run of the start's overlay, its calls and returns are
+-- bracketed,
 -- and its frames are private.
 pub record Started (l : Linked) (old new : FilesSeen) : Type 0 where
   pub parts : List PartSeen

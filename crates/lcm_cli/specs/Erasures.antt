@@ -15,7 +15,8 @@ use Rattle.file_plans.specs.declared.TheConstants.{LONGEST_FILE}
 use Rattle.lcm_cli.specs.Commands.{plan_of}
 use Rattle.lcm_cli.specs.Answers.{Answer, IsWritten}
 
--- The second text is that of the module of the first one, a source with tokens, without its tokens. It is parsed,
+-- The second text is that of the module of the first one, a source with tokens, without its tokens. It is
+-- parsed,
 -- and both are short enough to be read.
 pub record IsErasure (text erasure : List ℕ) : Type 0 where
   pub m : ModuleFields

@@ -259,28 +259,29 @@ fn answer<F: Files, S: Sink>(
 
 /// All that the program does, with the words after its own name.
 ///
-/// `run`, with 1 to 16 parts `u:NAME` or `t:NAME` of names that end in `.stc`, `.asm`, `.prc` or `.tok`, reads
-/// the parts in their order, each with its form (a source is compiled) and the rules of its mark, links
-/// them with a stack of `--stack` words, runs the machine that they start for `--steps` steps or up to
-/// its end, and writes a line for each event and the end line. In place of parts it takes one image,
-/// `NAME.img`, checks and links its parts anew, and runs them so. Where all of that was written, `kept`
-/// holds the machine as the run left it; in every other case, and after any other action, it is as
-/// before. `trace` does the same with the overlay of that start, for as long as the weight of its steps
-/// is at most `--steps`. `reach` takes what `run` takes, and writes what each part of that start can read,
-/// write, run and seal by. `debug` takes them with the script of `--feed`, and writes the replies of a
-/// debugger to its commands. `link` reads and links parts as `run` does, puts their image under the name of
-/// `--out`, and then writes `ok`. `check` reads one part in the same way, `u:NAME` or, by the rules of
-/// trusted parts, `t:NAME`, and writes `ok`. `asm` reads one part, of either mark and a name in `.asm`,
-/// `compile` one of a name in `.prc` or `.tok`; both ask no rules, put its component's file under the name of
-/// `--out`, and then write `ok`. `dis` reads one part of either mark, asks no rules, and writes its
-/// text. `mean` reads 1 to 16 sources `t:NAME.prc` or `t:NAME.tok` and the feed of `--feed`, and writes what the sources
-/// mean under that feed with a stack of `--stack` words and `--steps` ticks of fuel: a line for each event,
-/// and the end line. `generate` makes a load from `--seed`, links it as `run` links parts, runs it for
-/// 10,000,000 instructions or up to its end, and writes its numbers, the word in a0 and how many calls
-/// `run` would tell of, or the end line where it didn't halt; `kept` is as after `run`. `audit` reads the
-/// text of `--feed`, and writes `ok` where it is a trace of a run in which calls and returns are bracketed;
-/// else it tells the first line that spoils it. `erase` reads a source `t:NAME.tok`, puts the text of what is
-/// left of it without its tokens under the name of `--out`, and then writes `ok`. Any other words write `usage`.
+/// `run`, with 1 to 16 parts `u:NAME` or `t:NAME` of names that end in `.stc`, `.asm`, `.prc` or
+/// `.tok`, reads the parts in their order, each with its form (a source is compiled) and the rules of
+/// its mark, links them with a stack of `--stack` words, runs the machine that they start for `--steps`
+/// steps or up to its end, and writes a line for each event and the end line. In place of parts it
+/// takes one image, `NAME.img`, checks and links its parts anew, and runs them so. Where all of that
+/// was written, `kept` holds the machine as the run left it; in every other case, and after any other
+/// action, it is as before. `trace` does the same with the overlay of that start, for as long as the
+/// weight of its steps is at most `--steps`. `reach` takes what `run` takes, and writes what each part
+/// of that start can read, write, run and seal by. `debug` takes them with the script of `--feed`, and
+/// writes the replies of a debugger to its commands. `link` reads and links parts as `run` does, puts
+/// their image under the name of `--out`, and then writes `ok`. `check` reads one part in the same way,
+/// `u:NAME` or, by the rules of trusted parts, `t:NAME`, and writes `ok`. `asm` reads one part, of
+/// either mark and a name in `.asm`, `compile` one of a name in `.prc` or `.tok`; both ask no rules,
+/// put its component's file under the name of `--out`, and then write `ok`. `dis` reads one part of
+/// either mark, asks no rules, and writes its text. `mean` reads 1 to 16 sources `t:NAME.prc` or
+/// `t:NAME.tok` and the feed of `--feed`, and writes what the sources mean under that feed with a stack
+/// of `--stack` words and `--steps` ticks of fuel: a line for each event, and the end line. `generate`
+/// makes a load from `--seed`, links it as `run` links parts, runs it for 10,000,000 instructions or up
+/// to its end, and writes its numbers, the word in a0 and how many calls `run` would tell of, or the
+/// end line where it didn't halt; `kept` is as after `run`. `audit` reads the text of `--feed`, and
+/// writes `ok` where it is a trace of a run in which calls and returns are bracketed; else it tells the
+/// first line that spoils it. `erase` reads a source `t:NAME.tok`, puts the text of what is left of it
+/// without its tokens under the name of `--out`, and then writes `ok`. Any other words write `usage`.
 pub fn stk_main<F: Files, S: Sink>(
     alloc: Global,
     words: &Vec<String>,
@@ -374,8 +375,8 @@ pub fn stk_main<F: Files, S: Sink>(
     ensures files_stay { StayAt (asked_in (texts words.now.items)) (F.seen files.old) result
         (F.seen files.new) }
 
-    // Where no put failed, the file of `--out` is as before or has the bytes of the component, the image or the
-    // module.
+    // Where no put failed, the file of `--out` is as before or has the bytes of the component, the image or
+    // the module.
     ensures put_whole { PutsWhole (asked_in (texts words.now.items)) (F.seen files.old) (F.seen files.new) }
 {
     the_headline();

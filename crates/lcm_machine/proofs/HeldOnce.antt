@@ -55,11 +55,14 @@ opened_content : (y : Word) (o : Opened) → opened_of y ≡ Some o → memory_o
 opened_content (Int n) o e = cc
 opened_content (Mem c) o e = cc
 opened_content (Seal t) o e = cc
-opened_content (SealedWord q (MemIn c)) o e = let k : record { seal = q; content = MemC c } ≡ o = cc in rw (← k) refl
-opened_content (SealedWord q (SealIn t)) o e = let k : record { seal = q; content = SealC t } ≡ o = cc in rw (← k) refl
+opened_content (SealedWord q (MemIn c)) o e = let k : record { seal = q; content = MemC c } ≡ o =
+    cc in rw (← k) refl
+opened_content (SealedWord q (SealIn t)) o e = let k : record { seal = q; content = SealC t } ≡ o =
+    cc in rw (← k) refl
 
 pub split_bounds : (c : CapFields) (z : ℤ) → can_split c z ≡ true → (c.base ≤ address z) × (address z < c.end)
-split_bounds c (pos n) e = let k = and_parts (nat_le c.base n) (nat_lt n c.end) e in (leb-true c.base n k.0, ltb-true n c.end k.1)
+split_bounds c (pos n) e = let k =
+    and_parts (nat_le c.base n) (nat_lt n c.end) e in (leb-true c.base n k.0, ltb-true n c.end k.1)
 split_bounds c (negsuc n) e = cc
 
 some_same : {A : Type 0} (a b : A) → Some a ≡ Some b → a ≡ b
@@ -67,9 +70,11 @@ some_same a b h = cc
 
 -- each capability of the one lies within that of the other, and is as linear
 abbrev pub Within : Word → Word → Type 0
-Within x y = (d : CapFields) → memory_of x ≡ Some d → (c : CapFields) × (memory_of y ≡ Some c) × (c.base ≤ d.base) × (c.base ≤ c.end → d.base ≤ d.end) × (d.end ≤ c.end) × (lin_is d.lin ≡ lin_is c.lin)
+Within x y = (d : CapFields) → memory_of x ≡ Some d → (c : CapFields) × (memory_of y ≡ Some c)
+    × (c.base ≤ d.base) × (c.base ≤ c.end → d.base ≤ d.end) × (d.end ≤ c.end) × (lin_is d.lin ≡ lin_is c.lin)
 
-module _ {W : Type 0} (look : W → Word) (plain : Word → W) (seen : (x : Word) → look (plain x) ≡ x) (rs : List Region) (regions : AreApart rs) where
+module _ {W : Type 0} (look : W → Word) (plain : Word → W) (seen : (x : Word) → look (plain x) ≡ x)
+    (rs : List Region) (regions : AreApart rs) where
   abbrev FitsIn : Word → Type 0
   FitsIn x = (c : CapFields) → memory_of x ≡ Some c → InOneRegion rs c
 
@@ -94,7 +99,8 @@ module _ {W : Type 0} (look : W → Word) (plain : Word → W) (seen : (x : Word
   over_at x c a e h = rw e at h
 
   over_some : (x : Word) (a : ℕ) → IsTrue (is_over (memory_of x) a) → (c : CapFields) × (memory_of x ≡ Some c)
-  over_some x a = elim (memory_of x) as (λ o. IsTrue (is_over o a) → (c : CapFields) × (o ≡ Some c)) [ None ↦ λ h. cc | Some c ↦ λ h. (c, refl) ]
+  over_some x a = elim (memory_of x) as (λ o. IsTrue (is_over o a) → (c : CapFields) × (o ≡ Some c))
+      [ None ↦ λ h. cc | Some c ↦ λ h. (c, refl) ]
 
   within_fits : (x y : Word) → Within x y → FitsIn y → FitsIn x
   within_fits x y l f d e =
@@ -117,7 +123,8 @@ module _ {W : Type 0} (look : W → Word) (plain : Word → W) (seen : (x : Word
     f,
     λ a h.
         let k = over_some x a h.1 in
-        normal_apart rs k.0 a regions (f k.0 k.1) (sym (linear_of x k.0 k.1) ∙ l) h.0 (over_at x k.0 a k.1 h.1),
+        normal_apart rs k.0 a regions (f k.0 k.1) (sym (linear_of x k.0 k.1) ∙ l)
+        h.0 (over_at x k.0 a k.1 h.1),
   )
 
   -- a word as it is made, of what the table made
@@ -133,7 +140,10 @@ module _ {W : Type 0} (look : W → Word) (plain : Word → W) (seen : (x : Word
   -- what hands do, at these words
   take : {s : State W} {hs : List W} (p : Place) → Good s hs
       → Good (clear look plain s p) (word_in plain s p ∷ hs)
-  take p i = take_hand Owns Safe look plain (safe_plain (Int (pos 0)) zero_free.0) (λ a o. zero_free.1 a (owns_plain (Int (pos 0)) a o)) (λ w f l a o. (free_normal (look w) f l).1 a o) p i
+  take p i =
+      take_hand Owns Safe look plain (safe_plain (Int (pos 0)) zero_free.0)
+      (λ a o. zero_free.1 a (owns_plain (Int (pos 0)) a o)) (λ w f l a o. (free_normal (look w) f l).1 a o)
+      p i
 
   give : {s : State W} {hs : List W} (p : Place) (w : W) → Good s (w ∷ hs) → Good (put s p w) hs
   give p w i = put_hand Owns Safe p w i
@@ -141,7 +151,8 @@ module _ {W : Type 0} (look : W → Word) (plain : Word → W) (seen : (x : Word
   -- a word that owns nothing goes to a place
   give_free : {s : State W} {hs : List W} (p : Place) (x : Word) → Free x → Good s hs
       → Good (put s p (plain x)) hs
-  give_free p x f i = give p (plain x) (made Owns Safe (plain x) (safe_plain x f.0) (λ a o. f.1 a (owns_plain x a o)) i)
+  give_free p x f i =
+      give p (plain x) (made Owns Safe (plain x) (safe_plain x f.0) (λ a o. f.1 a (owns_plain x a o)) i)
 
   word-put_at : (b : Bool) (s : State W) (d r : Reg) → R d ≢ R r
       → reg (if b then put s (R r) (zero_word plain) else s).regs d ≡ reg s.regs d
@@ -183,25 +194,43 @@ module _ {W : Type 0} (look : W → Word) (plain : Word → W) (seen : (x : Word
     keeps-in_place r x l =
         let w = reg s.regs r in
         let f = i.safe_places (R r) w refl in
-        give_free (R Pc) next next_free (replace_word Owns Safe (R r) w (plain x) refl (safe_plain x (within_fits x (look w) l f)) (λ a o. within_over x (look w) l a (owns_plain x a o)) i)
+        give_free (R Pc)
+        next next_free
+        (replace_word Owns Safe (R r) w (plain x) refl (safe_plain x (within_fits x (look w) l f))
+        (λ a o. within_over x (look w) l a (owns_plain x a o)) i)
 
     keeps-split : (r1 r2 r3 : Reg) (c : CapFields) (z : ℤ) → look (reg s.regs r3) ≡ Mem c
         → (c.base ≤ address z) × (address z < c.end)
-        → Keeps (record no_effect { spent = Some r3; first = made_at r1 (Mem (record c { end = address z })); second = made_at r2 (Mem (record c { base = address z + 1 })); next = Some next })
+        → Keeps (record no_effect {
+          spent = Some r3;
+          first = made_at r1 (Mem (record c { end = address z }));
+          second =
+              made_at r2 (Mem (record c { base = address z + 1 }));
+          next = Some next;
+        })
     unfolding perform
     keeps-split r1 r2 r3 c z e k =
         let w = reg s.regs r3 in
         let cut : CapFields = record c { end = address z } in
         let rest : CapFields = record c { base = address z + 1 } in
         let f = i.safe_places (R r3) w refl in
-        let low : Within (Mem cut) (look w) = λ d m. let same = some_same cut d m in rw (← same) (c, ap memory_of e, omega arith, λ h. k.0, omega (arith, k.1), refl) in
-        let high : Within (Mem rest) (look w) = λ d m. let same = some_same rest d m in rw (← same) (c, ap memory_of e, omega (arith, k.0), λ h. omega (arith, k.1), omega arith, refl) in
+        let low : Within (Mem cut) (look w) = λ d m. let same =
+        some_same cut d m in rw (← same)
+        (c, ap memory_of e, omega arith, λ h. k.0, omega (arith, k.1), refl) in
+        let high : Within (Mem rest) (look w) = λ d m. let same =
+        some_same rest d m in rw (← same)
+        (c, ap memory_of e, omega (arith, k.0), λ h. omega (arith, k.1), omega arith, refl) in
         let apart : Disjoint Owns (plain (Mem cut)) (plain (Mem rest)) = λ a o p.
         let h = over_bounds cut a (owns_plain (Mem cut) a o).1 in
         let g = over_bounds rest a (owns_plain (Mem rest) a p).1 in omega (arith, h.1, g.0) in
-        give_free (R Pc) next next_free (give (R r2) _ (give (R r1) _ (split_hand Owns Safe w (plain (Mem cut)) (plain (Mem rest))
-        (safe_plain (Mem cut) (within_fits (Mem cut) (look w) low f)) (safe_plain (Mem rest) (within_fits (Mem rest) (look w) high f))
-        (λ a o. within_over (Mem cut) (look w) low a (owns_plain (Mem cut) a o)) (λ a o. within_over (Mem rest) (look w) high a (owns_plain (Mem rest) a o)) apart (take (R r3) i))))
+        give_free (R Pc)
+        next next_free
+        (give (R r2) _ (give (R r1) _ (split_hand Owns Safe w (plain (Mem cut)) (plain (Mem rest))
+        (safe_plain (Mem cut) (within_fits (Mem cut) (look w) low f))
+        (safe_plain (Mem rest) (within_fits (Mem rest) (look w) high f))
+        (λ a o. within_over (Mem cut) (look w) low a (owns_plain (Mem cut) a o))
+        (λ a o. within_over (Mem rest) (look w) high a (owns_plain (Mem rest) a o))
+        apart (take (R r3) i))))
 
     -- a range that isn't empty is not adjacent to itself
     two_registers : (r2 r3 : Reg) (a b : CapFields) → look (reg s.regs r2) ≡ Mem a
@@ -216,7 +245,13 @@ module _ {W : Type 0} (look : W → Word) (plain : Word → W) (seen : (x : Word
 
     keeps-splice : (r1 r2 r3 : Reg) (a b : CapFields) → look (reg s.regs r2) ≡ Mem a
         → look (reg s.regs r3) ≡ Mem b → a.end + 1 ≡ b.base
-        → Keeps (record no_effect { spent = Some r2; also_spent = Some r3; first = made_at r1 (Mem (record b { base = a.base })); next = Some next })
+        → Keeps (record no_effect {
+          spent = Some r2;
+          also_spent = Some r3;
+          first =
+              made_at r1 (Mem (record b { base = a.base }));
+          next = Some next;
+        })
     unfolding perform
     keeps-splice r1 r2 r3 a b ea eb meet =
         let u = reg s.regs r2 in
@@ -224,7 +259,10 @@ module _ {W : Type 0} (look : W → Word) (plain : Word → W) (seen : (x : Word
         let j = take (R r3) (take (R r2) i) in
         let v = reg (clear look plain s (R r2)).regs r3 in
         let ev : look v ≡ Mem b = ap look (word-clear s r3 r2 (two_registers r2 r3 a b ea eb meet)) ∙ eb in
-        let fits : FitsIn (Mem both) = λ d m. rw (← some_same both d m) (joined_in rs a b regions (i.safe_places (R r2) u refl a (ap memory_of ea)) (i.safe_places (R r3) (reg s.regs r3) refl b (ap memory_of eb)) meet) in
+        let fits : FitsIn (Mem both) =
+        λ d m. rw (← some_same both d m)
+        (joined_in rs a b regions (i.safe_places (R r2) u refl a (ap memory_of ea))
+        (i.safe_places (R r3) (reg s.regs r3) refl b (ap memory_of eb)) meet) in
         let parts : (x : ℕ) → Owns (plain (Mem both)) x → Owns v x ⊎ Owns u x = λ x o.
         let h = owns_plain (Mem both) x o in
         let k = over_bounds both x h.1 in
@@ -232,7 +270,10 @@ module _ {W : Type 0} (look : W → Word) (plain : Word → W) (seen : (x : Word
           | inl below ↦ inr (h.0, rw ea (bounds_over a x k.0 (omega (arith, below, meet))))
           | inr above ↦ inl (h.0, rw ev (bounds_over b x above k.1))
         ] in
-        give_free (R Pc) next next_free (give (R r1) _ (splice_hands Owns Safe v u (plain (Mem both)) (safe_plain (Mem both) fits) parts j))
+        give_free (R Pc)
+        next next_free
+        (give (R r1)
+        _ (splice_hands Owns Safe v u (plain (Mem both)) (safe_plain (Mem both) fits) parts j))
 
     -- the code half is normal, so its content owns nothing; the data half goes from its register to the data
     -- register
@@ -242,7 +283,10 @@ module _ {W : Type 0} (look : W → Word) (plain : Word → W) (seen : (x : Word
     keeps-xjmp r2 c x free l =
         let w = reg s.regs r2 in
         let f = i.safe_places (R r2) w refl in
-        give (R Dat) (plain x) (give_free (R Pc) (Mem c) free (shrink Owns Safe w (plain x) (safe_plain x (within_fits x (look w) l f)) (λ a o. within_over x (look w) l a (owns_plain x a o)) (take (R r2) i)))
+        give (R Dat) (plain x)
+        (give_free (R Pc) (Mem c)
+        free (shrink Owns Safe w (plain x) (safe_plain x (within_fits x (look w) l f))
+        (λ a o. within_over x (look w) l a (owns_plain x a o)) (take (R r2) i)))
 
     memory_look : (r : Reg) (c : CapFields) → memory_in (faces look s r) ≡ Some c
         → look (reg s.regs r) ≡ Mem c
@@ -255,7 +299,15 @@ module _ {W : Type 0} (look : W → Word) (plain : Word → W) (seen : (x : Word
         → Within x (look (reg s.regs r))
     same_range r c d x m e eb ee el = λ q h.
         let same : d ≡ q = some_same d q (sym e ∙ h) in
-        rw (← same) (c, ap memory_of (memory_look r c m), omega (arith, eb), λ o. omega (arith, eb, ee, o), omega (arith, ee), el)
+        rw (← same) (
+          c,
+          ap memory_of (memory_look r c m),
+          omega (arith, eb),
+          λ o.
+              omega (arith, eb, ee, o),
+          omega (arith, ee),
+          el,
+        )
 
     keeps-changed : (r : Reg) (c d : CapFields) → memory_in (faces look s r) ≡ Some c → d.base ≡ c.base
         → d.end ≡ c.end → lin_is d.lin ≡ lin_is c.lin
@@ -274,15 +326,19 @@ module _ {W : Type 0} (look : W → Word) (plain : Word → W) (seen : (x : Word
     code_free : (r : Reg) (o : Opened) (c : CapFields) → opens look s r ≡ Some o
         → memory_content o.content ≡ Some c → not (lin_is c.lin) ≡ true → Free (Mem c)
     code_free r o c e m l =
-        let k : memory_of (look (reg s.regs r)) ≡ Some c = sym (opened_same r o e) ∙ ap memory_of (content_is o.content c m) in
-        free_normal (Mem c) (λ d h. rw (← some_same c d h) (i.safe_places (R r) (reg s.regs r) refl c k)) (not-true (lin_is c.lin) l)
+        let k : memory_of (look (reg s.regs r)) ≡ Some c =
+        sym (opened_same r o e) ∙ ap memory_of (content_is o.content c m) in
+        free_normal (Mem c) (λ d h. rw (← some_same c d h) (i.safe_places (R r) (reg s.regs r) refl c k))
+        (not-true (lin_is c.lin) l)
 
     pub plan-Keeps : (n : Instr) (there : Option Face)
         → Gives Keeps (plan n (faces look s) (opens look s) there next)
     plan-Keeps Fail there = gives_fails
     plan-Keeps Halt there = gives_halts
     plan-Keeps (Jmp r1) there = gives_goes (keeps-jumps (R r1) (R Pc))
-    plan-Keeps (Jnz r1 r2) there = Gives-need _ _ _ (λ z e. Gives-if _ _ _ (gives_goes keeps-goes_on) (gives_goes (keeps-jumps (R r1) (R Pc))))
+    plan-Keeps (Jnz r1 r2) there =
+        Gives-need _ _ _
+        (λ z e. Gives-if _ _ _ (gives_goes keeps-goes_on) (gives_goes (keeps-jumps (R r1) (R Pc))))
     plan-Keeps (Gettype r1 r2) there = Gives-ask _ _ _ (λ _. gives_goes (keeps-makes r1 (Int _) refl))
     plan-Keeps (Geta r1 r2) there = Gives-ask _ _ _ (λ _. gives_goes (keeps-makes r1 (Int _) refl))
     plan-Keeps (Getb r1 r2) there = Gives-ask _ _ _ (λ _. gives_goes (keeps-makes r1 (Int _) refl))
@@ -293,30 +349,62 @@ module _ {W : Type 0} (look : W → Word) (plain : Word → W) (seen : (x : Word
     plan-Keeps (Move r1 (Imm z)) there = Gives-ask _ _ _ (λ _. gives_goes (keeps-makes r1 (Int z) refl))
     plan-Keeps (Store r1 r2) there = Gives-need _ _ _ (λ c m. Gives-ask _ _ _ (λ _. Gives-need _ _ _ (λ x h.
         gives_goes (keeps-moves (R r2) (Cell (address c.addr))))))
-    plan-Keeps (Load r1 r2) there = Gives-ask _ _ _ (λ _. Gives-need _ _ _ (λ c m. Gives-ask _ _ _ (λ _. Gives-need _ _ _ (λ x h. Gives-ask _ _ _ (λ _.
+    plan-Keeps (Load r1 r2) there =
+        Gives-ask _ _ _
+        (λ _. Gives-need _ _ _ (λ c m. Gives-ask _ _ _ (λ _. Gives-need _ _ _ (λ x h. Gives-ask _ _ _ (λ _.
         gives_goes (keeps-moves (Cell (address c.addr)) (R r1)))))))
     plan-Keeps (Cca r1 n) there = Gives-ask _ _ _ (λ _. Gives-by_cap (faces look s r1) _ _
         (λ c e. Gives-need _ _ _ (λ z _. Gives-ask _ _ _ (λ _.
         gives_goes (keeps-changed r1 c (record c { addr = c.addr +ℤ z }) (ap memory_in e) refl refl refl))))
-        (λ c e. Gives-need _ _ _ (λ z _. Gives-ask _ _ _ (λ _. gives_goes (keeps-makes r1 (Seal (record c { cur = c.cur +ℤ z })) refl)))))
-    plan-Keeps (Restrict r1 n) there = Gives-ask _ _ _ (λ _. Gives-need _ _ _ (λ c m. Gives-need _ _ _ (λ z _. Gives-need _ _ _ (λ q _. Gives-ask _ _ _ (λ _.
+        (λ c e. Gives-need _ _ _
+        (λ z _. Gives-ask _ _ _
+        (λ _. gives_goes (keeps-makes r1 (Seal (record c { cur = c.cur +ℤ z })) refl)))))
+    plan-Keeps (Restrict r1 n) there =
+        Gives-ask _ _ _
+        (λ _. Gives-need _ _ _ (λ c m. Gives-need _ _ _ (λ z _. Gives-need _ _ _ (λ q _. Gives-ask _ _ _ (λ _.
         gives_goes (keeps-changed r1 c (record c { perm = q }) m refl refl refl))))))
-    plan-Keeps (Lt r1 r2 n) there = Gives-ask _ _ _ (λ _. Gives-need _ _ _ (λ x e. Gives-need _ _ _ (λ z _. gives_goes (keeps-makes r1 (Int _) refl))))
-    plan-Keeps (Plus r1 r2 n) there = Gives-ask _ _ _ (λ _. Gives-need _ _ _ (λ x e. Gives-need _ _ _ (λ z _. Gives-ask _ _ _ (λ _. gives_goes (keeps-makes r1 (Int (x +ℤ z)) refl)))))
-    plan-Keeps (Minus r1 r2 n) there = Gives-ask _ _ _ (λ _. Gives-need _ _ _ (λ x e. Gives-need _ _ _ (λ z _. Gives-ask _ _ _ (λ _. gives_goes (keeps-makes r1 (Int (x -ℤ z)) refl)))))
+    plan-Keeps (Lt r1 r2 n) there =
+        Gives-ask _ _ _
+        (λ _. Gives-need _ _ _ (λ x e. Gives-need _ _ _ (λ z _. gives_goes (keeps-makes r1 (Int _) refl))))
+    plan-Keeps (Plus r1 r2 n) there =
+        Gives-ask _ _ _
+        (λ _. Gives-need _ _ _
+        (λ x e. Gives-need _ _ _
+        (λ z _. Gives-ask _ _ _ (λ _. gives_goes (keeps-makes r1 (Int (x +ℤ z)) refl)))))
+    plan-Keeps (Minus r1 r2 n) there =
+        Gives-ask _ _ _
+        (λ _. Gives-need _ _ _
+        (λ x e. Gives-need _ _ _
+        (λ z _. Gives-ask _ _ _ (λ _. gives_goes (keeps-makes r1 (Int (x -ℤ z)) refl)))))
     plan-Keeps (Seta2b r1) there = Gives-ask _ _ _ (λ _. Gives-by_cap (faces look s r1) _ _
-        (λ c e. gives_goes (keeps-changed r1 c (record c { addr = pos c.base }) (ap memory_in e) refl refl refl))
+        (λ c e. gives_goes
+        (keeps-changed r1 c (record c { addr = pos c.base }) (ap memory_in e) refl refl refl))
         (λ c e. gives_goes (keeps-makes r1 (Seal (record c { cur = pos c.base })) refl)))
-    plan-Keeps (Xjmp r1 r2) there = Gives-need _ _ _ (λ a ea. Gives-need _ _ _ (λ b eb. Gives-ask _ _ _ (λ _. Gives-need _ _ _ (λ c m. Gives-ask _ _ _ (λ l. Gives-ask _ _ _ (λ _. Gives-ask _ _ _ (λ _.
-        gives_goes (keeps-xjmp r2 c (unsealed b.content) (code_free r1 a c ea m l) (opened_within r2 b eb)))))))))
+    plan-Keeps (Xjmp r1 r2) there =
+        Gives-need _ _ _
+        (λ a ea. Gives-need _ _ _
+        (λ b eb. Gives-ask _ _ _
+        (λ _. Gives-need _ _ _ (λ c m. Gives-ask _ _ _ (λ l. Gives-ask _ _ _ (λ _. Gives-ask _ _ _ (λ _.
+        gives_goes
+        (keeps-xjmp r2 c (unsealed b.content) (code_free r1 a c ea m l) (opened_within r2 b eb)))))))))
     plan-Keeps (Cseal r1 r2) there = Gives-ask _ _ _ (λ _. Gives-by_cap (faces look s r1) _ _
         (λ c e. Gives-need _ _ _ (λ q _. Gives-ask _ _ _ (λ _.
-        gives_goes (keeps-in_place r1 (SealedWord (address q.cur) (MemIn c)) (same_range r1 c c (SealedWord (address q.cur) (MemIn c)) (ap memory_in e) refl refl refl refl)))))
-        (λ c e. Gives-need _ _ _ (λ q _. Gives-ask _ _ _ (λ _. gives_goes (keeps-makes r1 (SealedWord (address q.cur) (SealIn c)) refl)))))
-    plan-Keeps (Split r1 r2 r3 n) there = Gives-ask _ _ _ (λ _. Gives-ask _ _ _ (λ _. Gives-need _ _ _ (λ c m. Gives-need _ _ _ (λ z _. Gives-ask _ _ _ (λ b.
+        gives_goes
+        (keeps-in_place r1 (SealedWord (address q.cur) (MemIn c))
+        (same_range r1 c c (SealedWord (address q.cur) (MemIn c)) (ap memory_in e)
+        refl refl refl refl)))))
+        (λ c e. Gives-need _ _ _
+        (λ q _. Gives-ask _ _ _
+        (λ _. gives_goes (keeps-makes r1 (SealedWord (address q.cur) (SealIn c)) refl)))))
+    plan-Keeps (Split r1 r2 r3 n) there =
+        Gives-ask _ _ _
+        (λ _. Gives-ask _ _ _ (λ _. Gives-need _ _ _ (λ c m. Gives-need _ _ _ (λ z _. Gives-ask _ _ _ (λ b.
         gives_goes (keeps-split r1 r2 r3 c z (memory_look r3 c m) (split_bounds c z b)))))))
-    plan-Keeps (Splice r1 r2 r3) there = Gives-ask _ _ _ (λ _. Gives-need _ _ _ (λ a ma. Gives-need _ _ _ (λ b mb. Gives-ask _ _ _ (λ q.
-        gives_goes (keeps-splice r1 r2 r3 a b (memory_look r2 a ma) (memory_look r3 b mb) (eqb-true _ _ (and_parts (same_kind a b) _ q).1))))))
+    plan-Keeps (Splice r1 r2 r3) there =
+        Gives-ask _ _ _ (λ _. Gives-need _ _ _ (λ a ma. Gives-need _ _ _ (λ b mb. Gives-ask _ _ _ (λ q.
+        gives_goes
+        (keeps-splice r1 r2 r3 a b (memory_look r2 a ma) (memory_look r3 b mb)
+        (eqb-true _ _ (and_parts (same_kind a b) _ q).1))))))
 
   -- an outcome keeps the invariant
   abbrev KeepsOutcome : Outcome W → Type 0
@@ -331,7 +419,10 @@ module _ {W : Type 0} (look : W → Word) (plain : Word → W) (seen : (x : Word
   -- pc's word at the next address is normal
   next_free : (s : State W) → Good s [] → (c : CapFields) → look (reg s.regs Pc) ≡ Mem c
       → lin_is c.lin ≡ false → Free (Mem (record c { addr = c.addr +ℤ pos 1 }))
-  next_free s i c e l = free_normal (Mem (record c { addr = c.addr +ℤ pos 1 })) (λ d h. rw (← some_same (record c { addr = c.addr +ℤ pos 1 }) d h) (i.safe_places (R Pc) (reg s.regs Pc) refl c (ap memory_of e))) l
+  next_free s i c e l =
+      free_normal (Mem (record c { addr = c.addr +ℤ pos 1 }))
+      (λ d h. rw (← some_same (record c { addr = c.addr +ℤ pos 1 }) d h)
+      (i.safe_places (R Pc) (reg s.regs Pc) refl c (ap memory_of e))) l
 
   keeps-fetched : (s : State W) → Good s [] → (f : Fetched)
       → ((n : Instr) (next : Word) → f ≡ some n next → Free next) → KeepsOutcome (step_fetched look plain s f)
@@ -357,13 +448,18 @@ module _ {W : Type 0} (look : W → Word) (plain : Word → W) (seen : (x : Word
   good_of s h = record {
     safe_places = h.0;
     safe_hands = tt;
-    one_place = λ p q a x y. let k = owns_over (word_at s p) a x in h.1 a k.0 p q k.1 (owns_over (word_at s q) a y).1;
+    one_place = λ p q a x y. let k =
+        owns_over (word_at s p) a x in h.1 a k.0 p q k.1 (owns_over (word_at s q) a y).1;
     hands_apart = tt;
     hands_free = tt;
   }
 
   held_of : (s : State W) → Good s [] → HeldOnce look rs s
-  held_of s i = (i.safe_places, λ a l p q x y. i.one_place p q a (over_owns (word_at s p) a l x) (over_owns (word_at s q) a l y))
+  held_of s i = (
+    i.safe_places,
+    λ a l p q x y. i.one_place p q a (over_owns (word_at s p) a l x)
+        (over_owns (word_at s q) a l y),
+  )
 
   -- what a step ends in
   abbrev pub HeldAfter : Outcome W → Type 0
@@ -388,7 +484,8 @@ module _ {W : Type 0} (look : W → Word) (plain : Word → W) (seen : (x : Word
   pub step_stays : (s t : State W) (end : Step) → Meets s (step_of look plain s) end t
       → StaysHeldOnce look s t
   unfolding StaysHeldOnce
-  step_stays s t end m rs regions h = stays_by rs regions s t end (step_of look plain s) (held-step look plain seen rs regions s h) h m
+  step_stays s t end m rs regions h =
+      stays_by rs regions s t end (step_of look plain s) (held-step look plain seen rs regions s h) h m
 
   pub row_stays : (s t : State W) (n : Instr) (next : Word) (end : Step)
       → fetch (faces look s Pc) (cell_faces look s) ≡ some n next → Meets s (row look plain n next s) end t
@@ -399,7 +496,9 @@ module _ {W : Type 0} (look : W → Word) (plain : Word → W) (seen : (x : Word
   pub run_stays : (n : ℕ) (s t : State W) → run_of look plain n s ≡ went t → StaysHeldOnce look s t
   unfolding run_of StaysHeldOnce
   run_stays zero s t e rs regions h = let same : s ≡ t = cc in subst (HeldOnce look rs) same h
-  run_stays (suc n) s t e rs regions h = by_step (step_of look plain s) (held-step look plain seen rs regions s h) e (λ u g f. run_stays n u t f rs regions g)
+  run_stays (suc n) s t e rs regions h =
+      by_step (step_of look plain s) (held-step look plain seen rs regions s h)
+      e (λ u g f. run_stays n u t f rs regions g)
     where
       by_step : (o : Outcome W) → HeldAfter look plain seen rs regions o
           → and_then o (run_of look plain n) ≡ went t
@@ -423,7 +522,9 @@ moved_stays rs regions s (failed f at) k h = h
 
 next_stays : (rs : List Region) (regions : AreApart rs) (s : Run) (e : Option End)
     → HeldOnce (λ w. w) rs s.maps → HeldOnce (λ w. w) rs (next_by e s).maps
-next_stays rs regions s None h = moved_stays rs regions s (step_of (λ w. w) (λ w. w) s.maps) (held-step (λ w. w) (λ w. w) (λ x. refl) rs regions s.maps h) h
+next_stays rs regions s None h =
+    moved_stays rs regions s (step_of (λ w. w) (λ w. w) s.maps)
+    (held-step (λ w. w) (λ w. w) (λ x. refl) rs regions s.maps h) h
 next_stays rs regions s (Some e) h = h
 
 pub next_state_stays : (s : Run) → StaysHeldOnce (λ w. w) s.maps (next_state s).maps
@@ -434,4 +535,5 @@ next_state_stays s rs regions h = next_stays rs regions s s.end h
 pub plain_stays : (n : ℕ) (s : Run) → StaysHeldOnce (λ w. w) s.maps (plain_run n s).maps
 unfolding StaysHeldOnce
 plain_stays zero s rs regions h = h
-plain_stays (suc n) s rs regions h = next_state_stays (plain_run n s) rs regions (plain_stays n s rs regions h)
+plain_stays (suc n) s rs regions h =
+    next_state_stays (plain_run n s) rs regions (plain_stays n s rs regions h)

@@ -70,7 +70,10 @@ target_there_at : (c : CapFields) (cells : ℕ → Option Face) (x : Face)
     → face_there cells (target_of (Memory c)) ≡ Some x
     → (target_of (Memory c) ≡ Some (address c.addr)) × IsSome (cells (address c.addr))
 target_there_at c cells x =
-    elim (covers c c.addr) as (λ b. face_there cells (if b then Some (address c.addr) else None) ≡ Some x → ((if b then Some (address c.addr) else None) ≡ Some (address c.addr)) × IsSome (cells (address c.addr))) [ true ↦ λ e. (refl, ap is_some e) | false ↦ λ e. cc ]
+    elim (covers c c.addr)
+    as (λ b. face_there cells (if b then Some (address c.addr) else None) ≡ Some x
+    → ((if b then Some (address c.addr) else None) ≡ Some (address c.addr))
+    × IsSome (cells (address c.addr))) [ true ↦ λ e. (refl, ap is_some e) | false ↦ λ e. cc ]
 
 -- what a load or store addresses, where something is there
 target_there : (y : Face) (c : CapFields) → memory_in y ≡ Some c → (cells : ℕ → Option Face) (x : Face)
@@ -78,7 +81,8 @@ target_there : (y : Face) (c : CapFields) → memory_in y ≡ Some c → (cells 
     → (target_of y ≡ Some (address c.addr)) × IsSome (cells (address c.addr))
 target_there y c m cells x h =
     let e : y ≡ Memory c = memory_is y c m in
-    let k = target_there_at c cells x (ap (λ z. face_there cells (target_of z)) (sym e) ∙ h) in (ap target_of e ∙ k.0, k.1)
+    let k = target_there_at c cells x (ap (λ z. face_there cells (target_of z)) (sym e) ∙ h) in
+    (ap target_of e ∙ k.0, k.1)
 
 -- and that the instruction reaches it
 reached_there : (may : Perm → Bool) (y : Face) (c : CapFields) → memory_in y ≡ Some c → may c.perm ≡ true
@@ -86,9 +90,11 @@ reached_there : (may : Perm → Bool) (y : Face) (c : CapFields) → memory_in y
     → reached may y cells ≡ Some (address c.addr)
 reached_there may y c m allowed cells x h =
     let e : y ≡ Memory c = memory_is y c m in
-    let k : face_there cells (target_of (Memory c)) ≡ Some x = ap (λ z. face_there cells (target_of z)) (sym e) ∙ h in
+    let k : face_there cells (target_of (Memory c)) ≡ Some x =
+    ap (λ z. face_there cells (target_of z)) (sym e) ∙ h in
     ap (λ z. reached may z cells) e
-    ∙ ap (λ b. if b && is_some (face_there cells (target_of (Memory c))) then target_of (Memory c) else None) allowed
+    ∙ ap (λ b. if b && is_some (face_there cells (target_of (Memory c))) then target_of (Memory c) else None)
+    allowed
     ∙ ap (λ o. if is_some o then target_of (Memory c) else None) k
     ∙ (target_there_at c cells x k).0
 
@@ -114,12 +120,15 @@ module _ (f : Reg → Face) (w : Reg → Option Opened) (cells : ℕ → Option 
 
   pub load_cell : (r : Reg) → not (is_pc r) ≡ true → (y : Face) (c : CapFields) → memory_in y ≡ Some c
       → may_read c.perm ≡ true → (x : Face) → face_there cells (target_of y) ≡ Some x
-      → ShapePlace (target_of y) (if is_pc r then None else reached may_read y cells) cells (Cell (address c.addr))
+      → ShapePlace (target_of y) (if is_pc r then None else reached may_read y cells)
+      cells (Cell (address c.addr))
   load_cell r free y c m allowed x h =
-      let k = shape_cell may_read y c m allowed x h in (k.0, k.1, ap (λ b. if b then None else reached may_read y cells) (not-true (is_pc r) free) ∙ k.2)
+      let k = shape_cell may_read y c m allowed x h in
+      (k.0, k.1, ap (λ b. if b then None else reached may_read y cells) (not-true (is_pc r) free) ∙ k.2)
 
   pub plan-Shape : (i : Instr)
-      → Gives (Shape (target i f) (cell_used i f cells) cells) (plan i f w (face_there cells (target i f)) next)
+      → Gives (Shape (target i f) (cell_used i f cells) cells)
+      (plan i f w (face_there cells (target i f)) next)
   plan-Shape Fail = gives_fails
   plan-Shape Halt = gives_halts
   plan-Shape (Jmp r1) = gives_goes (tt, tt)
@@ -130,11 +139,13 @@ module _ (f : Reg → Face) (w : Reg → Option Opened) (cells : ℕ → Option 
   plan-Shape (Getb r1 r2) = Gives-ask _ _ _ (λ _. gives_goes tt)
   plan-Shape (Gete r1 r2) = Gives-ask _ _ _ (λ _. gives_goes tt)
   plan-Shape (Getp r1 r2) = Gives-ask _ _ _ (λ _. gives_goes tt)
-  plan-Shape (Restrict r1 n) = Gives-ask _ _ _ (λ _. Gives-need _ _ _ (λ c m. Gives-need _ _ _ (λ z _. Gives-need _ _ _ (λ q _.
+  plan-Shape (Restrict r1 n) =
+      Gives-ask _ _ _ (λ _. Gives-need _ _ _ (λ c m. Gives-need _ _ _ (λ z _. Gives-need _ _ _ (λ q _.
       Gives-ask _ _ _ (λ _. gives_goes tt)))))
   plan-Shape (Minus r1 r2 n) = Gives-ask _ _ _ (λ _. Gives-need _ _ _ (λ x e. Gives-need _ _ _ (λ z _.
       Gives-ask _ _ _ (λ _. gives_goes tt))))
-  plan-Shape (Seta2b r1) = Gives-ask _ _ _ (λ _. Gives-by_cap (f r1) _ _ (λ c e. gives_goes tt) (λ c e. gives_goes tt))
+  plan-Shape (Seta2b r1) =
+      Gives-ask _ _ _ (λ _. Gives-by_cap (f r1) _ _ (λ c e. gives_goes tt) (λ c e. gives_goes tt))
   plan-Shape (Cseal r1 r2) = Gives-ask _ _ _ (λ _. Gives-by_cap (f r1) _ _
       (λ c e. Gives-need _ _ _ (λ q _. Gives-ask _ _ _ (λ _. gives_goes tt)))
       (λ c e. Gives-need _ _ _ (λ q _. Gives-ask _ _ _ (λ _. gives_goes tt))))

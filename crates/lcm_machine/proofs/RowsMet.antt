@@ -15,11 +15,14 @@ use Rattle.lcm_machine.proofs.RowLemmas.{plan_fits}
 
 module _ {W : Type 0} (look : W → Word) (plain : Word → W) (s : State W) where
   -- a row's answer that is its plan: the places of its move are there
-  pub planned_fits : (i : Instr) (next : Word) (a : Result Effect FailCause) → planned a ≡ plan_in look s i next → (e : Effect) → planned a ≡ Goes e → MoveFits s e.moved
+  pub planned_fits : (i : Instr) (next : Word) (a : Result Effect FailCause)
+      → planned a ≡ plan_in look s i next → (e : Effect) → planned a ≡ Goes e → MoveFits s e.moved
   planned_fits i next a is e h = plan_fits look plain s i next e (sym is ∙ h)
 
   -- and it is carried out as the row
-  pub planned_meets : (i j : Instr) (next : Word) (a : Result Effect FailCause) (step : Step) (t : State W) → j ≡ i → planned a ≡ plan_in look s i next → Meets s (outcome look plain s (planned a)) step t → Meets s (row look plain j next s) step t
+  pub planned_meets : (i j : Instr) (next : Word) (a : Result Effect FailCause) (step : Step) (t : State W)
+      → j ≡ i → planned a ≡ plan_in look s i next → Meets s (outcome look plain s (planned a)) step t
+      → Meets s (row look plain j next s) step t
   unfolding row
   planned_meets i j next a step t same is h = rw same (rw is at h)
 

@@ -138,7 +138,8 @@ is_none (Some x) h = absurd (cc)
 -- one step more
 moved_ends : (n : ℕ) (t : State Word) (o : Outcome Word)
     → EndsAs (suc n) o (moved o (record { maps = t; count = n; end = None }))
-moved_ends n t (went u) = let e : n + 1 ≡ suc n = omega arith in ap (λ k. record { maps = u; count = k; end = None }) e
+moved_ends n t (went u) = let e : n + 1 ≡ suc n =
+    omega arith in ap (λ k. record { maps = u; count = k; end = None }) e
 moved_ends n t halted = refl
 moved_ends n t (failed c at) = refl
 
@@ -162,5 +163,7 @@ unfolding run_of
 plain_ends zero s = refl
 plain_ends (suc n) s =
     let e : n + 1 ≡ suc n = omega arith in
-    let q : run_of (λ w. w) (λ w. w) (suc n) s ≡ and_then (run_of (λ w. w) (λ w. w) n s) (run_of (λ w. w) (λ w. w) 1) = ap (λ k. run_of (λ w. w) (λ w. w) k s) (sym e) ∙ run_of-add (λ w. w) (λ w. w) n 1 s in
+    let q : run_of (λ w. w) (λ w. w) (suc n) s ≡ and_then (run_of (λ w. w) (λ w. w) n s)
+    (run_of (λ w. w) (λ w. w) 1) =
+    ap (λ k. run_of (λ w. w) (λ w. w) k s) (sym e) ∙ run_of-add (λ w. w) (λ w. w) n 1 s in
     rw q (ends_next n (run_of (λ w. w) (λ w. w) n s) (plain n (fresh s)) (plain_ends n s))

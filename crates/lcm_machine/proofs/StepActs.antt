@@ -291,4 +291,5 @@ module _ {W : Type 0} (look : W → Word) (plain : Word → W) (s : State W) whe
 
   pub writes_where_it_may : WritesWhereItMay look plain s
   writes_where_it_may t a e never =
-      changes_no_other t a e (λ l. never (does_as_it_may.stores a l)) (λ l. never (does_as_it_may.empties a l))
+      changes_no_other t a e (λ l. never (does_as_it_may.stores a l))
+      (λ l. never (does_as_it_may.empties a l))

@@ -14,9 +14,13 @@ use Rattle.lcm_machine.proofs.Goes.{fetch_at}
 
 module _ {W : Type 0} (look : W → Word) (plain : Word → W) where
   -- the step at an instruction is its row
-  pub step_row : (s : State W) (base last at : ℕ) (i : Instr) → look s.regs.pc ≡ Mem (code_cap base last at) → base ≤ at → at ≤ last → look_face look (cell s.cells at) ≡ Some (Number (pos (number_of i))) → IsInstr i
+  pub step_row : (s : State W) (base last at : ℕ) (i : Instr) → look s.regs.pc ≡ Mem (code_cap base last at)
+      → base ≤ at → at ≤ last → look_face look (cell s.cells at) ≡ Some (Number (pos (number_of i)))
+      → IsInstr i
       → step_of look plain s ≡ row look plain i (Mem (code_cap base last (at + 1))) s
-  step_row s base last at i e low high h ok = step_at look plain s i (Mem (code_cap base last (at + 1))) (fetch_at look plain s base last at i e low high h ok)
+  step_row s base last at i e low high h ok =
+      step_at look plain s i (Mem (code_cap base last (at + 1)))
+      (fetch_at look plain s base last at i e low high h ok)
 
   then_ran : (r : Outcome W) → and_then r went ≡ r
   then_ran (went s) = refl

@@ -65,31 +65,45 @@ pub cell-without_in : {W : Type 0} (m : FinMap nat_cmp W) (a e q : ℕ) → a �
     → cell (without m a e) q ≡ None
 unfolding without cell
 cell-without_in m a e q low high =
-    map.get-retain_keys m (λ k. not (nat_le a k && nat_le k e)) q (λ x h. ap (λ k. not (nat_le a k && nat_le k e)) (sym (tied_same q x h)))
+    map.get-retain_keys m (λ k. not (nat_le a k && nat_le k e))
+    q (λ x h. ap (λ k. not (nat_le a k && nat_le k e)) (sym (tied_same q x h)))
     ∙ rw (le-leb a q low, le-leb q e high) refl
 
 pub cell-without_out : {W : Type 0} (m : FinMap nat_cmp W) (a e q : ℕ) → (q < a) ⊎ (e < q)
     → cell (without m a e) q ≡ cell m q
 unfolding without cell
 cell-without_out m a e q (inl h) =
-    map.get-retain_keys m (λ k. not (nat_le a k && nat_le k e)) q (λ x g. ap (λ k. not (nat_le a k && nat_le k e)) (sym (tied_same q x g)))
+    map.get-retain_keys m (λ k. not (nat_le a k && nat_le k e))
+    q (λ x g. ap (λ k. not (nat_le a k && nat_le k e)) (sym (tied_same q x g)))
     ∙ rw (lt-leb a q h) refl
 cell-without_out m a e q (inr h) =
-    map.get-retain_keys m (λ k. not (nat_le a k && nat_le k e)) q (λ x g. ap (λ k. not (nat_le a k && nat_le k e)) (sym (tied_same q x g)))
+    map.get-retain_keys m (λ k. not (nat_le a k && nat_le k e))
+    q (λ x g. ap (λ k. not (nat_le a k && nat_le k e)) (sym (tied_same q x g)))
     ∙ rw (and_right (nat_le a q) (nat_le q e) (lt-leb q e h)) refl
 
 pub without-empty : {W : Type 0} (m : FinMap nat_cmp W) (a e : ℕ) → e < a → without m a e ≡ m
-without-empty m a e h = same_cells _ _ (λ q. cell-without_out m a e q (elim (cases_lt q a) [ inl lt ↦ inl lt | inr ge ↦ inr (omega (arith, ge, h)) ]))
+without-empty m a e h =
+    same_cells _ _
+    (λ q. cell-without_out m a e q
+    (elim (cases_lt q a) [ inl lt ↦ inl lt | inr ge ↦ inr (omega (arith, ge, h)) ]))
 
 pub without-step : {W : Type 0} (m : FinMap nat_cmp W) (a e : ℕ) → a ≤ e
     → without m a e ≡ without (drop_cell m a) (a + 1) e
 without-step m a e h = same_cells _ _ (λ q. elim (cases_lt q a) [
-  | inl lt ↦ cell-without_out m a e q (inl lt) ∙ sym (cell-without_out (drop_cell m a) (a + 1) e q (inl (omega (arith, lt))) ∙ cell-drop_other m a q (let ne : q ≢ a = omega (arith, lt) in ne))
+  | inl lt ↦
+      cell-without_out m a e q (inl lt)
+      ∙ sym (cell-without_out (drop_cell m a) (a + 1) e q (inl (omega (arith, lt)))
+      ∙ cell-drop_other m a q (let ne : q ≢ a = omega (arith, lt) in ne))
   | inr ge ↦ elim (cases_eq q a) [
-    | inl at ↦ cell-without_in m a e q ge (omega (arith, at, h)) ∙ sym (cell-without_out (drop_cell m a) (a + 1) e q (inl (omega (arith, at))) ∙ ap (cell (drop_cell m a)) at ∙ cell_dropped m a)
+    | inl at ↦
+        cell-without_in m a e q ge (omega (arith, at, h))
+        ∙ sym (cell-without_out (drop_cell m a) (a + 1) e q (inl (omega (arith, at)))
+        ∙ ap (cell (drop_cell m a)) at ∙ cell_dropped m a)
     | inr ne ↦ elim (cases_lt e q) [
-      | inl past ↦ cell-without_out m a e q (inr past) ∙ sym (cell-without_out (drop_cell m a) (a + 1) e q (inr past) ∙ cell-drop_other m a q ne)
-      | inr within ↦ cell-without_in m a e q ge within ∙ sym (cell-without_in (drop_cell m a) (a + 1) e q (omega (arith, ge, ne)) within)
+      | inl past ↦ cell-without_out m a e q (inr past)
+          ∙ sym (cell-without_out (drop_cell m a) (a + 1) e q (inr past) ∙ cell-drop_other m a q ne)
+      | inr within ↦ cell-without_in m a e q ge within
+          ∙ sym (cell-without_in (drop_cell m a) (a + 1) e q (omega (arith, ge, ne)) within)
     ]
   ]
 ])

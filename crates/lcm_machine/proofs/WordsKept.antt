@@ -14,7 +14,9 @@ use Rattle.lcm_isa.specs.declared.Reg.{Reg}
 use Rattle.lcm_isa.specs.declared.Reg.TheVariants.{Pc}
 use Rattle.lcm_isa.specs.declared.Operand.TheVariants.{R as InReg, Imm}
 use Rattle.lcm_isa.specs.declared.Instr.{Instr}
-use Rattle.lcm_isa.specs.declared.Instr.TheVariants.{Fail, Halt, Jmp, Jnz, Gettype, Geta, Getb, Gete, Getp, Getlin, Move, Store, Load, Cca, Restrict, Lt, Plus, Minus, Seta2b, Xjmp, Cseal, Split, Splice}
+use Rattle.lcm_isa.specs.declared.Instr.TheVariants.{Fail, Halt, Jmp, Jnz, Gettype, Geta, Getb, Gete, Getp}
+use Rattle.lcm_isa.specs.declared.Instr.TheVariants.{Getlin, Move, Store, Load, Cca, Restrict, Lt, Plus}
+use Rattle.lcm_isa.specs.declared.Instr.TheVariants.{Minus, Seta2b, Xjmp, Cseal, Split, Splice}
 use Rattle.lcm_machine.specs.declared.Place.{Place}
 use Rattle.lcm_machine.specs.declared.Place.TheVariants.{R, Cell}
 use Rattle.lcm_machine.specs.Plan.{Plan, Fails, Halts, Goes}
@@ -26,8 +28,12 @@ use Rattle.lcm_machine.specs.Places.{reg, set_reg}
 use Rattle.lcm_machine.specs.Cells.{cell, set_cell}
 use Rattle.lcm_machine.specs.Table.{plan}
 use Rattle.lcm_machine.specs.Touched.{cell_used}
-use Rattle.lcm_machine.specs.Row.{word_in, put, clear, move_on, spend, make, go_on, perform, faces, cell_faces, opens, plan_in, outcome, row, fetch, Fetched, none, some, step_fetched, step_of}
-use Rattle.lcm_machine.proofs.Plans.{Shape, ShapeMoved, ShapePlace, plan-Shape, Gives, Gives-effect, gives_fails, gives_halts, gives_goes, Gives-ask, Gives-need, Gives-by_cap, Gives-if}
+use Rattle.lcm_machine.specs.Row.{word_in, put, clear, move_on, spend, make, go_on, perform, faces}
+use Rattle.lcm_machine.specs.Row.{cell_faces, opens, plan_in, outcome, row, fetch, Fetched, none, some}
+use Rattle.lcm_machine.specs.Row.{step_fetched, step_of}
+use Rattle.lcm_machine.proofs.Plans.{Shape, ShapeMoved, ShapePlace, plan-Shape, Gives, Gives-effect}
+use Rattle.lcm_machine.proofs.Plans.{gives_fails, gives_halts, gives_goes, Gives-ask, Gives-need}
+use Rattle.lcm_machine.proofs.Plans.{Gives-by_cap, Gives-if}
 use Rattle.lcm_machine.proofs.RegLemmas.{cases_reg, reg-set_same, reg-set_other}
 use Rattle.lcm_machine.proofs.CellLemmas.{cell-set_same, cell-set_other}
 use Rattle.lcm_machine.specs.Ends.{After}
@@ -128,19 +134,23 @@ module _ {W : Type 0} (look : W → Word) (plain : Word → W) (S : W → Type 0
     there : (r : Reg) → S (reg s.regs r)
     there r = all.0 r
 
-    memory_look : (r : Reg) (c : CapFields) → memory_in (faces look s r) ≡ Some c → look (reg s.regs r) ≡ Mem c
+    memory_look : (r : Reg) (c : CapFields) → memory_in (faces look s r) ≡ Some c
+        → look (reg s.regs r) ≡ Mem c
     unfolding faces
     memory_look r c e = look_memory (look (reg s.regs r)) c e
 
-    seals_look : (r : Reg) (c : SealFields) → seals_in (faces look s r) ≡ Some c → look (reg s.regs r) ≡ Seal c
+    seals_look : (r : Reg) (c : SealFields) → seals_in (faces look s r) ≡ Some c
+        → look (reg s.regs r) ≡ Seal c
     unfolding faces
     seals_look r c e = look_seals (look (reg s.regs r)) c e
 
-    plan-Makes : (n : Instr) → OpensTo look plain S s n → (t : Option Face) → Gives (Makes plain S) (plan n (faces look s) (opens look s) t next)
+    plan-Makes : (n : Instr) → OpensTo look plain S s n → (t : Option Face)
+        → Gives (Makes plain S) (plan n (faces look s) (opens look s) t next)
     plan-Makes Fail x t = gives_fails
     plan-Makes Halt x t = gives_halts
     plan-Makes (Jmp r1) x t = gives_goes (tt, tt, tt)
-    plan-Makes (Jnz r1 r2) x t = Gives-need _ _ _ (λ z e. Gives-if _ _ _ (gives_goes (tt, tt, next_is)) (gives_goes (tt, tt, tt)))
+    plan-Makes (Jnz r1 r2) x t =
+        Gives-need _ _ _ (λ z e. Gives-if _ _ _ (gives_goes (tt, tt, next_is)) (gives_goes (tt, tt, tt)))
     plan-Makes (Gettype r1 r2) x t = Gives-ask _ _ _ (λ _. gives_goes (closed.ints _, tt, next_is))
     plan-Makes (Geta r1 r2) x t = Gives-ask _ _ _ (λ _. gives_goes (closed.ints _, tt, next_is))
     plan-Makes (Getb r1 r2) x t = Gives-ask _ _ _ (λ _. gives_goes (closed.ints _, tt, next_is))
@@ -149,53 +159,128 @@ module _ {W : Type 0} (look : W → Word) (plain : Word → W) (S : W → Type 0
     plan-Makes (Getlin r1 r2) x t = Gives-ask _ _ _ (λ _. gives_goes (closed.ints _, tt, next_is))
     plan-Makes (Move r1 (InReg r2)) x t = Gives-ask _ _ _ (λ _. gives_goes (tt, tt, next_is))
     plan-Makes (Move r1 (Imm z)) x t = Gives-ask _ _ _ (λ _. gives_goes (closed.ints z, tt, next_is))
-    plan-Makes (Store r1 r2) x t = Gives-need _ _ _ (λ c m. Gives-ask _ _ _ (λ _. Gives-need _ _ _ (λ y h. gives_goes (tt, tt, next_is))))
-    plan-Makes (Load r1 r2) x t = Gives-ask _ _ _ (λ _. Gives-need _ _ _ (λ c m. Gives-ask _ _ _ (λ _. Gives-need _ _ _ (λ y h. Gives-ask _ _ _ (λ _. gives_goes (tt, tt, next_is))))))
+    plan-Makes (Store r1 r2) x t =
+        Gives-need _ _ _
+        (λ c m. Gives-ask _ _ _ (λ _. Gives-need _ _ _ (λ y h. gives_goes (tt, tt, next_is))))
+    plan-Makes (Load r1 r2) x t =
+        Gives-ask _ _ _
+        (λ _. Gives-need _ _ _
+        (λ c m. Gives-ask _ _ _
+        (λ _. Gives-need _ _ _ (λ y h. Gives-ask _ _ _ (λ _. gives_goes (tt, tt, next_is))))))
     plan-Makes (Cca r1 n) x t = Gives-ask _ _ _ (λ _. Gives-by_cap (faces look s r1) _ _
-        (λ c e. Gives-need _ _ _ (λ z _. Gives-ask _ _ _ (λ _. gives_goes (closed.moved (reg s.regs r1) c _ (memory_look r1 c (ap memory_in e)) (there r1), tt, next_is))))
-        (λ c e. Gives-need _ _ _ (λ z _. Gives-ask _ _ _ (λ _. gives_goes (closed.turned (reg s.regs r1) c _ (seals_look r1 c (ap seals_in e)) (there r1), tt, next_is)))))
-    plan-Makes (Restrict r1 n) x t = Gives-ask _ _ _ (λ _. Gives-need _ _ _ (λ c m. Gives-need _ _ _ (λ z _. Gives-need _ _ _ (λ q _. Gives-ask _ _ _ (λ b.
+        (λ c e. Gives-need _ _ _
+        (λ z _. Gives-ask _ _ _
+        (λ _. gives_goes
+        (closed.moved (reg s.regs r1) c _ (memory_look r1 c (ap memory_in e)) (there r1), tt, next_is))))
+        (λ c e. Gives-need _ _ _
+        (λ z _. Gives-ask _ _ _
+        (λ _. gives_goes
+        (closed.turned (reg s.regs r1) c _ (seals_look r1 c (ap seals_in e)) (there r1), tt, next_is)))))
+    plan-Makes (Restrict r1 n) x t =
+        Gives-ask _ _ _
+        (λ _. Gives-need _ _ _ (λ c m. Gives-need _ _ _ (λ z _. Gives-need _ _ _ (λ q _. Gives-ask _ _ _ (λ b.
         gives_goes (closed.lessened (reg s.regs r1) c q (memory_look r1 c m) b (there r1), tt, next_is))))))
-    plan-Makes (Lt r1 r2 n) x t = Gives-ask _ _ _ (λ _. Gives-need _ _ _ (λ y e. Gives-need _ _ _ (λ z _. gives_goes (closed.ints _, tt, next_is))))
-    plan-Makes (Plus r1 r2 n) x t = Gives-ask _ _ _ (λ _. Gives-need _ _ _ (λ y e. Gives-need _ _ _ (λ z _. Gives-ask _ _ _ (λ _. gives_goes (closed.ints _, tt, next_is)))))
-    plan-Makes (Minus r1 r2 n) x t = Gives-ask _ _ _ (λ _. Gives-need _ _ _ (λ y e. Gives-need _ _ _ (λ z _. Gives-ask _ _ _ (λ _. gives_goes (closed.ints _, tt, next_is)))))
+    plan-Makes (Lt r1 r2 n) x t =
+        Gives-ask _ _ _
+        (λ _. Gives-need _ _ _ (λ y e. Gives-need _ _ _ (λ z _. gives_goes (closed.ints _, tt, next_is))))
+    plan-Makes (Plus r1 r2 n) x t =
+        Gives-ask _ _ _
+        (λ _. Gives-need _ _ _
+        (λ y e. Gives-need _ _ _ (λ z _. Gives-ask _ _ _ (λ _. gives_goes (closed.ints _, tt, next_is)))))
+    plan-Makes (Minus r1 r2 n) x t =
+        Gives-ask _ _ _
+        (λ _. Gives-need _ _ _
+        (λ y e. Gives-need _ _ _ (λ z _. Gives-ask _ _ _ (λ _. gives_goes (closed.ints _, tt, next_is)))))
     plan-Makes (Seta2b r1) x t = Gives-ask _ _ _ (λ _. Gives-by_cap (faces look s r1) _ _
-        (λ c e. gives_goes (closed.moved (reg s.regs r1) c _ (memory_look r1 c (ap memory_in e)) (there r1), tt, next_is))
-        (λ c e. gives_goes (closed.turned (reg s.regs r1) c _ (seals_look r1 c (ap seals_in e)) (there r1), tt, next_is)))
-    plan-Makes (Xjmp r1 r2) x t = Gives-need _ _ _ (λ a ea. Gives-need _ _ _ (λ b eb. Gives-ask _ _ _ (λ q. Gives-need _ _ _ (λ c m. Gives-ask _ _ _ (λ _. Gives-ask _ _ _ (λ _. Gives-ask _ _ _ (λ _.
+        (λ c e. gives_goes
+        (closed.moved (reg s.regs r1) c _ (memory_look r1 c (ap memory_in e)) (there r1), tt, next_is))
+        (λ c e. gives_goes
+        (closed.turned (reg s.regs r1) c _ (seals_look r1 c (ap seals_in e)) (there r1), tt, next_is)))
+    plan-Makes (Xjmp r1 r2) x t =
+        Gives-need _ _ _
+        (λ a ea. Gives-need _ _ _
+        (λ b eb. Gives-ask _ _ _
+        (λ q. Gives-need _ _ _ (λ c m. Gives-ask _ _ _ (λ _. Gives-ask _ _ _ (λ _. Gives-ask _ _ _ (λ _.
         (let k = x a b c ea eb (eqb-true a.seal b.seal q) m in gives_goes (k.0, k.1, tt)))))))))
     plan-Makes (Cseal r1 r2) x t = Gives-ask _ _ _ (λ _. Gives-by_cap (faces look s r1) _ _
-        (λ c e. Gives-need _ _ _ (λ q m. Gives-ask _ _ _ (λ b. gives_goes (closed.sealed_memory (reg s.regs r1) (reg s.regs r2) c q (memory_look r1 c (ap memory_in e)) (seals_look r2 q m) b (there r1) (there r2), tt, next_is))))
-        (λ c e. Gives-need _ _ _ (λ q m. Gives-ask _ _ _ (λ b. gives_goes (closed.sealed_seals (reg s.regs r1) (reg s.regs r2) c q (seals_look r1 c (ap seals_in e)) (seals_look r2 q m) b (there r1) (there r2), tt, next_is)))))
-    plan-Makes (Split r1 r2 r3 n) x t = Gives-ask _ _ _ (λ _. Gives-ask _ _ _ (λ _. Gives-need _ _ _ (λ c m. Gives-need _ _ _ (λ z _. Gives-ask _ _ _ (λ b.
-        gives_goes (closed.cut_low (reg s.regs r3) c z (memory_look r3 c m) b (there r3), closed.cut_high (reg s.regs r3) c z (memory_look r3 c m) b (there r3), next_is))))))
-    plan-Makes (Splice r1 r2 r3) x t = Gives-ask _ _ _ (λ _. Gives-need _ _ _ (λ a ma. Gives-need _ _ _ (λ b mb. Gives-ask _ _ _ (λ q.
-        (let p = and_parts (same_kind a b) _ q in gives_goes (closed.joined (reg s.regs r2) (reg s.regs r3) a b (memory_look r2 a ma) (memory_look r3 b mb) p.0 (eqb-true _ _ p.1) (there r2) (there r3), tt, next_is))))))
+        (λ c e. Gives-need _ _ _
+        (λ q m. Gives-ask _ _ _
+        (λ b. gives_goes (
+          closed.sealed_memory (reg s.regs r1) (reg s.regs r2) c q (memory_look r1 c (ap memory_in e))
+              (seals_look r2 q m) b (there r1) (there r2),
+          tt,
+          next_is,
+        ))))
+        (λ c e. Gives-need _ _ _
+        (λ q m. Gives-ask _ _ _
+        (λ b. gives_goes (
+          closed.sealed_seals (reg s.regs r1) (reg s.regs r2) c q (seals_look r1 c (ap seals_in e))
+              (seals_look r2 q m) b (there r1) (there r2),
+          tt,
+          next_is,
+        )))))
+    plan-Makes (Split r1 r2 r3 n) x t =
+        Gives-ask _ _ _
+        (λ _. Gives-ask _ _ _ (λ _. Gives-need _ _ _ (λ c m. Gives-need _ _ _ (λ z _. Gives-ask _ _ _ (λ b.
+        gives_goes (
+          closed.cut_low (reg s.regs r3) c z (memory_look r3 c m)
+              b (there r3),
+          closed.cut_high (reg s.regs r3) c z (memory_look r3 c m) b (there r3),
+          next_is,
+        ))))))
+    plan-Makes (Splice r1 r2 r3) x t =
+        Gives-ask _ _ _ (λ _. Gives-need _ _ _ (λ a ma. Gives-need _ _ _ (λ b mb. Gives-ask _ _ _ (λ q.
+        (let p = and_parts (same_kind a b) _ q in
+        gives_goes (
+          closed.joined (reg s.regs r2) (reg s.regs r3) a b (memory_look r2 a ma) (memory_look r3 b mb)
+              p.0 (eqb-true _ _ p.1) (there r2) (there r3),
+          tt,
+          next_is,
+        ))))))
 
-    move_in : (at used : Option ℕ) (cells : ℕ → Option Face) → ((a : ℕ) → used ≡ Some a → Q a) → (m : Option Moved) → ShapeMoved at used cells m → MoveIn Q m
+    move_in : (at used : Option ℕ) (cells : ℕ → Option Face) → ((a : ℕ) → used ≡ Some a → Q a)
+        → (m : Option Moved) → ShapeMoved at used cells m → MoveIn Q m
     move_in at used cells k None h = tt
-    move_in at used cells k (Some m) h = elim (m.from) as (λ p. ShapePlace at used cells p → PlaceIn Q p) [ R r ↦ λ x. tt | Cell a ↦ λ x. k a x.2 ] h.0
+    move_in at used cells k (Some m) h = elim (m.from) as (λ p. ShapePlace at used cells p → PlaceIn Q p)
+        [ R r ↦ λ x. tt | Cell a ↦ λ x. k a x.2 ] h.0
 
-    after : (p : Plan) (at used : Option ℕ) (cells : ℕ → Option Face) → ((a : ℕ) → used ≡ Some a → Q a) → Gives (Shape at used cells) p → Gives (Makes plain S) p → After (AllAre S Q) (outcome look plain s p)
+    after : (p : Plan) (at used : Option ℕ) (cells : ℕ → Option Face) → ((a : ℕ) → used ≡ Some a → Q a)
+        → Gives (Shape at used cells) p → Gives (Makes plain S) p
+        → After (AllAre S Q) (outcome look plain s p)
     after (Fails f) at used cells k g h = tt
     after Halts at used cells k g h = tt
-    after (Goes e) at used cells k g h = perform_all look plain S Q (closed.ints (pos 0)) s e (move_in at used cells k e.moved (Gives-effect g)) (Gives-effect h) all
+    after (Goes e) at used cells k g h =
+        perform_all look plain S Q (closed.ints (pos 0))
+        s e (move_in at used cells k e.moved (Gives-effect g)) (Gives-effect h) all
 
-    pub row_keeps : (n : Instr) → OpensTo look plain S s n → ((a : ℕ) → cell_used n (faces look s) (cell_faces look s) ≡ Some a → Q a) → After (AllAre S Q) (row look plain n next s)
+    pub row_keeps : (n : Instr) → OpensTo look plain S s n
+        → ((a : ℕ) → cell_used n (faces look s) (cell_faces look s) ≡ Some a → Q a)
+        → After (AllAre S Q) (row look plain n next s)
     unfolding row plan_in
-    row_keeps n x k = after _ _ (cell_used n (faces look s) (cell_faces look s)) (cell_faces look s) k (plan-Shape (faces look s) (opens look s) (cell_faces look s) next n) (plan-Makes n x _)
+    row_keeps n x k = after _ _ (cell_used n (faces look s) (cell_faces look s)) (cell_faces look s)
+        k (plan-Shape (faces look s) (opens look s) (cell_faces look s) next n) (plan-Makes n x _)
 
   -- pc's word at the next address has it too
-  next_kept : (s : State W) → AllAre S Q s → (x : Word) → look (reg s.regs Pc) ≡ x → (cells : ℕ → Option Face) (n : Instr) (next : Word) → fetch (face_of x) cells ≡ some n next → S (plain next)
-  next_kept s all x e cells n next f = let k = fetch_normal x cells n next f in rw k.3 (closed.moved (reg s.regs Pc) k.0 _ (e ∙ k.1) (all.0 Pc))
+  next_kept : (s : State W) → AllAre S Q s → (x : Word) → look (reg s.regs Pc) ≡ x → (cells : ℕ → Option Face)
+      (n : Instr) (next : Word) → fetch (face_of x) cells ≡ some n next → S (plain next)
+  next_kept s all x e cells n next f = let k =
+      fetch_normal x cells n next f in rw k.3 (closed.moved (reg s.regs Pc) k.0 _ (e ∙ k.1) (all.0 Pc))
 
-  fetched_keeps : (s : State W) → AllAre S Q s → (f : Fetched) → ((n : Instr) (next : Word) → f ≡ some n next → S (plain next) × (OpensTo look plain S s n × ((a : ℕ) → cell_used n (faces look s) (cell_faces look s) ≡ Some a → Q a))) → After (AllAre S Q) (step_fetched look plain s f)
+  fetched_keeps : (s : State W) → AllAre S Q s → (f : Fetched)
+      → ((n : Instr) (next : Word) → f ≡ some n next → S (plain next)
+      × (OpensTo look plain S s n
+      × ((a : ℕ) → cell_used n (faces look s) (cell_faces look s) ≡ Some a → Q a)))
+      → After (AllAre S Q) (step_fetched look plain s f)
   fetched_keeps s all (none c) k = tt
   fetched_keeps s all (some n next) k = let h = k n next refl in row_keeps s all next h.0 n h.1.0 h.1.1
 
-  pub step_keeps : (s : State W) → AllAre S Q s → StepsWithin look plain S Q s → After (AllAre S Q) (step_of look plain s)
+  pub step_keeps : (s : State W) → AllAre S Q s → StepsWithin look plain S Q s
+      → After (AllAre S Q) (step_of look plain s)
   unfolding step_of faces
-  step_keeps s all k = fetched_keeps s all _ (λ n next e. (next_kept s all (look (reg s.regs Pc)) refl (cell_faces look s) n next e, k n next e))
+  step_keeps s all k =
+      fetched_keeps s all _
+      (λ n next e. (next_kept s all (look (reg s.regs Pc)) refl (cell_faces look s) n next e, k n next e))
 
 pub steps_keep_closed : {W : Type 0} (look : W → Word) (plain : Word → W) → StepsKeepClosed look plain
-steps_keep_closed look plain test apart s closed all k = step_keeps look plain (λ w. IsTrue (test w)) (λ a. apart a ≡ false) closed s all k
+steps_keep_closed look plain test apart s closed all k =
+    step_keeps look plain (λ w. IsTrue (test w)) (λ a. apart a ≡ false) closed s all k

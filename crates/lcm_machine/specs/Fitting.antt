@@ -1,4 +1,5 @@
--- States whose words are words of a machine: integers and addresses of 64 bits, ranges in order, and seals that
+-- States whose words are words of a machine: integers and addresses of 64 bits, ranges in order, and seals
+-- that
 -- there are.
 use Rattle.std.specs.Prelude.{◌≡◌, ℕ, Some}
 use Rattle.cap_words.specs.declared.Word.{Word}

@@ -1,9 +1,11 @@
 //! The plain machine: registers and memory of plain words, with a count of steps and an end.
-ghost use Rattle.std.specs.Prelude.{◌≡◌, ◌≢◌, ◌+◌, ◌<◌, ◌≤◌, ◌^◌, ℕ, IfOk, IfSome, IfNone, IsSome, is_some, IsTrue, Some, None, option_map, not, true, if◌then◌else◌, MatchResult};
+ghost use Rattle.std.specs.Prelude.{◌≡◌, ◌≢◌, ◌+◌, ◌<◌, ◌≤◌, ◌^◌, ℕ, IfOk, IfSome, IfNone, IsSome, is_some};
+ghost use Rattle.std.specs.Prelude.{IsTrue, Some, None, option_map, not, true, if◌then◌else◌, MatchResult};
 ghost use Rattle.lcm_machine.specs.Places.{reg};
 ghost use Rattle.lcm_machine.specs.Cells.{cell};
 ghost use Rattle.lcm_isa.specs.declared.Reg.TheVariants.{Pc};
-ghost use Rattle.lcm_machine.specs.Row.{word_in, put, clear, HasPlace, faces, cell_faces, fetch, some, none, pc_at};
+ghost use Rattle.lcm_machine.specs.Row.{word_in, put, clear, HasPlace, faces, cell_faces, fetch, some, none};
+ghost use Rattle.lcm_machine.specs.Row.{pc_at};
 ghost use Rattle.lcm_machine.specs.declared.steps.OnXjmp.TheVariants.{Make, Stop};
 ghost use Rattle.lcm_machine.specs.Touched.{KeepsUntouched, SameCells};
 ghost use Rattle.lcm_machine.specs.Regions.{StaysHeldOnce};

@@ -74,7 +74,8 @@ fn difference(x: i64, z: i64) -> Result<i64, FailCause>
 fn parts(c: CapFields, z: i64) -> Result<(Cap, Cap), FailCause>
     requires { CapInOrder c }
     ensures { MatchResult result
-        (λ p. (can_split c z ≡ true) × (p.0 ≡ record c { end = address z }) × (p.1 ≡ record c { base = address z + 1 }))
+        (λ p. (can_split c z ≡ true) × (p.0 ≡ record c { end = address z })
+        × (p.1 ≡ record c { base = address z + 1 }))
         (λ f. (can_split c z ≡ false) × (f ≡ F13)) }
 {
     let inside = i64::from(c.base) <= z && z < i64::from(c.end);

@@ -4,7 +4,8 @@ ghost use Rattle.cap_words.specs.Face.{FaceInOrder, OpenedInOrder};
 ghost use Rattle.lcm_machine.specs.Places.{reg};
 ghost use Rattle.lcm_machine.specs.Cells.{cell, set_cell, drop_cell};
 ghost use Rattle.lcm_machine.specs.Spans.{AreSpans, in_spans, slot, zero_regs};
-ghost use Rattle.lcm_machine.specs.Row.{word_in, put, clear, HasPlace, faces, opens, cell_faces, face_there, pc_at};
+ghost use Rattle.lcm_machine.specs.Row.{word_in, put, clear, HasPlace, faces, opens, cell_faces, face_there};
+ghost use Rattle.lcm_machine.specs.Row.{pc_at};
 
 use crate::Place;
 use crate::cells::{Cells, Span};

@@ -4,7 +4,8 @@ ghost use Rattle.lcm_isa.specs.declared.Reg.TheVariants.{Pc};
 ghost use Rattle.lcm_machine.specs.Row.{faces};
 ghost use Rattle.lcm_machine.specs.Table.{target};
 ghost use Rattle.lcm_machine.specs.Places.{reg};
-ghost use Rattle.lcm_machine.specs.Back.{changed_by, noted_reg, noted_cell, old_reg, old_regs, old_cell, notes, changed_in, target_in, IsCellThere};
+ghost use Rattle.lcm_machine.specs.Back.{changed_by, noted_reg, noted_cell, old_reg, old_regs, old_cell};
+ghost use Rattle.lcm_machine.specs.Back.{notes, changed_in, target_in, IsCellThere};
 
 use crate::state::State;
 use crate::{End, Place};

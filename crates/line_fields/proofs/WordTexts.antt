@@ -27,7 +27,8 @@ use Rattle.cap_words.specs.WordBytes.{ContentFits, WordFits}
 use Rattle.line_fields.specs.declared.TheConstants.{LAST_NATURAL}
 use Rattle.line_fields.specs.Cuts.{cut, behind}
 use Rattle.line_fields.specs.Numbers.{are_digits, number_in, integer_in}
-use Rattle.line_fields.specs.Words.{HasText, perm_named, lin_named, range_in, cap_in, seals_behind, content_behind}
+use Rattle.line_fields.specs.Words.{HasText, perm_named, lin_named, range_in, cap_in, seals_behind}
+use Rattle.line_fields.specs.Words.{content_behind}
 use Rattle.line_fields.specs.Words.{content_in, sealed_in, as_word, unsealed_or, word_behind, candidate_in}
 use Rattle.line_fields.specs.Words.{where_text, word_in}
 use Rattle.line_fields.proofs.Numbers.{digits_of_decimal, number_again, integer_again, number_is, integer_is}

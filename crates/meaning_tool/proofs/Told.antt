@@ -55,12 +55,14 @@ module _ (fuel count size : ℕ) (feed : List ℕ) (modules : List ModuleFields)
   came seen e = comes_same rules (Made tt) seen seen (Ok tt) e (refl, refl)
 
   -- where stacks begin at this base
-  pub feed_stops : (old new : FilesSeen) (base : ℕ) (s : Stop) → base ≡ stack_base_of modules → rules ≡ Made tt
+  pub feed_stops : (old new : FilesSeen) (base : ℕ) (s : Stop) → base ≡ stack_base_of modules
+      → rules ≡ Made tt
       → (let r : Result (List Item) Stop = Err s in Follows (feed_at feed count base) old r new)
       → IsTold old (Err s) new
   unfolding subject_of
   feed_stops old new base s is e h =
-      as_bind (IsMeant fuel) rules (λ _. feed_plan >>= (λ items. Made (subject_by items))) old old new tt (Err s)
+      as_bind (IsMeant fuel) rules (λ _. feed_plan >>= (λ items. Made (subject_by items)))
+      old old new tt (Err s)
       (came old e) (follows_end feed_plan (λ items. Made (subject_by items)) old new s
       (subst (λ b. let r : Result (List Item) Stop = Err s in Follows (feed_at feed count b) old r new) is h))
 
@@ -89,7 +91,8 @@ module _ (fuel size : ℕ) (words : List PartWord) (feed : List ℕ) where
       follows_end (each_at module_at 0 words) (subject_of (length words) size feed) old new s h
 
   pub modules_told : (old mid new : FilesSeen) (modules slice : List ModuleFields) (r : Result Meaning Stop)
-      → slice ≡ modules → length modules ≡ length words → Comes (each_at module_at 0 words) old (Ok modules) mid
+      → slice ≡ modules → length modules ≡ length words
+      → Comes (each_at module_at 0 words) old (Ok modules) mid
       → IsTold fuel (length slice) size feed slice mid r new → IsToldOf old r new
   unfolding subject_in
   modules_told old mid new modules slice r e n c h =

@@ -36,7 +36,9 @@ use Rattle.overlay_machine.proofs.FrameWords.{words_from-at, words_from-past, wo
 use Rattle.overlay_machine.proofs.FrameWords.{frame_of-newest, flat-other, known-other, mapped-same, some_of}
 
 module _ (l : Layout) (i : ℕ) (o : OState) (t : State Word) (sc : SiteCode) (se b : ℕ)
-    (is_site : site_code l i ≡ Some sc) (there : (q : ℕ) → l.stack.base ≤ q → q ≤ se → IsSome (cell o.maps.cells q)) (low : l.stack.base ≤ b) (high : b + 1 ≤ se)
+    (is_site : site_code l i ≡ Some sc)
+    (there : (q : ℕ) → l.stack.base ≤ q → q ≤ se → IsSome (cell o.maps.cells q)) (low : l.stack.base ≤ b)
+    (high : b + 1 ≤ se)
     (m : IsFlat l o t) (k : Looks l o) (known : AllKnown o) where
   abbrev frame : OpenFrame
   frame = new_frame i (b + 1) se o
@@ -106,32 +108,41 @@ module _ (l : Layout) (i : ℕ) (o : OState) (t : State Word) (sc : SiteCode) (s
   beside_some q w e = ap (λ x. mapped_or now_flat (option_or x (framed o.frames q)) None) e
 
   before : (q : ℕ)
-      → cell t.cells q ≡ mapped_or now_flat (cell o.maps.cells q) (mapped_or now_flat (framed o.frames q) None)
+      → cell t.cells q ≡ mapped_or now_flat (cell o.maps.cells q)
+      (mapped_or now_flat (framed o.frames q) None)
   unfolding beside
-  before q = m.cells q ∙ mapped-same old_flat now_flat (cell o.maps.cells q) _ _ (λ w e. sym (old (Cell q) w e)) (mapped-same old_flat now_flat (framed o.frames q) None None (λ w e. sym (old_framed q w e)) refl)
+  before q =
+      m.cells q ∙ mapped-same old_flat now_flat (cell o.maps.cells q) _ _ (λ w e. sym (old (Cell q) w e))
+      (mapped-same old_flat now_flat (framed o.frames q) None None (λ w e. sym (old_framed q w e)) refl)
 
   none_out : (q : ℕ) → (q < b + 1) ⊎ (se < q) → word_of frame q ≡ None
   none_out q (inl h) = word_of-below frame q h
   none_out q (inr h) =
       let more : q - (b + 1) ≡ suc (q - (b + 2)) = omega arith in
-      word_of-within frame q (omega arith) ∙ ap (slice_get frame.words) more ∙ words_from-past o.maps.cells (b + 1 + 1) (se - (b + 1)) (q - (b + 2)) (omega arith)
+      word_of-within frame q (omega arith) ∙ ap (slice_get frame.words) more
+      ∙ words_from-past o.maps.cells (b + 1 + 1) (se - (b + 1)) (q - (b + 2)) (omega arith)
 
   cell_out : (q : ℕ) → (q < b + 1) ⊎ (se < q) → q ≢ b + 1
       → cell t'.cells q ≡ mapped_or now_flat (cell s'.cells q) (beside l (frame ∷ o.frames) q)
   cell_out q h ne =
       cell-set_other t.cells (b + 1) q t.regs.dat ne ∙ before q
       ∙ ap (λ x. mapped_or now_flat (cell o.maps.cells q) x) (sym (beside_none q (none_out q h)))
-      ∙ ap (λ x. mapped_or now_flat x (beside l (frame ∷ o.frames) q)) (sym (cell-without_out o.maps.cells (b + 1) se q h))
+      ∙ ap (λ x. mapped_or now_flat x (beside l (frame ∷ o.frames) q))
+      (sym (cell-without_out o.maps.cells (b + 1) se q h))
 
   gone : (q : ℕ) → b + 1 ≤ q → q ≤ se
       → mapped_or now_flat (cell s'.cells q) (beside l (frame ∷ o.frames) q) ≡ beside l (frame ∷ o.frames) q
-  gone q h g = ap (λ x. mapped_or now_flat x (beside l (frame ∷ o.frames) q)) (cell-without_in o.maps.cells (b + 1) se q h g)
+  gone q h g = ap (λ x. mapped_or now_flat x (beside l (frame ∷ o.frames) q))
+      (cell-without_in o.maps.cells (b + 1) se q h g)
 
   first_is : word_of frame (b + 1) ≡ Some (reg o.maps.regs Dat)
-  first_is = let z : b + 1 - (b + 1) ≡ 0 = omega arith in word_of-within frame (b + 1) (omega arith) ∙ ap (slice_get frame.words) z
+  first_is = let z : b + 1 - (b + 1) ≡ 0 =
+      omega arith in word_of-within frame (b + 1) (omega arith) ∙ ap (slice_get frame.words) z
 
-  cell_first : cell t'.cells (b + 1) ≡ mapped_or now_flat (cell s'.cells (b + 1)) (beside l (frame ∷ o.frames) (b + 1))
-  cell_first = cell-set_same t.cells (b + 1) t.regs.dat ∙ ap Some (kept Dat) ∙ sym (gone (b + 1) (omega arith) high ∙ beside_some (b + 1) (reg o.maps.regs Dat) first_is)
+  cell_first : cell t'.cells (b + 1) ≡ mapped_or now_flat (cell s'.cells (b + 1))
+      (beside l (frame ∷ o.frames) (b + 1))
+  cell_first = cell-set_same t.cells (b + 1) t.regs.dat ∙ ap Some (kept Dat)
+      ∙ sym (gone (b + 1) (omega arith) high ∙ beside_some (b + 1) (reg o.maps.regs Dat) first_is)
 
   next_is : (q : ℕ) → b + 1 < q → q ≤ se → word_of frame q ≡ cell o.maps.cells q
   next_is q h g =
@@ -151,16 +162,23 @@ module _ (l : Layout) (i : ℕ) (o : OState) (t : State Word) (sc : SiteCode) (s
       ∙ sym (gone q (omega arith) g ∙ beside_some q _ (next_is q h g ∙ e))
 
   cells : (q : ℕ) → cell t'.cells q ≡ mapped_or now_flat (cell s'.cells q) (beside l (frame ∷ o.frames) q)
-  cells q = elim (cases_lt q (b + 1)) as (λ _. cell t'.cells q ≡ mapped_or now_flat (cell s'.cells q) (beside l (frame ∷ o.frames) q)) [
-    | inl lt ↦ cell_out q (inl lt) (omega arith)
-    | inr ge ↦ elim (cases_lt se q) as (λ _. cell t'.cells q ≡ mapped_or now_flat (cell s'.cells q) (beside l (frame ∷ o.frames) q)) [
-      | inl lt ↦ cell_out q (inr lt) (omega arith)
-      | inr le ↦ elim (cases_eq q (b + 1)) as (λ _. cell t'.cells q ≡ mapped_or now_flat (cell s'.cells q) (beside l (frame ∷ o.frames) q)) [
-        | inl same ↦ rw same cell_first
-        | inr ne ↦ cell_next q (omega arith) le ne
+  cells q =
+      elim (cases_lt q (b + 1))
+      as (λ _. cell t'.cells q ≡ mapped_or now_flat (cell s'.cells q) (beside l (frame ∷ o.frames) q)) [
+        | inl lt ↦ cell_out q (inl lt) (omega arith)
+        | inr ge ↦
+            elim (cases_lt se q)
+            as (λ _. cell t'.cells q ≡ mapped_or now_flat (cell s'.cells q) (beside l (frame ∷ o.frames) q)) [
+              | inl lt ↦ cell_out q (inr lt) (omega arith)
+              | inr le ↦
+                  elim (cases_eq q (b + 1))
+                  as (λ _. cell t'.cells q ≡ mapped_or now_flat (cell s'.cells q)
+                  (beside l (frame ∷ o.frames) q)) [
+                    | inl same ↦ rw same cell_first
+                    | inr ne ↦ cell_next q (omega arith) le ne
+                  ]
+            ]
       ]
-    ]
-  ]
 
   pub called_flat : IsMapped now_flat (beside l (frame ∷ o.frames)) s' t'
   called_flat = record { regs = regs; cells = cells; spans = m.spans }
@@ -220,7 +238,8 @@ module _ (l : Layout) (i : ℕ) (o : OState) (t : State Word) (sc : SiteCode) (s
     | inr ge ↦ elim (cases_lt se a) as (λ _. Shows w) [
       | inl lt ↦ old_shows a w (sym (passed a (none_out a (inr lt))) ∙ e)
       | inr le ↦ elim (cases_eq a (b + 1)) as (λ _. Shows w) [
-        | inl same ↦ one_word (reg o.maps.regs Dat) w (sym (held (b + 1) _ first_is) ∙ (rw same at e)) (shows_old (R Dat) _ refl)
+        | inl same ↦ one_word (reg o.maps.regs Dat) w (sym (held (b + 1) _ first_is) ∙ (rw same at e))
+            (shows_old (R Dat) _ refl)
         | inr ne ↦ (let c = some_of (cell o.maps.cells a) (zero_word Plain) (there a (omega arith) le) in
             one_word _ w (sym (held a _ (next_is a (omega arith) le ∙ c)) ∙ e) (shows_old (Cell a) _ c))
       ]

@@ -33,7 +33,9 @@ own-some l None c e = cc
 own-some l (Some d) c e = either (is_own_stack l d) refl e
   where
     either : (b : Bool) → is_own_stack l d ≡ b → (if b then Some d else None) ≡ Some c → c.base ≡ l.stack.base
-    either true t k = let same : d ≡ c = cc in let p = and_parts (lin_is d.lin && (perm_number d.perm == 2)) (d.base == l.stack.base) t in subst (λ x. x.base ≡ l.stack.base) same (eqb-true d.base l.stack.base p.1)
+    either true t k = let same : d ≡ c = cc in let p =
+        and_parts (lin_is d.lin && (perm_number d.perm == 2)) (d.base == l.stack.base) t in
+        subst (λ x. x.base ≡ l.stack.base) same (eqb-true d.base l.stack.base p.1)
     either false t k = cc
 
 pub own-base : (l : Layout) (s : State OWord) (c : CapFields) → own_stack l s ≡ Some c → c.base ≡ l.stack.base
@@ -66,24 +68,34 @@ base-is l c at e = either (int_lt (pos l.stack.base) c.addr && covers c c.addr) 
     either true t k =
         let is : address c.addr ≡ at = cc in
         let p = base-at l.stack.base c.base c.end c.addr c refl refl t in
-        record { test = t; above = subst (λ x. l.stack.base < x) is p.0; below = subst (λ x. x ≤ c.end) is p.1; is = is }
+        record {
+          test = t;
+          above = subst (λ x. l.stack.base < x) is p.0;
+          below =
+              subst (λ x. x ≤ c.end) is p.1;
+          is = is;
+        }
     either false t k = cc
 
 -- the call's row, where all that is asked holds
 call-row : (l : Layout) (i : ℕ) (o : OState) (s : SiteCode) (c : CapFields) → site_code l i ≡ Some s
     → own_stack l o.maps ≡ Some c → (int_lt (pos l.stack.base) c.addr && covers c c.addr) ≡ true
-    → (all_there o.maps.cells (address c.addr) (c.end + 1 - address c.addr) && nat_le c.end l.stack.end) ≡ true
+    → (all_there o.maps.cells (address c.addr) (c.end + 1 - address c.addr) && nat_le c.end l.stack.end)
+    ≡ true
     → (is_plain o.maps.regs.c1 && is_plain o.maps.regs.c2) ≡ true
-    → call_step l i o ≡ with_frames (new_frame i (address c.addr) c.end o ∷ o.frames) (o.calls + 1) (row look Plain (Xjmp C1 C2) (Int (pos 0)) (at_call i s c o))
+    → call_step l i o ≡ with_frames (new_frame i (address c.addr) c.end o ∷ o.frames) (o.calls + 1)
+    (row look Plain (Xjmp C1 C2) (Int (pos 0)) (at_call i s c o))
 unfolding call_step need ask
 call-row l i o s c a b t u v = rw a (rw b (rw (t, u, v) refl))
 
 plan-same : (i : ℕ) (s : SiteCode) (c : CapFields) (o : OState)
-    → plan_in look (at_call i s c o) (Xjmp C1 C2) (Int (pos 0)) ≡ plan_in look o.maps (Xjmp C1 C2) (Int (pos 0))
+    → plan_in look (at_call i s c o) (Xjmp C1 C2) (Int (pos 0)) ≡ plan_in look o.maps (Xjmp C1 C2)
+    (Int (pos 0))
 unfolding plan_in opens
 plan-same i s c o = refl
 
-pub record Asked (l : Layout) (m : Machine) (i : ℕ) (s : SiteCode) (c : CapFields) (at : ℕ) (p : Plan) : Type 0 where
+pub record Asked (l : Layout) (m : Machine) (i : ℕ) (s : SiteCode) (c : CapFields) (at : ℕ)
+    (p : Plan) : Type 0 where
   pub site : site_code l i ≡ Some s
   pub stack : own_stack l m.maps ≡ Some c
   pub base : IsBase l c at
@@ -95,19 +107,28 @@ pub record Asked (l : Layout) (m : Machine) (i : ℕ) (s : SiteCode) (c : CapFie
 
 call-plan : (l : Layout) (m : Machine) (i : ℕ) (s : SiteCode) (c : CapFields) (at : ℕ) (p : Plan)
     → Asked l m i s c at p
-    → call_step l i (overlay_of m) ≡ with_frames (new_frame i (address c.addr) c.end (overlay_of m) ∷ frames_of m.frames.frames) (m.calls + 1) (outcome look Plain (at_call i s c (overlay_of m)) p)
+    → call_step l i (overlay_of m)
+    ≡ with_frames (new_frame i (address c.addr) c.end (overlay_of m) ∷ frames_of m.frames.frames)
+    (m.calls + 1) (outcome look Plain (at_call i s c (overlay_of m)) p)
 unfolding row
 call-plan l m i s c at p a =
     call-row l i (overlay_of m) s c a.site a.stack a.base.test
-    (and_from (all_there m.maps.cells (address c.addr) (c.end + 1 - address c.addr)) (nat_le c.end l.stack.end) (ap (λ k. all_there m.maps.cells k (c.end + 1 - k)) a.base.is ∙ a.there) a.high) (and_from (is_plain m.maps.regs.c1) (is_plain m.maps.regs.c2) a.first a.second)
-    ∙ ap (λ x. with_frames (new_frame i (address c.addr) c.end (overlay_of m) ∷ frames_of m.frames.frames) (m.calls + 1) (outcome look Plain (at_call i s c (overlay_of m)) x)) (plan-same i s c (overlay_of m) ∙ a.plan)
+    (and_from (all_there m.maps.cells (address c.addr) (c.end + 1 - address c.addr))
+    (nat_le c.end l.stack.end) (ap (λ k. all_there m.maps.cells k (c.end + 1 - k)) a.base.is ∙ a.there)
+    a.high) (and_from (is_plain m.maps.regs.c1) (is_plain m.maps.regs.c2) a.first a.second)
+    ∙ ap (λ x. with_frames (new_frame i (address c.addr) c.end (overlay_of m) ∷ frames_of m.frames.frames)
+    (m.calls + 1) (outcome look Plain (at_call i s c (overlay_of m)) x))
+    (plan-same i s c (overlay_of m) ∙ a.plan)
 
 pub call-fails : (l : Layout) (m : Machine) (i : ℕ) (s : SiteCode) (c : CapFields) (at : ℕ) (f : FailCause)
     → Asked l m i s c at (Fails f) → Ends (call_step l i (overlay_of m)) Failed m m
-call-fails l m i s c at f a = let e : call_step l i (overlay_of m) ≡ fails = call-plan l m i s c at (Fails f) a in subst (λ x. Ends x Failed m m) (sym e) (refl, refl)
+call-fails l m i s c at f a = let e : call_step l i (overlay_of m) ≡ fails =
+    call-plan l m i s c at (Fails f) a in subst (λ x. Ends x Failed m m) (sym e) (refl, refl)
 
 pub call-goes : (l : Layout) (m new : Machine) (i : ℕ) (s : SiteCode) (c : CapFields) (at : ℕ) (e : Effect)
     → Asked l m i s c at (Goes e) → new ≡ called m i s c at e → Ends (call_step l i (overlay_of m)) Went m new
 call-goes l m new i s c at e a n =
-    let q : call_step l i (overlay_of m) ≡ goes (overlay_of (called m i s c (address c.addr) e)) = call-plan l m i s c at (Goes e) a in
-    subst (λ x. Ends x Went m new) (sym q) (refl, ap overlay_of (n ∙ ap (λ k. called m i s c k e) (sym a.base.is)))
+    let q : call_step l i (overlay_of m) ≡ goes (overlay_of (called m i s c (address c.addr) e)) =
+    call-plan l m i s c at (Goes e) a in
+    subst (λ x. Ends x Went m new) (sym q)
+    (refl, ap overlay_of (n ∙ ap (λ k. called m i s c k e) (sym a.base.is)))

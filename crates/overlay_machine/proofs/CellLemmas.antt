@@ -15,4 +15,5 @@ dropped-none m a = refl
 
 pub dropped-without : (m : Cells) (a n e : ℕ) → a + n ≡ e + 1 → dropped m a n ≡ without m a e
 dropped-without m a zero e h = dropped-none m a ∙ sym (without-empty m a e (omega (arith, h)))
-dropped-without m a (suc n) e h = dropped-first m a n ∙ dropped-without (drop_cell m a) (a + 1) n e (omega (arith, h)) ∙ sym (without-step m a e (omega (arith, h)))
+dropped-without m a (suc n) e h = dropped-first m a n ∙ dropped-without (drop_cell m a) (a + 1)
+    n e (omega (arith, h)) ∙ sym (without-step m a e (omega (arith, h)))

@@ -35,7 +35,8 @@ pub to_next : (s : State Word) (base at : ℕ) (m m' m'' : Cells) → base ≤ a
     → AreCopiedTo s base (at + 1) m m''
 to_next s base at m m' m'' le c here there = record {
   inside = (λ a lo hi. elim (cases_eq a at) as (λ _. cell m'' a ≡ copied (cell m a) (cell s.cells a)) [
-    | inl e ↦ subst (λ k. cell m'' k ≡ copied (cell m k) (cell s.cells k)) (sym e) (here ∙ ap (λ x. copied x (cell s.cells at)) (c.outside at (inr (omega arith))))
+    | inl e ↦ subst (λ k. cell m'' k ≡ copied (cell m k) (cell s.cells k)) (sym e)
+        (here ∙ ap (λ x. copied x (cell s.cells at)) (c.outside at (inr (omega arith))))
     | inr ne ↦ there a ne ∙ c.inside a lo (omega (arith, hi, ne))
   ]);
   outside = (λ a h. there a (apart a h) ∙ c.outside a (wide a h));
@@ -67,7 +68,9 @@ out_of_range a x e = elim (cases_lt a x.base) [
   | inl lt ↦ inl lt
   | inr ge ↦ elim (cases_lt x.end a) [
     | inl past ↦ inr (omega (arith, past))
-    | inr within ↦ absurd (let t : in_span a x ≡ true = grind (arith, ge, within) in let k : true ≡ false = sym t ∙ e in cc)
+    | inr within ↦
+        absurd (let t : in_span a x ≡ true = grind (arith, ge, within) in let k : true ≡ false =
+        sym t ∙ e in cc)
   ]
 ]
 
@@ -80,16 +83,19 @@ next_span s i x d m m' lt is c t = record {
 }
   where
     more : (a : ℕ) → in_spans a (take (i + 1) s.spans) ≡ (in_spans a (take i s.spans) || in_span a x)
-    more a = list_any_more (in_span a) s.spans i d lt ∙ ap (λ y. in_spans a (take i s.spans) || in_span a y) (sym is)
+    more a = list_any_more (in_span a) s.spans i d lt
+        ∙ ap (λ y. in_spans a (take i s.spans) || in_span a y) (sym is)
 
     was : (a : ℕ) (b : Bool) → in_spans a (take i s.spans) ≡ b
         → copied (cell m a) (cell s.cells a) ≡ copied (slot Plain s.spans a) (cell s.cells a)
-    was a true e = ap (λ o. copied o (cell s.cells a)) (c.done a e) ∙ copied_twice (slot Plain s.spans a) (cell s.cells a)
+    was a true e = ap (λ o. copied o (cell s.cells a)) (c.done a e)
+        ∙ copied_twice (slot Plain s.spans a) (cell s.cells a)
     was a false e = ap (λ o. copied o (cell s.cells a)) (c.left a e)
 
     by_done : (a : ℕ) (b : Bool) → in_span a x ≡ b → (n : Bool) → in_spans a (take i s.spans) ≡ n
         → (n || b) ≡ true → cell m' a ≡ copied (slot Plain s.spans a) (cell s.cells a)
-    by_done a true e n f h = let r = in_span_is a x e in t.inside a r.0 (let u = r.1 in omega (arith, u)) ∙ was a n f
+    by_done a true e n f h = let r = in_span_is a x e in t.inside a r.0 (let u = r.1 in omega (arith, u))
+        ∙ was a n f
     by_done a false e true f h = t.outside a (out_of_range a x e) ∙ c.done a f
     by_done a false e false f h = cc
 
@@ -114,7 +120,8 @@ spans_all s ss i m same le c a = by (in_spans a s.spans) refl
 
     by : (b : Bool) → in_spans a s.spans ≡ b
         → cell m a ≡ (if b then option_map Plain (cell s.cells a) else None)
-    by true e = c.done a (ap (in_spans a) whole ∙ e) ∙ ap (λ k. copied (if k then Some (zero_word Plain) else None) (cell s.cells a)) e
+    by true e = c.done a (ap (in_spans a) whole ∙ e)
+        ∙ ap (λ k. copied (if k then Some (zero_word Plain) else None) (cell s.cells a)) e
     by false e = c.left a (ap (in_spans a) whole ∙ e) ∙ ap (λ k. if k then Some (zero_word Plain) else None) e
 
 -- each span is in order, and ends within the address space

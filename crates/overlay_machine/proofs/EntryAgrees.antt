@@ -11,7 +11,8 @@ use Rattle.cap_words.specs.Face.{face_of, FaceInOrder}
 use Rattle.cap_words.specs.Faces.{memory_in}
 use Rattle.cap_words.specs.Linear.{zero_word}
 use Rattle.lcm_isa.specs.declared.Reg.{Reg}
-use Rattle.lcm_isa.specs.declared.Reg.TheVariants.{Pc, Rcode, Rdata, Stk, Dat, T1, T2, C1, C2, A0, A1, A2, A3, G0, G1, G2}
+use Rattle.lcm_isa.specs.declared.Reg.TheVariants.{Pc, Rcode, Rdata, Stk, Dat, T1, T2, C1, C2, A0, A1, A2, A3}
+use Rattle.lcm_isa.specs.declared.Reg.TheVariants.{G0, G1, G2}
 use Rattle.lcm_machine.specs.declared.Place.TheVariants.{R, Cell}
 use Rattle.lcm_machine.specs.Maps.{State}
 use Rattle.lcm_machine.specs.Places.{reg}
@@ -28,7 +29,8 @@ use Rattle.overlay_machine.specs.State.{OState}
 use Rattle.overlay_machine.specs.Step.{goes, need, is_own_stack, if_own, own_stack, entry_step}
 use Rattle.overlay_machine.specs.Flat.{flat, IsFlat}
 use Rattle.overlay_machine.specs.Agree.{Agrees, Looks, AtEntry}
-use Rattle.overlay_machine.proofs.FlatLemmas.{flat-mem, flat-plain, mem_of_face, HasEntry-flat, both_fail, both_go}
+use Rattle.overlay_machine.proofs.FlatLemmas.{flat-mem, flat-plain, mem_of_face, HasEntry-flat, both_fail}
+use Rattle.overlay_machine.proofs.FlatLemmas.{both_go}
 use Rattle.overlay_machine.proofs.OwnStack.{face_of_own, own_parts}
 
 abbrev id : Word → Word
@@ -40,7 +42,8 @@ not_own l (Seals z) e = refl
 not_own l (Sealed z) e = refl
 not_own l (Memory c) e = false_from_ne_true (is_own_stack l c) (λ h. let k : Some c ≡ None = rw h at e in cc)
 
-module _ (l : Layout) (a : ℕ) (o : OState) (t : State Word) (at_entry : AtEntry l a o) (m : IsFlat l o t) (k : Looks l o) where
+module _ (l : Layout) (a : ℕ) (o : OState) (t : State Word) (at_entry : AtEntry l a o) (m : IsFlat l o t)
+    (k : Looks l o) where
   pc_is : t.regs.pc ≡ Mem (code_cap at_entry.base at_entry.end a)
   pc_is = m.regs Pc ∙ flat-mem l o.frames _ _ at_entry.pc
 
@@ -126,17 +129,24 @@ module _ (l : Layout) (a : ℕ) (o : OState) (t : State Word) (at_entry : AtEntr
         let order : FaceInOrder (Memory c) = rw f.0 at at_entry.in_order in
         let base_is = p.2 in
         both_go l _ _ o' t' (overlay_goes e)
-        (entry_runs id id (λ x. refl) t at_entry.base at_entry.end a l.stack.base c (HasEntry-flat l o t m k at_entry.base at_entry.end a l.stack.base at_entry.entry)
+        (entry_runs id id (λ x. refl)
+        t at_entry.base at_entry.end a l.stack.base c
+        (HasEntry-flat l o t m k at_entry.base at_entry.end a l.stack.base at_entry.entry)
         pc_is (m.regs Stk ∙ flat-mem l o.frames _ c w) p.0 p.1 p.2 (omega (arith, order.0, base_is)) order.1)
         (record { regs = regs; cells = m.cells; spans = m.spans }) (places, k.1)
 
   refuses : own_stack l o.maps ≡ None → Agrees l (entry_step l a o) (run_of id id 20 t)
   unfolding own_stack faces entry_step need
   refuses e =
-      let face_is : face_of t.regs.stk ≡ face_of (look o.maps.regs.stk) = ap face_of (m.regs Stk) ∙ k.0 (R Stk) _ refl in
+      let face_is : face_of t.regs.stk ≡ face_of (look o.maps.regs.stk) =
+      ap face_of (m.regs Stk) ∙ k.0 (R Stk) _ refl in
       both_fail l _ _ (rw (at_entry.pc, e) refl)
-      (entry_fails id id (λ x. refl) t at_entry.base at_entry.end a l.stack.base (HasEntry-flat l o t m k at_entry.base at_entry.end a l.stack.base at_entry.entry)
-      pc_is (rw face_is at_entry.in_order) (ap (is_stack_at l.stack.base) face_is ∙ not_own l (face_of (look o.maps.regs.stk)) e) at_entry.small_stack)
+      (entry_fails id id (λ x. refl)
+      t at_entry.base at_entry.end a l.stack.base
+      (HasEntry-flat l o t m k at_entry.base at_entry.end a l.stack.base at_entry.entry)
+      pc_is (rw face_is at_entry.in_order)
+      (ap (is_stack_at l.stack.base) face_is ∙ not_own l (face_of (look o.maps.regs.stk)) e)
+      at_entry.small_stack)
 
   by_stack : (x : Option CapFields) → own_stack l o.maps ≡ x → Agrees l (entry_step l a o) (run_of id id 20 t)
   by_stack None e = refuses e

@@ -35,7 +35,8 @@ pub fits-room : (l : Layout) (m : Machine) (at e : ℕ) → Fits l m → l.stack
     → e ≤ l.stack.end
     → IsTrue (all_there m.maps.cells at (e + 1 - at)) → sizes m.frames.frames + (e + 1 - at) ≤ m.frames.cells
 fits-room l m at e f a b c t =
-    let h = here-without m.maps.cells at e (l.stack.base + 1) (l.stack.end - l.stack.base) (omega (arith, a)) b (omega (arith, c, a, b)) t in
+    let h = here-without m.maps.cells at e (l.stack.base + 1) (l.stack.end - l.stack.base) (omega (arith, a))
+    b (omega (arith, c, a, b)) t in
     let k = f.kept in
     let r = f.cells in
     omega (arith, h, k, r)
@@ -47,9 +48,12 @@ pub fits-called : (l : Layout) (m : Machine) (i : ℕ) (s : SiteCode) (c : CapFi
     → IsTrue (all_there m.maps.cells at (c.end + 1 - at)) → IsJump C2 e → Fits l (called m i s c at e)
 fits-called l m i s c at e f a b d last spanned t j =
     let q = jump-cells look Plain (jumping m i s c at) C2 e j in
-    let h = here-without m.maps.cells at c.end (l.stack.base + 1) (l.stack.end - l.stack.base) (omega (arith, a)) b (omega (arith, a, b, d)) t in
+    let h = here-without m.maps.cells at c.end (l.stack.base + 1) (l.stack.end - l.stack.base)
+    (omega (arith, a)) b (omega (arith, a, b, d)) t in
     let k = f.kept in
-    let same : here (perform look Plain (jumping m i s c at) e).cells (l.stack.base + 1) (l.stack.end - l.stack.base) ≡ here (without m.maps.cells at c.end) (l.stack.base + 1) (l.stack.end - l.stack.base)
+    let same : here (perform look Plain (jumping m i s c at) e).cells (l.stack.base + 1)
+    (l.stack.end - l.stack.base) ≡ here (without m.maps.cells at c.end) (l.stack.base + 1)
+    (l.stack.end - l.stack.base)
     = ap (λ x. here x.cells (l.stack.base + 1) (l.stack.end - l.stack.base)) q in
     record {
       cells = f.cells;
@@ -66,12 +70,15 @@ fits-called l m i s c at e f a b d last spanned t j =
         },
         f.whole,
       );
-      out = subst (λ x. AreOut x.cells (called m i s c at e).frames.frames) (sym q) (out-called m.maps.cells m.frames.frames (opened m.maps (record { call = m.calls; site = i; base = at; end = c.end })) b t f.out);
+      out = subst (λ x. AreOut x.cells (called m i s c at e).frames.frames) (sym q)
+          (out-called m.maps.cells m.frames.frames
+          (opened m.maps (record { call = m.calls; site = i; base = at; end = c.end })) b t f.out);
       calls = (omega arith, f.calls);
     }
 
 -- what a return needs
-pub record NewestIs (l : Layout) (ss : List Span) (fs : List (FrameSeen Frame OWord)) (h : Frame) : Type 0 where
+pub record NewestIs (l : Layout) (ss : List Span) (fs : List (FrameSeen Frame OWord))
+    (h : Frame) : Type 0 where
   pub newest : IsNewest fs h
   pub last : h.end ≤ 1048575
   pub spanned : (q : ℕ) → h.base ≤ q → q ≤ h.end → IsTrue (in_spans q ss)
@@ -96,7 +103,8 @@ put-length w (x ∷ is) h = refl
 
 kept-back : (l : Layout) (ss : List Span) (m : Cells) (fs : List (FrameSeen Frame OWord)) (base : ℕ) (k : ℕ)
     → AreWhole l ss fs → (h : Frame) → IsNewest fs h → here m (l.stack.base + 1) k + sizes fs ≤ k
-    → here (put_back m base (zero_word Plain ∷ rest_words (newest_items fs))) (l.stack.base + 1) k + sizes (older fs) ≤ k
+    → here (put_back m base (zero_word Plain ∷ rest_words (newest_items fs))) (l.stack.base + 1)
+    k + sizes (older fs) ≤ k
 kept-back l ss m [] base k w h n p = absurd n
 kept-back l ss m (f ∷ fs) base k w h n p =
     let r = here-put_back m base (zero_word Plain ∷ rest_words f.items) (l.stack.base + 1) k in
@@ -113,7 +121,8 @@ older-whole l ss (f ∷ fs) w = w.1
 back-length : (fs : List (FrameSeen Frame OWord)) (h : Frame) → IsNewest fs h
     → h.base + length (zero_word Plain ∷ rest_words (newest_items fs)) ≡ h.end + 1
 back-length [] h n = absurd n
-back-length (f ∷ fs) h n = let a = n.0 in let b = n.1 in let q = put-length (zero_word Plain) f.items (omega (arith, a, b)) in omega (arith, q, a, b)
+back-length (f ∷ fs) h n = let a = n.0 in let b = n.1 in let q =
+    put-length (zero_word Plain) f.items (omega (arith, a, b)) in omega (arith, q, a, b)
 
 older-fall : (n : ℕ) (fs : List (FrameSeen Frame OWord)) → Fall n fs → Fall n (older fs)
 older-fall n [] h = tt
@@ -125,9 +134,11 @@ pub fits-returned : (l : Layout) (m : Machine) (r2 : Reg) (s : SiteCode) (c : Ca
     → newest_head m.frames.frames ≡ Some h → Fits l (returned m r2 s c h)
 fits-returned l m r2 s c h f n e = record {
   cells = f.cells;
-  kept = kept-back l m.maps.spans m.maps.cells m.frames.frames h.base (l.stack.end - l.stack.base) f.whole h n f.kept;
+  kept = kept-back l m.maps.spans m.maps.cells m.frames.frames h.base (l.stack.end - l.stack.base)
+      f.whole h n f.kept;
   whole = older-whole l m.maps.spans m.frames.frames f.whole;
-  out = out-returned m.maps.cells m.frames.frames h (zero_word Plain ∷ rest_words (newest_items m.frames.frames)) e (back-length m.frames.frames h n) f.out;
+  out = out-returned m.maps.cells m.frames.frames h
+      (zero_word Plain ∷ rest_words (newest_items m.frames.frames)) e (back-length m.frames.frames h n) f.out;
   calls = older-fall m.calls m.frames.frames f.calls;
 }
 
@@ -151,6 +162,7 @@ pub fits_fresh : (l : Layout) (maps : State OWord) (region : RegionSeen Frame OW
     → Fits l (record { maps = maps; frames = region; calls = calls })
 fits_fresh l maps region calls e r =
     let h = here-most maps.cells (l.stack.base + 1) (l.stack.end - l.stack.base) in
-    let made : List (FrameSeen Frame OWord) → RegionSeen Frame OWord = λ fs. record { frames = fs; cells = region.cells } in
+    let made : List (FrameSeen Frame OWord) → RegionSeen Frame OWord =
+    λ fs. record { frames = fs; cells = region.cells } in
     subst (λ fs. Fits l (record { maps = maps; frames = made fs; calls = calls })) (sym e)
     (record { cells = r; kept = omega (arith, h); whole = tt; out = tt; calls = tt })

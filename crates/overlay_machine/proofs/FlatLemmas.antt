@@ -75,19 +75,25 @@ mapped-some f o x w e = ap (λ p. mapped_or f p x) e
 
 pub cell-flat : (l : Layout) (o : OState) (t : State Word) (a : ℕ) (w : OWord) → IsFlat l o t
     → cell o.maps.cells a ≡ Some w → cell t.cells a ≡ Some (flat l o.frames w)
-cell-flat l o t a w m e = m.cells a ∙ mapped-some (flat l o.frames) (cell o.maps.cells a) (beside l o.frames a) w e
+cell-flat l o t a w m e =
+    m.cells a ∙ mapped-some (flat l o.frames) (cell o.maps.cells a) (beside l o.frames a) w e
 
 face-flat : (l : Layout) (o : OState) (t : State Word) (a z : ℕ) (c : Option OWord) → cell o.maps.cells a ≡ c
     → IsFlat l o t → Looks l o
     → look_face look c ≡ Some (Number (pos z)) → look_face (λ w. w) (cell t.cells a) ≡ Some (Number (pos z))
 face-flat l o t a z None e m k h = cc
-face-flat l o t a z (Some w) e m k h = ap (look_face (λ w. w)) (cell-flat l o t a w m e) ∙ ap Some (k.0 (Cell a) w e) ∙ h
+face-flat l o t a z (Some w) e m k h =
+    ap (look_face (λ w. w)) (cell-flat l o t a w m e) ∙ ap Some (k.0 (Cell a) w e) ∙ h
 
 -- code that stands in the overlay's memory stands in the plain one
 pub Stands-flat : (l : Layout) (o : OState) (t : State Word) (at : ℕ) (is : List Instr) → IsFlat l o t
     → Looks l o → Stands look o.maps.cells at is → Stands (λ w. w) t.cells at is
 Stands-flat l o t at [] m k h = tt
-Stands-flat l o t at (i ∷ is) m k h = (face-flat l o t at (number_of i) (cell o.maps.cells at) refl m k h.0, Stands-flat l o t (at + 1) is m k h.1)
+Stands-flat l o t at (i ∷ is) m k h = (
+  face-flat l o t at (number_of i) (cell o.maps.cells at) refl m k h.0,
+  Stands-flat l o t (at + 1)
+      is m k h.1,
+)
 
 -- and so do sequences
 module _ (l : Layout) (o : OState) (t : State Word) (m : IsFlat l o t) (k : Looks l o) where

@@ -28,7 +28,9 @@ found_behind {V} (e ∷ es) ds q = by_key (eq_by_cmp nat_cmp q e.0) (found_behin
   where
     by_key : (b : Bool)
         → finite.find nat_cmp q (es ++ ds) ≡ option_or (finite.find nat_cmp q es) (finite.find nat_cmp q ds)
-        → cond b (Some e.1) (finite.find nat_cmp q (es ++ ds)) ≡ option_or (cond b (Some e.1) (finite.find nat_cmp q es)) (finite.find nat_cmp q ds)
+        → cond b (Some e.1)
+        (finite.find nat_cmp q (es ++ ds)) ≡ option_or (cond b (Some e.1) (finite.find nat_cmp q es))
+        (finite.find nat_cmp q ds)
     by_key true more = refl
     by_key false more = more
 
@@ -52,7 +54,8 @@ module _ (f : OWord → Word) where
   found_in_frame x a = by_side (nat_lt a x.base) refl
     where
       by_side : (b : Bool) → nat_lt a x.base ≡ b
-          → finite.find nat_cmp a (numbered x.base (map (λ w. Some (f w)) x.words)) ≡ option_map f (if b then None else slice_get x.words (a - x.base))
+          → finite.find nat_cmp a (numbered x.base (map (λ w. Some (f w)) x.words))
+          ≡ option_map f (if b then None else slice_get x.words (a - x.base))
       by_side true e = find_below x.base (map (λ w. Some (f w)) x.words) a (ltb-true a x.base e)
       by_side false e =
           find_slot x.base (map (λ w. Some (f w)) x.words) a (ltb-false a x.base e)
@@ -91,7 +94,8 @@ module _ (f : OWord → Word) where
   cells_are m xs a =
       finite.get-from_entries nat_cmp_total (map (λ e. (e.0, f e.1)) (finite.entries m) ++ entries_of xs) a
       ∙ found_behind (map (λ e. (e.0, f e.1)) (finite.entries m)) (entries_of xs) a
-      ∙ ap (λ o. option_or o (finite.find nat_cmp a (entries_of xs))) (found_mapped f (finite.entries m) a ∙ ap (option_map f) (sym (finite.get-entries m a)))
+      ∙ ap (λ o. option_or o (finite.find nat_cmp a (entries_of xs)))
+      (found_mapped f (finite.entries m) a ∙ ap (option_map f) (sym (finite.get-entries m a)))
       ∙ ap (option_or (option_map f (finite.get m a))) (found_in_frames xs a)
       ∙ beside_mapped (finite.get m a) (framed xs a)
 

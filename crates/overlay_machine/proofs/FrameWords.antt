@@ -19,7 +19,8 @@ pub words_from-at : (m : Cells) (a n j : ℕ) → j < n
     → slice_get (words_from Plain m a n) j ≡ Some (unwrap_or (cell m (a + j)) (zero_word Plain))
 unfolding words_from
 words_from-at m a zero j h = absurd (omega arith)
-words_from-at m a (suc n) zero h = let e : a ≡ a + 0 = omega arith in ap (λ k. Some (unwrap_or (cell m k) (zero_word Plain))) e
+words_from-at m a (suc n) zero h = let e : a ≡ a + 0 =
+    omega arith in ap (λ k. Some (unwrap_or (cell m k) (zero_word Plain))) e
 words_from-at m a (suc n) (suc j) h =
     let e : a + 1 + j ≡ a + suc j = omega arith in
     words_from-at m (a + 1) n j (omega arith) ∙ ap (λ k. Some (unwrap_or (cell m k) (zero_word Plain))) e
@@ -34,7 +35,9 @@ pub all_there-from : (m : Cells) (a n : ℕ) → ((q : ℕ) → a ≤ q → q < 
     → all_there m a n ≡ true
 unfolding all_there
 all_there-from m a zero h = refl
-all_there-from m a (suc n) h = let first : is_some (cell m a) ≡ true = h a (omega arith) (omega arith) in rw first (all_there-from m (a + 1) n (λ q low high. h q (omega arith) (omega arith)))
+all_there-from m a (suc n) h = let first : is_some (cell m a) ≡ true =
+    h a (omega arith) (omega arith) in
+    rw first (all_there-from m (a + 1) n (λ q low high. h q (omega arith) (omega arith)))
 
 pub some_of : {W : Type 0} (o : Option W) (z : W) → IsSome o → o ≡ Some (unwrap_or o z)
 some_of None z h = cc
@@ -84,5 +87,8 @@ pub put_back-in : (m : Cells) (a : ℕ) (ws : List OWord) (j : ℕ) → j < leng
     → cell (put_back m a ws) (a + j) ≡ slice_get ws j
 unfolding put_back
 put_back-in m a [] j h = absurd (omega arith)
-put_back-in m a (w ∷ ws) zero h = let e : a + 0 ≡ a = omega arith in rw e (put_back-other (set_cell m a w) (a + 1) ws a (inl (omega arith)) ∙ cell-set_same m a w)
-put_back-in m a (w ∷ ws) (suc j) h = let e : a + suc j ≡ a + 1 + j = omega arith in rw e (put_back-in (set_cell m a w) (a + 1) ws j (omega arith))
+put_back-in m a (w ∷ ws) zero h = let e : a + 0 ≡ a =
+    omega arith in
+    rw e (put_back-other (set_cell m a w) (a + 1) ws a (inl (omega arith)) ∙ cell-set_same m a w)
+put_back-in m a (w ∷ ws) (suc j) h = let e : a + suc j ≡ a + 1 + j =
+    omega arith in rw e (put_back-in (set_cell m a w) (a + 1) ws j (omega arith))

@@ -20,13 +20,16 @@ Frames = List (FrameSeen Frame OWord)
 
 pub whole_full : (l : Layout) (ss : List Span) (fs : Frames) → AreWhole l ss fs → AreFull fs
 whole_full l ss [] w = tt
-whole_full l ss (f ∷ fs) w = (let a = w.0.words in let b = w.0.size in omega (arith, a, b), whole_full l ss fs w.1)
+whole_full l ss (f ∷ fs) w =
+    (let a = w.0.words in let b = w.0.size in omega (arith, a, b), whole_full l ss fs w.1)
 
 outside : (f : FrameSeen Frame OWord) (a : ℕ) → f.head.base + length f.items ≡ f.head.end + 1
     → (a < f.head.base) ⊎ (f.head.end < a) → word_of (frame_seen f) a ≡ None
 unfolding word_of
 outside f a full (inl low) = rw (lt-ltb a f.head.base low) refl
-outside f a full (inr high) = rw (le-ltb a f.head.base (omega (arith, full, high))) (slice_get_past f.items (a - f.head.base) (omega (arith, full, high)))
+outside f a full (inr high) =
+    rw (le-ltb a f.head.base (omega (arith, full, high)))
+    (slice_get_past f.items (a - f.head.base) (omega (arith, full, high)))
 
 inside : (f : FrameSeen Frame OWord) (a : ℕ) (w : OWord) → f.head.base ≤ a
     → slice_get f.items (a - f.head.base) ≡ Some w → word_of (frame_seen f) a ≡ Some w
@@ -39,8 +42,10 @@ pub framed_step : (fs : Frames) (i a : ℕ) (h : Frame) → AreFull fs → head_
 framed_step [] i a h full e out = cc
 framed_step (g ∷ fs) zero a h full e out =
     let same : h ≡ g.head = cc in
-    ap (λ o. option_or o (framed (frames_of fs) a)) (outside g a full.0 (subst (λ x. (a < x.base) ⊎ (x.end < a)) same out))
-framed_step (g ∷ fs) (suc i) a h full e out = let n : suc i + 1 ≡ suc (i + 1) = omega arith in rw n (framed_step fs i a h full.1 e out)
+    ap (λ o. option_or o (framed (frames_of fs) a))
+    (outside g a full.0 (subst (λ x. (a < x.base) ⊎ (x.end < a)) same out))
+framed_step (g ∷ fs) (suc i) a h full e out = let n : suc i + 1 ≡ suc (i + 1) =
+    omega arith in rw n (framed_step fs i a h full.1 e out)
 
 -- one that has it has a word there
 some_is : {A : Type 0} (o : Option A) (x : A) → o ≡ Some x → IsSome o
@@ -51,7 +56,10 @@ pub item_there_is : (fs : Frames) (i a : ℕ) (h : Frame) → AreFull fs → hea
 item_there_is [] i a h full e low high = cc
 item_there_is (g ∷ fs) zero a h full e low high =
     let same : g.head ≡ h = cc in
-    let n : a - h.base < length g.items = (let f = full.0 in let s : g.head.base ≡ h.base = ap (λ (x : Frame). x.base) same in let t : g.head.end ≡ h.end = ap (λ (x : Frame). x.end) same in omega (arith, f, s, t, low, high)) in
+    let n : a - h.base < length g.items =
+    (let f = full.0 in let s : g.head.base ≡ h.base =
+    ap (λ (x : Frame). x.base) same in let t : g.head.end ≡ h.end =
+    ap (λ (x : Frame). x.end) same in omega (arith, f, s, t, low, high)) in
     some_is _ _ (slice_get-get_or g.items (a - h.base) (zero_word Plain) n)
 item_there_is (g ∷ fs) (suc i) a h full e low high = item_there_is fs i a h full.1 e low high
 
@@ -60,5 +68,7 @@ pub framed_here : (fs : Frames) (i a : ℕ) (h : Frame) (w : OWord) → head_of 
 framed_here [] i a h w e low at = cc
 framed_here (g ∷ fs) zero a h w e low at =
     let same : h ≡ g.head = cc in
-    ap (λ o. option_or o (framed (frames_of fs) a)) (inside g a w (subst (λ x. x.base ≤ a) same low) (subst (λ x. slice_get g.items (a - x.base) ≡ Some w) same at))
+    ap (λ o. option_or o (framed (frames_of fs) a))
+    (inside g a w (subst (λ x. x.base ≤ a) same low)
+    (subst (λ x. slice_get g.items (a - x.base) ≡ Some w) same at))
 framed_here (g ∷ fs) (suc i) a h w e low at = framed_here fs i a h w e low at

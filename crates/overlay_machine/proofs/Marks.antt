@@ -1,4 +1,5 @@
--- What calls and returns tell of frames along a run of the overlay: the lines of runs are told by these marks.
+-- What calls and returns tell of frames along a run of the overlay: the lines of runs are told by these
+-- marks.
 use Rattle.std.specs.Prelude.{◌≡◌, ℕ, zero, suc, ◌+◌, ◌-◌, ◌≤◌, List, [], ◌∷◌, ◌++◌, Option, Some, None}
 use Rattle.lcm_isa.specs.declared.Reg.{Reg}
 use Rattle.lcm_isa.specs.declared.Reg.TheVariants.{Dat}
@@ -32,14 +33,17 @@ abbrev pub words_at : (ℕ → Option Word) → ℕ → ℕ → List Word
 words_at m a zero = []
 words_at m a (suc n) = words_at m a n ++ if_there (m (a + n))
 
--- what an event tells of a frame, its words read from the overlay after the step: of a return the first one is in
+-- what an event tells of a frame, its words read from the overlay after the step: of a return the first one
+-- is in
 -- data, and the others have come back
 abbrev pub marks_by : Layout → OState → Option Event → List (Mark FrameTold)
 marks_by l o None = []
 marks_by l o (Some (Called inward i b e)) =
     opens (record { site = i; base = b; end = e; words = words_at (flat_cell l o) b (e + 1 - b) }) ∷ []
 marks_by l o (Some (Returned inward i b e)) =
-    closes (record { site = i; base = b; end = e; words = shown l o Dat ∷ words_at (flat_cell l o) (b + 1) (e - b) }) ∷ []
+    closes (record
+    { site = i; base = b; end = e; words = shown l o Dat ∷ words_at (flat_cell l o) (b + 1) (e - b) })
+    ∷ []
 marks_by l o (Some (Entered part k back)) = []
 marks_by l o (Some (Left part)) = []
 
@@ -49,7 +53,8 @@ marks_of l o q = marks_by l q (step_event l o q)
 -- from one overlay, at a sum of weights of steps that went, another, with the marks of these steps
 pub data Marked (l : Layout) (o : OState) : ℕ → List (Mark FrameTold) → OState → Type 0 where
   none_yet : Marked l o 0 [] o
-  and_then : {j : ℕ} {ms : List (Mark FrameTold)} {p q : OState} → Marked l o j ms p → overlay_step l p ≡ goes q
+  and_then : {j : ℕ} {ms : List (Mark FrameTold)} {p q : OState} → Marked l o j ms p
+      → overlay_step l p ≡ goes q
       → Marked l o (j + weight_of l p) (ms ++ marks_of l p q) q
 
 -- through each run the marks are bracketed, from the frames that are open to those that are open then
@@ -70,5 +75,6 @@ pub record StaysPrivate (l : Layout) (q : OState) (u : State Word) (x : FrameTol
 -- so it is of each frame that a step opens, from the plain state behind the step on
 abbrev pub OpenedArePrivate : Layout → OState → State Word → Type 0
 OpenedArePrivate l o t =
-    (q : OState) (u : State Word) (x : FrameTold) → overlay_step l o ≡ goes q → plain_run (weight_of l o) t ≡ went u
+    (q : OState) (u : State Word) (x : FrameTold) → overlay_step l o ≡ goes q
+    → plain_run (weight_of l o) t ≡ went u
     → marks_of l o q ≡ opens x ∷ [] → StaysPrivate l q u x

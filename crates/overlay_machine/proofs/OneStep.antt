@@ -42,7 +42,8 @@ by_case : (l : Layout) (o : OState) (t : State Word) (c : Case) → case_of l o.
     → IsFlat l o t → Looks l o → Agrees l (step_by l c o) (run_of (λ w. w) (λ w. w) (weight_by o.maps c) t)
 by_case l o t (Call i) e ready m k = whole_call l i o t ready m k
 by_case l o t (Entry a) e ready m k = entry_agrees l a o t ready m k
-by_case l o t (Back r1 r2) e ready m k = return_agrees l r1 r2 o t ready m k (back_plain l o.maps r1 r2 ready.next e ready.fetched)
+by_case l o t (Back r1 r2) e ready m k =
+    return_agrees l r1 r2 o t ready m k (back_plain l o.maps r1 r2 ready.next e ready.fetched)
 by_case l o t Other e ready m k = other_agrees l o t m k ready e
 
 pub one_step : OneStep

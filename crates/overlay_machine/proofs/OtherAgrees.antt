@@ -63,24 +63,31 @@ fetched_case l s d f e = case_trusted-fetched l (trusted_at l (faces look s Pc))
 pub plain_both : (s : State OWord) (r1 r2 : Reg) (next : Word)
     → case_fetched s (some (Xjmp r1 r2) next) ≡ Other
     → (is_plain (reg s.regs r1) ≡ true) × (is_plain (reg s.regs r2) ≡ true)
-plain_both s r1 r2 next e = elim (cases_Bool (is_plain (reg s.regs r1) && is_plain (reg s.regs r2))) as (λ _. (is_plain (reg s.regs r1) ≡ true) × (is_plain (reg s.regs r2) ≡ true)) [
-  | inl t ↦ and_parts _ _ t
-  | inr t ↦ (let k : Back r1 r2 ≡ Other = rw t at e in cc)
-]
+plain_both s r1 r2 next e =
+    elim (cases_Bool (is_plain (reg s.regs r1) && is_plain (reg s.regs r2)))
+    as (λ _. (is_plain (reg s.regs r1) ≡ true) × (is_plain (reg s.regs r2) ≡ true)) [
+      | inl t ↦ and_parts _ _ t
+      | inr t ↦ (let k : Back r1 r2 ≡ Other = rw t at e in cc)
+    ]
 
-module _ (l : Layout) (o : OState) (t : State Word) (m : IsFlat l o t) (k : Looks l o) (free : FramesFree o) where
-  pub free_pc : IsFree (beside l o.frames) (target_of (faces look o.maps Pc))
-  free_pc a e = beside-none l o.frames a (free.at_pc a e)
+module _ (l : Layout) (o : OState) (t : State Word) (m : IsFlat l o t) (k : Looks l o) (free : FramesFree o)
+  where
+    pub free_pc : IsFree (beside l o.frames) (target_of (faces look o.maps Pc))
+    free_pc a e = beside-none l o.frames a (free.at_pc a e)
 
-  contents : (i : Instr) (next : Word) → case_fetched o.maps (some i next) ≡ Other
-      → SameContents look (λ w. w) (flat l o.frames) o.maps i
-  contents (Xjmp r1 r2) next e = let p = plain_both o.maps r1 r2 next e in (flat-opened l o.frames (reg o.maps.regs r1) p.0, flat-opened l o.frames (reg o.maps.regs r2) p.1)
-  contents _ next e = tt
+    contents : (i : Instr) (next : Word) → case_fetched o.maps (some i next) ≡ Other
+        → SameContents look (λ w. w) (flat l o.frames) o.maps i
+    contents (Xjmp r1 r2) next e = let p =
+        plain_both o.maps r1 r2 next e in
+        (flat-opened l o.frames (reg o.maps.regs r1) p.0, flat-opened l o.frames (reg o.maps.regs r2) p.1)
+    contents _ next e = tt
 
-  pub other_agrees : case_of l o.maps ≡ Other → Agrees l (other_step o) (run_of (λ w. w) (λ w. w) 1 t)
-  unfolding other_step
-  other_agrees e =
-      let c = fetched_case l o.maps Other tt e in
-      let ends = step_mapped look (λ w. w) (flat l o.frames) (beside l o.frames) Plain (λ w. w) (λ x. refl) (λ x. refl) (flat-plain l o.frames) o.maps t m (k.0) free_pc
-      (λ i next f. (contents i next (rw f at c), λ a g. beside-none l o.frames a (free.at_target i next a f g))) in
-      rw (run_one (λ w. w) (λ w. w) t) (row_agrees l o.frames o.calls (k.1) _ _ ends)
+    pub other_agrees : case_of l o.maps ≡ Other → Agrees l (other_step o) (run_of (λ w. w) (λ w. w) 1 t)
+    unfolding other_step
+    other_agrees e =
+        let c = fetched_case l o.maps Other tt e in
+        let ends = step_mapped look (λ w. w) (flat l o.frames) (beside l o.frames) Plain (λ w. w) (λ x. refl)
+        (λ x. refl) (flat-plain l o.frames) o.maps t m (k.0) free_pc
+        (λ i next f.
+        (contents i next (rw f at c), λ a g. beside-none l o.frames a (free.at_target i next a f g))) in
+        rw (run_one (λ w. w) (λ w. w) t) (row_agrees l o.frames o.calls (k.1) _ _ ends)

@@ -34,7 +34,9 @@ there-free m (f ∷ fs) q o s = (
     | inl lt ↦ inl lt
     | inr ge ↦ elim (cases_lt f.head.end q) [
       | inl past ↦ inr past
-      | inr within ↦ absurd (let e : is_some (cell m q) ≡ false = ap is_some (o.0 q ge within).0 in let k : false ≡ true = sym e ∙ s in cc)
+      | inr within ↦
+          absurd (let e : is_some (cell m q) ≡ false =
+          ap is_some (o.0 q ge within).0 in let k : false ≡ true = sym e ∙ s in cc)
     ]
   ],
   there-free m fs q o.1 s,
@@ -50,14 +52,20 @@ there-each m a (suc n) q t lo hi = elim (cases_eq q a) [
 pub fewer-without : (m : Cells) (a e q : ℕ) → cell m q ≡ None → cell (without m a e) q ≡ None
 fewer-without m a e q h = elim (cases_lt q a) [
   | inl lt ↦ cell-without_out m a e q (inl lt) ∙ h
-  | inr ge ↦ elim (cases_lt e q) [ inl past ↦ cell-without_out m a e q (inr past) ∙ h | inr within ↦ cell-without_in m a e q ge within ]
+  | inr ge ↦
+      elim (cases_lt e q)
+      [ inl past ↦ cell-without_out m a e q (inr past) ∙ h | inr within ↦ cell-without_in m a e q ge within ]
 ]
 
 pub out-called : (m : Cells) (fs : List (FrameSeen Frame OWord)) (f : FrameSeen Frame OWord)
     → f.head.base ≤ f.head.end → IsTrue (all_there m f.head.base (f.head.end + 1 - f.head.base)) → AreOut m fs
     → AreOut (without m f.head.base f.head.end) (f ∷ fs)
 out-called m fs f h t o = (
-  (λ q lo hi. (cell-without_in m f.head.base f.head.end q lo hi, there-free m fs q o (there-each m f.head.base (f.head.end + 1 - f.head.base) q t lo (omega (arith, lo, hi, h))))),
+  (λ q lo hi. (
+    cell-without_in m f.head.base f.head.end q lo hi,
+    there-free m fs q o
+        (there-each m f.head.base (f.head.end + 1 - f.head.base) q t lo (omega (arith, lo, hi, h))),
+  )),
   out-fewer m (without m f.head.base f.head.end) fs (fewer-without m f.head.base f.head.end) o,
 )
 
@@ -65,15 +73,18 @@ pub put_back-other : (m : Cells) (a : ℕ) (ws : List OWord) (q : ℕ) → (q < 
     → cell (put_back m a ws) q ≡ cell m q
 unfolding put_back
 put_back-other m a [] q h = refl
-put_back-other m a (w ∷ ws) q (inl h) = put_back-other (set_cell m a w) (a + 1) ws q (inl (omega (arith, h))) ∙ cell-set_other m a q w (let ne : q ≢ a = omega (arith, h) in ne)
-put_back-other m a (w ∷ ws) q (inr h) = put_back-other (set_cell m a w) (a + 1) ws q (inr (omega (arith, h))) ∙ cell-set_other m a q w (let ne : q ≢ a = omega (arith, h) in ne)
+put_back-other m a (w ∷ ws) q (inl h) = put_back-other (set_cell m a w) (a + 1) ws q (inl (omega (arith, h)))
+    ∙ cell-set_other m a q w (let ne : q ≢ a = omega (arith, h) in ne)
+put_back-other m a (w ∷ ws) q (inr h) = put_back-other (set_cell m a w) (a + 1) ws q (inr (omega (arith, h)))
+    ∙ cell-set_other m a q w (let ne : q ≢ a = omega (arith, h) in ne)
 
 -- the others stay out where a stretch that is in none of them comes back
 out-back : (m m' : Cells) (b e : ℕ) (fs : List (FrameSeen Frame OWord))
     → ((q : ℕ) → (q < b) ⊎ (e < q) → cell m' q ≡ cell m q) → ((q : ℕ) → b ≤ q → q ≤ e → IsFree fs q)
     → AreOut m fs → AreOut m' fs
 out-back m m' b e [] same free o = tt
-out-back m m' b e (g ∷ gs) same free o = ((λ q lo hi. (at q lo hi, (o.0 q lo hi).1)), out-back m m' b e gs same (λ q lo hi. (free q lo hi).1) o.1)
+out-back m m' b e (g ∷ gs) same free o =
+    ((λ q lo hi. (at q lo hi, (o.0 q lo hi).1)), out-back m m' b e gs same (λ q lo hi. (free q lo hi).1) o.1)
   where
     clash : (q : ℕ) → g.head.base ≤ q → q ≤ g.head.end → (q < g.head.base) ⊎ (g.head.end < q) → ⊥
     clash q lo hi (inl h) = omega (arith, lo, h)
@@ -94,11 +105,16 @@ pub out-returned : (m : Cells) (fs : List (FrameSeen Frame OWord)) (h : Frame) (
 out-returned m [] h ws e n o = tt
 out-returned m (f ∷ fs) h ws e n o =
     let same : f.head ≡ h = cc in
-    let free : (q : ℕ) → h.base ≤ q → q ≤ h.end → IsFree fs q = subst (λ x. (q : ℕ) → x.base ≤ q → q ≤ x.end → IsFree fs q) same (λ q lo hi. (o.0 q lo hi).1) in
-    out-back m (put_back m h.base ws) h.base h.end fs (λ q a. put_back-other m h.base ws q (elim a [ inl lt ↦ inl lt | inr past ↦ inr (omega (arith, n, past)) ])) free o.1
+    let free : (q : ℕ) → h.base ≤ q → q ≤ h.end → IsFree fs q =
+    subst (λ x. (q : ℕ) → x.base ≤ q → q ≤ x.end → IsFree fs q) same (λ q lo hi. (o.0 q lo hi).1) in
+    out-back m (put_back m h.base ws)
+    h.base h.end fs
+    (λ q a. put_back-other m h.base ws q
+    (elim a [ inl lt ↦ inl lt | inr past ↦ inr (omega (arith, n, past)) ])) free o.1
 
 -- what a return needs of the newest frame
 pub newest-out : (m : Cells) (fs : List (FrameSeen Frame OWord)) (h : Frame) → newest_head fs ≡ Some h
     → AreOut m fs → (q : ℕ) → h.base ≤ q → q ≤ h.end → cell m q ≡ None
 newest-out m [] h e o = cc
-newest-out m (f ∷ fs) h e o = let same : f.head ≡ h = cc in subst (λ x. (q : ℕ) → x.base ≤ q → q ≤ x.end → cell m q ≡ None) same (λ q lo hi. (o.0 q lo hi).0)
+newest-out m (f ∷ fs) h e o = let same : f.head ≡ h =
+    cc in subst (λ x. (q : ℕ) → x.base ≤ q → q ≤ x.end → cell m q ≡ None) same (λ q lo hi. (o.0 q lo hi).0)

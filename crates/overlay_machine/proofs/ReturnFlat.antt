@@ -36,9 +36,11 @@ use Rattle.overlay_machine.proofs.OutLemmas.{put_back-other}
 use Rattle.overlay_machine.proofs.FrameWords.{word_of-below, word_of-within, flat-other, mapped-same}
 use Rattle.overlay_machine.proofs.FrameWords.{put_back-in, some_at}
 
-module _ (l : Layout) (s : State OWord) (f : OpenFrame) (fs : List OpenFrame) (n : ℕ) (t : State Word) (r2 : Reg) (sc : SiteCode) (c : CapFields)
+module _ (l : Layout) (s : State OWord) (f : OpenFrame) (fs : List OpenFrame) (n : ℕ) (t : State Word)
+    (r2 : Reg) (sc : SiteCode) (c : CapFields)
     (sound : FrameSound l s.cells f)
-    (m : IsFlat l (record { maps = s; frames = f ∷ fs; calls = n }) t) (k : Looks l (record { maps = s; frames = f ∷ fs; calls = n }))
+    (m : IsFlat l (record { maps = s; frames = f ∷ fs; calls = n }) t)
+    (k : Looks l (record { maps = s; frames = f ∷ fs; calls = n }))
     (one_place : (p : Place) (w : OWord) → word_at s p ≡ Some w → p ≢ R r2 → IsOther f.call w)
     (in_frames : (a : ℕ) (w : OWord) → framed (f ∷ fs) a ≡ Some w → IsOther f.call w)
     (apart : (a : ℕ) (w : OWord) → framed fs a ≡ Some w → word_of f a ≡ None) where
@@ -46,7 +48,9 @@ module _ (l : Layout) (s : State OWord) (f : OpenFrame) (fs : List OpenFrame) (n
   o = record { maps = s; frames = f ∷ fs; calls = n }
 
   abbrev o' : OState
-  o' = resumed sc (record c { perm = (stack_cap 0 0 0).perm; lin = (stack_cap 0 0 0).lin; base = l.stack.base }) f fs (put s (R r2) (zero_word Plain)) o
+  o' = resumed sc
+      (record c { perm = (stack_cap 0 0 0).perm; lin = (stack_cap 0 0 0).lin; base = l.stack.base })
+      f fs (put s (R r2) (zero_word Plain)) o
 
   abbrev t' : State Word
   t' = record t {
@@ -76,10 +80,16 @@ module _ (l : Layout) (s : State OWord) (f : OpenFrame) (fs : List OpenFrame) (n
   -- registers that the return leaves, but for r2
   kept : (r : Reg)
       → reg (set_reg t.regs r2 (Int (pos 0))) r ≡ now_flat (reg (set_reg s.regs r2 (zero_word Plain)) r)
-  kept r = elim (cases_reg r r2) as (λ _. reg (set_reg t.regs r2 (Int (pos 0))) r ≡ now_flat (reg (set_reg s.regs r2 (zero_word Plain)) r)) [
-    | inl same ↦ rw same (rw (reg-set_same t.regs r2 (Int (pos 0)), reg-set_same s.regs r2 (zero_word Plain)) (sym (plain_is _)))
-    | inr ne ↦ rw (reg-set_other t.regs r2 r (Int (pos 0)) ne, reg-set_other s.regs r2 r (zero_word Plain) ne) (m.regs r ∙ old (R r) _ refl (λ e. ne (let q : r ≡ r2 = cc in q)))
-  ]
+  kept r = elim (cases_reg r r2)
+      as (λ _. reg (set_reg t.regs r2 (Int (pos 0)))
+      r ≡ now_flat (reg (set_reg s.regs r2 (zero_word Plain)) r)) [
+        | inl same ↦
+            rw same (rw (reg-set_same t.regs r2 (Int (pos 0)), reg-set_same s.regs r2 (zero_word Plain))
+            (sym (plain_is _)))
+        | inr ne ↦
+            rw (reg-set_other t.regs r2 r (Int (pos 0)) ne, reg-set_other s.regs r2 r (zero_word Plain) ne)
+            (m.regs r ∙ old (R r) _ refl (λ e. ne (let q : r ≡ r2 = cc in q)))
+      ]
 
   first_is : reg o'.maps.regs Dat ≡ Plain sound.first
   first_is = rw sound.words refl
@@ -120,7 +130,8 @@ module _ (l : Layout) (s : State OWord) (f : OpenFrame) (fs : List OpenFrame) (n
   none_out q (inr h) =
       let h1 = sound.order in
       let h2 = sound.as_long in
-      word_of-within f q (omega arith) ∙ ap (λ ws. slice_get ws (q - f.base)) sound.words ∙ slice_get_past (Plain sound.first ∷ sound.rest) (q - f.base) (omega arith)
+      word_of-within f q (omega arith) ∙ ap (λ ws. slice_get ws (q - f.base)) sound.words
+      ∙ slice_get_past (Plain sound.first ∷ sound.rest) (q - f.base) (omega arith)
 
   framed_out : (q : ℕ) → word_of f q ≡ None → framed (f ∷ fs) q ≡ framed fs q
   framed_out q e = ap (λ y. option_or y (framed fs q)) e
@@ -130,20 +141,32 @@ module _ (l : Layout) (s : State OWord) (f : OpenFrame) (fs : List OpenFrame) (n
   cell_out q h ne =
       let h1 = sound.order in
       let h2 = sound.as_long in
-      let out : (q < f.base) ⊎ (f.base + length (zero_word Plain ∷ sound.rest) ≤ q) = elim h as (λ _. (q < f.base) ⊎ (f.base + length (zero_word Plain ∷ sound.rest) ≤ q)) [ inl a ↦ inl a | inr b ↦ inr (omega arith) ] in
+      let out : (q < f.base) ⊎ (f.base + length (zero_word Plain ∷ sound.rest) ≤ q) =
+      elim h as (λ _. (q < f.base) ⊎ (f.base + length (zero_word Plain ∷ sound.rest) ≤ q))
+      [ inl a ↦ inl a | inr b ↦ inr (omega arith) ] in
       cell-set_other t.cells f.base q (Int (pos 0)) ne ∙ m.cells q
       ∙ mapped-same old_flat now_flat (cell s.cells q) _ _ (λ w e. old (Cell q) w e (λ g. cc))
-      (old_beside q None (none_out q h) ∙ mapped-same old_flat now_flat (framed fs q) None None (λ w e. flat-other l f fs w (in_frames q w (framed_out q (none_out q h) ∙ e))) refl ∙ sym (now_beside q))
-      ∙ ap (λ x. mapped_or now_flat x (beside l fs q)) (sym (ap (λ y. cell y q) cells_are ∙ put_back-other s.cells f.base (zero_word Plain ∷ sound.rest) q out))
+      (old_beside q None (none_out q h)
+      ∙ mapped-same old_flat now_flat (framed fs q)
+      None None (λ w e. flat-other l f fs w (in_frames q w (framed_out q (none_out q h) ∙ e))) refl
+      ∙ sym (now_beside q))
+      ∙ ap (λ x. mapped_or now_flat x (beside l fs q))
+      (sym (ap (λ y. cell y q) cells_are
+      ∙ put_back-other s.cells f.base (zero_word Plain ∷ sound.rest) q out))
 
   cell_first : cell t'.cells f.base ≡ mapped_or now_flat (cell o'.maps.cells f.base) (beside l fs f.base)
   cell_first =
       let e : f.base + 0 ≡ f.base = omega arith in
-      let back : cell o'.maps.cells f.base ≡ Some (zero_word Plain) = ap (λ y. cell y f.base) cells_are ∙ ap (cell (put_back s.cells f.base (zero_word Plain ∷ sound.rest))) (sym e) ∙ put_back-in s.cells f.base (zero_word Plain ∷ sound.rest) 0 (omega arith) in
-      cell-set_same t.cells f.base (Int (pos 0)) ∙ sym (ap (λ x. mapped_or now_flat x (beside l fs f.base)) back ∙ ap Some (plain_is _))
+      let back : cell o'.maps.cells f.base ≡ Some (zero_word Plain) =
+      ap (λ y. cell y f.base) cells_are
+      ∙ ap (cell (put_back s.cells f.base (zero_word Plain ∷ sound.rest))) (sym e)
+      ∙ put_back-in s.cells f.base (zero_word Plain ∷ sound.rest) 0 (omega arith) in
+      cell-set_same t.cells f.base (Int (pos 0))
+      ∙ sym (ap (λ x. mapped_or now_flat x (beside l fs f.base)) back ∙ ap Some (plain_is _))
 
   cell_next : (j : ℕ) → j < length sound.rest
-      → cell t'.cells (f.base + suc j) ≡ mapped_or now_flat (cell o'.maps.cells (f.base + suc j)) (beside l fs (f.base + suc j))
+      → cell t'.cells (f.base + suc j) ≡ mapped_or now_flat (cell o'.maps.cells (f.base + suc j))
+      (beside l fs (f.base + suc j))
   cell_next j h =
       let h1 = sound.order in
       let h2 = sound.as_long in
@@ -151,8 +174,11 @@ module _ (l : Layout) (s : State OWord) (f : OpenFrame) (fs : List OpenFrame) (n
       let q = f.base + suc j in
       let less : f.base + suc j - f.base ≡ suc j = omega arith in
       let ne : f.base + suc j ≢ f.base = omega arith in
-      let there : word_of f q ≡ Some w.0 = word_of-within f q (omega arith) ∙ ap (λ ws. slice_get ws (q - f.base)) sound.words ∙ ap (slice_get (Plain sound.first ∷ sound.rest)) less ∙ w.1 in
-      let back : cell o'.maps.cells q ≡ Some w.0 = ap (λ y. cell y q) cells_are ∙ put_back-in s.cells f.base (zero_word Plain ∷ sound.rest) (suc j) (omega arith) ∙ w.1 in
+      let there : word_of f q ≡ Some w.0 =
+      word_of-within f q (omega arith) ∙ ap (λ ws. slice_get ws (q - f.base)) sound.words
+      ∙ ap (slice_get (Plain sound.first ∷ sound.rest)) less ∙ w.1 in
+      let back : cell o'.maps.cells q ≡ Some w.0 = ap (λ y. cell y q) cells_are
+      ∙ put_back-in s.cells f.base (zero_word Plain ∷ sound.rest) (suc j) (omega arith) ∙ w.1 in
       cell-set_other t.cells f.base q (Int (pos 0)) ne ∙ m.cells q
       ∙ ap (λ x. mapped_or old_flat x (beside l (f ∷ fs) q)) (sound.gone q (omega arith) (omega arith))
       ∙ old_beside q (Some w.0) there
@@ -163,15 +189,22 @@ module _ (l : Layout) (s : State OWord) (f : OpenFrame) (fs : List OpenFrame) (n
   cells q =
       let h1 = sound.order in
       let h2 = sound.as_long in
-      elim (cases_lt q f.base) as (λ _. cell t'.cells q ≡ mapped_or now_flat (cell o'.maps.cells q) (beside l fs q)) [
+      elim (cases_lt q f.base)
+      as (λ _. cell t'.cells q ≡ mapped_or now_flat (cell o'.maps.cells q) (beside l fs q)) [
         | inl lt ↦ cell_out q (inl lt) (omega arith)
-        | inr ge ↦ elim (cases_lt f.end q) as (λ _. cell t'.cells q ≡ mapped_or now_flat (cell o'.maps.cells q) (beside l fs q)) [
-          | inl lt ↦ cell_out q (inr lt) (omega arith)
-          | inr le ↦ elim (cases_eq q f.base) as (λ _. cell t'.cells q ≡ mapped_or now_flat (cell o'.maps.cells q) (beside l fs q)) [
-            | inl same ↦ rw same cell_first
-            | inr ne ↦ (let e : q ≡ f.base + suc (q - f.base - 1) = omega arith in rw e (cell_next (q - f.base - 1) (omega arith)))
-          ]
-        ]
+        | inr ge ↦
+            elim (cases_lt f.end q)
+            as (λ _. cell t'.cells q ≡ mapped_or now_flat (cell o'.maps.cells q) (beside l fs q)) [
+              | inl lt ↦ cell_out q (inr lt) (omega arith)
+              | inr le ↦
+                  elim (cases_eq q f.base)
+                  as (λ _. cell t'.cells q ≡ mapped_or now_flat (cell o'.maps.cells q) (beside l fs q)) [
+                    | inl same ↦ rw same cell_first
+                    | inr ne ↦
+                        (let e : q ≡ f.base + suc (q - f.base - 1) =
+                        omega arith in rw e (cell_next (q - f.base - 1) (omega arith)))
+                  ]
+            ]
       ]
 
   pub resumed_flat : IsFlat l o' t'
@@ -195,7 +228,9 @@ module _ (l : Layout) (s : State OWord) (f : OpenFrame) (fs : List OpenFrame) (n
   shows_kept : (r : Reg) → Shows (reg (set_reg s.regs r2 (zero_word Plain)) r)
   shows_kept r = elim (cases_reg r r2) as (λ _. Shows (reg (set_reg s.regs r2 (zero_word Plain)) r)) [
     | inl same ↦ rw same (rw (reg-set_same s.regs r2 (zero_word Plain)) (ap face_of (plain_is _)))
-    | inr ne ↦ rw (reg-set_other s.regs r2 r (zero_word Plain) ne) (shows_old (R r) _ refl (λ e. ne (let q : r ≡ r2 = cc in q)))
+    | inr ne ↦
+        rw (reg-set_other s.regs r2 r (zero_word Plain) ne)
+        (shows_old (R r) _ refl (λ e. ne (let q : r ≡ r2 = cc in q)))
   ]
 
   reg_shows : (r : Reg) → Shows (reg o'.maps.regs r)
@@ -223,7 +258,9 @@ module _ (l : Layout) (s : State OWord) (f : OpenFrame) (fs : List OpenFrame) (n
   shows_back (suc j) h w e =
       let h1 = sound.order in
       let less : f.base + suc j - f.base ≡ suc j = omega arith in
-      let there : word_of f (f.base + suc j) ≡ Some w = word_of-within f (f.base + suc j) (omega arith) ∙ ap (λ ws. slice_get ws (f.base + suc j - f.base)) sound.words ∙ ap (slice_get (Plain sound.first ∷ sound.rest)) less ∙ e in
+      let there : word_of f (f.base + suc j) ≡ Some w =
+      word_of-within f (f.base + suc j) (omega arith) ∙ ap (λ ws. slice_get ws (f.base + suc j - f.base))
+      sound.words ∙ ap (slice_get (Plain sound.first ∷ sound.rest)) less ∙ e in
       shows_framed (f.base + suc j) w (ap (λ y. option_or y (framed fs (f.base + suc j))) there)
 
   cell_shows : (q : ℕ) (w : OWord) → cell o'.maps.cells q ≡ Some w → Shows w
@@ -232,11 +269,19 @@ module _ (l : Layout) (s : State OWord) (f : OpenFrame) (fs : List OpenFrame) (n
       let h2 = sound.as_long in
       let g = sym (ap (λ y. cell y q) cells_are) ∙ e in
       elim (cases_lt q f.base) as (λ _. Shows w) [
-        | inl lt ↦ shows_old (Cell q) w (sym (put_back-other s.cells f.base (zero_word Plain ∷ sound.rest) q (inl lt)) ∙ g) (λ x. cc)
+        | inl lt ↦
+            shows_old (Cell q)
+            w (sym (put_back-other s.cells f.base (zero_word Plain ∷ sound.rest) q (inl lt)) ∙ g) (λ x. cc)
         | inr ge ↦ elim (cases_lt f.end q) as (λ _. Shows w) [
-          | inl lt ↦ shows_old (Cell q) w (sym (put_back-other s.cells f.base (zero_word Plain ∷ sound.rest) q (inr (omega arith))) ∙ g) (λ x. cc)
+          | inl lt ↦
+              shows_old (Cell q)
+              w (sym (put_back-other s.cells f.base (zero_word Plain ∷ sound.rest) q (inr (omega arith))) ∙ g)
+              (λ x. cc)
           | inr le ↦ (let back : f.base + (q - f.base) ≡ q = omega arith in
-              shows_back (q - f.base) (omega arith) w (sym (put_back-in s.cells f.base (zero_word Plain ∷ sound.rest) (q - f.base) (omega arith)) ∙ ap (cell (put_back s.cells f.base (zero_word Plain ∷ sound.rest))) back ∙ g))
+              shows_back (q - f.base) (omega arith)
+              w (sym (put_back-in s.cells f.base (zero_word Plain ∷ sound.rest) (q - f.base)
+              (omega arith)) ∙ ap (cell (put_back s.cells f.base (zero_word Plain ∷ sound.rest))) back
+              ∙ g))
         ]
       ]
 

@@ -35,10 +35,13 @@ here-drop : (m : Cells) (q a n : ℕ) → a ≤ q → q < a + n → IsSome (cell
 unfolding here
 here-drop m q a zero h g s = absurd (omega (arith, h, g))
 here-drop m q a (suc n) h g s = elim (cases_eq a q) [
-  | inl e ↦ (let d : one_if (cell (drop_cell m q) a) ≡ 0 = ap (λ k. one_if (cell (drop_cell m q) k)) e ∙ ap one_if (cell_dropped m q) in
+  | inl e ↦
+      (let d : one_if (cell (drop_cell m q) a) ≡ 0 =
+      ap (λ k. one_if (cell (drop_cell m q) k)) e ∙ ap one_if (cell_dropped m q) in
       let w : one_if (cell m a) ≡ 1 = ap (λ k. one_if (cell m k)) e ∙ rw s refl in
       let r = here-drop_out m q (a + 1) n (omega (arith, e)) in omega (arith, d, w, r))
-  | inr ne ↦ (let d : one_if (cell (drop_cell m q) a) ≡ one_if (cell m a) = ap one_if (cell-drop_other m q a ne) in
+  | inr ne ↦
+      (let d : one_if (cell (drop_cell m q) a) ≡ one_if (cell m a) = ap one_if (cell-drop_other m q a ne) in
       let r = here-drop m q (a + 1) n (omega (arith, h, ne)) (omega (arith, g)) s in omega (arith, d, r))
 ]
 
@@ -55,9 +58,12 @@ here-set : (m : Cells) (q a n : ℕ) (w : OWord) → here (set_cell m q w) a n �
 unfolding here
 here-set m q a zero w = omega arith
 here-set m q a (suc n) w = elim (cases_eq a q) [
-  | inl e ↦ (let d : one_if (cell (set_cell m q w) a) ≡ 1 = ap (λ k. one_if (cell (set_cell m q w) k)) e ∙ ap one_if (cell-set_same m q w) in
+  | inl e ↦
+      (let d : one_if (cell (set_cell m q w) a) ≡ 1 =
+      ap (λ k. one_if (cell (set_cell m q w) k)) e ∙ ap one_if (cell-set_same m q w) in
       let r = here-set_out m q (a + 1) n w (omega (arith, e)) in omega (arith, d, r))
-  | inr ne ↦ (let d : one_if (cell (set_cell m q w) a) ≡ one_if (cell m a) = ap one_if (cell-set_other m q a w ne) in
+  | inr ne ↦
+      (let d : one_if (cell (set_cell m q w) a) ≡ one_if (cell m a) = ap one_if (cell-set_other m q a w ne) in
       let r = here-set m q (a + 1) n w in omega (arith, d, r))
 ]
 
@@ -66,7 +72,8 @@ here-dropped : (m : Cells) (a n lo k : ℕ) → lo ≤ a → a + n ≤ lo + k �
 here-dropped m a zero lo k h g t = let e = ap (λ x. here x lo k) (dropped-none m a) in omega (arith, e)
 here-dropped m a (suc n) lo k h g t =
     let f = there-first m a n t in
-    let r = here-dropped (drop_cell m a) (a + 1) n lo k (omega (arith, h)) (omega (arith, g)) (subst IsTrue (sym (all_there-drop m a (a + 1) n (omega arith))) f.1) in
+    let r = here-dropped (drop_cell m a) (a + 1) n lo k (omega (arith, h)) (omega (arith, g))
+    (subst IsTrue (sym (all_there-drop m a (a + 1) n (omega arith))) f.1) in
     let d = here-drop m a lo k h (omega (arith, g)) f.0 in
     let e = ap (λ x. here x lo k) (dropped-first m a n) in
     omega (arith, r, d, e)

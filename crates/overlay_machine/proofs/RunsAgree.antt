@@ -99,7 +99,11 @@ plan_needed c (Some a) k h = h a
 
 xjmp_plan : (s : State OWord) (next : Word) → NeverHalts (plan_in look s (Xjmp C1 C2) next)
 unfolding plan_in
-xjmp_plan s next = plan_needed _ _ _ (λ a. plan_needed _ _ _ (λ b. plan_asked _ _ _ (plan_needed _ _ _ (λ c. plan_asked _ _ _ (plan_asked _ _ _ (plan_asked _ _ _ tt))))))
+xjmp_plan s next =
+    plan_needed _ _ _
+    (λ a. plan_needed _ _ _
+    (λ b. plan_asked _ _ _
+    (plan_needed _ _ _ (λ c. plan_asked _ _ _ (plan_asked _ _ _ (plan_asked _ _ _ tt))))))
 
 planned : (fs : List OpenFrame) (n : ℕ) (s : State OWord) (p : Plan) → NeverHalts p
     → GoesOrFails (with_frames fs n (outcome look Plain s p))
@@ -114,7 +118,8 @@ xjmp_goes_or_fails fs n next s = planned fs n s (plan_in look s (Xjmp C1 C2) nex
 
 call_goes_or_fails : (l : Layout) (i : ℕ) (o : OState) → GoesOrFails (call_step l i o)
 unfolding call_step
-call_goes_or_fails l i o = needed _ _ (λ s. needed _ _ (λ c. asked _ _ (asked _ _ (asked _ _ (xjmp_goes_or_fails _ _ _ _)))))
+call_goes_or_fails l i o =
+    needed _ _ (λ s. needed _ _ (λ c. asked _ _ (asked _ _ (asked _ _ (xjmp_goes_or_fails _ _ _ _)))))
 
 entry_goes_or_fails : (l : Layout) (a : ℕ) (o : OState) → GoesOrFails (entry_step l a o)
 unfolding entry_step
@@ -122,7 +127,8 @@ entry_goes_or_fails l a o = needed _ _ (λ p. needed _ _ (λ c. tt))
 
 return_goes_or_fails : (l : Layout) (x y : OWord) (r2 : Reg) (fs : List OpenFrame) (o : OState)
     → GoesOrFails (return_by l x y r2 fs o)
-return_goes_or_fails l (RetCode i) (RetData k) r2 (f ∷ fs) o = asked _ _ (needed _ _ (λ s. needed _ _ (λ c. asked _ _ tt)))
+return_goes_or_fails l (RetCode i) (RetData k) r2 (f ∷ fs) o =
+    asked _ _ (needed _ _ (λ s. needed _ _ (λ c. asked _ _ tt)))
 return_goes_or_fails l (RetCode i) (RetData k) r2 [] o = tt
 return_goes_or_fails l (RetCode i) (RetCode k) r2 fs o = tt
 return_goes_or_fails l (RetCode i) (Plain w) r2 fs o = tt
@@ -138,7 +144,8 @@ halt_weight : (l : Layout) (o : OState) (c : Case) → step_by l c o ≡ halts �
 unfolding return_step
 halt_weight l o (Call i) e = absurd (never _ (call_goes_or_fails l i o) e)
 halt_weight l o (Entry a) e = absurd (never _ (entry_goes_or_fails l a o) e)
-halt_weight l o (Back r1 r2) e = absurd (never _ (return_goes_or_fails l (reg o.maps.regs r1) (reg o.maps.regs r2) r2 o.frames o) e)
+halt_weight l o (Back r1 r2) e =
+    absurd (never _ (return_goes_or_fails l (reg o.maps.regs r1) (reg o.maps.regs r2) r2 o.frames o) e)
 halt_weight l o Other e = refl
 
 pub halts_alone : (l : Layout) (o : OState) → overlay_step l o ≡ halts → weight_of l o ≡ 1
@@ -174,16 +181,24 @@ step_after t u n r e f = sym (next_is t u n _ e refl) ∙ f
 -- a run that failed by n, and that went at j, failed at one instruction between
 first_failure : (t : State Word) (j w : ℕ) (v : State Word) (c : FailCause) (at : ℤ) → plain_run j t ≡ went v
     → plain_run (j + w) t ≡ failed c at → (n : ℕ) × (j ≤ n) × (n < j + w) × FailsBehind n t
-first_failure t j zero v c at e f = let same : j + 0 ≡ j = omega arith in let bad : went v ≡ failed c at = sym e ∙ ap (λ k. plain_run k t) (sym same) ∙ f in cc
+first_failure t j zero v c at e f = let same : j + 0 ≡ j = omega arith in let bad : went v ≡ failed c at =
+    sym e ∙ ap (λ k. plain_run k t) (sym same) ∙ f in cc
 first_failure t j (suc w) v c at e f = by_next (plain_run (j + w) t) refl (first_failure t j w v)
   where
     by_next : (r : Outcome Word) → plain_run (j + w) t ≡ r
-        → ((d : FailCause) (a : ℤ) → plain_run j t ≡ went v → plain_run (j + w) t ≡ failed d a → (n : ℕ) × (j ≤ n) × (n < j + w) × FailsBehind n t)
+        → ((d : FailCause) (a : ℤ) → plain_run j t ≡ went v → plain_run (j + w) t ≡ failed d a → (n : ℕ)
+        × (j ≤ n) × (n < j + w) × FailsBehind n t)
         → (n : ℕ) × (j ≤ n) × (n < j + suc w) × FailsBehind n t
     by_next (went u) g more =
-        let one : j + suc w ≡ j + w + 1 = omega arith in
-        (j + w, omega arith, omega arith, (u, c, at, g, step_after t u (j + w) (failed c at) g (ap (λ k. plain_run k t) (sym one) ∙ f)))
-    by_next halted g more = absurd (let bad : halted ≡ failed c at = sym (up_halted t (j + w) (j + suc w) (omega arith) g) ∙ f in cc)
+        let one : j + suc w ≡ j + w + 1 = omega arith in (
+          j + w,
+          omega arith,
+          omega arith,
+          (u, c, at, g, step_after t u (j + w) (failed c at) g (ap (λ k. plain_run k t) (sym one) ∙ f)),
+        )
+    by_next halted g more =
+        absurd (let bad : halted ≡ failed c at =
+        sym (up_halted t (j + w) (j + suc w) (omega arith) g) ∙ f in cc)
     by_next (failed d a) g more = let h = more d a e g in (h.0, h.1, (let k = h.2 in omega (arith, k)), h.3)
 
 -- ---- the greatest matched point up to a number of instructions
@@ -206,14 +221,19 @@ module _ (l : Layout) (o : OState) where
       → j + weight_of l p ≤ n → ((q : OState) → Reached l o (j + weight_of l p) q → Greatest l o n)
       → Greatest l o n
   greatest_on n j p r le (goes q) e ge more = more q (goes_on r e)
-  greatest_on n j p r le halts e ge more = record { at = j; state = p; reached = r; within = le; rest = inr (ge, rw e tt) }
-  greatest_on n j p r le fails e ge more = record { at = j; state = p; reached = r; within = le; rest = inr (ge, rw e tt) }
+  greatest_on n j p r le halts e ge more =
+      record { at = j; state = p; reached = r; within = le; rest = inr (ge, rw e tt) }
+  greatest_on n j p r le fails e ge more =
+      record { at = j; state = p; reached = r; within = le; rest = inr (ge, rw e tt) }
 
   greatest_from : (fuel n j : ℕ) (p : OState) → Reached l o j p → j ≤ n → n ≤ j + fuel → Greatest l o n
-  greatest_from zero n j p r le up = let w = weight_some l p in record { at = j; state = p; reached = r; within = le; rest = inl (omega arith) }
+  greatest_from zero n j p r le up = let w =
+      weight_some l p in record { at = j; state = p; reached = r; within = le; rest = inl (omega arith) }
   greatest_from (suc fuel) n j p r le up = elim (cases_lt n (j + weight_of l p)) as (λ _. Greatest l o n) [
     | inl lt ↦ record { at = j; state = p; reached = r; within = le; rest = inl lt }
-    | inr ge ↦ (let w = weight_some l p in greatest_on n j p r le (overlay_step l p) refl ge (λ q r'. greatest_from fuel n (j + weight_of l p) q r' ge (omega arith)))
+    | inr ge ↦
+        (let w = weight_some l p in greatest_on n j p r le (overlay_step l p)
+        refl ge (λ q r'. greatest_from fuel n (j + weight_of l p) q r' ge (omega arith)))
   ]
 
   greatest : (n : ℕ) → Greatest l o n
@@ -236,17 +256,23 @@ module _ (l : Layout) (Good : OState → State Word → Type 0) (carries : Carri
   carried o t g fails halted ee er h = absurd h
 
   pub simulates : Simulates l Good
-  simulates o t g = carried o t g _ _ refl refl (one_step l o t (carries.ready o t g) (carries.flat o t g) (carries.looks o t g))
+  simulates o t g =
+      carried o t g _ _ refl refl
+      (one_step l o t (carries.ready o t g) (carries.flat o t g) (carries.looks o t g))
 
-module _ (l : Layout) (Good : OState → State Word → Type 0) (flat : (p : OState) (u : State Word) → Good p u → IsFlat l p u) (sim : Simulates l Good) (o : OState) (t : State Word) (good : Good o t) where
+module _ (l : Layout) (Good : OState → State Word → Type 0)
+    (flat : (p : OState) (u : State Word) → Good p u → IsFlat l p u) (sim : Simulates l Good) (o : OState)
+    (t : State Word) (good : Good o t) where
   abbrev At : ℕ → OState → Type 0
   At j p = (u : State Word) × (plain_run j t ≡ went u) × Good p u
 
   next : (j : ℕ) (p q : OState) (u : State Word) (e : Ending) (r : Outcome Word) → plain_run j t ≡ went u
       → e ≡ goes q → plain_run (weight_of l p) u ≡ r → EndAlike Good e r → At (j + weight_of l p) q
-  next j p q u e (went v) ej eq er h = let k : EndAlike Good (goes q) (went v) = rw eq at h in (v, run_then id id j (weight_of l p) t u _ ej er, k)
+  next j p q u e (went v) ej eq er h = let k : EndAlike Good (goes q) (went v) =
+      rw eq at h in (v, run_then id id j (weight_of l p) t u _ ej er, k)
   next j p q u e halted ej eq er h = absurd (let k : EndAlike Good (goes q) halted = rw eq at h in k)
-  next j p q u e (failed c at) ej eq er h = absurd (let k : EndAlike Good (goes q) (failed c at) = rw eq at h in k)
+  next j p q u e (failed c at) ej eq er h =
+      absurd (let k : EndAlike Good (goes q) (failed c at) = rw eq at h in k)
 
   start_at : At 0 o
   unfolding run_of
@@ -255,7 +281,8 @@ module _ (l : Layout) (Good : OState → State Word → Type 0) (flat : (p : OSt
   -- at each matched point the property holds
   pub good_at : (j : ℕ) (p : OState) → Reached l o j p → At j p
   good_at _ _ begins = start_at
-  good_at _ q (goes_on {j = j} {p = p} r e) = let h = good_at j p r in next j p q h.0 _ _ h.1 e refl (sim p h.0 h.2)
+  good_at _ q (goes_on {j = j} {p = p} r e) = let h =
+      good_at j p r in next j p q h.0 _ _ h.1 e refl (sim p h.0 h.2)
 
   flat_at : (j : ℕ) (p : OState) → Reached l o j p
       → (u : State Word) × (plain_run j t ≡ went u) × IsFlat l p u
@@ -297,11 +324,15 @@ module _ (l : Layout) (Good : OState → State Word → Type 0) (flat : (p : OSt
 
   -- a plain run that has gone so far hasn't ended before
   not_halted : (n k : ℕ) (u : State Word) → plain_run n t ≡ halted → plain_run k t ≡ went u → k < n
-  not_halted n k u e f = elim (cases_lt k n) as (λ _. k < n) [ inl lt ↦ lt | inr ge ↦ (let bad : halted ≡ went u = sym (up_halted t n k ge e) ∙ f in cc) ]
+  not_halted n k u e f =
+      elim (cases_lt k n) as (λ _. k < n)
+      [ inl lt ↦ lt | inr ge ↦ (let bad : halted ≡ went u = sym (up_halted t n k ge e) ∙ f in cc) ]
 
   not_failed : (n k : ℕ) (u : State Word) (c : FailCause) (at : ℤ) → plain_run n t ≡ failed c at
       → plain_run k t ≡ went u → k < n
-  not_failed n k u c at e f = elim (cases_lt k n) as (λ _. k < n) [ inl lt ↦ lt | inr ge ↦ (let bad : failed c at ≡ went u = sym (up_failed t n k c at ge e) ∙ f in cc) ]
+  not_failed n k u c at e f =
+      elim (cases_lt k n) as (λ _. k < n)
+      [ inl lt ↦ lt | inr ge ↦ (let bad : failed c at ≡ went u = sym (up_failed t n k c at ge e) ∙ f in cc) ]
 
   one_end : (n k : ℕ) (c : FailCause) (at : ℤ) → plain_run n t ≡ halted → plain_run k t ≡ failed c at → ⊥
   one_end n k c at e f = elim (cases_lt n k) as (λ _. ⊥) [
@@ -332,13 +363,17 @@ module _ (l : Layout) (Good : OState → State Word → Type 0) (flat : (p : OSt
       let w = g.within in
       let same : g.at ≡ n = omega (arith, lt, w) in
       (g.state, subst (λ k. Reached l o k g.state) same g.reached, ex)
-  halts_at n g fails ex u e f = let b = failed_by g.at g.state g.reached ex in absurd (one_end (n + 1) (g.at + weight_of l g.state) b.0 b.1 f b.2)
+  halts_at n g fails ex u e f = let b =
+      failed_by g.at g.state g.reached ex in
+      absurd (one_end (n + 1) (g.at + weight_of l g.state) b.0 b.1 f b.2)
 
   plain_halts : (n : ℕ) → HaltsBehind n t → Halting n
-  plain_halts n h = let g = greatest l o n in halts_at n g (overlay_step l g.state) refl h.0 h.1 (next_is t h.0 n halted h.1 h.2)
+  plain_halts n h = let g =
+      greatest l o n in halts_at n g (overlay_step l g.state) refl h.0 h.1 (next_is t h.0 n halted h.1 h.2)
 
   abbrev Failing : ℕ → Type 0
-  Failing n = (j : ℕ) × (p : OState) × Reached l o j p × (j ≤ n) × (n < j + weight_of l p) × (overlay_step l p ≡ fails)
+  Failing n = (j : ℕ) × (p : OState) × Reached l o j p × (j ≤ n) × (n < j + weight_of l p)
+      × (overlay_step l p ≡ fails)
 
   fails_at : (n : ℕ) (g : Greatest l o n) (x : Ending) → overlay_step l g.state ≡ x
       → (u : State Word) (c : FailCause) (at : ℤ) → plain_run n t ≡ went u → plain_run (n + 1) t ≡ failed c at
@@ -348,13 +383,16 @@ module _ (l : Layout) (Good : OState → State Word → Type 0) (flat : (p : OSt
       let lt = not_failed (n + 1) (g.at + weight_of l g.state) h.0 c at f h.1 in
       let past = passes n g q ex in
       absurd (omega (arith, lt, past))
-  fails_at n g halts ex u c at e f = absurd (one_end (g.at + 1) (n + 1) c at (halted_by g.at g.state g.reached ex) f)
+  fails_at n g halts ex u c at e f =
+      absurd (one_end (g.at + 1) (n + 1) c at (halted_by g.at g.state g.reached ex) f)
   fails_at n g fails ex u c at e f =
       let b = failed_by g.at g.state g.reached ex in
       (g.at, g.state, g.reached, g.within, not_failed (g.at + weight_of l g.state) n u b.0 b.1 b.2 e, ex)
 
   plain_fails : (n : ℕ) → FailsBehind n t → Failing n
-  plain_fails n h = let g = greatest l o n in fails_at n g (overlay_step l g.state) refl h.0 h.1 h.2 h.3 (next_is t h.0 n (failed h.1 h.2) h.3 h.4)
+  plain_fails n h = let g =
+      greatest l o n in fails_at n g (overlay_step l g.state)
+      refl h.0 h.1 h.2 h.3 (next_is t h.0 n (failed h.1 h.2) h.3 h.4)
 
   abbrev Going : ℕ → Type 0
   Going n = (j : ℕ) × (p : OState) × Reached l o j p × (j ≤ n) × (n < j + weight_of l p)
@@ -362,11 +400,14 @@ module _ (l : Layout) (Good : OState → State Word → Type 0) (flat : (p : OSt
   goes_past : (n : ℕ) (g : Greatest l o n) (x : Ending) → overlay_step l g.state ≡ x → (u : State Word)
       → plain_run n t ≡ went u → n < g.at + weight_of l g.state
   goes_past n g (goes q) ex u e = passes n g q ex
-  goes_past n g halts ex u e = let w = halts_alone l g.state ex in let lt = not_halted (g.at + 1) n u (halted_by g.at g.state g.reached ex) e in omega (arith, w, lt)
-  goes_past n g fails ex u e = let b = failed_by g.at g.state g.reached ex in not_failed (g.at + weight_of l g.state) n u b.0 b.1 b.2 e
+  goes_past n g halts ex u e = let w = halts_alone l g.state ex in let lt =
+      not_halted (g.at + 1) n u (halted_by g.at g.state g.reached ex) e in omega (arith, w, lt)
+  goes_past n g fails ex u e = let b =
+      failed_by g.at g.state g.reached ex in not_failed (g.at + weight_of l g.state) n u b.0 b.1 b.2 e
 
   plain_goes : (n : ℕ) (u : State Word) → plain_run n t ≡ went u → Going n
-  plain_goes n u e = let g = greatest l o n in (g.at, g.state, g.reached, g.within, goes_past n g (overlay_step l g.state) refl u e)
+  plain_goes n u e = let g =
+      greatest l o n in (g.at, g.state, g.reached, g.within, goes_past n g (overlay_step l g.state) refl u e)
 
   pub runs_agree : RunsAgree l o t
   runs_agree = record {

@@ -27,7 +27,17 @@ pub record Taking (maps : State OWord) (region : RegionSeen Frame OWord) (from n
 pub taking-start : (maps : State OWord) (region : RegionSeen Frame OWord) (from n : ℕ)
     → IsTrue (all_there maps.cells from n) → HasRoom region.frames n
     → Taking maps region from n maps region from n
-taking-start maps region from n t r = record { place = refl; there = t; room = r; cells = refl; others = refl; words = refl; region_cells = refl }
+taking-start maps region from n t r =
+    record {
+      place = refl;
+      there = t;
+      room = r;
+      cells = refl;
+      others = refl;
+      words = refl;
+      region_cells =
+          refl;
+    }
 
 room-open : (fs : List (FrameSeen Frame OWord)) (n : ℕ) → HasRoom fs (suc n) → IsNewestOpen fs
 room-open [] n h = h
@@ -53,22 +63,27 @@ pub taking-open : (maps maps' : State OWord) (region region' : RegionSeen Frame 
 taking-open maps maps' region region' from n at zero t h = absurd (omega (arith, h))
 taking-open maps maps' region region' from n at (suc k) t h = room-open region'.frames k t.room
 
-taking-suc : (maps maps' : State OWord) (region region' : RegionSeen Frame OWord) (from n at k : ℕ) (w : OWord)
+taking-suc : (maps maps' : State OWord) (region region' : RegionSeen Frame OWord) (from n at k : ℕ)
+    (w : OWord)
     → Taking maps region from n maps' region' at (suc k) → cell maps'.cells at ≡ Some w
-    → Taking maps region from n (record maps' { cells = drop_cell maps'.cells at }) (record region' { frames = with_item region'.frames w }) (at + 1) k
+    → Taking maps region from n (record maps' { cells = drop_cell maps'.cells at })
+    (record region' { frames = with_item region'.frames w }) (at + 1) k
 taking-suc maps maps' region region' from n at k w t e = record {
   place = (let p = t.place in omega (arith, p));
-  there = subst IsTrue (sym (all_there-drop maps'.cells at (at + 1) k (omega arith))) (there-first maps'.cells at k t.there).1;
+  there = subst IsTrue (sym (all_there-drop maps'.cells at (at + 1) k (omega arith)))
+      (there-first maps'.cells at k t.there).1;
   room = room-item region'.frames k w t.room;
   cells = sym (dropped-first maps'.cells at k) ∙ t.cells;
   others = t.others;
   words = items-item region'.frames w (words_from Plain (drop_cell maps'.cells at) (at + 1) k)
-      ∙ ap (λ ws. with_items region'.frames (w ∷ ws)) (words_from-drop Plain maps'.cells at (at + 1) k (omega arith))
+      ∙ ap (λ ws. with_items region'.frames (w ∷ ws))
+      (words_from-drop Plain maps'.cells at (at + 1) k (omega arith))
       ∙ ap (with_items region'.frames) (sym (words-first Plain maps'.cells at k w e)) ∙ t.words;
   region_cells = t.region_cells;
 }
 
-pub taking-step : (maps maps' maps'' : State OWord) (region region' region'' : RegionSeen Frame OWord) (from n at left : ℕ) (w : OWord)
+pub taking-step : (maps maps' maps'' : State OWord) (region region' region'' : RegionSeen Frame OWord)
+    (from n at left : ℕ) (w : OWord)
     → Taking maps region from n maps' region' at left → 0 < left → cell maps'.cells at ≡ Some w
     → maps'' ≡ record maps' { cells = drop_cell maps'.cells at }
     → region'' ≡ record region' { frames = with_item region'.frames w }
@@ -84,12 +99,20 @@ items-none (f ∷ fs) = ap (λ is. record f { items = is } ∷ fs) (append-nil f
 
 pub taking-end : (maps maps' : State OWord) (region region' : RegionSeen Frame OWord) (from n at left : ℕ)
     → Taking maps region from n maps' region' at left → left ≡ 0
-    → (maps' ≡ record maps { cells = dropped maps.cells from n }) × (region' ≡ record region { frames = with_items region.frames (words_from Plain maps.cells from n) })
+    → (maps' ≡ record maps { cells = dropped maps.cells from n })
+    × (region' ≡ record region { frames = with_items region.frames (words_from Plain maps.cells from n) })
 taking-end maps maps' region region' from n at left t z =
-    let t0 : Taking maps region from n maps' region' at 0 = subst (λ k. Taking maps region from n maps' region' at k) z t in
+    let t0 : Taking maps region from n maps' region' at 0 =
+    subst (λ k. Taking maps region from n maps' region' at k) z t in
     let c = sym (dropped-none maps'.cells at) ∙ t0.cells in
     let o : record maps' { cells = maps.cells } ≡ maps = t0.others in
-    let ws = sym (items-none region'.frames) ∙ ap (with_items region'.frames) (sym (words-none Plain maps'.cells at)) ∙ t0.words in (
-      ap (λ m. record maps' { cells = m }) c ∙ (let over : State OWord → State OWord = λ s. record s { cells = dropped maps.cells from n } in ap over o),
-      ap (λ fs. record region' { frames = fs }) ws ∙ (let made : ℕ → RegionSeen Frame OWord = λ k. record { frames = with_items region.frames (words_from Plain maps.cells from n); cells = k } in ap made t0.region_cells),
+    let ws = sym (items-none region'.frames)
+    ∙ ap (with_items region'.frames) (sym (words-none Plain maps'.cells at)) ∙ t0.words in (
+      ap (λ m. record maps' { cells = m }) c
+          ∙ (let over : State OWord → State OWord =
+          λ s. record s { cells = dropped maps.cells from n } in ap over o),
+      ap (λ fs. record region' { frames = fs }) ws
+          ∙ (let made : ℕ → RegionSeen Frame OWord =
+          λ k. record { frames = with_items region.frames (words_from Plain maps.cells from n); cells = k } in
+          ap made t0.region_cells),
     )

@@ -1,4 +1,5 @@
--- Linked starts: what `link` and the rules of accepted parts give to the invariant, and that it holds at the start.
+-- Linked starts: what `link` and the rules of accepted parts give to the invariant, and that it holds at the
+-- start.
 pub mod ListFacts
 pub mod PartFacts
 pub mod RegionsApart

@@ -17,7 +17,8 @@ pub data Mark (F : Type 0) : Type 0 where
   opens : F → Mark F
   closes : F → Mark F
 
--- What was opened is open until it is closed, and what is closed is the newest that is open: from some that are
+-- What was opened is open until it is closed, and what is closed is the newest that is open: from some that
+-- are
 -- open, newest first, through marks, to those that are open then.
 pub data Brackets (F : Type 0) : List F → List (Mark F) → List F → Type 0 where
   at_end : (open_now : List F) → Brackets F open_now [] open_now
@@ -28,7 +29,8 @@ pub data Brackets (F : Type 0) : List F → List (Mark F) → List F → Type 0 
 
 -- the frames of an overlay, newest first, as they are told: the words of each by the older frames
 abbrev pub frame_told : Layout → OpenFrame → List OpenFrame → FrameTold
-frame_told l f older = record { site = f.site; base = f.base; end = f.end; words = map (flat l older) f.words }
+frame_told l f older =
+    record { site = f.site; base = f.base; end = f.end; words = map (flat l older) f.words }
 
 abbrev pub frames_told : Layout → List OpenFrame → List FrameTold
 frames_told l [] = []

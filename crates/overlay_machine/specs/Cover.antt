@@ -27,7 +27,8 @@ cover l o a =
     cover_count (flat l o.frames) o.maps a
     + count_by (λ b. word_over (flat l o.frames) (framed o.frames b) a) (framed_addresses o.frames)
 
--- Where a plain state is the overlay flattened, and its frames lie in order: that no two places of the plain state
+-- Where a plain state is the overlay flattened, and its frames lie in order: that no two places of the plain
+-- state
 -- have capabilities over one address of a linear region is the same as that each such address has at most one
 -- in the overlay.
 abbrev pub CoverIsOnce : Type 0

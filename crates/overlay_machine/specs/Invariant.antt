@@ -25,7 +25,8 @@ use Rattle.overlay_machine.specs.State.{OpenFrame, OState, Cells, word_of, frame
 use Rattle.overlay_machine.specs.Step.{Ending, overlay_step, weight_of}
 use Rattle.overlay_machine.specs.Flat.{IsFlat}
 use Rattle.overlay_machine.specs.Agree.{EndAlike}
-use Rattle.overlay_machine.specs.Link.{Link, IsTrusted, ranges_of, regions, has_cell, IsStackCell, IsOpenAt, CodeIn}
+use Rattle.overlay_machine.specs.Link.{Link, IsTrusted, ranges_of, regions, has_cell, IsStackCell, IsOpenAt}
+use Rattle.overlay_machine.specs.Link.{CodeIn}
 use Rattle.overlay_machine.specs.Safe.{IsSafe, IsMet}
 use Rattle.overlay_machine.specs.Linked.{SiteOf, Linked}
 
@@ -63,7 +64,8 @@ abbrev pub LiesBelow : OpenFrame → List OpenFrame → Type 0
 LiesBelow f [] = Unit {0}
 LiesBelow f (g ∷ gs) = f.end < g.base
 
--- frames from the newest on: each lies below the older ones, and its call came before this number and after theirs
+-- frames from the newest on: each lies below the older ones, and its call came before this number and after
+-- theirs
 abbrev pub FramesLie : Layout → Cells → ℕ → List OpenFrame → Type 0
 FramesLie l m n [] = Unit {0}
 FramesLie l m n (f ∷ fs) = FrameLies l m f × (f.call < n) × LiesBelow f fs × FramesLie l m f.call fs
@@ -89,7 +91,8 @@ pub record Invariant (g : Link) (o : OState) (t : State Word) : Type 0 where
   -- the plain state is the one that the overlay stands for
   pub flat : IsFlat g.layout o t
   pub pc : PcPart g o.frames o.maps.regs
-  -- the addresses of the regions that are in no frame have cells, and no others; trusted code is as linked; all
+  -- the addresses of the regions that are in no frame have cells, and no others; trusted code is as linked;
+  -- all
   -- cells but those of trusted code hold safe words
   pub there : (a : ℕ) → is_some (cell o.maps.cells a) ≡ has_cell g o.frames a
   pub code : (p : PartSeen) → IsTrusted g p → CodeIn p o.maps.cells

@@ -20,7 +20,8 @@ use Rattle.overlay_machine.specs.Invariant.{Invariant}
 abbrev pub link_of : List PartSeen → ℕ → OverlaySeen → Link
 link_of parts size o = record { parts = parts; size = size; layout = o.layout }
 
--- The overlay's layout is that of these accepted parts, and the invariant holds of the overlay and of the plain
+-- The overlay's layout is that of these accepted parts, and the invariant holds of the overlay and of the
+-- plain
 -- state that it stands for.
 pub record HoldsFor (parts : List PartSeen) (size : ℕ) (o : OverlaySeen) (t : State Word) : Type 0 where
   pub linked : Linked (link_of parts size o)
@@ -32,7 +33,8 @@ SameA0 o t = reg t.regs A0 ≡ flat o.layout o.state.frames (reg o.state.maps.re
 
 -- After the instructions for which the step stands the plain machine has gone on to a state of which the
 -- invariant holds with the new overlay, or it halts with the first of them and the same a0, or it has failed.
-abbrev pub KeepsBy : List PartSeen → ℕ → OverlaySeen → State Word → OStep → OverlaySeen → Outcome Word → Type 0
+abbrev pub KeepsBy : List PartSeen → ℕ → OverlaySeen → State Word → OStep → OverlaySeen → Outcome Word
+    → Type 0
 KeepsBy parts size old t (Went event) new (went u) = HoldsFor parts size new u
 KeepsBy parts size old t Halted new halted = (weight_of old.layout old.state ≡ 1) × SameA0 old t
 KeepsBy parts size old t Failed new (failed cause at) = Unit {0}

@@ -1,5 +1,6 @@
 -- What was linked: the accepted parts with a size of stack, and the layout of the overlay that came of them.
-use Rattle.std.specs.Prelude.{◌≡◌, ℕ, ◌+◌, ◌-◌, ◌≤◌, Bool, true, false, ◌&&◌, not, is_some, List, length, slice_get, Some, None}
+use Rattle.std.specs.Prelude.{◌≡◌, ℕ, ◌+◌, ◌-◌, ◌≤◌, Bool, true, false, ◌&&◌, not, is_some, List, length}
+use Rattle.std.specs.Prelude.{slice_get, Some, None}
 use Rattle.std.specs.List.{Contains}
 use Rattle.cap_words.specs.declared.Word.{Word}
 use Rattle.lcm_machine.specs.Regions.{Region}
@@ -50,12 +51,16 @@ data_region p = let r = ranges_of p in record { base = r.data_base; end = r.data
 abbrev pub stack_region : Layout → Region
 stack_region l = record { base = l.stack.base; end = l.stack.end; linear = true }
 
--- The regions that untrusted code may use, and whether they may run: the code, the data and the linear area of
+-- The regions that untrusted code may use, and whether they may run: the code, the data and the linear area
+-- of
 -- an untrusted part, and the stack.
 pub data IsUsable (g : Link) : Region → Bool → Type 0 where
-  own_code : (p : PartSeen) (r : Region) → IsUntrusted g p → Contains (region false (code_span p)) r → IsUsable g r true
-  own_data : (p : PartSeen) (r : Region) → IsUntrusted g p → Contains (region false (data_span p)) r → IsUsable g r false
-  own_linear : (p : PartSeen) (r : Region) → IsUntrusted g p → Contains (region true (linear_span p)) r → IsUsable g r false
+  own_code : (p : PartSeen) (r : Region) → IsUntrusted g p → Contains (region false (code_span p)) r
+      → IsUsable g r true
+  own_data : (p : PartSeen) (r : Region) → IsUntrusted g p → Contains (region false (data_span p)) r
+      → IsUsable g r false
+  own_linear : (p : PartSeen) (r : Region) → IsUntrusted g p → Contains (region true (linear_span p)) r
+      → IsUsable g r false
   the_stack : IsUsable g (stack_region g.layout) false
 
 -- an address outside the code of each trusted part

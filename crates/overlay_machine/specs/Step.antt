@@ -12,7 +12,8 @@ use Rattle.lcm_machine.specs.declared.Place.TheVariants.{R}
 use Rattle.lcm_machine.specs.Maps.{State}
 use Rattle.lcm_machine.specs.Places.{reg}
 use Rattle.lcm_machine.specs.Runs.{code_cap}
-use Rattle.lcm_machine.specs.Row.{put, faces, cell_faces, row, Fetched, some, fetch, step_of, Outcome, went, halted, failed}
+use Rattle.lcm_machine.specs.Row.{put, faces, cell_faces, row, Fetched, some, fetch, step_of, Outcome, went}
+use Rattle.lcm_machine.specs.Row.{halted, failed}
 use Rattle.call_sequence.specs.declared.TheConstants.{CALL_WORDS, RETURN_WORDS, ENTRY_WORDS}
 use Rattle.trusted_border.specs.declared.layout.Layout.{Layout}
 use Rattle.trusted_border.specs.declared.layout.SiteCode.{SiteCode}

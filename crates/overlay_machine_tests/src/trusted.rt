@@ -80,10 +80,10 @@ const ADV_END: &[u8] = b"\
 .export go go shared
 ";
 
-// Each line is a run: a letter, lines of `t` before its first call, before its second and behind it, the lines
-// of `go` and of `back`, and what is told: the events, and at the end the weight of the steps that went, and
-// where the last one failed what it weighs. In lines `;` is a newline, `&` are four instructions: `adv` enters
-// `again`.
+// Each line is a run: a letter, lines of `t` before its first call, before its second and behind it, the
+// lines of `go` and of `back`, and what is told: the events, and at the end the weight of the steps that
+// went, and where the last one failed what it weighs. In lines `;` is a newline, `&` are four instructions:
+// `adv` enters `again`.
 //
 // A call's own conditions: the cursor one above the base, at it, past the end and below 0; a word of c1 or
 // c2 that isn't sealed, under another seal, or the other half; halves of a pair in c1 and c2. With a pc that
@@ -127,8 +127,9 @@ b|||halt|halt|halt|fail 0 20
 -|||halt|load rcode data;cca data 1;load rdata data;cca data -1;&|halt|call 0 65599 65599;enter 0 0 hop 0 0;call 1 65598 65598;halt 87
 -||xjmp rcode rdata|halt|cca data 2;load rcode data;cca data 1;load rdata data;cca data -3;&|halt|call 0 65599 65599;enter 0 0 out;left 0;halt 73";
 
-// Returns: a pair that is moved, stored, loaded and copied; by trusted code; one inside another. Then an older
-// pair, halves of two calls, a stack one short, none, and one above the base, and words that are no halves.
+// Returns: a pair that is moved, stored, loaded and copied; by trusted code; one inside another. Then an
+// older pair, halves of two calls, a stack one short, none, and one above the base, and words that are no
+// halves.
 const RETURNS: &[u8] = b"\
 -|||halt|move g1 rdata;move g2 rcode;xjmp g2 g1|halt|call 0 65599 65599;ret 0 65599 65599;halt 52
 -|||halt|store data rdata;load g1 data;xjmp rcode g1|halt|call 0 65599 65599;ret 0 65599 65599;halt 52

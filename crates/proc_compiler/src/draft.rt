@@ -48,13 +48,15 @@ impl Model for Draft {
     ghost Value = { Drafted };
 
     ghost view = { λ d. record {
-      laid = record { code = d.code.items; sites = d.sites.items; entries = d.entries.items; labels = d.labels.items };
+      laid = record
+          { code = d.code.items; sites = d.sites.items; entries = d.entries.items; labels = d.labels.items };
       spot = record { stack_base = d.stack_base; epilogue = d.epilogue };
       first = d.first;
       seals = d.seals;
     } };
 
-    ghost invariant = { λ d. InStep d.sites.items (record { stack_base = d.stack_base; epilogue = d.epilogue }) d.first d.seals d.lot };
+    ghost invariant = { λ d. InStep d.sites.items (record { stack_base = d.stack_base; epilogue = d.epilogue })
+        d.first d.seals d.lot };
 }
 
 impl Draft {
@@ -511,7 +513,8 @@ impl Draft {
 
     // The words that set four registers to 0.
     fn clear(&mut self, a: Reg, b: Reg, c: Reg, d: Reg) -> Result<(), AllocError>
-        ensures { OnOk result (self.new ≡ with_words (map word_of (map zero_of (a ∷ b ∷ c ∷ d ∷ []))) self.old) }
+        ensures { OnOk result
+            (self.new ≡ with_words (map word_of (map zero_of (a ∷ b ∷ c ∷ d ∷ []))) self.old) }
     {
         self.word(Instr::Move(a, Operand::Imm(0)))?;
         self.word(Instr::Move(b, Operand::Imm(0)))?;

@@ -198,7 +198,8 @@ fn loads(draft: &mut Draft, f: Frame, args: &[Arg], slot: u32, from: u32) -> Res
     requires few { from + arg_registers (args_of args.now) ≤ 4 }
     requires room { slot + 4 ≤ LAST_PLACE }
     ensures written { OnOk result (draft.new ≡ with_items (load_args f slot from (args_of args.now)) draft.old) }
-    ensures grown { OnOk result (length draft.new.laid.code ≡ length draft.old.laid.code + loads_words (args_of args.now)) }
+    ensures grown { OnOk result
+        (length draft.new.laid.code ≡ length draft.old.laid.code + loads_words (args_of args.now)) }
     ensures sited { OnOk result (draft.new.laid.sites ≡ draft.old.laid.sites) }
     ensures kept { OnOk result (draft.new.seals ≡ draft.old.seals) }
 {

@@ -12,7 +12,8 @@ use Rattle.proc_language.specs.declared.module.ModuleFields.{ModuleFields}
 use Rattle.proc_language.specs.Limits.{Each, GlobalFits, LengthFits, param_registers, params_registers}
 use Rattle.proc_names.specs.declared.scope.Variable.TheVariants as named
 use Rattle.proc_names.specs.declared.scope.Callee.TheVariants as called
-use Rattle.proc_names.specs.Names.{or_else, is_callback, is_array, param_at, global_at, variable_named, callee_named, passed_named}
+use Rattle.proc_names.specs.Names.{or_else, is_callback, is_array, param_at, global_at, variable_named}
+use Rattle.proc_names.specs.Names.{callee_named, passed_named}
 use Rattle.proc_program.specs.Lower.{words, words_in, word_at, param_place}
 use Rattle.proc_program.specs.Limits.{VariableWithin, CalleeWithin}
 
@@ -41,7 +42,8 @@ one_more xs x ys = append_assoc xs (x ∷ []) ys
 
 -- ---- names
 
-position_within : {A : Type 0} (test : A → Bool) (xs : List A) (i : ℕ) → position test xs ≡ Some i → i < length xs
+position_within : {A : Type 0} (test : A → Bool) (xs : List A) (i : ℕ) → position test xs ≡ Some i
+    → i < length xs
 position_within test [] i e = cc
 position_within test (x ∷ xs) i e = (position-Some test (x ∷ xs) i x e).0
 

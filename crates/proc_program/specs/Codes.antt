@@ -9,7 +9,8 @@ use Rattle.proc_program.specs.declared.program.Handle.{Handle}
 use Rattle.proc_program.specs.declared.program.Handle.TheVariants.{Given, Own, Imported}
 use Rattle.proc_program.specs.declared.program.Place.{Place}
 use Rattle.proc_program.specs.declared.program.Place.TheVariants.{Local, Global}
-use Rattle.proc_program.specs.Program.{Exp, Number, Load, Element, Call, Binary, Args, no_args, value, pass, Step, Set, SetAt, Do, If, While, Return, Halt, Block, no_steps, step}
+use Rattle.proc_program.specs.Program.{Exp, Number, Load, Element, Call, Binary, Args, no_args, value, pass}
+use Rattle.proc_program.specs.Program.{Step, Set, SetAt, Do, If, While, Return, Halt, Block, no_steps, step}
 
 -- ---- small things
 
@@ -79,7 +80,8 @@ abbrev mutual
   exp_in : Gv → Exp
   exp_in (gnum n) = Number n
   exp_in (gcons gnil x) = Load (place_in x)
-  exp_in (gcons (gnum first) (gcons (gnum length) e)) = Element (record { first = first; length = length }) (exp_in e)
+  exp_in (gcons (gnum first) (gcons (gnum length) e)) =
+      Element (record { first = first; length = length }) (exp_in e)
   exp_in (gcons (gcons gnil (gnum site)) (gcons h xs)) = Call site (handle_in h) (args_in xs)
   exp_in (gcons (gcons (gnum n) o) (gcons a b)) = Binary (sign_in o) (exp_in a) (exp_in b)
   exp_in _ = Number 0
@@ -127,7 +129,8 @@ abbrev mutual
 abbrev mutual
   step_in : Gv → Step
   step_in (gcons (gnum n) (gcons x e)) = Set (place_in x) (exp_in e)
-  step_in (gcons (gcons (gnum first) (gnum length)) (gcons i e)) = SetAt (record { first = first; length = length }) (exp_in i) (exp_in e)
+  step_in (gcons (gcons (gnum first) (gnum length)) (gcons i e)) =
+      SetAt (record { first = first; length = length }) (exp_in i) (exp_in e)
   step_in (gcons gnil e) = Do (exp_in e)
   step_in (gcons (gcons gnil gnil) (gcons c (gcons a b))) = If (exp_in c) (block_in a) (block_in b)
   step_in (gcons (gcons gnil (gnum n)) (gcons c b)) = While (exp_in c) (block_in b)

@@ -3,7 +3,8 @@ use Rattle.std.specs.Prelude.{ℕ, ◌+◌, ◌≤◌, ◌<◌, IsTrue, Bool, tr
 use Rattle.std.specs.Int.{w64}
 use Rattle.std.specs.Int.RustNames.{FitsSigned}
 use Rattle.cap_words.specs.declared.TheConstants.{LAST_PLACE}
-use Rattle.proc_language.specs.declared.TheConstants.{MOST_ITEMS, MOST_REGISTERS, MOST_LOCALS, LARGEST_LITERAL}
+use Rattle.proc_language.specs.declared.TheConstants.{MOST_ITEMS, MOST_REGISTERS, MOST_LOCALS}
+use Rattle.proc_language.specs.declared.TheConstants.{LARGEST_LITERAL}
 use Rattle.proc_language.specs.Words.{is_name}
 use Rattle.proc_language.specs.Limits.{Each, SealsFit}
 use Rattle.proc_names.specs.declared.scope.Variable.{Variable}
@@ -64,7 +65,8 @@ pub record Scope : Type 0 where
   pub words : ℕ
 
 abbrev pub scope_of : Part → Scope
-scope_of part = record { imports = length part.imports; procs = length part.procs; words = length part.globals }
+scope_of part =
+    record { imports = length part.imports; procs = length part.procs; words = length part.globals }
 
 module _ (s : Scope) where
   abbrev pub PlaceFits : Place → Type 0

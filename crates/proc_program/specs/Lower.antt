@@ -10,7 +10,8 @@ use Rattle.proc_language.specs.declared.module.Proc.{Proc}
 use Rattle.proc_language.specs.declared.module.ModuleFields.{ModuleFields}
 use Rattle.proc_language.specs.Tree as tree
 use Rattle.proc_language.specs.Tree.{Expr, Args, Stmt, number, var, element, call, op, no_args, value, proc}
-use Rattle.proc_language.specs.Tree.{set, set_at, do_call, if_then, if_else, while, return, halt, no_stmts, stmt}
+use Rattle.proc_language.specs.Tree.{set, set_at, do_call, if_then, if_else, while, return, halt, no_stmts}
+use Rattle.proc_language.specs.Tree.{stmt}
 use Rattle.proc_language.specs.Limits.{params_registers}
 use Rattle.proc_language.specs.StmtView.{block_of as stmts_of}
 use Rattle.proc_names.specs.declared.scope.Variable.{Variable}

@@ -7,9 +7,12 @@ ghost use Rattle.proc_language.specs.View.{args_of as tree_args};
 ghost use Rattle.proc_names.specs.Names.{variable_named, callee_named, passed_named};
 ghost use Rattle.proc_names.specs.Calls.{calls, args_calls, stmt_calls, block_calls, proc_calls};
 ghost use Rattle.proc_program.specs.Limits.{VariableWithin, CalleeWithin};
-ghost use Rattle.proc_program.specs.Lower.{words, words_in, word_at, row_at, row_of, param_place, variable_of};
-ghost use Rattle.proc_program.specs.Lower.{handle_by, handle_of, passed_of, exp_of, args_of, call_of, step_of};
-ghost use Rattle.proc_program.specs.Lower.{steps_of, procedure_of, procedures_of, globals_of, import_of, header_of, part_of};
+ghost use Rattle.proc_program.specs.Lower.{words, words_in, word_at, row_at, row_of, param_place};
+ghost use Rattle.proc_program.specs.Lower.{variable_of};
+ghost use Rattle.proc_program.specs.Lower.{handle_by, handle_of, passed_of, exp_of, args_of, call_of};
+ghost use Rattle.proc_program.specs.Lower.{step_of};
+ghost use Rattle.proc_program.specs.Lower.{steps_of, procedure_of, procedures_of, globals_of, import_of};
+ghost use Rattle.proc_program.specs.Lower.{header_of, part_of};
 
 use crate::needs::{params_registers, words_needed};
 use crate::program::{

@@ -37,7 +37,8 @@ fuller_tick b m m' s = record { is = is }
     is zero (suc e) feed lt =
         let n : zero + suc e ≡ suc e = omega arith in
         let more : zero < (m' e feed).ticks + 1 = omega arith in
-        subst (λ x. Later zero (tick m zero feed) (tick m' x feed)) (sym n) (inr (refl, refl, more, (_, refl)))
+        subst (λ x. Later zero (tick m zero feed) (tick m' x feed)) (sym n)
+        (inr (refl, refl, more, (_, refl)))
     is (suc f) e feed lt =
         let n : suc f + e ≡ suc (f + e) = omega arith in
         subst (λ x. Later (suc f) (counted (m f feed)) (tick m' x feed)) (sym n)

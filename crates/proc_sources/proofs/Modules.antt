@@ -87,7 +87,8 @@ unfolding token_module_in
 token_parts text m e = token_module_so text (parsed_tokens text) m refl e
 
 -- what is left of it
-erased_so : (r : Result TokenModuleFields SourceFault) (m : ModuleFields) → (r >>= (λ t. Ok (erased t))) ≡ Ok m
+erased_so : (r : Result TokenModuleFields SourceFault) (m : ModuleFields)
+    → (r >>= (λ t. Ok (erased t))) ≡ Ok m
     → (t : TokenModuleFields) × (r ≡ Ok t) × (m ≡ erased t)
 erased_so (Ok t) m e = (t, refl, cc)
 erased_so (Err f) m e = absurd (cc)

@@ -114,7 +114,8 @@ module _ (c : ComponentFields) where
     unfolding put instrs
     here (does i) l f b s r = (starts_here l (put spot l (does i)) (i ∷ []) s r (f, tt) refl refl refl refl).0
     here (guards is) l f b s r =
-        starts_here l (put spot l (guards is)) (instrs spot (length l.code) (length l.sites) (guards is)) s r (
+        starts_here l (put spot l (guards is)) (instrs spot (length l.code) (length l.sites) (guards is))
+        s r (
           tt,
           (
             near_operand (length l.code) FAIL_AT b (omega arith),

@@ -1,5 +1,6 @@
 -- An audit, line by line.
-use Rattle.std.proofs.Common.{◌≡◌, ℕ, ◌+◌, ◌<◌, ◌≤◌, ◌^◌, Bool, true, false, List, [], ◌∷◌, ◌++◌, length, Option, Some}
+use Rattle.std.proofs.Common.{◌≡◌, ℕ, ◌+◌, ◌<◌, ◌≤◌, ◌^◌, Bool, true, false, List, [], ◌∷◌, ◌++◌, length}
+use Rattle.std.proofs.Common.{Option, Some}
 use Rattle.std.proofs.Common.{None, Result, Ok, Err, refl, sym, ap, ◌∙◌, subst, arith}
 use Rattle.std.specs.Prelude.{if◌then◌else◌}
 use Rattle.line_fields.specs.Fields.{field, lines, is_none_left}
@@ -10,7 +11,8 @@ use Rattle.run_audit.specs.declared.fault.AuditFault.TheVariants.{NoMemory}
 use Rattle.run_audit.specs.declared.line.Line.{Line}
 use Rattle.run_audit.specs.declared.line.Line.TheVariants.{Call, Ret, Enter, Pass, Leave, End}
 use Rattle.run_audit.specs.Lines.{line_in, is_end}
-use Rattle.run_audit.specs.Audit.{OpenSeen, is_ended, at_end, goes_on, stepped, judged, audited_from, Leads, Answers}
+use Rattle.run_audit.specs.Audit.{OpenSeen, is_ended, at_end, goes_on, stepped, judged, audited_from, Leads}
+use Rattle.run_audit.specs.Audit.{Answers}
 use Rattle.run_audit.specs.Audit.{followed}
 
 -- ---- lines
@@ -56,7 +58,8 @@ some_left : (ts : List (List ℕ)) → is_none_left ts ≡ false → 0 < length 
 some_left [] h = absurd cc
 some_left (t ∷ ts) h = omega arith
 
-none_at : (s : OpenSeen) (n : ℕ) (left : List (List ℕ)) → field left ≡ None → audited_from s n left ≡ Err (Form n)
+none_at : (s : OpenSeen) (n : ℕ) (left : List (List ℕ)) → field left ≡ None
+    → audited_from s n left ≡ Err (Form n)
 unfolding audited_from
 none_at s n [] h = refl
 none_at s n (t ∷ ts) h = absurd (let e : Some (t, ts) ≡ None = h in cc)
@@ -106,7 +109,8 @@ pub few : (left : List (List ℕ)) (text : List ℕ) → left ≡ lines text →
 few left text is lt = omega (arith, ap length is, parts_len 10 text)
 
 -- at the end line
-either_answers : (n : ℕ) (b : Bool) → (let due : Result (Unit {0}) AuditFault = if b then Ok tt else Err (Form n) in
+either_answers : (n : ℕ) (b : Bool)
+    → (let due : Result (Unit {0}) AuditFault = if b then Ok tt else Err (Form n) in
     Answers due due)
 either_answers n true = refl
 either_answers n false = refl

@@ -1,5 +1,5 @@
-//! Checks the text of a run by itself: whether it has the form of what a run writes, and whether its calls and
-//! returns are bracketed.
+//! Checks the text of a run by itself: whether it has the form of what a run writes, and whether its calls
+//! and returns are bracketed.
 //!
 //! It knows no machine and no component. docs/AUDIT.md has the rules, and docs/FORMATS.md the lines.
 #![tactic(auto)]

@@ -5,8 +5,8 @@ ghost use Rattle.run_audit.specs.Told.{is_wide, is_below, same_site, same_range,
 use line_fields::Parts;
 use std::marker::Model;
 
-/// What a call line and its ret line tell of a frame: the name of a part, a site of it, the first and the last
-/// address of a range, and the words. A contract sees the texts of the words.
+/// What a call line and its ret line tell of a frame: the name of a part, a site of it, the first and the
+/// last address of a range, and the words. A contract sees the texts of the words.
 #[derive(Debug, Drop)]
 pub struct Told<'a> {
     pub(crate) part: &'a [u8],

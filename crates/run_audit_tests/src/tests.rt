@@ -1,5 +1,5 @@
-//! What no clause says: that the definitions which the clauses cite mean what docs/AUDIT.md says. The runs are
-//! those of worked examples, and each other case was worked out by hand.
+//! What no clause says: that the definitions which the clauses cite mean what docs/AUDIT.md says. The runs
+//! are those of worked examples, and each other case was worked out by hand.
 //!
 //! Many cases stand in one text, one a line: a constant of many parts would be proved slowly.
 use run_audit::audit;

@@ -1,4 +1,4 @@
-//! What no clause says: that the definitions which the clauses cite mean what docs/LANGUAGE.md says. Each
+//! What no clause says: that the definitions which the clauses cite mean what docs/TOKENS.md says. Each
 //! place was worked out by hand.
 //!
 //! Many cases stand in one text, one a line: a constant of many parts would be proved slowly.
@@ -12,6 +12,14 @@ use token_names::resolve_tokens;
 use token_parse::parse_tokens;
 
 // The numbers of faults.
+const UNKNOWN: u8 = 6;
+
+const TWICE: u8 = 7;
+
+const ARITY: u8 = 8;
+
+const WRONG_KIND: u8 = 9;
+
 const EMPTY: u8 = 12;
 
 const FULL: u8 = 13;
@@ -22,13 +30,47 @@ const SPLIT: u8 = 15;
 
 const DEAD: u8 = 16;
 
-// The header of a module, a global, an array, and two procedures: `u` is given one token, `v` two tokens and
+// The header of a module, an import, a global, an array, and two procedures: `u` is given one token, `v` two tokens and
 // a number.
-const HEAD: &[u8] = b"module m code 1 data 3 closure 0 returns 1 0 stack 9;global x;global r[4];\
+const HEAD: &[u8] = b"module m code 1 data 3 closure 0 returns 1 0 stack 9;import p.out/1;\
+global x;global r[4];\
 proc u(token a){spend a;}proc v(token a,n,token b){spend a;spend b;return n;}";
 
 // Below, each line is the parameters and the body of a procedure, and what follows it, where `!` marks the
 // place of the fault and is no part of the text.
+
+const UNKNOWN_FAULTS: &[u8] = b"(){make !t;}
+(){spend !t;}
+(){u(token !t);}
+(){u(token !x);}
+(){out(1, token !t);}
+(){token t; !t();}
+(){token t; make t; spend t; spend !s;}";
+
+const TWICE_FAULTS: &[u8] = b"(token t, token !t){}
+(t){token !t;}
+(token t){local !t;}
+(){token t; local !t;}
+(){local t; token !t;}";
+
+const ARITY_FAULTS: &[u8] = b"(){!u();}
+(token t){!u(1);}
+(token t){!u(token t, 1);}
+(token t){!v(token t, 1);}
+(token t, token s){!v(1, token t, token s);}
+(token t, token s){!v(token t, token s, 1);}
+(token t){!out(token t);}";
+
+const WRONG_KIND_FAULTS: &[u8] = b"(t){make !t;}
+(){local t; spend !t;}
+(c/1){spend !c;}
+(t){u(token !t);}
+(token t){x = !t;}
+(token t){!t = 1;}
+(token t){out(1, token !t);}
+(token t, c/1){c(1, token !t);}
+(){}export proc g(token !t){spend t;}
+(){}proc h(c/1){}proc g(token t){h(proc !t);}";
 
 // The last ones: the first fault of several.
 const EMPTY_FAULTS: &[u8] = b"(){token t; spend !t;}
@@ -165,11 +207,19 @@ fn token_fault_of(m: &TokenModule) -> Option<(u8, usize)> {
     }
 }
 
-// The number of the fault of a text that has a resolved module, and its place; else 0.
+// The same, of its names first.
+fn module_fault_of(m: &TokenModule) -> Option<(u8, usize)> {
+    match resolve_tokens(m) {
+        Ok(()) => token_fault_of(m),
+        Err(fault) => Some((fault.number(), fault.place() as usize)),
+    }
+}
+
+// The number of the fault of a text that has a module, and its place; else 0.
 fn fault_of(rt: &impl Abort, alloc: Global, text: &[u8]) -> Option<(u8, usize)> {
     match parsed(rt, alloc, text) {
-        Ok(m) if resolve_tokens(&m).is_ok() => token_fault_of(&m),
-        _ => Some((0, 0)),
+        Ok(m) => module_fault_of(&m),
+        Err(_) => Some((0, 0)),
     }
 }
 
@@ -189,6 +239,15 @@ fn each_is_told(
     for line in faults.split(|byte| *byte == b'\n') {
         line_is_told(rt, alloc, number, line)?;
     }
+    Ok(())
+}
+
+#[test]
+fn faults_of_names(rt: HostRuntime) -> Result<(), Fail> {
+    each_is_told(&rt, rt.alloc(), UNKNOWN, UNKNOWN_FAULTS)?;
+    each_is_told(&rt, rt.alloc(), TWICE, TWICE_FAULTS)?;
+    each_is_told(&rt, rt.alloc(), ARITY, ARITY_FAULTS)?;
+    each_is_told(&rt, rt.alloc(), WRONG_KIND, WRONG_KIND_FAULTS)?;
     Ok(())
 }
 

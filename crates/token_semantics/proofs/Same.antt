@@ -23,15 +23,16 @@ use Rattle.token_semantics.proofs.HandLemmas.{full_of, held, look, put_full, put
 use Rattle.token_semantics.proofs.HandLemmas.{taken_held}
 use Rattle.token_semantics.proofs.HandLemmas.{none_held, token_below, below, below_next, below_le}
 
--- a procedure that ended, and what it didn't hand on was spent
-abbrev pub Owes : List ℕ → Hands → Type 0
-Owes spent hands = (n : ℕ) → count n hands.got ≤ count n hands.gave + count n spent
+-- a procedure that ended: what it didn't hand on it spent, and what it spent is among all that was spent
+pub record Paid (spent : List ℕ) (hands : Hands) : Type 0 where
+  pub own : (n : ℕ) → count n hands.got ≤ count n hands.gave + count n hands.spent
+  pub all : (n : ℕ) → count n hands.spent ≤ count n spent
 
 pub record IsFine (t : TokensTold) (p : Told) : Type 0 where
   pub goes : t.stuck ≡ false
   pub told : t.told ≡ p
   pub once : (n : ℕ) → count n t.ledger.spent ≤ 1
-  pub ended : Each (Owes t.ledger.spent) t.ledger.ended
+  pub ended : Each (Paid t.ledger.spent) t.ledger.ended
 
 -- of each number, how often those that run hold it, and how often they spent it
 pub record Running : Type 0 where
@@ -42,7 +43,7 @@ pub record Running : Type 0 where
 pub record Balanced (r : Running) (book : Ledger) : Type 0 where
   pub sum : (n : ℕ) → r.held n + count n book.spent ≡ below n book.next
   pub paid : (n : ℕ) → r.spent n ≤ count n book.spent
-  pub ended : Each (Owes book.spent) book.ended
+  pub ended : Each (Paid book.spent) book.ended
 
 -- the one tells what the other does, whatever was noted
 abbrev pub Same : Running → Comp → plain.Comp → Type 0
@@ -137,11 +138,13 @@ are_at size s t hands e are = record { rest = are.rest; full = are.full ∙ e; l
 
 -- ---- what a token does
 
-more_spent : (m : ℕ) (spent : List ℕ) (ended : List Hands) → Each (Owes spent) ended
-    → Each (Owes (m ∷ spent)) ended
+more_spent : (m : ℕ) (spent : List ℕ) (ended : List Hands) → Each (Paid spent) ended
+    → Each (Paid (m ∷ spent)) ended
 more_spent m spent [] h = tt
-more_spent m spent (x ∷ ended) h =
-    (λ n. let a = h.0 n in omega (arith, a), more_spent m spent ended h.1)
+more_spent m spent (x ∷ ended) h = (
+  record { own = h.0.own; all = λ n. let a = h.0.all n in omega (arith, a) },
+  more_spent m spent ended h.1,
+)
 
 module _ (ts : List Name) (x : Name) (s u : Full) (hands : Hands) (are : HandsAre (length ts) s hands)
     (r : Running) where
@@ -261,11 +264,10 @@ leave_same size s hands are r clear m m' h book bal fuel feed =
       sum = λ n. let b = bal.sum n in let z = none n in omega (arith, b, z);
       paid = λ n. let b = bal.paid n in omega (arith, b);
       ended = (
-        λ n.
-            let b = bal.paid n in
-            let z = none n in
-            let g = are.had n in
-            omega (arith, b, z, g),
+        record {
+          own = λ n. let z = none n in let g = are.had n in omega (arith, z, g);
+          all = λ n. let b = bal.paid n in omega (arith, b);
+        },
         bal.ended,
       );
     }) fuel feed

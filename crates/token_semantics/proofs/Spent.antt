@@ -15,9 +15,9 @@ use Rattle.token_language.specs.declared.module.TokenModuleFields.{TokenModuleFi
 use Rattle.token_semantics.specs.Hands.{Hands, no_numbers, one, count}
 use Rattle.token_semantics.specs.Told.{TokensTold, fails}
 use Rattle.token_semantics.specs.Meaning.{world, level, start}
-use Rattle.token_semantics.specs.Law.{IsAccepted, IsSettled, AreSpent, TokensAreSpent}
+use Rattle.token_semantics.specs.Law.{IsAccepted, WasSpent, IsSettled, AreSpent, TokensAreSpent}
 use Rattle.token_semantics.proofs.HandLemmas.{below}
-use Rattle.token_semantics.proofs.Same.{Owes, IsFine, Running, Same, same_more, ended_same, with_numbers}
+use Rattle.token_semantics.proofs.Same.{Paid, IsFine, Running, Same, same_more, ended_same, with_numbers}
 use Rattle.token_semantics.proofs.Places.{main_takes}
 use Rattle.token_semantics.proofs.Levels.{level_same}
 
@@ -47,20 +47,21 @@ contained (m ∷ xs) n h = by (n == m) refl (contained xs n)
         let c = rest (omega (arith, h, o)) in
         (suc c.0, let l = c.1 in omega (arith, l), c.2)
 
-settled : (spent : List ℕ) → ((n : ℕ) → count n spent ≤ 1) → (hands : Hands) → Owes spent hands
+settled : (spent : List ℕ) → ((n : ℕ) → count n spent ≤ 1) → (hands : Hands) → Paid spent hands
     → IsSettled spent hands
-settled spent once hands owes n c = by (count n hands.gave) refl
+settled spent once hands paid n c = by (count n hands.gave) refl
   where
-    by : (g : ℕ) → count n hands.gave ≡ g → (count n spent ≡ 1) ⊎ Contains hands.gave n
+    by : (g : ℕ) → count n hands.gave ≡ g → WasSpent spent hands n ⊎ Contains hands.gave n
     by zero e =
         let a = counted hands.got n c.0 c.1 c.2 in
-        let b = owes n in
-        let d = once n in
-        inl (omega (arith, a, b, d, e))
+        let b = paid.own n in
+        let d = paid.all n in
+        let o = once n in
+        inl (omega (arith, a, b, d, e, o), omega (arith, a, b, d, e, o))
     by (suc g) e = inr (contained hands.gave n (omega (arith, e)))
 
 all_settled : (spent : List ℕ) → ((n : ℕ) → count n spent ≤ 1) → (ended : List Hands)
-    → Each (Owes spent) ended
+    → Each (Paid spent) ended
     → All (IsSettled spent) ended
 all_settled spent once [] h k d low = absurd (omega (arith, low))
 all_settled spent once (hands ∷ ended) h zero d low = settled spent once hands h.0

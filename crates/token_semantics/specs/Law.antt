@@ -27,9 +27,13 @@ pub record IsAccepted (m : TokenModuleFields) : Type 0 where
   pub resolved : IsTokenResolved m
   pub checked : IsTyped m ⊎ HasNoTokens m
 
--- each number that was made in a procedure, or handed to it, was spent once or handed on
+-- it was spent by this procedure, once, and nowhere else
+abbrev pub WasSpent : List ℕ → Hands → ℕ → Type 0
+WasSpent spent hands n = (count n hands.spent ≡ 1) × (count n spent ≡ 1)
+
+-- each number that was made in a procedure, or handed to it, was spent by it or handed on
 abbrev pub IsSettled : List ℕ → Hands → Type 0
-IsSettled spent hands = (n : ℕ) → Contains hands.got n → (count n spent ≡ 1) ⊎ Contains hands.gave n
+IsSettled spent hands = (n : ℕ) → Contains hands.got n → WasSpent spent hands n ⊎ Contains hands.gave n
 
 pub record AreSpent (t : TokensTold) (plain : Told) : Type 0 where
   -- it is never stuck

@@ -57,18 +57,26 @@ module _ (t : State Word) where
   there_halts : (n : ℕ) → (plain n (fresh t)).end ≡ None → (plain (n + 1) (fresh t)).end ≡ Some Halted
       → HaltsBehind n t
   there_halts n goes ends =
-      let k = has_gone n goes in
-      (k.0, k.1, by_step k.0 (step_of (λ w. w) (λ w. w) k.0) refl (sym (ap (λ (r : Run). r.end) (next_is n k.0 k.1)) ∙ ends))
+      let k = has_gone n goes in (
+        k.0,
+        k.1,
+        by_step k.0 (step_of (λ w. w) (λ w. w) k.0)
+            refl (sym (ap (λ (r : Run). r.end) (next_is n k.0 k.1)) ∙ ends),
+      )
     where
       by_step : (u : State Word) → (o : Outcome Word) → step_of (λ w. w) (λ w. w) u ≡ o
           → (moved (step_of (λ w. w) (λ w. w) u) (gone u n)).end ≡ Some Halted
           → step_of (λ w. w) (λ w. w) u ≡ halted
-      by_step u (went v) e h = absurd (let bad : None ≡ Some Halted = sym (ap (λ o. (moved o (gone u n)).end) e) ∙ h in cc)
+      by_step u (went v) e h =
+          absurd (let bad : None ≡ Some Halted = sym (ap (λ o. (moved o (gone u n)).end) e) ∙ h in cc)
       by_step u halted e h = e
-      by_step u (failed c at) e h = absurd (let bad : Some (Failed c at) ≡ Some Halted = sym (ap (λ o. (moved o (gone u n)).end) e) ∙ h in cc)
+      by_step u (failed c at) e h =
+          absurd (let bad : Some (Failed c at) ≡ Some Halted =
+          sym (ap (λ o. (moved o (gone u n)).end) e) ∙ h in cc)
 
   fails_there : (n : ℕ) → FailsBehind n t
-      → (cause : FailCause) × (at : ℤ) × ((plain n (fresh t)).end ≡ None) × ((plain (n + 1) (fresh t)).end ≡ Some (Failed cause at))
+      → (cause : FailCause) × (at : ℤ) × ((plain n (fresh t)).end ≡ None)
+      × ((plain (n + 1) (fresh t)).end ≡ Some (Failed cause at))
   fails_there n (u, cause, at, e, h) = (
     cause,
     at,
@@ -80,14 +88,19 @@ module _ (t : State Word) where
       → (plain (n + 1) (fresh t)).end ≡ Some (Failed cause at) → FailsBehind n t
   there_fails n cause at goes ends =
       let k = has_gone n goes in
-      let f = by_step k.0 (step_of (λ w. w) (λ w. w) k.0) refl (sym (ap (λ (r : Run). r.end) (next_is n k.0 k.1)) ∙ ends) in
+      let f = by_step k.0 (step_of (λ w. w) (λ w. w) k.0)
+      refl (sym (ap (λ (r : Run). r.end) (next_is n k.0 k.1)) ∙ ends) in
       (k.0, f.0, f.1, k.1, f.2)
     where
       by_step : (u : State Word) → (o : Outcome Word) → step_of (λ w. w) (λ w. w) u ≡ o
           → (moved (step_of (λ w. w) (λ w. w) u) (gone u n)).end ≡ Some (Failed cause at)
           → (c : FailCause) × (a : ℤ) × (step_of (λ w. w) (λ w. w) u ≡ failed c a)
-      by_step u (went v) e h = absurd (let bad : None ≡ Some (Failed cause at) = sym (ap (λ o. (moved o (gone u n)).end) e) ∙ h in cc)
-      by_step u halted e h = absurd (let bad : Some Halted ≡ Some (Failed cause at) = sym (ap (λ o. (moved o (gone u n)).end) e) ∙ h in cc)
+      by_step u (went v) e h =
+          absurd (let bad : None ≡ Some (Failed cause at) =
+          sym (ap (λ o. (moved o (gone u n)).end) e) ∙ h in cc)
+      by_step u halted e h =
+          absurd (let bad : Some Halted ≡ Some (Failed cause at) =
+          sym (ap (λ o. (moved o (gone u n)).end) e) ∙ h in cc)
       by_step u (failed c a) e h = (c, a, e)
 
 -- ---- of a start
@@ -96,7 +109,8 @@ module _ (t : State Word) where
 abbrev pub HaltsAlone : Type 0
 HaltsAlone = (l : Layout) (o : OState) → overlay_step l o ≡ halts → weight_of l o ≡ 1
 
-module _ (s : StartSeen) (is : s.state ≡ fresh s.state.maps) (alone : HaltsAlone) (runs : RunsAgree (layout s) (overlay_at s).state s.state.maps) where
+module _ (s : StartSeen) (is : s.state ≡ fresh s.state.maps) (alone : HaltsAlone)
+    (runs : RunsAgree (layout s) (overlay_at s).state s.state.maps) where
   end_is : (n : ℕ) → (plain n s.state).end ≡ (plain n (fresh s.state.maps)).end
   end_is n = ap (λ (r : Run). (plain n r).end) is
 
@@ -115,27 +129,38 @@ module _ (s : StartSeen) (is : s.state ≡ fresh s.state.maps) (alone : HaltsAlo
       (ap (λ (r : Run). r.end) here, subst (λ (r : Run). IsFlat (layout s) p r.maps) (sym here) k.2)
 
   alike_is : (n : ℕ) (p : OState) → Matched s n p → OverlayHalts s p
-      → (weight_of (layout s) p ≡ 1) × (reg (plain (n + 1) s.state).maps.regs A0 ≡ (flat_view (layout s) p).reg A0)
+      → (weight_of (layout s) p ≡ 1)
+      × (reg (plain (n + 1) s.state).maps.regs A0 ≡ (flat_view (layout s) p).reg A0)
   alike_is n p m h =
       let b = runs.overlay_halts n p m h in
       let u = b.0 in
-      let next : plain (n + 1) s.state ≡ moved halted (gone u n) = ap (plain (n + 1)) is ∙ next_is s.state.maps n u b.1 ∙ ap (λ o. moved o (gone u n)) b.2 in
-      let flat : IsFlat (layout s) p u = subst (λ (r : Run). IsFlat (layout s) p r.maps) (state_is n u b.1) (matched_is n p m).1 in
+      let next : plain (n + 1) s.state ≡ moved halted (gone u n) =
+      ap (plain (n + 1)) is ∙ next_is s.state.maps n u b.1 ∙ ap (λ o. moved o (gone u n)) b.2 in
+      let flat : IsFlat (layout s) p u =
+      subst (λ (r : Run). IsFlat (layout s) p r.maps) (state_is n u b.1) (matched_is n p m).1 in
       (alone (layout s) p h, ap (λ (r : Run). reg r.maps.regs A0) next ∙ flat.regs A0)
 
   pub agrees : Agrees s
   agrees = record {
     matched = matched_is;
     halts = λ n. (
-      λ e. runs.plain_halts n (there_halts s.state.maps n (sym (end_is n) ∙ e.goes) (sym (end_is (n + 1)) ∙ e.ends)),
-      λ k. (let e = halts_there s.state.maps n (runs.overlay_halts n k.0 k.1 k.2) in ends_is n Halted e.0 e.1),
+      λ e. runs.plain_halts n
+          (there_halts s.state.maps n (sym (end_is n) ∙ e.goes) (sym (end_is (n + 1)) ∙ e.ends)),
+      λ k. (let e =
+          halts_there s.state.maps n (runs.overlay_halts n k.0 k.1 k.2) in ends_is n Halted e.0 e.1),
     );
     alike = alike_is;
-    plain_fails = λ n cause at e. (let k = runs.plain_fails n (there_fails s.state.maps n cause at (sym (end_is n) ∙ e.goes) (sym (end_is (n + 1)) ∙ e.ends)) in
+    plain_fails =
+        λ n cause at e.
+        (let k = runs.plain_fails n
+        (there_fails s.state.maps n cause at (sym (end_is n) ∙ e.goes) (sym (end_is (n + 1)) ∙ e.ends)) in
         (k.0, k.1, (k.2, k.3, k.4), k.5));
-    overlay_fails = λ j p m h. (let k = runs.overlay_fails j p m h in let e = fails_there s.state.maps k.0 k.3 in
+    overlay_fails =
+        λ j p m h. (let k = runs.overlay_fails j p m h in let e = fails_there s.state.maps k.0 k.3 in
         (k.0, e.0, e.1, (m, k.1, k.2), ends_is k.0 (Failed e.0 e.1) e.2 e.3));
-    goes = λ n e. (let u = has_gone s.state.maps n (sym (end_is n) ∙ e) in let k = runs.plain_goes n u.0 u.1 in (k.0, k.1, (k.2, k.3, k.4)));
+    goes = λ n e.
+        (let u = has_gone s.state.maps n (sym (end_is n) ∙ e) in let k =
+        runs.plain_goes n u.0 u.1 in (k.0, k.1, (k.2, k.3, k.4)));
   }
 
 -- the machine of a start has made no step, and hasn't ended

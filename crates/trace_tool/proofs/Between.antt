@@ -1,5 +1,6 @@
 -- No site ends between the last word of one and that of the next.
-use Rattle.std.proofs.Common.{◌≡◌, ℕ, zero, suc, ◌+◌, ◌-◌, ◌^◌, ◌<◌, ◌≤◌, Bool, true, false, ◌&&◌, List, length, get_or, leb, refl, sym, ap, ◌∙◌, arith, inl, inr, lt-ltb}
+use Rattle.std.proofs.Common.{◌≡◌, ℕ, zero, suc, ◌+◌, ◌-◌, ◌^◌, ◌<◌, ◌≤◌, Bool, true, false, ◌&&◌, List}
+use Rattle.std.proofs.Common.{length, get_or, leb, refl, sym, ap, ◌∙◌, arith, inl, inr, lt-ltb}
 use Rattle.std.specs.Prelude.{nat_le, nat_lt, if◌then◌else◌}
 use Rattle.std.specs.List.Sorted.{IsPartitionedBy, IsPartitionPoint}
 use Rattle.std.proofs.lemmas.Bool.{cases_lt, leb-true, ltb-true, le-leb}
@@ -20,54 +21,79 @@ outside from to a none = by_tests (nat_le from a) (nat_lt a to) refl refl
     by_tests true false e f = refl
     by_tests true true e f = absurd (none (leb-true from a e) (ltb-true a to f))
 
-pub behind_is : (sites : List Site) (place : ℕ) (d : Site) → 0 < place → place ≤ length sites → behind sites place ≡ last_word (get_or sites (place - 1) d) + 1
+pub behind_is : (sites : List Site) (place : ℕ) (d : Site) → 0 < place → place ≤ length sites
+    → behind sites place ≡ last_word (get_or sites (place - 1) d) + 1
 behind_is sites zero d some within = absurd (omega (arith, some))
-behind_is sites (suc k) d some within = (let e : suc k - 1 ≡ k = omega arith in rw e (ap (λ (s : Site). last_word s + 1) (get_or_default sites k no_site d (omega (arith, within)))))
+behind_is sites (suc k) d some within =
+    (let e : suc k - 1 ≡ k =
+    omega arith in
+    rw e (ap (λ (s : Site). last_word s + 1) (get_or_default sites k no_site d (omega (arith, within)))))
 
-pub ahead_is : (sites : List Site) (place : ℕ) (d : Site) → place < length sites → ahead sites place ≡ last_word (get_or sites place d)
-ahead_is sites place d lt = rw (lt-ltb place (length sites) lt) (ap last_word (get_or_default sites place no_site d lt))
+pub ahead_is : (sites : List Site) (place : ℕ) (d : Site) → place < length sites
+    → ahead sites place ≡ last_word (get_or sites place d)
+ahead_is sites place d lt =
+    rw (lt-ltb place (length sites) lt) (ap last_word (get_or_default sites place no_site d lt))
 
-below : (sites : List Site) (place k : ℕ) (d : Site) → Ascend sites → place ≤ length sites → k < place → last_word (get_or sites k d) < behind sites place
+below : (sites : List Site) (place k : ℕ) (d : Site) → Ascend sites → place ≤ length sites → k < place
+    → last_word (get_or sites k d) < behind sites place
 below sites place k d h within lt =
-    let up : (get_or sites k d).at ≤ (get_or sites (place - 1) d).at = up_to sites k (place - 1) d h (omega (arith, lt)) (omega (arith, lt, within)) in
+    let up : (get_or sites k d).at ≤ (get_or sites (place - 1) d).at =
+    up_to sites k (place - 1) d h (omega (arith, lt)) (omega (arith, lt, within)) in
     let is = behind_is sites place d (omega (arith, lt)) within in
     omega (arith, up, is)
 
-above : (sites : List Site) (place k : ℕ) (d : Site) → Ascend sites → place ≤ k → k < length sites → ahead sites place ≤ last_word (get_or sites k d)
+above : (sites : List Site) (place k : ℕ) (d : Site) → Ascend sites → place ≤ k → k < length sites
+    → ahead sites place ≤ last_word (get_or sites k d)
 above sites place k d h le lt =
     let up : (get_or sites place d).at ≤ (get_or sites k d).at = up_to sites place k d h le lt in
     let is = ahead_is sites place d (omega (arith, le, lt)) in
     omega (arith, up, is)
 
-pub gap_between : (sites : List Site) (place : ℕ) (g : Gap) → Ascend sites → place ≤ length sites → g.from ≡ behind sites place → g.to ≡ ahead sites place → IsGap sites g
-gap_between sites place g h within f t = λ k d lt. outside g.from g.to (last_word (get_or sites k d)) (λ lo hi. elim (cases_lt k place) as (λ _. ⊥) [
-  | inl before ↦ (let b = below sites place k d h within before in omega (arith, lo, b, f))
-  | inr from ↦ (let b = above sites place k d h from lt in omega (arith, hi, b, t))
-])
+pub gap_between : (sites : List Site) (place : ℕ) (g : Gap) → Ascend sites → place ≤ length sites
+    → g.from ≡ behind sites place → g.to ≡ ahead sites place → IsGap sites g
+gap_between sites place g h within f t = λ k d lt. outside g.from g.to (last_word (get_or sites k d))
+    (λ lo hi. elim (cases_lt k place) as (λ _. ⊥) [
+      | inl before ↦ (let b = below sites place k d h within before in omega (arith, lo, b, f))
+      | inr from ↦ (let b = above sites place k d h from lt in omega (arith, hi, b, t))
+    ])
 
 -- ---- around an address
 
-pub ends_parted : (sites : List Site) (a : ℕ) → Ascend sites → IsPartitionedBy (λ (s : Site). leb (last_word s) a) sites
-ends_parted sites a h = IsPartitionedBy-leb last_word sites a (λ i j d le lt. let up = up_to sites i j d h le lt in omega (arith, up))
+pub ends_parted : (sites : List Site) (a : ℕ) → Ascend sites
+    → IsPartitionedBy (λ (s : Site). leb (last_word s) a) sites
+ends_parted sites a h =
+    IsPartitionedBy-leb last_word sites a
+    (λ i j d le lt. let up = up_to sites i j d h le lt in omega (arith, up))
 
 above_is : (b a : ℕ) → leb b a ≡ false → a < b
-above_is b a h = elim (cases_lt a b) as (λ _. a < b) [ inl lt ↦ lt | inr ge ↦ (let e = le-leb b a ge in let bad : true ≡ false = sym e ∙ h in cc) ]
+above_is b a h =
+    elim (cases_lt a b) as (λ _. a < b)
+    [ inl lt ↦ lt | inr ge ↦ (let e = le-leb b a ge in let bad : true ≡ false = sym e ∙ h in cc) ]
 
 abbrev IsPoint : List Site → ℕ → ℕ → Type 0
-IsPoint sites a place = IsPartitionPoint (λ (s : Site). leb (last_word s) a ≡ true) (λ (s : Site). leb (last_word s) a ≡ false) sites place
+IsPoint sites a place =
+    IsPartitionPoint (λ (s : Site). leb (last_word s) a ≡ true) (λ (s : Site). leb (last_word s) a ≡ false)
+    sites place
 
 from_low : (sites : List Site) (a place : ℕ) → IsPoint sites a place → behind sites place ≤ a + 1
 from_low sites a zero p = omega arith
-from_low sites a (suc k) p = (let le : last_word (get_or sites k no_site) ≤ a = leb-true (last_word (get_or sites k no_site)) a (p.0 k no_site (omega arith) (omega arith)) in omega (arith, le))
+from_low sites a (suc k) p =
+    (let le : last_word (get_or sites k no_site) ≤ a =
+    leb-true (last_word (get_or sites k no_site)) a (p.0 k no_site (omega arith) (omega arith)) in
+    omega (arith, le))
 
 to_high : (sites : List Site) (a place : ℕ) → IsPoint sites a place → a < 2 ^ 63 → a < ahead sites place
 to_high sites a place p small = by_test (nat_lt place (length sites)) refl
   where
-    by_test : (b : Bool) → nat_lt place (length sites) ≡ b → a < (if b then last_word (get_or sites place no_site) else 2 ^ 64 - 1)
-    by_test true e = above_is (last_word (get_or sites place no_site)) a (p.1 place no_site (omega arith) (ltb-true place (length sites) e))
+    by_test : (b : Bool) → nat_lt place (length sites) ≡ b
+        → a < (if b then last_word (get_or sites place no_site) else 2 ^ 64 - 1)
+    by_test true e =
+        above_is (last_word (get_or sites place no_site))
+        a (p.1 place no_site (omega arith) (ltb-true place (length sites) e))
     by_test false e = omega (arith, small)
 
-pub around_at : (sites : List Site) (a place : ℕ) (g : Gap) → IsPoint sites a place → a < 2 ^ 63 → g.from ≡ behind sites place → g.to ≡ ahead sites place → IsAround a g
+pub around_at : (sites : List Site) (a place : ℕ) (g : Gap) → IsPoint sites a place → a < 2 ^ 63
+    → g.from ≡ behind sites place → g.to ≡ ahead sites place → IsAround a g
 around_at sites a place g p small f t =
     let low = from_low sites a place p in
     let high = to_high sites a place p small in

@@ -32,7 +32,8 @@ of_either {A} (y ∷ xs) ys (b ∷ before) x after e =
     ]
 
 -- a step has no other line beside a call line
-alone_in_step : (inward : Bool) (part : List ℕ) (site base last : ℕ) (args : Args) (words : List Word) (ls mid after : List Line)
+alone_in_step : (inward : Bool) (part : List ℕ) (site base last : ℕ) (args : Args) (words : List Word)
+    (ls mid after : List Line)
     → AreOfStep ls → ls ≡ mid ++ call inward part site base last args words ∷ after
     → (mid ≡ []) × (ls ≡ call inward part site base last args words ∷ [])
 alone_in_step inward part site base last args words _ [] after none_told e = absurd cc
@@ -55,7 +56,8 @@ pub record OneTells (l : Layout) (o : OState) (n : ℕ) (before : List Line) (li
   pub within : at + weight_of l caller ≤ n
   pub only : step_lines l caller called ≡ line ∷ []
 
-module _ (l : Layout) (o : OState) (inward : Bool) (part : List ℕ) (site base last : ℕ) (args : Args) (words : List Word) where
+module _ (l : Layout) (o : OState) (inward : Bool) (part : List ℕ) (site base last : ℕ) (args : Args)
+    (words : List Word) where
   pub one_tells : (n : ℕ) (ls before after : List Line) (p : OState) → Told l o n ls p
       → ls ≡ before ++ call inward part site base last args words ∷ after
       → OneTells l o n before (call inward part site base last args words)
@@ -63,7 +65,8 @@ module _ (l : Layout) (o : OState) (inward : Bool) (part : List ℕ) (site base 
   one_tells _ _ (x ∷ before) after _ none_yet e = absurd cc
   one_tells _ _ before after q (and_then {j = j} {ls = ls} {p = p} told moved) e =
       let line = call inward part site base last args words in
-      elim (of_either ls (step_lines l p q) before line after e) as (λ _. OneTells l o (j + weight_of l p) before line) [
+      elim (of_either ls (step_lines l p q) before line after e)
+      as (λ _. OneTells l o (j + weight_of l p) before line) [
         | inl k ↦ (let one = one_tells j ls before k.0 p told k.1 in record {
           at = one.at;
           caller = one.caller;
@@ -73,13 +76,16 @@ module _ (l : Layout) (o : OState) (inward : Bool) (part : List ℕ) (site base 
           within = (let le = one.within in omega (arith, le));
           only = one.only;
         })
-        | inr k ↦ (let a = alone_in_step inward part site base last args words (step_lines l p q) k.0 after (steps_tell_so l (flat_view l q) (step_event l p q)) k.2 in record {
-          at = j;
-          caller = p;
-          called = q;
-          told = subst (λ xs. Told l o j xs p) (sym (k.1 ∙ ap (λ mid. ls ++ mid) a.0 ∙ append-nil ls)) told;
-          moved = moved;
-          within = omega arith;
-          only = a.1;
-        })
+        | inr k ↦
+            (let a = alone_in_step inward part site base last args words (step_lines l p q)
+            k.0 after (steps_tell_so l (flat_view l q) (step_event l p q)) k.2 in record {
+              at = j;
+              caller = p;
+              called = q;
+              told = subst (λ xs. Told l o j xs p) (sym (k.1 ∙ ap (λ mid. ls ++ mid) a.0 ∙ append-nil ls))
+                  told;
+              moved = moved;
+              within = omega arith;
+              only = a.1;
+            })
       ]

@@ -51,7 +51,8 @@ end_of_ended r ended None k = absurd (ended (ap answer_by k))
 end_of_ended r ended (Some e) k = (e, k)
 
 pub stays_ended : (i n : ℕ) (r : Run) → i ≤ n → HasEnded (plain i r) → plain n r ≡ plain i r
-stays_ended i n r le ended = let e = end_of_ended (plain i r) ended (plain i r).end refl in plain_ended n i r e.0 le e.1
+stays_ended i n r le ended = let e =
+    end_of_ended (plain i r) ended (plain i r).end refl in plain_ended n i r e.0 le e.1
 
 not_went : {A : Type 0} → (s : Step) (x y : A) → (s ≡ Went → ⊥) → if_went s x y ≡ y
 not_went Went x y ended = absurd (ended refl)
@@ -60,18 +61,26 @@ not_went (Failed cause at) x y ended = refl
 
 pub no_line : (l : Layout) (w : Watched) → HasEnded (next_state w.run) → line_next l w ≡ []
 unfolding line_next
-no_line l w ended = ap (lines_for l (view_of (next_state w.run).maps)) (not_went (answer (next_state w.run)) (event_after l (noted l w.run.maps) w.inward (view_of (next_state w.run).maps)) None ended)
+no_line l w ended =
+    ap (lines_for l (view_of (next_state w.run).maps))
+    (not_went (answer (next_state w.run))
+    (event_after l (noted l w.run.maps) w.inward (view_of (next_state w.run).maps)) None ended)
 
 pub no_more_lines : (l : Layout) (r : Run) (i n : ℕ) → i ≤ n → HasEnded (plain i r)
     → lines_of l (begun r) n ≡ lines_of l (begun r) i
 no_more_lines l r zero zero le ended = refl
 no_more_lines l r (suc i) zero le ended = absurd (omega arith)
-no_more_lines l r i (suc n) le ended = elim (cases_lt n i) as (λ _. lines_of l (begun r) (suc n) ≡ lines_of l (begun r) i) [
-  | inl above ↦ (let same : i ≡ suc n = omega arith in ap (λ k. lines_of l (begun r) k) (sym same))
-  | inr below ↦ (let stays : next_state (watched l (begun r) n).run ≡ plain i r = ap next_state (watched_run l r n) ∙ stays_ended i (suc n) r le ended in
-      let none : line_next l (watched l (begun r) n) ≡ [] = no_line l (watched l (begun r) n) (λ k. ended (ap answer (sym stays) ∙ k)) in
-      ap (λ x. lines_of l (begun r) n ++ x) none ∙ append-nil (lines_of l (begun r) n) ∙ no_more_lines l r i n below ended)
-]
+no_more_lines l r i (suc n) le ended =
+    elim (cases_lt n i) as (λ _. lines_of l (begun r) (suc n) ≡ lines_of l (begun r) i) [
+      | inl above ↦ (let same : i ≡ suc n = omega arith in ap (λ k. lines_of l (begun r) k) (sym same))
+      | inr below ↦
+          (let stays : next_state (watched l (begun r) n).run ≡ plain i r =
+          ap next_state (watched_run l r n) ∙ stays_ended i (suc n) r le ended in
+          let none : line_next l (watched l (begun r) n) ≡ [] =
+          no_line l (watched l (begun r) n) (λ k. ended (ap answer (sym stays) ∙ k)) in
+          ap (λ x. lines_of l (begun r) n ++ x) none ∙ append-nil (lines_of l (begun r) n)
+          ∙ no_more_lines l r i n below ended)
+    ]
 
 -- n instructions went
 pub record Gone (init : StartSeen) (n : ℕ) (start : StartSeen) (inward : Bool) : Type 0 where
@@ -150,7 +159,8 @@ pub record Going (init : StartSeen) (sink : SinkSeen) (n : ℕ) (start : StartSe
   pub gone : Gone init n start inward
   pub told : AddsPieces sink (pieces_upto (layout init) init.state n) now
 
-pub going_more : (init : StartSeen) (sink : SinkSeen) (n : ℕ) (start : StartSeen) (inward : Bool) (now : SinkSeen) (next : StartSeen) (inward2 : Bool) (after : SinkSeen)
+pub going_more : (init : StartSeen) (sink : SinkSeen) (n : ℕ) (start : StartSeen) (inward : Bool)
+    (now : SinkSeen) (next : StartSeen) (inward2 : Bool) (after : SinkSeen)
     → Going init sink n start inward now
     → next ≡ record start { state = next_state start.state }
     → inward2 ≡ (watched_next (layout start) (watching start inward)).inward
@@ -172,21 +182,25 @@ run_fails : (l : Layout) (r : Run) (sink after : SinkSeen) (i n : ℕ) → i ≤
     → FailsAtPiece sink (pieces_upto l r i) after → FailsAtPiece sink (run_pieces l r n) after
 unfolding run_pieces
 run_fails l r sink after i n le f =
-    fail_more sink after (pieces_upto l r n) (end_line (plain n r) ∷ []) (fails_upto (pieces_upto l r) (pieces_next l r) (pieces_grow l r) sink after i n le f)
+    fail_more sink after (pieces_upto l r n) (end_line (plain n r) ∷ [])
+    (fails_upto (pieces_upto l r) (pieces_next l r) (pieces_grow l r) sink after i n le f)
 
 -- one of its pieces failed to be written, and so did its text
 run_text_fails : (l : Layout) (r : Run) (n : ℕ) (sink after : SinkSeen)
     → FailsAtPiece sink (run_pieces l r n) after → FailsToWrite sink (run_text l r n) after
-run_text_fails l r n sink after f = subst (λ t. FailsToWrite sink t after) (run_joined l r n) (text_failed sink after (run_pieces l r n) f)
+run_text_fails l r n sink after f =
+    subst (λ t. FailsToWrite sink t after) (run_joined l r n) (text_failed sink after (run_pieces l r n) f)
 
 -- the line of the next instruction failed to be written
-pub line_fails : (init : StartSeen) (sink : SinkSeen) (n steps : ℕ) (start : StartSeen) (inward : Bool) (now : SinkSeen) (next : StartSeen) (after : SinkSeen)
+pub line_fails : (init : StartSeen) (sink : SinkSeen) (n steps : ℕ) (start : StartSeen) (inward : Bool)
+    (now : SinkSeen) (next : StartSeen) (after : SinkSeen)
     → Going init sink n start inward now → n < steps
     → next ≡ record start { state = next_state start.state }
     → FailsAtPiece now (lines_pieces (line_next (layout start) (watching start inward))) after
     → Runs init steps sink next after WriteFault
 line_fails init sink n steps start inward now next after g lt e f =
-    let mine : FailsAtPiece now (pieces_next (layout init) init.state n) after = subst (λ x. FailsAtPiece now (lines_pieces x) after) (gone_line init n start inward g.gone) f in
+    let mine : FailsAtPiece now (pieces_next (layout init) init.state n) after =
+    subst (λ x. FailsAtPiece now (lines_pieces x) after) (gone_line init n start inward g.gone) f in
     record {
       made = (suc n, (omega arith), next_same init n start inward next g.gone e);
       at = inl (n, refl, (now, g.told, mine));
@@ -198,7 +212,8 @@ line_fails init sink n steps start inward now next after g lt e f =
 pieces_are : (l : Layout) (r : Run) (n steps : ℕ) → lines_of l (begun r) steps ≡ lines_of l (begun r) n
     → plain steps r ≡ plain n r → run_pieces l r steps ≡ pieces_upto l r n ++ end_line (plain n r) ∷ []
 unfolding run_pieces
-pieces_are l r n steps e k = ap (λ x. lines_pieces x ++ end_line (plain steps r) ∷ []) e ∙ ap (λ x. pieces_upto l r n ++ end_line x ∷ []) k
+pieces_are l r n steps e k = ap (λ x. lines_pieces x ++ end_line (plain steps r) ∷ []) e
+    ∙ ap (λ x. pieces_upto l r n ++ end_line x ∷ []) k
 
 -- a run to its end or to the end of its steps
 lift : (init : StartSeen) (steps : ℕ) (sink : SinkSeen) (new : StartSeen) (after : SinkSeen) (s : Step)
@@ -208,17 +223,21 @@ lift init steps sink new after Halted r = r
 lift init steps sink new after (Failed cause at) r = r
 
 -- the end line was written behind the lines, or not
-pub ends : (init : StartSeen) (sink : SinkSeen) (n steps : ℕ) (start : StartSeen) (now after : SinkSeen) (step : Step) (line : List ℕ) (result : RunEnd)
+pub ends : (init : StartSeen) (sink : SinkSeen) (n steps : ℕ) (start : StartSeen) (now after : SinkSeen)
+    (step : Step) (line : List ℕ) (result : RunEnd)
     → n ≤ steps → start ≡ record init { state = plain n init.state }
     → lines_of (layout init) (begun init.state) steps ≡ lines_of (layout init) (begun init.state) n
     → plain steps init.state ≡ plain n init.state
     → AddsPieces sink (pieces_upto (layout init) init.state n) now → step ≡ answer start.state
     → line ≡ end_line start.state → EndsBy now line (end_of step) after result
     → Runs init steps sink start after result
-ends init sink n steps start now after step line result le same lines run told is last e = elim e as (λ _. Runs init steps sink start after result) [
-  | inl w ↦ subst (λ r. Runs init steps sink start after r) (sym w.0) (lift init steps sink start after step (whole w.1))
-  | inr f ↦ subst (λ r. Runs init steps sink start after r) (sym f.0) (faults f.1)
-]
+ends init sink n steps start now after step line result le same lines run told is last e =
+    elim e as (λ _. Runs init steps sink start after result) [
+      | inl w ↦
+          subst (λ r. Runs init steps sink start after r) (sym w.0)
+          (lift init steps sink start after step (whole w.1))
+      | inr f ↦ subst (λ r. Runs init steps sink start after r) (sym f.0) (faults f.1)
+    ]
   where
     state : start.state ≡ plain n init.state
     state = ap (λ (s : StartSeen). s.state) same
@@ -227,7 +246,8 @@ ends init sink n steps start now after step line result le same lines run told i
     line_is = last ∙ ap end_line state
 
     pieces : run_pieces (layout init) init.state steps ≡ pieces_upto (layout init) init.state n ++ line ∷ []
-    pieces = pieces_are (layout init) init.state n steps lines run ∙ ap (λ x. pieces_upto (layout init) init.state n ++ x ∷ []) (sym line_is)
+    pieces = pieces_are (layout init) init.state n steps lines run
+        ∙ ap (λ x. pieces_upto (layout init) init.state n ++ x ∷ []) (sym line_is)
 
     all_pieces : AddsPieces now (line ∷ []) after
         → AddsPieces sink (run_pieces (layout init) init.state steps) after
@@ -244,12 +264,23 @@ ends init sink n steps start now after step line result le same lines run told i
     faults : FailsAtPiece now (line ∷ []) after → RunFaults init steps sink start after
     faults f = record {
       made = (n, le, same);
-      at = inr (sym run, (now, subst (λ ls. AddsPieces sink (lines_pieces ls) now) (sym lines) told, subst (λ x. FailsAtPiece now (x ∷ []) after) (line_is ∙ ap end_line (sym run)) f));
-      text = run_text_fails (layout init) init.state steps sink after (subst (λ x. FailsAtPiece sink x after) (sym pieces) (pieces_fail sink now after _ _ told f));
+      at = inr (
+        sym run,
+        (
+          now,
+          subst (λ ls. AddsPieces sink (lines_pieces ls) now) (sym lines)
+              told,
+          subst (λ x. FailsAtPiece now (x ∷ []) after) (line_is ∙ ap end_line (sym run)) f,
+        ),
+      );
+      text = run_text_fails (layout init)
+          init.state steps sink after
+          (subst (λ x. FailsAtPiece sink x after) (sym pieces) (pieces_fail sink now after _ _ told f));
     }
 
 -- all instructions went
-pub ends_running : (init : StartSeen) (sink : SinkSeen) (n : ℕ) (start : StartSeen) (inward : Bool) (now after : SinkSeen) (line : List ℕ) (result : RunEnd)
+pub ends_running : (init : StartSeen) (sink : SinkSeen) (n : ℕ) (start : StartSeen) (inward : Bool)
+    (now after : SinkSeen) (line : List ℕ) (result : RunEnd)
     → Going init sink n start inward now
     → line ≡ end_line start.state → EndsBy now line Running after result → Runs init n sink start after result
 ends_running init sink n start inward now after line result g last e =
@@ -257,7 +288,8 @@ ends_running init sink n start inward now after line result g last e =
     refl refl g.told (sym g.gone.went) last e
 
 -- the machine ended
-pub ends_early : (init : StartSeen) (sink : SinkSeen) (n steps : ℕ) (start : StartSeen) (inward : Bool) (now : SinkSeen) (next : StartSeen) (mid after : SinkSeen) (step : Step) (line : List ℕ) (result : RunEnd)
+pub ends_early : (init : StartSeen) (sink : SinkSeen) (n steps : ℕ) (start : StartSeen) (inward : Bool)
+    (now : SinkSeen) (next : StartSeen) (mid after : SinkSeen) (step : Step) (line : List ℕ) (result : RunEnd)
     → Going init sink n start inward now → n < steps
     → next ≡ record start { state = next_state start.state } → step ≡ answer (next_state start.state)
     → (step ≡ Went → ⊥) → AddsPieces now (lines_pieces (line_next (layout start) (watching start inward))) mid
@@ -269,8 +301,11 @@ ends_early init sink n steps start inward now next mid after step line result g 
     let answers : step ≡ answer next.state = is ∙ ap answer (sym (ap (λ (s : StartSeen). s.state) e)) in
     let over : HasEnded (plain (suc n) init.state) = λ k. ended (answers ∙ ap answer state ∙ k) in
     ends init sink (suc n) steps next mid after step line result (omega arith) same
-    (no_more_lines (layout init) init.state (suc n) steps (omega arith) over) (stays_ended (suc n) steps init.state (omega arith) over)
-    (rw (pieces_grow (layout init) init.state n) (pieces_then sink now mid _ _ g.told (subst (λ x. AddsPieces now (lines_pieces x) mid) (gone_line init n start inward g.gone) w)))
+    (no_more_lines (layout init) init.state (suc n) steps (omega arith) over)
+    (stays_ended (suc n) steps init.state (omega arith) over)
+    (rw (pieces_grow (layout init) init.state n)
+    (pieces_then sink now mid _ _ g.told
+    (subst (λ x. AddsPieces now (lines_pieces x) mid) (gone_line init n start inward g.gone) w)))
     answers last f
 
 -- the line of an instruction that went
@@ -281,7 +316,10 @@ pub event_lines : (l : Layout) (w : Watched) (s : Run) (event : Option Event) �
 unfolding line_next
 event_lines l w s event same went e =
     let went_too : answer (next_state w.run) ≡ Went = ap answer (sym same) ∙ went in
-    let events : event ≡ event_after l (noted l w.run.maps) w.inward (view_of (next_state w.run).maps) = e ∙ ap (λ (x : Run). event_after l (noted l w.run.maps) w.inward (view_of x.maps)) same in
-    let lines : lines_for l (view_of s.maps) event ≡ lines_for l (view_of (next_state w.run).maps) (event_after l (noted l w.run.maps) w.inward (view_of (next_state w.run).maps)) =
-    ap (λ (x : Run). lines_for l (view_of x.maps) event) same ∙ ap (lines_for l (view_of (next_state w.run).maps)) events in
+    let events : event ≡ event_after l (noted l w.run.maps) w.inward (view_of (next_state w.run).maps) =
+    e ∙ ap (λ (x : Run). event_after l (noted l w.run.maps) w.inward (view_of x.maps)) same in
+    let lines : lines_for l (view_of s.maps) event ≡ lines_for l (view_of (next_state w.run).maps)
+    (event_after l (noted l w.run.maps) w.inward (view_of (next_state w.run).maps)) =
+    ap (λ (x : Run). lines_for l (view_of x.maps) event) same
+    ∙ ap (lines_for l (view_of (next_state w.run).maps)) events in
     rw went_too lines

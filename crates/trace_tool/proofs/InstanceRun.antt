@@ -147,27 +147,36 @@ abbrev o1 : OState
 o1 = state (regs_with (code 21) zero_ zero_ (stack 70) (Plain (Mem (own_data 54))) zero_ zero_) M [] 0
 
 abbrev o2 : OState
-o2 = state (regs_with (code 22) zero_ zero_ (stack 70) (Plain (Mem (own_data 54))) (Plain code_word) zero_) M [] 0
+o2 = state (regs_with (code 22) zero_ zero_ (stack 70) (Plain (Mem (own_data 54))) (Plain code_word) zero_)
+    M [] 0
 
 abbrev o3 : OState
-o3 = state (regs_with (code 23) zero_ zero_ (stack 70) (Plain (Mem (own_data 55))) (Plain code_word) zero_) M [] 0
+o3 = state (regs_with (code 23) zero_ zero_ (stack 70) (Plain (Mem (own_data 55))) (Plain code_word) zero_)
+    M [] 0
 
 abbrev o4 : OState
-o4 = state (regs_with (code 24) zero_ zero_ (stack 70) (Plain (Mem (own_data 55))) (Plain code_word) (Plain data_word)) M [] 0
+o4 = state
+    (regs_with (code 24) zero_ zero_ (stack 70) (Plain (Mem (own_data 55))) (Plain code_word)
+    (Plain data_word)) M [] 0
 
 abbrev pub frame : OpenFrame
 frame = record { call = 0; site = 0; base = 70; end = 70; words = Plain (Mem (own_data 55)) ∷ [] }
 
 abbrev pub o5 : OState
-o5 = state (regs_with (Plain (Mem its_code)) (RetCode 0) (RetData 0) (stack 69) (Plain (Mem its_data)) (Plain code_word) (Plain data_word)) (without M 70 70) (frame ∷ []) 1
+o5 = state
+    (regs_with (Plain (Mem its_code)) (RetCode 0) (RetData 0) (stack 69) (Plain (Mem its_data))
+    (Plain code_word) (Plain data_word)) (without M 70 70) (frame ∷ []) 1
 
 abbrev pub o6 : OState
-o6 = state (regs_with (code 50) (RetCode 0) zero_ (stack 70) (Plain (Mem (own_data 55))) (Plain code_word) (Plain data_word)) (put_back (without M 70 70) 70 (zero_ ∷ [])) [] 1
+o6 = state
+    (regs_with (code 50) (RetCode 0) zero_ (stack 70) (Plain (Mem (own_data 55))) (Plain code_word)
+    (Plain data_word)) (put_back (without M 70 70) 70 (zero_ ∷ [])) [] 1
 
 -- ---- the entry
 
 step0 : overlay_step L o0 ≡ goes o1
-unfolding overlay_step case_of entry_step own_stack need faces owner_of start_regs entry_code call_code return_code
+unfolding overlay_step case_of entry_step own_stack need faces owner_of start_regs entry_code call_code
+    return_code
 step0 = refl
 
 weight0 : weight_of L o0 ≡ 20
@@ -181,7 +190,8 @@ lines0 = refl
 -- ---- three instructions
 
 fetch1 : fetch (faces look o1.maps Pc) (cell_faces look o1.maps) ≡ some (Load C1 Dat) (Mem (code_cap 1 52 22))
-fetch1 = fetch_at look Plain o1.maps 1 52 21 (Load C1 Dat) refl (omega arith) (omega arith) (ap (look_face look) (has 21 _ at21)) tt
+fetch1 = fetch_at look Plain o1.maps 1 52 21 (Load C1 Dat) refl (omega arith) (omega arith)
+    (ap (look_face look) (has 21 _ at21)) tt
 
 case1 : case_of L o1.maps ≡ Other
 unfolding case_of faces owner_of entry_code call_code return_code
@@ -190,8 +200,11 @@ case1 = ap (λ f. case_trusted L (trusted_at L (faces look o1.maps Pc)) (case_fe
 step1 : overlay_step L o1 ≡ goes o2
 unfolding overlay_step other_step
 step1 = ap (λ c. step_by L c o1) case1
-    ∙ ap (with_frames [] 0) (step_row look Plain o1.maps 1 52 21 (Load C1 Dat) refl (omega arith) (omega arith) (ap (look_face look) (has 21 _ at21)) tt
-    ∙ load_goes look Plain C1 Dat (Mem (code_cap 1 52 22)) o1.maps (own_data 54) 54 (Plain code_word) code_word refl refl refl refl (omega arith) (omega arith) (has 54 _ at54) refl refl refl)
+    ∙ ap (with_frames [] 0)
+    (step_row look Plain o1.maps 1 52 21 (Load C1 Dat) refl (omega arith) (omega arith)
+    (ap (look_face look) (has 21 _ at21)) tt
+    ∙ load_goes look Plain C1 Dat (Mem (code_cap 1 52 22)) o1.maps (own_data 54) 54 (Plain code_word)
+    code_word refl refl refl refl (omega arith) (omega arith) (has 54 _ at54) refl refl refl)
 
 weight1 : weight_of L o1 ≡ 1
 unfolding weight_of
@@ -200,10 +213,14 @@ weight1 = ap (weight_by o1.maps) case1
 lines1 : step_lines L o1 o2 ≡ []
 unfolding step_event
 lines1 = ap (λ c. lines_for L (flat_view L o2) (event_after L (note_by L o1 c) o2)) case1
-    ∙ ap (λ f. lines_for L (flat_view L o2) (event_after L (note_jump (option_map (λ p. p.part) (owner_now L o1)) (jump_seal o1.maps f)) o2)) fetch1
+    ∙ ap (λ f. lines_for L (flat_view L o2)
+    (event_after L (note_jump (option_map (λ p. p.part) (owner_now L o1)) (jump_seal o1.maps f)) o2))
+    fetch1
 
-fetch2 : fetch (faces look o2.maps Pc) (cell_faces look o2.maps) ≡ some (Cca Dat (Imm (pos 1))) (Mem (code_cap 1 52 23))
-fetch2 = fetch_at look Plain o2.maps 1 52 22 (Cca Dat (Imm (pos 1))) refl (omega arith) (omega arith) (ap (look_face look) (has 22 _ at22)) (record { sfits = omega arith })
+fetch2 : fetch (faces look o2.maps Pc) (cell_faces look o2.maps) ≡ some (Cca Dat (Imm (pos 1)))
+    (Mem (code_cap 1 52 23))
+fetch2 = fetch_at look Plain o2.maps 1 52 22 (Cca Dat (Imm (pos 1))) refl (omega arith) (omega arith)
+    (ap (look_face look) (has 22 _ at22)) (record { sfits = omega arith })
 
 case2 : case_of L o2.maps ≡ Other
 unfolding case_of faces owner_of entry_code call_code return_code
@@ -212,8 +229,11 @@ case2 = ap (λ f. case_trusted L (trusted_at L (faces look o2.maps Pc)) (case_fe
 step2 : overlay_step L o2 ≡ goes o3
 unfolding overlay_step other_step
 step2 = ap (λ c. step_by L c o2) case2
-    ∙ ap (with_frames [] 0) (step_row look Plain o2.maps 1 52 22 (Cca Dat (Imm (pos 1))) refl (omega arith) (omega arith) (ap (look_face look) (has 22 _ at22)) (record { sfits = omega arith })
-    ∙ cca_goes look Plain Dat (Imm (pos 1)) (Mem (code_cap 1 52 23)) o2.maps (own_data 54) (pos 1) (pos 55) refl refl refl refl refl)
+    ∙ ap (with_frames [] 0)
+    (step_row look Plain o2.maps 1 52 22 (Cca Dat (Imm (pos 1))) refl (omega arith) (omega arith)
+    (ap (look_face look) (has 22 _ at22)) (record { sfits = omega arith })
+    ∙ cca_goes look Plain Dat (Imm (pos 1)) (Mem (code_cap 1 52 23)) o2.maps (own_data 54) (pos 1) (pos 55)
+    refl refl refl refl refl)
 
 weight2 : weight_of L o2 ≡ 1
 unfolding weight_of
@@ -222,10 +242,13 @@ weight2 = ap (weight_by o2.maps) case2
 lines2 : step_lines L o2 o3 ≡ []
 unfolding step_event
 lines2 = ap (λ c. lines_for L (flat_view L o3) (event_after L (note_by L o2 c) o3)) case2
-    ∙ ap (λ f. lines_for L (flat_view L o3) (event_after L (note_jump (option_map (λ p. p.part) (owner_now L o2)) (jump_seal o2.maps f)) o3)) fetch2
+    ∙ ap (λ f. lines_for L (flat_view L o3)
+    (event_after L (note_jump (option_map (λ p. p.part) (owner_now L o2)) (jump_seal o2.maps f)) o3))
+    fetch2
 
 fetch3 : fetch (faces look o3.maps Pc) (cell_faces look o3.maps) ≡ some (Load C2 Dat) (Mem (code_cap 1 52 24))
-fetch3 = fetch_at look Plain o3.maps 1 52 23 (Load C2 Dat) refl (omega arith) (omega arith) (ap (look_face look) (has 23 _ at23)) tt
+fetch3 = fetch_at look Plain o3.maps 1 52 23 (Load C2 Dat) refl (omega arith) (omega arith)
+    (ap (look_face look) (has 23 _ at23)) tt
 
 case3 : case_of L o3.maps ≡ Other
 unfolding case_of faces owner_of entry_code call_code return_code
@@ -234,8 +257,11 @@ case3 = ap (λ f. case_trusted L (trusted_at L (faces look o3.maps Pc)) (case_fe
 step3 : overlay_step L o3 ≡ goes o4
 unfolding overlay_step other_step
 step3 = ap (λ c. step_by L c o3) case3
-    ∙ ap (with_frames [] 0) (step_row look Plain o3.maps 1 52 23 (Load C2 Dat) refl (omega arith) (omega arith) (ap (look_face look) (has 23 _ at23)) tt
-    ∙ load_goes look Plain C2 Dat (Mem (code_cap 1 52 24)) o3.maps (own_data 55) 55 (Plain data_word) data_word refl refl refl refl (omega arith) (omega arith) (has 55 _ at55) refl refl refl)
+    ∙ ap (with_frames [] 0)
+    (step_row look Plain o3.maps 1 52 23 (Load C2 Dat) refl (omega arith) (omega arith)
+    (ap (look_face look) (has 23 _ at23)) tt
+    ∙ load_goes look Plain C2 Dat (Mem (code_cap 1 52 24)) o3.maps (own_data 55) 55 (Plain data_word)
+    data_word refl refl refl refl (omega arith) (omega arith) (has 55 _ at55) refl refl refl)
 
 weight3 : weight_of L o3 ≡ 1
 unfolding weight_of
@@ -244,7 +270,9 @@ weight3 = ap (weight_by o3.maps) case3
 lines3 : step_lines L o3 o4 ≡ []
 unfolding step_event
 lines3 = ap (λ c. lines_for L (flat_view L o4) (event_after L (note_by L o3 c) o4)) case3
-    ∙ ap (λ f. lines_for L (flat_view L o4) (event_after L (note_jump (option_map (λ p. p.part) (owner_now L o3)) (jump_seal o3.maps f)) o4)) fetch3
+    ∙ ap (λ f. lines_for L (flat_view L o4)
+    (event_after L (note_jump (option_map (λ p. p.part) (owner_now L o3)) (jump_seal o3.maps f)) o4))
+    fetch3
 
 -- ---- the call
 
@@ -257,10 +285,16 @@ unfolding all_there
 there4 = ap (λ x. is_some x && true) (has 70 _ at70)
 
 abbrev jump4 : State OWord
-jump4 = record { regs = regs_with (code 39) (RetCode 0) (RetData 0) (stack 69) (Plain (Mem (own_data 55))) (Plain code_word) (Plain data_word); cells = without M 70 70; spans = spans }
+jump4 = record {
+  regs = regs_with (code 39) (RetCode 0) (RetData 0) (stack 69) (Plain (Mem (own_data 55)))
+      (Plain code_word) (Plain data_word);
+  cells = without M 70 70;
+  spans = spans;
+}
 
 row4 : row look Plain (Xjmp C1 C2) (Int (pos 0)) jump4 ≡ went o5.maps
-row4 = xjmp_goes look Plain C1 C2 (Int (pos 0)) jump4 jump4 30 its_code (MemC its_data) refl refl refl refl refl (stays look Plain jump4 (R C2) refl)
+row4 = xjmp_goes look Plain C1 C2 (Int (pos 0)) jump4 jump4 30 its_code (MemC its_data)
+    refl refl refl refl refl (stays look Plain jump4 (R C2) refl)
 
 called4 : call_step L 0 o4 ≡ goes o5
 unfolding call_step need ask own_stack site_code faces owner_of words_from entry_code call_code return_code
@@ -287,7 +321,8 @@ gone70 : cell (without M 70 70) 70 ≡ None
 gone70 = cell-without_in M 70 70 70 (omega arith) (omega arith)
 
 lines4 : step_lines L o4 o5 ≡ call_line ∷ []
-unfolding step_event case_of faces opens owner_of flat beside word_of site_code part_name site_of entry_code call_code return_code
+unfolding step_event case_of faces opens owner_of flat beside word_of site_code part_name site_of entry_code
+    call_code return_code
 lines4 = rw gone70
 
 -- ---- the return
@@ -295,7 +330,8 @@ lines4 = rw gone70
 still57 : cell (without M 70 70) 57 ≡ Some (Plain (as_word (Xjmp Rcode Rdata)))
 still57 = cell-without_out M 70 70 57 (inl (omega arith)) ∙ has 57 _ at57
 
-fetch5 : fetch (faces look o5.maps Pc) (cell_faces look o5.maps) ≡ some (Xjmp Rcode Rdata) (Mem (record its_code { addr = pos 58 }))
+fetch5 : fetch (faces look o5.maps Pc) (cell_faces look o5.maps) ≡ some (Xjmp Rcode Rdata)
+    (Mem (record its_code { addr = pos 58 }))
 unfolding faces cell_faces
 fetch5 = rw (still57, decode_of-number_of (Xjmp Rcode Rdata) tt)
 

@@ -35,7 +35,8 @@ cells_grow v a n = words_pieces-append (words_from v a n) (list_of (v.cell (a + 
 
 pub cell_more : (v : View) (a n : ℕ) (s t u : SinkSeen) → AddsPieces s (cells_pieces v a n) t
     → AddsPieces t (cell_pieces v a n) u → AddsPieces s (cells_pieces v a (n + 1)) u
-cell_more v a n s t u e f = rw (add-one, cells_grow v a n) (pieces_then s t u (cells_pieces v a n) (cell_pieces v a n) e f)
+cell_more v a n s t u e f =
+    rw (add-one, cells_grow v a n) (pieces_then s t u (cells_pieces v a n) (cell_pieces v a n) e f)
 
 pub cell_fails : (v : View) (a i n : ℕ) (s t u : SinkSeen) → i < n → AddsPieces s (cells_pieces v a i) t
     → FailsAtPiece t (cell_pieces v a i) u → FailsAtPiece s (cells_pieces v a n) u
@@ -49,7 +50,9 @@ cell_fails v a i n s t u lt e f =
 pub head_fails : {A : Type 0} → (l : Line) (a c : SinkSeen) (h : List ℕ) (r : Result A Failed)
     → h ≡ head_text l → IsErr r → FailsAtPiece a (h ∷ []) c → Writes a (head_and_words l) r c
 head_fails l a c h r e bad f =
-    failed_writes a c _ r bad (fail_more a c (head_text l ∷ []) (words_pieces (words_of l) ++ codes "\n" ∷ []) (subst (λ t. FailsAtPiece a (t ∷ []) c) e f))
+    failed_writes a c _ r bad
+    (fail_more a c (head_text l ∷ []) (words_pieces (words_of l) ++ codes "\n" ∷ [])
+    (subst (λ t. FailsAtPiece a (t ∷ []) c) e f))
 
 -- its head was written, and then its words, or not
 pub line_written : {A : Type 0}
@@ -58,7 +61,9 @@ pub line_written : {A : Type 0}
     → AddsPieces a (h ∷ []) b → Writes b (words_pieces ws ++ codes "\n" ∷ []) r c
     → Writes a (head_and_words l) r c
 line_written l a b c h ws r e k f w =
-    writes_behind a b c (head_text l ∷ []) (words_pieces (words_of l) ++ codes "\n" ∷ []) r (subst (λ t. AddsPieces a (t ∷ []) b) e f) (subst (λ t. Writes b (words_pieces t ++ codes "\n" ∷ []) r c) k w)
+    writes_behind a b c (head_text l ∷ []) (words_pieces (words_of l) ++ codes "\n" ∷ [])
+    r (subst (λ t. AddsPieces a (t ∷ []) b) e f)
+    (subst (λ t. Writes b (words_pieces t ++ codes "\n" ∷ []) r c) k w)
 
 -- the head and the first word of a line
 with_word : (l : Line) (w : Word) (ws : List Word) → w ∷ ws ≡ words_of l
@@ -72,8 +77,10 @@ pub word_fails : {A : Type 0}
     → IsErr r → AddsPieces a (h ∷ []) b → FailsAtPiece b (field t ∷ []) c → Writes a (head_and_words l) r c
 word_fails l a b c h t w ws r e k same bad f g =
     let there : FailsAtPiece a (head_text l ∷ field (word_text_of w) ∷ []) c =
-    pieces_fail a b c (head_text l ∷ []) (field (word_text_of w) ∷ []) (subst (λ x. AddsPieces a (x ∷ []) b) e f) (subst (λ x. FailsAtPiece b (field x ∷ []) c) same g) in
-    subst (λ ps. Writes a ps r c) (sym (with_word l w ws k)) (failed_writes a c _ r bad (fail_more a c _ (words_pieces ws ++ codes "\n" ∷ []) there))
+    pieces_fail a b c (head_text l ∷ []) (field (word_text_of w) ∷ [])
+    (subst (λ x. AddsPieces a (x ∷ []) b) e f) (subst (λ x. FailsAtPiece b (field x ∷ []) c) same g) in
+    subst (λ ps. Writes a ps r c) (sym (with_word l w ws k))
+    (failed_writes a c _ r bad (fail_more a c _ (words_pieces ws ++ codes "\n" ∷ []) there))
 
 -- its head and first word were written, and then its other words, or not
 pub word_written : {A : Type 0}
@@ -83,8 +90,11 @@ pub word_written : {A : Type 0}
     → Writes m (words_pieces vs ++ codes "\n" ∷ []) r c → Writes a (head_and_words l) r c
 word_written l a b m c h t w ws vs r e k same q f g rest =
     let there : AddsPieces a (head_text l ∷ field (word_text_of w) ∷ []) m =
-    pieces_then a b m (head_text l ∷ []) (field (word_text_of w) ∷ []) (subst (λ x. AddsPieces a (x ∷ []) b) e f) (subst (λ x. AddsPieces b (field x ∷ []) m) same g) in
-    subst (λ ps. Writes a ps r c) (sym (with_word l w ws k)) (writes_behind a m c _ (words_pieces ws ++ codes "\n" ∷ []) r there (subst (λ x. Writes m (words_pieces x ++ codes "\n" ∷ []) r c) q rest))
+    pieces_then a b m (head_text l ∷ []) (field (word_text_of w) ∷ [])
+    (subst (λ x. AddsPieces a (x ∷ []) b) e f) (subst (λ x. AddsPieces b (field x ∷ []) m) same g) in
+    subst (λ ps. Writes a ps r c) (sym (with_word l w ws k))
+    (writes_behind a m c _ (words_pieces ws ++ codes "\n" ∷ [])
+    r there (subst (λ x. Writes m (words_pieces x ++ codes "\n" ∷ []) r c) q rest))
 
 -- ---- the pieces of a line are its text
 
@@ -95,10 +105,13 @@ words_joined (w ∷ ws) = ap (λ t. field (word_text_of w) ++ t) (words_joined w
 whole_joined : (l : Line) → concat (head_and_words l) ≡ line_text l
 unfolding line_text
 whole_joined l =
-    ap (λ t. head_text l ++ t) (concat-append (words_pieces (words_of l)) (codes "\n" ∷ []) ∙ ap (λ t. t ++ codes "\n") (words_joined (words_of l)))
+    ap (λ t. head_text l ++ t)
+    (concat-append (words_pieces (words_of l)) (codes "\n" ∷ [])
+    ∙ ap (λ t. t ++ codes "\n") (words_joined (words_of l)))
 
 line_joined : (l : Line) → concat (line_pieces l) ≡ line_text l
-line_joined (call inward part site base last args words) = whole_joined (call inward part site base last args words)
+line_joined (call inward part site base last args words) =
+    whole_joined (call inward part site base last args words)
 line_joined (ret inward part site base last a0 words) = whole_joined (ret inward part site base last a0 words)
 line_joined (enter part export stk args back) = append-nil _
 line_joined (pass p0 p1 p2) = append-nil _
@@ -107,14 +120,17 @@ line_joined (leave part a0) = append-nil _
 pub lines_joined : (ls : List Line) → concat (lines_pieces ls) ≡ lines_text ls
 lines_joined [] = refl
 lines_joined (l ∷ ls) =
-    concat-append (line_pieces l) (lines_pieces ls) ∙ ap (λ t. t ++ concat (lines_pieces ls)) (line_joined l) ∙ ap (λ t. line_text l ++ t) (lines_joined ls)
+    concat-append (line_pieces l) (lines_pieces ls) ∙ ap (λ t. t ++ concat (lines_pieces ls)) (line_joined l)
+    ∙ ap (λ t. line_text l ++ t) (lines_joined ls)
 
 -- with a last line behind them
 pub joined_with : (ls : List Line) (last : List ℕ)
     → concat (lines_pieces ls ++ last ∷ []) ≡ lines_text ls ++ last
 joined_with ls last =
-    concat-append (lines_pieces ls) (last ∷ []) ∙ ap (λ t. t ++ (last ++ [])) (lines_joined ls) ∙ ap (λ t. lines_text ls ++ t) (append-nil last)
+    concat-append (lines_pieces ls) (last ∷ []) ∙ ap (λ t. t ++ (last ++ [])) (lines_joined ls)
+    ∙ ap (λ t. lines_text ls ++ t) (append-nil last)
 
 pub lines_pieces-append : (xs ys : List Line) → lines_pieces (xs ++ ys) ≡ lines_pieces xs ++ lines_pieces ys
 lines_pieces-append [] ys = refl
-lines_pieces-append (x ∷ xs) ys = ap (λ ps. line_pieces x ++ ps) (lines_pieces-append xs ys) ∙ sym (append_assoc (line_pieces x) (lines_pieces xs) (lines_pieces ys))
+lines_pieces-append (x ∷ xs) ys = ap (λ ps. line_pieces x ++ ps) (lines_pieces-append xs ys)
+    ∙ sym (append_assoc (line_pieces x) (lines_pieces xs) (lines_pieces ys))

@@ -17,7 +17,8 @@ use Rattle.overlay_machine.specs.declared.notes.Note.TheVariants.{Nothing, Calls
 use Rattle.overlay_machine.specs.Words.{look}
 use Rattle.overlay_machine.specs.State.{OpenFrame, OState}
 use Rattle.overlay_machine.specs.Step.{case_of}
-use Rattle.overlay_machine.specs.Events.{note_call, site_opened, owner_now, note_jump, jump_seal, note_by, called, shown, entered, jumped, event_after, step_event}
+use Rattle.overlay_machine.specs.Events.{note_call, site_opened, owner_now, note_jump, jump_seal, note_by}
+use Rattle.overlay_machine.specs.Events.{called, shown, entered, jumped, event_after, step_event}
 use Rattle.trace_tool.specs.Views.{flat_view}
 use Rattle.trace_tool.specs.Lines.{lines_for}
 use Rattle.trace_tool.specs.Told.{step_lines}
@@ -36,7 +37,9 @@ no_call b (f ∷ fs) = refl
 no_entry : (l : Layout) (q : OState) (p : Owner) → is_return (entered l q p) ≡ false
 no_entry l q p = by (entry_number p (faces look q.maps Pc))
   where
-    by : (n : Option ℕ) → is_return (option_map (λ k. Entered p.part k (back_of l (shown l q Rcode) (shown l q Rdata))) n) ≡ false
+    by : (n : Option ℕ)
+        → is_return (option_map (λ k. Entered p.part k (back_of l (shown l q Rcode) (shown l q Rdata))) n)
+        ≡ false
     by None = refl
     by (Some k) = refl
 
@@ -59,7 +62,8 @@ Noted n = (t : Bool) × (f : Frame) × (n ≡ Returns t f)
 
 by_note : (l : Layout) (q : OState) (n : Note) → is_return (event_after l n q) ≡ true → Noted n
 by_note l q Nothing h = cc
-by_note l q Calls h = absurd (let bad : false ≡ true = sym (no_call (is_some (owner_now l q)) q.frames) ∙ h in cc)
+by_note l q Calls h =
+    absurd (let bad : false ≡ true = sym (no_call (is_some (owner_now l q)) q.frames) ∙ h in cc)
 by_note l q (Returns t f) h = (t, f, refl)
 by_note l q (Jumps from seal) h = absurd (let bad : false ≡ true = sym (no_jump l q from seal) ∙ h in cc)
 
@@ -74,7 +78,9 @@ by_case l o (Call i) h = absurd (by (site_opened l (opens look o.maps C1)) h)
     by (Some s) h = (let bad : Nothing ≡ Returns h.0 h.1 = h.2 in cc)
 by_case l o (Entry a) h = absurd (let bad : Nothing ≡ Returns h.0 h.1 = h.2 in cc)
 by_case l o (Back r1 r2) h = (r1, r2, refl)
-by_case l o Other h = absurd (by (option_map (λ p. p.part) (owner_now l o)) (jump_seal o.maps (fetch (faces look o.maps Pc) (cell_faces look o.maps))) h)
+by_case l o Other h =
+    absurd (by (option_map (λ p. p.part) (owner_now l o))
+    (jump_seal o.maps (fetch (faces look o.maps Pc) (cell_faces look o.maps))) h)
   where
     by : (from seal : Option ℕ) → Noted (note_jump from seal) → ⊥
     by from None h = (let bad : Nothing ≡ Returns h.0 h.1 = h.2 in cc)
@@ -82,7 +88,8 @@ by_case l o Other h = absurd (by (option_map (λ p. p.part) (owner_now l o)) (ju
 
 -- ---- the line
 
-of_line : (l : Layout) (q : OState) (e : Option Event) → IsRet (lines_for l (flat_view l q) e) → is_return e ≡ true
+of_line : (l : Layout) (q : OState) (e : Option Event) → IsRet (lines_for l (flat_view l q) e)
+    → is_return e ≡ true
 of_line l q None h = absurd (let bad = h.7 in cc)
 of_line l q (Some (Called inward i b e)) h = absurd (let bad = h.7 in cc)
 of_line l q (Some (Returned inward i b e)) h = refl
@@ -91,4 +98,6 @@ of_line l q (Some (Left p)) h = absurd (let bad = h.7 in cc)
 
 pub ret_returns : (l : Layout) (o q : OState) → IsRet (step_lines l o q) → Returning (case_of l o.maps)
 unfolding step_event
-ret_returns l o q h = by_case l o (case_of l o.maps) (by_note l q (note_by l o (case_of l o.maps)) (of_line l q (step_event l o q) h))
+ret_returns l o q h =
+    by_case l o (case_of l o.maps)
+    (by_note l q (note_by l o (case_of l o.maps)) (of_line l q (step_event l o q) h))

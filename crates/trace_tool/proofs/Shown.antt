@@ -12,17 +12,21 @@ use Rattle.overlay_machine.specs.State.{OState, framed, word_at}
 use Rattle.overlay_machine.specs.Flat.{flat, beside}
 use Rattle.trace_tool.specs.Views.{flat_view}
 
-mapped : (f : OWord → Word) (m k : Option OWord) → mapped_or f m (mapped_or f k None) ≡ option_map f (option_or m k)
+mapped : (f : OWord → Word) (m k : Option OWord)
+    → mapped_or f m (mapped_or f k None) ≡ option_map f (option_or m k)
 mapped f (Some w) k = refl
 mapped f None (Some w) = refl
 mapped f None None = refl
 
-flat_at : (l : Layout) (o : OState) (a : ℕ) → (flat_view l o).cell a ≡ option_map (flat l o.frames) (word_at o a)
+flat_at : (l : Layout) (o : OState) (a : ℕ)
+    → (flat_view l o).cell a ≡ option_map (flat l o.frames) (word_at o a)
 unfolding beside
 flat_at l o a = mapped (flat l o.frames) (cell o.maps.cells a) (framed o.frames a)
 
-pub text_there : (l : Layout) (o : OState) (a : ℕ) (w : OWord) → Some w ≡ word_at o a → option_map word_text_of ((flat_view l o).cell a) ≡ Some (word_text_of (flat l o.frames w))
-text_there l o a w e = ap (option_map word_text_of) (flat_at l o a ∙ ap (option_map (flat l o.frames)) (sym e))
+pub text_there : (l : Layout) (o : OState) (a : ℕ) (w : OWord) → Some w ≡ word_at o a
+    → option_map word_text_of ((flat_view l o).cell a) ≡ Some (word_text_of (flat l o.frames w))
+text_there l o a w e =
+    ap (option_map word_text_of) (flat_at l o a ∙ ap (option_map (flat l o.frames)) (sym e))
 
 pub none_there : (l : Layout) (o : OState) (a : ℕ) → None ≡ word_at o a → (flat_view l o).cell a ≡ None
 none_there l o a e = flat_at l o a ∙ ap (option_map (flat l o.frames)) (sym e)

@@ -6,10 +6,14 @@ use Rattle.trace_tool.specs.Runs.{Watched, watched, watched_next, line_next, lin
 
 pub watched_split : (l : Layout) (w : Watched) (m n : ℕ) → watched l w (m + n) ≡ watched l (watched l w m) n
 watched_split l w m zero = (let e : m + 0 ≡ m = omega arith in ap (λ k. watched l w k) e)
-watched_split l w m (suc n) = (let e : m + suc n ≡ suc (m + n) = omega arith in ap (λ k. watched l w k) e ∙ ap (watched_next l) (watched_split l w m n))
+watched_split l w m (suc n) =
+    (let e : m + suc n ≡ suc (m + n) =
+    omega arith in ap (λ k. watched l w k) e ∙ ap (watched_next l) (watched_split l w m n))
 
-pub lines_split : (l : Layout) (w : Watched) (m n : ℕ) → lines_of l w (m + n) ≡ lines_of l w m ++ lines_of l (watched l w m) n
-lines_split l w m zero = (let e : m + 0 ≡ m = omega arith in ap (λ k. lines_of l w k) e ∙ sym (append-nil (lines_of l w m)))
+pub lines_split : (l : Layout) (w : Watched) (m n : ℕ)
+    → lines_of l w (m + n) ≡ lines_of l w m ++ lines_of l (watched l w m) n
+lines_split l w m zero =
+    (let e : m + 0 ≡ m = omega arith in ap (λ k. lines_of l w k) e ∙ sym (append-nil (lines_of l w m)))
 lines_split l w m (suc n) =
     (let e : m + suc n ≡ suc (m + n) = omega arith in ap (λ k. lines_of l w k) e)
     ∙ ap (λ x. x ++ line_next l (watched l w (m + n))) (lines_split l w m n)

@@ -33,12 +33,15 @@ told_then l o p _ j _ ls _ h none_yet =
 told_then l o p q j _ ls _ h (and_then {j = k} {ls = ms} {p = r} more e) =
     let t = told_then l o p r j k ls ms h more in
     let at : (j + k) + weight_of l r ≡ j + (k + weight_of l r) = omega arith in
-    subst (λ i. Told l o i (ls ++ (ms ++ step_lines l r q)) q) at (subst (λ x. Told l o ((j + k) + weight_of l r) x q) (append_assoc ls ms (step_lines l r q)) (and_then t e))
+    subst (λ i. Told l o i (ls ++ (ms ++ step_lines l r q)) q)
+    at (subst (λ x. Told l o ((j + k) + weight_of l r) x q) (append_assoc ls ms (step_lines l r q))
+    (and_then t e))
 
 -- what a step of a seen overlay is
 data StepIs (o : OverlaySeen) : OStep → OverlaySeen → Type 0 where
   it_went : (q : OState) → overlay_step o.layout o.state ≡ goes q
-      → StepIs o (Went (step_event o.layout o.state q)) (record o { state = q; weight = o.weight + weight_of o.layout o.state })
+      → StepIs o (Went (step_event o.layout o.state q))
+      (record o { state = q; weight = o.weight + weight_of o.layout o.state })
   it_halted : (p : OverlaySeen) → p.state ≡ o.state → (o.end ≡ None → EndsOverlay o.layout o.state)
       → StepIs o Halted p
   it_failed : (p : OverlaySeen) → p.state ≡ o.state → (o.end ≡ None → EndsOverlay o.layout o.state)
@@ -52,8 +55,10 @@ by_ending o fails h = it_failed _ refl (λ _. inr h)
 
 by_end : (o : OverlaySeen) (e : Option OEnd) → o.end ≡ e → StepIs o (answer_by e o) (next_by e o)
 by_end o None h = by_ending o (overlay_step o.layout o.state) refl
-by_end o (Some AtHalt) h = it_halted o refl (λ none. absurd (let bad : None ≡ Some AtHalt = sym none ∙ h in cc))
-by_end o (Some AtFailure) h = it_failed o refl (λ none. absurd (let bad : None ≡ Some AtFailure = sym none ∙ h in cc))
+by_end o (Some AtHalt) h =
+    it_halted o refl (λ none. absurd (let bad : None ≡ Some AtHalt = sym none ∙ h in cc))
+by_end o (Some AtFailure) h =
+    it_failed o refl (λ none. absurd (let bad : None ≡ Some AtFailure = sym none ∙ h in cc))
 
 step_is : (o : OverlaySeen) → StepIs o (answer_of o) (next_overlay o)
 unfolding answer_of next_overlay
@@ -64,15 +69,21 @@ step_is o = by_end o o.end refl
 abbrev ToldFrom : Layout → ℕ → ℕ → OverlaySeen → Traced → Type 0
 ToldFrom l limit n o t =
     (j : ℕ) × Told l o.state j t.lines t.overlay.state
-    × (o.end ≡ None → o.weight ≤ limit → limit < o.weight + n → StopsAt l limit (o.weight + j) t.overlay.state)
+    × (o.end ≡ None → o.weight ≤ limit → limit < o.weight + n
+    → StopsAt l limit (o.weight + j) t.overlay.state)
 
 stays_told : (l : Layout) (limit n : ℕ) (o p : OverlaySeen) → o.layout ≡ l → p.state ≡ o.state
     → (o.end ≡ None → EndsOverlay o.layout o.state)
-    → (j : ℕ) × Told l o.state j [] p.state × (o.end ≡ None → o.weight ≤ limit → limit < o.weight + n → StopsAt l limit (o.weight + j) p.state)
+    → (j : ℕ) × Told l o.state j [] p.state
+    × (o.end ≡ None → o.weight ≤ limit → limit < o.weight + n → StopsAt l limit (o.weight + j) p.state)
 stays_told l limit n o p same e ends = (
   0,
   subst (λ y. Told l o.state 0 [] y) (sym e) none_yet,
-  λ none low high. (omega (arith, low), inr (subst (λ y. EndsOverlay y p.state) same (subst (λ y. EndsOverlay o.layout y) (sym e) (ends none)))),
+  λ none low high. (
+    omega (arith, low),
+    inr
+        (subst (λ y. EndsOverlay y p.state) same (subst (λ y. EndsOverlay o.layout y) (sym e) (ends none))),
+  ),
 )
 
 -- `traced_by`, with the next overlay beside
@@ -93,16 +104,22 @@ told_with : (l : Layout) (limit n : ℕ) (o : OverlaySeen) (a : OStep) (next : O
     → ToldFrom l limit (suc n) o (traced_with a o next (traced limit n))
 told_with l limit n o _ _ same within (it_went q e) h =
     let p : OverlaySeen = record o { state = q; weight = o.weight + weight_of o.layout o.state } in
-    let first : Told l o.state (0 + weight_of l o.state) ([] ++ step_lines l o.state q) q = and_then none_yet (ap (λ y. overlay_step y o.state) (sym same) ∙ e) in
+    let first : Told l o.state (0 + weight_of l o.state) ([] ++ step_lines l o.state q) q =
+    and_then none_yet (ap (λ y. overlay_step y o.state) (sym same) ∙ e) in
     let t = h p same in
-    let lines : step_lines l o.state q ≡ lines_after p (step_event o.layout o.state q) = ap (λ y. step_lines y o.state q) (sym same) in
-    let k = told_then l o.state q (traced limit n p).overlay.state (0 + weight_of l o.state) t.0 (step_lines l o.state q) (traced limit n p).lines first t.1 in
+    let lines : step_lines l o.state q ≡ lines_after p (step_event o.layout o.state q) =
+    ap (λ y. step_lines y o.state q) (sym same) in
+    let k = told_then l o.state q (traced limit n p).overlay.state (0 + weight_of l o.state)
+    t.0 (step_lines l o.state q) (traced limit n p).lines first t.1 in
     let w : weight_of l o.state ≡ weight_of o.layout o.state = ap (λ y. weight_of y o.state) (sym same) in
     let some = weight_some o.layout o.state in
-    let at : (o.weight + weight_of o.layout o.state) + t.0 ≡ o.weight + ((0 + weight_of l o.state) + t.0) = omega (arith, w) in (
+    let at : (o.weight + weight_of o.layout o.state) + t.0 ≡ o.weight + ((0 + weight_of l o.state) + t.0) =
+    omega (arith, w) in (
       (0 + weight_of l o.state) + t.0,
-      subst (λ y. Told l o.state ((0 + weight_of l o.state) + t.0) (y ++ (traced limit n p).lines) (traced limit n p).overlay.state) lines k,
-      λ none low high. subst (λ i. StopsAt l limit i (traced limit n p).overlay.state) at (t.2 none within (omega (arith, high, some))),
+      subst (λ y. Told l o.state ((0 + weight_of l o.state) + t.0) (y ++ (traced limit n p).lines)
+          (traced limit n p).overlay.state) lines k,
+      λ none low high. subst (λ i. StopsAt l limit i (traced limit n p).overlay.state)
+          at (t.2 none within (omega (arith, high, some))),
     )
 told_with l limit n o _ _ same within (it_halted p e ends) h = stays_told l limit (suc n) o p same e ends
 told_with l limit n o _ _ same within (it_failed p e ends) h = stays_told l limit (suc n) o p same e ends
@@ -115,18 +132,25 @@ told_by_limit l limit n o true over same more =
     let w : weight_of l o.state ≡ weight_of o.layout o.state = ap (λ y. weight_of y o.state) (sym same) in
     (0, none_yet, λ none low high. (omega (arith, low), inl (omega (arith, past, w))))
 told_by_limit l limit n o false over same more =
-    subst (ToldFrom l limit (suc n) o) (sym (with_next (answer_of o) o (traced limit n))) (told_with l limit n o (answer_of o) (next_overlay o) same (ltb-false limit (weight_with o) over) (step_is o) more)
+    subst (ToldFrom l limit (suc n) o) (sym (with_next (answer_of o) o (traced limit n)))
+    (told_with l limit n o (answer_of o) (next_overlay o) same (ltb-false limit (weight_with o) over)
+    (step_is o) more)
 
 traced_told : (l : Layout) (limit n : ℕ) (o : OverlaySeen) → o.layout ≡ l
     → ToldFrom l limit n o (traced limit n o)
 traced_told l limit zero o same = (0, none_yet, λ none low high. absurd (omega (arith, low, high)))
-traced_told l limit (suc n) o same = told_by_limit l limit n o (nat_lt limit (weight_with o)) refl same (λ p e. traced_told l limit n p e)
+traced_told l limit (suc n) o same =
+    told_by_limit l limit n o (nat_lt limit (weight_with o)) refl same (λ p e. traced_told l limit n p e)
 
 pub trace_stands : (o : OverlaySeen) → TracesSteps o
 trace_stands o none unmoved limit =
     let t = traced_told o.layout limit (limit + 1) o refl in
-    let at : o.weight + t.0 ≡ t.0 = omega (arith, unmoved) in
-    (t.0, t.1, subst (λ i. StopsAt o.layout limit i (trace_of limit o).overlay.state) at (t.2 none (omega (arith, unmoved)) (omega (arith, unmoved))))
+    let at : o.weight + t.0 ≡ t.0 = omega (arith, unmoved) in (
+      t.0,
+      t.1,
+      subst (λ i. StopsAt o.layout limit i (trace_of limit o).overlay.state)
+          at (t.2 none (omega (arith, unmoved)) (omega (arith, unmoved))),
+    )
 
 pub trace_bracketed : (o : OverlaySeen) → LinesAreBracketed o.layout o.state → TraceIsBracketed o
 trace_bracketed o h limit =

@@ -11,13 +11,18 @@ use Rattle.trace_tool.specs.Traces.{trace_of}
 use Rattle.trace_tool.specs.Alike.{LinesAgree}
 use Rattle.trace_tool.proofs.TraceTold.{trace_stands}
 
-pub traces_alike : (o : OverlaySeen) (t : State Word) → LinesAgree o.layout o.state t → o.end ≡ None → o.weight ≡ 0 → (limit : ℕ) → (trace_of limit o).lines ≡ lines_of o.layout (begun (fresh t)) limit
+pub traces_alike : (o : OverlaySeen) (t : State Word) → LinesAgree o.layout o.state t → o.end ≡ None
+    → o.weight ≡ 0 → (limit : ℕ) → (trace_of limit o).lines ≡ lines_of o.layout (begun (fresh t)) limit
 traces_alike o t agree none unmoved limit =
     let s = trace_stands o none unmoved limit in
     by (s.0) (s.1) (s.2.0) (s.2.1)
   where
-    by : (j : ℕ) → Told o.layout o.state j (trace_of limit o).lines (trace_of limit o).overlay.state → j ≤ limit
-        → (limit < j + weight_of o.layout (trace_of limit o).overlay.state) ⊎ EndsOverlay o.layout (trace_of limit o).overlay.state
+    by : (j : ℕ) → Told o.layout o.state j (trace_of limit o).lines (trace_of limit o).overlay.state
+        → j ≤ limit
+        → (limit < j + weight_of o.layout (trace_of limit o).overlay.state)
+        ⊎ EndsOverlay o.layout (trace_of limit o).overlay.state
         → (trace_of limit o).lines ≡ lines_of o.layout (begun (fresh t)) limit
-    by j told within (inl past) = sym (agree.between j limit (trace_of limit o).lines (trace_of limit o).overlay.state told within past)
-    by j told within (inr ends) = sym (agree.ended j limit (trace_of limit o).lines (trace_of limit o).overlay.state told within ends)
+    by j told within (inl past) =
+        sym (agree.between j limit (trace_of limit o).lines (trace_of limit o).overlay.state told within past)
+    by j told within (inr ends) =
+        sym (agree.ended j limit (trace_of limit o).lines (trace_of limit o).overlay.state told within ends)

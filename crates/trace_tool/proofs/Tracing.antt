@@ -103,8 +103,10 @@ layout_stays o = layout_by_end o o.end
 pub layout_of_start : (s : StartSeen) (o : OverlaySeen) → IsOverlayOf s o → layout s ≡ o.layout
 layout_of_start s o is =
     ap (λ x. let l : Layout = record { sites = x; owners = s.owners; stack = s.stack } in l) (sym is.sites)
-    ∙ ap (λ x. let l : Layout = record { sites = o.layout.sites; owners = x; stack = s.stack } in l) (sym is.owners)
-    ∙ ap (λ x. let l : Layout = record { sites = o.layout.sites; owners = o.layout.owners; stack = x } in l) (sym is.stack)
+    ∙ ap (λ x. let l : Layout = record { sites = o.layout.sites; owners = x; stack = s.stack } in l)
+    (sym is.owners)
+    ∙ ap (λ x. let l : Layout = record { sites = o.layout.sites; owners = o.layout.owners; stack = x } in l)
+    (sym is.stack)
 
 -- ---- a run
 
@@ -118,7 +120,8 @@ goes_on limit n o fits = rw (le-ltb limit (weight_with o) fits) refl
 
 pieces_behind : (lines : List Line) (t : Traced)
     → pieces_of (behind lines t) ≡ lines_pieces lines ++ pieces_of t
-pieces_behind lines t = ap (λ x. x ++ t.last ∷ []) (lines_pieces-append lines t.lines) ∙ append_assoc (lines_pieces lines) (lines_pieces t.lines) (t.last ∷ [])
+pieces_behind lines t = ap (λ x. x ++ t.last ∷ []) (lines_pieces-append lines t.lines)
+    ∙ append_assoc (lines_pieces lines) (lines_pieces t.lines) (t.last ∷ [])
 
 module _ (limit : ℕ) (o : OverlaySeen) (sink : SinkSeen) where
   -- the pieces of a trace are its text
@@ -128,7 +131,8 @@ module _ (limit : ℕ) (o : OverlaySeen) (sink : SinkSeen) where
   -- one of them failed to be written, and so did the text
   text_fails : (new : SinkSeen) → FailsAtPiece sink (trace_pieces limit o) new
       → FailsToWrite sink (trace_text limit o) new
-  text_fails new f = subst (λ t. FailsToWrite sink t new) trace_joined (text_failed sink new (trace_pieces limit o) f)
+  text_fails new f =
+      subst (λ t. FailsToWrite sink t new) trace_joined (text_failed sink new (trace_pieces limit o) f)
 
   -- some steps went, and what they wrote stands in front of what is still to be written
   pub record Going (now : OverlaySeen) (seen : SinkSeen) : Type 0 where
@@ -172,7 +176,8 @@ module _ (limit : ℕ) (o : OverlaySeen) (sink : SinkSeen) where
       → IsOverlayOf s o → Going now seen → next ≡ next_overlay now
       → Rattle.trace_tool.specs.Layout.layout s ≡ next.layout
   start_layout s now seen next is g e =
-      layout_of_start s o is ∙ sym g.layout ∙ sym (layout_stays now) ∙ sym (ap (λ (x : OverlaySeen). x.layout) e)
+      layout_of_start s o is ∙ sym g.layout ∙ sym (layout_stays now)
+      ∙ sym (ap (λ (x : OverlaySeen). x.layout) e)
 
   -- what a run comes to from a step on that is within the limit
   on_step : (now : OverlaySeen) (left : ℕ) → limit < left + now.weight → weight_with now ≤ limit
@@ -185,19 +190,24 @@ module _ (limit : ℕ) (o : OverlaySeen) (sink : SinkSeen) where
       → (g : Going now seen) → answer_of now ≡ Went event → next ≡ next_overlay now
       → lines_after next event ≡ step_lines (steps_on g.steps o)
   own_lines now seen event next g a e =
-      ap (λ (x : OverlaySeen). lines_after x event) e ∙ ap (λ x. lines_after (next_overlay now) (event_in x)) (sym a) ∙ ap step_lines g.same
+      ap (λ (x : OverlaySeen). lines_after x event) e
+      ∙ ap (λ x. lines_after (next_overlay now) (event_in x)) (sym a) ∙ ap step_lines g.same
 
-  pub going_more : (now : OverlaySeen) (seen : SinkSeen) (event : Option Event) (next : OverlaySeen) (seen2 : SinkSeen)
+  pub going_more : (now : OverlaySeen) (seen : SinkSeen) (event : Option Event) (next : OverlaySeen)
+      (seen2 : SinkSeen)
       → Going now seen → weight_with now ≤ limit → answer_of now ≡ Went event
       → next ≡ next_overlay now → AddsPieces seen (lines_pieces (lines_after next event)) seen2
       → Going next seen2
   going_more now seen event next seen2 g fits a e w =
       let s = on_step now g.left g.enough fits in
-      let weight : next.weight ≡ weight_with now = ap (λ (x : OverlaySeen). x.weight) e ∙ went_weight now event a in
+      let weight : next.weight ≡ weight_with now =
+      ap (λ (x : OverlaySeen). x.weight) e ∙ went_weight now event a in
       let some = weight_some now.layout now.state in
       let is : traced limit g.left now ≡ behind (lines_after next event) (traced limit s.0 next) =
-      s.2 ∙ ap (λ x. traced_by x now (traced limit s.0)) a ∙ ap (λ x. behind (lines_after x event) (traced limit s.0 x)) (sym e) in
-      let mine : lines_after next event ≡ step_lines (steps_on g.steps o) = own_lines now seen event next g a e in
+      s.2 ∙ ap (λ x. traced_by x now (traced limit s.0)) a
+      ∙ ap (λ x. behind (lines_after x event) (traced limit s.0 x)) (sym e) in
+      let mine : lines_after next event ≡ step_lines (steps_on g.steps o) =
+      own_lines now seen event next g a e in
       record {
         steps = suc g.steps;
         left = s.0;
@@ -207,9 +217,17 @@ module _ (limit : ℕ) (o : OverlaySeen) (sink : SinkSeen) where
         within = omega (arith, weight, fits);
         enough = (let f = g.enough in let l = s.1 in omega (arith, f, l, weight, some));
         told = g.told ++ lines_pieces (lines_after next event);
-        lines = ap (λ x. x ++ lines_pieces (lines_after next event)) g.lines ∙ sym (lines_pieces-append (steps_lines g.steps o) (lines_after next event)) ∙ ap (λ ls. lines_pieces (steps_lines g.steps o ++ ls)) mine;
-        whole = g.whole ∙ ap (λ (t : Traced). steps_lines g.steps o ++ t.lines) is ∙ sym (append_assoc (steps_lines g.steps o) (lines_after next event) (traced limit s.0 next).lines) ∙ ap (λ ls. (steps_lines g.steps o ++ ls) ++ (traced limit s.0 next).lines) mine;
-        pieces = g.pieces ∙ ap (λ (t : Traced). g.told ++ pieces_of t) is ∙ ap (λ x. g.told ++ x) (pieces_behind (lines_after next event) (traced limit s.0 next)) ∙ sym (append_assoc g.told (lines_pieces (lines_after next event)) (pieces_of (traced limit s.0 next)));
+        lines = ap (λ x. x ++ lines_pieces (lines_after next event)) g.lines
+            ∙ sym (lines_pieces-append (steps_lines g.steps o) (lines_after next event))
+            ∙ ap (λ ls. lines_pieces (steps_lines g.steps o ++ ls)) mine;
+        whole = g.whole ∙ ap (λ (t : Traced). steps_lines g.steps o ++ t.lines) is
+            ∙ sym (append_assoc (steps_lines g.steps o) (lines_after next event)
+            (traced limit s.0 next).lines)
+            ∙ ap (λ ls. (steps_lines g.steps o ++ ls) ++ (traced limit s.0 next).lines) mine;
+        pieces = g.pieces ∙ ap (λ (t : Traced). g.told ++ pieces_of t) is
+            ∙ ap (λ x. g.told ++ x) (pieces_behind (lines_after next event) (traced limit s.0 next))
+            ∙ sym (append_assoc g.told (lines_pieces (lines_after next event))
+            (pieces_of (traced limit s.0 next)));
         end = g.end ∙ ap (λ (t : Traced). t.end) is;
         overlay = g.overlay ∙ ap (λ (t : Traced). t.overlay) is;
         last = g.last ∙ ap (λ (t : Traced). t.last) is;
@@ -217,7 +235,8 @@ module _ (limit : ℕ) (o : OverlaySeen) (sink : SinkSeen) where
       }
 
   -- the lines of a step that went failed to be written
-  pub going_fails : (now : OverlaySeen) (seen : SinkSeen) (event : Option Event) (next : OverlaySeen) (seen2 : SinkSeen)
+  pub going_fails : (now : OverlaySeen) (seen : SinkSeen) (event : Option Event) (next : OverlaySeen)
+      (seen2 : SinkSeen)
       → Going now seen → weight_with now ≤ limit → answer_of now ≡ Went event
       → next ≡ next_overlay now → FailsAtPiece seen (lines_pieces (lines_after next event)) seen2
       → TraceFaults limit o sink next seen2
@@ -225,33 +244,53 @@ module _ (limit : ℕ) (o : OverlaySeen) (sink : SinkSeen) where
       let s = on_step now g.left g.enough fits in
       let some = weight_some now.layout now.state in
       let is : traced limit g.left now ≡ behind (lines_after next event) (traced limit s.0 next) =
-      s.2 ∙ ap (λ x. traced_by x now (traced limit s.0)) a ∙ ap (λ x. behind (lines_after x event) (traced limit s.0 x)) (sym e) in
-      let pieces : trace_pieces limit o ≡ g.told ++ (lines_pieces (lines_after next event) ++ pieces_of (traced limit s.0 next)) =
-      g.pieces ∙ ap (λ (t : Traced). g.told ++ pieces_of t) is ∙ ap (λ x. g.told ++ x) (pieces_behind (lines_after next event) (traced limit s.0 next)) in
+      s.2 ∙ ap (λ x. traced_by x now (traced limit s.0)) a
+      ∙ ap (λ x. behind (lines_after x event) (traced limit s.0 x)) (sym e) in
+      let pieces : trace_pieces limit o ≡ g.told
+      ++ (lines_pieces (lines_after next event) ++ pieces_of (traced limit s.0 next)) =
+      g.pieces ∙ ap (λ (t : Traced). g.told ++ pieces_of t) is
+      ∙ ap (λ x. g.told ++ x) (pieces_behind (lines_after next event) (traced limit s.0 next)) in
       record {
         made = (suc g.steps, (let w = g.few in omega (arith, w, some, fits)), e ∙ ap next_overlay g.same);
-        within = (let w : next.weight ≡ weight_with now = ap (λ (x : OverlaySeen). x.weight) e ∙ went_weight now event a in omega (arith, w, fits));
-        at = inl (g.steps, refl, (seen, subst (λ x. AddsPieces sink x seen) g.lines g.written, subst (λ ls. FailsAtPiece seen (lines_pieces ls) seen2) (own_lines now seen event next g a e) f));
-        text = text_fails seen2 (subst (λ x. FailsAtPiece sink x seen2) (sym pieces) (pieces_fail sink seen seen2 _ _ g.written (fail_more seen seen2 _ (pieces_of (traced limit s.0 next)) f)));
+        within = (let w : next.weight ≡ weight_with now =
+            ap (λ (x : OverlaySeen). x.weight) e ∙ went_weight now event a in omega (arith, w, fits));
+        at = inl (
+          g.steps,
+          refl,
+          (
+            seen,
+            subst (λ x. AddsPieces sink x seen)
+                g.lines g.written,
+            subst (λ ls. FailsAtPiece seen (lines_pieces ls) seen2)
+                (own_lines now seen event next g a e) f,
+          ),
+        );
+        text = text_fails seen2
+            (subst (λ x. FailsAtPiece sink x seen2) (sym pieces)
+            (pieces_fail sink seen seen2 _ _ g.written
+            (fail_more seen seen2 _ (pieces_of (traced limit s.0 next)) f)));
       }
 
   -- a last line was written behind the others, or not
-  ends : (now : OverlaySeen) (seen : SinkSeen) (new : OverlaySeen) (seen2 : SinkSeen) (line : List ℕ) (end result : RunEnd)
+  ends : (now : OverlaySeen) (seen : SinkSeen) (new : OverlaySeen) (seen2 : SinkSeen) (line : List ℕ)
+      (end result : RunEnd)
       → (g : Going now seen)
       → (TracesTo limit o sink new seen2 end → Traces limit o sink new seen2 end)
       → ((n : ℕ) × (n ≤ limit) × (new ≡ steps_on n o)) → new.weight ≤ limit
       → traced limit g.left now ≡ ended end new line
       → EndsBy seen line end seen2 result → Traces limit o sink new seen2 result
-  ends now seen new seen2 line end result g lift made within is w = elim w as (λ _. Traces limit o sink new seen2 result) [
-    | inl h ↦ subst (λ r. Traces limit o sink new seen2 r) (sym h.0) (lift (whole h.1))
-    | inr h ↦ subst (λ r. Traces limit o sink new seen2 r) (sym h.0) (faults h.1)
-  ]
+  ends now seen new seen2 line end result g lift made within is w =
+      elim w as (λ _. Traces limit o sink new seen2 result) [
+        | inl h ↦ subst (λ r. Traces limit o sink new seen2 r) (sym h.0) (lift (whole h.1))
+        | inr h ↦ subst (λ r. Traces limit o sink new seen2 r) (sym h.0) (faults h.1)
+      ]
     where
       pieces : trace_pieces limit o ≡ g.told ++ line ∷ []
       pieces = g.pieces ∙ ap (λ (t : Traced). g.told ++ pieces_of t) is
 
       all_pieces : AddsPieces seen (line ∷ []) seen2 → AddsPieces sink (trace_pieces limit o) seen2
-      all_pieces a = subst (λ x. AddsPieces sink x seen2) (sym pieces) (pieces_then sink seen seen2 _ _ g.written a)
+      all_pieces a =
+          subst (λ x. AddsPieces sink x seen2) (sym pieces) (pieces_then sink seen seen2 _ _ g.written a)
 
       whole : AddsPieces seen (line ∷ []) seen2 → TracesTo limit o sink new seen2 end
       whole a = record {
@@ -262,7 +301,10 @@ module _ (limit : ℕ) (o : OverlaySeen) (sink : SinkSeen) where
       }
 
       all_lines : g.told ≡ lines_pieces (trace_of limit o).lines
-      all_lines = g.lines ∙ ap lines_pieces (sym (g.whole ∙ ap (λ (t : Traced). steps_lines g.steps o ++ t.lines) is ∙ append-nil (steps_lines g.steps o)))
+      all_lines =
+          g.lines ∙ ap lines_pieces
+          (sym (g.whole ∙ ap (λ (t : Traced). steps_lines g.steps o ++ t.lines) is
+          ∙ append-nil (steps_lines g.steps o)))
 
       last_is : line ≡ (trace_of limit o).last
       last_is = sym (g.last ∙ ap (λ (t : Traced). t.last) is)
@@ -271,8 +313,19 @@ module _ (limit : ℕ) (o : OverlaySeen) (sink : SinkSeen) where
       faults f = record {
         made = made;
         within = within;
-        at = inr (sym made.2 ∙ sym (g.overlay ∙ ap (λ (t : Traced). t.overlay) is), (seen, subst (λ x. AddsPieces sink x seen) all_lines g.written, subst (λ x. FailsAtPiece seen (x ∷ []) seen2) last_is f));
-        text = text_fails seen2 (subst (λ x. FailsAtPiece sink x seen2) (sym pieces) (pieces_fail sink seen seen2 _ _ g.written f));
+        at = inr (
+          sym made.2
+              ∙ sym (g.overlay ∙ ap (λ (t : Traced). t.overlay) is),
+          (
+            seen,
+            subst (λ x. AddsPieces sink x seen)
+                all_lines g.written,
+            subst (λ x. FailsAtPiece seen (x ∷ []) seen2) last_is f,
+          ),
+        );
+        text = text_fails seen2
+            (subst (λ x. FailsAtPiece sink x seen2) (sym pieces)
+            (pieces_fail sink seen seen2 _ _ g.written f));
       }
 
   pub ends_running : (now : OverlaySeen) (seen seen2 : SinkSeen) (line : List ℕ) (result : RunEnd)
@@ -297,20 +350,28 @@ module _ (limit : ℕ) (o : OverlaySeen) (sink : SinkSeen) where
       let m = next_weight_most now in
       omega (arith, m, w, fits)
 
-  pub ends_halted : (now : OverlaySeen) (seen : SinkSeen) (new : OverlaySeen) (seen2 : SinkSeen) (line : List ℕ) (result : RunEnd)
+  pub ends_halted : (now : OverlaySeen) (seen : SinkSeen) (new : OverlaySeen) (seen2 : SinkSeen)
+      (line : List ℕ) (result : RunEnd)
       → Going now seen → weight_with now ≤ limit → answer_of now ≡ Halted
       → new ≡ next_overlay now → line ≡ halted_text (overlay_view new) (weight_with now)
       → EndsBy seen line RunHalted seen2 result → Traces limit o sink new seen2 result
   ends_halted now seen new seen2 line result g fits a e k w =
       let s = on_step now g.left g.enough fits in
-      ends now seen new seen2 line RunHalted result g (λ t. t) (at_end now seen new g fits e) (end_weight now new fits e)
-      (s.2 ∙ ap (λ x. traced_by x now (traced limit s.0)) a ∙ ap (λ x. ended RunHalted x (halted_text (overlay_view x) (weight_with now))) (sym e) ∙ ap (ended RunHalted new) (sym k)) w
+      ends now seen new seen2 line RunHalted result g (λ t. t) (at_end now seen new g fits e)
+      (end_weight now new fits e)
+      (s.2 ∙ ap (λ x. traced_by x now (traced limit s.0)) a
+      ∙ ap (λ x. ended RunHalted x (halted_text (overlay_view x) (weight_with now))) (sym e)
+      ∙ ap (ended RunHalted new) (sym k)) w
 
-  pub ends_failed : (now : OverlaySeen) (seen : SinkSeen) (new : OverlaySeen) (seen2 : SinkSeen) (line : List ℕ) (result : RunEnd)
+  pub ends_failed : (now : OverlaySeen) (seen : SinkSeen) (new : OverlaySeen) (seen2 : SinkSeen)
+      (line : List ℕ) (result : RunEnd)
       → Going now seen → weight_with now ≤ limit → answer_of now ≡ Failed
       → new ≡ next_overlay now → line ≡ failed_text (overlay_view new) now.weight
       → EndsBy seen line RunFailed seen2 result → Traces limit o sink new seen2 result
   ends_failed now seen new seen2 line result g fits a e k w =
       let s = on_step now g.left g.enough fits in
-      ends now seen new seen2 line RunFailed result g (λ t. t) (at_end now seen new g fits e) (end_weight now new fits e)
-      (s.2 ∙ ap (λ x. traced_by x now (traced limit s.0)) a ∙ ap (λ x. ended RunFailed x (failed_text (overlay_view x) now.weight)) (sym e) ∙ ap (ended RunFailed new) (sym k)) w
+      ends now seen new seen2 line RunFailed result g (λ t. t) (at_end now seen new g fits e)
+      (end_weight now new fits e)
+      (s.2 ∙ ap (λ x. traced_by x now (traced limit s.0)) a
+      ∙ ap (λ x. ended RunFailed x (failed_text (overlay_view x) now.weight)) (sym e)
+      ∙ ap (ended RunFailed new) (sym k)) w

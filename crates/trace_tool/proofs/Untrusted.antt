@@ -42,7 +42,8 @@ neither false b e = (refl, e)
 none_found : (p : Owner → Bool) (os : List Owner) → ((o : Owner) → o.trusted ≡ false → p o ≡ false)
     → list_any (λ o. o.trusted) os ≡ false → find p os ≡ None
 none_found p [] h e = refl
-none_found p (x ∷ xs) h e = let k = neither x.trusted (list_any (λ o. o.trusted) xs) e in rw (h x k.0) (none_found p xs h k.1)
+none_found p (x ∷ xs) h e = let k =
+    neither x.trusted (list_any (λ o. o.trusted) xs) e in rw (h x k.0) (none_found p xs h k.1)
 
 module _ (l : Layout) (none : NoneTrusted l) where
   no_owner : (pc : Face) → trusted_owner l pc ≡ None
@@ -86,11 +87,13 @@ module _ (l : Layout) (none : NoneTrusted l) where
   no_lines w (suc n) = ap (λ x. x ++ line_next l (watched l w n)) (no_lines w n) ∙ no_line (watched l w n)
 
 -- so the end line is the whole text
-pub ends_untrusted : (init : StartSeen) (sink : SinkSeen) (steps : ℕ) (start : StartSeen) (after : SinkSeen) (step : Step) (line : List ℕ) (result : RunEnd)
+pub ends_untrusted : (init : StartSeen) (sink : SinkSeen) (steps : ℕ) (start : StartSeen) (after : SinkSeen)
+    (step : Step) (line : List ℕ) (result : RunEnd)
     → NoneTrusted (layout init)
     → start ≡ record init { state = plain steps init.state } → step ≡ answer start.state
     → line ≡ end_line start.state → EndsBy sink line (end_of step) after result
     → Runs init steps sink start after result
 ends_untrusted init sink steps start after step line result none same is last e =
     ends init sink steps steps start sink after step line result (omega arith) same refl refl
-    (subst (λ ls. AddsPieces sink (lines_pieces ls) sink) (sym (no_lines (layout init) none (begun init.state) steps)) (pieces_none sink)) is last e
+    (subst (λ ls. AddsPieces sink (lines_pieces ls) sink)
+    (sym (no_lines (layout init) none (begun init.state) steps)) (pieces_none sink)) is last e

@@ -19,7 +19,8 @@ use Rattle.trace_tool.specs.Runs.{begun, lines_of}
 use Rattle.trace_tool.specs.Traces.{trace_of}
 use Rattle.trace_tool.specs.Told.{Told, EndsOverlay}
 
--- The plain run of a state writes the lines of the overlay's steps. At a matched point it has written those of
+-- The plain run of a state writes the lines of the overlay's steps. At a matched point it has written those
+-- of
 -- the steps up to there. Behind it, it writes none until the weight of the next step is full, and none at all
 -- where that step ends the overlay.
 pub record LinesAgree (l : Layout) (o : OState) (t : State Word) : Type 0 where

@@ -19,7 +19,8 @@ use Rattle.trace_tool.specs.Traces.{trace_of}
 -- the lines are one ret line
 abbrev pub IsRet : List Line → Type 0
 IsRet ls =
-    (inward : Bool) × (part : List ℕ) × (site : ℕ) × (base : ℕ) × (last : ℕ) × (a0 : Word) × (words : List Word)
+    (inward : Bool) × (part : List ℕ) × (site : ℕ) × (base : ℕ) × (last : ℕ) × (a0 : Word)
+    × (words : List Word)
     × (ls ≡ ret inward part site base last a0 words ∷ [])
 
 -- a call line opens, and a ret line closes
@@ -63,8 +64,10 @@ TraceIsBracketed o =
     → Brackets LineTold (lines_told o.layout o.state.frames) (marks_in (trace_of limit o).lines)
     (lines_told o.layout (trace_of limit o).overlay.state.frames)
 
--- From an overlay and its plain state on: as long as the lines close no call line that was open before, no plain
--- instruction touches an address of a range; and where the next step brings the ret line that does, neither does
+-- From an overlay and its plain state on: as long as the lines close no call line that was open before, no
+-- plain
+-- instruction touches an address of a range; and where the next step brings the ret line that does, neither
+-- does
 -- the first instruction of that step, which is its `xjmp`.
 pub record RangeIsPrivate (l : Layout) (q : OState) (u : State Word) (base last : ℕ) : Type 0 where
   pub while_open : (j e a : ℕ) (ls : List Line) (r : OState) → Told l q j ls r → Depth (marks_in ls) 0 e
@@ -72,7 +75,8 @@ pub record RangeIsPrivate (l : Layout) (q : OState) (u : State Word) (base last 
   pub up_to_ret : (j e a : ℕ) (ls : List Line) (r next : OState) → Told l q j ls r → Depth (marks_in ls) 0 e
       → IsRet (step_lines l r next) → base ≤ a → a ≤ last → Untouched (λ w. w) (λ w. w) a (j + 1) u
 
--- so it is of the range of each call line that is told from an overlay on, from the plain state behind its `xjmp`
+-- so it is of the range of each call line that is told from an overlay on, from the plain state behind its
+-- `xjmp`
 abbrev pub CallsArePrivate : Layout → OState → State Word → Type 0
 CallsArePrivate l o t =
     (j : ℕ) (ls : List Line) (p q : OState) (u : State Word)

@@ -6,7 +6,8 @@ use Rattle.cap_words.specs.declared.Word.TheVariants.{Mem}
 use Rattle.cap_words.specs.Text.{word_text_of}
 use Rattle.lcm_isa.specs.declared.Reg.TheVariants.{Pc, A0}
 use Rattle.lcm_machine.specs.declared.FailCause.{FailCause}
-use Rattle.lcm_machine.specs.declared.FailCause.TheVariants.{F1, F2, F3, F4, F5, F6, F7, F8, F9, F10, F11, F12, F13, F14}
+use Rattle.lcm_machine.specs.declared.FailCause.TheVariants.{F1, F2, F3, F4, F5, F6, F7, F8, F9, F10, F11}
+use Rattle.lcm_machine.specs.declared.FailCause.TheVariants.{F12, F13, F14}
 use Rattle.lcm_machine.specs.declared.Step.{Step}
 use Rattle.lcm_machine.specs.declared.Step.TheVariants.{Went, Halted, Failed}
 use Rattle.lcm_machine.specs.Run.{Run, answer}

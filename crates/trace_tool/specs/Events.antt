@@ -1,6 +1,7 @@
 -- What a plain instruction does at the border of trusted code: what is noted of the state before it, and the
 -- event after it.
-use Rattle.std.specs.Prelude.{ℕ, ◌+◌, ◌-◌, Bool, Option, Some, None, if◌then◌else◌, is_some, option_map, option_and_then}
+use Rattle.std.specs.Prelude.{ℕ, ◌+◌, ◌-◌, Bool, Option, Some, None, if◌then◌else◌, is_some, option_map}
+use Rattle.std.specs.Prelude.{option_and_then}
 use Rattle.cap_words.specs.declared.Content.{Content}
 use Rattle.cap_words.specs.declared.Content.TheVariants.{Mem, Seal}
 use Rattle.cap_words.specs.declared.CapFields.{CapFields}

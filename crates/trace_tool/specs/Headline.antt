@@ -114,7 +114,8 @@ FramesAreLeftAlone s =
 -- A call line stands in the lines of n instructions: from a matched point on, at which just the lines before
 -- it are written, one step within these instructions writes it and nothing else, and its range is left alone
 -- from behind that step's `xjmp` on.
-pub record LineIsPrivate (s : StartSeen) (n : ℕ) (before : List Line) (line : Line) (base last : ℕ) : Type 0 where
+pub record LineIsPrivate (s : StartSeen) (n : ℕ) (before : List Line) (line : Line)
+    (base last : ℕ) : Type 0 where
   pub at : ℕ
   pub caller : OState
   pub called : OState

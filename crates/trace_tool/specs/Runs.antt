@@ -117,4 +117,5 @@ Runs old steps sink new after result = RunsTo old steps sink new after result
 -- a last line was written in one piece, with this end, or its write failed
 abbrev pub EndsBy : SinkSeen → List ℕ → RunEnd → SinkSeen → RunEnd → Type 0
 EndsBy old line end new result =
-    ((result ≡ end) × AddsPieces old (line ∷ []) new) ⊎ ((result ≡ WriteFault) × FailsAtPiece old (line ∷ []) new)
+    ((result ≡ end) × AddsPieces old (line ∷ []) new)
+    ⊎ ((result ≡ WriteFault) × FailsAtPiece old (line ∷ []) new)

@@ -81,7 +81,8 @@ head_and_words l = head_text l ∷ (words_pieces (words_of l) ++ codes "\n" ∷ 
 abbrev pub line_pieces : Line → List (List ℕ)
 line_pieces (call inward part site base last args words) =
     head_and_words (call inward part site base last args words)
-line_pieces (ret inward part site base last a0 words) = head_and_words (ret inward part site base last a0 words)
+line_pieces (ret inward part site base last a0 words) =
+    head_and_words (ret inward part site base last a0 words)
 line_pieces l = line_text l ∷ []
 
 abbrev pub lines_pieces : List Line → List (List ℕ)

@@ -112,7 +112,8 @@ TraceFaultAt limit o sink n after =
     × FailsBehind sink (lines_pieces (trace_of limit o).lines) ((trace_of limit o).last ∷ []) after)
 
 -- a write failed: the run stopped there, after some steps within the limit, and a front of the text stands
-pub record TraceFaults (limit : ℕ) (old : OverlaySeen) (sink : SinkSeen) (new : OverlaySeen) (after : SinkSeen)
+pub record TraceFaults (limit : ℕ) (old : OverlaySeen) (sink : SinkSeen) (new : OverlaySeen)
+    (after : SinkSeen)
     : Type 0 where
   pub made : (n : ℕ) × (n ≤ limit) × (new ≡ steps_on n old)
   pub within : new.weight ≤ limit

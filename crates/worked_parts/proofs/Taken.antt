@@ -10,9 +10,11 @@ pub text_more : (ps : List Piece) (i : ℕ) (d : Piece) → i < length ps
 text_more [] i d lt = absurd (omega (arith, lt))
 text_more (p ∷ ps) zero d lt = append-nil (piece_text p)
 text_more (p ∷ ps) (suc i) d lt =
-    ap (λ t. piece_text p ++ t) (text_more ps i d (omega (arith, lt))) ∙ sym (append_assoc (piece_text p) (pieces_text (take i ps)) (piece_text (get_or ps i d)))
+    ap (λ t. piece_text p ++ t) (text_more ps i d (omega (arith, lt)))
+    ∙ sym (append_assoc (piece_text p) (pieces_text (take i ps)) (piece_text (get_or ps i d)))
 
 pub one_more : (a b : List ℕ) (ps : List Piece) (i : ℕ) (d : Piece) → a ≡ pieces_text (take i ps)
     → b ≡ a ++ piece_text (get_or ps i d) → i < length ps
     → b ≡ pieces_text (take (i + 1) ps)
-one_more a b ps i d before e lt = rw add-one (e ∙ ap (λ t. t ++ piece_text (get_or ps i d)) before ∙ sym (text_more ps i d lt))
+one_more a b ps i d before e lt =
+    rw add-one (e ∙ ap (λ t. t ++ piece_text (get_or ps i d)) before ∙ sym (text_more ps i d lt))

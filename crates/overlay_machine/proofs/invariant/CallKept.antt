@@ -74,12 +74,15 @@ pub record Called (l : Layout) (i : ℕ) (o q : OState) : Type 0 where
   pub plain2 : is_plain o.maps.regs.c2 ≡ true
   pub maps : State OWord
   pub row_is : row look Plain (Xjmp C1 C2) (Int (pos 0)) (at_call i site cap o) ≡ went maps
-  pub result : q ≡ record { maps = maps; frames = new_frame i (address cap.addr) cap.end o ∷ o.frames; calls = o.calls + 1 }
+  pub result : q ≡ record
+      { maps = maps; frames = new_frame i (address cap.addr) cap.end o ∷ o.frames; calls = o.calls + 1 }
 
 cursor : (low : ℕ) (c : CapFields) (z : ℤ) → (int_lt (pos low) z && covers c z) ≡ true
     → (low < address z) × (address z ≤ c.end)
-cursor low c (pos n) h = let p = and_parts (int_lt (pos low) (pos n)) (covers c (pos n)) h in let b = and_parts (nat_le c.base n) (nat_le n c.end) p.1 in (ltb-true low n p.0, leb-true n c.end b.1)
-cursor low c (negsuc n) h = let p = and_parts (int_lt (pos low) (negsuc n)) (covers c (negsuc n)) h in let bad : false ≡ true = p.1 in cc
+cursor low c (pos n) h = let p = and_parts (int_lt (pos low) (pos n)) (covers c (pos n)) h in let b =
+    and_parts (nat_le c.base n) (nat_le n c.end) p.1 in (ltb-true low n p.0, leb-true n c.end b.1)
+cursor low c (negsuc n) h = let p =
+    and_parts (int_lt (pos low) (negsuc n)) (covers c (negsuc n)) h in let bad : false ≡ true = p.1 in cc
 
 pub called : (l : Layout) (i : ℕ) (o q : OState) → call_step l i o ≡ goes q → Called l i o q
 unfolding call_step
@@ -92,7 +95,20 @@ called l i o q h =
     let p = and_parts (is_plain o.maps.regs.c1) (is_plain o.maps.regs.c2) e.0 in
     let w = went_other _ (o.calls + 1) _ q e.1 in
     let k = cursor l.stack.base b.0 b.0.addr c.0 in
-    record { site = a.0; cap = b.0; site_is = a.1; own = b.1; above = k.0; within = k.1; plain1 = p.0; plain2 = p.1; maps = w.0; row_is = w.1; result = w.2 }
+    record {
+      site = a.0;
+      cap = b.0;
+      site_is = a.1;
+      own = b.1;
+      above = k.0;
+      within = k.1;
+      plain1 =
+          p.0;
+      plain2 = p.1;
+      maps = w.0;
+      row_is = w.1;
+      result = w.2;
+    }
 
 pub mem_plain : (w : OWord) (c : CapFields) → look w ≡ Mem c → w ≡ Plain (Mem c)
 mem_plain (Plain x) c e = ap Plain e
@@ -102,8 +118,10 @@ mem_plain (RetData k) c e = cc
 -- the registers that a call passes on
 passed_at : (b1 b2 b3 b4 b5 b6 b7 b8 b9 : Bool)
     → (b1 && (b2 && (b3 && (b4 && (b5 && (b6 && (b7 && (b8 && (b9 && true))))))))) ≡ true
-    → (b1 ≡ true) × (b2 ≡ true) × (b3 ≡ true) × (b4 ≡ true) × (b5 ≡ true) × (b6 ≡ true) × (b7 ≡ true) × (b8 ≡ true) × (b9 ≡ true)
-passed_at true true true true true true true true true h = (refl, refl, refl, refl, refl, refl, refl, refl, refl)
+    → (b1 ≡ true) × (b2 ≡ true) × (b3 ≡ true) × (b4 ≡ true) × (b5 ≡ true) × (b6 ≡ true) × (b7 ≡ true)
+    × (b8 ≡ true) × (b9 ≡ true)
+passed_at true true true true true true true true true h =
+    (refl, refl, refl, refl, refl, refl, refl, refl, refl)
 passed_at false b2 b3 b4 b5 b6 b7 b8 b9 h = cc
 passed_at true false b3 b4 b5 b6 b7 b8 b9 h = cc
 passed_at true true false b4 b5 b6 b7 b8 b9 h = cc
@@ -115,7 +133,9 @@ passed_at true true true true true true true false b9 h = cc
 passed_at true true true true true true true true false h = cc
 
 module _ (g : Link) (linked : Linked g) (o : OState) (t : State Word) (inv : Invariant g o t)
-    (i : ℕ) (p : PartSeen) (index : ℕ) (u : SiteCode) (ip : IsTrusted g p) (eu : site_code g.layout i ≡ Some u) (st : SiteOf p index u) (at : StandsAt g o.frames p st.offset o.maps.regs) (q : OState) (x : Called g.layout i o q) where
+    (i : ℕ) (p : PartSeen) (index : ℕ) (u : SiteCode) (ip : IsTrusted g p)
+    (eu : site_code g.layout i ≡ Some u) (st : SiteOf p index u)
+    (at : StandsAt g o.frames p st.offset o.maps.regs) (q : OState) (x : Called g.layout i o q) where
   abbrev fs : List OpenFrame
   fs = o.frames
 
@@ -131,7 +151,8 @@ module _ (g : Link) (linked : Linked g) (o : OState) (t : State Word) (inv : Inv
   abbrev F : OpenFrame
   F = new_frame i (address x.cap.addr) x.cap.end o
 
-  own : (look o.maps.regs.stk ≡ Mem c) × (c ≡ record { perm = Rw; lin = Linear; base = g.layout.stack.base; end = c.end; addr = c.addr })
+  own : (look o.maps.regs.stk ≡ Mem c)
+      × (c ≡ record { perm = Rw; lin = Linear; base = g.layout.stack.base; end = c.end; addr = c.addr })
   own = own_is g.layout o.maps c x.own
 
   base_is : c.base ≡ g.layout.stack.base
@@ -140,10 +161,12 @@ module _ (g : Link) (linked : Linked g) (o : OState) (t : State Word) (inv : Inv
   kind_safe : (d : Reg) → below_any (kind_of at.there d) ≡ true
       → HasKind look (IsSafe g fs) (IsStackCell g fs) (ranges_of p) (kind_of at.there d) (reg o.maps.regs d)
       → IsSafe g fs (reg o.maps.regs d)
-  kind_safe d b h = is_safe look (IsSafe g fs) (IsStackCell g fs) (ranges_of p) (safe_int g fs) (safe_stk g linked fs p ip) (kind_of at.there d) (reg o.maps.regs d) b h
+  kind_safe d b h = is_safe look (IsSafe g fs) (IsStackCell g fs) (ranges_of p) (safe_int g fs)
+      (safe_stk g linked fs p ip) (kind_of at.there d) (reg o.maps.regs d) b h
 
   stk_safe : IsSafe g fs o.maps.regs.stk
-  stk_safe = kind_safe Stk (ap below_any (stk_is g linked o t inv i p index u ip eu st at)) (at.fits.each Stk refl)
+  stk_safe =
+      kind_safe Stk (ap below_any (stk_is g linked o t inv i p index u ip eu st at)) (at.fits.each Stk refl)
 
   cap : IsSafeCap g fs c
   cap = mem_safe g fs o.maps.regs.stk c own.0 stk_safe
@@ -152,7 +175,13 @@ module _ (g : Link) (linked : Linked g) (o : OState) (t : State Word) (inv : Inv
   top = in_stack g linked fs c cap base_is
 
   owned : (a : ℕ) → g.layout.stack.base ≤ a → a ≤ c.end → IsSome (cell m a)
-  owned a low high = stack_cells g linked m fs inv.there a (low, (let b = top in omega (arith, high, b)), cap.free a (let b = base_is in omega (arith, b, low)) high)
+  owned a low high =
+      stack_cells g linked m fs inv.there a (
+        low,
+        (let b = top in omega (arith, high, b)),
+        cap.free a (let b = base_is in omega (arith, b, low))
+            high,
+      )
 
   dat : (to : ℤ) × (look o.maps.regs.dat ≡ Mem (data_cap (ranges_of p) to))
   dat = own_dat g linked o t inv p st.offset at (dat_is g linked o t inv i p index u ip eu st at)
@@ -166,7 +195,8 @@ module _ (g : Link) (linked : Linked g) (o : OState) (t : State Word) (inv : Inv
   -- ---- nothing else is over the frame's addresses
 
   abbrev Off : OWord → Type 0
-  Off w = (d : CapFields) → memory_of (flat g.layout fs w) ≡ Some d → (a : ℕ) → d.base ≤ a → a ≤ d.end → A ≤ a → a ≤ c.end → ⊥
+  Off w = (d : CapFields) → memory_of (flat g.layout fs w) ≡ Some d → (a : ℕ) → d.base ≤ a → a ≤ d.end → A ≤ a
+      → a ≤ c.end → ⊥
 
   at_stk : memory_of (reg t.regs Stk) ≡ Some c
   at_stk = ap memory_of (inv.flat.regs Stk ∙ flat-mem g.layout fs o.maps.regs.stk c own.0)
@@ -177,28 +207,49 @@ module _ (g : Link) (linked : Linked g) (o : OState) (t : State Word) (inv : Inv
       let ab = x.above in
       let b = base_is in
       let tp = top in
-      one_holder (regions g) g.layout o t inv.flat inv.once (linear g linked o t inv) r (R Stk) w (reg t.regs Stk) d c a er ed refl at_stk b1 b2 (omega (arith, b, ab, b3)) b4 (omega (arith, ab, b3)) (omega (arith, tp, b4))
+      one_holder (regions g) g.layout o t inv.flat inv.once (linear g linked o t inv) r (R Stk)
+      w (reg t.regs Stk) d c a er ed refl at_stk b1 b2 (omega (arith, b, ab, b3))
+      b4 (omega (arith, ab, b3)) (omega (arith, tp, b4))
 
   off_place : (r : Place) (w : OWord) → word_at o.maps r ≡ Some w → r ≢ R Stk → Off w
-  off_place r w er ne d ed a b1 b2 b3 b4 = ne (holder r (flat g.layout fs w) d a (place_flat (regions g) g.layout o t inv.flat inv.once (linear g linked o t inv) r w er) ed b1 b2 b3 b4)
+  off_place r w er ne d ed a b1 b2 b3 b4 =
+      ne (holder r (flat g.layout fs w)
+      d a (place_flat (regions g) g.layout o t inv.flat inv.once (linear g linked o t inv) r w er)
+      ed b1 b2 b3 b4)
 
   off_frame : (b : ℕ) (w : OWord) → cell m b ≡ None → framed fs b ≡ Some w → Off w
   off_frame b w gone er d ed a b1 b2 b3 b4 =
-      let e = holder (Cell b) (flat g.layout fs w) d a (framed_flat (regions g) g.layout o t inv.flat inv.once (linear g linked o t inv) b w gone er) ed b1 b2 b3 b4 in cc
+      let e = holder (Cell b) (flat g.layout fs w)
+      d a (framed_flat (regions g) g.layout o t inv.flat inv.once (linear g linked o t inv) b w gone er)
+      ed b1 b2 b3 b4 in cc
 
   out_of_frame : (a : ℕ) → (A ≤ a → a ≤ c.end → ⊥) → word_of F a ≡ None
   out_of_frame a never = by_word (word_of F a) refl
     where
       by_word : (w : Option OWord) → word_of F a ≡ w → w ≡ None
       by_word None e = refl
-      by_word (Some w) e = let r = word_in_frame g.layout (without m A c.end) F a w lies e in absurd (never r.0 r.1)
+      by_word (Some w) e = let r =
+          word_in_frame g.layout (without m A c.end) F a w lies e in absurd (never r.0 r.1)
 
   both_none : (a : ℕ) → word_of F a ≡ None → framed fs a ≡ None → framed (F ∷ fs) a ≡ None
   both_none a e h = ap (λ y. option_or y (framed fs a)) e ∙ h
 
   cap_pushed : (d : CapFields) → ((a : ℕ) → d.base ≤ a → a ≤ d.end → A ≤ a → a ≤ c.end → ⊥) → IsSafeCap g fs d
       → IsSafeCap g (F ∷ fs) d
-  cap_pushed d never h = record { area = h.area; runs = h.runs; usable = h.usable; low = h.low; order = h.order; high = h.high; lin = h.lin; may = h.may; free = λ a low high. both_none a (out_of_frame a (never a low high)) (h.free a low high) }
+  cap_pushed d never h =
+      record {
+        area = h.area;
+        runs = h.runs;
+        usable = h.usable;
+        low = h.low;
+        order = h.order;
+        high =
+            h.high;
+        lin = h.lin;
+        may = h.may;
+        free =
+            λ a low high. both_none a (out_of_frame a (never a low high)) (h.free a low high);
+      }
 
   pushed : (w : OWord) → IsSafe g fs w → IsKnown o.calls w → Off w → IsSafe g (F ∷ fs) w
   unfolding flat
@@ -209,7 +260,8 @@ module _ (g : Link) (linked : Linked g) (o : OState) (t : State Word) (inv : Inv
   pushed (Plain (Sealed k (SealIn d))) (inl h) n f = inl h
   pushed (Plain (Sealed k y)) (inr h) n f = inr h
   pushed (RetCode j) h n f = h
-  pushed (RetData k) h n f = (h.0, frame_of-later F fs k (let ne : k ≢ o.calls = omega (arith, n) in ne) ∙ h.1)
+  pushed (RetData k) h n f =
+      (h.0, frame_of-later F fs k (let ne : k ≢ o.calls = omega (arith, n) in ne) ∙ h.1)
 
   all_known : AllKnown o
   all_known = known g linked o t inv
@@ -223,8 +275,11 @@ module _ (g : Link) (linked : Linked g) (o : OState) (t : State Word) (inv : Inv
   abbrev s : State OWord
   s = at_call i x.site c o
 
-  below : (below_any (kind_of at.there C1) ≡ true) × (below_any (kind_of at.there C2) ≡ true) × (below_any (kind_of at.there A0) ≡ true) × (below_any (kind_of at.there A1) ≡ true) × (below_any (kind_of at.there A2) ≡ true)
-      × (below_any (kind_of at.there A3) ≡ true) × (below_any (kind_of at.there G0) ≡ true) × (below_any (kind_of at.there G1) ≡ true) × (below_any (kind_of at.there G2) ≡ true)
+  below : (below_any (kind_of at.there C1) ≡ true) × (below_any (kind_of at.there C2) ≡ true)
+      × (below_any (kind_of at.there A0) ≡ true) × (below_any (kind_of at.there A1) ≡ true)
+      × (below_any (kind_of at.there A2) ≡ true)
+      × (below_any (kind_of at.there A3) ≡ true) × (below_any (kind_of at.there G0) ≡ true)
+      × (below_any (kind_of at.there G1) ≡ true) × (below_any (kind_of at.there G2) ≡ true)
   below = passed_at _ _ _ _ _ _ _ _ _ (passes_on g linked o t inv i p index u ip eu st at)
 
   passed : (d : Reg) → R d ≢ R Stk → below_any (kind_of at.there d) ≡ true
@@ -247,7 +302,8 @@ module _ (g : Link) (linked : Linked g) (o : OState) (t : State Word) (inv : Inv
         high = omega (arith, w, e);
         lin = cap.lin;
         may = cap.may;
-        free = λ a low high. both_none a (out_of_frame a (λ l r. omega (arith, l, high, ab))) (cap.free a low (omega (arith, high, w)));
+        free = λ a low high. both_none a (out_of_frame a (λ l r. omega (arith, l, high, ab)))
+            (cap.free a low (omega (arith, high, w)));
       }
 
   shown : (d : Reg) → d ≢ Pc → d ≢ Dat → IsSafe g (F ∷ fs) (reg s.regs d)
@@ -272,7 +328,8 @@ module _ (g : Link) (linked : Linked g) (o : OState) (t : State Word) (inv : Inv
   crossed = xjmp_crossed s x.maps C1 C2 (Int (pos 0)) x.row_is
 
   pc_after : PcPart g (F ∷ fs) x.maps.regs
-  pc_after = cross_safe g linked (F ∷ fs) s x.maps C1 C2 x.plain1 x.plain2 (shown C1 (λ e. cc) (λ e. cc)) (shown C2 (λ e. cc) (λ e. cc)) shown crossed
+  pc_after = cross_safe g linked (F ∷ fs) s x.maps C1 C2 x.plain1 x.plain2 (shown C1 (λ e. cc) (λ e. cc))
+      (shown C2 (λ e. cc) (λ e. cc)) shown crossed
 
   -- ---- cells
 
@@ -281,24 +338,37 @@ module _ (g : Link) (linked : Linked g) (o : OState) (t : State Word) (inv : Inv
 
   there_after : (a : ℕ) → is_some (cell x.maps.cells a) ≡ has_cell g (F ∷ fs) a
   there_after a = elim (where_in a A c.end) as (λ _. is_some (cell x.maps.cells a) ≡ has_cell g (F ∷ fs) a) [
-    | inl out ↦ ap is_some (cell_is a ∙ cell-without_out m A c.end a out) ∙ inv.there a ∙ ap (λ y. in_regions a (regions g) && not (is_some (option_or y (framed fs a)))) (sym (word_out g.layout (without m A c.end) F a lies out))
+    | inl out ↦ ap is_some (cell_is a ∙ cell-without_out m A c.end a out) ∙ inv.there a
+        ∙ ap (λ y. in_regions a (regions g) && not (is_some (option_or y (framed fs a))))
+        (sym (word_out g.layout (without m A c.end) F a lies out))
     | inr inn ↦ (let v = has_word g.layout (without m A c.end) F a lies inn.0 inn.1 in
         ap is_some (cell_is a ∙ cell-without_in m A c.end a inn.0 inn.1)
-        ∙ sym (ap (λ y. in_regions a (regions g) && not (is_some (option_or y (framed fs a)))) v.1 ∙ and_right (in_regions a (regions g)) false refl))
+        ∙ sym (ap (λ y. in_regions a (regions g) && not (is_some (option_or y (framed fs a)))) v.1
+        ∙ and_right (in_regions a (regions g)) false refl))
   ]
 
   code_out : (r : PartSeen) (n : ℕ) → IsTrusted g r → n < length r.component.code
       → (r.component.code_base + n < A) ⊎ (c.end < r.component.code_base + n)
-  code_out r n ir lt = elim (where_in (r.component.code_base + n) A c.end) as (λ _. (r.component.code_base + n < A) ⊎ (c.end < r.component.code_base + n)) [
-    | inl out ↦ out
-    | inr inn ↦ absurd (closed g linked r ir (r.component.code_base + n) (omega arith) (in_code g linked r n ir lt)
-        (open_stack_at g linked (r.component.code_base + n) (let a = x.above in let b = inn.0 in omega (arith, a, b)) (let a = top in let b = inn.1 in omega (arith, a, b))))
-  ]
+  code_out r n ir lt =
+      elim (where_in (r.component.code_base + n) A c.end)
+      as (λ _. (r.component.code_base + n < A) ⊎ (c.end < r.component.code_base + n)) [
+        | inl out ↦ out
+        | inr inn ↦
+            absurd (closed g linked r ir (r.component.code_base + n) (omega arith)
+            (in_code g linked r n ir lt)
+            (open_stack_at g linked (r.component.code_base + n)
+            (let a = x.above in let b = inn.0 in omega (arith, a, b))
+            (let a = top in let b = inn.1 in omega (arith, a, b))))
+      ]
 
   cells_after : (a : ℕ) (w : OWord) → IsOpenAt g a → cell x.maps.cells a ≡ Some w → IsSafe g (F ∷ fs) w
   cells_after a w op e = elim (where_in a A c.end) as (λ _. IsSafe g (F ∷ fs) w) [
-    | inl out ↦ (let k : cell m a ≡ Some w = sym (cell_is a ∙ cell-without_out m A c.end a out) ∙ e in pushed_at (Cell a) w k (λ y. cc) (inv.cells a w op k))
-    | inr inn ↦ (let n = cell_is a ∙ cell-without_in m A c.end a inn.0 inn.1 in let bad : None ≡ Some w = sym n ∙ e in cc)
+    | inl out ↦
+        (let k : cell m a ≡ Some w = sym (cell_is a ∙ cell-without_out m A c.end a out)
+        ∙ e in pushed_at (Cell a) w k (λ y. cc) (inv.cells a w op k))
+    | inr inn ↦
+        (let n = cell_is a ∙ cell-without_in m A c.end a inn.0 inn.1 in let bad : None ≡ Some w =
+        sym n ∙ e in cc)
   ]
 
   -- ---- frames
@@ -306,7 +376,8 @@ module _ (g : Link) (linked : Linked g) (o : OState) (t : State Word) (inv : Inv
   first_is : word_of F F.base ≡ Some (Plain (Mem (data_cap (ranges_of p) dat.0)))
   first_is =
       let z : A - A ≡ 0 = omega arith in
-      word_of-within F A (omega arith) ∙ ap (slice_get F.words) z ∙ ap Some (mem_plain o.maps.regs.dat (data_cap (ranges_of p) dat.0) dat.1)
+      word_of-within F A (omega arith) ∙ ap (slice_get F.words) z
+      ∙ ap Some (mem_plain o.maps.regs.dat (data_cap (ranges_of p) dat.0) dat.1)
 
   others_safe : (a : ℕ) (w : OWord) → A < a → word_of F a ≡ Some w → IsSafe g (F ∷ fs) w
   others_safe a w lt e =
@@ -319,19 +390,37 @@ module _ (g : Link) (linked : Linked g) (o : OState) (t : State Word) (inv : Inv
       by_cell (Some v) k h q high =
           let ab = x.above in let tp = top in
           let kw : cell m a ≡ Some w = k ∙ ap Some (sym q) in
-          pushed_at (Cell a) w kw (λ y. cc) (inv.cells a w (open_stack_at g linked a (omega (arith, ab, lt)) (omega (arith, tp, high))) kw)
+          pushed_at (Cell a) w kw (λ y. cc)
+          (inv.cells a w (open_stack_at g linked a (omega (arith, ab, lt)) (omega (arith, tp, high))) kw)
 
       at_index : (j : ℕ) → A + suc j ≡ a → a ≤ c.end → IsSafe g (F ∷ fs) w
       at_index j ej high =
           let d : a - A ≡ suc j = omega (arith, ej) in
           let n : A + 1 + j ≡ a = omega (arith, ej) in
-          let k : Some w ≡ Some (unwrap_or (cell m (A + 1 + j)) (zero_word Plain)) = sym e ∙ word_of-within F a (omega (arith, lt)) ∙ ap (slice_get F.words) d ∙ words_from-at m (A + 1) (c.end - A) j (omega (arith, ej, high)) in
+          let k : Some w ≡ Some (unwrap_or (cell m (A + 1 + j)) (zero_word Plain)) =
+          sym e ∙ word_of-within F a (omega (arith, lt)) ∙ ap (slice_get F.words) d
+          ∙ words_from-at m (A + 1) (c.end - A) j (omega (arith, ej, high)) in
           let kq : w ≡ unwrap_or (cell m (A + 1 + j)) (zero_word Plain) = cc in
           let ab = x.above in
-          by_cell (cell m a) refl (owned a (omega (arith, ab, lt)) high) (kq ∙ ap (λ y. unwrap_or (cell m y) (zero_word Plain)) n) high
+          by_cell (cell m a) refl (owned a (omega (arith, ab, lt)) high)
+          (kq ∙ ap (λ y. unwrap_or (cell m y) (zero_word Plain)) n) high
 
   new_fits : FrameFits g (F ∷ fs) F
-  new_fits = record { part = p; trusted = ip; code = u; code_is = eu; index = index; site = st; there = at.there; row = at.row; to = dat.0; first = first_is; others = others_safe }
+  new_fits =
+      record {
+        part = p;
+        trusted = ip;
+        code = u;
+        code_is = eu;
+        index = index;
+        site = st;
+        there =
+            at.there;
+        row = at.row;
+        to = dat.0;
+        first = first_is;
+        others = others_safe;
+      }
 
   old_fits : (h : OpenFrame) → Contains fs h → FrameFits g (F ∷ fs) h
   old_fits h k =
@@ -357,8 +446,11 @@ module _ (g : Link) (linked : Linked g) (o : OState) (t : State Word) (inv : Inv
   call_kept = subst (λ y. Stand g y) (sym x.result) (record {
     pc = pc_after;
     there = there_after;
-    code = λ r ir n w e. cell_is (r.component.code_base + n) ∙ cell-without_out m A c.end (r.component.code_base + n) (code_out r n ir (slice_get_within r.component.code n w e)) ∙ inv.code r ir n w e;
+    code = λ r ir n w e. cell_is (r.component.code_base + n)
+        ∙ cell-without_out m A c.end (r.component.code_base + n)
+        (code_out r n ir (slice_get_within r.component.code n w e)) ∙ inv.code r ir n w e;
     cells = cells_after;
     frames = subst (λ y. FramesLie g.layout y (o.calls + 1) (F ∷ fs)) (sym crossed.cells) frames_after;
-    frames_fit = λ h k. elim (contains_cases F fs h k) as (λ _. FrameFits g (F ∷ fs) h) [ inl e ↦ subst (λ y. FrameFits g (F ∷ fs) y) e new_fits | inr k2 ↦ old_fits h k2 ];
+    frames_fit = λ h k. elim (contains_cases F fs h k) as (λ _. FrameFits g (F ∷ fs) h)
+        [ inl e ↦ subst (λ y. FrameFits g (F ∷ fs) y) e new_fits | inr k2 ↦ old_fits h k2 ];
   })

@@ -3,7 +3,8 @@ use Rattle.std.proofs.Common.{◌≡◌, ◌≢◌, ℕ, ℤ, pos, false, List, 
 use Rattle.cap_words.specs.declared.Word.TheVariants.{Mem}
 use Rattle.cap_words.specs.Linear.{zero_word}
 use Rattle.lcm_isa.specs.declared.Reg.{Reg}
-use Rattle.lcm_isa.specs.declared.Reg.TheVariants.{Pc, Rcode, Rdata, Stk, Dat, T1, T2, C1, C2, A0, A1, A2, A3, G0, G1, G2}
+use Rattle.lcm_isa.specs.declared.Reg.TheVariants.{Pc, Rcode, Rdata, Stk, Dat, T1, T2, C1, C2, A0, A1, A2, A3}
+use Rattle.lcm_isa.specs.declared.Reg.TheVariants.{G0, G1, G2}
 use Rattle.lcm_machine.specs.Maps.{Regs}
 use Rattle.lcm_machine.specs.Places.{reg}
 use Rattle.lcm_machine.specs.Table.{is_pc}
@@ -23,12 +24,17 @@ use Rattle.overlay_machine.specs.Invariant.{StandsAt}
 use Rattle.overlay_machine.proofs.invariant.Facts.{safe_int, safe_stk}
 
 module _ (g : Link) (linked : Linked g) (fs : List OpenFrame) (p : PartSeen) (ip : IsTrusted g p) where
-  pub clean_fits : (rs : Regs OWord) (end : ℕ) (at to : ℤ) → look rs.stk ≡ Mem (stack_cap (ranges_of p) end at) → Up (IsStackCell g fs) (ranges_of p) end → look rs.dat ≡ Mem (data_cap (ranges_of p) to)
-      → rs.t1 ≡ zero_word Plain → rs.t2 ≡ zero_word Plain → ((d : Reg) → is_pc d ≡ false → d ≢ Dat → IsSafe g fs (reg rs d)) → Fits look (IsSafe g fs) (IsStackCell g fs) (ranges_of p) clean_row rs
+  pub clean_fits : (rs : Regs OWord) (end : ℕ) (at to : ℤ)
+      → look rs.stk ≡ Mem (stack_cap (ranges_of p) end at) → Up (IsStackCell g fs) (ranges_of p) end
+      → look rs.dat ≡ Mem (data_cap (ranges_of p) to)
+      → rs.t1 ≡ zero_word Plain → rs.t2 ≡ zero_word Plain
+      → ((d : Reg) → is_pc d ≡ false → d ≢ Dat → IsSafe g fs (reg rs d))
+      → Fits look (IsSafe g fs) (IsStackCell g fs) (ranges_of p) clean_row rs
   unfolding kind_of
   clean_fits rs end at to es up ed e1 e2 others = record { long = refl; each = each }
     where
-      each : (r : Reg) → is_pc r ≡ false → HasKind look (IsSafe g fs) (IsStackCell g fs) (ranges_of p) (kind_of clean_row r) (reg rs r)
+      each : (r : Reg) → is_pc r ≡ false
+          → HasKind look (IsSafe g fs) (IsStackCell g fs) (ranges_of p) (kind_of clean_row r) (reg rs r)
       each Pc q = cc
       each Dat q = (to, ed)
       each Stk q = (end, at, es, up)
@@ -46,11 +52,13 @@ module _ (g : Link) (linked : Linked g) (fs : List OpenFrame) (p : PartSeen) (ip
       each G1 q = others G1 refl (λ x. cc)
       each G2 q = others G2 refl (λ x. cc)
 
-  pub stands_clean : (rs : Regs OWord) (o : ℕ) → Leads p.component o clean_row → PcAt look (ranges_of p) o rs → Fits look (IsSafe g fs) (IsStackCell g fs) (ranges_of p) clean_row rs → StandsAt g fs p o rs
+  pub stands_clean : (rs : Regs OWord) (o : ℕ) → Leads p.component o clean_row → PcAt look (ranges_of p) o rs
+      → Fits look (IsSafe g fs) (IsStackCell g fs) (ranges_of p) clean_row rs → StandsAt g fs p o rs
   stands_clean rs o l h f = record {
     there = l.there;
     inside = l.inside;
     at_pc = h;
     row = l.row;
-    fits = row_fits look (IsSafe g fs) (IsStackCell g fs) (ranges_of p) (safe_int g fs) (safe_stk g linked fs p ip) clean_row l.there rs l.below f;
+    fits = row_fits look (IsSafe g fs) (IsStackCell g fs) (ranges_of p) (safe_int g fs)
+        (safe_stk g linked fs p ip) clean_row l.there rs l.below f;
   }

@@ -60,12 +60,16 @@ pub record Crossed (r1 r2 : Reg) (s s' : State OWord) : Type 0 where
   pub cells : s'.cells ≡ s.cells
 
 cleared : (s : State OWord) (r : Reg) (b : Bool) (d : Reg)
-    → (reg (if b then put s (R r) (zero_word Plain) else s).regs d ≡ reg s.regs d) ⊎ (reg (if b then put s (R r) (zero_word Plain) else s).regs d ≡ zero_word Plain)
+    → (reg (if b then put s (R r) (zero_word Plain) else s).regs d ≡ reg s.regs d)
+    ⊎ (reg (if b then put s (R r) (zero_word Plain) else s).regs d ≡ zero_word Plain)
 cleared s r false d = inl refl
-cleared s r true d = elim (cases_reg d r) as (λ _. (reg (set_reg s.regs r (zero_word Plain)) d ≡ reg s.regs d) ⊎ (reg (set_reg s.regs r (zero_word Plain)) d ≡ zero_word Plain)) [
-  | inl e ↦ inr (rw e (reg-set_same s.regs r (zero_word Plain)))
-  | inr ne ↦ inl (reg-set_other s.regs r d (zero_word Plain) ne)
-]
+cleared s r true d =
+    elim (cases_reg d r)
+    as (λ _. (reg (set_reg s.regs r (zero_word Plain)) d ≡ reg s.regs d)
+    ⊎ (reg (set_reg s.regs r (zero_word Plain)) d ≡ zero_word Plain)) [
+      | inl e ↦ inr (rw e (reg-set_same s.regs r (zero_word Plain)))
+      | inr ne ↦ inl (reg-set_other s.regs r d (zero_word Plain) ne)
+    ]
 
 cleared_cells : (s : State OWord) (r : Reg) (b : Bool)
     → (if b then put s (R r) (zero_word Plain) else s).cells ≡ s.cells
@@ -76,7 +80,10 @@ crossed_effect : (s : State OWord) (r1 r2 : Reg) (code half : Opened) (c : CapFi
     → opened_of (look (reg s.regs r1)) ≡ Some code → opened_of (look (reg s.regs r2)) ≡ Some half
     → code.seal ≡ half.seal → memory_content code.content ≡ Some c
     → may_run c.perm ≡ true → not (runs_in half.content) ≡ true
-    → Crossed r1 r2 s (perform look Plain s (record no_effect { spent = Some r2; first = made Pc (Mem c); second = made Dat (unsealed half.content) }))
+    → Crossed r1 r2 s
+    (perform look Plain s
+    (record no_effect
+    { spent = Some r2; first = made Pc (Mem c); second = made Dat (unsealed half.content) }))
 unfolding perform clear
 crossed_effect s r1 r2 code half c e1 e2 q m run nc =
     let b = is_linear (look (reg s.regs r2)) in
@@ -93,7 +100,11 @@ crossed_effect s r1 r2 code half c e1 e2 q m run nc =
       pc = refl;
       dat = refl;
       others = λ d np nd. (let x : State OWord = if b then put s (R r2) (zero_word Plain) else s in
-          rw (reg-set_other (set_reg x.regs Pc (Plain (Mem c))) Dat d (Plain (unsealed half.content)) nd, reg-set_other x.regs Pc d (Plain (Mem c)) np) (cleared s r2 b d));
+          rw (
+            reg-set_other (set_reg x.regs Pc (Plain (Mem c))) Dat d (Plain (unsealed half.content))
+                nd,
+            reg-set_other x.regs Pc d (Plain (Mem c)) np,
+          ) (cleared s r2 b d));
       cells = cleared_cells s r2 b;
     }
 
@@ -102,13 +113,18 @@ crossed_plan : (s s' : State OWord) (r1 r2 : Reg) (p : Plan)
     → Crossed r1 r2 s s'
 crossed_plan s s' r1 r2 (Fails f) g e = cc
 crossed_plan s s' r1 r2 Halts g e = cc
-crossed_plan s s' r1 r2 (Goes x) g e = let m : perform look Plain s x ≡ s' = cc in subst (Crossed r1 r2 s) m (Gives-effect g)
+crossed_plan s s' r1 r2 (Goes x) g e = let m : perform look Plain s x ≡ s' =
+    cc in subst (Crossed r1 r2 s) m (Gives-effect g)
 
 pub xjmp_crossed : (s s' : State OWord) (r1 r2 : Reg) (next : Word)
     → row look Plain (Xjmp r1 r2) next s ≡ went s' → Crossed r1 r2 s s'
 unfolding row plan_in opens
 xjmp_crossed s s' r1 r2 next e = crossed_plan s s' r1 r2 _
-    (Gives-need _ _ _ (λ code e1. Gives-need _ _ _ (λ half e2. Gives-ask _ _ _ (λ q. Gives-need _ _ _ (λ c m. Gives-ask _ _ _ (λ _. Gives-ask _ _ _ (λ run. Gives-ask _ _ _ (λ nc.
+    (Gives-need _ _ _
+    (λ code e1.
+    Gives-need _ _ _
+    (λ half e2. Gives-ask _ _ _
+    (λ q. Gives-need _ _ _ (λ c m. Gives-ask _ _ _ (λ _. Gives-ask _ _ _ (λ run. Gives-ask _ _ _ (λ nc.
     gives_goes (crossed_effect s r1 r2 code half c e1 e2 (eqb-true code.seal half.seal q) m run nc)))))))))
     e
 
@@ -117,7 +133,8 @@ xjmp_crossed s s' r1 r2 next e = crossed_plan s s' r1 r2 _
 pub entry_begins : (p : PartSeen) (e : Export) → Contains p.component.exports e
     → begins_entry p.component e.offset ≡ true
 unfolding begins_entry
-entry_begins p e c = any_of (λ x. x.offset == e.offset) p.component.exports e c (eq-eqb e.offset e.offset refl)
+entry_begins p e c =
+    any_of (λ x. x.offset == e.offset) p.component.exports e c (eq-eqb e.offset e.offset refl)
 
 pub code_is : (x : Exported) → x.part.trusted ≡ true → code_of x ≡ code_at (ranges_of x.part) x.export.offset
 code_is x t = rw t refl
@@ -140,12 +157,14 @@ module _ (g : Link) (linked : Linked g) (fs : List OpenFrame) where
 
   opened_is : (o : Opened) (n : ℕ) (x : Sealable) (k : ℕ) (d : CapFields) → Sealed n x ≡ Sealed k (MemIn d)
       → opened_of (Sealed n x) ≡ Some o → o ≡ record { seal = k; content = MemC d }
-  opened_is o n x k d e f = let h : Some o ≡ Some (record { seal = k; content = MemC d }) = sym f ∙ ap opened_of e in cc
+  opened_is o n x k d e f = let h : Some o ≡ Some (record { seal = k; content = MemC d }) =
+      sym f ∙ ap opened_of e in cc
 
   cap_is : (o : Opened) (n : ℕ) (x : Sealable) (c : CapFields) (k : ℕ) (d : CapFields)
       → Sealed n x ≡ Sealed k (MemIn d) → opened_of (Sealed n x) ≡ Some o → memory_content o.content ≡ Some c
       → c ≡ d
-  cap_is o n x c k d e f m = let h : Some c ≡ Some d = sym m ∙ ap (λ y. memory_content y.content) (opened_is o n x k d e f) in cc
+  cap_is o n x c k d e f m = let h : Some c ≡ Some d =
+      sym m ∙ ap (λ y. memory_content y.content) (opened_is o n x k d e f) in cc
 
   half_is : (o : Opened) (n : ℕ) (x : Sealable) (k : ℕ) (d : CapFields) → Sealed n x ≡ Sealed k (MemIn d)
       → opened_of (Sealed n x) ≡ Some o → unsealed o.content ≡ Mem d
@@ -153,13 +172,18 @@ module _ (g : Link) (linked : Linked g) (fs : List OpenFrame) where
 
   code_safe : (n : ℕ) (x : Sealable) (o : Opened) (c : CapFields) → opened_of (Sealed n x) ≡ Some o
       → memory_content o.content ≡ Some c → IsSafeIn g fs x → IsSafe g fs (Plain (Mem c))
-  code_safe n (MemIn y) o c e m h = let u : o ≡ record { seal = n; content = MemC y } = cc in let k : Some y ≡ Some c = ap (λ z. memory_content z.content) (sym u) ∙ m in let q : y ≡ c = cc in subst (λ z. IsSafe g fs (Plain (Mem z))) q h
-  code_safe n (SealIn y) o c e m h = let u : o ≡ record { seal = n; content = SealC y } = cc in let k : None ≡ Some c = ap (λ z. memory_content z.content) (sym u) ∙ m in cc
+  code_safe n (MemIn y) o c e m h = let u : o ≡ record { seal = n; content = MemC y } =
+      cc in let k : Some y ≡ Some c = ap (λ z. memory_content z.content) (sym u) ∙ m in let q : y ≡ c =
+      cc in subst (λ z. IsSafe g fs (Plain (Mem z))) q h
+  code_safe n (SealIn y) o c e m h = let u : o ≡ record { seal = n; content = SealC y } =
+      cc in let k : None ≡ Some c = ap (λ z. memory_content z.content) (sym u) ∙ m in cc
 
   half_safe : (n : ℕ) (x : Sealable) (o : Opened) → opened_of (Sealed n x) ≡ Some o → IsSafeIn g fs x
       → IsSafe g fs (Plain (unsealed o.content))
-  half_safe n (MemIn y) o e h = let u : o ≡ record { seal = n; content = MemC y } = cc in subst (λ z. IsSafe g fs (Plain (unsealed z.content))) (sym u) h
-  half_safe n (SealIn y) o e h = let u : o ≡ record { seal = n; content = SealC y } = cc in subst (λ z. IsSafe g fs (Plain (unsealed z.content))) (sym u) h
+  half_safe n (MemIn y) o e h = let u : o ≡ record { seal = n; content = MemC y } =
+      cc in subst (λ z. IsSafe g fs (Plain (unsealed z.content))) (sym u) h
+  half_safe n (SealIn y) o e h = let u : o ≡ record { seal = n; content = SealC y } =
+      cc in subst (λ z. IsSafe g fs (Plain (unsealed z.content))) (sym u) h
 
   -- the seal of a half is its part's closure seal
   pub half_seal : (x : Exported) (n : ℕ) (y : Sealable) → IsHalf x (Sealed n y) → n ≡ x.part.component.closure
@@ -167,7 +191,8 @@ module _ (g : Link) (linked : Linked g) (fs : List OpenFrame) where
   half_seal x n y (inr e) = cc
 
   closed_half : (n : ℕ) (y : Sealable) → IsTrustedHalf g (Sealed n y) → IsOpenSeal g n → ⊥
-  closed_half n y h op = linked.closure_closed h.0.part h.1 (subst (λ k. IsOpenSeal g k) (half_seal h.0 n y h.3) op)
+  closed_half n y h op =
+      linked.closure_closed h.0.part h.1 (subst (λ k. IsOpenSeal g k) (half_seal h.0 n y h.3) op)
 
   by_halves : (u v : Exported) (n : ℕ) (x1 x2 : Sealable) (code half : Opened) (c : CapFields)
       → IsTrusted g u.part → IsTrusted g v.part → Contains u.part.component.exports u.export
@@ -189,8 +214,15 @@ module _ (g : Link) (linked : Linked g) (fs : List OpenFrame) where
       let h1 = cap_is code n x1 c u.part.component.closure (whole_data u.part) e e1 m in
       let bad : false ≡ true = ap (λ x. may_run x.perm) (sym h1) ∙ run in cc
   by_halves u v n x1 x2 code half c ip iq en (inl e) (inl f) e1 e2 m run nc =
-      let h2 : half ≡ record { seal = v.part.component.closure; content = MemC (code_of v) } = opened_is half n x2 v.part.component.closure (code_of v) f e2 in
-      let h3 : half ≡ record { seal = v.part.component.closure; content = MemC (code_at (ranges_of v.part) v.export.offset) } = h2 ∙ ap (λ x. record { seal = v.part.component.closure; content = MemC x }) (code_is v iq.1) in
+      let h2 : half ≡ record { seal = v.part.component.closure; content = MemC (code_of v) } =
+      opened_is half n x2 v.part.component.closure (code_of v) f e2 in
+      let h3 : half
+      ≡ record {
+        seal = v.part.component.closure;
+        content =
+            MemC (code_at (ranges_of v.part) v.export.offset);
+      } =
+      h2 ∙ ap (λ x. record { seal = v.part.component.closure; content = MemC x }) (code_is v iq.1) in
       let bad : false ≡ true = ap (λ x. not (runs_in x.content)) (sym h3) ∙ nc in cc
 
   -- an `xjmp` of two safe words
@@ -217,7 +249,9 @@ module _ (g : Link) (linked : Linked g) (fs : List OpenFrame) where
       by_safe (inl h) (inr j) = absurd (closed_half k b j (subst (λ y. IsOpenSeal g y) nk h.0))
       by_safe (inr h) (inl j) = absurd (closed_half n a h (subst (λ y. IsOpenSeal g y) (sym nk) j.0))
       by_safe (inr h) (inr j) =
-          by_halves h.0 j.0 n a b code half c h.1 j.1 h.2 h.3 (subst (λ y. IsHalf j.0 (Sealed y b)) (sym nk) j.3) e1 (subst (λ y. opened_of (Sealed y b) ≡ Some half) (sym nk) e2) m run nc
+          by_halves h.0 j.0 n a b code half c h.1 j.1 h.2 h.3
+          (subst (λ y. IsHalf j.0 (Sealed y b)) (sym nk) j.3)
+          e1 (subst (λ y. opened_of (Sealed y b) ≡ Some half) (sym nk) e2) m run nc
 
   -- where pc and the registers stand after it
   pub crossed_pc : {n : ℕ} (rs : Regs OWord) (c : CapFields) (d : Word) → Leads_to n c d
@@ -229,7 +263,9 @@ module _ (g : Link) (linked : Linked g) (fs : List OpenFrame) where
       each : (r : Reg) → IsSafe g fs (reg rs r)
       each r = elim (cases_reg r Pc) as (λ _. IsSafe g fs (reg rs r)) [
         | inl e ↦ subst (λ w. IsSafe g fs w) (sym (ap (reg rs) e ∙ ep)) s1
-        | inr np ↦ elim (cases_reg r Dat) as (λ _. IsSafe g fs (reg rs r)) [ inl e ↦ subst (λ w. IsSafe g fs w) (sym (ap (reg rs) e ∙ ed)) s2 | inr nd ↦ others r np nd ]
+        | inr np ↦
+            elim (cases_reg r Dat) as (λ _. IsSafe g fs (reg rs r))
+            [ inl e ↦ subst (λ w. IsSafe g fs w) (sym (ap (reg rs) e ∙ ed)) s2 | inr nd ↦ others r np nd ]
       ]
   crossed_pc rs c d (to_entry p o ip en under ec hd) ep ed others = at_row p o ip (record {
     there = entry_row;

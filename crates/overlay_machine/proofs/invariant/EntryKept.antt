@@ -1,5 +1,6 @@
 -- The invariant is kept by an entry.
-use Rattle.std.proofs.Common.{◌≡◌, ◌≢◌, inl, inr, ℕ, ◌+◌, pos, Bool, true, false, List, Option, Some, None, refl, sym, ap, ◌∙◌, subst, arith}
+use Rattle.std.proofs.Common.{◌≡◌, ◌≢◌, inl, inr, ℕ, ◌+◌, pos, Bool, true, false, List, Option, Some, None}
+use Rattle.std.proofs.Common.{refl, sym, ap, ◌∙◌, subst, arith}
 use Rattle.cap_words.specs.declared.Word.{Word}
 use Rattle.cap_words.specs.declared.Word.TheVariants.{Mem}
 use Rattle.cap_words.specs.declared.CapFields.{CapFields}
@@ -9,7 +10,8 @@ use Rattle.cap_words.specs.Face.{face_of}
 use Rattle.cap_words.specs.Faces.{memory_in}
 use Rattle.cap_words.specs.Linear.{zero_word}
 use Rattle.lcm_isa.specs.declared.Reg.{Reg}
-use Rattle.lcm_isa.specs.declared.Reg.TheVariants.{Pc, Rcode, Rdata, Stk, Dat, T1, T2, C1, C2, A0, A1, A2, A3, G0, G1, G2}
+use Rattle.lcm_isa.specs.declared.Reg.TheVariants.{Pc, Rcode, Rdata, Stk, Dat, T1, T2, C1, C2, A0, A1, A2, A3}
+use Rattle.lcm_isa.specs.declared.Reg.TheVariants.{G0, G1, G2}
 use Rattle.lcm_machine.specs.Maps.{Regs, State}
 use Rattle.lcm_machine.specs.Places.{reg}
 use Rattle.lcm_machine.specs.Table.{is_pc}
@@ -37,7 +39,8 @@ use Rattle.overlay_machine.proofs.invariant.Ready.{fetched_case, entry_kind}
 use Rattle.overlay_machine.proofs.invariant.Standing.{Stand}
 use Rattle.overlay_machine.proofs.invariant.Clean.{clean_fits, stands_clean}
 
-pub need_goes : {A : Type 0} (x : Option A) (k : A → Ending) (q : OState) → need x k ≡ goes q → (a : A) × (x ≡ Some a) × (k a ≡ goes q)
+pub need_goes : {A : Type 0} (x : Option A) (k : A → Ending) (q : OState) → need x k ≡ goes q → (a : A)
+    × (x ≡ Some a) × (k a ≡ goes q)
 unfolding need
 need_goes None k q h = cc
 need_goes (Some a) k q h = (a, refl, h)
@@ -49,7 +52,8 @@ is_sequence (Entry a) = true
 is_sequence (Back r1 r2) = false
 is_sequence Other = false
 
-pub never_sequence : (s : State OWord) (f : Fetched) (c : Case) → c ≡ case_fetched s f → is_sequence c ≡ true → ⊥
+pub never_sequence : (s : State OWord) (f : Fetched) (c : Case) → c ≡ case_fetched s f → is_sequence c ≡ true
+    → ⊥
 never_sequence s f c e t = elim (fetched_case s f c e) as (λ _. ⊥) [
   | inl h ↦ (let bad : true ≡ false = sym t ∙ ap is_sequence h in cc)
   | inr h ↦ (let bad : true ≡ false = sym t ∙ ap is_sequence h.3 in cc)
@@ -63,12 +67,20 @@ never_call s f i e = never_sequence s f (Call i) e refl
 
 module _ (g : Link) (linked : Linked g) (fs : List OpenFrame) where
   -- a safe own stack reaches over stack cells in memory
-  pub own_up : (p : PartSeen) → IsTrusted g p → (c : CapFields) → IsSafeCap g fs c → c.base ≡ g.layout.stack.base → Up (IsStackCell g fs) (ranges_of p) c.end
+  pub own_up : (p : PartSeen) → IsTrusted g p → (c : CapFields) → IsSafeCap g fs c
+      → c.base ≡ g.layout.stack.base → Up (IsStackCell g fs) (ranges_of p) c.end
   own_up p ip c h b =
       let sb = linked.stack_bases p ip in
       let top = in_stack g linked fs c h b in
-      let order = h.order in
-      ((omega (arith, sb, b, order)), (λ a low high. ((omega (arith, sb, low)), (omega (arith, top, high)), h.free a (omega (arith, sb, b, low)) high)))
+      let order = h.order in (
+        (omega (arith, sb, b, order)),
+        (λ a low high. (
+          (omega (arith, sb, low)),
+          (omega (arith, top, high)),
+          h.free a (omega (arith, sb, b, low))
+              high,
+        )),
+      )
 
 module _ (g : Link) (linked : Linked g) (o : OState) (t : State Word) (inv : Invariant g o t) where
   abbrev fs : List OpenFrame
@@ -83,7 +95,9 @@ module _ (g : Link) (linked : Linked g) (o : OState) (t : State Word) (inv : Inv
     t2 = zero_word Plain;
   }
 
-  pub entered : (q : OState) (a : ℕ) (p : CapFields) → look o.maps.regs.pc ≡ Mem p → entry_step g.layout a o ≡ goes q → (c : CapFields) × (own_stack g.layout o.maps ≡ Some c) × (q ≡ record o { maps = record o.maps { regs = after a p c } })
+  pub entered : (q : OState) (a : ℕ) (p : CapFields) → look o.maps.regs.pc ≡ Mem p
+      → entry_step g.layout a o ≡ goes q → (c : CapFields) × (own_stack g.layout o.maps ≡ Some c)
+      × (q ≡ record o { maps = record o.maps { regs = after a p c } })
   unfolding entry_step faces
   entered q a p h e =
       let x = need_goes (memory_in (face_of (look o.maps.regs.pc))) _ q e in
@@ -93,24 +107,50 @@ module _ (g : Link) (linked : Linked g) (o : OState) (t : State Word) (inv : Inv
       let z : q ≡ record o { maps = record o.maps { regs = after a x.0 y.0 } } = cc in
       (y.0, y.1, z ∙ ap (λ d. record o { maps = record o.maps { regs = after a d y.0 } }) same)
 
-  kept_at : (q : OState) (p : PartSeen) (off a : ℕ) (ip : IsTrusted g p) → a ≡ p.component.code_base + off → begins_entry p.component off ≡ true → (at : StandsAt g fs p off o.maps.regs) → at.there ≡ entry_row → entry_step g.layout a o ≡ goes q → Stand g q
+  kept_at : (q : OState) (p : PartSeen) (off a : ℕ) (ip : IsTrusted g p) → a ≡ p.component.code_base + off
+      → begins_entry p.component off ≡ true → (at : StandsAt g fs p off o.maps.regs) → at.there ≡ entry_row
+      → entry_step g.layout a o ≡ goes q → Stand g q
   unfolding kind_of
   kept_at q p off a ip ea en at er e =
       let k = entered q a (code_at (ranges_of p) off) at.at_pc e in
       let c = k.0 in
       let own = own_is g.layout o.maps c k.1 in
-      let any : (d : Reg) → is_pc d ≡ false → HasKind look (IsSafe g fs) (IsStackCell g fs) (ranges_of p) (kind_of entry_row d) (reg o.maps.regs d) = (λ d n. subst (λ r. HasKind look (IsSafe g fs) (IsStackCell g fs) (ranges_of p) (kind_of r d) (reg o.maps.regs d)) er (at.fits.each d n)) in
+      let any : (d : Reg) → is_pc d ≡ false
+      → HasKind look (IsSafe g fs) (IsStackCell g fs) (ranges_of p) (kind_of entry_row d)
+      (reg o.maps.regs d) =
+      (λ d n. subst
+      (λ r. HasKind look (IsSafe g fs) (IsStackCell g fs) (ranges_of p) (kind_of r d) (reg o.maps.regs d))
+      er (at.fits.each d n)) in
       let cap : IsSafeCap g fs c = mem_safe g fs o.maps.regs.stk c own.0 (any Stk refl) in
       let base : c.base ≡ g.layout.stack.base = ap (λ x. x.base) own.1 in
-      let cap' : IsSafeCap g fs (record c { addr = pos c.end }) = record { area = cap.area; runs = cap.runs; usable = cap.usable; low = cap.low; order = cap.order; high = cap.high; lin = cap.lin; may = cap.may; free = cap.free } in
-      let safe : (d : Reg) → is_pc d ≡ false → d ≢ Dat → IsSafe g fs (reg (after a (code_at (ranges_of p) off) c) d) = each c cap' any in
+      let cap' : IsSafeCap g fs (record c { addr = pos c.end }) =
+      record {
+        area = cap.area;
+        runs = cap.runs;
+        usable = cap.usable;
+        low = cap.low;
+        order =
+            cap.order;
+        high = cap.high;
+        lin = cap.lin;
+        may = cap.may;
+        free = cap.free;
+      } in
+      let safe : (d : Reg) → is_pc d ≡ false → d ≢ Dat
+      → IsSafe g fs (reg (after a (code_at (ranges_of p) off) c) d) = each c cap' any in
       let sb = linked.stack_bases p ip in
-      let stk : Mem (record c { addr = pos c.end }) ≡ Mem (stack_cap (ranges_of p) c.end (pos c.end)) = ap (λ x. Mem (record x { addr = pos c.end })) own.1 ∙ ap (λ b. Mem (record { perm = Rw; lin = Linear; base = b; end = c.end; addr = pos c.end })) (sym sb) in
+      let stk : Mem (record c { addr = pos c.end }) ≡ Mem (stack_cap (ranges_of p) c.end (pos c.end)) =
+      ap (λ x. Mem (record x { addr = pos c.end })) own.1
+      ∙ ap (λ b. Mem (record { perm = Rw; lin = Linear; base = b; end = c.end; addr = pos c.end }))
+      (sym sb) in
       let far : a + 20 ≡ p.component.code_base + (off + 20) = omega (arith, ea) in
-      let fits = clean_fits g linked fs p ip (after a (code_at (ranges_of p) off) c) c.end (pos c.end) (any Dat refl).0 stk (own_up g linked fs p ip c cap base) (any Dat refl).1 refl refl safe in
+      let fits = clean_fits g linked fs p ip (after a (code_at (ranges_of p) off) c) c.end (pos c.end)
+      (any Dat refl).0 stk (own_up g linked fs p ip c cap base) (any Dat refl).1 refl refl safe in
       let part = linked.parts p ip.0 in
       subst (λ x. Stand g x) (sym k.2) (record {
-        pc = at_row p (off + 20) ip (stands_clean g linked fs p ip (after a (code_at (ranges_of p) off) c) (off + 20) (entry_flows p.component part.limits (part.flow ip.1) off en)
+        pc = at_row p (off + 20)
+            ip (stands_clean g linked fs p ip (after a (code_at (ranges_of p) off) c) (off + 20)
+            (entry_flows p.component part.limits (part.flow ip.1) off en)
             (ap (λ y. Mem (record (code_at (ranges_of p) 0) { addr = pos y })) far) fits);
         there = inv.there;
         code = inv.code;
@@ -119,7 +159,11 @@ module _ (g : Link) (linked : Linked g) (o : OState) (t : State Word) (inv : Inv
         frames_fit = inv.frames_fit;
       })
     where
-      each : (c : CapFields) → IsSafeCap g fs (record c { addr = pos c.end }) → ((d : Reg) → is_pc d ≡ false → HasKind look (IsSafe g fs) (IsStackCell g fs) (ranges_of p) (kind_of entry_row d) (reg o.maps.regs d)) → (d : Reg) → is_pc d ≡ false → d ≢ Dat → IsSafe g fs (reg (after a (code_at (ranges_of p) off) c) d)
+      each : (c : CapFields) → IsSafeCap g fs (record c { addr = pos c.end })
+          → ((d : Reg) → is_pc d ≡ false
+          → HasKind look (IsSafe g fs) (IsStackCell g fs) (ranges_of p) (kind_of entry_row d)
+          (reg o.maps.regs d)) → (d : Reg) → is_pc d ≡ false → d ≢ Dat
+          → IsSafe g fs (reg (after a (code_at (ranges_of p) off) c) d)
       each c h any Pc n ne = cc
       each c h any Dat n ne = absurd (ne refl)
       each c h any Stk n ne = h
@@ -137,7 +181,9 @@ module _ (g : Link) (linked : Linked g) (o : OState) (t : State Word) (inv : Inv
       each c h any G1 n ne = any G1 refl
       each c h any G2 n ne = any G2 refl
 
-  pub entry_kept : (a : ℕ) (q : OState) → View g fs o.maps (Entry a) → entry_step g.layout a o ≡ goes q → Stand g q
-  entry_kept a q (at_entry p off ip ea en at) e = kept_at q p off a ip ea en at (entry_kind p off at.there en at.row) e
+  pub entry_kept : (a : ℕ) (q : OState) → View g fs o.maps (Entry a) → entry_step g.layout a o ≡ goes q
+      → Stand g q
+  entry_kept a q (at_entry p off ip ea en at) e =
+      kept_at q p off a ip ea en at (entry_kind p off at.there en at.row) e
   entry_kept a q (in_part p off ip ne ns at ec) e = absurd (never_entry o.maps _ a ec)
   entry_kept a q (out h ec) e = absurd (never_entry o.maps _ a ec)

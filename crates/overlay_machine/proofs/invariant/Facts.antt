@@ -59,14 +59,16 @@ pub stands : (p : PartSeen) (m : Cells) → CodeIn p m → (a o : ℕ) → a ≡
 stands p m code a o e [] h = tt
 stands p m code a o e (i ∷ is) h =
     let zero_more : o + 0 ≡ o = omega arith in
-    let here : slice_get p.component.code o ≡ Some (Int (pos (number_of i))) = ap (slice_get p.component.code) (sym zero_more) ∙ h 0 i refl in
+    let here : slice_get p.component.code o ≡ Some (Int (pos (number_of i))) =
+    ap (slice_get p.component.code) (sym zero_more) ∙ h 0 i refl in
     let next : a + 1 ≡ p.component.code_base + (o + 1) = omega (arith, e) in (
       rw e (ap (look_face look) (code o (Int (pos (number_of i))) here)),
       stands p m code (a + 1) (o + 1) next is (later h),
     )
   where
     later : CodeStands p.component.code o (i ∷ is) → CodeStands p.component.code (o + 1) is
-    later h k j e = let n : o + 1 + k ≡ o + suc k = omega arith in ap (slice_get p.component.code) n ∙ h (suc k) j e
+    later h k j e = let n : o + 1 + k ≡ o + suc k =
+        omega arith in ap (slice_get p.component.code) n ∙ h (suc k) j e
 
 module _ (g : Link) (linked : Linked g) where
   -- ---- regions
@@ -83,11 +85,13 @@ module _ (g : Link) (linked : Linked g) where
   -- a region that is no trusted code is outside all of it
   pub open_region : (r : Region) → Contains (regions g) r
       → ((p : PartSeen) → IsTrusted g p → r ≢ code_region p) → (a : ℕ) → r.base ≤ a → a ≤ r.end → IsOpenAt g a
-  open_region r m not a low high p ip = elim (linked.apart r (code_region p) m (linked.code p ip)) as (λ _. Outside a (ranges_of p).code_base (ranges_of p).code_last) [
-    | inl e ↦ absurd (not p ip e)
-    | inr (inl x) ↦ inl (omega (arith, high, x))
-    | inr (inr x) ↦ inr (omega (arith, low, x))
-  ]
+  open_region r m not a low high p ip =
+      elim (linked.apart r (code_region p) m (linked.code p ip))
+      as (λ _. Outside a (ranges_of p).code_base (ranges_of p).code_last) [
+        | inl e ↦ absurd (not p ip e)
+        | inr (inl x) ↦ inl (omega (arith, high, x))
+        | inr (inr x) ↦ inr (omega (arith, low, x))
+      ]
 
   pub stack_there : Contains (regions g) (stack_region g.layout)
   stack_there = linked.usable (stack_region g.layout) false the_stack
@@ -100,25 +104,31 @@ module _ (g : Link) (linked : Linked g) where
       ∙ ap (λ b. b && true) (in_regions_is a (regions g) (stack_region g.layout) stack_there h.0 h.1)
 
   pub open_stack_at : (a : ℕ) → g.layout.stack.base ≤ a → a ≤ g.layout.stack.end → IsOpenAt g a
-  open_stack_at a low high = open_region (stack_region g.layout) stack_there (λ p ip. linked.code_closed (stack_region g.layout) false p the_stack ip) a low high
+  open_stack_at a low high =
+      open_region (stack_region g.layout)
+      stack_there (λ p ip. linked.code_closed (stack_region g.layout) false p the_stack ip) a low high
 
   pub open_stack : (fs : List OpenFrame) (a : ℕ) → IsStackCell g fs a → IsOpenAt g a
   open_stack fs a h = open_stack_at a h.0 h.1
 
   pub open_data : (p : PartSeen) → IsTrusted g p → (a : ℕ) → (ranges_of p).data_base ≤ a
       → a ≤ (ranges_of p).data_last → IsOpenAt g a
-  open_data p ip a low high = open_region (data_region p) (linked.data_there p ip) (λ q iq. linked.data_not_code p q ip iq) a low high
+  open_data p ip a low high =
+      open_region (data_region p) (linked.data_there p ip) (λ q iq. linked.data_not_code p q ip iq) a low high
 
   pub open_safe : (fs : List OpenFrame) (c : CapFields) (a : ℕ) → IsSafeCap g fs c → c.base ≤ a → a ≤ c.end
       → IsOpenAt g a
   open_safe fs c a h low high =
       let l = h.low in
       let u = h.high in
-      open_region h.area (linked.usable h.area h.runs h.usable) (λ p ip. linked.code_closed h.area h.runs p h.usable ip) a (omega (arith, l, low)) (omega (arith, u, high))
+      open_region h.area (linked.usable h.area h.runs h.usable)
+      (λ p ip. linked.code_closed h.area h.runs p h.usable ip) a (omega (arith, l, low))
+      (omega (arith, u, high))
 
   pub closed : (p : PartSeen) → IsTrusted g p → (a : ℕ) → (ranges_of p).code_base ≤ a
       → a ≤ (ranges_of p).code_last → IsOpenAt g a → ⊥
-  closed p ip a low high out = elim (out p ip) as (λ _. ⊥) [ inl x ↦ omega (arith, x, low) | inr x ↦ omega (arith, x, high) ]
+  closed p ip a low high out =
+      elim (out p ip) as (λ _. ⊥) [ inl x ↦ omega (arith, x, low) | inr x ↦ omega (arith, x, high) ]
 
   -- ---- codes of parts
 
@@ -135,7 +145,9 @@ module _ (g : Link) (linked : Linked g) where
 
   pub one_part : (p q : PartSeen) (a : ℕ) → IsTrusted g p → IsTrusted g q → (ranges_of p).code_base ≤ a
       → a ≤ (ranges_of p).code_last → (ranges_of q).code_base ≤ a → a ≤ (ranges_of q).code_last → p ≡ q
-  one_part p q a ip iq h1 h2 h3 h4 = linked.one_code p q ip iq (same_region (code_region p) (code_region q) a (linked.code p ip) (linked.code q iq) h1 h2 h3 h4)
+  one_part p q a ip iq h1 h2 h3 h4 =
+      linked.one_code p q ip iq
+      (same_region (code_region p) (code_region q) a (linked.code p ip) (linked.code q iq) h1 h2 h3 h4)
 
   pub code_small : (p : PartSeen) → IsTrusted g p → (ranges_of p).code_last ≤ LAST_PLACE
   code_small p ip = linked.small (code_region p) (linked.code p ip)
@@ -173,7 +185,8 @@ module _ (g : Link) (linked : Linked g) where
   pub safe_stk : (fs : List OpenFrame) (p : PartSeen) → IsTrusted g p → (w : OWord) (end : ℕ) (at : ℤ)
       → look w ≡ Mem (stack_cap (ranges_of p) end at) → Up (IsStackCell g fs) (ranges_of p) end
       → IsSafe g fs w
-  safe_stk fs p ip w end at e up = safe_mem g fs w (stack_cap (ranges_of p) end at) e (stk_cap_safe fs p end at ip up)
+  safe_stk fs p ip w end at e up =
+      safe_mem g fs w (stack_cap (ranges_of p) end at) e (stk_cap_safe fs p end at ip up)
 
   -- a safe word is no trusted pc
   pub not_trusted : (fs : List OpenFrame) (p : PartSeen) (c : CapFields) → IsTrusted g p → IsSafeCap g fs c
@@ -182,7 +195,9 @@ module _ (g : Link) (linked : Linked g) where
       let l = h.low in
       let o = h.order in
       let u = h.high in
-      let same : h.area ≡ code_region p = same_region h.area (code_region p) c.base (linked.usable h.area h.runs h.usable) (linked.code p ip) l (omega (arith, o, u)) (omega (arith, b)) (omega (arith, o, e)) in
+      let same : h.area ≡ code_region p =
+      same_region h.area (code_region p) c.base (linked.usable h.area h.runs h.usable) (linked.code p ip)
+      l (omega (arith, o, u)) (omega (arith, b)) (omega (arith, o, e)) in
       linked.code_closed h.area h.runs p h.usable ip same
 
   -- a safe capability from the stack's base on lies in the stack
@@ -193,6 +208,8 @@ module _ (g : Link) (linked : Linked g) where
       let o = h.order in
       let u = h.high in
       let k = stack_order in
-      let same : h.area ≡ stack_region g.layout = same_region h.area (stack_region g.layout) c.base (linked.usable h.area h.runs h.usable) stack_there l (omega (arith, o, u)) (omega (arith, b)) (omega (arith, b, k)) in
+      let same : h.area ≡ stack_region g.layout =
+      same_region h.area (stack_region g.layout) c.base (linked.usable h.area h.runs h.usable)
+      stack_there l (omega (arith, o, u)) (omega (arith, b)) (omega (arith, b, k)) in
       let top : h.area.end ≡ g.layout.stack.end = ap (λ r. r.end) same in
       omega (arith, u, top)

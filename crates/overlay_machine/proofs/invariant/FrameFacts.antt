@@ -30,7 +30,12 @@ frame_of-cons f fs k g e = by_call (f.call == k) refl e
     by_call : (b : Bool) → (f.call == k) ≡ b → (if b then Some f else find (λ x. x.call == k) fs) ≡ Some g
         → ((f.call ≡ k) × (f ≡ g)) ⊎ ((f.call ≢ k) × (find (λ x. x.call == k) fs ≡ Some g))
     by_call true m e = inl (eqb-true f.call k m, cc)
-    by_call false m e = inr ((λ q. let h : (f.call == k) ≡ true = eq-eqb f.call k q in let bad : false ≡ true = sym m ∙ h in cc), e)
+    by_call false m e =
+        inr (
+          (λ q. let h : (f.call == k) ≡ true = eq-eqb f.call k q in let bad : false ≡ true =
+              sym m ∙ h in cc),
+          e,
+        )
 
 pub frame_none : (k : ℕ) (g : OpenFrame) → frame_of [] k ≡ Some g → ⊥
 unfolding frame_of
@@ -93,7 +98,8 @@ word_out l m f a lies out = by_word (word_of f a) refl
         let r = word_in_frame l m f a w lies e in
         let low = r.0 in
         let high = r.1 in
-        elim out as (λ _. Some w ≡ None) [ inl lt ↦ absurd (omega (arith, lt, low)) | inr lt ↦ absurd (omega (arith, lt, high)) ]
+        elim out as (λ _. Some w ≡ None)
+        [ inl lt ↦ absurd (omega (arith, lt, low)) | inr lt ↦ absurd (omega (arith, lt, high)) ]
 
 pub framed_in : (l : Layout) (m : Cells) (n : ℕ) (fs : List OpenFrame) (g : OpenFrame) (a : ℕ)
     → FramesLie l m n fs → Contains fs g → g.base ≤ a → a ≤ g.end → framed fs a ≡ None → ⊥
@@ -103,7 +109,8 @@ framed_in l m n (f ∷ fs) g a h (zero, lt, q) low high e =
     let k = has_word l m g a s low high in
     let w : word_of f a ≡ Some k.0 = ap (λ x. word_of x a) q ∙ k.1 in
     let bad : Some k.0 ≡ None = sym (ap (λ x. option_or x (framed fs a)) w) ∙ e in cc
-framed_in l m n (f ∷ fs) g a h (suc k, lt, q) low high e = framed_in l m f.call fs g a h.3 (k, omega (arith, lt), q) low high (rest (word_of f a) e)
+framed_in l m n (f ∷ fs) g a h (suc k, lt, q) low high e =
+    framed_in l m f.call fs g a h.3 (k, omega (arith, lt), q) low high (rest (word_of f a) e)
   where
     rest : (o : Option OWord) → option_or o (framed fs a) ≡ None → framed fs a ≡ None
     rest None e = e
@@ -141,14 +148,22 @@ unframed l m n fs a h never = by_word (framed fs a) refl
         let b = framed_by fs a w e in
         let s = lies_of l m n fs b.0 h b.1 in
         let r = word_in_frame l m b.0 a w s b.2 in
-        absurd (never (let x = s.above in let y = r.0 in omega (arith, x, y)) (let x = s.within in let y = r.1 in omega (arith, x, y)))
+        absurd (never (let x = s.above in let y = r.0 in omega (arith, x, y))
+        (let x = s.within in let y = r.1 in omega (arith, x, y)))
 
 -- frames lie where no cell of theirs comes back
 pub frames_same : (l : Layout) (m m' : Cells) (n : ℕ) (fs : List OpenFrame)
     → ((q : ℕ) → cell m q ≡ None → cell m' q ≡ None) → FramesLie l m n fs → FramesLie l m' n fs
 frames_same l m m' n [] h k = tt
 frames_same l m m' n (f ∷ fs) h k = (
-  record { above = (k.0).above; order = (k.0).order; within = (k.0).within; words = (k.0).words; gone = λ a low high. h a ((k.0).gone a low high) },
+  record {
+    above = (k.0).above;
+    order = (k.0).order;
+    within = (k.0).within;
+    words = (k.0).words;
+    gone =
+        λ a low high. h a ((k.0).gone a low high);
+  },
   k.1,
   k.2,
   frames_same l m m' f.call fs h k.3,

@@ -84,10 +84,15 @@ module _ (g : Link) (linked : Linked g) where
       let s = lies_of l o.maps.cells o.calls o.frames b.0 inv.frames b.1 in
       let r = word_in_frame l o.maps.cells b.0 a w s b.2 in
       let lo = r.0 in
-      let hi = r.1 in
-      ((let x = s.above in omega (arith, x, lo)), (let x = s.within in omega (arith, x, hi)), s.gone a r.0 r.1)
+      let hi = r.1 in (
+        (let x = s.above in omega (arith, x, lo)),
+        (let x = s.within in omega (arith, x, hi)),
+        s.gone a r.0
+            r.1,
+      )
 
-  module _ (o : OState) (t : State Word) (inv : Invariant g o t) (q : OState) (step : overlay_step g.layout o ≡ goes q) where
+  module _ (o : OState) (t : State Word) (inv : Invariant g o t) (q : OState)
+      (step : overlay_step g.layout o ≡ goes q) where
     m : IsFlat l o t
     m = inv.flat
 
@@ -95,7 +100,10 @@ module _ (g : Link) (linked : Linked g) where
     k = looks g linked o t inv
 
     plain_goes : (u : State Word) × (run_of (λ w. w) (λ w. w) (weight_of l o) t ≡ went u)
-    plain_goes = went_on g q _ (subst (λ e. KeepsAgreeing g e (run_of (λ w. w) (λ w. w) (weight_of l o) t)) step (kept g linked o t inv))
+    plain_goes =
+        went_on g q _
+        (subst (λ e. KeepsAgreeing g e (run_of (λ w. w) (λ w. w) (weight_of l o) t))
+        step (kept g linked o t inv))
 
     module _ (a : ℕ) (w v : OWord) (fa : framed o.frames a ≡ Some w) (fq : framed q.frames a ≡ Some v) where
       abbrev here : (l.stack.base ≤ a) × (a ≤ l.stack.end) × (cell o.maps.cells a ≡ None)
@@ -106,15 +114,19 @@ module _ (g : Link) (linked : Linked g) where
           → Untouched (λ w. w) (λ w. w) a (weight_by o.maps (Call i)) t
       call_by i r u ran x =
           let own = own_is l o.maps x.cap x.own in
-          let e : Mem x.cap ≡ Mem (record (stack_cap l.stack.base r.end 0) { addr = r.to }) = sym own.0 ∙ r.stk in
+          let e : Mem x.cap ≡ Mem (record (stack_cap l.stack.base r.end 0) { addr = r.to }) =
+          sym own.0 ∙ r.stk in
           let c : x.cap ≡ record (stack_cap l.stack.base r.end 0) { addr = r.to } = cc in
           let b = above_zero l.stack.base x.cap.addr x.above in
           let to : r.to ≡ pos (b.0 + 1) = sym (ap (λ y. y.addr) c) ∙ b.1 in
           let at : address x.cap.addr ≡ b.0 + 1 = ap address b.1 in
-          let le : b.0 + 1 ≤ r.end = (let f = ap (λ y. y.end) c in let y = x.within in omega (arith, at, f, y)) in
-          let n : (if is_ret_code o.maps.regs.c1 then 17 else 16) ≡ 16 = ap (λ y. if y then 17 else 16) (no_ret_code o.maps.regs.c1 x.plain1) in
+          let le : b.0 + 1 ≤ r.end =
+          (let f = ap (λ y. y.end) c in let y = x.within in omega (arith, at, f, y)) in
+          let n : (if is_ret_code o.maps.regs.c1 then 17 else 16) ≡ 16 =
+          ap (λ y. if y then 17 else 16) (no_ret_code o.maps.regs.c1 x.plain1) in
           untouched_by a (weight_by o.maps (Call i)) 16 t n
-          (call_quiet l o t m k a here.0 here.1 w fa here.2 i r b.0 to b.2 le u (goes_by (weight_by o.maps (Call i)) 16 t u n ran))
+          (call_quiet l o t m k a here.0 here.1 w fa here.2 i r b.0 to b.2 le u
+          (goes_by (weight_by o.maps (Call i)) 16 t u n ran))
 
       entry_by : (at : ℕ) → View g o.frames o.maps (Entry at) → (r : AtEntry l at o)
           → step_by l (Entry at) o ≡ goes q → Untouched (λ w. w) (λ w. w) a 20 t
@@ -124,7 +136,9 @@ module _ (g : Link) (linked : Linked g) where
           let c : code_cap r.base r.end at ≡ code_at (ranges_of p) off = cc in
           let b1 = ap (λ y. y.base) c in
           let b2 = ap (λ y. y.end) c in
-          let away : Outside a r.base r.end = elim (stack_apart g linked p ip a here.0 here.1) as (λ _. Outside a r.base r.end) [ inl x ↦ inl (omega (arith, x, b1)) | inr x ↦ inr (omega (arith, x, b2)) ] in
+          let away : Outside a r.base r.end =
+          elim (stack_apart g linked p ip a here.0 here.1) as (λ _. Outside a r.base r.end)
+          [ inl x ↦ inl (omega (arith, x, b1)) | inr x ↦ inr (omega (arith, x, b2)) ] in
           entry_quiet l o t m k a here.0 here.1 w fa here.2 at r n.0 n.1 away
       entry_by at (in_part p off ip ne ns st ec) r e = absurd (never_entry o.maps _ at ec)
       entry_by at (out h ec) r e = absurd (never_entry o.maps _ at ec)
@@ -133,15 +147,20 @@ module _ (g : Link) (linked : Linked g) where
           → Untouched (λ w. w) (λ w. w) a (weight_by o.maps (Back r1 r2)) t
       back_by r1 r2 r x =
           let older : framed x.older a ≡ Some v = sym (ap (λ y. framed y.frames a) x.result) ∙ fq in
-          let fr : FramesLie l o.maps.cells o.calls (x.frame ∷ x.older) = subst (λ y. FramesLie l o.maps.cells o.calls y) x.frames_are inv.frames in
+          let fr : FramesLie l o.maps.cells o.calls (x.frame ∷ x.older) =
+          subst (λ y. FramesLie l o.maps.cells o.calls y) x.frames_are inv.frames in
           let gone = frames_apart l o.maps.cells o.calls x.frame x.older a v fr older in
-          let n : (if is_ret_code (reg o.maps.regs r1) then 11 else 1) ≡ 11 = ap (λ y. if is_ret_code y then 11 else 1) x.code_is in
-          untouched_by a (weight_by o.maps (Back r1 r2)) 11 t n (return_quiet l o t m k a here.0 here.1 w fa here.2 r1 r2 r q x
+          let n : (if is_ret_code (reg o.maps.regs r1) then 11 else 1) ≡ 11 =
+          ap (λ y. if is_ret_code y then 11 else 1) x.code_is in
+          untouched_by a (weight_by o.maps (Back r1 r2))
+          11 t n (return_quiet l o t m k a here.0 here.1 w fa here.2 r1 r2 r q x
           (λ e. not_base x fr.0 (ap (word_of x.frame) e ∙ gone)))
         where
           not_base : (x : Returned l r1 r2 o q) → FrameLies l o.maps.cells x.frame
               → word_of x.frame x.frame.base ≡ None → ⊥
-          not_base x s n = (let u = has_word l o.maps.cells x.frame x.frame.base s (omega arith) s.order in let bad : Some u.0 ≡ None = sym u.1 ∙ n in cc)
+          not_base x s n =
+              (let u = has_word l o.maps.cells x.frame x.frame.base s (omega arith) s.order in
+              let bad : Some u.0 ≡ None = sym u.1 ∙ n in cc)
 
       quiet_by : (c : Case) → View g o.frames o.maps c → ReadyFor l o c → (u : State Word)
           → run_of (λ w. w) (λ w. w) (weight_by o.maps c) t ≡ went u → step_by l c o ≡ goes q
@@ -154,12 +173,15 @@ module _ (g : Link) (linked : Linked g) where
       -- an address that is in a frame before and after a step isn't touched
       pub step_quiet : Untouched (λ w. w) (λ w. w) a (weight_of l o) t
       unfolding overlay_step weight_of
-      step_quiet = quiet_by (case_of l o.maps) (view g linked o.frames o.maps inv.code inv.pc) (ready g linked o t inv) plain_goes.0 plain_goes.1 step
+      step_quiet = quiet_by (case_of l o.maps) (view g linked o.frames o.maps inv.code inv.pc)
+          (ready g linked o t inv) plain_goes.0 plain_goes.1 step
 
     -- ---- which calls are open
 
     abbrev Stays : Type 0
-    Stays = (o.calls ≤ q.calls) × ((n : ℕ) (f : OpenFrame) → n < o.calls → frame_of q.frames n ≡ Some f → frame_of o.frames n ≡ Some f)
+    Stays = (o.calls ≤ q.calls)
+        × ((n : ℕ) (f : OpenFrame) → n < o.calls → frame_of q.frames n ≡ Some f
+        → frame_of o.frames n ≡ Some f)
 
     same_frames : q.frames ≡ o.frames → q.calls ≡ o.calls → Stays
     same_frames e1 e2 = (omega (arith, e2), λ n f lt e. ap (λ y. frame_of y n) (sym e1) ∙ e)
@@ -167,24 +189,35 @@ module _ (g : Link) (linked : Linked g) where
     call_opens : (i : ℕ) → Called l i o q → Stays
     call_opens i x = (
       (let e = ap (λ y. y.calls) x.result in omega (arith, e)),
-      λ n f lt e. sym (frame_of-later (new_frame i (address x.cap.addr) x.cap.end o) o.frames n (let ne : n ≢ o.calls = omega (arith, lt) in ne)) ∙ sym (ap (λ y. frame_of y.frames n) x.result) ∙ e,
+      λ n f lt e.
+          sym (frame_of-later (new_frame i (address x.cap.addr) x.cap.end o)
+          o.frames n (let ne : n ≢ o.calls = omega (arith, lt) in ne))
+          ∙ sym (ap (λ y. frame_of y.frames n) x.result) ∙ e,
     )
 
     back_opens : (r1 r2 : Reg) → Returned l r1 r2 o q → Stays
     back_opens r1 r2 x = (
       (let e = ap (λ y. y.calls) x.result in omega (arith, e)),
-      λ n f lt e. (let fr : FramesLie l o.maps.cells o.calls (x.frame ∷ x.older) = subst (λ y. FramesLie l o.maps.cells o.calls y) x.frames_are inv.frames in
+      λ n f lt e.
+          (let fr : FramesLie l o.maps.cells o.calls (x.frame ∷ x.older) =
+          subst (λ y. FramesLie l o.maps.cells o.calls y) x.frames_are inv.frames in
           let eo : frame_of x.older n ≡ Some f = sym (ap (λ y. frame_of y.frames n) x.result) ∙ e in
           let before : n < x.frame.call = frame_known l o.maps.cells x.frame.call x.older n f fr.3 eo in
-          ap (λ y. frame_of y n) x.frames_are ∙ frame_of-later x.frame x.older n (let ne : n ≢ x.frame.call = omega (arith, before) in ne) ∙ eo),
+          ap (λ y. frame_of y n) x.frames_are
+          ∙ frame_of-later x.frame x.older n (let ne : n ≢ x.frame.call = omega (arith, before) in ne)
+          ∙ eo),
     )
 
     entry_opens : (at : ℕ) → AtEntry l at o → step_by l (Entry at) o ≡ goes q → Stays
-    entry_opens at r e = (let n = entered g linked o t inv q at (code_cap r.base r.end at) r.pc e in same_frames (ap (λ y. y.frames) n.2) (ap (λ y. y.calls) n.2))
+    entry_opens at r e =
+        (let n = entered g linked o t inv q at (code_cap r.base r.end at) r.pc e in
+        same_frames (ap (λ y. y.frames) n.2) (ap (λ y. y.calls) n.2))
 
     other_opens : other_step o ≡ goes q → Stays
     unfolding other_step
-    other_opens e = (let n = went_other o.frames o.calls (step_of look Plain o.maps) q e in same_frames (ap (λ y. y.frames) n.2) (ap (λ y. y.calls) n.2))
+    other_opens e =
+        (let n = went_other o.frames o.calls (step_of look Plain o.maps) q e in
+        same_frames (ap (λ y. y.frames) n.2) (ap (λ y. y.calls) n.2))
 
     opens_by : (c : Case) → ReadyFor l o c → step_by l c o ≡ goes q → Stays
     opens_by (Call i) r e = call_opens i (called l i o q e)
@@ -205,7 +238,8 @@ module _ (g : Link) (linked : Linked g) where
 
     calls_rise : (j : ℕ) (p : OState) → Reached l o j p → o.calls ≤ p.calls
     calls_rise _ _ begins = omega arith
-    calls_rise _ q (goes_on {j = j} {p = p} r e) = let up = calls_rise j p r in let s = matched j p r in let n = (stays_open p s.0 s.2 q e).0 in omega (arith, up, n)
+    calls_rise _ q (goes_on {j = j} {p = p} r e) = let up = calls_rise j p r in let s =
+        matched j p r in let n = (stays_open p s.0 s.2 q e).0 in omega (arith, up, n)
 
     framed_of : (p : OState) (u : State Word) → Invariant g p u → (n : ℕ) (f : OpenFrame)
         → frame_of p.frames n ≡ Some f → (a : ℕ) → f.base ≤ a → a ≤ f.end
@@ -227,7 +261,8 @@ module _ (g : Link) (linked : Linked g) where
         let before = (stays_open p s.0 s.2 q step).1 n f (omega (arith, lt, up)) e in
         let w = framed_of p s.0 s.2 n f before a low high in
         let v = framed_of q s'.0 s'.2 n f e a low high in
-        untouched_then (λ w. w) (λ w. w) a j (weight_of l p) t s.0 (private n f a lt low high j p r before) s.1 (step_quiet p s.0 s.2 q step a w.0 v.0 w.1 v.1)
+        untouched_then (λ w. w) (λ w. w) a j (weight_of l p) t s.0 (private n f a lt low high j p r before)
+        s.1 (step_quiet p s.0 s.2 q step a w.0 v.0 w.1 v.1)
 
     -- nor does the `xjmp` that reaches its return sequence touch it
     private_return : (n : ℕ) (f : OpenFrame) (a : ℕ) → n < o.calls → f.base ≤ a → a ≤ f.end
@@ -243,8 +278,12 @@ module _ (g : Link) (linked : Linked g) where
 
     pub frames_private : FramesArePrivate g o t
     frames_private = record {
-      while_open = λ n f is j p r e a low high. private n f a (frame_known l o.maps.cells o.calls o.frames n f inv.frames is) low high j p r e;
-      up_to_return = λ n f is j p r e r1 r2 c a low high. private_return n f a (frame_known l o.maps.cells o.calls o.frames n f inv.frames is) low high j p r e r1 r2 c;
+      while_open =
+          λ n f is j p r e a low high.
+          private n f a (frame_known l o.maps.cells o.calls o.frames n f inv.frames is) low high j p r e;
+      up_to_return =
+          λ n f is j p r e r1 r2 c a low high. private_return n f a
+          (frame_known l o.maps.cells o.calls o.frames n f inv.frames is) low high j p r e r1 r2 c;
     }
 
 pub all_private : AllFramesArePrivate

@@ -20,7 +20,15 @@ length-words_from m a (suc n) = ap suc (length-words_from m (a + 1) n)
 lies_in : (l : Layout) (m m' : Cells) (f : OpenFrame)
     → ((q : ℕ) → f.base ≤ q → q ≤ f.end → cell m q ≡ None → cell m' q ≡ None) → FrameLies l m f
     → FrameLies l m' f
-lies_in l m m' f h s = record { above = s.above; order = s.order; within = s.within; words = s.words; gone = λ q low high. h q low high (s.gone q low high) }
+lies_in l m m' f h s =
+    record {
+      above = s.above;
+      order = s.order;
+      within = s.within;
+      words = s.words;
+      gone =
+          λ q low high. h q low high (s.gone q low high);
+    }
 
 -- frames from an address on
 abbrev StartAt : ℕ → List OpenFrame → Type 0
@@ -30,12 +38,19 @@ StartAt a (f ∷ fs) = a < f.base
 next_at : (l : Layout) (m : Cells) (n a : ℕ) (f : OpenFrame) (fs : List OpenFrame) → a < f.base
     → FramesLie l m n (f ∷ fs) → StartAt a fs
 next_at l m n a f [] h k = tt
-next_at l m n a f (g ∷ gs) h k = let s = k.0 in let b : f.base ≤ f.end = s.order in let c = k.2 in omega (arith, h, b, c)
+next_at l m n a f (g ∷ gs) h k = let s = k.0 in let b : f.base ≤ f.end = s.order in let c =
+    k.2 in omega (arith, h, b, c)
 
 frames_in : (l : Layout) (m m' : Cells) (n a : ℕ) (fs : List OpenFrame) → StartAt a fs
     → ((q : ℕ) → a < q → cell m q ≡ None → cell m' q ≡ None) → FramesLie l m n fs → FramesLie l m' n fs
 frames_in l m m' n a [] at h k = tt
-frames_in l m m' n a (f ∷ fs) at h k = (lies_in l m m' f (λ q low high. h q (omega (arith, at, low))) k.0, k.1, k.2, frames_in l m m' f.call a fs (next_at l m n a f fs at k) h k.3)
+frames_in l m m' n a (f ∷ fs) at h k = (
+  lies_in l m m' f (λ q low high. h q (omega (arith, at, low)))
+      k.0,
+  k.1,
+  k.2,
+  frames_in l m m' f.call a fs (next_at l m n a f fs at k) h k.3,
+)
 
 -- a call
 pub call_keeps : (l : Layout) (i a e : ℕ) (o : OState)
@@ -53,7 +68,8 @@ call_keeps l i a e o there low high top k = (
   },
   omega arith,
   lies o.frames k,
-  frames_in l o.maps.cells (without o.maps.cells a e) o.calls 0 o.frames (starts o.frames k) (λ q x h. fewer-without o.maps.cells a e q h) k,
+  frames_in l o.maps.cells (without o.maps.cells a e) o.calls 0 o.frames (starts o.frames k)
+      (λ q x h. fewer-without o.maps.cells a e q h) k,
 )
   where
     starts : (fs : List OpenFrame) → FramesLie l o.maps.cells o.calls fs → StartAt 0 fs
@@ -75,7 +91,8 @@ call_keeps l i a e o there low high top k = (
 pub return_keeps : (l : Layout) (m : Cells) (n : ℕ) (f : OpenFrame) (fs : List OpenFrame) (ws : List OWord)
     → f.base + length ws ≡ f.end + 1 → FramesLie l m n (f ∷ fs) → FramesLie l (put_back m f.base ws) f.call fs
 return_keeps l m n f fs ws e k =
-    frames_in l m (put_back m f.base ws) f.call f.end fs (lower fs k.2) (λ q x h. put_back-other m f.base ws q (inr (omega (arith, x, e))) ∙ h) k.3
+    frames_in l m (put_back m f.base ws) f.call f.end fs (lower fs k.2)
+    (λ q x h. put_back-other m f.base ws q (inr (omega (arith, x, e))) ∙ h) k.3
   where
     lower : (fs : List OpenFrame) → LiesBelow f fs → StartAt f.end fs
     lower [] h = tt

@@ -37,7 +37,8 @@ module _ (g : Link) (linked : Linked g) (o : OState) (t : State Word) (inv : Inv
   shown r1 r2 (out h c) = λ d p ne. h d
   shown r1 r2 (in_part p off ip ne ns at c) = elim (fetched_case o.maps _ (Back r1 r2) c) as (λ _. Shown) [
     | inl e ↦ absurd (not_other e)
-    | inr e ↦ (glue_shows g linked o.frames o.maps p ip (inv.code p ip) inv.cells off at ne ns e.0 e.1 e.2 e.4).0
+    | inr e ↦
+        (glue_shows g linked o.frames o.maps p ip (inv.code p ip) inv.cells off at ne ns e.0 e.1 e.2 e.4).0
   ]
     where
       not_other : Back r1 r2 ≡ Other → ⊥
@@ -45,7 +46,8 @@ module _ (g : Link) (linked : Linked g) (o : OState) (t : State Word) (inv : Inv
 
   call_stands : (i : ℕ) (q : OState) → View g o.frames o.maps (Call i) → step_by g.layout (Call i) o ≡ goes q
       → Stand g q
-  call_stands i q (at_site p index u ip eu st at) e = call_kept g linked o t inv i p index u ip eu st at q (called g.layout i o q e)
+  call_stands i q (at_site p index u ip eu st at) e =
+      call_kept g linked o t inv i p index u ip eu st at q (called g.layout i o q e)
   call_stands i q (in_part p off ip ne ns at c) e = absurd (never_call o.maps _ i c)
   call_stands i q (out h c) e = absurd (never_call o.maps _ i c)
 
@@ -53,13 +55,15 @@ module _ (g : Link) (linked : Linked g) (o : OState) (t : State Word) (inv : Inv
       → step_by g.layout c o ≡ goes q → Stand g q
   by_case (Call i) v r q e = call_stands i q v e
   by_case (Entry a) v r q e = entry_kept g linked o t inv a q v e
-  by_case (Back r1 r2) v r q e = return_kept g linked o t inv r1 r2 q (returned g.layout r1 r2 o q e) r (shown r1 r2 v)
+  by_case (Back r1 r2) v r q e =
+      return_kept g linked o t inv r1 r2 q (returned g.layout r1 r2 o q e) r (shown r1 r2 v)
   by_case Other v r q e = other_kept g linked o t inv q v e
 
   -- what stands after a step that goes
   pub stands_after : (q : OState) → overlay_step g.layout o ≡ goes q → Stand g q
   unfolding overlay_step
-  stands_after q e = by_case (case_of g.layout o.maps) (view g linked o.frames o.maps inv.code inv.pc) (ready g linked o t inv) q e
+  stands_after q e = by_case (case_of g.layout o.maps) (view g linked o.frames o.maps inv.code inv.pc)
+      (ready g linked o t inv) q e
 
   once_after : (u : State Word) → run_of (λ w. w) (λ w. w) (weight_of g.layout o) t ≡ went u
       → StaysHeldOnce (λ w. w) t u
@@ -68,7 +72,8 @@ module _ (g : Link) (linked : Linked g) (o : OState) (t : State Word) (inv : Inv
   by_ends : (e : Ending) (r : Outcome Word) → overlay_step g.layout o ≡ e
       → run_of (λ w. w) (λ w. w) (weight_of g.layout o) t ≡ r → Agrees g.layout e r → KeepsAgreeing g e r
   unfolding StaysHeldOnce
-  by_ends (goes q) (went u) ee er a = whole g q u (stands_after q ee) a.0 a.1 (once_after u er (regions g) linked.apart inv.once)
+  by_ends (goes q) (went u) ee er a =
+      whole g q u (stands_after q ee) a.0 a.1 (once_after u er (regions g) linked.apart inv.once)
   by_ends halts halted ee er a = tt
   by_ends fails (failed c at) ee er a = tt
   by_ends (goes q) halted ee er a = absurd a
@@ -79,4 +84,5 @@ module _ (g : Link) (linked : Linked g) (o : OState) (t : State Word) (inv : Inv
   by_ends fails halted ee er a = absurd a
 
   pub kept : KeepsAgreeing g (overlay_step g.layout o) (run_of (λ w. w) (λ w. w) (weight_of g.layout o) t)
-  kept = by_ends _ _ refl refl (one_step g.layout o t (ready g linked o t inv) inv.flat (looks g linked o t inv))
+  kept = by_ends _ _ refl refl
+      (one_step g.layout o t (ready g linked o t inv) inv.flat (looks g linked o t inv))

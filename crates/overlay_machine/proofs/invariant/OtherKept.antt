@@ -76,10 +76,16 @@ module _ (g : Link) (linked : Linked g) where
       let a = plain_is (reg s.regs r1) p1 in
       let b = plain_is (reg s.regs r2) p2 in
       crossed_pc g linked fs s'.regs x.cap (unsealed x.half.content)
-      (leads_to g linked fs a.0 b.0 x.code x.half x.cap (subst (λ w. IsSafe g fs w) a.1 s1) (subst (λ w. IsSafe g fs w) b.1 s2)
-      (sym (ap (λ w. opened_of (look w)) a.1) ∙ x.opens_code) (sym (ap (λ w. opened_of (look w)) b.1) ∙ x.opens_half) x.one_seal x.memory x.runs x.no_code)
+      (leads_to g linked fs a.0 b.0 x.code x.half x.cap (subst (λ w. IsSafe g fs w) a.1 s1)
+      (subst (λ w. IsSafe g fs w) b.1 s2)
+      (sym (ap (λ w. opened_of (look w)) a.1) ∙ x.opens_code)
+      (sym (ap (λ w. opened_of (look w)) b.1) ∙ x.opens_half) x.one_seal x.memory x.runs x.no_code)
       x.pc x.dat
-      (λ d np nd. elim (x.others d np nd) as (λ _. IsSafe g fs (reg s'.regs d)) [ inl e ↦ subst (λ w. IsSafe g fs w) (sym e) (shown d np nd) | inr e ↦ subst (λ w. IsSafe g fs w) (sym e) tt ])
+      (λ d np nd. elim (x.others d np nd) as (λ _. IsSafe g fs (reg s'.regs d)) [
+        | inl e ↦ subst (λ w. IsSafe g fs w) (sym e) (shown d np nd)
+        | inr e ↦
+            subst (λ w. IsSafe g fs w) (sym e) tt
+      ])
 
   module _ (o : OState) (t : State Word) (inv : Invariant g o t) where
     abbrev fs : List OpenFrame
@@ -97,9 +103,12 @@ module _ (g : Link) (linked : Linked g) where
         → ((a : ℕ) (w : OWord) → IsOpenAt g a → cell s'.cells a ≡ Some w → IsSafe g fs w) → Others s'
     others_of s' there same safe = record {
       there = λ a. there a ∙ inv.there a;
-      code = λ p ip off w e. same (p.component.code_base + off) (closed g linked p ip (p.component.code_base + off) (omega arith) (in_code g linked p off ip (slice_get_within p.component.code off w e))) ∙ inv.code p ip off w e;
+      code = λ p ip off w e. same (p.component.code_base + off)
+          (closed g linked p ip (p.component.code_base + off) (omega arith)
+          (in_code g linked p off ip (slice_get_within p.component.code off w e))) ∙ inv.code p ip off w e;
       cells = safe;
-      frames = frames_same g.layout o.maps.cells s'.cells o.calls fs (gone_stays o.maps.cells s'.cells there) inv.frames;
+      frames = frames_same g.layout o.maps.cells s'.cells o.calls fs (gone_stays o.maps.cells s'.cells there)
+          inv.frames;
     }
 
     -- what a step by the table leaves of the invariant
@@ -118,7 +127,9 @@ module _ (g : Link) (linked : Linked g) where
       target_open n a e =
           let r = target_reg n (faces look o.maps) a e in
           let b = target_bounds (face_of (look (reg o.maps.regs r.0))) a r.1 in
-          open_safe g linked fs b.0 a (mem_safe g fs (reg o.maps.regs r.0) b.0 (mem_of_face (look (reg o.maps.regs r.0)) b.0 b.1) (safe r.0)) b.2 b.3
+          open_safe g linked fs b.0 a
+          (mem_safe g fs (reg o.maps.regs r.0) b.0 (mem_of_face (look (reg o.maps.regs r.0)) b.0 b.1)
+          (safe r.0)) b.2 b.3
 
       next_safe : (n : Instr) (next : Word)
           → fetch (faces look o.maps Pc) (cell_faces look o.maps) ≡ some n next → IsSafe g fs (Plain next)
@@ -135,26 +146,34 @@ module _ (g : Link) (linked : Linked g) where
 
       same_row : (s' : State OWord) (n : Instr) (next : Word) → row look Plain n next o.maps ≡ went s'
           → (a : ℕ) → (IsOpenAt g a → ⊥) → cell s'.cells a ≡ cell o.maps.cells a
-      same_row s' n next e a never = row_others look Plain o.maps s' n next e a (λ q. never (target_open n a q))
+      same_row s' n next e a never =
+          row_others look Plain o.maps s' n next e a (λ q. never (target_open n a q))
 
       untrusted : (s' : State OWord) (n : Instr) (next : Word)
           → fetch (faces look o.maps Pc) (cell_faces look o.maps) ≡ some n next
           → row look Plain n next o.maps ≡ went s' → Other ≡ case_fetched o.maps (some n next) → RowKept s'
       untrusted s' n next f e c = elim (is_xjmp n) as (λ _. RowKept s') [
-        | inl x ↦ (let ex : row look Plain (Xjmp x.0 x.1) next o.maps ≡ went s' = sym (ap (λ i. row look Plain i next o.maps) x.2) ∙ e in
+        | inl x ↦
+            (let ex : row look Plain (Xjmp x.0 x.1) next o.maps ≡ went s' =
+            sym (ap (λ i. row look Plain i next o.maps) x.2) ∙ e in
             let cr = xjmp_crossed o.maps s' x.0 x.1 next ex in
-            let pl = plain_both o.maps x.0 x.1 next (sym (c ∙ ap (λ i. case_fetched o.maps (some i next)) x.2)) in
+            let pl = plain_both o.maps x.0 x.1 next
+            (sym (c ∙ ap (λ i. case_fetched o.maps (some i next)) x.2)) in
             record {
               pc = cross_safe fs o.maps s' x.0 x.1 pl.0 pl.1 (safe x.0) (safe x.1) (λ d np nd. safe d) cr;
-              others = others_of s' (there_same o.maps s' (row_cells look Plain o.maps s' n next e)) (same_row s' n next e) (λ a w op h. inv.cells a w op (sym (ap (λ y. cell y a) cr.cells) ∙ h));
+              others = others_of s' (there_same o.maps s' (row_cells look Plain o.maps s' n next e))
+                  (same_row s' n next e)
+                  (λ a w op h. inv.cells a w op (sym (ap (λ y. cell y a) cr.cells) ∙ h));
             })
         | inr never ↦ (let ns = next_safe n next f in
             let k = after_went (AllAre (IsSafe g fs) (IsOpenAt g)) _ s'
-            (row_keeps look Plain (IsSafe g fs) (IsOpenAt g) (safe_closed g linked fs) o.maps all next ns n (opens_none n never)
+            (row_keeps look Plain (IsSafe g fs) (IsOpenAt g) (safe_closed g linked fs)
+            o.maps all next ns n (opens_none n never)
             (λ a u. target_open n a (used_target n (faces look o.maps) (cell_faces look o.maps) a u))) e in
             record {
               pc = outside k.0;
-              others = others_of s' (there_same o.maps s' (row_cells look Plain o.maps s' n next e)) (same_row s' n next e) k.1;
+              others = others_of s' (there_same o.maps s' (row_cells look Plain o.maps s' n next e))
+                  (same_row s' n next e) k.1;
             })
       ]
 
@@ -163,29 +182,41 @@ module _ (g : Link) (linked : Linked g) where
     led_pc : (p : PartSeen) (ip : IsTrusted g p) (s' : State OWord)
         → Other ≡ case_fetched o.maps (fetch (faces look o.maps Pc) (cell_faces look o.maps))
         → Led g linked fs o.maps p ip (inv.code p ip) inv.cells s' → PcPart g fs s'.regs
-    led_pc p ip s' c (to_row off at) = at_row p off ip (record { there = at.there; inside = at.inside; at_pc = at.at_pc; row = at.row; fits = at.fits })
+    led_pc p ip s' c (to_row off at) =
+        at_row p off ip
+        (record { there = at.there; inside = at.inside; at_pc = at.at_pc; row = at.row; fits = at.fits })
     led_pc p ip s' c (to_fail off f h) = at_fail p off ip f h
-    led_pc p ip s' c (goes_out off r i nx got (crosses r1 r2 code half x is s1 s2 e1 e2 same mc run nc pc dat others)) =
-        let pl = plain_both o.maps r1 r2 nx (sym (c ∙ ap (case_fetched o.maps) got ∙ ap (λ y. case_fetched o.maps (some y nx)) is)) in
+    led_pc p ip s' c
+        (goes_out off r i nx got (crosses r1 r2 code half x is s1 s2 e1 e2 same mc run nc pc dat others)) =
+        let pl = plain_both o.maps r1 r2 nx
+        (sym (c ∙ ap (case_fetched o.maps) got ∙ ap (λ y. case_fetched o.maps (some y nx)) is)) in
         let a = plain_is (reg o.maps.regs r1) pl.0 in
         let b = plain_is (reg o.maps.regs r2) pl.1 in
         crossed_pc g linked fs s'.regs x (unsealed half.content)
-        (leads_to g linked fs a.0 b.0 code half x (subst (λ w. IsSafe g fs w) a.1 s1) (subst (λ w. IsSafe g fs w) b.1 s2)
-        (sym (ap (λ w. opened_of (look w)) a.1) ∙ e1) (sym (ap (λ w. opened_of (look w)) b.1) ∙ e2) (eqb-true code.seal half.seal same) mc run nc)
+        (leads_to g linked fs a.0 b.0 code half x (subst (λ w. IsSafe g fs w) a.1 s1)
+        (subst (λ w. IsSafe g fs w) b.1 s2)
+        (sym (ap (λ w. opened_of (look w)) a.1) ∙ e1) (sym (ap (λ w. opened_of (look w)) b.1) ∙ e2)
+        (eqb-true code.seal half.seal same) mc run nc)
         pc dat (λ d np nd. others d (pc_false d np) nd)
 
     fails_not : (next : Word) (s' : State OWord)
         → fetch (faces look o.maps Pc) (cell_faces look o.maps) ≡ some Fail next
         → step_of look Plain o.maps ≡ went s' → ⊥
     unfolding step_of row plan_in
-    fails_not next s' f e = let k : step_fetched look Plain o.maps (some Fail next) ≡ went s' = ap (step_fetched look Plain o.maps) (sym f) ∙ e in cc
+    fails_not next s' f e = let k : step_fetched look Plain o.maps (some Fail next) ≡ went s' =
+        ap (step_fetched look Plain o.maps) (sym f) ∙ e in cc
 
     stepped : (s' : State OWord) → View g fs o.maps Other → step_of look Plain o.maps ≡ went s' → RowKept s'
     stepped s' (failing next p off ip lt h f) e = absurd (fails_not next s' f e)
     stepped s' (in_part p off ip ne ns at c) e =
         let k = glue_step g linked fs o.maps p ip (inv.code p ip) inv.cells s' off at ne ns e in
         let f = fetched_row look Plain o.maps s' e in
-        record { pc = led_pc p ip s' c k.0; others = others_of s' (there_same o.maps s' (row_cells look Plain o.maps s' f.0 f.1 f.3)) k.2 (k.1).safe_cells }
+        record {
+          pc = led_pc p ip s' c k.0;
+          others =
+              others_of s' (there_same o.maps s' (row_cells look Plain o.maps s' f.0 f.1 f.3))
+              k.2 (k.1).safe_cells;
+        }
     stepped s' (out safe c) e =
         let f = fetched_row look Plain o.maps s' e in
         untrusted safe s' f.0 f.1 f.2 f.3 (c ∙ ap (case_fetched o.maps) f.2)
@@ -195,4 +226,13 @@ module _ (g : Link) (linked : Linked g) where
     other_kept q v e =
         let k = went_other fs o.calls (step_of look Plain o.maps) q e in
         let r = stepped k.0 v k.1 in
-        subst (λ y. Stand g y) (sym k.2) (record { pc = r.pc; there = r.others.there; code = r.others.code; cells = r.others.cells; frames = r.others.frames; frames_fit = inv.frames_fit })
+        subst (λ y. Stand g y) (sym k.2)
+        (record {
+          pc = r.pc;
+          there = r.others.there;
+          code = r.others.code;
+          cells =
+              r.others.cells;
+          frames = r.others.frames;
+          frames_fit = inv.frames_fit;
+        })

@@ -86,12 +86,16 @@ data_kind kind.Top e = cc
 
 -- a case that is read off the fetched instruction
 pub fetched_case : (s : State OWord) (f : Fetched) (c : Case) → c ≡ case_fetched s f
-    → (c ≡ Other) ⊎ ((r1 : Reg) × (r2 : Reg) × (next : Word) × (c ≡ Back r1 r2) × (f ≡ some (Xjmp r1 r2) next))
+    → (c ≡ Other)
+    ⊎ ((r1 : Reg) × (r2 : Reg) × (next : Word) × (c ≡ Back r1 r2) × (f ≡ some (Xjmp r1 r2) next))
 fetched_case s (none x) c e = inl e
-fetched_case s (some (Xjmp r1 r2) next) c e = by_plain (is_plain (reg s.regs r1) && is_plain (reg s.regs r2)) e
+fetched_case s (some (Xjmp r1 r2) next) c e =
+    by_plain (is_plain (reg s.regs r1) && is_plain (reg s.regs r2)) e
   where
     by_plain : (b : Bool) → c ≡ (if b then Other else Back r1 r2)
-        → (c ≡ Other) ⊎ ((q1 : Reg) × (q2 : Reg) × (n : Word) × (c ≡ Back q1 q2) × (some (Xjmp r1 r2) next ≡ some (Xjmp q1 q2) n))
+        → (c ≡ Other)
+        ⊎ ((q1 : Reg) × (q2 : Reg) × (n : Word) × (c ≡ Back q1 q2)
+        × (some (Xjmp r1 r2) next ≡ some (Xjmp q1 q2) n))
     by_plain true h = inl h
     by_plain false h = inr (r1, r2, next, h, refl)
 fetched_case s (some _ next) c e = inl e
@@ -123,8 +127,13 @@ module _ (g : Link) (linked : Linked g) where
   -- the ranges of a safe word are in order
   safe_order : (fs : List OpenFrame) (w : OWord) → IsSafe g fs w → FaceInOrder (face_of (look w))
   safe_order fs (Plain (Int z)) h = tt
-  safe_order fs (Plain (Mem c)) h = (h.order, (let k = linked.small h.area (linked.usable h.area h.runs h.usable) in let e = h.high in omega (arith, k, e)))
-  safe_order fs (Plain (Seal c)) h = (h.order, (let k = linked.seals_small h.of h.untrusted.0 in let e = h.high in omega (arith, k, e)))
+  safe_order fs (Plain (Mem c)) h = (
+    h.order,
+    (let k = linked.small h.area (linked.usable h.area h.runs h.usable) in let e =
+        h.high in omega (arith, k, e)),
+  )
+  safe_order fs (Plain (Seal c)) h =
+      (h.order, (let k = linked.seals_small h.of h.untrusted.0 in let e = h.high in omega (arith, k, e)))
   safe_order fs (Plain (Sealed n (MemIn c))) h = tt
   safe_order fs (Plain (Sealed n (SealIn c))) h = tt
   safe_order fs (RetCode i) h = tt
@@ -135,8 +144,11 @@ module _ (g : Link) (linked : Linked g) where
   pub fails_at : (p : PartSeen) (m : Cells) (fail : ℕ) → IsTrusted g p → CodeIn p m
       → p.component.fail_at ≡ Some fail → FailsAt look m (ranges_of p).code_base (ranges_of p).code_last fail
   fails_at p m fail ip code e =
-      let f = linked.fails p fail ip e in
-      (stands p m code (p.component.code_base + fail) fail refl (Fail ∷ []) f.1, in_code g linked p fail ip f.0)
+      let f = linked.fails p fail ip e in (
+        stands p m code (p.component.code_base + fail) fail refl (Fail ∷ [])
+            f.1,
+        in_code g linked p fail ip f.0,
+      )
 
   site_stands : (p : PartSeen) (index : ℕ) (s : SiteCode) (m : Cells) → IsTrusted g p → CodeIn p m
       → SiteOf p index s → HasSite g.layout m s
@@ -153,8 +165,11 @@ module _ (g : Link) (linked : Linked g) where
       let sn = st.seal_in in
       let ll = slice_get_within c.code st.stands.literal _ st.seals_are in
       let sb = linked.stack_bases p ip in
-      let call : CodeStands c.code off (call_code st.stands.literal off index) = subst (λ k. CodeStands c.code k (call_code st.stands.literal k index)) at st.stands.call in
-      let back : CodeStands c.code (off + 16) (return_code st.stands.fail (off + 16) c.stack_base) = subst (λ k. CodeStands c.code (k + 16) (return_code st.stands.fail (k + 16) c.stack_base)) at st.stands.back in
+      let call : CodeStands c.code off (call_code st.stands.literal off index) =
+      subst (λ k. CodeStands c.code k (call_code st.stands.literal k index)) at st.stands.call in
+      let back : CodeStands c.code (off + 16) (return_code st.stands.fail (off + 16) c.stack_base) =
+      subst (λ k. CodeStands c.code (k + 16) (return_code st.stands.fail (k + 16) c.stack_base))
+      at st.stands.back in
       record {
         call = record {
           offset = off;
@@ -178,7 +193,9 @@ module _ (g : Link) (linked : Linked g) where
           offset = off + 16;
           fail = st.stands.fail;
           at_is = omega (arith, bi, ai);
-          code = stands p m code (s.at + 16) (off + 16) (omega (arith, ai)) (return_code st.stands.fail (off + 16) g.layout.stack.base) (subst (λ b. CodeStands c.code (off + 16) (return_code st.stands.fail (off + 16) b)) sb back);
+          code = stands p m code (s.at + 16) (off + 16) (omega (arith, ai))
+              (return_code st.stands.fail (off + 16) g.layout.stack.base)
+              (subst (λ b. CodeStands c.code (off + 16) (return_code st.stands.fail (off + 16) b)) sb back);
           ends = omega (arith, ai, ei, ins, len);
           small = (let k = code_small g linked p ip in omega (arith, ei, k));
           fails = rw (bi, ei) (fails_at p m st.stands.fail ip code st.stands.fail_is);
@@ -199,15 +216,24 @@ module _ (g : Link) (linked : Linked g) where
     -- the stack's capability and the data capability of a row
     own_stk : (p : PartSeen) (off : ℕ) (ip : IsTrusted g p) (at : StandsAt g fs p off o.maps.regs)
         → kind_of at.there Stk ≡ kind.Stk
-        → (end : ℕ) × (to : ℤ) × (look o.maps.regs.stk ≡ Mem (record (stack_cap g.layout.stack.base end 0) { addr = to })) × Up (IsStackCell g fs) (ranges_of p) end
+        → (end : ℕ) × (to : ℤ)
+        × (look o.maps.regs.stk ≡ Mem (record (stack_cap g.layout.stack.base end 0) { addr = to }))
+        × Up (IsStackCell g fs) (ranges_of p) end
     own_stk p off ip at e =
-        let h : HasKind look (IsSafe g fs) (IsStackCell g fs) (ranges_of p) kind.Stk (reg o.maps.regs Stk) = (let x = at.fits.each Stk refl in rw e at x) in
-        (h.0, h.1, h.2 ∙ ap (λ b. Mem (record (stack_cap b h.0 0) { addr = h.1 })) (linked.stack_bases p ip), h.3)
+        let h : HasKind look (IsSafe g fs) (IsStackCell g fs) (ranges_of p) kind.Stk (reg o.maps.regs Stk) =
+        (let x = at.fits.each Stk refl in rw e at x) in (
+          h.0,
+          h.1,
+          h.2
+              ∙ ap (λ b. Mem (record (stack_cap b h.0 0) { addr = h.1 })) (linked.stack_bases p ip),
+          h.3,
+        )
 
     pub own_dat : (p : PartSeen) (off : ℕ) (at : StandsAt g fs p off o.maps.regs)
         → kind_of at.there Dat ≡ kind.DataCap
         → (to : ℤ) × (look o.maps.regs.dat ≡ Mem (data_cap (ranges_of p) to))
-    own_dat p off at e = let h : HasKind look (IsSafe g fs) (IsStackCell g fs) (ranges_of p) kind.DataCap (reg o.maps.regs Dat) = (let x = at.fits.each Dat refl in rw e at x) in h
+    own_dat p off at e = let h : HasKind look (IsSafe g fs) (IsStackCell g fs) (ranges_of p)
+        kind.DataCap (reg o.maps.regs Dat) = (let x = at.fits.each Dat refl in rw e at x) in h
 
     pub known : AllKnown o
     known = record {
@@ -222,9 +248,13 @@ module _ (g : Link) (linked : Linked g) where
 
     -- ---- a call
 
-    module _ (i : ℕ) (p : PartSeen) (index : ℕ) (u : SiteCode) (ip : IsTrusted g p) (eu : site_code g.layout i ≡ Some u) (st : SiteOf p index u) (at : StandsAt g fs p st.offset o.maps.regs) where
+    module _ (i : ℕ) (p : PartSeen) (index : ℕ) (u : SiteCode) (ip : IsTrusted g p)
+        (eu : site_code g.layout i ≡ Some u) (st : SiteOf p index u)
+        (at : StandsAt g fs p st.offset o.maps.regs) where
       row_ready : site_ready at.there ≡ true
-      row_ready = (site_flows p.component (linked.parts p ip.0).limits ((linked.parts p ip.0).flow ip.1) st.offset at.there st.site at.row).0
+      row_ready =
+          (site_flows p.component (linked.parts p ip.0).limits ((linked.parts p ip.0).flow ip.1)
+          st.offset at.there st.site at.row).0
 
       pub stk_is : kind_of at.there Stk ≡ kind.Stk
       unfolding site_ready
@@ -232,14 +262,21 @@ module _ (g : Link) (linked : Linked g) where
 
       pub dat_is : kind_of at.there Dat ≡ kind.DataCap
       unfolding site_ready
-      dat_is = data_kind (kind_of at.there Dat) (and_parts (is_data (kind_of at.there Dat)) _ (and_parts (is_stk (kind_of at.there Stk)) _ row_ready).1).0
+      dat_is = data_kind (kind_of at.there Dat)
+          (and_parts (is_data (kind_of at.there Dat))
+          _ (and_parts (is_stk (kind_of at.there Stk)) _ row_ready).1).0
 
       pub passes_on : passes at.there ≡ true
       unfolding site_ready
-      passes_on = (and_parts (is_data (kind_of at.there Dat)) _ (and_parts (is_stk (kind_of at.there Stk)) _ row_ready).1).1
+      passes_on =
+          (and_parts (is_data (kind_of at.there Dat))
+          _ (and_parts (is_stk (kind_of at.there Stk)) _ row_ready).1).1
 
       c1_safe : IsSafe g fs o.maps.regs.c1
-      c1_safe = is_safe look (IsSafe g fs) (IsStackCell g fs) (ranges_of p) (safe_int g fs) (safe_stk g linked fs p ip) (kind_of at.there C1) (reg o.maps.regs C1) (and_parts (below_any (kind_of at.there C1)) _ passes_on).0 (at.fits.each C1 refl)
+      c1_safe =
+          is_safe look (IsSafe g fs) (IsStackCell g fs) (ranges_of p) (safe_int g fs)
+          (safe_stk g linked fs p ip) (kind_of at.there C1) (reg o.maps.regs C1)
+          (and_parts (below_any (kind_of at.there C1)) _ passes_on).0 (at.fits.each C1 refl)
 
       pub call_ready : AtSite g.layout i o
       call_ready =
@@ -257,12 +294,15 @@ module _ (g : Link) (linked : Linked g) where
             end = S.0;
             to = S.1;
             stk = S.2;
-            owned = λ a lo hi. stack_cells g linked o.maps.cells fs inv.there a (up.1 a (omega (arith, sb, lo)) hi);
+            owned = λ a lo hi.
+                stack_cells g linked o.maps.cells fs inv.there a (up.1 a (omega (arith, sb, lo)) hi);
             in_stack = top;
             small_stack = stack_small g linked;
             dat = rw (D.1) refl;
             foreign = λ w e. foreign fs w (subst (λ y. IsSafe g fs y) e c1_safe);
-            apart = λ d e q lo hi. pair_apart (regions g) g.layout o t inv.flat inv.once linear S.0 (record (stack_cap g.layout.stack.base S.0 0) { addr = S.1 }) d S.2 refl refl top e lo hi;
+            apart = λ d e q lo hi. pair_apart (regions g)
+                g.layout o t inv.flat inv.once linear S.0
+                (record (stack_cap g.layout.stack.base S.0 0) { addr = S.1 }) d S.2 refl refl top e lo hi;
             known = known;
           }
 
@@ -277,7 +317,9 @@ module _ (g : Link) (linked : Linked g) where
         let ins = st.inside in
         let r = entry_kind p off at.there e at.row in
         let safe : IsSafe g fs o.maps.regs.stk = (let h = at.fits.each Stk refl in rw r at h) in
-        let code : CodeStands p.component.code off (entry_code st.stands.fail off g.layout.stack.base) = subst (λ b. CodeStands p.component.code off (entry_code st.stands.fail off b)) (linked.stack_bases p ip) st.stands.entry in
+        let code : CodeStands p.component.code off (entry_code st.stands.fail off g.layout.stack.base) =
+        subst (λ b. CodeStands p.component.code off (entry_code st.stands.fail off b))
+        (linked.stack_bases p ip) st.stands.entry in
         record {
           base = (ranges_of p).code_base;
           end = (ranges_of p).code_last;
@@ -286,7 +328,8 @@ module _ (g : Link) (linked : Linked g) where
             offset = off;
             fail = st.stands.fail;
             at_is = ea;
-            code = stands p o.maps.cells (inv.code p ip) a off ea (entry_code st.stands.fail off g.layout.stack.base) code;
+            code = stands p o.maps.cells (inv.code p ip)
+                a off ea (entry_code st.stands.fail off g.layout.stack.base) code;
             ends = omega (arith, ea, ins, len);
             small = code_small g linked p ip;
             fails = fails_at p o.maps.cells st.stands.fail ip (inv.code p ip) st.stands.fail_is;
@@ -302,10 +345,15 @@ module _ (g : Link) (linked : Linked g) where
     unfolding faces
     pc_free p off ip h a e =
         let b = target_bounds (face_of (look o.maps.regs.pc)) a e in
-        let q : code_at (ranges_of p) off ≡ b.0 = (let x : Memory (code_at (ranges_of p) off) ≡ Memory b.0 = sym (ap face_of h) ∙ b.1 in cc) in
-        let lo : (ranges_of p).code_base ≤ a = (let y = ap (λ x. x.base) q in let z = b.2 in omega (arith, y, z)) in
-        let hi : a ≤ (ranges_of p).code_last = (let y = ap (λ x. x.end) q in let z = b.3 in omega (arith, y, z)) in
-        unframed g.layout o.maps.cells o.calls fs a inv.frames (λ l r. elim (stack_apart g linked p ip a l r) as (λ _. ⊥) [ inl x ↦ omega (arith, x, lo) | inr x ↦ omega (arith, x, hi) ])
+        let q : code_at (ranges_of p) off ≡ b.0 =
+        (let x : Memory (code_at (ranges_of p) off) ≡ Memory b.0 = sym (ap face_of h) ∙ b.1 in cc) in
+        let lo : (ranges_of p).code_base ≤ a =
+        (let y = ap (λ x. x.base) q in let z = b.2 in omega (arith, y, z)) in
+        let hi : a ≤ (ranges_of p).code_last =
+        (let y = ap (λ x. x.end) q in let z = b.3 in omega (arith, y, z)) in
+        unframed g.layout o.maps.cells o.calls fs a inv.frames
+        (λ l r. elim (stack_apart g linked p ip a l r) as (λ _. ⊥)
+        [ inl x ↦ omega (arith, x, lo) | inr x ↦ omega (arith, x, hi) ])
 
     safe_free : (w : OWord) (a : ℕ) → IsSafe g fs w → target_of (face_of (look w)) ≡ Some a
         → framed fs a ≡ None
@@ -320,7 +368,8 @@ module _ (g : Link) (linked : Linked g) where
         let s = lies_of g.layout o.maps.cells o.calls fs f inv.frames c in
         let k = inv.frames_fit f c in
         let z : f.base - f.base ≡ 0 = omega arith in
-        let first : slice_get f.words 0 ≡ Some (Plain (Mem (data_cap (ranges_of k.part) k.to))) = ap (slice_get f.words) (sym z) ∙ sym (word_of-within f f.base (omega arith)) ∙ k.first in
+        let first : slice_get f.words 0 ≡ Some (Plain (Mem (data_cap (ranges_of k.part) k.to))) =
+        ap (slice_get f.words) (sym z) ∙ sym (word_of-within f f.base (omega arith)) ∙ k.first in
         let words = first_of f.words (Plain (Mem (data_cap (ranges_of k.part) k.to))) first in
         record {
           above = s.above;
@@ -347,13 +396,17 @@ module _ (g : Link) (linked : Linked g) where
             → FramesLie g.layout o.maps.cells o.calls xs
             → (gs : List OpenFrame) × (fs ≡ f ∷ gs) × (n ≡ f.call)
         by_frames [] e h fr = absurd (frame_none n f h)
-        by_frames (x ∷ xs) e h fr = elim (frame_of-cons x xs n f h) as (λ _. (gs : List OpenFrame) × (fs ≡ f ∷ gs) × (n ≡ f.call)) [
-          | inl q ↦ (xs, e ∙ ap (λ y. y ∷ xs) q.1, sym q.0 ∙ ap (λ y. y.call) q.1)
-          | inr q ↦ (let below = below_all g.layout o.maps.cells o.calls x xs f fr (frame_in xs n f q.1).0 in
-              let s = fr.0 in let ab = s.above in let od = s.order in
-              let nothing : framed fs x.base ≡ None = cap.free x.base (omega (arith, ab, eb)) (omega (arith, below, ee, od)) in
-              absurd (framed_in g.layout o.maps.cells o.calls (x ∷ xs) x x.base fr (contains_first x xs) (omega arith) od (sym (ap (λ y. framed y x.base) e) ∙ nothing)))
-        ]
+        by_frames (x ∷ xs) e h fr =
+            elim (frame_of-cons x xs n f h) as (λ _. (gs : List OpenFrame) × (fs ≡ f ∷ gs) × (n ≡ f.call)) [
+              | inl q ↦ (xs, e ∙ ap (λ y. y ∷ xs) q.1, sym q.0 ∙ ap (λ y. y.call) q.1)
+              | inr q ↦
+                  (let below = below_all g.layout o.maps.cells o.calls x xs f fr (frame_in xs n f q.1).0 in
+                  let s = fr.0 in let ab = s.above in let od = s.order in
+                  let nothing : framed fs x.base ≡ None =
+                  cap.free x.base (omega (arith, ab, eb)) (omega (arith, below, ee, od)) in
+                  absurd (framed_in g.layout o.maps.cells o.calls (x ∷ xs) x x.base fr (contains_first x xs)
+                  (omega arith) od (sym (ap (λ y. framed y x.base) e) ∙ nothing)))
+            ]
 
     pub back_ready : (r1 r2 : Reg) (next : Word)
         → fetch (faces look o.maps Pc) (cell_faces look o.maps) ≡ some (Xjmp r1 r2) next
@@ -374,14 +427,23 @@ module _ (g : Link) (linked : Linked g) where
       ];
       one_seal = linked.one_seal;
       frames = λ f gs q. sound f (subst (λ y. Contains y f) (sym q) (contains_first f gs));
-      apart = λ f gs a w q h. frames_apart g.layout o.maps.cells o.calls f gs a w (subst (λ y. FramesLie g.layout o.maps.cells o.calls y) q inv.frames) h;
+      apart = λ f gs a w q h. frames_apart g.layout o.maps.cells o.calls f gs a w
+          (subst (λ y. FramesLie g.layout o.maps.cells o.calls y) q inv.frames) h;
       newest = newest (shown Stk refl (λ x. cc));
-      one_place = λ n q w er ew ne. (let c = opened r2 n er in one_place (regions g) g.layout o t inv.flat inv.once linear n c.0 c.1 c.2 c.3 c.4 c.5 c.6 r2 er q w ew ne);
-      in_frames = λ n a w er ew. (let c = opened r2 n er in in_no_frame (regions g) g.layout o t inv.flat inv.once linear n c.0 c.1 c.2 c.3 c.4 c.5 c.6 r2 er a w (gone a w ew) ew);
+      one_place =
+          λ n q w er ew ne.
+          (let c = opened r2 n er in one_place (regions g)
+          g.layout o t inv.flat inv.once linear n c.0 c.1 c.2 c.3 c.4 c.5 c.6 r2 er q w ew ne);
+      in_frames =
+          λ n a w er ew.
+          (let c = opened r2 n er in in_no_frame (regions g)
+          g.layout o t inv.flat inv.once linear n c.0 c.1 c.2 c.3 c.4 c.5 c.6 r2 er a w (gone a w ew) ew);
     }
       where
         opened : (r : Reg) (n : ℕ) → reg o.maps.regs r ≡ RetData n
-            → (f : OpenFrame) × (s : SiteCode) × (frame_of fs n ≡ Some f) × (site_code g.layout f.site ≡ Some s) × (g.layout.stack.base ≤ f.base) × (f.base ≤ f.end) × (f.end ≤ g.layout.stack.end)
+            → (f : OpenFrame) × (s : SiteCode) × (frame_of fs n ≡ Some f)
+            × (site_code g.layout f.site ≡ Some s) × (g.layout.stack.base ≤ f.base) × (f.base ≤ f.end)
+            × (f.end ≤ g.layout.stack.end)
         opened r n er =
             let c : IsMet g fs (RetData n) = inv.met (R r) (RetData n) (ap Some er) in
             let k = (frame_in fs n c.0 c.1).0 in
@@ -401,7 +463,8 @@ module _ (g : Link) (linked : Linked g) where
     data_free : (p : PartSeen) (a : ℕ) → IsTrusted g p → (ranges_of p).data_base ≤ a
         → a ≤ (ranges_of p).data_last → framed fs a ≡ None
     data_free p a ip lo hi = unframed g.layout o.maps.cells o.calls fs a inv.frames (λ l h.
-        let e = same_region g linked (data_region p) (stack_region g.layout) a (linked.data_there p ip) (stack_there g linked) lo hi l h in
+        let e = same_region g linked (data_region p) (stack_region g.layout) a (linked.data_there p ip)
+        (stack_there g linked) lo hi l h in
         let bad : false ≡ true = ap (λ r. r.linear) e in cc)
 
     ready_by : (c : Case) → View g fs o.maps c → ReadyFor g.layout o c
@@ -410,21 +473,35 @@ module _ (g : Link) (linked : Linked g) where
     ready_by (Entry a) (at_entry p off ip ea e at) = entry_ready p off a ip ea e at
     ready_by Other (failing next p off ip lt h e) = record {
       at_pc = pc_free p off ip h;
-      at_target = λ n nx a f q. (let same : some Fail next ≡ some n nx = sym e ∙ f in let i : Fail ≡ n = cc in let bad : None ≡ Some a = ap (λ x. target x (faces look o.maps)) i ∙ q in cc);
+      at_target =
+          λ n nx a f q.
+          (let same : some Fail next ≡ some n nx = sym e ∙ f in let i : Fail ≡ n =
+          cc in let bad : None ≡ Some a = ap (λ x. target x (faces look o.maps)) i ∙ q in cc);
     }
-    ready_by c (in_part p off ip ne ns at ec) = elim (fetched_case o.maps _ c ec) as (λ _. ReadyFor g.layout o c) [
-      | inl e ↦ rw e (record {
-        at_pc = pc_free p off ip at.at_pc;
-        at_target = λ n nx a f q. elim (glue_area g linked fs o.maps p ip (inv.code p ip) inv.cells off at ne ns n nx a f q) as (λ _. framed fs a ≡ None) [ inl d ↦ data_free p a ip d.0 d.1 | inr d ↦ d.2 ];
-      })
-      | inr e ↦ rw (e.3) (let sh = glue_shows g linked fs o.maps p ip (inv.code p ip) inv.cells off at ne ns e.0 e.1 e.2 e.4 in back_ready e.0 e.1 e.2 e.4 (pc_free p off ip at.at_pc) sh.0 sh.1 sh.2)
-    ]
+    ready_by c (in_part p off ip ne ns at ec) =
+        elim (fetched_case o.maps _ c ec) as (λ _. ReadyFor g.layout o c) [
+          | inl e ↦ rw e (record {
+            at_pc = pc_free p off ip at.at_pc;
+            at_target =
+                λ n nx a f q.
+                elim (glue_area g linked fs o.maps p ip (inv.code p ip) inv.cells off at ne ns n nx a f q)
+                as (λ _. framed fs a ≡ None) [ inl d ↦ data_free p a ip d.0 d.1 | inr d ↦ d.2 ];
+          })
+          | inr e ↦
+              rw (e.3) (let sh =
+              glue_shows g linked fs o.maps p ip (inv.code p ip) inv.cells off at ne ns e.0 e.1 e.2 e.4 in
+              back_ready e.0 e.1 e.2 e.4 (pc_free p off ip at.at_pc) sh.0 sh.1 sh.2)
+        ]
     ready_by c (out h ec) = elim (fetched_case o.maps _ c ec) as (λ _. ReadyFor g.layout o c) [
       | inl e ↦ rw e (record {
         at_pc = λ a q. safe_free o.maps.regs.pc a (h Pc) q;
-        at_target = λ n nx a f q. (let r = target_reg n (faces look o.maps) a q in safe_free (reg o.maps.regs r.0) a (h r.0) r.1);
+        at_target =
+            λ n nx a f q.
+            (let r = target_reg n (faces look o.maps) a q in safe_free (reg o.maps.regs r.0) a (h r.0) r.1);
       })
-      | inr e ↦ rw (e.3) (back_ready e.0 e.1 e.2 e.4 (λ a q. safe_free o.maps.regs.pc a (h Pc) q) (λ d _ _. h d) (h e.0) (h e.1))
+      | inr e ↦
+          rw (e.3) (back_ready e.0 e.1 e.2 e.4 (λ a q. safe_free o.maps.regs.pc a (h Pc) q) (λ d _ _. h d)
+          (h e.0) (h e.1))
     ]
 
     pub ready : ReadyFor g.layout o (case_of g.layout o.maps)

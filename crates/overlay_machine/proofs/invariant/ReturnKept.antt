@@ -97,7 +97,8 @@ return_goes l r1 r2 o q (RetCode i) (RetData k) (f ∷ fs) e1 e2 ef h =
       site_is = sym (ap (site_code l) ei) ∙ b.1;
       own = c.1;
       joins = eqb-true (c.0.end + 1) f.base d.0;
-      result = (let g : goes (resumed b.0 c.0 f fs (put o.maps (R r2) (zero_word Plain)) o) ≡ goes q = d.1 in cc);
+      result = (let g : goes (resumed b.0 c.0 f fs (put o.maps (R r2) (zero_word Plain)) o) ≡ goes q =
+          d.1 in cc);
     }
 return_goes l r1 r2 o q (RetCode i) (RetData k) [] e1 e2 ef h = cc
 return_goes l r1 r2 o q (RetCode i) (Plain w) fs e1 e2 ef h = cc
@@ -111,16 +112,19 @@ unfolding return_step
 returned l r1 r2 o q h = return_goes l r1 r2 o q _ _ _ refl refl refl h
 
 code_cap_is : (b e a c f d : ℕ) → b ≡ c → e ≡ f → a ≡ d → code_cap b e a ≡ code_cap c f d
-code_cap_is b e a c f d p q r = ap (λ x. code_cap x e a) p ∙ ap (λ x. code_cap c x a) q ∙ ap (λ x. code_cap c f x) r
+code_cap_is b e a c f d p q r =
+    ap (λ x. code_cap x e a) p ∙ ap (λ x. code_cap c x a) q ∙ ap (λ x. code_cap c f x) r
 
 -- an address before, past or in a stretch
 pub where_in : (a b e : ℕ) → ((a < b) ⊎ (e < a)) ⊎ ((b ≤ a) × (a ≤ e))
 where_in a b e = elim (cases_lt a b) as (λ _. ((a < b) ⊎ (e < a)) ⊎ ((b ≤ a) × (a ≤ e))) [
   | inl lt ↦ inl (inl lt)
-  | inr ge ↦ elim (cases_lt e a) as (λ _. ((a < b) ⊎ (e < a)) ⊎ ((b ≤ a) × (a ≤ e))) [ inl lt ↦ inl (inr lt) | inr le ↦ inr (ge, le) ]
+  | inr ge ↦ elim (cases_lt e a) as (λ _. ((a < b) ⊎ (e < a)) ⊎ ((b ≤ a) × (a ≤ e)))
+      [ inl lt ↦ inl (inr lt) | inr le ↦ inr (ge, le) ]
 ]
 
-module _ (g : Link) (linked : Linked g) (o : OState) (t : State Word) (inv : Invariant g o t) (r1 r2 : Reg) (q : OState) (x : Returned g.layout r1 r2 o q) (rd : AtReturn g.layout r1 r2 o)
+module _ (g : Link) (linked : Linked g) (o : OState) (t : State Word) (inv : Invariant g o t) (r1 r2 : Reg)
+    (q : OState) (x : Returned g.layout r1 r2 o q) (rd : AtReturn g.layout r1 r2 o)
     (shown : (d : Reg) → is_pc d ≡ false → d ≢ Dat → IsSafe g o.frames (reg o.maps.regs d)) where
   abbrev F : OpenFrame
   F = x.frame
@@ -152,7 +156,9 @@ module _ (g : Link) (linked : Linked g) (o : OState) (t : State Word) (inv : Inv
   same_site : fit.code ≡ x.site
   same_site = let e : Some fit.code ≡ Some x.site = sym fit.code_is ∙ x.site_is in cc
 
-  own : (look o.maps.regs.stk ≡ Mem x.cap) × (x.cap ≡ record { perm = Rw; lin = Linear; base = g.layout.stack.base; end = x.cap.end; addr = x.cap.addr })
+  own : (look o.maps.regs.stk ≡ Mem x.cap)
+      × (x.cap ≡ record
+      { perm = Rw; lin = Linear; base = g.layout.stack.base; end = x.cap.end; addr = x.cap.addr })
   own = own_is g.layout o.maps x.cap x.own
 
   cap_safe : IsSafeCap g (F ∷ gs) x.cap
@@ -187,7 +193,9 @@ module _ (g : Link) (linked : Linked g) (o : OState) (t : State Word) (inv : Inv
           omega (arith, sb, low),
           omega (arith, high, top),
           elim (cases_lt a F.base) as (λ _. framed gs a ≡ None) [
-            | inl lt ↦ none_rest F gs a (cap_safe.free a (let b = base_is in omega (arith, sb, b, low)) (omega (arith, lt, j)))
+            | inl lt ↦
+                none_rest F gs a
+                (cap_safe.free a (let b = base_is in omega (arith, sb, b, low)) (omega (arith, lt, j)))
             | inr ge ↦ older_free a ge high
           ],
         )),
@@ -205,14 +213,20 @@ module _ (g : Link) (linked : Linked g) (o : OState) (t : State Word) (inv : Inv
     t2 = zero_word Plain;
   }
 
-  stk_is : Mem (record x.cap { end = F.end; addr = pos F.base }) ≡ Mem (stack_cap (ranges_of fit.part) F.end (pos F.base))
-  stk_is = ap (λ y. Mem (record y { end = F.end; addr = pos F.base })) own.1 ∙ ap (λ b. Mem (record { perm = Rw; lin = Linear; base = b; end = F.end; addr = pos F.base })) (sym (linked.stack_bases fit.part fit.trusted))
+  stk_is : Mem (record x.cap { end = F.end; addr = pos F.base })
+      ≡ Mem (stack_cap (ranges_of fit.part) F.end (pos F.base))
+  stk_is = ap (λ y. Mem (record y { end = F.end; addr = pos F.base })) own.1
+      ∙ ap (λ b. Mem (record { perm = Rw; lin = Linear; base = b; end = F.end; addr = pos F.base }))
+      (sym (linked.stack_bases fit.part fit.trusted))
 
   zeroed_safe : (d : Reg) → is_pc d ≡ false → d ≢ Dat → IsSafe g gs (reg zeroed d)
   zeroed_safe d p ne = elim (cases_reg d r2) as (λ _. IsSafe g gs (reg zeroed d)) [
-    | inl e ↦ subst (λ w. IsSafe g gs w) (sym (ap (reg zeroed) e ∙ reg-set_same o.maps.regs r2 (zero_word Plain))) tt
+    | inl e ↦
+        subst (λ w. IsSafe g gs w) (sym (ap (reg zeroed) e ∙ reg-set_same o.maps.regs r2 (zero_word Plain)))
+        tt
     | inr nq ↦ subst (λ w. IsSafe g gs w) (sym (reg-set_other o.maps.regs r2 d (zero_word Plain) nq))
-        (popped g F gs (reg o.maps.regs d) (here _ (shown d p ne)) (rd.one_place F.call (R d) (reg o.maps.regs d) x.data_is refl (λ e. nq (reg_of_place d r2 e))))
+        (popped g F gs (reg o.maps.regs d) (here _ (shown d p ne))
+        (rd.one_place F.call (R d) (reg o.maps.regs d) x.data_is refl (λ e. nq (reg_of_place d r2 e))))
   ]
     where
       reg_of_place : (a b : Reg) → R a ≡ R b → a ≡ b
@@ -221,7 +235,9 @@ module _ (g : Link) (linked : Linked g) (o : OState) (t : State Word) (inv : Inv
   safe_after : (d : Reg) → is_pc d ≡ false → d ≢ Dat → IsSafe g gs (reg after d)
   safe_after Pc p ne = cc
   safe_after Dat p ne = absurd (ne refl)
-  safe_after Stk p ne = subst (λ w. IsSafe g gs (Plain w)) (sym stk_is) (stk_cap_safe g linked gs fit.part F.end (pos F.base) fit.trusted up)
+  safe_after Stk p ne =
+      subst (λ w. IsSafe g gs (Plain w)) (sym stk_is)
+      (stk_cap_safe g linked gs fit.part F.end (pos F.base) fit.trusted up)
   safe_after T1 p ne = tt
   safe_after T2 p ne = tt
   safe_after Rcode p ne = zeroed_safe Rcode refl (λ e. cc)
@@ -240,7 +256,8 @@ module _ (g : Link) (linked : Linked g) (o : OState) (t : State Word) (inv : Inv
   saved = Plain (Mem (data_cap (ranges_of fit.part) fit.to))
 
   head_is : slice_get F.words 0 ≡ Some saved
-  head_is = let z : F.base - F.base ≡ 0 = omega arith in ap (slice_get F.words) (sym z) ∙ sym (word_of-within F F.base (omega arith)) ∙ fit.first
+  head_is = let z : F.base - F.base ≡ 0 =
+      omega arith in ap (slice_get F.words) (sym z) ∙ sym (word_of-within F F.base (omega arith)) ∙ fit.first
 
   words_are : F.words ≡ saved ∷ rest_words F.words
   words_are = by_words F.words head_is
@@ -257,12 +274,17 @@ module _ (g : Link) (linked : Linked g) (o : OState) (t : State Word) (inv : Inv
       let st = fit.site in
       let ins = st.inside in
       let part = linked.parts fit.part (fit.trusted).0 in
-      let leads = (site_flows fit.part.component part.limits (part.flow (fit.trusted).1) off fit.there st.site fit.row).1 in
+      let leads =
+      (site_flows fit.part.component part.limits (part.flow (fit.trusted).1)
+      off fit.there st.site fit.row).1 in
       let bi : x.site.base ≡ (ranges_of fit.part).code_base = ap (λ y. y.base) (sym same_site) ∙ st.base_is in
       let ei : x.site.end ≡ (ranges_of fit.part).code_last = ap (λ y. y.end) (sym same_site) ∙ st.end_is in
-      let far : x.site.at + 26 ≡ (ranges_of fit.part).code_base + (off + 26) = (let a = st.at_is in let b = ap (λ y. y.at) same_site in omega (arith, a, b)) in
-      stands_clean g linked gs fit.part fit.trusted after (off + 26) leads (ap Mem (code_cap_is _ _ _ _ _ _ bi ei far))
-      (clean_fits g linked gs fit.part fit.trusted after F.end (pos F.base) fit.to stk_is up (ap look first_is) refl refl safe_after)
+      let far : x.site.at + 26 ≡ (ranges_of fit.part).code_base + (off + 26) =
+      (let a = st.at_is in let b = ap (λ y. y.at) same_site in omega (arith, a, b)) in
+      stands_clean g linked gs fit.part fit.trusted after (off + 26)
+      leads (ap Mem (code_cap_is _ _ _ _ _ _ bi ei far))
+      (clean_fits g linked gs fit.part fit.trusted after F.end (pos F.base)
+      fit.to stk_is up (ap look first_is) refl refl safe_after)
 
   -- ---- cells
 
@@ -283,21 +305,31 @@ module _ (g : Link) (linked : Linked g) (o : OState) (t : State Word) (inv : Inv
   other_in a w e = rd.in_frames F.call a w x.data_is (framed_here a w e)
 
   cell_in : (a : ℕ) → F.base ≤ a → a ≤ F.end → (w : OWord) × (cell back_cells a ≡ Some w) × IsSafe g gs w
-  cell_in a low high = elim (cases_lt F.base a) as (λ _. (w : OWord) × (cell back_cells a ≡ Some w) × IsSafe g gs w) [
-    | inl lt ↦ later (a - F.base - 1) (omega (arith, lt)) lt
-    | inr ge ↦ (zero_word Plain, (let e : F.base + 0 ≡ a = omega (arith, low, ge) in subst (λ y. cell back_cells y ≡ Some (zero_word Plain)) e (put_back-in m F.base ws 0 (omega arith))), tt)
-  ]
+  cell_in a low high =
+      elim (cases_lt F.base a) as (λ _. (w : OWord) × (cell back_cells a ≡ Some w) × IsSafe g gs w) [
+        | inl lt ↦ later (a - F.base - 1) (omega (arith, lt)) lt
+        | inr ge ↦ (
+          zero_word Plain,
+          (let e : F.base + 0 ≡ a =
+              omega (arith, low, ge) in subst (λ y. cell back_cells y ≡ Some (zero_word Plain))
+              e (put_back-in m F.base ws 0 (omega arith))),
+          tt,
+        )
+      ]
     where
       later : (i : ℕ) → F.base + suc i ≡ a → F.base < a
           → (w : OWord) × (cell back_cells a ≡ Some w) × IsSafe g gs w
       later i e lt =
           let v = has_word g.layout m F a lies low high in
           let d : a - F.base ≡ suc i = omega (arith, e) in
-          let at : slice_get (rest_words F.words) i ≡ Some v.0 = sym (word_of-within F a low ∙ ap (slice_get F.words) d ∙ ap (λ ys. slice_get ys (suc i)) words_are) ∙ v.1 in
+          let at : slice_get (rest_words F.words) i ≡ Some v.0 =
+          sym (word_of-within F a low ∙ ap (slice_get F.words) d
+          ∙ ap (λ ys. slice_get ys (suc i)) words_are) ∙ v.1 in
           let inside : suc i < length ws = (let l = long in omega (arith, l, e, high)) in (
             v.0,
             subst (λ y. cell back_cells y ≡ Some v.0) e (put_back-in m F.base ws (suc i) inside ∙ at),
-            popped g F gs v.0 (fit.others a v.0 lt v.1) (other_in a v.0 (framed_at g.layout m o.calls (F ∷ gs) F a v.0 k (contains_first F gs) v.1)),
+            popped g F gs v.0 (fit.others a v.0 lt v.1)
+                (other_in a v.0 (framed_at g.layout m o.calls (F ∷ gs) F a v.0 k (contains_first F gs) v.1)),
           )
 
   frame_out : (a : ℕ) → (a < F.base) ⊎ (F.end < a) → word_of F a ≡ None
@@ -309,38 +341,61 @@ module _ (g : Link) (linked : Linked g) (o : OState) (t : State Word) (inv : Inv
     where
       by_word : (w : Option OWord) → framed gs a ≡ w → w ≡ None
       by_word None e = refl
-      by_word (Some w) e = (let v = has_word g.layout m F a lies low high in let bad : Some v.0 ≡ None = sym v.1 ∙ frames_apart g.layout m o.calls F gs a w k e in cc)
+      by_word (Some w) e =
+          (let v = has_word g.layout m F a lies low high in let bad : Some v.0 ≡ None =
+          sym v.1 ∙ frames_apart g.layout m o.calls F gs a w k e in cc)
 
   in_stack_region : (a : ℕ) → F.base ≤ a → a ≤ F.end → in_regions a (regions g) ≡ true
-  in_stack_region a low high = in_regions_is a (regions g) (stack_region g.layout) (stack_there g linked) (let x = lies.above in omega (arith, x, low)) (let x = lies.within in omega (arith, x, high))
+  in_stack_region a low high = in_regions_is a (regions g) (stack_region g.layout) (stack_there g linked)
+      (let x = lies.above in omega (arith, x, low)) (let x = lies.within in omega (arith, x, high))
 
   there_after : (a : ℕ) → is_some (cell back_cells a) ≡ has_cell g gs a
   there_after a = elim (where_in a F.base F.end) as (λ _. is_some (cell back_cells a) ≡ has_cell g gs a) [
-    | inl out ↦ ap is_some (cell_out a out) ∙ inv.there a ∙ ap (λ y. in_regions a (regions g) && not (is_some (framed y a))) x.frames_are ∙ ap (λ y. in_regions a (regions g) && not (is_some (option_or y (framed gs a)))) (frame_out a out)
-    | inr inn ↦ ap is_some (cell_in a inn.0 inn.1).1 ∙ sym (ap (λ y. in_regions a (regions g) && not (is_some y)) (older_none a inn.0 inn.1) ∙ ap (λ b. b && true) (in_stack_region a inn.0 inn.1))
+    | inl out ↦
+        ap is_some (cell_out a out) ∙ inv.there a
+        ∙ ap (λ y. in_regions a (regions g) && not (is_some (framed y a))) x.frames_are
+        ∙ ap (λ y. in_regions a (regions g) && not (is_some (option_or y (framed gs a)))) (frame_out a out)
+    | inr inn ↦
+        ap is_some (cell_in a inn.0 inn.1).1
+        ∙ sym (ap (λ y. in_regions a (regions g) && not (is_some y)) (older_none a inn.0 inn.1)
+        ∙ ap (λ b. b && true) (in_stack_region a inn.0 inn.1))
   ]
 
   code_out : (p : PartSeen) (n : ℕ) → IsTrusted g p → n < length p.component.code
       → (p.component.code_base + n < F.base) ⊎ (F.end < p.component.code_base + n)
-  code_out p n ip lt = elim (where_in (p.component.code_base + n) F.base F.end) as (λ _. (p.component.code_base + n < F.base) ⊎ (F.end < p.component.code_base + n)) [
-    | inl out ↦ out
-    | inr inn ↦ absurd (closed g linked p ip (p.component.code_base + n) (omega arith) (in_code g linked p n ip lt)
-        (open_stack_at g linked (p.component.code_base + n) (let a = lies.above in let b = inn.0 in omega (arith, a, b)) (let a = lies.within in let b = inn.1 in omega (arith, a, b))))
-  ]
+  code_out p n ip lt =
+      elim (where_in (p.component.code_base + n) F.base F.end)
+      as (λ _. (p.component.code_base + n < F.base) ⊎ (F.end < p.component.code_base + n)) [
+        | inl out ↦ out
+        | inr inn ↦
+            absurd (closed g linked p ip (p.component.code_base + n) (omega arith)
+            (in_code g linked p n ip lt)
+            (open_stack_at g linked (p.component.code_base + n)
+            (let a = lies.above in let b = inn.0 in omega (arith, a, b))
+            (let a = lies.within in let b = inn.1 in omega (arith, a, b))))
+      ]
 
   cells_after : (a : ℕ) (w : OWord) → IsOpenAt g a → cell back_cells a ≡ Some w → IsSafe g gs w
   cells_after a w op e = elim (where_in a F.base F.end) as (λ _. IsSafe g gs w) [
-    | inl out ↦ (let c : cell m a ≡ Some w = sym (cell_out a out) ∙ e in popped g F gs w (here w (inv.cells a w op c)) (rd.one_place F.call (Cell a) w x.data_is c (λ y. cc)))
-    | inr inn ↦ (let v = cell_in a inn.0 inn.1 in let s : Some v.0 ≡ Some w = sym v.1 ∙ e in let r : v.0 ≡ w = cc in subst (λ y. IsSafe g gs y) r v.2)
+    | inl out ↦
+        (let c : cell m a ≡ Some w = sym (cell_out a out) ∙ e in popped g F gs w (here w (inv.cells a w op c))
+        (rd.one_place F.call (Cell a) w x.data_is c (λ y. cc)))
+    | inr inn ↦
+        (let v = cell_in a inn.0 inn.1 in let s : Some v.0 ≡ Some w = sym v.1 ∙ e in let r : v.0 ≡ w =
+        cc in subst (λ y. IsSafe g gs y) r v.2)
   ]
 
   pub return_kept : Stand g q
   return_kept = subst (λ y. Stand g y) (sym x.result) (record {
     pc = at_row fit.part (off + 26) fit.trusted stands_after;
     there = there_after;
-    code = λ p ip n w e. cell_out (p.component.code_base + n) (code_out p n ip (slice_get_within p.component.code n w e)) ∙ inv.code p ip n w e;
+    code = λ p ip n w e. cell_out (p.component.code_base + n)
+        (code_out p n ip (slice_get_within p.component.code n w e)) ∙ inv.code p ip n w e;
     cells = cells_after;
-    frames = frames_up g.layout back_cells F.call o.calls gs (let c = k.1 in omega (arith, c)) (return_keeps g.layout m o.calls F gs ws long k);
-    frames_fit = λ h c. fits_popped g F gs h (λ a w e. other_in a w (framed_at g.layout m o.calls (F ∷ gs) h a w k (contains_rest F h gs c) e))
+    frames = frames_up g.layout back_cells F.call o.calls gs (let c = k.1 in omega (arith, c))
+        (return_keeps g.layout m o.calls F gs ws long k);
+    frames_fit =
+        λ h c. fits_popped g F gs h
+        (λ a w e. other_in a w (framed_at g.layout m o.calls (F ∷ gs) h a w k (contains_rest F h gs c) e))
         (subst (λ y. FrameFits g y h) x.frames_are (inv.frames_fit h (in_all h (contains_rest F h gs c))));
   })

@@ -30,15 +30,41 @@ below_runs Rwx q h e = (and_parts (may_write q) (may_run q) h).1
 -- a seal of a part's stretch is one of the part
 own_seal : (p : PartSeen) (n : ℕ) → p.component.seals.base ≤ n
     → n < p.component.seals.base + p.component.seals.count → IsTrue (is_seal_of p n)
-own_seal p n low high = rw (le-leb p.component.seals.base n low, lt-ltb n (p.component.seals.base + p.component.seals.count) high) (or_right (p.component.closure == n) true refl)
+own_seal p n low high =
+    rw (le-leb p.component.seals.base n low, lt-ltb n (p.component.seals.base + p.component.seals.count) high)
+    (or_right (p.component.closure == n) true refl)
 
 module _ (g : Link) (linked : Linked g) (fs : List OpenFrame) where
   less : (c : CapFields) (p : Perm) → is_below p c.perm ≡ true → IsSafeCap g fs c
       → IsSafeCap g fs (record c { perm = p })
-  less c p b h = record { area = h.area; runs = h.runs; usable = h.usable; low = h.low; order = h.order; high = h.high; lin = h.lin; may = λ r. h.may (below_runs p c.perm b r); free = h.free }
+  less c p b h =
+      record {
+        area = h.area;
+        runs = h.runs;
+        usable = h.usable;
+        low = h.low;
+        order = h.order;
+        high =
+            h.high;
+        lin = h.lin;
+        may = λ r. h.may (below_runs p c.perm b r);
+        free = h.free;
+      }
 
   move_to : (c : CapFields) (z : ℤ) → IsSafeCap g fs c → IsSafeCap g fs (record c { addr = z })
-  move_to c z h = record { area = h.area; runs = h.runs; usable = h.usable; low = h.low; order = h.order; high = h.high; lin = h.lin; may = h.may; free = h.free }
+  move_to c z h =
+      record {
+        area = h.area;
+        runs = h.runs;
+        usable = h.usable;
+        low = h.low;
+        order = h.order;
+        high =
+            h.high;
+        lin = h.lin;
+        may = h.may;
+        free = h.free;
+      }
 
   low_part : (c : CapFields) (z : ℤ) → can_split c z ≡ true → IsSafeCap g fs c
       → IsSafeCap g fs (record c { end = address z })
@@ -47,7 +73,18 @@ module _ (g : Link) (linked : Linked g) (fs : List OpenFrame) where
       let x = k.0 in
       let y = k.1 in
       let u = h.high in
-      record { area = h.area; runs = h.runs; usable = h.usable; low = h.low; order = x; high = omega (arith, u, y); lin = h.lin; may = h.may; free = λ a l r. h.free a l (omega (arith, r, y)) }
+      record {
+        area = h.area;
+        runs = h.runs;
+        usable = h.usable;
+        low = h.low;
+        order = x;
+        high =
+            omega (arith, u, y);
+        lin = h.lin;
+        may = h.may;
+        free = λ a l r. h.free a l (omega (arith, r, y));
+      }
 
   high_part : (c : CapFields) (z : ℤ) → can_split c z ≡ true → IsSafeCap g fs c
       → IsSafeCap g fs (record c { base = address z + 1 })
@@ -56,7 +93,19 @@ module _ (g : Link) (linked : Linked g) (fs : List OpenFrame) where
       let x = k.0 in
       let y = k.1 in
       let l = h.low in
-      record { area = h.area; runs = h.runs; usable = h.usable; low = omega (arith, l, x); order = omega (arith, y); high = h.high; lin = h.lin; may = h.may; free = λ a lo r. h.free a (omega (arith, lo, x)) r }
+      record {
+        area = h.area;
+        runs = h.runs;
+        usable = h.usable;
+        low = omega (arith, l, x);
+        order =
+            omega (arith, y);
+        high = h.high;
+        lin = h.lin;
+        may = h.may;
+        free =
+            λ a lo r. h.free a (omega (arith, lo, x)) r;
+      }
 
   -- two regions with no address between them are one
   one_area : (a b : CapFields) → a.end + 1 ≡ b.base → (h : IsSafeCap g fs a) (k : IsSafeCap g fs b)
@@ -68,7 +117,8 @@ module _ (g : Link) (linked : Linked g) (fs : List OpenFrame) where
       let l' = k.low in
       let o' = k.order in
       let u' = k.high in
-      elim (linked.apart h.area k.area (linked.usable h.area h.runs h.usable) (linked.usable k.area k.runs k.usable)) as (λ _. h.area ≡ k.area) [
+      elim (linked.apart h.area k.area (linked.usable h.area h.runs h.usable)
+      (linked.usable k.area k.runs k.usable)) as (λ _. h.area ≡ k.area) [
         | inl same ↦ same
         | inr (inl apart) ↦ absurd (omega (arith, u, l', e, apart))
         | inr (inr apart) ↦ absurd (omega (arith, l, o, o', u', e, apart))
@@ -90,7 +140,8 @@ module _ (g : Link) (linked : Linked g) (fs : List OpenFrame) where
         high = k.high;
         lin = k.lin;
         may = k.may;
-        free = λ x y z. elim (cases_lt x b.base) as (λ _. framed fs x ≡ None) [ inl lt ↦ h.free x y (omega (arith, lt, e)) | inr ge ↦ k.free x ge z ];
+        free = λ x y z. elim (cases_lt x b.base) as (λ _. framed fs x ≡ None)
+            [ inl lt ↦ h.free x y (omega (arith, lt, e)) | inr ge ↦ k.free x ge z ];
       }
 
   turn : (c : SealFields) (z : ℤ) → AreSafeSeals g c → AreSafeSeals g (record c { cur = z })
@@ -114,6 +165,8 @@ module _ (g : Link) (linked : Linked g) (fs : List OpenFrame) where
     cut_low = λ w c z e b h. low_part c z b (mem_safe g fs w c e h);
     cut_high = λ w c z e b h. high_part c z b (mem_safe g fs w c e h);
     joined = λ u v a b eu ev s j hu hv. join a b j (mem_safe g fs u a eu hu) (mem_safe g fs v b ev hv);
-    sealed_memory = λ u v c q eu ev b hu hv. inl (open_seal q b (seals_safe g fs v q ev hv), mem_safe g fs u c eu hu);
-    sealed_seals = λ u v c q eu ev b hu hv. inl (open_seal q b (seals_safe g fs v q ev hv), seals_safe g fs u c eu hu);
+    sealed_memory =
+        λ u v c q eu ev b hu hv. inl (open_seal q b (seals_safe g fs v q ev hv), mem_safe g fs u c eu hu);
+    sealed_seals =
+        λ u v c q eu ev b hu hv. inl (open_seal q b (seals_safe g fs v q ev hv), seals_safe g fs u c eu hu);
   }

@@ -14,7 +14,8 @@ use Rattle.call_sequence.specs.SequenceRuns.{Outside, HasCall, HasReturn, HasEnt
 
 module _ (a : ℕ) (t : State Word) (base last : ℕ) (out : Outside a base last) where
   differs : (q : ℕ) → base ≤ q → q ≤ last → q ≢ a
-  differs q low high = elim out as (λ _. q ≢ a) [ inl x ↦ omega (arith, x, low) | inr x ↦ omega (arith, x, high) ]
+  differs q low high =
+      elim out as (λ _. q ≢ a) [ inl x ↦ omega (arith, x, low) | inr x ↦ omega (arith, x, high) ]
 
   there : (q : ℕ) (x : Word) → base ≤ q → q ≤ last → cell t.cells q ≡ Some x
       → cell (lacking a t).cells q ≡ Some x
@@ -39,7 +40,8 @@ module _ (a : ℕ) (t : State Word) (base last : ℕ) (out : Outside a base last
         literal = h.literal;
         number = h.number;
         at_is = h.at_is;
-        code = stands at (call_code h.literal h.offset h.number) (omega (arith, ai)) (omega (arith, en)) h.code;
+        code = stands at (call_code h.literal h.offset h.number) (omega (arith, ai)) (omega (arith, en))
+            h.code;
         ends = h.ends;
         small = h.small;
         literal_in = h.literal_in;
@@ -55,7 +57,8 @@ module _ (a : ℕ) (t : State Word) (base last : ℕ) (out : Outside a base last
 
   fails_lacking : (fail : ℕ) → FailsAt (λ w. w) t.cells base last fail
       → FailsAt (λ w. w) (lacking a t).cells base last fail
-  fails_lacking fail h = let en = h.1 in (stands (base + fail) (Fail ∷ []) (omega arith) (omega (arith, en)) h.0, h.1)
+  fails_lacking fail h = let en =
+      h.1 in (stands (base + fail) (Fail ∷ []) (omega arith) (omega (arith, en)) h.0, h.1)
 
   pub return_lacking : (at stack_base : ℕ) → HasReturn (λ w. w) t.cells base last at stack_base
       → HasReturn (λ w. w) (lacking a t).cells base last at stack_base
@@ -67,7 +70,8 @@ module _ (a : ℕ) (t : State Word) (base last : ℕ) (out : Outside a base last
         offset = h.offset;
         fail = h.fail;
         at_is = h.at_is;
-        code = stands at (return_code h.fail h.offset stack_base) (omega (arith, ai)) (omega (arith, en)) h.code;
+        code = stands at (return_code h.fail h.offset stack_base) (omega (arith, ai)) (omega (arith, en))
+            h.code;
         ends = h.ends;
         small = h.small;
         fails = fails_lacking h.fail h.fails;
@@ -83,7 +87,8 @@ module _ (a : ℕ) (t : State Word) (base last : ℕ) (out : Outside a base last
         offset = h.offset;
         fail = h.fail;
         at_is = h.at_is;
-        code = stands at (entry_code h.fail h.offset stack_base) (omega (arith, ai)) (omega (arith, en)) h.code;
+        code = stands at (entry_code h.fail h.offset stack_base) (omega (arith, ai)) (omega (arith, en))
+            h.code;
         ends = h.ends;
         small = h.small;
         fails = fails_lacking h.fail h.fails;

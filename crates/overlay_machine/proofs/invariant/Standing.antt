@@ -23,7 +23,8 @@ pub record Stand (g : Link) (o : OState) : Type 0 where
   pub frames : FramesLie g.layout o.maps.cells o.calls o.frames
   pub frames_fit : (f : OpenFrame) → Contains o.frames f → FrameFits g o.frames f
 
-pub whole : (g : Link) (o : OState) (t : State Word) → Stand g o → IsFlat g.layout o t → Looks g.layout o → HeldOnce (λ w. w) (regions g) t → Invariant g o t
+pub whole : (g : Link) (o : OState) (t : State Word) → Stand g o → IsFlat g.layout o t → Looks g.layout o
+    → HeldOnce (λ w. w) (regions g) t → Invariant g o t
 whole g o t s flat looks once = record {
   flat = flat;
   pc = s.pc;

@@ -60,7 +60,8 @@ pub data View (g : Link) (fs : List OpenFrame) (s : State OWord) : Case → Type
 -- the word of one instruction isn't that of another
 pub one_word : (i j : Instr) → IsInstr i → IsInstr j
     → Some (Int (pos (number_of i))) ≡ Some (Int (pos (number_of j))) → Some i ≡ Some j
-one_word i j oi oj e = let n : number_of i ≡ number_of j = cc in sym (decode_of-number_of i oi) ∙ ap (λ k. decode_of (pos k)) n ∙ decode_of-number_of j oj
+one_word i j oi oj e = let n : number_of i ≡ number_of j =
+    cc in sym (decode_of-number_of i oi) ∙ ap (λ k. decode_of (pos k)) n ∙ decode_of-number_of j oj
 
 -- the first instruction of code that stands in words
 pub first_stands : (words : List Word) (at : ℕ) (i : Instr) (code : List Instr) → slice_get code 0 ≡ Some i
@@ -71,21 +72,27 @@ module _ (g : Link) (linked : Linked g) where
   -- a site at an offset of a part is one of that part
   pub site_of : (p : PartSeen) (o j : ℕ) → IsTrusted g p → o < length p.component.code
       → site_at g.layout (p.component.code_base + o) ≡ Some j
-      → (u : SiteCode) × (site_code g.layout j ≡ Some u) × (index : ℕ) × (st : SiteOf p index u) × (st.offset ≡ o)
+      → (u : SiteCode) × (site_code g.layout j ≡ Some u) × (index : ℕ) × (st : SiteOf p index u)
+      × (st.offset ≡ o)
   site_of p o j ip lt e =
       let f = linked.site_found j (p.component.code_base + o) e in
       let k = linked.sites j f.0 f.1 in
       let st = k.3 in
-      let low : (ranges_of k.0).code_base ≤ p.component.code_base + o = (let a = st.at_is in let b = f.2 in omega (arith, a, b)) in
+      let low : (ranges_of k.0).code_base ≤ p.component.code_base + o =
+      (let a = st.at_is in let b = f.2 in omega (arith, a, b)) in
       let lt' : st.offset < length k.0.component.code = (let i = st.inside in omega (arith, i)) in
-      let top : (ranges_of k.0).code_base + st.offset ≤ (ranges_of k.0).code_last = in_code g linked k.0 st.offset k.2 lt' in
-      let high : p.component.code_base + o ≤ (ranges_of k.0).code_last = (let a = st.at_is in let b = f.2 in omega (arith, a, b, top)) in
-      let same : k.0 ≡ p = one_part g linked k.0 p (p.component.code_base + o) k.2 ip low high (omega arith) (in_code g linked p o ip lt) in
+      let top : (ranges_of k.0).code_base + st.offset ≤ (ranges_of k.0).code_last =
+      in_code g linked k.0 st.offset k.2 lt' in
+      let high : p.component.code_base + o ≤ (ranges_of k.0).code_last =
+      (let a = st.at_is in let b = f.2 in omega (arith, a, b, top)) in
+      let same : k.0 ≡ p = one_part g linked k.0 p (p.component.code_base + o) k.2 ip low high (omega arith)
+      (in_code g linked p o ip lt) in
       moved k.0 p same k.1 f.0 st o (f.2) f.1
     where
       moved : (q r : PartSeen) → q ≡ r → (index : ℕ) (u : SiteCode) → SiteOf q index u → (o : ℕ)
           → u.at ≡ r.component.code_base + o → site_code g.layout j ≡ Some u
-          → (u : SiteCode) × (site_code g.layout j ≡ Some u) × (index : ℕ) × (st : SiteOf r index u) × (st.offset ≡ o)
+          → (u : SiteCode) × (site_code g.layout j ≡ Some u) × (index : ℕ) × (st : SiteOf r index u)
+          × (st.offset ≡ o)
       moved q r same index u st o at is =
           let st' : SiteOf r index u = subst (λ x. SiteOf x index u) same st in
           (u, is, index, st', (let a = st'.at_is in omega (arith, a, at)))
@@ -102,7 +109,8 @@ module _ (g : Link) (linked : Linked g) where
         by_owner c None e q = refl
         by_owner c (Some x) e q =
             let k = linked.owners c x q in
-            absurd (not_trusted g linked fs k.0 c k.1 (mem_safe g fs s.regs.pc c e h) (ap (λ x. x.base) k.2) (ap (λ x. x.end) k.2))
+            absurd (not_trusted g linked fs k.0 c k.1 (mem_safe g fs s.regs.pc c e h) (ap (λ x. x.base) k.2)
+            (ap (λ x. x.end) k.2))
 
         by_sealed : (o : ℕ) (c : Sealable) → trusted_at g.layout (face_of (Sealed o c)) ≡ None
         by_sealed o (MemIn m) = refl
@@ -114,71 +122,99 @@ module _ (g : Link) (linked : Linked g) where
         by_look (Seal c) e = refl
         by_look (Sealed o c) e = by_sealed o c
 
-  module _ (fs : List OpenFrame) (s : State OWord) (code : (p : PartSeen) → IsTrusted g p → CodeIn p s.cells) where
-    abbrev Got : Fetched
-    Got = fetch (faces look s Pc) (cell_faces look s)
+  module _ (fs : List OpenFrame) (s : State OWord) (code : (p : PartSeen) → IsTrusted g p → CodeIn p s.cells)
+    where
+      abbrev Got : Fetched
+      Got = fetch (faces look s Pc) (cell_faces look s)
 
-    pub pc_trusted : (p : PartSeen) (o : ℕ) → IsTrusted g p → o < length p.component.code
-        → PcAt look (ranges_of p) o s.regs
-        → trusted_at g.layout (faces look s Pc) ≡ Some (p.component.code_base + o)
-    unfolding faces
-    pc_trusted p o ip lt h =
-        let low : p.component.code_base ≤ p.component.code_base + o = omega arith in
-        let high : p.component.code_base + o ≤ (ranges_of p).code_last = in_code g linked p o ip lt in
-        rw (h, linked.owned p (pos (p.component.code_base + o)) ip, le-leb p.component.code_base (p.component.code_base + o) low, le-leb (p.component.code_base + o) (ranges_of p).code_last high) refl
+      pub pc_trusted : (p : PartSeen) (o : ℕ) → IsTrusted g p → o < length p.component.code
+          → PcAt look (ranges_of p) o s.regs
+          → trusted_at g.layout (faces look s Pc) ≡ Some (p.component.code_base + o)
+      unfolding faces
+      pc_trusted p o ip lt h =
+          let low : p.component.code_base ≤ p.component.code_base + o = omega arith in
+          let high : p.component.code_base + o ≤ (ranges_of p).code_last = in_code g linked p o ip lt in
+          rw (
+            h,
+            linked.owned p (pos (p.component.code_base + o))
+                ip,
+            le-leb p.component.code_base (p.component.code_base + o)
+                low,
+            le-leb (p.component.code_base + o) (ranges_of p).code_last high,
+          ) refl
 
-    -- the word at a part's fail is no site's and no entry's first
-    fail_fetched : (p : PartSeen) (o : ℕ) → IsTrusted g p → p.component.fail_at ≡ Some o
-        → PcAt look (ranges_of p) o s.regs → (next : Word) × (Got ≡ some Fail next)
-    unfolding faces cell_faces
-    fail_fetched p o ip f h =
-        let lt = (linked.fails p o ip f).0 in
-        let w = stands p s.cells (code p ip) (p.component.code_base + o) o refl (Fail ∷ []) (linked.fails p o ip f).1 in
-        let low : p.component.code_base ≤ p.component.code_base + o = omega arith in
-        let high : p.component.code_base + o ≤ (ranges_of p).code_last = in_code g linked p o ip lt in (
-          Mem (record (code_at (ranges_of p) o) { addr = pos (p.component.code_base + o) +ℤ pos 1 }),
-          rw h (fetch_some (Memory (code_at (ranges_of p) o)) (cell_faces look s) (code_at (ranges_of p) o) (p.component.code_base + o) (pos (number_of Fail)) Fail refl refl refl
-              (rw (le-leb p.component.code_base (p.component.code_base + o) low, le-leb (p.component.code_base + o) (ranges_of p).code_last high) refl) w.0 (decode_of-number_of Fail tt)),
-        )
+      -- the word at a part's fail is no site's and no entry's first
+      fail_fetched : (p : PartSeen) (o : ℕ) → IsTrusted g p → p.component.fail_at ≡ Some o
+          → PcAt look (ranges_of p) o s.regs → (next : Word) × (Got ≡ some Fail next)
+      unfolding faces cell_faces
+      fail_fetched p o ip f h =
+          let lt = (linked.fails p o ip f).0 in
+          let w = stands p s.cells (code p ip) (p.component.code_base + o) o refl (Fail ∷ [])
+          (linked.fails p o ip f).1 in
+          let low : p.component.code_base ≤ p.component.code_base + o = omega arith in
+          let high : p.component.code_base + o ≤ (ranges_of p).code_last = in_code g linked p o ip lt in (
+            Mem (record (code_at (ranges_of p) o) { addr = pos (p.component.code_base + o) +ℤ pos 1 }),
+            rw h (fetch_some (Memory (code_at (ranges_of p) o)) (cell_faces look s) (code_at (ranges_of p) o)
+                (p.component.code_base + o) (pos (number_of Fail)) Fail refl refl refl
+                (rw (
+                  le-leb p.component.code_base (p.component.code_base + o)
+                      low,
+                  le-leb (p.component.code_base + o) (ranges_of p).code_last high,
+                ) refl)
+                w.0 (decode_of-number_of Fail tt)),
+          )
 
-    pub fail_no_site : (p : PartSeen) (o index : ℕ) (u : SiteCode) → IsTrusted g p
-        → p.component.fail_at ≡ Some o → (st : SiteOf p index u) → st.offset ≡ o → ⊥
-    unfolding call_code
-    fail_no_site p o index u ip f st eo =
-        let at : slice_index p.component.sites index ≡ o = get_or_from_slice_get p.component.sites index st.offset 0 st.offset_is ∙ eo in
-        let a = first_stands p.component.code o Fail (Fail ∷ []) refl (linked.fails p o ip f).1 in
-        let b = first_stands p.component.code (slice_index p.component.sites index) (Store Stk Dat) (call_code st.stands.literal (slice_index p.component.sites index) index) refl st.stands.call in
-        let bad = one_word Fail (Store Stk Dat) tt tt (sym a ∙ ap (slice_get p.component.code) (sym at) ∙ b) in cc
+      pub fail_no_site : (p : PartSeen) (o index : ℕ) (u : SiteCode) → IsTrusted g p
+          → p.component.fail_at ≡ Some o → (st : SiteOf p index u) → st.offset ≡ o → ⊥
+      unfolding call_code
+      fail_no_site p o index u ip f st eo =
+          let at : slice_index p.component.sites index ≡ o =
+          get_or_from_slice_get p.component.sites index st.offset 0 st.offset_is ∙ eo in
+          let a = first_stands p.component.code o Fail (Fail ∷ []) refl (linked.fails p o ip f).1 in
+          let b = first_stands p.component.code (slice_index p.component.sites index) (Store Stk Dat)
+          (call_code st.stands.literal (slice_index p.component.sites index) index) refl st.stands.call in
+          let bad =
+          one_word Fail (Store Stk Dat) tt tt (sym a ∙ ap (slice_get p.component.code) (sym at) ∙ b) in cc
 
-    pub fail_no_entry : (p : PartSeen) (o : ℕ) → IsTrusted g p → p.component.fail_at ≡ Some o
-        → begins_entry p.component o ≡ true → ⊥
-    unfolding entry_code
-    fail_no_entry p o ip f e =
-        let a = first_stands p.component.code o Fail (Fail ∷ []) refl (linked.fails p o ip f).1 in
-        let b = first_stands p.component.code o (Move T2 (InReg Pc)) (entry_code (linked.entries p o ip e).stands.fail o p.component.stack_base) refl (linked.entries p o ip e).stands.entry in
-        let bad = one_word Fail (Move T2 (InReg Pc)) tt tt (sym a ∙ b) in cc
+      pub fail_no_entry : (p : PartSeen) (o : ℕ) → IsTrusted g p → p.component.fail_at ≡ Some o
+          → begins_entry p.component o ≡ true → ⊥
+      unfolding entry_code
+      fail_no_entry p o ip f e =
+          let a = first_stands p.component.code o Fail (Fail ∷ []) refl (linked.fails p o ip f).1 in
+          let b = first_stands p.component.code o (Move T2 (InReg Pc))
+          (entry_code (linked.entries p o ip e).stands.fail o p.component.stack_base)
+          refl (linked.entries p o ip e).stands.entry in
+          let bad = one_word Fail (Move T2 (InReg Pc)) tt tt (sym a ∙ b) in cc
 
-    -- at a trusted pc
-    view_at : (p : PartSeen) (o : ℕ) → IsTrusted g p → StandsAt g fs p o s.regs → (n : Option ℕ)
-        → site_at g.layout (p.component.code_base + o) ≡ n → (b : Bool)
-        → is_entry g.layout (p.component.code_base + o) ≡ b
-        → View g fs s (case_at g.layout (p.component.code_base + o) n (case_fetched s Got))
-    view_at p o ip at (Some j) e b eb =
-        let k = site_of p o j ip at.inside e in
-        at_site p k.2 k.0 ip k.1 k.3 (subst (λ x. StandsAt g fs p x s.regs) (sym k.4) at)
-    view_at p o ip at None e true eb = rw eb (at_entry p o ip refl (sym (linked.entry_found p o ip at.inside) ∙ eb) at)
-    view_at p o ip at None e false eb = rw eb (in_part p o ip (sym (linked.entry_found p o ip at.inside) ∙ eb) (linked.no_site p o ip at.inside e) at refl)
+      -- at a trusted pc
+      view_at : (p : PartSeen) (o : ℕ) → IsTrusted g p → StandsAt g fs p o s.regs → (n : Option ℕ)
+          → site_at g.layout (p.component.code_base + o) ≡ n → (b : Bool)
+          → is_entry g.layout (p.component.code_base + o) ≡ b
+          → View g fs s (case_at g.layout (p.component.code_base + o) n (case_fetched s Got))
+      view_at p o ip at (Some j) e b eb =
+          let k = site_of p o j ip at.inside e in
+          at_site p k.2 k.0 ip k.1 k.3 (subst (λ x. StandsAt g fs p x s.regs) (sym k.4) at)
+      view_at p o ip at None e true eb =
+          rw eb (at_entry p o ip refl (sym (linked.entry_found p o ip at.inside) ∙ eb) at)
+      view_at p o ip at None e false eb =
+          rw eb (in_part p o ip (sym (linked.entry_found p o ip at.inside) ∙ eb)
+          (linked.no_site p o ip at.inside e) at refl)
 
-    fail_view : (p : PartSeen) (o : ℕ) → IsTrusted g p → p.component.fail_at ≡ Some o
-        → PcAt look (ranges_of p) o s.regs → (n : Option ℕ) → site_at g.layout (p.component.code_base + o) ≡ n
-        → (b : Bool) → is_entry g.layout (p.component.code_base + o) ≡ b
-        → View g fs s (case_at g.layout (p.component.code_base + o) n (case_fetched s Got))
-    fail_view p o ip f h (Some j) e b eb = let k = site_of p o j ip (linked.fails p o ip f).0 e in absurd (fail_no_site p o k.2 k.0 ip f k.3 k.4)
-    fail_view p o ip f h None e true eb = absurd (fail_no_entry p o ip f (sym (linked.entry_found p o ip (linked.fails p o ip f).0) ∙ eb))
-    fail_view p o ip f h None e false eb = let q = fail_fetched p o ip f h in rw (eb, q.1) (failing q.0 p o ip (linked.fails p o ip f).0 h q.1)
+      fail_view : (p : PartSeen) (o : ℕ) → IsTrusted g p → p.component.fail_at ≡ Some o
+          → PcAt look (ranges_of p) o s.regs → (n : Option ℕ)
+          → site_at g.layout (p.component.code_base + o) ≡ n
+          → (b : Bool) → is_entry g.layout (p.component.code_base + o) ≡ b
+          → View g fs s (case_at g.layout (p.component.code_base + o) n (case_fetched s Got))
+      fail_view p o ip f h (Some j) e b eb = let k =
+          site_of p o j ip (linked.fails p o ip f).0 e in absurd (fail_no_site p o k.2 k.0 ip f k.3 k.4)
+      fail_view p o ip f h None e true eb =
+          absurd (fail_no_entry p o ip f (sym (linked.entry_found p o ip (linked.fails p o ip f).0) ∙ eb))
+      fail_view p o ip f h None e false eb = let q =
+          fail_fetched p o ip f h in rw (eb, q.1) (failing q.0 p o ip (linked.fails p o ip f).0 h q.1)
 
-    pub view : PcPart g fs s.regs → View g fs s (case_of g.layout s)
-    unfolding case_of
-    view (at_fail p o ip f h) = rw (pc_trusted p o ip (linked.fails p o ip f).0 h) (fail_view p o ip f h _ refl _ refl)
-    view (at_row p o ip at) = rw (pc_trusted p o ip at.inside at.at_pc) (view_at p o ip at _ refl _ refl)
-    view (outside h) = rw (pc_untrusted fs s (h Pc)) (out h refl)
+      pub view : PcPart g fs s.regs → View g fs s (case_of g.layout s)
+      unfolding case_of
+      view (at_fail p o ip f h) =
+          rw (pc_trusted p o ip (linked.fails p o ip f).0 h) (fail_view p o ip f h _ refl _ refl)
+      view (at_row p o ip at) = rw (pc_trusted p o ip at.inside at.at_pc) (view_at p o ip at _ refl _ refl)
+      view (outside h) = rw (pc_untrusted fs s (h Pc)) (out h refl)

@@ -49,9 +49,14 @@ code_apart parts size k n a p q linked lt at_k at_n in_p in_q =
     let s = whole q.component.code_base (length q.component.code) false in
     let some_p = (linked.closed.kept k p at_k).limits.code.0.0 in
     let some_q = (linked.closed.kept n q at_n).limits.code.0.0 in
-    let apart = apart_parts parts size k n p q r s linked.apart lt at_k at_n (code_in p some_p) (code_in q some_q) in
+    let apart =
+    apart_parts parts size k n p q r s linked.apart lt at_k at_n (code_in p some_p) (code_in q some_q) in
     let low_p = in_p.0 in let high_p = in_p.1 in let low_q = in_q.0 in let high_q = in_q.1 in
-    elim apart as (λ _. ⊥) [ inl e ↦ omega (arith, e, low_p, high_p, low_q, high_q) | inr e ↦ omega (arith, e, low_p, high_p, low_q, high_q) ]
+    elim apart as (λ _. ⊥) [
+      | inl e ↦ omega (arith, e, low_p, high_p, low_q, high_q)
+      | inr e ↦
+          omega (arith, e, low_p, high_p, low_q, high_q)
+    ]
 
 -- two parts with a common address of their code are one
 pub one_part : (parts : List PartSeen) (size k n a : ℕ) (p q : PartSeen) → Linked parts size
@@ -65,7 +70,8 @@ one_part parts size k n a p q linked at_k at_n in_p in_q = elim (cases_order k n
 -- the first address of a part's code
 pub first_in_code : (parts : List PartSeen) (size k : ℕ) (p : PartSeen) → Linked parts size
     → slice_get parts k ≡ Some p → InCode p p.component.code_base
-first_in_code parts size k p linked at = let some = (linked.closed.kept k p at).limits.code.0.0 in (omega arith, omega (arith, some))
+first_in_code parts size k p linked at = let some =
+    (linked.closed.kept k p at).limits.code.0.0 in (omega arith, omega (arith, some))
 
 -- ---- tests
 
@@ -82,7 +88,8 @@ normal_is Linear e = absurd cc
 
 same_cap : (a b : CapFields) → a.perm ≡ b.perm → a.lin ≡ b.lin → a.base ≡ b.base → a.end ≡ b.end
     → a.addr ≡ b.addr → a ≡ b
-same_cap a b perm lin base end addr = λ i. record { perm = perm i; lin = lin i; base = base i; end = end i; addr = addr i }
+same_cap a b perm lin base end addr =
+    λ i. record { perm = perm i; lin = lin i; base = base i; end = end i; addr = addr i }
 
 runs_is : (c : CapFields) (o : Owner) → runs_part c o ≡ true
     → (o.trusted ≡ true) × (c.perm ≡ Rx) × (c.lin ≡ Normal) × (c.base ≡ o.code.base) × (c.end ≡ o.code.end)
@@ -90,8 +97,13 @@ runs_is c o e =
     let a = and_parts _ (c.end == o.code.end) e in
     let b = and_parts _ (c.base == o.code.base) a.0 in
     let d = and_parts _ (not (lin_is c.lin)) b.0 in
-    let f = and_parts o.trusted (perm_number c.perm == 3) d.0 in
-    (f.0, rx_is c.perm f.1, normal_is c.lin (not-true (lin_is c.lin) d.1), eqb-true c.base o.code.base b.1, eqb-true c.end o.code.end a.1)
+    let f = and_parts o.trusted (perm_number c.perm == 3) d.0 in (
+      f.0,
+      rx_is c.perm f.1,
+      normal_is c.lin (not-true (lin_is c.lin) d.1),
+      eqb-true c.base o.code.base b.1,
+      eqb-true c.end o.code.end a.1,
+    )
 
 -- ---- entries
 
@@ -100,7 +112,8 @@ unlisted : (c : ComponentFields) (es : List Export) (x : Entry) → Contains (ma
     → (e : Export) × Contains es e × (entry_of c e ≡ x)
 unlisted c [] x m = absurd (omega (arith, m.1))
 unlisted c (e ∷ es) x (zero, lt, q) = (e, (0, omega arith, refl), q)
-unlisted c (e ∷ es) x (suc k, lt, q) = let y = unlisted c es x (k, omega (arith, lt), q) in (y.0, later_is e y.0 es y.1, y.2)
+unlisted c (e ∷ es) x (suc k, lt, q) = let y =
+    unlisted c es x (k, omega (arith, lt), q) in (y.0, later_is e y.0 es y.1, y.2)
 
 unmapped : (c : ComponentFields) (es : List Export) (a : ℕ)
     → list_any (λ (e : Entry). e.at == a) (map (entry_of c) es) ≡ true
@@ -114,8 +127,11 @@ unmapped c es a t =
 relisted : (c : ComponentFields) (es : List Export) (e : Export) → Contains es e
     → Contains (map (entry_of c) es) (entry_of c e)
 relisted c [] e m = absurd (omega (arith, m.1))
-relisted c (x ∷ xs) e (zero, lt, q) = subst (Contains (entry_of c x ∷ map (entry_of c) xs)) (ap (entry_of c) q) (first_is (entry_of c x) (map (entry_of c) xs))
-relisted c (x ∷ xs) e (suc k, lt, q) = later_is (entry_of c x) (entry_of c e) (map (entry_of c) xs) (relisted c xs e (k, omega (arith, lt), q))
+relisted c (x ∷ xs) e (zero, lt, q) =
+    subst (Contains (entry_of c x ∷ map (entry_of c) xs)) (ap (entry_of c) q)
+    (first_is (entry_of c x) (map (entry_of c) xs))
+relisted c (x ∷ xs) e (suc k, lt, q) =
+    later_is (entry_of c x) (entry_of c e) (map (entry_of c) xs) (relisted c xs e (k, omega (arith, lt), q))
 
 -- ---- owners
 
@@ -132,7 +148,8 @@ pub record NumberedSite (parts : List PartSeen) (l : Layout) (j : ℕ) (c : Site
   pub is : IsSite parts site
   pub code_is : c ≡ site_code_of site is.of
 
-module _ (parts : List PartSeen) (size : ℕ) (l : Layout) (linked : Linked parts size) (owners : AreOwners parts l.owners) where
+module _ (parts : List PartSeen) (size : ℕ) (l : Layout) (linked : Linked parts size)
+    (owners : AreOwners parts l.owners) where
   pub owner_listed : (k : ℕ) (p : PartSeen) → slice_get parts k ≡ Some p → Contains l.owners (owner_of k p)
   unfolding owner_of
   owner_listed k p at = (owners.all (owner_of k p)).1 (record { of = p; of_is = at; is = refl })
@@ -153,7 +170,8 @@ module _ (parts : List PartSeen) (size : ℕ) (l : Layout) (linked : Linked part
 
   -- who may run as trusted code is one of the parts, and pc is over its whole code
   pub trusted_is : (c : CapFields) (o : Owner) → trusted_owner l (Memory c) ≡ Some o
-      → (p : PartSeen) × (slice_get parts o.part ≡ Some p) × (p.trusted ≡ true) × (c ≡ any_pc p c.addr) × (o ≡ owner_of o.part p)
+      → (p : PartSeen) × (slice_get parts o.part ≡ Some p) × (p.trusted ≡ true) × (c ≡ any_pc p c.addr)
+      × (o ≡ owner_of o.part p)
   unfolding owner_of
   trusted_is c o e =
       let f = found_is (runs_part c) l.owners o e in
@@ -161,7 +179,8 @@ module _ (parts : List PartSeen) (size : ℕ) (l : Layout) (linked : Linked part
       let r = runs_is c o f.1 in
       let trusted : is.of.trusted ≡ true = sym (ap (λ (x : Owner). x.trusted) is.is) ∙ r.0 in
       let base : c.base ≡ is.of.component.code_base = r.3 ∙ ap (λ (x : Owner). x.code.base) is.is in
-      let end : c.end ≡ is.of.component.code_base + length is.of.component.code - 1 = r.4 ∙ ap (λ (x : Owner). x.code.end) is.is in
+      let end : c.end ≡ is.of.component.code_base + length is.of.component.code - 1 =
+      r.4 ∙ ap (λ (x : Owner). x.code.end) is.is in
       (is.of, is.of_is, trusted, same_cap c (any_pc is.of c.addr) r.1 r.2 base end refl, is.is)
 
   -- and each trusted part is found so
@@ -170,7 +189,8 @@ module _ (parts : List PartSeen) (size : ℕ) (l : Layout) (linked : Linked part
   unfolding owner_of
   trusted_found k p z at trusted =
       let last = p.component.code_base + length p.component.code - 1 in
-      let base : (p.component.code_base == p.component.code_base) ≡ true = eq-eqb p.component.code_base p.component.code_base refl in
+      let base : (p.component.code_base == p.component.code_base) ≡ true =
+      eq-eqb p.component.code_base p.component.code_base refl in
       let end : (last == last) ≡ true = eq-eqb last last refl in
       let runs : runs_part (any_pc p z) (owner_of k p) ≡ true = rw (trusted, base, end) refl in
       only_found (runs_part (any_pc p z)) l.owners (owner_of k p) (owner_listed k p at) runs only
@@ -179,22 +199,28 @@ module _ (parts : List PartSeen) (size : ℕ) (l : Layout) (linked : Linked part
       only o m t =
           let is = (owners.all o).0 m in
           let r = runs_is (any_pc p z) o t in
-          let base : p.component.code_base ≡ is.of.component.code_base = r.3 ∙ ap (λ (x : Owner). x.code.base) is.is in
+          let base : p.component.code_base ≡ is.of.component.code_base =
+          r.3 ∙ ap (λ (x : Owner). x.code.base) is.is in
           let some = (linked.closed.kept o.part is.of is.of_is).limits.code.0.0 in
           let here = first_in_code parts size k p linked at in
           let there : InCode is.of p.component.code_base = (omega (arith, base), omega (arith, base, some)) in
-          let same : o.part ≡ k = one_part parts size o.part k p.component.code_base is.of p linked is.of_is at there here in
+          let same : o.part ≡ k =
+          one_part parts size o.part k p.component.code_base is.of p linked is.of_is at there here in
           let part : is.of ≡ p = one_at parts o.part k is.of p is.of_is at same in
           is.is ∙ ap (λ n. owner_of n is.of) same ∙ ap (owner_of k) part
 
   -- ---- entries
 
   -- an entry of a trusted part at an address of a trusted part is its own
-  pub entry_found : (each : (k : ℕ) (p : PartSeen) → slice_get parts k ≡ Some p → p.trusted ≡ true → (e : Export) → Contains p.component.exports e → e.offset < length p.component.code)
+  pub entry_found :
+      (each : (k : ℕ) (p : PartSeen) → slice_get parts k ≡ Some p → p.trusted ≡ true → (e : Export)
+      → Contains p.component.exports e → e.offset < length p.component.code)
       → (k o : ℕ) (p : PartSeen) → slice_get parts k ≡ Some p → p.trusted ≡ true → o < length p.component.code
       → is_entry l (p.component.code_base + o) ≡ begins_entry p.component o
   unfolding begins_entry owner_of
-  entry_found each k o p at trusted lt = both (is_entry l (p.component.code_base + o)) (list_any (λ e. e.offset == o) p.component.exports) to_export to_entry
+  entry_found each k o p at trusted lt =
+      both (is_entry l (p.component.code_base + o)) (list_any (λ e. e.offset == o) p.component.exports)
+      to_export to_entry
     where
       both : (a b : Bool) → (a ≡ true → b ≡ true) → (b ≡ true → a ≡ true) → a ≡ b
       both true b f g = sym (f refl)
@@ -206,27 +232,43 @@ module _ (parts : List PartSeen) (size : ℕ) (l : Layout) (linked : Linked part
       to_entry t =
           let e = any_of (λ (x : Export). x.offset == o) p.component.exports t in
           let off : (e.0).offset ≡ o = eqb-true (e.0).offset o e.2 in
-          let there = any_is (λ (x : Entry). x.at == p.component.code_base + o) (map (entry_of p.component) p.component.exports) (entry_of p.component e.0) (relisted p.component p.component.exports e.0 e.1) (eq-eqb (p.component.code_base + (e.0).offset) (p.component.code_base + o) (ap (λ n. p.component.code_base + n) off)) in
-          any_is (λ w. w.trusted && list_any (λ x. x.at == p.component.code_base + o) w.entries) l.owners (owner_of k p) (owner_listed k p at) (rw (trusted, there) refl)
+          let there =
+          any_is (λ (x : Entry). x.at == p.component.code_base + o)
+          (map (entry_of p.component) p.component.exports) (entry_of p.component e.0)
+          (relisted p.component p.component.exports e.0 e.1)
+          (eq-eqb (p.component.code_base + (e.0).offset) (p.component.code_base + o)
+          (ap (λ n. p.component.code_base + n) off)) in
+          any_is (λ w. w.trusted && list_any (λ x. x.at == p.component.code_base + o) w.entries)
+          l.owners (owner_of k p) (owner_listed k p at) (rw (trusted, there) refl)
 
       to_export : is_entry l (p.component.code_base + o) ≡ true
           → list_any (λ (e : Export). e.offset == o) p.component.exports ≡ true
       to_export t =
-          let w = any_of (λ w. w.trusted && list_any (λ x. x.at == p.component.code_base + o) w.entries) l.owners t in
-          let both = and_parts (w.0).trusted (list_any (λ x. x.at == p.component.code_base + o) (w.0).entries) w.2 in
+          let w = any_of (λ w. w.trusted && list_any (λ x. x.at == p.component.code_base + o) w.entries)
+          l.owners t in
+          let both =
+          and_parts (w.0).trusted (list_any (λ x. x.at == p.component.code_base + o) (w.0).entries) w.2 in
           let is = (owners.all w.0).0 w.1 in
           let trusted' : is.of.trusted ≡ true = sym (ap (λ (x : Owner). x.trusted) is.is) ∙ both.0 in
-          let there : list_any (λ (x : Entry). x.at == p.component.code_base + o) (map (entry_of is.of.component) is.of.component.exports) ≡ true = sym (ap (λ (x : Owner). list_any (λ (y : Entry). y.at == p.component.code_base + o) x.entries) is.is) ∙ both.1 in
+          let there : list_any (λ (x : Entry). x.at == p.component.code_base + o)
+          (map (entry_of is.of.component) is.of.component.exports) ≡ true =
+          sym (ap (λ (x : Owner). list_any (λ (y : Entry). y.at == p.component.code_base + o) x.entries)
+          is.is) ∙ both.1 in
           let e = unmapped is.of.component is.of.component.exports (p.component.code_base + o) there in
           let in' = each (w.0).part is.of is.of_is trusted' e.0 e.1 in
           let at' : is.of.component.code_base + (e.0).offset ≡ p.component.code_base + o = e.2 in
           let here : InCode p (p.component.code_base + o) = (omega arith, omega (arith, lt)) in
-          let other : InCode is.of (p.component.code_base + o) = (omega (arith, at'), omega (arith, at', in')) in
-          let same = one_part parts size (w.0).part k (p.component.code_base + o) is.of p linked is.of_is at other here in
+          let other : InCode is.of (p.component.code_base + o) =
+          (omega (arith, at'), omega (arith, at', in')) in
+          let same = one_part parts size (w.0).part k (p.component.code_base + o)
+          is.of p linked is.of_is at other here in
           let part : is.of ≡ p = one_at parts (w.0).part k is.of p is.of_is at same in
-          let base : is.of.component.code_base ≡ p.component.code_base = ap (λ (x : PartSeen). x.component.code_base) part in
+          let base : is.of.component.code_base ≡ p.component.code_base =
+          ap (λ (x : PartSeen). x.component.code_base) part in
           let off : (e.0).offset ≡ o = omega (arith, at', base) in
-          any_is (λ (x : Export). x.offset == o) p.component.exports e.0 (subst (λ (x : PartSeen). Contains x.component.exports e.0) part e.1) (eq-eqb (e.0).offset o off)
+          any_is (λ (x : Export). x.offset == o)
+          p.component.exports e.0 (subst (λ (x : PartSeen). Contains x.component.exports e.0) part e.1)
+          (eq-eqb (e.0).offset o off)
 
   -- ---- sites
 
@@ -238,8 +280,10 @@ module _ (parts : List PartSeen) (size : ℕ) (l : Layout) (linked : Linked part
         let kept = linked.closed.kept s.part p at in
         let some = kept.limits.code.0.0 in
         let end = kept.code_end in
-        let low = le-leb p.component.code_base (p.component.code_base + length p.component.code - 1) (omega (arith, some)) in
-        let high = le-leb (p.component.code_base + length p.component.code - 1) 1048575 (omega (arith, some, end)) in
+        let low = le-leb p.component.code_base (p.component.code_base + length p.component.code - 1)
+        (omega (arith, some)) in
+        let high =
+        le-leb (p.component.code_base + length p.component.code - 1) 1048575 (omega (arith, some, end)) in
         ap (option_and_then (with_code s)) (owner_numbered s.part p at) ∙ rw (low, high) refl
 
     -- a listed site has a number, and is one of a part
@@ -272,7 +316,8 @@ module _ (parts : List PartSeen) (size : ℕ) (l : Layout) (linked : Linked part
     pub site_found : (j a : ℕ) → site_at l a ≡ Some j
         → (s : Site) × (slice_get l.sites j ≡ Some s) × (s.at ≡ a)
     site_found j a e =
-        let p = position_is (λ (s : Site). s.at == a) l.sites j (numbered_is (position (λ (s : Site). s.at == a) l.sites) j e) in
+        let p = position_is (λ (s : Site). s.at == a)
+        l.sites j (numbered_is (position (λ (s : Site). s.at == a) l.sites) j e) in
         (p.0, p.1, eqb-true (p.0).at a p.2)
 
     -- two sites at one address have one place
@@ -288,8 +333,10 @@ module _ (parts : List PartSeen) (size : ℕ) (l : Layout) (linked : Linked part
             → s.at ≡ t.at → ⊥
         rises i j s t at_i at_j lt e =
             let step = sites.ascend i j s lt (slice_get_within l.sites j t at_j) in
-            let a : (get_or l.sites i s).at ≡ s.at = ap (λ (x : Site). x.at) (get_or_from_slice_get l.sites i s s at_i) in
-            let b : (get_or l.sites j s).at ≡ t.at = ap (λ (x : Site). x.at) (get_or_from_slice_get l.sites j t s at_j) in
+            let a : (get_or l.sites i s).at ≡ s.at =
+            ap (λ (x : Site). x.at) (get_or_from_slice_get l.sites i s s at_i) in
+            let b : (get_or l.sites j s).at ≡ t.at =
+            ap (λ (x : Site). x.at) (get_or_from_slice_get l.sites j t s at_j) in
             omega (arith, step, a, b, e)
 
     -- places of sites have 32 bits
@@ -307,11 +354,23 @@ module _ (parts : List PartSeen) (size : ℕ) (l : Layout) (linked : Linked part
     -- each site of a trusted part is found at its address
     pub site_at_code : (k i o : ℕ) (p : PartSeen) → slice_get parts k ≡ Some p → p.trusted ≡ true
         → slice_get p.component.sites i ≡ Some o
-        → (j : ℕ) × (site_at l (p.component.code_base + o) ≡ Some j) × (slice_get l.sites j ≡ Some (declared_site k p i o))
+        → (j : ℕ) × (site_at l (p.component.code_base + o) ≡ Some j)
+        × (slice_get l.sites j ≡ Some (declared_site k p i o))
     site_at_code k i o p at trusted is =
         let a = p.component.code_base + o in
         let s = declared_site k p i o in
-        let there : Contains l.sites s = (sites.all s).1 (record { of = p; of_is = at; trusted = trusted; offset = o; offset_is = is; seal = refl; at = refl }) in
+        let there : Contains l.sites s =
+        (sites.all s).1
+        (record {
+          of = p;
+          of_is = at;
+          trusted = trusted;
+          offset = o;
+          offset_is = is;
+          seal = refl;
+          at =
+              refl;
+        }) in
         let test = λ (x : Site). x.at == a in
         let place = is_placed test l.sites s there (eq-eqb a a refl) in
         let found = position_is test l.sites place.0 place.1 in

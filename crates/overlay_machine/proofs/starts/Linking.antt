@@ -12,7 +12,8 @@ use Rattle.component_linker.proofs.StartIs.{started_once}
 use Rattle.component_linker.proofs.CodeStands.{SitesStand, EntriesStand, code_stands, trusted_stand}
 use Rattle.component_linker.specs.LinkedStarts.{IsLinkedStart}
 
-pub links_of : SitesStand → EntriesStand → (parts : List PartSeen) (size : ℕ) (s : StartSeen) → IsLinkedStart parts size s → LinksTo parts size s
+pub links_of : SitesStand → EntriesStand → (parts : List PartSeen) (size : ℕ) (s : StartSeen)
+    → IsLinkedStart parts size s → LinksTo parts size s
 links_of sites entries parts size s is =
     let made : Linked parts size = are_linked parts size is.accepted is.rules in
     let apart = parts_apart parts size is.accepted is.rules in
@@ -25,7 +26,8 @@ links_of sites entries parts size s is =
       sites_apart = sites_apart parts s.sites is.accepted apart is.starts.sites;
       regions = apart_all (regions_of parts size) made.apart;
       held_once = started_once parts size s.state made is.starts.state;
-      stack_base = λ k p at. stack_bases parts size is.rules k p at ∙ stack_begins parts size s.stack is.starts.stack;
+      stack_base =
+          λ k p at. stack_bases parts size is.rules k p at ∙ stack_begins parts size s.stack is.starts.stack;
       code = code_stands parts size s.state made is.starts.state;
       trusted = trusted_stand sites entries parts size s.state is.accepted made is.starts.state;
     }

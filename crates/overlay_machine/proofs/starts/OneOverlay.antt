@@ -37,12 +37,16 @@ module _ (parts : List PartSeen) (size : ℕ) (s : StartSeen) (linked : IsLinked
     where
       by_span : (b : Bool) → in_spans a s.state.maps.spans ≡ b → (x : Option Word)
           → cell s.state.maps.cells a ≡ x
-          → (if b then option_map Plain (cell s.state.maps.cells a) else None) ≡ option_map Plain (cell s.state.maps.cells a)
+          → (if b then option_map Plain (cell s.state.maps.cells a) else None)
+          ≡ option_map Plain (cell s.state.maps.cells a)
       by_span true h x e = refl
       by_span false h None e = sym (ap (option_map Plain) e)
       by_span false h (Some w) e =
-          let there = cell_in_region parts size a w (are_linked parts size linked.accepted linked.rules).closed (sym (linked.starts.state.cells a) ∙ e) in
-          absurd (let bad : false ≡ true = sym h ∙ spans_are_regions parts size s.state.maps.spans linked.starts.state.spans a ∙ there in cc)
+          let there =
+          cell_in_region parts size a w (are_linked parts size linked.accepted linked.rules).closed
+          (sym (linked.starts.state.cells a) ∙ e) in
+          absurd (let bad : false ≡ true = sym h
+          ∙ spans_are_regions parts size s.state.maps.spans linked.starts.state.spans a ∙ there in cc)
 
   pub is_overlay : IsOverlayOf s (overlay_at s)
   is_overlay = record {
@@ -60,8 +64,11 @@ module _ (parts : List PartSeen) (size : ℕ) (s : StartSeen) (linked : IsLinked
 
   pub only_overlay : (o : OverlaySeen) → IsOverlayOf s o → o ≡ overlay_at s
   only_overlay o over =
-      let regs = same_regs o.state.maps.regs (plain_regs s.state.maps.regs) (λ r. over.regs r ∙ sym (reg_mapped Plain s.state.maps.regs r)) in
-      let cells = same_cells o.state.maps.cells (plain_cells s.state.maps.cells) (λ a. over.cells a ∙ start_word_is a ∙ sym (cells_plain s.state.maps.cells a)) in
+      let regs =
+      same_regs o.state.maps.regs (plain_regs s.state.maps.regs)
+      (λ r. over.regs r ∙ sym (reg_mapped Plain s.state.maps.regs r)) in
+      let cells = same_cells o.state.maps.cells (plain_cells s.state.maps.cells)
+      (λ a. over.cells a ∙ start_word_is a ∙ sym (cells_plain s.state.maps.cells a)) in
       λ i. record {
         layout = record { sites = over.sites i; owners = over.owners i; stack = over.stack i };
         state = record {

@@ -1,5 +1,6 @@
 -- What the rules C and K say of one trusted part, in the form in which a link is said.
-use Rattle.std.proofs.Common.{◌≡◌, ℕ, zero, suc, ◌+◌, ◌<◌, ◌≤◌, true, false, [], ◌∷◌, length, Some, refl, sym, ap, ◌∙◌, arith, eq-eqb}
+use Rattle.std.proofs.Common.{◌≡◌, ℕ, zero, suc, ◌+◌, ◌<◌, ◌≤◌, true, false, [], ◌∷◌, length, Some, refl, sym}
+use Rattle.std.proofs.Common.{ap, ◌∙◌, arith, eq-eqb}
 use Rattle.std.specs.Prelude.{slice_get, ◌==◌, pos}
 use Rattle.std.specs.List.{Contains}
 use Rattle.std.proofs.lemmas.Option.{slice_get_within}
@@ -37,14 +38,17 @@ module _ (p : PartSeen) (part : IsPart p) (trusted : p.trusted ≡ true) where
   one : {x y : ℕ} → (o : ℕ) → p.component.literal_at ≡ Some x → p.component.literal_at ≡ Some y → x ≡ y
   one {x} {y} o e f = let g : Some x ≡ Some y = sym e ∙ f in cc
 
-  pub site_in : SitesStand → (index offset : ℕ) → slice_get p.component.sites index ≡ Some offset → SiteIn p index offset
+  pub site_in : SitesStand → (index offset : ℕ) → slice_get p.component.sites index ≡ Some offset
+      → SiteIn p index offset
   unfolding begins_site
   site_in sites index offset is =
       let within = slice_get_within p.component.sites index offset is in
       let few = few_sites p part trusted in
       let end = seals_end p part in
       let in_seals : index < p.component.seals.count = omega (arith, within, few) in
-      let begins : begins_site p.component offset ≡ true = any_is (λ s. s == offset) p.component.sites offset (listed_at p.component.sites index offset is) (eq-eqb offset offset refl) in
+      let begins : begins_site p.component offset ≡ true =
+      any_is (λ s. s == offset) p.component.sites offset (listed_at p.component.sites index offset is)
+      (eq-eqb offset offset refl) in
       let stands = sites p.component part.limits (part.flow trusted) index within in
       let literal = literal_of p part trusted (omega (arith, within)) in
       let same : stands.literal ≡ literal.offset = one 0 stands.literal_is literal.is in
@@ -67,25 +71,33 @@ module _ (p : PartSeen) (part : IsPart p) (trusted : p.trusted ≡ true) where
   -- each export begins an entry, within the code
   pub export_begins : (e : Export) → Contains p.component.exports e → begins_entry p.component e.offset ≡ true
   unfolding begins_entry
-  export_begins e m = any_is (λ (x : Export). x.offset == e.offset) p.component.exports e m (eq-eqb e.offset e.offset refl)
+  export_begins e m =
+      any_is (λ (x : Export). x.offset == e.offset) p.component.exports e m (eq-eqb e.offset e.offset refl)
 
   pub export_within : (e : Export) → Contains p.component.exports e → e.offset < length p.component.code
-  export_within e m = let room = entry_within p.component (part.flow trusted).placed part.limits e.offset (export_begins e m) in omega (arith, room)
+  export_within e m = let room =
+      entry_within p.component (part.flow trusted).placed part.limits e.offset (export_begins e m) in
+      omega (arith, room)
 
   fail_number : number_of Fail ≡ 0
   unfolding number_of
   fail_number = refl
 
-  pub fail_stands : (f : ℕ) → p.component.fail_at ≡ Some f → (f < length p.component.code) × CodeStands p.component.code f (Fail ∷ [])
+  pub fail_stands : (f : ℕ) → p.component.fail_at ≡ Some f → (f < length p.component.code)
+      × CodeStands p.component.code f (Fail ∷ [])
   fail_stands f e =
       let at = fail_of p part trusted in
       let same : at.offset ≡ f = (let g : Some at.offset ≡ Some f = sym at.is ∙ e in cc) in
-      let word : slice_get p.component.code f ≡ Some (Int (pos 0)) = ap (slice_get p.component.code) (sym same) ∙ at.word in
+      let word : slice_get p.component.code f ≡ Some (Int (pos 0)) =
+      ap (slice_get p.component.code) (sym same) ∙ at.word in
       (slice_get_within p.component.code f (Int (pos 0)) word, by_index word)
     where
-      by_index : slice_get p.component.code f ≡ Some (Int (pos 0)) → (k : ℕ) (i : Instr) → slice_get (Fail ∷ []) k ≡ Some i → slice_get p.component.code (f + k) ≡ Some (Int (pos (number_of i)))
+      by_index : slice_get p.component.code f ≡ Some (Int (pos 0)) → (k : ℕ) (i : Instr)
+          → slice_get (Fail ∷ []) k ≡ Some i
+          → slice_get p.component.code (f + k) ≡ Some (Int (pos (number_of i)))
       by_index word zero i h =
           let is : Fail ≡ i = cc in
           let here : f + 0 ≡ f = omega arith in
-          ap (slice_get p.component.code) here ∙ word ∙ ap (λ n. Some (Int (pos n))) (sym fail_number) ∙ ap (λ j. Some (Int (pos (number_of j)))) is
+          ap (slice_get p.component.code) here ∙ word ∙ ap (λ n. Some (Int (pos n))) (sym fail_number)
+          ∙ ap (λ j. Some (Int (pos (number_of j)))) is
       by_index word (suc k) i h = absurd cc

@@ -71,7 +71,9 @@ word_of_plain (Some v) w e = (v, refl, (let is : Plain v ≡ w = cc in sym is))
 
 -- ---- the overlay of a start
 
-module _ (site_words : SitesStand) (entry_words : EntriesStand) (parts : List PartSeen) (size : ℕ) (s : StartSeen) (o : OverlaySeen) (each : (k : ℕ) (p : PartSeen) → slice_get parts k ≡ Some p → IsPart p) (link : LinksTo parts size s) (over : IsOverlayOf s o) where
+module _ (site_words : SitesStand) (entry_words : EntriesStand) (parts : List PartSeen) (size : ℕ)
+    (s : StartSeen) (o : OverlaySeen) (each : (k : ℕ) (p : PartSeen) → slice_get parts k ≡ Some p → IsPart p)
+    (link : LinksTo parts size s) (over : IsOverlayOf s o) where
   abbrev g : Link
   g = record { parts = parts; size = size; layout = o.layout }
 
@@ -79,13 +81,17 @@ module _ (site_words : SitesStand) (entry_words : EntriesStand) (parts : List Pa
   made = are_linked parts size each link.rules
 
   pub start_linked : Linked (record { parts = parts; size = size; layout = o.layout })
-  start_linked = linked site_words entry_words parts size s o.layout each link over.sites over.owners over.stack
+  start_linked =
+      linked site_words entry_words parts size s o.layout each link over.sites over.owners over.stack
 
   -- ---- cells
 
   -- the overlay has the start's cells
   cell_plain : (a : ℕ) → cell o.state.maps.cells a ≡ option_map Plain (cell s.state.maps.cells a)
-  cell_plain a = over.cells a ∙ start_word_is parts size s (record { accepted = each; room = link.room; rules = link.rules; starts = link.starts }) a
+  cell_plain a =
+      over.cells a
+      ∙ start_word_is parts size s
+      (record { accepted = each; room = link.room; rules = link.rules; starts = link.starts }) a
 
   start_cell_is : (a : ℕ) → cell o.state.maps.cells a ≡ option_map Plain (start_cell parts size a)
   start_cell_is a = cell_plain a ∙ ap (option_map Plain) (link.starts.state.cells a)
@@ -94,19 +100,26 @@ module _ (site_words : SitesStand) (entry_words : EntriesStand) (parts : List Pa
 
   is_flat : IsFlat o.layout o.state s.state.maps
   is_flat = record {
-    regs = λ r. sym (ap (flat o.layout o.state.frames) (over.regs r) ∙ flat-plain o.layout o.state.frames (reg s.state.maps.regs r));
+    regs = λ r.
+        sym (ap (flat o.layout o.state.frames) (over.regs r)
+        ∙ flat-plain o.layout o.state.frames (reg s.state.maps.regs r));
     cells = flat_cell;
     spans = sym over.spans;
   }
     where
       by_cell : (a : ℕ) (x : Option Word)
-          → x ≡ mapped_or (flat o.layout o.state.frames) (option_map Plain x) (beside o.layout o.state.frames a)
+          → x ≡ mapped_or (flat o.layout o.state.frames) (option_map Plain x)
+          (beside o.layout o.state.frames a)
       by_cell a None = sym (ap (λ fs. beside o.layout fs a) over.frames ∙ beside_none o.layout a)
       by_cell a (Some w) = ap Some (sym (flat-plain o.layout o.state.frames w))
 
       flat_cell : (a : ℕ)
-          → cell s.state.maps.cells a ≡ mapped_or (flat o.layout o.state.frames) (cell o.state.maps.cells a) (beside o.layout o.state.frames a)
-      flat_cell a = by_cell a (cell s.state.maps.cells a) ∙ ap (λ x. mapped_or (flat o.layout o.state.frames) x (beside o.layout o.state.frames a)) (sym (cell_plain a))
+          → cell s.state.maps.cells a ≡ mapped_or (flat o.layout o.state.frames) (cell o.state.maps.cells a)
+          (beside o.layout o.state.frames a)
+      flat_cell a =
+          by_cell a (cell s.state.maps.cells a)
+          ∙ ap (λ x. mapped_or (flat o.layout o.state.frames) x (beside o.layout o.state.frames a))
+          (sym (cell_plain a))
 
   -- ---- registers
 
@@ -118,16 +131,22 @@ module _ (site_words : SitesStand) (entry_words : EntriesStand) (parts : List Pa
 
   -- the stack, as the start's stk has it
   stack_listed : Contains (region true (stack_span parts size)) (stack_region o.layout)
-  stack_listed = subst (λ x. Contains (region true x) (stack_region o.layout)) (sym start_linked.stack) (first_is (stack_region o.layout) [])
+  stack_listed = subst (λ x. Contains (region true x) (stack_region o.layout)) (sym start_linked.stack)
+      (first_is (stack_region o.layout) [])
 
   stack_cap_is : stack_of (stack_base_of parts) size ≡ stack_cap o.layout.stack
-  stack_cap_is = let is = stack_is parts size (stack_region o.layout) made.size_fits stack_listed in ap (λ (r : Region). stack_cap (record { base = r.base; end = r.end })) is
+  stack_cap_is = let is = stack_is parts size (stack_region o.layout) made.size_fits stack_listed in
+      ap (λ (r : Region). stack_cap (record { base = r.base; end = r.end })) is
 
   stack_order : o.layout.stack.base ≤ o.layout.stack.end
-  stack_order = start_linked.filled (stack_region o.layout) (stack_region_of parts size (stack_region o.layout) stack_listed)
+  stack_order =
+      start_linked.filled (stack_region o.layout)
+      (stack_region_of parts size (stack_region o.layout) stack_listed)
 
   stk_safe : IsSafe g [] (Plain (Mem (stack_of (stack_base_of parts) size)))
-  stk_safe = subst (λ c. IsSafe g [] (Plain (Mem c))) (sym stack_cap_is) (stack_safe g start_linked.parts stack_order)
+  stk_safe =
+      subst (λ c. IsSafe g [] (Plain (Mem c))) (sym stack_cap_is)
+      (stack_safe g start_linked.parts stack_order)
 
   -- main of an untrusted part
   regs_safe : IsUntrusted g link.starts.state.main.part → (r : Reg)
@@ -152,7 +171,8 @@ module _ (site_words : SitesStand) (entry_words : EntriesStand) (parts : List Pa
 
   -- main of a trusted part: the registers fit the row of an entry
   kinds_fit : (r : Reg) → is_pc r ≡ false
-      → HasKind look (IsSafe g []) (IsStackCell g []) (ranges_of link.starts.state.main.part) (kind_of entry_row r) (Plain (reg (start_regs parts size link.starts.state.main) r))
+      → HasKind look (IsSafe g []) (IsStackCell g []) (ranges_of link.starts.state.main.part)
+      (kind_of entry_row r) (Plain (reg (start_regs parts size link.starts.state.main) r))
   unfolding start_regs kind_of
   kinds_fit Pc e = absurd cc
   kinds_fit Dat e = (pos link.starts.state.main.part.component.data_base, refl)
@@ -172,7 +192,8 @@ module _ (site_words : SitesStand) (entry_words : EntriesStand) (parts : List Pa
   kinds_fit G2 e = tt
 
   pc_is : link.starts.state.main.part.trusted ≡ true
-      → reg (start_regs parts size link.starts.state.main) Pc ≡ Mem (code_at (ranges_of link.starts.state.main.part) link.starts.state.main.export.offset)
+      → reg (start_regs parts size link.starts.state.main)
+      Pc ≡ Mem (code_at (ranges_of link.starts.state.main.part) link.starts.state.main.export.offset)
   unfolding start_regs
   pc_is e = ap (λ b. Mem (record (code_of link.starts.state.main) { perm = if b then Rx else Rwx })) e
 
@@ -180,19 +201,24 @@ module _ (site_words : SitesStand) (entry_words : EntriesStand) (parts : List Pa
   pc_part = by_mark link.starts.state.main.part.trusted refl
     where
       by_mark : (b : Bool) → link.starts.state.main.part.trusted ≡ b → PcPart g [] o.state.maps.regs
-      by_mark false e = outside (λ r. subst (IsSafe g []) (sym (reg_is r)) (regs_safe (listed_at parts main_there.index link.starts.state.main.part main_there.at, e) r))
+      by_mark false e =
+          outside (λ r. subst (IsSafe g []) (sym (reg_is r))
+          (regs_safe (listed_at parts main_there.index link.starts.state.main.part main_there.at, e) r))
       by_mark true e =
           let p = link.starts.state.main.part in
           let part = each main_there.index p main_there.at in
           let begins = export_begins p part e link.starts.state.main.export main_there.listed in
-          at_row p link.starts.state.main.export.offset (listed_at parts main_there.index p main_there.at, e) (record {
+          at_row p link.starts.state.main.export.offset (listed_at parts main_there.index p main_there.at, e)
+          (record {
             there = entry_row;
             inside = export_within p part e link.starts.state.main.export main_there.listed;
             at_pc = ap look (reg_is Pc) ∙ pc_is e;
             row = inl (begins, refl);
             fits = record {
               long = refl;
-              each = λ r n. subst (λ w. HasKind look (IsSafe g []) (IsStackCell g []) (ranges_of p) (kind_of entry_row r) w) (sym (reg_is r)) (kinds_fit r n);
+              each = λ r n.
+                  subst (λ w. HasKind look (IsSafe g []) (IsStackCell g []) (ranges_of p)
+                  (kind_of entry_row r) w) (sym (reg_is r)) (kinds_fit r n);
             };
           })
 
@@ -200,7 +226,8 @@ module _ (site_words : SitesStand) (entry_words : EntriesStand) (parts : List Pa
 
   cells_there : (a : ℕ) → is_some (cell o.state.maps.cells a) ≡ has_cell g o.state.frames a
   cells_there a =
-      ap is_some (start_cell_is a) ∙ same_some (start_cell parts size a) ∙ in_region (start_cell parts size a) refl (in_regions a (regions_of parts size)) refl
+      ap is_some (start_cell_is a) ∙ same_some (start_cell parts size a)
+      ∙ in_region (start_cell parts size a) refl (in_regions a (regions_of parts size)) refl
       ∙ ap (λ fs. in_regions a (regions_of parts size) && not (is_some (framed fs a))) (sym over.frames)
     where
       same_some : (x : Option Word) → is_some (option_map Plain x) ≡ is_some x
@@ -212,7 +239,8 @@ module _ (site_words : SitesStand) (entry_words : EntriesStand) (parts : List Pa
           → is_some (start_cell parts size a) ≡ (in_regions a (regions_of parts size) && true)
       in_region x e true t = region_has_cell parts size a t ∙ sym (ap (λ b. b && true) t)
       in_region None e false t = ap is_some e ∙ sym (ap (λ b. b && true) t)
-      in_region (Some w) e false t = (let bad : true ≡ false = sym (cell_in_region parts size a w made.closed e) ∙ t in cc)
+      in_region (Some w) e false t =
+          (let bad : true ≡ false = sym (cell_in_region parts size a w made.closed e) ∙ t in cc)
 
   code_there : (p : PartSeen) → IsTrusted g p → CodeIn p o.state.maps.cells
   code_there p t off w e =
@@ -227,7 +255,9 @@ module _ (site_words : SitesStand) (entry_words : EntriesStand) (parts : List Pa
   -- ---- all of it
 
   met_there : (place : Place) (w : OWord) → word_at o.state.maps place ≡ Some w → IsMet g o.state.frames w
-  met_there (R r) w e = let is : Plain (reg s.state.maps.regs r) ≡ w = (let h : reg o.state.maps.regs r ≡ w = cc in sym (over.regs r) ∙ h) in subst (IsMet g o.state.frames) is tt
+  met_there (R r) w e = let is : Plain (reg s.state.maps.regs r) ≡ w =
+      (let h : reg o.state.maps.regs r ≡ w = cc in sym (over.regs r) ∙ h) in subst (IsMet g o.state.frames)
+      is tt
   met_there (Cell a) w e = met_plain g o.state.frames (cell s.state.maps.cells a) w (sym (cell_plain a) ∙ e)
 
   no_frame : (f : OpenFrame) → Contains o.state.frames f → ⊥
@@ -243,7 +273,8 @@ module _ (site_words : SitesStand) (entry_words : EntriesStand) (parts : List Pa
     frames = subst (λ fs. FramesLie o.layout o.state.maps.cells o.state.calls fs) (sym over.frames) tt;
     frames_fit = λ f m. absurd (no_frame f m);
     met = met_there;
-    met_in_frames = λ a w e. absurd (let bad : None ≡ Some w = sym (ap (λ fs. framed fs a) over.frames) ∙ e in cc);
+    met_in_frames =
+        λ a w e. absurd (let bad : None ≡ Some w = sym (ap (λ fs. framed fs a) over.frames) ∙ e in cc);
     once = link.held_once;
   }
 

@@ -68,13 +68,15 @@ module _ (g : Link) (linked : Linked g) where
       let st = f.3 in
       let at = st.at_is in
       let ins = st.inside in
-      λ a lo hi. no_end g linked f.0 st.offset 25 f.2 (site_outer g linked f.0 st.offset f.2 st.site) (omega (arith, ins)) (omega arith) a (omega (arith, at, lo)) (omega (arith, at, hi))
+      λ a lo hi. no_end g linked f.0 st.offset 25 f.2 (site_outer g linked f.0 st.offset f.2 st.site)
+      (omega (arith, ins)) (omega arith) a (omega (arith, at, lo)) (omega (arith, at, hi))
 
   entry_free : (p : PartSeen) (o a : ℕ) → IsTrusted g p → a ≡ p.component.code_base + o
       → begins_entry p.component o ≡ true → NoEnd l a (a + 20)
   entry_free p o a ip ea e =
       let ins = (linked.entries p o ip e).inside in
-      λ q lo hi. no_end g linked p o 20 ip (entry_outer g linked p o ip e) (omega (arith, ins)) (omega arith) q (omega (arith, ea, lo)) (omega (arith, ea, hi))
+      λ q lo hi. no_end g linked p o 20 ip (entry_outer g linked p o ip e) (omega (arith, ins)) (omega arith)
+      q (omega (arith, ea, lo)) (omega (arith, ea, hi))
 
   module _ (o : OState) (t : State Word) (inv : Invariant g o t) where
     m : IsFlat l o t
@@ -95,13 +97,26 @@ module _ (g : Link) (linked : Linked g) where
         free = λ q lo hi. site_free i a.site a.is_site q lo (omega (arith, hi))
 
         by_word : (w : OWord) → o.maps.regs.c1 ≡ w → Muted (Call i)
-        by_word (Plain w) e = (15, ap (λ y. if is_ret_code y then 17 else 16) e, calm_mute l 15 t (whole_calm g linked i o t a m k free))
-        by_word (RetData n) e = (15, ap (λ y. if is_ret_code y then 17 else 16) e, calm_mute l 15 t (whole_calm g linked i o t a m k free))
-        by_word (RetCode j) e = (16, ap (λ y. if is_ret_code y then 17 else 16) e, ret_mute g linked i o t a m k free j e)
+        by_word (Plain w) e = (
+          15,
+          ap (λ y. if is_ret_code y then 17 else 16)
+              e,
+          calm_mute l 15 t (whole_calm g linked i o t a m k free),
+        )
+        by_word (RetData n) e = (
+          15,
+          ap (λ y. if is_ret_code y then 17 else 16)
+              e,
+          calm_mute l 15 t (whole_calm g linked i o t a m k free),
+        )
+        by_word (RetCode j) e =
+            (16, ap (λ y. if is_ret_code y then 17 else 16) e, ret_mute g linked i o t a m k free j e)
 
     entry_muted : (a : ℕ) → View g o.frames o.maps (Entry a) → AtEntry l a o → Calm l 20 t
     entry_muted a (at_entry p off ip ea e at) r =
-        entry_calm l t r.base r.end a l.stack.base (HasEntry-flat l o t m k r.base r.end a l.stack.base r.entry) (m.regs Pc ∙ flat-mem l o.frames _ _ r.pc) r.small_stack (entry_free p off a ip ea e)
+        entry_calm l t r.base r.end a l.stack.base
+        (HasEntry-flat l o t m k r.base r.end a l.stack.base r.entry)
+        (m.regs Pc ∙ flat-mem l o.frames _ _ r.pc) r.small_stack (entry_free p off a ip ea e)
     entry_muted a (in_part p off ip ne ns at c) r = absurd (never_entry o.maps _ a c)
     entry_muted a (out h c) r = absurd (never_entry o.maps _ a c)
 
@@ -112,8 +127,13 @@ module _ (g : Link) (linked : Linked g) where
         by_word (Plain w) e = (0, ap (λ y. if is_ret_code y then 11 else 1) e, tt)
         by_word (RetData n) e = (0, ap (λ y. if is_ret_code y then 11 else 1) e, tt)
         by_word (RetCode j) e = (
-            let s = inv.met (R r1) (RetCode j) (ap Some e) in
-            (10, ap (λ y. if is_ret_code y then 11 else 1) e, back_mute g linked r1 r2 o t rd m k v j s.0 s.1 (code_some l r1 r2 o t rd m k j s.0 e s.1) (λ q lo hi. site_free j s.0 s.1 q (omega (arith, lo)) hi)))
+            let s = inv.met (R r1) (RetCode j) (ap Some e) in (
+              10,
+              ap (λ y. if is_ret_code y then 11 else 1)
+                  e,
+              back_mute g linked r1 r2 o t rd m k v j s.0 s.1 (code_some l r1 r2 o t rd m k j s.0 e s.1)
+                  (λ q lo hi. site_free j s.0 s.1 q (omega (arith, lo)) hi),
+            ))
 
     muted : (c : Case) → View g o.frames o.maps c → ReadyFor l o c → Muted c
     muted (Call i) v r = call_muted i r
@@ -130,23 +150,31 @@ module _ (g : Link) (linked : Linked g) where
     is_other (out h c) = sym c
 
     abbrev Whole : Case → Type 0
-    Whole c = (u : State Word) (q : OState) (n : ℕ) (inward : Bool) → step_by l c o ≡ goes q → run_of id id (weight_by o.maps c) t ≡ went u → IsFlat l q u → Looks l q
-        → lines_of l (at_state t n inward) (weight_by o.maps c) ≡ lines_for l (flat_view l q) (told_after l (note_by l o c) q)
+    Whole c = (u : State Word) (q : OState) (n : ℕ) (inward : Bool) → step_by l c o ≡ goes q
+        → run_of id id (weight_by o.maps c) t ≡ went u → IsFlat l q u → Looks l q
+        → lines_of l (at_state t n inward) (weight_by o.maps c) ≡ lines_for l (flat_view l q)
+        (told_after l (note_by l o c) q)
 
     whole_by : (c : Case) → View g o.frames o.maps c → ReadyFor l o c → Whole c
     whole_by (Call i) v r u q n inward e run mq kq =
         let c = called l i o q e in
-        let z : weight_by o.maps (Call i) ≡ 16 = ap (λ b. if b then 17 else 16) (no_ret_code o.maps.regs.c1 c.plain1) in
+        let z : weight_by o.maps (Call i) ≡ 16 =
+        ap (λ b. if b then 17 else 16) (no_ret_code o.maps.regs.c1 c.plain1) in
         let a : AtSite l i o = r in
         ap (lines_of l (at_state t n inward)) z
-        ∙ call_whole g linked i o t a m k (λ y lo hi. site_free i a.site a.is_site y lo (omega (arith, hi))) u q n inward e (ap (λ w. run_of id id w t) (sym z) ∙ run) mq kq
-    whole_by (Entry a) v r u q n inward e run mq kq = mute_lines l 20 20 t n inward (calm_mute l 20 t (entry_muted a v r)) (omega arith)
+        ∙ call_whole g linked i o t a m k (λ y lo hi. site_free i a.site a.is_site y lo (omega (arith, hi)))
+        u q n inward e (ap (λ w. run_of id id w t) (sym z) ∙ run) mq kq
+    whole_by (Entry a) v r u q n inward e run mq kq =
+        mute_lines l 20 20 t n inward (calm_mute l 20 t (entry_muted a v r)) (omega arith)
     whole_by (Back r1 r2) v r u q n inward e run mq kq =
         let y = returned l r1 r2 o q e in
         let z : weight_by o.maps (Back r1 r2) ≡ 11 = ap (λ w. if is_ret_code w then 11 else 1) y.code_is in
         ap (lines_of l (at_state t n inward)) z
-        ∙ return_whole g linked r1 r2 o t r m k v q y (λ b lo hi. site_free (y.frame).site y.site y.site_is b (omega (arith, lo)) hi) u n inward (ap (λ w. run_of id id w t) (sym z) ∙ run) mq
-    whole_by Other v r u q n inward e run mq kq = other_whole g linked o t m k r v (is_other v) u q n inward e run mq kq
+        ∙ return_whole g linked r1 r2 o t r m k v q y
+        (λ b lo hi. site_free (y.frame).site y.site y.site_is b (omega (arith, lo)) hi)
+        u n inward (ap (λ w. run_of id id w t) (sym z) ∙ run) mq
+    whole_by Other v r u q n inward e run mq kq =
+        other_whole g linked o t m k r v (is_other v) u q n inward e run mq kq
 
     -- ---- of a step
 
@@ -161,17 +189,22 @@ module _ (g : Link) (linked : Linked g) where
         → lines_of l (at_state t n inward) (weight_of l o) ≡ step_lines l o q
     unfolding overlay_step weight_of step_event
     step_whole q n inward e =
-        let a : KeepsAgreeing g (goes q) (run_of id id (weight_of l o) t) = subst (λ y. KeepsAgreeing g y (run_of id id (weight_of l o) t)) e (kept g linked o t inv) in
+        let a : KeepsAgreeing g (goes q) (run_of id id (weight_of l o) t) =
+        subst (λ y. KeepsAgreeing g y (run_of id id (weight_of l o) t)) e (kept g linked o t inv) in
         let f = alike_goes (Invariant g) q (run_of id id (weight_of l o) t) a in
-        whole_by (case_of l o.maps) seen (ready g linked o t inv) f.0 q n inward e f.1 (f.2).flat (looks g linked q f.0 f.2)
+        whole_by (case_of l o.maps) seen (ready g linked o t inv)
+        f.0 q n inward e f.1 (f.2).flat (looks g linked q f.0 f.2)
 
     step_within : (n j : ℕ) (inward : Bool) → j < weight_of l o → lines_of l (at_state t n inward) j ≡ []
-    step_within n j inward lt = let s = step_muted in let z = s.1 in mute_lines l s.0 j t n inward s.2 (omega (arith, lt, z))
+    step_within n j inward lt = let s = step_muted in let z =
+        s.1 in mute_lines l s.0 j t n inward s.2 (omega (arith, lt, z))
 
     step_ended : (n j : ℕ) (inward : Bool) → EndsOverlay l o → lines_of l (at_state t n inward) j ≡ []
     step_ended n j inward h =
         let s = step_muted in
-        mute_ends l s.0 t n inward s.2 (subst (λ w. IsEnd (run_of id id w t)) s.1 (alike_ends (Invariant g) (overlay_step l o) _ h (kept g linked o t inv))) j
+        mute_ends l s.0 t n inward s.2
+        (subst (λ w. IsEnd (run_of id id w t))
+        s.1 (alike_ends (Invariant g) (overlay_step l o) _ h (kept g linked o t inv))) j
 
   -- ---- of a run
 
@@ -186,8 +219,10 @@ module _ (g : Link) (linked : Linked g) where
     stands : (j : ℕ) (u : State Word) → plain_run j t ≡ went u
         → watched l first j ≡ at_state u j (watched l first j).inward
     stands j u e =
-        let at : EndsAs j (went u) (plain j (fresh t)) = subst (λ r. EndsAs j r (plain j (fresh t))) e (plain_ends j t) in
-        ap (λ (r : Run). let w : Watched = record { run = r; inward = (watched l first j).inward } in w) (ran (fresh t) j ∙ at)
+        let at : EndsAs j (went u) (plain j (fresh t)) =
+        subst (λ r. EndsAs j r (plain j (fresh t))) e (plain_ends j t) in
+        ap (λ (r : Run). let w : Watched = record { run = r; inward = (watched l first j).inward } in w)
+        (ran (fresh t) j ∙ at)
 
     -- behind a matched point, the lines of so many instructions more
     more : (j k : ℕ) (ls : List Line) (p : OState) → Reached l o j p → lines_of l first j ≡ ls
@@ -196,23 +231,30 @@ module _ (g : Link) (linked : Linked g) where
         → lines_of l first (j + k) ≡ ls ++ ms
     more j k ls p r es ms law =
         let h = good_at l (Invariant g) (λ q u i. i.flat) (λ q u i. kept g linked q u i) o t inv j p r in
-        lines_split l first j k ∙ ap (λ y. lines_of l first j ++ y) (ap (λ w. lines_of l w k) (stands j h.0 h.1) ∙ law h.0 (watched l first j).inward h.2) ∙ ap (λ y. y ++ ms) es
+        lines_split l first j k
+        ∙ ap (λ y. lines_of l first j ++ y)
+        (ap (λ w. lines_of l w k) (stands j h.0 h.1) ∙ law h.0 (watched l first j).inward h.2)
+        ∙ ap (λ y. y ++ ms) es
 
     at_matched : (j : ℕ) (ls : List Line) (p : OState) → Told l o j ls p → lines_of l first j ≡ ls
     at_matched _ _ _ none_yet = refl
     at_matched _ _ q (and_then {j = j} {ls = ls} {p = p} r e) =
-        more j (weight_of l p) ls p (reached_by l o j ls p r) (at_matched j ls p r) (step_lines l p q) (λ u inward i. step_whole p u i q j inward e)
+        more j (weight_of l p) ls p (reached_by l o j ls p r) (at_matched j ls p r) (step_lines l p q)
+        (λ u inward i. step_whole p u i q j inward e)
 
     quiet : (j n : ℕ) (ls : List Line) (p : OState) → Told l o j ls p → j ≤ n
         → ((u : State Word) (inward : Bool) → Invariant g p u → lines_of l (at_state u j inward) (n - j) ≡ [])
         → lines_of l first n ≡ ls
     quiet j n ls p r le law =
         let e : n ≡ j + (n - j) = omega (arith, le) in
-        ap (λ k. lines_of l first k) e ∙ more j (n - j) ls p (reached_by l o j ls p r) (at_matched j ls p r) [] law ∙ append-nil ls
+        ap (λ k. lines_of l first k) e
+        ∙ more j (n - j) ls p (reached_by l o j ls p r) (at_matched j ls p r) [] law ∙ append-nil ls
 
     pub lines_agree : LinesAgree l o t
     lines_agree = record {
       matched = at_matched;
-      between = λ j n ls p r le lt. quiet j n ls p r le (λ u inward i. step_within p u i j (n - j) inward (omega (arith, le, lt)));
+      between =
+          λ j n ls p r le lt.
+          quiet j n ls p r le (λ u inward i. step_within p u i j (n - j) inward (omega (arith, le, lt)));
       ended = λ j n ls p r le h. quiet j n ls p r le (λ u inward i. step_ended p u i j (n - j) inward h);
     }

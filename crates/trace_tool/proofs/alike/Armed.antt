@@ -47,7 +47,8 @@ Only r e = (w : Word) × (n : Word) × (e ≡ record no_effect { first = made r 
 
 only : (a r : Reg) (w n : Word) → Some a ≡ Some r
     → Only r (record no_effect { first = made a w; next = Some n })
-only a r w n h = let q : a ≡ r = cc in (w, n, ap (λ y. record no_effect { first = made y w; next = Some n }) q)
+only a r w n h = let q : a ≡ r =
+    cc in (w, n, ap (λ y. record no_effect { first = made y w; next = Some n }) q)
 
 module _ (f : Reg → Face) (w : Reg → Option Opened) (there : Option Face) (next : Word) (r : Reg) where
   plan-Only : (i : Instr) → dest i ≡ Some r → Gives (Only r) (plan i f w there next)
@@ -56,8 +57,14 @@ module _ (f : Reg → Face) (w : Reg → Option Opened) (there : Option Face) (n
   plan-Only (Gete r1 r2) h = Gives-ask _ _ _ (λ _. gives_goes (only r1 r _ _ h))
   plan-Only (Getp r1 r2) h = Gives-ask _ _ _ (λ _. gives_goes (only r1 r _ _ h))
   plan-Only (Getlin r1 r2) h = Gives-ask _ _ _ (λ _. gives_goes (only r1 r _ _ h))
-  plan-Only (Minus r1 r2 n) h = Gives-ask _ _ _ (λ _. Gives-need _ _ _ (λ x e. Gives-need _ _ _ (λ z _. Gives-ask _ _ _ (λ _. gives_goes (only r1 r _ _ h)))))
-  plan-Only (Seta2b r1) h = Gives-ask _ _ _ (λ _. Gives-by_cap (f r1) _ _ (λ c e. gives_goes (only r1 r _ _ h)) (λ c e. gives_goes (only r1 r _ _ h)))
+  plan-Only (Minus r1 r2 n) h =
+      Gives-ask _ _ _
+      (λ _. Gives-need _ _ _
+      (λ x e. Gives-need _ _ _ (λ z _. Gives-ask _ _ _ (λ _. gives_goes (only r1 r _ _ h)))))
+  plan-Only (Seta2b r1) h =
+      Gives-ask _ _ _
+      (λ _. Gives-by_cap (f r1) _ _ (λ c e. gives_goes (only r1 r _ _ h))
+      (λ c e. gives_goes (only r1 r _ _ h)))
   plan-Only (Cca r1 n) h = Gives-ask _ _ _ (λ _. Gives-by_cap (f r1) _ _
       (λ c e. Gives-need _ _ _ (λ z _. Gives-ask _ _ _ (λ _. gives_goes (only r1 r _ _ h))))
       (λ c e. Gives-need _ _ _ (λ z _. Gives-ask _ _ _ (λ _. gives_goes (only r1 r _ _ h)))))
@@ -65,7 +72,8 @@ module _ (f : Reg → Face) (w : Reg → Option Opened) (there : Option Face) (n
 
   -- a jump by T2, or on
   abbrev Tests : Effect → Type 0
-  Tests e = (e ≡ record no_effect { next = Some next }) ⊎ (e ≡ record no_effect { moved = Some (record { from = R T2; to = R Pc }) })
+  Tests e = (e ≡ record no_effect { next = Some next })
+      ⊎ (e ≡ record no_effect { moved = Some (record { from = R T2; to = R Pc }) })
 
   plan-Tests : Gives Tests (plan (Jnz T2 r) f w there next)
   plan-Tests = Gives-need _ _ _ (λ z e. Gives-if _ _ _ (gives_goes (inl refl)) (gives_goes (inr refl)))
@@ -79,7 +87,8 @@ planned : (s s' : State Word) (r : Reg) (p : Plan) → T2 ≢ r → Gives (Only 
     → reg s'.regs T2 ≡ reg s.regs T2
 planned s s' r (Fails f) ne h e = cc
 planned s s' r Halts ne h e = cc
-planned s s' r (Goes x) ne h e = let q : perform id id s x ≡ s' = cc in let k = Gives-effect h in rw (← q, k.2) (only_t2 s r k.0 k.1 ne)
+planned s s' r (Goes x) ne h e = let q : perform id id s x ≡ s' = cc in let k =
+    Gives-effect h in rw (← q, k.2) (only_t2 s r k.0 k.1 ne)
 
 pub t2_stays : (s s' : State Word) (i : Instr) (next : Word) (r : Reg) → dest i ≡ Some r → T2 ≢ r
     → row id id i next s ≡ went s' → reg s'.regs T2 ≡ reg s.regs T2
@@ -87,7 +96,8 @@ unfolding row plan_in
 t2_stays s s' i next r d ne e = planned s s' r _ ne (plan-Only (faces id s) (opens id s) _ next r i d) e
 
 abbrev pub Tested : Word → State Word → State Word → Type 0
-Tested next s s' = (((s'.regs.pc ≡ next) × (reg s'.regs T2 ≡ reg s.regs T2)) ⊎ (s'.regs.pc ≡ reg s.regs T2)) × ((q : ℕ) (z : ℤ) → Num s q z → Num s' q z)
+Tested next s s' = (((s'.regs.pc ≡ next) × (reg s'.regs T2 ≡ reg s.regs T2)) ⊎ (s'.regs.pc ≡ reg s.regs T2))
+    × ((q : ℕ) (z : ℤ) → Num s q z → Num s' q z)
 
 tests_on : (s : State Word) (next : Word)
     → Tested next s (perform id id s (record no_effect { next = Some next }))
@@ -95,19 +105,28 @@ unfolding perform
 tests_on s next = (inl (refl, refl), λ q z h. h)
 
 tests_pc : (s : State Word)
-    → (perform id id s (record no_effect { moved = Some (record { from = R T2; to = R Pc }) })).regs.pc ≡ reg s.regs T2
+    → (perform id id s (record no_effect { moved = Some (record { from = R T2; to = R Pc }) })).regs.pc
+    ≡ reg s.regs T2
 unfolding perform
 tests_pc s = refl
 
 test_planned : (s s' : State Word) (next : Word) (p : Plan)
-    → Gives (λ e. (e ≡ record no_effect { next = Some next }) ⊎ (e ≡ record no_effect { moved = Some (record { from = R T2; to = R Pc }) })) p
+    → Gives (λ e. (e ≡ record no_effect { next = Some next })
+    ⊎ (e ≡ record no_effect { moved = Some (record { from = R T2; to = R Pc }) })) p
     → outcome id id s p ≡ went s' → Tested next s s'
 test_planned s s' next (Fails f) h e = cc
 test_planned s s' next Halts h e = cc
-test_planned s s' next (Goes x) h e = let q : perform id id s x ≡ s' = cc in elim (Gives-effect h) as (λ _. Tested next s s') [
-  | inl k ↦ rw (← q, k) (tests_on s next)
-  | inr k ↦ rw (← q, k) (inr (tests_pc s), λ a z. performed_num s (record no_effect { moved = Some (record { from = R T2; to = R Pc }) }) a z tt)
-]
+test_planned s s' next (Goes x) h e = let q : perform id id s x ≡ s' =
+    cc in elim (Gives-effect h) as (λ _. Tested next s s') [
+      | inl k ↦ rw (← q, k) (tests_on s next)
+      | inr k ↦
+          rw (← q, k) (
+            inr (tests_pc s),
+            λ a z.
+                performed_num s (record no_effect { moved = Some (record { from = R T2; to = R Pc }) })
+                a z tt,
+          )
+    ]
 
 pub test_goes : (s s' : State Word) (next : Word) (r : Reg) → row id id (Jnz T2 r) next s ≡ went s'
     → Tested next s s'
@@ -121,7 +140,8 @@ pub data Armed : List Instr → Type 0 where
   keeps : {is : List Instr} (i : Instr) (r : Reg) → (is_straight i ≡ true) × (is_store i ≡ false) × IsInstr i
       → dest i ≡ Some r → T2 ≢ r → Armed is → Armed (i ∷ is)
 
-went_not : (c : Rattle.lcm_machine.specs.declared.FailCause.FailCause) (at : ℤ) (r : Outcome Word) (s : State Word)
+went_not : (c : Rattle.lcm_machine.specs.declared.FailCause.FailCause) (at : ℤ) (r : Outcome Word)
+    (s : State Word)
     → r ≡ failed c at → r ≡ went s → ⊥
 went_not c at r s e f = let k : failed c at ≡ went s = sym e ∙ f in cc
 
@@ -130,7 +150,8 @@ module _ (l : Layout) (base last fail : ℕ) (fail_low : base ≤ fail) (fail_hi
       → Num s fail (pos (number_of Fail)) → Calm l n s
   calm_fail zero s e h = tt
   calm_fail (suc n) s e h = λ s' goes. absurd (
-      let r : row id id Fail (Mem (code_cap base last (fail + 1))) s ≡ went s' = sym (step_row id id s base last fail Fail e fail_low fail_high h tt) ∙ goes in
+      let r : row id id Fail (Mem (code_cap base last (fail + 1))) s ≡ went s' =
+      sym (step_row id id s base last fail Fail e fail_low fail_high h tt) ∙ goes in
       went_not _ _ _ s' (fail_fails id id (Mem (code_cap base last (fail + 1))) s) r)
 
   pub calm_armed : (is : List Instr) (a : Armed is) (s : State Word) (at : ℕ)
@@ -139,20 +160,30 @@ module _ (l : Layout) (base last fail : ℕ) (fail_low : base ≤ fail) (fail_hi
       → s.regs.t2 ≡ Mem (code_cap base last fail) → Num s fail (pos (number_of Fail)) → Calm l (length is) s
   calm_armed is (rest a) s at e low high h free t2 hf = calm_code l base last is s at a e low high h free
   calm_armed _ (tests {is} r a) s at e low high h free t2 hf = λ s' goes. (
-      let w : row id id (Jnz T2 r) (Mem (code_cap base last (at + 1))) s ≡ went s' = sym (step_row id id s base last at (Jnz T2 r) e low (omega (arith, high)) h.0 tt) ∙ goes in
+      let w : row id id (Jnz T2 r) (Mem (code_cap base last (at + 1))) s ≡ went s' =
+      sym (step_row id id s base last at (Jnz T2 r) e low (omega (arith, high)) h.0 tt) ∙ goes in
       let k = test_goes s s' (Mem (code_cap base last (at + 1))) r w in (
-        quiet_at l s base last at (Jnz T2 r) e low (omega (arith, high)) h.0 tt refl (free at (omega arith) (omega arith)),
+        quiet_at l s base last at (Jnz T2 r) e low (omega (arith, high))
+            h.0 tt refl (free at (omega arith) (omega arith)),
         elim k.0 as (λ _. Calm l (length is) s') [
-          | inl y ↦ calm_armed is a s' (at + 1) y.0 (omega (arith, low)) (omega (arith, high)) (stands_kept s s' (at + 1) is k.1 h.1) (λ q lo hi. free q (omega (arith, lo)) (omega (arith, hi))) (y.1 ∙ t2) (k.1 fail _ hf)
+          | inl y ↦
+              calm_armed is a s' (at + 1) y.0 (omega (arith, low)) (omega (arith, high))
+              (stands_kept s s' (at + 1) is k.1 h.1)
+              (λ q lo hi. free q (omega (arith, lo)) (omega (arith, hi))) (y.1 ∙ t2) (k.1 fail _ hf)
           | inr y ↦ calm_fail (length is) s' (y ∙ t2) (k.1 fail _ hf)
         ],
       ))
   calm_armed _ (keeps {is} i r b d ne a) s at e low high h free t2 hf = λ s' goes. (
-      let w : row id id i (Mem (code_cap base last (at + 1))) s ≡ went s' = sym (step_row id id s base last at i e low (omega (arith, high)) h.0 b.2) ∙ goes in
+      let w : row id id i (Mem (code_cap base last (at + 1))) s ≡ went s' =
+      sym (step_row id id s base last at i e low (omega (arith, high)) h.0 b.2) ∙ goes in
       let g = straight_goes s s' i (Mem (code_cap base last (at + 1))) b.0 w in
       let nums : (q : ℕ) (z : ℤ) → Num s q z → Num s' q z = rw (b.1) at g.1 in (
-        quiet_at l s base last at i e low (omega (arith, high)) h.0 b.2 (no_jump i b.0) (free at (omega arith) (omega arith)),
-        calm_armed is a s' (at + 1) g.0 (omega (arith, low)) (omega (arith, high)) (stands_kept s s' (at + 1) is nums h.1) (λ q lo hi. free q (omega (arith, lo)) (omega (arith, hi))) (t2_stays s s' i _ r d ne w ∙ t2) (nums fail _ hf),
+        quiet_at l s base last at i e low (omega (arith, high)) h.0 b.2 (no_jump i b.0)
+            (free at (omega arith) (omega arith)),
+        calm_armed is a s' (at + 1) g.0 (omega (arith, low)) (omega (arith, high))
+            (stands_kept s s' (at + 1) is nums h.1)
+            (λ q lo hi. free q (omega (arith, lo)) (omega (arith, hi))) (t2_stays s s' i _ r d ne w ∙ t2)
+            (nums fail _ hf),
       ))
 
   -- the two words that make T2 lead to fail, and what comes after them
@@ -166,15 +197,26 @@ module _ (l : Layout) (base last fail : ℕ) (fail_low : base ≤ fail) (fail_hi
       let next2 : Word = Mem (code_cap base last (at + 1 + 1)) in
       let t1 : State Word = put (put s (R T2) (reg s.regs Pc)) (R Pc) next1 in
       let t2 : State Word = put (put t1 (R T2) (Mem (code_cap base last fail))) (R Pc) next2 in
-      let w1 : row id id (Move T2 (InReg Pc)) next1 s ≡ went s1 = sym (step_row id id s base last at (Move T2 (InReg Pc)) e low (omega (arith, high)) h.0 tt) ∙ goes1 in
-      let m1 : row id id (Move T2 (InReg Pc)) next1 s ≡ went t1 = move_goes id id T2 Pc next1 s s refl (stays id id s (R Pc) (ap is_linear e)) in
+      let w1 : row id id (Move T2 (InReg Pc)) next1 s ≡ went s1 =
+      sym (step_row id id s base last at (Move T2 (InReg Pc)) e low (omega (arith, high)) h.0 tt)
+      ∙ goes1 in
+      let m1 : row id id (Move T2 (InReg Pc)) next1 s ≡ went t1 =
+      move_goes id id T2 Pc next1 s s refl (stays id id s (R Pc) (ap is_linear e)) in
       let same1 : t1 ≡ s1 = (let k : went t1 ≡ went s1 = sym m1 ∙ w1 in cc) in (
-        quiet_at l s base last at (Move T2 (InReg Pc)) e low (omega (arith, high)) h.0 tt refl (free at (omega arith) (omega arith)),
+        quiet_at l s base last at (Move T2 (InReg Pc)) e low (omega (arith, high))
+            h.0 tt refl (free at (omega arith) (omega arith)),
         subst (λ y. Calm l (suc (length is)) y) same1 (λ s2 goes2. (
-            let w2 : row id id (Cca T2 (Imm n)) next2 t1 ≡ went s2 = sym (step_row id id t1 base last (at + 1) (Cca T2 (Imm n)) refl (omega (arith, low)) (omega (arith, high)) h.1.0 fn) ∙ goes2 in
-            let m2 : row id id (Cca T2 (Imm n)) next2 t1 ≡ went t2 = cca_goes id id T2 (Imm n) next2 t1 (code_cap base last at) n (pos fail) refl e refl leads fits in
+            let w2 : row id id (Cca T2 (Imm n)) next2 t1 ≡ went s2 =
+            sym (step_row id id t1 base last (at + 1) (Cca T2 (Imm n)) refl (omega (arith, low))
+            (omega (arith, high)) h.1.0 fn) ∙ goes2 in
+            let m2 : row id id (Cca T2 (Imm n)) next2 t1 ≡ went t2 =
+            cca_goes id id T2 (Imm n) next2 t1 (code_cap base last at) n (pos fail)
+            refl e refl leads fits in
             let same2 : t2 ≡ s2 = (let k : went t2 ≡ went s2 = sym m2 ∙ w2 in cc) in (
-              quiet_at l t1 base last (at + 1) (Cca T2 (Imm n)) refl (omega (arith, low)) (omega (arith, high)) h.1.0 fn refl (free (at + 1) (omega arith) (omega arith)),
-              subst (λ y. Calm l (length is) y) same2 (calm_armed is a t2 (at + 1 + 1) refl (omega (arith, low)) (omega (arith, high)) h.1.1 (λ q lo hi. free q (omega (arith, lo)) (omega (arith, hi))) refl hf),
+              quiet_at l t1 base last (at + 1) (Cca T2 (Imm n)) refl (omega (arith, low))
+                  (omega (arith, high)) h.1.0 fn refl (free (at + 1) (omega arith) (omega arith)),
+              subst (λ y. Calm l (length is) y)
+                  same2 (calm_armed is a t2 (at + 1 + 1) refl (omega (arith, low)) (omega (arith, high))
+                  h.1.1 (λ q lo hi. free q (omega (arith, lo)) (omega (arith, hi))) refl hf),
             ))),
       ))

@@ -86,7 +86,9 @@ part_there l f h = by_owner (trusted_owner l f) h
     by_owner None e = cc
     by_owner (Some o) e = refl
 
-module _ (g : Link) (linked : Linked g) (i : ℕ) (o : OState) (t : State Word) (at_site : AtSite g.layout i o) (m : IsFlat g.layout o t) (k : Looks g.layout o) (free : NoEnd g.layout at_site.site.at (at_site.site.at + 15)) where
+module _ (g : Link) (linked : Linked g) (i : ℕ) (o : OState) (t : State Word) (at_site : AtSite g.layout i o)
+    (m : IsFlat g.layout o t) (k : Looks g.layout o)
+    (free : NoEnd g.layout at_site.site.at (at_site.site.at + 15)) where
   abbrev l : Layout
   l = g.layout
 
@@ -99,7 +101,8 @@ module _ (g : Link) (linked : Linked g) (i : ℕ) (o : OState) (t : State Word) 
   pub whole_calm : Calm l 15 t
   whole_calm =
       let top = at_site.in_stack in
-      call_calm l t site.base site.end site.at site.seal has_call (record (stack_cap l.stack.base at_site.end 0) { addr = at_site.to })
+      call_calm l t site.base site.end site.at site.seal has_call
+      (record (stack_cap l.stack.base at_site.end 0) { addr = at_site.to })
       (m.regs Pc ∙ flat-mem l o.frames _ _ at_site.pc) (m.regs Stk ∙ flat-mem l o.frames _ _ at_site.stk)
       (λ q lo hi. (its_site l i o t at_site m k).apart q lo (omega (arith, hi, top))) free
 
@@ -111,7 +114,8 @@ module _ (g : Link) (linked : Linked g) (i : ℕ) (o : OState) (t : State Word) 
   foreign_seal : (c : OWord) → o.maps.regs.c1 ≡ c → is_plain c ≡ true
       → option_and_then (site_of_seal l) (option_map (λ (z : Opened). z.seal) (opened_of t.regs.c1)) ≡ None
   foreign_seal (Plain w) e p =
-      ap (λ y. option_and_then (site_of_seal l) (option_map (λ (z : Opened). z.seal) (opened_of y))) (c1_opened w e)
+      ap (λ y. option_and_then (site_of_seal l) (option_map (λ (z : Opened). z.seal) (opened_of y)))
+      (c1_opened w e)
       ∙ sym (opened_seal l (opened_of w)) ∙ foreign_none g linked w (at_site.foreign w e) (opened_of w) refl
   foreign_seal (RetCode j) e p = cc
   foreign_seal (RetData j) e p = cc
@@ -119,107 +123,160 @@ module _ (g : Link) (linked : Linked g) (i : ℕ) (o : OState) (t : State Word) 
   told_calls : (c : OWord) → o.maps.regs.c1 ≡ c → is_plain c ≡ true
       → site_opened l (opens look o.maps C1) ≡ None
   unfolding opens
-  told_calls (Plain w) e p = ap (λ y. site_opened l (opened_of (look y))) e ∙ foreign_none g linked w (at_site.foreign w e) (opened_of w) refl
+  told_calls (Plain w) e p = ap (λ y. site_opened l (opened_of (look y))) e
+      ∙ foreign_none g linked w (at_site.foreign w e) (opened_of w) refl
   told_calls (RetCode j) e p = cc
   told_calls (RetData j) e p = cc
 
-  module _ (b : ℕ) (cursor : at_site.to ≡ pos (b + 1)) (low : l.stack.base ≤ b) (high : b + 1 ≤ at_site.end) where
-    abbrev pub s15 : State Word
-    s15 = t15 l i o t at_site m k b cursor low high
+  module _ (b : ℕ) (cursor : at_site.to ≡ pos (b + 1)) (low : l.stack.base ≤ b) (high : b + 1 ≤ at_site.end)
+    where
+      abbrev pub s15 : State Word
+      s15 = t15 l i o t at_site m k b cursor low high
 
-    prepares : run_of id id 15 t ≡ went s15
-    prepares =
-        let e = at_site.in_stack in
-        let d = at_site.small_stack in
-        call_runs id id (λ x. refl) t site.base site.end site.at site.seal l.stack.base at_site.end b _
-        has_call
-        (m.regs Pc ∙ flat-mem l o.frames _ _ at_site.pc)
-        (m.regs Stk ∙ flat-mem l o.frames _ _ (at_site.stk ∙ ap (λ c. Mem (record (stack_cap l.stack.base at_site.end 0) { addr = c })) cursor))
-        (dat_normal l i o t at_site m k) low high (omega (arith, e, d))
-        ((its_site l i o t at_site m k).apart (b + 1) (omega (arith, low)) (omega (arith, e, high)))
-        (cell-flat l o t (b + 1) _ m (some_of (cell o.maps.cells (b + 1)) (Plain (Rattle.cap_words.specs.declared.Word.TheVariants.Int (pos 0))) (at_site.owned (b + 1) (omega (arith, low)) high)))
+      prepares : run_of id id 15 t ≡ went s15
+      prepares =
+          let e = at_site.in_stack in
+          let d = at_site.small_stack in
+          call_runs id id (λ x. refl) t site.base site.end site.at site.seal l.stack.base at_site.end b _
+          has_call
+          (m.regs Pc ∙ flat-mem l o.frames _ _ at_site.pc)
+          (m.regs Stk
+          ∙ flat-mem l o.frames _ _
+          (at_site.stk ∙ ap (λ c. Mem (record (stack_cap l.stack.base at_site.end 0) { addr = c })) cursor))
+          (dat_normal l i o t at_site m k) low high (omega (arith, e, d))
+          ((its_site l i o t at_site m k).apart (b + 1) (omega (arith, low)) (omega (arith, e, high)))
+          (cell-flat l o t (b + 1)
+          _ m (some_of (cell o.maps.cells (b + 1))
+          (Plain (Rattle.cap_words.specs.declared.Word.TheVariants.Int (pos 0)))
+          (at_site.owned (b + 1) (omega (arith, low)) high)))
 
-    starts : site.base ≤ site.at + 15
-    starts = let a = has_call.at_is in omega (arith, a)
+      starts : site.base ≤ site.at + 15
+      starts = let a = has_call.at_is in omega (arith, a)
 
-    ends : site.at + 15 ≤ site.end
-    ends = let a = has_call.ends in omega (arith, a)
+      ends : site.at + 15 ≤ site.end
+      ends = let a = has_call.ends in omega (arith, a)
 
-    xjmp_stands : Num s15 (site.at + 15) (pos (number_of (Xjmp C1 C2)))
-    unfolding call_code
-    xjmp_stands =
-        let e = at_site.in_stack in
-        let ai = has_call.at_is in
-        let en = has_call.ends in
-        let c : Stands id s15.cells site.at (call_code has_call.literal has_call.offset has_call.number) =
-        stands_outside t.cells (b + 1) t.regs.dat site.base site.end site.at (call_code has_call.literal has_call.offset has_call.number) ((its_site l i o t at_site m k).apart (b + 1) (omega (arith, low)) (omega (arith, e, high))) (omega (arith, ai)) (omega (arith, en)) has_call.code in
-        let z : site.at + 1 + 1 + 1 + 1 + 1 + 1 + 1 + 1 + 1 + 1 + 1 + 1 + 1 + 1 + 1 ≡ site.at + 15 = omega arith in
-        subst (λ a. Num s15 a (pos (number_of (Xjmp C1 C2)))) z c.1.1.1.1.1.1.1.1.1.1.1.1.1.1.1.0
+      xjmp_stands : Num s15 (site.at + 15) (pos (number_of (Xjmp C1 C2)))
+      unfolding call_code
+      xjmp_stands =
+          let e = at_site.in_stack in
+          let ai = has_call.at_is in
+          let en = has_call.ends in
+          let c : Stands id s15.cells site.at (call_code has_call.literal has_call.offset has_call.number) =
+          stands_outside t.cells (b + 1)
+          t.regs.dat site.base site.end site.at (call_code has_call.literal has_call.offset has_call.number)
+          ((its_site l i o t at_site m k).apart (b + 1) (omega (arith, low)) (omega (arith, e, high)))
+          (omega (arith, ai)) (omega (arith, en)) has_call.code in
+          let z : site.at + 1 + 1 + 1 + 1 + 1 + 1 + 1 + 1 + 1 + 1 + 1 + 1 + 1 + 1 + 1 ≡ site.at + 15 =
+          omega arith in
+          subst (λ a. Num s15 a (pos (number_of (Xjmp C1 C2)))) z c.1.1.1.1.1.1.1.1.1.1.1.1.1.1.1.0
 
-    pc15 : s15.regs.pc ≡ Mem (code_cap site.base site.end (site.at + 15))
-    pc15 = refl
+      pc15 : s15.regs.pc ≡ Mem (code_cap site.base site.end (site.at + 15))
+      pc15 = refl
 
-    row15 : (u : State Word) → step_of id id s15 ≡ went u
-        → row id id (Xjmp C1 C2) (Mem (code_cap site.base site.end (site.at + 15 + 1))) s15 ≡ went u
-    row15 u e = sym (step_row id id s15 site.base site.end (site.at + 15) (Xjmp C1 C2) pc15 starts ends xjmp_stands tt) ∙ e
+      row15 : (u : State Word) → step_of id id s15 ≡ went u
+          → row id id (Xjmp C1 C2) (Mem (code_cap site.base site.end (site.at + 15 + 1))) s15 ≡ went u
+      row15 u e =
+          sym (step_row id id s15 site.base site.end (site.at + 15) (Xjmp C1 C2)
+          pc15 starts ends xjmp_stands tt) ∙ e
 
-    abbrev Note15 : Note
-    Note15 = Leap (record { from = trusted_part l (Memory (code_cap site.base site.end (site.at + 15))); call = Some i; seal = option_map (λ (z : Opened). z.seal) (opened_of t.regs.c1) })
+      abbrev Note15 : Note
+      Note15 = Leap
+          (record {
+            from = trusted_part l (Memory (code_cap site.base site.end (site.at + 15)));
+            call =
+                Some i;
+            seal = option_map (λ (z : Opened). z.seal) (opened_of t.regs.c1);
+          })
 
-    noted15 : noted l s15 ≡ Note15
-    unfolding noted opens
-    noted15 =
-        ap (noted_by l s15) (jump_is s15 site.base site.end (site.at + 15) (Xjmp C1 C2) pc15 starts ends xjmp_stands tt)
-        ∙ ap (λ f. let n : Note = Leap (record { from = trusted_part l f; call = site_word l 15 f; seal = option_map (λ (z : Opened). z.seal) (opened_of t.regs.c1) }) in n) (shown_at s15 site.base site.end (site.at + 15) pc15)
-        ∙ ap (λ c. let n : Note = Leap (record { from = trusted_part l (Memory (code_cap site.base site.end (site.at + 15))); call = c; seal = option_map (λ (z : Opened). z.seal) (opened_of t.regs.c1) }) in n)
-        (word_at l 15 (site.at + 15) (Memory (code_cap site.base site.end (site.at + 15))) (Some i) (target_code site.base site.end (site.at + 15) starts ends) (site_there g linked i 15 site at_site.is_site) (trusted_code g linked i site at_site.is_site (site.at + 15)))
+      noted15 : noted l s15 ≡ Note15
+      unfolding noted opens
+      noted15 =
+          ap (noted_by l s15)
+          (jump_is s15 site.base site.end (site.at + 15) (Xjmp C1 C2) pc15 starts ends xjmp_stands tt)
+          ∙ ap (λ f. let n : Note =
+          Leap (record {
+            from = trusted_part l f;
+            call = site_word l 15 f;
+            seal =
+                option_map (λ (z : Opened). z.seal) (opened_of t.regs.c1);
+          }) in n)
+          (shown_at s15 site.base site.end (site.at + 15) pc15)
+          ∙ ap (λ c. let n : Note =
+          Leap (record {
+            from = trusted_part l (Memory (code_cap site.base site.end (site.at + 15)));
+            call =
+                c;
+            seal = option_map (λ (z : Opened). z.seal) (opened_of t.regs.c1);
+          }) in n)
+          (word_at l 15 (site.at + 15) (Memory (code_cap site.base site.end (site.at + 15))) (Some i)
+          (target_code site.base site.end (site.at + 15) starts ends)
+          (site_there g linked i 15 site at_site.is_site)
+          (trusted_code g linked i site at_site.is_site (site.at + 15)))
 
-    from15 : is_some (trusted_part l (Memory (code_cap site.base site.end (site.at + 15)))) ≡ true
-    from15 = part_there l (Memory (code_cap site.base site.end (site.at + 15))) (trusted_code g linked i site at_site.is_site (site.at + 15))
+      from15 : is_some (trusted_part l (Memory (code_cap site.base site.end (site.at + 15)))) ≡ true
+      from15 = part_there l (Memory (code_cap site.base site.end (site.at + 15)))
+          (trusted_code g linked i site at_site.is_site (site.at + 15))
 
-    event15 : (u : State Word) (q : OState) (inward : Bool) → is_plain o.maps.regs.c1 ≡ true
-        → step_of id id s15 ≡ went u → IsFlat l q u
-        → event_after l Note15 inward (flat_view l q) ≡ Some (CalledEvent (reaches_trusted l (flat_view l q)) i (b + 1) at_site.end)
-    unfolding event_after
-    event15 u q inward p e mq =
-        call_event l _ i _ (flat_view l q) (Some (record { seal = site.seal; content = MemC (stack_cap (b + 1) at_site.end (b + 1)) })) from15 (foreign_seal o.maps.regs.c1 refl p)
-        (ap opened_of (sym (mq.regs Rdata)) ∙ ap opened_of (rdata_stays s15 u _ (row15 u e)))
+      event15 : (u : State Word) (q : OState) (inward : Bool) → is_plain o.maps.regs.c1 ≡ true
+          → step_of id id s15 ≡ went u → IsFlat l q u
+          → event_after l Note15 inward (flat_view l q)
+          ≡ Some (CalledEvent (reaches_trusted l (flat_view l q)) i (b + 1) at_site.end)
+      unfolding event_after
+      event15 u q inward p e mq =
+          call_event l _ i _ (flat_view l q)
+          (Some (record { seal = site.seal; content = MemC (stack_cap (b + 1) at_site.end (b + 1)) }))
+          from15 (foreign_seal o.maps.regs.c1 refl p)
+          (ap opened_of (sym (mq.regs Rdata)) ∙ ap opened_of (rdata_stays s15 u _ (row15 u e)))
 
-    call_line : (u : State Word) (q : OState) (n : ℕ) (inward : Bool) → is_plain o.maps.regs.c1 ≡ true
-        → run_of id id 16 t ≡ went u → IsFlat l q u
-        → lines_of l (at_state t n inward) 16 ≡ lines_for l (flat_view l q) (Some (CalledEvent (reaches_trusted l (flat_view l q)) i (b + 1) at_site.end))
-    call_line u q n inward p e mq =
-        let step : step_of id id s15 ≡ went u = last_step 15 t s15 u prepares e in
-        calm_then l 15 1 t s15 n inward whole_calm prepares
-        ∙ line_flat l q s15 u (n + 15) inward step mq
-        ∙ ap (λ y. lines_for l (flat_view l q) (event_after l y inward (flat_view l q))) noted15
-        ∙ ap (lines_for l (flat_view l q)) (event15 u q inward p step mq)
+      call_line : (u : State Word) (q : OState) (n : ℕ) (inward : Bool) → is_plain o.maps.regs.c1 ≡ true
+          → run_of id id 16 t ≡ went u → IsFlat l q u
+          → lines_of l (at_state t n inward) 16 ≡ lines_for l (flat_view l q)
+          (Some (CalledEvent (reaches_trusted l (flat_view l q)) i (b + 1) at_site.end))
+      call_line u q n inward p e mq =
+          let step : step_of id id s15 ≡ went u = last_step 15 t s15 u prepares e in
+          calm_then l 15 1 t s15 n inward whole_calm prepares
+          ∙ line_flat l q s15 u (n + 15) inward step mq
+          ∙ ap (λ y. lines_for l (flat_view l q) (event_after l y inward (flat_view l q))) noted15
+          ∙ ap (lines_for l (flat_view l q)) (event15 u q inward p step mq)
 
   -- the same, from the overlay's step
   by_cursor : (u : State Word) (q : OState) (n : ℕ) (inward : Bool) (c : Called l i o q)
       → run_of id id 16 t ≡ went u → IsFlat l q u → Looks l q → (z : ℤ) → at_site.to ≡ z
       → c.cap ≡ record (stack_cap l.stack.base at_site.end 0) { addr = z }
-      → lines_of l (at_state t n inward) 16 ≡ lines_for l (flat_view l q) (told_after l (note_by l o (Call i)) q)
-  by_cursor u q n inward c e mq kq (negsuc a) z s = let ab = c.above in let bad : address c.cap.addr ≡ 0 = ap (λ y. address y.addr) s in absurd (omega (arith, ab, bad))
+      → lines_of l (at_state t n inward) 16 ≡ lines_for l (flat_view l q)
+      (told_after l (note_by l o (Call i)) q)
+  by_cursor u q n inward c e mq kq (negsuc a) z s = let ab = c.above in let bad : address c.cap.addr ≡ 0 =
+      ap (λ y. address y.addr) s in absurd (omega (arith, ab, bad))
   by_cursor u q n inward c e mq kq (pos a) z s =
       let ab = c.above in
       let wi = c.within in
       let ad : address c.cap.addr ≡ a = ap (λ y. address y.addr) s in
       let en : c.cap.end ≡ at_site.end = ap (λ y. y.end) s in
       let one : a ≡ a - 1 + 1 = omega (arith, ab, ad) in
-      call_line (a - 1) (z ∙ ap pos one) (omega (arith, ab, ad)) (omega (arith, ad, en, wi, one)) u q n inward c.plain1 e mq
-      ∙ ap (λ y. lines_for l (flat_view l q) (Some (CalledEvent (reaches_trusted l (flat_view l q)) i y at_site.end))) (sym one ∙ sym ad)
-      ∙ ap (λ y. lines_for l (flat_view l q) (Some (CalledEvent (reaches_trusted l (flat_view l q)) i (address c.cap.addr) y))) (sym en)
-      ∙ ap (λ f. lines_for l (flat_view l q) (called_told (is_some (trusted_owner l f)) (new_frame i (address c.cap.addr) c.cap.end o ∷ o.frames))) (face_now l q kq)
-      ∙ ap (λ fs. lines_for l (flat_view l q) (called_told (is_some (trusted_owner l (faces look q.maps Pc))) fs)) (sym (ap (λ y. y.frames) c.result))
-      ∙ ap (λ r. lines_for l (flat_view l q) (told_after l (note_call r) q)) (sym (told_calls o.maps.regs.c1 refl c.plain1))
+      call_line (a - 1) (z ∙ ap pos one) (omega (arith, ab, ad)) (omega (arith, ad, en, wi, one))
+      u q n inward c.plain1 e mq
+      ∙ ap (λ y. lines_for l (flat_view l q)
+      (Some (CalledEvent (reaches_trusted l (flat_view l q)) i y at_site.end))) (sym one ∙ sym ad)
+      ∙ ap (λ y. lines_for l (flat_view l q)
+      (Some (CalledEvent (reaches_trusted l (flat_view l q)) i (address c.cap.addr) y))) (sym en)
+      ∙ ap (λ f. lines_for l (flat_view l q)
+      (called_told (is_some (trusted_owner l f))
+      (new_frame i (address c.cap.addr) c.cap.end o ∷ o.frames))) (face_now l q kq)
+      ∙ ap (λ fs. lines_for l (flat_view l q)
+      (called_told (is_some (trusted_owner l (faces look q.maps Pc))) fs))
+      (sym (ap (λ y. y.frames) c.result))
+      ∙ ap (λ r. lines_for l (flat_view l q) (told_after l (note_call r) q))
+      (sym (told_calls o.maps.regs.c1 refl c.plain1))
 
   pub call_whole : (u : State Word) (q : OState) (n : ℕ) (inward : Bool) → call_step l i o ≡ goes q
       → run_of id id 16 t ≡ went u → IsFlat l q u → Looks l q
-      → lines_of l (at_state t n inward) 16 ≡ lines_for l (flat_view l q) (told_after l (note_by l o (Call i)) q)
+      → lines_of l (at_state t n inward) 16 ≡ lines_for l (flat_view l q)
+      (told_after l (note_by l o (Call i)) q)
   call_whole u q n inward h e mq kq =
       let c = called l i o q h in
-      let own : Some c.cap ≡ Some (record (stack_cap l.stack.base at_site.end 0) { addr = at_site.to }) = sym c.own ∙ owns l i o t at_site m k at_site.to refl in
+      let own : Some c.cap ≡ Some (record (stack_cap l.stack.base at_site.end 0) { addr = at_site.to }) =
+      sym c.own ∙ owns l i o t at_site m k at_site.to refl in
       by_cursor u q n inward c e mq kq at_site.to refl cc
 
   -- ---- a call of a RetCode: its `xjmp` has no line
@@ -229,42 +286,75 @@ module _ (g : Link) (linked : Linked g) (i : ℕ) (o : OState) (t : State Word) 
     ret_is = m.regs C1 ∙ ap (flat l o.frames) e1
 
     known_seal : (y : Opened) → opened_of t.regs.c1 ≡ Some y
-        → is_some (option_and_then (site_of_seal l) (option_map (λ (z : Opened). z.seal) (opened_of t.regs.c1))) ≡ true
-    known_seal y e = elim (opened-code l o.frames j (site_code l j) refl) as (λ _. is_some (option_and_then (site_of_seal l) (option_map (λ (z : Opened). z.seal) (opened_of t.regs.c1))) ≡ true) [
-      | inl h ↦ (let bad : None ≡ Some y = sym h ∙ sym (ap opened_of ret_is) ∙ e in cc)
-      | inr h ↦ ap (λ w. is_some (option_and_then (site_of_seal l) (option_map (λ (z : Opened). z.seal) w))) (ap opened_of ret_is ∙ h.2) ∙ seal_there g linked j h.0 h.1
-    ]
+        → is_some
+        (option_and_then (site_of_seal l) (option_map (λ (z : Opened). z.seal) (opened_of t.regs.c1)))
+        ≡ true
+    known_seal y e =
+        elim (opened-code l o.frames j (site_code l j) refl)
+        as (λ _. is_some
+        (option_and_then (site_of_seal l) (option_map (λ (z : Opened). z.seal) (opened_of t.regs.c1))) ≡ true) [
+          | inl h ↦ (let bad : None ≡ Some y = sym h ∙ sym (ap opened_of ret_is) ∙ e in cc)
+          | inr h ↦
+              ap (λ w. is_some (option_and_then (site_of_seal l) (option_map (λ (z : Opened). z.seal) w)))
+              (ap opened_of ret_is ∙ h.2) ∙ seal_there g linked j h.0 h.1
+        ]
 
-    module _ (b : ℕ) (cursor : at_site.to ≡ pos (b + 1)) (low : l.stack.base ≤ b) (high : b + 1 ≤ at_site.end) where
-      event_z : (u : State Word) (inward : Bool) → step_of id id (s15 b cursor low high) ≡ went u
-          → event_after l (Note15 b cursor low high) inward (view_of u) ≡ None
-      unfolding event_after
-      event_z u inward e = let y = xjmp_opens (s15 b cursor low high) u C1 C2 _ (row15 b cursor low high u e) in seal_known l _ i _ (view_of u) (from15 b cursor low high) (known_seal y.0 y.1)
+    module _ (b : ℕ) (cursor : at_site.to ≡ pos (b + 1)) (low : l.stack.base ≤ b) (high : b + 1 ≤ at_site.end)
+      where
+        event_z : (u : State Word) (inward : Bool) → step_of id id (s15 b cursor low high) ≡ went u
+            → event_after l (Note15 b cursor low high) inward (view_of u) ≡ None
+        unfolding event_after
+        event_z u inward e = let y =
+            xjmp_opens (s15 b cursor low high) u C1 C2 _ (row15 b cursor low high u e) in
+            seal_known l _ i _ (view_of u) (from15 b cursor low high) (known_seal y.0 y.1)
 
-      last_mute : Mute l 1 (s15 b cursor low high)
-      last_mute = λ u e. (λ c inward. line_goes l (s15 b cursor low high) u c inward e ∙ ap (λ n. lines_for l (view_of u) (event_after l n inward (view_of u))) (noted15 b cursor low high) ∙ ap (lines_for l (view_of u)) (event_z u inward e), tt)
+        last_mute : Mute l 1 (s15 b cursor low high)
+        last_mute =
+            λ u e. (
+              λ c inward. line_goes l (s15 b cursor low high) u c inward e
+                  ∙ ap (λ n. lines_for l (view_of u) (event_after l n inward (view_of u)))
+                  (noted15 b cursor low high)
+                  ∙ ap (lines_for l (view_of u)) (event_z u inward e),
+              tt,
+            )
 
     not_failed : (n d : ℕ) (u : State Word) → HasFailed (run_of id id n t) → n + d ≡ 15
         → run_of id id 15 t ≡ went u → ⊥
-    not_failed n d u h z e = let f = failed_more id id n d t h in let f2 : HasFailed (run_of id id 15 t) = subst (λ y. HasFailed (run_of id id y t)) z f in let f3 : HasFailed (went u) = subst (λ r. HasFailed r) e f2 in f3
+    not_failed n d u h z e = let f = failed_more id id n d t h in let f2 : HasFailed (run_of id id 15 t) =
+        subst (λ y. HasFailed (run_of id id y t)) z f in let f3 : HasFailed (went u) =
+        subst (λ r. HasFailed r) e f2 in f3
 
     at_address : (u : State Word) → run_of id id 15 t ≡ went u → (a : ℕ) → at_site.to ≡ pos a → Mute l 1 u
     at_address u r a e = elim (cases_lt at_site.end a) as (λ _. Mute l 1 u) [
-      | inl past ↦ absurd (not_failed 1 14 u (outside l i o t at_site m k (pos a) e (and_right (nat_le l.stack.base a) (nat_le a at_site.end) (lt-leb a at_site.end past))) refl r)
+      | inl past ↦
+          absurd (not_failed 1 14 u
+          (outside l i o t at_site m k (pos a)
+          e (and_right (nat_le l.stack.base a) (nat_le a at_site.end) (lt-leb a at_site.end past))) refl r)
       | inr le ↦ elim (cases_lt l.stack.base a) as (λ _. Mute l 1 u) [
-        | inl lt ↦ (let one : a ≡ a - 1 + 1 = omega (arith, lt) in let cu = e ∙ ap pos one in let lo : l.stack.base ≤ a - 1 = omega (arith, lt) in let hi : a - 1 + 1 ≤ at_site.end = omega (arith, one, le) in
-            let same : s15 (a - 1) cu lo hi ≡ u = (let q : went (s15 (a - 1) cu lo hi) ≡ went u = sym (prepares (a - 1) cu lo hi) ∙ r in cc) in
+        | inl lt ↦
+            (let one : a ≡ a - 1 + 1 = omega (arith, lt) in let cu =
+            e ∙ ap pos one in let lo : l.stack.base ≤ a - 1 =
+            omega (arith, lt) in let hi : a - 1 + 1 ≤ at_site.end = omega (arith, one, le) in
+            let same : s15 (a - 1) cu lo hi ≡ u =
+            (let q : went (s15 (a - 1) cu lo hi) ≡ went u = sym (prepares (a - 1) cu lo hi) ∙ r in cc) in
             subst (λ y. Mute l 1 y) same (last_mute (a - 1) cu lo hi))
         | inr ge ↦ elim (cases_eq a l.stack.base) as (λ _. Mute l 1 u) [
-          | inl same ↦ absurd (not_failed 8 7 u (lowest l i o t at_site m k (e ∙ ap pos same) (omega (arith, same, le))) refl r)
-          | inr ne ↦ absurd (not_failed 1 14 u (outside l i o t at_site m k (pos a) e (and_left (nat_le l.stack.base a) (nat_le a at_site.end) (lt-leb l.stack.base a (omega (arith, ge, ne))))) refl r)
+          | inl same ↦
+              absurd (not_failed 8 7 u
+              (lowest l i o t at_site m k (e ∙ ap pos same) (omega (arith, same, le))) refl r)
+          | inr ne ↦
+              absurd (not_failed 1 14 u
+              (outside l i o t at_site m k (pos a)
+              e (and_left (nat_le l.stack.base a) (nat_le a at_site.end)
+              (lt-leb l.stack.base a (omega (arith, ge, ne))))) refl r)
         ]
       ]
     ]
 
     by_address : (u : State Word) → run_of id id 15 t ≡ went u → (z : ℤ) → at_site.to ≡ z → Mute l 1 u
     by_address u r (pos a) e = at_address u r a e
-    by_address u r (negsuc a) e = absurd (not_failed 1 14 u (outside l i o t at_site m k (negsuc a) e refl) refl r)
+    by_address u r (negsuc a) e =
+        absurd (not_failed 1 14 u (outside l i o t at_site m k (negsuc a) e refl) refl r)
 
     pub ret_mute : Mute l 16 t
     ret_mute = mute_more l 15 1 t (calm_mute l 15 t whole_calm) (λ u r. by_address u r at_site.to refl)

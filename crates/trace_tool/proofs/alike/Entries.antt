@@ -23,7 +23,8 @@ entry_rest sb =
     Gettype T1 Stk ∷ Minus T1 T1 (Imm (pos 1)) ∷ Jnz T2 T1
     ∷ Getlin T1 Stk ∷ Minus T1 T1 (Imm (pos 1)) ∷ Jnz T2 T1 ∷ Getp T1 Stk ∷ Minus T1 T1 (Imm (pos 2))
     ∷ Jnz T2 T1 ∷ Getb T1 Stk ∷ Minus T1 T1 (Imm (pos sb)) ∷ Jnz T2 T1 ∷ Seta2b Stk
-    ∷ Gete T1 Stk ∷ Minus T1 T1 (Imm (pos sb)) ∷ Cca Stk (InReg T1) ∷ Move T1 (Imm (pos 0)) ∷ Move T2 (Imm (pos 0)) ∷ []
+    ∷ Gete T1 Stk ∷ Minus T1 T1 (Imm (pos sb)) ∷ Cca Stk (InReg T1) ∷ Move T1 (Imm (pos 0))
+    ∷ Move T2 (Imm (pos 0)) ∷ []
 
 t2_t1 : T2 ≢ T1
 t2_t1 e = cc
@@ -34,7 +35,27 @@ entry_armed sb h =
     (keeps _ T1 (refl, refl, tt) refl t2_t1 (keeps _ T1 (refl, refl, (search rules)) refl t2_t1 (tests T1
     (keeps _ T1 (refl, refl, tt) refl t2_t1 (keeps _ T1 (refl, refl, (search rules)) refl t2_t1 (tests T1
     (keeps _ T1 (refl, refl, tt) refl t2_t1 (keeps _ T1 (refl, refl, small_operand sb h) refl t2_t1 (tests T1
-    (rest (refl, inl refl, tt, (refl, inl refl, tt, (refl, inl refl, small_operand sb h, (refl, inl refl, tt, (refl, inl refl, (search rules), (refl, inl refl, (search rules), tt))))))))))))))))))
+    (rest (
+      refl,
+      inl refl,
+      tt,
+      (
+        refl,
+        inl refl,
+        tt,
+        (
+          refl,
+          inl refl,
+          small_operand sb h,
+          (
+            refl,
+            inl refl,
+            tt,
+            (refl, inl refl, (search rules), (refl, inl refl, (search rules), tt)),
+          ),
+        ),
+      ),
+    )))))))))))))
 
 module _ (l : Layout) (s : State Word) (base last at sb : ℕ) (h : HasEntry id s.cells base last at sb) where
   pub entry_calm : s.regs.pc ≡ Mem (code_cap base last at) → sb ≤ LAST_PLACE → NoEnd l at (at + 20)
@@ -45,7 +66,9 @@ module _ (l : Layout) (s : State Word) (base last at sb : ℕ) (h : HasEntry id 
       let en = h.ends in
       let sm = h.small in
       let fh = h.fails.1 in
-      calm_arming l base last (base + h.fail) (omega arith) fh (entry_rest sb) (entry_armed sb small) (distance h.offset h.fail) s at
+      calm_arming l base last (base + h.fail) (omega arith) fh (entry_rest sb) (entry_armed sb small)
+      (distance h.offset h.fail) s at
       pc (omega (arith, ai)) (omega (arith, en)) h.code (λ q lo hi. free q lo (omega (arith, hi)))
-      (leads at base h.offset h.fail ai) (fits_small (base + h.fail) (omega (arith, fh, sm))) (near_operand h.offset h.fail (omega (arith, ai, en, sm)) (omega (arith, fh, sm)))
+      (leads at base h.offset h.fail ai) (fits_small (base + h.fail) (omega (arith, fh, sm)))
+      (near_operand h.offset h.fail (omega (arith, ai, en, sm)) (omega (arith, fh, sm)))
       h.fails.0.0

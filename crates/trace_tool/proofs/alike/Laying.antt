@@ -35,7 +35,8 @@ jump_is s base last at i e low high h ok = ap jump_in (fetch_at id id s base las
 pub word_at : (l : Layout) (off a : ℕ) (f : Face) (r : Option ℕ) → target_of f ≡ Some a
     → site_before l off a ≡ r → is_some (trusted_owner l f) ≡ true → site_word l off f ≡ r
 unfolding site_word
-word_at l off a f r t e k = ap (λ b. option_and_then (site_before l off) (if b then target_of f else None)) k ∙ ap (option_and_then (site_before l off)) t ∙ e
+word_at l off a f r t e k = ap (λ b. option_and_then (site_before l off) (if b then target_of f else None)) k
+    ∙ ap (option_and_then (site_before l off)) t ∙ e
 
 pub word_none : (l : Layout) (off a : ℕ) (f : Face) → target_of f ≡ Some a → site_before l off a ≡ None
     → site_word l off f ≡ None
@@ -58,8 +59,11 @@ pub quiet_at : (l : Layout) (s : State Word) (base last at : ℕ) (i : Instr)
     → s.regs.pc ≡ Mem (code_cap base last at) → base ≤ at → at ≤ last → Num s at (pos (number_of i))
     → IsInstr i
     → jump_of i ≡ None → site_before l 25 at ≡ None → IsQuiet l s
-quiet_at l s base last at i e low high h ok j f =
-    (jump_is s base last at i e low high h ok ∙ j, ap (site_word l 25) (shown_at s base last at e) ∙ word_none l 25 at (Memory (code_cap base last at)) (target_code base last at low high) f)
+quiet_at l s base last at i e low high h ok j f = (
+  jump_is s base last at i e low high h ok ∙ j,
+  ap (site_word l 25) (shown_at s base last at e)
+      ∙ word_none l 25 at (Memory (code_cap base last at)) (target_code base last at low high) f,
+)
 
 pub no_jump : (i : Instr) → is_straight i ≡ true → jump_of i ≡ None
 no_jump (Xjmp r1 r2) h = cc
@@ -72,7 +76,8 @@ NoEnd l low high = (a : ℕ) → low ≤ a → a < high → site_before l 25 a �
 abbrev pub AreStraight : List Instr → Type 0
 AreStraight [] = Unit {0}
 -- but for the last, none is a store
-AreStraight (i ∷ is) = (is_straight i ≡ true) × ((is_store i ≡ false) ⊎ (is ≡ [])) × IsInstr i × AreStraight is
+AreStraight (i ∷ is) = (is_straight i ≡ true) × ((is_store i ≡ false) ⊎ (is ≡ [])) × IsInstr i
+    × AreStraight is
 
 pub stands_kept : (s s' : State Word) (at : ℕ) (is : List Instr) → ((q : ℕ) (z : ℤ) → Num s q z → Num s' q z)
     → Stands id s.cells at is → Stands id s'.cells at is
@@ -83,7 +88,11 @@ pub stands_same : (s s' : State Word) (at : ℕ) (is : List Instr)
     → ((q : ℕ) → at ≤ q → q < at + length is → cell s'.cells q ≡ cell s.cells q) → Stands id s.cells at is
     → Stands id s'.cells at is
 stands_same s s' at [] k h = tt
-stands_same s s' at (i ∷ is) k h = (ap (look_face id) (k at (omega arith) (omega arith)) ∙ h.0, stands_same s s' (at + 1) is (λ q lo hi. k q (omega (arith, lo)) (omega (arith, hi))) h.1)
+stands_same s s' at (i ∷ is) k h = (
+  ap (look_face id) (k at (omega arith) (omega arith))
+      ∙ h.0,
+  stands_same s s' (at + 1) is (λ q lo hi. k q (omega (arith, lo)) (omega (arith, hi))) h.1,
+)
 
 module _ (l : Layout) (base last : ℕ) where
   -- code without a store
@@ -92,11 +101,16 @@ module _ (l : Layout) (base last : ℕ) where
       → Stands id s.cells at is → NoEnd l at (at + length is) → Calm l (length is) s
   calm_code [] s at a e low high h free = tt
   calm_code (i ∷ is) s at a e low high h free = λ s' goes. (
-      let r : row id id i (Mem (code_cap base last (at + 1))) s ≡ went s' = sym (step_row id id s base last at i e low (omega (arith, high)) h.0 a.2) ∙ goes in
+      let r : row id id i (Mem (code_cap base last (at + 1))) s ≡ went s' =
+      sym (step_row id id s base last at i e low (omega (arith, high)) h.0 a.2) ∙ goes in
       let g = straight_goes s s' i (Mem (code_cap base last (at + 1))) a.0 r in (
-        quiet_at l s base last at i e low (omega (arith, high)) h.0 a.2 (no_jump i a.0) (free at (omega arith) (omega arith)),
+        quiet_at l s base last at i e low (omega (arith, high)) h.0 a.2 (no_jump i a.0)
+            (free at (omega arith) (omega arith)),
         elim a.1 as (λ _. Calm l (length is) s') [
-          | inl ns ↦ calm_code is s' (at + 1) a.3 g.0 (omega (arith, low)) (omega (arith, high)) (stands_kept s s' (at + 1) is (rw ns at g.1) h.1) (λ q lo hi. free q (omega (arith, lo)) (omega (arith, hi)))
+          | inl ns ↦
+              calm_code is s' (at + 1) a.3 g.0 (omega (arith, low)) (omega (arith, high))
+              (stands_kept s s' (at + 1) is (rw ns at g.1) h.1)
+              (λ q lo hi. free q (omega (arith, lo)) (omega (arith, hi)))
           | inr none ↦ subst (λ js. Calm l (length js) s') (sym none) tt
         ],
       ))
@@ -108,10 +122,12 @@ module _ (l : Layout) (base last : ℕ) where
   pub calm_front : (i : Instr) (s : State Word) (at n : ℕ) → Straight3 i
       → s.regs.pc ≡ Mem (code_cap base last at) → base ≤ at → at ≤ last → Num s at (pos (number_of i))
       → site_before l 25 at ≡ None
-      → ((s' : State Word) → s'.regs.pc ≡ Mem (code_cap base last (at + 1)) → ((q : ℕ) (z : ℤ) → Num s q z → Num s' q z) → Calm l n s')
+      → ((s' : State Word) → s'.regs.pc ≡ Mem (code_cap base last (at + 1))
+      → ((q : ℕ) (z : ℤ) → Num s q z → Num s' q z) → Calm l n s')
       → Calm l (suc n) s
   calm_front i s at n a e low high h free more = λ s' goes. (
-      let r : row id id i (Mem (code_cap base last (at + 1))) s ≡ went s' = sym (step_row id id s base last at i e low high h a.2) ∙ goes in
+      let r : row id id i (Mem (code_cap base last (at + 1))) s ≡ went s' =
+      sym (step_row id id s base last at i e low high h a.2) ∙ goes in
       let g = straight_goes s s' i (Mem (code_cap base last (at + 1))) a.0 r in
       (quiet_at l s base last at i e low high h a.2 (no_jump i a.0) free, more s' g.0 (rw (a.1) at g.1)))
 
@@ -123,8 +139,14 @@ module _ (l : Layout) (base last : ℕ) where
       → ((q : ℕ) → target (Store r1 r2) (faces id s) ≡ Some q → base ≤ q → q ≤ last → ⊥)
       → Calm l (suc (length is)) s
   calm_store r1 r2 is s at a e low high h free out = λ s' goes. (
-      let r : row id id (Store r1 r2) (Mem (code_cap base last (at + 1))) s ≡ went s' = sym (step_row id id s base last at (Store r1 r2) e low (omega (arith, high)) h.0 tt) ∙ goes in
+      let r : row id id (Store r1 r2) (Mem (code_cap base last (at + 1))) s ≡ went s' =
+      sym (step_row id id s base last at (Store r1 r2) e low (omega (arith, high)) h.0 tt) ∙ goes in
       let g = straight_goes s s' (Store r1 r2) (Mem (code_cap base last (at + 1))) refl r in (
-        quiet_at l s base last at (Store r1 r2) e low (omega (arith, high)) h.0 tt refl (free at (omega arith) (omega arith)),
-        calm_code is s' (at + 1) a g.0 (omega (arith, low)) high (stands_same s s' (at + 1) is (λ q lo hi. row_others id id s s' (Store r1 r2) (Mem (code_cap base last (at + 1))) r q (λ t. out q t (omega (arith, low, lo)) (omega (arith, high, hi)))) h.1) (λ q lo hi. free q (omega (arith, lo)) (omega (arith, hi))),
+        quiet_at l s base last at (Store r1 r2) e low (omega (arith, high))
+            h.0 tt refl (free at (omega arith) (omega arith)),
+        calm_code is s' (at + 1) a g.0 (omega (arith, low))
+            high (stands_same s s' (at + 1)
+            is (λ q lo hi. row_others id id s s' (Store r1 r2) (Mem (code_cap base last (at + 1)))
+            r q (λ t. out q t (omega (arith, low, lo)) (omega (arith, high, hi)))) h.1)
+            (λ q lo hi. free q (omega (arith, lo)) (omega (arith, hi))),
       ))

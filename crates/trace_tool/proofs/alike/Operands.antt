@@ -16,8 +16,10 @@ use Rattle.trace_tool.proofs.alike.Calm.{id}
 pub stands_outside : (m : FinMap nat_cmp Word) (a : ℕ) (w : Word) (base last at : ℕ) (is : List Instr)
     → Outside a base last → base ≤ at → at + length is ≤ last + 1 → Stands id m at is
     → Stands id (set_cell m a w) at is
-stands_outside m a w base last at is (inl below) low high h = Stands-set_below id m a w at is (omega (arith, below, low)) h
-stands_outside m a w base last at is (inr above) low high h = Stands-set id m a w at is (omega (arith, above, high)) h
+stands_outside m a w base last at is (inl below) low high h =
+    Stands-set_below id m a w at is (omega (arith, below, low)) h
+stands_outside m a w base last at is (inr above) low high h =
+    Stands-set id m a w at is (omega (arith, above, high)) h
 
 -- the last step of a run
 pub last_step : (n : ℕ) (t s u : State Word) → run_of id id n t ≡ went s → run_of id id (n + 1) t ≡ went u

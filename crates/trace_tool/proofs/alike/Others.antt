@@ -80,14 +80,19 @@ module _ (l : Layout) (q : OState) (k : Looks l q) where
   entered_same seal = by_owner (closure_owner l seal)
     where
       by_owner : (p : Option Owner)
-          → option_and_then (Rattle.trace_tool.specs.Events.entered l (flat_view l q)) p ≡ option_and_then (Rattle.overlay_machine.specs.Events.entered l q) p
+          → option_and_then (Rattle.trace_tool.specs.Events.entered l (flat_view l q))
+          p ≡ option_and_then (Rattle.overlay_machine.specs.Events.entered l q) p
       by_owner None = refl
-      by_owner (Some p) = ap (λ f. option_map (λ n. Entered p.part n (back_of l ((flat_view l q).reg Rcode) ((flat_view l q).reg Rdata))) (entry_number p f)) face_now
+      by_owner (Some p) =
+          ap (λ f. option_map
+          (λ n. Entered p.part n (back_of l ((flat_view l q).reg Rcode) ((flat_view l q).reg Rdata)))
+          (entry_number p f)) face_now
 
   leap_same : (from : Option ℕ) (seal : ℕ)
       → leapt_by l from None (Some seal) (flat_view l q) ≡ jumped l q from seal
   leap_same None seal = entered_same seal
-  leap_same (Some part) seal = ap (λ f. if is_some (trusted_owner l f) then None else Some (Left part)) face_now
+  leap_same (Some part) seal =
+      ap (λ f. if is_some (trusted_owner l f) then None else Some (Left part)) face_now
 
 module _ (l : Layout) (o : OState) (t : State Word) (m : IsFlat l o t) (k : Looks l o) where
   pub face_same : (r : Reg) → faces id t r ≡ faces look o.maps r
@@ -105,20 +110,26 @@ module _ (l : Layout) (o : OState) (t : State Word) (m : IsFlat l o t) (k : Look
       → step_of id id t ≡ went u → Looks l q
       → event_after l (noted l t) inward (flat_view l q) ≡ told_after l (note_by l o Other) q
   unfolding event_after noted jump_at step_of opens
-  row_event free u q inward c off e kq = elim (is_jump (fetch (faces look o.maps Pc) (cell_faces look o.maps))) as (λ _. event_after l (noted l t) inward (flat_view l q) ≡ told_after l (note_by l o Other) q) [
-    | inr silent ↦ quiet silent.0 (silent.1 o.maps)
-    | inl j ↦ (let p = plain_both o.maps j.0 j.1 j.2 (ap (case_fetched o.maps) (sym j.3) ∙ c) in leaps j.0 j.1 j.2 j.3 p.0)
-  ]
+  row_event free u q inward c off e kq =
+      elim (is_jump (fetch (faces look o.maps Pc) (cell_faces look o.maps)))
+      as (λ _. event_after l (noted l t) inward (flat_view l q) ≡ told_after l (note_by l o Other) q) [
+        | inr silent ↦ quiet silent.0 (silent.1 o.maps)
+        | inl j ↦
+            (let p = plain_both o.maps j.0 j.1 j.2 (ap (case_fetched o.maps) (sym j.3) ∙ c) in
+            leaps j.0 j.1 j.2 j.3 p.0)
+      ]
     where
       got : fetch (faces id t Pc) (cell_faces id t) ≡ fetch (faces look o.maps Pc) (cell_faces look o.maps)
-      got = fetch_commutes look id (flat l o.frames) (beside l o.frames) o.maps t m k.0 (free_pc l o t m k free)
+      got = fetch_commutes look id (flat l o.frames) (beside l o.frames)
+          o.maps t m k.0 (free_pc l o t m k free)
 
       quiet : jump_in (fetch (faces look o.maps Pc) (cell_faces look o.maps)) ≡ None
           → jump_seal o.maps (fetch (faces look o.maps Pc) (cell_faces look o.maps)) ≡ None
           → event_after l (noted l t) inward (flat_view l q) ≡ told_after l (note_by l o Other) q
       quiet a b =
           ap (λ j. event_after l (noted_by l t j) inward (flat_view l q)) (ap jump_in got ∙ a)
-          ∙ ap (λ w. event_after l (note_last w) inward (flat_view l q)) (ap (site_word l 25) (face_same Pc) ∙ off 25 (omega arith) (omega arith))
+          ∙ ap (λ w. event_after l (note_last w) inward (flat_view l q))
+          (ap (site_word l 25) (face_same Pc) ∙ off 25 (omega arith) (omega arith))
           ∙ sym (ap (λ s. told_after l (note_jump (option_map (λ p. p.part) (owner_now l o)) s) q) b)
 
       leaps : (r1 r2 : Reg) (next : Word)
@@ -129,24 +140,36 @@ module _ (l : Layout) (o : OState) (t : State Word) (m : IsFlat l o t) (k : Look
           let y = xjmp_opens t u r1 r2 next (sym (ap (step_fetched id id t) (got ∙ f)) ∙ e) in
           let seal : opens look o.maps r1 ≡ Some y.0 = sym (opens_same r1 p) ∙ y.1 in
           ap (λ j. event_after l (noted_by l t j) inward (flat_view l q)) (ap jump_in (got ∙ f))
-          ∙ ap (λ pc. leapt_by l (trusted_part l pc) (site_word l 15 pc) (option_map (λ (z : Opened). z.seal) (opens id t r1)) (flat_view l q)) (face_same Pc)
-          ∙ ap (λ s. leapt_by l (trusted_part l (faces look o.maps Pc)) s (option_map (λ (z : Opened). z.seal) (opens id t r1)) (flat_view l q)) (off 15 (omega arith) (omega arith))
-          ∙ ap (λ w. leapt_by l (trusted_part l (faces look o.maps Pc)) None (option_map (λ (z : Opened). z.seal) w) (flat_view l q)) y.1
+          ∙ ap (λ pc. leapt_by l (trusted_part l pc) (site_word l 15 pc)
+          (option_map (λ (z : Opened). z.seal) (opens id t r1)) (flat_view l q)) (face_same Pc)
+          ∙ ap (λ s. leapt_by l (trusted_part l (faces look o.maps Pc))
+          s (option_map (λ (z : Opened). z.seal) (opens id t r1)) (flat_view l q))
+          (off 15 (omega arith) (omega arith))
+          ∙ ap (λ w. leapt_by l (trusted_part l (faces look o.maps Pc))
+          None (option_map (λ (z : Opened). z.seal) w) (flat_view l q)) y.1
           ∙ leap_same l q kq (trusted_part l (faces look o.maps Pc)) (y.0).seal
-          ∙ sym (ap (λ s. told_after l (note_jump (option_map (λ p. p.part) (owner_now l o)) s) q) (ap (jump_seal o.maps) f ∙ ap (option_map (λ (z : Opened). z.seal)) seal))
+          ∙ sym (ap (λ s. told_after l (note_jump (option_map (λ p. p.part) (owner_now l o)) s) q)
+          (ap (jump_seal o.maps) f ∙ ap (option_map (λ (z : Opened). z.seal)) seal))
 
-module _ (g : Link) (linked : Linked g) (o : OState) (t : State Word) (m : IsFlat g.layout o t) (k : Looks g.layout o) (free : FramesFree o) where
+module _ (g : Link) (linked : Linked g) (o : OState) (t : State Word) (m : IsFlat g.layout o t)
+    (k : Looks g.layout o) (free : FramesFree o) where
   -- the lines of a step that is a row
   pub other_whole : View g o.frames o.maps Other
       → case_fetched o.maps (fetch (faces look o.maps Pc) (cell_faces look o.maps)) ≡ Other
       → (u : State Word) (q : OState) (n : ℕ) (inward : Bool) → other_step o ≡ goes q
       → run_of id id 1 t ≡ went u
       → IsFlat g.layout q u → Looks g.layout q
-      → lines_of g.layout (at_state t n inward) 1 ≡ lines_for g.layout (flat_view g.layout q) (told_after g.layout (note_by g.layout o Other) q)
+      → lines_of g.layout (at_state t n inward) 1 ≡ lines_for g.layout (flat_view g.layout q)
+      (told_after g.layout (note_by g.layout o Other) q)
   other_whole v c u q n inward e r mq kq =
       let w = other_went o q e in
       let f = fetched_row look Plain o.maps w.0 w.1 in
       let step : step_of id id t ≡ went u = sym (run_one id id t) ∙ r in
-      let off : (off : ℕ) → 0 < off → off < 26 → site_word g.layout off (faces look o.maps Pc) ≡ None = λ off lo hi. other_apart g linked o.frames o.maps f.0 f.1 f.2 (λ is. never_fail f.1 o.maps w.0 (ap (λ i. row look Plain i f.1 o.maps) (sym is) ∙ f.3)) off lo hi v in
+      let off : (off : ℕ) → 0 < off → off < 26 → site_word g.layout off (faces look o.maps Pc) ≡ None =
+      λ off lo hi.
+      other_apart g linked o.frames o.maps f.0 f.1 f.2
+      (λ is. never_fail f.1 o.maps w.0 (ap (λ i. row look Plain i f.1 o.maps) (sym is) ∙ f.3))
+      off lo hi v in
       line_flat g.layout q t u n inward step mq
-      ∙ ap (lines_for g.layout (flat_view g.layout q)) (row_event g.layout o t m k free u q inward c off step kq)
+      ∙ ap (lines_for g.layout (flat_view g.layout q))
+      (row_event g.layout o t m k free u q inward c off step kq)

@@ -74,7 +74,10 @@ part_some l f = by_owner (trusted_owner l f)
     by_owner None = refl
     by_owner (Some o) = refl
 
-module _ (g : Link) (linked : Linked g) (r1 r2 : Reg) (o : OState) (t : State Word) (rd : AtReturn g.layout r1 r2 o) (m : IsFlat g.layout o t) (k : Looks g.layout o) (v : View g o.frames o.maps (Back r1 r2)) (q : OState) (y : Returned g.layout r1 r2 o q) (free : NoEnd g.layout (y.site.at + 16) (y.site.at + 25)) where
+module _ (g : Link) (linked : Linked g) (r1 r2 : Reg) (o : OState) (t : State Word)
+    (rd : AtReturn g.layout r1 r2 o) (m : IsFlat g.layout o t) (k : Looks g.layout o)
+    (v : View g o.frames o.maps (Back r1 r2)) (q : OState) (y : Returned g.layout r1 r2 o q)
+    (free : NoEnd g.layout (y.site.at + 16) (y.site.at + 25)) where
   abbrev l : Layout
   l = g.layout
 
@@ -87,33 +90,44 @@ module _ (g : Link) (linked : Linked g) (r1 r2 : Reg) (o : OState) (t : State Wo
   eg : frame_of o.frames F.call ≡ Some F
   eg = ap (λ z. frame_of z F.call) y.frames_are ∙ frame_of-newest F y.older
 
-  ex : opened_of (flat l o.frames (reg o.maps.regs r1)) ≡ Some (record { seal = y.site.seal; content = MemC (code_cap y.site.base y.site.end (y.site.at + 16)) })
+  ex : opened_of (flat l o.frames (reg o.maps.regs r1)) ≡ Some
+      (record { seal = y.site.seal; content = MemC (code_cap y.site.base y.site.end (y.site.at + 16)) })
   ex = code_some l r1 r2 o t rd m k F.site y.site y.code_is y.site_is
 
   flat_is : flat l o.frames (reg o.maps.regs r2) ≡ Sealed y.site.seal (MemIn (stack_cap F.base F.end F.base))
   flat_is = data_is l r1 r2 o t rd m k F.call F (Some y.site) y.data_is eg y.site_is
 
   abbrev u : State Word
-  u = s1 l r1 r2 o t rd m k F.site y.code_is y.site y.site_is ex F.call y.data_is F eg y.site_is (ap opened_of flat_is) flat_is refl
+  u = s1 l r1 r2 o t rd m k F.site y.code_is y.site y.site_is ex F.call y.data_is F eg y.site_is
+      (ap opened_of flat_is) flat_is refl
 
   jumped : step_of id id t ≡ went u
-  jumped = sym (run_one id id t) ∙ jumps l r1 r2 o t rd m k F.site y.code_is y.site y.site_is ex F.call y.data_is F eg y.site_is (ap opened_of flat_is) flat_is refl
+  jumped = sym (run_one id id t)
+      ∙ jumps l r1 r2 o t rd m k F.site y.code_is y.site y.site_is ex F.call y.data_is F eg y.site_is
+      (ap opened_of flat_is) flat_is refl
 
   first_word_is : framed o.frames F.base ≡ Some (Plain sound.first)
   first_word_is =
       let z : F.base - F.base ≡ 0 = omega arith in
-      let f : word_of F F.base ≡ Some (Plain sound.first) = word_of-within F F.base (omega arith) ∙ ap (slice_get F.words) z ∙ ap (λ ws. slice_get ws 0) sound.words in
+      let f : word_of F F.base ≡ Some (Plain sound.first) = word_of-within F F.base (omega arith)
+      ∙ ap (slice_get F.words) z ∙ ap (λ ws. slice_get ws 0) sound.words in
       ap (λ z. framed z F.base) y.frames_are ∙ ap (λ z. option_or z (framed y.older F.base)) f
 
   first_cell : cell t.cells F.base ≡ Some sound.first
   unfolding beside flat
-  first_cell = m.cells F.base ∙ ap (λ z. mapped_or (flat l o.frames) z (beside l o.frames F.base)) (sound.gone F.base (omega arith) sound.order) ∙ ap (λ z. mapped_or (flat l o.frames) z None) first_word_is
+  first_cell =
+      m.cells F.base
+      ∙ ap (λ z. mapped_or (flat l o.frames) z (beside l o.frames F.base))
+      (sound.gone F.base (omega arith) sound.order)
+      ∙ ap (λ z. mapped_or (flat l o.frames) z None) first_word_is
 
   stk_u : u.regs.stk ≡ Mem (record (stack_cap l.stack.base (y.cap).end 0) { addr = (y.cap).addr })
-  stk_u = stk_kept l r1 r2 o t rd m k F.site y.code_is y.site y.site_is ex F.call y.data_is F eg y.site_is (ap opened_of flat_is) flat_is refl y.cap y.own ∙ ap Mem ((own_is l o.maps y.cap y.own).1)
+  stk_u = stk_kept l r1 r2 o t rd m k F.site y.code_is y.site y.site_is ex F.call y.data_is F eg y.site_is
+      (ap opened_of flat_is) flat_is refl y.cap y.own ∙ ap Mem ((own_is l o.maps y.cap y.own).1)
 
   code_u : HasReturn id u.cells y.site.base y.site.end (y.site.at + 16) l.stack.base
-  code_u = code_is l r1 r2 o t rd m k F.site y.code_is y.site y.site_is ex F.call y.data_is F eg y.site_is (ap opened_of flat_is) flat_is refl
+  code_u = code_is l r1 r2 o t rd m k F.site y.code_is y.site y.site_is ex F.call y.data_is F eg y.site_is
+      (ap opened_of flat_is) flat_is refl
 
   its : HasSite l o.maps.cells y.site
   its = rd.sites F.site y.site y.site_is
@@ -133,8 +147,10 @@ module _ (g : Link) (linked : Linked g) (r1 r2 : Reg) (o : OState) (t : State Wo
   nine : run_of id id 9 u ≡ went u9
   nine =
       let ab = sound.above in let od = sound.order in let top = sound.in_stack in let sm = rd.small_stack in
-      return_nine u y.site.base y.site.end (y.site.at + 16) l.stack.base (y.cap).end F.base F.end (y.cap).addr sound.first code_u
-      refl stk_u refl y.joins (omega (arith, ab)) od (omega (arith, top, sm)) (its.apart F.base (omega (arith, ab)) (omega (arith, od, top))) first_cell sound.normal
+      return_nine u y.site.base y.site.end (y.site.at + 16)
+      l.stack.base (y.cap).end F.base F.end (y.cap).addr sound.first code_u
+      refl stk_u refl y.joins (omega (arith, ab)) od (omega (arith, top, sm))
+      (its.apart F.base (omega (arith, ab)) (omega (arith, od, top))) first_cell sound.normal
 
   abbrev u10 : State Word
   u10 = record u {
@@ -151,8 +167,10 @@ module _ (g : Link) (linked : Linked g) (r1 r2 : Reg) (o : OState) (t : State Wo
   ten : run_of id id 10 u ≡ went u10
   ten =
       let ab = sound.above in let od = sound.order in let top = sound.in_stack in let sm = rd.small_stack in
-      return_runs id id (λ x. refl) u y.site.base y.site.end (y.site.at + 16) l.stack.base (y.cap).end F.base F.end (y.cap).addr sound.first code_u
-      refl stk_u refl y.joins (omega (arith, ab)) od (omega (arith, top, sm)) (its.apart F.base (omega (arith, ab)) (omega (arith, od, top))) first_cell sound.normal
+      return_runs id id (λ x. refl) u y.site.base y.site.end (y.site.at + 16)
+      l.stack.base (y.cap).end F.base F.end (y.cap).addr sound.first code_u
+      refl stk_u refl y.joins (omega (arith, ab)) od (omega (arith, top, sm))
+      (its.apart F.base (omega (arith, ab)) (omega (arith, od, top))) first_cell sound.normal
 
   starts : y.site.base ≤ y.site.at + 16 + 9
   starts = let a = code_u.at_is in omega (arith, a)
@@ -166,7 +184,10 @@ module _ (g : Link) (linked : Linked g) (r1 r2 : Reg) (o : OState) (t : State Wo
       let ab = sound.above in let od = sound.order in let top = sound.in_stack in
       let ai = code_u.at_is in let en = code_u.ends in
       let c : Stands id u9.cells (y.site.at + 16) (return_code code_u.fail code_u.offset l.stack.base) =
-      stands_outside u.cells F.base (zero_word id) y.site.base y.site.end (y.site.at + 16) (return_code code_u.fail code_u.offset l.stack.base) (its.apart F.base (omega (arith, ab)) (omega (arith, od, top))) (omega (arith, ai)) (omega (arith, en)) code_u.code in
+      stands_outside u.cells F.base (zero_word id) y.site.base y.site.end (y.site.at + 16)
+      (return_code code_u.fail code_u.offset l.stack.base)
+      (its.apart F.base (omega (arith, ab)) (omega (arith, od, top))) (omega (arith, ai))
+      (omega (arith, en)) code_u.code in
       let z : y.site.at + 16 + 1 + 1 + 1 + 1 + 1 + 1 + 1 + 1 + 1 ≡ y.site.at + 16 + 9 = omega arith in
       subst (λ a. Num u9 a (pos (number_of (Move T2 (Imm (pos 0)))))) z c.1.1.1.1.1.1.1.1.1.0
 
@@ -177,10 +198,16 @@ module _ (g : Link) (linked : Linked g) (r1 r2 : Reg) (o : OState) (t : State Wo
   unfolding noted
   noted9 =
       let w : y.site.at + 25 ≡ y.site.at + 16 + 9 = omega arith in
-      ap (noted_by l u9) (jump_is u9 y.site.base y.site.end (y.site.at + 16 + 9) (Move T2 (Imm (pos 0))) pc9 starts ends move_stands (search rules))
+      ap (noted_by l u9)
+      (jump_is u9 y.site.base y.site.end (y.site.at + 16 + 9) (Move T2 (Imm (pos 0)))
+      pc9 starts ends move_stands (search rules))
       ∙ ap (λ f. note_last (site_word l 25 f)) (shown_at u9 y.site.base y.site.end (y.site.at + 16 + 9) pc9)
-      ∙ ap note_last (word_at l 25 (y.site.at + 16 + 9) (Memory (code_cap y.site.base y.site.end (y.site.at + 16 + 9))) (Some F.site) (target_code y.site.base y.site.end (y.site.at + 16 + 9) starts ends)
-      (subst (λ a. Rattle.trace_tool.specs.Layout.site_before l 25 a ≡ Some F.site) w (site_there g linked F.site 25 y.site y.site_is)) (trusted_code g linked F.site y.site y.site_is (y.site.at + 16 + 9)))
+      ∙ ap note_last
+      (word_at l 25 (y.site.at + 16 + 9) (Memory (code_cap y.site.base y.site.end (y.site.at + 16 + 9)))
+      (Some F.site) (target_code y.site.base y.site.end (y.site.at + 16 + 9) starts ends)
+      (subst (λ a. Rattle.trace_tool.specs.Layout.site_before l 25 a ≡ Some F.site)
+      w (site_there g linked F.site 25 y.site y.site_is))
+      (trusted_code g linked F.site y.site y.site_is (y.site.at + 16 + 9)))
 
   same_end : (w : State Word) → run_of id id 11 t ≡ went w → u10 ≡ w
   same_end w e = let z : went u10 ≡ went w = sym ten ∙ after_step 10 t u (went w) jumped e in cc
@@ -190,7 +217,8 @@ module _ (g : Link) (linked : Linked g) (r1 r2 : Reg) (o : OState) (t : State Wo
   unfolding event_after
   event9 w inward e mq =
       let ab = sound.above in
-      ap (λ z. returned_event inward F.site (face_of z)) (sym (mq.regs Stk) ∙ sym (ap (λ (z : State Word). z.regs.stk) (same_end w e)))
+      ap (λ z. returned_event inward F.site (face_of z))
+      (sym (mq.regs Stk) ∙ sym (ap (λ (z : State Word). z.regs.stk) (same_end w e)))
       ∙ returned_here inward F.site l.stack.base F.base F.end (omega (arith, ab)) sound.order
 
   abbrev now : Bool
@@ -201,14 +229,19 @@ module _ (g : Link) (linked : Linked g) (r1 r2 : Reg) (o : OState) (t : State Wo
 
   -- its line is the overlay's
   pub return_whole : (w : State Word) (n : ℕ) (inward : Bool) → run_of id id 11 t ≡ went w → IsFlat l q w
-      → lines_of l (at_state t n inward) 11 ≡ lines_for l (flat_view l q) (told_after l (note_by l o (Back r1 r2)) q)
+      → lines_of l (at_state t n inward) 11 ≡ lines_for l (flat_view l q)
+      (told_after l (note_by l o (Back r1 r2)) q)
   return_whole w n inward e mq =
       let step : step_of id id u9 ≡ went w = last_step 9 u u9 w nine (after_step 10 t u (went w) jumped e) in
       let bit : inward_after (noted l t) inward ≡ now =
-      ap (λ z. inward_after z inward) (noted_back g linked r1 r2 o t rd m k v F.site y.site y.site_is ex) ∙ ap (λ f. is_some (trusted_part l f)) (face_same l o t m k Pc) ∙ part_some l (faces look o.maps Pc) in
-      mute_step l t u n inward 10 (back_line g linked r1 r2 o t rd m k v F.site y.site y.site_is ex u n inward jumped) jumped
+      ap (λ z. inward_after z inward) (noted_back g linked r1 r2 o t rd m k v F.site y.site y.site_is ex)
+      ∙ ap (λ f. is_some (trusted_part l f)) (face_same l o t m k Pc)
+      ∙ part_some l (faces look o.maps Pc) in
+      mute_step l t u n inward 10
+      (back_line g linked r1 r2 o t rd m k v F.site y.site y.site_is ex u n inward jumped) jumped
       ∙ ap (λ b. lines_of l (at_state u (n + 1) b) 10) bit
-      ∙ calm_then l 9 1 u u9 (n + 1) now (calm_behind g linked r1 r2 o t rd m k v F.site y.site y.site_is ex free u jumped) nine
+      ∙ calm_then l 9 1 u u9 (n + 1)
+      now (calm_behind g linked r1 r2 o t rd m k v F.site y.site y.site_is ex free u jumped) nine
       ∙ line_flat l q u9 w (n + 1 + 9) now step mq
       ∙ ap (λ z. lines_for l (flat_view l q) (event_after l z now (flat_view l q))) noted9
       ∙ ap (lines_for l (flat_view l q)) (event9 w now e mq ∙ told)

@@ -40,9 +40,32 @@ return_nine s base last at sb low b end to w h hpc hstk hdat joint sl le small o
     let six : at + 6 ≡ at + 1 + 1 + 1 + 1 + 1 + 1 = omega arith in
     let ends : at + 1 + 1 + 1 + 1 + 1 + 1 + 1 + 1 + 1 ≡ at + 9 = omega arith in
     run_then id id 6 3 s _ _
-    (return_tests id id (λ x. refl) s base last at sb (record (stack_cap sb low 0) { addr = to }) (stack_cap b end b) h hpc hstk hdat refl refl refl joint (omega (arith, sl, le, small)) (omega (arith, sl, le, small)) refl
-    ∙ ap (λ k. went (tested id id (λ x. refl) s base last k (base + h.fail) (stack_cap sb end b) (pos 0))) six)
-    (go id id _ _ _ base last (at + 1 + 1 + 1 + 1 + 1 + 1) _ refl (omega (arith, ai)) (omega (arith, en)) code.1.1.1.1.1.1.0 tt (load_goes id id _ _ _ _ (stack_cap sb end b) b w _ refl refl refl refl sl le there refl lin (sym (is_linear-face w) ∙ lin))
-    ∙ go id id _ _ _ base last (at + 1 + 1 + 1 + 1 + 1 + 1 + 1) _ refl (omega (arith, ai)) (omega (arith, en)) code.1.1.1.1.1.1.1.0 (search rules) (set_goes id id _ _ _ _ refl)
-    ∙ go id id _ _ _ base last (at + 1 + 1 + 1 + 1 + 1 + 1 + 1 + 1) _ refl (omega (arith, ai)) (omega (arith, en)) code.1.1.1.1.1.1.1.1.0 tt (store_goes id id _ _ _ _ _ (stack_cap sb end b) b w refl refl refl sl le there (stays id id _ _ refl))
-    ∙ ran id id _ ∙ ap (λ k. went (record s { regs = record s.regs { pc = Mem (code_cap base last k); stk = Mem (stack_cap sb end b); dat = w; t1 = zero_word id; t2 = Mem (code_cap base last (base + h.fail)) }; cells = set_cell s.cells b (zero_word id) })) ends)
+    (return_tests id id (λ x. refl) s base last at sb (record (stack_cap sb low 0) { addr = to })
+    (stack_cap b end b) h hpc hstk hdat refl refl refl joint (omega (arith, sl, le, small))
+    (omega (arith, sl, le, small)) refl
+    ∙ ap (λ k. went (tested id id (λ x. refl) s base last k (base + h.fail) (stack_cap sb end b) (pos 0)))
+    six)
+    (go id id _ _ _ base last (at + 1 + 1 + 1 + 1 + 1 + 1) _ refl (omega (arith, ai)) (omega (arith, en))
+    code.1.1.1.1.1.1.0 tt
+    (load_goes id id _ _ _ _ (stack_cap sb end b)
+    b w _ refl refl refl refl sl le there refl lin (sym (is_linear-face w) ∙ lin))
+    ∙ go id id _ _ _ base last (at + 1 + 1 + 1 + 1 + 1 + 1 + 1) _ refl (omega (arith, ai)) (omega (arith, en))
+    code.1.1.1.1.1.1.1.0 (search rules) (set_goes id id _ _ _ _ refl)
+    ∙ go id id _ _ _ base last (at + 1 + 1 + 1 + 1 + 1 + 1 + 1 + 1) _ refl (omega (arith, ai))
+    (omega (arith, en))
+    code.1.1.1.1.1.1.1.1.0 tt
+    (store_goes id id _ _ _ _ _ (stack_cap sb end b)
+    b w refl refl refl sl le there (stays id id _ _ refl))
+    ∙ ran id id _
+    ∙ ap (λ k.
+    went (record s {
+      regs = record s.regs {
+        pc = Mem (code_cap base last k);
+        stk = Mem (stack_cap sb end b);
+        dat = w;
+        t1 = zero_word id;
+        t2 =
+            Mem (code_cap base last (base + h.fail));
+      };
+      cells = set_cell s.cells b (zero_word id);
+    })) ends)

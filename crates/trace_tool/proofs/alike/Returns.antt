@@ -67,16 +67,30 @@ module _ (l : Layout) (s : State Word) (base last at sb : ℕ) (h : HasReturn id
       let sm = h.small in
       let fh = h.fails.1 in
       let c = h.code in
-      calm_front l base last (Splice Stk Stk Dat) s at 8 (refl, refl, tt) pc (omega (arith, ai)) (omega (arith, en)) c.0 (free _ (omega arith) (omega arith)) (λ s1 p1 n1.
-      calm_front l base last (Getb T1 Stk) s1 (at + 1) 7 (refl, refl, tt) p1 (omega (arith, ai)) (omega (arith, en)) (n1 _ _ c.1.0) (free _ (omega arith) (omega arith)) (λ s2 p2 n2.
-      calm_front l base last (Minus T1 T1 (Imm (pos sb))) s2 (at + 1 + 1) 6 (refl, refl, small_operand sb small) p2 (omega (arith, ai)) (omega (arith, en)) (n2 _ _ (n1 _ _ c.1.1.0)) (free _ (omega arith) (omega arith)) (λ s3 p3 n3.
+      calm_front l base last (Splice Stk Stk Dat) s at 8 (refl, refl, tt) pc (omega (arith, ai))
+      (omega (arith, en)) c.0 (free _ (omega arith) (omega arith)) (λ s1 p1 n1.
+      calm_front l base last (Getb T1 Stk) s1 (at + 1) 7 (refl, refl, tt) p1 (omega (arith, ai))
+      (omega (arith, en)) (n1 _ _ c.1.0) (free _ (omega arith) (omega arith)) (λ s2 p2 n2.
+      calm_front l base last (Minus T1 T1 (Imm (pos sb))) s2 (at + 1 + 1)
+      6 (refl, refl, small_operand sb small) p2 (omega (arith, ai)) (omega (arith, en))
+      (n2 _ _ (n1 _ _ c.1.1.0)) (free _ (omega arith) (omega arith)) (λ s3 p3 n3.
       let keep : (q : ℕ) (z : ℤ) → Num s q z → Num s3 q z = λ q z h. n3 q z (n2 q z (n1 q z h)) in
       let c3 = stands_kept s s3 at (return_code h.fail h.offset sb) keep c in
-      calm_arming l base last (base + h.fail) (omega arith) fh (Jnz T2 T1 ∷ Load Dat Stk ∷ Move T1 (Imm (pos 0)) ∷ Store Stk T1 ∷ []) back_rest (distance (h.offset + 3) h.fail) s3 (at + 1 + 1 + 1) p3 (omega (arith, ai)) (omega (arith, en))
-      (c3.1.1.1.0, (c3.1.1.1.1.0, (c3.1.1.1.1.1.0, (c3.1.1.1.1.1.1.0, (c3.1.1.1.1.1.1.1.0, (c3.1.1.1.1.1.1.1.1.0, tt))))))
+      calm_arming l base last (base + h.fail) (omega arith)
+      fh (Jnz T2 T1 ∷ Load Dat Stk ∷ Move T1 (Imm (pos 0)) ∷ Store Stk T1 ∷ [])
+      back_rest (distance (h.offset + 3) h.fail) s3 (at + 1 + 1 + 1) p3 (omega (arith, ai))
+      (omega (arith, en)) (
+        c3.1.1.1.0,
+        (
+          c3.1.1.1.1.0,
+          (c3.1.1.1.1.1.0, (c3.1.1.1.1.1.1.0, (c3.1.1.1.1.1.1.1.0, (c3.1.1.1.1.1.1.1.1.0, tt)))),
+        ),
+      )
       (λ q lo hi. free q (omega (arith, lo)) (omega (arith, hi)))
-      (leads (at + 1 + 1 + 1) base (h.offset + 3) h.fail (omega (arith, ai))) (fits_small (base + h.fail) (omega (arith, fh, sm)))
-      (near_operand (h.offset + 3) h.fail (omega (arith, ai, en, sm)) (omega (arith, fh, sm))) (keep _ _ h.fails.0.0))))
+      (leads (at + 1 + 1 + 1) base (h.offset + 3) h.fail (omega (arith, ai)))
+      (fits_small (base + h.fail) (omega (arith, fh, sm)))
+      (near_operand (h.offset + 3) h.fail (omega (arith, ai, en, sm)) (omega (arith, fh, sm)))
+      (keep _ _ h.fails.0.0))))
 
 -- where numbers stay, a return stands as before
 return_kept : (s u : State Word) (base last at sb : ℕ) → ((q : ℕ) (z : ℤ) → Num s q z → Num u q z)
@@ -98,8 +112,11 @@ no_leap : (l : Layout) (from : Option ℕ) (seal : ℕ) (v : Shown) → closure_
 no_leap l None seal v c r = rw c refl
 no_leap l (Some p) seal v c r = rw r refl
 
-module _ (g : Link) (linked : Linked g) (r1 r2 : Reg) (o : OState) (t : State Word) (rd : AtReturn g.layout r1 r2 o) (m : IsFlat g.layout o t) (k : Looks g.layout o) (v : View g o.frames o.maps (Back r1 r2)) (i : ℕ) (s : SiteCode) (es : site_code g.layout i ≡ Some s)
-    (ex : opened_of (flat g.layout o.frames (reg o.maps.regs r1)) ≡ Some (record { seal = s.seal; content = MemC (code_cap s.base s.end (s.at + 16)) })) where
+module _ (g : Link) (linked : Linked g) (r1 r2 : Reg) (o : OState) (t : State Word)
+    (rd : AtReturn g.layout r1 r2 o) (m : IsFlat g.layout o t) (k : Looks g.layout o)
+    (v : View g o.frames o.maps (Back r1 r2)) (i : ℕ) (s : SiteCode) (es : site_code g.layout i ≡ Some s)
+    (ex : opened_of (flat g.layout o.frames (reg o.maps.regs r1))
+    ≡ Some (record { seal = s.seal; content = MemC (code_cap s.base s.end (s.at + 16)) })) where
   abbrev l : Layout
   l = g.layout
 
@@ -107,7 +124,8 @@ module _ (g : Link) (linked : Linked g) (r1 r2 : Reg) (o : OState) (t : State Wo
   code = code_cap s.base s.end (s.at + 16)
 
   got : fetch (faces id t Pc) (cell_faces id t) ≡ some (Xjmp r1 r2) rd.next
-  got = fetch_mapped look id (flat l o.frames) (beside l o.frames) o.maps t m k.0 (λ a e. beside-none l o.frames a (rd.free a e)) ∙ rd.fetched
+  got = fetch_mapped look id (flat l o.frames) (beside l o.frames)
+      o.maps t m k.0 (λ a e. beside-none l o.frames a (rd.free a e)) ∙ rd.fetched
 
   row_is : (u : State Word) → step_of id id t ≡ went u → row id id (Xjmp r1 r2) rd.next t ≡ went u
   unfolding step_of
@@ -126,23 +144,44 @@ module _ (g : Link) (linked : Linked g) (r1 r2 : Reg) (o : OState) (t : State Wo
   unfolding noted jump_at opens
   noted_back =
       ap (λ f. noted_by l t (jump_in f)) got
-      ∙ ap (λ c. let n : Note = Leap (record { from = trusted_part l (faces id t Pc); call = c; seal = option_map (λ (z : Opened). z.seal) (opened_of (reg t.regs r1)) }) in n)
-      (ap (site_word l 15) (face_same l o t m k Pc) ∙ back_apart g linked o.frames o.maps (Xjmp r1 r2) rd.next rd.fetched (λ q. cc) 15 (omega arith) (omega arith) r1 r2 v)
-      ∙ ap (λ w. let n : Note = Leap (record { from = trusted_part l (faces id t Pc); call = None; seal = option_map (λ (z : Opened). z.seal) w }) in n) t_opened
+      ∙ ap (λ c. let n : Note =
+      Leap (record {
+        from = trusted_part l (faces id t Pc);
+        call = c;
+        seal =
+            option_map (λ (z : Opened). z.seal) (opened_of (reg t.regs r1));
+      }) in n)
+      (ap (site_word l 15) (face_same l o t m k Pc) ∙ back_apart g linked o.frames o.maps (Xjmp r1 r2)
+      rd.next rd.fetched (λ q. cc) 15 (omega arith) (omega arith) r1 r2 v)
+      ∙ ap (λ w. let n : Note =
+      Leap (record {
+        from = trusted_part l (faces id t Pc);
+        call = None;
+        seal =
+            option_map (λ (z : Opened). z.seal) w;
+      }) in n) t_opened
 
   back_event : (u : State Word) (inward : Bool) → step_of id id t ≡ went u
       → event_after l NoteBack inward (view_of u) ≡ None
   unfolding event_after
-  back_event u inward e = no_leap l _ s.seal (view_of u) (no_closure g linked i s es) (ap (λ w. is_trusted l (face_of w)) (lands u e).0 ∙ trusted_code g linked i s es (s.at + 16))
+  back_event u inward e =
+      no_leap l _ s.seal (view_of u) (no_closure g linked i s es)
+      (ap (λ w. is_trusted l (face_of w)) (lands u e).0 ∙ trusted_code g linked i s es (s.at + 16))
 
   pub back_line : (u : State Word) (c : ℕ) (inward : Bool) → step_of id id t ≡ went u
       → line_next l (at_state t c inward) ≡ []
-  back_line u c inward e = line_goes l t u c inward e ∙ ap (λ n. lines_for l (view_of u) (event_after l n inward (view_of u))) noted_back ∙ ap (lines_for l (view_of u)) (back_event u inward e)
+  back_line u c inward e =
+      line_goes l t u c inward e ∙ ap (λ n. lines_for l (view_of u) (event_after l n inward (view_of u)))
+      noted_back ∙ ap (lines_for l (view_of u)) (back_event u inward e)
 
   pub calm_behind : NoEnd l (s.at + 16) (s.at + 25) → (u : State Word) → step_of id id t ≡ went u → Calm l 9 u
   calm_behind free u e =
       let y = lands u e in
-      words_calm l u s.base s.end (s.at + 16) l.stack.base (return_kept t u s.base s.end (s.at + 16) l.stack.base y.1 (HasReturn-flat l o t m k s.base s.end (s.at + 16) l.stack.base (rd.sites i s es).back))
+      words_calm l u s.base s.end (s.at + 16)
+      l.stack.base
+      (return_kept t u s.base s.end (s.at + 16)
+      l.stack.base y.1
+      (HasReturn-flat l o t m k s.base s.end (s.at + 16) l.stack.base (rd.sites i s es).back))
       y.0 rd.small_base (λ a lo hi. free a lo (omega (arith, hi)))
 
   pub back_mute : NoEnd l (s.at + 16) (s.at + 25) → Mute l 10 t

@@ -2,7 +2,8 @@
 use Rattle.std.proofs.Common.{◌≡◌, inl, inr, ℕ, zero, suc, ◌+◌, ◌-◌, ◌<◌, ◌≤◌, pos, Bool, true, false, List}
 use Rattle.std.proofs.Common.{[], ◌∷◌, length, Option, Some, None, refl, sym, ap, ◌∙◌, arith, subst, leb-true}
 use Rattle.std.proofs.Common.{le-leb, lt-ltb, eq-eqb, get_or}
-use Rattle.std.specs.Prelude.{if◌then◌else◌, ◌==◌, ◌^◌, ◌&&◌, nat_le, nat_lt, slice_get, is_some, find, position}
+use Rattle.std.specs.Prelude.{if◌then◌else◌, ◌==◌, ◌^◌, ◌&&◌, nat_le, nat_lt, slice_get, is_some, find}
+use Rattle.std.specs.Prelude.{position}
 use Rattle.std.specs.Prelude.{option_and_then, IsTrue}
 use Rattle.std.specs.List.{position_or_len}
 use Rattle.std.proofs.lemmas.Bool.{cases_lt, eqb-true, ltb-true, and_parts}
@@ -50,8 +51,13 @@ first_at p xs i x e h =
     let lt : i < length xs = slice_get_within xs i x e in
     let here : get_or xs i x ≡ x = get_or_from_slice_get xs i x x e in
     elim (cases_lt i (position_or_len p xs)) as (λ _. (j : ℕ) × (position p xs ≡ Some j) × (j ≤ i)) [
-      | inl before ↦ (let bad : true ≡ false = sym h ∙ ap p (sym here) ∙ fails_before_first p xs i x before in cc)
-      | inr le ↦ (position_or_len p xs, (let z : position_or_len p xs < length xs = omega (arith, le, lt) in grind (arith, common_steps)), le)
+      | inl before ↦
+          (let bad : true ≡ false = sym h ∙ ap p (sym here) ∙ fails_before_first p xs i x before in cc)
+      | inr le ↦ (
+        position_or_len p xs,
+        (let z : position_or_len p xs < length xs = omega (arith, le, lt) in grind (arith, common_steps)),
+        le,
+      )
     ]
 
 number_at : {X : Type 0} (p : X → Bool) (xs : List X) (i : ℕ) (x : X) → slice_get xs i ≡ Some x → p x ≡ true
@@ -67,16 +73,20 @@ some_nat a b e = cc
 above : (b : ℕ) (xs : List ℕ) → Chain SiteFits (Some b) xs → (j x : ℕ) → slice_get xs j ≡ Some x → b < x
 above b [] h j x e = absurd cc
 above b (y ∷ ys) h zero x e = let k = some_nat y x e in let lt = lt_true b y h.0.1 in omega (arith, k, lt)
-above b (y ∷ ys) h (suc j) x e = let lt = lt_true b y h.0.1 in let up = above y ys h.1 j x e in omega (arith, lt, up)
+above b (y ∷ ys) h (suc j) x e = let lt = lt_true b y h.0.1 in let up =
+    above y ys h.1 j x e in omega (arith, lt, up)
 
 -- sites ascend, so no two have one offset
 distinct : (b : Option ℕ) (xs : List ℕ) → Chain SiteFits b xs → (i j o : ℕ) → slice_get xs i ≡ Some o
     → slice_get xs j ≡ Some o → i ≡ j
 distinct b [] h i j o ei ej = absurd cc
 distinct b (x ∷ xs) h zero zero o ei ej = refl
-distinct b (x ∷ xs) h zero (suc j) o ei ej = absurd (let up = above x xs h.1 j o ej in let k = some_nat x o ei in omega (arith, up, k))
-distinct b (x ∷ xs) h (suc i) zero o ei ej = absurd (let up = above x xs h.1 i o ei in let k = some_nat x o ej in omega (arith, up, k))
-distinct b (x ∷ xs) h (suc i) (suc j) o ei ej = let e = distinct (Some x) xs h.1 i j o ei ej in omega (arith, e)
+distinct b (x ∷ xs) h zero (suc j) o ei ej =
+    absurd (let up = above x xs h.1 j o ej in let k = some_nat x o ei in omega (arith, up, k))
+distinct b (x ∷ xs) h (suc i) zero o ei ej =
+    absurd (let up = above x xs h.1 i o ei in let k = some_nat x o ej in omega (arith, up, k))
+distinct b (x ∷ xs) h (suc i) (suc j) o ei ej = let e =
+    distinct (Some x) xs h.1 i j o ei ej in omega (arith, e)
 
 -- the code of a site has its seal and its address
 code_of_site : (os : List Owner) (x : Site) (s : SiteCode) → code_in os x ≡ Some s
@@ -84,14 +94,16 @@ code_of_site : (os : List Owner) (x : Site) (s : SiteCode) → code_in os x ≡ 
 code_of_site os x s e = by_owner (find (λ o. o.part == x.part) os) e
   where
     by_test : (o : Owner) (b : Bool)
-        → (if b then Some (record { seal = x.seal; base = o.code.base; end = o.code.end; at = x.at }) else None) ≡ Some s
+        → (if b then Some (record { seal = x.seal; base = o.code.base; end = o.code.end; at = x.at })
+        else None) ≡ Some s
         → (x.seal ≡ s.seal) × (x.at ≡ s.at)
     by_test o true h =
         let k : record { seal = x.seal; base = o.code.base; end = o.code.end; at = x.at } ≡ s = cc in
         (ap (λ (y : SiteCode). y.seal) k, ap (λ (y : SiteCode). y.at) k)
     by_test o false h = cc
 
-    by_owner : (r : Option Owner) → option_and_then (with_code x) r ≡ Some s → (x.seal ≡ s.seal) × (x.at ≡ s.at)
+    by_owner : (r : Option Owner) → option_and_then (with_code x) r ≡ Some s → (x.seal ≡ s.seal)
+        × (x.at ≡ s.at)
     by_owner None h = cc
     by_owner (Some o) h = by_test o (is_code o.code) h
 
@@ -104,13 +116,16 @@ module _ (g : Link) (linked : Linked g) where
     where
       by_test : (b : Bool) → nat_le off a ≡ b → (if b then site_at g.layout (a - off) else None) ≡ Some i
           → (s : SiteCode) × (site_code g.layout i ≡ Some s) × (a ≡ s.at + off)
-      by_test true t e = (let f = linked.site_found i (a - off) e in let le = leb-true off a t in let at = f.2 in (f.0, f.1, omega (arith, le, at)))
+      by_test true t e =
+          (let f = linked.site_found i (a - off) e in let le = leb-true off a t in let at =
+          f.2 in (f.0, f.1, omega (arith, le, at)))
       by_test false t e = cc
 
   -- the sites of a part ascend
   one_index : (c : PartSeen) (i j o : ℕ) → IsTrusted g c → slice_get c.component.sites i ≡ Some o
       → slice_get c.component.sites j ≡ Some o → i ≡ j
-  one_index c i j o ip ei ej = distinct None c.component.sites (linked.parts c ip.0).limits.sites.1 i j o ei ej
+  one_index c i j o ip ei ej =
+      distinct None c.component.sites (linked.parts c ip.0).limits.sites.1 i j o ei ej
 
   same_site : (c : PartSeen) (n k : ℕ) (s u : SiteCode) → IsTrusted g c → (a : SiteOf c n s)
       → (b : SiteOf c k u) → b.offset ≡ a.offset → s.seal ≡ u.seal
@@ -128,7 +143,9 @@ module _ (g : Link) (linked : Linked g) where
       lt = let ins = (f.3).inside in omega (arith, ins)
 
       by_found : (r : Option ℕ) → site_at g.layout s.at ≡ r → r ≡ Some i
-      by_found None h = (let bad : true ≡ false = sym (f.3).site ∙ linked.no_site f.0 (f.3).offset f.2 lt (ap (site_at g.layout) (sym (f.3).at_is) ∙ h) in cc)
+      by_found None h =
+          (let bad : true ≡ false = sym (f.3).site
+          ∙ linked.no_site f.0 (f.3).offset f.2 lt (ap (site_at g.layout) (sym (f.3).at_is) ∙ h) in cc)
       by_found (Some j) h = (
           let k = site_of g linked f.0 (f.3).offset j f.2 lt (ap (site_at g.layout) (sym (f.3).at_is) ∙ h) in
           ap Some (linked.one_seal j i k.0 s k.1 e (sym (same_site f.0 f.1 k.2 s k.0 f.2 f.3 k.3 k.4))))
@@ -144,7 +161,8 @@ module _ (g : Link) (linked : Linked g) where
   pub seal_site : (i n : ℕ) → site_of_seal g.layout n ≡ Some i
       → (s : SiteCode) × (site_code g.layout i ≡ Some s) × (s.seal ≡ n)
   seal_site i n e =
-      let p = position_is (λ (s : Site). s.seal == n) g.layout.sites i (numbered_is (position (λ (s : Site). s.seal == n) g.layout.sites) i e).0 in
+      let p = position_is (λ (s : Site). s.seal == n)
+      g.layout.sites i (numbered_is (position (λ (s : Site). s.seal == n) g.layout.sites) i e).0 in
       let u = linked.listed i p.0 p.1 in
       (u.0, u.1, u.2 ∙ eqb-true (p.0).seal n p.2)
 
@@ -163,8 +181,11 @@ module _ (g : Link) (linked : Linked g) where
       → is_some (site_of_seal g.layout s.seal) ≡ true
   seal_there i s e =
       let x = site_listed i s e in
-      let small = (numbered_is (position (λ (y : Site). y.at == s.at) g.layout.sites) i (site_is_at i s e)).1 in
-      ap is_some (number_at (λ (y : Site). y.seal == s.seal) g.layout.sites i x.0 x.1 (eq-eqb (x.0).seal s.seal x.2) small).1
+      let small =
+      (numbered_is (position (λ (y : Site). y.at == s.at) g.layout.sites) i (site_is_at i s e)).1 in
+      ap is_some
+      (number_at (λ (y : Site). y.seal == s.seal) g.layout.sites i x.0 x.1 (eq-eqb (x.0).seal s.seal x.2)
+      small).1
 
   -- a word that no site has sealed
   pub foreign_none : (w : Word) → IsForeign g.layout w → (y : Option Opened) → opened_of w ≡ y
@@ -183,7 +204,8 @@ module _ (g : Link) (linked : Linked g) where
   trusted_code i s es a =
       let f = linked.sites i s es in
       let st = f.3 in
-      let b : code_cap s.base s.end a ≡ any_pc f.0 (pos a) = ap (λ y. code_cap y s.end a) st.base_is ∙ ap (λ y. code_cap (ranges_of f.0).code_base y a) st.end_is in
+      let b : code_cap s.base s.end a ≡ any_pc f.0 (pos a) = ap (λ y. code_cap y s.end a) st.base_is
+      ∙ ap (λ y. code_cap (ranges_of f.0).code_base y a) st.end_is in
       ap (λ c. is_trusted g.layout (Memory c)) b ∙ linked.owned f.0 (pos a) f.2
 
   pub no_closure : (i : ℕ) (s : SiteCode) → site_code g.layout i ≡ Some s

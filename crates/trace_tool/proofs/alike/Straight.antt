@@ -70,11 +70,22 @@ module _ (f : Reg → Face) (w : Reg → Option Opened) (there : Option Face) (n
   plan-Onward (Gete r1 r2) h = Gives-ask _ _ _ (λ _. gives_goes (refl, tt))
   plan-Onward (Getp r1 r2) h = Gives-ask _ _ _ (λ _. gives_goes (refl, tt))
   plan-Onward (Getlin r1 r2) h = Gives-ask _ _ _ (λ _. gives_goes (refl, tt))
-  plan-Onward (Restrict r1 n) h = Gives-ask _ _ _ (λ _. Gives-need _ _ _ (λ c m. Gives-need _ _ _ (λ z _. Gives-need _ _ _ (λ q _. Gives-ask _ _ _ (λ _. gives_goes (refl, tt))))))
-  plan-Onward (Minus r1 r2 n) h = Gives-ask _ _ _ (λ _. Gives-need _ _ _ (λ x e. Gives-need _ _ _ (λ z _. Gives-ask _ _ _ (λ _. gives_goes (refl, tt)))))
-  plan-Onward (Plus r1 r2 n) h = Gives-ask _ _ _ (λ _. Gives-need _ _ _ (λ x e. Gives-need _ _ _ (λ z _. Gives-ask _ _ _ (λ _. gives_goes (refl, tt)))))
-  plan-Onward (Lt r1 r2 n) h = Gives-ask _ _ _ (λ _. Gives-need _ _ _ (λ x e. Gives-need _ _ _ (λ z _. gives_goes (refl, tt))))
-  plan-Onward (Seta2b r1) h = Gives-ask _ _ _ (λ _. Gives-by_cap (f r1) _ _ (λ c e. gives_goes (refl, tt)) (λ c e. gives_goes (refl, tt)))
+  plan-Onward (Restrict r1 n) h =
+      Gives-ask _ _ _
+      (λ _. Gives-need _ _ _
+      (λ c m. Gives-need _ _ _
+      (λ z _. Gives-need _ _ _ (λ q _. Gives-ask _ _ _ (λ _. gives_goes (refl, tt))))))
+  plan-Onward (Minus r1 r2 n) h =
+      Gives-ask _ _ _
+      (λ _. Gives-need _ _ _ (λ x e. Gives-need _ _ _ (λ z _. Gives-ask _ _ _ (λ _. gives_goes (refl, tt)))))
+  plan-Onward (Plus r1 r2 n) h =
+      Gives-ask _ _ _
+      (λ _. Gives-need _ _ _ (λ x e. Gives-need _ _ _ (λ z _. Gives-ask _ _ _ (λ _. gives_goes (refl, tt)))))
+  plan-Onward (Lt r1 r2 n) h =
+      Gives-ask _ _ _ (λ _. Gives-need _ _ _ (λ x e. Gives-need _ _ _ (λ z _. gives_goes (refl, tt))))
+  plan-Onward (Seta2b r1) h =
+      Gives-ask _ _ _
+      (λ _. Gives-by_cap (f r1) _ _ (λ c e. gives_goes (refl, tt)) (λ c e. gives_goes (refl, tt)))
   plan-Onward (Cseal r1 r2) h = Gives-ask _ _ _ (λ _. Gives-by_cap (f r1) _ _
       (λ c e. Gives-need _ _ _ (λ q _. Gives-ask _ _ _ (λ _. gives_goes (refl, tt))))
       (λ c e. Gives-need _ _ _ (λ q _. Gives-ask _ _ _ (λ _. gives_goes (refl, tt)))))
@@ -83,10 +94,19 @@ module _ (f : Reg → Face) (w : Reg → Option Opened) (there : Option Face) (n
       (λ c e. Gives-need _ _ _ (λ z _. Gives-ask _ _ _ (λ _. gives_goes (refl, tt)))))
   plan-Onward (Move r1 (InReg r2)) h = Gives-ask _ _ _ (λ _. gives_goes (refl, tt))
   plan-Onward (Move r1 (Imm z)) h = Gives-ask _ _ _ (λ _. gives_goes (refl, tt))
-  plan-Onward (Store r1 r2) h = Gives-need _ _ _ (λ c m. Gives-ask _ _ _ (λ _. Gives-need _ _ _ (λ x k. gives_goes (refl, tt))))
-  plan-Onward (Load r1 r2) h = Gives-ask _ _ _ (λ _. Gives-need _ _ _ (λ c m. Gives-ask _ _ _ (λ _. Gives-need _ _ _ (λ x k. Gives-ask _ _ _ (λ _. gives_goes (refl, tt))))))
-  plan-Onward (Split r1 r2 r3 n) h = Gives-ask _ _ _ (λ _. Gives-ask _ _ _ (λ _. Gives-need _ _ _ (λ c e. Gives-need _ _ _ (λ z _. Gives-ask _ _ _ (λ _. gives_goes (refl, tt))))))
-  plan-Onward (Splice r1 r2 r3) h = Gives-ask _ _ _ (λ _. Gives-need _ _ _ (λ a e. Gives-need _ _ _ (λ b k. Gives-ask _ _ _ (λ _. gives_goes (refl, tt)))))
+  plan-Onward (Store r1 r2) h =
+      Gives-need _ _ _ (λ c m. Gives-ask _ _ _ (λ _. Gives-need _ _ _ (λ x k. gives_goes (refl, tt))))
+  plan-Onward (Load r1 r2) h =
+      Gives-ask _ _ _
+      (λ _. Gives-need _ _ _
+      (λ c m. Gives-ask _ _ _ (λ _. Gives-need _ _ _ (λ x k. Gives-ask _ _ _ (λ _. gives_goes (refl, tt))))))
+  plan-Onward (Split r1 r2 r3 n) h =
+      Gives-ask _ _ _
+      (λ _. Gives-ask _ _ _
+      (λ _. Gives-need _ _ _ (λ c e. Gives-need _ _ _ (λ z _. Gives-ask _ _ _ (λ _. gives_goes (refl, tt))))))
+  plan-Onward (Splice r1 r2 r3) h =
+      Gives-ask _ _ _
+      (λ _. Gives-need _ _ _ (λ a e. Gives-need _ _ _ (λ b k. Gives-ask _ _ _ (λ _. gives_goes (refl, tt)))))
 
 -- ---- the word of a number stays in its cell
 
@@ -104,14 +124,23 @@ not_linear (Some (Sealed o (SealIn c))) z e = cc
 
 clear_num : (s : State Word) (p : Place) (q : ℕ) (z : ℤ) → Num s q z → Num (clear id id s p) q z
 unfolding clear
-clear_num s (R r) q z h = elim (is_linear (reg s.regs r)) as (λ b. Num (if b then put s (R r) (zero_word id) else s) q z) [ true ↦ h | false ↦ h ]
-clear_num s (Cell a) q z h = elim (cases_eq q a) as (λ _. Num (if is_linear (word_in id s (Cell a)) then put s (Cell a) (zero_word id) else s) q z) [
-  | inl e ↦ (let n : is_linear (word_in id s (Cell a)) ≡ false = ap (λ k. is_linear (unwrap_or (cell s.cells k) (zero_word id))) (sym e) ∙ not_linear (cell s.cells q) z h in rw n h)
-  | inr ne ↦ elim (is_linear (word_in id s (Cell a))) as (λ b. Num (if b then put s (Cell a) (zero_word id) else s) q z) [
-    | true ↦ ap (look_face id) (cell-set_other s.cells a q (zero_word id) ne) ∙ h
-    | false ↦ h
-  ]
-]
+clear_num s (R r) q z h =
+    elim (is_linear (reg s.regs r)) as (λ b. Num (if b then put s (R r) (zero_word id) else s) q z)
+    [ true ↦ h | false ↦ h ]
+clear_num s (Cell a) q z h =
+    elim (cases_eq q a)
+    as (λ _. Num (if is_linear (word_in id s (Cell a)) then put s (Cell a) (zero_word id) else s) q z) [
+      | inl e ↦
+          (let n : is_linear (word_in id s (Cell a)) ≡ false =
+          ap (λ k. is_linear (unwrap_or (cell s.cells k) (zero_word id))) (sym e)
+          ∙ not_linear (cell s.cells q) z h in rw n h)
+      | inr ne ↦
+          elim (is_linear (word_in id s (Cell a)))
+          as (λ b. Num (if b then put s (Cell a) (zero_word id) else s) q z) [
+            | true ↦ ap (look_face id) (cell-set_other s.cells a q (zero_word id) ne) ∙ h
+            | false ↦ h
+          ]
+    ]
 
 put_num : (s : State Word) (p : Place) (w : Word) (q : ℕ) (z : ℤ) → IsReg p → Num s q z → Num (put s p w) q z
 put_num s (R r) w q z i h = h
@@ -120,7 +149,8 @@ put_num s (Cell a) w q z i h = absurd i
 moved_num : (s : State Word) (m : Option Moved) (q : ℕ) (z : ℤ) → ToReg false m → Num s q z
     → Num (move_on id id s m) q z
 moved_num s None q z i h = h
-moved_num s (Some m) q z i h = put_num (clear id id s m.from) m.to (word_in id s m.from) q z i (clear_num s m.from q z h)
+moved_num s (Some m) q z i h =
+    put_num (clear id id s m.from) m.to (word_in id s m.from) q z i (clear_num s m.from q z h)
 
 spent_num : (s : State Word) (r : Option Reg) (q : ℕ) (z : ℤ) → Num s q z → Num (spend id id s r) q z
 spent_num s None q z h = h
@@ -137,7 +167,11 @@ gone_num s (Some m) q z h = h
 pub performed_num : (s : State Word) (e : Effect) (q : ℕ) (z : ℤ) → ToReg false e.moved → Num s q z
     → Num (perform id id s e) q z
 unfolding perform
-performed_num s e q z i h = gone_num _ e.next q z (made_num _ e.second q z (made_num _ e.first q z (spent_num _ e.also_spent q z (spent_num _ e.spent q z (moved_num s e.moved q z i h)))))
+performed_num s e q z i h =
+    gone_num _ e.next q z
+    (made_num _ e.second q z
+    (made_num _ e.first q z
+    (spent_num _ e.also_spent q z (spent_num _ e.spent q z (moved_num s e.moved q z i h)))))
 
 performed_pc : (s : State Word) (e : Effect) (next : Word) → e.next ≡ Some next
     → reg (perform id id s e).regs Pc ≡ next
@@ -156,10 +190,12 @@ planned : (s s' : State Word) (next : Word) (b : Bool) (p : Plan) → Gives (Onw
     → outcome id id s p ≡ went s' → (s'.regs.pc ≡ next) × KeepsNumbers b s s'
 planned s s' next b (Fails f) h e = cc
 planned s s' next b Halts h e = cc
-planned s s' next b (Goes x) h e = let q : perform id id s x ≡ s' = cc in let k = Gives-effect h in rw (← q) (performed_pc s x next k.0, by_store b s x k.1)
+planned s s' next b (Goes x) h e = let q : perform id id s x ≡ s' = cc in let k =
+    Gives-effect h in rw (← q) (performed_pc s x next k.0, by_store b s x k.1)
 
 -- a straight instruction goes to the next word, and but for a store numbers stay
 pub straight_goes : (s s' : State Word) (i : Instr) (next : Word) → is_straight i ≡ true
     → row id id i next s ≡ went s' → (s'.regs.pc ≡ next) × KeepsNumbers (is_store i) s s'
 unfolding row plan_in
-straight_goes s s' i next h e = planned s s' next (is_store i) _ (plan-Onward (faces id s) (opens id s) _ next i h) e
+straight_goes s s' i next h e =
+    planned s s' next (is_store i) _ (plan-Onward (faces id s) (opens id s) _ next i h) e

@@ -26,7 +26,8 @@ checks sb =
     ∷ Jnz T2 T1 ∷ Getb T1 Stk ∷ Minus T1 T1 (Imm (pos sb)) ∷ Jnz T2 T1 ∷ []
 
 abbrev tail : ℕ → List Instr
-tail sb = Seta2b Stk ∷ Gete T1 Stk ∷ Minus T1 T1 (Imm (pos sb)) ∷ Cca Stk (InReg T1) ∷ Move T1 (Imm (pos 0)) ∷ []
+tail sb =
+    Seta2b Stk ∷ Gete T1 Stk ∷ Minus T1 T1 (Imm (pos sb)) ∷ Cca Stk (InReg T1) ∷ Move T1 (Imm (pos 0)) ∷ []
 
 t2_t1 : T2 ≢ T1
 t2_t1 e = cc
@@ -36,9 +37,11 @@ checked sb h =
     keeps _ T1 (refl, refl, tt) refl t2_t1 (keeps _ T1 (refl, refl, (search rules)) refl t2_t1 (tests T1
     (keeps _ T1 (refl, refl, tt) refl t2_t1 (keeps _ T1 (refl, refl, (search rules)) refl t2_t1 (tests T1
     (keeps _ T1 (refl, refl, tt) refl t2_t1 (keeps _ T1 (refl, refl, (search rules)) refl t2_t1 (tests T1
-    (keeps _ T1 (refl, refl, tt) refl t2_t1 (keeps _ T1 (refl, refl, small_operand sb h) refl t2_t1 (tests T1 done)))))))))))
+    (keeps _ T1 (refl, refl, tt)
+    refl t2_t1 (keeps _ T1 (refl, refl, small_operand sb h) refl t2_t1 (tests T1 done)))))))))))
 
-module _ (a : ℕ) (s : State Word) (base last at sb : ℕ) (h : HasEntry id s.cells base last at sb) (out : Outside a base last) where
+module _ (a : ℕ) (s : State Word) (base last at sb : ℕ) (h : HasEntry id s.cells base last at sb)
+    (out : Outside a base last) where
   pub entry_spares : s.regs.pc ≡ Mem (code_cap base last at) → sb ≤ LAST_PLACE → Untouched id id a 20 s
   unfolding entry_code
   entry_spares pc small =
@@ -46,8 +49,20 @@ module _ (a : ℕ) (s : State Word) (base last at sb : ℕ) (h : HasEntry id s.c
       let en = h.ends in
       let sm = h.small in
       let fh = h.fails.1 in
-      armed a base last (base + h.fail) out (omega arith) fh (checks sb) (tail sb ++ (Move T2 (Imm (pos 0)) ∷ [])) 6 (checked sb small) (distance h.offset h.fail) s at
+      armed a base last (base + h.fail) out (omega arith) fh (checks sb)
+      (tail sb ++ (Move T2 (Imm (pos 0)) ∷ [])) 6 (checked sb small) (distance h.offset h.fail) s at
       pc (omega (arith, ai)) (omega (arith, en)) h.code
-      (leads at base h.offset h.fail ai) (fits_small (base + h.fail) (omega (arith, fh, sm))) (near_operand h.offset h.fail (omega (arith, ai, en, sm)) (omega (arith, fh, sm))) h.fails.0.0
-      (λ u p c. idle_code a base last out (tail sb) (Move T2 (Imm (pos 0))) u (at + 2 + 12) (refl, refl, tt, (refl, refl, tt, (refl, refl, small_operand sb small, (refl, refl, tt, (refl, refl, (search rules), tt)))))
+      (leads at base h.offset h.fail ai) (fits_small (base + h.fail) (omega (arith, fh, sm)))
+      (near_operand h.offset h.fail (omega (arith, ai, en, sm)) (omega (arith, fh, sm))) h.fails.0.0
+      (λ u p c. idle_code a base last out (tail sb) (Move T2 (Imm (pos 0))) u (at + 2 + 12) (
+        refl,
+        refl,
+        tt,
+        (
+          refl,
+          refl,
+          tt,
+          (refl, refl, small_operand sb small, (refl, refl, tt, (refl, refl, (search rules), tt))),
+        ),
+      )
       refl (search rules) p (omega (arith, ai)) (omega (arith, en)) c)

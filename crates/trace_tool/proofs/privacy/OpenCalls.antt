@@ -1,4 +1,5 @@
--- While a call line is open, no instruction of a run touches an address of its range but the two of its own return.
+-- While a call line is open, no instruction of a run touches an address of its range but the two of its own
+-- return.
 use Rattle.std.proofs.Common.{◌≡◌, ◌⊎◌, inl, inr, ℕ, suc, ◌+◌, ◌-◌, ◌<◌, ◌≤◌, List, [], Some, refl}
 use Rattle.std.proofs.Common.{sym, ap, ◌∙◌, subst, arith}
 use Rattle.std.specs.Prelude.{slice_get}
@@ -47,8 +48,12 @@ site_is : (l : Layout) (i : ℕ) (x : Site) → slice_get l.sites i ≡ Some x �
 unfolding site_of
 site_is l i x e = ap site_or e
 
-module _ (parts : List PartSeen) (size : ℕ) (s : StartSeen) (h : HoldsFor parts size (overlay_at s) s.state.maps) (is : s.state ≡ fresh s.state.maps) (alone : HaltsAlone)
-    (runs : RunsAgree (layout s) (overlay_at s).state s.state.maps) (agree : LinesAgree (layout s) (overlay_at s).state s.state.maps) (brackets : LinesAreBracketed (layout s) (overlay_at s).state) where
+module _ (parts : List PartSeen) (size : ℕ) (s : StartSeen)
+    (h : HoldsFor parts size (overlay_at s) s.state.maps) (is : s.state ≡ fresh s.state.maps)
+    (alone : HaltsAlone)
+    (runs : RunsAgree (layout s) (overlay_at s).state s.state.maps)
+    (agree : LinesAgree (layout s) (overlay_at s).state s.state.maps)
+    (brackets : LinesAreBracketed (layout s) (overlay_at s).state) where
   abbrev l : Layout
   l = layout s
 
@@ -63,7 +68,8 @@ module _ (parts : List PartSeen) (size : ℕ) (s : StartSeen) (h : HoldsFor part
       → open_behind [] (written s n) ≡ lines_told l p.frames
   open_are n j p reach le lt =
       let told = told_of l first j p reach in
-      let same : written s n ≡ told.0 = ap (λ (r : Run). lines_of l (begun r) n) is ∙ agree.between j n told.0 p told.1 le lt in
+      let same : written s n ≡ told.0 =
+      ap (λ (r : Run). lines_of l (begun r) n) is ∙ agree.between j n told.0 p told.1 le lt in
       ap (open_behind []) same ∙ open_is [] _ told.0 (brackets j told.0 p told.1)
 
   -- the instruction behind n others, from the last matched point on
@@ -75,11 +81,14 @@ module _ (parts : List PartSeen) (size : ℕ) (s : StartSeen) (h : HoldsFor part
       → run_of id id (n - j) u ≡ went v
   behind n j u v le at e =
       let z : n ≡ j + (n - j) = omega (arith, le) in
-      sym (run_then id id j (n - j) s.state.maps u _ at refl) ∙ subst (λ k. plain_run k s.state.maps ≡ went v) z e
+      sym (run_then id id j (n - j) s.state.maps u _ at refl)
+      ∙ subst (λ k. plain_run k s.state.maps ≡ went v) z e
 
   -- ---- its own return
 
-  module _ (n j word : ℕ) (p : OState) (u v : State Word) (a : ℕ) (at_n : plain_run n s.state.maps ≡ went v) (at_j : plain_run j s.state.maps ≡ went u) (le : j ≤ n) (so_many : n - j ≡ suc word) (touch : OwnTouch l p u v a word) (c : LineTold) (is_call : IsCallOf l touch.frame c) where
+  module _ (n j word : ℕ) (p : OState) (u v : State Word) (a : ℕ) (at_n : plain_run n s.state.maps ≡ went v)
+      (at_j : plain_run j s.state.maps ≡ went u) (le : j ≤ n) (so_many : n - j ≡ suc word)
+      (touch : OwnTouch l p u v a word) (c : LineTold) (is_call : IsCallOf l touch.frame c) where
     abbrev F : OpenFrame
     F = touch.frame
 
@@ -96,7 +105,8 @@ module _ (parts : List PartSeen) (size : ℕ) (s : StartSeen) (h : HoldsFor part
           index = ap (λ y. y.index) here ∙ is_call.site;
           first = touch.site.base;
           end = touch.site.end;
-          at_pc = ap (λ (y : State Word). y.regs.pc) (after_is n v at_n) ∙ touch.used.2 ∙ ap (λ y. Mem (code_cap touch.site.base touch.site.end (y + 16 + word))) at;
+          at_pc = ap (λ (y : State Word). y.regs.pc) (after_is n v at_n) ∙ touch.used.2
+              ∙ ap (λ y. Mem (code_cap touch.site.base touch.site.end (y + 16 + word))) at;
           before = j;
           so_many = omega (arith, le, so_many);
           r1 = touch.r1;
@@ -125,7 +135,9 @@ module _ (parts : List PartSeen) (size : ℕ) (s : StartSeen) (h : HoldsFor part
       let p = k.1 in
       let le : j ≤ n = k.2.1 in
       let lt : n < j + weight_of l p = k.2.2 in
-      let told = frame_of_call l p.frames c (subst (λ cs. Contains cs c) (open_are n j p k.2.0 le lt) used.is_open) in
+      let told =
+      frame_of_call l p.frames c (subst (λ cs. Contains cs c) (open_are n j p k.2.0 le lt) used.is_open)
+      in
       let f = told.0 in
       let low_f : f.base ≤ a = (let e = (told.2).base in let low = used.low in omega (arith, low, e)) in
       let high_f : a ≤ f.end = (let e = (told.2).last in let high = used.high in omega (arith, high, e)) in
@@ -137,10 +149,15 @@ module _ (parts : List PartSeen) (size : ℕ) (s : StartSeen) (h : HoldsFor part
       let w = has_word l p.maps.cells f a lies low_f high_f in
       let in_frames = framed_at l p.maps.cells p.calls p.frames f a w.0 inv.frames told.1 w.1 in
       let ran = behind n j u v.0 le at.1 v.1 in
-      let own = step_own g h.linked p u inv a w.0 in_frames (n - j) v.0 ran (subst (λ y. Touches id y a) (after_is n v.0 v.1) used.touches) (omega (arith, le, lt)) in
+      let own =
+      step_own g h.linked p u inv a w.0 in_frames (n - j)
+      v.0 ran (subst (λ y. Touches id y a) (after_is n v.0 v.1) used.touches) (omega (arith, le, lt)) in
       let touch = own.2 in
       let base : a ≡ touch.frame.base = touch.used.0 in
-      let newest : f ≡ touch.frame = only_newest l p.maps.cells p.calls touch.frame touch.older f (subst (λ fs. FramesLie l p.maps.cells p.calls fs) touch.frames_are inv.frames) (subst (λ fs. Contains fs f) touch.frames_are told.1) (omega (arith, low_f, base)) in
+      let newest : f ≡ touch.frame =
+      only_newest l p.maps.cells p.calls touch.frame touch.older f
+      (subst (λ fs. FramesLie l p.maps.cells p.calls fs) touch.frames_are inv.frames)
+      (subst (λ fs. Contains fs f) touch.frames_are told.1) (omega (arith, low_f, base)) in
       reads_or_wipes n j own.0 p u v.0 a v.1 at.1 le own.1 touch c (subst (λ y. IsCallOf l y c) newest told.2)
 
   -- ---- brackets
@@ -148,7 +165,8 @@ module _ (parts : List PartSeen) (size : ℕ) (s : StartSeen) (h : HoldsFor part
   closes : ((n : ℕ) → AreBracketed (written s n)) → RetsCloseTheNewest s
   closes lines n before more inward part site base last a0 words e =
       let k = lines n in
-      closes_newest inward part site base last a0 words more k.0 [] before (subst (λ ls. Brackets LineTold [] (marks_in ls) k.0) e k.1)
+      closes_newest inward part site base last a0 words more k.0 []
+      before (subst (λ ls. Brackets LineTold [] (marks_in ls) k.0) e k.1)
 
   pub calls_kept : ((n : ℕ) → AreBracketed (written s n)) → CallsAreKept s
   calls_kept lines = record { bracketed = closes lines; alone = left_alone }

@@ -10,7 +10,8 @@ pub open_is : (before now : List LineTold) (ls : List Line) → Brackets LineTol
     → open_behind before ls ≡ now
 open_is before _ [] (at_end _) = refl
 open_is before now (call inward part site base last args words ∷ ls) (one_opens h) = open_is _ now ls h
-open_is _ now (ret inward part site base last a0 words ∷ ls) (one_closes {before = older} h) = open_is older now ls h
+open_is _ now (ret inward part site base last a0 words ∷ ls) (one_closes {before = older} h) =
+    open_is older now ls h
 open_is [] now (enter part export stk args back ∷ ls) h = open_is [] now ls h
 open_is (x ∷ xs) now (enter part export stk args back ∷ ls) h = open_is (x ∷ xs) now ls h
 open_is [] now (pass p0 p1 p2 ∷ ls) h = open_is [] now ls h
@@ -18,7 +19,8 @@ open_is (x ∷ xs) now (pass p0 p1 p2 ∷ ls) h = open_is (x ∷ xs) now ls h
 open_is [] now (leave part a0 ∷ ls) h = open_is [] now ls h
 open_is (x ∷ xs) now (leave part a0 ∷ ls) h = open_is (x ∷ xs) now ls h
 
-module _ (inward : Bool) (part : List ℕ) (site base last : ℕ) (a0 : Word) (words : List Word) (more : List Line) (now : List LineTold) where
+module _ (inward : Bool) (part : List ℕ) (site base last : ℕ) (a0 : Word) (words : List Word)
+    (more : List Line) (now : List LineTold) where
   abbrev line : Line
   line = ret inward part site base last a0 words
 

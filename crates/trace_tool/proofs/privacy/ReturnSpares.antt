@@ -1,4 +1,5 @@
--- The first six words of a return touch no address apart from their code: where the stack joins from its base they come to
+-- The first six words of a return touch no address apart from their code: where the stack joins from its base
+-- they come to
 -- the load, where it joins from elsewhere to the `fail`, and where it can't be joined the first one fails.
 use Rattle.std.proofs.Common.{◌≡◌, ◌≢◌, ℕ, suc, ◌+◌, ◌≤◌, ℤ, true}
 use Rattle.std.proofs.Common.{refl, ◌∙◌, arith}
@@ -27,13 +28,19 @@ use Rattle.lcm_machine.proofs.StepRows.{run_one}
 use Rattle.trace_tool.proofs.privacy.TouchAt.{idle_only}
 use Rattle.trace_tool.proofs.privacy.ArmedSpares.{at_fail}
 
-module _ (a : ℕ) (s : State Word) (base last at sb : ℕ) (h : HasReturn id s.cells base last at sb) (out : Outside a base last) where
+module _ (a : ℕ) (s : State Word) (base last at sb : ℕ) (h : HasReturn id s.cells base last at sb)
+    (out : Outside a base last) where
   -- joined from the stack's base: none of the first six touches it, not even the first cell of the range
-  pub on_spares : (low b end : ℕ) (to : ℤ) → s.regs.pc ≡ Mem (code_cap base last at) → s.regs.stk ≡ Mem (record (stack_cap sb low 0) { addr = to }) → s.regs.dat ≡ Mem (stack_cap b end b)
+  pub on_spares : (low b end : ℕ) (to : ℤ) → s.regs.pc ≡ Mem (code_cap base last at)
+      → s.regs.stk ≡ Mem (record (stack_cap sb low 0) { addr = to }) → s.regs.dat ≡ Mem (stack_cap b end b)
       → low + 1 ≡ b → sb ≤ b → b ≤ end → end ≤ LAST_PLACE → Untouched id id a 6 s
   on_spares low b end to hpc hstk hdat joint sl le small =
       quiet id id (λ y. refl) a 6 (lacking a s) s _ (lacks a s)
-      (return_tests id id (λ y. refl) (lacking a s) base last at sb (record (stack_cap sb low 0) { addr = to }) (stack_cap b end b) (return_lacking a s base last out at sb h) hpc hstk hdat refl refl refl joint (omega (arith, sl, le, small)) (omega (arith, sl, le, small)) refl)
+      (return_tests id id (λ y. refl) (lacking a s)
+      base last at sb (record (stack_cap sb low 0) { addr = to }) (stack_cap b end b)
+      (return_lacking a s base last out at sb h)
+      hpc hstk hdat refl refl refl joint (omega (arith, sl, le, small)) (omega (arith, sl, le, small))
+      refl)
 
   -- joined from elsewhere: none of the ten touches it
   pub off_spares : (low high : CapFields) → s.regs.pc ≡ Mem (code_cap base last at) → s.regs.stk ≡ Mem low
@@ -43,7 +50,10 @@ module _ (a : ℕ) (s : State Word) (base last at sb : ℕ) (h : HasReturn id s.
   off_spares low high hpc hstk hdat ll lh same joint s1 s2 ne =
       let fh = h.fails.1 in
       untouched_then id id a 6 4 s _
-      (quiet id id (λ y. refl) a 6 (lacking a s) s _ (lacks a s) (return_turns id id (λ y. refl) (lacking a s) base last at sb low high (return_lacking a s base last out at sb h) hpc hstk hdat ll lh same joint s1 s2 ne))
+      (quiet id id (λ y. refl) a 6 (lacking a s) s _ (lacks a s)
+      (return_turns id id (λ y. refl) (lacking a s)
+      base last at sb low high (return_lacking a s base last out at sb h)
+      hpc hstk hdat ll lh same joint s1 s2 ne))
       (return_turns id id (λ y. refl) s base last at sb low high h hpc hstk hdat ll lh same joint s1 s2 ne)
       (at_fail a base last (base + h.fail) out (omega arith) fh 4 _ refl h.fails.0.0)
 
@@ -54,8 +64,10 @@ module _ (a : ℕ) (s : State Word) (base last at sb : ℕ) (h : HasReturn id s.
   apart_spares n hpc f =
       let ai = h.at_is in
       let en = h.ends in (
-        idle_only a base last out s at (Splice Stk Stk Dat) hpc (omega (arith, ai)) (omega (arith, en)) h.code.0 tt refl,
-        after_each (Untouched id id a n) (step_of id id s) (λ v e. absurd (none v (rw (run_one id id s ∙ e) at f))),
+        idle_only a base last out s at (Splice Stk Stk Dat) hpc (omega (arith, ai)) (omega (arith, en))
+            h.code.0 tt refl,
+        after_each (Untouched id id a n) (step_of id id s)
+            (λ v e. absurd (none v (rw (run_one id id s ∙ e) at f))),
       )
     where
       none : (v : State Word) → HasFailed (went v) → ⊥

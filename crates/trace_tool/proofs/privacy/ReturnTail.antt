@@ -1,4 +1,5 @@
--- An `xjmp` of a return pair, and the ten words behind it, whatever they do: of the stack they touch the first address
+-- An `xjmp` of a return pair, and the ten words behind it, whatever they do: of the stack they touch the
+-- first address
 -- of the newest frame alone, by the two instructions that read and wipe it.
 use Rattle.std.proofs.Common.{◌≡◌, inl, inr, ℕ, suc, ◌+◌, ◌<◌, ◌≤◌, true, List}
 use Rattle.std.proofs.Common.{◌∷◌, Option, Some, None}
@@ -48,7 +49,8 @@ use Rattle.trace_tool.proofs.privacy.TouchAt.{not_failed, first_step, untouched_
 use Rattle.trace_tool.proofs.privacy.ReturnSpares.{apart_spares, off_spares}
 use Rattle.trace_tool.proofs.privacy.OwnReturn.{IsFirstUsed, own_only}
 
--- an address that an instruction behind an `xjmp` touches is the first of the newest frame, and the instruction is the
+-- an address that an instruction behind an `xjmp` touches is the first of the newest frame, and the
+-- instruction is the
 -- one of its site's return that loads it or that wipes it; the `xjmp` was of the pair of that frame's call
 pub record OwnTouch (l : Layout) (o : OState) (t v : State Word) (a word : ℕ) : Type 0 where
   pub frame : OpenFrame
@@ -64,7 +66,8 @@ pub record OwnTouch (l : Layout) (o : OState) (t v : State Word) (a word : ℕ) 
   pub code : reg t.regs r1 ≡ Sealed site.seal (MemIn (code_cap site.base site.end (site.at + 16)))
   pub range : reg t.regs r2 ≡ Sealed site.seal (MemIn (stack_cap frame.base frame.end frame.base))
 
-module _ (l : Layout) (r1 r2 : Reg) (o : OState) (t : State Word) (rd : AtReturn l r1 r2 o) (m : IsFlat l o t) (k : Looks l o) where
+module _ (l : Layout) (r1 r2 : Reg) (o : OState) (t : State Word) (rd : AtReturn l r1 r2 o) (m : IsFlat l o t)
+    (k : Looks l o) where
   -- a RetCode of a site, and the RetData of a call of that site that is open
   pub record IsPair (i : ℕ) : Type 0 where
     pub site : SiteCode
@@ -77,81 +80,120 @@ module _ (l : Layout) (r1 r2 : Reg) (o : OState) (t : State Word) (rd : AtReturn
     pub same : i ≡ frame.site
 
   -- a RetCode goes with no other word
-  module _ (i : ℕ) (e1 : reg o.maps.regs r1 ≡ RetCode i) (u : State Word) (ran : run_of id id 1 t ≡ went u) where
-    failed_not : HasFailed (run_of id id 1 t) → ⊥
-    failed_not h = not_failed 1 0 t u h ran
+  module _ (i : ℕ) (e1 : reg o.maps.regs r1 ≡ RetCode i) (u : State Word) (ran : run_of id id 1 t ≡ went u)
+    where
+      failed_not : HasFailed (run_of id id 1 t) → ⊥
+      failed_not h = not_failed 1 0 t u h ran
 
-    by_seal : (s : SiteCode) → site_code l i ≡ Some s → (n : ℕ) → reg o.maps.regs r2 ≡ RetData n
-        → (f : OpenFrame) → frame_of o.frames n ≡ Some f → (z : Option SiteCode) → site_code l f.site ≡ z
-        → IsPair i
-    by_seal s es n e2 f ef None eu = absurd (failed_not (refuses l r1 r2 o t rd m k _ None (code_some l r1 r2 o t rd m k i s e1 es) (ap opened_of (data_is l r1 r2 o t rd m k n f None e2 ef eu)) tt))
-    by_seal s es n e2 f ef (Some z) eu = elim (cases_eq s.seal z.seal) as (λ _. IsPair i) [
-      | inr ne ↦ absurd (failed_not (refuses l r1 r2 o t rd m k _ _ (code_some l r1 r2 o t rd m k i s e1 es) (ap opened_of (data_is l r1 r2 o t rd m k n f (Some z) e2 ef eu)) (inl ne)))
-      | inl q ↦ (let same : i ≡ f.site = rd.one_seal i f.site s z es eu q in
-          record { site = s; site_is = es; call = n; data_is = e2; frame = f; frame_is = ef; its_site = ap (site_code l) (sym same) ∙ es; same = same })
-    ]
+      by_seal : (s : SiteCode) → site_code l i ≡ Some s → (n : ℕ) → reg o.maps.regs r2 ≡ RetData n
+          → (f : OpenFrame) → frame_of o.frames n ≡ Some f → (z : Option SiteCode) → site_code l f.site ≡ z
+          → IsPair i
+      by_seal s es n e2 f ef None eu =
+          absurd (failed_not
+          (refuses l r1 r2 o t rd m k _ None (code_some l r1 r2 o t rd m k i s e1 es)
+          (ap opened_of (data_is l r1 r2 o t rd m k n f None e2 ef eu)) tt))
+      by_seal s es n e2 f ef (Some z) eu = elim (cases_eq s.seal z.seal) as (λ _. IsPair i) [
+        | inr ne ↦
+            absurd (failed_not
+            (refuses l r1 r2 o t rd m k _ _ (code_some l r1 r2 o t rd m k i s e1 es)
+            (ap opened_of (data_is l r1 r2 o t rd m k n f (Some z) e2 ef eu)) (inl ne)))
+        | inl q ↦ (let same : i ≡ f.site = rd.one_seal i f.site s z es eu q in
+            record {
+              site = s;
+              site_is = es;
+              call = n;
+              data_is = e2;
+              frame = f;
+              frame_is = ef;
+              its_site =
+                  ap (site_code l) (sym same) ∙ es;
+              same = same;
+            })
+      ]
 
-    by_frame : (s : SiteCode) → site_code l i ≡ Some s → (n : ℕ) → reg o.maps.regs r2 ≡ RetData n
-        → (f : Option OpenFrame) → frame_of o.frames n ≡ f → IsPair i
-    by_frame s es n e2 None ef = absurd (failed_not (refuses l r1 r2 o t rd m k _ None (code_some l r1 r2 o t rd m k i s e1 es) (data_none l r1 r2 o t rd m k n e2 ef) tt))
-    by_frame s es n e2 (Some f) ef = by_seal s es n e2 f ef (site_code l f.site) refl
+      by_frame : (s : SiteCode) → site_code l i ≡ Some s → (n : ℕ) → reg o.maps.regs r2 ≡ RetData n
+          → (f : Option OpenFrame) → frame_of o.frames n ≡ f → IsPair i
+      by_frame s es n e2 None ef =
+          absurd (failed_not
+          (refuses l r1 r2 o t rd m k _ None (code_some l r1 r2 o t rd m k i s e1 es)
+          (data_none l r1 r2 o t rd m k n e2 ef) tt))
+      by_frame s es n e2 (Some f) ef = by_seal s es n e2 f ef (site_code l f.site) refl
 
-    by_second : (s : SiteCode) → site_code l i ≡ Some s → (y : OWord) → reg o.maps.regs r2 ≡ y → IsPair i
-    by_second s es (Plain w) e2 = absurd (failed_not (plain_second l r1 r2 o t rd m k i e1 s es (code_some l r1 r2 o t rd m k i s e1 es) w e2))
-    by_second s es (RetCode j) e2 = absurd (failed_not (code_second l r1 r2 o t rd m k i e1 s es (code_some l r1 r2 o t rd m k i s e1 es) j e2))
-    by_second s es (RetData n) e2 = by_frame s es n e2 (frame_of o.frames n) refl
+      by_second : (s : SiteCode) → site_code l i ≡ Some s → (y : OWord) → reg o.maps.regs r2 ≡ y → IsPair i
+      by_second s es (Plain w) e2 =
+          absurd (failed_not
+          (plain_second l r1 r2 o t rd m k i e1 s es (code_some l r1 r2 o t rd m k i s e1 es) w e2))
+      by_second s es (RetCode j) e2 =
+          absurd (failed_not
+          (code_second l r1 r2 o t rd m k i e1 s es (code_some l r1 r2 o t rd m k i s e1 es) j e2))
+      by_second s es (RetData n) e2 = by_frame s es n e2 (frame_of o.frames n) refl
 
-    by_site : (z : Option SiteCode) → site_code l i ≡ z → IsPair i
-    by_site None es = absurd (failed_not (refuses l r1 r2 o t rd m k None _ (code_none l r1 r2 o t rd m k i e1 es) refl tt))
-    by_site (Some s) es = by_second s es (reg o.maps.regs r2) refl
+      by_site : (z : Option SiteCode) → site_code l i ≡ z → IsPair i
+      by_site None es =
+          absurd (failed_not
+          (refuses l r1 r2 o t rd m k None _ (code_none l r1 r2 o t rd m k i e1 es) refl tt))
+      by_site (Some s) es = by_second s es (reg o.maps.regs r2) refl
 
-    pair : IsPair i
-    pair = by_site (site_code l i) refl
+      pair : IsPair i
+      pair = by_site (site_code l i) refl
 
   -- ---- the ten words
 
-  module _ (i : ℕ) (e1 : reg o.maps.regs r1 ≡ RetCode i) (p : IsPair i) (a : ℕ) (low_a : l.stack.base ≤ a) (high_a : a ≤ l.stack.end) where
+  module _ (i : ℕ) (e1 : reg o.maps.regs r1 ≡ RetCode i) (p : IsPair i) (a : ℕ) (low_a : l.stack.base ≤ a)
+      (high_a : a ≤ l.stack.end) where
     abbrev pub S : SiteCode
     S = p.site
 
     abbrev pub F : OpenFrame
     F = p.frame
 
-    pub code_opened : opened_of (flat l o.frames (reg o.maps.regs r1)) ≡ Some (record { seal = S.seal; content = MemC (code_cap S.base S.end (S.at + 16)) })
+    pub code_opened : opened_of (flat l o.frames (reg o.maps.regs r1))
+        ≡ Some (record { seal = S.seal; content = MemC (code_cap S.base S.end (S.at + 16)) })
     code_opened = code_some l r1 r2 o t rd m k i S e1 p.site_is
 
-    pub data_flat : flat l o.frames (reg o.maps.regs r2) ≡ Sealed S.seal (MemIn (stack_cap F.base F.end F.base))
+    pub data_flat : flat l o.frames (reg o.maps.regs r2)
+        ≡ Sealed S.seal (MemIn (stack_cap F.base F.end F.base))
     data_flat = data_is l r1 r2 o t rd m k p.call F (Some S) p.data_is p.frame_is p.its_site
 
-    code_flat : flat l o.frames (reg o.maps.regs r1) ≡ Sealed S.seal (MemIn (code_cap S.base S.end (S.at + 16)))
+    code_flat : flat l o.frames (reg o.maps.regs r1)
+        ≡ Sealed S.seal (MemIn (code_cap S.base S.end (S.at + 16)))
     unfolding flat
     code_flat = ap (flat l o.frames) e1 ∙ ap Rattle.overlay_machine.specs.Flat.flat_code p.site_is
 
     -- behind the `xjmp`
     abbrev pub U : State Word
-    U = s1 l r1 r2 o t rd m k i e1 S p.site_is code_opened p.call p.data_is F p.frame_is p.its_site (ap opened_of data_flat) data_flat p.same
+    U = s1 l r1 r2 o t rd m k i e1 S p.site_is code_opened p.call p.data_is F p.frame_is p.its_site
+        (ap opened_of data_flat) data_flat p.same
 
     pub jumped : run_of id id 1 t ≡ went U
-    jumped = jumps l r1 r2 o t rd m k i e1 S p.site_is code_opened p.call p.data_is F p.frame_is p.its_site (ap opened_of data_flat) data_flat p.same
+    jumped = jumps l r1 r2 o t rd m k i e1 S p.site_is code_opened p.call p.data_is F p.frame_is p.its_site
+        (ap opened_of data_flat) data_flat p.same
 
     its : HasSite l o.maps.cells S
     its = rd.sites i S p.site_is
 
-    pub back : Rattle.call_sequence.specs.SequenceRuns.HasReturn id U.cells S.base S.end (S.at + 16) l.stack.base
-    back = code_is l r1 r2 o t rd m k i e1 S p.site_is code_opened p.call p.data_is F p.frame_is p.its_site (ap opened_of data_flat) data_flat p.same
+    pub back : Rattle.call_sequence.specs.SequenceRuns.HasReturn id U.cells S.base S.end (S.at + 16)
+        l.stack.base
+    back = code_is l r1 r2 o t rd m k i e1 S p.site_is code_opened p.call p.data_is F p.frame_is p.its_site
+        (ap opened_of data_flat) data_flat p.same
 
     out : Outside a S.base S.end
     out = its.apart a low_a high_a
 
     got : fetch (faces id t Pc) (cell_faces id t) ≡ some (Xjmp r1 r2) rd.next
-    got = fetch_mapped look id (flat l o.frames) (beside l o.frames) o.maps t m k.0 (λ q e. beside-none l o.frames q (rd.free q e)) ∙ rd.fetched
+    got = fetch_mapped look id (flat l o.frames) (beside l o.frames)
+        o.maps t m k.0 (λ q e. beside-none l o.frames q (rd.free q e)) ∙ rd.fetched
 
-    module _ (word : ℕ) (few : word ≤ 9) (v : State Word) (ran : run_of id id word U ≡ went v) (x : Touches id v a) where
+    module _ (word : ℕ) (few : word ≤ 9) (v : State Word) (ran : run_of id id word U ≡ went v)
+        (x : Touches id v a) where
       not_joint : (y : Word) → U.regs.stk ≡ y
           → CannotJoin (face_of y) (Memory (stack_cap F.base F.end F.base)) → ⊥
       not_joint y e h =
-          let f : HasFailed (run_of id id 1 U) = return_apart id id U S.base S.end (S.at + 16) l.stack.base back refl (rw e h) in
-          untouched_at a 10 word U v (apart_spares a U S.base S.end (S.at + 16) l.stack.base back out 9 refl f) ran (omega (arith, few)) x
+          let f : HasFailed (run_of id id 1 U) =
+          return_apart id id U S.base S.end (S.at + 16) l.stack.base back refl (rw e h) in
+          untouched_at a 10 word U v
+          (apart_spares a U S.base S.end (S.at + 16) l.stack.base back out 9 refl f)
+          ran (omega (arith, few)) x
 
       -- from the stack's base: the call is the newest
       resumes : (c : CapFields) → U.regs.stk ≡ Mem c → same_kind c (stack_cap F.base F.end F.base) ≡ true
@@ -159,7 +201,9 @@ module _ (l : Layout) (r1 r2 : Reg) (o : OState) (t : State Word) (rd : AtReturn
           → OwnTouch l o t v a word
       resumes c e kind joint low older ef =
           let s = rd.frames F older ef in
-          let c_is : c ≡ record (stack_cap l.stack.base c.end 0) { addr = c.addr } = stack_of c F.base F.end F.base kind ∙ ap (λ b. record (stack_cap b c.end 0) { addr = c.addr }) low in
+          let c_is : c ≡ record (stack_cap l.stack.base c.end 0) { addr = c.addr } =
+          stack_of c F.base F.end F.base kind
+          ∙ ap (λ b. record (stack_cap b c.end 0) { addr = c.addr }) low in
           let above = s.above in
           let order = s.order in
           let within = s.in_stack in
@@ -170,8 +214,11 @@ module _ (l : Layout) (r1 r2 : Reg) (o : OState) (t : State Word) (rd : AtReturn
             frames_are = ef;
             site = S;
             site_is = p.its_site;
-            used = own_only a U S.base S.end (S.at + 16) l.stack.base back out c.end F.base F.end c.addr s.first refl (e ∙ ap Mem c_is) refl joint (omega (arith, above)) order (omega (arith, within, small))
-                (its.apart F.base (omega (arith, above)) (omega (arith, order, within))) (newest_first l o t m F older ef s) s.normal v x word ran few;
+            used = own_only a U S.base S.end (S.at + 16)
+                l.stack.base back out c.end F.base F.end c.addr s.first refl (e ∙ ap Mem c_is)
+                refl joint (omega (arith, above)) order (omega (arith, within, small))
+                (its.apart F.base (omega (arith, above)) (omega (arith, order, within)))
+                (newest_first l o t m F older ef s) s.normal v x word ran few;
             r1 = r1;
             r2 = r2;
             next = rd.next;
@@ -187,12 +234,21 @@ module _ (l : Layout) (r1 r2 : Reg) (o : OState) (t : State Word) (rd : AtReturn
           let p1 = and_parts _ _ h in
           let p2 = and_parts _ _ p1.0 in
           let joint : c.end + 1 ≡ F.base = eqb-true (c.end + 1) F.base p1.1 in
-          let kept = stk_plain l r1 r2 o t rd m k i e1 S p.site_is code_opened p.call p.data_is F p.frame_is p.its_site (ap opened_of data_flat) data_flat p.same c e in
+          let kept =
+          stk_plain l r1 r2 o t rd m k i e1 S p.site_is code_opened p.call p.data_is F p.frame_is
+          p.its_site (ap opened_of data_flat) data_flat p.same c e in
           elim (cases_eq c.base l.stack.base) as (λ _. OwnTouch l o t v a word) [
-            | inl same ↦ (let n = rd.newest p.call F c p.frame_is kept same joint in resumes c e p1.0 joint same n.0 n.1)
-            | inr ne ↦ (let q : FaceInOrder (Memory c) = subst (λ w. FaceInOrder (face_of w)) kept rd.in_order in
+            | inl same ↦
+                (let n = rd.newest p.call F c p.frame_is kept same joint in
+                resumes c e p1.0 joint same n.0 n.1)
+            | inr ne ↦
+                (let q : FaceInOrder (Memory c) = subst (λ w. FaceInOrder (face_of w)) kept rd.in_order in
                 let small : c.base ≤ LAST_PLACE = (let q0 = q.0 in let q1 = q.1 in omega (arith, q0, q1)) in
-                absurd (untouched_at a 10 word U v (off_spares a U S.base S.end (S.at + 16) l.stack.base back out c (stack_cap F.base F.end F.base) refl e refl (same_lin_true (lin_is c.lin) p2.1) refl p1.0 joint small rd.small_base ne) ran (omega (arith, few)) x))
+                absurd (untouched_at a 10 word U v
+                (off_spares a U S.base S.end (S.at + 16)
+                l.stack.base back out c (stack_cap F.base F.end F.base)
+                refl e refl (same_lin_true (lin_is c.lin) p2.1) refl p1.0 joint small rd.small_base ne)
+                ran (omega (arith, few)) x))
           ]
 
       by_stack : (y : Word) → U.regs.stk ≡ y → OwnTouch l o t v a word
@@ -200,26 +256,36 @@ module _ (l : Layout) (r1 r2 : Reg) (o : OState) (t : State Word) (rd : AtReturn
       by_stack (Seal z) e = absurd (not_joint (Seal z) e tt)
       by_stack (Sealed q (MemIn z)) e = absurd (not_joint (Sealed q (MemIn z)) e tt)
       by_stack (Sealed q (SealIn z)) e = absurd (not_joint (Sealed q (SealIn z)) e tt)
-      by_stack (Mem c) e = elim (cases_Bool (same_kind c (stack_cap F.base F.end F.base) && (c.end + 1 == F.base))) as (λ _. OwnTouch l o t v a word) [
-        | inr lacks ↦ absurd (not_joint (Mem c) e lacks)
-        | inl holds ↦ joint_at c e holds
-      ]
+      by_stack (Mem c) e =
+          elim (cases_Bool (same_kind c (stack_cap F.base F.end F.base) && (c.end + 1 == F.base)))
+          as (λ _. OwnTouch l o t v a word) [
+            | inr lacks ↦ absurd (not_joint (Mem c) e lacks)
+            | inl holds ↦ joint_at c e holds
+          ]
 
   -- ---- the whole step
 
-  module _ (a : ℕ) (low_a : l.stack.base ≤ a) (high_a : a ≤ l.stack.end) (v : State Word) (x : Touches id v a) where
-    pub tail_own : (word : ℕ) → run_of id id (suc word) t ≡ went v → suc word < weight_by o.maps (Back r1 r2)
-        → OwnTouch l o t v a word
-    tail_own word ran lt = by_word (reg o.maps.regs r1) refl
-      where
-        by_word : (y : OWord) → reg o.maps.regs r1 ≡ y → OwnTouch l o t v a word
-        by_word (Plain w) e = (let n : weight_by o.maps (Back r1 r2) ≡ 1 = ap (λ z. if is_ret_code z then 11 else 1) e in absurd (omega (arith, lt, n)))
-        by_word (RetData n) e = (let n : weight_by o.maps (Back r1 r2) ≡ 1 = ap (λ z. if is_ret_code z then 11 else 1) e in absurd (omega (arith, lt, n)))
-        by_word (RetCode i) e =
-            let n : weight_by o.maps (Back r1 r2) ≡ 11 = ap (λ z. if is_ret_code z then 11 else 1) e in
-            let first = first_step word t v ran in
-            let one : run_of id id 1 t ≡ went first.0 = run_one id id t ∙ first.1 in
-            let p = pair i e first.0 one in
-            let u = U i e p a low_a high_a in
-            let same : first.0 ≡ u = (let q : went first.0 ≡ went u = sym one ∙ jumped i e p a low_a high_a in cc) in
-            by_stack i e p a low_a high_a word (omega (arith, lt, n)) v (subst (λ y. run_of id id word y ≡ went v) same first.2) x u.regs.stk refl
+  module _ (a : ℕ) (low_a : l.stack.base ≤ a) (high_a : a ≤ l.stack.end) (v : State Word) (x : Touches id v a)
+    where
+      pub tail_own : (word : ℕ) → run_of id id (suc word) t ≡ went v
+          → suc word < weight_by o.maps (Back r1 r2)
+          → OwnTouch l o t v a word
+      tail_own word ran lt = by_word (reg o.maps.regs r1) refl
+        where
+          by_word : (y : OWord) → reg o.maps.regs r1 ≡ y → OwnTouch l o t v a word
+          by_word (Plain w) e =
+              (let n : weight_by o.maps (Back r1 r2) ≡ 1 =
+              ap (λ z. if is_ret_code z then 11 else 1) e in absurd (omega (arith, lt, n)))
+          by_word (RetData n) e =
+              (let n : weight_by o.maps (Back r1 r2) ≡ 1 =
+              ap (λ z. if is_ret_code z then 11 else 1) e in absurd (omega (arith, lt, n)))
+          by_word (RetCode i) e =
+              let n : weight_by o.maps (Back r1 r2) ≡ 11 = ap (λ z. if is_ret_code z then 11 else 1) e in
+              let first = first_step word t v ran in
+              let one : run_of id id 1 t ≡ went first.0 = run_one id id t ∙ first.1 in
+              let p = pair i e first.0 one in
+              let u = U i e p a low_a high_a in
+              let same : first.0 ≡ u =
+              (let q : went first.0 ≡ went u = sym one ∙ jumped i e p a low_a high_a in cc) in
+              by_stack i e p a low_a high_a word (omega (arith, lt, n))
+              v (subst (λ y. run_of id id word y ≡ went v) same first.2) x u.regs.stk refl

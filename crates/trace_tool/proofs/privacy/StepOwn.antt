@@ -1,4 +1,5 @@
--- Of the plain instructions of one overlay step, whether it goes or ends, none touches an address of an open frame but
+-- Of the plain instructions of one overlay step, whether it goes or ends, none touches an address of an open
+-- frame but
 -- the two of the frame's own return.
 use Rattle.std.proofs.Common.{◌≡◌, inl, inr, ℕ, zero, suc, ◌<◌, ◌≤◌, None, Some, refl, sym, ap, ◌∙◌}
 use Rattle.std.proofs.Common.{subst, arith}
@@ -37,7 +38,8 @@ use Rattle.trace_tool.proofs.privacy.StepSpares.{call_step, entry_step}
 use Rattle.trace_tool.proofs.privacy.CallTail.{tail_spares}
 use Rattle.trace_tool.proofs.privacy.ReturnTail.{OwnTouch, tail_own}
 
-module _ (g : Link) (linked : Linked g) (o : OState) (t : State Word) (inv : Invariant g o t) (a : ℕ) (w : OWord) (fa : framed o.frames a ≡ Some w) where
+module _ (g : Link) (linked : Linked g) (o : OState) (t : State Word) (inv : Invariant g o t) (a : ℕ)
+    (w : OWord) (fa : framed o.frames a ≡ Some w) where
   abbrev l : Layout
   l = g.layout
 
@@ -65,13 +67,18 @@ module _ (g : Link) (linked : Linked g) (o : OState) (t : State Word) (inv : Inv
         sixteen = call_step l o t m k a here.0 here.1 here.2 s r
 
         by_word : (y : OWord) → o.maps.regs.c1 ≡ y → Own
-        by_word (Plain z) e = (let n : weight_by o.maps (Call s) ≡ 16 = ap (λ y. if is_ret_code y then 17 else 16) e in spared 16 sixteen (omega (arith, lt, n)))
-        by_word (RetData z) e = (let n : weight_by o.maps (Call s) ≡ 16 = ap (λ y. if is_ret_code y then 17 else 16) e in spared 16 sixteen (omega (arith, lt, n)))
+        by_word (Plain z) e =
+            (let n : weight_by o.maps (Call s) ≡ 16 =
+            ap (λ y. if is_ret_code y then 17 else 16) e in spared 16 sixteen (omega (arith, lt, n)))
+        by_word (RetData z) e =
+            (let n : weight_by o.maps (Call s) ≡ 16 =
+            ap (λ y. if is_ret_code y then 17 else 16) e in spared 16 sixteen (omega (arith, lt, n)))
         by_word (RetCode j) e = elim (cases_lt i 16) as (λ _. Own) [
           | inl few ↦ spared 16 sixteen few
           | inr ge ↦ (let n : weight_by o.maps (Call s) ≡ 17 = ap (λ y. if is_ret_code y then 17 else 16) e in
               let last : i ≡ 16 = omega (arith, lt, n, ge) in
-              absurd (tail_spares l s o t r m k a here.0 here.1 j e v (subst (λ y. run_of id id y t ≡ went v) last ran) x))
+              absurd (tail_spares l s o t r m k a here.0 here.1 j e v
+              (subst (λ y. run_of id id y t ≡ went v) last ran) x))
         ]
 
     entry_own : (at : ℕ) → View g o.frames o.maps (Entry at) → AtEntry l at o → i < 20 → Own
@@ -80,15 +87,19 @@ module _ (g : Link) (linked : Linked g) (o : OState) (t : State Word) (inv : Inv
         let c : code_cap r.base r.end at ≡ code_at (ranges_of p) off = cc in
         let b1 = ap (λ y. y.base) c in
         let b2 = ap (λ y. y.end) c in
-        let away : Outside a r.base r.end = elim (stack_apart g linked p ip a here.0 here.1) as (λ _. Outside a r.base r.end) [ inl y ↦ inl (omega (arith, y, b1)) | inr y ↦ inr (omega (arith, y, b2)) ] in
+        let away : Outside a r.base r.end =
+        elim (stack_apart g linked p ip a here.0 here.1) as (λ _. Outside a r.base r.end)
+        [ inl y ↦ inl (omega (arith, y, b1)) | inr y ↦ inr (omega (arith, y, b2)) ] in
         spared 20 (entry_step l o t m k a here.0 here.1 here.2 at r away) lt
     entry_own at (in_part p off ip ne ns at_row ec) r lt = absurd (never_entry o.maps _ at ec)
     entry_own at (out h ec) r lt = absurd (never_entry o.maps _ at ec)
 
   back_own : (r1 r2 : Reg) → AtReturn l r1 r2 o → (i : ℕ) (v : State Word) (ran : run_of id id i t ≡ went v)
       (x : Touches id v a) → i < weight_by o.maps (Back r1 r2) → Own i v ran x
-  back_own r1 r2 rd zero v ran x lt = spared zero v ran x 1 (back_first l o t m k a here.0 here.1 w fa here.2 r1 r2 rd) (omega arith)
-  back_own r1 r2 rd (suc word) v ran x lt = (word, refl, tail_own l r1 r2 o t rd m k a here.0 here.1 v x word ran lt)
+  back_own r1 r2 rd zero v ran x lt =
+      spared zero v ran x 1 (back_first l o t m k a here.0 here.1 w fa here.2 r1 r2 rd) (omega arith)
+  back_own r1 r2 rd (suc word) v ran x lt =
+      (word, refl, tail_own l r1 r2 o t rd m k a here.0 here.1 v x word ran lt)
 
   own_by : (c : Case) → View g o.frames o.maps c → ReadyFor l o c → (i : ℕ) (v : State Word)
       (ran : run_of id id i t ≡ went v) (x : Touches id v a) → i < weight_by o.maps c → Own i v ran x
@@ -100,4 +111,5 @@ module _ (g : Link) (linked : Linked g) (o : OState) (t : State Word) (inv : Inv
   pub step_own : (i : ℕ) (v : State Word) → run_of id id i t ≡ went v → Touches id v a → i < weight_of l o
       → (word : ℕ) × (i ≡ suc word) × OwnTouch l o t v a word
   unfolding weight_of
-  step_own i v ran x lt = own_by (case_of l o.maps) (view g linked o.frames o.maps inv.code inv.pc) (ready g linked o t inv) i v ran x lt
+  step_own i v ran x lt = own_by (case_of l o.maps) (view g linked o.frames o.maps inv.code inv.pc)
+      (ready g linked o t inv) i v ran x lt

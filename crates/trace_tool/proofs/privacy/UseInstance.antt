@@ -30,19 +30,26 @@ use Rattle.trace_tool.proofs.privacy.UsesFirst.{uses_first}
 abbrev told : LineTold
 told = record { part = 116 ∷ []; site = 0; base = 70; last = 70; words = Mem (own_data 55) ∷ [] }
 
-module _ (h : HoldsFor pair 4 (overlay_at start) start.state.maps) (alone : HaltsAlone) (runs : RunsAgree L o0 start.state.maps) (agree : LinesAgree L o0 start.state.maps) where
+module _ (h : HoldsFor pair 4 (overlay_at start) start.state.maps) (alone : HaltsAlone)
+    (runs : RunsAgree L o0 start.state.maps) (agree : LinesAgree L o0 start.state.maps) where
   abbrev g : Link
   g = link_of pair 4 (overlay_at start)
 
   -- behind 39 instructions the call line is written, and 7 more lead to the load
   there : (v : State Word) × (plain_run 46 start.state.maps ≡ went v) × Touches id v 70
   there =
-      let at = matched g h.linked o0 start.state.maps h.holds 39 o5 (reached_by L o0 39 (call_line ∷ []) o5 told5) in
-      let rd : AtReturn L Rcode Rdata o5 = subst (λ c. ReadyFor L o5 c) case5 (ready g h.linked o5 at.0 at.2) in
+      let at = matched g h.linked o0 start.state.maps h.holds 39 o5
+      (reached_by L o0 39 (call_line ∷ []) o5 told5) in
+      let rd : AtReturn L Rcode Rdata o5 =
+      subst (λ c. ReadyFor L o5 c) case5 (ready g h.linked o5 at.0 at.2) in
       let x = returned L Rcode Rdata o5 o6 returned5 in
       let used = uses_first L Rcode Rdata o5 at.0 rd at.2.flat (looks g h.linked o5 at.0 at.2) o6 x in
-      let same : frame ≡ x.frame = (let e : frame ∷ [] ≡ x.frame ∷ x.older = x.frames_are in cc) in
-      (used.0, run_then id id 39 7 start.state.maps at.0 _ at.1 used.1, subst (λ f. Touches id used.0 f.base) (sym same) used.2)
+      let same : frame ≡ x.frame = (let e : frame ∷ [] ≡ x.frame ∷ x.older = x.frames_are in cc) in (
+        used.0,
+        run_then id id 39 7 start.state.maps at.0 _ at.1 used.1,
+        subst (λ f. Touches id used.0 f.base)
+            (sym same) used.2,
+      )
 
   fresh_is : start.state ≡ fresh start.state.maps
   fresh_is = refl

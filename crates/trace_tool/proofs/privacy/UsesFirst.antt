@@ -20,7 +20,8 @@ use Rattle.trace_tool.proofs.alike.Calm.{id}
 use Rattle.trace_tool.proofs.privacy.OwnReturn.{six, runs_six, touches_first}
 use Rattle.trace_tool.proofs.privacy.ReturnTail.{IsPair, U, jumped, back, code_opened, data_flat}
 
-module _ (l : Layout) (r1 r2 : Reg) (o : OState) (t : State Word) (rd : AtReturn l r1 r2 o) (m : IsFlat l o t) (k : Looks l o) (q : OState) (x : Returned l r1 r2 o q) where
+module _ (l : Layout) (r1 r2 : Reg) (o : OState) (t : State Word) (rd : AtReturn l r1 r2 o) (m : IsFlat l o t)
+    (k : Looks l o) (q : OState) (x : Returned l r1 r2 o q) where
   abbrev pair : IsPair l r1 r2 o t rd m k x.frame.site
   pair = record {
     site = x.site;
@@ -41,17 +42,34 @@ module _ (l : Layout) (r1 r2 : Reg) (o : OState) (t : State Word) (rd : AtReturn
       let order = s.order in
       let within = s.in_stack in
       let small = rd.small_stack in
-      let out = (rd.sites x.frame.site x.site x.site_is).apart x.frame.base (omega (arith, above)) (omega (arith, order, within)) in
-      let u = U l r1 r2 o t rd m k x.frame.site x.code_is pair x.frame.base (omega (arith, above)) (omega (arith, order, within)) in
-      let h = back l r1 r2 o t rd m k x.frame.site x.code_is pair x.frame.base (omega (arith, above)) (omega (arith, order, within)) in
-      let code = code_opened l r1 r2 o t rd m k x.frame.site x.code_is pair x.frame.base (omega (arith, above)) (omega (arith, order, within)) in
-      let flat = data_flat l r1 r2 o t rd m k x.frame.site x.code_is pair x.frame.base (omega (arith, above)) (omega (arith, order, within)) in
+      let out = (rd.sites x.frame.site x.site x.site_is).apart x.frame.base (omega (arith, above))
+      (omega (arith, order, within)) in
+      let u = U l r1 r2 o t rd m k x.frame.site x.code_is pair x.frame.base (omega (arith, above))
+      (omega (arith, order, within)) in
+      let h = back l r1 r2 o t rd m k x.frame.site x.code_is pair x.frame.base (omega (arith, above))
+      (omega (arith, order, within)) in
+      let code =
+      code_opened l r1 r2 o t rd m k x.frame.site x.code_is pair x.frame.base (omega (arith, above))
+      (omega (arith, order, within)) in
+      let flat = data_flat l r1 r2 o t rd m k x.frame.site x.code_is pair x.frame.base (omega (arith, above))
+      (omega (arith, order, within)) in
       let stk : u.regs.stk ≡ Mem (record (stack_cap l.stack.base x.cap.end 0) { addr = x.cap.addr }) =
-      stk_kept l r1 r2 o t rd m k x.frame.site x.code_is x.site x.site_is code x.frame.call x.data_is x.frame pair.frame_is x.site_is (ap opened_of flat) flat refl x.cap x.own ∙ ap Mem (own_is l o.maps x.cap x.own).1 in
+      stk_kept l r1 r2 o t rd m k x.frame.site x.code_is x.site x.site_is code x.frame.call x.data_is x.frame
+      pair.frame_is x.site_is (ap opened_of flat) flat refl x.cap x.own
+      ∙ ap Mem (own_is l o.maps x.cap x.own).1 in
       let first = newest_first l o t m x.frame x.older x.frames_are s in
-      let end = six x.frame.base u x.site.base x.site.end (x.site.at + 16) l.stack.base h out x.cap.end x.frame.base x.frame.end x.cap.addr s.first refl stk refl x.joins (omega (arith, above)) order (omega (arith, within, small)) out first s.normal in (
+      let end =
+      six x.frame.base u x.site.base x.site.end (x.site.at + 16)
+      l.stack.base h out x.cap.end x.frame.base x.frame.end x.cap.addr s.first refl stk refl x.joins
+      (omega (arith, above)) order (omega (arith, within, small)) out first s.normal in (
         end,
-        run_then id id 1 6 t u _ (jumped l r1 r2 o t rd m k x.frame.site x.code_is pair x.frame.base (omega (arith, above)) (omega (arith, order, within)))
-            (runs_six x.frame.base u x.site.base x.site.end (x.site.at + 16) l.stack.base h out x.cap.end x.frame.base x.frame.end x.cap.addr s.first refl stk refl x.joins (omega (arith, above)) order (omega (arith, within, small)) out first s.normal),
-        touches_first x.frame.base u x.site.base x.site.end (x.site.at + 16) l.stack.base h out x.cap.end x.frame.base x.frame.end x.cap.addr s.first refl stk refl x.joins (omega (arith, above)) order (omega (arith, within, small)) out first s.normal,
+        run_then id id 1 6 t u _
+            (jumped l r1 r2 o t rd m k x.frame.site x.code_is pair x.frame.base (omega (arith, above))
+            (omega (arith, order, within)))
+            (runs_six x.frame.base u x.site.base x.site.end (x.site.at + 16)
+            l.stack.base h out x.cap.end x.frame.base x.frame.end x.cap.addr s.first refl stk refl x.joins
+            (omega (arith, above)) order (omega (arith, within, small)) out first s.normal),
+        touches_first x.frame.base u x.site.base x.site.end (x.site.at + 16)
+            l.stack.base h out x.cap.end x.frame.base x.frame.end x.cap.addr s.first refl stk refl x.joins
+            (omega (arith, above)) order (omega (arith, within, small)) out first s.normal,
       )

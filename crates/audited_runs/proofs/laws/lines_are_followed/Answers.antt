@@ -11,7 +11,8 @@ pub returns : goal.returns
 returns c = λ parts size s is n.
     (let o = overlay_at s in
     let g = link_of parts size o in
-    let h = c.starts_begin.ensures s o ((c.a_start_has_one_overlay.ensures parts size s is o).1 refl) parts size is in
+    let h = c.starts_begin.ensures s o ((c.a_start_has_one_overlay.ensures parts size s is o).1 refl)
+    parts size is in
     let matched = (c.linked_starts_agree.ensures parts size s is).matched in
     let told = (c.the_headline.ensures.holds parts size s is).lines n in
     let k = follows (layout s) o.state

@@ -11,5 +11,7 @@ unfolding l4
 returns c =
     let parts = c.args.parts.now in
     let part = c.part.result in
-    told_in (λ i p. at_each p.component.imports (λ x. is_none (imported parts x))) never parts c.args.i part c.part.ensures
-    (each_item part.component.imports (λ x. is_none (imported parts x)) c.first_place.ensures.first (search rules) (λ j b lt h. search rules))
+    told_in (λ i p. at_each p.component.imports (λ x. is_none (imported parts x)))
+    never parts c.args.i part c.part.ensures
+    (each_item part.component.imports (λ x. is_none (imported parts x))
+    c.first_place.ensures.first (search rules) (λ j b lt h. search rules))

@@ -10,5 +10,7 @@ unfolding l5
 returns c =
     let parts = c.args.parts.now in
     let part = c.part-part.result in
-    told_in (λ i p. at_each p.component.imports (λ x. is_private p (imported parts x))) never parts c.args.i part c.part-part.ensures
-    (each_item part.component.imports (λ x. is_private part (imported parts x)) c.first_place.ensures.first (search rules) (λ j b lt h. search rules))
+    told_in (λ i p. at_each p.component.imports (λ x. is_private p (imported parts x)))
+    never parts c.args.i part c.part-part.ensures
+    (each_item part.component.imports (λ x. is_private part (imported parts x))
+    c.first_place.ensures.first (search rules) (λ j b lt h. search rules))

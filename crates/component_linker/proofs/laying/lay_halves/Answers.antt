@@ -11,9 +11,18 @@ pub set-requires-2 : goal.set-requires-2
 set-requires-2 c =
     let s = c.args.state.now in
     rw c.set.ensures
-    (still_there (single c.args.at c.of.result) s (record s { maps = put s.maps (Cell c.args.at) c.of.result }) (c.args.at + 1) (lays_put s c.args.at c.of.result) c.requires.second)
+    (still_there (single c.args.at c.of.result)
+    s (record s { maps = put s.maps (Cell c.args.at) c.of.result }) (c.args.at + 1)
+    (lays_put s c.args.at c.of.result) c.requires.second)
 
 pub returns : goal.returns
 returns c =
-    rw (c.set-2.ensures, c.set.ensures, c.of-2.ensures, c.of.ensures, c.data_half.ensures, c.code_half.ensures)
+    rw (
+      c.set-2.ensures,
+      c.set.ensures,
+      c.of-2.ensures,
+      c.of.ensures,
+      c.data_half.ensures,
+      c.code_half.ensures,
+    )
     (lays_two c.args.state.now c.args.at (code_half c.args.entry.now) (data_half c.args.entry.now))

@@ -5,4 +5,6 @@ use Rattle.component_linker.proofs.PartWords.{slots_upto}
 use Rattle.component_linker.proofs.laying.lay_slots.Given as goal
 
 abbrev pub invariant-loop-import : goal.invariant-loop-import
-invariant-loop-import l = Lays (from l.part.component.data_base (slots_upto l.parts l.part.component.imports l.import-index)) l.fn.state l.state
+invariant-loop-import l =
+    Lays (from l.part.component.data_base (slots_upto l.parts l.part.component.imports l.import-index))
+    l.fn.state l.state

@@ -8,7 +8,8 @@ use Rattle.component_linker.proofs.SealsKept.{parts_apart}
 use Rattle.component_linker.proofs.DropFirst.{others_kept, goes_on}
 use Rattle.component_linker.proofs.linking.check_links.Goals as goal
 
-ok_only : {E : Type 0} (told : ℕ → PartPlace → E) (rules : List PairTest) (L : Type 0) (r : Result (Unit {0}) E) → IsFirstBrokenIn told rules r → (NoneIsBroken rules → L) → OnOk r L
+ok_only : {E : Type 0} (told : ℕ → PartPlace → E) (rules : List PairTest) (L : Type 0)
+    (r : Result (Unit {0}) E) → IsFirstBrokenIn told rules r → (NoneIsBroken rules → L) → OnOk r L
 ok_only told rules L (Ok u) h f = f h
 ok_only told rules L (Err e) h f = tt
 
@@ -18,9 +19,11 @@ returns-clause-first c = goes_on c.args.parts.now c.args.stack _ c.requires c.tr
 pub returns-clause-linked : goal.returns-clause-linked
 returns-clause-linked c =
     ok_only rule_at (rules_of_link c.args.parts.now c.args.stack) _ _ (returns-clause-first c)
-    (λ none. are_linked c.args.parts.now c.args.stack c.are_kept.ensures (others_kept (l10 c.args.parts.now) (rules_l c.args.parts.now c.args.stack) none))
+    (λ none. are_linked c.args.parts.now c.args.stack c.are_kept.ensures
+    (others_kept (l10 c.args.parts.now) (rules_l c.args.parts.now c.args.stack) none))
 
 pub returns-clause-apart : goal.returns-clause-apart
 returns-clause-apart c =
     ok_only rule_at (rules_of_link c.args.parts.now c.args.stack) _ _ (returns-clause-first c)
-    (λ none. parts_apart c.args.parts.now c.args.stack c.are_kept.ensures (others_kept (l10 c.args.parts.now) (rules_l c.args.parts.now c.args.stack) none))
+    (λ none. parts_apart c.args.parts.now c.args.stack c.are_kept.ensures
+    (others_kept (l10 c.args.parts.now) (rules_l c.args.parts.now c.args.stack) none))

@@ -9,19 +9,26 @@ use Rattle.component_linker.proofs.StartIs.{main_kept, started, started_once}
 use Rattle.component_linker.proofs.machine.machine.Goals as goal
 
 pub set_registers-requires-clause-kept : goal.set_registers-requires-clause-kept
-set_registers-requires-clause-kept c = main_kept c.args.parts.now c.in-Some.main c.requires.closed (sym c.main_of.ensures ∙ c.in-Some.is)
+set_registers-requires-clause-kept c =
+    main_kept c.args.parts.now c.in-Some.main c.requires.closed (sym c.main_of.ensures ∙ c.in-Some.is)
 
 pub returns-in_err-state-clause-regions : goal.returns-in_err-state-clause-regions
 returns-in_err-state-clause-regions c = apart_all (regions_of c.args.parts.now c.args.size) c.requires.apart
 
 pub returns-clause-start : goal.returns-clause-start
 returns-clause-start c =
-    started c.args.parts.now c.args.size c.in-Some.main c.in_ok-state.state c.set_registers.new.state c.stack_of.result (sym c.main_of.ensures ∙ c.in-Some.is)
-    c.in_ok-state.ensures.cells c.in_ok-state.ensures.regs c.in_ok-state.ensures.spans c.in_ok-state.ensures.fresh c.stack_of.ensures.ends
-    (c.set_registers.ensures ∙ ap (λ (s : Span). record c.in_ok-state.state { maps = registered c.in_ok-state.state.maps c.in-Some.main s }) (ap (λ (g : StackGrant). g.stack) c.of-grant.ensures))
+    started c.args.parts.now c.args.size c.in-Some.main c.in_ok-state.state c.set_registers.new.state
+    c.stack_of.result (sym c.main_of.ensures ∙ c.in-Some.is)
+    c.in_ok-state.ensures.cells c.in_ok-state.ensures.regs c.in_ok-state.ensures.spans
+    c.in_ok-state.ensures.fresh c.stack_of.ensures.ends
+    (c.set_registers.ensures
+    ∙ ap (λ (s : Span).
+    record c.in_ok-state.state { maps = registered c.in_ok-state.state.maps c.in-Some.main s })
+    (ap (λ (g : StackGrant). g.stack) c.of-grant.ensures))
 
 pub returns-clause-regions : goal.returns-clause-regions
 returns-clause-regions c = apart_all (regions_of c.args.parts.now c.args.size) c.requires.apart
 
 pub returns-clause-held_once : goal.returns-clause-held_once
-returns-clause-held_once c = started_once c.args.parts.now c.args.size c.set_registers.new.state c.requires (returns-clause-start c)
+returns-clause-held_once c =
+    started_once c.args.parts.now c.args.size c.set_registers.new.state c.requires (returns-clause-start c)

@@ -7,10 +7,18 @@ use Rattle.component_linker.proofs.names.main_of.Goals as goal
 
 pub returns-in-Some : goal.returns-in-Some
 returns-in-Some c =
-    let is = exported_is is_main c.part-part.result c.exports.result.now (option_copied c.main_export-export.result) c.with_part.result c.with_part.ensures c.main_export-export.ensures c.exports.ensures.is in
-    given_first (export_that is_main) c.args.parts.now c.loop-index.index c.part-part.result c.in-Some.main c.part-part.ensures c.loop-index.invariant (is ∙ c.in-Some.is)
+    let is = exported_is is_main c.part-part.result c.exports.result.now
+    (option_copied c.main_export-export.result)
+    c.with_part.result c.with_part.ensures c.main_export-export.ensures c.exports.ensures.is in
+    given_first (export_that is_main)
+    c.args.parts.now c.loop-index.index c.part-part.result c.in-Some.main c.part-part.ensures
+    c.loop-index.invariant (is ∙ c.in-Some.is)
 
 pub loop-index-preserved : goal.loop-index-preserved
 loop-index-preserved c =
-    let is = exported_is is_main c.part-part.result c.exports.result.now (option_copied c.main_export-export.result) c.with_part.result c.with_part.ensures c.main_export-export.ensures c.exports.ensures.is in
-    none_given (export_that is_main) c.args.parts.now c.loop-index.index c.part-part.result c.part-part.ensures c.loop-index.invariant (is ∙ c.in_default.is)
+    let is = exported_is is_main c.part-part.result c.exports.result.now
+    (option_copied c.main_export-export.result)
+    c.with_part.result c.with_part.ensures c.main_export-export.ensures c.exports.ensures.is in
+    none_given (export_that is_main)
+    c.args.parts.now c.loop-index.index c.part-part.result c.part-part.ensures c.loop-index.invariant
+    (is ∙ c.in_default.is)

@@ -6,10 +6,12 @@ use Rattle.component_linker.proofs.names.part_named.Goals as goal
 
 pub returns-then-eq : goal.returns-then-eq
 returns-then-eq c =
-    found_here (λ p. same_name p.component.name c.args.name.now) c.args.parts.now c.loop-index.index c.part-part.result c.part-part.ensures c.loop-index.invariant
+    found_here (λ p. same_name p.component.name c.args.name.now)
+    c.args.parts.now c.loop-index.index c.part-part.result c.part-part.ensures c.loop-index.invariant
     (ap (λ n. same_name n c.args.name.now) (sym c.name.ensures) ∙ sym c.eq.ensures ∙ c.if-eq.true)
 
 pub loop-index-preserved : goal.loop-index-preserved
 loop-index-preserved c =
-    not_here (λ p. same_name p.component.name c.args.name.now) c.args.parts.now c.loop-index.index c.part-part.result c.part-part.ensures c.loop-index.invariant
+    not_here (λ p. same_name p.component.name c.args.name.now)
+    c.args.parts.now c.loop-index.index c.part-part.result c.part-part.ensures c.loop-index.invariant
     (ap (λ n. same_name n c.args.name.now) (sym c.name.ensures) ∙ sym c.eq.ensures ∙ c.if-eq.false)

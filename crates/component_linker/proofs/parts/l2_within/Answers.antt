@@ -11,4 +11,5 @@ returns c =
     let parts = c.args.parts.now in
     let part = c.part-part.result in
     told_in (λ i p. at_each (take i parts) (share_seals p)) never parts c.args.i part c.part-part.ensures
-    (each_before parts (share_seals part) c.first_place.ensures.first (search rules) (λ j b lt h. search rules))
+    (each_before parts (share_seals part) c.first_place.ensures.first (search rules)
+    (λ j b lt h. search rules))

@@ -11,5 +11,7 @@ unfolding l3
 returns c =
     let parts = c.args.parts.now in
     let part = c.part-part.result in
-    told_in (λ i p. at_each (take i parts) (λ q. same_name p.component.name q.component.name)) never parts c.args.i part c.part-part.ensures
-    (each_before parts (λ q. same_name part.component.name q.component.name) c.first_place.ensures.first (search rules) (λ j b lt h. search rules))
+    told_in (λ i p. at_each (take i parts) (λ q. same_name p.component.name q.component.name))
+    never parts c.args.i part c.part-part.ensures
+    (each_before parts (λ q. same_name part.component.name q.component.name)
+    c.first_place.ensures.first (search rules) (λ j b lt h. search rules))

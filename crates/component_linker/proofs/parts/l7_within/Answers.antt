@@ -10,4 +10,5 @@ pub returns : goal.returns
 unfolding l7
 returns c =
     let parts = c.args.parts.now in
-    told_in (λ i p. once (not (p.component.stack_base == stack_base_of parts)) p.component.stack_base) never parts c.args.i c.part.result c.part.ensures (search rules)
+    told_in (λ i p. once (not (p.component.stack_base == stack_base_of parts)) p.component.stack_base)
+    never parts c.args.i c.part.result c.part.ensures (search rules)

@@ -58,7 +58,8 @@ returns-in-Some-clause-is c =
     sym c.in-Some.is ∙ c.lacks_room.ensures.is
     ∙ ap (λ f. first_place (room_test (part_at f p))) c.loop-index.invariant.is in
     no_room c.args.first parts n c.in-Some.place c.loop-index-test.true
-    (room_at c.args.first parts n p (slice_get_read parts (length parts) n p refl c.loop-index-test.true c.index-parts-index.is) here)
+    (room_at c.args.first parts n p
+    (slice_get_read parts (length parts) n p refl c.loop-index-test.true c.index-parts-index.is) here)
     c.loop-index.invariant.before
 
 pub loop-index-preserved : goal.loop-index-preserved

@@ -24,7 +24,8 @@ past-free-requires-clause-fits c =
     let lt : c.loop-k.k < length c.args.parts.now =
     (let a = c.loop-k-test.true in let b = c.requires.within in omega (arith, a, b)) in
     fits c.args.first c.loop-k.free c.args.parts.now c.loop-k.k c.index-parts-k.result c.requires.parts
-    (slice_get_read c.args.parts.now (length c.args.parts.now) c.loop-k.k c.index-parts-k.result refl lt c.index-parts-k.is) c.loop-k.invariant.is
+    (slice_get_read c.args.parts.now (length c.args.parts.now)
+    c.loop-k.k c.index-parts-k.result refl lt c.index-parts-k.is) c.loop-k.invariant.is
 
 pub past-free-requires-clause-small : goal.past-free-requires-clause-small
 past-free-requires-clause-small c = c.loop-k.invariant.small
@@ -38,7 +39,8 @@ loop-k-preserved c =
     record {
       is =
           c.past-free.ensures.is ∙ ap (λ f. past f p) c.loop-k.invariant.is
-          ∙ sym (free_more c.args.first parts c.loop-k.k p (slice_get_read parts (length parts) c.loop-k.k p refl lt c.index-parts-k.is));
+          ∙ sym (free_more c.args.first parts c.loop-k.k p
+          (slice_get_read parts (length parts) c.loop-k.k p refl lt c.index-parts-k.is));
       small = c.past-free.ensures.small;
     }
 

@@ -5,4 +5,5 @@ use Rattle.component_linker.proofs.regions.l1.Goals as goal
 
 pub returns : goal.returns
 unfolding l1
-returns c = first_in_is (l1 c.args.parts.now c.args.stack) c.first_in.ensures (search rules) (λ p o lt h. search rules)
+returns c = first_in_is (l1 c.args.parts.now c.args.stack) c.first_in.ensures (search rules)
+    (λ p o lt h. search rules)

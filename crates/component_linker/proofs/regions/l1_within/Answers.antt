@@ -21,11 +21,16 @@ returns-then-i-len c =
     let parts = c.args.parts.now in
     let le : length parts ≤ c.args.i = omega (arith, c.if-i-len.true, c.len.ensures.is) in
     told_behind (λ i p. plainly 3 (breaks parts i p)) (last parts c.args.stack) parts c.args.i le
-    (c.once.ensures ∙ ap (λ b. first_place (once b 0)) (c.near_before.ensures ∙ ap (λ ps. near_before ps [] c.stack_span.result) (take_whole parts c.args.i le) ∙ ap (near_before parts []) c.stack_span.ensures))
+    (c.once.ensures
+    ∙ ap (λ b. first_place (once b 0))
+    (c.near_before.ensures ∙ ap (λ ps. near_before ps [] c.stack_span.result)
+    (take_whole parts c.args.i le) ∙ ap (near_before parts []) c.stack_span.ensures))
 
 pub returns : goal.returns
 unfolding l1
 returns c =
     let parts = c.args.parts.now in
-    told_in (λ i p. plainly 3 (breaks parts i p)) (last parts c.args.stack) parts c.args.i c.part.result c.part.ensures
-    (plain_first 3 (breaks parts c.args.i c.part.result) c.first_place.ensures.first refl (λ k b lt h. search rules))
+    told_in (λ i p. plainly 3 (breaks parts i p)) (last parts c.args.stack)
+    parts c.args.i c.part.result c.part.ensures
+    (plain_first 3 (breaks parts c.args.i c.part.result)
+    c.first_place.ensures.first refl (λ k b lt h. search rules))

@@ -7,8 +7,12 @@ use Rattle.component_linker.proofs.site_list.place_at.Goals as goal
 
 pub returns-in-Ok : goal.returns-in-Ok
 returns-in-Ok c =
-    sym (at_place c.args.sites.now c.args.at c.in-Ok.place no_site c.requires c.in-Ok.ensures.bound (c.in-Ok.ensures.position (λ (s : Site). s.at) (answers_always _ _ _ (λ f a r g called. search rules))))
+    sym (at_place c.args.sites.now c.args.at c.in-Ok.place no_site c.requires c.in-Ok.ensures.bound
+    (c.in-Ok.ensures.position (λ (s : Site). s.at)
+    (answers_always _ _ _ (λ f a r g called. search rules))))
 
 pub returns-in-Err : goal.returns-in-Err
 returns-in-Err c =
-    sym (at_none c.args.sites.now c.args.at c.in-Err.field-0 no_site c.requires (c.in-Err.ensures.position (λ (s : Site). s.at) (answers_always _ _ _ (λ f a r g called. search rules))))
+    sym (at_none c.args.sites.now c.args.at c.in-Err.field-0 no_site c.requires
+    (c.in-Err.ensures.position (λ (s : Site). s.at)
+    (answers_always _ _ _ (λ f a r g called. search rules))))

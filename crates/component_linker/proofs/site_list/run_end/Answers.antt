@@ -13,7 +13,11 @@ returns c =
     let part = (get_or sites place no_site).part in
     let rest = take (length sites - place) (drop place sites) in
     let n = length-drop place sites in
-    let from : rest ≡ drop place sites = take_all (length sites - place) (drop place sites) (omega (arith, n)) in
-    run_is sites place part rest no_site from refl c.requires.within c.partition_point.result c.partition_point.ensures.bound
-    (IsPartitionPoint-from_clause (λ (s : Site). s.part == part) rest c.partition_point.result c.partition_point.ensures.partitioned
-    (run_in_front sites place part rest no_site from refl c.requires.within c.requires.runs) (λ a r f called. search rules))
+    let from : rest ≡ drop place sites =
+    take_all (length sites - place) (drop place sites) (omega (arith, n)) in
+    run_is sites place part rest no_site from refl c.requires.within c.partition_point.result
+    c.partition_point.ensures.bound
+    (IsPartitionPoint-from_clause (λ (s : Site). s.part == part)
+    rest c.partition_point.result c.partition_point.ensures.partitioned
+    (run_in_front sites place part rest no_site from refl c.requires.within c.requires.runs)
+    (λ a r f called. search rules))

@@ -12,4 +12,5 @@ owners-requires-clause-separate c = separate c.args.parts.now c.args.size c.requ
 pub invariant_of-result : goal.invariant_of-result
 invariant_of-result c =
     are_laid c.args.parts.now c.requires.closed c.in_ok-owners.owners c.in_ok-owners.ensures
-    (in_order c.args.parts.now c.in_ok-sites.sites c.requires.closed (separate c.args.parts.now c.args.size c.requires.closed c.requires.apart) c.in_ok-sites.ensures)
+    (in_order c.args.parts.now c.in_ok-sites.sites c.requires.closed
+    (separate c.args.parts.now c.args.size c.requires.closed c.requires.apart) c.in_ok-sites.ensures)

@@ -18,11 +18,14 @@ returns-then-i-len c =
     let parts = c.args.parts.now in
     let le : length parts ≤ c.args.i = omega (arith, c.if-i-len.true, c.len.ensures.is) in
     told_behind (second parts) (once (not (list_any has_main parts)) 0) parts c.args.i le
-    (c.once.ensures ∙ ap (λ b. first_place (once (not b) 0)) (c.main_before-earlier.ensures ∙ ap (list_any has_main) (take_whole parts c.args.i le)))
+    (c.once.ensures ∙ ap (λ b. first_place (once (not b) 0))
+    (c.main_before-earlier.ensures ∙ ap (list_any has_main) (take_whole parts c.args.i le)))
 
 pub returns : goal.returns
 unfolding l6
 returns c =
     let parts = c.args.parts.now in
-    told_in (second parts) (once (not (list_any has_main parts)) 0) parts c.args.i c.part.result c.part.ensures
-    (each_item c.part.result.component.exports (λ e. is_main e && list_any has_main (take c.args.i parts)) c.first_place.ensures.first (search rules) (λ j b lt h. search rules))
+    told_in (second parts) (once (not (list_any has_main parts)) 0)
+    parts c.args.i c.part.result c.part.ensures
+    (each_item c.part.result.component.exports (λ e. is_main e && list_any has_main (take c.args.i parts))
+    c.first_place.ensures.first (search rules) (λ j b lt h. search rules))

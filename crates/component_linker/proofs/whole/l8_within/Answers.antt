@@ -11,10 +11,14 @@ pub returns-then-i-len : goal.returns-then-i-len
 unfolding l8
 returns-then-i-len c =
     let parts = c.args.parts.now in
-    told_nowhere (once (not (is_stack_size c.args.stack && nat_le (stack_base_of parts + c.args.stack) 1048576)) c.args.stack) parts c.args.i (omega (arith, c.if-i-len.true, c.len.ensures.is))
+    told_nowhere
+    (once (not (is_stack_size c.args.stack && nat_le (stack_base_of parts + c.args.stack) 1048576))
+    c.args.stack) parts c.args.i (omega (arith, c.if-i-len.true, c.len.ensures.is))
 
 pub returns : goal.returns
 unfolding l8
 returns c =
     let parts = c.args.parts.now in
-    told_behind (λ i p. never) (once (not (is_stack_size c.args.stack && nat_le (stack_base_of parts + c.args.stack) 1048576)) c.args.stack) parts c.args.i (omega (arith, c.if-i-len.false, c.len.ensures.is)) (search rules)
+    told_behind (λ i p. never)
+    (once (not (is_stack_size c.args.stack && nat_le (stack_base_of parts + c.args.stack) 1048576))
+    c.args.stack) parts c.args.i (omega (arith, c.if-i-len.false, c.len.ensures.is)) (search rules)

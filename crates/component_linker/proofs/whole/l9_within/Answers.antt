@@ -18,13 +18,16 @@ unfolding l9
 returns-then-len-gt-MOST_PARTS c =
     let parts = c.args.parts.now in
     let p = inside parts c.args.i c.requires in
-    let many : are_few parts ≡ false = grind (arith, nat_tests, c.if-len-gt-MOST_PARTS.true, c.len.ensures.is) in
-    told_in (λ i p. once (broken parts i) (told parts i)) never parts c.args.i p.0 p.1 (rw many (search rules))
+    let many : are_few parts ≡ false =
+    grind (arith, nat_tests, c.if-len-gt-MOST_PARTS.true, c.len.ensures.is) in
+    told_in (λ i p. once (broken parts i) (told parts i))
+    never parts c.args.i p.0 p.1 (rw many (search rules))
 
 pub returns : goal.returns
 unfolding l9
 returns c =
     let parts = c.args.parts.now in
     let p = inside parts c.args.i c.requires in
-    let few : are_few parts ≡ true = grind (arith, nat_tests, c.if-len-gt-MOST_PARTS.false, c.len.ensures.is) in
+    let few : are_few parts ≡ true =
+    grind (arith, nat_tests, c.if-len-gt-MOST_PARTS.false, c.len.ensures.is) in
     told_in (λ i p. once (broken parts i) (told parts i)) never parts c.args.i p.0 p.1 (rw few (search rules))

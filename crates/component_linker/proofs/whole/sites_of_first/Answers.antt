@@ -5,6 +5,7 @@ use Rattle.component_linker.proofs.whole.sites_of_first.Goals as goal
 
 pub loop-i-preserved : goal.loop-i-preserved
 loop-i-preserved c = record {
-  is = rw (c.trusted_sites.ensures.is, c.loop-i.invariant.is) (sym (sum_more trusted_sites c.args.parts.now c.loop-i.i c.part.result c.part.ensures));
+  is = rw (c.trusted_sites.ensures.is, c.loop-i.invariant.is)
+      (sym (sum_more trusted_sites c.args.parts.now c.loop-i.i c.part.result c.part.ensures));
   few = omega (arith, c.loop-i.invariant.few, c.trusted_sites.ensures.few);
 }

@@ -4,4 +4,5 @@ use Rattle.disassembler.specs.Disassembled.{behind_blank, kind_fields}
 use Rattle.disassembler.proofs.tables.push_kinds.Given as goal
 
 abbrev pub invariant-loop-kind : goal.invariant-loop-kind
-invariant-loop-kind l = l.text.items ≡ l.fn.text.items ++ flat_map behind_blank (flat_map kind_fields (take l.kind-index l.kinds))
+invariant-loop-kind l =
+    l.text.items ≡ l.fn.text.items ++ flat_map behind_blank (flat_map kind_fields (take l.kind-index l.kinds))

@@ -5,4 +5,5 @@ use Rattle.flow_check.proofs.lists.k1_site.Goals as goal
 
 pub returns-clause-is : goal.returns-clause-is
 unfolding k1
-returns-clause-is c = first_of_is (k1 c.args.c.now) c.first_place.ensures.first (search rules) (λ i b lt h. search rules)
+returns-clause-is c =
+    first_of_is (k1 c.args.c.now) c.first_place.ensures.first (search rules) (λ i b lt h. search rules)

@@ -8,11 +8,14 @@ unfolding begins_site
 returns-then-sites-before c =
     let sites = c.args.c.now.sites in
     let le : length sites ≤ c.sites_before-before.result = search (rules, c.if-sites-before.true) in
-    sym (no_site sites c.args.at c.sites_before-before.result (sites_up c.args.c.now c.requires) c.sites_before-before.ensures (λ lt e. omega arith))
+    sym (no_site sites c.args.at c.sites_before-before.result (sites_up c.args.c.now c.requires)
+    c.sites_before-before.ensures (λ lt e. omega arith))
 
 pub returns : goal.returns
 unfolding begins_site
 returns c =
     let sites = c.args.c.now.sites in
     let lt : c.sites_before-before.result < length sites = search (rules, c.if-sites-before.false) in
-    rw c.as_slice-sites.ensures (site_begins sites c.args.at c.sites_before-before.result (sites_up c.args.c.now c.requires) c.sites_before-before.ensures lt)
+    rw c.as_slice-sites.ensures
+    (site_begins sites c.args.at c.sites_before-before.result (sites_up c.args.c.now c.requires)
+    c.sites_before-before.ensures lt)

@@ -8,7 +8,9 @@ use Rattle.flow_check.proofs.places.in_site.Goals as goal
 pub returns-then-before-eq0 : goal.returns-then-before-eq0
 unfolding in_site
 returns-then-before-eq0 c =
-    sym (before_sites c.args.c.now.sites SITE_WORDS c.args.at (subst (IsSplitAt (λ s. s) c.args.at c.args.c.now.sites) c.if-before-eq0.true c.sites_before-before.ensures))
+    sym (before_sites c.args.c.now.sites SITE_WORDS c.args.at
+    (subst (IsSplitAt (λ s. s) c.args.at c.args.c.now.sites)
+    c.if-before-eq0.true c.sites_before-before.ensures))
 
 pub returns : goal.returns
 unfolding in_site
@@ -16,4 +18,6 @@ returns c =
     let i = c.sites_before-before.result - 1 in
     let last : c.sites_before-before.result ≡ suc i = omega (arith, c.if-before-eq0.false) in
     c.is_behind.ensures
-    ∙ rw c.as_slice.ensures (within_last c.args.c.now.sites SITE_WORDS c.args.at i (sites_up c.args.c.now c.requires) (subst (IsSplitAt (λ s. s) c.args.at c.args.c.now.sites) last c.sites_before-before.ensures))
+    ∙ rw c.as_slice.ensures
+    (within_last c.args.c.now.sites SITE_WORDS c.args.at i (sites_up c.args.c.now c.requires)
+    (subst (IsSplitAt (λ s. s) c.args.at c.args.c.now.sites) last c.sites_before-before.ensures))

@@ -12,4 +12,6 @@ returns c =
     let up = subst (Ascends (λ (r : KindRow). r.offset)) (sym same) (rows_up c.args.c.now c.requires) in
     subst (λ ys. IsSplitAt (λ (r : KindRow). r.offset) c.args.at ys c.partition_point.result) same (
     split_is (λ (r : KindRow). r.offset) xs c.args.at c.partition_point.result c.partition_point.ensures.bound
-    (IsPartitionPoint-from_clause (λ (r : KindRow). ltb r.offset c.args.at) xs c.partition_point.result c.partition_point.ensures.partitioned (parted (λ (r : KindRow). r.offset) xs c.args.at up) (λ a r q k. search rules)))
+    (IsPartitionPoint-from_clause (λ (r : KindRow). ltb r.offset c.args.at)
+    xs c.partition_point.result c.partition_point.ensures.partitioned
+    (parted (λ (r : KindRow). r.offset) xs c.args.at up) (λ a r q k. search rules)))

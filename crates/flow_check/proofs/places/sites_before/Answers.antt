@@ -11,4 +11,6 @@ returns c =
     let up = subst (Ascends (λ s. s)) (sym same) (sites_up c.args.c.now c.requires) in
     subst (λ ys. IsSplitAt (λ s. s) c.args.at ys c.partition_point.result) same (
     split_is (λ s. s) xs c.args.at c.partition_point.result c.partition_point.ensures.bound
-    (IsPartitionPoint-from_clause (λ s. ltb s c.args.at) xs c.partition_point.result c.partition_point.ensures.partitioned (parted (λ s. s) xs c.args.at up) (λ a r q k. search rules)))
+    (IsPartitionPoint-from_clause (λ s. ltb s c.args.at)
+    xs c.partition_point.result c.partition_point.ensures.partitioned (parted (λ s. s) xs c.args.at up)
+    (λ a r q k. search rules)))

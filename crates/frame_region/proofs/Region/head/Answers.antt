@@ -19,5 +19,8 @@ returns g c =
     let n = c.len.ensures ∙ c.self.inside.slots.ok.0 in
     let e = c.index-slot.ensures in
     let i = c.args.i in
-    rw (← c.self.view_is) (head-is (reverse c.self.inside.slots.items) c.self.inside.items.items c.args.i c.index-slot.result.now (omega (arith, l, s, r))
-    (e ∙ ap (λ k. get_or c.self.inside.slots.items (k - 1 - i) c.index-slot.result.now) n ∙ sym (get_or-reverse c.self.inside.slots.items i c.index-slot.result.now (omega (arith, l, s, r)))))
+    rw (← c.self.view_is)
+    (head-is (reverse c.self.inside.slots.items)
+    c.self.inside.items.items c.args.i c.index-slot.result.now (omega (arith, l, s, r))
+    (e ∙ ap (λ k. get_or c.self.inside.slots.items (k - 1 - i) c.index-slot.result.now) n
+    ∙ sym (get_or-reverse c.self.inside.slots.items i c.index-slot.result.now (omega (arith, l, s, r)))))

@@ -21,8 +21,11 @@ overflow_add-slot g c =
     let n = c.len.ensures ∙ c.self.inside.slots.ok.0 in
     let e = c.index-slot.ensures in
     let k = c.args.frame in
-    let p = item_at-place (reverse c.self.inside.slots.items) c.self.inside.items.items k c.args.item c.index-slot.result.now (omega (arith, l, s, there))
-    (e ∙ ap (λ m. get_or c.self.inside.slots.items (m - 1 - k) c.index-slot.result.now) n ∙ sym (get_or-reverse c.self.inside.slots.items k c.index-slot.result.now (omega (arith, l, s, there)))) r in
+    let p = item_at-place (reverse c.self.inside.slots.items)
+    c.self.inside.items.items k c.args.item c.index-slot.result.now (omega (arith, l, s, there))
+    (e ∙ ap (λ m. get_or c.self.inside.slots.items (m - 1 - k) c.index-slot.result.now) n
+    ∙ sym (get_or-reverse c.self.inside.slots.items k c.index-slot.result.now
+    (omega (arith, l, s, there)))) r in
     let v = c.self.inside.items.ok in
     grind (rules, arith, p, v)
 
@@ -36,8 +39,11 @@ index-requires g c =
     let e = c.index-slot.ensures in
     let k = c.args.frame in
     let v = c.self.inside.items.ok.0 in
-    let p = item_at-place (reverse c.self.inside.slots.items) c.self.inside.items.items k c.args.item c.index-slot.result.now (omega (arith, l, s, there))
-    (e ∙ ap (λ m. get_or c.self.inside.slots.items (m - 1 - k) c.index-slot.result.now) n ∙ sym (get_or-reverse c.self.inside.slots.items k c.index-slot.result.now (omega (arith, l, s, there)))) r in
+    let p = item_at-place (reverse c.self.inside.slots.items)
+    c.self.inside.items.items k c.args.item c.index-slot.result.now (omega (arith, l, s, there))
+    (e ∙ ap (λ m. get_or c.self.inside.slots.items (m - 1 - k) c.index-slot.result.now) n
+    ∙ sym (get_or-reverse c.self.inside.slots.items k c.index-slot.result.now
+    (omega (arith, l, s, there)))) r in
     omega (arith, p, v)
 
 pub returns : goal.returns
@@ -49,5 +55,10 @@ returns g c =
     let n = c.len.ensures ∙ c.self.inside.slots.ok.0 in
     let e = c.index-slot.ensures in
     let k = c.args.frame in
-    rw (← c.self.view_is) (item_at-is (reverse c.self.inside.slots.items) c.self.inside.items.items k c.args.item c.index-slot.result.now c.index.result.now (omega (arith, l, s, there))
-    (e ∙ ap (λ m. get_or c.self.inside.slots.items (m - 1 - k) c.index-slot.result.now) n ∙ sym (get_or-reverse c.self.inside.slots.items k c.index-slot.result.now (omega (arith, l, s, there)))) r c.index.ensures)
+    rw (← c.self.view_is)
+    (item_at-is (reverse c.self.inside.slots.items)
+    c.self.inside.items.items k c.args.item c.index-slot.result.now c.index.result.now
+    (omega (arith, l, s, there))
+    (e ∙ ap (λ m. get_or c.self.inside.slots.items (m - 1 - k) c.index-slot.result.now) n
+    ∙ sym (get_or-reverse c.self.inside.slots.items k c.index-slot.result.now
+    (omega (arith, l, s, there)))) r c.index.ensures)

@@ -21,7 +21,8 @@ returns-in_err-script g c =
     let p =
     err_from_is_err_and c.from_residual-in_err-script.result c.from_residual-in_err-script.ensures.1 in
     rw (p.1, p.2) (debug_stops c.args.what.now c.args.name.now f.0 c.in_ok-start.start
-    c.part_count-index.result _ _ _ f.1 f.2 c.part_count-index.ensures c.in_err-script.field-0.0 c.in_err-script.ensures)
+    c.part_count-index.result _ _ _ f.1 f.2 c.part_count-index.ensures c.in_err-script.field-0.0
+    c.in_err-script.ensures)
 
 pub returns : goal.returns
 returns g c =

@@ -45,7 +45,8 @@ returns-clause-run_cut g c = run_cut (both c.open_calls_are_kept.ensures.kept c.
     (asked_in (texts c.args.words.now.items)) _ _ _ (rw c.as_slice.ensures.value at c.answer.ensures)
 
 pub returns-clause-trace_cut : goal.returns-clause-trace_cut
-returns-clause-trace_cut g c = trace_cut (both c.open_calls_are_kept.ensures.kept c.the_headline.ensures.holds)
+returns-clause-trace_cut g c =
+    trace_cut (both c.open_calls_are_kept.ensures.kept c.the_headline.ensures.holds)
     (asked_in (texts c.args.words.now.items)) _ _ _ (rw c.as_slice.ensures.value at c.answer.ensures)
 
 pub returns-clause-usage : goal.returns-clause-usage

@@ -9,7 +9,8 @@ loop-at-init c = (to_first c.args.state.now.maps c.args.span.base c.args.maps.no
 pub loop-at-preserved : goal.loop-at-preserved
 loop-at-preserved c =
     let le : c.args.span.base ≤ c.loop-at.at = search rules in (
-      to_next c.args.state.now.maps c.args.span.base c.loop-at.at c.args.maps.now.cells c.loop-at.maps.cells _ le c.loop-at.invariant.0 c.copy_cell.ensures.here c.copy_cell.ensures.elsewhere,
+      to_next c.args.state.now.maps c.args.span.base c.loop-at.at c.args.maps.now.cells c.loop-at.maps.cells _
+          le c.loop-at.invariant.0 c.copy_cell.ensures.here c.copy_cell.ensures.elsewhere,
       c.copy_cell.ensures.regs ∙ c.loop-at.invariant.1,
       c.copy_cell.ensures.spans ∙ c.loop-at.invariant.2,
     )
@@ -17,4 +18,5 @@ loop-at-preserved c =
 pub returns-clause-cells : goal.returns-clause-cells
 returns-clause-cells c =
     let e : c.loop-at.at ≡ c.args.span.end + 1 = search rules in
-    subst (λ k. AreCopiedTo c.args.state.now.maps c.args.span.base k c.args.maps.now.cells c.loop-at.maps.cells) e c.loop-at.invariant.0
+    subst (λ k. AreCopiedTo c.args.state.now.maps c.args.span.base k c.args.maps.now.cells
+    c.loop-at.maps.cells) e c.loop-at.invariant.0

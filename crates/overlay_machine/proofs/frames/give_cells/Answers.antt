@@ -1,6 +1,7 @@
 use Rattle.std.proofs.Common.{arith, ◌≡◌, ◌<◌, ◌+◌, ◌-◌, rules, sym, subst, IsTrue}
 use Rattle.lcm_machine.specs.Spans.{in_spans}
-use Rattle.overlay_machine.proofs.GiveLemmas.{giving-start, giving-some, giving-spans, giving-step, giving-end, giving-none}
+use Rattle.overlay_machine.proofs.GiveLemmas.{giving-start, giving-some, giving-spans, giving-step}
+use Rattle.overlay_machine.proofs.GiveLemmas.{giving-end, giving-none}
 use Rattle.overlay_machine.proofs.frames.give_cells.Goals as goal
 
 pub loop-left-init : goal.loop-left-init
@@ -23,10 +24,14 @@ insert_cell-requires c =
     )
 
 pub loop-left-preserved : goal.loop-left-preserved
-loop-left-preserved c = let p : 0 < c.loop-left.left = search rules in giving-step _ _ _ _ _ _ _ _ _ _ c.loop-left.invariant p c.pop-word.ensures c.insert_cell.ensures
+loop-left-preserved c = let p : 0 < c.loop-left.left =
+    search rules in
+    giving-step _ _ _ _ _ _ _ _ _ _ c.loop-left.invariant p c.pop-word.ensures c.insert_cell.ensures
 
 pub returns-clause-maps : goal.returns-clause-maps
-returns-clause-maps c = let z : c.loop-left.left ≡ 0 = search rules in (giving-end _ _ _ _ _ _ _ c.loop-left.invariant z).0
+returns-clause-maps c = let z : c.loop-left.left ≡ 0 =
+    search rules in (giving-end _ _ _ _ _ _ _ c.loop-left.invariant z).0
 
 pub returns-clause-frames : goal.returns-clause-frames
-returns-clause-frames c = let z : c.loop-left.left ≡ 0 = search rules in (giving-end _ _ _ _ _ _ _ c.loop-left.invariant z).1
+returns-clause-frames c = let z : c.loop-left.left ≡ 0 =
+    search rules in (giving-end _ _ _ _ _ _ _ c.loop-left.invariant z).1

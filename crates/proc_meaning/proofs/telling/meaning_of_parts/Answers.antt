@@ -54,7 +54,8 @@ loop-events-preserved-in-Ticked c =
 pub loop-events-preserved : goal.loop-events-preserved
 loop-events-preserved c =
     let world = c.args.world.now in let items = c.turn.new.work.items in let st = c.turn.new.store.items in
-    let same = c.in_ok-next.ensures.same ∙ ap (λ a. ahead_of world a items c.turn.new.run st) c.in-Asks.is in (
+    let same =
+    c.in_ok-next.ensures.same ∙ ap (λ a. ahead_of world a items c.turn.new.run st) c.in-Asks.is in (
       c.loop-events.invariant.0,
       took c.args.fuel _
           (on_item world (whole world) (waiting world (reverse items)) st) _ _ c.in-Some.item.now

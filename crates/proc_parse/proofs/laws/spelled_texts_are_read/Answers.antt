@@ -20,7 +20,8 @@ returns-clause-read g c text m short =
 
 pub returns-clause-found : goal.returns-clause-found
 returns-clause-found g c text m e =
-    read_spelled g.L.Language.made text m (λ tokens. (c.reading_keeps_the_grammar.ensures.tokens text tokens).1)
+    read_spelled g.L.Language.made text m
+    (λ tokens. (c.reading_keeps_the_grammar.ensures.tokens text tokens).1)
     (scanned text) refl e
 
 pub returns-clause-proper : goal.returns-clause-proper

@@ -13,7 +13,9 @@ decreases-steps_of l = block_size (block_of l.stmts.now)
 
 abbrev pub invariant-steps_of-loop-s : goal.invariant-steps_of-loop-s
 invariant-steps_of-loop-s l = record {
-  told : l.lowered.items ++ steps_of l.m l.p l.next (block_of (drop l.s-index l.stmts)) ≡ steps_of l.m l.p l.fn.next (block_of l.stmts);
-  counted : l.next + block_calls (block_of (drop l.s-index l.stmts)) ≡ l.fn.next + block_calls (block_of l.stmts);
+  told : l.lowered.items ++ steps_of l.m l.p l.next (block_of (drop l.s-index l.stmts))
+      ≡ steps_of l.m l.p l.fn.next (block_of l.stmts);
+  counted : l.next + block_calls (block_of (drop l.s-index l.stmts))
+      ≡ l.fn.next + block_calls (block_of l.stmts);
   smaller : block_size (block_of (drop l.s-index l.stmts)) ≤ block_size (block_of l.stmts);
 }

@@ -5,8 +5,7 @@ pub returns : goal.returns
 returns c text m e =
     let t = erased_of text m e in
     let p = token_parts text t.0 t.1 in
-    let spelled = c.texts_spell_modules.ensures.found text t.0 p.parsed in
-    (
+    let spelled = c.texts_spell_modules.ensures.found text t.0 p.parsed in (
       t.0,
       t.1,
       c.texts_spell_modules.ensures.within_limits text t.0 spelled,

@@ -30,7 +30,8 @@ returns-in_default-line_of c =
 
 pub returns-then-is_end : goal.returns-then-is_end
 returns-then-is_end c =
-    end_answers (c.loop-line.number + 1) c.part.new.self c.ended.result (audited c.args.text.now) c.ended.ensures
+    end_answers (c.loop-line.number + 1) c.part.new.self c.ended.result (audited c.args.text.now)
+    c.ended.ensures
     (sym c.loop-line.invariant.so_far
     ∙ end_line c.loop-line.open c.loop-line.number c.loop-line.lines c.in-Some.line.now c.part.new.self
     c.in-Some.ensures (sym c.is_over.ensures ∙ c.if-is_over.false) c.in-Some-line_of.line

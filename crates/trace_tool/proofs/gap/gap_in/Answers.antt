@@ -7,9 +7,14 @@ use Rattle.trace_tool.proofs.gap.gap_in.Goals as goal
 
 pub returns-clause-free : goal.returns-clause-free
 returns-clause-free c =
-    gap_between c.args.sites.now c.partition_point-place.result _ c.requires.ascend c.partition_point-place.ensures.bound c.behind.ensures c.ahead.ensures
+    gap_between c.args.sites.now c.partition_point-place.result _ c.requires.ascend
+    c.partition_point-place.ensures.bound c.behind.ensures c.ahead.ensures
 
 pub returns-clause-around : goal.returns-clause-around
 returns-clause-around c =
-    let point = IsPartitionPoint-from_clause (λ (s : Site). leb (last_word s) c.args.at) c.args.sites.now c.partition_point-place.result c.partition_point-place.ensures.partitioned (ends_parted c.args.sites.now c.args.at c.requires.ascend) (λ a r q k. search rules) in
-    around_at c.args.sites.now c.args.at c.partition_point-place.result _ point c.requires.small c.behind.ensures c.ahead.ensures
+    let point =
+    IsPartitionPoint-from_clause (λ (s : Site). leb (last_word s) c.args.at)
+    c.args.sites.now c.partition_point-place.result c.partition_point-place.ensures.partitioned
+    (ends_parted c.args.sites.now c.args.at c.requires.ascend) (λ a r q k. search rules) in
+    around_at c.args.sites.now c.args.at c.partition_point-place.result _ point c.requires.small
+    c.behind.ensures c.ahead.ensures

@@ -18,20 +18,30 @@ pub returns-clause-holds : goal.returns-clause-holds
 returns-clause-holds c = λ parts size s is.
     (let o = overlay_at s in
     let g = link_of parts size o in
-    let h = c.starts_begin.ensures s o ((c.a_start_has_one_overlay.ensures parts size s is o).1 refl) parts size is in
+    let h = c.starts_begin.ensures s o ((c.a_start_has_one_overlay.ensures parts size s is o).1 refl)
+    parts size is in
     let is_fresh = start_fresh s is.starts.state.count is.starts.state.end in
     let same = c.start_lines_agree.ensures.traces parts size s is in
     let runs = (c.linked_starts_agree.ensures parts size s is).runs in
     let agree = c.start_lines_agree.ensures.agree parts size s is in
     let private_lines = c.call_lines_are_private.ensures g o.state s.state.maps h.linked h.holds in
-    let lines : (n : ℕ) → LinesOfSteps s n = λ n. (let k = c.traces_tell_steps.ensures o refl refl n in
-    (k.0, (trace_of n o).overlay.state, subst (λ (ls : List Line). Told (layout s) o.state k.0 ls (trace_of n o).overlay.state) (same n) k.1, k.2)) in
+    let lines : (n : ℕ) → LinesOfSteps s n = λ n. (let k = c.traces_tell_steps.ensures o refl refl n in (
+      k.0,
+      (trace_of n o).overlay.state,
+      subst
+          (λ (ls : List Line). Told (layout s) o.state k.0 ls (trace_of n o).overlay.state) (same n) k.1,
+      k.2,
+    ))
+    in
     record {
       agrees = agrees s is_fresh c.a_halt_weighs_one.ensures runs;
       lines = lines;
       traced = same;
-      bracketed = λ n. (let now = lines_told (layout s) (trace_of n o).overlay.state.frames in
-          (now, subst (λ (ls : List Line). Brackets LineTold [] (marks_in ls) now) (same n) (c.lines_are_bracketed.ensures.traces parts size o s.state.maps h n)));
+      bracketed = λ n. (let now = lines_told (layout s) (trace_of n o).overlay.state.frames in (
+        now,
+        subst (λ (ls : List Line). Brackets LineTold [] (marks_in ls) now) (same n)
+            (c.lines_are_bracketed.ensures.traces parts size o s.state.maps h n),
+      ));
       private = left_alone s is_fresh c.a_halt_weighs_one.ensures runs agree private_lines;
       each_call = each_call s is_fresh c.a_halt_weighs_one.ensures runs agree private_lines lines;
     })

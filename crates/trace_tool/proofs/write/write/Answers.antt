@@ -2,4 +2,6 @@ use Rattle.outside_io.proofs.Writing.{one_write}
 use Rattle.trace_tool.proofs.write.write.Goals as goal
 
 pub returns : goal.returns
-returns g c = one_write _ _ c.args.piece.now c.write.result c.write.ensures.ok c.write.ensures.err c.write.ensures.counted
+returns g c =
+    one_write _ _ c.args.piece.now c.write.result c.write.ensures.ok c.write.ensures.err
+    c.write.ensures.counted

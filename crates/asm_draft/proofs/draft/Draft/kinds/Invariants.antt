@@ -6,4 +6,5 @@ use Rattle.asm_draft.proofs.draft.Draft.kinds.Given as goal
 abbrev pub invariant-loop-kind : goal.invariant-loop-kind
 invariant-loop-kind l =
     (length l.kind-items ≡ 15)
-    × (with_front (take l.kind-index l.kind-items) (kinds_in (15 - l.kind-index) l.self l.fields) ≡ kinds_in 15 l.fn.self l.fn.fields)
+    × (with_front (take l.kind-index l.kind-items)
+    (kinds_in (15 - l.kind-index) l.self l.fields) ≡ kinds_in 15 l.fn.self l.fn.fields)

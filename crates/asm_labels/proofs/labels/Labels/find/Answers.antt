@@ -6,10 +6,12 @@ use Rattle.asm_labels.proofs.Tables.{seen, found, within}
 use Rattle.asm_labels.proofs.labels.Labels.find.Goals as goal
 
 pub returns-clause-is : goal.returns-clause-is
-returns-clause-is c = c.copied.ensures ∙ c.get.ensures.value ∙ found c.args.name.now c.self.inside.table.entries ∙ ap (label_of c.args.name.now) c.self.view_is
+returns-clause-is c = c.copied.ensures ∙ c.get.ensures.value
+    ∙ found c.args.name.now c.self.inside.table.entries ∙ ap (label_of c.args.name.now) c.self.view_is
 
 pub returns-clause-within : goal.returns-clause-within
 returns-clause-within c =
     let old = c.self.inside.table.entries in
     let P : Option Label → Type 0 = λ o. IfSome o (λ l. l.offset < 65536) in
-    subst P (sym (c.copied.ensures ∙ c.get.ensures.value ∙ found c.args.name.now old)) (within c.args.name.now (seen old) c.self.invariant)
+    subst P (sym (c.copied.ensures ∙ c.get.ensures.value ∙ found c.args.name.now old))
+    (within c.args.name.now (seen old) c.self.invariant)

@@ -12,5 +12,6 @@ invariant-loop-reference l = record {
   few : length l.code.items ≤ 65536;
   low : ℕ;
   ready : AreReady low l.code.items (reverse (map referring l.list.items));
-  so_far : resolved l.labels (reverse (map referring l.list.items)) l.code.items ≡ resolved l.labels l.fn.self l.fn.code.items;
+  so_far : resolved l.labels (reverse (map referring l.list.items))
+      l.code.items ≡ resolved l.labels l.fn.self l.fn.code.items;
 }

@@ -5,4 +5,6 @@ use Rattle.component_linker.proofs.Halved.{exports_ascend}
 use Rattle.component_linker.proofs.placed.Placed.exports.Goals as goal
 
 pub returns-clause-ascend : goal.returns-clause-ascend
-returns-clause-ascend c = subst Ascend (sym c.as_slice.ensures) (exports_ascend None c.self.inside.fields.now.exports c.self.invariant.exports.1)
+returns-clause-ascend c =
+    subst Ascend (sym c.as_slice.ensures)
+    (exports_ascend None c.self.inside.fields.now.exports c.self.invariant.exports.1)

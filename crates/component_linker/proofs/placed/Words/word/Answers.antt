@@ -8,7 +8,8 @@ use Rattle.component_linker.specs.declared.moving.Move.{Move}
 use Rattle.component_linker.proofs.StartHeld.{each_at}
 use Rattle.component_linker.proofs.placed.Words.word.Goals as goal
 
-moved_at : (m : Move) (ws : List Word) (i : ℕ) {w : Word} → i < length (map (moved_word m) ws) → slice_get ws i ≡ Some w → slice_get (map (moved_word m) ws) i ≡ Some (moved_word m w)
+moved_at : (m : Move) (ws : List Word) (i : ℕ) {w : Word} → i < length (map (moved_word m) ws)
+    → slice_get ws i ≡ Some w → slice_get (map (moved_word m) ws) i ≡ Some (moved_word m w)
 moved_at m ws i lt e = slice_get-map (moved_word m) ws i ∙ ap (option_map (moved_word m)) e
 
 pub returns-in-None : goal.returns-in-None
@@ -17,24 +18,33 @@ returns-in-None c =
     let is : ws ≡ c.args.self.now = sym (ap (λ m. words_at m ws) c.in-None.is) ∙ c.self.view_is in
     let lt = subst (λ (xs : List Word). c.args.index < length xs) (sym is) c.requires in
     subst (λ (xs : List Word). slice_get xs c.args.index ≡ Some c.made_anew.result) is
-    (slice_get-get_or ws c.args.index c.index-words-index.result lt ∙ ap Some (sym c.index-words-index.is ∙ sym c.made_anew.ensures))
+    (slice_get-get_or ws c.args.index c.index-words-index.result lt
+    ∙ ap Some (sym c.index-words-index.is ∙ sym c.made_anew.ensures))
 
 pub moved_word-requires : goal.moved_word-requires
 moved_word-requires c =
     let ws = c.self.inside.words.now in
     let m = c.in-Some.m in
-    let here : words_at c.self.inside.movement ws ≡ map (moved_word m) ws = ap (λ o. words_at o ws) c.in-Some.is in
+    let here : words_at c.self.inside.movement ws ≡ map (moved_word m) ws =
+    ap (λ o. words_at o ws) c.in-Some.is in
     let lt = subst (λ (xs : List Word). c.args.index < length xs) (sym c.self.view_is ∙ here) c.requires in
     let less = subst (λ n. c.args.index < n) (length-map ws (moved_word m)) lt in
-    let at = moved_at m ws c.args.index lt (slice_get-get_or ws c.args.index c.index-words-index-in-Some.result less ∙ ap Some (sym c.index-words-index-in-Some.is)) in
-    (each_at (words_at c.self.inside.movement ws) None c.args.index _ c.self.invariant (ap (λ (xs : List Word). slice_get xs c.args.index) here ∙ at)).0
+    let at = moved_at m ws c.args.index lt
+    (slice_get-get_or ws c.args.index c.index-words-index-in-Some.result less
+    ∙ ap Some (sym c.index-words-index-in-Some.is)) in
+    (each_at (words_at c.self.inside.movement ws)
+    None c.args.index _ c.self.invariant (ap (λ (xs : List Word). slice_get xs c.args.index) here ∙ at)).0
 
 pub returns-in-Some : goal.returns-in-Some
 returns-in-Some c =
     let ws = c.self.inside.words.now in
     let m = c.in-Some.m in
-    let here : words_at c.self.inside.movement ws ≡ map (moved_word m) ws = ap (λ o. words_at o ws) c.in-Some.is in
+    let here : words_at c.self.inside.movement ws ≡ map (moved_word m) ws =
+    ap (λ o. words_at o ws) c.in-Some.is in
     let lt = subst (λ (xs : List Word). c.args.index < length xs) (sym c.self.view_is ∙ here) c.requires in
     let less = subst (λ n. c.args.index < n) (length-map ws (moved_word m)) lt in
-    let at = moved_at m ws c.args.index lt (slice_get-get_or ws c.args.index c.index-words-index-in-Some.result less ∙ ap Some (sym c.index-words-index-in-Some.is)) in
-    subst (λ (xs : List Word). slice_get xs c.args.index ≡ Some c.moved_word.result) (sym here ∙ c.self.view_is) (at ∙ ap Some (sym c.moved_word.ensures))
+    let at = moved_at m ws c.args.index lt
+    (slice_get-get_or ws c.args.index c.index-words-index-in-Some.result less
+    ∙ ap Some (sym c.index-words-index-in-Some.is)) in
+    subst (λ (xs : List Word). slice_get xs c.args.index ≡ Some c.moved_word.result)
+    (sym here ∙ c.self.view_is) (at ∙ ap Some (sym c.moved_word.ensures))

@@ -10,5 +10,6 @@ unfolding plan_in ask need
 returns g c =
     let low = got _ _ _ c.in_ok-a.ensures.is in
     let high = got _ _ _ c.in_ok-b.ensures.is in
-    let fits : (same_kind c.in_ok-a.a c.in_ok-b.b && (c.in_ok-a.a.end + 1 == c.in_ok-b.b.base)) ≡ true = search rules in
+    let fits : (same_kind c.in_ok-a.a c.in_ok-b.b && (c.in_ok-a.a.end + 1 == c.in_ok-b.b.base)) ≡ true =
+    search rules in
     rw (c.in_ok-into.ensures, low, high, fits) (search rules)

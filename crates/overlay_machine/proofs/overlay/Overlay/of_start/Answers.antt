@@ -9,7 +9,8 @@ invariant_of-result c =
     let k = c.in_ok-machine.ensures in
     let l = c.in_ok-layout.layout in
     record {
-      fits = fits_fresh l m.maps m.frames m.calls k.frames (subst (λ s. s.end - s.base ≤ m.frames.cells) (sym c.in_ok-layout.ensures.stack) k.room);
+      fits = fits_fresh l m.maps m.frames m.calls k.frames
+          (subst (λ s. s.end - s.base ≤ m.frames.cells) (sym c.in_ok-layout.ensures.stack) k.room);
       calls = omega arith;
     }
 

@@ -1,0 +1,27 @@
+//! What becomes of the tokens of sources. This function does nothing; its contract is the law.
+ghost use Rattle.std.specs.Prelude.{◌≡◌, ℕ, List, map, Ok};
+ghost use Rattle.proc_language.specs.declared.module.ModuleFields.{ModuleFields};
+ghost use Rattle.token_language.specs.declared.dialect.Dialect.{Dialect};
+ghost use Rattle.proc_sources.specs.Sources.{module_in};
+ghost use Rattle.token_sources.specs.Law.{Source, IsLeft, module_of, AreLeft, MeanTheSame};
+
+/// Where a text in one of the two languages has a module, the text spells a module with tokens, whose names
+/// are resolved and whose tokens are spent once each on every way, or which has none; and the module of the
+/// source is what is left of it.
+///
+/// So, whatever sources are given to the program, what their modules mean with any stack, feed and fuel is
+/// what the spelled modules with tokens mean. These are never stuck, no right of theirs is spent twice, and
+/// each right that a procedure got it handed on or spent itself, once, by the time that it ended by `return`
+/// or behind its last statement.
+pub fn sources_spend_their_tokens()
+    ensures accepted { (d : Dialect) (text : List ℕ) (m : ModuleFields) → module_in d text ≡ Ok m
+        → IsLeft d text m }
+    ensures told { (sources : List Source) (modules : List ModuleFields)
+        → map module_of sources ≡ map (λ m. Ok m) modules
+        → (these : AreLeft sources modules) × MeanTheSame these.tokens modules }
+{
+    proc_sources::laws::sources_are_modules();
+    proc_sources::laws::tokens_are_erased();
+    token_semantics::laws::plain_modules_are_token_modules();
+    token_semantics::laws::tokens_are_spent();
+}
