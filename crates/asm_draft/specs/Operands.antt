@@ -19,8 +19,7 @@ use Rattle.asm_draft.specs.Draft.{Draft, with_header, with_tables}
 
 -- ---- offsets
 
--- the number of an offset. All labels stand before the tables, so a label there is known, or missing: then
--- it
+-- the number of an offset. All labels stand before the tables, so a label there is known, or missing: then it
 -- is 0 for now. Either way the reference is kept
 abbrev pub offset_found : Section → Offset → Draft → ℕ × Draft
 offset_found section (Number n) d = (n, d)

@@ -85,8 +85,7 @@ reg_if wanted = if wanted then reg_at else done Pc
 abbrev pub last_if : Bool → Reader Input AsmFault Last
 last_if wanted = if wanted then last_at else done (Plain (Imm (pos 0)))
 
--- the operands of an instruction of this name and shape, whose name stands at this place, and the end of
--- its
+-- the operands of an instruction of this name and shape, whose name stands at this place, and the end of its
 -- line. A label in place of its last operand stands there as 0
 unfoldable pub operands_at : ℕ → List ℕ → Shape → Reader Input AsmFault (Instr × Last)
 operands_at at name shape = do

@@ -38,8 +38,7 @@ Outside a base last = (a < base) ⊎ (last < a)
 -- ---- sequences in memory, in the code of a part from base to last
 
 -- At an address stands a call. Its literal is the capability over the seals of the part, at the first, and
--- the
--- call's number leads to this seal.
+-- the call's number leads to this seal.
 pub record HasCall {W : Type 0} (look : W → Word) (m : FinMap nat_cmp W)
     (base last at seal : ℕ) : Type 0 where
   pub offset : ℕ
@@ -88,8 +87,7 @@ pub record HasEntry {W : Type 0} (look : W → Word) (m : FinMap nat_cmp W) (bas
 -- ---- a call
 
 -- The state at a call's `xjmp`: what data held was stored at b + 1, and the stack is split behind b. rcode
--- and
--- rdata are sealed, the code behind the call's words and the stack from b + 1 on.
+-- and rdata are sealed, the code behind the call's words and the stack from b + 1 on.
 abbrev pub at_xjmp : {W : Type 0} → (Word → W) → State W → ℕ → ℕ → ℕ → ℕ → ℕ → ℕ → ℕ → State W
 at_xjmp plain s base last at seal stack_base end b = record s {
   regs = record s.regs {

@@ -1,6 +1,5 @@
 -- What is answered of a part, as a function of it: the rules C, tried in their order, and then, of a trusted
--- part,
--- the rules K.
+-- part, the rules K.
 use Rattle.std.specs.Prelude.{Result, Ok, if◌then◌else◌}
 use Rattle.std.specs.Result.{result_and}
 use Rattle.component_check.specs.declared.rule.Broken.{Broken}

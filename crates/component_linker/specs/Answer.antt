@@ -21,8 +21,7 @@ Places parts size (Err at) = first_in (l10 (placed parts size)) ≡ Some at
 -- of parts as they stand: each keeps its own rules, no rule L is broken, and this is their start. No seal is
 -- of two parts or of two
 -- sites, regions lie apart, and no address of a linear one is held twice; all have the start's stack, and
--- their
--- code stands in the cells, that of trusted ones with its sequences
+-- their code stands in the cells, that of trusted ones with its sequences
 pub record LinksTo (parts : List PartSeen) (size : ℕ) (s : StartSeen) : Type 0 where
   pub accepted : (k : ℕ) (p : PartSeen) → slice_get parts k ≡ Some p → IsPart p
   pub room : NoneIsBroken (l10 parts ∷ [])

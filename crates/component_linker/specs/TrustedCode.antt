@@ -30,8 +30,7 @@ abbrev pub all_seals : ComponentFields → SealFields
 all_seals c = record { base = c.seals.base; end = c.seals.base + c.seals.count - 1; cur = pos c.seals.base }
 
 -- at a site stand a call and its return, and at the literal, from which the call loads it, the capability
--- over
--- the part's seals
+-- over the part's seals
 pub record SiteInCells (s : State Word) (c : ComponentFields) (fail index offset : ℕ) : Type 0 where
   pub literal : ℕ
   pub literal_is : c.literal_at ≡ Some literal

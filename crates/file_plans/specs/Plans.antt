@@ -1,6 +1,5 @@
 -- The order in which a call reads its files. A plan reads a file and goes on with its bytes, ends the call,
--- or
--- has made something.
+-- or has made something.
 use Rattle.std.specs.Prelude.{◌≡◌, ℕ, ◌+◌, List, [], ◌∷◌, Result, Ok, Err, ⊤}
 use Rattle.command_words.specs.declared.part.PartWord.{PartWord}
 use Rattle.outside_io.specs.FilesSeen.{FilesSeen}

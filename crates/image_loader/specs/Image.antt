@@ -12,8 +12,7 @@ abbrev pub ImageSeen : Type 0
 ImageSeen = Image
 
 -- as many parts as may be linked, each a component within its limits that keeps the rules of a part; and the
--- size
--- of their stack
+-- size of their stack
 pub record IsImage (i : Image) : Type 0 where
   pub stack : i.stack < 2 ^ 32
   pub count : (1 ≤ length i.parts) × (length i.parts ≤ MOST_PARTS)

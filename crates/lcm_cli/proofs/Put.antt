@@ -91,7 +91,7 @@ put_in (Some c) old seen name d h = put_of_command c old seen name d h
 
 -- ---- an answer with a file
 
--- an answer has no file, or that of a component or an image
+-- an answer has no file, or that of a component, an image or a module
 abbrev IsOfPut : Result Task Refusal → Answer → Type 0
 IsOfPut due a =
     (name : List ℕ) × (d : Content) × (due ≡ Ok (Put name d)) × IsReadAgain d

@@ -337,7 +337,8 @@ StayAt asked old Done new = OthersStay asked old new
 StayAt asked old WriteFault new = OthersStay asked old new
 StayAt asked old status new = Stay old new
 
--- where no put failed, all files stay, or that of `--out` has the bytes of the component or the image
+-- where no put failed, all files stay, or that of `--out` has the bytes of the component, the image or
+-- the module
 abbrev pub PutsWhole : Option Command → FilesSeen → FilesSeen → Type 0
 PutsWhole asked old new =
     ¬ (Rose old.failed_puts new.failed_puts) → Stay old new ⊎ PutsFile asked old new
@@ -361,11 +362,9 @@ LinkedCame (what.Image name) old parts size new =
     × (image_of bytes ≡ Ok (record { stack = size; parts = parts }))
 
 -- the words or the image made parts that keep the rules, and this is the start that they link to. Its calls
--- are
--- kept: each ret line closes the newest open call, whose range only its own return uses till then. And it has
--- the headline: the plain run agrees with the run of the start's overlay, its calls and returns are
--- bracketed,
--- and its frames are private.
+-- are kept: each ret line closes the newest open call, whose range only its own return uses till then. And it
+-- has the headline: the plain run agrees with the run of the start's overlay, its calls and returns are
+-- bracketed, and its frames are private.
 pub record Started (l : Linked) (old new : FilesSeen) : Type 0 where
   pub parts : List PartSeen
   pub size : ℕ

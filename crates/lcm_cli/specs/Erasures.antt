@@ -16,8 +16,7 @@ use Rattle.lcm_cli.specs.Commands.{plan_of}
 use Rattle.lcm_cli.specs.Answers.{Answer, IsWritten}
 
 -- The second text is that of the module of the first one, a source with tokens, without its tokens. It is
--- parsed,
--- and both are short enough to be read.
+-- parsed, and both are short enough to be read.
 pub record IsErasure (text erasure : List ℕ) : Type 0 where
   pub m : ModuleFields
   pub spelled : module_in Tokens text ≡ Ok m

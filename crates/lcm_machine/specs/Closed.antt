@@ -22,8 +22,7 @@ use Rattle.lcm_machine.specs.Ends.{After}
 
 -- A property of words is closed where each word that an instruction makes of words with it has it: integers,
 -- capabilities with another address or a lower permission, pieces of a split, what a splice joins, and what
--- is
--- sealed. What `xjmp` opens stands apart.
+-- is sealed. What `xjmp` opens stands apart.
 pub record Closed {W : Type 0} (look : W → Word) (plain : Word → W) (S : W → Type 0) : Type 0 where
   pub ints : (z : ℤ) → S (plain (Int z))
   pub moved : (w : W) (c : CapFields) (z : ℤ)

@@ -1,6 +1,5 @@
 -- States whose words are words of a machine: integers and addresses of 64 bits, ranges in order, and seals
--- that
--- there are.
+-- that there are.
 use Rattle.std.specs.Prelude.{◌≡◌, ℕ, Some}
 use Rattle.cap_words.specs.declared.Word.{Word}
 use Rattle.cap_words.specs.WordBytes.{WordFits}

@@ -87,8 +87,8 @@ fn meant_of<F: Files>(
 /// Reads the modules of words and the feed of a file, and makes the text of their meaning with a stack of
 /// `size` words under this fuel.
 ///
-/// It stops where a file can't be read or is too long, where a text is no module or a name leads nowhere,
-/// where the modules break a rule of a meaning, and where the feed has a line that isn't of its form, in this
+/// It stops where a file can't be read or is too long, where a text is no module, a name leads nowhere or a
+/// token isn't spent just once, where the modules break a rule of a meaning, and where the feed has a line that isn't of its form, in this
 /// order; or where memory is refused.
 pub fn meant<F: Files>(
     alloc: Global,

@@ -34,8 +34,7 @@ words_at m a zero = []
 words_at m a (suc n) = words_at m a n ++ if_there (m (a + n))
 
 -- what an event tells of a frame, its words read from the overlay after the step: of a return the first one
--- is in
--- data, and the others have come back
+-- is in data, and the others have come back
 abbrev pub marks_by : Layout → OState → Option Event → List (Mark FrameTold)
 marks_by l o None = []
 marks_by l o (Some (Called inward i b e)) =

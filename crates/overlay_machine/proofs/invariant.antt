@@ -1,6 +1,5 @@
 -- The invariant of linked parts: what linking gives, which step comes next and what it needs, and that each
--- kind of
--- step keeps it.
+-- kind of step keeps it.
 pub mod Facts
 pub mod Targets
 pub mod FrameFacts

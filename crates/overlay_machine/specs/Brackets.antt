@@ -18,8 +18,7 @@ pub data Mark (F : Type 0) : Type 0 where
   closes : F → Mark F
 
 -- What was opened is open until it is closed, and what is closed is the newest that is open: from some that
--- are
--- open, newest first, through marks, to those that are open then.
+-- are open, newest first, through marks, to those that are open then.
 pub data Brackets (F : Type 0) : List F → List (Mark F) → List F → Type 0 where
   at_end : (open_now : List F) → Brackets F open_now [] open_now
   one_opens : {f : F} {before now : List F} {ms : List (Mark F)}

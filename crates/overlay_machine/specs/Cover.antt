@@ -28,9 +28,8 @@ cover l o a =
     + count_by (λ b. word_over (flat l o.frames) (framed o.frames b) a) (framed_addresses o.frames)
 
 -- Where a plain state is the overlay flattened, and its frames lie in order: that no two places of the plain
--- state
--- have capabilities over one address of a linear region is the same as that each such address has at most one
--- in the overlay.
+-- state have capabilities over one address of a linear region is the same as that each such address has at
+-- most one in the overlay.
 abbrev pub CoverIsOnce : Type 0
 CoverIsOnce =
     (rs : List Region) (l : Layout) (o : OState) (t : State Word) → IsFlat l o t

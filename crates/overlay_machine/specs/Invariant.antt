@@ -92,8 +92,7 @@ pub record Invariant (g : Link) (o : OState) (t : State Word) : Type 0 where
   pub flat : IsFlat g.layout o t
   pub pc : PcPart g o.frames o.maps.regs
   -- the addresses of the regions that are in no frame have cells, and no others; trusted code is as linked;
-  -- all
-  -- cells but those of trusted code hold safe words
+  -- all cells but those of trusted code hold safe words
   pub there : (a : ℕ) → is_some (cell o.maps.cells a) ≡ has_cell g o.frames a
   pub code : (p : PartSeen) → IsTrusted g p → CodeIn p o.maps.cells
   pub cells : (a : ℕ) (w : OWord) → IsOpenAt g a → cell o.maps.cells a ≡ Some w → IsSafe g o.frames w

@@ -21,8 +21,7 @@ abbrev pub link_of : List PartSeen → ℕ → OverlaySeen → Link
 link_of parts size o = record { parts = parts; size = size; layout = o.layout }
 
 -- The overlay's layout is that of these accepted parts, and the invariant holds of the overlay and of the
--- plain
--- state that it stands for.
+-- plain state that it stands for.
 pub record HoldsFor (parts : List PartSeen) (size : ℕ) (o : OverlaySeen) (t : State Word) : Type 0 where
   pub linked : Linked (link_of parts size o)
   pub holds : Invariant (link_of parts size o) o.state t

@@ -52,8 +52,7 @@ abbrev pub stack_region : Layout → Region
 stack_region l = record { base = l.stack.base; end = l.stack.end; linear = true }
 
 -- The regions that untrusted code may use, and whether they may run: the code, the data and the linear area
--- of
--- an untrusted part, and the stack.
+-- of an untrusted part, and the stack.
 pub data IsUsable (g : Link) : Region → Bool → Type 0 where
   own_code : (p : PartSeen) (r : Region) → IsUntrusted g p → Contains (region false (code_span p)) r
       → IsUsable g r true

@@ -21,8 +21,7 @@ abbrev pub IsOpen : OState → ℕ → OpenFrame → Type 0
 IsOpen o k f = frame_of o.frames k ≡ Some f
 
 -- from a state at which a call is open, up to each matched point at which it is open still, no plain
--- instruction
--- touches its frame; and where an `xjmp` of a return word comes next, neither does that
+-- instruction touches its frame; and where an `xjmp` of a return word comes next, neither does that
 pub record FramesArePrivate (g : Link) (o : OState) (t : State Word) : Type 0 where
   pub while_open : (k : ℕ) (f : OpenFrame) → IsOpen o k f → (j : ℕ) (p : OState) → Reached g.layout o j p
       → IsOpen p k f → IsLeftAlone f j t

@@ -42,8 +42,7 @@ overlay_at s =
 -- ---- of linked parts
 
 -- of whatever parts it is the start: they are linked in the overlay's layout, and the invariant holds of the
--- overlay
--- and the start's own registers and cells
+-- overlay and the start's own registers and cells
 abbrev pub Begins : StartSeen → OverlaySeen → Type 0
 Begins s o = (parts : List PartSeen) (size : ℕ) → IsLinkedStart parts size s
     → HoldsFor parts size o s.state.maps

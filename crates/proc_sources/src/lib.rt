@@ -1,6 +1,7 @@
 //! Sources: the module that a text spells, with its names resolved, and its component; or the first fault.
 //!
-//! `docs/LANGUAGE.md` has the grammar, the rules of names, and what a module is compiled to.
+//! `docs/LANGUAGE.md` has the grammar, the rules of names, and what a module is compiled to, `docs/TOKENS.md`
+//! what sources with tokens have besides.
 #![tactic(auto)]
 
 mod fault;

@@ -100,8 +100,7 @@ pub data Spoils (entered : Bool) (n : ℕ) : List ToldSeen → Line → AuditFau
       → Spoils entered n (newest ∷ older) (Ret t) (Mismatch n)
 
 -- what stands behind lines that spoil nothing goes wrong with its first line, by that line's number, or
--- behind it
--- where it is an end line
+-- behind it where it is an end line
 abbrev pub GoesWrong : Bool → ℕ → List ToldSeen → List (List ℕ) → AuditFault → Type 0
 GoesWrong entered n now [] e = ⊥
 GoesWrong entered n now (t ∷ []) e = e ≡ Form n

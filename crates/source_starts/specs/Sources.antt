@@ -10,8 +10,7 @@ abbrev pub trusted_parts : List PartSeen → List PartSeen
 trusted_parts parts = filter (λ p. p.trusted) parts
 
 -- the trusted parts in their order are the components of the modules, whose names are resolved; of the others
--- nothing
--- is said
+-- nothing is said
 pub record AreSources (modules : List ModuleFields) (parts : List PartSeen) : Type 0 where
   pub limits : Each IsModule modules
   pub resolved : Each (λ m. name_faults m ≡ []) modules

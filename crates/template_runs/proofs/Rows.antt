@@ -46,8 +46,8 @@ module _ (g : Link) (linked : Linked g) where
       → cell m (p.component.data_base + d) ≡ Some (mem (p.component.data_base + d))
 
   -- inside a procedure of a part that needs w words, with these words in its slots, these in all trusted
-  -- data,
-  -- and these frames open: stk is over the stack up to the top, and stands w below it; data is at an address
+  -- data, and these frames open: stk is over the stack up to the top, and stands w below it; data is at an
+  -- address
   pub record HereAt (z : ℤ) (p : PartSeen) (w top : ℕ) (words : List OWord) (mem : ℕ → OWord)
       (fs : List OpenFrame) (o : OState) : Type 0 where
     pub valid : Valid g linked o

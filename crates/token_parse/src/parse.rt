@@ -31,7 +31,8 @@ fn as_module(read: Result<TokenModuleFields, ParseFault>) -> Result<TokenModule,
 ///
 /// A text that can't be cut into tokens has the fault `Scan`. Of the others, the fault whose place
 /// comes first is told, and of those at one place the one that [`ParseFault`] lists first. `NoMemory` may
-/// come for any text. docs/LANGUAGE.md has the grammar, the limits, and what stands where.
+/// come for any text. docs/TOKENS.md has the grammar beside that of docs/LANGUAGE.md, with
+/// the limits, and what stands where.
 pub fn parse_tokens(alloc: Global, text: &[u8]) -> Result<TokenModule, ParseFault>
     requires { length text.now < 2 ^ 32 }
     // Which module, or which fault.

@@ -1,4 +1,4 @@
-//! What no clause says: that the definitions which the clauses cite mean what docs/LANGUAGE.md says of
+//! What no clause says: that the definitions which the clauses cite mean what docs/TOKENS.md says of
 //! tokens. Each place was worked out by hand.
 //!
 //! Many cases stand in one text, one a line: a constant of many parts would be proved slowly.

@@ -1,7 +1,6 @@
 -- No instruction touches the range of a call that its lines leave open, but the two of the call's own return:
--- which
--- instructions of a call, an entry and a return touch the stack, whether they go or fail; so of a step, and
--- of a run.
+-- which instructions of a call, an entry and a return touch the stack, whether they go or fail; so of a step,
+-- and of a run.
 pub mod TouchAt
 pub mod ArmedSpares
 pub mod CallSpares

@@ -20,9 +20,8 @@ use Rattle.trace_tool.specs.Traces.{trace_of}
 use Rattle.trace_tool.specs.Told.{Told, EndsOverlay}
 
 -- The plain run of a state writes the lines of the overlay's steps. At a matched point it has written those
--- of
--- the steps up to there. Behind it, it writes none until the weight of the next step is full, and none at all
--- where that step ends the overlay.
+-- of the steps up to there. Behind it, it writes none until the weight of the next step is full, and none at
+-- all where that step ends the overlay.
 pub record LinesAgree (l : Layout) (o : OState) (t : State Word) : Type 0 where
   pub matched : (j : ℕ) (ls : List Line) (p : OState) → Told l o j ls p → lines_of l (begun (fresh t)) j ≡ ls
   pub between : (j n : ℕ) (ls : List Line) (p : OState) → Told l o j ls p → j ≤ n → n < j + weight_of l p

@@ -65,10 +65,8 @@ TraceIsBracketed o =
     (lines_told o.layout (trace_of limit o).overlay.state.frames)
 
 -- From an overlay and its plain state on: as long as the lines close no call line that was open before, no
--- plain
--- instruction touches an address of a range; and where the next step brings the ret line that does, neither
--- does
--- the first instruction of that step, which is its `xjmp`.
+-- plain instruction touches an address of a range; and where the next step brings the ret line that does,
+-- neither does the first instruction of that step, which is its `xjmp`.
 pub record RangeIsPrivate (l : Layout) (q : OState) (u : State Word) (base last : ℕ) : Type 0 where
   pub while_open : (j e a : ℕ) (ls : List Line) (r : OState) → Told l q j ls r → Depth (marks_in ls) 0 e
       → base ≤ a → a ≤ last → Untouched (λ w. w) (λ w. w) a j u

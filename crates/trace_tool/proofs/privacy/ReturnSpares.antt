@@ -1,6 +1,6 @@
 -- The first six words of a return touch no address apart from their code: where the stack joins from its base
--- they come to
--- the load, where it joins from elsewhere to the `fail`, and where it can't be joined the first one fails.
+-- they come to the load, where it joins from elsewhere to the `fail`, and where it can't be joined the first
+-- one fails.
 use Rattle.std.proofs.Common.{◌≡◌, ◌≢◌, ℕ, suc, ◌+◌, ◌≤◌, ℤ, true}
 use Rattle.std.proofs.Common.{refl, ◌∙◌, arith}
 use Rattle.cap_words.specs.declared.TheConstants.{LAST_PLACE}

@@ -1,6 +1,5 @@
 -- An `xjmp` of a return pair, and the ten words behind it, whatever they do: of the stack they touch the
--- first address
--- of the newest frame alone, by the two instructions that read and wipe it.
+-- first address of the newest frame alone, by the two instructions that read and wipe it.
 use Rattle.std.proofs.Common.{◌≡◌, inl, inr, ℕ, suc, ◌+◌, ◌<◌, ◌≤◌, true, List}
 use Rattle.std.proofs.Common.{◌∷◌, Option, Some, None}
 use Rattle.std.proofs.Common.{refl, sym, ap, ◌∙◌, subst, arith, eqb-true}
@@ -50,8 +49,8 @@ use Rattle.trace_tool.proofs.privacy.ReturnSpares.{apart_spares, off_spares}
 use Rattle.trace_tool.proofs.privacy.OwnReturn.{IsFirstUsed, own_only}
 
 -- an address that an instruction behind an `xjmp` touches is the first of the newest frame, and the
--- instruction is the
--- one of its site's return that loads it or that wipes it; the `xjmp` was of the pair of that frame's call
+-- instruction is the one of its site's return that loads it or that wipes it; the `xjmp` was of the pair of
+-- that frame's call
 pub record OwnTouch (l : Layout) (o : OState) (t v : State Word) (a word : ℕ) : Type 0 where
   pub frame : OpenFrame
   pub older : List OpenFrame
