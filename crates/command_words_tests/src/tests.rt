@@ -120,7 +120,7 @@ fn is_command(alloc: Global, line: &str) -> Result<bool, AllocError> {
     Ok(told(alloc, line)?.as_str() != "usage")
 }
 
-static ACTIONS: [(&str, &str); 34] = [
+static ACTIONS: [(&str, &str); 37] = [
     ("run u:one.asm", "run u-asm(one.asm) 4096 1000000"),
     ("run one.img", "run image(one.img) 1000000"),
     (
