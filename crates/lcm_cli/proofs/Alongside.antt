@@ -1,8 +1,8 @@
 -- Two plans over two sets of files that come to the same.
 use Rattle.std.proofs.Common.{◌≡◌, ◌⊎◌, ℕ, ◌<◌, ◌≤◌, List, [], ◌∷◌, length, Option, Some, None, Bool, true}
-use Rattle.std.proofs.Common.{false, suc, refl, sym, ap, subst, ◌∙◌, arith, inl, inr, le-leb}
-use Rattle.std.specs.Prelude.{◌+◌, nat_le, Result, Ok, Err, if◌then◌else◌}
-use Rattle.std.proofs.lemmas.Bool.{cases_Bool, leb-true}
+use Rattle.std.proofs.Common.{false, suc, refl, sym, ap, arith, inl, inr, le-leb}
+use Rattle.std.specs.Prelude.{◌+◌, nat_le, Result, Ok, Err}
+use Rattle.std.proofs.lemmas.Bool.{leb-true}
 use Rattle.std.proofs.lemmas.Bool.Decides.{nat_tests}
 use Rattle.command_words.specs.declared.part.PartWord.{PartWord}
 use Rattle.file_plans.specs.declared.TheConstants.{LONGEST_FILE}

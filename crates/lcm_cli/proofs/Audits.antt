@@ -11,14 +11,14 @@ use Rattle.run_audit.proofs.Found.{answered_trace, answered_fault}
 use Rattle.file_plans.specs.declared.TheConstants.{LONGEST_FILE}
 use Rattle.file_plans.specs.declared.refusal.Refusal.{Refusal}
 use Rattle.file_plans.specs.declared.refusal.Refusal.TheVariants as refusal
-use Rattle.file_plans.specs.Plans.{Plan, Made, ◌>>=◌, unless, whole as read, too_long, unread, Comes}
+use Rattle.file_plans.specs.Plans.{Made, ◌>>=◌, unless, whole as read, too_long, unread, Comes}
 use Rattle.lcm_cli.specs.declared.status.Status.{Status}
 use Rattle.lcm_cli.specs.declared.status.Status.TheVariants as status
 use Rattle.lcm_cli.specs.Audits.{audit_at}
 use Rattle.lcm_cli.specs.Commands.{Task, Write, ok_text, plan_of, plan_in}
 use Rattle.lcm_cli.specs.Answers.{Answer, Outside, with_files, writes, refused, IsAnswerOf, GivesWhole}
 use Rattle.lcm_cli.specs.Answers.{whole, unput, unwritten, Answers, answer, nothing}
-use Rattle.lcm_cli.specs.Causes.{AuditPasses, AuditFails, AuditTold}
+use Rattle.lcm_cli.specs.Causes.{AuditTold}
 use Rattle.lcm_cli.proofs.Ends.{Never, never_reads, never_unless}
 use Rattle.lcm_cli.proofs.Reasons.{Reasoned, ByBytes, reason_by, reads_reasoned}
 

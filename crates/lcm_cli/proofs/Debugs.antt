@@ -1,5 +1,5 @@
 -- What links and is debugged: why its plan ends, and what comes of it.
-use Rattle.std.proofs.Common.{◌≡◌, ◌≢◌, ℕ, ◌<◌, ◌≤◌, ◌^◌, List, length, Some, refl, sym, subst, ◌∙◌, inl, inr}
+use Rattle.std.proofs.Common.{◌≡◌, ℕ, ◌<◌, ◌≤◌, ◌^◌, List, length, Some, refl, sym, subst, ◌∙◌, inl, inr}
 use Rattle.std.proofs.Common.{arith}
 use Rattle.std.specs.Prelude.{Result, Ok, Err}
 use Rattle.outside_io.specs.FilesSeen.{FilesSeen}
@@ -31,7 +31,7 @@ use Rattle.lcm_cli.specs.Jobs.{FollowsTask}
 use Rattle.lcm_cli.specs.Commands.{Task, Debug, linked_in, debug_plan}
 use Rattle.lcm_cli.specs.Debugs.{unscripted, script_at}
 use Rattle.lcm_cli.specs.Causes.{Breaks, IsUnloaded}
-use Rattle.lcm_cli.proofs.Ends.{Never, Foreign, comes_split, same_err, ended_unless, not_made, never_bind}
+use Rattle.lcm_cli.proofs.Ends.{Never, Foreign, comes_split, same_err, not_made, never_bind}
 use Rattle.lcm_cli.proofs.Ends.{never_reads, never_unless, never_linked, never_image}
 use Rattle.lcm_cli.proofs.Reasons.{Reasoned, ByBytes, reason_by, reads_reasoned, reasoned_bind, reasoned_made}
 use Rattle.lcm_cli.proofs.Reasons.{in_reasoned, linked_break, image_fails}

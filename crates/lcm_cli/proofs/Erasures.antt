@@ -1,5 +1,5 @@
 -- Parts with tokens and their erasures: each command comes to the same.
-use Rattle.std.proofs.Common.{◌≡◌, ℕ, ◌≤◌, List, [], ◌∷◌, length, Option, Some, None, Bool, true, refl, sym}
+use Rattle.std.proofs.Common.{◌≡◌, ℕ, ◌≤◌, List, [], ◌∷◌, length, Option, Some, None, refl, sym}
 use Rattle.std.proofs.Common.{ap, subst}
 use Rattle.std.proofs.Common.{◌∙◌, le-leb}
 use Rattle.std.specs.Prelude.{◌↔◌, Result, Ok, Err, map}
@@ -7,7 +7,6 @@ use Rattle.command_words.specs.declared.part.Ending.{Ending}
 use Rattle.command_words.specs.declared.part.Ending.TheVariants.{Source, Assembler, Component}
 use Rattle.command_words.specs.declared.part.PartWord.{PartWord}
 use Rattle.command_words.specs.declared.command.Linked.TheVariants as what
-use Rattle.command_words.specs.declared.command.LinkDeed.{LinkDeed}
 use Rattle.command_words.specs.declared.command.Command.{Command}
 use Rattle.command_words.specs.declared.command.Command.TheVariants.{Links, Takes, Checks, Mean, Generate}
 use Rattle.command_words.specs.declared.command.Command.TheVariants as asked
@@ -16,7 +15,6 @@ use Rattle.component_file.specs.declared.component.ComponentFields.{ComponentFie
 use Rattle.component_file.specs.Reading.{decoded}
 use Rattle.component_linker.specs.Parts.{PartSeen}
 use Rattle.component_linker.specs.Accepted.{accepted}
-use Rattle.image_loader.specs.Image.{ImageSeen}
 use Rattle.debug_script.specs.Script.{scripted}
 use Rattle.proc_language.specs.declared.module.ModuleFields.{ModuleFields}
 use Rattle.proc_language.specs.Unplaced.{IsAlike}
@@ -25,22 +23,22 @@ use Rattle.proc_program.specs.Lower.{part_of}
 use Rattle.proc_sources.specs.Sources.{module_in, sourced}
 use Rattle.module_rules.specs.Rules.{stack_base_of, ruled}
 use Rattle.run_feed.specs.Feed.{fed}
-use Rattle.source_events.specs.declared.Item.{Item}
 use Rattle.source_events.specs.declared.Told.{Told}
 use Rattle.token_language.specs.declared.dialect.Dialect.TheVariants.{Plain, Tokens}
 use Rattle.file_plans.specs.declared.TheConstants.{LONGEST_FILE}
 use Rattle.file_plans.specs.declared.refusal.Refusal.{Refusal}
 use Rattle.file_plans.specs.declared.refusal.Refusal.TheVariants as refusal
-use Rattle.file_plans.specs.Plans.{Plan, Made, unless, each_at}
+use Rattle.file_plans.specs.Plans.{Plan, unless, each_at}
 use Rattle.meaning_tool.specs.Subjects.{Subject, language_of, module_at, feed_at, unfed, subject_of}
 use Rattle.meaning_tool.specs.Subjects.{subject_in}
 use Rattle.meaning_tool.specs.Subjects.{told_of}
-use Rattle.lcm_cli.specs.Parts.{is_trusted, broken_in, linked, form_by, component_at, part_at}
+use Rattle.command_words.specs.Part.{is_trusted}
+use Rattle.lcm_cli.specs.Parts.{broken_in, linked, form_by, component_at, part_at}
 use Rattle.lcm_cli.specs.Debugs.{unscripted, script_at}
-use Rattle.lcm_cli.specs.Commands.{Task, Tell, Debug, linked_parts, linked_in, link_task, component_task}
+use Rattle.lcm_cli.specs.Commands.{Task, Tell, Debug, linked_parts, link_task, component_task}
 use Rattle.lcm_cli.specs.Commands.{debug_plan}
 use Rattle.lcm_cli.specs.Commands.{for_task, plan_of}
-use Rattle.lcm_cli.specs.Answers.{Answer, IsAnswerOf, Settles, IsWritten, tells}
+use Rattle.lcm_cli.specs.Answers.{Answer, IsAnswerOf, IsWritten, tells}
 use Rattle.lcm_cli.specs.Erasures.{Held, IsErasure, IsBeside, same, erasure, AreBeside, AskBeside}
 use Rattle.lcm_cli.proofs.Alongside.{Due, by_bytes, settled, settled_by, settles, Match, Agree, agree_bind}
 use Rattle.lcm_cli.proofs.Alongside.{Pairwise, each_agree, all_equal, as_many, told, settled_unless}

@@ -1,5 +1,5 @@
 -- Plans that read nothing, and the loads that they make.
-use Rattle.std.proofs.Common.{◌≡◌, ◌⊎◌, ℕ, List, [], ◌∷◌, Option, Some, refl, sym, ap, subst, ◌∙◌, inl, inr}
+use Rattle.std.proofs.Common.{◌≡◌, ◌⊎◌, ℕ, List, [], ◌∷◌, refl, sym, ap, subst, ◌∙◌, inl, inr}
 use Rattle.std.proofs.Common.{true, false}
 use Rattle.std.specs.Prelude.{Result, Ok, Err, IfOk}
 use Rattle.outside_io.specs.FilesSeen.{FilesSeen}
@@ -16,7 +16,7 @@ use Rattle.file_plans.specs.declared.refusal.Refusal.{Refusal}
 use Rattle.file_plans.specs.declared.refusal.Refusal.TheVariants as refusal
 use Rattle.file_plans.specs.declared.refusal.Stop.{Stop}
 use Rattle.file_plans.specs.declared.refusal.Stop.TheVariants.{Refused, NoMemory}
-use Rattle.file_plans.specs.Plans.{Plan, Reads, Ends, Made, ◌>>=◌, unless, Comes, Meets}
+use Rattle.file_plans.specs.Plans.{Plan, Ends, Made, ◌>>=◌, unless, Comes, Meets}
 use Rattle.component_linker.specs.LinkedStarts.{IsStartOf}
 use Rattle.lcm_cli.specs.Parts.{broken_in, linked}
 use Rattle.lcm_cli.specs.Loads.{load_module, load_other, load_parts, load_image}

@@ -11,7 +11,7 @@ use Rattle.file_plans.specs.declared.refusal.Refusal.{Refusal}
 use Rattle.file_plans.specs.Plans.{Comes}
 use Rattle.lcm_cli.specs.declared.status.Status.{Status}
 use Rattle.lcm_cli.specs.Loads.{load_image}
-use Rattle.lcm_cli.specs.Commands.{Task, Run, Totals, for_task, plan_in}
+use Rattle.lcm_cli.specs.Commands.{Task, Totals, for_task, plan_in}
 use Rattle.lcm_cli.specs.Answers.{Answer, Outside, with_files, ran, IsAnswerOf, GivesWhole, Answers}
 use Rattle.lcm_cli.specs.Causes.{IsRunStatus, LoadGiven}
 use Rattle.lcm_cli.proofs.Loads.{task_of, load_made, comes_stays}

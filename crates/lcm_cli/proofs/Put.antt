@@ -1,7 +1,6 @@
 -- The file that is put, and the files that stay.
 use Rattle.std.proofs.Common.{◌≡◌, ◌≢◌, ℕ, ◌⊎◌, List, Option, Some, None, refl, sym, ap, subst, ◌∙◌, inl, inr}
-use Rattle.std.proofs.Common.{true, false}
-use Rattle.std.specs.Prelude.{Result, Ok, Err, Bool, IsNone, IsSomeAnd, MatchOption}
+use Rattle.std.specs.Prelude.{Result, Ok, Err, IsNone, IsSomeAnd, MatchOption}
 use Rattle.outside_io.specs.FilesSeen.{FilesSeen, Puts, KeepsOthers}
 use Rattle.command_words.specs.declared.command.LinkDeed.{LinkDeed}
 use Rattle.command_words.specs.declared.command.LinkDeed.TheVariants as link_deed
@@ -34,12 +33,11 @@ use Rattle.lcm_cli.specs.Audits.{audit_at}
 use Rattle.lcm_cli.specs.Commands.{Task, Run, Trace, Reach, Debug, Put, Write, Tell}
 use Rattle.lcm_cli.specs.Commands.{Content, OfModule, spelling_of, IsReadAgain}
 use Rattle.lcm_cli.specs.Commands.{linked_in, link_task, component_task, plan_of, plan_in}
-use Rattle.lcm_cli.specs.Commands.{Totals}
 use Rattle.lcm_cli.specs.Loads.{load_image}
 use Rattle.lcm_cli.specs.Answers.{Answer, NewFile, Outside, end_status, meaning_status, ran, traced, tells}
 use Rattle.lcm_cli.specs.Answers.{puts}
 use Rattle.lcm_cli.specs.Answers.{refused, IsAnswerOf}
-use Rattle.lcm_cli.specs.Answers.{IsPut, GivesWhole, whole, unput, unwritten, Answers, answer, nothing}
+use Rattle.lcm_cli.specs.Answers.{IsPut, whole, unput, unwritten, Answers, answer, nothing}
 use Rattle.lcm_cli.specs.Causes.{PutsFile, link_out, component_out, out_of, Stay, OthersStay, StayAt}
 use Rattle.lcm_cli.specs.Causes.{PutsWhole}
 use Rattle.lcm_cli.proofs.Debugs.{debug_came}

@@ -8,7 +8,6 @@ use Rattle.command_words.specs.declared.part.Ending.TheVariants.{Source, Assembl
 use Rattle.command_words.specs.declared.part.PartWord.{PartWord}
 use Rattle.command_words.specs.declared.command.Linked.{Linked}
 use Rattle.command_words.specs.declared.command.Linked.TheVariants as what
-use Rattle.component_file.specs.declared.component.ComponentFields.{ComponentFields}
 use Rattle.component_file.specs.Reading.{decoded}
 use Rattle.assembler.specs.Assembled.{assembled}
 use Rattle.component_linker.specs.declared.fault.RuleAt.{RuleAt}
@@ -21,7 +20,8 @@ use Rattle.file_plans.specs.declared.refusal.Refusal.TheVariants as refusal
 use Rattle.file_plans.specs.Plans.{Plan, Reads, Ends, Made, ◌>>=◌, unless, each_at, whole, too_long, unread}
 use Rattle.file_plans.specs.Plans.{Comes}
 use Rattle.component_linker.specs.Accepted.{accepted}
-use Rattle.lcm_cli.specs.Parts.{is_trusted, broken_in, linked, loaded, form_by, component_at, part_at}
+use Rattle.command_words.specs.Part.{is_trusted}
+use Rattle.lcm_cli.specs.Parts.{broken_in, linked, loaded, form_by, component_at, part_at}
 use Rattle.lcm_cli.specs.Commands.{linked_parts, linked_image, linked_in}
 use Rattle.proc_sources.specs.Sources.{sourced}
 use Rattle.token_language.specs.declared.dialect.Dialect.{Dialect}

@@ -1,7 +1,7 @@
 -- What a run or a trace was given from, and what it wrote.
 use Rattle.std.proofs.Common.{◌≡◌, ◌≢◌, ℕ, List, Option, Some, None, refl, sym, ap, subst, ◌∙◌, inl, inr}
-use Rattle.std.proofs.Common.{◌<◌, ◌^◌, arith, true, false}
-use Rattle.std.specs.Prelude.{◌↔◌, Result, Ok, Err, Bool}
+use Rattle.std.proofs.Common.{◌<◌, ◌^◌, arith}
+use Rattle.std.specs.Prelude.{◌↔◌, Result, Ok, Err}
 use Rattle.outside_io.specs.FilesSeen.{FilesSeen}
 use Rattle.outside_io.specs.SinkSeen.{FailsToWrite}
 use Rattle.command_words.specs.declared.command.Linked.{Linked}
@@ -36,12 +36,12 @@ use Rattle.lcm_cli.specs.declared.status.Status.{Status}
 use Rattle.lcm_cli.specs.declared.status.Status.TheVariants as status
 use Rattle.lcm_cli.specs.Refusals.{refusal_text, refusal_status, image_status}
 use Rattle.file_plans.specs.Plans.{Plan, Comes}
-use Rattle.lcm_cli.specs.Commands.{Lines, Task, Run, Trace, linked_in, link_task, for_task, plan_in}
+use Rattle.lcm_cli.specs.Commands.{Lines, Task, linked_in, link_task, for_task, plan_in}
 use Rattle.lcm_cli.specs.Answers.{Answer, NewFile, Outside, with_files, end_status, writes, ran, traced}
 use Rattle.lcm_cli.specs.Answers.{refused}
 use Rattle.lcm_cli.specs.Answers.{IsPut, IsAnswerOf}
 use Rattle.lcm_cli.specs.Answers.{GivesWhole, whole, unput, unwritten, Answers, answer, nothing}
-use Rattle.lcm_cli.specs.Causes.{IsRunStatus, LinkedCame, Started, text_of_run, RunGiven, TraceGiven, IsCut}
+use Rattle.lcm_cli.specs.Causes.{IsRunStatus, Started, text_of_run, RunGiven, TraceGiven}
 use Rattle.lcm_cli.specs.Causes.{ReachGiven}
 use Rattle.lcm_cli.specs.Causes.{RunCut, TraceCut}
 use Rattle.lcm_cli.proofs.Tasks.{err_of, made_of}

@@ -28,8 +28,9 @@ use Rattle.source_starts.specs.Sources.{trusted_parts, AreSources}
 use Rattle.file_plans.specs.declared.TheConstants.{LONGEST_FILE}
 use Rattle.file_plans.specs.declared.refusal.Refusal.{Refusal}
 use Rattle.file_plans.specs.declared.refusal.Refusal.TheVariants as refusal
-use Rattle.file_plans.specs.Plans.{Plan, Made, ◌>>=◌, each_at, whole, too_long, unread, Comes}
-use Rattle.lcm_cli.specs.Parts.{is_trusted, broken_in, form_by, component_at, part_at}
+use Rattle.file_plans.specs.Plans.{Plan, Made, each_at, whole, too_long, unread, Comes}
+use Rattle.command_words.specs.Part.{is_trusted}
+use Rattle.lcm_cli.specs.Parts.{broken_in, form_by, component_at, part_at}
 use Rattle.lcm_cli.specs.SourceRuns.{AllSources, SourcesCame}
 use Rattle.lcm_cli.proofs.Ends.{comes_split}
 use Rattle.lcm_cli.proofs.Modules.{unless_came}

@@ -7,7 +7,7 @@ use Rattle.lcm_cli.specs.declared.job.Job.{Job}
 use Rattle.file_plans.specs.declared.refusal.Refusal.{Refusal}
 use Rattle.file_plans.specs.declared.refusal.Stop.{Stop}
 use Rattle.file_plans.specs.declared.refusal.Stop.TheVariants.{NoMemory}
-use Rattle.file_plans.specs.Plans.{Plan, Made, ◌>>=◌, Comes, Follows}
+use Rattle.file_plans.specs.Plans.{Plan, Made, Comes, Follows}
 use Rattle.lcm_cli.specs.Commands.{Task, for_task}
 use Rattle.lcm_cli.specs.Jobs.{Does, FollowsTask}
 use Rattle.file_plans.proofs.Follow.{comes_made, comes_quiet, follows_end}

@@ -15,7 +15,7 @@ use Rattle.generated_load.specs.Loads.{load_of}
 use Rattle.image_loader.specs.declared.fault.ImageFault.{ImageFault}
 use Rattle.file_plans.specs.declared.refusal.Refusal.{Refusal}
 use Rattle.file_plans.specs.declared.refusal.Refusal.TheVariants as refusal
-use Rattle.file_plans.specs.Plans.{Plan, Ends, Made, Comes}
+use Rattle.file_plans.specs.Plans.{Plan, Made, Comes}
 use Rattle.lcm_cli.specs.Parts.{component_at, part_at}
 use Rattle.meaning_tool.specs.Subjects.{module_at, subject_in}
 use Rattle.lcm_cli.specs.Commands.{Task, linked_in, for_task, link_task, component_task, plan_of, plan_in}

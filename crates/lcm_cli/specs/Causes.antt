@@ -80,7 +80,8 @@ use Rattle.lcm_cli.specs.declared.status.Status.TheVariants.{AuditRefused}
 use Rattle.lcm_cli.specs.Refusals.{refusal_text, audit_text, image_status}
 use Rattle.file_plans.specs.Plans.{Plan, Reads, Ends, Made, each_at, Comes}
 use Rattle.component_linker.specs.Accepted.{accepted}
-use Rattle.lcm_cli.specs.Parts.{is_trusted, linked, loaded, component_at, part_at}
+use Rattle.command_words.specs.Part.{is_trusted}
+use Rattle.lcm_cli.specs.Parts.{linked, loaded, component_at, part_at}
 use Rattle.lcm_cli.specs.Commands.{Content, spelling_of, IsReadAgain, Telling, Run, Trace, Put, Write}
 use Rattle.lcm_cli.specs.Commands.{Task, Reach, Tell}
 use Rattle.lcm_cli.specs.Commands as task

@@ -1,11 +1,9 @@
 -- Debugging: what links, and the script of a file.
-use Rattle.std.specs.Prelude.{ℕ, List, length, Result}
-use Rattle.command_words.specs.declared.command.Linked.{Linked}
+use Rattle.std.specs.Prelude.{ℕ, List}
 use Rattle.debug_script.specs.declared.command.Command.{Command}
 use Rattle.debug_script.specs.declared.fault.ScriptFault.{ScriptFault}
 use Rattle.debug_script.specs.declared.fault.ScriptFault.TheVariants.{Line, NoMemory}
 use Rattle.debug_script.specs.Script.{scripted}
-use Rattle.image_loader.specs.Image.{ImageSeen}
 use Rattle.file_plans.specs.declared.refusal.Refusal.{Refusal}
 use Rattle.file_plans.specs.declared.refusal.Refusal.TheVariants as refusal
 use Rattle.file_plans.specs.Plans.{Plan, ◌>>=◌, file, unless}

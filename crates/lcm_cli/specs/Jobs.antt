@@ -12,7 +12,7 @@ use Rattle.lcm_cli.specs.declared.job.Job.TheVariants as job
 use Rattle.file_plans.specs.declared.refusal.Stop.{Stop}
 use Rattle.file_plans.specs.Plans.{Plan, Made, Meets, FollowsAs}
 use Rattle.meaning_tool.specs.Subjects.{Subject, IsMeant}
-use Rattle.lcm_cli.specs.Commands.{Telling, Lines, Totals, Task, Run, Trace, Reach, Debug, Put, Write, Tell}
+use Rattle.lcm_cli.specs.Commands.{Lines, Totals, Task, Run, Trace, Reach, Debug, Put, Write, Tell}
 use Rattle.lcm_cli.specs.Commands.{Content}
 use Rattle.lcm_cli.specs.Commands.{OfImage, spelling_of}
 use Rattle.lcm_cli.specs.Commands.{IsReadAgain}

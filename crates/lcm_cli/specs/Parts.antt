@@ -1,9 +1,8 @@
 -- The parts of part words: read, length, form, rules C, and K where it is trusted; and then the rules L of
 -- all of them. And those of an image.
-use Rattle.std.specs.Prelude.{ℕ, Bool, true, false, List, map, Result, Ok, Err}
+use Rattle.std.specs.Prelude.{ℕ, List, map, Result, Ok, Err}
 use Rattle.assembler.specs.Assembled.{assembled}
-use Rattle.command_words.specs.declared.part.Mark.{Mark}
-use Rattle.command_words.specs.declared.part.Mark.TheVariants.{Trusted, Untrusted}
+use Rattle.command_words.specs.Part.{is_trusted}
 use Rattle.command_words.specs.declared.part.Ending.{Ending}
 use Rattle.command_words.specs.declared.part.Ending.TheVariants.{Source, Assembler, Component}
 use Rattle.command_words.specs.declared.part.PartWord.{PartWord}
@@ -53,10 +52,6 @@ unfoldable pub loaded : List ℕ → Result ImageSeen ImageFault
 loaded bytes = loaded_by (image_of bytes)
 
 -- ---- parts
-
-abbrev pub is_trusted : Mark → Bool
-is_trusted Trusted = true
-is_trusted Untrusted = false
 
 -- the component that bytes are in their form
 abbrev pub form_by : Ending → ℕ → List ℕ → Plan ComponentFields

@@ -1,5 +1,5 @@
 -- Runs over sinks of reserved memory.
-use Rattle.std.specs.Prelude.{◌≡◌, ◌≢◌, ℕ, ◌<◌, List, [], length, Option, Some, Result}
+use Rattle.std.specs.Prelude.{◌≡◌, ◌≢◌, ℕ, ◌<◌, [], length, Option, Some, Result}
 use Rattle.outside_io.specs.FilesSeen.{FilesSeen}
 use Rattle.outside_io.specs.SafeSink.{SafeBytes, seen_of_safe_sink}
 use Rattle.command_words.specs.declared.command.Linked.{Linked}

@@ -47,8 +47,9 @@ pub fn mean_tells_runs()
 {}
 
 /// A source with tokens gives what its erasure gives: whatever `run`, `trace`, `link`, `reach`, `debug`,
-/// `mean`, `check`, `compile` and `dis` are asked of parts, the answer is the same where such a part stands
-/// beside the text of its module without tokens: the text, the status, the file and the machine.
+/// `mean`, `check`, `compile` and `dis` are asked of parts, the answer is the same where in place of such a
+/// part stands the text of its module without tokens, which is parsed and, as the part's own, not too long to
+/// be read: the text, the status, the file and the machine.
 pub fn tokens_are_gone()
     ensures { TokensAreGone }
 {

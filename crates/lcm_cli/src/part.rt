@@ -7,7 +7,8 @@ ghost use Rattle.file_plans.specs.declared.refusal.Refusal.TheVariants as refusa
 ghost use Rattle.file_plans.specs.Plans.{Follows, Meets, unless, each_at};
 ghost use Rattle.proc_sources.specs.Sources.{sourced};
 ghost use Rattle.component_linker.specs.Accepted.{accepted};
-ghost use Rattle.lcm_cli.specs.Parts.{is_trusted, broken_in, form_by, component_at, part_at};
+ghost use Rattle.command_words.specs.Part.{is_trusted};
+ghost use Rattle.lcm_cli.specs.Parts.{broken_in, form_by, component_at, part_at};
 
 use assembler::{AsmFault, assemble};
 use cap_words::Items;

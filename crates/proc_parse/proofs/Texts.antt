@@ -11,20 +11,16 @@ use Rattle.text_scan.specs.declared.token.Token.{Token}
 use Rattle.text_scan.specs.declared.fault.ScanFault.{ScanFault}
 use Rattle.text_scan.specs.Tokens.{scanned}
 use Rattle.text_scan.specs.Grammar.{HasTokens, IsSpelled, IsTokenText, Placed}
-use Rattle.proc_language.specs.Limits.{IsModule}
-use Rattle.proc_language.specs.declared.module.ModuleFields.{ModuleFields}
 use Rattle.proc_grammar.specs.declared.fault.ParseFault.{ParseFault}
 use Rattle.proc_grammar.specs.declared.fault.ParseFault.TheVariants.{Scan, Expected, Range, TooMany, NoMemory}
 use Rattle.proc_grammar.specs.Fault.{AnswersAs, Fails, limit_place}
 use Rattle.proc_grammar.specs.Makes.{Makes}
 use Rattle.proc_grammar.specs.Grammar.{IsText}
 use Rattle.proc_grammar.specs.Lexemes.{Lexeme, lexemes, seen, is_line_end}
-use Rattle.proc_grammar.specs.PlainTrees.{plain_trees}
 use Rattle.proc_grammar.specs.Reader.{place_in}
 use Rattle.proc_grammar.specs.Reading.{full, parsed}
 use Rattle.proc_grammar.specs.Stuck.{IsExpected, IsBeyond, StandsIn}
 use Rattle.proc_grammar.specs.Tokens.{IsLexeme}
-use Rattle.proc_grammar.proofs.Fits.{is_module}
 use Rattle.proc_grammar.proofs.Whole.{found, only, one_module, expected_is}
 use Rattle.proc_grammar.proofs.Stops.{told, fault_is}
 use Rattle.proc_parse.specs.Answers.{InText}
@@ -318,12 +314,3 @@ pub read_spelled : {E A S P V R M : Type 0} (T : Makes E A S P V R M) (text : Li
 read_spelled T text m has (Ok tokens) s e =
     (tokens, has tokens s, found T full (lexemes text tokens) (length text) m e)
 read_spelled T text m has (Err f) s e = absurd (cc)
-
--- ---- what is spelled in the language itself keeps the limits
-
-pub answer_module : (text : List ℕ) (tokens : List Token) (result : Result ModuleFields ParseFault)
-    → AnswersAs (λ m. m) result (parsed plain_trees full (lexemes text tokens) (length text))
-    → All (IsSpelled text) tokens → IfOk result IsModule
-answer_module text tokens (Ok m) e h = is_module (lexemes text tokens) m (lexemes_proper text tokens h)
-    (found plain_trees full (lexemes text tokens) (length text) m e)
-answer_module text tokens (Err f) e h = tt

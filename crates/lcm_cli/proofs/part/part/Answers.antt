@@ -1,7 +1,8 @@
 use Rattle.std.proofs.Common.{subst}
 use Rattle.component_linker.specs.Accepted.{accepted}
 use Rattle.file_plans.specs.Plans.{unless, Meets}
-use Rattle.lcm_cli.specs.Parts.{is_trusted, broken_in, component_at, part_at}
+use Rattle.command_words.specs.Part.{is_trusted}
+use Rattle.lcm_cli.specs.Parts.{broken_in, component_at, part_at}
 use Rattle.file_plans.proofs.Follow.{follows_meets}
 use Rattle.lcm_cli.proofs.part.part.Goals as goal
 
