@@ -236,9 +236,6 @@ closed_begun m o z f0 f1 f2 f3 r w x s l first second third = record {
 
 -- ---- looking at cells
 
-in_from : ℕ → ℕ → ℕ → Bool
-in_from at end a = nat_le at a && nat_le a end
-
 from_next : (at end a : ℕ) → (nat_le (at + 1) a && nat_le a end) ≡ true → (nat_le at a && nat_le a end) ≡ true
 from_next at end a e = grind (arith, nat_tests)
 

@@ -54,9 +54,6 @@ pub word_reads : (b : Option Word) → Reads Short All (λ w. WordFits w × IsUn
 unfolding next_part_word
 word_reads b = reads_field unsealed_reads
 
-slot_of : Option Import → Option ℕ
-slot_of b = option_map (λ i. i.slot) b
-
 pub import_reads : (b : Option Import) → Reads Short All (ImportFits b) import_bytes (next_import b)
 unfolding next_import import_bytes
 import_reads b = reads_placed _ (λ at.

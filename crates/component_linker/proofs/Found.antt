@@ -1,7 +1,7 @@
 -- What is found first in a list.
-use Rattle.std.proofs.Common.{◌≡◌, ◌⊎◌, inl, inr, ℕ, suc, ◌+◌, ◌≤◌, Bool, true, false, List, [], ◌∷◌, ◌++◌}
-use Rattle.std.proofs.Common.{Option, Some, None, refl, sym, ap, ◌∙◌, length, take, drop}
-use Rattle.std.proofs.lemmas.List.{drop_more, drop_all, take_more}
+use Rattle.std.proofs.Common.{◌≡◌, ◌⊎◌, inl, inr, ℕ, suc, ◌+◌, Bool, true, false, List, [], ◌∷◌, ◌++◌}
+use Rattle.std.proofs.Common.{Option, Some, None, refl, sym, ap, ◌∙◌, take, drop}
+use Rattle.std.proofs.lemmas.List.{drop_more, take_more}
 use Rattle.std.proofs.lemmas.Option.{slice_get_within, get_or_from_slice_get}
 use Rattle.std.specs.Prelude.{find, slice_get, option_map, option_and_then}
 use Rattle.std.specs.Option.{option_or}
@@ -111,10 +111,6 @@ found_here p xs i x at h t = let l = left_at xs i x at in sym (rw (← h, l, t) 
 pub not_here : {X : Type 0} (p : X → Bool) (xs : List X) (i : ℕ) (x : X) → slice_get xs i ≡ Some x
     → find p (drop i xs) ≡ find p xs → p x ≡ false → find p (drop (i + 1) xs) ≡ find p xs
 not_here p xs i x at h f = let l = left_at xs i x at in sym (rw (← h, l, f) refl)
-
-pub not_found : {X : Type 0} (p : X → Bool) (xs : List X) (i : ℕ) → length xs ≤ i
-    → find p (drop i xs) ≡ find p xs → None ≡ find p xs
-not_found p xs i past h = let l = drop_all i xs past in sym (rw (← h, l) refl)
 
 pub given_first : {X Y : Type 0} (f : X → Option Y) (xs : List X) (i : ℕ) (x : X) (y : Y)
     → slice_get xs i ≡ Some x → first_given f (drop i xs) ≡ first_given f xs → f x ≡ Some y

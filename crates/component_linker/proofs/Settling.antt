@@ -18,7 +18,7 @@ use Rattle.component_linker.specs.Parts.{PartSeen, IsPart}
 use Rattle.component_linker.specs.Placing.{moved, moved_by, moved_word}
 use Rattle.component_linker.specs.Placing.{points_in_range, base_or}
 use Rattle.component_linker.specs.Placing.{areas_end_late, seals_end_late, points_too_far}
-use Rattle.component_linker.specs.Standing.{move_to, move_of, settled, part_at, past, placed_from, placed}
+use Rattle.component_linker.specs.Standing.{move_to, move_of, settled, part_at, past, placed_from}
 use Rattle.component_linker.specs.Pairs.{never, first_in}
 use Rattle.component_linker.specs.Links.{l10, lacks_room, room_test}
 use Rattle.component_linker.proofs.MovedRules.{Lowest}
@@ -78,17 +78,6 @@ settled_part f p is h = by_case p.component.movable refl
         (has_room m p.component (λ i b. h i (there i b))))
 
 -- ---- all of them
-
-all_settled : (f : Free) (parts : List PartSeen)
-    → ((k : ℕ) (p : PartSeen) → slice_get parts k ≡ Some p → IsPart p)
-    → ((k i : ℕ) (q : PartSeen) → slice_get (placed_from f parts) k ≡ Some q → BrokenAt (room_test q) i → ⊥)
-    → (k : ℕ) (q : PartSeen) → slice_get (placed_from f parts) k ≡ Some q → IsPart q
-all_settled f [] are room k q e = absurd cc
-all_settled f (p ∷ ps) are room zero q e =
-    let here : part_at f p ≡ q = cc in
-    subst IsPart here (settled_part f p (are 0 p refl) (λ i b. room 0 i (part_at f p) refl b))
-all_settled f (p ∷ ps) are room (suc k) q e =
-    all_settled (past f p) ps (λ n r g. are (suc n) r g) (λ n i r g. room (suc n) i r g) k q e
 
 -- a part by its index, at what is free there
 abbrev pub free_at : Free → List PartSeen → ℕ → Free

@@ -65,11 +65,6 @@ pub open-below : {H T : Type 0} (ss : List (Slot H)) (ts : List T) (top : ℕ) �
 open-below [] ts top h f n = absurd n
 open-below (s ∷ ss) ts top h f n = let k = items_length s ts in omega (arith, k, n, h.0, f.0, f.1)
 
-pub some-items : {H T : Type 0} (ss : List (Slot H)) (ts : List T) (top : ℕ) → Lie ss top
-    → Fill ss top (length ts) → HasNewestItem (stacked ss ts) → 0 < length ts
-some-items [] ts top h f n = absurd n
-some-items (s ∷ ss) ts top h f n = let k = items_length s ts in omega (arith, k, n, h.0, f.0, f.1)
-
 -- the last of a list is the first of the list read backwards
 pub last-first : {X : Type 0} (xs : List X) (i : ℕ) (x : X) → i + 1 ≡ length xs → x ≡ get_or xs i x
     → (ys : List X) × (reverse xs ≡ x ∷ ys)

@@ -1,9 +1,7 @@
 -- Jobs that are done, and texts that are told.
-use Rattle.std.proofs.Common.{ℕ, List, Option, refl, sym, ap, subst, inl, inr}
+use Rattle.std.proofs.Common.{ℕ, List, refl, sym, ap, subst, inl, inr}
 use Rattle.std.specs.Prelude.{Ok}
 use Rattle.outside_io.specs.FilesSeen.{FilesSeen}
-use Rattle.outside_io.specs.SinkSeen.{SinkSeen}
-use Rattle.lcm_machine.specs.Run.{Run as Machine}
 use Rattle.lcm_cli.specs.declared.status.Status.{Status}
 use Rattle.lcm_cli.specs.declared.status.Status.TheVariants.{Done}
 use Rattle.lcm_cli.specs.declared.job.Job.{Job}
@@ -13,7 +11,7 @@ use Rattle.generated_load.specs.Loads.{load_steps}
 use Rattle.lcm_cli.specs.Commands.{Lines, Totals, Task, Run, Trace, Reach, Debug, Put, Write, Tell}
 use Rattle.debug_tool.specs.Replies.{debug_text}
 use Rattle.lcm_cli.specs.Jobs.{IsTextOf, Does, FollowsTask}
-use Rattle.lcm_cli.specs.Answers.{Outside, Gives, whole, unwritten, Answers, answer, nothing, Tells, outside}
+use Rattle.lcm_cli.specs.Answers.{Outside, unwritten, Answers, answer, nothing}
 use Rattle.lcm_cli.specs.Answers.{GivesOrNothing}
 use Rattle.file_plans.proofs.Follow.{only_again, comes_quiet}
 use Rattle.lcm_cli.specs.Answers.{with_files, writes, meaning_status, said, puts, ran, traced, IsAnswerOf}
@@ -70,10 +68,3 @@ answered plan old j seen status new f (inr n) = nothing (record {
   unwritten = n.unwritten;
   kept_is = n.kept_is;
 })
-
-pub tells_gives : (files : FilesSeen) (old new : SinkSeen) (kept : Option Machine) (status result : Status)
-    (text : List ℕ) → Tells old text status result new
-    → Gives (outside files old kept) (writes status text) result (outside files new kept)
-tells_gives files old new kept status result text (inl t) =
-    whole (record { status_is = t.0; put = refl; written = t.1; kept_is = refl })
-tells_gives files old new kept status result text (inr t) = unwritten refl t.1 refl t.0

@@ -84,12 +84,6 @@ lets_loaded r x cells a e =
 
 -- ---- seals
 
-seals_is : (x : Face) (q : SealFields) → seals_in x ≡ Some q → x ≡ Seals q
-seals_is (Number z) q e = cc
-seals_is (Memory z) q e = cc
-seals_is (Seals z) q e = cc
-seals_is (Sealed z) q e = cc
-
 pub in_seals : (q : SealFields) (z : ℤ) → seals_at q z ≡ true → (q.base ≤ address z) × (address z ≤ q.end)
 in_seals q (pos n) e =
     let k = and_parts (nat_le q.base n) (nat_le n q.end) e in (leb-true q.base n k.0, leb-true n q.end k.1)

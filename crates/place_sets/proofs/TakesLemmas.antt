@@ -15,22 +15,6 @@ use Rattle.place_sets.proofs.FreeLemmas.{fewer_free, no_more_free}
 abbrev pub below_in : ℕ → ℕ → ℕ → ℕ → Bool
 below_in base end from a = nat_le base a && (nat_lt a from && nat_le a end)
 
-pub takes_none : (old : List ℕ) (left : List Stretch) (base end : ℕ)
-    → Takes (below_in base end base) old left old left
-takes_none old left base end = record {
-  taken = λ a. none a;
-  kept = λ a h. h;
-  fresh = λ a e h. absurd (let f : false ≡ true = sym e ∙ h in cc);
-  only = λ a h. inl h;
-  fewer = omega arith;
-}
-  where
-    none : (a : ℕ) → has old a ≡ (below_in base end base a || has old a)
-    none a = elim (cases_lt a base) as (λ _. has old a ≡ (below_in base end base a || has old a)) [
-      | inl lt ↦ rw (lt-leb base a lt) refl
-      | inr ge ↦ rw (le-leb base a ge, le-ltb a base ge) refl
-    ]
-
 module _ (old : List ℕ) (left : List Stretch) (base end from : ℕ) (new : List ℕ) (more : List Stretch)
     (low : base ≤ from) (takes : Takes (below_in base end from) old left new more) where
   -- a list that has the same places

@@ -64,9 +64,6 @@ name_parts text h =
     let d = and_parts (nat_le 1 (length text)) (nat_le (length text) LONGEST_NAME) c.0 in
     record { short = d.1; free = not_not (is_reserved text) a.1 }
 
-named_at : ℕ → List ℕ → Name
-named_at at text = record { text = text; at = at }
-
 name_here : (x : Name) (t : Lexeme) → NameParts x.text → IsWritten t (a_word x.text)
     → a_name [] t ≡ Some (record { text = x.text; at = t.at })
 unfolding a_name

@@ -7,7 +7,6 @@ use Rattle.phrases.specs.Reading.{first}
 use Rattle.phrases.proofs.Readers.{at_end}
 use Rattle.proc_grammar.specs.declared.fault.ParseFault.{ParseFault}
 use Rattle.proc_grammar.specs.declared.fault.ParseFault.TheVariants.{Expected}
-use Rattle.proc_grammar.specs.Fault.{limit_place}
 use Rattle.proc_grammar.specs.Makes.{Makes}
 use Rattle.proc_grammar.specs.Lexemes.{Lexeme}
 use Rattle.proc_grammar.specs.Grammar.{a_module, IsText, IsLoose, room_in_body}
@@ -61,9 +60,6 @@ first_front (x ∷ u) t j k = refl
 by_result : {A : Type 0} (r : Result A ParseFault) → ((x : A) × (r ≡ Ok x)) ⊎ ((e : ParseFault) × (r ≡ Err e))
 by_result (Ok x) = inl (x, refl)
 by_result (Err e) = inr (e, refl)
-
-expected_no_limit : (at n : ℕ) → limit_place (Expected at) ≡ Some n → ⊥
-expected_no_limit at n e = absurd cc
 
 module _ {E A S P V R M : Type 0} (T : Makes E A S P V R M) where
   -- a text within limits is one without

@@ -152,11 +152,6 @@ pub no_word_kind : (w : List ℕ) (u : Lexeme) (k : TokenKind) → u.kind ≡ k
 unfolding word
 no_word_kind w u k e h = ap (λ z. word_in w u.at (name_text z u.text)) e ∙ h
 
-pub no_word_text : (w : List ℕ) (u : Lexeme) (v : List ℕ) → u.text ≡ v
-    → word_in w u.at (name_text u.kind v) ≡ None → word w u ≡ None
-unfolding word
-no_word_text w u v e h = ap (λ z. word_in w u.at (name_text u.kind z)) e ∙ h
-
 pub or_right : (b c : Bool) → c ≡ true → (b || c) ≡ true
 or_right true c e = refl
 or_right false c e = e

@@ -1,2 +1,1 @@
-pub mod TokenNames
 pub mod ListLemmas

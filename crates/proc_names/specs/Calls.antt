@@ -74,7 +74,3 @@ abbrev mutual
 
 abbrev pub module_closed : ModuleFields → List Name
 module_closed m = flat_map (λ p. block_closed (block_of p.body)) m.procs
-
--- the number of a call, where the first in it has this number
-abbrev pub number_of : ℕ → Args → ℕ
-number_of first args = first + args_calls args

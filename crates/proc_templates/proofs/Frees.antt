@@ -1,11 +1,10 @@
 -- Expressions and the parts of a procedure's beginning and end need nothing of their surroundings.
 use Rattle.std.proofs.lemmas.Bool.{and_parts}
-use Rattle.std.proofs.Common.{◌≡◌, ℕ, zero, suc, ◌+◌, Bool, true, false, List, [], ◌∷◌, ◌++◌, length, drop}
+use Rattle.std.proofs.Common.{◌≡◌, ℕ, zero, suc, ◌+◌, Bool, true, false, List, [], ◌∷◌, ◌++◌, drop}
 use Rattle.std.proofs.Common.{refl, ap}
 use Rattle.std.specs.List.{list_all}
 use Rattle.lcm_isa.specs.declared.Reg.{Reg}
 use Rattle.lcm_isa.specs.declared.Reg.TheVariants.{C1, C2}
-use Rattle.lcm_isa.specs.declared.Instr.{Instr}
 use Rattle.proc_language.specs.declared.tree.Op.{Op}
 use Rattle.proc_language.specs.declared.tree.Op.TheVariants as operator
 use Rattle.proc_program.specs.Program.{Exp, Number, Load, Element, Call, Binary, Args, no_args, value, pass}
@@ -17,7 +16,7 @@ use Rattle.proc_program.specs.declared.program.Handle.{Handle}
 use Rattle.proc_program.specs.declared.program.Handle.TheVariants.{Given, Own, Imported}
 use Rattle.proc_templates.specs.declared.Frame.{Frame}
 use Rattle.proc_templates.specs.Templates as templates
-use Rattle.proc_templates.specs.Templates.{load_slot, store_slot, load_var, store_var, at_element, load_pair}
+use Rattle.proc_templates.specs.Templates.{load_slot, store_slot, load_var, store_var, load_pair}
 use Rattle.proc_templates.specs.Templates.{op_code, arguments, argument, load_args, zeros, code, args_code}
 use Rattle.proc_templates.specs.Templates.{check_half, check_param, check_params, push, wipe}
 use Rattle.proc_templates.specs.Ready.{is_low, is_quiet}
@@ -100,10 +99,6 @@ call_free f t x args =
     (all_both (zeros (drop (arg_registers args) arguments)) _
     (zeros_free (drop (arg_registers args) arguments) (rest_low (arg_registers args)))
     (all_both (load_pair f x C1 C2) _ (pair_free f x C1 C2 refl refl) refl))
-
-pub element_free : (o length : ℕ) (i : Instr) → ends_or_goes i ≡ true → AllFree (at_element o length i)
-unfolding is_free is_guarded ends_or_goes is_quiet
-element_free o length i e = rw e refl
 
 mutual
   unfolding is_free is_guarded ends_or_goes is_quiet

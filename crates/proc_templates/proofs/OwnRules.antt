@@ -19,7 +19,7 @@ use Rattle.component_file.specs.declared.component.ComponentFields.{ComponentFie
 use Rattle.component_check.specs.Places.{first_below}
 use Rattle.component_check.specs.Verdict.{NoneBroken}
 use Rattle.component_check.specs.Rules.{c4, c5, c6, c7, c8, c9, c10, c11, c12, rules_of_trusted, slot_of}
-use Rattle.component_check.specs.Rules.{slot_is_bad, is_zero_word, slot_is_free, export_offset, words}
+use Rattle.component_check.specs.Rules.{slot_is_bad, slot_is_free, export_offset, words}
 use Rattle.component_check.specs.Rules.{holds_of, is_foreign, linear_in, linear_at, meet, meets_before}
 use Rattle.component_check.specs.Rules.{is_foreign_seal, is_no_int, is_at, code_at, is_over_seals, has_sites}
 use Rattle.proc_program.specs.declared.program.Part.{Part}
@@ -186,9 +186,6 @@ any_offset es i h = any_true_at es i h (slice_index (map (λ e. e.offset) es) i)
     any_true_at (y ∷ es) zero h x e = let g = eq-eqb y.offset x e in rw g refl
     any_true_at (y ∷ es) (suc i) h x e =
         or_right (y.offset == x) (list_any (λ e. e.offset == x) es) (any_true_at es i (omega (arith, h)) x e)
-
-zero_int : is_zero_word (Some (Int (pos 0))) ≡ true
-zero_int = refl
 
 module _ (m : Part) (ready : AllReady m m.procs) (most : length (laid_of m).code ≤ MOST_WORDS)
     (seals : part_calls m ≤ m.header.return_count) where

@@ -77,9 +77,6 @@ module _ (c : ComponentFields) (spot : Spot) where
 
 -- ---- what is pushed
 
-all_low : (rs : List Reg) → Type 0
-all_low rs = list_all is_low rs ≡ true
-
 low_both : (a b : List Reg) → list_all is_low a ≡ true → list_all is_low b ≡ true
     → list_all is_low (a ++ b) ≡ true
 low_both [] b x y = y
@@ -134,10 +131,6 @@ entry_size xs n l = record { by = λ q. l.by (q + ENTRY_WORDS) ∙ omega arith }
 pub record FrameFits (f : Frame) (params : List Bool) : Type 0 where
   pub few : registers_of params ≤ 4
   pub room : 2 + registers_of params ≤ f.words
-
--- before the body, and up to the epilogue's label
-beginning : Frame → List Bool → List Item
-beginning f params = check_params 0 params ++ push (pushed (registers_of params) f.words)
 
 module _ (f : Frame) (params : List Bool) (fits : FrameFits f params) where
   head-size : Long (push (pushed (registers_of params) f.words)) (2 * f.words)

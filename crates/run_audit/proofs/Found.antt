@@ -313,11 +313,6 @@ answered_fault text e h = subst (Whole text) h (what_is_answered text)
 
 -- ---- the clauses of an answer
 
-pub ok_found : (A : Type 0) (r : Result A AuditFault) (text : List ℕ) → Answers r (audited text)
-    → OnOk r (IsTrace text)
-ok_found A (Ok x) text h = answered_trace text h
-ok_found A (Err e) text h = tt
-
 no_fault : (due : Result (Unit {0}) AuditFault) (e : AuditFault) → due ≡ Ok tt → due ≡ Err e → ⊥
 no_fault due e h k = let bad : (let r : Result (Unit {0}) AuditFault = Ok tt in r) ≡ Err e = sym h ∙ k in cc
 

@@ -1,18 +1,14 @@
 -- Whether two lines tell the same.
-use Rattle.std.proofs.Common.{◌≡◌, ℕ, Bool, true, false, List, refl, sym, ap, ◌∙◌, eq-eqb}
+use Rattle.std.proofs.Common.{◌≡◌, ℕ, true, false, List, refl, sym, ap, ◌∙◌, eq-eqb}
 use Rattle.std.specs.Bool.{Decides}
 use Rattle.std.specs.Str.{bytes_eq}
 use Rattle.std.specs.Prelude.{◌==◌}
 use Rattle.std.proofs.lemmas.Bool.{eqb-true, and_parts}
-use Rattle.std.proofs.lemmas.Bool.Decides.{same_from_decides}
 use Rattle.std.proofs.lemmas.Slice.Eq.{bytes_eq-Decides, slice_eq-Decides}
 use Rattle.run_audit.specs.Told.{ToldSeen, same_words, same_told}
 
 texts_decide : (v w : List (List ℕ)) → Decides (same_words v w) (v ≡ w)
 texts_decide v w = slice_eq-Decides bytes_eq-Decides v w (same_words v w) refl
-
-pub words_same : (v w : List (List ℕ)) (r : Bool) → Decides r (v ≡ w) → r ≡ same_words v w
-words_same v w r d = same_from_decides r (same_words v w) d (texts_decide v w)
 
 -- they do exactly where they are equal
 pub told_decides : (a b : ToldSeen) → Decides (same_told a b) (a ≡ b)

@@ -10,7 +10,6 @@ pub mod Idle
 pub mod Procs
 pub mod CallsOut
 pub mod All
-pub mod SameSlots
 pub mod Variables
 pub mod CallSites
 pub mod PieceSizes

@@ -31,10 +31,6 @@ use Rattle.cap_words.specs.declared.TheConstants.{LAST_PLACE}
 use Rattle.source_laws.proofs.CallSites.{count_both, checks_count, push_count, block_count}
 use Rattle.source_laws.specs.Sites.{next_count, count, SiteAt, SitesAt}
 
-last_is : (xs ys : List ℕ) (o : ℕ) → slice_get ((xs ++ (o ∷ [])) ++ ys) (length xs) ≡ Some o
-last_is [] ys o = refl
-last_is (x ∷ xs) ys o = last_is xs ys o
-
 -- what is written so far only grows
 pub record Grows (l m : Laid) : Type 0 where
   pub at : (j x : ℕ) → slice_get l.sites j ≡ Some x → slice_get m.sites j ≡ Some x

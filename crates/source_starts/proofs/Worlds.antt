@@ -325,11 +325,6 @@ one_home modules parts apart i j p h k = elim (cases_lt i j) as (λ _. i ≡ j) 
   ]
 ]
 
-pub one_source : (modules : List ModuleFields) (parts : List PartSeen) (i : ℕ) (p q : PartSeen)
-    (h : Home modules parts i p) (k : Home modules parts i q) → h.source ≡ k.source
-one_source modules parts i p q h k = let s : Some h.source ≡ Some k.source = sym h.source_is ∙ k.source_is in
-    cc
-
 pub one_place : (modules : List ModuleFields) (parts : List PartSeen) (i : ℕ) (p q : PartSeen)
     → Home modules parts i p → Home modules parts i q → p ≡ q
 one_place modules parts i p q h k = let s : Some p ≡ Some q = sym h.place ∙ k.place in cc

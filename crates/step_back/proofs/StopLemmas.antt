@@ -225,10 +225,6 @@ pub set_pushed : (xs : List ℕ) (x : ℕ) → set.contains (set_of xs) x ≡ fa
     → (set.len (set_of xs) == MOST_STOPS) ≡ false → set_of (xs ++ x ∷ []) ≡ with_stop (set_of xs) x
 set_pushed xs x f r = set.from_list_push nat_cmp_total set.nat_cmp-IsAntisymmetric xs x ∙ rw (f, r) refl
 
-pub full_stays : (S : set.FinSet nat_cmp) (x : ℕ) → set.contains S x ≡ false
-    → (set.len S == MOST_STOPS) ≡ true → S ≡ with_stop S x
-full_stays S x f t = rw (f, t) refl
-
 insert_same : (S : set.FinSet nat_cmp) (x : ℕ) → set.contains S x ≡ true → S ≡ set.insert S x
 insert_same S x h = set.same_set nat_cmp_total set.nat_cmp-IsAntisymmetric S _ (λ q.
     by_tie (eq_by_cmp nat_cmp q x) (set.contains S q) (λ t. ap (set.contains S) (tied_is S x q t) ∙ h)

@@ -103,14 +103,6 @@ get_other (w ∷ ws) zero j x lt = absurd (omega (arith, lt))
 get_other (w ∷ ws) (suc i) zero x lt = refl
 get_other (w ∷ ws) (suc i) (suc j) x lt = get_other ws i j x (omega (arith, lt))
 
-pub get-with_other : (ws : List OWord) (i j : ℕ) (x : OWord) → j ≢ i
-    → slice_get (with_at ws i x) j ≡ slice_get ws j
-get-with_other [] i j x ne = refl
-get-with_other (w ∷ ws) zero zero x ne = absurd (ne refl)
-get-with_other (w ∷ ws) zero (suc j) x ne = refl
-get-with_other (w ∷ ws) (suc i) zero x ne = refl
-get-with_other (w ∷ ws) (suc i) (suc j) x ne = get-with_other ws i j x (λ e. ne (ap suc e))
-
 -- the same slots below one of them
 pub record SameBelow (t : ℕ) (ws ws' : List OWord) : Type 0 where
   pub count : length ws' ≡ length ws

@@ -11,10 +11,3 @@ pub rest_le : (arg : TokenArg) (rest : List TokenArg)
 rest_le (Value e) rest = omega arith
 rest_le (Proc f) rest = omega arith
 rest_le (Token x) rest = omega arith
-
--- one alone
-pub one_le : (arg : TokenArg) (rest : List TokenArg)
-    → size_of_args (args_of (arg ∷ [])) ≤ size_of_args (args_of (arg ∷ rest))
-one_le (Value e) rest = omega arith
-one_le (Proc f) rest = omega arith
-one_le (Token x) rest = omega arith

@@ -1,5 +1,5 @@
 -- A run of some instructions, with the lines that it wrote so far.
-use Rattle.std.proofs.Common.{◌≡◌, ℕ, zero, suc, ◌+◌, ◌<◌, ◌≤◌, inl, inr, Bool, false, List, [], ◌∷◌, ◌++◌}
+use Rattle.std.proofs.Common.{◌≡◌, ℕ, zero, suc, ◌+◌, ◌<◌, ◌≤◌, inl, inr, Bool, List, [], ◌∷◌, ◌++◌}
 use Rattle.std.proofs.Common.{Option, Some, None, refl, sym, ap, ◌∙◌, arith, add-one, subst}
 use Rattle.std.proofs.lemmas.Bool.{cases_lt}
 use Rattle.std.specs.List.{concat}
@@ -88,14 +88,6 @@ pub record Gone (init : StartSeen) (n : ℕ) (start : StartSeen) (inward : Bool)
   pub at : watching start inward ≡ watched (layout init) (begun init.state) n
   pub went : answer start.state ≡ Went
   pub count : start.state.count ≤ init.state.count + n
-
-pub gone_none : (init : StartSeen) → init.state.end ≡ None → Gone init 0 init false
-gone_none init fresh = record {
-  same = refl;
-  at = refl;
-  went = ap answer_by fresh;
-  count = omega arith;
-}
 
 gone_layout : (init : StartSeen) (n : ℕ) (start : StartSeen) (inward : Bool) → Gone init n start inward
     → layout start ≡ layout init

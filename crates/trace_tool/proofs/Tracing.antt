@@ -1,7 +1,6 @@
 -- An overlay's run of some steps, with the lines that it wrote so far.
-use Rattle.std.proofs.Common.{◌≡◌, inl, inr, ℕ, zero, suc, ◌+◌, ◌<◌, ◌≤◌, Bool, true, false, List, [], ◌∷◌}
+use Rattle.std.proofs.Common.{◌≡◌, inl, inr, ℕ, zero, suc, ◌+◌, ◌<◌, ◌≤◌, List, [], ◌∷◌}
 use Rattle.std.proofs.Common.{◌++◌, Option, Some, None, refl, sym, ap, ◌∙◌, arith, subst, lt-ltb, le-ltb}
-use Rattle.std.specs.Prelude.{if◌then◌else◌}
 use Rattle.std.specs.List.{concat}
 use Rattle.std.proofs.lemmas.List.{append_assoc, append-nil}
 use Rattle.trusted_border.specs.declared.layout.Layout.{Layout}
@@ -11,14 +10,9 @@ use Rattle.outside_io.specs.SinkSeen.{SinkSeen, Adds, FailsToWrite}
 use Rattle.outside_io.specs.Writes.{AddsPieces, FailsAtPiece}
 use Rattle.outside_io.proofs.Writing.{pieces_none, pieces_then, pieces_fail, fail_more, text_failed}
 use Rattle.component_linker.specs.Started.{StartSeen}
-use Rattle.overlay_machine.specs.declared.cases.Case.{Case}
-use Rattle.overlay_machine.specs.declared.cases.Case.TheVariants.{Call, Entry, Back, Other}
 use Rattle.overlay_machine.specs.declared.overlay.OEnd.{OEnd}
 use Rattle.overlay_machine.specs.declared.overlay.OStep.TheVariants.{Went, Halted, Failed}
-use Rattle.lcm_machine.specs.Maps.{State}
-use Rattle.overlay_machine.specs.declared.words.OWord.{OWord}
-use Rattle.overlay_machine.specs.Words.{is_ret_code}
-use Rattle.overlay_machine.specs.Step.{Ending, goes, halts, fails, overlay_step, weight_by}
+use Rattle.overlay_machine.specs.Step.{Ending, goes, halts, fails, overlay_step}
 use Rattle.overlay_machine.specs.Seen.{OverlaySeen, moved, next_by, next_overlay, ending_answer, end_answer}
 use Rattle.overlay_machine.specs.Seen.{answer_by, answer_of, IsOverlayOf}
 use Rattle.trace_tool.specs.declared.run.RunEnd.{RunEnd}
@@ -36,20 +30,6 @@ use Rattle.trace_tool.specs.Traces.{step_lines, steps_lines, steps_on, TracesTo,
 use Rattle.trace_tool.proofs.LineLemmas.{lines_pieces-append, joined_with}
 
 -- ---- a step
-
-weight_some_by : (s : State OWord) (c : Case) → 1 ≤ weight_by s c
-weight_some_by s (Call i) = by (is_ret_code s.regs.c1)
-  where
-    by : (b : Bool) → 1 ≤ (if b then 17 else 16)
-    by true = omega arith
-    by false = omega arith
-weight_some_by s (Entry a) = omega arith
-weight_some_by s (Back r1 r2) = by (is_ret_code (Rattle.lcm_machine.specs.Places.reg s.regs r1))
-  where
-    by : (b : Bool) → 1 ≤ (if b then 11 else 1)
-    by true = omega arith
-    by false = omega arith
-weight_some_by s Other = omega arith
 
 -- a step that went adds its weight, and the layout stays
 weight_by_ending : (o : OverlaySeen) (e : Ending) (event : Option Event) → ending_answer o e ≡ Went event

@@ -23,13 +23,6 @@ none_rest f fs a e = by_word (word_of f a) e
     by_word None h = h
     by_word (Some w) h = cc
 
-pub none_first : (f : OpenFrame) (fs : List OpenFrame) (a : ℕ) → framed (f ∷ fs) a ≡ None → word_of f a ≡ None
-none_first f fs a e = by_word (word_of f a) refl e
-  where
-    by_word : (x : Option OWord) → word_of f a ≡ x → option_or x (framed fs a) ≡ None → x ≡ None
-    by_word None m h = refl
-    by_word (Some w) m h = cc
-
 -- a frame's word lies in the frames at its address
 pub framed_at : (l : Layout) (m : Cells) (n : ℕ) (fs : List OpenFrame) (h : OpenFrame) (a : ℕ) (w : OWord)
     → FramesLie l m n fs → Contains fs h → word_of h a ≡ Some w → framed fs a ≡ Some w
