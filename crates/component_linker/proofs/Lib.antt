@@ -28,5 +28,6 @@ pub mod Settling
 pub mod DropFirst
 pub mod Accepted
 pub mod ExampleParts
+pub mod PairStart
 pub mod ExampleLink
 pub mod LaidOut
