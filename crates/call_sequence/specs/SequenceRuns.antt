@@ -121,7 +121,7 @@ CallJumps {W} look plain = (s : State W) (base last at seal stack_base end b : �
     ≡ row look plain (Xjmp C1 C2) (Mem (code_cap base last (at + CALL_WORDS)))
     (at_xjmp plain s base last at seal stack_base end b)
 
--- with stk at its base it fails at `split`
+-- with stk at its base it fails within its first eight words
 abbrev pub CallAtBaseFails : {W : Type 0} → (W → Word) → (Word → W) → Type 0
 CallAtBaseFails {W} look plain = (s : State W) (base last at seal stack_base end : ℕ) (w : W)
     → HasCall look s.cells base last at seal
@@ -131,7 +131,7 @@ CallAtBaseFails {W} look plain = (s : State W) (base last at seal stack_base end
     → Outside stack_base base last → cell s.cells stack_base ≡ Some w
     → HasFailed (run_of look plain 8 s)
 
--- with stk outside its range it fails at `store`
+-- with stk outside its range it fails at its first word, a `store`
 abbrev pub CallOutsideFails : {W : Type 0} → (W → Word) → (Word → W) → Type 0
 CallOutsideFails {W} look plain = (s : State W) (base last at seal : ℕ) (c : CapFields)
     → HasCall look s.cells base last at seal

@@ -14,7 +14,7 @@ use std::fmt;
 pub enum FileFault {
     /// The first four bytes aren't `STKC`.
     Magic,
-    /// The version isn't 1.
+    /// The version is neither 1 nor 2.
     Version,
     /// The bytes of the field that begins here aren't all there.
     Short(u32),
