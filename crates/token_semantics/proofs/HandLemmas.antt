@@ -47,7 +47,11 @@ put_length [] i x = refl
 put_length (h ∷ holds) zero x = refl
 put_length (h ∷ holds) (suc i) x = ap suc (put_length holds i x)
 
--- ---- how often a number is in hands
+-- ---- how often a number is among some, and in hands
+
+pub count_append : (n : ℕ) (xs ys : List ℕ) → count n (xs ++ ys) ≡ count n xs + count n ys
+count_append n [] ys = omega arith
+count_append n (m ∷ xs) ys = let e = count_append n xs ys in omega (arith, e)
 
 pub made_held : (n m : ℕ) (holds : Holds) (i : ℕ) → i < length holds → at holds i ≡ None
     → held n (slice_set holds i (Some m)) ≡ held n holds + one n m

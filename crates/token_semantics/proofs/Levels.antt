@@ -47,7 +47,7 @@ use Rattle.token_names.specs.TokenFaults.{IsTokenResolved}
 use Rattle.token_semantics.proofs.HandLemmas.{handed_length, empty_length, handed_held, handed_full}
 use Rattle.token_semantics.proofs.Same.{Running, Same, same_more, ended_same, ticks_same, emitted}
 use Rattle.token_semantics.proofs.Same.{item_taken, place_same, HandsAre, plus, with_numbers}
-use Rattle.token_semantics.proofs.Same.{leave_same}
+use Rattle.token_semantics.proofs.Same.{calling, leave_same}
 use Rattle.token_semantics.proofs.Places.{all_get, each_get, each_append, each_replicate, lowered_in}
 use Rattle.token_semantics.proofs.Places.{lowered_at, lookup, Takes, ValueTakesNone}
 use Rattle.token_semantics.proofs.Places.{RegistersTakeNone, taken_take, found_takes}
@@ -108,12 +108,12 @@ module _ (modules : List TokenModuleFields) (accepted : All IsAccepted modules) 
   -- ---- how it ends
 
   finish_same : (size need : ℕ) (r : Running) (k : Then) (k' : plain.Then) → RThen r k k'
-      → RBack size r (finish need k) (plain.finish w need k')
+      → RBack size (calling r) (finish need k) (plain.finish w need k')
   finish_same size need r k k' h s clear hands are v st =
       leave_same size s hands are r clear _ _ (ticks_same r (1 + need) (k v st) (k' v st) (h v st))
 
   end_same : (size need : ℕ) (r : Running) (after : After) (k : Then) (k' : plain.Then) → RThen r k k'
-      → IsClear after → RNext modules size r after (λ hands env. finish need k hands (pos 0))
+      → IsClear after → RNext modules size (calling r) after (λ hands env. finish need k hands (pos 0))
       (λ env. plain.finish w need k' (pos 0))
   end_same size need r None k k' h clear = tt
   end_same size need r (Some s) k k' h clear =
@@ -140,12 +140,15 @@ module _ (modules : List TokenModuleFields) (accepted : All IsAccepted modules) 
     body_same m p f placed is r n ns e k k' h env none st =
         let size = length (tokens_of p) in
         let goes = is.goes in
-        same_more (with_numbers r ns) (plus r (begun size ns))
-        (λ n. let c = handed_held n ns size (few_numbers p ns e) in omega (arith, c))
-        (λ n. omega arith) _ _
+        same_more (with_numbers r ns) (plus (calling r) (begun size ns)) (record {
+          there = λ n. let c = handed_held n ns size (few_numbers p ns e) in omega (arith, c);
+          spent = λ n. omega arith;
+          most = λ n. omega arith;
+        }) _ _
         (block_same modules accepted l l' lev m p f placed (block_of p.body)
         (Some (at_first p)) goes.0 goes.1
-        is.fits.body r n (finish f.need k) (plain.finish w f.need k') (finish_same size f.need r k k' h)
+        is.fits.body (calling r) n (finish f.need k) (plain.finish w f.need k')
+        (finish_same size f.need r k k' h)
         (λ hands env. finish f.need k hands (pos 0)) (λ env. plain.finish w f.need k' (pos 0))
         (end_same size f.need r goes.0 k k' h goes.2) (begun size ns) (begun_are p ns e is.few) env none st)
 

@@ -181,12 +181,10 @@ module _ (modules : List TokenModuleFields) (accepted : All IsAccepted modules) 
             (plain_args env n xs k' st)
             (λ i hands are.
             let r' = with_numbers r (i ∷ []) in
-            same_more (with_numbers (plus r hands) (i ∷ [])) (plus r' hands)
-            (λ n. omega arith) (λ n. omega arith) _ _
             (args_same xs typed.0 t typed.2 fits r' n env none (λ hands ns vs. k hands (i ∷ ns) vs) k'
             (λ hands are ns e vs low st.
             same_more (with_numbers (plus r' hands) ns) (with_numbers (plus r hands) (i ∷ ns))
-            (λ n. omega arith) (λ n. omega arith) _ _
+            (record { there = λ n. omega arith; spent = λ n. refl; most = λ n. omega arith }) _ _
             (h hands are (i ∷ ns) (omega (arith, e)) vs low st)) hands are st))
 
       -- ---- statements

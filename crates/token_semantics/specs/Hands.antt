@@ -1,6 +1,6 @@
 -- The numbers of tokens: what a running procedure has of them, and what became of all of them.
 use Rattle.std.specs.Prelude.{ℕ, ◌+◌, ◌==◌, List, [], ◌∷◌, Option, Some, None, if◌then◌else◌}
-use Rattle.std.specs.Prelude.{replicate, slice_index_or, slice_set}
+use Rattle.std.specs.Prelude.{replicate, slice_index_or, slice_set, flat_map}
 
 pub record Hands : Type 0 where
   -- for each token of a running procedure its number, or nothing
@@ -73,6 +73,10 @@ note_spent n book = record { next = book.next; spent = n ∷ book.spent; ended =
 
 abbrev pub note_ended : Hands → Ledger → Ledger
 note_ended hands book = record { next = book.next; spent = book.spent; ended = hands ∷ book.ended }
+
+-- what these procedures spent, all together
+abbrev pub spent_by : List Hands → List ℕ
+spent_by ended = flat_map (λ hands. hands.spent) ended
 
 -- ---- how often a number is among some
 

@@ -1,5 +1,5 @@
 -- What becomes of the tokens of modules that were accepted.
-use Rattle.std.specs.Prelude.{◌≡◌, ℕ, ◌≤◌, ◌⊎◌, false, List, [], map, All, Contains}
+use Rattle.std.specs.Prelude.{◌≡◌, ℕ, ◌+◌, ◌≤◌, ◌⊎◌, false, List, [], map, All, Contains}
 use Rattle.source_events.specs.declared.Item.{Item}
 use Rattle.source_events.specs.declared.Told.{Told}
 use Rattle.proc_language.specs.declared.module.ModuleFields.{ModuleFields}
@@ -13,7 +13,7 @@ use Rattle.token_language.specs.Limits.{IsTokenModule}
 use Rattle.token_language.specs.Erased.{erased}
 use Rattle.token_names.specs.TokenFaults.{IsTokenResolved}
 use Rattle.token_check.specs.Typing.{IsTyped}
-use Rattle.token_semantics.specs.Hands.{Hands, count}
+use Rattle.token_semantics.specs.Hands.{Hands, Ledger, spent_by, count}
 use Rattle.token_semantics.specs.Told.{TokensTold}
 use Rattle.token_semantics.specs.Meaning.{token_meaning}
 use Rattle.token_semantics.specs.Plain.{tokened}
@@ -27,13 +27,18 @@ pub record IsAccepted (m : TokenModuleFields) : Type 0 where
   pub resolved : IsTokenResolved m
   pub checked : IsTyped m ⊎ HasNoTokens m
 
--- it was spent by this procedure, once, and nowhere else
-abbrev pub WasSpent : List ℕ → Hands → ℕ → Type 0
-WasSpent spent hands n = (count n hands.spent ≡ 1) × (count n spent ≡ 1)
+-- it was spent once, and by a procedure that ended
+abbrev pub IsSpent : Ledger → ℕ → Type 0
+IsSpent book n = (count n book.spent ≡ 1) × (count n (spent_by book.ended) ≡ 1)
 
--- each number that was made in a procedure, or handed to it, was spent by it or handed on
-abbrev pub IsSettled : List ℕ → Hands → Type 0
-IsSettled spent hands = (n : ℕ) → Contains hands.got n → WasSpent spent hands n ⊎ Contains hands.gave n
+-- of a procedure that ended, and the numbers that were made in it or handed to it
+pub record IsSettled (book : Ledger) (hands : Hands) : Type 0 where
+  -- it got none twice
+  pub once : (n : ℕ) → count n hands.got ≤ 1
+  -- what it got, and nothing else, it spent once or handed on once, and never both
+  pub used : (n : ℕ) → count n hands.got ≡ count n hands.spent + count n hands.gave
+  -- what it got is spent, by itself or by another
+  pub spent : (n : ℕ) → Contains hands.got n → IsSpent book n
 
 pub record AreSpent (t : TokensTold) (plain : Told) : Type 0 where
   -- it is never stuck
@@ -43,7 +48,7 @@ pub record AreSpent (t : TokensTold) (plain : Told) : Type 0 where
   -- no number is spent twice
   pub once : (n : ℕ) → count n t.ledger.spent ≤ 1
   -- of each procedure that ended by `return` or behind its last statement
-  pub settled : All (IsSettled t.ledger.spent) t.ledger.ended
+  pub settled : All (IsSettled t.ledger) t.ledger.ended
 
 abbrev pub TokensAreSpent : Type 0
 TokensAreSpent =

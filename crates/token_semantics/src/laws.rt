@@ -3,8 +3,9 @@ ghost use Rattle.token_semantics.specs.Law.{PlainAreAccepted, TokensAreSpent};
 
 /// Resolved modules whose tokens were checked, or that have none, are never stuck: with every stack, feed
 /// and fuel they tell the events, the end and the ticks that they tell without their tokens. No number is
-/// spent twice. Of each procedure that ended by `return` or behind its last statement, each number that was
-/// made in it, or handed to it, was handed on or spent by it, once and nowhere else.
+/// spent twice. A procedure that ended by `return` or behind its last statement got no number twice, by
+/// making it or by its caller. Each that it got it spent once or handed on once, and never both, and it is
+/// spent: once, by this procedure or another that ended.
 #[tactic(auto, using(crate::proofs::Spent::tokens_are_spent))]
 pub fn tokens_are_spent()
     ensures { TokensAreSpent }

@@ -48,7 +48,7 @@ pub record AreLeft (sources : List Source) (modules : List ModuleFields) : Type 
   pub left : map erased tokens ≡ modules
   pub accepted : All IsAccepted tokens
 
--- what modules mean is what these with tokens mean, which spend each number once
+-- what modules mean is what these with tokens mean, and of that the law of tokens holds
 abbrev pub MeanTheSame : List TokenModuleFields → List ModuleFields → Type 0
 MeanTheSame tokens modules =
     (stack : ℕ) (feed : List Item) (fuel : ℕ)

@@ -10,9 +10,9 @@ ghost use Rattle.token_sources.specs.Law.{Source, IsLeft, module_of, AreLeft, Me
 /// source is what is left of it.
 ///
 /// So, whatever sources are given to the program, what their modules mean with any stack, feed and fuel is
-/// what the spelled modules with tokens mean. These are never stuck, no right of theirs is spent twice, and
-/// each right that a procedure got it handed on or spent itself, once, by the time that it ended by `return`
-/// or behind its last statement.
+/// what the spelled modules with tokens mean. These are never stuck, and no right of theirs is spent twice.
+/// Each right that a procedure got, which ended by `return` or behind its last statement, it spent once or
+/// handed on once, and it is spent: once, by this procedure or another that ended.
 pub fn sources_spend_their_tokens()
     ensures accepted { (d : Dialect) (text : List ℕ) (m : ModuleFields) → module_in d text ≡ Ok m
         → IsLeft d text m }
