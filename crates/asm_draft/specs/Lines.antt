@@ -26,8 +26,8 @@ use Rattle.asm_draft.specs.Operands.{operands_in}
 
 -- ---- labels
 
--- a label and its colon, in code or data, of a name that no label has yet; a word must follow it. Of two
--- faults at one place the one of the lower number is told
+-- a label and its colon, in code or data, of a name that no label has yet; a word must follow it. Outside
+-- code and data its name isn't looked at; else of two faults at one place the one of the lower number is told
 unfoldable pub label_in : Draft → Reader Input AsmFault Draft
 label_in d = do
   at ← place

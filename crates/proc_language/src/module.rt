@@ -88,7 +88,7 @@ pub struct ModuleFields {
 
 /// A module: the tree of a source. A contract sees its fields.
 ///
-/// It keeps the limits of docs/FORMATS.md on names, numbers and counts, has a procedure, and none
+/// It keeps the limits of docs/LANGUAGE.md on names, numbers and counts, has a procedure, and none
 /// of its names is a reserved word. How many terms a sum has and how many brackets are open is a
 /// matter of texts.
 #[derive(Debug, Drop)]

@@ -37,7 +37,7 @@ module _ {E A S P V R M : Type 0} (T : Makes E A S P V R M) where
   Stops text at =
       (tokens : List Token) × HasTokens text tokens × IsExpected T (lexemes text tokens) (length text) at
 
-  -- the text's tokens up to that of the fault begin a module, and there it passes a limit
+  -- the fault is that of a limit, and up to its token the text's tokens begin a module, limits passed over
   abbrev pub Passes : List ℕ → ParseFault → Type 0
   Passes text fault =
       (tokens : List Token) × HasTokens text tokens × IsBeyond T (lexemes text tokens) fault
@@ -50,7 +50,7 @@ module _ {E A S P V R M : Type 0} (T : Makes E A S P V R M) where
   IsFault text (TooMany at) = Passes text (TooMany at)
   IsFault text NoMemory = Unit {0}
 
-  -- a limit is passed before this place
+  -- the fault is that of a limit, at a token before this place
   abbrev pub PassesBefore : List ℕ → ℕ → ParseFault → Type 0
   PassesBefore text at (Range p) = (p < at) × Passes text (Range p)
   PassesBefore text at (TooMany p) = (p < at) × Passes text (TooMany p)

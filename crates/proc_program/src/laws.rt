@@ -7,7 +7,8 @@ ghost use Rattle.proc_program.specs.Calls.{part_calls};
 ghost use Rattle.proc_program.specs.Limits.{IsPart};
 ghost use Rattle.proc_program.specs.Lower.{part_of};
 
-/// The program of a module keeps the limits of programs: its places, rows and handles are there.
+/// The program of a module keeps the limits of programs: its rows, own procedures and imports are there,
+/// and its places and handles are within the bounds that all frames and words have.
 #[tactic(auto, using(crate::proofs::Kept::part_fits))]
 pub fn programs_keep_limits()
     ensures { (m : ModuleFields) → IsModule m → IsPart (part_of m) }

@@ -3,7 +3,7 @@
 /// What an `xjmp rcode rdata` would do.
 #[derive(Clone, Copy, PartialEq, Eq, Debug)]
 pub enum Back {
-    /// It would go, under a seal of no trusted part.
+    /// It would go, under any other seal.
     Out,
     /// It would fail.
     Bad,
