@@ -21,6 +21,7 @@ use Rattle.component_linker.specs.declared.owners.Owner.{Owner}
 use Rattle.place_sets.specs.declared.set.Stretch.{Stretch}
 use Rattle.place_sets.specs.Has.{has}
 use Rattle.place_sets.specs.Takes.{is_left}
+use Rattle.place_sets.proofs.TakesLemmas.{kept, fresh, only}
 use Rattle.authority_report.specs.declared.found.Found.{Found}
 use Rattle.authority_report.specs.Reaches.{is_seal_of, code_of, data_of, bare, Reaches, its_code, its_data}
 use Rattle.authority_report.specs.Reaches.{the_stack, in_cell, opened, Allows, SealsWith}
@@ -156,11 +157,12 @@ module _ (m : State Word) (o : Owner) (f g : Found) (w : Word) (r : Reaches m o 
         Allows m o may_run a) [ inl n ↦ bared_allows m o may_run w a r n | inr n ↦ h.run a n ];
     seals = λ n e. elim (or_cases (gives_seal (bared o w) n) (has f.seals n) (sym (adds.seals n)
         ∙ e)) as (λ _. SealsWith m o n) [ inl k ↦ bared_seals m o w n r k | inr k ↦ h.seals n k ];
-    left = λ a e. elim (adds.read.only a e) as (λ _. has g.read a ≡ true) [
-      | inl k ↦
-          more_read o f g (bared o w) adds a (h.left a k)
-      | inr k ↦ k
-    ];
+    left = λ a e. elim (only _ f.read f.left.items g.read g.left.items adds.read a e) as (λ _. has g.read a
+        ≡ true) [
+          | inl k ↦
+              more_read o f g (bared o w) adds a (h.left a k)
+          | inr k ↦ k
+        ];
   }
 
   pub stays_closed : (some : ℕ → Bool) → IsClosedBut some m o f → IsClosedBut some m o g
@@ -175,13 +177,13 @@ module _ (m : State Word) (o : Owner) (f g : Found) (w : Word) (r : Reaches m o 
     cells = λ a v reads out rest there. elim (cases_Bool (has f.read a)) as (λ _. IsWithin (authority_of o g)
         v) [
           | inl before ↦ grows o f g (bared o w) adds v (h.cells a v before (was_out a out) rest there)
-          | inr new ↦ no (adds.read.fresh a new reads) out
+          | inr new ↦ no (fresh _ f.read f.left.items g.read g.left.items adds.read a new reads) out
         ];
   }
     where
       was_out : (a : ℕ) → is_left g.left.items a ≡ false → is_left f.left.items a ≡ false
       was_out a out = elim (cases_Bool (is_left f.left.items a)) as (λ _. is_left f.left.items a ≡ false) [
-        | inl e ↦ no (adds.read.kept a e) out
+        | inl e ↦ no (kept _ f.read f.left.items g.read g.left.items adds.read a e) out
         | inr e ↦ e
       ]
 
@@ -193,8 +195,8 @@ AllLeft f = (a : ℕ) → has f.read a ≡ true → is_left f.left.items a ≡ t
 
 all_left : (f g : Found) (w : Word) → Adds f w g → AllLeft f → AllLeft g
 all_left f g w adds h a e = elim (cases_Bool (has f.read a)) as (λ _. is_left g.left.items a ≡ true) [
-  | inl before ↦ adds.read.kept a (h a before)
-  | inr new ↦ adds.read.fresh a new e
+  | inl before ↦ kept _ f.read f.left.items g.read g.left.items adds.read a (h a before)
+  | inr new ↦ fresh _ f.read f.left.items g.read g.left.items adds.read a new e
 ]
 
 sound_none : (m : State Word) (o : Owner) (f : Found) → ((a : ℕ) → has f.read a ≡ false)

@@ -1,33 +1,47 @@
 -- One stretch more is taken.
 use Rattle.std.proofs.Common.{◌≡◌, ◌⊎◌, ℕ, ◌+◌, ◌<◌, ◌≤◌, Bool, true, false, ◌&&◌, ◌||◌, List, [], ◌∷◌}
 use Rattle.std.proofs.Common.{◌++◌, refl, sym, ap, ◌∙◌, arith, inl, inr, length-append}
-use Rattle.std.specs.Prelude.{nat_le, nat_lt}
-use Rattle.std.proofs.lemmas.Bool.{cases_lt, lt-ltb, le-leb, le-ltb, lt-leb, or_cases}
-use Rattle.std.proofs.Math.Bool.{or-true, or-false}
+use Rattle.std.specs.Prelude.{nat_le, nat_lt, not}
+use Rattle.std.proofs.lemmas.Bool.{cases_lt, lt-ltb, le-leb, le-ltb, lt-leb, leb-true, and_parts, or_cases}
+use Rattle.std.proofs.lemmas.Bool.Decides.{nat_tests}
+use Rattle.std.proofs.Math.Bool.{or-true}
 use Rattle.std.proofs.lemmas.List.Folds.{list_any-append}
 use Rattle.cap_words.specs.declared.TheConstants.{LAST_PLACE}
 use Rattle.place_sets.specs.declared.set.Stretch.{Stretch}
 use Rattle.place_sets.specs.Has.{has}
-use Rattle.place_sets.specs.Takes.{is_left, Takes}
+use Rattle.place_sets.specs.Takes.{is_left, Takes, TakesFront}
 use Rattle.place_sets.proofs.FreeLemmas.{fewer_free, no_more_free}
 
 -- the places of a stretch below another place
 abbrev pub below_in : ℕ → ℕ → ℕ → ℕ → Bool
 below_in base end from a = nat_le base a && (nat_lt a from && nat_le a end)
 
-module _ (old : List ℕ) (left : List Stretch) (base end from : ℕ) (new : List ℕ) (more : List Stretch)
-    (low : base ≤ from) (takes : Takes (below_in base end from) old left new more) where
+-- what is listed, with a test more that holds only of places that weren't there
+listed_more : (l i h o : Bool) → (i ≡ true → o ≡ false)
+    → ((l || (h && not o)) || (i || false)) ≡ (l || ((i || h) && not o))
+listed_more true i h o f = refl
+listed_more false true h true f = absurd (let e : true ≡ false = f refl in cc)
+listed_more false true true false f = refl
+listed_more false true false false f = refl
+listed_more false false true true f = refl
+listed_more false false true false f = refl
+listed_more false false false o f = refl
+
+module _ (some : ℕ → Bool) (old : List ℕ) (left : List Stretch) (new : List ℕ) (more : List Stretch)
+    (takes : Takes some old left new more) where
+  -- the same places, told otherwise
+  pub takes_also : (other : ℕ → Bool) → ((a : ℕ) → some a ≡ other a) → Takes other old left new more
+  takes_also other same = record {
+    taken = λ a. takes.taken a ∙ ap (λ b. b || has old a) (same a);
+    listed = takes.listed;
+    fewer = takes.fewer;
+  }
+
   -- a list that has the same places
-  takes_as : (next : List ℕ) → ((a : ℕ) → has next a ≡ has new a)
-      → Takes (below_in base end from) old left next more
+  pub takes_as : (next : List ℕ) → ((a : ℕ) → has next a ≡ has new a) → Takes some old left next more
   takes_as next same = record {
     taken = λ a. same a ∙ takes.taken a;
-    kept = takes.kept;
-    fresh = λ a e h. takes.fresh a e (sym (same a) ∙ h);
-    only = λ a h. elim (takes.only a h) as (λ _. (is_left left a ≡ true) ⊎ (has next a ≡ true)) [
-      | inl k ↦ inl k
-      | inr k ↦ inr (same a ∙ k)
-    ];
+    listed = λ a. takes.listed a ∙ ap (λ b. is_left left a || (b && not (has old a))) (sym (same a));
     fewer = (
         let k = no_more_free new next (λ a h. same a ∙ h) (LAST_PLACE + 1) in
         let f = takes.fewer in
@@ -35,14 +49,40 @@ module _ (old : List ℕ) (left : List Stretch) (base end from : ℕ) (new : Lis
         );
   }
 
+  pub kept : (a : ℕ) → is_left left a ≡ true → is_left more a ≡ true
+  kept a h = takes.listed a ∙ rw h refl
+
+  pub fresh : (a : ℕ) → has old a ≡ false → has new a ≡ true → is_left more a ≡ true
+  fresh a e h = takes.listed a ∙ rw (h, e) (or-true (is_left left a))
+
+  pub only : (a : ℕ) → is_left more a ≡ true → (is_left left a ≡ true) ⊎ (has new a ≡ true)
+  only a h = elim (or_cases (is_left left a) (has new a && not (has old a)) (sym (takes.listed a)
+      ∙ h)) as (λ _. (is_left left a ≡ true) ⊎ (has new a ≡ true)) [
+        | inl there ↦ inl there
+        | inr new_one ↦ inr ((and_parts (has new a) (not (has old a)) new_one).0)
+      ]
+
+module _ (old : List ℕ) (left : List Stretch) (base end from : ℕ) (new : List ℕ) (more : List Stretch)
+    (low : base ≤ from) (takes : Takes (below_in base end from) old left new more) where
+  -- up to a place of the stretch
+  pub takes_front : from ≤ end → TakesFront base end old left new more
+  takes_front le = (
+    from,
+    low,
+    le,
+    takes_also (below_in base end from) old left new more takes
+        (λ a. nat_le base a && nat_lt a from) (λ a. before_end a),
+  )
+    where
+      before_end : (a : ℕ) → below_in base end from a ≡ (nat_le base a && nat_lt a from)
+      before_end a = grind (arith, nat_tests)
+
   -- where the rest is there already
   takes_rest : ((a : ℕ) → from ≤ a → a ≤ end → has new a ≡ true)
       → Takes (λ a. nat_le base a && nat_le a end) old left new more
   takes_rest rest = record {
     taken = all;
-    kept = takes.kept;
-    fresh = takes.fresh;
-    only = takes.only;
+    listed = takes.listed;
     fewer = takes.fewer;
   }
     where
@@ -121,34 +161,28 @@ module _ (old : List ℕ) (left : List Stretch) (base end from : ℕ) (new : Lis
         ≡ (is_left more a || ((nat_le s.base a && nat_le a s.end) || false))
     left_more a = list_any-append (λ s. nat_le s.base a && nat_le a s.end) more (s ∷ [])
 
-    kept' : (a : ℕ) → is_left more a ≡ true → is_left (more ++ s ∷ []) a ≡ true
-    kept' a h = left_more a ∙ rw h refl
+    wasn't_there : (a : ℕ) → (nat_le s.base a && nat_le a s.end) ≡ true → has old a ≡ false
+    wasn't_there a inside =
+        let k = and_parts (nat_le s.base a) (nat_le a s.end) inside in
+        let out = free a (leb-true s.base a k.0) (leb-true a s.end k.1) in
+        none_taken (below_in base end from a) (has old a) (sym (takes.taken a) ∙ out)
+      where
+        none_taken : (b c : Bool) → (b || c) ≡ false → c ≡ false
+        none_taken true c e = absurd cc
+        none_taken false c e = e
 
-    fresh' : (a : ℕ) → has old a ≡ false → has next a ≡ true → is_left (more ++ s ∷ []) a ≡ true
-    fresh' a e h = elim (or_cases (nat_le s.base a && nat_le a s.end) (has new a) (sym (now a) ∙ h)) as (λ _.
-        is_left (more ++ s ∷ []) a ≡ true) [
-          | inl mine ↦ left_more a ∙ rw mine (or-true (is_left more a))
-          | inr there ↦ kept' a (takes.fresh a e there)
-        ]
-
-    only' : (a : ℕ) → is_left (more ++ s ∷ []) a ≡ true → (is_left left a ≡ true) ⊎ (has next a ≡ true)
-    only' a h = elim (or_cases (is_left more a) _ (sym (left_more a) ∙ h)) as (λ _. (is_left left a ≡ true)
-        ⊎ (has next a ≡ true)) [
-          | inl there ↦
-              elim (takes.only a there) as (λ _. (is_left left a ≡ true) ⊎ (has next a ≡ true)) [
-                | inl k ↦
-                    inl k
-                | inr k ↦ inr (grown a k)
-              ]
-          | inr mine ↦ inr (now a ∙ rw (sym (or-false (nat_le s.base a && nat_le a s.end)) ∙ mine) refl)
-        ]
+    listed' : (a : ℕ)
+        → is_left (more ++ s ∷ []) a ≡ (is_left left a || (has next a && not (has old a)))
+    listed' a =
+        let i : Bool = nat_le s.base a && nat_le a s.end in
+        left_more a ∙ ap (λ b. b || (i || false)) (takes.listed a)
+        ∙ listed_more (is_left left a) i (has new a) (has old a) (wasn't_there a)
+        ∙ ap (λ b. is_left left a || (b && not (has old a))) (sym (now a))
 
     pub takes_more : Takes (below_in base end (s.end + 1)) old left next (more ++ s ∷ [])
     takes_more = record {
       taken = taken';
-      kept = λ a h. kept' a (takes.kept a h);
-      fresh = fresh';
-      only = only';
+      listed = listed';
       fewer = (
           let k = fewer_free new next grown (LAST_PLACE + 1) s.base (let b = bounds in let x = b.1 in
           let y = b.2 in omega (arith, x, y, small)) (free s.base (omega arith) bounds.1) first in
@@ -166,5 +200,5 @@ pub takes_all : (old : List ℕ) (left : List Stretch) (base end from : ℕ) (ne
     → Takes (λ a. nat_le base a && nat_le a end) old left next more
 takes_all old left base end from new next more low takes same rest =
     takes_rest old left base end from next more low
-    (takes_as old left base end from new more low takes next same)
+    (takes_as (below_in base end from) old left new more takes next same)
     (λ a l h. same a ∙ rest a l h)

@@ -1,8 +1,8 @@
 //! Sets of places.
 ghost use Rattle.std.specs.Prelude.{◌≡◌, ◌≢◌, ◌≤◌, ◌<◌, ◌+◌, ◌||◌, ◌&&◌, ℕ, true, false, nat_le, length};
-ghost use Rattle.std.specs.Prelude.{slice_index, if◌then◌else◌, IfOk, OnOk, IfSome, IfNone};
+ghost use Rattle.std.specs.Prelude.{slice_index, if◌then◌else◌, IfOk, OnOk, OnErr, IfSome, IfNone};
 ghost use Rattle.place_sets.specs.Has.{has};
-ghost use Rattle.place_sets.specs.Takes.{is_left, Takes};
+ghost use Rattle.place_sets.specs.Takes.{is_left, Takes, TakesFront};
 ghost use Rattle.place_sets.specs.Stretches.{AreApart};
 
 use cap_words::{Items, LAST_PLACE};
@@ -117,30 +117,38 @@ impl PlaceSet {
         requires free { has self.now from ≡ false }
         ensures within { (from ≤ result) × (result ≤ end) }
         ensures free { (a : ℕ) → from ≤ a → a ≤ result → has self.now a ≡ false }
+        ensures maximal { result < end → has self.now (result + 1) ≡ true }
     {
         for at in from..end {
-            if self.next[at as usize + 1] != at + 1 {
+            if self.has(at + 1) {
                 return at;
             }
         }
         end
     }
 
-    /// Takes the first free places of a stretch that stand together into the set, and gives them.
-    pub fn take_free(&mut self, from: u32, end: u32) -> Option<Stretch>
+    // The first free places of a stretch that stand together, as many as there are.
+    fn first_run(&mut self, from: u32, end: u32) -> Option<Stretch>
         requires { end ≤ LAST_PLACE }
+        ensures same { (a : ℕ) → has self.new a ≡ has self.old a }
         ensures none { IfNone result ((a : ℕ) → from ≤ a → a ≤ end → has self.old a ≡ true) }
-        ensures same { IfNone result ((a : ℕ) → has self.new a ≡ has self.old a) }
         ensures within { IfSome result (λ s. (from ≤ s.base) × (s.base ≤ s.end) × (s.end ≤ end)) }
         ensures before { IfSome result (λ s. (a : ℕ) → from ≤ a → a < s.base → has self.old a ≡ true) }
         ensures free { IfSome result (λ s. (a : ℕ) → s.base ≤ a → a ≤ s.end → has self.old a ≡ false) }
-        ensures taken { IfSome result (λ s. (a : ℕ) → has self.new a
-            ≡ ((nat_le s.base a && nat_le a s.end) || has self.old a)) }
+        ensures maximal { IfSome result (λ s. s.end < end → has self.old (s.end + 1) ≡ true) }
     {
         let base = self.first_free(from, end)?;
         let last = self.free_end(base, end);
-        fill(self.next.as_mut_slice(), base, last);
         Some(Stretch { base, end: last })
+    }
+
+    // Takes the places of a run into the set.
+    fn take_run(&mut self, run: Stretch)
+        requires some { run.base ≤ run.end }
+        requires inside { run.end ≤ LAST_PLACE }
+        ensures { (a : ℕ) → has self.new a ≡ ((nat_le run.base a && nat_le a run.end) || has self.old a) }
+    {
+        fill(self.next.as_mut_slice(), run.base, run.end);
     }
 
     /// Takes all places of a stretch into the set.
@@ -150,14 +158,16 @@ impl PlaceSet {
     {
         let mut from = base;
         while from <= end {
-            let Some(taken) = self.take_free(from, end) else {
+            let Some(run) = self.first_run(from, end) else {
                 return;
             };
-            from = taken.end + 1;
+            self.take_run(run);
+            from = run.end + 1;
         }
     }
 
-    /// Takes all places of a stretch into the set, and leaves those that are new in a list.
+    /// Takes all places of a stretch into the set, and leaves those that are new in a list. Where memory is
+    /// refused, it has done so with the places before some place of the stretch.
     pub fn take_all(
         &mut self,
         base: u32,
@@ -165,16 +175,19 @@ impl PlaceSet {
         left: &mut Vec<Stretch>,
     ) -> Result<(), AllocError>
         requires { end ≤ LAST_PLACE }
-        ensures { OnOk result (Takes (λ a. nat_le base a && nat_le a end) self.old left.old.items
+        ensures all { OnOk result (Takes (λ a. nat_le base a && nat_le a end) self.old left.old.items
+            self.new left.new.items) }
+        ensures front { OnErr result (TakesFront base end self.old left.old.items
             self.new left.new.items) }
     {
         let mut from = base;
         while from <= end {
-            let Some(taken) = self.take_free(from, end) else {
+            let Some(run) = self.first_run(from, end) else {
                 return Ok(());
             };
-            left.push(taken)?;
-            from = taken.end + 1;
+            left.push(run)?;
+            self.take_run(run);
+            from = run.end + 1;
         }
         Ok(())
     }

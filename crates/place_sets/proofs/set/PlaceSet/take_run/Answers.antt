@@ -1,7 +1,7 @@
 use Rattle.std.proofs.Common.{length, sym, ap, ◌∙◌, subst, arith}
 use Rattle.place_sets.specs.Has.{IsSet}
 use Rattle.place_sets.proofs.Filled.{is_set, written}
-use Rattle.place_sets.proofs.set.PlaceSet.take_free.Goals as goal
+use Rattle.place_sets.proofs.set.PlaceSet.take_run.Goals as goal
 
 pub invariant_of-self : goal.invariant_of-self
 invariant_of-self c =
@@ -10,12 +10,10 @@ invariant_of-self c =
     let old : IsSet c.as_mut_slice.result.now = subst IsSet (sym seen) c.self.invariant in
     let kept = c.fill.auto.next in
     let size = old.size in
-    let within = c.free_end-last.ensures.within in
-    let low = within.0 in
-    let high = within.1 in
-    let end = c.requires in
-    let new = is_set c.as_mut_slice.result.now c.fill.new.next c.in_ok-base.base c.free_end-last.result old
-    kept low (omega (arith, size, high, end)) c.fill.ensures in
+    let some = c.requires.some in
+    let inside = c.requires.inside in
+    let new = is_set c.as_mut_slice.result.now c.fill.new.next c.args.run.base c.args.run.end old
+    kept some (omega (arith, size, inside)) c.fill.ensures in
     subst IsSet
     (sym (written c.self.inside.next.items c.fill.new.next c.self.inside.next.len (kept ∙ ap length seen)
     (sym (ap length seen) ∙ len))) new
