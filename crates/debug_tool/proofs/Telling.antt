@@ -1,53 +1,91 @@
 -- Replies written one after another.
-use Rattle.std.proofs.Common.{◌≡◌, ℕ, ◌+◌, ◌^◌, ◌<◌, ◌≤◌, suc, length, drop, get_or, drop-cons, List, ◌∷◌}
-use Rattle.std.proofs.Common.{ap, ◌∙◌, subst, arith}
-use Rattle.std.proofs.lemmas.List.{drop_all}
-use Rattle.outside_io.specs.SinkSeen.{SinkSeen, Adds, FailsToWrite}
-use Rattle.outside_io.proofs.Writing.{adds_none, adds_then, adds_fails, fails_more}
+use Rattle.std.proofs.Common.{◌≡◌, ℕ, ◌+◌, ◌^◌, ◌<◌, ◌≤◌, suc, length, take, drop, get_or, drop-cons, List, []}
+use Rattle.std.proofs.Common.{◌∷◌, ◌++◌, Ok, refl, sym, ap, ◌∙◌, subst, arith}
+use Rattle.std.proofs.lemmas.List.{take_more, take-append-drop, length-take-le}
+use Rattle.outside_io.specs.SinkSeen.{SinkSeen, Adds, FailsToWrite, IsOneWrite}
+use Rattle.outside_io.specs.Writes.{AddsPieces}
+use Rattle.outside_io.proofs.Writing.{pieces_then, one_write}
 use Rattle.step_back.specs.Seen.{Debugging}
 use Rattle.debug_script.specs.declared.command.Command.{Command}
 use Rattle.debug_tool.specs.Replies.{steps_of, reply, after_command, steps_in, replies, after_commands}
+use Rattle.debug_tool.specs.Faults.{StopsAtReply}
 
--- Of commands to a debugger some are left. What these add, and where they fail to, is what all add and where
--- all fail to; they lead to where all lead; and there is room for their steps.
-pub record AreLeft (old : SinkSeen) (begun : Debugging) (all : List Command) (now : SinkSeen) (d : Debugging)
-    (left : List Command) : Type 0 where
-  pub adds : (new : SinkSeen) → Adds now (replies left d) new → Adds old (replies all begun) new
-  pub fails : (new : SinkSeen) → FailsToWrite now (replies left d) new
-      → FailsToWrite old (replies all begun) new
-  pub after : after_commands left d ≡ after_commands all begun
-  pub room : d.now.count + steps_in left ≤ 2 ^ 63
+replies-append : (cs more : List Command) (d : Debugging)
+    → replies (cs ++ more) d ≡ replies cs d ++ replies more (after_commands cs d)
+replies-append [] more d = refl
+replies-append (c ∷ cs) more d = ap (λ rs. reply c d ∷ rs) (replies-append cs more (after_command c d))
 
-module _ (old : SinkSeen) (begun : Debugging) (all : List Command) (now : SinkSeen) (d : Debugging)
-    (c : Command) (left : List Command) (t : AreLeft old begun all now d (c ∷ left)) where
-  pub first_fails : (new : SinkSeen) → FailsToWrite now (reply c d) new
-      → FailsToWrite old (replies all begun) new
-  first_fails new f = t.fails new (fails_more now new (reply c d) (replies left (after_command c d)) f)
+after-append : (cs more : List Command) (d : Debugging)
+    → after_commands (cs ++ more) d ≡ after_commands more (after_commands cs d)
+after-append [] more d = refl
+after-append (c ∷ cs) more d = after-append cs more (after_command c d)
 
-  pub first_told : (mid : SinkSeen) (e : Debugging) → Adds now (reply c d) mid → e ≡ after_command c d
-      → e.now.count ≤ d.now.count + steps_of c → AreLeft old begun all mid e left
-  first_told mid e told is count = record {
-    adds = λ new h.
-        t.adds new (adds_then now mid new (reply c d) (replies left (after_command c d)) told
-        (subst (λ x. Adds mid (replies left x) new) is h));
-    fails = λ new h.
-        t.fails new (adds_fails now mid new (reply c d) (replies left (after_command c d)) told
-        (subst (λ x. FailsToWrite mid (replies left x) new) is h));
-    after = ap (after_commands left) is ∙ t.after;
-    room = omega (arith, count, t.room);
+length-replies : (cs : List Command) (d : Debugging) → length (replies cs d) ≡ length cs
+length-replies [] d = refl
+length-replies (c ∷ cs) d = ap suc (length-replies cs (after_command c d))
+
+-- So many commands of a script were done: their replies are written, the debugger stands where they led, and
+-- there is room for the steps of the others.
+pub record HaveTold (sink : SinkSeen) (begun : Debugging) (all : List Command) (i : ℕ) (now : SinkSeen)
+    (d : Debugging) : Type 0 where
+  pub written : AddsPieces sink (replies (take i all) begun) now
+  pub led : d ≡ after_commands (take i all) begun
+  pub room : d.now.count + steps_in (drop i all) ≤ 2 ^ 63
+
+-- one more is done
+module _ (sink : SinkSeen) (begun : Debugging) (all : List Command) (i : ℕ) (now : SinkSeen) (d : Debugging)
+    (other : Command) (lt : i < length all) (t : HaveTold sink begun all i now d) where
+  behind_it : drop i all ≡ get_or all i other ∷ drop (i + 1) all
+  behind_it = let one : suc i ≡ i + 1 = omega arith in
+      drop-cons all i other lt ∙ ap (λ k. get_or all i other ∷ drop k all) one
+
+  led_on : (e : Debugging) → e ≡ after_command (get_or all i other) d
+      → e ≡ after_commands (take (i + 1) all) begun
+  led_on e is = is ∙ ap (after_command (get_or all i other)) t.led
+      ∙ sym (ap (λ cs. after_commands cs begun) (take_more all i other lt)
+      ∙ after-append (take i all) (get_or all i other ∷ []) begun)
+
+  pub one_told : (mid : SinkSeen) (e : Debugging) → Adds now (reply (get_or all i other) d) mid
+      → IsOneWrite now mid → e ≡ after_command (get_or all i other) d
+      → e.now.count ≤ d.now.count + steps_of (get_or all i other) → HaveTold sink begun all (i + 1) mid e
+  one_told mid e adds one is count = record {
+    written = subst (λ rs. AddsPieces sink rs mid) (sym grown)
+        (pieces_then sink now mid (replies (take i all) begun) (reply (get_or all i other) d ∷ []) t.written
+        (one_write {A = Unit {0}} now mid (reply (get_or all i other) d) (Ok tt) adds tt one));
+    led = led_on e is;
+    room = (let steps = ap steps_in behind_it in let room = t.room in omega (arith, steps, room, count));
   }
+    where
+      grown : replies (take (i + 1) all) begun
+          ≡ replies (take i all) begun ++ reply (get_or all i other) d ∷ []
+      grown = ap (λ cs. replies cs begun) (take_more all i other lt)
+          ∙ replies-append (take i all) (get_or all i other ∷ []) begun
+          ∙ ap (λ x. replies (take i all) begun ++ reply (get_or all i other) x ∷ []) (sym t.led)
 
-module _ (old : SinkSeen) (begun : Debugging) (all : List Command) (now : SinkSeen) (d : Debugging)
-    (cs : List Command) (i : ℕ) (t : AreLeft old begun all now d (drop i cs)) where
-  -- the next of commands, and those behind it
-  pub next_left : (c : Command) → i < length cs
-      → AreLeft old begun all now d (get_or cs i c ∷ drop (i + 1) cs)
-  next_left c lt =
-      let one : suc i ≡ i + 1 = omega arith in
-      subst (AreLeft old begun all now d)
-      (drop-cons cs i c lt ∙ ap (λ k. get_or cs i c ∷ drop k cs) one) t
+  -- the write of its reply failed
+  pub one_fails : (after : SinkSeen) (e : Debugging) → FailsToWrite now (reply (get_or all i other) d) after
+      → IsOneWrite now after → e ≡ after_command (get_or all i other) d
+      → StopsAtReply all begun sink e after
+  one_fails after e fails one is = record {
+    at = record {
+      before = replies (take i all) begun;
+      piece = reply (get_or all i other) d;
+      behind = replies (drop (i + 1) all) (after_command (get_or all i other) d);
+      are = parts;
+      mid = now;
+      written = t.written;
+      fails = fails;
+      counted = one;
+    };
+    led = led_on e is ∙ ap (λ n. after_commands (take (n + 1) all) begun) (sym place);
+  }
+    where
+      place : length (replies (take i all) begun) ≡ i
+      place = length-replies (take i all) begun ∙ length-take-le i all (omega (arith, lt))
 
-  pub all_told : length cs ≤ i → Adds old (replies all begun) now
-  all_told le =
-      let done = subst (AreLeft old begun all now d) (drop_all i cs le) t in
-      done.adds now (adds_none now)
+      parts : replies all begun ≡ replies (take i all) begun
+          ++ reply (get_or all i other) d ∷ replies (drop (i + 1) all) (after_command (get_or all i other) d)
+      parts = ap (λ cs. replies cs begun) (sym (take-append-drop i all) ∙ ap (λ cs. take i all ++ cs) behind_it)
+          ∙ replies-append (take i all) (get_or all i other ∷ drop (i + 1) all) begun
+          ∙ ap (λ x. replies (take i all) begun ++ replies (get_or all i other ∷ drop (i + 1) all) x)
+          (sym t.led)

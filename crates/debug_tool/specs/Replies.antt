@@ -1,6 +1,7 @@
 -- What a debugger replies to commands.
 use Rattle.std.specs.Prelude.{ℕ, ◌+◌, Bool, List, [], ◌∷◌, ◌++◌, codes, Option, Some, None, not}
 use Rattle.std.specs.Prelude.{if◌then◌else◌}
+use Rattle.std.specs.List.{concat}
 use Rattle.std.specs.FinSet as set
 use Rattle.cap_words.specs.declared.Word.{Word}
 use Rattle.cap_words.specs.Text.{word_text_of}
@@ -83,11 +84,15 @@ abbrev pub after_commands : List Command → Debugging → Debugging
 after_commands [] d = d
 after_commands (c ∷ cs) d = after_commands cs (after_command c d)
 
--- the replies, each from where the commands before it led
-abbrev pub replies : List Command → Debugging → List ℕ
+-- the replies one by one, each from where the commands before it led
+abbrev pub replies : List Command → Debugging → List (List ℕ)
 replies [] d = []
-replies (c ∷ cs) d = reply c d ++ replies cs (after_command c d)
+replies (c ∷ cs) d = reply c d ∷ replies cs (after_command c d)
 
 -- of a debugger that begins in this state, with the greatest depth
+abbrev pub debug_replies : Run → List Command → List (List ℕ)
+debug_replies s cs = replies cs (begun s MOST_DEPTH)
+
+-- and the text of them all
 abbrev pub debug_text : Run → List Command → List ℕ
-debug_text s cs = replies cs (begun s MOST_DEPTH)
+debug_text s cs = concat (debug_replies s cs)

@@ -1,10 +1,11 @@
 //! The run of a script.
-ghost use Rattle.std.specs.Prelude.{◌≡◌, ◌+◌, ◌≤◌, ◌^◌, None, IfErr, OnOk, OnErr};
-ghost use Rattle.outside_io.specs.SinkSeen.{Adds, FailsToWrite};
-ghost use Rattle.debug_tool.specs.declared.run.DebugFault.TheVariants.{NoMemory};
+ghost use Rattle.std.specs.Prelude.{◌≡◌, ◌+◌, ◌≤◌, ◌^◌, None, IfErr, IsErrOf, OnOk, OnErr};
+ghost use Rattle.outside_io.specs.SinkSeen.{Adds, FailsToWrite, IsOneWrite};
+ghost use Rattle.outside_io.specs.Writes.{AddsPieces, FailsAtPiece};
+ghost use Rattle.debug_tool.specs.declared.run.DebugFault.TheVariants.{WriteFault, NoMemory};
 ghost use Rattle.debug_tool.specs.Replies.{steps_of, reply, after_command, steps_in, replies, after_commands};
-ghost use Rattle.debug_tool.specs.Replies.{debug_text};
-ghost use Rattle.debug_tool.specs.Faults.{FailsBy};
+ghost use Rattle.debug_tool.specs.Replies.{debug_replies, debug_text};
+ghost use Rattle.debug_tool.specs.Faults.{FailsBy, StopsAtReply};
 
 use crate::reply::reply;
 use component_linker::Start;
@@ -42,6 +43,7 @@ fn run_command<S: Sink>(
     ensures ok { OnOk result (Adds (S.seen out.old) (reply command debugger.old) (S.seen out.new)) }
     ensures err { OnErr result (FailsToWrite (S.seen out.old) (reply command debugger.old)
         (S.seen out.new)) }
+    ensures counted { IsOneWrite (S.seen out.old) (S.seen out.new) }
 {
     let line = reply(debugger, command);
     out.write(line.as_str().as_bytes())
@@ -50,18 +52,19 @@ fn run_command<S: Sink>(
 /// Does the commands of a script, one after another, and writes the reply to each in one piece. It takes no
 /// memory.
 ///
-/// It stops at a write that fails, and a front of all the replies stands then. The debugger has still to be
-/// closed.
+/// It stops at a write that fails: a front of this reply stands then behind those before it, and the debugger
+/// stands where its command led. The debugger has still to be closed.
 pub fn run_script<S: Sink>(
     debugger: &mut Debugger,
     script: &Script,
     out: &mut S,
 ) -> Result<(), Failed>
     requires { debugger.old.now.count + steps_in script.now ≤ 2 ^ 63 }
-    ensures ok { OnOk result (Adds (S.seen out.old) (replies script.now debugger.old) (S.seen out.new)) }
-    ensures err { OnErr result (FailsToWrite (S.seen out.old) (replies script.now debugger.old)
+    ensures ok { OnOk result (AddsPieces (S.seen out.old) (replies script.now debugger.old)
         (S.seen out.new)) }
     ensures after { OnOk result (debugger.new ≡ after_commands script.now debugger.old) }
+    ensures err { OnErr result (StopsAtReply script.now debugger.old (S.seen out.old) debugger.new
+        (S.seen out.new)) }
 {
     for command in script.commands() {
         run_command(debugger, *command, out)?;
@@ -80,7 +83,7 @@ fn has_room(script: &Script)
 /// Makes a debugger at a start, which can go back [`MOST_DEPTH`] steps, runs a script over it, and closes it.
 ///
 /// The start is as it was linked. What is written is the text of the replies, by the start's state and the
-/// script alone.
+/// script alone, each reply in one piece.
 pub fn debug<S: Sink>(
     alloc: Global,
     start: Start,
@@ -92,6 +95,10 @@ pub fn debug<S: Sink>(
     ensures ok { OnOk result (Adds (S.seen out.old) (debug_text start.state script.now) (S.seen out.new)) }
     ensures err { IfErr result (FailsBy (S.seen out.old) (debug_text start.state script.now)
         (S.seen out.new)) }
+    ensures pieces { OnOk result (AddsPieces (S.seen out.old) (debug_replies start.state script.now)
+        (S.seen out.new)) }
+    ensures piece { IsErrOf result WriteFault → FailsAtPiece (S.seen out.old)
+        (debug_replies start.state script.now) (S.seen out.new) }
 {
     let mut debugger = Debugger::make(alloc, start, MOST_DEPTH)?;
     has_room(script);
