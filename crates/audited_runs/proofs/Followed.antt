@@ -1,7 +1,6 @@
 -- No line of a run spoils it in an audit.
 use Rattle.std.proofs.Common.{◌≡◌, ℕ, zero, suc, ◌+◌, ◌<◌, ◌≤◌, Bool, true, false, List, [], ◌∷◌, ◌++◌}
 use Rattle.std.proofs.Common.{length, Option, Some, None, Result, Ok, refl, sym, ap, ◌∙◌, subst, arith}
-use Rattle.std.proofs.Common.{eq-eqb}
 use Rattle.std.specs.Prelude.{if◌then◌else◌, map, nat_lt, ◌==◌}
 use Rattle.std.proofs.lemmas.List.{map-append}
 use Rattle.std.proofs.lemmas.Bool.{lt-ltb}
@@ -26,10 +25,12 @@ use Rattle.trace_tool.specs.OpenCalls.{LineTold}
 use Rattle.trace_tool.specs.Brackets.{mark_of, marks_in, line_told, lines_told, LinesAreBracketed}
 use Rattle.run_audit.specs.declared.fault.AuditFault.{AuditFault}
 use Rattle.run_audit.specs.declared.line.Line.TheVariants.{Call, Ret, Enter, Pass, Leave}
-use Rattle.run_audit.specs.Told.{ToldSeen, is_wide, is_below, same_told}
+use Rattle.run_audit.specs.Told.{ToldSeen, is_below, same_told}
+use Rattle.run_audit.specs.Traces.{IsWide}
 use Rattle.run_audit.specs.Audit.{OpenSeen, nothing_open, below_newest, stepped, goes_on as goes_on_with}
 use Rattle.run_audit.specs.Audit.{followed}
 use Rattle.run_audit.proofs.Same.{told_decides}
+use Rattle.run_audit.proofs.Clean.{wide_true}
 use Rattle.run_audit.proofs.Steps.{followed_append}
 use Rattle.audited_runs.specs.Audited.{told_seen, line_seen}
 
@@ -45,18 +46,26 @@ Below f (g ∷ gs) = f.last < g.base
 
 abbrev Lie : List LineTold → Type 0
 Lie [] = Unit {0}
-Lie (f ∷ fs) = (f.base + length f.words ≡ f.last + 1) × Below f fs × Lie fs
+Lie (f ∷ fs) = IsWide (told_seen f) × Below f fs × Lie fs
 
 told_below : (l : Layout) (f : OpenFrame) (fs : List OpenFrame) (x : LineTold) → x.last ≡ f.end
     → LiesBelow f fs → Below x (lines_told l fs)
 told_below l f [] x e h = tt
 told_below l f (g ∷ gs) x e h = omega (arith, e, h)
 
+-- a frame's range isn't empty, and each of its addresses has a word
+frame_wide : (l : Layout) (m : Cells) (f : OpenFrame) (fs : List OpenFrame) → FrameLies l m f
+    → IsWide (told_seen (line_told l (frame_told l f fs)))
+frame_wide l m f fs h = (
+  h.order,
+  omega (arith, h.words, as_many word_text_of (map (flat l fs) f.words), as_many (flat l fs) f.words),
+)
+
 pub frames_lie : (l : Layout) (m : Cells) (n : ℕ) (fs : List OpenFrame) → FramesLie l m n fs
     → Lie (lines_told l fs)
 frames_lie l m n [] h = tt
 frames_lie l m n (f ∷ fs) h = (
-  omega (arith, h.0.words, as_many (flat l fs) f.words),
+  frame_wide l m f fs h.0,
   told_below l f fs (line_told l (frame_told l f fs)) refl h.2,
   frames_lie l m f.call fs h.3,
 )
@@ -70,9 +79,6 @@ IsNoPass _ = Unit {0}
 abbrev opened_at : List LineTold → Bool → OpenSeen
 opened_at fs entered = record { calls = map told_seen fs; entered = entered }
 
-wide : (f : LineTold) → f.base + length f.words ≡ f.last + 1 → is_wide (told_seen f) ≡ true
-wide f h = eq-eqb _ _ (ap (λ n. f.base + n) (as_many word_text_of f.words) ∙ h)
-
 below : (f : LineTold) (fs : List LineTold) → Below f fs
     → below_newest (told_seen f) (map told_seen fs) ≡ true
 below f [] h = refl
@@ -84,12 +90,12 @@ same t = (told_decides t t).1 refl
 opens_one : (f : LineTold) (fs : List LineTold) (n : ℕ) (b : Bool) → Lie (f ∷ fs)
     → stepped (opened_at fs b) n (Call (told_seen f)) ≡ Ok (opened_at (f ∷ fs) false)
 unfolding stepped
-opens_one f fs n b h = let w = wide f h.0 in let v = below f fs h.1 in rw (w, v) refl
+opens_one f fs n b h = let w = wide_true (told_seen f) h.0 in let v = below f fs h.1 in rw (w, v) refl
 
 closes_one : (f : LineTold) (fs : List LineTold) (n : ℕ) (b : Bool) → Lie (f ∷ fs)
     → stepped (opened_at (f ∷ fs) b) n (Ret (told_seen f)) ≡ Ok (opened_at fs false)
 unfolding stepped
-closes_one f fs n b h = let w = wide f h.0 in let v = same (told_seen f) in rw (w, v) refl
+closes_one f fs n b h = let w = wide_true (told_seen f) h.0 in let v = same (told_seen f) in rw (w, v) refl
 
 -- of the events but an entry
 one : (x : Line) (ps qs : List LineTold) → (b : Bool) → IsNoPass x → Brackets LineTold ps (mark_of x ++ []) qs

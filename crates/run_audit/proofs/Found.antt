@@ -1,9 +1,9 @@
 -- What an audit answers is right, and what is right is answered.
 use Rattle.std.proofs.Common.{◌≡◌, ◌≢◌, ℕ, ◌+◌, ◌<◌, ◌≤◌, Bool, true, false, cond, List, [], ◌∷◌, ◌++◌}
 use Rattle.std.proofs.Common.{length, Option, Some, None, Result, Ok, Err, refl, sym, ap, ◌∙◌, subst, arith}
-use Rattle.std.proofs.Common.{eq-eqb, inl, inr, append_assoc, length-append}
+use Rattle.std.proofs.Common.{inl, inr, append_assoc, length-append}
 use Rattle.std.specs.Prelude.{not, nat_lt, ◌==◌, ◌⊎◌, if◌then◌else◌, OnOk, IfErr}
-use Rattle.std.proofs.lemmas.Bool.{eqb-true, ltb-true, lt-ltb, cases_eq}
+use Rattle.std.proofs.lemmas.Bool.{ltb-true}
 use Rattle.run_audit.specs.declared.fault.AuditFault.{AuditFault}
 use Rattle.run_audit.specs.declared.fault.AuditFault.TheVariants.{Form, Width, Overlap, Unopened, Mismatch}
 use Rattle.run_audit.specs.declared.fault.AuditFault.TheVariants.{NoMemory}
@@ -21,7 +21,7 @@ use Rattle.run_audit.specs.Traces.{entered_by, Spoils, misplaced, call_width, re
 use Rattle.run_audit.specs.Traces.{differs, GoesWrong, HasFault}
 use Rattle.run_audit.proofs.Same.{told_decides}
 use Rattle.run_audit.proofs.Steps.{before_more, judged_end, judged_event, followed_append}
-use Rattle.run_audit.proofs.Clean.{at, StepIs, step_is, NoEnd, clean_of, follow_clean}
+use Rattle.run_audit.proofs.Clean.{at, wide_true, true_wide, StepIs, step_is, NoEnd, clean_of, follow_clean}
 
 -- ---- what is answered
 
@@ -230,7 +230,7 @@ wide_false : (t : ToldSeen) → ¬ (IsWide t) → is_wide t ≡ false
 wide_false t h = by_bool (is_wide t) refl
   where
     by_bool : (b : Bool) → is_wide t ≡ b → is_wide t ≡ false
-    by_bool true e = absurd (h (eqb-true _ _ e))
+    by_bool true e = absurd (h (true_wide t e))
     by_bool false e = e
 
 below_false : (t o : ToldSeen) → ¬ (t.last < o.base) → is_below t o ≡ false
@@ -254,11 +254,11 @@ spoiled entered n now _ _ (misplaced h) = (refl, rw h refl)
 spoiled entered n now _ _ (call_width {t = t} w) = (refl, let k = wide_false t w in rw k refl)
 spoiled entered n now _ _ (ret_width {t = t} w) = (refl, let k = wide_false t w in rw k refl)
 spoiled entered n _ _ _ (overlaps {t = t} {newest = o} w h) =
-    (refl, let k : is_wide t ≡ true = eq-eqb _ _ w in let b = below_false t o h in rw (k, b) refl)
-spoiled entered n _ _ _ (unopened {t = t} w) = (refl, let k : is_wide t ≡ true = eq-eqb _ _ w in rw k refl)
+    (refl, let k = wide_true t w in let b = below_false t o h in rw (k, b) refl)
+spoiled entered n _ _ _ (unopened {t = t} w) = (refl, let k = wide_true t w in rw k refl)
 spoiled entered n _ _ _ (differs {t = t} {newest = o} w h) = (
   refl,
-  let k : is_wide t ≡ true = eq-eqb _ _ w in
+  let k = wide_true t w in
       let b = same_false o t h in rw (k, b) refl,
 )
 

@@ -38,9 +38,9 @@ abbrev pub AreInPlace : Bool → List Line → Type 0
 AreInPlace entered [] = Unit {0}
 AreInPlace entered (l ∷ ls) = InPlace entered l × AreInPlace (lets_pass l) ls
 
--- as many words as addresses
+-- a frame's range isn't empty, and there is a word for each of its addresses
 abbrev pub IsWide : ToldSeen → Type 0
-IsWide t = t.base + length t.words ≡ t.last + 1
+IsWide t = (t.base ≤ t.last) × (t.base + length t.words ≡ t.last + 1)
 
 abbrev pub HasWidth : Line → Type 0
 HasWidth (Call t) = IsWide t

@@ -59,9 +59,9 @@ fn answer(alloc: Global, text: &[u8]) -> Result<(), AuditFault>
 
 /// Whether a text is a trace of a run: lines of the forms that runs write, each with its newline, of which
 /// the last and no other is an end line. A `pass` line stands only right behind an `enter` line, and tells of
-/// some pair. Each call and return has as many words as its range has addresses. A call lies below all that
-/// are open; and a return is that of the newest call that is open, with its part, site, range and words. The
-/// rules are those of docs/AUDIT.md.
+/// some pair. The range of each call and return isn't empty, and it has a word for each of the addresses. A
+/// call lies below all that are open; and a return is that of the newest call that is open, with its part,
+/// site, range and words. The rules are those of docs/AUDIT.md.
 ///
 /// Else the first line that spoils the text is told, counted from 1, or that memory was refused.
 pub fn audit(alloc: Global, text: &[u8]) -> Result<(), AuditFault>

@@ -13,7 +13,7 @@ use std::fmt;
 pub enum AuditFault {
     /// The line has none of the forms, or stands where none of its form can.
     Form(u64),
-    /// The line has more or fewer words than its range has addresses.
+    /// The line's range is empty, or it has more or fewer words than its range has addresses.
     Width(u64),
     /// A call whose range doesn't lie below that of the newest open call.
     Overlap(u64),

@@ -46,10 +46,13 @@ fn are_same(words: &Parts<'_>, others: &Parts<'_>) -> bool
 }
 
 impl<'a> Told<'a> {
-    /// Whether there is a word for each address from its base to its last.
+    /// Whether its range isn't empty, and there is a word for each of its addresses.
     pub(crate) fn is_wide(&self) -> bool
         ensures { result ≡ is_wide self.now }
     {
+        if self.base > self.last {
+            return false;
+        }
         let last = u64::from(self.last);
         let mut address = u64::from(self.base);
         let mut words = self.words.again();

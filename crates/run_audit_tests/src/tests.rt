@@ -45,7 +45,7 @@ enter two dbl 1 2 3 4 5 hop:a:b;pass none hop:a:b bad;halted 0 steps 1;=ok
 enter two dbl 1 2 3 4 5 out;enter two dbl 1 2 3 4 5 bad;pass bad bad out;halted 0 steps 1;=ok
 call in a 4294967295 0 0 1 2 3 4 : 5;halted 0 steps 1;=ok
 call in a 0 4294967295 4294967295 1 2 3 4 : 5;call out b 0 0 1 1 2 3 4 : 5 6;halted 0 steps 1;=ok
-call in a 0 5 4 1 2 3 4 :;ret out a 0 5 4 1 :;halted 0 steps 1;=ok";
+call in a 0 5 5 1 2 3 4 : 7;ret out a 0 5 5 1 : 7;halted 0 steps 1;=ok";
 
 // Texts without their end, or with more behind it.
 const ENDS: &[u8] = b"=1 1
@@ -106,7 +106,12 @@ const CALLS: &[u8] = b"call in a 0 5 6 1 2 3 4 : 7;halted 0 steps 1;=2 1
 call in a 0 5 5 1 2 3 4 : 7 8;halted 0 steps 1;=2 1
 call in a 0 5 5 1 2 3 4 :;halted 0 steps 1;=2 1
 call in a 0 9 5 1 2 3 4 : 7;halted 0 steps 1;=2 1
+call in p 0 5 4 0 0 0 0 :;halted 0 steps 1;=2 1
+call in p 0 5 4 0 0 0 0 : 7;halted 0 steps 1;=2 1
 ret in a 0 5 5 1 :;halted 0 steps 1;=2 1
+ret in a 0 5 4 1 :;halted 0 steps 1;=2 1
+call in a 0 5 5 1 2 3 4 : 7;ret in a 0 5 4 1 :;halted 0 steps 1;=2 2
+call in a 4294967295 1 0 1 2 3 4 :;halted 0 steps 1;=2 1
 call in a 0 5 5 1 2 3 4 : 7;call in a 0 5 5 1 2 3 4 : 7;halted 0 steps 1;=3 2
 call in a 0 5 5 1 2 3 4 : 7;call in a 0 6 6 1 2 3 4 : 7;halted 0 steps 1;=3 2
 call in a 0 5 5 1 2 3 4 : 7;call in a 0 6 6 1 2 3 4 : 7 8;halted 0 steps 1;=2 2
