@@ -1,7 +1,7 @@
 -- The end line of a run is read by an audit as one.
 use Rattle.std.proofs.Common.{◌≡◌, ℕ, zero, suc, ◌+◌, ◌<◌, ◌^◌, ◌≤◌, Bool, true, false, List, [], ◌∷◌, ◌++◌}
 use Rattle.std.proofs.Common.{Some}
-use Rattle.std.proofs.Common.{refl, sym, ap, ◌∙◌, arith, append_assoc, append-nil}
+use Rattle.std.proofs.Common.{refl, ap, arith, append_assoc, append-nil}
 use Rattle.std.specs.Prelude.{codes, decimal, is_some, ◌||◌}
 use Rattle.cap_words.specs.declared.Word.{Word}
 use Rattle.cap_words.specs.declared.Word.TheVariants.{Int, Mem, Seal, Sealed}
@@ -20,10 +20,11 @@ use Rattle.lcm_machine.proofs.RunLemmas.{count_next}
 use Rattle.trace_tool.specs.EndLines.{cause_text, pc_text}
 use Rattle.line_fields.specs.Cuts.{behind}
 use Rattle.line_fields.specs.Numbers.{number_in}
+use Rattle.line_fields.specs.Words.{HasText}
 use Rattle.line_fields.specs.Fields.{tested, meant}
 use Rattle.line_fields.proofs.Numbers.{number_again, integer_again}
+use Rattle.line_fields.proofs.WordTexts.{fits_has_text}
 use Rattle.run_items.proofs.High.{IsHigh, decimal_high, word_high}
-use Rattle.run_items.proofs.Spaced.{spaced}
 use Rattle.run_items.proofs.EndLinesSeen.{cause_high, pc_high, end_body}
 use Rattle.run_audit.specs.declared.line.Line.TheVariants.{End}
 use Rattle.run_audit.specs.Lines.{is_address, is_cause, line_in, line_at, line_named, halted, failed, running}
@@ -53,7 +54,7 @@ or_true : (a b : Bool) → b ≡ true → (a || b) ≡ true
 or_true true b h = refl
 or_true false b h = h
 
-pc_read : (w : Word) → WordFits w → is_address (pc_text w) ≡ true
+pc_read : (w : Word) → HasText w → is_address (pc_text w) ≡ true
 unfolding is_address
 pc_read (Mem c) h = or_true _ _ (ap is_some (integer_again c.addr h.1))
 pc_read (Int n) h = refl
@@ -80,20 +81,20 @@ regroup_two : (c sp w f st n : List ℕ) → (c ++ sp) ++ (w ++ (sp ++ (f ++ (((
     ≡ c ++ (sp ++ (w ++ (sp ++ (f ++ (sp ++ (st ++ (sp ++ (n ++ []))))))))
 regroup_two c sp w f st n = simp (append_assoc, append-nil)
 
-steps_high : IsHigh (codes "steps")
+pub steps_high : IsHigh (codes "steps")
 steps_high = record { all = refl }
 
-halted_at : (w : Word) (n : ℕ) → WordFits w → n < 2 ^ 64
+pub halted_at : (w : Word) (n : ℕ) → HasText w → n < 2 ^ 64
     → line_at (codes "halted" ∷ word_text_of w ∷ codes "steps" ∷ decimal n ∷ []) ≡ Some (End, [])
 unfolding line_at line_named halted steps tested meant
 halted_at w n h lt = let x = word_read w h in let k = count_read n lt in rw (x, k) refl
 
-running_at : (w : Word) (n : ℕ) → WordFits w → n < 2 ^ 64
+pub running_at : (w : Word) (n : ℕ) → HasText w → n < 2 ^ 64
     → line_at (codes "running" ∷ pc_text w ∷ codes "steps" ∷ decimal n ∷ []) ≡ Some (End, [])
 unfolding line_at line_named running steps tested meant
 running_at w n h lt = let x = pc_read w h in let k = count_read n lt in rw (x, k) refl
 
-failed_at : (w : Word) (f : FailCause) (n : ℕ) → WordFits w → n < 2 ^ 64
+pub failed_at : (w : Word) (f : FailCause) (n : ℕ) → HasText w → n < 2 ^ 64
     → line_at (codes "failed" ∷ pc_text w ∷ cause_text f ∷ codes "steps" ∷ decimal n ∷ []) ≡ Some (End, [])
 unfolding line_at line_named failed steps tested meant
 failed_at w f n h lt =
@@ -105,19 +106,19 @@ end_read Went r h =
     read_by _ (codes "running") (pc_text w ∷ codes "steps" ∷ decimal r.count ∷ []) End
     (regroup_one (codes "running") (codes " ") (pc_text w) (codes "steps") (decimal r.count))
     (record { all = refl }) (pc_high w, (steps_high, (decimal_high r.count, tt)))
-    (running_at w r.count h.pc h.count)
+    (running_at w r.count (fits_has_text w h.pc) h.count)
 end_read Halted r h =
     let w = reg r.maps.regs A0 in
     read_by _ (codes "halted") (word_text_of w ∷ codes "steps" ∷ decimal r.count ∷ []) End
     (regroup_one (codes "halted") (codes " ") (word_text_of w) (codes "steps") (decimal r.count))
     (record { all = refl }) (word_high w, (steps_high, (decimal_high r.count, tt)))
-    (halted_at w r.count h.a0 h.count)
+    (halted_at w r.count (fits_has_text w h.a0) h.count)
 end_read (Failed f at) r h =
     let w = reg r.maps.regs Pc in
     read_by _ (codes "failed") (pc_text w ∷ cause_text f ∷ codes "steps" ∷ decimal r.count ∷ []) End
     (regroup_two (codes "failed") (codes " ") (pc_text w) (cause_text f) (codes "steps") (decimal r.count))
     (record { all = refl }) (pc_high w, (cause_high f, (steps_high, (decimal_high r.count, tt))))
-    (failed_at w f r.count h.pc h.count)
+    (failed_at w f r.count (fits_has_text w h.pc) h.count)
 
 -- ---- the count
 

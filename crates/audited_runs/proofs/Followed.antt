@@ -1,15 +1,14 @@
 -- No line of a run spoils it in an audit.
-use Rattle.std.proofs.Common.{◌≡◌, ℕ, zero, suc, ◌+◌, ◌<◌, ◌≤◌, Bool, true, false, List, [], ◌∷◌, ◌++◌}
-use Rattle.std.proofs.Common.{length, Option, Some, None, Result, Ok, refl, sym, ap, ◌∙◌, subst, arith}
-use Rattle.std.specs.Prelude.{if◌then◌else◌, map, nat_lt, ◌==◌}
+use Rattle.std.proofs.Common.{◌≡◌, ℕ, suc, ◌+◌, ◌<◌, Bool, true, false, List, [], ◌∷◌, ◌++◌}
+use Rattle.std.proofs.Common.{length, Option, Some, None, Ok, refl, ap, ◌∙◌, arith}
+use Rattle.std.specs.Prelude.{if◌then◌else◌, map}
 use Rattle.std.proofs.lemmas.List.{map-append}
 use Rattle.std.proofs.lemmas.Bool.{lt-ltb}
-use Rattle.cap_words.specs.declared.Word.{Word}
 use Rattle.cap_words.specs.Text.{word_text_of}
 use Rattle.trusted_border.specs.declared.layout.Layout.{Layout}
 use Rattle.trusted_border.specs.declared.events.Event.{Event}
 use Rattle.overlay_machine.specs.State.{OpenFrame, OState, Cells}
-use Rattle.overlay_machine.specs.Step.{goes, overlay_step, weight_of}
+use Rattle.overlay_machine.specs.Step.{weight_of}
 use Rattle.overlay_machine.specs.Events.{step_event}
 use Rattle.overlay_machine.specs.Flat.{flat}
 use Rattle.overlay_machine.specs.Invariant.{FrameLies, LiesBelow, FramesLie}
@@ -23,11 +22,10 @@ use Rattle.trusted_border.specs.declared.events.Event.TheVariants.{Called, Retur
 use Rattle.trace_tool.specs.Told.{step_lines, Told, none_yet, and_then}
 use Rattle.trace_tool.specs.OpenCalls.{LineTold}
 use Rattle.trace_tool.specs.Brackets.{mark_of, marks_in, line_told, lines_told, LinesAreBracketed}
-use Rattle.run_audit.specs.declared.fault.AuditFault.{AuditFault}
-use Rattle.run_audit.specs.declared.line.Line.TheVariants.{Call, Ret, Enter, Pass, Leave}
-use Rattle.run_audit.specs.Told.{ToldSeen, is_below, same_told}
+use Rattle.run_audit.specs.declared.line.Line.TheVariants.{Call, Ret, Enter}
+use Rattle.run_audit.specs.Told.{ToldSeen, same_told}
 use Rattle.run_audit.specs.Traces.{IsWide}
-use Rattle.run_audit.specs.Audit.{OpenSeen, nothing_open, below_newest, stepped, goes_on as goes_on_with}
+use Rattle.run_audit.specs.Audit.{OpenSeen, below_newest, stepped, goes_on as goes_on_with}
 use Rattle.run_audit.specs.Audit.{followed}
 use Rattle.run_audit.proofs.Same.{told_decides}
 use Rattle.run_audit.proofs.Clean.{wide_true}

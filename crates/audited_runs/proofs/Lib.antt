@@ -2,3 +2,7 @@ mod Followed
 mod Spelled
 mod EndsRead
 mod Passing
+mod Taken
+mod Spelling
+mod EndsSpelled
+mod AllSpelled

@@ -1,12 +1,12 @@
 -- A text of lines that fit and spoil nothing, and of an end line, is a trace.
-use Rattle.std.proofs.Common.{◌≡◌, ℕ, ◌+◌, ◌<◌, Bool, true, false, List, [], ◌∷◌, ◌++◌, Some, Ok, Err}
-use Rattle.std.proofs.Common.{Result, refl, sym, ap, ◌∙◌, arith, append_assoc}
-use Rattle.std.specs.Prelude.{map, codes}
+use Rattle.std.proofs.Common.{◌≡◌, ℕ, ◌+◌, false, List, [], ◌∷◌, ◌++◌, Some, Ok, Err}
+use Rattle.std.proofs.Common.{Result, refl, ap, ◌∙◌, arith}
+use Rattle.std.specs.Prelude.{map}
 use Rattle.trace_tool.specs.Lines.{Line, call, ret, enter, pass, leave}
-use Rattle.trace_tool.specs.Texts.{line_text, lines_text}
-use Rattle.trace_tool.specs.Fits.{LineFits, LinesFit}
+use Rattle.trace_tool.specs.Texts.{lines_text}
+use Rattle.trace_tool.specs.Fits.{LinesFit}
 use Rattle.line_fields.specs.Fields.{lines}
-use Rattle.run_items.proofs.LinesSeen.{body, line_text_is}
+use Rattle.run_items.proofs.LinesSeen.{body}
 use Rattle.run_items.proofs.EndLinesSeen.{IsPassedOver}
 use Rattle.run_items.proofs.Feeding.{lines_are, end_line_is}
 use Rattle.run_audit.specs.declared.fault.AuditFault.{AuditFault}
@@ -26,7 +26,7 @@ first_went : (r : Result OpenSeen AuditFault) (f : OpenSeen → Result OpenSeen 
 first_went (Ok s) f u h = (s, refl, h)
 first_went (Err e) f u h = absurd cc
 
-no_end : (l : Line) → is_end (line_seen l) ≡ false
+pub no_end : (l : Line) → is_end (line_seen l) ≡ false
 no_end (call inward part site base last args words) = refl
 no_end (ret inward part site base last a0 words) = refl
 no_end (enter part export stk args back) = refl

@@ -1,40 +1,41 @@
 -- Each line of a run is read by an audit as what it is.
-use Rattle.std.proofs.Common.{◌≡◌, ℕ, ◌≤◌, Bool, true, false, List, [], ◌∷◌, ◌++◌, Some, refl, sym, ap, ◌∙◌}
+use Rattle.std.proofs.Common.{◌≡◌, ℕ, Bool, true, false, List, [], ◌∷◌, ◌++◌, Some, refl, ap, ◌∙◌}
 use Rattle.std.proofs.Common.{append_assoc}
 use Rattle.std.specs.Prelude.{map, codes, decimal, ◌||◌, is_some}
 use Rattle.std.specs.List.{list_all}
 use Rattle.cap_words.specs.declared.Word.{Word}
 use Rattle.cap_words.specs.Text.{word_text_of}
-use Rattle.cap_words.specs.WordBytes.{WordFits}
 use Rattle.cap_words.specs.Names.{is_name}
 use Rattle.trace_tool.specs.Lines.{Args, Return, Passed, nothing, bad_pair, out_pair, hop_pair}
 use Rattle.trace_tool.specs.Lines.{Line, call, ret, enter, pass, leave}
 use Rattle.trace_tool.specs.Texts.{direction, field, words_text, args_text, place_text, return_text}
 use Rattle.trace_tool.specs.Texts.{passed_text}
-use Rattle.trace_tool.specs.Fits.{IsName, AllFit, LineFits, is_told}
-use Rattle.line_fields.specs.Words.{is_word}
-use Rattle.line_fields.specs.Fields.{fields, meant, tested, whole}
+use Rattle.trace_tool.specs.Fits.{IsName, AllFit, ArgsFit, LineFits, is_told}
+use Rattle.line_fields.specs.Words.{HasText, is_word}
+use Rattle.line_fields.specs.Fields.{meant, tested, whole}
+use Rattle.line_fields.proofs.WordTexts.{fits_has_text, text_is_word}
 use Rattle.run_items.proofs.High.{IsHigh, decimal_high, word_high, name_high, name_is}
 use Rattle.run_items.proofs.Spaced.{spaced, AllHigh, fields_are, words_spaced, words_high}
-use Rattle.run_items.proofs.FieldsRead.{natural_again, word_again, back_read, pair_read, pair_field}
+use Rattle.run_items.proofs.FieldsRead.{natural_again, back_read, pair_read, pair_field}
 use Rattle.run_items.proofs.FieldsRead.{back_high, pair_high}
 use Rattle.run_items.proofs.LinesSeen.{body}
-use Rattle.run_audit.specs.declared.line.Line.TheVariants.{Call, Ret, Enter, Pass, Leave}
+use Rattle.run_audit.specs.declared.line.Line.TheVariants.{Enter, Pass, Leave}
 use Rattle.run_audit.specs.declared.line.Line.{Line as AuditLine}
 use Rattle.run_audit.specs.Lines.{line_in, line_at, line_named, told, words_left, call as call_in}
 use Rattle.run_audit.specs.Lines.{ret as ret_in, entered, passed, is_pair, left}
-use Rattle.audited_runs.specs.Audited.{told_seen, line_seen}
+use Rattle.audited_runs.specs.Audited.{line_seen}
+use Rattle.audited_runs.specs.Spelling.{HaveTexts, ArgsHaveTexts, LineHasText, FittingHaveTexts}
 
 -- ---- words and directions
 
-pub word_read : (w : Word) → WordFits w → is_word (word_text_of w) ≡ true
-word_read w h = ap is_some (word_again w h)
+pub word_read : (w : Word) → HasText w → is_word (word_text_of w) ≡ true
+word_read w h = ap is_some (text_is_word w (word_text_of w) (h, refl))
 
-words_read : (ws : List Word) → AllFit ws → list_all is_word (map word_text_of ws) ≡ true
+words_read : (ws : List Word) → HaveTexts ws → list_all is_word (map word_text_of ws) ≡ true
 words_read [] h = refl
 words_read (w ∷ ws) h = let one = word_read w h.0 in let rest = words_read ws h.1 in rw (one, rest) refl
 
-abbrev dir_text : Bool → List ℕ
+abbrev pub dir_text : Bool → List ℕ
 dir_text true = codes "in"
 dir_text false = codes "out"
 
@@ -67,7 +68,7 @@ regroup_call : (c sp d p s b l x0 x1 x2 x3 k w : List ℕ)
     ++ (sp ++ (x2 ++ (sp ++ (x3 ++ (sp ++ (k ++ w))))))))))))))))))))
 regroup_call c sp d p s b l x0 x1 x2 x3 k w = simp append_assoc
 
-abbrev call_fields : Bool → List ℕ → ℕ → ℕ → ℕ → Args → List Word → List (List ℕ)
+abbrev pub call_fields : Bool → List ℕ → ℕ → ℕ → ℕ → Args → List Word → List (List ℕ)
 call_fields inward part site base last a words =
     dir_text inward ∷ part ∷ decimal site ∷ decimal base ∷ decimal last ∷ word_text_of a.a0 ∷ word_text_of
     a.a1
@@ -80,7 +81,7 @@ call_with d part site base last a w =
     ++ ((field (word_text_of a.a0) ++ (field (word_text_of a.a1) ++ (field (word_text_of a.a2)
     ++ field (word_text_of a.a3)))) ++ codes " :"))) ++ w
 
-call_body : (inward : Bool) (part : List ℕ) (site base last : ℕ) (a : Args) (words : List Word)
+pub call_body : (inward : Bool) (part : List ℕ) (site base last : ℕ) (a : Args) (words : List Word)
     → body (call inward part site base last a words)
     ≡ codes "call" ++ spaced (call_fields inward part site base last a words)
 unfolding place_text args_text call_with
@@ -102,7 +103,7 @@ call_high inward part site base last a words h =
     (dir_high inward, (name_high part h, (decimal_high site, numbers)))
 
 call_at : (inward : Bool) (part : List ℕ) (site base last : ℕ) (a : Args) (words : List Word)
-    → LineFits (call inward part site base last a words)
+    → LineHasText (call inward part site base last a words)
     → line_at (codes "call" ∷ call_fields inward part site base last a words)
     ≡ Some (line_seen (call inward part site base last a words), [])
 unfolding line_at line_named call_in told words_left meant tested
@@ -138,7 +139,7 @@ regroup_ret : (c sp d p s b l x k w : List ℕ)
     ++ w))))))))))))))
 regroup_ret c sp d p s b l x k w = simp append_assoc
 
-abbrev ret_fields : Bool → List ℕ → ℕ → ℕ → ℕ → Word → List Word → List (List ℕ)
+abbrev pub ret_fields : Bool → List ℕ → ℕ → ℕ → ℕ → Word → List Word → List (List ℕ)
 ret_fields inward part site base last a0 words =
     dir_text inward ∷ part ∷ decimal site ∷ decimal base ∷ decimal last ∷ word_text_of a0 ∷ codes ":"
     ∷ map word_text_of words
@@ -149,7 +150,7 @@ ret_with d part site base last a0 w =
     ++ ((d ++ (part ++ (field (decimal site) ++ (field (decimal base) ++ field (decimal last)))))
     ++ (field (word_text_of a0) ++ codes " :"))) ++ w
 
-ret_body : (inward : Bool) (part : List ℕ) (site base last : ℕ) (a0 : Word) (words : List Word)
+pub ret_body : (inward : Bool) (part : List ℕ) (site base last : ℕ) (a0 : Word) (words : List Word)
     → body (ret inward part site base last a0 words)
     ≡ codes "ret" ++ spaced (ret_fields inward part site base last a0 words)
 unfolding place_text ret_with
@@ -168,7 +169,7 @@ ret_high inward part site base last a0 words h =
     (dir_high inward, (name_high part h, (decimal_high site, (decimal_high base, numbers))))
 
 ret_at : (inward : Bool) (part : List ℕ) (site base last : ℕ) (a0 : Word) (words : List Word)
-    → LineFits (ret inward part site base last a0 words)
+    → LineHasText (ret inward part site base last a0 words)
     → line_at (codes "ret" ∷ ret_fields inward part site base last a0 words)
     ≡ Some (line_seen (ret inward part site base last a0 words), [])
 unfolding line_at line_named ret_in told words_left meant tested
@@ -199,12 +200,12 @@ regroup_enter : (c sp p e s x0 x1 x2 x3 b : List ℕ)
     ++ (sp ++ (b ++ []))))))))))))))))
 regroup_enter c sp p e s x0 x1 x2 x3 b = simp append_assoc
 
-abbrev enter_fields : List ℕ → List ℕ → Word → Args → Return → List (List ℕ)
+abbrev pub enter_fields : List ℕ → List ℕ → Word → Args → Return → List (List ℕ)
 enter_fields part export stk a back =
     part ∷ export ∷ word_text_of stk ∷ word_text_of a.a0 ∷ word_text_of a.a1 ∷ word_text_of a.a2
     ∷ word_text_of a.a3 ∷ return_text back ∷ []
 
-enter_body : (part export : List ℕ) (stk : Word) (a : Args) (back : Return)
+pub enter_body : (part export : List ℕ) (stk : Word) (a : Args) (back : Return)
     → body (enter part export stk a back) ≡ codes "enter" ++ spaced (enter_fields part export stk a back)
 unfolding args_text
 enter_body part export stk a back =
@@ -212,14 +213,14 @@ enter_body part export stk a back =
     (word_text_of a.a1) (word_text_of a.a2) (word_text_of a.a3) (return_text back)
 
 enter_high : (part export : List ℕ) (stk : Word) (a : Args) (back : Return)
-    → LineFits (enter part export stk a back) → AllHigh (enter_fields part export stk a back)
+    → LineHasText (enter part export stk a back) → AllHigh (enter_fields part export stk a back)
 enter_high part export stk a back h =
     let args : AllHigh (word_text_of a.a1 ∷ word_text_of a.a2 ∷ word_text_of a.a3 ∷ return_text back ∷ []) =
     (word_high a.a1, (word_high a.a2, (word_high a.a3, (back_high back h.4, tt)))) in
     (name_high part h.0, (name_high export h.1, (word_high stk, (word_high a.a0, args))))
 
 enter_at : (part export : List ℕ) (stk : Word) (a : Args) (back : Return)
-    → LineFits (enter part export stk a back)
+    → LineHasText (enter part export stk a back)
     → line_at (codes "enter" ∷ enter_fields part export stk a back) ≡ Some (Enter, [])
 unfolding line_at line_named entered meant tested
 enter_at part export stk a back h =
@@ -241,12 +242,12 @@ pair_told bad_pair = refl
 pair_told out_pair = refl
 pair_told (hop_pair part export) = refl
 
-regroup_pass : (c sp x y z : List ℕ)
+pub regroup_pass : (c sp x y z : List ℕ)
     → ((c ++ sp) ++ (x ++ ((sp ++ y) ++ (sp ++ z)))) ++ [] ≡ c
     ++ (sp ++ (x ++ (sp ++ (y ++ (sp ++ (z ++ []))))))
 regroup_pass c sp x y z = simp append_assoc
 
-abbrev pass_fields : Passed → Passed → Passed → List (List ℕ)
+abbrev pub pass_fields : Passed → Passed → Passed → List (List ℕ)
 pass_fields p0 p1 p2 = passed_text p0 ∷ passed_text p1 ∷ passed_text p2 ∷ []
 
 some_told : (a b c : Bool) → (a || (b || c)) ≡ true → (a || b || c) ≡ true
@@ -254,7 +255,7 @@ some_told true b c e = refl
 some_told false true c e = refl
 some_told false false c e = e
 
-pass_at : (p0 p1 p2 : Passed) → LineFits (pass p0 p1 p2)
+pass_at : (p0 p1 p2 : Passed) → LineHasText (pass p0 p1 p2)
     → line_at (codes "pass" ∷ pass_fields p0 p1 p2) ≡ Some (Pass, [])
 unfolding line_at line_named passed meant
 pass_at p0 p1 p2 h =
@@ -269,11 +270,11 @@ pass_at p0 p1 p2 h =
 
 -- ---- leave lines
 
-regroup_leave : (c sp p x : List ℕ)
+pub regroup_leave : (c sp p x : List ℕ)
     → ((c ++ sp) ++ (p ++ (sp ++ x))) ++ [] ≡ c ++ (sp ++ (p ++ (sp ++ (x ++ []))))
 regroup_leave c sp p x = simp append_assoc
 
-leave_at : (part : List ℕ) (a0 : Word) → LineFits (leave part a0)
+leave_at : (part : List ℕ) (a0 : Word) → LineHasText (leave part a0)
     → line_at (codes "leave" ∷ part ∷ word_text_of a0 ∷ []) ≡ Some (Leave, [])
 unfolding line_at line_named left tested
 leave_at part a0 h =
@@ -283,24 +284,47 @@ leave_at part a0 h =
 
 -- ---- each line
 
-pub line_read : (l : Line) → LineFits l → line_in (body l) ≡ Some (line_seen l)
-line_read (call inward part site base last a words) h =
+pub text_read : (l : Line) → LineHasText l → line_in (body l) ≡ Some (line_seen l)
+text_read (call inward part site base last a words) h =
     read_by _ (codes "call") (call_fields inward part site base last a words) _
     (call_body inward part site base last a words) (record { all = refl })
     (call_high inward part site base last a words h.0.0) (call_at inward part site base last a words h)
-line_read (ret inward part site base last a0 words) h =
+text_read (ret inward part site base last a0 words) h =
     read_by _ (codes "ret") (ret_fields inward part site base last a0 words) _
     (ret_body inward part site base last a0 words) (record { all = refl })
     (ret_high inward part site base last a0 words h.0.0) (ret_at inward part site base last a0 words h)
-line_read (enter part export stk a back) h =
+text_read (enter part export stk a back) h =
     read_by _ (codes "enter") (enter_fields part export stk a back) _ (enter_body part export stk a back)
     (record { all = refl }) (enter_high part export stk a back h) (enter_at part export stk a back h)
-line_read (pass p0 p1 p2) h =
+text_read (pass p0 p1 p2) h =
     read_by _ (codes "pass") (pass_fields p0 p1 p2) _
     (regroup_pass (codes "pass") (codes " ") (passed_text p0) (passed_text p1) (passed_text p2))
     (record { all = refl }) (pair_high p0 h.0, (pair_high p1 h.1, (pair_high p2 h.2, tt)))
     (pass_at p0 p1 p2 h)
-line_read (leave part a0) h =
+text_read (leave part a0) h =
     read_by _ (codes "leave") (part ∷ word_text_of a0 ∷ []) _
     (regroup_leave (codes "leave") (codes " ") part (word_text_of a0)) (record { all = refl })
     (name_high part h.0, (word_high a0, tt)) (leave_at part a0 h)
+
+-- ---- lines that fit
+
+fit_have_texts : (ws : List Word) → AllFit ws → HaveTexts ws
+fit_have_texts [] h = tt
+fit_have_texts (w ∷ ws) h = (fits_has_text w h.0, fit_have_texts ws h.1)
+
+args_have_texts : (a : Args) → ArgsFit a → ArgsHaveTexts a
+args_have_texts a h =
+    (fits_has_text a.a0 h.0, fits_has_text a.a1 h.1, fits_has_text a.a2 h.2, fits_has_text a.a3 h.3)
+
+pub fitting_have_texts : FittingHaveTexts
+fitting_have_texts (call inward part site base last a words) h =
+    (h.0, args_have_texts a h.1, fit_have_texts words h.2)
+fitting_have_texts (ret inward part site base last a0 words) h =
+    (h.0, fits_has_text a0 h.1, fit_have_texts words h.2)
+fitting_have_texts (enter part export stk a back) h =
+    (h.0, h.1, fits_has_text stk h.2, args_have_texts a h.3, h.4)
+fitting_have_texts (pass p0 p1 p2) h = h
+fitting_have_texts (leave part a0) h = (h.0, fits_has_text a0 h.1)
+
+pub line_read : (l : Line) → LineFits l → line_in (body l) ≡ Some (line_seen l)
+line_read l h = text_read l (fitting_have_texts l h)

@@ -1,6 +1,4 @@
-use Rattle.std.proofs.Common.{ℕ, refl}
-use Rattle.overlay_machine.specs.State.{OState}
-use Rattle.overlay_machine.specs.Runs.{Reached}
+use Rattle.std.proofs.Common.{refl}
 use Rattle.overlay_machine.specs.Starting.{overlay_at}
 use Rattle.overlay_machine.specs.Keeping.{link_of}
 use Rattle.trace_tool.specs.Layout.{layout}

@@ -1,0 +1,228 @@
+-- What is taken from the front of fields is a text of what it is read as.
+use Rattle.std.proofs.Common.{◌≡◌, ℕ, ◌≤◌, ◌<◌, ◌^◌, Bool, true, false, List, [], ◌∷◌, ◌++◌, Option}
+use Rattle.std.proofs.Common.{Some, None, refl, sym, ap, ◌∙◌}
+use Rattle.std.specs.Prelude.{codes, decimal, map, is_some, ◌||◌}
+use Rattle.std.specs.List.{list_all, join_with_byte}
+use Rattle.std.specs.Str.{bytes_eq}
+use Rattle.std.proofs.lemmas.Bool.{and_parts}
+use Rattle.std.proofs.lemmas.Slice.Eq.{bytes_eq-Decides}
+use Rattle.std.proofs.lemmas.List.Splits.{join_with_byte-slice_split}
+use Rattle.cap_words.specs.declared.Word.{Word}
+use Rattle.cap_words.specs.Names.{is_name}
+use Rattle.cap_words.specs.Text.{word_text_of}
+use Rattle.trace_tool.specs.Lines.{Args, Return, out, bad, hop, pair, Passed, nothing, bad_pair, out_pair}
+use Rattle.trace_tool.specs.Lines.{hop_pair}
+use Rattle.trace_tool.specs.Texts.{return_text, passed_text}
+use Rattle.trace_tool.specs.Fits.{IsName, ReturnFits, PassedFits, is_told}
+use Rattle.line_fields.specs.Options.{where_true}
+use Rattle.line_fields.specs.Cuts.{parts}
+use Rattle.line_fields.specs.Numbers.{number_in}
+use Rattle.line_fields.specs.Words.{HasText, word_in, is_word}
+use Rattle.line_fields.specs.declared.forms.Back.{Back}
+use Rattle.line_fields.specs.declared.forms.Back.TheVariants as back
+use Rattle.line_fields.specs.declared.forms.Handed.{Handed}
+use Rattle.line_fields.specs.declared.forms.Handed.TheVariants as handed
+use Rattle.line_fields.specs.Forms.{back_in, handed_in, BackFits, back_text, HandedFits, handed_text}
+use Rattle.line_fields.specs.Fields.{Reader, goes_on, done, field, unless_none, meant, tested, fields}
+use Rattle.line_fields.specs.Fields.{whole}
+use Rattle.line_fields.proofs.Numbers.{number_is, chosen}
+use Rattle.line_fields.proofs.WordTexts.{word_is}
+use Rattle.line_fields.proofs.JumpTexts.{back_is, handed_is}
+use Rattle.run_items.proofs.Spaced.{spaced, no_rest}
+use Rattle.run_audit.specs.Lines.{is_direction, registers, words_left, is_pair}
+use Rattle.audited_runs.specs.Spelling.{HaveTexts, ArgsHaveTexts}
+use Rattle.audited_runs.proofs.Spelled.{dir_text}
+
+abbrev pub Fields : Type 0
+Fields = List (List ℕ)
+
+-- ---- one reader, and the next
+
+pub record Goes {A B : Type 0} (o : Option (A × Fields)) (f : A → Reader B) (y : B × Fields) : Type 0 where
+  pub value : A
+  pub rest : Fields
+  pub first : o ≡ Some (value, rest)
+  pub next : f value rest ≡ Some y
+
+pub goes : {A B : Type 0} (o : Option (A × Fields)) (f : A → Reader B) (y : B × Fields)
+    → goes_on o f ≡ Some y → Goes o f y
+goes None f y h = absurd cc
+goes (Some x) f y h = record { value = x.0; rest = x.1; first = refl; next = h }
+
+pub whole_is : {A : Type 0} (o : Option (A × Fields)) (x : A) → whole o ≡ Some x → o ≡ Some (x, [])
+whole_is None x h = absurd cc
+whole_is (Some (y, [])) x h = let same : y ≡ x = cc in ap (λ z. Some (z, [])) same
+whole_is (Some (y, t ∷ ts)) x h = absurd cc
+
+pub same_read : {A : Type 0} {x z : A} {ts us : Fields} → done x ts ≡ Some (z, us) → (x ≡ z) × (ts ≡ us)
+same_read {A = A} {x = x} {z = z} {ts = ts} {us = us} h =
+    let both : (x, ts) ≡ (z, us) = cc in
+    (ap (λ (p : A × Fields). p.0) both, ap (λ (p : A × Fields). p.1) both)
+
+-- one field in front of others
+pub and_then : {ts us vs : Fields} {t : List ℕ} → ts ≡ t ∷ us → us ≡ vs → ts ≡ t ∷ vs
+and_then {t = t} h k = h ∙ ap (λ ws. t ∷ ws) k
+
+-- ---- one field
+
+pub field_is : (ts : Fields) (x : List ℕ) (rest : Fields) → field ts ≡ Some (x, rest) → ts ≡ x ∷ rest
+field_is [] x rest h = absurd cc
+field_is (t ∷ ts) x rest h = let both = same_read h in and_then (ap (λ u. u ∷ ts) both.0) both.1
+
+pub unless_is : {A : Type 0} (o : Option A) (ts : Fields) (x : A) (rest : Fields)
+    → unless_none o ts ≡ Some (x, rest) → (o ≡ Some x) × (ts ≡ rest)
+unless_is None ts x rest h = absurd cc
+unless_is {A = A} (Some y) ts x rest h =
+    let both : (y, ts) ≡ (x, rest) = cc in
+    (ap (λ (p : A × Fields). Some p.0) both, ap (λ (p : A × Fields). p.1) both)
+
+pub tested_is : (test : List ℕ → Bool) (ts : Fields) (x : List ℕ) (rest : Fields)
+    → tested test ts ≡ Some (x, rest) → (test x ≡ true) × (ts ≡ x ∷ rest)
+unfolding tested
+tested_is test [] x rest h = absurd cc
+tested_is test (t ∷ ts) x rest h =
+    let k = unless_is (where_true (test t) t) ts x rest h in
+    let c = chosen (test t) t x k.0 in
+    (ap test (sym c.1) ∙ c.0, and_then (ap (λ u. u ∷ ts) c.1) k.1)
+
+pub meant_is : {A : Type 0} (read : List ℕ → Option A) (ts : Fields) (x : A) (rest : Fields)
+    → meant read ts ≡ Some (x, rest) → (t : List ℕ) × (read t ≡ Some x) × (ts ≡ t ∷ rest)
+unfolding meant
+meant_is read [] x rest h = absurd cc
+meant_is read (t ∷ ts) x rest h =
+    let k = unless_is (read t) ts x rest h in (t, k.0, ap (λ us. t ∷ us) k.1)
+
+-- ---- fields by what they are
+
+pub name_taken : (ts : Fields) (x : List ℕ) (rest : Fields) → tested is_name ts ≡ Some (x, rest)
+    → IsName x × (ts ≡ x ∷ rest)
+name_taken ts x rest h = tested_is is_name ts x rest h
+
+pub number_taken : (most : ℕ) (ts : Fields) (n : ℕ) (rest : Fields) → most < 2 ^ 64
+    → meant (number_in most) ts ≡ Some (n, rest) → (n ≤ most) × (ts ≡ decimal n ∷ rest)
+number_taken most ts n rest small h =
+    let k = meant_is (number_in most) ts n rest h in
+    let t = number_is most n k.0 small k.1 in
+    (t.0, k.2 ∙ ap (λ u. u ∷ rest) t.1)
+
+-- a word, by its text
+word_of : (t : List ℕ) (o : Option Word) → word_in t ≡ o → is_some o ≡ true
+    → (w : Word) × HasText w × (t ≡ word_text_of w)
+word_of t None e h = absurd cc
+word_of t (Some w) e h = let k = word_is w t e in (w, k.0, k.1)
+
+pub word_taken : (ts : Fields) (x : List ℕ) (rest : Fields) → tested is_word ts ≡ Some (x, rest)
+    → (w : Word) × HasText w × (ts ≡ word_text_of w ∷ rest)
+word_taken ts x rest h =
+    let k = tested_is is_word ts x rest h in
+    let w = word_of x (word_in x) refl k.0 in
+    (w.0, w.1, k.1 ∙ ap (λ u. u ∷ rest) w.2)
+
+direction_of : (a b : Bool) (x : List ℕ) → bytes_eq (codes "in") x ≡ a → bytes_eq (codes "out") x ≡ b
+    → (a || b) ≡ true → (d : Bool) × (x ≡ dir_text d)
+direction_of true b x p q h = (true, sym ((bytes_eq-Decides (codes "in") x).0 p))
+direction_of false true x p q h = (false, sym ((bytes_eq-Decides (codes "out") x).0 q))
+direction_of false false x p q h = absurd cc
+
+pub direction_taken : (ts : Fields) (x : List ℕ) (rest : Fields) → tested is_direction ts ≡ Some (x, rest)
+    → (d : Bool) × (ts ≡ dir_text d ∷ rest)
+direction_taken ts x rest h =
+    let k = tested_is is_direction ts x rest h in
+    let d = direction_of _ _ x refl refl k.0 in
+    (d.0, k.1 ∙ ap (λ u. u ∷ rest) d.1)
+
+pub mark_taken : (mark : List ℕ) (ts : Fields) (x : List ℕ) (rest : Fields)
+    → tested (bytes_eq mark) ts ≡ Some (x, rest) → ts ≡ mark ∷ rest
+mark_taken mark ts x rest h =
+    let k = tested_is (bytes_eq mark) ts x rest h in
+    k.1 ∙ ap (λ u. u ∷ rest) (sym ((bytes_eq-Decides mark x).0 k.0))
+
+-- where a return leads
+return_as : (b : Back) → BackFits b → (r : Return) × ReturnFits r × (return_text r ≡ back_text b)
+return_as back.Out h = (out, tt, refl)
+return_as back.Bad h = (bad, tt, refl)
+return_as (back.Hop entry) h = (hop entry.part entry.name, h, refl)
+return_as (back.Pair call) h = (pair call.part call.site call.base, h, refl)
+
+pub back_taken : (ts : Fields) (b : Back) (rest : Fields) → meant back_in ts ≡ Some (b, rest)
+    → (r : Return) × ReturnFits r × (ts ≡ return_text r ∷ rest)
+back_taken ts b rest h =
+    let k = meant_is back_in ts b rest h in
+    let t = back_is b k.0 k.1 in
+    let r = return_as b t.0 in
+    (r.0, r.1, k.2 ∙ ap (λ u. u ∷ rest) (t.1 ∙ sym r.2))
+
+-- what two registers are
+passed_as : (p : Handed) → HandedFits p
+    → (q : Passed) × PassedFits q × (passed_text q ≡ handed_text p) × (is_told q ≡ is_pair p)
+passed_as handed.Nothing h = (nothing, tt, refl, refl)
+passed_as handed.Bad h = (bad_pair, tt, refl, refl)
+passed_as handed.Out h = (out_pair, tt, refl, refl)
+passed_as (handed.Hop entry) h = (hop_pair entry.part entry.name, h, refl, refl)
+
+pub pair_taken : (ts : Fields) (p : Handed) (rest : Fields) → meant handed_in ts ≡ Some (p, rest)
+    → (q : Passed) × PassedFits q × (ts ≡ passed_text q ∷ rest) × (is_told q ≡ is_pair p)
+pair_taken ts p rest h =
+    let k = meant_is handed_in ts p rest h in
+    let t = handed_is p k.0 k.1 in
+    let q = passed_as p t.0 in
+    (q.0, q.1, k.2 ∙ ap (λ u. u ∷ rest) (t.1 ∙ sym q.2), q.3)
+
+-- ---- many fields
+
+pub record ArgsTaken (ts rest : Fields) : Type 0 where
+  pub args : Args
+  pub texts : ArgsHaveTexts args
+  pub is : ts ≡ word_text_of args.a0 ∷ word_text_of args.a1 ∷ word_text_of args.a2 ∷ word_text_of args.a3
+      ∷ rest
+
+pub args_taken : (ts : Fields) (x : List ℕ) (rest : Fields) → registers true ts ≡ Some (x, rest)
+    → ArgsTaken ts rest
+args_taken ts x rest h =
+    let g0 = goes (tested is_word ts) _ (x, rest) h in
+    let g1 = goes (tested is_word g0.rest) _ (x, rest) g0.next in
+    let g2 = goes (tested is_word g1.rest) _ (x, rest) g1.next in
+    let w0 = word_taken ts g0.value g0.rest g0.first in
+    let w1 = word_taken g0.rest g1.value g1.rest g1.first in
+    let w2 = word_taken g1.rest g2.value g2.rest g2.first in
+    let w3 = word_taken g2.rest x rest g2.next in
+    record {
+      args = record { a0 = w0.0; a1 = w1.0; a2 = w2.0; a3 = w3.0 };
+      texts = (w0.1, w1.1, w2.1, w3.1);
+      is = and_then w0.2 (and_then w1.2 (and_then w2.2 w3.2));
+    }
+
+words_of : (ts : Fields) → list_all is_word ts ≡ true
+    → (ws : List Word) × HaveTexts ws × (ts ≡ map word_text_of ws)
+words_of [] h = ([], tt, refl)
+words_of (t ∷ ts) h =
+    let p = and_parts (is_word t) (list_all is_word ts) h in
+    let w = word_of t (word_in t) refl p.0 in
+    let r = words_of ts p.1 in
+    (w.0 ∷ r.0, (w.1, r.1), and_then (ap (λ u. u ∷ ts) w.2) r.2)
+
+pub record WordsTaken (ts xs rest : Fields) : Type 0 where
+  pub words : List Word
+  pub texts : HaveTexts words
+  pub is : ts ≡ map word_text_of words
+  pub same : xs ≡ ts
+  pub none : rest ≡ []
+
+pub words_taken : (ts xs rest : Fields) → words_left ts ≡ Some (xs, rest) → WordsTaken ts xs rest
+unfolding words_left
+words_taken ts xs rest h =
+    let k = unless_is (where_true (list_all is_word ts) ts) [] xs rest h in
+    let c = chosen (list_all is_word ts) ts xs k.0 in
+    let w = words_of ts c.0 in
+    record { words = w.0; texts = w.1; is = w.2; same = sym c.1; none = sym k.1 }
+
+-- ---- a line by its fields
+
+joined : (t : List ℕ) (ts : Fields) → join_with_byte 32 (t ∷ ts) ≡ t ++ spaced ts
+joined t [] = sym (no_rest t)
+joined t (u ∷ us) = ap (λ v. t ++ 32 ∷ v) (joined u us)
+
+pub by_fields : (text t : List ℕ) (ts : Fields) → fields text ≡ t ∷ ts → text ≡ t ++ spaced ts
+unfolding parts
+by_fields text t ts h =
+    sym (join_with_byte-slice_split 32 text) ∙ ap (join_with_byte 32) h ∙ joined t ts
