@@ -4,5 +4,5 @@ use Rattle.debug_tool.proofs.run.run_script.Given as goal
 
 abbrev pub invariant-loop-command : goal.invariant-loop-command
 invariant-loop-command g l =
-    HaveTold (g.S.Sink.seen l.fn.out) l.fn.debugger l.fn.script l.command-index (g.S.Sink.seen l.out)
+    HaveTold (g.S.Sink.seen l.fn.out) l.fn.debugger l.command-items l.command-index (g.S.Sink.seen l.out)
     l.debugger
