@@ -1,6 +1,6 @@
 -- Replies written one after another.
-use Rattle.std.proofs.Common.{◌≡◌, ℕ, ◌+◌, ◌^◌, ◌<◌, ◌≤◌, suc, length, take, drop, get_or, drop-cons, List, []}
-use Rattle.std.proofs.Common.{◌∷◌, ◌++◌, Ok, refl, sym, ap, ◌∙◌, subst, arith}
+use Rattle.std.proofs.Common.{◌≡◌, ℕ, ◌+◌, ◌^◌, ◌<◌, ◌≤◌, suc, length, take, drop, get_or, drop-cons, List}
+use Rattle.std.proofs.Common.{[], ◌∷◌, ◌++◌, Ok, refl, sym, ap, ◌∙◌, subst, arith}
 use Rattle.std.proofs.lemmas.List.{take_more, take-append-drop, length-take-le}
 use Rattle.outside_io.specs.SinkSeen.{SinkSeen, Adds, FailsToWrite, IsOneWrite}
 use Rattle.outside_io.specs.Writes.{AddsPieces}
@@ -85,7 +85,8 @@ module _ (sink : SinkSeen) (begun : Debugging) (all : List Command) (i : ℕ) (n
 
       parts : replies all begun ≡ replies (take i all) begun
           ++ reply (get_or all i other) d ∷ replies (drop (i + 1) all) (after_command (get_or all i other) d)
-      parts = ap (λ cs. replies cs begun) (sym (take-append-drop i all) ∙ ap (λ cs. take i all ++ cs) behind_it)
+      parts = ap (λ cs. replies cs begun)
+          (sym (take-append-drop i all) ∙ ap (λ cs. take i all ++ cs) behind_it)
           ∙ replies-append (take i all) (get_or all i other ∷ drop (i + 1) all) begun
           ∙ ap (λ x. replies (take i all) begun ++ replies (get_or all i other ∷ drop (i + 1) all) x)
           (sym t.led)

@@ -94,7 +94,8 @@ module _ (old : List ℕ) (left : List Stretch) (base end from : ℕ) (new : Lis
               | inl out ↦ takes.taken a ∙ rw (le-leb base a ge, lt-leb a end out)
                   (both (nat_lt a from) (has old a))
               | inr in_it ↦
-                  elim (cases_lt a from) as (λ _. has new a ≡ ((nat_le base a && nat_le a end) || has old a)) [
+                  elim (cases_lt a from) as (λ _. has new a
+                  ≡ ((nat_le base a && nat_le a end) || has old a)) [
                     | inl before ↦
                         takes.taken a ∙ rw (le-leb base a ge, le-leb a end in_it, lt-ltb a from before)
                         refl
