@@ -199,12 +199,14 @@ impl<W> Cells<W> {
         self.find_in(spot, at)
     }
 
-    /// Where an address stands, if it lies in a span. That span is remembered for the next look-up.
+    /// Where an address stands, if it lies in a span, and else it has no cell. That span is remembered
+    /// for the next look-up.
     #[inline(always)]
     #[tactic(auto, using(crate::proofs::SpanLemmas::cell_outside))]
     pub fn seek(&mut self, at: u32) -> Option<Spot>
         ensures here { IfSome result (λ spot. StandsAt self.old.spans spot at) }
-        ensures none { IfNone result (cell self.old.words at ≡ None) }
+        ensures none { IfNone result (in_spans at self.old.spans ≡ false) }
+        ensures no_cell { IfNone result (cell self.old.words at ≡ None) }
         ensures same { self.new ≡ self.old }
     {
         seek_from(self.spans.as_slice(), &mut self.used, at)
@@ -215,7 +217,8 @@ impl<W> Cells<W> {
     #[tactic(auto, using(crate::proofs::SpanLemmas::cell_outside))]
     pub fn seek_code(&mut self, at: u32) -> Option<Spot>
         ensures here { IfSome result (λ spot. StandsAt self.old.spans spot at) }
-        ensures none { IfNone result (cell self.old.words at ≡ None) }
+        ensures none { IfNone result (in_spans at self.old.spans ≡ false) }
+        ensures no_cell { IfNone result (cell self.old.words at ≡ None) }
         ensures same { self.new ≡ self.old }
     {
         seek_from(self.spans.as_slice(), &mut self.fetched, at)
