@@ -24,12 +24,10 @@ use Rattle.lcm_machine.specs.declared.Place.TheVariants.{R}
 use Rattle.lcm_machine.specs.Maps.{State}
 use Rattle.lcm_machine.specs.Table.{fits_64, is_zero, bit}
 use Rattle.lcm_machine.specs.Row.{put, row, went, failed}
-use Rattle.lcm_machine.specs.Runs.{run_of, Stands, code_cap}
-use Rattle.lcm_machine.specs.Refusals.{HasFailed}
+use Rattle.lcm_machine.specs.Runs.{and_then, run_of, Stands, code_cap}
 use Rattle.lcm_machine.proofs.Offers.{go, ran, stop, stays, number_in, fail_fails, move_goes, set_goes}
 use Rattle.lcm_machine.proofs.Offers.{cca_goes, gettype_goes, getlin_goes, getp_goes, getb_goes, gete_goes}
-use Rattle.lcm_machine.proofs.Offers.{minus_goes, jnz_goes, jnz_jumps, seta2b_goes, run_then, failed_more}
-use Rattle.lcm_machine.proofs.Offers.{then_failed}
+use Rattle.lcm_machine.proofs.Offers.{minus_goes, jnz_goes, jnz_jumps, seta2b_goes, run_then, run_of-add}
 use Rattle.call_sequence.specs.Sequences.{entry_code, distance}
 use Rattle.call_sequence.specs.SequenceRuns.{HasEntry, EntryRuns, EntryFails, is_stack_at}
 use Rattle.call_sequence.proofs.LawLemmas.{fits_small, small_operand, near_operand, leads, not_zero}
@@ -94,17 +92,22 @@ module _ {W : Type 0} (look : W → Word) (plain : Word → W) (seen : (x : Word
       → ((next : Word)
       → row look plain i next s ≡ went (put (put s (R T1) (plain (Int v))) (R Pc) (plain next)))
       → fits_64 (v -ℤ c) ≡ true → is_zero (v -ℤ c) ≡ false
-      → HasFailed (run_of look plain 4 s)
+      → run_of look plain 4 s ≡ failed F4 (pos fail)
   test_fails s base last at fail i v c hpc ht code f low high fl fh ok fc does fit e =
-      let ran4 : run_of look plain 4 s ≡ failed F4 (pos fail) =
       go look plain _ _ _ base last at _ hpc low (omega arith) code.0 ok (does _)
       ∙ go look plain _ _ _ base last (at + 1) _ (seen _) (omega arith) (omega arith)
       code.1.0 fc (minus_goes look plain _ _ _ _ _ v c (v -ℤ c) refl (seen _) refl refl fit)
       ∙ go look plain _ _ _ base last (at + 1 + 1) _ (seen _) (omega arith) (omega arith)
       code.1.1.0 tt
       (jnz_jumps look plain _ _ _ _ _ (v -ℤ c) (seen _) e (stays look plain _ _ (ap is_linear ht)))
-      ∙ stop look plain _ _ base last fail Fail F4 ht fl fh f.0 tt (fail_fails look plain _ _) in
-      rw ran4 tt
+      ∙ stop look plain _ _ base last fail Fail F4 ht fl fh f.0 tt (fail_fails look plain _ _)
+
+  -- what goes on and then fails, and stays failed
+  then_fails : (n m k : ℕ) (s t : State W) (at : ℕ) → run_of look plain n s ≡ went t
+      → run_of look plain m t ≡ failed F4 (pos at) → run_of look plain (n + m + k) s ≡ failed F4 (pos at)
+  then_fails n m k s t at goes fails =
+      run_of-add look plain (n + m) k s
+      ∙ ap (λ r. and_then r (run_of look plain k)) (run_then look plain n m s t _ goes fails)
 
   module _ (s : State W) (base last at sb fail offset to : ℕ)
       (hpc : look s.regs.pc ≡ Mem (code_cap base last at))
@@ -132,14 +135,15 @@ module _ {W : Type 0} (look : W → Word) (plain : Word → W) (seen : (x : Word
       where
         -- stk is no memory capability
         no_memory : (x : Word) → look s.regs.stk ≡ x → is_zero (face_number (face_of x) -ℤ pos 1) ≡ false
-            → fits_64 (face_number (face_of x) -ℤ pos 1) ≡ true → HasFailed (run_of look plain 20 s)
+            → fits_64 (face_number (face_of x) -ℤ pos 1) ≡ true
+            → run_of look plain 20 s ≡ failed F4 (pos fail)
         unfolding entry_code
         no_memory x hx e f =
-            failed_more look plain 6 14 s (then_failed look plain 2 4 s b2 begins
+            then_fails 2 4 14 s b2 fail begins
             (test_fails b2 base last p2 fail (Gettype T1 Stk) (face_number (face_of x)) (pos 1) (seen _)
             (seen _) (code.1.1.0, (code.1.1.1.0, (code.1.1.1.1.0, tt))) stops (omega arith) (omega arith)
             high_fail end_fail tt (search rules)
-            (λ next. gettype_goes look plain T1 Stk next b2 x refl hx) f e))
+            (λ next. gettype_goes look plain T1 Stk next b2 x refl hx) f e)
 
     module _ (c : CapFields) (hstk : look s.regs.stk ≡ Mem c) where
       up1 : run_of look plain 5 s ≡ went (tested s base last (at + 1 + 1 + 1 + 1 + 1) fail (pos 0))
@@ -264,12 +268,11 @@ module _ {W : Type 0} (look : W → Word) (plain : Word → W) (seen : (x : Word
 
       module _ (high_fail : base ≤ fail) (end_fail : fail ≤ last)
           (stops : Stands look s.cells fail (Fail ∷ [])) where
-        normal_fails : lin_is c.lin ≡ false → HasFailed (run_of look plain 20 s)
+        normal_fails : lin_is c.lin ≡ false → run_of look plain 20 s ≡ failed F4 (pos fail)
         unfolding entry_code
         normal_fails e =
             let v : bit (lin_is c.lin) ≡ pos 0 = ap bit e in
-            failed_more look plain 9 11 s
-            (then_failed look plain 5 4 s (tested s base last (at + 1 + 1 + 1 + 1 + 1) fail (pos 0)) up1
+            then_fails 5 4 11 s (tested s base last (at + 1 + 1 + 1 + 1 + 1) fail (pos 0)) fail up1
             (test_fails (tested s base last (at + 1 + 1 + 1 + 1 + 1) fail (pos 0))
             base last (at + 1 + 1 + 1 + 1 + 1) fail (Getlin T1 Stk) (pos 0) (pos 1) (seen _) (seen _)
             (code.1.1.1.1.1.0, (code.1.1.1.1.1.1.0, (code.1.1.1.1.1.1.1.0, tt))) stops (omega arith)
@@ -279,15 +282,14 @@ module _ {W : Type 0} (look : W → Word) (plain : Word → W) (seen : (x : Word
             ∙ ap (λ z.
             went (put
             (put (tested s base last (at + 1 + 1 + 1 + 1 + 1) fail (pos 0)) (R T1) (plain (Int z))) (R Pc)
-            (plain next))) v) refl refl))
+            (plain next))) v) refl refl)
 
         perm_fails : lin_is c.lin ≡ true → (perm_number c.perm == 2) ≡ false
-            → HasFailed (run_of look plain 20 s)
+            → run_of look plain 20 s ≡ failed F4 (pos fail)
         unfolding entry_code
         perm_fails lin e =
-            failed_more look plain 12 8 s
-            (then_failed look plain 8 4 s
-            (tested s base last (at + 1 + 1 + 1 + 1 + 1 + 1 + 1 + 1) fail (pos 0)) (up2 lin)
+            then_fails 8 4 8 s
+            (tested s base last (at + 1 + 1 + 1 + 1 + 1 + 1 + 1 + 1) fail (pos 0)) fail (up2 lin)
             (test_fails (tested s base last (at + 1 + 1 + 1 + 1 + 1 + 1 + 1 + 1) fail (pos 0))
             base last (at + 1 + 1 + 1 + 1 + 1 + 1 + 1 + 1) fail (Getp T1 Stk) (pos (perm_number c.perm))
             (pos 2) (seen _) (seen _)
@@ -295,15 +297,14 @@ module _ {W : Type 0} (look : W → Word) (plain : Word → W) (seen : (x : Word
             stops (omega arith) (omega arith) high_fail end_fail tt (search rules)
             (λ next. getp_goes look plain T1 Stk next
             (tested s base last (at + 1 + 1 + 1 + 1 + 1 + 1 + 1 + 1) fail (pos 0)) (Mem c) refl hstk)
-            (perm_fits c.perm) (not_zero (perm_number c.perm) 2 (eqb-false (perm_number c.perm) 2 e))))
+            (perm_fits c.perm) (not_zero (perm_number c.perm) 2 (eqb-false (perm_number c.perm) 2 e)))
 
         base_fails : lin_is c.lin ≡ true → (perm_number c.perm == 2) ≡ true → c.base ≢ sb
-            → c.base ≤ LAST_PLACE → sb ≤ LAST_PLACE → HasFailed (run_of look plain 20 s)
+            → c.base ≤ LAST_PLACE → sb ≤ LAST_PLACE → run_of look plain 20 s ≡ failed F4 (pos fail)
         unfolding entry_code
         base_fails lin perm ne small_base small_sb =
-            failed_more look plain 15 5 s
-            (then_failed look plain 11 4 s
-            (tested s base last (at + 1 + 1 + 1 + 1 + 1 + 1 + 1 + 1 + 1 + 1 + 1) fail (pos 0))
+            then_fails 11 4 5 s
+            (tested s base last (at + 1 + 1 + 1 + 1 + 1 + 1 + 1 + 1 + 1 + 1 + 1) fail (pos 0)) fail
             (up3 lin perm)
             (test_fails (tested s base last (at + 1 + 1 + 1 + 1 + 1 + 1 + 1 + 1 + 1 + 1 + 1) fail (pos 0))
             base last (at + 1 + 1 + 1 + 1 + 1 + 1 + 1 + 1 + 1 + 1 + 1) fail (Getb T1 Stk) (pos c.base)
@@ -314,7 +315,7 @@ module _ {W : Type 0} (look : W → Word) (plain : Word → W) (seen : (x : Word
             (omega arith) high_fail end_fail tt (small_operand sb small_sb)
             (λ next. getb_goes look plain T1 Stk next
             (tested s base last (at + 1 + 1 + 1 + 1 + 1 + 1 + 1 + 1 + 1 + 1 + 1) fail (pos 0)) (Mem c)
-            refl hstk) (fits_less c.base sb small_base small_sb) (not_zero c.base sb ne)))
+            refl hstk) (fits_less c.base sb small_base small_sb) (not_zero c.base sb ne))
 
   module _ (s : State W) (base last at sb : ℕ) (h : HasEntry look s.cells base last at sb) where
     abbrev to_fail : ℕ
@@ -348,8 +349,11 @@ module _ {W : Type 0} (look : W → Word) (plain : Word → W) (seen : (x : Word
     from : base ≤ fail
     from = omega arith
 
+    abbrev Fails : Type 0
+    Fails = run_of look plain 20 s ≡ failed F4 (pos fail)
+
     by_word : (x : Word) → look s.regs.stk ≡ x → FaceInOrder (face_of x) → is_stack_at sb (face_of x) ≡ false
-        → HasFailed (run_of look plain 20 s)
+        → Fails
     by_word (Int z) e q o =
         no_memory s base last at sb fail h.offset h.fail hpc h.code (begins_in s base last at sb h)
         h.ends (leads_there s base last at sb h) (fail_small s base last at sb h)
@@ -366,12 +370,12 @@ module _ {W : Type 0} (look : W → Word) (plain : Word → W) (seen : (x : Word
         no_memory s base last at sb fail h.offset h.fail hpc h.code (begins_in s base last at sb h)
         h.ends (leads_there s base last at sb h) (fail_small s base last at sb h)
         (is_operand s base last at sb h) from h.fails.1 h.fails.0 (Sealed n (SealIn z)) e refl refl
-    by_word (Mem c) e q o = elim (cases_Bool (lin_is c.lin)) as (λ _. HasFailed (run_of look plain 20 s)) [
+    by_word (Mem c) e q o = elim (cases_Bool (lin_is c.lin)) as (λ _. Fails) [
       | inr normal ↦
           normal_fails s base last at sb fail h.offset h.fail hpc h.code (begins_in s base last at sb h)
           h.ends (leads_there s base last at sb h) (fail_small s base last at sb h)
           (is_operand s base last at sb h) c e from h.fails.1 h.fails.0 normal
-      | inl lin ↦ elim (cases_Bool (perm_number c.perm == 2)) as (λ _. HasFailed (run_of look plain 20 s)) [
+      | inl lin ↦ elim (cases_Bool (perm_number c.perm == 2)) as (λ _. Fails) [
         | inr other ↦
             perm_fails s base last at sb fail h.offset h.fail hpc h.code (begins_in s base last at sb h)
             h.ends (leads_there s base last at sb h) (fail_small s base last at sb h)

@@ -201,10 +201,10 @@ abbrev pub is_stack_at : ℕ → Face → Bool
 is_stack_at stack_base (Memory c) = lin_is c.lin && (perm_number c.perm == 2) && (c.base == stack_base)
 is_stack_at stack_base _ = false
 
--- with any other stk it fails
+-- with any other stk, of whatever kind, it fails at the `fail`
 abbrev pub EntryFails : {W : Type 0} → (W → Word) → (Word → W) → Type 0
 EntryFails {W} look plain = (s : State W) (base last at stack_base : ℕ)
-    → HasEntry look s.cells base last at stack_base
+    → (code : HasEntry look s.cells base last at stack_base)
     → look s.regs.pc ≡ Mem (code_cap base last at) → FaceInOrder (face_of (look s.regs.stk))
     → is_stack_at stack_base (face_of (look s.regs.stk)) ≡ false → stack_base ≤ LAST_PLACE
-    → HasFailed (run_of look plain ENTRY_WORDS s)
+    → run_of look plain ENTRY_WORDS s ≡ failed F4 (pos (base + code.fail))

@@ -1,6 +1,7 @@
 //! What stands where a sequence stands, and what sequences do. These functions do nothing; their
 //! contracts are the laws.
-ghost use Rattle.std.specs.Prelude.{◌≡◌, ℕ, true};
+ghost use Rattle.std.specs.Prelude.{ℕ};
+ghost use Rattle.std.specs.Bool.{Decides};
 ghost use Rattle.component_file.specs.declared.component.ComponentFields.{ComponentFields};
 ghost use Rattle.call_sequence.specs.Standing.{is_site, is_entry, SiteStands, EntryStands};
 ghost use Rattle.call_sequence.specs.SequenceRuns.{CallRuns, CallJumps, CallAtBaseFails, CallOutsideFails};
@@ -9,10 +10,10 @@ ghost use Rattle.call_sequence.specs.SequenceRuns.{EntryRuns, EntryFails};
 
 use cap_words::MachineWord;
 
-/// Where `is_site` and `is_entry` answer true, each word is its instruction's number.
+/// `is_site` and `is_entry` answer true exactly where each word is its instruction's number.
 pub fn sequences_stand_word_by_word()
-    ensures sites { (c : ComponentFields) (index : ℕ) → is_site c index ≡ true → SiteStands c index }
-    ensures entries { (c : ComponentFields) (at : ℕ) → is_entry c at ≡ true → EntryStands c at }
+    ensures sites { (c : ComponentFields) (index : ℕ) → Decides (is_site c index) (SiteStands c index) }
+    ensures entries { (c : ComponentFields) (at : ℕ) → Decides (is_entry c at) (EntryStands c at) }
 {}
 
 /// What a call's words do: `data` is stored where stk stands, the stack is split behind that, the
@@ -34,7 +35,7 @@ pub fn returns_run<W: MachineWord>()
 {}
 
 /// What an entry's words do: stk is set to its end, where it is a linear capability with rw that
-/// begins at the stack's base, and else they fail.
+/// begins at the stack's base, and else they end at the part's `fail`.
 pub fn entries_run<W: MachineWord>()
     ensures stack { EntryRuns W.look W.plain }
     ensures others { EntryFails W.look W.plain }

@@ -140,13 +140,13 @@ module _ (l : Layout) (a : ℕ) (o : OState) (t : State Word) (at_entry : AtEntr
   refuses e =
       let face_is : face_of t.regs.stk ≡ face_of (look o.maps.regs.stk) =
       ap face_of (m.regs Stk) ∙ k.0 (R Stk) _ refl in
-      both_fail l _ _ (rw (at_entry.pc, e) refl)
+      both_fail l _ _ (rw (at_entry.pc, e) refl) (rw
       (entry_fails id id (λ x. refl)
       t at_entry.base at_entry.end a l.stack.base
       (HasEntry-flat l o t m k at_entry.base at_entry.end a l.stack.base at_entry.entry)
       pc_is (rw face_is at_entry.in_order)
       (ap (is_stack_at l.stack.base) face_is ∙ not_own l (face_of (look o.maps.regs.stk)) e)
-      at_entry.small_stack)
+      at_entry.small_stack) tt)
 
   by_stack : (x : Option CapFields) → own_stack l o.maps ≡ x → Agrees l (entry_step l a o) (run_of id id 20 t)
   by_stack None e = refuses e
