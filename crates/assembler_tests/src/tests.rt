@@ -216,7 +216,8 @@ d $# none$$!
 h !x: .code 0
 c halt$x: !.data 0
 d .int 0$x: !.site 0
-t .site 0$!z: .site 1";
+t .site 0$!z: .site 1
+c a: halt$.data 0$.int 0$.site 0$!a: .site 1";
 
 // Labels that no section has, that the other one has, and the first of two. The last one: before tables that
 // are out of order.

@@ -14,7 +14,7 @@ use place_sets::{PlaceSet, Stretch};
 use std::alloc::{AllocError, Global};
 
 /// The addresses and seals that were found, and of those that can be read the ones whose words weren't
-/// looked at yet. No address is left twice, so each cell is looked at once.
+/// looked at yet.
 #[derive(Drop)]
 pub(crate) struct Found {
     pub(crate) read: PlaceSet,

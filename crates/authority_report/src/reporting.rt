@@ -53,8 +53,7 @@ pub(crate) fn owner_at(start: &Start, part: u32) -> &Owner
 /// word that the part can come by gives it. And from each of its entries the part runs within it, up to
 /// and with the first jump under a seal that isn't its own.
 ///
-/// Of each address that can be read the word is looked at once. It takes four tables of 4 MiB while
-/// it is made.
+/// It takes four tables of 4 MiB while it is made.
 ///
 /// # Errors
 ///

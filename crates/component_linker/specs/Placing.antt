@@ -1,5 +1,5 @@
 -- Where parts stand: those that are movable stand behind the others, in their order.
-use Rattle.std.specs.Prelude.{ℕ, zero, suc, ◌+◌, ◌-◌, ◌==◌, nat_lt, min, max, ℤ, pos, ◌+ℤ◌, ◌-ℤ◌, Bool, true}
+use Rattle.std.specs.Prelude.{ℕ, zero, suc, ◌+◌, ◌-◌, ◌==◌, nat_lt, min, ℤ, pos, ◌+ℤ◌, ◌-ℤ◌, Bool, true}
 use Rattle.std.specs.Prelude.{not, ◌||◌, List, map, length, Option, Some, None, if◌then◌else◌}
 use Rattle.std.specs.List.{list_all}
 use Rattle.cap_words.specs.declared.TheConstants.{LAST_PLACE}

@@ -1,4 +1,4 @@
-use Rattle.std.proofs.Common.{false, refl, sym, ap, ◌∙◌}
+use Rattle.std.proofs.Common.{refl, sym, ap, ◌∙◌}
 use Rattle.std.specs.List.{list_all}
 use Rattle.component_linker.specs.Placing.{moved_word, points_in_range}
 use Rattle.component_linker.proofs.Settling.{points_of}
