@@ -6,8 +6,8 @@ ghost use Rattle.audited_runs.specs.Spelling.{LinesAreRead, FittingHaveTexts};
 use overlay_machine::laws::{a_start_has_one_overlay, linked_starts_agree, starts_begin};
 use trace_tool::laws::{lines_are_bracketed, lines_fit, the_headline};
 
-/// An audit reads bytes as a line exactly where they are the text of a line of an event, or of an end line,
-/// and as what it is. Each line that fits has such a text.
+/// An audit reads bytes as a line exactly where, with a newline, they are the text of a line of an event, or
+/// of an end line, and as what it is. Each line that fits has such a text.
 pub fn lines_are_read()
     ensures exact { LinesAreRead }
     ensures fitting { FittingHaveTexts }

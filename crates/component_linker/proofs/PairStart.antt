@@ -68,12 +68,15 @@ module _ (parts : List PartSeen) (size : ℕ) (linked : Linked parts size) where
       let end = (all_within parts size r.0 linked r.1).1 in
       omega (arith, high, end)
 
+  none_from : (a : ℕ) → 1048576 ≤ a → start_cell parts size a ≡ None
+  none_from a ge =
+      none_if (start_cell parts size a) (λ w e. (let lt = in_bounds a w e in omega (arith, lt, ge)))
+
   pub cells_filled : (a : ℕ) → cell (filled (start_cell parts size) 1048576) a ≡ start_cell parts size a
-  cells_filled a =
-      elim (cases_lt a 1048576) as (λ _. cell (filled (start_cell parts size) 1048576) a ≡ start_cell parts size a) [
+  cells_filled a = elim (cases_lt a 1048576)
+      as (λ _. cell (filled (start_cell parts size) 1048576) a ≡ start_cell parts size a) [
         | inl lt ↦ filled_below (start_cell parts size) 1048576 a lt
-        | inr ge ↦ filled_past (start_cell parts size) 1048576 a ge
-            ∙ sym (none_if (start_cell parts size a) (λ w e. (let lt = in_bounds a w e in omega (arith, lt, ge))))
+        | inr ge ↦ filled_past (start_cell parts size) 1048576 a ge ∙ sym (none_from a ge)
       ]
 
 -- ---- sites and owners of two parts
@@ -97,10 +100,12 @@ module _ (one two : ComponentFields) where
   pair = first ∷ second ∷ []
 
   -- the trusted part is the first one
-  trusted_first : (k : ℕ) (p : PartSeen) → slice_get pair k ≡ Some p → p.trusted ≡ true → (k ≡ 0) × (first ≡ p)
+  trusted_first : (k : ℕ) (p : PartSeen) → slice_get pair k ≡ Some p → p.trusted ≡ true
+      → (k ≡ 0) × (first ≡ p)
   trusted_first zero p at t = (refl, cc)
   trusted_first (suc zero) p at t =
-      absurd (let is : second ≡ p = cc in let n : false ≡ true = ap (λ (x : PartSeen). x.trusted) is ∙ t in cc)
+      let is : second ≡ p = cc in
+      absurd (let n : false ≡ true = ap (λ (x : PartSeen). x.trusted) is ∙ t in cc)
   trusted_first (suc (suc k)) p at t = absurd cc
 
   module _ (offset : ℕ) (is : one.sites ≡ offset ∷ []) where

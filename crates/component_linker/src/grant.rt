@@ -8,9 +8,8 @@ use lcm_machine::{LcmState, Place, Span};
 
 /// The right to make the one capability over a stack.
 ///
-/// It is neither `Clone` nor `Drop`: it is made once for a start, from the stack's addresses, and a
-/// path that doesn't spend it is a compile error. Nothing else here makes a capability over a
-/// stack.
+/// It is neither `Clone` nor `Drop`: a path that doesn't spend it is a compile error. Nothing else here
+/// makes a capability over a stack.
 pub(crate) struct StackGrant {
     stack: Span,
 }

@@ -10,7 +10,7 @@ use crate::reserved::append;
 use std::alloc::{AllocError, Global};
 use std::marker::Model;
 
-/// A sink that holds up to `ROOM` bytes, in memory that was reserved when it was made. It takes none
+/// A sink that holds up to `ROOM` bytes, in memory that was reserved when it was made. It needs none
 /// after that.
 #[derive(Drop)]
 pub struct SafeSink<const ROOM: usize> {

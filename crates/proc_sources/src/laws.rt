@@ -29,7 +29,7 @@ pub fn sources_are_modules()
 }
 
 /// The module of a source with tokens is what is left of one that keeps the limits, whose names are resolved
-/// and whose tokens are spent once each on every way.
+/// and whose tokens have their typing.
 pub fn tokens_are_erased()
     ensures { (text : List ℕ) (m : ModuleFields) → module_in Tokens text ≡ Ok m
         → (t : TokenModuleFields) × (token_module_in text ≡ Ok t) × IsTokenModule t × IsTokenResolved t

@@ -26,8 +26,9 @@ module _ (g : Link) (linked : Linked g) (o q : OState) where
   goes_on (enters p k v ip entry pc dat safe shared frames cells event) =
       sharing.enters p k ip shared pc safe frames cells
   goes_on (returns r1 r2 v r event) =
-      sharing.returns r.frame r.site (r.frames_are ∙ ap (λ fs. r.frame ∷ fs) (sym (ap (λ x. x.frames) r.result)))
-      r.site_is (ap (λ x. x.maps.regs.pc) r.result) v.private
+      let older : r.older ≡ q.frames = sym (ap (λ x. x.frames) r.result) in
+      sharing.returns r.frame r.site (r.frames_are ∙ ap (λ fs. r.frame ∷ fs) older) r.site_is
+      (ap (λ x. x.maps.regs.pc) r.result) v.private
 
 pub shared_alone : SharedAloneIsEntered
 shared_alone g o q linked h e = goes_on g linked o q (leaves g linked o (outside g linked o q h) q e)

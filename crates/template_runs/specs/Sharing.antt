@@ -1,4 +1,4 @@
--- Code outside enters a trusted part where it shares a procedure, and nowhere else.
+-- Code outside enters a trusted part where it shares a procedure, or by a return, and nowhere else.
 use Rattle.std.specs.Prelude.{◌≡◌, ◌≢◌, ℕ, ◌+◌, ◌<◌, ◌∷◌, length, Some}
 use Rattle.cap_words.specs.declared.Word.{Word}
 use Rattle.cap_words.specs.declared.Word.TheVariants.{Mem}

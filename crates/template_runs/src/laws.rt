@@ -2,13 +2,15 @@
 //! their contracts are the laws.
 ghost use Rattle.template_runs.specs.Sharing.{SharedAloneIsEntered};
 
-/// Code outside enters a trusted part only where the part shares a procedure.
+/// Code outside enters a trusted part only where the part shares a procedure, or by a return to the newest
+/// open call.
 ///
 /// Let parts be linked, let untrusted code run with registers that hold words that it may be shown, and let
 /// what is private be kept: in memory that it may read, and in the frames of open calls, there is no code
 /// half of a procedure that isn't shared. Then each of its steps that goes on stays outside, where the same
 /// holds again and the data of trusted parts are as before; or enters a trusted part where an export that is
-/// shared begins, with registers that hold words that it may be shown; or returns to the newest open call.
+/// shared begins, with registers that hold words that it may be shown; or returns to the newest open call,
+/// behind its site, and what is private is kept.
 pub fn shared_alone_is_entered()
     ensures { SharedAloneIsEntered }
 {}

@@ -126,7 +126,7 @@ fn run_untrusted<S: Sink>(start: &mut Start, steps: u64, out: &mut S) -> RunEnd
 }
 
 /// Runs the machine of a start for so many instructions, or up to its end, and writes the line of
-/// each event and the end line. It takes no memory.
+/// each event and the end line. It needs no memory.
 ///
 /// The machine hasn't ended before. Only its state changes. WriteFault comes only of a write that
 /// failed: the run stops there, and a front of the whole text stands.

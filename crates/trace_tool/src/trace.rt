@@ -16,7 +16,7 @@ use outside_io::{Failed, Sink};
 use overlay_machine::{OStep, Overlay};
 
 /// Runs the overlay of a start while the weights of its steps keep within the limit, or up to its
-/// end, and writes the line of each event and the end line. It takes no memory.
+/// end, and writes the line of each event and the end line. It needs no memory.
 ///
 /// The run stops before a step whose weight would take the sum past the limit. WriteFault comes only
 /// of a write that failed: the run stops there, and a front of the whole text stands.

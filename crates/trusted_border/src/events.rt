@@ -3,7 +3,7 @@
 /// What an `xjmp rcode rdata` would do.
 #[derive(Clone, Copy, PartialEq, Eq, Debug)]
 pub enum Back {
-    /// It would go, under any other seal.
+    /// It would go, and neither `Hop` nor `Pair` is so.
     Out,
     /// It would fail.
     Bad,
