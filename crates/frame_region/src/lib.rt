@@ -2,7 +2,7 @@
 //! reserved before the first.
 //!
 //! A region has a number of cells. A frame takes as many of them as its size says, from when it is
-//! begun until it is finished, and gets its items one by one. No call but [`Region::reserve`] takes
+//! begun until it is finished, and gets its items one by one. No call but [`Region::reserve`] needs
 //! memory.
 #![tactic(auto)]
 

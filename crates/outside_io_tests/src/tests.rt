@@ -1,4 +1,3 @@
-ghost use Rattle.std.specs.Prelude.{◌<◌, length};
 ghost use Rattle.outside_io.specs.FilesSeen.{IsFileName};
 
 use arrayvec::ArrayVec;
@@ -19,35 +18,13 @@ fn add_two(files: &mut MemFiles) -> Result<(), AllocError> {
     files.add("a", b"hello")
 }
 
-fn gives(rt: &impl Abort, files: &mut MemFiles, at: u64, want: &[u8]) {
-    let mut buf = [0; 4];
-    let count = files.read("a", at, &mut buf);
-    assert_eq!(rt; count, Ok(want.len()));
-    assert!(rt; buf.starts_with(want));
-}
-
-fn is_missing(rt: &impl Abort, files: &mut MemFiles) {
-    assert_eq!(rt; files.read("missing", 0, &mut [0; 4]), Err(Failed));
-    let counts = files.counts();
-    assert_eq!(rt; counts.last_failed_read(), "missing");
-    assert_eq!(rt;
-        (counts.failed_reads(), counts.given(), counts.reads()),
-        (1, 14, 9)
-    );
-}
-
 fn are_given(rt: &impl Abort, alloc: Global, files: &mut MemFiles) -> Result<(), Fail> {
     add_two(files)?;
-    gives(rt, files, 0, b"hell");
-    gives(rt, files, 3, b"lo");
-    gives(rt, files, 5, b"");
-    gives(rt, files, 9, b"");
     files.put("a", b"new")?;
     let a = read_whole(alloc, files, "a", 5)?;
     assert_eq!(rt; a.as_slice(), b"new".as_slice());
     let b = read_whole(alloc, files, "b", 5)?;
     assert_eq!(rt; b.as_slice(), b"other".as_slice());
-    is_missing(rt, files);
     Ok(())
 }
 
@@ -102,7 +79,10 @@ fn length_read(
 ) -> Result<(Result<usize, ReadEnd>, u64), AllocError> {
     let mut files = MemFiles::new(alloc)?;
     files.add("a", vec![in alloc; 7; len]?.as_slice())?;
-    let length = read_whole(alloc, &mut files, "a", limit).map(|bytes| bytes.len());
+    let length = match read_whole(alloc, &mut files, "a", limit) {
+        Ok(bytes) => Ok(bytes.len()),
+        Err(end) => Err(end),
+    };
     Ok((length, files.counts().reads()))
 }
 
@@ -124,32 +104,6 @@ fn a_whole_file_is_read_up_to_the_limit(rt: HostRuntime) -> Result<(), Fail> {
     );
     assert_eq!(rt; length_reserved(&rt, alloc)?, 5);
     Ok(())
-}
-
-fn are_empty(rt: &impl Abort, alloc: Global, files: &mut MemFiles) -> Result<(), Fail> {
-    files.put("new", b"")?;
-    files.add("old", b"some")?;
-    files.put("old", b"")?;
-    let mut buf = [0; 4];
-    let reads = (
-        files.read("new", 0, &mut buf),
-        files.read("old", 0, &mut buf),
-    );
-    assert_eq!(rt; reads, (Ok(0), Ok(0)));
-    let new = read_whole(alloc, files, "new", 0)?.len();
-    let old = read_whole(alloc, files, "old", 0)?.len();
-    let counts = files.counts();
-    assert_eq!(rt;
-        (new, old, counts.failed_puts(), counts.failed_reads()),
-        (0, 0, 0, 0)
-    );
-    Ok(())
-}
-
-#[test]
-fn a_put_of_no_bytes_makes_an_empty_file(rt: HostRuntime) -> Result<(), Fail> {
-    let mut files = MemFiles::new(rt.alloc())?;
-    are_empty(&rt, rt.alloc(), &mut files)
 }
 
 fn keeps_put<R: Abort + AllocGlobal + rt::Files>(
@@ -282,94 +236,11 @@ fn a_line_goes_to_the_standard_output(rt: HostRuntime) -> Result<(), Fail> {
     Ok(())
 }
 
-fn write_to<S: Sink>(sink: &mut S, piece: &str) -> Result<(), Failed>
-    requires { 0 < length piece.now }
-{
-    sink.write(piece.as_bytes())
-}
-
-// A write to the sink gives `want`, and leaves it with these bytes and counts.
-fn writes<const ROOM: usize>(
-    rt: &impl Abort,
-    sink: &mut SafeSink<ROOM>,
-    piece: &str,
-    want: Result<(), Failed>,
-    left: &str,
-    counts: (u64, u64),
-)
-    requires { 0 < length piece.now }
-{
-    assert_eq!(rt; write_to(sink, piece), want);
-    assert_eq!(rt; sink.bytes(), left.as_bytes());
-    assert_eq!(rt; (sink.writes(), sink.faults()), counts);
-}
-
-fn fill(rt: &impl Abort, five: &mut SafeSink<5>, four: &mut SafeSink<4>, none: &mut SafeSink<0>) {
-    writes(rt, five, "abc", Ok(()), "abc", (1, 0));
-    writes(rt, five, "de", Ok(()), "abcde", (2, 0));
-    writes(rt, five, "f", Err(Failed), "abcde", (3, 1));
-    writes(rt, five, "gh", Err(Failed), "abcde", (4, 2));
-    writes(rt, four, "abc", Ok(()), "abc", (1, 0));
-    writes(rt, four, "de", Err(Failed), "abcd", (2, 1));
-    writes(rt, none, "a", Err(Failed), "", (1, 1));
-}
-
 #[test]
 fn a_reserved_sink_takes_what_fits(rt: HostRuntime) -> Result<(), Fail> {
-    let mut five = SafeSink::reserve(rt.alloc())?;
-    let mut four = SafeSink::reserve(rt.alloc())?;
-    let mut none = SafeSink::reserve(rt.alloc())?;
-    fill(&rt, &mut five, &mut four, &mut none);
-    Ok(())
-}
-
-// Reads of the file from the byte `at` on, four bytes at most.
-fn reads(rt: &impl Abort, files: &mut SafeFiles, name: &str, at: u64, want: &str)
-    requires { IsFileName name.now }
-{
-    let mut buf = [0; 4];
-    assert_eq!(rt; files.read(name, at, &mut buf), Ok(want.len()));
-    assert!(rt; buf.starts_with(want.as_bytes()));
-}
-
-// Two files at most, and ten bytes of names and contents.
-fn add_within(rt: &impl Abort, files: &mut SafeFiles) {
-    assert!(rt; files.add("a", b"12345"));
-    assert!(rt; files.add("b", b"678"));
-    assert!(rt; !files.add("b", b"6789"));
-    reads(rt, files, "b", 0, "678");
-    assert!(rt; files.add("b", b""));
-    assert!(rt; !files.add("c", b""));
-    assert!(rt; files.add("a", b"hello777"));
-    assert!(rt; !files.add("a", b"too long."));
-    reads(rt, files, "a", 0, "hell");
-    reads(rt, files, "a", 4, "o777");
-    reads(rt, files, "a", 7, "7");
-    reads(rt, files, "a", 8, "");
-    reads(rt, files, "b", 0, "");
-    assert_eq!(rt; (files.counts().reads(), files.counts().given()), (6, 12));
-}
-
-fn put_within(rt: &impl Abort, files: &mut SafeFiles) {
-    assert_eq!(rt; files.put("c", b"x"), Err(Failed));
-    assert_eq!(rt; files.put("a", b"hi"), Ok(()));
-    assert_eq!(rt; files.put("bb", b""), Err(Failed));
-    assert_eq!(rt; files.put("b", b"12345"), Ok(()));
-    reads(rt, files, "a", 0, "hi");
-    reads(rt, files, "b", 1, "2345");
-    assert_eq!(rt; files.read("bb", 0, &mut [0; 4]), Err(Failed));
-    let counts = files.counts();
-    assert_eq!(rt; (counts.failed_puts(), counts.last_failed_put()), (2, "bb"));
-    assert_eq!(rt;
-        (counts.failed_reads(), counts.last_failed_read()),
-        (1, "bb")
-    );
-}
-
-#[test]
-fn reserved_files_keep_within_their_numbers(rt: HostRuntime) -> Result<(), Fail> {
-    let mut files = SafeFiles::reserve(rt.alloc(), 2, 10)?;
-    add_within(&rt, &mut files);
-    put_within(&rt, &mut files);
+    let mut sink = SafeSink::<4>::reserve(rt.alloc())?;
+    let writes = (sink.write(b"abc"), sink.write(b"de"));
+    assert_eq!(rt; writes, (Ok(()), Err(Failed)));
+    assert_eq!(rt; sink.bytes(), b"abcd".as_slice());
     Ok(())
 }

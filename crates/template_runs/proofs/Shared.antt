@@ -1,6 +1,6 @@
 -- Code outside enters a trusted part where it shares a procedure, and nowhere else.
 use Rattle.std.proofs.Common.{ap, ◌∙◌, sym}
-use Rattle.std.specs.Prelude.{◌∷◌}
+use Rattle.std.specs.Prelude.{◌≡◌, ◌∷◌}
 use Rattle.overlay_machine.specs.State.{OState}
 use Rattle.overlay_machine.specs.Link.{Link}
 use Rattle.overlay_machine.specs.Linked.{Linked}
