@@ -26,8 +26,9 @@ pub fn calls_run<W: MachineWord>()
     ensures outside { CallOutsideFails W.look W.plain }
 {}
 
-/// What a return's words do: stk and `data` are joined, and `data` is read back from the first
-/// cell of its stretch. Where they can't be joined, or what is joined doesn't begin at the stack's base, they fail.
+/// What a return's words do: stk and `data` are joined, and `data` is read back from the first cell of
+/// its stretch. Where they can't be joined, or what is joined doesn't begin at the stack's base, they
+/// fail.
 pub fn returns_run<W: MachineWord>()
     ensures joint { ReturnRuns W.look W.plain }
     ensures apart { ReturnApartFails W.look W.plain }

@@ -49,7 +49,7 @@ fn run_command<S: Sink>(
     out.write(line.as_str().as_bytes())
 }
 
-/// Does the commands of a script, one after another, and writes the reply to each in one piece. It takes no
+/// Does the commands of a script, one after another, and writes the reply to each in one piece. It needs no
 /// memory.
 ///
 /// It stops at a write that fails: a front of this reply stands then behind those before it, and the debugger

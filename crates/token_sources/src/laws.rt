@@ -6,8 +6,8 @@ ghost use Rattle.proc_sources.specs.Sources.{module_in};
 ghost use Rattle.token_sources.specs.Law.{Source, IsLeft, module_of, AreLeft, MeanTheSame};
 
 /// Where a text in one of the two languages has a module, the text spells a module with tokens, whose names
-/// are resolved and whose tokens have their typing, or which has none; and the module of the
-/// source is what is left of it.
+/// are resolved, and whose tokens have their typing where it has any; and the module of the source is what
+/// is left of it.
 ///
 /// So, whatever sources are given to the program, what their modules mean with any stack, feed and fuel is
 /// what the spelled modules with tokens mean. These are never stuck, and no right of theirs is spent twice.
