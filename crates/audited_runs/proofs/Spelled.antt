@@ -10,7 +10,7 @@ use Rattle.trace_tool.specs.Lines.{Args, Return, Passed, nothing, bad_pair, out_
 use Rattle.trace_tool.specs.Lines.{Line, call, ret, enter, pass, leave}
 use Rattle.trace_tool.specs.Texts.{direction, field, words_text, args_text, place_text, return_text}
 use Rattle.trace_tool.specs.Texts.{passed_text}
-use Rattle.trace_tool.specs.Fits.{IsName, AllFit, ArgsFit, LineFits, is_told}
+use Rattle.trace_tool.specs.Fits.{IsName, AllOf, ArgsOf, LineFits, is_told}
 use Rattle.line_fields.specs.Words.{HasText, is_word}
 use Rattle.line_fields.specs.Fields.{meant, tested, whole}
 use Rattle.line_fields.proofs.WordTexts.{fits_has_text, text_is_word}
@@ -24,14 +24,15 @@ use Rattle.run_audit.specs.declared.line.Line.{Line as AuditLine}
 use Rattle.run_audit.specs.Lines.{line_in, line_at, line_named, told, words_left, call as call_in}
 use Rattle.run_audit.specs.Lines.{ret as ret_in, entered, passed, is_pair, left}
 use Rattle.audited_runs.specs.Audited.{line_seen}
-use Rattle.audited_runs.specs.Spelling.{HaveTexts, ArgsHaveTexts, LineHasText, FittingHaveTexts}
+use Rattle.audited_runs.specs.Spelling.{LineHasText, FittingHaveTexts}
+use Rattle.cap_words.specs.WordBytes.{WordFits}
 
 -- ---- words and directions
 
 pub word_read : (w : Word) → HasText w → is_word (word_text_of w) ≡ true
 word_read w h = ap is_some (text_is_word w (word_text_of w) (h, refl))
 
-words_read : (ws : List Word) → HaveTexts ws → list_all is_word (map word_text_of ws) ≡ true
+words_read : (ws : List Word) → AllOf HasText ws → list_all is_word (map word_text_of ws) ≡ true
 words_read [] h = refl
 words_read (w ∷ ws) h = let one = word_read w h.0 in let rest = words_read ws h.1 in rw (one, rest) refl
 
@@ -308,11 +309,11 @@ text_read (leave part a0) h =
 
 -- ---- lines that fit
 
-fit_have_texts : (ws : List Word) → AllFit ws → HaveTexts ws
+fit_have_texts : (ws : List Word) → AllOf WordFits ws → AllOf HasText ws
 fit_have_texts [] h = tt
 fit_have_texts (w ∷ ws) h = (fits_has_text w h.0, fit_have_texts ws h.1)
 
-args_have_texts : (a : Args) → ArgsFit a → ArgsHaveTexts a
+args_have_texts : (a : Args) → ArgsOf WordFits a → ArgsOf HasText a
 args_have_texts a h =
     (fits_has_text a.a0 h.0, fits_has_text a.a1 h.1, fits_has_text a.a2 h.2, fits_has_text a.a3 h.3)
 

@@ -23,12 +23,14 @@ use Rattle.run_audit.specs.Told.{ToldSeen}
 use Rattle.run_audit.specs.Lines.{is_direction, registers, told, words_left}
 use Rattle.run_audit.specs.Lines.{call as call_in, ret as ret_in, entered, passed, is_pair, left}
 use Rattle.audited_runs.specs.Audited.{told_seen, line_seen}
-use Rattle.audited_runs.specs.Spelling.{HaveTexts, LineHasText, LineIsSpelled}
+use Rattle.audited_runs.specs.Spelling.{LineHasText, LineIsSpelled}
 use Rattle.audited_runs.proofs.Spelled.{dir_text, call_body, ret_body}
 use Rattle.audited_runs.proofs.Spelled.{enter_body, regroup_pass, regroup_leave}
 use Rattle.audited_runs.proofs.Taken.{Fields, goes, name_taken, number_taken, word_taken}
 use Rattle.audited_runs.proofs.Taken.{direction_taken, mark_taken, back_taken, pair_taken, args_taken}
 use Rattle.audited_runs.proofs.Taken.{unless_is, same_read, and_then, words_taken}
+use Rattle.trace_tool.specs.Fits.{AllOf}
+use Rattle.line_fields.specs.Words.{HasText}
 
 -- behind a line's name, the fields are those of a line
 pub record Spells (name : List ℕ) (fs : Fields) (l : AuditLine) : Type 0 where
@@ -48,7 +50,7 @@ record ToldTaken (is_call : Bool) (ts : Fields) (t : ToldSeen) (rest : Fields) :
   args : registers is_call before ≡ Some (arg, codes ":" ∷ map word_text_of line.words)
   seen : told_seen line ≡ t
   fits : PlaceFits line.part line.site line.base line.last
-  texts : HaveTexts line.words
+  texts : AllOf HasText line.words
   none : rest ≡ []
 
 told_taken : (is_call : Bool) (ts : Fields) (t : ToldSeen) (rest : Fields) → told is_call ts ≡ Some (t, rest)

@@ -30,8 +30,9 @@ use Rattle.line_fields.proofs.WordTexts.{word_is}
 use Rattle.line_fields.proofs.JumpTexts.{back_is, handed_is}
 use Rattle.run_items.proofs.Spaced.{spaced, no_rest}
 use Rattle.run_audit.specs.Lines.{is_direction, registers, words_left, is_pair}
-use Rattle.audited_runs.specs.Spelling.{HaveTexts, ArgsHaveTexts}
 use Rattle.audited_runs.proofs.Spelled.{dir_text}
+use Rattle.trace_tool.specs.Fits.{AllOf}
+use Rattle.trace_tool.specs.Fits.{ArgsOf}
 
 abbrev pub Fields : Type 0
 Fields = List (List ℕ)
@@ -172,7 +173,7 @@ pair_taken ts p rest h =
 
 pub record ArgsTaken (ts rest : Fields) : Type 0 where
   pub args : Args
-  pub texts : ArgsHaveTexts args
+  pub texts : ArgsOf HasText args
   pub is : ts ≡ word_text_of args.a0 ∷ word_text_of args.a1 ∷ word_text_of args.a2 ∷ word_text_of args.a3
       ∷ rest
 
@@ -193,7 +194,7 @@ args_taken ts x rest h =
     }
 
 words_of : (ts : Fields) → list_all is_word ts ≡ true
-    → (ws : List Word) × HaveTexts ws × (ts ≡ map word_text_of ws)
+    → (ws : List Word) × AllOf HasText ws × (ts ≡ map word_text_of ws)
 words_of [] h = ([], tt, refl)
 words_of (t ∷ ts) h =
     let p = and_parts (is_word t) (list_all is_word ts) h in
@@ -203,7 +204,7 @@ words_of (t ∷ ts) h =
 
 pub record WordsTaken (ts xs rest : Fields) : Type 0 where
   pub words : List Word
-  pub texts : HaveTexts words
+  pub texts : AllOf HasText words
   pub is : ts ≡ map word_text_of words
   pub same : xs ≡ ts
   pub none : rest ≡ []

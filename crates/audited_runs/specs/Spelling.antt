@@ -1,13 +1,12 @@
 -- What an audit reads as a line is the text of a line.
-use Rattle.std.specs.Prelude.{◌≡◌, ◌↔◌, ◌<◌, ◌^◌, ◌++◌, ℕ, List, [], ◌∷◌, Some, codes}
-use Rattle.cap_words.specs.declared.Word.{Word}
+use Rattle.std.specs.Prelude.{◌≡◌, ◌↔◌, ◌<◌, ◌^◌, ◌++◌, ℕ, List, Some, codes}
 use Rattle.lcm_isa.specs.declared.Reg.{Reg}
 use Rattle.lcm_machine.specs.declared.FailCause.{FailCause}
 use Rattle.trace_tool.specs.Views.{View}
-use Rattle.trace_tool.specs.Lines.{Args, Line, call, ret, enter, pass, leave}
+use Rattle.trace_tool.specs.Lines.{Line}
 use Rattle.trace_tool.specs.Texts.{line_text}
 use Rattle.trace_tool.specs.EndLines.{halted_text, running_text, failed_by_text}
-use Rattle.trace_tool.specs.Fits.{IsName, PlaceFits, ReturnFits, LineFits}
+use Rattle.trace_tool.specs.Fits.{LineOf, LineFits}
 use Rattle.line_fields.specs.Words.{HasText}
 use Rattle.run_audit.specs.declared.line.Line.{Line as AuditLine}
 use Rattle.run_audit.specs.declared.line.Line.TheVariants.{End}
@@ -16,23 +15,9 @@ use Rattle.audited_runs.specs.Audited.{line_seen}
 
 -- ---- lines of events
 
-abbrev pub HaveTexts : List Word → Type 0
-HaveTexts [] = Unit {0}
-HaveTexts (w ∷ ws) = HasText w × HaveTexts ws
-
-abbrev pub ArgsHaveTexts : Args → Type 0
-ArgsHaveTexts a = HasText a.a0 × HasText a.a1 × HasText a.a2 × HasText a.a3
-
 -- as a line fits, but that any number of 32 bits does for the seal of a sealed word
 abbrev pub LineHasText : Line → Type 0
-LineHasText (call inward part site base last args words) =
-    PlaceFits part site base last × ArgsHaveTexts args × HaveTexts words
-LineHasText (ret inward part site base last a0 words) =
-    PlaceFits part site base last × HasText a0 × HaveTexts words
-LineHasText (enter part export stk args back) =
-    IsName part × IsName export × HasText stk × ArgsHaveTexts args × ReturnFits back
-LineHasText (pass p0 p1 p2) = LineFits (pass p0 p1 p2)
-LineHasText (leave part a0) = IsName part × HasText a0
+LineHasText line = LineOf HasText line
 
 -- with a newline it is the text of a line of an event, which is seen as this one
 pub record LineIsSpelled (text : List ℕ) (l : AuditLine) : Type 0 where

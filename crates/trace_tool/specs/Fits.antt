@@ -21,12 +21,13 @@ IsName text = IsTrue (is_name text)
 abbrev pub IsSmall : ℕ → Type 0
 IsSmall n = n ≤ 4294967295
 
-abbrev pub AllFit : List Word → Type 0
-AllFit [] = Unit {0}
-AllFit (w ∷ ws) = WordFits w × AllFit ws
+-- each of them is of a kind
+abbrev pub AllOf : (Word → Type 0) → List Word → Type 0
+AllOf Is [] = Unit {0}
+AllOf Is (w ∷ ws) = Is w × AllOf Is ws
 
-abbrev pub ArgsFit : Args → Type 0
-ArgsFit a = WordFits a.a0 × WordFits a.a1 × WordFits a.a2 × WordFits a.a3
+abbrev pub ArgsOf : (Word → Type 0) → Args → Type 0
+ArgsOf Is a = Is a.a0 × Is a.a1 × Is a.a2 × Is a.a3
 
 abbrev pub ReturnFits : Return → Type 0
 ReturnFits out = Unit {0}
@@ -45,17 +46,20 @@ is_told _ = true
 abbrev pub PlaceFits : List ℕ → ℕ → ℕ → ℕ → Type 0
 PlaceFits part site base last = IsName part × IsSmall site × IsSmall base × IsSmall last
 
--- names are names, numbers have 32 bits, words are words of a machine, and a pass line tells something
-abbrev pub LineFits : Line → Type 0
-LineFits (call inward part site base last args words) =
-    PlaceFits part site base last × ArgsFit args × AllFit words
-LineFits (ret inward part site base last a0 words) =
-    PlaceFits part site base last × WordFits a0 × AllFit words
-LineFits (enter part export stk args back) =
-    IsName part × IsName export × WordFits stk × ArgsFit args × ReturnFits back
-LineFits (pass p0 p1 p2) =
+-- names are names, numbers have 32 bits, words are of a kind, and a pass line tells something
+abbrev pub LineOf : (Word → Type 0) → Line → Type 0
+LineOf Is (call inward part site base last args words) =
+    PlaceFits part site base last × ArgsOf Is args × AllOf Is words
+LineOf Is (ret inward part site base last a0 words) = PlaceFits part site base last × Is a0 × AllOf Is words
+LineOf Is (enter part export stk args back) =
+    IsName part × IsName export × Is stk × ArgsOf Is args × ReturnFits back
+LineOf Is (pass p0 p1 p2) =
     PassedFits p0 × PassedFits p1 × PassedFits p2 × ((is_told p0 || (is_told p1 || is_told p2)) ≡ true)
-LineFits (leave part a0) = IsName part × WordFits a0
+LineOf Is (leave part a0) = IsName part × Is a0
+
+-- its words are words of a machine
+abbrev pub LineFits : Line → Type 0
+LineFits line = LineOf WordFits line
 
 abbrev pub LinesFit : List Line → Type 0
 LinesFit [] = Unit {0}

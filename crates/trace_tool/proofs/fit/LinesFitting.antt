@@ -57,7 +57,7 @@ use Rattle.trace_tool.specs.Lines.{Line, pass, args_of, list_of, words_from, ret
 use Rattle.trace_tool.specs.Lines.{lines_behind, lines_for, pass_lines}
 use Rattle.trace_tool.specs.Runs.{Watched, begun, if_went, watched, event_next, line_next, lines_of}
 use Rattle.lcm_machine.specs.Fitting.{MapsFit}
-use Rattle.trace_tool.specs.Fits.{IsName, IsSmall, AllFit, ArgsFit, ReturnFits, PassedFits, PlaceFits}
+use Rattle.trace_tool.specs.Fits.{IsName, IsSmall, AllOf, ArgsOf, ReturnFits, PassedFits, PlaceFits}
 use Rattle.trace_tool.specs.Fits.{LineFits, LinesFit, StartLinesFit, is_told}
 use Rattle.lcm_machine.proofs.Offers.{OpenedFits, opened_fits, next_state_fits}
 use Rattle.component_linker.proofs.StartFits.{starts_fit}
@@ -68,7 +68,7 @@ use Rattle.trace_tool.proofs.fit.NamesFit.{number_at, part_named, entry_named, s
 abbrev ViewFits : View → Type 0
 ViewFits v = ((r : Reg) → WordFits (v.reg r)) × ((a : ℕ) (w : Word) → v.cell a ≡ Some w → WordFits w)
 
-all_append : (xs ys : List Word) → AllFit xs → AllFit ys → AllFit (xs ++ ys)
+all_append : (xs ys : List Word) → AllOf WordFits xs → AllOf WordFits ys → AllOf WordFits (xs ++ ys)
 all_append [] ys h k = k
 all_append (x ∷ xs) ys h k = (h.0, all_append xs ys h.1 k)
 
@@ -76,16 +76,16 @@ lines_append : (xs ys : List Line) → LinesFit xs → LinesFit ys → LinesFit 
 lines_append [] ys h k = k
 lines_append (x ∷ xs) ys h k = (h.0, lines_append xs ys h.1 k)
 
-listed_fits : (o : Option Word) → ((w : Word) → o ≡ Some w → WordFits w) → AllFit (list_of o)
+listed_fits : (o : Option Word) → ((w : Word) → o ≡ Some w → WordFits w) → AllOf WordFits (list_of o)
 listed_fits None h = tt
 listed_fits (Some w) h = (h w refl, tt)
 
-words_fit : (v : View) → ViewFits v → (a n : ℕ) → AllFit (words_from v a n)
+words_fit : (v : View) → ViewFits v → (a n : ℕ) → AllOf WordFits (words_from v a n)
 words_fit v h a zero = tt
 words_fit v h a (suc n) = all_append (words_from v a n) (list_of (v.cell (a + n))) (words_fit v h a n)
     (listed_fits (v.cell (a + n)) (λ w e. h.1 (a + n) w e))
 
-args_fit : (v : View) → ViewFits v → ArgsFit (args_of v)
+args_fit : (v : View) → ViewFits v → ArgsOf WordFits (args_of v)
 args_fit v h = (h.0 A0, h.0 A1, h.0 A2, h.0 A3)
 
 -- ---- ranges that words name
