@@ -11,6 +11,7 @@ pub mod JumpLemmas
 pub mod WordsKept
 pub mod WordsFit
 pub mod Quiet
+pub mod Blind
 pub mod StepActs
 pub mod RegionLemmas
 pub mod Hands

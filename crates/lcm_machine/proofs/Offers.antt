@@ -37,11 +37,13 @@ pub use Rattle.lcm_machine.proofs.Refusals.{then_failed}
 pub use Rattle.lcm_machine.proofs.RunLemmas.{count_next, is_none, plain_ended, plain_ends, plain_more}
 -- what a step leaves of memory, and the address that its instruction uses
 pub use Rattle.lcm_machine.proofs.TouchLemmas.{after_each, after_went, fetched_row, row_cells, row_others}
-pub use Rattle.lcm_machine.proofs.TouchLemmas.{there_same, touched_by, used_target}
+pub use Rattle.lcm_machine.proofs.TouchLemmas.{plain_same, there_same, touched_by, used_target}
 -- what a capability that allows an access covers
 pub use Rattle.lcm_machine.proofs.StepActs.{covered, in_seals}
 -- a run that goes without a cell doesn't touch it where it is there
 pub use Rattle.lcm_machine.proofs.Quiet.{lacking, lacks, quiet, untouched_then}
+-- a step that touches none of some cells goes the same way whatever is in them
+pub use Rattle.lcm_machine.proofs.Blind.{fetch_blind, step_blind}
 -- a closed property of words is kept by every row
 pub use Rattle.lcm_machine.proofs.WordsKept.{row_keeps}
 -- words that have a spelling, along steps and runs

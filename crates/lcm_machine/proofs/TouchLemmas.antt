@@ -262,7 +262,7 @@ module _ {W : Type 0} (look : W → Word) (plain : Word → W) where
       [ true ↦ put_other s p (zero_word plain) q ne | false ↦ refl ]
 
   -- an address that no move reaches
-  abbrev Spared : ℕ → Option Moved → Type 0
+  abbrev pub Spared : ℕ → Option Moved → Type 0
   Spared q None = Unit {0}
   Spared q (Some m) = (Cell q ≢ m.from) × (Cell q ≢ m.to)
 
@@ -275,7 +275,7 @@ module _ {W : Type 0} (look : W → Word) (plain : Word → W) where
   spend_other s None q = refl
   spend_other s (Some r) q = clear_other s (R r) q (λ e. cc)
 
-  perform_other : (s : State W) (e : Effect) (q : ℕ) → Spared q e.moved
+  pub perform_other : (s : State W) (e : Effect) (q : ℕ) → Spared q e.moved
       → cell (perform look plain s e).cells q ≡ cell s.cells q
   unfolding perform
   perform_other s e q h =
@@ -287,7 +287,7 @@ module _ {W : Type 0} (look : W → Word) (plain : Word → W) where
   spared_place t u cells q spare (R r) h e = cc
   spared_place t u cells q spare (Cell a) h e = spare (h.2 ∙ ap Some (let k : a ≡ q = cc in k))
 
-  spared : (t u : Option ℕ) (cells : ℕ → Option Face) (q : ℕ) → (u ≡ Some q → ⊥) → (m : Option Moved)
+  pub spared : (t u : Option ℕ) (cells : ℕ → Option Face) (q : ℕ) → (u ≡ Some q → ⊥) → (m : Option Moved)
       → ShapeMoved t u cells m → Spared q m
   spared t u cells q spare None h = tt
   spared t u cells q spare (Some m) h =

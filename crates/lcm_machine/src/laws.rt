@@ -7,6 +7,7 @@ ghost use Rattle.lcm_machine.specs.Closed.{StepsKeepClosed};
 ghost use Rattle.lcm_machine.specs.Acts.{DoesAsItMay, ChangesNoOther, WritesWhereItMay};
 ghost use Rattle.lcm_machine.specs.Fitting.{StepsKeepFitting, RunsKeepFitting};
 ghost use Rattle.lcm_machine.specs.Touched.{RunsAreQuiet};
+ghost use Rattle.lcm_machine.specs.Blind.{StepsAreBlind, RunsAreBlind};
 ghost use Rattle.lcm_machine.specs.Mapped.{RowCommutes, FetchCommutes, StepCommutes};
 
 use cap_words::MachineWord;
@@ -64,4 +65,14 @@ pub fn steps_keep_fitting()
 /// it, loads from it or stores to it.
 pub fn runs_are_quiet<W: MachineWord>()
     ensures { RunsAreQuiet W.look W.plain }
+{}
+
+/// A step that touches none of some cells doesn't depend on what is in them, nor on whether they are
+/// there: from two states that are the same but for these cells it ends the same, and leads to two
+/// states that are again the same but for these cells, which are in each as they were.
+///
+/// So it is of a run of which no step touches one.
+pub fn steps_are_blind<W: MachineWord>()
+    ensures step { StepsAreBlind W.look W.plain }
+    ensures runs { RunsAreBlind W.look W.plain }
 {}

@@ -222,7 +222,9 @@ impl LcmState {
     }
 
     /// Puts back what was noted: registers, cell, count and end. The cell has to be there, and the
-    /// count may not be below the noted one.
+    /// count may not be below the noted one. Behind the step that was noted, this is the state before
+    /// it. Any other note may bring a linear word back that is elsewhere by then: so that no linear
+    /// memory is held twice isn't said of this call.
     #[tactic(auto, unfolding(crate::specs::Back::back, crate::specs::Back::CanUndo))]
     pub fn undo(&mut self, u: Undo)
         requires { CanUndo self.old u }

@@ -54,7 +54,7 @@ use Rattle.component_linker.proofs.ExampleLink.{start, spans, cells_are}
 abbrev pub L : Layout
 L = layout start
 
-abbrev M : Cells
+abbrev pub M : Cells
 M = (overlay_at start).state.maps.cells
 
 over : IsOverlayOf start (overlay_at start)
@@ -154,7 +154,7 @@ abbrev o3 : OState
 o3 = state (regs_with (code 23) zero_ zero_ (stack 70) (Plain (Mem (own_data 55))) (Plain code_word) zero_)
     M [] 0
 
-abbrev o4 : OState
+abbrev pub o4 : OState
 o4 = state
     (regs_with (code 24) zero_ zero_ (stack 70) (Plain (Mem (own_data 55))) (Plain code_word)
     (Plain data_word)) M [] 0
@@ -276,7 +276,7 @@ lines3 = ap (λ c. lines_for L (flat_view L o4) (event_after L (note_by L o3 c) 
 
 -- ---- the call
 
-case4 : case_of L o4.maps ≡ Call 0
+pub case4 : case_of L o4.maps ≡ Call 0
 unfolding case_of faces owner_of entry_code call_code return_code
 case4 = refl
 
@@ -376,7 +376,7 @@ told2 = next_told 1 [] told1 step1 weight1 lines1
 told3 : Told L o0 22 [] o3
 told3 = next_told 1 [] told2 step2 weight2 lines2
 
-told4 : Told L o0 23 [] o4
+pub told4 : Told L o0 23 [] o4
 told4 = next_told 1 [] told3 step3 weight3 lines3
 
 pub told5 : Told L o0 39 (call_line ∷ []) o5

@@ -19,6 +19,7 @@ mod LeftAlone
 pub mod alike
 pub mod fit
 pub mod privacy
+pub mod secrecy
 mod OwnPairs
 mod OwnEntries
 mod StepTold

@@ -18,3 +18,4 @@ pub mod Fits
 pub mod StepLines
 pub mod Feed
 pub mod OpenCalls
+pub mod Secrecy

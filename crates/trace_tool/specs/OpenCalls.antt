@@ -1,13 +1,13 @@
 -- Calls that the lines of a run leave open, told of the plain machine alone: each ret line closes the newest,
 -- and while one is open no instruction touches an address of its range, but the two of its own return that
 -- read and wipe its first word. docs/HEADLINE.md has it in words.
-use Rattle.std.specs.Prelude.{◌≡◌, ◌⊎◌, ℕ, ◌+◌, ◌≤◌, ◌++◌, Bool, List, [], ◌∷◌, None}
+use Rattle.std.specs.Prelude.{◌≡◌, ◌⊎◌, ℕ, ◌+◌, ◌≤◌, ◌++◌, Bool, List, [], ◌∷◌, None, ℤ}
 use Rattle.std.specs.List.{Contains}
 use Rattle.cap_words.specs.declared.Word.{Word}
 use Rattle.cap_words.specs.declared.Word.TheVariants.{Mem, Sealed}
 use Rattle.cap_words.specs.declared.Sealable.TheVariants.{Mem as MemIn}
 use Rattle.lcm_isa.specs.declared.Reg.{Reg}
-use Rattle.lcm_isa.specs.declared.Reg.TheVariants.{Pc}
+use Rattle.lcm_isa.specs.declared.Reg.TheVariants.{Pc, Stk}
 use Rattle.lcm_isa.specs.declared.Instr.TheVariants.{Xjmp}
 use Rattle.lcm_machine.specs.Maps.{State}
 use Rattle.lcm_machine.specs.Places.{reg}
@@ -64,7 +64,8 @@ abbrev pub after : StartSeen → ℕ → State Word
 after s n = (plain n s.state).maps
 
 -- The instruction behind n others is a word of the return of a call's own site. The `xjmp` that led there
--- opened that site's code with the call's very range, as the call sealed them.
+-- opened that site's code with the call's very range, as the call sealed them; the call was the newest that
+-- was open, and stk was the stack below its range.
 pub record IsOwnReturn (s : StartSeen) (n : ℕ) (c : LineTold) (word : ℕ) : Type 0 where
   pub site : Site
   pub is_site : Contains s.sites site
@@ -83,6 +84,13 @@ pub record IsOwnReturn (s : StartSeen) (n : ℕ) (c : LineTold) (word : ℕ) : T
   pub code : reg (after s before).regs r1
       ≡ Sealed site.seal (MemIn (code_cap first end (site.at + CALL_WORDS)))
   pub range : reg (after s before).regs r2 ≡ Sealed site.seal (MemIn (stack_cap c.base c.last c.base))
+  pub older : List LineTold
+  pub newest : open_behind [] (written s before) ≡ c ∷ older
+  pub last_below : ℕ
+  pub right_below : last_below + 1 ≡ c.base
+  pub stk_at : ℤ
+  pub stk : reg (after s before).regs Stk
+      ≡ Mem (record (stack_cap (layout s).stack.base last_below 0) { addr = stk_at })
 
 -- words 6 and 8 of a return load the call's first word and wipe it
 abbrev pub ReadsOrWipes : StartSeen → ℕ → LineTold → ℕ → Type 0

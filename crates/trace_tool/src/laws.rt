@@ -13,6 +13,7 @@ ghost use Rattle.trace_tool.specs.Told.{TracesSteps};
 ghost use Rattle.trace_tool.specs.Brackets.{LinesAreBracketed, TraceIsBracketed, CallsArePrivate};
 ghost use Rattle.trace_tool.specs.Headline.{Headline, HeadlineHolds, CallThere};
 ghost use Rattle.trace_tool.specs.OpenCalls.{OpenCallsAreKept, CallsAreKept, UseThere};
+ghost use Rattle.trace_tool.specs.Secrecy.{OpenFramesAreSecret, SecretThere};
 ghost use Rattle.trace_tool.specs.Pairs.{PairsAreOwn, PassesAreOwn};
 ghost use Rattle.trace_tool.specs.StepLines.{StepsTellSo, RunsAreOfSteps, ToldAreOfSteps};
 ghost use Rattle.trace_tool.specs.Feed.{OutsJoin, ItemsJoin, EntriesAreItems};
@@ -96,6 +97,27 @@ pub fn open_calls_are_kept()
     start_lines_agree();
     lines_are_bracketed();
     the_headline();
+}
+
+/// The words of open calls' frames are secret, and stay.
+///
+/// Let some calls be open behind some instructions of a run from a linked start, and let their ranges
+/// hold any other words, or none. Then the plain machine goes on just the same: it ends alike, makes
+/// as many instructions, has the same words in all registers and all other cells, and writes the same
+/// lines; and the words of the ranges stay as they were, in the one run and in the other. So it is for
+/// any number of instructions, as long as these calls stay open and none of the instructions is one of
+/// the two of the own return of one of them that read its frame's first word and wipe it.
+pub fn frames_are_secret()
+    ensures secret { OpenFramesAreSecret }
+    ensures of_some { SecretThere }
+{
+    starts_begin();
+    a_start_has_one_overlay();
+    linked_starts_agree();
+    a_halt_weighs_one();
+    start_lines_agree();
+    lines_are_bracketed();
+    open_calls_are_kept();
 }
 
 /// The plain run writes the lines of the overlay's steps, where the invariant of linked parts holds.

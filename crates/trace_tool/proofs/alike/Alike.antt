@@ -62,7 +62,7 @@ module _ (g : Link) (linked : Linked g) where
   l = g.layout
 
   -- no site ends inside a site or an entry
-  site_free : (i : ℕ) (s : SiteCode) → site_code l i ≡ Some s → NoEnd l s.at (s.at + 25)
+  pub site_free : (i : ℕ) (s : SiteCode) → site_code l i ≡ Some s → NoEnd l s.at (s.at + 25)
   site_free i s es =
       let f = linked.sites i s es in
       let st = f.3 in

@@ -39,3 +39,15 @@ only_newest l m n f fs h lies (suc k, lt, e) low =
     let b = below_all l m n f fs h lies (k, omega (arith, lt), e) in
     let o = (lies.0).order in
     absurd (omega (arith, b, o, low))
+
+-- a call at the newest frame is that frame's, in all that its line tells
+pub newest_line : (l : Layout) (m : Cells) (n : ℕ) (f : OpenFrame) (fs : List OpenFrame) (c : LineTold)
+    → FramesLie l m n (f ∷ fs) → Contains (lines_told l (f ∷ fs)) c → c.base ≤ f.base
+    → lines_told l (f ∷ fs) ≡ c ∷ lines_told l fs
+newest_line l m n f fs c lies (zero, lt, e) low = ap (λ (x : LineTold). x ∷ lines_told l fs) e
+newest_line l m n f fs c lies (suc k, lt, e) low =
+    let r = frame_of_call l fs c (k, omega (arith, lt), e) in
+    let b = below_all l m n f fs r.0 lies r.1 in
+    let o = (lies.0).order in
+    let s = (r.2).base in
+    absurd (omega (arith, b, o, low, s))

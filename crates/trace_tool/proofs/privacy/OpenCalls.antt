@@ -1,6 +1,6 @@
 -- While a call line is open, no instruction of a run touches an address of its range but the two of its own
 -- return.
-use Rattle.std.proofs.Common.{◌≡◌, ◌⊎◌, inl, inr, ℕ, suc, ◌+◌, ◌-◌, ◌<◌, ◌≤◌, List, [], Some, refl}
+use Rattle.std.proofs.Common.{◌≡◌, ◌⊎◌, inl, inr, ℕ, suc, ◌+◌, ◌-◌, ◌<◌, ◌≤◌, List, [], ◌∷◌, Some, refl}
 use Rattle.std.proofs.Common.{sym, ap, ◌∙◌, subst, arith}
 use Rattle.std.specs.Prelude.{slice_get}
 use Rattle.std.specs.List.{Contains}
@@ -42,7 +42,7 @@ use Rattle.trace_tool.specs.OpenCalls.{RangesAreLeftAlone, CallsAreKept}
 use Rattle.trace_tool.proofs.privacy.OpenLemmas.{open_is, closes_newest}
 use Rattle.trace_tool.proofs.privacy.ReturnTail.{OwnTouch}
 use Rattle.trace_tool.proofs.privacy.StepOwn.{step_own}
-use Rattle.trace_tool.proofs.privacy.FramesTold.{IsCallOf, frame_of_call, only_newest}
+use Rattle.trace_tool.proofs.privacy.FramesTold.{IsCallOf, frame_of_call, only_newest, newest_line}
 
 site_is : (l : Layout) (i : ℕ) (x : Site) → slice_get l.sites i ≡ Some x → site_of l i ≡ x
 unfolding site_of
@@ -64,7 +64,7 @@ module _ (parts : List PartSeen) (size : ℕ) (s : StartSeen)
   first = (overlay_at s).state
 
   -- what is open behind n instructions is what the frames of the last matched point tell
-  open_are : (n j : ℕ) (p : OState) → Matched s j p → j ≤ n → n < j + weight_of l p
+  pub open_are : (n j : ℕ) (p : OState) → Matched s j p → j ≤ n → n < j + weight_of l p
       → open_behind [] (written s n) ≡ lines_told l p.frames
   open_are n j p reach le lt =
       let told = told_of l first j p reach in
@@ -88,7 +88,8 @@ module _ (parts : List PartSeen) (size : ℕ) (s : StartSeen)
 
   module _ (n j word : ℕ) (p : OState) (u v : State Word) (a : ℕ) (at_n : plain_run n s.state.maps ≡ went v)
       (at_j : plain_run j s.state.maps ≡ went u) (le : j ≤ n) (so_many : n - j ≡ suc word)
-      (touch : OwnTouch l p u v a word) (c : LineTold) (is_call : IsCallOf l touch.frame c) where
+      (touch : OwnTouch l p u v a word) (c : LineTold) (is_call : IsCallOf l touch.frame c)
+      (newest : open_behind [] (written s j) ≡ c ∷ lines_told l touch.older) where
     abbrev F : OpenFrame
     F = touch.frame
 
@@ -115,6 +116,12 @@ module _ (parts : List PartSeen) (size : ℕ) (s : StartSeen)
           jumps = rw (after_is j u at_j) touch.jumps;
           code = rw (after_is j u at_j, sym at, sym seal) touch.code;
           range = rw (after_is j u at_j, sym seal, sym is_call.base, sym is_call.last) touch.range;
+          older = lines_told l touch.older;
+          newest = newest;
+          last_below = touch.last_below;
+          right_below = touch.right_below ∙ is_call.base;
+          stk_at = touch.stk_at;
+          stk = ap (λ (y : State Word). y.regs.stk) (after_is j u at_j) ∙ touch.stk;
         }
 
     reads_or_wipes : ReadsOrWipes s n c a
@@ -158,7 +165,17 @@ module _ (parts : List PartSeen) (size : ℕ) (s : StartSeen)
       only_newest l p.maps.cells p.calls touch.frame touch.older f
       (subst (λ fs. FramesLie l p.maps.cells p.calls fs) touch.frames_are inv.frames)
       (subst (λ fs. Contains fs f) touch.frames_are told.1) (omega (arith, low_f, base)) in
+      let is_open =
+      subst (λ fs. Contains (lines_told l fs) c) touch.frames_are
+      (subst (λ cs. Contains cs c) (open_are n j p k.2.0 le lt) used.is_open) in
+      let line =
+      newest_line l p.maps.cells p.calls touch.frame touch.older c
+      (subst (λ fs. FramesLie l p.maps.cells p.calls fs) touch.frames_are inv.frames)
+      is_open (let low = used.low in omega (arith, low, base)) in
+      let there : open_behind [] (written s j) ≡ lines_told l p.frames =
+      open_are j j p k.2.0 (omega arith) (omega (arith, le, lt)) in
       reads_or_wipes n j own.0 p u v.0 a v.1 at.1 le own.1 touch c (subst (λ y. IsCallOf l y c) newest told.2)
+      (there ∙ ap (lines_told l) touch.frames_are ∙ line)
 
   -- ---- brackets
 

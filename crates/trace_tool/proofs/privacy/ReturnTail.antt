@@ -1,6 +1,6 @@
 -- An `xjmp` of a return pair, and the ten words behind it, whatever they do: of the stack they touch the
 -- first address of the newest frame alone, by the two instructions that read and wipe it.
-use Rattle.std.proofs.Common.{◌≡◌, inl, inr, ℕ, suc, ◌+◌, ◌<◌, ◌≤◌, true, List}
+use Rattle.std.proofs.Common.{◌≡◌, inl, inr, ℕ, suc, ◌+◌, ◌<◌, ◌≤◌, ℤ, true, List}
 use Rattle.std.proofs.Common.{◌∷◌, Option, Some, None}
 use Rattle.std.proofs.Common.{refl, sym, ap, ◌∙◌, subst, arith, eqb-true}
 use Rattle.std.specs.Prelude.{◌&&◌, ◌==◌, if◌then◌else◌}
@@ -16,7 +16,7 @@ use Rattle.cap_words.specs.Face.{face_of, opened_of, FaceInOrder}
 use Rattle.cap_words.specs.Faces.{same_kind}
 use Rattle.cap_words.specs.Linear.{lin_is}
 use Rattle.lcm_isa.specs.declared.Reg.{Reg}
-use Rattle.lcm_isa.specs.declared.Reg.TheVariants.{Pc}
+use Rattle.lcm_isa.specs.declared.Reg.TheVariants.{Pc, Stk}
 use Rattle.lcm_isa.specs.declared.Instr.TheVariants.{Xjmp}
 use Rattle.lcm_machine.specs.Maps.{State}
 use Rattle.lcm_machine.specs.Places.{reg}
@@ -38,7 +38,7 @@ use Rattle.overlay_machine.specs.State.{OpenFrame, OState, frame_of}
 use Rattle.overlay_machine.specs.Step.{weight_by}
 use Rattle.overlay_machine.specs.Flat.{flat, beside, IsFlat}
 use Rattle.overlay_machine.specs.Agree.{Looks, HasSite, AtReturn}
-use Rattle.overlay_machine.proofs.FlatLemmas.{beside-none}
+use Rattle.overlay_machine.proofs.FlatLemmas.{beside-none, flat-mem}
 use Rattle.overlay_machine.proofs.OwnStack.{stack_of, same_lin_true}
 use Rattle.overlay_machine.proofs.ReturnAgrees.{s1, jumps, code_is, code_some, code_none, data_is, data_none}
 use Rattle.overlay_machine.proofs.ReturnAgrees.{refuses, plain_second, code_second, stk_plain}
@@ -50,7 +50,7 @@ use Rattle.trace_tool.proofs.privacy.OwnReturn.{IsFirstUsed, own_only}
 
 -- an address that an instruction behind an `xjmp` touches is the first of the newest frame, and the
 -- instruction is the one of its site's return that loads it or that wipes it; the `xjmp` was of the pair of
--- that frame's call
+-- that frame's call, and stk was the stack below the frame
 pub record OwnTouch (l : Layout) (o : OState) (t v : State Word) (a word : ℕ) : Type 0 where
   pub frame : OpenFrame
   pub older : List OpenFrame
@@ -64,6 +64,10 @@ pub record OwnTouch (l : Layout) (o : OState) (t v : State Word) (a word : ℕ) 
   pub jumps : fetch (faces id t Pc) (cell_faces id t) ≡ some (Xjmp r1 r2) next
   pub code : reg t.regs r1 ≡ Sealed site.seal (MemIn (code_cap site.base site.end (site.at + 16)))
   pub range : reg t.regs r2 ≡ Sealed site.seal (MemIn (stack_cap frame.base frame.end frame.base))
+  pub last_below : ℕ
+  pub right_below : last_below + 1 ≡ frame.base
+  pub stk_at : ℤ
+  pub stk : reg t.regs Stk ≡ Mem (record (stack_cap l.stack.base last_below 0) { addr = stk_at })
 
 module _ (l : Layout) (r1 r2 : Reg) (o : OState) (t : State Word) (rd : AtReturn l r1 r2 o) (m : IsFlat l o t)
     (k : Looks l o) where
@@ -197,8 +201,8 @@ module _ (l : Layout) (r1 r2 : Reg) (o : OState) (t : State Word) (rd : AtReturn
       -- from the stack's base: the call is the newest
       resumes : (c : CapFields) → U.regs.stk ≡ Mem c → same_kind c (stack_cap F.base F.end F.base) ≡ true
           → c.end + 1 ≡ F.base → c.base ≡ l.stack.base → (older : List OpenFrame) → o.frames ≡ F ∷ older
-          → OwnTouch l o t v a word
-      resumes c e kind joint low older ef =
+          → reg t.regs Stk ≡ Mem c → OwnTouch l o t v a word
+      resumes c e kind joint low older ef stk_is =
           let s = rd.frames F older ef in
           let c_is : c ≡ record (stack_cap l.stack.base c.end 0) { addr = c.addr } =
           stack_of c F.base F.end F.base kind
@@ -224,6 +228,10 @@ module _ (l : Layout) (r1 r2 : Reg) (o : OState) (t : State Word) (rd : AtReturn
             jumps = got;
             code = m.regs r1 ∙ code_flat;
             range = m.regs r2 ∙ data_flat;
+            last_below = c.end;
+            right_below = joint;
+            stk_at = c.addr;
+            stk = stk_is ∙ ap Mem c_is;
           }
 
       joint_at : (c : CapFields) → U.regs.stk ≡ Mem c
@@ -239,7 +247,7 @@ module _ (l : Layout) (r1 r2 : Reg) (o : OState) (t : State Word) (rd : AtReturn
           elim (cases_eq c.base l.stack.base) as (λ _. OwnTouch l o t v a word) [
             | inl same ↦
                 (let n = rd.newest p.call F c p.frame_is kept same joint in
-                resumes c e p1.0 joint same n.0 n.1)
+                resumes c e p1.0 joint same n.0 n.1 (m.regs Stk ∙ flat-mem l o.frames o.maps.regs.stk c kept))
             | inr ne ↦
                 (let q : FaceInOrder (Memory c) = subst (λ w. FaceInOrder (face_of w)) kept rd.in_order in
                 let small : c.base ≤ LAST_PLACE = (let q0 = q.0 in let q1 = q.1 in omega (arith, q0, q1)) in

@@ -27,7 +27,7 @@ use Rattle.trace_tool.proofs.StepTold.{reached_by}
 use Rattle.trace_tool.proofs.alike.Calm.{id}
 use Rattle.trace_tool.proofs.privacy.UsesFirst.{uses_first}
 
-abbrev told : LineTold
+abbrev pub told : LineTold
 told = record { part = 116 ∷ []; site = 0; base = 70; last = 70; words = Mem (own_data 55) ∷ [] }
 
 module _ (h : HoldsFor pair 4 (overlay_at start) start.state.maps) (alone : HaltsAlone)
@@ -36,7 +36,7 @@ module _ (h : HoldsFor pair 4 (overlay_at start) start.state.maps) (alone : Halt
   g = link_of pair 4 (overlay_at start)
 
   -- behind 39 instructions the call line is written, and 7 more lead to the load
-  there : (v : State Word) × (plain_run 46 start.state.maps ≡ went v) × Touches id v 70
+  pub there : (v : State Word) × (plain_run 46 start.state.maps ≡ went v) × Touches id v 70
   there =
       let at = matched g h.linked o0 start.state.maps h.holds 39 o5
       (reached_by L o0 39 (call_line ∷ []) o5 told5) in
