@@ -20,7 +20,7 @@ use Rattle.proc_semantics.specs.Values.{World, found, main_of, linked}
 use Rattle.proc_semantics.specs.Meaning.{meaning}
 
 -- where words stand doesn't matter here
-abbrev nowhere : Header
+abbrev pub nowhere : Header
 nowhere = record {
   code = 0;
   data_base = 0;

@@ -1,4 +1,7 @@
 pub mod Congruence
+pub mod Kin
+pub mod Marked
 pub mod Recursive
 pub mod Fuelled
 mod Examples
+pub mod Picks

@@ -86,54 +86,6 @@ module _ (world : World) where
     };
   }
 
-  pub recursive : IsRecursive world
-  unfolding whole_proc whole_wait whole_turn whole_hop
-  recursive = record {
-    procs = λ t left rs k st i f feed. proc_is t left rs k st f feed i;
-    waits = λ c st i f feed. wait_is c st f feed i;
-    turns = λ x c b back k env st i f feed. turn_is x c b back k env st f feed i;
-    hops = λ c left t v st i f feed. hop_is c left t v st f feed i;
-  }
-    where
-      proc_is : (t : Target) (left : Option ℕ) (rs : List Register) (k : Then) (st : Store) (f : ℕ)
-          (feed : List Item) → whole_proc world t left rs k st f feed ≡ proc_of world (whole world) t.home
-          (proc_at world t) left rs k st f feed
-      proc_is t left rs k st f feed =
-          let n = f + length feed in
-          ap (λ d. (level world d).proc t left rs k st f feed) (add-one n)
-          ∙ (proc_kept Same same_kept world n (level world n) (whole world)
-          (same_whole n n (omega arith)) t.home (proc_at world t) left rs k k st
-          (λ v st1. refl_same n _)).is f feed (omega arith)
-
-      wait_is : (c : Option Wait) (st : Store) (f : ℕ) (feed : List Item) → whole_wait world c st f feed
-          ≡ take_item (on_item world (whole world) c st) f feed
-      wait_is c st f feed =
-          let n = f + length feed in
-          ap (λ d. (level world d).wait c st f feed) (add-one n)
-          ∙ (same_take n _ _ (λ i. item_kept Same same_kept world n (level world n) (whole world)
-          (same_whole n n (omega arith)) c c st i (same_wait n c))).is f feed (omega arith)
-
-      turn_is : (x : Frame) (c : Exp) (b : Block) (back : Then) (k : Next) (env : List Value) (st : Store)
-          (f : ℕ) (feed : List Item) → whole_turn world x c b back k env st f feed
-          ≡ turn_at world (whole world) x c b back k env st f feed
-      turn_is x c b back k env st f feed =
-          let n = f + length feed in
-          ap (λ d. (level world d).turn x c b back k env st f feed) (add-one n)
-          ∙ (turn_kept Same same_kept world n (level world n) (whole world)
-          (same_whole n n (omega arith)) x c b back back k k env st (λ v st1. refl_same n _)
-          (λ e st1. refl_same n _)).is f feed (omega arith)
-
-      hop_is : (c : Option Wait) (left : Option ℕ) (t : Target) (v : ℤ) (st : Store) (f : ℕ)
-          (feed : List Item) → whole_hop world c left t v st f feed ≡ proc_of world (whole world) t.home
-          (proc_at world t) left (register_of (Num v) ∷ []) (whole_hop world c left t) st f feed
-      hop_is c left t v st f feed =
-          let n = f + length feed in
-          ap (λ d. (level world d).hop c left t v st f feed) (add-one n)
-          ∙ (proc_kept Same same_kept world n (level world n) (whole world)
-          (same_whole n n (omega arith)) t.home (proc_at world t) left (register_of (Num v) ∷ []) _ _ st
-          (λ x st1. (same_whole n n (omega arith)).hops c c left t x st1 (same_wait n c))).is f feed
-          (omega arith)
-
 -- what a start does at two levels
 pub start_kept : (R : ℕ → Comp → Comp → Type 0) (kept : IsKept R) (world : World) (b stack : ℕ)
     (t : Option Target) (st : Store) (l l' : Level) → RLevel R b l l'
@@ -159,3 +111,53 @@ starts world stack feed f =
     let n = f + length feed + 1 in
     sym ((start_kept Same same_kept world n stack (main_of world) (map (λ u. u.globals) world) _ _
     (same_whole world n n (omega arith))).is f feed (omega arith))
+
+module _ (world : World) where
+  pub recursive : IsRecursive world
+  unfolding whole_proc whole_wait whole_turn whole_hop
+  recursive = record {
+    procs = λ t left rs k st i f feed. proc_is t left rs k st f feed i;
+    waits = λ c st i f feed. wait_is c st f feed i;
+    turns = λ x c b back k env st i f feed. turn_is x c b back k env st f feed i;
+    hops = λ c left t v st i f feed. hop_is c left t v st f feed i;
+    means = λ stack feed f. sym (starts world stack feed f);
+  }
+    where
+      proc_is : (t : Target) (left : Option ℕ) (rs : List Register) (k : Then) (st : Store) (f : ℕ)
+          (feed : List Item) → whole_proc world t left rs k st f feed ≡ proc_of world (whole world) t.home
+          (proc_at world t) left rs k st f feed
+      proc_is t left rs k st f feed =
+          let n = f + length feed in
+          ap (λ d. (level world d).proc t left rs k st f feed) (add-one n)
+          ∙ (proc_kept Same same_kept world n (level world n) (whole world)
+          (same_whole world n n (omega arith)) t.home (proc_at world t) left rs k k st
+          (λ v st1. refl_same n _)).is f feed (omega arith)
+
+      wait_is : (c : Option Wait) (st : Store) (f : ℕ) (feed : List Item) → whole_wait world c st f feed
+          ≡ take_item (on_item world (whole world) c st) f feed
+      wait_is c st f feed =
+          let n = f + length feed in
+          ap (λ d. (level world d).wait c st f feed) (add-one n)
+          ∙ (same_take n _ _ (λ i. item_kept Same same_kept world n (level world n) (whole world)
+          (same_whole world n n (omega arith)) c c st i (same_wait n c))).is f feed (omega arith)
+
+      turn_is : (x : Frame) (c : Exp) (b : Block) (back : Then) (k : Next) (env : List Value) (st : Store)
+          (f : ℕ) (feed : List Item) → whole_turn world x c b back k env st f feed
+          ≡ turn_at world (whole world) x c b back k env st f feed
+      turn_is x c b back k env st f feed =
+          let n = f + length feed in
+          ap (λ d. (level world d).turn x c b back k env st f feed) (add-one n)
+          ∙ (turn_kept Same same_kept world n (level world n) (whole world)
+          (same_whole world n n (omega arith)) x c b back back k k env st (λ v st1. refl_same n _)
+          (λ e st1. refl_same n _)).is f feed (omega arith)
+
+      hop_is : (c : Option Wait) (left : Option ℕ) (t : Target) (v : ℤ) (st : Store) (f : ℕ)
+          (feed : List Item) → whole_hop world c left t v st f feed ≡ proc_of world (whole world) t.home
+          (proc_at world t) left (register_of (Num v) ∷ []) (whole_hop world c left t) st f feed
+      hop_is c left t v st f feed =
+          let n = f + length feed in
+          ap (λ d. (level world d).hop c left t v st f feed) (add-one n)
+          ∙ (proc_kept Same same_kept world n (level world n) (whole world)
+          (same_whole world n n (omega arith)) t.home (proc_at world t) left (register_of (Num v) ∷ []) _ _ st
+          (λ x st1. (same_whole world n n (omega arith)).hops c c left t x st1 (same_wait n c))).is f feed
+          (omega arith)

@@ -25,9 +25,13 @@ abbrev pub tick : Comp → Comp
 tick m zero feed = record { events = []; end = OutOfFuel; ticks = 0 }
 tick m (suc fuel) feed = counted (m fuel feed)
 
+-- so many times
+abbrev pub repeated : {C : Type 0} → (C → C) → ℕ → C → C
+repeated f zero m = m
+repeated f (suc n) m = f (repeated f n m)
+
 abbrev pub ticks : ℕ → Comp → Comp
-ticks zero m = m
-ticks (suc n) m = tick (ticks n m)
+ticks n m = repeated tick n m
 
 -- ---- events
 

@@ -1,5 +1,6 @@
 -- The meaning without levels: at each fuel and feed, the level that is enough for them.
-use Rattle.std.specs.Prelude.{◌≡◌, ℕ, ◌+◌, ℤ, List, [], ◌∷◌, length, Option}
+use Rattle.std.specs.Prelude.{◌≡◌, ℕ, ◌+◌, ℤ, List, [], ◌∷◌, length, map, Option}
+use Rattle.source_events.specs.declared.Item.{Item}
 use Rattle.proc_program.specs.Program.{Exp, Block}
 use Rattle.proc_semantics.specs.declared.value.Target.{Target}
 use Rattle.proc_semantics.specs.declared.value.Value.{Value}
@@ -7,8 +8,9 @@ use Rattle.proc_semantics.specs.declared.value.Value.TheVariants.{Num}
 use Rattle.proc_semantics.specs.declared.value.Register.{Register}
 use Rattle.proc_semantics.specs.declared.value.Frame.{Frame}
 use Rattle.proc_semantics.specs.Told.{Comp, take_item}
-use Rattle.proc_semantics.specs.Values.{World, Store, register_of, proc_at}
+use Rattle.proc_semantics.specs.Values.{World, Store, register_of, proc_at, main_of}
 use Rattle.proc_semantics.specs.Meaning.{Level, Wait, Then, Next, level, proc_of, on_item, turn_at}
+use Rattle.proc_semantics.specs.Meaning.{start, meaning}
 
 module _ (world : World) where
   unfoldable pub whole_proc : Target → Option ℕ → List Register → Then → Store → Comp
@@ -38,3 +40,6 @@ module _ (world : World) where
         → whole_hop c left t v st
         ≡ proc_of world whole t.home (proc_at world t) left (register_of (Num v) ∷ [])
         (whole_hop c left t) st
+    -- and the meaning begins so
+    pub means : (stack : ℕ) (feed : List Item) (fuel : ℕ) → meaning world stack feed fuel
+        ≡ start world whole stack (main_of world) (map (λ u. u.globals) world) fuel feed

@@ -1,5 +1,7 @@
 //! What holds of every meaning. These functions do nothing; their contracts are the laws.
 ghost use Rattle.proc_semantics.specs.Values.{World};
+ghost use Rattle.proc_semantics.specs.Apart.{ToldApart};
+ghost use Rattle.proc_semantics.specs.Marked.{MarkLaws};
 ghost use Rattle.proc_semantics.specs.Whole.{IsRecursive};
 ghost use Rattle.proc_semantics.specs.Fuel.{FuelLaws};
 
@@ -11,8 +13,21 @@ pub fn fuel_laws()
     ensures { FuelLaws }
 {}
 
-/// The meaning without levels obeys the recursion.
+/// There is a meaning without levels that obeys the recursion, and the meaning begins with it: so no bound
+/// that stands in a definition is one of the meaning's.
 #[tactic(auto, using(crate::proofs::Recursive::recursive))]
 pub fn recursion()
     ensures { (world : World) → IsRecursive world }
+{}
+
+/// What the refined meaning tells of a feed is what the meaning tells, once it is forgotten whence words are.
+#[tactic(auto, using(crate::proofs::Marked::mark_laws))]
+pub fn marks_are_beside()
+    ensures { MarkLaws }
+{}
+
+/// The refined meaning tells more than the meaning: there are modules that tell the same events of a feed,
+/// and call by other words.
+pub fn refined_meanings_tell_more()
+    ensures { ToldApart }
 {}
