@@ -6,3 +6,6 @@ pub mod Enters
 pub mod Calls
 pub mod Leaves
 pub mod Run
+pub mod Held
+pub mod Lows
+pub mod Shows

@@ -65,7 +65,8 @@ use Rattle.source_instance.proofs.Leaves as leaves
 
 -- ---- a run that tells lines, and shows what goes out and what comes in
 
-record Comes (j : ℕ) (ls : List Line) (es : List line.OutEvent) (is : List Item) (p : OState) : Type 0 where
+pub record Comes (j : ℕ) (ls : List Line) (es : List line.OutEvent) (is : List Item) (p : OState)
+    : Type 0 where
   pub reached : Reached L enters.o0 j p
   pub lines : Told L enters.o0 j ls p
   pub weight : ℕ
@@ -75,7 +76,7 @@ begins : Comes 0 [] [] [] enters.o0
 begins = record { reached = reached.begins; lines = told.none_yet; weight = 0; shows = shown.none_yet }
 
 -- the lines and items of a step's event
-record Tells (q : OState) (v : Option Event) (ls : List Line) (es : List line.OutEvent)
+pub record Tells (q : OState) (v : Option Event) (ls : List Line) (es : List line.OutEvent)
     (is : List Item) : Type 0 where
   pub lines : lines_for L (flat_view L q) v ≡ ls
   pub outs : outs_of L (flat_view L q) v ≡ es
@@ -140,10 +141,10 @@ ret_line = ret false (116 ∷ []) 0 116 118 (Int (pos 0)) frame_words
 abbrev leave_line : Line
 leave_line = leave (116 ∷ []) (Int (pos 0))
 
-abbrev enter_item : Item
+abbrev pub enter_item : Item
 enter_item = Enter (116 ∷ []) (102 ∷ []) (Some 8) ints no_pairs way.Out
 
-abbrev ret_item : Item
+abbrev pub ret_item : Item
 ret_item = Ret (116 ∷ []) 0 116 (Some (pos 0))
 
 abbrev call_out : OutEvent
@@ -152,7 +153,7 @@ call_out = CallOut (116 ∷ []) 0 numbers
 abbrev leave_out : OutEvent
 leave_out = LeaveOut (116 ∷ []) (pos 0)
 
-enter_told : Tells enters.o8 (Some enters.entry_event) (enter_line ∷ []) [] (enter_item ∷ [])
+pub enter_told : Tells enters.o8 (Some enters.entry_event) (enter_line ∷ []) [] (enter_item ∷ [])
 unfolding flat owner_of part_name entry_name entry_code call_code return_code
 enter_told = record { lines = refl; outs = refl; items = refl }
 
@@ -171,7 +172,7 @@ call_told = record {
   items = refl;
 }
 
-ret_told : Tells calls.o27 (Some calls.return_event) (ret_line ∷ []) [] (ret_item ∷ [])
+pub ret_told : Tells calls.o27 (Some calls.return_event) (ret_line ∷ []) [] (ret_item ∷ [])
 unfolding flat owner_of part_name site_of entry_code call_code return_code
 ret_told = record { lines = rw (calls.data117, calls.code118); outs = refl; items = refl }
 
@@ -194,7 +195,7 @@ to_enter =
 entered : Comes 8 (enter_line ∷ []) [] (enter_item ∷ []) enters.o8
 entered = tells to_enter enters.step7 enter_told
 
-to_call : Comes 44 (enter_line ∷ []) [] (enter_item ∷ []) calls.o25
+pub to_call : Comes 44 (enter_line ∷ []) [] (enter_item ∷ []) calls.o25
 to_call =
     let r0 = tells entered calls.entry_made no_event in
     let r1 = tells r0 calls.step9 no_event in
@@ -221,7 +222,7 @@ answered : Comes 71 (enter_line ∷ call_line ∷ ret_line ∷ []) (event_told c
     (enter_item ∷ ret_item ∷ []) calls.o27
 answered = tells called calls.return_made ret_told
 
-to_leave : Comes 92 (enter_line ∷ call_line ∷ ret_line ∷ []) (event_told call_out ∷ [])
+pub to_leave : Comes 92 (enter_line ∷ call_line ∷ ret_line ∷ []) (event_told call_out ∷ [])
     (enter_item ∷ ret_item ∷ []) leaves.o48
 to_leave =
     let r0 = tells answered leaves.step27 no_event in
@@ -251,7 +252,7 @@ left : Comes 93 (enter_line ∷ call_line ∷ ret_line ∷ leave_line ∷ [])
     (enter_item ∷ ret_item ∷ []) leaves.o49
 left = tells to_leave leaves.step48 leave_told
 
-stands_outside : is_inside L leaves.o49 ≡ false
+pub stands_outside : is_inside L leaves.o49 ≡ false
 unfolding faces owner_of entry_code call_code return_code
 stands_outside = refl
 

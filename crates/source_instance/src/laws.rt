@@ -1,8 +1,10 @@
-//! That the theorem of sources speaks of something. This function does nothing; its contract is the law.
+//! That the theorem of sources speaks of something. These functions do nothing; their contracts are the laws.
 ghost use Rattle.source_instance.specs.There.{SourceThere};
+ghost use Rattle.source_instance.specs.Shows.{SourceShows};
 
 use run_items::laws::events_are_told;
-use source_starts::laws::sources_mean;
+use source_laws::laws::each_lets_go;
+use source_starts::laws::{plain_runs_wipe, sources_leave_nothing, sources_mean};
 use trace_tool::laws::{start_lines_agree, the_headline};
 
 /// There is a module and a part that isn't trusted, which link, and from their start a run in which that
@@ -16,4 +18,18 @@ pub fn a_source_is_entered()
     start_lines_agree();
     sources_mean();
     events_are_told();
+}
+
+/// What the laws say of the same run where the procedure calls out and where it leaves, computed.
+///
+/// At both, all registers are told: the pair that is opened is the one that came with the entry, and all
+/// words that are told are 0. At the call out the stack below the frame is given away, and the lowest wiped
+/// cell, of which the refined meaning tells, lies above it, so that nothing is wiped that code outside could
+/// see. Where the procedure leaves, the whole stack is given back, and the cells of the frame hold 0.
+pub fn a_source_shows_no_more()
+    ensures { SourceShows }
+{
+    each_lets_go();
+    sources_leave_nothing();
+    plain_runs_wipe();
 }

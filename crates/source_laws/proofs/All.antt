@@ -1,6 +1,11 @@
 -- The outer induction, on the number of steps of the overlay: procedures, waits and ends, given the bodies.
-use Rattle.std.proofs.Common.{◌≡◌, inl, inr, ℕ, zero, suc, ◌+◌, ◌<◌, ◌≤◌, ℤ, pos, List, [], Some, None, refl}
-use Rattle.std.proofs.Common.{sym, ap, ◌∙◌, subst, arith}
+use Rattle.std.proofs.Common.{Option, ◌≡◌, inl, inr, ℕ, zero, suc, ◌+◌, ◌<◌, ◌≤◌, ℤ, pos, List, [], Some}
+use Rattle.std.proofs.Common.{None, refl, sym, ap, ◌∙◌, subst, arith, true, false}
+use Rattle.source_laws.specs.Good as good
+use Rattle.source_laws.specs.Trace as lines
+use Rattle.proc_semantics.specs.Meaning as plain
+use Rattle.source_laws.specs.Words.{WordsTold}
+use Rattle.source_laws.proofs.Forgets.{Starts, forgets, traces, words_told}
 use Rattle.std.specs.Prelude.{map}
 use Rattle.std.proofs.lemmas.Bool.{cases_eq}
 use Rattle.trusted_border.specs.declared.events.Back.TheVariants.{Out as OutBack, Bad, Hop}
@@ -18,25 +23,28 @@ use Rattle.overlay_machine.specs.State.{OState}
 use Rattle.overlay_machine.specs.Link.{Link, ranges_of}
 use Rattle.overlay_machine.specs.Linked.{Linked}
 use Rattle.component_linker.specs.Parts.{PartSeen}
-use Rattle.proc_semantics.specs.Values.{World, Store, main_of}
+use Rattle.source_laws.proofs.Refined.{World, main_of, Comp, ends, meaning, Registers, no_registers, on_item}
+use Rattle.source_laws.proofs.Refined.{start, whole, recursive, starts}
+use Rattle.proc_semantics.specs.Values.{Store}
 use Rattle.proc_semantics.specs.declared.value.Target.{Target}
 use Rattle.proc_program.specs.declared.program.Part.{Part}
 use Rattle.proc_program.specs.declared.program.Procedure.{Procedure}
-use Rattle.proc_semantics.specs.Told.{Comp, ends}
-use Rattle.source_events.specs.declared.Item.{Item}
 use Rattle.source_events.specs.declared.End.TheVariants.{Fail as Fails, OutOfFuel}
 use Rattle.proc_semantics.specs.declared.value.Value.{Value}
-use Rattle.proc_semantics.specs.declared.value.Register.{Register}
-use Rattle.proc_semantics.specs.Meaning.{on_item, start, meaning}
-use Rattle.proc_semantics.specs.Whole.{whole}
-use Rattle.proc_semantics.proofs.Recursive.{recursive, starts}
-use Rattle.source_laws.specs.Trace.{standing, trace, Trace}
+use Rattle.source_laws.specs.Seen.{standing, trace, Trace, events_of}
 use Rattle.template_runs.specs.Runs.{is_inside}
 use Rattle.source_laws.specs.Sources.{SourcesMean}
 use Rattle.source_laws.proofs.Sum.{agreeing_runs}
-use Rattle.source_laws.specs.Good.{Fits, Agrees, Prefix, events_of}
-use Rattle.source_laws.proofs.Rules.{waits}
-use Rattle.source_laws.proofs.Upto.{none_inside, UpTo, go_fail}
+use Rattle.source_laws.proofs.Follows.{Fits, Agrees, Prefix}
+use Rattle.source_laws.proofs.Agreeing.{waits}
+use Rattle.template_runs.specs.Border.{Shows, GivesBack}
+use Rattle.template_runs.proofs.Clean.{Live, none, untold, ended, clean_first}
+use Rattle.template_runs.proofs.Quiet.{Quiet, quiet_none}
+use Rattle.source_laws.specs.Secrets.{LeavesNothing}
+use Rattle.source_laws.proofs.Upto.{none_inside, UpTo, Since, go_fail, stack_top, nothing_yet}
+use Rattle.source_laws.proofs.Wipes.{Wipes, Tell, crossings}
+use Rattle.source_laws.specs.Wiped.{WipedAlways}
+use Rattle.source_laws.proofs.Wiped.{leaves_nothing, wiped_always}
 use Rattle.template_runs.proofs.Valid.{Valid}
 use Rattle.template_runs.proofs.Steps.{At, inside_here}
 use Rattle.template_runs.proofs.Outside.{Out, outside_here}
@@ -51,20 +59,20 @@ use Rattle.source_laws.proofs.Leaving.{Rest, leave_law}
 use Rattle.template_runs.proofs.Named.{Named}
 
 module _ (world : World) (g : Link) (linked : Linked g) (Begins : Target → PartSeen → ℕ → Type 0)
-    (StoreIs : Store → (ℕ → OWord) → Type 0) (RegsAre : List Register → OState → Type 0) where
+    (StoreIs : Store → (ℕ → OWord) → Type 0) (RegsAre : Registers → OState → Type 0) where
   -- the overlay of a start: in the first shared main of the modules, with the whole stack, or outside
   pub data Starting (stack : ℕ) (mem : ℕ → OWord) (o : OState) : Type 0 where
     in_main : (t : Target) (p : PartSeen) (e : ℕ) → main_of world ≡ Some t → Begins t p e → Valid g linked o
         → At g linked p e o → look o.maps.regs.dat ≡ Mem (data_cap (ranges_of p) (pos p.component.data_base))
         → IsSafe g o.frames o.maps.regs.stk → EntryPublic world g linked Begins StoreIs RegsAre o
-        → RegsAre [] o → left_now world g linked Begins StoreIs RegsAre o ≡ Some stack
+        → RegsAre (no_registers world) o → left_now world g linked Begins StoreIs RegsAre o ≡ Some stack
         → o.maps.regs.rcode ≡ Plain (Int (pos 0)) → o.maps.regs.rdata ≡ Plain (Int (pos 0))
         → Starting stack mem o
     outside_main : main_of world ≡ None → Out g linked o → o.frames ≡ [] → Starting stack mem o
 
 module _ (world : World) (g : Link) (linked : Linked g) (Begins : Target → PartSeen → ℕ → Type 0)
-    (StoreIs : Store → (ℕ → OWord) → Type 0) (RegsAre : List Register → OState → Type 0)
-    (EnvIs : Procedure → OState → List Value → List OWord → Type 0)
+    (StoreIs : Store → (ℕ → OWord) → Type 0) (RegsAre : Registers → OState → Type 0)
+    (EnvIs : Procedure → List (Option OWord) → List Value → List OWord → Type 0)
     (named : Named g) (meets : Meets world g linked Begins StoreIs RegsAre named)
     (rest : Rest world g linked Begins StoreIs RegsAre named) where
   pub record Laws (n : ℕ) : Type 0 where
@@ -84,8 +92,14 @@ module _ (world : World) (g : Link) (linked : Linked g) (Begins : Target → Par
   trace_zero o = refl
 
   wait_none : WaitLaw world g linked Begins StoreIs RegsAre zero
-  wait_none c w f fs st mem o h fr globs store for back = record { by = by }
+  wait_none c w f fs ow st mem o h fr globs store for back =
+      record { by = by; quiet = quiet_none g (Shows g.layout) (GivesBack g.layout) o ow.owes; wiped = wiped }
     where
+      wiped : (b : OState) (low : Option ℕ) → Since g b low none o → (k : ℕ) → k ≤ zero
+          → Wipes g (crossings g.layout k b o) (trace g.layout k o).items ((whole world).wait (Some w) st low)
+      wiped b low s zero le = nothing_yet g b o ((whole world).wait (Some w) st low)
+      wiped b low s (suc k) le = absurd (omega (arith, le))
+
       by : (k : ℕ) → k ≤ zero → Agrees c (trace g.layout k o) ((whole world).wait (Some w) st)
       by zero le = subst (λ t. Agrees c t ((whole world).wait (Some w) st))
           (sym (trace_zero o ∙ ap (standing g.layout) (outside_here g linked o h)))
@@ -94,12 +108,18 @@ module _ (world : World) (g : Link) (linked : Linked g) (Begins : Target → Par
       by (suc k) le = absurd (omega (arith, le))
 
   leave_none : LeaveLaw world g linked Begins StoreIs RegsAre zero
-  leave_none c w f fs st mem t p o q v fr for a store names back =
-      none_inside g.layout (c + 100) q _ (inside_here g linked a.part a.offset q a.at)
+  leave_none c w f fs ow st mem t p en o q v entry fr for a store names back =
+      none_inside g (c + 100) q _ (inside_here g linked a.part a.offset q a.at)
 
   idle_none : IdleLaw world g linked Begins StoreIs RegsAre zero
-  idle_none c st mem o h fr globs store = record { by = by }
+  idle_none c st mem o h fr globs store =
+      record { by = by; quiet = quiet_none g (Shows g.layout) (GivesBack g.layout) o []; wiped = wiped }
     where
+      wiped : (b : OState) (low : Option ℕ) → Since g b low none o → (k : ℕ) → k ≤ zero
+          → Wipes g (crossings g.layout k b o) (trace g.layout k o).items ((whole world).wait None st low)
+      wiped b low s zero le = nothing_yet g b o ((whole world).wait None st low)
+      wiped b low s (suc k) le = absurd (omega (arith, le))
+
       by : (k : ℕ) → k ≤ zero → Agrees c (trace g.layout k o) ((whole world).wait None st)
       by zero le = subst (λ t. Agrees c t ((whole world).wait None st))
           (sym (trace_zero o ∙ ap (standing g.layout) (outside_here g linked o h)))
@@ -108,8 +128,8 @@ module _ (world : World) (g : Link) (linked : Linked g) (Begins : Target → Par
       by (suc k) le = absurd (omega (arith, le))
 
   idle_leave_none : IdleLeaveLaw world g linked Begins StoreIs RegsAre zero
-  idle_leave_none c st mem t p o q v fr a store names =
-      none_inside g.layout (c + 100) q _ (inside_here g linked a.part a.offset q a.at)
+  idle_leave_none c st mem t p en o q v entry fr a store names =
+      none_inside g (c + 100) q _ (inside_here g linked a.part a.offset q a.at)
 
   more : (n : ℕ) → ((m : ℕ) → m < n → Laws m) → Laws n → (m : ℕ) → m < suc n → Laws m
   more n below here m lt = elim (cases_eq m n) as (λ _. Laws m) [
@@ -158,27 +178,31 @@ module _ (world : World) (g : Link) (linked : Linked g) (Begins : Target → Par
 
   -- ---- from a start
 
-  agrees_same : (c : ℕ) (t : Trace) (m m' : Comp) → ((f : ℕ) (feed : List Item) → m f feed ≡ m' f feed)
-      → Agrees c t m → Agrees c t m'
-  agrees_same c t m m' same a = record {
+  agrees_start : (stack : ℕ) (t : Trace)
+      → Agrees 0 t (start world (whole world) stack (main_of world)
+      (map (λ (u : Part). u.globals) world.parts))
+      → Starts world stack t
+  agrees_start stack t a = record {
     enough = a.enough;
-    fits = λ f le. subst (Fits t.final t.out) (same f t.items) (a.fits f le);
-    slow = λ f lt. subst (λ x. (x.end ≡ OutOfFuel) × Prefix (events_of x) t.out) (same f t.items)
-        (a.slow f lt);
+    fits = λ f le. subst (Fits t.final t.out) (starts world stack t.items f) (a.fits None f le);
+    slow = λ f lt. subst (λ x. (x.end ≡ OutOfFuel) × Prefix (events_of x) t.out)
+        (starts world stack t.items f)
+        (a.slow None f lt);
   }
 
   -- the return of main fails
   main_ends : (n : ℕ) (p : PartSeen) (o q : OState) (v : ℤ) (mem : ℕ → OWord)
-      → AtEnd world g linked Begins StoreIs RegsAre p o q v mem → o.maps.regs.rcode ≡ Plain (Int (pos 0))
-      → o.maps.regs.rdata ≡ Plain (Int (pos 0)) → UpTo g.layout n 100 q (ends Fails)
+      → (a : AtEnd world g linked Begins StoreIs RegsAre p o q v mem) → o.maps.regs.rcode
+      ≡ Plain (Int (pos 0))
+      → o.maps.regs.rdata ≡ Plain (Int (pos 0)) → UpTo g [] (ended a.top) n 100 q (ends Fails)
   main_ends n p o q v mem a ec ed =
       by (tells g linked named a.part a.offset q a.valid a.at a.jump (Int (pos 0)) (Int (pos 0)) (a.code ∙ ec)
       (a.half ∙ ed) a.safe)
     where
       by : Tells g linked named a.part a.offset q a.valid a.at a.jump (Int (pos 0)) (Int (pos 0))
-          (a.code ∙ ec) (a.half ∙ ed) a.safe → UpTo g.layout n 100 q (ends Fails)
+          (a.code ∙ ec) (a.half ∙ ed) a.safe → UpTo g [] (ended a.top) n 100 q (ends Fails)
       by (fails_bad b s) = let small = weight_small g linked a.part a.offset q a.valid a.at a.jump in
-          go_fail g.layout n 100 q (inside_here g linked a.part a.offset q a.at) s (omega (arith, small))
+          go_fail g n 100 q (inside_here g linked a.part a.offset q a.at) s (omega (arith, small))
       by (goes_out q' b l) = absurd (bad_out b)
         where
           bad_out : back_of g.layout (Int (pos 0)) (Int (pos 0)) ≡ OutBack → ⊥
@@ -188,46 +212,115 @@ module _ (world : World) (g : Link) (linked : Linked g) (Begins : Target → Par
           bad_hop : (part j : ℕ) → back_of g.layout (Int (pos 0)) (Int (pos 0)) ≡ Hop part j → ⊥
           bad_hop part j e = let z : Bad ≡ Hop part j = e in cc
 
+  abbrev begun : ℕ → Comp
+  begun stack = start world (whole world) stack (main_of world) (map (λ (u : Part). u.globals) world.parts)
+
+  -- what is live at the start: nothing
+  abbrev live_at : {stack : ℕ} {mem : ℕ → OWord} {o : OState}
+      → Starting world g linked Begins StoreIs RegsAre stack mem o → Live
+  live_at {o = o} (in_main t p e is begins v at dat safe public regs left ec ed) = untold 0 (stack_top g o)
+  live_at (outside_main is h fr) = none
+
+  pub upto_start : Bodies → (stack : ℕ) (mem : ℕ → OWord) (o : OState) → DataIs g linked mem o.maps.cells
+      → StoreIs (map (λ (u : Part). u.globals) world.parts) mem
+      → (s : Starting world g linked Begins StoreIs RegsAre stack mem o) → (n : ℕ)
+      → UpTo g [] (live_at s) n 0 o (begun stack)
+  upto_start bodies stack mem o globs store (in_main t p e is begins v at dat safe public regs left ec ed) n =
+      let u = (all bodies n).procs t p e 0
+      (λ v st. ends Fails) (no_registers world) (map (λ (u : Part). u.globals) world.parts) mem o
+      (record { owes = []; deep = λ a m. absurd m }) begins v at dat safe public
+      globs store regs (λ val st' mem' q a store'. main_ends n p o q val mem' a ec ed) in
+      subst (λ x. UpTo g [] (untold 0 (stack_top g o)) n 0 o
+      (start world (whole world) stack x (map (λ (u : Part). u.globals) world.parts))) (sym is)
+      (subst (λ l. UpTo g [] (untold 0 (stack_top g o)) n 0 o
+      ((whole world).proc t l (no_registers world) (λ v st. ends Fails)
+      (map (λ (u : Part). u.globals) world.parts))) left u)
+  upto_start bodies stack mem o globs store (outside_main is h fr) n =
+      subst (λ x. UpTo g [] none n 0 o
+      (start world (whole world) stack x (map (λ (u : Part). u.globals) world.parts))) (sym is)
+      ((all bodies n).idles 0 (map (λ (u : Part). u.globals) world.parts) mem o h fr globs store)
+
   pub from_start : Bodies → (stack : ℕ) (mem : ℕ → OWord) (o : OState) → DataIs g linked mem o.maps.cells
-      → StoreIs (map (λ (u : Part). u.globals) world) mem
+      → StoreIs (map (λ (u : Part). u.globals) world.parts) mem
       → Starting world g linked Begins StoreIs RegsAre stack mem o
-      → (k : ℕ) → Agrees 0 (trace g.layout k o) (λ fuel feed. meaning world stack feed fuel)
+      → (k : ℕ) → Starts world stack (trace g.layout k o)
   from_start bodies stack mem o globs store s k =
-      agrees_same 0 (trace g.layout k o)
-      (start world (whole world) stack (main_of world) (map (λ (u : Part). u.globals) world))
-      _ (λ f feed. starts world stack feed f) (by s)
-    where
-      st : Store
-      st = map (λ (u : Part). u.globals) world
-
-      laws : Laws k
-      laws = all bodies k
-
-      by : Starting world g linked Begins StoreIs RegsAre stack mem o
-          → Agrees 0 (trace g.layout k o)
-          (start world (whole world) stack (main_of world) (map (λ (u : Part). u.globals) world))
-      by (in_main t p e is begins v at dat safe public regs left ec ed) =
-          let u = laws.procs t p e 0
-          (λ v st. ends Fails) [] (map (λ (u : Part). u.globals) world) mem o begins v at dat safe public
-          globs store regs (λ val st' mem' q a store'. main_ends k p o q val mem' a ec ed) in
-          subst (λ x. Agrees 0 (trace g.layout k o)
-          (start world (whole world) stack x (map (λ (u : Part). u.globals) world))) (sym is)
-          (subst (λ l. Agrees 0 (trace g.layout k o)
-          ((whole world).proc t l [] (λ v st. ends Fails) (map (λ (u : Part). u.globals) world))) left
-          (u.by k (omega arith)))
-      by (outside_main is h fr) =
-          subst (λ x. Agrees 0 (trace g.layout k o)
-          (start world (whole world) stack x (map (λ (u : Part). u.globals) world))) (sym is)
-          ((laws.idles 0 (map (λ (u : Part). u.globals) world) mem o h fr globs store).by k (omega arith))
+      agrees_start stack (trace g.layout k o)
+      ((upto_start bodies stack mem o globs store s k).by k (omega arith))
 
   -- the theorem of sources of a start
   pub source_law : Bodies → (stack : ℕ) (s : StartSeen) (mem : ℕ → OWord) → g.layout ≡ layout s
       → DataIs g linked mem (overlay_at s).state.maps.cells
-      → StoreIs (map (λ (u : Part). u.globals) world) mem
+      → StoreIs (map (λ (u : Part). u.globals) world.parts) mem
       → Starting world g linked Begins StoreIs RegsAre stack mem (overlay_at s).state
-      → SourcesMean world stack s
+      → SourcesMean world.parts stack s
   source_law bodies stack s mem same globs store st =
-      agreeing_runs world stack s
-      (λ k. subst (λ l. Agrees 0 (trace l k (overlay_at s).state)
-      (λ fuel feed. meaning world stack feed fuel)) same
+      agreeing_runs world.parts stack s
+      (λ k. subst (λ l. good.Agrees 0 (lines.trace l k (overlay_at s).state)
+      (λ fuel feed. plain.meaning world.parts stack feed fuel)) same
+      (subst (λ t. good.Agrees 0 t (λ fuel feed. plain.meaning world.parts stack feed fuel))
+      (traces g.layout k (overlay_at s).state)
+      (forgets world stack (trace g.layout k (overlay_at s).state)
+      (from_start bodies stack mem (overlay_at s).state globs store st k))))
+
+  -- whom sources call, with which words
+  pub words_law : Bodies → (stack : ℕ) (s : StartSeen) (mem : ℕ → OWord) → g.layout ≡ layout s
+      → DataIs g linked mem (overlay_at s).state.maps.cells
+      → StoreIs (map (λ (u : Part). u.globals) world.parts) mem
+      → Starting world g linked Begins StoreIs RegsAre stack mem (overlay_at s).state
+      → WordsTold world.marks world.parts stack s
+  words_law bodies stack s mem same globs store st =
+      words_told world stack s
+      (λ k. subst (λ l. Starts world stack (trace l k (overlay_at s).state)) same
       (from_start bodies stack mem (overlay_at s).state globs store st k))
+
+  -- what a run of any number of steps from a start shows
+  pub quiet_start : Bodies → (stack : ℕ) (mem : ℕ → OWord) (o : OState) → DataIs g linked mem o.maps.cells
+      → StoreIs (map (λ (u : Part). u.globals) world.parts) mem
+      → Starting world g linked Begins StoreIs RegsAre stack mem o
+      → (n : ℕ) → Quiet g (Shows g.layout) (GivesBack g.layout) [] n o
+  quiet_start bodies stack mem o globs store s n = (upto_start bodies stack mem o globs store s n).quiet
+
+  -- and what it wipes
+  pub wipes_start : Bodies → (stack : ℕ) (mem : ℕ → OWord) (o : OState) → DataIs g linked mem o.maps.cells
+      → StoreIs (map (λ (u : Part). u.globals) world.parts) mem
+      → Starting world g linked Begins StoreIs RegsAre stack mem o
+      → (k : ℕ) → Wipes g (crossings g.layout k o o) (trace g.layout k o).items
+      (λ f feed. meaning world stack feed f)
+  wipes_start bodies stack mem o globs store s k =
+      let w = (upto_start bodies stack mem o globs store s k).wiped o None (since s) k (omega arith) in
+      record {
+        lows = w.lows;
+        wiped = w.wiped;
+        enough = w.enough;
+        told = λ f le. subst (λ x. Tell w.lows x.events) (starts world stack (trace g.layout k o).items f)
+            (w.told f le);
+      }
+    where
+      since : (s : Starting world g linked Begins StoreIs RegsAre stack mem o) → Since g o None (live_at s) o
+      since (in_main t p e is begins v at dat safe public regs left ec ed) =
+          record { inside = λ i. clean_first g o o (stack_top g o) refl; outside = λ i. refl }
+      since (outside_main is h fr) = record {
+        inside = λ i. absurd (let bad : true ≡ false = sym i ∙ outside_here g linked o h in cc);
+        outside = λ i. refl;
+      }
+
+  -- code outside learns nothing but the events
+  pub secrets_law : Bodies → (stack : ℕ) (s : StartSeen) (mem : ℕ → OWord) → g.layout ≡ layout s
+      → DataIs g linked mem (overlay_at s).state.maps.cells
+      → StoreIs (map (λ (u : Part). u.globals) world.parts) mem
+      → Starting world g linked Begins StoreIs RegsAre stack mem (overlay_at s).state
+      → LeavesNothing g s
+  secrets_law bodies stack s mem same globs store st =
+      leaves_nothing g s same (quiet_start bodies stack mem (overlay_at s).state globs store st) world stack
+      (wipes_start bodies stack mem (overlay_at s).state globs store st)
+
+  -- the cells are wiped that are told of
+  pub wiped_law : Bodies → (stack : ℕ) (s : StartSeen) (mem : ℕ → OWord) → g.layout ≡ layout s
+      → DataIs g linked mem (overlay_at s).state.maps.cells
+      → StoreIs (map (λ (u : Part). u.globals) world.parts) mem
+      → Starting world g linked Begins StoreIs RegsAre stack mem (overlay_at s).state
+      → WipedAlways g world.parts stack s
+  wiped_law bodies stack s mem same globs store st =
+      wiped_always g s same (quiet_start bodies stack mem (overlay_at s).state globs store st) world stack
+      (wipes_start bodies stack mem (overlay_at s).state globs store st)

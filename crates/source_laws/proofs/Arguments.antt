@@ -1,9 +1,14 @@
 -- The arguments of a call: evaluated into slots, and loaded into registers.
+use Rattle.std.proofs.Common.{Option, ◌≡◌, ◌≢◌, ◌⊎◌, inl, inr, ℕ, zero, suc, ◌+◌, ◌-◌, ◌*◌, ◌<◌, ◌≤◌, ℤ, pos}
+use Rattle.std.proofs.Common.{◌+ℤ◌, ◌-ℤ◌, List, [], ◌∷◌, ◌++◌, length, Some, None, Bool, true, false, refl}
+use Rattle.std.proofs.Common.{sym, ap, ◌∙◌, subst, arith, append_assoc, append-nil, length-append}
+use Rattle.source_laws.proofs.Refined.{of_handle, of_args, World, pair_of, Comp, args, Frame, whole}
+use Rattle.proc_semantics.specs.Marked.{PairHalf, CodeHalf, DataHalf}
+use Rattle.source_laws.proofs.Variables.{AtPlace, EnvIn, PairAt, env_same, index_is, there_lt}
 use Rattle.source_laws.proofs.CallsIn.{int_public}
+use Rattle.template_runs.proofs.Quiet.{Owing}
 use Rattle.source_laws.proofs.Upto.{upto, UpTo, spend, tick_up}
-use Rattle.std.proofs.Common.{◌≡◌, ◌≢◌, ◌⊎◌, inl, inr, ℕ, zero, suc, ◌+◌, ◌-◌, ◌*◌, ◌<◌, ◌≤◌, ℤ, pos, ◌+ℤ◌}
-use Rattle.std.proofs.Common.{◌-ℤ◌, List, [], ◌∷◌, ◌++◌, length, Some, None, Bool, true, false, refl, sym, ap}
-use Rattle.std.proofs.Common.{◌∙◌, subst, arith, append_assoc, append-nil, length-append}
+use Rattle.template_runs.proofs.Clean.{used}
 use Rattle.std.specs.Prelude.{slice_get, drop, replicate}
 use Rattle.std.proofs.lemmas.Int.{ints}
 use Rattle.cap_words.specs.declared.Word.{Word}
@@ -27,17 +32,13 @@ use Rattle.overlay_machine.specs.Words.{look}
 use Rattle.overlay_machine.specs.State.{OpenFrame, OState}
 use Rattle.overlay_machine.specs.Link.{Link, IsTrusted, ranges_of, data_region}
 use Rattle.overlay_machine.specs.Linked.{Linked}
-use Rattle.proc_semantics.specs.Values.{World, Store, pair_of, pair_in}
+use Rattle.proc_semantics.specs.Values.{Store, pair_in}
 use Rattle.proc_semantics.specs.declared.value.Pair.{Pair}
 use Rattle.proc_program.specs.declared.program.Handle.{Handle}
 use Rattle.proc_program.specs.declared.program.Handle.TheVariants.{Given, Own, Imported}
 use Rattle.proc_program.specs.Program.{Exp, Args, no_args, value, pass}
-use Rattle.proc_semantics.specs.Told.{Comp}
 use Rattle.proc_semantics.specs.declared.value.Value.{Value}
 use Rattle.proc_semantics.specs.declared.value.Value.TheVariants.{Num, Closure, Other}
-use Rattle.proc_semantics.specs.Meaning.{args}
-use Rattle.proc_semantics.specs.declared.value.Frame.{Frame}
-use Rattle.proc_semantics.specs.Whole.{whole}
 use Rattle.proc_templates.specs.declared.Frame.{Frame as Shape}
 use Rattle.proc_program.specs.Limits.{arg_registers}
 use Rattle.proc_templates.specs.Items.{zero_of}
@@ -52,7 +53,6 @@ use Rattle.template_runs.proofs.Rows.{Here, Free, load_law, store_law, loaded}
 use Rattle.template_runs.proofs.Checks.{is_half}
 use Rattle.template_runs.proofs.Data.{with_reg, set_law, dat_law, load_data_law}
 use Rattle.template_runs.proofs.Standing.{Stand, stand_front, stand_back, words-append, words_in}
-use Rattle.source_laws.proofs.Variables.{EnvIn, PairAt, env_same, index_is, there_lt}
 use Rattle.template_runs.proofs.Elements.{free_a0, free_a1, free_a2, free_a3}
 use Rattle.source_laws.proofs.Evals.{Globals, LawOf}
 use Rattle.trace_tool.specs.Feed.{integer_in}
@@ -161,6 +161,10 @@ pub record DataPair (p : PartSeen) (Rel : Pair → OWord → OWord → Type 0) (
   pub stands_too : mem (p.component.data_base + (at + 1)) ≡ second
   pub is : Rel pair first second
 
+-- two words that are a pair, and are those that its marks say
+abbrev pub Slotted : (PairHalf → OWord) → (Pair → OWord → OWord → Type 0) → Pair → OWord → OWord → Type 0
+Slotted m R r x y = R r x y × (Some (m CodeHalf) ≡ Some x) × (Some (m DataHalf) ≡ Some y)
+
 module _ (world : World) (StoreIs : Store → (ℕ → OWord) → Type 0) (p : PartSeen) (home imports : ℕ)
     (IsCalled IsPair : Pair → OWord → OWord → Type 0) where
   -- how many imports and procedures a part has, and that their pairs stand in its data: each can be called,
@@ -171,14 +175,19 @@ module _ (world : World) (StoreIs : Store → (ℕ → OWord) → Type 0) (p : P
     pub shared : ℕ → Bool
     pub from_imports : (st : Store) (mem : ℕ → OWord) (k : ℕ) (env : List Value) → StoreIs st mem
         → k < imported
-        → DataPair p IsPair mem (2 * k) (pair_of world home env (Imported k))
+        → DataPair p (Slotted (world.marks.imported home k) IsPair) mem (2 * k)
+        (pair_of world home env (Imported k))
     pub from_own : (st : Store) (mem : ℕ → OWord) (j : ℕ) (env : List Value) → StoreIs st mem → j < owned
-        → DataPair p IsCalled mem (2 * (imports + j)) (pair_of world home env (Own j))
+        → DataPair p (Slotted (world.marks.own home j) IsCalled) mem (2 * (imports + j))
+        (pair_of world home env (Own j))
     pub from_shared : (st : Store) (mem : ℕ → OWord) (j : ℕ) (env : List Value) → StoreIs st mem → j < owned
-        → shared j ≡ true → DataPair p IsPair mem (2 * (imports + j)) (pair_of world home env (Own j))
+        → shared j ≡ true
+        → DataPair p (Slotted (world.marks.own home j) IsPair) mem (2 * (imports + j))
+        (pair_of world home env (Own j))
 
 module _ (world : World) (g : Link) (linked : Linked g) (StoreIs : Store → (ℕ → OWord) → Type 0)
     (p : PartSeen) (ip : IsTrusted g p) (failing : Placed g linked p 0 Fail) (top : ℕ) (fs : List OpenFrame)
+    (ow : Owing fs)
     (f : Frame) (s : Shape) (end : ℕ)
     (kinds : List Kind) (IsPair : Pair → OWord → OWord → Type 0)
     (rests : (i : ℕ) → slice_get kinds i ≡ Some AsPair → slice_get kinds (i + 1) ≡ Some AsRest)
@@ -187,7 +196,7 @@ module _ (world : World) (g : Link) (linked : Linked g) (StoreIs : Store → (�
   Inside words mem o = Here g linked p s.words top words mem fs o
 
   abbrev Env : List Value → List OWord → Type 0
-  Env = EnvIn kinds IsPair
+  Env = EnvIn kinds (AtPlace f.words IsPair)
 
   pub argument_free : (i : ℕ) → Free g linked (argument i)
   argument_free zero = free_a0 g linked
@@ -196,10 +205,14 @@ module _ (world : World) (g : Link) (linked : Linked g) (StoreIs : Store → (�
   argument_free (suc (suc (suc zero))) = free_a3 g linked
   argument_free (suc (suc (suc (suc i)))) = free_a3 g linked
 
+  -- two words that are those that a handle's marks say
+  abbrev pub Told : Handle → (Pair → OWord → OWord → Type 0) → Pair → OWord → OWord → Type 0
+  Told h R r x y = R r x y × (of_handle world f h CodeHalf ≡ Some x) × (of_handle world f h DataHalf ≡ Some y)
+
   -- the pair of a handle is there
   abbrev pub PairThere : (Pair → OWord → OWord → Type 0) → List Value → (ℕ → OWord) → List OWord → Handle
       → Type 0
-  PairThere Rel env mem words (Given i) = PairAt kinds Rel env words i
+  PairThere Rel env mem words (Given i) = PairAt kinds (λ j. Rel) env words i
   PairThere Rel env mem words (Imported k) =
       DataPair p Rel mem (2 * k) (pair_of world f.home env (Imported k))
   PairThere Rel env mem words (Own j) =
@@ -223,9 +236,11 @@ module _ (world : World) (g : Link) (linked : Linked g) (StoreIs : Store → (�
           → is_linear (look x) ≡ false → face_linear (face_of (look x)) ≡ false → At g linked p k o
           → Inside words mem o
           → ((q : OState) → Inside words mem q → At g linked p (k + 3) q → reg q.maps.regs r ≡ x
-          → Others (r ∷ []) o q → UpTo g.layout n b q m) → 3 + b ≤ c → UpTo g.layout n c o m
+          → Others (r ∷ []) o q → UpTo g ow.owes (used s.words top) n b q m) → 3 + b ≤ c
+          → UpTo g ow.owes (used s.words top) n c o m
       slot_law k j r x o free spare code1 got lt nl fl at h u le =
-          load_law g linked p ip s.words top mem fs k (upto g.layout n m) c b r free words j x o
+          load_law g linked p ip s.words top mem fs k (upto g ow.owes (used s.words top) n m) c b r
+          free words j x o
           (code1.0, (code1.1.0, (code1.1.1.0, tt))) got lt nl fl at h (λ h1 at1.
           let e3 : k + 1 + 1 + 1 ≡ k + 3 = omega arith in
           let q = loaded g linked p ip s.words top mem fs k o h.at r (top - j) x in
@@ -244,10 +259,11 @@ module _ (world : World) (g : Link) (linked : Linked g) (StoreIs : Store → (�
       pub zero_law : (k : ℕ) (r : Reg) (o : OState) → Free g linked r → Spare r
           → Placed g linked p k (zero_of r) → At g linked p k o → Inside words mem o
           → ((q : OState) → Inside words mem q → At g linked p (k + 1) q
-          → reg q.maps.regs r ≡ Plain (Int (pos 0)) → Others (r ∷ []) o q → UpTo g.layout n b q m)
-          → 1 + b ≤ c → UpTo g.layout n c o m
+          → reg q.maps.regs r ≡ Plain (Int (pos 0)) → Others (r ∷ []) o q
+          → UpTo g ow.owes (used s.words top) n b q m)
+          → 1 + b ≤ c → UpTo g ow.owes (used s.words top) n c o m
       zero_law k r o free spare code1 at h u le =
-          set_law g linked p ip s.words top fs k (upto g.layout n m) c b words mem o
+          set_law g linked p ip s.words top fs k (upto g ow.owes (used s.words top) n m) c b words mem o
           (pos p.component.data_base) (zero_of r) r (Plain (Int (pos 0))) free refl code1 at
           h
           (set_goes look Plain r (pos 0) _ o.maps free.no_pc) (λ h1 at1.
@@ -266,7 +282,7 @@ module _ (world : World) (g : Link) (linked : Linked g) (StoreIs : Store → (�
           → DataPair p Rel mem at0 pair → At g linked p k o → Inside words mem o
           → ((x y : OWord) (q : OState) → Rel pair x y → Inside words mem q → At g linked p (k + 5) q
           → reg q.maps.regs r ≡ x → reg q.maps.regs t ≡ y → Others (r ∷ t ∷ []) o q
-          → UpTo g.layout n b q m) → 6 + b ≤ c → UpTo g.layout n c o m
+          → UpTo g ow.owes (used s.words top) n b q m) → 6 + b ≤ c → UpTo g ow.owes (used s.words top) n c o m
       data_pair_law k at0 r t pair o ne fr ft sr st1 code1 d at h u le =
           let base = p.component.data_base in
           let small = linked.small (data_region p) (linked.data_there p ip) in
@@ -303,18 +319,23 @@ module _ (world : World) (g : Link) (linked : Linked g) (StoreIs : Store → (�
           let s5 = with_reg s4 Dat (Plain (Mem (data_cap (ranges_of p) (pos base))))
           (next_pc g linked p (k + 1 + 1 + 1 + 1)) in
           let e5 : k + 1 + 1 + 1 + 1 + 1 ≡ k + 5 = omega arith in
-          dat_law g linked p ip s.words top fs k (upto g.layout n m) c (5 + b) words mem o (pos base)
+          dat_law g linked p ip s.words top fs k (upto g ow.owes (used s.words top) n m) c (5 + b) words
+          mem o (pos base)
           (pos at0) (pos (base + at0)) (Imm (pos at0)) code1.0 at
           h refl refl fit0 (λ a1 at1.
-          load_data_law g linked p ip s.words top fs (k + 1) (upto g.layout n m) (5 + b) (4 + b) words mem s1
+          load_data_law g linked p ip s.words top fs (k + 1) (upto g ow.owes (used s.words top) n m) (5 + b)
+          (4 + b) words mem s1
           at0 r d.first fr code1.1.0 at1 a1 in0 d.stands h1.0.stays_whole h1.0.stays_face (λ a2 at2.
-          dat_law g linked p ip s.words top fs (k + 1 + 1) (upto g.layout n m) (4 + b) (3 + b) words mem s2
+          dat_law g linked p ip s.words top fs (k + 1 + 1) (upto g ow.owes (used s.words top) n m) (4 + b)
+          (3 + b) words mem s2
           (pos (base + at0)) (pos 1) (pos (base + (at0 + 1))) (Imm (pos 1)) code1.1.1.0 at2 a2 refl e1
           fit1 (λ a3 at3.
-          load_data_law g linked p ip s.words top fs (k + 1 + 1 + 1) (upto g.layout n m) (3 + b) (2 + b) words
+          load_data_law g linked p ip s.words top fs (k + 1 + 1 + 1) (upto g ow.owes (used s.words top) n m)
+          (3 + b) (2 + b) words
           mem s3 (at0 + 1) t d.second ft code1.1.1.1.0 at3 a3 ins d.stands_too h1.1.stays_whole
           h1.1.stays_face (λ a4 at4.
-          dat_law g linked p ip s.words top fs (k + 1 + 1 + 1 + 1) (upto g.layout n m) (2 + b) b words mem s4
+          dat_law g linked p ip s.words top fs (k + 1 + 1 + 1 + 1) (upto g ow.owes (used s.words top) n m)
+          (2 + b) b words mem s4
           (pos (base + (at0 + 1))) (pos 0 -ℤ pos (at0 + 1)) (pos base) (Imm (pos 0 -ℤ pos (at0 + 1)))
           code1.1.1.1.1.0 at4 a4 refl e2 fitb (λ a5 at5.
           u d.first d.second s5 d.is a5
@@ -333,8 +354,9 @@ module _ (world : World) (g : Link) (linked : Linked g) (StoreIs : Store → (�
             → Stand g linked p end k (load_pair s h r t) → At g linked p k o → Inside words mem o
             → ((x y : OWord) (q : OState) → Rel (pair_of world f.home env h) x y → Inside words mem q
             → At g linked p (k + words_in (load_pair s h r t)) q → reg q.maps.regs r ≡ x
-            → reg q.maps.regs t ≡ y → Others (r ∷ t ∷ []) o q → UpTo g.layout n b q m) → 6 + b ≤ c
-            → UpTo g.layout n c o m
+            → reg q.maps.regs t ≡ y → Others (r ∷ t ∷ []) o q
+            → UpTo g ow.owes (used s.words top) n b q m) → 6 + b ≤ c
+            → UpTo g ow.owes (used s.words top) n c o m
         loads_law (Imported j) k r t o d ne fr ft sr st1 code1 at h u le =
             data_pair_law k (2 * j) r t (pair_of world f.home env (Imported j)) o ne fr ft sr st1 code1 d at h
             u le
@@ -364,9 +386,9 @@ module _ (world : World) (g : Link) (linked : Linked g) (StoreIs : Store → (�
 
     module _ (n c b : ℕ) (m : Comp) (words : List OWord) (mem : ℕ → OWord) (st : Store) (env : List Value)
         (store : StoreIs st mem) (en : Env env words) (len : length words ≡ s.words) where
-      called_there : (h : Handle) → HandleThere h → PairThere IsCalled env mem words h
+      called_there : (h : Handle) → HandleThere h → PairThere (Told h IsCalled) env mem words h
       called_there (Given i) fit =
-          let x : PairAt kinds IsPair env words i = en.pairs i fit in
+          let x : PairAt kinds (AtPlace f.words IsPair) env words i = en.pairs i fit in
           record {
             pair = x.pair;
             first = x.first;
@@ -374,7 +396,7 @@ module _ (world : World) (g : Link) (linked : Linked g) (StoreIs : Store → (�
             meant = x.meant;
             stands = x.stands;
             stands_too = x.stands_too;
-            is = forget x.pair x.first x.second x.is;
+            is = (forget x.pair x.first x.second x.is.0, x.is.1, x.is.2);
           }
       called_there (Imported k) fit =
           let d = pairs.from_imports st mem k env store fit in
@@ -384,12 +406,22 @@ module _ (world : World) (g : Link) (linked : Linked g) (StoreIs : Store → (�
             inside = d.inside;
             stands = d.stands;
             stands_too = d.stands_too;
-            is = forget _ d.first d.second d.is;
+            is = (forget _ d.first d.second d.is.0, d.is.1, d.is.2);
           }
       called_there (Own j) fit = pairs.from_own st mem j env store fit
 
-      passed_there : (h : Handle) → PassThere h → PairThere IsPair env mem words h
-      passed_there (Given i) fit = en.pairs i fit
+      passed_there : (h : Handle) → PassThere h → PairThere (Told h IsPair) env mem words h
+      passed_there (Given i) fit =
+          let x : PairAt kinds (AtPlace f.words IsPair) env words i = en.pairs i fit in
+          record {
+            pair = x.pair;
+            first = x.first;
+            second = x.second;
+            meant = x.meant;
+            stands = x.stands;
+            stands_too = x.stands_too;
+            is = x.is;
+          }
       passed_there (Imported k) fit = pairs.from_imports st mem k env store fit
       passed_there (Own j) fit = pairs.from_shared st mem j env store fit.0 fit.1
 
@@ -397,32 +429,38 @@ module _ (world : World) (g : Link) (linked : Linked g) (StoreIs : Store → (�
       pub pair_law : (h : Handle) (k : ℕ) (r t : Reg) (o : OState) → HandleThere h → r ≢ t → Free g linked r
           → Free g linked t → Spare r → Spare t → Stand g linked p end k (load_pair s h r t)
           → At g linked p k o → Inside words mem o
-          → ((x y : OWord) (q : OState) → IsCalled (pair_of world f.home env h) x y → Inside words mem q
+          → ((x y : OWord) (q : OState) → Told h IsCalled (pair_of world f.home env h) x y
+          → Inside words mem q
           → At g linked p (k + words_in (load_pair s h r t)) q → reg q.maps.regs r ≡ x
-          → reg q.maps.regs t ≡ y → Others (r ∷ t ∷ []) o q → UpTo g.layout n b q m) → 6 + b ≤ c
-          → UpTo g.layout n c o m
+          → reg q.maps.regs t ≡ y → Others (r ∷ t ∷ []) o q
+          → UpTo g ow.owes (used s.words top) n b q m) → 6 + b ≤ c
+          → UpTo g ow.owes (used s.words top) n c o m
       pair_law h k r t o fit =
-          loads_law IsCalled halves n c b m words mem env len h k r t o (called_there h fit)
+          loads_law (Told h IsCalled) (λ r x y i. halves r x y i.0) n c b m words mem env len h k r t o
+          (called_there h fit)
 
       passed_law : (h : Handle) (k : ℕ) (r t : Reg) (o : OState) → PassThere h → r ≢ t → Free g linked r
           → Free g linked t → Spare r → Spare t → Stand g linked p end k (load_pair s h r t)
           → At g linked p k o → Inside words mem o
-          → ((x y : OWord) (q : OState) → IsPair (pair_of world f.home env h) x y → Inside words mem q
+          → ((x y : OWord) (q : OState) → Told h IsPair (pair_of world f.home env h) x y → Inside words mem q
           → At g linked p (k + words_in (load_pair s h r t)) q → reg q.maps.regs r ≡ x
-          → reg q.maps.regs t ≡ y → Others (r ∷ t ∷ []) o q → UpTo g.layout n b q m) → 6 + b ≤ c
-          → UpTo g.layout n c o m
-      passed_law h k r t o fit = loads_law IsPair
-          (λ r x y i. halves r x y (forget r x y i)) n c b m words mem env len h k r t o (passed_there h fit)
+          → reg q.maps.regs t ≡ y → Others (r ∷ t ∷ []) o q
+          → UpTo g ow.owes (used s.words top) n b q m) → 6 + b ≤ c
+          → UpTo g ow.owes (used s.words top) n c o m
+      passed_law h k r t o fit = loads_law (Told h IsPair)
+          (λ r x y i. halves r x y (forget r x y i.0)) n c b m words mem env len h k r t o
+          (passed_there h fit)
 
     -- ---- values in slots and in registers
 
     -- values as the meaning has them, and their words
-    pub data ValuesAre : List Value → List OWord → Type 0 where
-      no_values : ValuesAre [] []
-      number_too : (v : ℤ) {vs : List Value} {ws : List OWord} → fits_64 v ≡ true → ValuesAre vs ws
-          → ValuesAre (Num v ∷ vs) (Plain (Int v) ∷ ws)
-      pair_too : (r : Pair) (x y : OWord) {vs : List Value} {ws : List OWord} → IsPair r x y → ValuesAre vs ws
-          → ValuesAre (Closure r ∷ Other ∷ vs) (x ∷ y ∷ ws)
+    pub data ValuesAre : List Value → List (Option OWord) → List OWord → Type 0 where
+      no_values : ValuesAre [] [] []
+      number_too : (v : ℤ) {vs : List Value} {ms : List (Option OWord)} {ws : List OWord} → fits_64 v ≡ true
+          → ValuesAre vs ms ws → ValuesAre (Num v ∷ vs) (None ∷ ms) (Plain (Int v) ∷ ws)
+      pair_too : (r : Pair) (x y : OWord) {vs : List Value} {ms : List (Option OWord)} {ws : List OWord}
+          → IsPair r x y → ValuesAre vs ms ws
+          → ValuesAre (Closure r ∷ Other ∷ vs) (Some x ∷ Some y ∷ ms) (x ∷ y ∷ ws)
 
     -- values of arguments, of which the numbers stand in the slots from one on
     abbrev pub ArgsIn : List Value → Args → List Value → ℕ → List OWord → Type 0
@@ -444,14 +482,15 @@ module _ (world : World) (g : Link) (linked : Linked g) (StoreIs : Store → (�
           → HandlesFit xs → i + arg_registers xs ≤ 4 → length done ≡ i → ArgsIn env xs vs (t + i) words
           → Stand g linked p end k (load_args s t i xs) → At g linked p k o → Inside words mem o
           → Holding done o
-          → ((ws : List OWord) (q : OState) → ValuesAre vs ws → length ws ≡ arg_registers xs
+          → ((ws : List OWord) (q : OState) → ValuesAre vs (of_args world f xs) ws → length ws
+          ≡ arg_registers xs
           → Inside words mem q → At g linked p (k + words_in (load_args s t i xs)) q
-          → Holding (done ++ ws) q → UpTo g.layout n b q m) → 3 * arg_registers xs + b ≤ c
-          → UpTo g.layout n c o m
+          → Holding (done ++ ws) q → UpTo g ow.owes (used s.words top) n b q m) → 3 * arg_registers xs + b ≤ c
+          → UpTo g ow.owes (used s.words top) n c o m
       load_args_law no_args vs t i k c b done o fit few ld is code1 at h hd u le =
           let z : k ≡ k + 0 = omega arith in
-          spend g.layout n b c o m (omega (arith, le))
-          (u [] o (subst (λ y. ValuesAre y []) (sym is) no_values) refl h
+          spend g n b c o m (omega (arith, le))
+          (u [] o (subst (λ y. ValuesAre y [] []) (sym is) no_values) refl h
           (subst (λ y. At g linked p y o) z at) (subst (λ y. Holding y o) (sym (append-nil done)) hd))
       load_args_law (value e xs) vs t i k c b done o fit few ld is code1 at h hd u le =
           let v = is.0 in
@@ -475,7 +514,8 @@ module _ (world : World) (g : Link) (linked : Linked g) (StoreIs : Store → (�
           let e2 : k + 3 + words_in (load_args s t (i + 1) xs) ≡ k + words_in (load_args s t i (value e xs)) =
           omega arith in
           u (Plain (Int is.0) ∷ ws) q
-          (subst (λ y. ValuesAre y (Plain (Int is.0) ∷ ws)) (sym is.2) (number_too is.0 is.4 vals))
+          (subst (λ y. ValuesAre y (of_args world f (value e xs)) (Plain (Int is.0) ∷ ws)) (sym is.2)
+          (number_too is.0 is.4 vals))
           (omega (arith, lw)) h2 (subst (λ y. At g linked p y q) e2 at2)
           (subst (λ y. Holding y q) (append_assoc done (Plain (Int is.0) ∷ []) ws) hold2)) (omega arith))
           (omega (arith, le))
@@ -503,8 +543,12 @@ module _ (world : World) (g : Link) (linked : Linked g) (StoreIs : Store → (�
           let e2 : k + words_in (load_pair s hd1 (argument i) (argument (i + 1))) + words_in
           (load_args s t (i + 2) xs) ≡ k + words_in (load_args s t i (pass hd1 xs)) = omega (arith, wa) in
           u (x ∷ y ∷ ws) q (subst
-          (λ z. ValuesAre z (x ∷ y ∷ ws)) (sym is.1)
-          (pair_too (pair_of world f.home env hd1) x y pr vals)) (omega (arith, lw)) h2
+          (λ z. ValuesAre z (of_args world f (pass hd1 xs)) (x ∷ y ∷ ws)) (sym is.1)
+          (subst (λ z. ValuesAre (Closure (pair_of world f.home env hd1) ∷ Other ∷ is.0)
+          (z ∷ of_handle world f hd1 DataHalf ∷ of_args world f xs) (x ∷ y ∷ ws)) (sym pr.1)
+          (subst (λ z. ValuesAre (Closure (pair_of world f.home env hd1) ∷ Other ∷ is.0)
+          (Some x ∷ z ∷ of_args world f xs) (x ∷ y ∷ ws)) (sym pr.2)
+          (pair_too (pair_of world f.home env hd1) x y pr.0 vals)))) (omega (arith, lw)) h2
           (subst (λ y. At g linked p y q) e2 at2)
           (subst (λ y. Holding y q) (append_assoc done (x ∷ y ∷ []) ws) hold2)) (omega arith))
           (omega (arith, le))
@@ -538,19 +582,20 @@ module _ (world : World) (g : Link) (linked : Linked g) (StoreIs : Store → (�
         → ((vs : List Value) (st' : Store) (mem' : ℕ → OWord) (words' : List OWord) (q : OState)
         → At g linked p (k + words_in (args_code s t i xs)) q → Inside words' mem' q
         → SameBelow (t + i) words words' → ArgsIn env xs vs (t + i) words' → StoreIs st' mem'
-        → UpTo g.layout n c q (kk vs st'))
-        → UpTo g.layout n (c + 3 * arg_registers xs) o (args world (whole world) f env xs kk st)
+        → UpTo g ow.owes (used s.words top) n c q (kk vs st'))
+        → UpTo g ow.owes (used s.words top) n (c + 3 * arg_registers xs) o
+        (args world (whole world) f env xs kk st)
 
     module _ (n : ℕ) (env : List Value) (t : ℕ) (lo : 2 + length kinds ≤ t) where
       pub no_args_law : (i : ℕ) → ArgsOf n env no_args t i
       no_args_law i k c words st mem kk o code1 cs len at h en store u =
           let z : k ≡ k + 0 = omega arith in
-          spend g.layout n c (c + 3 * 0) o (kk [] st) (omega arith)
+          spend g n c (c + 3 * 0) o (kk [] st) (omega arith)
           (u [] st mem words o (subst (λ y. At g linked p y o) z at) h
           (record { count = refl; each = λ j lt. refl }) refl store)
 
       pub value_law : (e : Exp) (xs : Args) (i : ℕ) → t + i < s.words
-          → LawOf world g linked StoreIs p ip failing top fs f s end kinds IsPair rests globals n env e
+          → LawOf world g linked StoreIs p ip failing top fs ow f s end kinds IsPair rests globals n env e
           (code s (t + i) e) (t + i) → ArgsOf n env xs t (i + 1) → ArgsOf n env (value e xs) t i
       value_law e xs i lt le lx k c words st mem kk o code1 cs len at h en store u =
           le k (c + 3 * arg_registers (value e xs)) words st mem
@@ -565,7 +610,7 @@ module _ (world : World) (g : Link) (linked : Linked g) (StoreIs : Store → (�
               → At g linked p (k + words_in (code s (t + i) e)) q → Inside words1 mem1 q
               → SameBelow (t + i) words words1 → q.maps.regs.g0 ≡ Plain (Int v) → fits_64 v ≡ true
               → StoreIs st1 mem1
-              → UpTo g.layout n (c + 3 * arg_registers (value e xs)) q
+              → UpTo g ow.owes (used s.words top) n (c + 3 * arg_registers (value e xs)) q
               (args world (whole world) f env xs (λ vs. kk (Num v ∷ vs)) st1)
           after v st1 mem1 words1 q at1 h1 same ev fv store1 =
               let k1 = k + words_in (code s (t + i) e) in
@@ -586,13 +631,16 @@ module _ (world : World) (g : Link) (linked : Linked g) (StoreIs : Store → (�
               (args_code s t (i + 1) xs) ≡ k + words_in (args_code s t i (value e xs)) =
               omega (arith, wa) in
               store_law g linked p ip s.words top mem1 fs k1
-              (upto g.layout n (args world (whole world) f env xs (λ vs. kk (Num v ∷ vs)) st1))
+              (upto g ow.owes (used s.words top) n
+              (args world (whole world) f env xs (λ vs. kk (Num v ∷ vs)) st1))
               (c + 3 * arg_registers (value e xs)) (c + 3 * arg_registers xs) G0 words1 (t + i) q
               (tail.0, (tail.1.0, (tail.1.1.0, tt))) lt1 refl (ap (λ z. is_linear (look z)) ev)
-              (subst (IsPublic g) (sym ev) (int_public g v)) at1 h1 (λ h2 at2.
+              (subst (IsPublic g) (sym ev) (int_public g v))
+              (λ free. (omega (arith, lt1, cnt, len), omega arith)) at1 h1 (λ h2 at2.
               lx (k1 + 1 + 1 + 1) c words2 st1 mem1
               (λ vs. kk (Num v ∷ vs)) _ tail.1.1.1 cs.1 (lw ∙ cnt ∙ len) at2 h2
-              (env_same kinds IsPair rests env words _ (t + i) (omega (arith, lo)) same2 en) store1
+              (env_same kinds (AtPlace f.words IsPair) rests env words _ (t + i) (omega (arith, lo))
+              same2 en) store1
               (λ vs st3 mem3 words3 q3 at3 h3 same3 is3 store3.
               let got : slice_get words3 (t + i) ≡ Some (Plain (Int v)) = same3.each (t + i) (omega arith)
               ∙ get_with words1 (t + i) (reg q.maps.regs G0) lt1 ∙ ap Some ev in
@@ -610,10 +658,10 @@ module _ (world : World) (g : Link) (linked : Linked g) (StoreIs : Store → (�
           → ArgsOf n env (pass hd xs) t i
       pass_law hd xs i lx k c words st mem kk o code1 cs len at h en store u =
           let te : t + i + 2 ≡ t + (i + 2) = omega arith in
-          tick_up g.layout n (c + 3 * arg_registers (pass hd xs)) o
+          tick_up g n (c + 3 * arg_registers (pass hd xs)) o
           (args world (whole world) f env xs
           (λ vs. kk (Closure (pair_of world f.home env hd) ∷ Other ∷ vs)) st)
-          (spend g.layout n (c + 3 * arg_registers xs) (c + 3 * arg_registers (pass hd xs) + 200) o
+          (spend g n (c + 3 * arg_registers xs) (c + 3 * arg_registers (pass hd xs) + 200) o
           _ (omega arith)
           (lx k c words st mem
           (λ vs. kk (Closure (pair_of world f.home env hd) ∷ Other ∷ vs)) o code1 cs len at h en store
@@ -628,11 +676,12 @@ module _ (world : World) (g : Link) (linked : Linked g) (StoreIs : Store → (�
         (done : List OWord) (o : OState) → rs ≡ drop i arguments → length done ≡ i → i ≤ 4
         → Stand g linked p end k (zeros rs) → At g linked p k o → Inside words mem o → Holding done o
         → ((zs : List OWord) (q : OState) → zs ≡ replicate (4 - i) (Plain (Int (pos 0))) → Inside words mem q
-        → At g linked p (k + words_in (zeros rs)) q → Holding (done ++ zs) q → UpTo g.layout n b q m)
-        → 4 - i + b ≤ c → UpTo g.layout n c o m
+        → At g linked p (k + words_in (zeros rs)) q → Holding (done ++ zs) q
+        → UpTo g ow.owes (used s.words top) n b q m)
+        → 4 - i + b ≤ c → UpTo g ow.owes (used s.words top) n c o m
     zeros_law n i c b m words mem [] k done o is ld le code1 at h hd u lt =
         let z : k ≡ k + 0 = omega arith in
-        spend g.layout n b c o m (omega (arith, lt))
+        spend g n b c o m (omega (arith, lt))
         (u [] o (none_left i le is) h (subst (λ y. At g linked p y o) z at)
         (subst (λ y. Holding y o) (sym (append-nil done)) hd))
       where

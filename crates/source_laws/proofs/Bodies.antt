@@ -1,8 +1,9 @@
 -- A compiled procedure, from the code that stands in its part.
+use Rattle.source_laws.proofs.Variables.{AtPlace, EnvIn, NumberAt, PairAt}
+use Rattle.std.specs.Prelude.{slice_index_or, slice_get}
 use Rattle.std.proofs.Common.{◌≡◌, ◌≢◌, ℕ, zero, suc, ◌+◌, ◌<◌, ◌≤◌, ℤ, pos, List, [], ◌∷◌, ◌++◌, length}
 use Rattle.std.proofs.Common.{replicate, Option, Some, None, Bool, true, false, refl, sym, ap, ◌∙◌, subst}
 use Rattle.std.proofs.Common.{arith}
-use Rattle.std.specs.Prelude.{slice_get}
 use Rattle.std.proofs.lemmas.List.{length-replicate}
 use Rattle.cap_words.specs.declared.Word.TheVariants.{Int}
 use Rattle.cap_words.specs.Linear.{left_of}
@@ -31,7 +32,6 @@ use Rattle.source_laws.proofs.Handed.{places, handed, number_first, pair_first}
 use Rattle.template_runs.proofs.Rows.{Free}
 use Rattle.template_runs.proofs.Entries.{Reads}
 use Rattle.source_laws.specs.Fits.{kinds_from, AsNumber, AsPair, AsRest}
-use Rattle.source_laws.proofs.Variables.{EnvIn, NumberAt, PairAt}
 use Rattle.template_runs.proofs.Elements.{free_a0, free_a1, free_a2, free_a3}
 use Rattle.source_laws.proofs.Arguments.{argument_spare, arguments_differ}
 use Rattle.source_laws.proofs.Callings.{IsPair, Passed, no_more, one_more, two_more}
@@ -225,32 +225,44 @@ rep_at (suc n) zero a lt = refl
 rep_at (suc n) (suc i) a lt = rep_at n i a (omega (arith, lt))
 
 module _ (g : Link) (linked : Linked g) (Begins : Target → PartSeen → ℕ → Type 0) where
-  abbrev Handed : List Value → List OWord → Type 0
+  abbrev Handed : List Value → List (Option OWord) → List OWord → Type 0
   Handed = Passed g linked Begins
 
-  inv_none : (env : List Value) (xs : List OWord) → env ≡ [] → Handed env xs → xs ≡ []
-  inv_none _ _ e no_more = refl
-  inv_none _ _ e (one_more v f h) = cc
-  inv_none _ _ e (two_more r x y i h) = cc
+  inv_none : (env : List Value) (ms : List (Option OWord)) (xs : List OWord) → env ≡ []
+      → Handed env ms xs → xs ≡ []
+  inv_none _ _ _ e no_more = refl
+  inv_none _ _ _ e (one_more v f h) = cc
+  inv_none _ _ _ e (two_more r x y i h) = cc
 
-  inv_number : (v : ℤ) (rest env : List Value) (xs : List OWord) → env ≡ Num v ∷ rest → Handed env xs
-      → (ws : List OWord) × (xs ≡ Plain (Int v) ∷ ws) × (fits_64 v ≡ true) × Handed rest ws
-  inv_number v rest _ _ e no_more = absurd cc
-  inv_number v rest _ _ e (one_more v2 {vs} {ws} f h) =
+  inv_number : (v : ℤ) (rest env : List Value) (ms : List (Option OWord)) (xs : List OWord) → env
+      ≡ Num v ∷ rest
+      → Handed env ms xs → (ws : List OWord) × (ns : List (Option OWord)) × (xs ≡ Plain (Int v) ∷ ws)
+      × (fits_64 v ≡ true) × Handed rest ns ws × (ms ≡ None ∷ ns)
+  inv_number v rest _ _ _ e no_more = absurd cc
+  inv_number v rest _ _ _ e (one_more v2 {vs} {ms = ns} {ws} f h) =
       let a : v2 ≡ v = cc in
       let b : vs ≡ rest = cc in
-      (ws, ap (λ y. Plain (Int y) ∷ ws) a, ap fits_64 (sym a) ∙ f, subst (λ y. Handed y ws) b h)
-  inv_number v rest _ _ e (two_more r x y i h) = absurd cc
+      (ws, ns, ap (λ y. Plain (Int y) ∷ ws) a, ap fits_64 (sym a) ∙ f, subst (λ y. Handed y ns ws) b h, refl)
+  inv_number v rest _ _ _ e (two_more r x y i h) = absurd cc
 
-  inv_pair : (r : Pair) (rest env : List Value) (xs : List OWord) → env ≡ Closure r ∷ Other ∷ rest
-      → Handed env xs → (x : OWord) × (y : OWord) × (ws : List OWord) × (xs ≡ x ∷ y ∷ ws)
-      × IsPair g linked Begins r x y × Handed rest ws
-  inv_pair r rest _ _ e no_more = absurd cc
-  inv_pair r rest _ _ e (one_more v2 f h) = absurd cc
-  inv_pair r rest _ _ e (two_more r2 x y {vs} {ws} i h) =
+  inv_pair : (r : Pair) (rest env : List Value) (ms : List (Option OWord)) (xs : List OWord)
+      → env ≡ Closure r ∷ Other ∷ rest → Handed env ms xs
+      → (x : OWord) × (y : OWord) × (ws : List OWord) × (ns : List (Option OWord)) × (xs ≡ x ∷ y ∷ ws)
+      × IsPair g linked Begins r x y × Handed rest ns ws × (ms ≡ Some x ∷ Some y ∷ ns)
+  inv_pair r rest _ _ _ e no_more = absurd cc
+  inv_pair r rest _ _ _ e (one_more v2 f h) = absurd cc
+  inv_pair r rest _ _ _ e (two_more r2 x y {vs} {ms = ns} {ws} i h) =
       let a : r2 ≡ r = cc in
-      let b : vs ≡ rest = cc in
-      (x, y, ws, refl, subst (λ z. IsPair g linked Begins z x y) a i, subst (λ z. Handed z ws) b h)
+      let b : vs ≡ rest = cc in (
+        x,
+        y,
+        ws,
+        ns,
+        refl,
+        subst (λ z. IsPair g linked Begins z x y) a i,
+        subst (λ z. Handed z ns ws) b h,
+        refl,
+      )
 
   abbrev Env : List Value → ℕ → List Value
   Env env n = env ++ replicate n (Num (pos 0))
@@ -258,12 +270,12 @@ module _ (g : Link) (linked : Linked g) (Begins : Target → PartSeen → ℕ �
   abbrev Words : List OWord → ℕ → List OWord
   Words xs k = xs ++ replicate k Zero
 
-  numbers_at : (bs : List Bool) (n k : ℕ) (env : List Value) (xs : List OWord) → Matches bs env
-      → Handed env xs → n ≤ k → (i : ℕ) → slice_get (kinds_from bs n) i ≡ Some AsNumber → (v : ℤ)
-      × (slice_get (Env env n) i ≡ Some (Num v)) × (slice_get (Words xs k) i ≡ Some (Plain (Int v)))
+  numbers_at : (bs : List Bool) (n k : ℕ) (env : List Value) (ms : List (Option OWord)) (xs : List OWord)
+      → Matches bs env → Handed env ms xs → n ≤ k → (i : ℕ) → slice_get (kinds_from bs n) i ≡ Some AsNumber
+      → (v : ℤ) × (slice_get (Env env n) i ≡ Some (Num v)) × (slice_get (Words xs k) i ≡ Some (Plain (Int v)))
       × (fits_64 v ≡ true)
-  numbers_at [] n k env xs mt h le i ki =
-      let x0 = inv_none env xs mt h in
+  numbers_at [] n k env ms xs mt h le i ki =
+      let x0 = inv_none env ms xs mt h in
       let lt = rep_there n i AsNumber AsNumber ki in (
         pos 0,
         ap (λ y. slice_get (Env y n) i) mt
@@ -272,86 +284,96 @@ module _ (g : Link) (linked : Linked g) (Begins : Target → PartSeen → ℕ �
             ∙ rep_at k i Zero (omega (arith, lt, le)),
         refl,
       )
-  numbers_at (false ∷ bs) n k env xs mt h le zero ki =
-      let s = inv_number mt.0 mt.1 env xs mt.2 h in
-      (mt.0, ap (λ y. slice_get (Env y n) 0) mt.2, ap (λ y. slice_get (Words y k) 0) s.1, s.2)
-  numbers_at (false ∷ bs) n k env xs mt h le (suc i) ki =
-      let s = inv_number mt.0 mt.1 env xs mt.2 h in
-      let r = numbers_at bs n k mt.1 s.0 mt.3 s.3 le i ki in (
+  numbers_at (false ∷ bs) n k env ms xs mt h le zero ki =
+      let s = inv_number mt.0 mt.1 env ms xs mt.2 h in
+      (mt.0, ap (λ y. slice_get (Env y n) 0) mt.2, ap (λ y. slice_get (Words y k) 0) s.2, s.3)
+  numbers_at (false ∷ bs) n k env ms xs mt h le (suc i) ki =
+      let s = inv_number mt.0 mt.1 env ms xs mt.2 h in
+      let r = numbers_at bs n k mt.1 s.1 s.0 mt.3 s.4 le i ki in (
         r.0,
         ap (λ y. slice_get (Env y n) (suc i)) mt.2 ∙ r.1,
-        ap (λ y. slice_get (Words y k) (suc i)) s.1
+        ap (λ y. slice_get (Words y k) (suc i)) s.2
             ∙ r.2,
         r.3,
       )
-  numbers_at (true ∷ bs) n k env xs mt h le zero ki = absurd (let z : Some AsPair ≡ Some AsNumber = ki in cc)
-  numbers_at (true ∷ bs) n k env xs mt h le (suc zero) ki =
+  numbers_at (true ∷ bs) n k env ms xs mt h le zero ki =
+      absurd (let z : Some AsPair ≡ Some AsNumber = ki in cc)
+  numbers_at (true ∷ bs) n k env ms xs mt h le (suc zero) ki =
       absurd (let z : Some AsRest ≡ Some AsNumber = ki in cc)
-  numbers_at (true ∷ bs) n k env xs mt h le (suc (suc i)) ki =
-      let s = inv_pair mt.0 mt.1 env xs mt.2 h in
-      let r = numbers_at bs n k mt.1 s.2 mt.3 s.5 le i ki in (
+  numbers_at (true ∷ bs) n k env ms xs mt h le (suc (suc i)) ki =
+      let s = inv_pair mt.0 mt.1 env ms xs mt.2 h in
+      let r = numbers_at bs n k mt.1 s.3 s.2 mt.3 s.6 le i ki in (
         r.0,
         ap (λ y. slice_get (Env y n) (suc (suc i))) mt.2
             ∙ r.1,
-        ap (λ y. slice_get (Words y k) (suc (suc i))) s.3 ∙ r.2,
+        ap (λ y. slice_get (Words y k) (suc (suc i))) s.4 ∙ r.2,
         r.3,
       )
 
-  pairs_at : (bs : List Bool) (n k : ℕ) (env : List Value) (xs : List OWord) → Matches bs env → Handed env xs
-      → (i : ℕ) → slice_get (kinds_from bs n) i ≡ Some AsPair
+  pairs_at : (bs : List Bool) (n k : ℕ) (env : List Value) (ms : List (Option OWord)) (xs : List OWord)
+      → Matches bs env → Handed env ms xs → (i : ℕ) → slice_get (kinds_from bs n) i ≡ Some AsPair
       → (r : Pair) × (x : OWord) × (y : OWord) × (slice_get (Env env n) i ≡ Some (Closure r))
       × (slice_get (Words xs k) i ≡ Some x) × (slice_get (Words xs k) (suc i) ≡ Some y)
-      × IsPair g linked Begins r x y
-  pairs_at [] n k env xs mt h i ki = absurd (no_pairs n i ki)
-  pairs_at (false ∷ bs) n k env xs mt h zero ki = absurd (let z : Some AsNumber ≡ Some AsPair = ki in cc)
-  pairs_at (false ∷ bs) n k env xs mt h (suc i) ki =
-      let s = inv_number mt.0 mt.1 env xs mt.2 h in
-      let r = pairs_at bs n k mt.1 s.0 mt.3 s.3 i ki in (
+      × IsPair g linked Begins r x y × (slice_index_or ms i None ≡ Some x)
+      × (slice_index_or ms (suc i) None ≡ Some y)
+  pairs_at [] n k env ms xs mt h i ki = absurd (no_pairs n i ki)
+  pairs_at (false ∷ bs) n k env ms xs mt h zero ki = absurd (let z : Some AsNumber ≡ Some AsPair = ki in cc)
+  pairs_at (false ∷ bs) n k env ms xs mt h (suc i) ki =
+      let s = inv_number mt.0 mt.1 env ms xs mt.2 h in
+      let r = pairs_at bs n k mt.1 s.1 s.0 mt.3 s.4 i ki in (
         r.0,
         r.1,
         r.2,
         ap (λ y. slice_get (Env y n) (suc i)) mt.2
             ∙ r.3,
-        ap (λ y. slice_get (Words y k) (suc i)) s.1
+        ap (λ y. slice_get (Words y k) (suc i)) s.2
             ∙ r.4,
-        ap (λ y. slice_get (Words y k) (suc (suc i))) s.1 ∙ r.5,
+        ap (λ y. slice_get (Words y k) (suc (suc i))) s.2 ∙ r.5,
         r.6,
+        ap (λ y. slice_index_or y (suc i) None) s.5 ∙ r.7,
+        ap (λ y. slice_index_or y (suc (suc i)) None) s.5 ∙ r.8,
       )
-  pairs_at (true ∷ bs) n k env xs mt h zero ki =
-      let s = inv_pair mt.0 mt.1 env xs mt.2 h in (
+  pairs_at (true ∷ bs) n k env ms xs mt h zero ki =
+      let s = inv_pair mt.0 mt.1 env ms xs mt.2 h in (
         mt.0,
         s.0,
         s.1,
         ap (λ y. slice_get (Env y n) 0) mt.2,
-        ap (λ y. slice_get (Words y k) 0) s.3,
-        ap (λ y. slice_get (Words y k) 1) s.3,
-        s.4,
+        ap (λ y. slice_get (Words y k) 0) s.4,
+        ap (λ y. slice_get (Words y k) 1) s.4,
+        s.5,
+        ap (λ y. slice_index_or y 0 None) s.7,
+        ap (λ y. slice_index_or y 1 None) s.7,
       )
-  pairs_at (true ∷ bs) n k env xs mt h (suc zero) ki = absurd (let z : Some AsRest ≡ Some AsPair = ki in cc)
-  pairs_at (true ∷ bs) n k env xs mt h (suc (suc i)) ki =
-      let s = inv_pair mt.0 mt.1 env xs mt.2 h in
-      let r = pairs_at bs n k mt.1 s.2 mt.3 s.5 i ki in (
+  pairs_at (true ∷ bs) n k env ms xs mt h (suc zero) ki =
+      absurd (let z : Some AsRest ≡ Some AsPair = ki in cc)
+  pairs_at (true ∷ bs) n k env ms xs mt h (suc (suc i)) ki =
+      let s = inv_pair mt.0 mt.1 env ms xs mt.2 h in
+      let r = pairs_at bs n k mt.1 s.3 s.2 mt.3 s.6 i ki in (
         r.0,
         r.1,
         r.2,
         ap (λ y. slice_get (Env y n) (suc (suc i))) mt.2
             ∙ r.3,
-        ap (λ y. slice_get (Words y k) (suc (suc i))) s.3
+        ap (λ y. slice_get (Words y k) (suc (suc i))) s.4
             ∙ r.4,
-        ap (λ y. slice_get (Words y k) (suc (suc (suc i)))) s.3 ∙ r.5,
+        ap (λ y. slice_get (Words y k) (suc (suc (suc i)))) s.4 ∙ r.5,
         r.6,
+        ap (λ y. slice_index_or y (suc (suc i)) None) s.7 ∙ r.7,
+        ap (λ y. slice_index_or y (suc (suc (suc i))) None) s.7 ∙ r.8,
       )
 
   -- the parameters as they were handed, and 0 in the locals
-  pub env_in : (bs : List Bool) (n k : ℕ) (env : List Value) (xs : List OWord) (rc rd : OWord)
-      → Matches bs env → Handed env xs → n ≤ k
-      → EnvIn (kinds_from bs n) (IsPair g linked Begins) (Env env n) (rc ∷ rd ∷ Words xs k)
-  env_in bs n k env xs rc rd mt h le = record { numbers = number; pairs = pair }
+  pub env_in : (bs : List Bool) (n k : ℕ) (env : List Value) (ms : List (Option OWord)) (xs : List OWord)
+      (rc rd : OWord) → Matches bs env → Handed env ms xs → n ≤ k
+      → EnvIn (kinds_from bs n) (AtPlace ms (IsPair g linked Begins)) (Env env n) (rc ∷ rd ∷ Words xs k)
+  env_in bs n k env ms xs rc rd mt h le = record { numbers = number; pairs = pair }
     where
       number : (i : ℕ) → slice_get (kinds_from bs n) i ≡ Some AsNumber
-          → NumberAt (kinds_from bs n) (IsPair g linked Begins) (Env env n) (rc ∷ rd ∷ Words xs k) i
+          → NumberAt (kinds_from bs n) (AtPlace ms (IsPair g linked Begins)) (Env env n)
+          (rc ∷ rd ∷ Words xs k) i
       number i ki =
-          let r = numbers_at bs n k env xs mt h le i ki in
+          let r = numbers_at bs n k env ms xs mt h le i ki in
           let z : i + 2 ≡ suc (suc i) = omega arith in
           record {
             number = r.0;
@@ -361,9 +383,11 @@ module _ (g : Link) (linked : Linked g) (Begins : Target → PartSeen → ℕ �
           }
 
       pair : (i : ℕ) → slice_get (kinds_from bs n) i ≡ Some AsPair
-          → PairAt (kinds_from bs n) (IsPair g linked Begins) (Env env n) (rc ∷ rd ∷ Words xs k) i
+          → PairAt (kinds_from bs n) (AtPlace ms (IsPair g linked Begins)) (Env env n)
+          (rc ∷ rd ∷ Words xs k) i
       pair i ki =
-          let r = pairs_at bs n k env xs mt h i ki in
+          let r = pairs_at bs n k env ms xs mt h i ki in
+          let z2 : i + 1 ≡ suc i = omega arith in
           let z : i + 2 ≡ suc (suc i) = omega arith in
           let z1 : i + 2 + 1 ≡ suc (suc (suc i)) = omega arith in
           record {
@@ -373,5 +397,5 @@ module _ (g : Link) (linked : Linked g) (Begins : Target → PartSeen → ℕ �
             meant = r.3;
             stands = ap (slice_get (rc ∷ rd ∷ Words xs k)) z ∙ r.4;
             stands_too = ap (slice_get (rc ∷ rd ∷ Words xs k)) z1 ∙ r.5;
-            is = r.6;
+            is = (r.6, r.7, ap (λ y. slice_index_or ms y None) z2 ∙ r.8);
           }

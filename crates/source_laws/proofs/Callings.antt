@@ -1,8 +1,12 @@
 -- A call of any pair, from its site on, once the arguments stand in their registers.
-use Rattle.std.proofs.Common.{◌≡◌, ℕ, zero, suc, ◌+◌, ◌-◌, ◌<◌, ◌≤◌, ℤ, pos, negsuc, ◌+ℤ◌, List, [], ◌∷◌}
-use Rattle.std.proofs.Common.{◌++◌, length, map, take, replicate, Some, None, Bool, true, false, refl, sym}
-use Rattle.std.proofs.Common.{ap, ◌∙◌, subst, arith, le-ltb, length-append}
-use Rattle.std.specs.Prelude.{slice_get, int_lt, nat_lt, ◌&&◌, if◌then◌else◌}
+use Rattle.source_laws.proofs.Refined.{Way, Event, Entry, handed, World, Comp, ends, Registers, Then, Wait}
+use Rattle.source_laws.proofs.Refined.{with_place, call, call_by, part_of, stack_of, Frame, whole}
+use Rattle.source_laws.specs.Seen.{Shown, shown_of, arg_shown, args_shown, call_shown}
+use Rattle.proc_semantics.specs.Marked.{Arg, Number, OfPair, Calls, arg_at, args_of, call_event}
+use Rattle.std.proofs.Common.{Option, ◌≡◌, ℕ, zero, suc, ◌+◌, ◌-◌, ◌<◌, ◌≤◌, ℤ, pos, negsuc, ◌+ℤ◌, List, []}
+use Rattle.std.proofs.Common.{◌∷◌, ◌++◌, length, replicate, Some, None, Bool, true, false, refl, sym, ap, ◌∙◌}
+use Rattle.std.proofs.Common.{subst, arith, le-ltb, length-append}
+use Rattle.std.specs.Prelude.{slice_index_or, slice_get, int_lt, nat_lt, ◌&&◌, if◌then◌else◌}
 use Rattle.std.specs.Str.{bytes_eq}
 use Rattle.std.proofs.lemmas.Slice.Eq.{bytes_eq-Decides}
 use Rattle.std.proofs.lemmas.Int.{ints}
@@ -15,8 +19,8 @@ use Rattle.cap_words.specs.Linear.{lin_is, is_linear}
 use Rattle.cap_words.specs.Face.{face_of}
 use Rattle.cap_words.specs.Faces.{may_run}
 use Rattle.lcm_isa.specs.declared.Reg.{Reg}
-use Rattle.lcm_isa.specs.declared.Reg.TheVariants.{Pc, Rcode, Rdata, Stk, Dat, T1, T2, C1, C2, A0, A1, A2}
-use Rattle.lcm_isa.specs.declared.Reg.TheVariants.{A3, G0, G1, G2}
+use Rattle.lcm_isa.specs.declared.Reg.TheVariants.{Pc, Rcode, Rdata, Stk, Dat, T1, T2, C1, C2, A0, A1, A2, A3}
+use Rattle.lcm_isa.specs.declared.Reg.TheVariants.{G0, G1, G2}
 use Rattle.lcm_isa.specs.declared.Operand.TheVariants.{Imm}
 use Rattle.lcm_isa.specs.declared.Instr.TheVariants.{Plus, Xjmp}
 use Rattle.lcm_machine.specs.declared.FailCause.{FailCause}
@@ -42,28 +46,19 @@ use Rattle.overlay_machine.proofs.OwnStack.{own_from}
 use Rattle.overlay_machine.specs.Safe.{IsMet}
 use Rattle.overlay_machine.proofs.invariant.FrameFacts.{frame_in}
 use Rattle.trace_tool.specs.Layout.{is_trusted, part_name, site_of}
-use Rattle.trace_tool.specs.Views.{flat_view}
-use Rattle.proc_semantics.specs.Values.{World, Store, register_of}
+use Rattle.proc_semantics.specs.Values.{Store}
 use Rattle.proc_semantics.specs.declared.value.Target.{Target}
 use Rattle.proc_semantics.specs.declared.value.Pair.{Pair}
 use Rattle.proc_semantics.specs.declared.value.Pair.TheVariants.{Runs, Bad, Outside}
-use Rattle.proc_semantics.specs.Told.{Comp, ends, emit}
 use Rattle.source_events.specs.declared.End.TheVariants.{Fail as Fails}
-use Rattle.source_events.specs.declared.OutArg.{OutArg}
-use Rattle.source_events.specs.declared.OutEvent.TheVariants.{CallOut}
-use Rattle.source_events.specs.declared.OutEvent.{OutEvent}
-use Rattle.source_events.specs.declared.OutArg.TheVariants as told
 use Rattle.proc_semantics.specs.declared.value.Value.{Value}
 use Rattle.proc_semantics.specs.declared.value.Value.TheVariants.{Num, Closure, Other}
-use Rattle.proc_semantics.specs.declared.value.Register.{Register}
-use Rattle.proc_semantics.specs.Values as values
-use Rattle.proc_semantics.specs.Meaning.{Then, Wait, with_place, call, call_by, part_of, stack_of}
-use Rattle.proc_semantics.specs.declared.value.Frame.{Frame}
-use Rattle.proc_semantics.specs.Whole.{whole}
 use Rattle.proc_templates.specs.Templates.{argument}
-use Rattle.source_laws.specs.Trace.{out_arg, out_args}
 use Rattle.template_runs.specs.Runs.{is_inside}
+use Rattle.template_runs.proofs.Quiet.{quiet_fewer, Owing}
+use Rattle.template_runs.specs.Border.{Shows, GivesBack}
 use Rattle.source_laws.proofs.Upto.{UpTo, go_fail, fewer, upto, none_inside}
+use Rattle.template_runs.proofs.Clean.{used}
 use Rattle.template_runs.proofs.Valid.{Valid}
 use Rattle.template_runs.proofs.Steps.{At, Placed, inside_here}
 use Rattle.template_runs.proofs.Rows.{Here}
@@ -82,15 +77,6 @@ use Rattle.cap_words.specs.declared.Sealable.{Sealable}
 
 abbrev zeros_of : ℕ → List OWord
 zeros_of n = replicate n (Plain (Int (pos 0)))
-
--- the first four of what arguments show, as the definition lists them
-pub four_shown : (vs : List Value)
-    → values.out_args vs ≡ take 4 (map values.out_arg vs ++ replicate 4 (told.Int (pos 0)))
-four_shown [] = refl
-four_shown (a ∷ []) = refl
-four_shown (a ∷ b ∷ []) = refl
-four_shown (a ∷ b ∷ c ∷ []) = refl
-four_shown (a ∷ b ∷ c ∷ d ∷ vs) = refl
 
 module _ (g : Link) (linked : Linked g) (Begins : Target → PartSeen → ℕ → Type 0) where
   -- two words that are a pair under one seal
@@ -149,47 +135,39 @@ module _ (g : Link) (linked : Linked g) (Begins : Target → PartSeen → ℕ �
           let t : runs_in (content_of d) ≡ true = ap (λ x. runs_in (content_of x)) s in
           absurd (let bad : true ≡ false = sym t ∙ z.half_rests in cc)
 
-  -- values of arguments and their words
-  pub data Passed : List Value → List OWord → Type 0 where
-    no_more : Passed [] []
-    one_more : (v : ℤ) {vs : List Value} {ws : List OWord} → fits_64 v ≡ true → Passed vs ws
-        → Passed (Num v ∷ vs) (Plain (Int v) ∷ ws)
-    two_more : (r : Pair) (x y : OWord) {vs : List Value} {ws : List OWord} → IsPair r x y → Passed vs ws
-        → Passed (Closure r ∷ Other ∷ vs) (x ∷ y ∷ ws)
+  -- values of arguments, the marks of their words, and the words
+  pub data Passed : List Value → List (Option OWord) → List OWord → Type 0 where
+    no_more : Passed [] [] []
+    one_more : (v : ℤ) {vs : List Value} {ms : List (Option OWord)} {ws : List OWord} → fits_64 v ≡ true
+        → Passed vs ms ws → Passed (Num v ∷ vs) (None ∷ ms) (Plain (Int v) ∷ ws)
+    two_more : (r : Pair) (x y : OWord) {vs : List Value} {ms : List (Option OWord)} {ws : List OWord}
+        → IsPair r x y → Passed vs ms ws
+        → Passed (Closure r ∷ Other ∷ vs) (Some x ∷ Some y ∷ ms) (x ∷ y ∷ ws)
 
   -- ---- what the outside is shown
 
-  abbrev shown_arg : OWord → OutArg
-  shown_arg w = out_arg (integer_in (look w))
+  abbrev word_shown : OWord → Arg OWord
+  word_shown w = arg_shown (integer_in (look w)) w
 
-  number_shown : (v : ℤ) → fits_64 v ≡ true → shown_arg (Plain (Int v)) ≡ told.Int v
+  zeros_at : (k i : ℕ) → slice_index_or (zeros_of k) i (Plain (Int (pos 0))) ≡ Plain (Int (pos 0))
+  zeros_at zero i = refl
+  zeros_at (suc k) zero = refl
+  zeros_at (suc k) (suc i) = zeros_at k i
+
+  number_shown : (v : ℤ) → fits_64 v ≡ true → word_shown (Plain (Int v)) ≡ Number v
   number_shown v e = rw e refl
 
-  half_shown : (x : OWord) → Half x → shown_arg x ≡ told.Half
-  half_shown x h = ap out_arg h.no_number
+  half_shown : (x : OWord) → Half x → word_shown x ≡ OfPair (Some x)
+  half_shown x h = ap (λ z. arg_shown z x) h.no_number
 
-  args_shown : (vs : List Value) (ws : List OWord) (j k n : ℕ) → Passed vs ws → length ws + j ≡ n → j ≤ k
-      → map shown_arg (ws ++ zeros_of j) ≡ take n (map values.out_arg vs ++ replicate k (told.Int (pos 0)))
-  args_shown _ _ j k n no_more e le = zeros_shown j k n e le
-    where
-      zeros_shown : (j k n : ℕ) → 0 + j ≡ n → j ≤ k
-          → map shown_arg (zeros_of j) ≡ take n (replicate k (told.Int (pos 0)))
-      zeros_shown zero k zero e le = refl
-      zeros_shown zero k (suc n) e le = absurd (omega (arith, e))
-      zeros_shown (suc j) k zero e le = absurd (omega (arith, e))
-      zeros_shown (suc j) zero (suc n) e le = absurd (omega (arith, le))
-      zeros_shown (suc j) (suc k) (suc n) e le =
-          ap (λ y. told.Int (pos 0) ∷ y) (zeros_shown j k n (omega (arith, e)) (omega (arith, le)))
-  args_shown _ _ j k zero (one_more v {vs} {ws} f p) e le = absurd (omega (arith, e))
-  args_shown _ _ j k (suc n) (one_more v {vs} {ws} f p) e le =
-      ap (λ y. y ∷ map shown_arg (ws ++ zeros_of j)) (number_shown v f)
-      ∙ ap (λ y. told.Int v ∷ y) (args_shown vs ws j k n p (omega (arith, e)) le)
-  args_shown _ _ j k zero (two_more r x y {vs} {ws} i p) e le = absurd (omega (arith, e))
-  args_shown _ _ j k (suc zero) (two_more r x y {vs} {ws} i p) e le = absurd (omega (arith, e))
-  args_shown _ _ j k (suc (suc n)) (two_more r x y {vs} {ws} i p) e le =
-      ap (λ z. z ∷ shown_arg y ∷ map shown_arg (ws ++ zeros_of j)) (half_shown x i.called.first)
-      ∙ ap (λ z. told.Half ∷ z ∷ map shown_arg (ws ++ zeros_of j)) (half_shown y i.called.second)
-      ∙ ap (λ z. told.Half ∷ told.Half ∷ z) (args_shown vs ws j k n p (omega (arith, e)) le)
+  shown_at : (vs : List Value) (ms : List (Option OWord)) (ws : List OWord) (k i : ℕ) → Passed vs ms ws
+      → word_shown (slice_index_or (ws ++ zeros_of k) i (Plain (Int (pos 0)))) ≡ arg_at OWord Entry vs ms i
+  shown_at _ _ _ k i no_more = ap word_shown (zeros_at k i)
+  shown_at _ _ _ k zero (one_more v {vs} {ms} {ws} f p) = number_shown v f
+  shown_at _ _ _ k (suc i) (one_more v {vs} {ms} {ws} f p) = shown_at vs ms ws k i p
+  shown_at _ _ _ k zero (two_more r x y {vs} {ms} {ws} h p) = half_shown x h.called.first
+  shown_at _ _ _ k (suc zero) (two_more r x y {vs} {ms} {ws} h p) = half_shown y h.called.second
+  shown_at _ _ _ k (suc (suc i)) (two_more r x y {vs} {ms} {ws} h p) = shown_at vs ms ws k i p
 
   -- what the flat word of a register shows is what its word shows
   pub flat_reg : (q : OState) → Valid g linked q → (d : Reg)
@@ -214,23 +192,25 @@ module _ (g : Link) (linked : Linked g) (Begins : Target → PartSeen → ℕ �
   zeros_public zero = tt
   zeros_public (suc k) = (int_public g (pos 0), zeros_public k)
 
-  words_shown : (vs : List Value) (ws : List OWord) (k : ℕ) → Passed vs ws
+  words_shown : (vs : List Value) (ms : List (Option OWord)) (ws : List OWord) (k : ℕ) → Passed vs ms ws
       → ArePublic g (ws ++ replicate k (Plain (Int (pos 0))))
-  words_shown _ _ k no_more = zeros_public k
-  words_shown _ _ k (one_more v {vs} {ws} f h) = (int_public g v, words_shown vs ws k h)
-  words_shown _ _ k (two_more r x y {vs} {ws} i h) = (i.shown, (i.shown_too, words_shown vs ws k h))
+  words_shown _ _ _ k no_more = zeros_public k
+  words_shown _ _ _ k (one_more v {vs} {ms} {ws} f h) = (int_public g v, words_shown vs ms ws k h)
+  words_shown _ _ _ k (two_more r x y {vs} {ms} {ws} i h) =
+      (i.shown, (i.shown_too, words_shown vs ms ws k h))
 
-  pub passed_public : (vs : List Value) (ws : List OWord) → Passed vs ws → (j : ℕ) (x : OWord)
-      → slice_get ws j ≡ Some x → IsPublic g x
-  passed_public _ _ no_more j x e = cc
-  passed_public _ _ (one_more v {vs} {ws} f h) zero x e = let s : Plain (Int v) ≡ x = cc in
+  pub passed_public : (vs : List Value) (ms : List (Option OWord)) (ws : List OWord)
+      → Passed vs ms ws → (j : ℕ)
+      (x : OWord) → slice_get ws j ≡ Some x → IsPublic g x
+  passed_public _ _ _ no_more j x e = cc
+  passed_public _ _ _ (one_more v {vs} {ms} {ws} f h) zero x e = let s : Plain (Int v) ≡ x = cc in
       subst (IsPublic g) s (int_public g v)
-  passed_public _ _ (one_more v {vs} {ws} f h) (suc j) x e = passed_public vs ws h j x e
-  passed_public _ _ (two_more r y z {vs} {ws} i h) zero x e = let s : y ≡ x = cc in
+  passed_public _ _ _ (one_more v {vs} {ms} {ws} f h) (suc j) x e = passed_public vs ms ws h j x e
+  passed_public _ _ _ (two_more r y z {vs} {ms} {ws} i h) zero x e = let s : y ≡ x = cc in
       subst (IsPublic g) s i.shown
-  passed_public _ _ (two_more r y z {vs} {ws} i h) (suc zero) x e = let s : z ≡ x = cc in
+  passed_public _ _ _ (two_more r y z {vs} {ms} {ws} i h) (suc zero) x e = let s : z ≡ x = cc in
       subst (IsPublic g) s i.shown_too
-  passed_public _ _ (two_more r y z {vs} {ws} i h) (suc (suc j)) x e = passed_public vs ws h j x e
+  passed_public _ _ _ (two_more r y z {vs} {ms} {ws} i h) (suc (suc j)) x e = passed_public vs ms ws h j x e
 
   -- registers that are cleared before a call
   pub record Cleared (o : OState) : Type 0 where
@@ -243,15 +223,17 @@ module _ (g : Link) (linked : Linked g) (Begins : Target → PartSeen → ℕ �
   filled ws = ws ++ replicate (4 - length ws) (Plain (Int (pos 0)))
 
   module _ (world : World) (StoreIs : Store → (ℕ → OWord) → Type 0)
-      (RegsAre : List Register → OState → Type 0) (p : PartSeen) (w top : ℕ) (fs : List OpenFrame) (f : Frame)
+      (RegsAre : Registers → OState → Type 0) (p : PartSeen) (w top : ℕ) (fs : List OpenFrame)
+      (ow : Owing fs) (f : Frame)
       (need_is : f.need ≡ w) (left_is : f.left ≡ top + 1 - g.layout.stack.base)
       (stack_is : stack_of world f.home ≡ g.layout.stack.base)
       -- the sites of the part have its name
       (site_part : (k i : ℕ) (u : SiteCode) → SiteHere g linked p k i u
       → part_name g.layout (site_of g.layout i).part ≡ part_of world f.home)
       -- registers that hold arguments
-      (passes : (vs : List Value) (ws : List OWord) (q : OState) → Passed vs ws → length ws ≤ 4
-      → Holding (filled ws) q → RegsAre (map register_of vs) q) where
+      (passes : (wy : Way) (vs : List Value) (ws : List OWord) (q : OState) → Passed vs wy.words ws
+      → length ws ≤ 4
+      → Holding (filled ws) q → RegsAre (handed world wy vs) q) where
     module _ (n b site : ℕ) (kk : Then) (st : Store) (words : List OWord) (mem : ℕ → OWord) (o : OState)
         (h : Here g linked p w top words mem fs o)
         (k : ℕ) (end : ℕ) (at : At g linked p k o) (there : Called g linked p end k site)
@@ -277,9 +259,10 @@ module _ (g : Link) (linked : Linked g) (Begins : Target → PartSeen → ℕ �
           by true = omega arith
           by false = omega arith
 
-      fails_by : call_step g.layout I o ≡ failing_step → 17 ≤ b → UpTo g.layout n b o (ends Fails)
+      fails_by : call_step g.layout I o ≡ failing_step → 17 ≤ b
+          → UpTo g ow.owes (used w top) n b o (ends Fails)
       unfolding overlay_step
-      fails_by e le = go_fail g.layout n b o inside
+      fails_by e le = go_fail g n b o inside
           (ap (λ x. step_by g.layout x o) (case_call g linked p w top words mem fs o h k I U at there.here)
           ∙ e) (let l = light in omega (arith, l, le))
 
@@ -324,13 +307,14 @@ module _ (g : Link) (linked : Linked g) (Begins : Target → PartSeen → ℕ �
         -- ---- where it goes
 
         module _ (c : ℕ) (x y : OWord) (ex : o.maps.regs.c1 ≡ x) (ey : o.maps.regs.c2 ≡ y) (vs : List Value)
-            (ws : List OWord) (passed : Passed vs ws) (few : length ws ≤ 4) (holds : Holding (filled ws) o)
+            (ws : List OWord) (wy : Way) (ef : wy.first ≡ Some x) (es : wy.second ≡ Some y)
+            (passed : Passed vs wy.words ws) (few : length ws ≤ 4) (holds : Holding (filled ws) o)
             (cleared : Cleared o) (behind : Placed g linked p (k + 26) (Plus G0 A0 (Imm (pos 0)))) where
           abbrev Cont : ℕ → Type 0
           Cont n = (v : ℤ) (st' : Store) (mem' : ℕ → OWord) (q : OState)
               → Here g linked p w top words mem' fs q → At g linked p (k + 26 + 1) q
               → q.maps.regs.g0 ≡ Plain (Int v) → fits_64 v ≡ true → StoreIs st' mem'
-              → UpTo g.layout n c q (kk v st')
+              → UpTo g ow.owes (used w top) n c q (kk v st')
 
           pair_here : (c : CapFields) (d : Sealable) (seal : ℕ) → Sealing c d seal x y
               → PairHere g linked c d seal o
@@ -369,22 +353,22 @@ module _ (g : Link) (linked : Linked g) (Begins : Target → PartSeen → ℕ �
               holds
 
           args_public : ArePublic g (o.maps.regs.a0 ∷ o.maps.regs.a1 ∷ o.maps.regs.a2 ∷ o.maps.regs.a3 ∷ [])
-          args_public = subst (ArePublic g) filled_is (words_shown vs ws (4 - length ws) passed)
+          args_public = subst (ArePublic g) filled_is (words_shown vs wy.words ws (4 - length ws) passed)
 
           pub runs_law : (n : ℕ) (t : Target) → MeantBy (Runs t) x y
               → ProcLaw world g linked Begins StoreIs RegsAre n → Cont (suc n) → 18 + c ≤ b
-              → UpTo g.layout (suc n) b o
-              (call_by world (whole world) f.home (f.left - f.need - 1) site (Runs t) vs kk st)
+              → UpTo g ow.owes (used w top) (suc n) b o
+              (call_by world (whole world) f.home (f.left - f.need - 1) site wy (Runs t) vs kk st)
           runs_law n t m law cont le =
               let r = m.0 in
               let e = m.1 in
               let pr = pair_here _ _ m.2 m.5 in
-              subst (λ l. UpTo g.layout (suc n) b o
-              ((whole world).proc t (Some l) (map register_of vs) kk st)) given_is
+              subst (λ l. UpTo g ow.owes (used w top) (suc n) b o
+              ((whole world).proc t (Some l) (handed world wy vs) kk st)) given_is
               (call_in_law world g linked Begins StoreIs RegsAre p w top words mem fs o h k I U at there.here
               room t m.0 m.1 (code_at (ranges_of m.0) m.1)
               (MemIn (data_cap (ranges_of m.0) (pos m.0.component.data_base))) m.2 pr m.4 m.3 refl refl
-              n (1 + c) b kk (map register_of vs) st law
+              ow n (1 + c) b kk (handed world wy vs) st law
               (record {
                 code = tt;
                 half = tt;
@@ -393,9 +377,10 @@ module _ (g : Link) (linked : Linked g) (Begins : Target → PartSeen → ℕ �
                 a2 = args_public.1.1.0;
                 a3 = args_public.1.1.1.0;
               }) store
-              (passes vs ws _ passed few (λ j z g1. held j z g1))
-              (λ v st' mem' q h2 at2 e2 f2 store2. fewer g.layout n (1 + c) q (kk v st')
-              (take_law g linked p (k + 26) q h2.valid at2 behind (upto g.layout (suc n) (kk v st')) v (1 + c)
+              (passes wy vs ws _ passed few (λ j z g1. held j z g1))
+              (λ v st' mem' q h2 at2 e2 f2 store2. fewer g n (1 + c) q (kk v st')
+              (take_law g linked p (k + 26) q h2.valid at2 behind
+              (upto g ow.owes (used w top) (suc n) (kk v st')) v (1 + c)
               c (ap look e2) f2
               (λ v3 at3. cont v st' mem' (took g linked p (k + 26) q h2.valid at2 behind v)
               (record {
@@ -426,15 +411,16 @@ module _ (g : Link) (linked : Linked g) (Begins : Target → PartSeen → ℕ �
 
           pub outside_call_law : (n : ℕ) → MeantBy Outside x y
               → WaitLaw world g linked Begins StoreIs RegsAre n → Cont (suc n) → 18 + c ≤ b
-              → UpTo g.layout (suc n) b o
-              (call_by world (whole world) f.home (f.left - f.need - 1) site Outside vs kk st)
+              → UpTo g ow.owes (used w top) (suc n) b o
+              (call_by world (whole world) f.home (f.left - f.need - 1) site wy Outside vs kk st)
           unfolding faces
           outside_call_law n m law cont le =
-              subst (λ e. UpTo g.layout (suc n) b o (emit e ((whole world).wait (Some wt) st))) event_is
-              (call_out_law g linked world Begins StoreIs RegsAre p w top words mem fs o h k I U at there.here
-              room m.0 m.1 m.2 pr behind n c b wt st shown_call law m.4 all_public store for refl
+              call_out_law g linked world Begins StoreIs RegsAre p w top words mem fs o h k I U at there.here
+              room m.0 m.1 m.2 pr behind cleared.g0 cleared.g1 cleared.g2 ow n c b wt st told_call
+              (call_shown g.layout Q I (top - w)) law m.4
+              all_public store for alike (λ low. refl) refl
               (λ j lj v st' mem' q h2 at2 e2 f2 store2. fewest n j c q (kk v st') lj
-              (cont v st' mem' q h2 at2 e2 f2 store2)) (omega (arith, le)))
+              (cont v st' mem' q h2 at2 e2 f2 store2)) (omega (arith, le))
             where
               pr : PairHere g linked m.0 m.1 m.2 o
               pr = pair_here m.0 m.1 m.2 m.3
@@ -460,7 +446,7 @@ module _ (g : Link) (linked : Linked g) (Begins : Target → PartSeen → ℕ �
               all_public G1 = subst (IsPublic g) (sym cleared.g1) (int_public g (pos 0))
               all_public G2 = subst (IsPublic g) (sym cleared.g2) (int_public g (pos 0))
 
-              wt : Wait
+              wt : Wait world
               wt = record {
                 part = part_of world f.home;
                 site = site;
@@ -483,13 +469,18 @@ module _ (g : Link) (linked : Linked g) (Begins : Target → PartSeen → ℕ �
                 given = given_is;
               }
 
-              shown_call : OutEvent
-              shown_call = CallOut (part_name g.layout (site_of g.layout I).part) (site_of g.layout I).index
-                  (out_args (flat_view g.layout Q))
+              told_call : Option ℕ → Event
+              told_call low = call_event OWord Entry (part_of world f.home) site
+                  (stack_of world f.home + (f.left - f.need - 1)) wy vs low
 
-              fewest : (n j c : ℕ) (q : OState) (m : Comp) → j ≤ n → UpTo g.layout (suc n) c q m
-                  → UpTo g.layout j c q m
-              fewest n j c q m lj u = record { by = λ i li. u.by i (omega (arith, lj, li)) }
+              fewest : (n j c : ℕ) (q : OState) (m : Comp) → j ≤ n → UpTo g ow.owes (used w top) (suc n) c q m
+                  → UpTo g ow.owes (used w top) j c q m
+              fewest n j c q m lj u = record {
+                by = λ i li. u.by i (omega (arith, lj, li));
+                quiet = quiet_fewer g (Shows g.layout) (GivesBack g.layout) q ow.owes j (suc n)
+                    (omega (arith, lj)) u.quiet;
+                wiped = λ x low s i li. u.wiped x low s i (omega (arith, lj, li));
+              }
 
               valid_q : Valid g linked Q
               valid_q = called_valid g linked p w top words mem fs o h k I U at there.here room m.0 m.1 m.2 pr
@@ -498,29 +489,52 @@ module _ (g : Link) (linked : Linked g) (Begins : Target → PartSeen → ℕ �
                   (look (reg Q.maps.regs d))
               a_is d = flat_reg Q valid_q d
 
-              args_are : out_args (flat_view g.layout Q) ≡ values.out_args vs
-              args_are =
-                  ap (λ z. out_arg z ∷ out_arg (integer_in (flat g.layout Q.frames Q.maps.regs.a1)) ∷ out_arg
-                  (integer_in (flat g.layout Q.frames Q.maps.regs.a2)) ∷ out_arg
-                  (integer_in (flat g.layout Q.frames Q.maps.regs.a3)) ∷ []) (a_is A0)
-                  ∙ ap (λ z. shown_arg Q.maps.regs.a0 ∷ out_arg z ∷ out_arg
-                  (integer_in (flat g.layout Q.frames Q.maps.regs.a2)) ∷ out_arg
-                  (integer_in (flat g.layout Q.frames Q.maps.regs.a3)) ∷ []) (a_is A1)
-                  ∙ ap (λ z. shown_arg Q.maps.regs.a0 ∷ shown_arg Q.maps.regs.a1 ∷ out_arg z ∷ out_arg
-                  (integer_in (flat g.layout Q.frames Q.maps.regs.a3)) ∷ []) (a_is A2)
-                  ∙ ap (λ z. shown_arg Q.maps.regs.a0 ∷ shown_arg Q.maps.regs.a1 ∷ shown_arg
-                  Q.maps.regs.a2 ∷ out_arg z ∷ []) (a_is A3)
-                  ∙ ap (map shown_arg) (sym filled_is)
-                  ∙ args_shown vs ws (4 - length ws) 4 4 passed (omega (arith, few)) (omega arith)
-                  ∙ sym (four_shown vs)
+              word_is : (d : Reg) (i : ℕ) → slice_index_or (o.maps.regs.a0 ∷ o.maps.regs.a1 ∷ o.maps.regs.a2
+                  ∷ o.maps.regs.a3 ∷ []) i (Plain (Int (pos 0))) ≡ reg Q.maps.regs d
+                  → arg_at OWord Entry vs wy.words i ≡ arg_shown
+                  (integer_in (flat g.layout Q.frames (reg Q.maps.regs d))) (reg Q.maps.regs d)
+              word_is d i e =
+                  sym (shown_at vs wy.words ws (4 - length ws) i passed)
+                  ∙ ap (λ z. word_shown (slice_index_or z i (Plain (Int (pos 0))))) filled_is
+                  ∙ ap word_shown e
+                  ∙ ap (λ z. arg_shown z (reg Q.maps.regs d)) (sym (a_is d))
 
-              event_is : shown_call ≡ CallOut (part_of world f.home) site (values.out_args vs)
-              event_is =
-                  ap (λ z. CallOut z (site_of g.layout I).index (out_args (flat_view g.layout Q)))
-                  (site_part k I U there.here)
-                  ∙ ap (λ z. CallOut (part_of world f.home) z (out_args (flat_view g.layout Q)))
-                  there.index_is
-                  ∙ ap (CallOut (part_of world f.home) site) args_are
+              args_are : args_of OWord Entry vs wy.words ≡ args_shown g.layout Q
+              args_are =
+                  ap (λ z. z ∷ arg_at OWord Entry vs wy.words 1 ∷ arg_at OWord Entry vs wy.words 2
+                  ∷ arg_at OWord Entry vs wy.words 3 ∷ []) (word_is A0 0 refl)
+                  ∙ ap (λ z. arg_shown (integer_in (flat g.layout Q.frames Q.maps.regs.a0)) Q.maps.regs.a0 ∷ z
+                  ∷ arg_at OWord Entry vs wy.words 2
+                  ∷ arg_at OWord Entry vs wy.words 3 ∷ []) (word_is A1 1 refl)
+                  ∙ ap (λ z. arg_shown (integer_in (flat g.layout Q.frames Q.maps.regs.a0)) Q.maps.regs.a0
+                  ∷ arg_shown (integer_in (flat g.layout Q.frames Q.maps.regs.a1)) Q.maps.regs.a1 ∷ z
+                  ∷ arg_at OWord Entry vs wy.words 3 ∷ []) (word_is A2 2 refl)
+                  ∙ ap (λ z. arg_shown (integer_in (flat g.layout Q.frames Q.maps.regs.a0)) Q.maps.regs.a0
+                  ∷ arg_shown (integer_in (flat g.layout Q.frames Q.maps.regs.a1)) Q.maps.regs.a1
+                  ∷ arg_shown (integer_in (flat g.layout Q.frames Q.maps.regs.a2)) Q.maps.regs.a2 ∷ z ∷ [])
+                  (word_is A3 3 refl)
+
+              call_line : List ℕ → ℕ → ℕ → Option OWord → Option OWord → List (Arg OWord) → Shown
+              call_line part i base x y xs = shown_of (Calls part i base None x y xs)
+
+              alike : (low : Option ℕ) → shown_of (told_call low) ≡ call_shown g.layout Q I (top - w)
+              alike low =
+                  let args = args_of OWord Entry vs wy.words in
+                  let part = part_of world f.home in
+                  let at = stack_of world f.home + (f.left - f.need - 1) in
+                  let J = site_of g.layout I in
+                  ap (λ z. call_line z site at wy.first wy.second args) (sym (site_part k I U there.here))
+                  ∙ ap (λ z. call_line (part_name g.layout J.part) z at wy.first wy.second args)
+                  (sym there.index_is)
+                  ∙ ap (λ z. call_line (part_name g.layout J.part) J.index z wy.first wy.second args)
+                  (sym frame_base)
+                  ∙ ap (λ z. call_line (part_name g.layout J.part) J.index (top - w) z wy.second args)
+                  (ef ∙ ap Some (sym ex))
+                  ∙ ap (λ z. call_line (part_name g.layout J.part) J.index (top - w)
+                  (Some Q.maps.regs.c1) z args)
+                  (es ∙ ap Some (sym ey))
+                  ∙ ap (call_line (part_name g.layout J.part) J.index (top - w) (Some Q.maps.regs.c1)
+                  (Some Q.maps.regs.c2)) args_are
 
     -- a call of any pair
     pub call_law : (n b c site : ℕ) (kk : Then) (st : Store) (words : List OWord) (mem : ℕ → OWord)
@@ -529,28 +543,33 @@ module _ (g : Link) (linked : Linked g) (Begins : Target → PartSeen → ℕ �
         → ((m : ℕ) → m < n → ProcLaw world g linked Begins StoreIs RegsAre m)
         → ((m : ℕ) → m < n → WaitLaw world g linked Begins StoreIs RegsAre m)
         → (r : Pair) (x y : OWord) → o.maps.regs.c1 ≡ x → o.maps.regs.c2 ≡ y → IsCalled r x y
-        → (vs : List Value) (ws : List OWord) → Passed vs ws → length ws ≤ 4 → Holding (filled ws) o
+        → (vs : List Value) (ws : List OWord) (wy : Way) → wy.first ≡ Some x → wy.second ≡ Some y
+        → Passed vs wy.words ws → length ws ≤ 4 → Holding (filled ws) o
         → Cleared o → Placed g linked p (k + 26) (Plus G0 A0 (Imm (pos 0)))
         → ((v : ℤ) (st' : Store) (mem' : ℕ → OWord) (q : OState) → Here g linked p w top words mem' fs q
         → At g linked p (k + 26 + 1) q → q.maps.regs.g0 ≡ Plain (Int v) → fits_64 v ≡ true
-        → StoreIs st' mem' → UpTo g.layout n c q (kk v st'))
-        → 18 + c ≤ b → UpTo g.layout n b o (call world (whole world) f site r vs kk st)
-    call_law zero b c site kk st words mem o h k end at there store procs waits r x y ex ey pair vs ws passed
-        few holds cleared behind cont le = none_inside g.layout b o _ (inside_here g linked p k o at)
-    call_law (suc n) b c site kk st words mem o h k end at there store procs waits r x y ex ey pair vs ws
+        → StoreIs st' mem' → UpTo g ow.owes (used w top) n c q (kk v st'))
+        → 18 + c ≤ b → UpTo g ow.owes (used w top) n b o (call world (whole world) f site wy r vs kk st)
+    call_law zero b c site kk st words mem o h k end at there store procs waits r x y ex ey pair vs ws
+        wy ef es passed
+        few holds cleared behind cont le = none_inside g b o _ (inside_here g linked p k o at)
+    call_law (suc n) b c site kk st words mem o h k end at there store procs waits r x y ex ey pair
+        vs ws wy ef es
         passed few holds cleared behind cont le = by (nat_lt f.left (f.need + 2)) refl
       where
         lt : n < suc n
         lt = omega arith
 
         by_pair : (room : g.layout.stack.base + w + 2 ≤ top + 1) (r : Pair) → MeantBy r x y
-            → UpTo g.layout (suc n) b o
-            (call_by world (whole world) f.home (f.left - f.need - 1) site r vs kk st)
+            → UpTo g ow.owes (used w top) (suc n) b o
+            (call_by world (whole world) f.home (f.left - f.need - 1) site wy r vs kk st)
         by_pair room (Runs t) m =
-            runs_law (suc n) b site kk st words mem o h k end at there store room c x y ex ey vs ws passed few
+            runs_law (suc n) b site kk st words mem o h k end at there store room c x y ex ey vs ws wy
+            ef es passed few
             holds cleared behind n t m (procs n lt) cont le
         by_pair room Outside m =
-            outside_call_law (suc n) b site kk st words mem o h k end at there store room c x y ex ey vs ws
+            outside_call_law (suc n) b site kk st words mem o h k end at there store room c x y ex ey
+            vs ws wy ef es
             passed few holds cleared behind n m (waits n lt) cont le
         by_pair room Bad m =
             fails_by (suc n) b site kk st words mem o h k end at there store
@@ -558,9 +577,9 @@ module _ (g : Link) (linked : Linked g) (Begins : Target → PartSeen → ℕ �
             (omega (arith, le))
 
         by : (t : Bool) → nat_lt f.left (f.need + 2) ≡ t
-            → UpTo g.layout (suc n) b o
-            (with_place (if nat_lt f.left (f.need + 2) then None else Some (f.left - f.need - 1))
-            (λ given. call_by world (whole world) f.home given site r vs kk st))
+            → UpTo g ow.owes (used w top) (suc n) b o
+            (with_place world (if nat_lt f.left (f.need + 2) then None else Some (f.left - f.need - 1))
+            (λ given. call_by world (whole world) f.home given site wy r vs kk st))
         by true e =
             let sh = ltb-true f.left (f.need + 2) e in
             let lo = h.low in

@@ -1,9 +1,15 @@
 -- A procedure of the modules does what it means, given where its compiled code stands and what its names lead
 -- to.
+use Rattle.source_laws.proofs.Refined.{Registers, taken_marks, World, proc_at, Comp, ends, Then, block}
+use Rattle.source_laws.proofs.Refined.{part_of, stack_of, Frame, whole}
+use Rattle.source_laws.proofs.Variables.{AtPlace, EnvIn, there_lt}
+use Rattle.std.proofs.Common.{Option, ◌≡◌, ℕ, zero, suc, ◌+◌, ◌-◌, ◌*◌, ◌<◌, ◌≤◌, ℤ, pos, List, [], ◌∷◌, ◌++◌}
+use Rattle.std.proofs.Common.{length, replicate, Some, None, true, refl, sym, ap, ◌∙◌, subst, arith}
+use Rattle.std.proofs.Common.{length-append}
 use Rattle.trusted_border.specs.declared.layout.SiteCode.{SiteCode}
+use Rattle.template_runs.proofs.Quiet.{Owing}
 use Rattle.source_laws.proofs.Upto.{upto, UpTo, spend}
-use Rattle.std.proofs.Common.{◌≡◌, ℕ, zero, suc, ◌+◌, ◌-◌, ◌*◌, ◌<◌, ◌≤◌, ℤ, pos, List, [], ◌∷◌, ◌++◌, length}
-use Rattle.std.proofs.Common.{replicate, Some, None, true, refl, sym, ap, ◌∙◌, subst, arith, length-append}
+use Rattle.template_runs.proofs.Clean.{used}
 use Rattle.std.specs.Prelude.{slice_get}
 use Rattle.std.proofs.lemmas.List.{length-replicate}
 use Rattle.cap_words.specs.declared.Word.TheVariants.{Int}
@@ -23,17 +29,12 @@ use Rattle.overlay_machine.specs.Link.{Link, IsTrusted}
 use Rattle.overlay_machine.specs.Linked.{Linked}
 use Rattle.trace_tool.specs.Layout.{part_name, site_of}
 use Rattle.proc_program.specs.StepView.{block_of}
-use Rattle.proc_semantics.specs.Values.{World, Store, proc_at, taken}
+use Rattle.proc_semantics.specs.Values.{Store, taken}
 use Rattle.proc_semantics.specs.declared.value.Target.{Target}
 use Rattle.proc_program.specs.declared.program.Procedure.{Procedure}
-use Rattle.proc_semantics.specs.Told.{Comp, ends}
 use Rattle.source_events.specs.declared.End.TheVariants.{Fail as Fails}
 use Rattle.proc_semantics.specs.declared.value.Value.{Value}
 use Rattle.proc_semantics.specs.declared.value.Value.TheVariants.{Num}
-use Rattle.proc_semantics.specs.declared.value.Register.{Register}
-use Rattle.proc_semantics.specs.Meaning.{Then, block, part_of, stack_of}
-use Rattle.proc_semantics.specs.declared.value.Frame.{Frame}
-use Rattle.proc_semantics.specs.Whole.{whole}
 use Rattle.proc_templates.specs.declared.Frame.{Frame as Shape}
 use Rattle.proc_templates.specs.Items.{Item, does, label, zero_of}
 use Rattle.proc_templates.specs.Templates as templates
@@ -58,7 +59,6 @@ use Rattle.template_runs.proofs.Entries.{prologue, Reads}
 use Rattle.template_runs.proofs.Epilogue.{epilogue}
 use Rattle.template_runs.proofs.Data.{set_law}
 use Rattle.template_runs.proofs.Standing.{Called, Stand, stand_front, stand_back, stand_at, words_in}
-use Rattle.source_laws.proofs.Variables.{EnvIn, there_lt}
 use Rattle.template_runs.proofs.Elements.{free_a0}
 use Rattle.source_laws.proofs.Evals.{Globals}
 use Rattle.source_laws.proofs.Arguments.{Pairs}
@@ -84,16 +84,17 @@ two_front (x ∷ y ∷ ws) a b e f =
 
 module _ (world : World) (g : Link) (linked : Linked g) (Begins : Target → PartSeen → ℕ → Type 0)
     (StoreIs : Store → (ℕ → OWord) → Type 0) where
-  abbrev pub Regs : List Register → OState → Type 0
+  abbrev pub Regs : Registers → OState → Type 0
   Regs = RegsAre g linked Begins
 
   -- the values of a procedure's places stand in the slots behind the first two
-  abbrev pub EnvIs : Procedure → OState → List Value → List OWord → Type 0
-  EnvIs what o env ws = (rc rd : OWord)
-      → EnvIn (kinds_from what.callbacks what.locals) (IsPair g linked Begins) env (rc ∷ rd ∷ ws)
+  abbrev pub EnvIs : Procedure → List (Option OWord) → List Value → List OWord → Type 0
+  EnvIs what ms env ws = (rc rd : OWord)
+      → EnvIn (kinds_from what.callbacks what.locals) (AtPlace ms (IsPair g linked Begins)) env (rc ∷ rd ∷ ws)
 
-  abbrev pub frame_of : Target → Procedure → ℕ → Frame
-  frame_of t what top = record { home = t.home; left = top + 1 - g.layout.stack.base; need = what.need }
+  abbrev pub frame_of : Target → Procedure → ℕ → List (Option OWord) → Frame
+  frame_of t what top ms =
+      record { home = t.home; left = top + 1 - g.layout.stack.base; need = what.need; words = ms }
 
   -- the frame of a procedure of a part with so many words of pairs and so many imports
   abbrev pub shape_of : Procedure → ℕ → ℕ → Shape
@@ -287,45 +288,57 @@ module _ (world : World) (g : Link) (linked : Linked g) (Begins : Target → Par
     held_args o q k (suc (suc (suc (suc j)))) x is = cc
 
     -- 0 in a0, where a body ends without a `return`; the step is paid by its block
-    one_more_step : (top : ℕ) (fs : List OpenFrame) (d k : ℕ) (words : List OWord) (mem : ℕ → OWord)
+    one_more_step : (top : ℕ) (fs : List OpenFrame) (ow : Owing fs) (d k : ℕ) (words : List OWord)
+        (mem : ℕ → OWord)
         (r : OState) (m : Comp) → Placed g linked p k (zero_of A0) → At g linked p k r
         → Here g linked p c.what.need top words mem fs r
         → ((q : OState) → Here g linked p c.what.need top words mem fs q → At g linked p (k + 1) q
-        → q.maps.regs.a0 ≡ Plain (Int (pos 0)) → UpTo g.layout n d q m) → UpTo g.layout n (1 + d) r m
-    one_more_step top fs d k words mem r m code at h u =
-        set_law g linked p c.part.trusted c.what.need top fs k (upto g.layout n m) (1 + d) d words mem r
+        → q.maps.regs.a0 ≡ Plain (Int (pos 0)) → UpTo g ow.owes (used c.what.need top) n d q m)
+        → UpTo g ow.owes (used c.what.need top) n (1 + d) r m
+    one_more_step top fs ow d k words mem r m code at h u =
+        set_law g linked p c.part.trusted c.what.need top fs k (upto g ow.owes (used c.what.need top) n m)
+        (1 + d) d words mem r
         (pos p.component.data_base) (zero_of A0) A0 (Plain (Int (pos 0))) (free_a0 g linked) refl code at
         h
         (set_goes look Plain A0 (pos 0) _ r.maps refl) (λ h1 at1.
         u _ h1 at1 refl) (omega arith)
 
-    module _ (laws : (top : ℕ) (fs : List OpenFrame)
-        → Below world g linked Begins StoreIs Regs p c.part.trusted c.part.failing top fs
-        (frame_of t c.what top) Fr End Kinds (rests c.what.callbacks c.what.locals) c.part.globals end_in
-        temps_in slots_in c.part.pairs refl refl c.part.stack_is c.part.site_part (passes g linked Begins)
+    module _ (laws : (top : ℕ) (ms : List (Option OWord)) (fs : List OpenFrame) (ow : Owing fs)
+        → Below world g linked Begins StoreIs Regs p c.part.trusted c.part.failing top fs ow
+        (frame_of t c.what top ms) Fr End Kinds (rests c.what.callbacks c.what.locals) c.part.globals end_in
+        temps_in slots_in c.part.pairs refl refl c.part.stack_is c.part.site_part
+        (passes g linked Begins world)
         called_there n) where
-      checks_done : (top d b : ℕ) (mem : ℕ → OWord) (rs : List Register) (o q : OState) (m : Comp)
+      checks_done : (top d b : ℕ) (mem : ℕ → OWord) (rs : Registers) (o q : OState) (ow : Owing o.frames)
+          (m : Comp)
           → IsTrusted g p → Regs rs o → EntryPublic world g linked Begins StoreIs Regs o
           → Here g linked p 0 top [] mem o.frames q → At g linked p (e + 20) q
           → q.maps.regs.rcode ≡ o.maps.regs.rcode → q.maps.regs.rdata ≡ o.maps.regs.rdata
           → ArgsKept world g linked Begins StoreIs Regs EnvIs o q → q.maps.regs.t1 ≡ Plain (Int (pos 0))
-          → (taken [] c.what.callbacks rs ≡ None → words_in Checked ≤ d → UpTo g.layout n d q (ends Fails))
-          × ((env : List Value) → taken [] c.what.callbacks rs ≡ Some env → words_in Checked + b ≤ d
+          → (taken [] c.what.callbacks rs.registers ≡ None → words_in Checked ≤ d
+          → UpTo g ow.owes (used c.what.need top) n d q (ends Fails))
+          × ((env : List Value) → taken [] c.what.callbacks rs.registers ≡ Some env → words_in Checked + b ≤ d
           → ((ws : List OWord) (r : OState) (ip : IsTrusted g p) → length ws ≡ length Saved
-          → EnvIs c.what o (env ++ replicate c.what.locals (Num (pos 0))) ws
+          → EnvIs c.what (taken_marks c.what.callbacks rs.words)
+          (env ++ replicate c.what.locals (Num (pos 0))) ws
           → Here g linked p 0 top [] mem o.frames r → At g linked p (e + 20 + words_in Checked) r
           → Reads g linked p ip top mem o.frames r.maps.regs (Rcode ∷ Rdata ∷ Saved)
-          (o.maps.regs.rcode ∷ o.maps.regs.rdata ∷ ws) → UpTo g.layout n b r m)
-          → UpTo g.layout n d q m)
-      checks_done top d b mem rs o q m ip regs public h at rce rde same t1 =
+          (o.maps.regs.rcode ∷ o.maps.regs.rdata ∷ ws) → UpTo g ow.owes (used c.what.need top) n b r m)
+          → UpTo g ow.owes (used c.what.need top) n d q m)
+      checks_done top d b mem rs o q ow m ip regs public h at rce rde same t1 =
           let size = refl in (
             (λ e1 le. checks_fail g linked Begins p c.part.trusted c.part.failing top o.frames End n mem
-                c.what.callbacks 0 (e + 20) d rs _ q regs refl (omega (arith, few)) (held_args o q same)
-                (checks_stand) h at t1 (sym (taken_handed c.what.callbacks rs) ∙ e1)
+                ow.owes (used c.what.need top)
+                c.what.callbacks 0 (e + 20) d rs.registers rs.words _ q regs refl (omega (arith, few))
+                (held_args o q same)
+                (checks_stand) h at t1 (sym (taken_handed c.what.callbacks rs.registers) ∙ e1)
                 (omega (arith, size, le))),
-            (λ env e1 le u. checks_go g linked Begins p c.part.trusted c.part.failing top o.frames End n mem m
-                c.what.callbacks 0 (e + 20) d b rs _ env q regs refl (omega (arith, few)) (held_args o q same)
-                (checks_stand) h at t1 (sym (taken_handed c.what.callbacks rs) ∙ e1) (omega (arith, size, le))
+            (λ env e1 le u. checks_go g linked Begins p c.part.trusted c.part.failing top o.frames End n mem
+                ow.owes (used c.what.need top) m
+                c.what.callbacks 0 (e + 20) d b rs.registers rs.words _ env q regs refl (omega (arith, few))
+                (held_args o q same)
+                (checks_stand) h at t1 (sym (taken_handed c.what.callbacks rs.registers) ∙ e1)
+                (omega (arith, size, le))
                 (λ xs r ps lx held h2 at2 kept.
                 let en = room in
                 let l1 = length-append xs
@@ -336,35 +349,40 @@ module _ (world : World) (g : Link) (linked : Linked g) (Begins : Target → Par
                 u (xs ++ replicate (c.what.need - 2 - places c.what.callbacks) (Plain (Int (pos 0)))) r
                 c.part.trusted (omega (arith, l1, l3, lx, sl, en))
                 (λ rc rd. env_in g linked Begins c.what.callbacks c.what.locals
-                (c.what.need - 2 - places c.what.callbacks) env xs rc rd
-                (matches c.what.callbacks rs env (sym (taken_handed c.what.callbacks rs) ∙ e1)) ps
+                (c.what.need - 2 - places c.what.callbacks) env
+                (taken_marks c.what.callbacks rs.words) xs rc rd
+                (matches c.what.callbacks rs.registers env
+                (sym (taken_handed c.what.callbacks rs.registers) ∙ e1)) ps
                 (omega (arith, en)))
                 h2 (subst (λ y. At g linked p y r) e2 at2)
                 (reads_all g linked p c.part.trusted top mem o.frames r.maps.regs o.maps.regs.rcode
                 o.maps.regs.rdata (places c.what.callbacks) (c.what.need - 2 - places c.what.callbacks) xs few
                 lx (kept.code ∙ rce) (kept.half ∙ rde) held public.code public.half
-                (passed_public g linked Begins env xs ps) kept.t1))),
+                (passed_public g linked Begins env (taken_marks c.what.callbacks rs.words) xs ps) kept.t1))),
           )
 
-      body_done : (top d : ℕ) (mem : ℕ → OWord) (fs : List OpenFrame) (rc rd : OWord) (ws : List OWord)
-          (env : List Value) (st : Store) (o q : OState) (back : Then) → o.frames ≡ fs
+      body_done : (top d : ℕ) (mem : ℕ → OWord) (fs : List OpenFrame) (ow : Owing fs) (rc rd : OWord)
+          (ws : List OWord)
+          (env : List Value) (ms : List (Option OWord)) (st : Store) (o q : OState) (back : Then)
+          → o.frames ≡ fs
           → Here g linked p c.what.need top (rc ∷ rd ∷ ws) mem fs q → length ws ≡ length Saved
-          → At g linked p (e + 20 + words_in Checked + 2 * c.what.need) q → EnvIs c.what o env ws
+          → At g linked p (e + 20 + words_in Checked + 2 * c.what.need) q → EnvIs c.what ms env ws
           → StoreIs st mem
           → ((v : ℤ) (st' : Store) (mem' : ℕ → OWord) (ws' : List OWord) (r : OState)
           → Here g linked p c.what.need top (rc ∷ rd ∷ ws') mem' fs r → length ws' ≡ length Saved
           → At g linked p End r → r.maps.regs.a0 ≡ Plain (Int v) → fits_64 v ≡ true → StoreIs st' mem'
-          → UpTo g.layout n d r (back v st'))
-          → UpTo g.layout n (1 + d) q
-          (block world (whole world) (frame_of t c.what top) Body back (λ x. back (pos 0)) env st)
-      body_done top d mem fs rc rd ws env st o q back fr h len at env_is store u =
+          → UpTo g ow.owes (used c.what.need top) n d r (back v st'))
+          → UpTo g ow.owes (used c.what.need top) n (1 + d) q
+          (block world (whole world) (frame_of t c.what top ms) Body back (λ x. back (pos 0)) env st)
+      body_done top d mem fs ow rc rd ws env ms st o q back fr h len at env_is store u =
           let sl = saved_length in
           let ei = end_is in
-          does_block world g linked Begins StoreIs Regs p c.part.trusted c.part.failing top fs
-          (frame_of t c.what top) Fr End Kinds (rests c.what.callbacks c.what.locals) c.part.globals
+          does_block world g linked Begins StoreIs Regs p c.part.trusted c.part.failing top fs ow
+          (frame_of t c.what top ms) Fr End Kinds (rests c.what.callbacks c.what.locals) c.part.globals
           end_in temps_in slots_in c.part.pairs refl refl c.part.stack_is c.part.site_part
-          (passes g linked Begins) called_there
-          Body c.fits n (laws top fs) (e + 20 + words_in Checked + 2 * c.what.need) (1 + d) (rc ∷ rd ∷ ws) env
+          (passes g linked Begins world) called_there
+          Body c.fits n (laws top ms fs ow) (e + 20 + words_in Checked + 2 * c.what.need) (1 + d)
+          (rc ∷ rd ∷ ws) env
           st mem back (λ x. back (pos 0)) q (omega (arith, ei))
           (stand_front g linked p End (e + 20 + words_in Checked + 2 * c.what.need) (block_code Fr Body)
           _ from_body) calls_there (omega (arith, len, sl)) at h (env_is rc rd) store
@@ -372,7 +390,7 @@ module _ (world : World) (g : Link) (linked : Linked g) (Begins : Target → Par
           let s = two_front words' rc rd (same.each 0 (omega arith)) (same.each 1 (omega arith)) in
           let l1 = ap length s.1 in
           let l2 = same.count in
-          spend g.layout n d (1 + d) r (back v st') (omega arith)
+          spend g n d (1 + d) r (back v st') (omega arith)
           (u v st' mem' s.0 r (subst (λ y. Here g linked p c.what.need top y mem' fs r) s.1 h1)
           (omega (arith, l1, l2, len)) at1 a0 fit store'))
           (λ env' st' mem' words' r at1 h1 same en store'.
@@ -382,7 +400,7 @@ module _ (world : World) (g : Link) (linked : Linked g) (Begins : Target → Par
           let k1 = e + 20 + words_in Checked + 2 * c.what.need + words_in (block_code Fr Body) in
           let last = stand_back g linked p End (e + 20 + words_in Checked + 2 * c.what.need)
           (block_code Fr Body) _ from_body in
-          one_more_step top fs d k1 words' mem' r (back (pos 0) st') last.0 at1 h1 (λ q2 h2 at2 a2.
+          one_more_step top fs ow d k1 words' mem' r (back (pos 0) st') last.0 at1 h1 (λ q2 h2 at2 a2.
           u (pos 0) st' mem' s.0 q2 (subst (λ y. Here g linked p c.what.need top y mem' fs q2) s.1 h2)
           (omega (arith, l1, l2, len)) (subst (λ y. At g linked p y q2) ei at2) a2 refl store'))
 

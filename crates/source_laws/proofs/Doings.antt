@@ -1,5 +1,10 @@
 -- Statements, given their expressions.
+use Rattle.source_laws.proofs.Variables.{AtPlace, EnvIn, env_same, env_set, there_lt}
 use Rattle.source_laws.proofs.CallsIn.{int_public}
+use Rattle.template_runs.proofs.Data.{not_free, with_reg, with_data, set_law, dat_law, store_data_law}
+use Rattle.template_runs.proofs.Data.{mem_with}
+use Rattle.template_runs.proofs.Clean.{clean_same, used}
+use Rattle.template_runs.proofs.Quiet.{Owing}
 use Rattle.source_laws.proofs.Upto.{none_inside, go_on, upto, halting, UpTo, spend, fewer, tick_up}
 use Rattle.std.proofs.Common.{◌≡◌, ℕ, zero, suc, ◌+◌, ◌<◌, ◌≤◌, ℤ, pos, negsuc, ◌+ℤ◌, ◌-ℤ◌, List, [], ◌∷◌}
 use Rattle.std.proofs.Common.{◌++◌, length, Some, Bool, true, false, refl, sym, ap, ◌∙◌, subst, arith, ne_eqb}
@@ -25,20 +30,17 @@ use Rattle.overlay_machine.specs.Link.{Link, IsTrusted, ranges_of, data_region}
 use Rattle.overlay_machine.specs.Linked.{Linked}
 use Rattle.trace_tool.specs.Views.{flat_view}
 use Rattle.proc_program.specs.Program as run
-use Rattle.proc_semantics.specs.Values.{World, Store, set_word}
+use Rattle.source_laws.proofs.Refined.{World, Comp, ends, Then, Next, expr, element, assigned, stmt, block}
+use Rattle.source_laws.proofs.Refined.{Frame, whole, recursive}
+use Rattle.proc_semantics.specs.Values.{Store, set_word}
 use Rattle.proc_semantics.specs.declared.value.Pair.{Pair}
 use Rattle.proc_program.specs.declared.program.Place.TheVariants.{Local, Global}
 use Rattle.proc_program.specs.declared.program.Row.{Row}
 use Rattle.proc_program.specs.Program.{Exp, Step, Set, SetAt, Do, If, While, Return, Block, no_steps, step}
-use Rattle.proc_semantics.specs.Told.{Comp, ends}
 use Rattle.source_events.specs.declared.End.TheVariants.{Halt as Halted}
 use Rattle.proc_semantics.specs.declared.value.Value.{Value}
 use Rattle.proc_semantics.specs.declared.value.Value.TheVariants.{Num}
 use Rattle.proc_semantics.specs.Values as values
-use Rattle.proc_semantics.specs.Meaning.{Then, Next, expr, element, assigned, stmt, block}
-use Rattle.proc_semantics.specs.declared.value.Frame.{Frame}
-use Rattle.proc_semantics.specs.Whole.{whole}
-use Rattle.proc_semantics.proofs.Recursive.{recursive}
 use Rattle.proc_templates.specs.declared.Frame.{Frame as Shape}
 use Rattle.proc_templates.specs.Items.{Item, does, goes_if, goes, label, finishes}
 use Rattle.call_sequence.specs.Sequences.{distance}
@@ -50,11 +52,8 @@ use Rattle.template_runs.proofs.Numbers.{fits_small}
 use Rattle.template_runs.proofs.Slots.{with_at, length-with_at, SameBelow, get_with, get_other}
 use Rattle.template_runs.proofs.Steps.{At, Placed, next_pc, halt, inside_here}
 use Rattle.template_runs.proofs.Rows.{Here, load_law, store_law}
-use Rattle.template_runs.proofs.Data.{with_reg, with_data, set_law, dat_law, store_data_law}
-use Rattle.template_runs.proofs.Data.{mem_with}
 use Rattle.template_runs.proofs.Standing.{Stand, stand_front, stand_back, words-append, words_in}
 use Rattle.source_laws.specs.Fits.{Kind, AsNumber, AsPair, AsRest}
-use Rattle.source_laws.proofs.Variables.{EnvIn, env_same, env_set, there_lt}
 use Rattle.template_runs.proofs.Elements.{free_g0, free_a0, from_element}
 use Rattle.source_laws.proofs.ValueRows.{index_law, reach_law}
 use Rattle.source_laws.proofs.Evals.{Globals, LawOf}
@@ -68,6 +67,7 @@ zero_same (negsuc n) = refl
 
 module _ (world : World) (g : Link) (linked : Linked g) (StoreIs : Store → (ℕ → OWord) → Type 0)
     (p : PartSeen) (ip : IsTrusted g p) (failing : Placed g linked p 0 Fail) (top : ℕ) (fs : List OpenFrame)
+    (ow : Owing fs)
     (f : Frame) (s : Shape) (end : ℕ)
     (kinds : List Kind) (IsPair : Pair → OWord → OWord → Type 0)
     (rests : (i : ℕ) → slice_get kinds i ≡ Some AsPair → slice_get kinds (i + 1) ≡ Some AsRest)
@@ -78,12 +78,12 @@ module _ (world : World) (g : Link) (linked : Linked g) (StoreIs : Store → (�
     Inside words mem o = Here g linked p s.words top words mem fs o
 
     abbrev Env : List Value → List OWord → Type 0
-    Env = EnvIn kinds IsPair
+    Env = EnvIn kinds (AtPlace f.words IsPair)
 
     -- an expression from a slot on, whatever the variables hold
     abbrev pub Evals : ℕ → Exp → ℕ → Type 0
     Evals n e t = (env : List Value)
-        → LawOf world g linked StoreIs p ip failing top fs f s end kinds IsPair rests globals n env e
+        → LawOf world g linked StoreIs p ip failing top fs ow f s end kinds IsPair rests globals n env e
         (code s t e) t
 
     -- behind a `return`, at the epilogue
@@ -91,14 +91,14 @@ module _ (world : World) (g : Link) (linked : Linked g) (StoreIs : Store → (�
     Returns n c words back = (v : ℤ) (st' : Store) (mem' : ℕ → OWord) (words' : List OWord) (q : OState)
         → At g linked p end q → Inside words' mem' q → SameBelow 2 words words'
         → q.maps.regs.a0 ≡ Plain (Int v)
-        → fits_64 v ≡ true → StoreIs st' mem' → UpTo g.layout n c q (back v st')
+        → fits_64 v ≡ true → StoreIs st' mem' → UpTo g ow.owes (used s.words top) n c q (back v st')
 
     -- behind a statement
     abbrev pub Onward : ℕ → ℕ → ℕ → List OWord → Next → Type 0
     Onward n c k words kk =
         (env' : List Value) (st' : Store) (mem' : ℕ → OWord) (words' : List OWord) (q : OState)
         → At g linked p k q → Inside words' mem' q → SameBelow 2 words words' → Env env' words'
-        → StoreIs st' mem' → UpTo g.layout n c q (kk env' st')
+        → StoreIs st' mem' → UpTo g ow.owes (used s.words top) n c q (kk env' st')
 
     abbrev pub Does : ℕ → (Then → Next → Next) → (ℕ → Type 0) → List Item → Type 0
     Does n means calls xs =
@@ -106,7 +106,7 @@ module _ (world : World) (g : Link) (linked : Linked g) (StoreIs : Store → (�
         (kk : Next) (o : OState) → k + words_in xs ≤ end → Stand g linked p end k xs → calls k
         → length words ≡ s.words → At g linked p k o → Inside words mem o → Env env words → StoreIs st mem
         → Returns n c words back → Onward n c (k + words_in xs) words kk
-        → UpTo g.layout n c o (means back kk env st)
+        → UpTo g ow.owes (used s.words top) n c o (means back kk env st)
 
     two_same : (words words' : List OWord) → SameBelow s.temps words words' → SameBelow 2 words words'
     two_same words words' h = record { count = h.count; each = λ i lt. h.each i (omega (arith, lt, temps)) }
@@ -116,7 +116,8 @@ module _ (world : World) (g : Link) (linked : Linked g) (StoreIs : Store → (�
 
     same_env : (env : List Value) (words words' : List OWord) → SameBelow s.temps words words' → Env env words
         → Env env words'
-    same_env env words words' same e = env_same kinds IsPair rests env words words' s.temps temps same e
+    same_env env words words' same e = env_same kinds (AtPlace f.words IsPair) rests env words words'
+        s.temps temps same e
 
     abbrev base : ℤ
     base = pos p.component.data_base
@@ -129,10 +130,10 @@ module _ (world : World) (g : Link) (linked : Linked g) (StoreIs : Store → (�
           → Does n (stmt world (whole world) f (Set (Local i) e))
           (λ k. StepCallsAt p.component s k (Set (Local i) e)) (step_code s (Set (Local i) e))
       set_local_law i e ki le k c words env st mem back kk o ke st1 cs len at h en store ret on =
-          tick_up g.layout n c o
-          (expr world (whole world) f env e (λ v. assigned f.home (Local i) v kk env) st)
+          tick_up g n c o
+          (expr world (whole world) f env e (λ v. assigned world f.home (Local i) v kk env) st)
           (le env k (c + 200) words st mem
-          (λ v. assigned f.home (Local i) v kk env) o
+          (λ v. assigned world f.home (Local i) v kk env) o
           (stand_front g linked p end k (code s s.temps e) _ st1) cs len at h en store
           (λ v st2 mem2 words2 q at2 h2 same ev fv store2.
           let tail = stand_back g linked p end k (code s s.temps e) (store_var s (Local i)) st1 in
@@ -143,14 +144,17 @@ module _ (world : World) (g : Link) (linked : Linked g) (StoreIs : Store → (�
           let e3 : k + words_in (code s s.temps e) + 1 + 1 + 1 ≡ k + words_in
           (code s s.temps e ++ store_var s (Local i)) = omega (arith, l) in
           let m : Comp = kk (slice_set env i (Num v)) st2 in
-          store_law g linked p ip s.words top mem2 fs (k + words_in (code s s.temps e)) (upto g.layout n m)
+          store_law g linked p ip s.words top mem2 fs (k + words_in (code s s.temps e))
+          (upto g ow.owes (used s.words top) n m)
           (c + 200) c G0 words2 (i + 2) q (tail.0, (tail.1.0, (tail.1.1.0, tt))) lt1 refl
-          (ap (λ z. is_linear (look z)) ev) (subst (IsPublic g) (sym ev) (int_public g v)) at2 h2 (λ h3 at3.
+          (ap (λ z. is_linear (look z)) ev) (subst (IsPublic g) (sym ev) (int_public g v))
+          (λ free. (omega (arith, lt1, cnt, len), omega arith)) at2 h2 (λ h3 at3.
           let same3 : SameBelow 2 words2 (with_at words2 (i + 2) (reg q.maps.regs G0)) =
           same_less' (i + 2) words2 (reg q.maps.regs G0) (omega arith) in
           let env3 : Env (slice_set env i (Num v)) (with_at words2 (i + 2) (reg q.maps.regs G0)) =
           subst (λ y. Env (slice_set env i (Num v)) (with_at words2 (i + 2) y)) (sym ev)
-          (env_set kinds IsPair rests env words2 i v ki lt1 fv (same_env env words words2 same en)) in
+          (env_set kinds (AtPlace f.words IsPair) rests env words2 i v ki lt1 fv
+          (same_env env words words2 same en)) in
           on (slice_set env i (Num v)) st2 mem2 (with_at words2 (i + 2) (reg q.maps.regs G0))
           _ (at_is _ _ _ e3 at3) h3 (two_then words words2 _ (two_same words words2 same) same3) env3
           store2) (omega arith)))
@@ -166,10 +170,10 @@ module _ (world : World) (g : Link) (linked : Linked g) (StoreIs : Store → (�
           → Does n (stmt world (whole world) f (Set (Global d) e))
           (λ k. StepCallsAt p.component s k (Set (Global d) e)) (step_code s (Set (Global d) e))
       set_global_law d e lt le k c words env st mem back kk o ke st1 cs len at h en store ret on =
-          tick_up g.layout n c o
-          (expr world (whole world) f env e (λ v. assigned f.home (Global d) v kk env) st)
+          tick_up g n c o
+          (expr world (whole world) f env e (λ v. assigned world f.home (Global d) v kk env) st)
           (le env k (c + 200) words st mem
-          (λ v. assigned f.home (Global d) v kk env) o
+          (λ v. assigned world f.home (Global d) v kk env) o
           (stand_front g linked p end k (code s s.temps e) _ st1) cs len at h en store
           (λ v st2 mem2 words2 q at2 h2 same ev fv store2.
           let tail = stand_back g linked p end k (code s s.temps e) (store_var s (Global d)) st1 in
@@ -192,12 +196,16 @@ module _ (world : World) (g : Link) (linked : Linked g) (StoreIs : Store → (�
           let mem3 = mem_with mem2 (p.component.data_base + (s.pairs + d)) (Plain (Int v)) in
           let s1 = with_reg q Dat (Plain (Mem (data_cap (ranges_of p) (pos a)))) (next_pc g linked p k1) in
           let s2 = with_data g linked p ip s.words top fs (k1 + 1) s1 a (Plain (Int v)) in
-          dat_law g linked p ip s.words top fs k1 (upto g.layout n m) (c + 200) (c + 100) words2 mem2 q base
+          dat_law g linked p ip s.words top fs k1 (upto g ow.owes (used s.words top) n m) (c + 200) (c + 100)
+          words2 mem2 q base
           (pos (s.pairs + d)) (pos a) (Imm (pos (s.pairs + d))) tail.0 at2 h2 refl
           refl fit_a (λ h3 at3.
-          store_data_law g linked p ip s.words top fs (k1 + 1) (upto g.layout n m) (c + 100) (c + 99) words2
-          mem2 s1 (s.pairs + d) G0 (Plain (Int v)) tail.1.0 at3 h3 in_data ev refl (λ h4 at4.
-          dat_law g linked p ip s.words top fs (k1 + 1 + 1) (upto g.layout n m) (c + 99) c words2 mem3 s2
+          store_data_law g linked p ip s.words top fs (k1 + 1) (upto g ow.owes (used s.words top) n m)
+          (c + 100) (c + 99) words2
+          mem2 s1 (s.pairs + d) G0 (Plain (Int v)) tail.1.0 at3 h3 in_data ev refl
+          (λ free. absurd (not_free g p (s.pairs + d) ip in_data free)) (λ h4 at4.
+          dat_law g linked p ip s.words top fs (k1 + 1 + 1) (upto g ow.owes (used s.words top) n m) (c + 99) c
+          words2 mem3 s2
           (pos a) (pos 0 -ℤ pos (s.pairs + d)) base (Imm (pos 0 -ℤ pos (s.pairs + d))) tail.1.1.0 at4 h4
           refl go_back fit_b (λ h5 at5.
           on env (set_word st2 f.home d v) mem3 words2 _ (at_is _ _ _ e3 at5) h5
@@ -208,8 +216,8 @@ module _ (world : World) (g : Link) (linked : Linked g) (StoreIs : Store → (�
           → Does n (stmt world (whole world) f (Do e))
           (λ k. StepCallsAt p.component s k (Do e)) (step_code s (Do e))
       do_law e le k c words env st mem back kk o ke st1 cs len at h en store ret on =
-          tick_up g.layout n c o (expr world (whole world) f env e (λ v. kk env) st)
-          (spend g.layout n c (c + 200) o _ (omega arith)
+          tick_up g n c o (expr world (whole world) f env e (λ v. kk env) st)
+          (spend g n c (c + 200) o _ (omega arith)
           (le env k c words st mem (λ v. kk env) o st1 cs len at h en store
           (λ v st2 mem2 words2 q at2 h2 same ev fv store2.
           on env st2 mem2 words2 q at2 h2 (two_same words words2 same) (same_env env words words2 same en)
@@ -220,9 +228,11 @@ module _ (world : World) (g : Link) (linked : Linked g) (StoreIs : Store → (�
           → Placed g linked p k answer → At g linked p k o → Inside words mem o
           → o.maps.regs.g0 ≡ Plain (Int v)
           → ((q : OState) → Inside words mem q → At g linked p (k + 1) q → q.maps.regs.a0 ≡ Plain (Int v)
-          → q.maps.regs.g0 ≡ Plain (Int v) → UpTo g.layout n b q m) → 1 + b ≤ c → UpTo g.layout n c o m
+          → q.maps.regs.g0 ≡ Plain (Int v) → UpTo g ow.owes (used s.words top) n b q m) → 1 + b ≤ c
+          → UpTo g ow.owes (used s.words top) n c o m
       answer_law k c b m v words mem o code1 at h ev u le =
-          set_law g linked p ip s.words top fs k (upto g.layout n m) c b words mem o base answer A0
+          set_law g linked p ip s.words top fs k (upto g ow.owes (used s.words top) n m) c b words mem o
+          base answer A0
           o.maps.regs.g0 (free_a0 g linked) refl code1 at h
           (move_goes look Plain A0 G0 _ o.maps o.maps refl
           (stays look Plain o.maps (R G0) (ap (λ z. is_linear (look z)) ev)))
@@ -232,7 +242,7 @@ module _ (world : World) (g : Link) (linked : Linked g) (StoreIs : Store → (�
           → Does n (stmt world (whole world) f (Return e))
           (λ k. StepCallsAt p.component s k (Return e)) (step_code s (Return e))
       return_law e le k c words env st mem back kk o ke st1 cs len at h en store ret on =
-          tick_up g.layout n c o (expr world (whole world) f env e back st)
+          tick_up g n c o (expr world (whole world) f env e back st)
           (le env k (c + 200) words st mem back o (stand_front g linked p end k (code s s.temps e) _ st1) cs
           len
           at h en store (λ v st2 mem2 words2 q at2 h2 same ev fv store2.
@@ -241,7 +251,7 @@ module _ (world : World) (g : Link) (linked : Linked g) (StoreIs : Store → (�
           answer_law k1 (c + 200) (3 + c) (back v st2) v words2 mem2 q tail.0 at2 h2 ev (λ q3 h3 at3 e3 g3.
           jump_law g linked p ip s.words top fs words2 mem2 base (k1 + 1) end (pos end -ℤ pos (k1 + 1))
           (let z : pos (k1 + 1) +ℤ (pos end -ℤ pos (k1 + 1)) ≡ pos end = omega (arith, ints) in z) end_in
-          (upto g.layout n (back v st2)) (3 + c) c q3 tail.1.0 at3 h3
+          (upto g ow.owes (used s.words top) n (back v st2)) (3 + c) c q3 tail.1.0 at3 h3
           (λ q4 h4 at4 kept.
           ret v st2 mem2 words2 q4 at4 h4 (two_same words words2 same) (kept.a0 ∙ e3)
           fv
@@ -256,7 +266,7 @@ module _ (world : World) (g : Link) (linked : Linked g) (StoreIs : Store → (�
           → Does n (stmt world (whole world) f (run.Halt e))
           (λ k. StepCallsAt p.component s k (run.Halt e)) (step_code s (run.Halt e))
       halt_law e le k c words env st mem back kk o ke st1 cs len at h en store ret on =
-          tick_up g.layout n c o (expr world (whole world) f env e (λ v st. ends (Halted v)) st)
+          tick_up g n c o (expr world (whole world) f env e (λ v st. ends (Halted v)) st)
           (le env k (c + 200) words st mem
           (λ v st. ends (Halted v)) o (stand_front g linked p end k (code s s.temps e) _ st1) cs len at h en
           store (λ v st2 mem2 words2 q at2 h2 same ev fv store2.
@@ -264,7 +274,8 @@ module _ (world : World) (g : Link) (linked : Linked g) (StoreIs : Store → (�
           let k1 = k + words_in (code s s.temps e) in
           answer_law k1 (c + 200) (1 + c) (ends (Halted v)) v words2 mem2 q tail.0 at2 h2 ev
           (λ q3 h3 at3 e3 g3.
-          halt g linked p (k1 + 1) Halt q3 h3.valid at3 tail.1.0 refl v (halting g.layout n v) (1 + c)
+          halt g linked p (k1 + 1) Halt q3 h3.valid at3 tail.1.0 refl v
+          (halting g ow.owes (used s.words top) n v) (1 + c)
           (halt_halts look Plain _ q3.maps) (omega arith) (shown_answer v q3 e3)) (omega arith)))
 
       pub set_at_law : (a : Row) (i e : Exp) → a.first + a.length ≤ globals.count → s.temps < s.words
@@ -272,13 +283,13 @@ module _ (world : World) (g : Link) (linked : Linked g) (StoreIs : Store → (�
           → Does n (stmt world (whole world) f (SetAt a i e))
           (λ k. StepCallsAt p.component s k (SetAt a i e)) (step_code s (SetAt a i e))
       set_at_law a i e room lt li le k c words env st mem back kk o ke st1 cs len at h en store ret on =
-          tick_up g.layout n c o
+          tick_up g n c o
           (expr world (whole world) f env i
           (λ x. expr world (whole world) f env e
-          (λ v st. element a x (λ d. kk env (set_word st f.home d v)))) st)
+          (λ v st. element world a x (λ d. kk env (set_word st f.home d v)))) st)
           (li env k (c + 200) words st mem
           (λ x. expr world (whole world) f env e
-          (λ v st. element a x (λ d. kk env (set_word st f.home d v)))) o
+          (λ v st. element world a x (λ d. kk env (set_word st f.home d v)))) o
           (stand_front g linked p end k (code s s.temps i) _ st1) cs.0 len at h en store after_i)
         where
           tail1 : Stand g linked p end (k + words_in (code s s.temps i))
@@ -312,12 +323,13 @@ module _ (world : World) (g : Link) (linked : Linked g) (StoreIs : Store → (�
               (code s (s.temps + 1) e))
               q → Inside words2 mem2 q → SameBelow (s.temps + 1) words1 words2
               → q.maps.regs.g0 ≡ Plain (Int v) → fits_64 v ≡ true → StoreIs st2 mem2
-              → UpTo g.layout n (c + 197) q (element a x (λ d. kk env (set_word st2 f.home d v)))
+              → UpTo g ow.owes (used s.words top) n (c + 197) q
+              (element world a x (λ d. kk env (set_word st2 f.home d v)))
           after_e x fx words1 same1 got v st2 mem2 words2 q atq hq same2 ev fv store2 =
               let k3 = k + words_in (code s s.temps i) + 1 + 1 + 1 + words_in (code s (s.temps + 1) e) in
               let km : ℕ → Comp = λ d. kk env (set_word st2 f.home d v) in
               let roomd = globals.room in
-              let m0 : Comp = element a x km in
+              let m0 : Comp = element world a x km in
               let got2 : slice_get words2 s.temps ≡ Some (Plain (Int x)) = same2.each s.temps (omega arith)
               ∙ got in
               let cnt1 = same1.count in
@@ -329,10 +341,12 @@ module _ (world : World) (g : Link) (linked : Linked g) (StoreIs : Store → (�
                     ∙ same1.each j lj;
               } in
               answer_law k3 (c + 197) (c + 196) m0 v words2 mem2 q tail3.0 atq hq ev (λ q3 h3 at3 e3 g3.
-              load_law g linked p ip s.words top mem2 fs (k3 + 1) (upto g.layout n m0) (c + 196) (c + 100) G0
+              load_law g linked p ip s.words top mem2 fs (k3 + 1) (upto g ow.owes (used s.words top) n m0)
+              (c + 196) (c + 100) G0
               (free_g0 g linked) words2 s.temps (Plain (Int x)) q3
               (tail3.1.0, (tail3.1.1.0, (tail3.1.1.1.0, tt))) got2 lt refl refl at3 h3 (λ h4 at4.
-              index_law g linked p ip s.words top fs n failing a (k3 + 1 + 1 + 1 + 1) (c + 100) (c + 50) x
+              index_law world g linked p ip s.words top fs ow n failing a (k3 + 1 + 1 + 1 + 1)
+              (c + 100) (c + 50) x
               words2 mem2 _ base km tail3.1.1.1.1.0 at4 h4 refl
               (λ j q5 is lj h5 at5 g5 a5.
               let in_data : s.pairs + (a.first + j) < length p.component.data_words =
@@ -340,15 +354,19 @@ module _ (world : World) (g : Link) (linked : Linked g) (StoreIs : Store → (�
               let in_count : a.first + j < globals.count = omega (arith, room, lj) in
               let m : Comp = km (a.first + j) in
               let k4 = k3 + 1 + 1 + 1 + 1 + 8 in
-              reach_law g linked p ip s.words top fs n s.pairs a.first words2 mem2 m k4 (c + 50) (c + 40) j q5
+              reach_law world g linked p ip s.words top fs ow n s.pairs a.first words2 mem2 m k4
+              (c + 50) (c + 40) j q5
               tail3.1.1.1.1.1.0 tail3.1.1.1.1.1.1.0 at5 h5 g5 in_data (λ q6 h6 at6 g6 a6.
               let ad = p.component.data_base + (s.pairs + (a.first + j)) in
               let mem3 = mem_with mem2 (p.component.data_base + (s.pairs + (a.first + j))) (Plain (Int v)) in
               let s7 = with_data g linked p ip s.words top fs (k4 + 1 + 1) q6 ad (Plain (Int v)) in
-              store_data_law g linked p ip s.words top fs (k4 + 1 + 1) (upto g.layout n m) (c + 40) (c + 30)
+              store_data_law g linked p ip s.words top fs (k4 + 1 + 1) (upto g ow.owes (used s.words top) n m)
+              (c + 40) (c + 30)
               words2 mem2 q6 (s.pairs + (a.first + j)) A0 (Plain (Int v)) tail3.1.1.1.1.1.1.1.0 at6 h6
-              in_data (a6 ∙ a5 ∙ e3) refl (λ h7 at7.
-              from_element g linked p ip s.words top fs (s.pairs + a.first) words2 mem3 (upto g.layout n m)
+              in_data (a6 ∙ a5 ∙ e3) refl
+              (λ free. absurd (not_free g p (s.pairs + (a.first + j)) ip in_data free)) (λ h7 at7.
+              from_element g linked p ip s.words top fs (s.pairs + a.first) words2 mem3
+              (upto g ow.owes (used s.words top) n m)
               (k4 + 1 + 1 + 1) (c + 30) c (s.pairs + (a.first + j)) s7 tail3.1.1.1.1.1.1.1.1.0
               tail3.1.1.1.1.1.1.1.1.1.0 tail3.1.1.1.1.1.1.1.1.1.1.0 at7 h7 g6 in_data (λ q8 h8 at8 g8.
               on env (set_word st2 f.home (a.first + j) v) mem3 words2 q8 (at_is _ _ q8 ends_at at8)
@@ -360,12 +378,12 @@ module _ (world : World) (g : Link) (linked : Linked g) (StoreIs : Store → (�
               → At g linked p (k + words_in (code s s.temps i)) q → Inside words1 mem1 q
               → SameBelow s.temps words words1 → q.maps.regs.g0 ≡ Plain (Int x) → fits_64 x ≡ true
               → StoreIs st1 mem1
-              → UpTo g.layout n (c + 200) q
+              → UpTo g ow.owes (used s.words top) n (c + 200) q
               (expr world (whole world) f env e
-              (λ v st. element a x (λ d. kk env (set_word st f.home d v))) st1)
+              (λ v st. element world a x (λ d. kk env (set_word st f.home d v))) st1)
           after_i x st1 mem1 words1 q atq hq same1 ex fx store1 =
               let k1 = k + words_in (code s s.temps i) in
-              let ke2 : Then = λ v st. element a x (λ d. kk env (set_word st f.home d v)) in
+              let ke2 : Then = λ v st. element world a x (λ d. kk env (set_word st f.home d v)) in
               let m : Comp = expr world (whole world) f env e ke2 st1 in
               let cnt = same1.count in
               let lt1 : s.temps < length words1 = omega (arith, lt, cnt, len) in
@@ -376,9 +394,11 @@ module _ (world : World) (g : Link) (linked : Linked g) (StoreIs : Store → (�
                 each = λ j lj. get_other words1 s.temps j (reg q.maps.regs G0) lj
                     ∙ same1.each j lj;
               } in
-              store_law g linked p ip s.words top mem1 fs k1 (upto g.layout n m) (c + 200) (c + 197) G0 words1
+              store_law g linked p ip s.words top mem1 fs k1 (upto g ow.owes (used s.words top) n m) (c + 200)
+              (c + 197) G0 words1
               s.temps q (tail1.0, (tail1.1.0, (tail1.1.1.0, tt))) lt1 refl (ap (λ z. is_linear (look z)) ex)
-              (subst (IsPublic g) (sym ex) (int_public g x)) atq hq
+              (subst (IsPublic g) (sym ex) (int_public g x))
+              (λ free. (omega (arith, lt1, cnt, len), omega arith)) atq hq
               (λ h2 at2. le env (k1 + 1 + 1 + 1) (c + 197) (with_at words1 s.temps (reg q.maps.regs G0)) st1
               mem1 ke2 _ (stand_front g linked p end (k1 + 1 + 1 + 1) (code s (s.temps + 1) e)
               _ tail1.1.1.1) cs.1 (lw ∙ cnt ∙ len) at2 h2
@@ -423,7 +443,7 @@ module _ (world : World) (g : Link) (linked : Linked g) (StoreIs : Store → (�
           → Does n (stmt world (whole world) f (If e a b))
           (λ k. StepCallsAt p.component s k (If e a b)) (step_code s (If e a b))
       if_law e a b le la lb k c words env st mem back kk o ke st1 cs len at h en store ret on =
-          tick_up g.layout n c o
+          tick_up g n c o
           (expr world (whole world) f env e
           (λ v. if values.is_zero v then block world (whole world) f b back kk env else block world
           (whole world) f a back kk env) st)
@@ -462,7 +482,7 @@ module _ (world : World) (g : Link) (linked : Linked g) (StoreIs : Store → (�
               → At g linked p (k + words_in (code s s.temps e)) q → Inside words2 mem2 q
               → SameBelow s.temps words words2 → q.maps.regs.g0 ≡ Plain (Int v) → fits_64 v ≡ true
               → StoreIs st2 mem2
-              → UpTo g.layout n (c + 200) q
+              → UpTo g ow.owes (used s.words top) n (c + 200) q
               ((if values.is_zero v then block world (whole world) f b back kk env else block world
               (whole world) f a back kk env) st2)
           after v st2 mem2 words2 q at2 h2 same ev fv store2 = by (values.is_zero v) refl
@@ -477,7 +497,7 @@ module _ (world : World) (g : Link) (linked : Linked g) (StoreIs : Store → (�
               same2 = two_same words words2 same
 
               by : (z : Bool) → values.is_zero v ≡ z
-                  → UpTo g.layout n (c + 200) q
+                  → UpTo g ow.owes (used s.words top) n (c + 200) q
                   ((if values.is_zero v then block world (whole world) f b back kk env else block world
                   (whole world) f a back kk env) st2)
               by true z =
@@ -496,15 +516,17 @@ module _ (world : World) (g : Link) (linked : Linked g) (StoreIs : Store → (�
                   let ends_at : k + words_in (code s s.temps e) + 3 + 3 + 0 + words_in
                   (block_code s a) + 3 + 0 + words_in (block_code s b) ≡ k + words_in
                   (step_code s (If e a b)) = omega (arith, size) in
-                  subst (UpTo g.layout n (c + 200) q)
+                  subst (UpTo g ow.owes (used s.words top) n (c + 200) q)
                   (sym (ap (λ y. (if y then block world (whole world) f b back kk env else block world
                   (whole world) f a back kk env) st2) z))
                   (branch_stays g linked p ip s.words top fs words2 mem2 base
                   (k + words_in (code s s.temps e))
-                  (k + words_in (code s s.temps e) + 6) (pos 6) there1 in1 (upto g.layout n m) (c + 200)
+                  (k + words_in (code s s.temps e) + 6) (pos 6) there1 in1
+                  (upto g ow.owes (used s.words top) n m) (c + 200)
                   (3 + c) v q tail.0 at2 h2 ev (zero_same v ∙ z) (λ q3 h3 at3 kept3.
                   jump_law g linked p ip s.words top fs words2 mem2 base (k + words_in (code s s.temps e) + 3)
-                  to (pos (block_words a + 6)) there in2 (upto g.layout n m) (3 + c) c q3 tail.1.0 at3 h3
+                  to (pos (block_words a + 6)) there in2 (upto g ow.owes (used s.words top) n m) (3 + c) c q3
+                  tail.1.0 at3 h3
                   (λ q4 h4 at4 kept4.
                   lb to c words2 env st2 mem2 back kk q4 (omega (arith, size, ke))
                   (stand_front g linked p end to (block_code s b) (label ∷ []) tail2.1.1) cs.2
@@ -529,22 +551,23 @@ module _ (world : World) (g : Link) (linked : Linked g) (StoreIs : Store → (�
                   omega (arith, size, ke, end_in) in
                   let in2 : k + words_in (step_code s (If e a b)) < length p.component.code =
                   omega (arith, ke, end_in) in
-                  subst (UpTo g.layout n (c + 200) q)
+                  subst (UpTo g ow.owes (used s.words top) n (c + 200) q)
                   (sym (ap (λ y. (if y then block world (whole world) f b back kk env else block world
                   (whole world) f a back kk env) st2) z))
                   (branch_goes g linked p ip s.words top fs words2 mem2 base (k + words_in (code s s.temps e))
-                  to (pos 6) there1 in1 (upto g.layout n m) (c + 200) (c + 3) v q tail.0 at2
+                  to (pos 6) there1 in1 (upto g ow.owes (used s.words top) n m) (c + 200) (c + 3)
+                  v q tail.0 at2
                   h2 ev (zero_same v ∙ z) (λ q3 h3 at3 kept3.
                   la to (c + 3) words2 env st2 mem2 back kk q3 (omega (arith, size, ke))
                   (stand_front g linked p end to (block_code s a) _ tail.1.1.1) cs.1 (same.count ∙ len) at3
                   h3 en2 store2
-                  (λ v st3 mem3 words3 r at3 h3 same3 e3 f3 store3. spend g.layout n c (c + 3) r (back v st3)
+                  (λ v st3 mem3 words3 r at3 h3 same3 e3 f3 store3. spend g n c (c + 3) r (back v st3)
                   (omega arith) (ret v st3 mem3 words3 r at3 h3 (two_then words words2 words3 same2 same3)
                   e3 f3 store3))
                   (λ env3 st3 mem3 words3 r at3 h3 same3 en3 store3.
                   jump_law g linked p ip s.words top fs words3 mem3 base from
                   (k + words_in (step_code s (If e a b))) (pos (block_words b + 3)) there2 in2
-                  (upto g.layout n (kk env3 st3)) (c + 3) c r tail2.0 at3 h3
+                  (upto g ow.owes (used s.words top) n (kk env3 st3)) (c + 3) c r tail2.0 at3 h3
                   (λ q4 h4 at4 kept4.
                   on env3 st3 mem3 words3 q4 at4 h4
                   (two_then words words2 words3 same2 same3) en3 store3) (omega arith))) (omega arith))
@@ -557,11 +580,12 @@ module _ (world : World) (g : Link) (linked : Linked g) (StoreIs : Store → (�
         → Does n (stmt world (whole world) f (While e b))
         (λ k. StepCallsAt p.component s k (While e b)) (step_code s (While e b))
     while_law e b zero le lb k c words env st mem back kk o ke st1 cs len at h en store ret on =
-        none_inside g.layout c o (stmt world (whole world) f (While e b) back kk env st)
+        none_inside g c o (stmt world (whole world) f (While e b) back kk env st)
         (inside_here g linked p k o at)
     while_law e b (suc n) le lb k c words env st mem back kk o ke st1 cs len at h en store ret on =
-        subst (UpTo g.layout (suc n) c o) (sym ((recursive world).turns f e b back kk env st))
-        (tick_up g.layout (suc n) c o
+        subst (UpTo g ow.owes (used s.words top) (suc n) c o)
+        (sym ((recursive world).turns f e b back kk env st))
+        (tick_up g (suc n) c o
         (expr world (whole world) f env e
         (λ v. if values.is_zero v then kk env else block world (whole world) f b back
         ((whole world).turn f e b back kk) env) st)
@@ -601,7 +625,7 @@ module _ (world : World) (g : Link) (linked : Linked g) (StoreIs : Store → (�
             → At g linked p (k + 0 + words_in (code s s.temps e)) q → Inside words2 mem2 q
             → SameBelow s.temps words words2 → q.maps.regs.g0 ≡ Plain (Int v) → fits_64 v ≡ true
             → StoreIs st2 mem2
-            → UpTo g.layout (suc n) (c + 200) q
+            → UpTo g ow.owes (used s.words top) (suc n) (c + 200) q
             ((if values.is_zero v then kk env else block world (whole world) f b back
             ((whole world).turn f e b back kk) env) st2)
         after again v st2 mem2 words2 q at2 h2 same ev fv store2 = by (values.is_zero v) refl
@@ -613,7 +637,7 @@ module _ (world : World) (g : Link) (linked : Linked g) (StoreIs : Store → (�
             same2 = two_same words words2 same
 
             by : (z : Bool) → values.is_zero v ≡ z
-                → UpTo g.layout (suc n) (c + 200) q
+                → UpTo g ow.owes (used s.words top) (suc n) (c + 200) q
                 ((if values.is_zero v then kk env else block world (whole world) f b back
                 ((whole world).turn f e b back kk) env) st2)
             by true z =
@@ -628,15 +652,16 @@ module _ (world : World) (g : Link) (linked : Linked g) (StoreIs : Store → (�
                 omega (arith, size, ke, end_in) in
                 let in2 : k + words_in (step_code s (While e b)) < length p.component.code =
                 omega (arith, ke, end_in) in
-                subst (UpTo g.layout (suc n) (c + 200) q)
+                subst (UpTo g ow.owes (used s.words top) (suc n) (c + 200) q)
                 (sym (ap (λ y. (if y then kk env else block world (whole world) f b back
                 ((whole world).turn f e b back kk) env) st2) z))
                 (branch_stays g linked p ip s.words top fs words2 mem2 base from
                 (k + 0 + words_in (code s s.temps e) + 6) (pos 6) there1 in1
-                (upto g.layout (suc n) (kk env st2)) (c + 200) (3 + c) v q tail.0 at2
+                (upto g ow.owes (used s.words top) (suc n) (kk env st2)) (c + 200) (3 + c) v q tail.0 at2
                 h2 ev (zero_same v ∙ z) (λ q3 h3 at3 kept3.
                 jump_law g linked p ip s.words top fs words2 mem2 base (from + 3) to (pos (block_words b + 6))
-                there2 in2 (upto g.layout (suc n) (kk env st2)) (3 + c) c q3 tail.1.0 at3 h3
+                there2 in2 (upto g ow.owes (used s.words top) (suc n) (kk env st2)) (3 + c) c q3
+                tail.1.0 at3 h3
                 (λ q4 h4 at4 kept4.
                 on env st2 mem2 words2 q4 at4 h4 same2 en2 store2) (omega arith))
                 (omega arith))
@@ -654,30 +679,33 @@ module _ (world : World) (g : Link) (linked : Linked g) (StoreIs : Store → (�
                 let in1 : k + 0 + words_in (code s s.temps e) + 3 + 3 + 0 < length p.component.code =
                 omega (arith, size, ke, end_in) in
                 let in2 : k < length p.component.code = omega (arith, ke, end_in) in
-                subst (UpTo g.layout (suc n) (c + 200) q)
+                subst (UpTo g ow.owes (used s.words top) (suc n) (c + 200) q)
                 (sym (ap (λ y. (if y then kk env else block world (whole world) f b back turn env) st2) z))
                 (branch_goes g linked p ip s.words top fs words2 mem2 base from to (pos 6) there1 in1
-                (upto g.layout (suc n) (block world (whole world) f b back turn env st2)) (c + 200) (c + 3)
+                (upto g ow.owes (used s.words top) (suc n) (block world (whole world) f b back turn env st2))
+                (c + 200) (c + 3)
                 v q tail.0 at2 h2 ev (zero_same v ∙ z) (λ q3 h3 at3 kept3.
                 lb (suc n) (omega arith) to (c + 3) words2 env st2 mem2 back turn q3 (omega (arith, size, ke))
                 (stand_front g linked p end to (block_code s b) _ tail.1.1.1) cs.1 (same.count ∙ len) at3
                 h3 en2 store2
-                (λ v st3 mem3 words3 r at3 h3 same3 e3 f3 store3. spend g.layout (suc n) c (c + 3) r
+                (λ v st3 mem3 words3 r at3 h3 same3 e3 f3 store3. spend g (suc n) c (c + 3) r
                 (back v st3) (omega arith)
                 (ret v st3 mem3 words3 r at3 h3 (two_then words words2 words3 same2 same3) e3 f3 store3))
                 (λ env3 st3 mem3 words3 r at3 h3 same3 en3 store3.
                 back_law g linked p ip s.words top fs words3 mem3 base last k
                 (pos 0 -ℤ pos (exp_words e + 6 + block_words b)) there2 in2
-                (upto g.layout n (turn env3 st3)) (upto g.layout (suc n) (turn env3 st3))
-                (λ w c2 o2 q2 k2 u2. go_on g.layout n w c2 o2 q2 (turn env3 st3) k2 u2) (c + 3) c r tail2.0
+                (upto g ow.owes (used s.words top) n (turn env3 st3))
+                (upto g ow.owes (used s.words top) (suc n) (turn env3 st3))
+                (λ w c2 o2 q2 k2 i2 same2 u2. go_on g n w c2 o2 q2 (turn env3 st3) k2 i2
+                (λ x low h. clean_same g x low (used s.words top) o2 q2 same2 h) u2) (c + 3) c r tail2.0
                 at3 h3 (λ q4 h4 at4 kept4.
                 again k c words3 env3 st3 mem3 back kk q4 ke st1 cs (same3.count ∙ same.count ∙ len) at4
                 h4 en3 store3
-                (λ v st5 mem5 words5 r5 at5 h5 same5 e5 f5 store5. fewer g.layout n c r5 (back v st5)
+                (λ v st5 mem5 words5 r5 at5 h5 same5 e5 f5 store5. fewer g n c r5 (back v st5)
                 (ret v st5 mem5 words5 r5 at5 h5
                 (two_then words words3 words5 (two_then words words2 words3 same2 same3) same5) e5 f5
                 store5))
-                (λ env5 st5 mem5 words5 r5 at5 h5 same5 en5 store5. fewer g.layout n c r5 (kk env5 st5)
+                (λ env5 st5 mem5 words5 r5 at5 h5 same5 en5 store5. fewer g n c r5 (kk env5 st5)
                 (on env5 st5 mem5 words5 r5 at5 h5
                 (two_then words words3 words5 (two_then words words2 words3 same2 same3) same5) en5
                 store5))) (omega arith))) (omega arith))

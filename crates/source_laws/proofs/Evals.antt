@@ -1,6 +1,9 @@
 -- Expressions other than calls: their values come into g0.
+use Rattle.source_laws.proofs.Variables.{AtPlace, EnvIn, NumberAt, env_same, index_is}
 use Rattle.source_laws.proofs.CallsIn.{int_public}
+use Rattle.template_runs.proofs.Quiet.{Owing}
 use Rattle.source_laws.proofs.Upto.{upto, UpTo, tick_up}
+use Rattle.template_runs.proofs.Clean.{used}
 use Rattle.std.proofs.Common.{◌≡◌, ℕ, ◌+◌, ◌-◌, ◌<◌, ◌≤◌, ℤ, pos, ◌+ℤ◌, ◌-ℤ◌, List, [], ◌∷◌, ◌++◌, length}
 use Rattle.std.proofs.Common.{Some, true, refl, sym, ap, ◌∙◌, subst, arith}
 use Rattle.std.specs.Prelude.{slice_get}
@@ -23,18 +26,15 @@ use Rattle.overlay_machine.specs.State.{OpenFrame, OState}
 use Rattle.overlay_machine.specs.Link.{Link, IsTrusted, ranges_of, data_region}
 use Rattle.overlay_machine.specs.Linked.{Linked}
 use Rattle.proc_program.specs.Program as run
-use Rattle.proc_semantics.specs.Values.{World, Store, variable, number_in, word_at, set_word}
+use Rattle.source_laws.proofs.Refined.{World, Comp, tick, Then, expr, operated, element, Frame, whole}
+use Rattle.proc_semantics.specs.Values.{Store, variable, number_in, word_at, set_word}
 use Rattle.proc_semantics.specs.declared.value.Pair.{Pair}
 use Rattle.proc_program.specs.declared.program.Place.TheVariants.{Local, Global}
 use Rattle.proc_program.specs.declared.program.Row.{Row}
 use Rattle.proc_language.specs.declared.tree.Op.{Op}
 use Rattle.proc_program.specs.Program.{Exp, Number, Element, Binary}
-use Rattle.proc_semantics.specs.Told.{Comp, tick}
 use Rattle.proc_semantics.specs.declared.value.Value.{Value}
 use Rattle.proc_semantics.specs.declared.value.Value.TheVariants.{Num, Other}
-use Rattle.proc_semantics.specs.Meaning.{Then, expr, operated, element}
-use Rattle.proc_semantics.specs.declared.value.Frame.{Frame}
-use Rattle.proc_semantics.specs.Whole.{whole}
 use Rattle.proc_templates.specs.declared.Frame.{Frame as Shape}
 use Rattle.proc_templates.specs.Items.{Item, does}
 use Rattle.proc_templates.specs.Templates.{code, at_row, op_code, load_slot, store_slot}
@@ -46,7 +46,6 @@ use Rattle.template_runs.proofs.Rows.{Here, load_law, store_law, loaded}
 use Rattle.template_runs.proofs.Data.{with_reg, set_law, dat_law, load_data_law, mem_with}
 use Rattle.template_runs.proofs.Standing.{Stand, stand_front, stand_back, words-append, words_in}
 use Rattle.source_laws.specs.Fits.{Kind, AsNumber, AsPair, AsRest}
-use Rattle.source_laws.proofs.Variables.{EnvIn, NumberAt, env_same, index_is}
 use Rattle.template_runs.proofs.Elements.{free_g0, free_g1, from_element}
 use Rattle.source_laws.proofs.ValueRows.{index_law, operator_law, reach_law}
 use Rattle.template_runs.specs.Public.{IsPublic}
@@ -64,6 +63,7 @@ pub record Globals (StoreIs : Store → (ℕ → OWord) → Type 0) (p : PartSee
 
 module _ (world : World) (g : Link) (linked : Linked g) (StoreIs : Store → (ℕ → OWord) → Type 0)
     (p : PartSeen) (ip : IsTrusted g p) (failing : Placed g linked p 0 Fail) (top : ℕ) (fs : List OpenFrame)
+    (ow : Owing fs)
     (f : Frame) (s : Shape) (end : ℕ)
     (kinds : List Kind) (IsPair : Pair → OWord → OWord → Type 0)
     (rests : (i : ℕ) → slice_get kinds i ≡ Some AsPair → slice_get kinds (i + 1) ≡ Some AsRest)
@@ -72,7 +72,7 @@ module _ (world : World) (g : Link) (linked : Linked g) (StoreIs : Store → (�
   In words mem o = Here g linked p s.words top words mem fs o
 
   abbrev pub EnvAt : List Value → List OWord → Type 0
-  EnvAt = EnvIn kinds IsPair
+  EnvAt = EnvIn kinds (AtPlace f.words IsPair)
 
   -- an expression's words, from its first to the one behind it, where t is the first free slot
   abbrev pub LawOf : ℕ → List Value → Exp → List Item → ℕ → Type 0
@@ -83,8 +83,8 @@ module _ (world : World) (g : Link) (linked : Linked g) (StoreIs : Store → (�
       → ((v : ℤ) (st' : Store) (mem' : ℕ → OWord) (words' : List OWord) (q : OState)
       → At g linked p (k + words_in xs) q → In words' mem' q → SameBelow t words words'
       → q.maps.regs.g0 ≡ Plain (Int v) → fits_64 v ≡ true → StoreIs st' mem'
-      → UpTo g.layout n c q (kk v st'))
-      → UpTo g.layout n c o (expr world (whole world) f env e kk st)
+      → UpTo g ow.owes (used s.words top) n c q (kk v st'))
+      → UpTo g ow.owes (used s.words top) n c o (expr world (whole world) f env e kk st)
 
   abbrev last_words : ℕ → Op → List Item
   last_words t r = does (Move G1 (InReg G0)) ∷ (load_slot s t G0 ++ op_code r)
@@ -104,8 +104,9 @@ module _ (world : World) (g : Link) (linked : Linked g) (StoreIs : Store → (�
   module _ (n : ℕ) (env : List Value) where
     pub number_law : (v t : ℕ) → fits_64 (pos v) ≡ true → LawOf n env (Number v) (code s t (Number v)) t
     number_law v t fit k c words st mem kk o st1 cs len at h e store u =
-        tick_up g.layout n c o (kk (pos v) st)
-        (set_law g linked p ip s.words top fs k (upto g.layout n (kk (pos v) st)) (c + 200) c words mem o
+        tick_up g n c o (kk (pos v) st)
+        (set_law g linked p ip s.words top fs k (upto g ow.owes (used s.words top) n (kk (pos v) st))
+        (c + 200) c words mem o
         (pos p.component.data_base) (Move G0 (Imm (pos v))) G0 (Plain (Int (pos v))) (free_g0 g linked)
         refl st1.0 at h
         (set_goes look Plain G0 (pos v) _ o.maps refl)
@@ -115,13 +116,14 @@ module _ (world : World) (g : Link) (linked : Linked g) (StoreIs : Store → (�
     pub local_law : (i t : ℕ) → slice_get kinds i ≡ Some AsNumber → i + 2 < s.words
         → LawOf n env (run.Load (Local i)) (code s t (run.Load (Local i))) t
     local_law i t ki room k c words st mem kk o st1 cs len at h e store u =
-        let x : NumberAt kinds IsPair env words i = e.numbers i ki in
+        let x : NumberAt kinds (AtPlace f.words IsPair) env words i = e.numbers i ki in
         let e3 : k + 1 + 1 + 1 ≡ k + 3 = omega arith in
         let is : variable f.home env st (Local i) ≡ x.number =
         ap number_in (index_is env i (Num x.number) Other x.meant) in
-        subst (UpTo g.layout n c o) (ap (λ v. tick (kk v st)) (sym is))
-        (tick_up g.layout n c o (kk x.number st)
-        (load_law g linked p ip s.words top mem fs k (upto g.layout n (kk x.number st)) (c + 200) c G0
+        subst (UpTo g ow.owes (used s.words top) n c o) (ap (λ v. tick (kk v st)) (sym is))
+        (tick_up g n c o (kk x.number st)
+        (load_law g linked p ip s.words top mem fs k (upto g ow.owes (used s.words top) n (kk x.number st))
+        (c + 200) c G0
         (free_g0 g linked) words (i + 2) (Plain (Int x.number)) o (st1.0, (st1.1.0, (st1.1.1.0, tt)))
         x.stands room refl refl at h
         (λ h1 at1. u x.number st mem words
@@ -153,15 +155,18 @@ module _ (world : World) (g : Link) (linked : Linked g) (StoreIs : Store → (�
         let le1 : 1 + (2 + c) ≤ c + 200 = omega arith in
         let le2 : 1 + (1 + c) ≤ 2 + c = omega arith in
         let le3 : 1 + c ≤ 1 + c = omega arith in
-        tick_up g.layout n c o m
-        (dat_law g linked p ip s.words top fs k (upto g.layout n m) (c + 200) (2 + c) words mem o
+        tick_up g n c o m
+        (dat_law g linked p ip s.words top fs k (upto g ow.owes (used s.words top) n m) (c + 200)
+        (2 + c) words mem o
         (pos p.component.data_base) (pos (s.pairs + d)) (pos (p.component.data_base + (s.pairs + d)))
         (Imm (pos (s.pairs + d))) st1.0 at h refl refl
         fit_a (λ h1 at1.
-        load_data_law g linked p ip s.words top fs (k + 1) (upto g.layout n m) (2 + c) (1 + c) words mem s1
+        load_data_law g linked p ip s.words top fs (k + 1) (upto g ow.owes (used s.words top) n m) (2 + c)
+        (1 + c) words mem s1
         (s.pairs + d) G0 (Plain (Int (word_at st f.home d))) (free_g0 g linked) st1.1.0 at1 h1 in_data is
         refl refl (λ h2 at2.
-        dat_law g linked p ip s.words top fs (k + 1 + 1) (upto g.layout n m) (1 + c) c words mem s2
+        dat_law g linked p ip s.words top fs (k + 1 + 1) (upto g ow.owes (used s.words top) n m) (1 + c)
+        c words mem s2
         (pos (p.component.data_base + (s.pairs + d))) (pos 0 -ℤ pos (s.pairs + d))
         (pos p.component.data_base) (Imm (pos 0 -ℤ pos (s.pairs + d))) st1.1.1.0 at2 h2 refl back fit_b
         (λ h3 at3.
@@ -174,10 +179,10 @@ module _ (world : World) (g : Link) (linked : Linked g) (StoreIs : Store → (�
     pub element_law : (a : Row) (b : Exp) (t : ℕ) → a.first + a.length ≤ globals.count
         → LawOf n env b (code s t b) t → LawOf n env (Element a b) (code s t (Element a b)) t
     element_law a b t room lb k c words st mem kk o st1 cs len at h e store u =
-        tick_up g.layout n c o
-        (expr world (whole world) f env b (λ i st. element a i (λ d. kk (word_at st f.home d) st)) st)
+        tick_up g n c o
+        (expr world (whole world) f env b (λ i st. element world a i (λ d. kk (word_at st f.home d) st)) st)
         (lb k (c + 200) words st mem
-        (λ i st. element a i (λ d. kk (word_at st f.home d) st)) o
+        (λ i st. element world a i (λ d. kk (word_at st f.home d) st)) o
         (stand_front g linked p end k (code s t b) _ st1) cs len at h e store after)
       where
         tail : Stand g linked p end (k + words_in (code s t b))
@@ -187,11 +192,13 @@ module _ (world : World) (g : Link) (linked : Linked g) (StoreIs : Store → (�
         after : (x : ℤ) (st2 : Store) (mem2 : ℕ → OWord) (words2 : List OWord) (q : OState)
             → At g linked p (k + words_in (code s t b)) q → In words2 mem2 q → SameBelow t words words2
             → q.maps.regs.g0 ≡ Plain (Int x) → fits_64 x ≡ true → StoreIs st2 mem2
-            → UpTo g.layout n (c + 200) q (element a x (λ d. kk (word_at st2 f.home d) st2))
+            → UpTo g ow.owes (used s.words top) n (c + 200) q
+            (element world a x (λ d. kk (word_at st2 f.home d) st2))
         after x st2 mem2 words2 q at1 h1 same ex fx store2 =
             let k1 = k + words_in (code s t b) in
             let roomd = globals.room in
-            index_law g linked p ip s.words top fs n failing a (k + words_in (code s t b)) (c + 200) (7 + c) x
+            index_law world g linked p ip s.words top fs ow n failing a (k + words_in (code s t b))
+            (c + 200) (7 + c) x
             words2 mem2 q (pos p.component.data_base)
             (λ d. kk (word_at st2 f.home d) st2) tail.0 at1
             h1 ex (λ i q2 is lt h2 at2 g2 a2.
@@ -200,18 +207,22 @@ module _ (world : World) (g : Link) (linked : Linked g) (StoreIs : Store → (�
             let in_count : a.first + i < globals.count = omega (arith, room, lt) in
             let v = word_at st2 f.home (a.first + i) in
             let m : Comp = kk (word_at st2 f.home (a.first + i)) st2 in
-            reach_law g linked p ip s.words top fs n s.pairs a.first words2 mem2 m (k1 + 8) (7 + c) (5 + c) i
+            reach_law world g linked p ip s.words top fs ow n s.pairs a.first words2 mem2 m (k1 + 8)
+            (7 + c) (5 + c) i
             q2 tail.1.0 tail.1.1.0 at2 h2 g2 in_data (λ q3 h3 at3 g3 a3.
-            load_data_law g linked p ip s.words top fs (k1 + 8 + 1 + 1) (upto g.layout n m) (5 + c) (4 + c)
+            load_data_law g linked p ip s.words top fs (k1 + 8 + 1 + 1)
+            (upto g ow.owes (used s.words top) n m) (5 + c) (4 + c)
             words2 mem2 q3 (s.pairs + (a.first + i)) G1 (Plain (Int (word_at st2 f.home (a.first + i))))
             (free_g1 g linked) tail.1.1.1.0 at3 h3 in_data
             (globals.reads st2 mem2 (a.first + i) store2 in_count) refl refl (λ h4 at4.
-            from_element g linked p ip s.words top fs (s.pairs + a.first) words2 mem2 (upto g.layout n m)
+            from_element g linked p ip s.words top fs (s.pairs + a.first) words2 mem2
+            (upto g ow.owes (used s.words top) n m)
             (k1 + 8 + 1 + 1 + 1) (4 + c) (1 + c) (s.pairs + (a.first + i))
             (with_reg q3 G1 (Plain (Int (word_at st2 f.home (a.first + i))))
             (next_pc g linked p (k1 + 8 + 1 + 1))) tail.1.1.1.1.0 tail.1.1.1.1.1.0 tail.1.1.1.1.1.1.0 at4
             h4 g3 in_data (λ q5 h5 at5 g5.
-            set_law g linked p ip s.words top fs (k1 + 8 + 1 + 1 + 1 + 1 + 1 + 1) (upto g.layout n m) (1 + c)
+            set_law g linked p ip s.words top fs (k1 + 8 + 1 + 1 + 1 + 1 + 1 + 1)
+            (upto g ow.owes (used s.words top) n m) (1 + c)
             c words2 mem2 q5 (pos p.component.data_base) (Move G0 (InReg G1)) G0 q5.maps.regs.g1
             (free_g0 g linked) refl tail.1.1.1.1.1.1.1.0 at5 h5
             (move_goes look Plain G0 G1 _ q5.maps q5.maps refl
@@ -232,11 +243,11 @@ module _ (world : World) (g : Link) (linked : Linked g) (StoreIs : Store → (�
         → LawOf n env a (code s t a) t → LawOf n env b (code s (t + 1) b) (t + 1)
         → LawOf n env (Binary r a b) (code s t (Binary r a b)) t
     binary_law r a b t lo lt la lb k c words st mem kk o st1 cs len at h e store u =
-        tick_up g.layout n c o
+        tick_up g n c o
         (expr world (whole world) f env a
-        (λ x. expr world (whole world) f env b (λ y. operated r x y kk)) st)
+        (λ x. expr world (whole world) f env b (λ y. operated world r x y kk)) st)
         (la k (c + 200) words st mem
-        (λ x. expr world (whole world) f env b (λ y. operated r x y kk)) o
+        (λ x. expr world (whole world) f env b (λ y. operated world r x y kk)) o
         (stand_front g linked p end k (code s t a) _ st1) cs.0 len at h e store after_a)
       where
         tail1 : Stand g linked p end (k + words_in (code s t a))
@@ -261,25 +272,28 @@ module _ (world : World) (g : Link) (linked : Linked g) (StoreIs : Store → (�
             → (y : ℤ) (st2 : Store) (mem2 : ℕ → OWord) (words2 : List OWord) (q : OState)
             → At g linked p (k + words_in (code s t a) + 1 + 1 + 1 + words_in (code s (t + 1) b)) q
             → In words2 mem2 q → SameBelow (t + 1) words1 words2 → q.maps.regs.g0 ≡ Plain (Int y)
-            → fits_64 y ≡ true → StoreIs st2 mem2 → UpTo g.layout n (c + 197) q (operated r x y kk st2)
+            → fits_64 y ≡ true → StoreIs st2 mem2 → UpTo g ow.owes (used s.words top) n (c + 197) q
+            (operated world r x y kk st2)
         after_b x fx words1 same1 got y st2 mem2 words2 q atq hq same2 ey fy store2 =
             let k3 = k + words_in (code s t a) + 1 + 1 + 1 + words_in (code s (t + 1) b) in
-            let m : Comp = operated r x y kk st2 in
+            let m : Comp = operated world r x y kk st2 in
             let got2 : slice_get words2 t ≡ Some (Plain (Int x)) = same2.each t (omega arith) ∙ got in
             let below : SameBelow t words words2 =
             same_then t words words1 words2 same1
             (same_less t (t + 1) words1 words2 (omega arith) same2) in
             let s1 = with_reg q G1 q.maps.regs.g0 (next_pc g linked p k3) in
             let le0 : 1 + (3 + (5 + c)) ≤ c + 197 = omega arith in
-            set_law g linked p ip s.words top fs k3 (upto g.layout n m) (c + 197) (3 + (5 + c)) words2 mem2 q
+            set_law g linked p ip s.words top fs k3 (upto g ow.owes (used s.words top) n m) (c + 197)
+            (3 + (5 + c)) words2 mem2 q
             (pos p.component.data_base) (Move G1 (InReg G0)) G1 q.maps.regs.g0 (free_g1 g linked) refl
             tail3.0 atq hq
             (move_goes look Plain G1 G0 _ q.maps q.maps refl
             (stays look Plain q.maps (R G0) (ap (λ z. is_linear (look z)) ey))) (λ h1 at1.
-            load_law g linked p ip s.words top mem2 fs (k3 + 1) (upto g.layout n m) (3 + (5 + c)) (5 + c) G0
+            load_law g linked p ip s.words top mem2 fs (k3 + 1) (upto g ow.owes (used s.words top) n m)
+            (3 + (5 + c)) (5 + c) G0
             (free_g0 g linked) words2 t (Plain (Int x)) s1 (tail3.1.0, (tail3.1.1.0, (tail3.1.1.1.0, tt)))
             got2 lt refl refl at1 h1
-            (λ h2 at2. operator_law g linked p ip s.words top fs n end (k3 + 1 + 1 + 1 + 1) c x y
+            (λ h2 at2. operator_law world g linked p ip s.words top fs ow n end (k3 + 1 + 1 + 1 + 1) c x y
             (pos p.component.data_base) words2 mem2 kk st2 _ at2
             h2 refl ey r tail3.1.1.1.1
             (λ v q3 at3 h3 e3 f3. u v st2 mem2 words2 q3 (subst (λ z. At g linked p z q3) ends_at at3)
@@ -289,23 +303,26 @@ module _ (world : World) (g : Link) (linked : Linked g) (StoreIs : Store → (�
         after_a : (x : ℤ) (st1 : Store) (mem1 : ℕ → OWord) (words1 : List OWord) (q : OState)
             → At g linked p (k + words_in (code s t a)) q → In words1 mem1 q → SameBelow t words words1
             → q.maps.regs.g0 ≡ Plain (Int x) → fits_64 x ≡ true → StoreIs st1 mem1
-            → UpTo g.layout n (c + 200) q (expr world (whole world) f env b (λ y. operated r x y kk) st1)
+            → UpTo g ow.owes (used s.words top) n (c + 200) q
+            (expr world (whole world) f env b (λ y. operated world r x y kk) st1)
         after_a x st1 mem1 words1 q atq hq same1 ex fx store1 =
-            let m : Comp = expr world (whole world) f env b (λ y. operated r x y kk) st1 in
+            let m : Comp = expr world (whole world) f env b (λ y. operated world r x y kk) st1 in
             let cnt = same1.count in
             let lt1 : t < length words1 = omega (arith, lt, cnt, len) in
             let lw = length-with_at words1 t (reg q.maps.regs G0) in
             let same2 : SameBelow t words (with_at words1 t (reg q.maps.regs G0)) =
             same_then t words words1 _ same1 (same_with t words1 (reg q.maps.regs G0)) in
-            store_law g linked p ip s.words top mem1 fs (k + words_in (code s t a)) (upto g.layout n m)
+            store_law g linked p ip s.words top mem1 fs (k + words_in (code s t a))
+            (upto g ow.owes (used s.words top) n m)
             (c + 200) (c + 197) G0 words1 t q (tail1.0, (tail1.1.0, (tail1.1.1.0, tt))) lt1 refl
-            (ap (λ z. is_linear (look z)) ex) (subst (IsPublic g) (sym ex) (int_public g x)) atq hq
+            (ap (λ z. is_linear (look z)) ex) (subst (IsPublic g) (sym ex) (int_public g x))
+            (λ free. (omega (arith, lt1, cnt, len), omega arith)) atq hq
             (λ h2 at2. lb (k + words_in (code s t a) + 1 + 1 + 1) (c + 197)
             (with_at words1 t (reg q.maps.regs G0)) st1 mem1
-            (λ y. operated r x y kk)
+            (λ y. operated world r x y kk)
             _ (stand_front g linked p end (k + words_in (code s t a) + 1 + 1 + 1) (code s (t + 1) b)
             _ tail1.1.1.1) cs.1 (lw ∙ cnt ∙ len) at2 h2
-            (env_same kinds IsPair rests env words _ t lo same2 e) store1
+            (env_same kinds (AtPlace f.words IsPair) rests env words _ t lo same2 e) store1
             (after_b x fx (with_at words1 t (reg q.maps.regs G0)) same2
             (get_with words1 t (reg q.maps.regs G0) lt1 ∙ ap Some ex)))
             (omega arith)

@@ -1,4 +1,5 @@
 -- The registers of an entry, as the feed has them, given what two words of them are as a pair.
+use Rattle.source_laws.specs.Seen.{words_of}
 use Rattle.std.proofs.Common.{◌≡◌, ◌≢◌, ℕ, Bool, true, false, refl}
 use Rattle.std.specs.Prelude.{◌&&◌}
 use Rattle.lcm_isa.specs.declared.Reg.{Reg}
@@ -16,7 +17,8 @@ use Rattle.trace_tool.specs.Lines.{args_of}
 use Rattle.trace_tool.specs.Pairs.{pair_of, pairs_of}
 use Rattle.trace_tool.specs.Views.{flat_view}
 use Rattle.proc_semantics.specs.declared.value.Target.{Target}
-use Rattle.proc_semantics.specs.Values.{World, registers_fed, pair_fed}
+use Rattle.source_laws.proofs.Refined.{World, registers_fed}
+use Rattle.proc_semantics.specs.Values.{pair_fed}
 use Rattle.template_runs.specs.Public.{IsShown}
 use Rattle.template_runs.proofs.Checks.{is_half}
 use Rattle.template_runs.proofs.Valid.{Valid}
@@ -34,12 +36,13 @@ module _ (world : World) (g : Link) (linked : Linked g) (Begins : Target → Par
   FedWords =
       (q : OState) (w v : OWord) → Valid g linked q → IsShown g q.frames w → IsShown g q.frames v
       → PairIs g linked Begins
-      (pair_fed world (feed_pair g.layout
+      (pair_fed world.parts (feed_pair g.layout
       (pair_of g.layout (flat g.layout q.frames w) (flat g.layout q.frames v)))) w v
 
   pub registers_are : FedWords → (q : OState) → Valid g linked q
       → ((d : Reg) → d ≢ Pc → d ≢ Dat → IsShown g q.frames (reg q.maps.regs d))
-      → RegsAre g linked Begins (registers_fed world (integers_in (args_of (flat_view g.layout q)))
+      → RegsAre g linked Begins (registers_fed world (words_of q)
+      (integers_in (args_of (flat_view g.layout q)))
       (feed_pairs g.layout (pairs_of g.layout (flat_view g.layout q)))) q
   registers_are words q v safe =
       let s0 = safe A0 (λ e. cc) (λ e. cc) in

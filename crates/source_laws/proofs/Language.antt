@@ -1,6 +1,9 @@
 -- Every body does what it means: calls, and the induction on programs.
-use Rattle.std.proofs.Common.{◌≡◌, ℕ, zero, suc, ◌+◌, ◌-◌, ◌*◌, ◌<◌, ◌≤◌, pos, List, [], ◌∷◌, ◌++◌, length}
-use Rattle.std.proofs.Common.{map, Some, refl, sym, ap, ◌∙◌, subst, arith}
+use Rattle.source_laws.proofs.Variables.{AtPlace, EnvIn, env_same, there_lt}
+use Rattle.source_laws.proofs.Refined.{Way, way, handed, of_args, World, pair_of, Comp, Registers, Then, Next}
+use Rattle.source_laws.proofs.Refined.{args, call, stmt, block, part_of, stack_of, Frame, whole}
+use Rattle.std.proofs.Common.{Option, ◌≡◌, ℕ, zero, suc, ◌+◌, ◌-◌, ◌*◌, ◌<◌, ◌≤◌, pos, List, [], ◌∷◌, ◌++◌}
+use Rattle.std.proofs.Common.{length, Some, refl, sym, ap, ◌∙◌, subst, arith}
 use Rattle.std.specs.Prelude.{slice_get, drop, replicate}
 use Rattle.cap_words.specs.declared.Word.TheVariants.{Int}
 use Rattle.lcm_isa.specs.declared.Reg.{Reg}
@@ -16,19 +19,14 @@ use Rattle.overlay_machine.specs.Link.{Link, IsTrusted}
 use Rattle.overlay_machine.specs.Linked.{Linked}
 use Rattle.trace_tool.specs.Layout.{part_name, site_of}
 use Rattle.proc_program.specs.Program as run
-use Rattle.proc_semantics.specs.Values.{World, Store, register_of, pair_of}
+use Rattle.proc_semantics.specs.Values.{Store}
 use Rattle.proc_semantics.specs.declared.value.Target.{Target}
 use Rattle.proc_semantics.specs.declared.value.Pair.{Pair}
 use Rattle.proc_program.specs.declared.program.Handle.{Handle}
 use Rattle.proc_program.specs.declared.program.Place.TheVariants.{Local, Global}
 use Rattle.proc_program.specs.Program.{Exp, Number, Element, Call, Binary, Args, no_args, value, pass, Step}
 use Rattle.proc_program.specs.Program.{Set, SetAt, Do, If, While, Return, Block, no_steps, step}
-use Rattle.proc_semantics.specs.Told.{Comp}
 use Rattle.proc_semantics.specs.declared.value.Value.{Value}
-use Rattle.proc_semantics.specs.declared.value.Register.{Register}
-use Rattle.proc_semantics.specs.Meaning.{Then, Next, args, call, stmt, block, part_of, stack_of}
-use Rattle.proc_semantics.specs.declared.value.Frame.{Frame}
-use Rattle.proc_semantics.specs.Whole.{whole}
 use Rattle.proc_templates.specs.declared.Frame.{Frame as Shape}
 use Rattle.proc_program.specs.Limits.{arg_registers}
 use Rattle.proc_templates.specs.Items.{Item, does, site as a_site}
@@ -38,7 +36,9 @@ use Rattle.source_laws.specs.Fits.{HandleFits, ExpFits, ArgsFit, StepFits, Block
 use Rattle.source_laws.specs.Fits.{AsRest}
 use Rattle.source_laws.specs.Sites.{SiteIs}
 use Rattle.source_laws.proofs.CallSites.{StepCallsAt, BlockCallsAt}
+use Rattle.template_runs.proofs.Quiet.{Owing}
 use Rattle.source_laws.proofs.Upto.{UpTo, spend, tick_up}
+use Rattle.template_runs.proofs.Clean.{used}
 use Rattle.template_runs.proofs.Steps.{At, Placed}
 use Rattle.template_runs.proofs.Rows.{Here}
 use Rattle.template_runs.proofs.Slots.{SameBelow}
@@ -46,7 +46,6 @@ use Rattle.template_runs.proofs.Calls.{SiteHere}
 use Rattle.source_laws.proofs.CallsIn.{ProcLaw}
 use Rattle.source_laws.proofs.Waiting.{WaitLaw}
 use Rattle.template_runs.proofs.Standing.{Called, Stand, stand_front, stand_back, words-append, words_in}
-use Rattle.source_laws.proofs.Variables.{EnvIn, env_same, there_lt}
 use Rattle.template_runs.proofs.Elements.{free_c1, free_c2, free_g0, free_g1, free_g2}
 use Rattle.source_laws.proofs.Evals.{Globals, LawOf, number_law, local_law, global_law, element_law}
 use Rattle.source_laws.proofs.Evals.{binary_law}
@@ -71,8 +70,9 @@ holding_kept : (ws : List OWord) (rs : List Reg) (o q : OState) → ((j : ℕ) �
 holding_kept ws rs o q ap1 others h j x e = others (argument j) (argument_spare j) (ap1 j) ∙ h j x e
 
 module _ (world : World) (g : Link) (linked : Linked g) (Begins : Target → PartSeen → ℕ → Type 0)
-    (StoreIs : Store → (ℕ → OWord) → Type 0) (RegsAre : List Register → OState → Type 0)
+    (StoreIs : Store → (ℕ → OWord) → Type 0) (RegsAre : Registers → OState → Type 0)
     (p : PartSeen) (ip : IsTrusted g p) (failing : Placed g linked p 0 Fail) (top : ℕ) (fs : List OpenFrame)
+    (ow : Owing fs)
     (f : Frame) (s : Shape) (end : ℕ)
     (kinds : List Kind) (rests : (i : ℕ) → slice_get kinds i ≡ Some AsPair
     → slice_get kinds (i + 1) ≡ Some AsRest) (globals : Globals StoreIs p f.home s.pairs)
@@ -82,8 +82,9 @@ module _ (world : World) (g : Link) (linked : Linked g) (Begins : Target → Par
     (stack_is : stack_of world f.home ≡ g.layout.stack.base)
     (site_part : (k i : ℕ) (u : SiteCode) → SiteHere g linked p k i u
     → part_name g.layout (site_of g.layout i).part ≡ part_of world f.home)
-    (passes : (vs : List Value) (ws : List OWord) (q : OState) → Passed g linked Begins vs ws → length ws ≤ 4
-    → Holding (filled g linked Begins ws) q → RegsAre (map register_of vs) q)
+    (passes : (wy : Way) (vs : List Value) (ws : List OWord) (q : OState)
+    → Passed g linked Begins vs wy.words ws
+    → length ws ≤ 4 → Holding (filled g linked Begins ws) q → RegsAre (handed world wy vs) q)
     (called : (k n : ℕ) → SiteIs p.component n k → Called g linked p end k n) where
   pub forget : (r : Pair) (x y : OWord) → IsPair g linked Begins r x y → IsCalled g linked Begins r x y
   forget r x y i = i.called
@@ -95,19 +96,20 @@ module _ (world : World) (g : Link) (linked : Linked g) (Begins : Target → Par
   Inside words mem o = Here g linked p s.words top words mem fs o
 
   abbrev Env : List Value → List OWord → Type 0
-  Env = EnvIn kinds (IsPair g linked Begins)
+  Env = EnvIn kinds (AtPlace f.words (IsPair g linked Begins))
 
   abbrev pub EvalsTo : ℕ → Exp → ℕ → Type 0
-  EvalsTo = Evals world g linked StoreIs p ip failing top fs f s end kinds (IsPair g linked Begins) rests
+  EvalsTo = Evals world g linked StoreIs p ip failing top fs ow f s end kinds (IsPair g linked Begins) rests
       globals end_in temps slots
 
   abbrev pub ArgsTo : ℕ → Args → ℕ → ℕ → Type 0
   ArgsTo n xs t i = (env : List Value)
-      → ArgsOf world g linked StoreIs p ip failing top fs f s end kinds (IsPair g linked Begins) rests globals
+      → ArgsOf world g linked StoreIs p ip failing top fs ow f s end kinds
+      (IsPair g linked Begins) rests globals
       (IsCalled g linked Begins) forget halves pairs n env xs t i
 
   abbrev pub DoesSo : ℕ → (Then → Next → Next) → (ℕ → Type 0) → List Item → Type 0
-  DoesSo = Does world g linked StoreIs p ip failing top fs f s end kinds (IsPair g linked Begins) rests
+  DoesSo = Does world g linked StoreIs p ip failing top fs ow f s end kinds (IsPair g linked Begins) rests
       globals end_in temps slots
 
   -- what calls rest on: the laws for fewer steps
@@ -139,7 +141,7 @@ module _ (world : World) (g : Link) (linked : Linked g) (Begins : Target → Par
   BlockThere = BlockFits kinds s.words s.temps globals.count pairs.imported pairs.owned pairs.shared
 
   handles_fit : (t i : ℕ) (xs : Args) → ArgsThere t i xs
-      → HandlesFit world g linked StoreIs p ip failing top fs f s end kinds (IsPair g linked Begins) rests
+      → HandlesFit world g linked StoreIs p ip failing top fs ow f s end kinds (IsPair g linked Begins) rests
       globals (IsCalled g linked Begins) forget halves pairs xs
   handles_fit t i no_args h = tt
   handles_fit t i (value e xs) h = handles_fit t (i + 1) xs h.2
@@ -148,12 +150,12 @@ module _ (world : World) (g : Link) (linked : Linked g) (Begins : Target → Par
   local_room : (i : ℕ) → slice_get kinds i ≡ Some AsNumber → i + 2 < s.words
   local_room i ki = let lt = there_lt kinds i AsNumber ki in omega (arith, lt, temps, slots)
 
-  passed : (vs : List Value) (ws : List OWord)
-      → ValuesAre world g linked StoreIs p ip failing top fs f s end kinds (IsPair g linked Begins) rests
-      globals (IsCalled g linked Begins) forget halves pairs vs ws → Passed g linked Begins vs ws
-  passed _ _ no_values = no_more
-  passed _ _ (number_too v {vs} {ws} fit h) = one_more v fit (passed vs ws h)
-  passed _ _ (pair_too r x y {vs} {ws} i h) = two_more r x y i (passed vs ws h)
+  passed : (vs : List Value) (ms : List (Option OWord)) (ws : List OWord)
+      → ValuesAre world g linked StoreIs p ip failing top fs ow f s end kinds (IsPair g linked Begins) rests
+      globals (IsCalled g linked Begins) forget halves pairs vs ms ws → Passed g linked Begins vs ms ws
+  passed _ _ _ no_values = no_more
+  passed _ _ _ (number_too v {vs} {ms} {ws} fit h) = one_more v fit (passed vs ms ws h)
+  passed _ _ _ (pair_too r x y {vs} {ms} {ws} i h) = two_more r x y i (passed vs ms ws h)
 
   -- ---- a call with its arguments
 
@@ -178,17 +180,18 @@ module _ (world : World) (g : Link) (linked : Linked g) (Begins : Target → Par
     abbrev L5 : List Item
     L5 = a_site ∷ does (Plus G0 A0 (Imm (pos 0))) ∷ []
 
-    call_row : LawOf world g linked StoreIs p ip failing top fs f s end kinds (IsPair g linked Begins) rests
+    call_row : LawOf world g linked StoreIs p ip failing top fs ow f s end kinds
+        (IsPair g linked Begins) rests
         globals n env (Call site hd xs) (code s t (Call site hd xs)) t
     call_row k c words st mem kk o code1 cs len at h en store u =
-        tick_up g.layout n c o (args world (whole world) f env xs kx st)
-        (spend g.layout n (c + 150 + 3 * arg_registers xs) (c + 200) o
+        tick_up g n c o (args world (whole world) f env xs kx st)
+        (spend g n (c + 150 + 3 * arg_registers xs) (c + 200) o
         (args world (whole world) f env xs kx st) (omega (arith, few))
         (lx env k (c + 150) words st mem kx o (stand_front g linked p end k Pre _ code1) cs.0 len at h en
         store after_args))
       where
         kx : List Value → Store → Comp
-        kx vs = call world (whole world) f site (pair_of world f.home env hd) vs kk
+        kx vs = call world (whole world) f site (way world f hd xs) (pair_of world f.home env hd) vs kk
 
         s0 : Stand g linked p end (k + words_in Pre) (L1 ++ (L2 ++ (L3 ++ (L4 ++ L5))))
         s0 = stand_back g linked p end k Pre _ code1
@@ -213,25 +216,28 @@ module _ (world : World) (g : Link) (linked : Linked g) (Begins : Target → Par
 
         after_args : (vs : List Value) (st2 : Store) (mem2 : ℕ → OWord) (words2 : List OWord) (q : OState)
             → At g linked p (k + words_in Pre) q → Inside words2 mem2 q → SameBelow (t + 0) words words2
-            → ArgsIn world g linked StoreIs p ip failing top fs f s end kinds (IsPair g linked Begins) rests
+            → ArgsIn world g linked StoreIs p ip failing top fs ow f s end kinds
+            (IsPair g linked Begins) rests
             globals (IsCalled g linked Begins) forget halves pairs env xs vs (t + 0) words2
-            → StoreIs st2 mem2 → UpTo g.layout n (c + 150) q (kx vs st2)
+            → StoreIs st2 mem2 → UpTo g ow.owes (used s.words top) n (c + 150) q (kx vs st2)
         after_args vs st2 mem2 words2 q at1 h1 same is store2 =
             let k1 = k + words_in Pre in
             let m : Comp = kx vs st2 in
             let cnt = same.count in
             let en2 : Env env words2 =
-            env_same kinds (IsPair g linked Begins) rests env words words2 (t + 0) (omega (arith, lo))
+            env_same kinds (AtPlace f.words (IsPair g linked Begins)) rests env words words2 (t + 0)
+            (omega (arith, lo))
             same en in
             let k2 = k1 + words_in L1 in
             let k3 = k2 + words_in L2 in
             let k4 = k3 + words_in L3 in
-            load_args_law world g linked StoreIs p ip failing top fs f s end kinds (IsPair g linked Begins)
+            load_args_law world g linked StoreIs p ip failing top fs ow f s end kinds (IsPair g linked Begins)
             rests globals (IsCalled g linked Begins) forget halves pairs n m words2 mem2 st2 env store2
             en2 (cnt ∙ len) xs vs t 0 k1 (c + 150) (c + 100) [] q (handles_fit t 0 xs fits)
             (omega (arith, few)) refl is (stand_front g linked p end k1 L1 _ s0) at1 h1
             (λ j x e. cc) (λ ws q1 vals lw h2 at2 hold1.
-            zeros_law world g linked StoreIs p ip failing top fs f s end kinds (IsPair g linked Begins) rests
+            zeros_law world g linked StoreIs p ip failing top fs ow f s end kinds
+            (IsPair g linked Begins) rests
             globals (IsCalled g linked Begins) forget halves pairs n (arg_registers xs) (c + 100) (c + 90)
             m words2 mem2 (drop (arg_registers xs) arguments) k2 ws q1 refl lw few
             (stand_front g linked p end k2 L2 _ s1) at2 h2 hold1 (λ zs q2 zis h3 at3 hold2.
@@ -239,20 +245,24 @@ module _ (world : World) (g : Link) (linked : Linked g) (Begins : Target → Par
             ∙ ap (λ y. replicate (4 - y) (Plain (Int (pos 0)))) (sym lw) in
             let hold3 : Holding (filled g linked Begins ws) q2 =
             subst (λ y. Holding (ws ++ y) q2) full hold2 in
-            pair_law world g linked StoreIs p ip failing top fs f s end kinds (IsPair g linked Begins) rests
+            pair_law world g linked StoreIs p ip failing top fs ow f s end kinds
+            (IsPair g linked Begins) rests
             globals (IsCalled g linked Begins) forget halves pairs n (c + 90) (c + 80) m words2 mem2 st2
             env store2 en2 (cnt ∙ len) hd k3 C1 C2 q2 fit
             (λ e. cc) (free_c1 g linked) (free_c2 g linked) ((λ e. cc), (λ e. cc), (λ e. cc))
             ((λ e. cc), (λ e. cc), (λ e. cc))
             (stand_front g linked p end k3 L3 _ s2) at3 h3 (λ x y q3 pr h4 at4 e1 e2 o3.
-            zero_law world g linked StoreIs p ip failing top fs f s end kinds (IsPair g linked Begins) rests
+            zero_law world g linked StoreIs p ip failing top fs ow f s end kinds
+            (IsPair g linked Begins) rests
             globals (IsCalled g linked Begins) forget halves pairs n (c + 80) (c + 79) m words2 mem2 k4 G0
             q3 (free_g0 g linked) ((λ e. cc), (λ e. cc), (λ e. cc)) s3.0 at4 h4 (λ q4 h5 at5 z0 o4.
-            zero_law world g linked StoreIs p ip failing top fs f s end kinds (IsPair g linked Begins) rests
+            zero_law world g linked StoreIs p ip failing top fs ow f s end kinds
+            (IsPair g linked Begins) rests
             globals (IsCalled g linked Begins) forget halves pairs n (c + 79) (c + 78) m words2 mem2
             (k4 + 1) G1 q4 (free_g1 g linked) ((λ e. cc), (λ e. cc), (λ e. cc)) s3.1.0 at5 h5
             (λ q5 h6 at6 z1 o5.
-            zero_law world g linked StoreIs p ip failing top fs f s end kinds (IsPair g linked Begins) rests
+            zero_law world g linked StoreIs p ip failing top fs ow f s end kinds
+            (IsPair g linked Begins) rests
             globals (IsCalled g linked Begins) forget halves pairs n (c + 78) (c + 77) m words2 mem2
             (k4 + 1 + 1) G2 q5 (free_g2 g linked) ((λ e. cc), (λ e. cc), (λ e. cc)) s3.1.1.0 at6 h6
             (λ q6 h7 at7 z2 o6.
@@ -274,10 +284,11 @@ module _ (world : World) (g : Link) (linked : Linked g) (Begins : Target → Par
             let c2 : q6.maps.regs.c2 ≡ y = o6 C2 ((λ e. cc), (λ e. cc), (λ e. cc)) ((λ e. cc), tt)
             ∙ o5 C2 ((λ e. cc), (λ e. cc), (λ e. cc)) ((λ e. cc), tt)
             ∙ o4 C2 ((λ e. cc), (λ e. cc), (λ e. cc)) ((λ e. cc), tt) ∙ e2 in
-            call_law g linked Begins world StoreIs RegsAre p s.words top fs f need_is left_is stack_is
+            call_law g linked Begins world StoreIs RegsAre p s.words top fs ow f need_is left_is stack_is
             site_part passes n (c + 77) c site kk st2 words2 mem2 q6 h7 (k4 + 1 + 1 + 1) end at7
-            (called _ site cs.1) store2 below.procs below.waits (pair_of world f.home env hd) x y c1 c2 pr
-            vs ws (passed vs ws vals) (omega (arith, lw, few)) a6
+            (called _ site cs.1) store2 below.procs below.waits (pair_of world f.home env hd) x y c1 c2 pr.0
+            vs ws (way world f hd xs) pr.1 pr.2 (passed vs (of_args world f xs) ws vals)
+            (omega (arith, lw, few)) a6
             (record {
               g0 = o6 G0 ((λ e. cc), (λ e. cc), (λ e. cc)) ((λ e. cc), tt)
                   ∙ o5 G0 ((λ e. cc), (λ e. cc), (λ e. cc)) ((λ e. cc), tt) ∙ z0;
@@ -295,36 +306,36 @@ module _ (world : World) (g : Link) (linked : Linked g) (Begins : Target → Par
   mutual
     pub evals : (e : Exp) (t : ℕ) → 2 + length kinds ≤ t → ExpThere t e → (n : ℕ) → Below n → EvalsTo n e t
     evals (Number v) t lo fit n below env =
-        number_law world g linked StoreIs p ip failing top fs f s end kinds (IsPair g linked Begins) rests
+        number_law world g linked StoreIs p ip failing top fs ow f s end kinds (IsPair g linked Begins) rests
         globals n env v t fit
     evals (run.Load (Local i)) t lo fit n below env =
-        local_law world g linked StoreIs p ip failing top fs f s end kinds (IsPair g linked Begins) rests
+        local_law world g linked StoreIs p ip failing top fs ow f s end kinds (IsPair g linked Begins) rests
         globals n env i t fit (local_room i fit)
     evals (run.Load (Global d)) t lo fit n below env =
-        global_law world g linked StoreIs p ip failing top fs f s end kinds (IsPair g linked Begins) rests
+        global_law world g linked StoreIs p ip failing top fs ow f s end kinds (IsPair g linked Begins) rests
         globals n env d t fit
     evals (Element a e) t lo fit n below env =
-        element_law world g linked StoreIs p ip failing top fs f s end kinds (IsPair g linked Begins) rests
+        element_law world g linked StoreIs p ip failing top fs ow f s end kinds (IsPair g linked Begins) rests
         globals n env a e t fit.0 (evals e t lo fit.1 n below env)
     evals (Call site h xs) t lo fit n below env =
         call_row n site h xs t env lo fit.0 fit.1 fit.2 (arguments_law xs t 0 lo fit.2 n below) below
     evals (Binary r a b) t lo fit n below env =
-        binary_law world g linked StoreIs p ip failing top fs f s end kinds (IsPair g linked Begins) rests
+        binary_law world g linked StoreIs p ip failing top fs ow f s end kinds (IsPair g linked Begins) rests
         globals n env r a b t lo fit.0 (evals a t lo fit.1 n below env)
         (evals b (t + 1) (omega (arith, lo)) fit.2 n below env)
 
     pub arguments_law : (xs : Args) (t i : ℕ) → 2 + length kinds ≤ t → ArgsThere t i xs → (n : ℕ) → Below n
         → ArgsTo n xs t i
     arguments_law no_args t i lo fit n below env =
-        no_args_law world g linked StoreIs p ip failing top fs f s end kinds (IsPair g linked Begins) rests
+        no_args_law world g linked StoreIs p ip failing top fs ow f s end kinds (IsPair g linked Begins) rests
         globals (IsCalled g linked Begins) forget halves pairs n env t lo i
     arguments_law (value e xs) t i lo fit n below env =
-        value_law world g linked StoreIs p ip failing top fs f s end kinds (IsPair g linked Begins) rests
+        value_law world g linked StoreIs p ip failing top fs ow f s end kinds (IsPair g linked Begins) rests
         globals (IsCalled g linked Begins) forget halves pairs n env t lo e xs i fit.0
         (evals e (t + i) (omega (arith, lo)) fit.1 n below env)
         (arguments_law xs t (i + 1) lo fit.2 n below env)
     arguments_law (pass h xs) t i lo fit n below env =
-        pass_law world g linked StoreIs p ip failing top fs f s end kinds (IsPair g linked Begins) rests
+        pass_law world g linked StoreIs p ip failing top fs ow f s end kinds (IsPair g linked Begins) rests
         globals (IsCalled g linked Begins) forget halves pairs n env t lo h xs i
         (arguments_law xs t (i + 2) lo fit.1 n below env)
 
@@ -332,38 +343,42 @@ module _ (world : World) (g : Link) (linked : Linked g) (Begins : Target → Par
     pub does_step : (a : Step) → StepThere a → (n : ℕ) → Below n
         → DoesSo n (stmt world (whole world) f a) (λ k. StepCallsAt p.component s k a) (step_code s a)
     does_step (Set (Local i) e) fit n below =
-        set_local_law world g linked StoreIs p ip failing top fs f s end kinds (IsPair g linked Begins) rests
+        set_local_law world g linked StoreIs p ip failing top fs ow f s end kinds
+        (IsPair g linked Begins) rests
         globals end_in temps slots n i e fit.0 (evals e s.temps temps fit.1 n below)
     does_step (Set (Global d) e) fit n below =
-        set_global_law world g linked StoreIs p ip failing top fs f s end kinds (IsPair g linked Begins) rests
+        set_global_law world g linked StoreIs p ip failing top fs ow f s end kinds
+        (IsPair g linked Begins) rests
         globals end_in temps slots n d e fit.0 (evals e s.temps temps fit.1 n below)
     does_step (SetAt a i e) fit n below =
-        set_at_law world g linked StoreIs p ip failing top fs f s end kinds (IsPair g linked Begins) rests
+        set_at_law world g linked StoreIs p ip failing top fs ow f s end kinds (IsPair g linked Begins) rests
         globals end_in temps slots n a i e fit.0 fit.1 (evals i s.temps temps fit.2 n below)
         (evals e (s.temps + 1) (omega (arith, temps)) fit.3 n below)
     does_step (Do e) fit n below =
-        do_law world g linked StoreIs p ip failing top fs f s end kinds (IsPair g linked Begins) rests globals
+        do_law world g linked StoreIs p ip failing top fs ow f s end kinds
+        (IsPair g linked Begins) rests globals
         end_in temps slots n e (evals e s.temps temps fit n below)
     does_step (If e a b) fit n below =
-        if_law world g linked StoreIs p ip failing top fs f s end kinds (IsPair g linked Begins) rests globals
+        if_law world g linked StoreIs p ip failing top fs ow f s end kinds
+        (IsPair g linked Begins) rests globals
         end_in temps slots n e a b (evals e s.temps temps fit.0 n below) (does_block a fit.1 n below)
         (does_block b fit.2 n below)
     does_step (While e b) fit n below =
-        while_law world g linked StoreIs p ip failing top fs f s end kinds (IsPair g linked Begins) rests
+        while_law world g linked StoreIs p ip failing top fs ow f s end kinds (IsPair g linked Begins) rests
         globals end_in temps slots e b n (λ m le. evals e s.temps temps fit.0 m (less n m le below))
         (λ m le. does_block b fit.1 m (less n m le below))
     does_step (Return e) fit n below =
-        return_law world g linked StoreIs p ip failing top fs f s end kinds (IsPair g linked Begins) rests
+        return_law world g linked StoreIs p ip failing top fs ow f s end kinds (IsPair g linked Begins) rests
         globals end_in temps slots n e (evals e s.temps temps fit n below)
     does_step (run.Halt e) fit n below =
-        halt_law world g linked StoreIs p ip failing top fs f s end kinds (IsPair g linked Begins) rests
+        halt_law world g linked StoreIs p ip failing top fs ow f s end kinds (IsPair g linked Begins) rests
         globals end_in temps slots n e (evals e s.temps temps fit n below)
 
     pub does_block : (b : Block) → BlockThere b → (n : ℕ) → Below n
         → DoesSo n (block world (whole world) f b) (λ k. BlockCallsAt p.component s k b) (block_code s b)
     does_block no_steps fit n below =
-        none_law world g linked StoreIs p ip failing top fs f s end kinds (IsPair g linked Begins) rests
+        none_law world g linked StoreIs p ip failing top fs ow f s end kinds (IsPair g linked Begins) rests
         globals end_in temps slots n
     does_block (step a b) fit n below =
-        step_law world g linked StoreIs p ip failing top fs f s end kinds (IsPair g linked Begins) rests
+        step_law world g linked StoreIs p ip failing top fs ow f s end kinds (IsPair g linked Begins) rests
         globals end_in temps slots n a b (does_step a fit.0 n below) (does_block b fit.1 n below)

@@ -1,4 +1,7 @@
-pub mod Rules
+pub mod Refined
+pub mod Follows
+pub mod Forgets
+pub mod Agreeing
 pub mod Upto
 pub mod Sum
 pub mod Handed
@@ -26,3 +29,7 @@ pub mod Procedures
 pub mod Compiled
 pub mod Feeds
 pub mod StandIn
+pub mod Secrets
+pub mod Alike
+pub mod Wipes
+pub mod Wiped

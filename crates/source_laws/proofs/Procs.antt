@@ -1,4 +1,9 @@
 -- A procedure, from its entry to the `xjmp` that ends it, given its checks and its body.
+use Rattle.source_laws.proofs.Refined.{Frame, taken_marks, wipes, World, proc_at, Comp, ends, ticks}
+use Rattle.source_laws.proofs.Refined.{Registers, Then, with_place, block, begin, body_of, finish, proc_of}
+use Rattle.source_laws.proofs.Refined.{whole, recursive}
+use Rattle.source_laws.proofs.Upto.{wipes_up, upto, failing, UpTo, ticks_up, as_live, MaySet, stack_top}
+use Rattle.source_laws.proofs.Upto.{end_of as stack_end, is_lower}
 use Rattle.std.proofs.Common.{◌≡◌, ◌≢◌, ℕ, ◌+◌, ◌-◌, ◌*◌, ◌<◌, ◌≤◌, ℤ, pos, List, [], ◌∷◌, ◌++◌, length}
 use Rattle.std.proofs.Common.{replicate, Option, Some, None, Bool, true, false, refl, sym, ap, ◌∙◌, subst}
 use Rattle.std.proofs.Common.{arith}
@@ -9,8 +14,8 @@ use Rattle.cap_words.specs.declared.Word.TheVariants.{Int, Mem}
 use Rattle.cap_words.specs.declared.CapFields.{CapFields}
 use Rattle.cap_words.specs.Linear.{zero_word}
 use Rattle.lcm_isa.specs.declared.Reg.{Reg}
-use Rattle.lcm_isa.specs.declared.Reg.TheVariants.{Pc, Rcode, Rdata, Stk, Dat, T1, T2, C1, C2, A0, A1, A2}
-use Rattle.lcm_isa.specs.declared.Reg.TheVariants.{A3, G0, G1, G2}
+use Rattle.lcm_isa.specs.declared.Reg.TheVariants.{Pc, Rcode, Rdata, Stk, Dat, T1, T2, C1, C2, A0, A1, A2, A3}
+use Rattle.lcm_isa.specs.declared.Reg.TheVariants.{G0, G1, G2}
 use Rattle.lcm_machine.specs.Places.{reg}
 use Rattle.lcm_machine.specs.Table.{fits_64}
 use Rattle.flow_check.specs.Holds.{stack_cap}
@@ -27,19 +32,18 @@ use Rattle.overlay_machine.specs.Safe.{IsSafe}
 use Rattle.overlay_machine.proofs.OwnStack.{own_is}
 use Rattle.overlay_machine.proofs.invariant.Facts.{safe_stk, mem_safe}
 use Rattle.proc_program.specs.StepView.{block_of}
-use Rattle.proc_semantics.specs.Values.{World, Store, proc_at, taken}
+use Rattle.proc_semantics.specs.Values.{Store, taken}
 use Rattle.proc_semantics.specs.declared.value.Target.{Target}
 use Rattle.proc_program.specs.declared.program.Procedure.{Procedure}
-use Rattle.proc_semantics.specs.Told.{Comp, ends, ticks}
 use Rattle.source_events.specs.declared.End.TheVariants.{Fail as Fails}
 use Rattle.proc_semantics.specs.declared.value.Value.{Value}
 use Rattle.proc_semantics.specs.declared.value.Value.TheVariants.{Num}
-use Rattle.proc_semantics.specs.declared.value.Register.{Register}
-use Rattle.proc_semantics.specs.Meaning.{Then, with_place, block, begin, body_of, finish, proc_of}
-use Rattle.proc_semantics.specs.Whole.{whole}
-use Rattle.proc_semantics.proofs.Recursive.{recursive}
-use Rattle.source_laws.proofs.Upto.{upto, failing, UpTo, ticks_up}
-use Rattle.template_runs.proofs.Steps.{At, Code}
+use Rattle.lcm_machine.specs.Cells.{cell}
+use Rattle.template_runs.proofs.Clean.{untold, ended, clean_begins, clean_ends, used}
+use Rattle.template_runs.proofs.Quiet.{Owing}
+use Rattle.template_runs.proofs.Steps.{At, Code, inside_here}
+use Rattle.proc_semantics.specs.Marked.{lower}
+use Rattle.source_laws.specs.Seen.{Back}
 use Rattle.template_runs.proofs.Rows.{Here}
 use Rattle.template_runs.proofs.Entering.{entry_safe, prologue_fails}
 use Rattle.template_runs.proofs.Valid.{zero_public, mem_public}
@@ -49,8 +53,8 @@ use Rattle.source_laws.proofs.CallsIn.{EntryPublic, int_public, AtEnd, ProcLaw, 
 use Rattle.template_runs.specs.Public.{IsShown}
 
 module _ (world : World) (g : Link) (linked : Linked g) (Begins : Target → PartSeen → ℕ → Type 0)
-    (StoreIs : Store → (ℕ → OWord) → Type 0) (RegsAre : List Register → OState → Type 0)
-    (EnvIs : Procedure → OState → List Value → List OWord → Type 0) where
+    (StoreIs : Store → (ℕ → OWord) → Type 0) (RegsAre : Registers → OState → Type 0)
+    (EnvIs : Procedure → List (Option OWord) → List Value → List OWord → Type 0) where
   -- the same words in the registers of arguments
   pub record ArgsKept (o q : OState) : Type 0 where
     pub a0 : q.maps.regs.a0 ≡ o.maps.regs.a0
@@ -70,43 +74,47 @@ module _ (world : World) (g : Link) (linked : Linked g) (Begins : Target → Par
     pub small : checks ≤ 100 + what.need * 50
     pub slots : length regs + 2 ≡ what.need
     -- the checks fail, or go on to the prologue with the parameters' words in the registers, and 0 in t1
-    pub checked : (top c b : ℕ) (mem : ℕ → OWord) (rs : List Register) (o q : OState) (m : Comp)
+    pub checked : (top c b : ℕ) (mem : ℕ → OWord) (rs : Registers) (o q : OState) (ow : Owing o.frames)
+        (m : Comp)
         → IsTrusted g p → RegsAre rs o → EntryPublic world g linked Begins StoreIs RegsAre o
         → Here g linked p 0 top [] mem o.frames q → At g linked p (e + 20) q
         → q.maps.regs.rcode ≡ o.maps.regs.rcode → q.maps.regs.rdata ≡ o.maps.regs.rdata
         → ArgsKept o q → q.maps.regs.t1 ≡ zero_word Plain
-        → (taken [] what.callbacks rs ≡ None → checks ≤ c → UpTo g.layout n c q (ends Fails))
-        × ((env : List Value) → taken [] what.callbacks rs ≡ Some env → checks + b ≤ c
+        → (taken [] what.callbacks rs.registers ≡ None → checks ≤ c
+        → UpTo g ow.owes (used what.need top) n c q (ends Fails))
+        × ((env : List Value) → taken [] what.callbacks rs.registers ≡ Some env → checks + b ≤ c
         → ((ws : List OWord) (r : OState) (ip : IsTrusted g p) → length ws ≡ length regs
-        → EnvIs what o (env ++ replicate what.locals (Num (pos 0))) ws
+        → EnvIs what (taken_marks what.callbacks rs.words) (env ++ replicate what.locals (Num (pos 0))) ws
         → Here g linked p 0 top [] mem o.frames r → At g linked p (e + 20 + checks) r
         → Reads g linked p ip top mem o.frames r.maps.regs (Rcode ∷ Rdata ∷ regs)
-        (o.maps.regs.rcode ∷ o.maps.regs.rdata ∷ ws) → UpTo g.layout n b r m)
-        → UpTo g.layout n c q m)
+        (o.maps.regs.rcode ∷ o.maps.regs.rdata ∷ ws) → UpTo g ow.owes (used what.need top) n b r m)
+        → UpTo g ow.owes (used what.need top) n c q m)
     pub begins : (ip : IsTrusted g p) (top : ℕ) (mem : ℕ → OWord) (fs : List OpenFrame)
         → Code g linked p (e + 20 + checks) (prologue g linked p ip top mem fs (Rcode ∷ Rdata ∷ regs))
     pub body_at : e + 20 + checks + 2 * what.need ≡ body
     -- the body, with its return and with its end, comes to the epilogue
-    pub does : (top c : ℕ) (mem : ℕ → OWord) (fs : List OpenFrame) (rc rd : OWord) (ws : List OWord)
-        (env : List Value) (st : Store) (o q : OState) (back : Then) → o.frames ≡ fs
+    pub does : (top c : ℕ) (mem : ℕ → OWord) (fs : List OpenFrame) (ow : Owing fs) (rc rd : OWord)
+        (ws : List OWord)
+        (env : List Value) (ms : List (Option OWord)) (st : Store) (o q : OState) (back : Then)
+        → o.frames ≡ fs
         → Here g linked p what.need top (rc ∷ rd ∷ ws) mem fs q → length ws ≡ length regs
-        → At g linked p body q → EnvIs what o env ws → StoreIs st mem
+        → At g linked p body q → EnvIs what ms env ws → StoreIs st mem
         → ((v : ℤ) (st' : Store) (mem' : ℕ → OWord) (ws' : List OWord) (r : OState)
         → Here g linked p what.need top (rc ∷ rd ∷ ws') mem' fs r → length ws' ≡ length regs
         → At g linked p end r → r.maps.regs.a0 ≡ Plain (Int v) → fits_64 v ≡ true → StoreIs st' mem'
-        → UpTo g.layout n c r (back v st'))
-        → UpTo g.layout n (1 + c) q
+        → UpTo g ow.owes (used what.need top) n c r (back v st'))
+        → UpTo g ow.owes (used what.need top) n (1 + c) q
         (block world (whole world)
-        (record { home = t.home; left = top + 1 - g.layout.stack.base; need = what.need })
+        (record { home = t.home; left = top + 1 - g.layout.stack.base; need = what.need; words = ms })
         (block_of what.body) back (λ x. back (pos 0)) env st)
     pub ends_by : (ip : IsTrusted g p) (top : ℕ) (mem : ℕ → OWord) (fs : List OpenFrame)
         → Code g linked p end (epilogue g linked p ip top mem fs (length regs))
 
   pub proc_law : (n : ℕ) → ((t : Target) (p : PartSeen) (e : ℕ) → Begins t p e → Proc n t p e)
       → ProcLaw world g linked Begins StoreIs RegsAre n
-  proc_law n all t p e c k rs st mem o begins v at dat safe public globs store regs cont =
-      subst (UpTo g.layout n c o) (sym first)
-      (ticks_up g.layout (1 + x.what.need) n c o _ (by_own (own_stack g.layout o.maps) refl))
+  proc_law n all t p e c k rs st mem o ow begins v at dat safe public globs store regs cont =
+      subst (UpTo g ow.owes (untold 0 (stack_top g o)) n c o) (sym first)
+      (ticks_up g (1 + x.what.need) n c o _ (by_own (own_stack g.layout o.maps) refl))
     where
       x : Proc n t p e
       x = all t p e begins
@@ -127,28 +135,54 @@ module _ (world : World) (g : Link) (linked : Linked g) (Begins : Target → Par
       some_safe : (d : Reg) → d ≢ Pc → d ≢ Dat → IsSafe g o.frames (reg o.maps.regs d)
       some_safe = entry_safe g linked p e o v at x.entry
 
+      -- a slot's cell may be set
+      may_set : (cap : CapFields) (j : ℕ) → j < x.what.need
+          → MaySet g (used x.what.need cap.end) (cap.end - j)
+      may_set cap j lt free = (omega (arith, lt), omega arith)
+
       -- at the epilogue
       at_epilogue : (cap : CapFields) → own_stack g.layout o.maps ≡ Some cap
           → (b : ℕ) (val : ℤ) (st' : Store) (mem' : ℕ → OWord) (ws' : List OWord) (r : OState)
           → Here g linked p x.what.need cap.end (o.maps.regs.rcode ∷ o.maps.regs.rdata ∷ ws') mem' o.frames r
           → length ws' ≡ length x.regs
           → At g linked p x.end r → r.maps.regs.a0 ≡ Plain (Int val) → fits_64 val ≡ true → StoreIs st' mem'
-          → UpTo g.layout n (c + (1 + x.what.need) * 200) r (k val st')
+          → UpTo g ow.owes (used x.what.need cap.end) n (c + (1 + x.what.need) * 200) r (k val st')
       at_epilogue cap own b val st' mem' ws' r h len atr a0 fit store' =
           let sl = x.slots in
           let two : x.what.need ≡ 2 + length ws' = omega (arith, sl, len) in
           let code = subst (λ j. Code g linked p x.end (epilogue g linked p ip cap.end mem' o.frames j))
           (sym len) (x.ends_by ip cap.end mem' o.frames) in
           epilogue_law g linked p ip cap.end mem' o.frames o.maps.regs.rcode o.maps.regs.rdata ws' x.end
-          (upto g.layout n (k val st')) (c + (1 + x.what.need) * 200) (c + 100) r code atr
+          (upto g ow.owes (used x.what.need cap.end) n (k val st')) (c + (1 + x.what.need) * 200)
+          (c + 100) r code atr
           (subst (λ w. Here g linked p w cap.end (o.maps.regs.rcode ∷ o.maps.regs.rdata ∷ ws') mem'
           o.frames r) two h)
-          (λ q kx l. cont val st' mem' q (at_end cap own val mem' r q kx l a0 fit) store')
+          (λ i lt. may_set cap i (omega (arith, sl, len, lt)))
+          (λ q kx l.
+          let a = at_end cap own val mem' r q kx l a0 fit in
+          let room = h.low in
+          as_live g (used x.what.need cap.end) (ended cap.end) n (c + 100) q (k val st')
+          (λ b low z. clean_ends g b low x.what.need cap.end q (omega (arith, sl)) room
+          (λ a w lo hi there. wipes a w q (λ j lt. l.wiped j (omega (arith, sl, len, lt))) lo hi there) z)
+          (subst (λ z. UpTo g ow.owes (ended z) n (c + 100) q (k val st')) (sym (a.own cap own))
+          (cont val st' mem' q a store')))
           (omega (arith, sl, len))
         where
+          wipes : (a : ℕ) (w : OWord) (q : OState)
+              → ((j : ℕ) → j < x.what.need → cell q.maps.cells (cap.end - j) ≡ Some (Plain (Int (pos 0))))
+              → cap.end < a + x.what.need → a ≤ cap.end → cell q.maps.cells a ≡ Some w → w
+              ≡ Plain (Int (pos 0))
+          wipes a w q z lo hi there =
+              let at : cap.end - (cap.end - a) ≡ a = omega (arith, hi) in
+              let e : Some (Plain (Int (pos 0))) ≡ Some w =
+              sym (z (cap.end - a) (omega (arith, lo, hi))) ∙ ap (cell q.maps.cells) at ∙ there in
+              let k : w ≡ Plain (Int (pos 0)) = cc in
+              k
+
           at_end : (cap : CapFields) → own_stack g.layout o.maps ≡ Some cap
               → (val : ℤ) (mem' : ℕ → OWord) (r q : OState) (kx : ℕ)
-              → Left g linked p ip cap.end mem' o.frames r q kx o.maps.regs.rcode o.maps.regs.rdata
+              → Left g linked p ip cap.end mem' o.frames r q kx (2 + length ws') o.maps.regs.rcode
+              o.maps.regs.rdata
               → r.maps.regs.a0 ≡ Plain (Int val) → fits_64 val ≡ true
               → AtEnd world g linked Begins StoreIs RegsAre p o q val mem'
           at_end cap own val mem' r q kx l a0 fit =
@@ -169,7 +203,9 @@ module _ (world : World) (g : Link) (linked : Linked g) (Begins : Target → Par
                 a1 = l.clean A1 (λ q. cc) (λ q. cc) (λ q. cc) (λ q. cc) (λ q. cc) (λ q. cc);
                 a2 = l.clean A2 (λ q. cc) (λ q. cc) (λ q. cc) (λ q. cc) (λ q. cc) (λ q. cc);
                 a3 = l.clean A3 (λ q. cc) (λ q. cc) (λ q. cc) (λ q. cc) (λ q. cc) (λ q. cc);
+                clean = l.clean;
                 top = cap.end;
+                within = h.high;
                 stk = h.stk ∙ ap (λ y. Mem (stack_cap (ranges_of p) cap.end y)) z;
                 own = λ y e. (let s : Some y ≡ Some cap = sym e ∙ own in
                     ap (λ (o : Option CapFields). end_of cap o) s);
@@ -246,15 +282,24 @@ module _ (world : World) (g : Link) (linked : Linked g) (Begins : Target → Par
                   subst (IsShown g o.frames) (sym (cl G2 np nd (λ q. cc) (λ q. cc) (λ q. cc) (λ q. cc)))
                   (tt, zero_public g)
 
+      -- the frame of a body
+      frame_with : ℕ → Frame
+      frame_with left = record {
+        home = t.home;
+        left = left;
+        need = x.what.need;
+        words = taken_marks x.what.callbacks rs.words;
+      }
+
       -- behind the entry
       after_entry : (cap : CapFields) → own_stack g.layout o.maps ≡ Some cap → (q : OState)
           → Here g linked p 0 cap.end [] mem o.frames q → At g linked p (e + 20) q
           → q.maps.regs.rcode ≡ o.maps.regs.rcode → q.maps.regs.rdata ≡ o.maps.regs.rdata → ArgsKept o q
           → q.maps.regs.t1 ≡ zero_word Plain
-          → UpTo g.layout n (c + x.what.need * 200 + 180) q
+          → UpTo g ow.owes (untold 0 cap.end) n (c + x.what.need * 200 + 180) q
           (begin world (whole world) t.home x.what (Some (cap.end + 1 - g.layout.stack.base)) rs k st)
       after_entry cap own q h20 at20 rce rde same t1 =
-          by_taken (taken [] x.what.callbacks rs) refl
+          by_taken (taken [] x.what.callbacks rs.registers) refl
           (nat_lt (cap.end + 1 - g.layout.stack.base) x.what.need) refl
         where
           sl : length x.regs + 2 ≡ x.what.need
@@ -263,19 +308,36 @@ module _ (world : World) (g : Link) (linked : Linked g) (Begins : Target → Par
           sm : x.checks ≤ 100 + x.what.need * 50
           sm = x.small
 
-          by_taken : (a : Option (List Value)) → taken [] x.what.callbacks rs ≡ a → (short : Bool)
+          J : ℕ
+          J = cap.end + 1 - g.layout.stack.base - x.what.need
+
+          -- its slots are live from here on
+          begun : (m : Comp) → UpTo g ow.owes (used x.what.need cap.end) n (c + x.what.need * 200 + 180) q m
+              → UpTo g ow.owes (untold 0 cap.end) n (c + x.what.need * 200 + 180) q (wipes J m)
+          begun m u =
+              wipes_up g J n (c + x.what.need * 200 + 180) q m (inside_here g linked p (e + 20) q at20)
+              (λ b low h. clean_begins g b low x.what.need cap.end J (lower OWord Back low J) q
+              (is_lower low J) refl h)
+              u
+
+          by_taken : (a : Option (List Value)) → taken [] x.what.callbacks rs.registers ≡ a → (short : Bool)
               → nat_lt (cap.end + 1 - g.layout.stack.base) x.what.need ≡ short
-              → UpTo g.layout n (c + x.what.need * 200 + 180) q
-              (with_place (if short then None else Some (cap.end + 1 - g.layout.stack.base))
-              (λ left. body_of world (whole world) t.home left x.what a k st))
+              → UpTo g ow.owes (untold 0 cap.end) n (c + x.what.need * 200 + 180) q
+              (with_place world (if short then None else Some (cap.end + 1 - g.layout.stack.base))
+              (λ left. wipes (left - x.what.need) (body_of world (whole world) (frame_with left)
+              x.what a k st)))
           by_taken None ea true es =
-              (x.checked cap.end (c + x.what.need * 200 + 180) 0 mem rs o q (ends Fails) ip regs public h20
-              at20 rce rde same t1).0 ea (omega (arith, sm))
+              begun (ends Fails) ((x.checked cap.end (c + x.what.need * 200 + 180) 0 mem rs o q ow
+              (ends Fails) ip regs public h20
+              at20 rce rde same t1).0 ea (omega (arith, sm)))
           by_taken None ea false es =
-              (x.checked cap.end (c + x.what.need * 200 + 180) 0 mem rs o q (ends Fails) ip regs public h20
-              at20 rce rde same t1).0 ea (omega (arith, sm))
+              begun (ends Fails)
+              ((x.checked cap.end (c + x.what.need * 200 + 180) 0 mem rs o q ow (ends Fails) ip
+              regs public h20
+              at20 rce rde same t1).0 ea (omega (arith, sm)))
           by_taken (Some env) ea true es =
-              (x.checked cap.end (c + x.what.need * 200 + 180) (2 * x.what.need + 1) mem rs o q (ends Fails)
+              begun (ends Fails) ((x.checked cap.end (c + x.what.need * 200 + 180) (2 * x.what.need + 1) mem
+              rs o q ow (ends Fails)
               ip regs public h20 at20 rce rde same t1).1 env ea (omega (arith, sm))
               (λ ws r ip' len env_is hr atr reads.
               let lt = ltb-true (cap.end + 1 - g.layout.stack.base) x.what.need es in
@@ -285,12 +347,16 @@ module _ (world : World) (g : Link) (linked : Linked g) (Begins : Target → Par
               omega (arith, lt, sl, len, lo) in
               let le2 : 2 * length (Rcode ∷ Rdata ∷ x.regs) + 1 ≤ 2 * x.what.need + 1 = omega (arith, sl) in
               prologue_fails g linked p ip' cap.end mem o.frames (Rcode ∷ Rdata ∷ x.regs)
-              (o.maps.regs.rcode ∷ o.maps.regs.rdata ∷ ws) [] (e + 20 + x.checks) (failing g.layout n)
-              (2 * x.what.need + 1) r (x.begins ip' cap.end mem o.frames) reads atr hr short2 le2)
+              (o.maps.regs.rcode ∷ o.maps.regs.rdata ∷ ws) [] (e + 20 + x.checks)
+              (failing g ow.owes (used x.what.need cap.end) n)
+              (2 * x.what.need + 1) r (x.begins ip' cap.end mem o.frames) reads atr hr short2
+              (λ j lt. may_set cap j (omega (arith, lt, sl, len))) le2))
           by_taken (Some env) ea false es =
-              let m : Comp = body_of world (whole world) t.home (cap.end + 1 - g.layout.stack.base) x.what
+              let m : Comp = body_of world (whole world)
+              (frame_with (cap.end + 1 - g.layout.stack.base)) x.what
               (Some env) k st in
-              (x.checked cap.end (c + x.what.need * 200 + 180) (2 * x.what.need + (1 + c)) mem rs o q m ip
+              begun m
+              ((x.checked cap.end (c + x.what.need * 200 + 180) (2 * x.what.need + (1 + c)) mem rs o q ow m ip
               regs public h20 at20 rce rde same t1).1 env ea (omega (arith, sm))
               (λ ws r ip' len env_is hr atr reads.
               let ge = ltb-false (cap.end + 1 - g.layout.stack.base) x.what.need es in
@@ -299,30 +365,34 @@ module _ (world : World) (g : Link) (linked : Linked g) (Begins : Target → Par
               let le2 : 2 * length (Rcode ∷ Rdata ∷ x.regs) + (1 + c) ≤ 2 * x.what.need + (1 + c) =
               omega (arith, sl) in
               prologue_law g linked p ip' cap.end mem o.frames (Rcode ∷ Rdata ∷ x.regs)
-              (o.maps.regs.rcode ∷ o.maps.regs.rdata ∷ ws) [] (e + 20 + x.checks) (upto g.layout n m)
+              (o.maps.regs.rcode ∷ o.maps.regs.rdata ∷ ws) [] (e + 20 + x.checks)
+              (upto g ow.owes (used x.what.need cap.end) n m)
               (2 * x.what.need + (1 + c)) (1 + c) r (x.begins ip' cap.end mem o.frames) reads atr hr room
+              (λ j lt. may_set cap j (omega (arith, lt, sl, len)))
               (λ q2 h2 at2.
               let two : length (o.maps.regs.rcode ∷ o.maps.regs.rdata ∷ ws) ≡ x.what.need =
               omega (arith, sl, len) in
               let ba = x.body_at in
               let be : e + 20 + x.checks + 2 * length (Rcode ∷ Rdata ∷ x.regs) ≡ x.body =
               omega (arith, sl, ba) in
-              x.does cap.end c mem o.frames o.maps.regs.rcode o.maps.regs.rdata ws
-              (env ++ replicate x.what.locals (Num (pos 0))) st o q2 (finish world x.what.need k) refl
+              x.does cap.end c mem o.frames ow o.maps.regs.rcode o.maps.regs.rdata ws
+              (env ++ replicate x.what.locals (Num (pos 0))) (taken_marks x.what.callbacks rs.words) st o q2
+              (finish world x.what.need k) refl
               (subst (λ w. Here g linked p w cap.end (o.maps.regs.rcode ∷ o.maps.regs.rdata ∷ ws) mem o.frames
               q2) two h2) len (subst (λ y. At g linked p y q2) be at2) env_is store
-              (λ val st' mem' ws' r2 hr2 len2 atr2 a0 fit store'. ticks_up g.layout (1 + x.what.need) n c r2
+              (λ val st' mem' ws' r2 hr2 len2 atr2 a0 fit store'. ticks_up g (1 + x.what.need) n c r2
               (k val st') (at_epilogue cap own 0 val st' mem' ws' r2 hr2 len2 atr2 a0 fit store')))
-              le2)
+              le2))
 
       by_own : (y : Option CapFields) → own_stack g.layout o.maps ≡ y
-          → UpTo g.layout n (c + (1 + x.what.need) * 200) o
+          → UpTo g ow.owes (untold 0 (stack_top g o)) n (c + (1 + x.what.need) * 200) o
           (begin world (whole world) t.home x.what (left_now world g linked Begins StoreIs RegsAre o) rs k st)
       by_own None own =
-          subst (λ l. UpTo g.layout n (c + (1 + x.what.need) * 200) o
+          subst (λ l. UpTo g ow.owes (untold 0 (stack_top g o)) n (c + (1 + x.what.need) * 200) o
           (begin world (whole world) t.home x.what l rs k st))
           (sym (ap (option_map (λ (c : CapFields). c.end + 1 - c.base)) own))
-          (entry_fails g linked p e o v at x.entry (failing g.layout n) (c + (1 + x.what.need) * 200) own
+          (entry_fails g linked p e o v at x.entry (failing g ow.owes (untold 0 (stack_top g o)) n)
+          (c + (1 + x.what.need) * 200) own
           (omega arith))
       by_own (Some cap) own =
           let is = own_is g.layout o.maps cap own in
@@ -331,11 +401,14 @@ module _ (world : World) (g : Link) (linked : Linked g) (Begins : Target → Par
           (cap.end + 1 - g.layout.stack.base) =
           ap (option_map (λ (c : CapFields). c.end + 1 - c.base)) own
           ∙ ap (λ b. Some (cap.end + 1 - b)) base in
-          subst (λ l. UpTo g.layout n (c + (1 + x.what.need) * 200) o
+          subst (λ l. UpTo g ow.owes (untold 0 (stack_top g o)) n (c + (1 + x.what.need) * 200) o
           (begin world (whole world) t.home x.what l rs k st)) (sym left)
+          (subst (λ z. UpTo g ow.owes (untold 0 z) n (c + (1 + x.what.need) * 200) o
+          (begin world (whole world) t.home x.what (Some (cap.end + 1 - g.layout.stack.base)) rs k st))
+          (sym (ap stack_end own))
           (entry_law g linked p e o v at x.entry cap own
-          (upto g.layout n (begin world (whole world) t.home x.what
+          (upto g ow.owes (untold 0 cap.end) n (begin world (whole world) t.home x.what
           (Some (cap.end + 1 - g.layout.stack.base)) rs k st)) mem (c + (1 + x.what.need) * 200)
           (c + x.what.need * 200 + 180) safe dat globs
           (λ h20 at20. after_entry cap own (entered g linked p e o v at x.entry cap own) h20 at20 refl refl
-          (record { a0 = refl; a1 = refl; a2 = refl; a3 = refl }) refl) (omega arith))
+          (record { a0 = refl; a1 = refl; a2 = refl; a3 = refl }) refl) (omega arith)))

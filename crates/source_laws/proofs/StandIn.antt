@@ -17,8 +17,8 @@ use Rattle.overlay_machine.specs.Linked.{Linked}
 use Rattle.trace_tool.specs.Layout.{layout, part_name, entry_name}
 use Rattle.proc_program.specs.declared.program.Part.{Part}
 use Rattle.proc_semantics.specs.declared.value.Target.{Target}
-use Rattle.proc_semantics.specs.Values.{World, Store, found}
-use Rattle.proc_semantics.specs.Meaning.{part_of}
+use Rattle.source_laws.proofs.Refined.{World, found, part_of}
+use Rattle.proc_semantics.specs.Values.{Store}
 use Rattle.template_runs.specs.Public.{IsSharedAt}
 use Rattle.template_runs.proofs.Steps.{At}
 use Rattle.template_runs.proofs.Rows.{DataIs}
@@ -29,7 +29,10 @@ use Rattle.source_laws.proofs.Feeds.{FedWords, registers_are}
 use Rattle.source_laws.proofs.Waiting.{Meets}
 use Rattle.source_laws.proofs.Leaving.{Rest}
 use Rattle.source_laws.proofs.Compiled.{Stands, Regs, EnvIs, compiled}
-use Rattle.source_laws.proofs.All.{Bodies, Starting, source_law}
+use Rattle.source_laws.specs.Secrets.{LeavesNothing}
+use Rattle.source_laws.proofs.All.{Bodies, Starting, source_law, secrets_law, wiped_law, words_law}
+use Rattle.source_laws.specs.Words.{WordsTold}
+use Rattle.source_laws.specs.Wiped.{WipedAlways}
 
 -- How the modules show in a link: which entry of which part a procedure has, and how their globals stand in
 -- the data of parts. The compiler's components and the layout of a linked start give what is asked of them.
@@ -66,7 +69,7 @@ module _ (world : World) (g : Link) (linked : Linked g) (Begins : Target → Par
       target = s.target;
       told = λ t p e o q v mem b a w ow.
           s.told t p e a.offset q b (subst (λ x. At g linked x a.offset q) a.same_part a.at) w ow;
-      single = single g linked Begins;
+      single = single g linked Begins world;
       registers = registers_are world g linked Begins s.fed;
     }
 
@@ -78,12 +81,36 @@ module _ (world : World) (g : Link) (linked : Linked g) (Begins : Target → Par
         (EnvIs world g linked Begins StoreIs) s.named meets rest
     bodies n laws t p e begins =
         compiled world g linked Begins StoreIs n t p e (s.stands t p e begins)
-        (λ top fs. record { procs = λ m lt. (laws m lt).procs; waits = λ m lt. (laws m lt).waits })
+        (λ top ms fs ow. record { procs = λ m lt. (laws m lt).procs; waits = λ m lt. (laws m lt).waits })
 
     pub sources_mean : (stack : ℕ) (start : StartSeen) (mem : ℕ → OWord) → g.layout ≡ layout start
         → DataIs g linked mem (overlay_at start).state.maps.cells
-        → StoreIs (map (λ (u : Part). u.globals) world) mem
-        → StartsIn stack mem (overlay_at start).state → SourcesMean world stack start
+        → StoreIs (map (λ (u : Part). u.globals) world.parts) mem
+        → StartsIn stack mem (overlay_at start).state → SourcesMean world.parts stack start
     sources_mean =
         source_law world g linked Begins StoreIs (Regs world g linked Begins StoreIs)
+        (EnvIs world g linked Begins StoreIs) s.named meets rest bodies
+
+    pub words_meant : (stack : ℕ) (start : StartSeen) (mem : ℕ → OWord) → g.layout ≡ layout start
+        → DataIs g linked mem (overlay_at start).state.maps.cells
+        → StoreIs (map (λ (u : Part). u.globals) world.parts) mem
+        → StartsIn stack mem (overlay_at start).state → WordsTold world.marks world.parts stack start
+    words_meant =
+        words_law world g linked Begins StoreIs (Regs world g linked Begins StoreIs)
+        (EnvIs world g linked Begins StoreIs) s.named meets rest bodies
+
+    pub leave_nothing : (stack : ℕ) (start : StartSeen) (mem : ℕ → OWord) → g.layout ≡ layout start
+        → DataIs g linked mem (overlay_at start).state.maps.cells
+        → StoreIs (map (λ (u : Part). u.globals) world.parts) mem
+        → StartsIn stack mem (overlay_at start).state → LeavesNothing g start
+    leave_nothing =
+        secrets_law world g linked Begins StoreIs (Regs world g linked Begins StoreIs)
+        (EnvIs world g linked Begins StoreIs) s.named meets rest bodies
+
+    pub wiped_told : (stack : ℕ) (start : StartSeen) (mem : ℕ → OWord) → g.layout ≡ layout start
+        → DataIs g linked mem (overlay_at start).state.maps.cells
+        → StoreIs (map (λ (u : Part). u.globals) world.parts) mem
+        → StartsIn stack mem (overlay_at start).state → WipedAlways g world.parts stack start
+    wiped_told =
+        wiped_law world g linked Begins StoreIs (Regs world g linked Begins StoreIs)
         (EnvIs world g linked Begins StoreIs) s.named meets rest bodies

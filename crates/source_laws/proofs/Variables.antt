@@ -1,6 +1,6 @@
 -- How the values of a procedure's variables stand in the slots of its frame.
-use Rattle.std.proofs.Common.{◌≡◌, ◌≢◌, inl, inr, ℕ, zero, suc, ◌+◌, ◌<◌, ◌≤◌, ℤ, List, [], ◌∷◌, length, Some}
-use Rattle.std.proofs.Common.{true, refl, sym, ap, ◌∙◌, subst, arith}
+use Rattle.std.proofs.Common.{Option, None, ◌≡◌, ◌≢◌, inl, inr, ℕ, zero, suc, ◌+◌, ◌<◌, ◌≤◌, ℤ, List, [], ◌∷◌}
+use Rattle.std.proofs.Common.{length, Some, true, refl, sym, ap, ◌∙◌, subst, arith}
 use Rattle.std.specs.Prelude.{slice_get, slice_set, slice_index_or}
 use Rattle.std.proofs.lemmas.Bool.{cases_eq}
 use Rattle.cap_words.specs.declared.Word.TheVariants.{Int}
@@ -46,8 +46,13 @@ there_lt [] i x e = cc
 there_lt (y ∷ xs) zero x e = omega arith
 there_lt (y ∷ xs) (suc i) x e = let h = there_lt xs i x e in omega (arith, h)
 
+-- two words that stand in a place, and are those that its marks say
+abbrev pub AtPlace : List (Option OWord) → (Pair → OWord → OWord → Type 0) → ℕ → Pair → OWord → OWord → Type 0
+AtPlace ms R i r x y = R r x y × (slice_index_or ms i None ≡ Some x)
+    × (slice_index_or ms (i + 1) None ≡ Some y)
+
 -- the kinds of a procedure's places; behind a pair's comes its rest's
-module _ (kinds : List Kind) (IsPair : Pair → OWord → OWord → Type 0) where
+module _ (kinds : List Kind) (IsPair : ℕ → Pair → OWord → OWord → Type 0) where
   pub record NumberAt (env : List Value) (words : List OWord) (i : ℕ) : Type 0 where
     pub number : ℤ
     pub meant : slice_get env i ≡ Some (Num number)
@@ -61,7 +66,7 @@ module _ (kinds : List Kind) (IsPair : Pair → OWord → OWord → Type 0) wher
     pub meant : slice_get env i ≡ Some (Closure pair)
     pub stands : slice_get words (i + 2) ≡ Some first
     pub stands_too : slice_get words (i + 2 + 1) ≡ Some second
-    pub is : IsPair pair first second
+    pub is : IsPair i pair first second
 
   -- the values of a procedure's places stand in the slots from the second on
   pub record EnvIn (env : List Value) (words : List OWord) : Type 0 where

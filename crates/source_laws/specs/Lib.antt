@@ -1,5 +1,10 @@
 pub mod Trace
+pub mod Seen
+pub mod Words
 pub mod Good
 pub mod Sites
 pub mod Fits
 pub mod Sources
+pub mod Secrets
+pub mod Alike
+pub mod Wiped

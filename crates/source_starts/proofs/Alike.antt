@@ -1,7 +1,6 @@
 -- A component that stands wherever it was placed has the code, the data and the lists of the compiled one.
 use Rattle.std.proofs.Common.{◌≡◌, ℕ, zero, suc, ◌+◌, ℤ, pos, List, [], ◌∷◌, ◌++◌, length, map, Option, Some}
-use Rattle.std.proofs.Common.{None, refl, ap}
-use Rattle.std.proofs.Common.{◌∙◌, true, inl, inr}
+use Rattle.std.proofs.Common.{None, refl, ap, ◌∙◌, true, inl, inr}
 use Rattle.std.specs.Prelude.{slice_get, replicate, option_map, ◌==◌, nat_lt, find}
 use Rattle.std.specs.List.{list_any}
 use Rattle.std.proofs.lemmas.List.{length-map}
@@ -14,12 +13,11 @@ use Rattle.flow_check.specs.Places.{begins_entry, begins_site, declared}
 use Rattle.flow_check.specs.Walk.{instr_at, instr_in}
 use Rattle.component_linker.specs.Placing.{moved_by, moved_word}
 use Rattle.proc_program.specs.declared.program.Part.{Part}
-use Rattle.proc_templates.specs.Items.{FAIL_AT}
+use Rattle.proc_templates.specs.Items.{FAIL_AT, Spot, Item, does, guards, goes, goes_if, finishes, label}
+use Rattle.proc_templates.specs.Items.{site, entry, leaves, zero_of, wiped, leading}
 use Rattle.proc_templates.specs.Compiled.{component_of, data_of, imports_of, exports_of, int_word, pair_count}
 use Rattle.lcm_isa.specs.declared.Instr.{Instr}
 use Rattle.component_file.specs.declared.component.KindRow.{KindRow}
-use Rattle.proc_templates.specs.Items.{Spot, Item, does, guards, goes, goes_if, finishes, label, site, entry}
-use Rattle.proc_templates.specs.Items.{leaves, zero_of, wiped, leading}
 use Rattle.call_sequence.specs.Sequences.{distance}
 use Rattle.lcm_isa.specs.declared.Reg.TheVariants.{Pc, Rcode, Rdata, T2}
 use Rattle.lcm_isa.specs.declared.Operand.TheVariants.{R, Imm}

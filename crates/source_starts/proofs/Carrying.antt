@@ -1,20 +1,19 @@
 -- What the compiler laid stands in the component, its sites in their order.
 use Rattle.std.proofs.Common.{◌≡◌, ℕ, zero, suc, ◌+◌, ◌-◌, ◌<◌, ◌≤◌, Bool, List, [], ◌∷◌, ◌++◌, length, Some}
-use Rattle.std.proofs.Common.{refl, sym, ap}
-use Rattle.std.proofs.Common.{◌∙◌, subst, arith, length-append}
+use Rattle.std.proofs.Common.{refl, sym, ap, ◌∙◌, subst, arith, length-append}
 use Rattle.std.specs.Prelude.{slice_get}
 use Rattle.component_file.specs.declared.TheConstants.{MOST_WORDS}
 use Rattle.component_file.specs.declared.component.ComponentFields.{ComponentFields}
 use Rattle.proc_program.specs.declared.program.Part.{Part}
 use Rattle.proc_program.specs.declared.program.Procedure.{Procedure}
 use Rattle.proc_program.specs.StepView.{block_of}
-use Rattle.proc_program.specs.Calls.{procedure_calls}
+use Rattle.proc_program.specs.Calls.{procedure_calls, block_calls}
 use Rattle.proc_templates.specs.Items.{Spot, Item, does, guards, goes, goes_if, finishes, label, site, entry}
 use Rattle.proc_templates.specs.Items.{leaves, Laid, put, lay, FAIL_AT}
 use Rattle.proc_templates.specs.Templates.{proc_code, before_epilogue, check_params, push, pushed, wipe}
 use Rattle.proc_templates.specs.Templates.{block_code}
-use Rattle.proc_templates.specs.Compiled.{frame_of, size_of_proc, head_of, lay_proc, lay_procs}
-use Rattle.proc_templates.specs.Compiled.{laid_of, component_of}
+use Rattle.proc_templates.specs.Compiled.{frame_of, size_of_proc, head_of, lay_proc, lay_procs, laid_of}
+use Rattle.proc_templates.specs.Compiled.{component_of}
 use Rattle.proc_templates.specs.Kept.{Fits}
 use Rattle.proc_templates.proofs.Laying.{has_it, put-length, Rest, Sound, rest_lay, get-left}
 use Rattle.proc_templates.proofs.Standing.{carries}
@@ -26,7 +25,6 @@ use Rattle.proc_templates.proofs.Readies.{ready, code-length}
 use Rattle.proc_templates.specs.declared.Frame.{Frame}
 use Rattle.proc_program.specs.Program.{Block}
 use Rattle.proc_program.specs.Limits.{registers_of}
-use Rattle.proc_program.specs.Calls.{block_calls}
 use Rattle.cap_words.specs.declared.TheConstants.{LAST_PLACE}
 use Rattle.source_laws.proofs.CallSites.{count_both, checks_count, push_count, block_count}
 use Rattle.source_laws.specs.Sites.{next_count, count, SiteAt, SitesAt}

@@ -1,7 +1,6 @@
 -- The exports of a compiled module are its procedures, each at its offset.
 use Rattle.std.proofs.Common.{◌≡◌, ◌⊎◌, inl, inr, ℕ, zero, suc, ◌+◌, ◌<◌, ◌≤◌, Bool, true, false, List, []}
-use Rattle.std.proofs.Common.{◌∷◌}
-use Rattle.std.proofs.Common.{length, Some, None, refl, subst, arith}
+use Rattle.std.proofs.Common.{◌∷◌, length, Some, None, refl, subst, arith}
 use Rattle.std.specs.Prelude.{slice_get, if◌then◌else◌}
 use Rattle.std.proofs.lemmas.Bool.{cases_eq, cases_lt}
 use Rattle.component_file.specs.declared.component.Export.{Export}

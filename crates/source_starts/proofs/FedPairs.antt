@@ -1,6 +1,6 @@
 -- What two words of untrusted code are as a pair: what the feed tells of them is what a call of them does.
-use Rattle.std.proofs.Common.{◌≡◌, ℕ, pos, Bool, true, false, not, List, [], map, Option, Some, None}
-use Rattle.std.proofs.Common.{refl, sym, ap, ◌∙◌, subst}
+use Rattle.std.proofs.Common.{◌≡◌, ℕ, pos, Bool, true, false, not, List, [], map, Option, Some, None, refl}
+use Rattle.std.proofs.Common.{sym, ap, ◌∙◌, subst}
 use Rattle.std.specs.Prelude.{◌&&◌, find, is_some, if◌then◌else◌}
 use Rattle.cap_words.specs.declared.Word.{Word}
 use Rattle.cap_words.specs.declared.Word.TheVariants.{Int, Mem, Seal, Sealed}
@@ -40,8 +40,7 @@ use Rattle.trace_tool.specs.declared.pairs.Pair.{Pair}
 use Rattle.trace_tool.specs.declared.pairs.Pair.TheVariants as pair
 use Rattle.trace_tool.specs.Layout.{is_trusted}
 use Rattle.trace_tool.specs.Pairs.{if_normal, content_linear, pair_to, pair_under, pair_if, own_goes}
-use Rattle.trace_tool.specs.Pairs.{own_pair}
-use Rattle.trace_tool.specs.Pairs.{pair_of, PairsAreOwn}
+use Rattle.trace_tool.specs.Pairs.{own_pair, pair_of, PairsAreOwn}
 use Rattle.proc_language.specs.declared.module.ModuleFields.{ModuleFields}
 use Rattle.proc_language.specs.Limits.{Each, IsModule}
 use Rattle.proc_names.specs.NameFaults.{name_faults}

@@ -1,7 +1,7 @@
 -- The procedures of a module whose names are resolved fit their frames and their module.
-use Rattle.std.proofs.Common.{◌≡◌, ℕ, zero, suc, ◌+◌, ◌^◌, ◌<◌, ◌≤◌, pos, Bool, true, false, List, []}
-use Rattle.std.proofs.Common.{◌∷◌, ◌++◌, length, map, take, Option, Some, None, refl, sym, ap, ◌∙◌, arith}
-use Rattle.std.proofs.Common.{get_or, IfSome, unwrap_or, lt-ltb, length-append}
+use Rattle.std.proofs.Common.{◌≡◌, ℕ, zero, suc, ◌+◌, ◌^◌, ◌<◌, ◌≤◌, pos, Bool, true, false, List, [], ◌∷◌}
+use Rattle.std.proofs.Common.{◌++◌, length, map, take, Option, Some, None, refl, sym, ap, ◌∙◌, arith, get_or}
+use Rattle.std.proofs.Common.{IfSome, unwrap_or, lt-ltb, length-append}
 use Rattle.std.specs.Prelude.{slice_get, position, replicate, is_some, if◌then◌else◌, ◌&&◌}
 use Rattle.std.specs.Option.{option_map_or}
 use Rattle.std.proofs.lemmas.Bool.{and_parts}
@@ -16,9 +16,8 @@ use Rattle.proc_language.specs.declared.module.Param.{Param}
 use Rattle.proc_language.specs.declared.module.Proc.{Proc}
 use Rattle.proc_language.specs.declared.module.ModuleFields.{ModuleFields}
 use Rattle.proc_language.specs.Tree.{Expr, Args, Stmt, Block, number, var, element, call, op, no_args, value}
-use Rattle.proc_language.specs.Tree.{proc}
-use Rattle.proc_language.specs.Tree.{set, set_at, do_call, if_then, if_else, while, return, halt, no_stmts}
-use Rattle.proc_language.specs.Tree.{stmt}
+use Rattle.proc_language.specs.Tree.{proc, set, set_at, do_call, if_then, if_else, while, return, halt}
+use Rattle.proc_language.specs.Tree.{no_stmts, stmt}
 use Rattle.proc_language.specs.declared.TheConstants.{LARGEST_LITERAL}
 use Rattle.proc_language.specs.Limits as language
 use Rattle.proc_language.specs.Limits.{Each, IsModule, ProcFits, GlobalFits, LengthFits, param_registers}
@@ -34,8 +33,7 @@ use Rattle.proc_names.specs.NameFaults.{expr_faults, args_faults, stmt_faults, b
 use Rattle.proc_names.specs.Need.{depth, args_depth, stmt_depth, block_depth, need}
 use Rattle.proc_names.specs.Calls.{calls, stmt_calls, block_calls}
 use Rattle.proc_program.specs.Lower.{words, words_in, word_at, param_place, place_by, row_by, handle_by}
-use Rattle.proc_program.specs.Lower.{exp_of}
-use Rattle.proc_program.specs.Lower.{args_of, step_of, steps_of, globals_of}
+use Rattle.proc_program.specs.Lower.{exp_of, args_of, step_of, steps_of, globals_of}
 use Rattle.proc_program.specs.Limits.{register_count, registers_of, arg_registers}
 use Rattle.proc_program.specs.declared.program.Place.{Place}
 use Rattle.proc_program.specs.declared.program.Handle.{Handle}
@@ -44,10 +42,8 @@ use Rattle.proc_program.specs.Program as run
 use Rattle.proc_program.specs.Program.{Exp, Step}
 use Rattle.proc_program.specs.View.{args_of as args_view}
 use Rattle.proc_program.specs.StepView.{block_of as block_view}
-use Rattle.source_laws.specs.Fits.{Kind, AsNumber, AsPair}
-use Rattle.source_laws.specs.Fits.{kinds_from}
-use Rattle.source_laws.specs.Fits.{PlaceFits, RowFits, HandleFits, PassFits, ExpFits, ArgsFit, StepFits}
-use Rattle.source_laws.specs.Fits.{BlockFits}
+use Rattle.source_laws.specs.Fits.{Kind, AsNumber, AsPair, kinds_from, PlaceFits, RowFits, HandleFits}
+use Rattle.source_laws.specs.Fits.{PassFits, ExpFits, ArgsFit, StepFits, BlockFits}
 
 -- ---- lists
 

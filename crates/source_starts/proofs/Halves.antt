@@ -1,6 +1,6 @@
 -- Pairs of sealed words of linked parts: what a call of them does.
-use Rattle.std.proofs.Common.{◌≡◌, ℕ, pos, Bool, true, false}
-use Rattle.std.proofs.Common.{Option, Some, None, refl, sym, ap, ◌∙◌, subst, eqb-true, eq-eqb}
+use Rattle.std.proofs.Common.{◌≡◌, ℕ, pos, Bool, true, false, Option, Some, None, refl, sym, ap, ◌∙◌, subst}
+use Rattle.std.proofs.Common.{eqb-true, eq-eqb}
 use Rattle.std.specs.Prelude.{position, ◌==◌, is_some, if◌then◌else◌, find}
 use Rattle.std.specs.List.{Contains}
 use Rattle.cap_words.specs.declared.Word.TheVariants.{Mem, Sealed}

@@ -21,3 +21,6 @@ pub mod LinesShow
 pub mod RunEnds
 pub mod Meanings
 pub mod RunMeaning
+pub mod PlainSecrets
+pub mod PlainWords
+pub mod PlainWiped

@@ -25,8 +25,7 @@ use Rattle.component_linker.specs.Regions.{addresses, span_of, stack_span, is_st
 use Rattle.component_linker.specs.Pairs.{NoneIsBroken, at_each, passes, once}
 use Rattle.component_linker.specs.Links.{rules_l, l6, has_main}
 use Rattle.component_linker.specs.Start.{Exported, is_main, same_name, main_of, export_that, code_of}
-use Rattle.component_linker.specs.Start.{start_regs}
-use Rattle.component_linker.specs.Start.{stack_base_of, stack_of, stack_cap}
+use Rattle.component_linker.specs.Start.{start_regs, stack_base_of, stack_of, stack_cap}
 use Rattle.component_linker.specs.Started.{StartSeen}
 use Rattle.component_linker.proofs.LinksKept.{in_part, stack_fits}
 use Rattle.component_linker.proofs.RuleLemmas.{slice_get-take}
@@ -64,8 +63,7 @@ use Rattle.template_runs.proofs.Steps.{At}
 use Rattle.template_runs.proofs.Outside.{Out}
 use Rattle.source_starts.specs.Sources.{trusted_parts}
 use Rattle.source_starts.proofs.Worlds.{Aligned, Home, home_of, part_of_home, one_home, same_names}
-use Rattle.source_starts.proofs.Worlds.{names_same}
-use Rattle.source_starts.proofs.Worlds.{position_at, position_none}
+use Rattle.source_starts.proofs.Worlds.{names_same, position_at, position_none}
 use Rattle.source_starts.proofs.StartWords.{the_link, apart, starts_private}
 use Rattle.source_starts.proofs.Targets.{BeginsAt, part_here, shared_found, proc_of, export_of}
 

@@ -1,7 +1,7 @@
 -- What the data of compiled modules hold at a linked start: the pairs of imports and own procedures, and the
 -- globals.
-use Rattle.std.proofs.Common.{◌≡◌, inl, inr, ℕ, zero, suc, ◌+◌, ◌*◌, ◌<◌, ℤ, pos, Bool, true, false}
-use Rattle.std.proofs.Common.{List, [], ◌∷◌, length, map, Some, refl, sym, ap, ◌∙◌, subst, arith}
+use Rattle.std.proofs.Common.{◌≡◌, inl, inr, ℕ, zero, suc, ◌+◌, ◌*◌, ◌<◌, ℤ, pos, Bool, true, false, List, []}
+use Rattle.std.proofs.Common.{◌∷◌, length, map, Some, refl, sym, ap, ◌∙◌, subst, arith}
 use Rattle.std.specs.Prelude.{slice_get, slice_index_or, unwrap_or, option_map, position}
 use Rattle.std.specs.List.{Contains}
 use Rattle.std.specs.Int.{w64}
@@ -40,8 +40,7 @@ use Rattle.proc_semantics.specs.declared.value.Target.{Target}
 use Rattle.proc_semantics.specs.declared.value.Pair.{Pair}
 use Rattle.proc_semantics.specs.declared.value.Pair.TheVariants.{Outside, Runs}
 use Rattle.proc_semantics.specs.Values.{World, Store, target, part_at, pair_found, linked_by}
-use Rattle.proc_semantics.specs.Values.{linked as linked_to}
-use Rattle.proc_semantics.specs.Values.{import_in, is_named}
+use Rattle.proc_semantics.specs.Values.{linked as linked_to, import_in, is_named}
 use Rattle.source_laws.proofs.Callings.{Sealing, MeantBy, IsPair}
 use Rattle.source_starts.specs.Sources.{trusted_parts}
 use Rattle.source_starts.proofs.Carrying.{offset_from}
@@ -84,7 +83,7 @@ module _ (modules : List ModuleFields) (parts : List PartSeen) (size : ℕ) (s :
     pub second : First (p.component.data_base + (d + 1)) ≡ y
     pub inside : d + 1 < length p.component.data_words
 
-  words_of : (i : ℕ) (p : PartSeen) (h : Home modules parts i p) (n d : ℕ) (part name : List ℕ)
+  pub words_of : (i : ℕ) (p : PartSeen) (h : Home modules parts i p) (n d : ℕ) (part name : List ℕ)
       → slice_get (imports_of (part_of h.source)) n ≡ Some (record { part = part; name = name; slot = d })
       → (x : Exported) × (imported parts (record { part = part; name = name; slot = d }) ≡ Some x)
       × PairWords p d (Plain (code_half x)) (Plain (data_half x))

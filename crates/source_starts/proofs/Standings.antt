@@ -1,6 +1,10 @@
 -- Each procedure of the modules stands in its part, and its part has what its module's laws ask.
-use Rattle.std.proofs.Common.{◌≡◌, ℕ, zero, suc, ◌+◌, ◌*◌, ◌<◌, pos, true, List, [], ◌∷◌}
-use Rattle.std.proofs.Common.{length, map, Some, refl, sym, ap, ◌∙◌, subst, arith, eqb-true}
+use Rattle.source_laws.proofs.Refined as tagged
+use Rattle.source_laws.proofs.Arguments.{Slotted, DataPair}
+use Rattle.proc_semantics.specs.Marked.{CodeHalf, DataHalf}
+use Rattle.source_starts.specs.Words.{slots, slot_in, imports_in, if_there}
+use Rattle.std.proofs.Common.{◌≡◌, ℕ, zero, suc, ◌+◌, ◌*◌, ◌<◌, pos, true, List, [], ◌∷◌, length, map, Some}
+use Rattle.std.proofs.Common.{refl, sym, ap, ◌∙◌, subst, arith, eqb-true}
 use Rattle.std.specs.Prelude.{slice_get, ◌==◌}
 use Rattle.std.specs.List.{Contains}
 use Rattle.std.proofs.lemmas.List.{length-map}
@@ -44,13 +48,11 @@ use Rattle.proc_semantics.specs.declared.value.Target.{Target}
 use Rattle.proc_semantics.specs.declared.value.Pair.{Pair}
 use Rattle.proc_semantics.specs.declared.value.Pair.TheVariants.{Runs}
 use Rattle.proc_semantics.specs.declared.value.Value.{Value}
-use Rattle.proc_semantics.specs.Values.{World, Store, target, part_at, proc_in, pair_of}
-use Rattle.proc_semantics.specs.Meaning as meaning
+use Rattle.proc_semantics.specs.Values.{World, Store, target, part_at, proc_in, import_in, pair_of}
 use Rattle.template_runs.specs.Public.{IsPublic}
 use Rattle.template_runs.proofs.Steps.{Placed}
 use Rattle.template_runs.proofs.Calls.{SiteHere}
 use Rattle.source_laws.proofs.Evals.{Globals}
-use Rattle.source_laws.proofs.Arguments.{DataPair}
 use Rattle.source_laws.proofs.Callings.{IsCalled, IsPair}
 use Rattle.source_laws.proofs.Placings.{stand_of}
 use Rattle.source_laws.proofs.Compiled.{PartIn, Stands}
@@ -65,9 +67,9 @@ use Rattle.source_starts.proofs.Halves.{half_of, trusted_pair}
 use Rattle.source_starts.proofs.Fitted.{globals-length, shares}
 use Rattle.source_starts.proofs.Sourced.{shared_is, procs-length, numbered, fits, code_length}
 use Rattle.source_starts.proofs.Stores.{StoreIs, data_size, sets}
-use Rattle.source_starts.proofs.ModulePairs.{OwnCode, OwnData, own_pair, import_pair}
-use Rattle.source_starts.proofs.ModulePairs.{module_fits}
+use Rattle.source_starts.proofs.ModulePairs.{OwnCode, OwnData, own_pair, import_pair, module_fits}
 use Rattle.source_starts.proofs.ModulePairs.{home_trusted}
+use Rattle.proc_semantics.specs.Meaning as meaning
 use Rattle.source_starts.proofs.ModulePairs as words
 
 there_is : {A : Type 0} (xs : List A) (j : ℕ) → j < length xs → (x : A) × (slice_get xs j ≡ Some x)
@@ -85,6 +87,10 @@ module _ (modules : List ModuleFields) (parts : List PartSeen) (size : ℕ) (s :
 
   abbrev pub W : World
   W = map part_of modules
+
+  -- the modules, with the words of their pairs
+  abbrev pub WW : tagged.World
+  WW = record { parts = map part_of modules; marks = slots modules parts s }
 
   abbrev pub Begin : Target → PartSeen → ℕ → Type 0
   Begin = BeginsAt modules parts
@@ -207,20 +213,35 @@ module _ (modules : List ModuleFields) (parts : List PartSeen) (size : ℕ) (s :
     owned : length U.procs ≡ length h.source.procs
     owned = procs-length h.source 0 h.source.procs
 
+    -- the words of a slot at the start
+    slot_is : (d : ℕ) → slot_in modules parts s (slice_get (trusted_parts parts) i) d
+        ≡ First (p.component.data_base + d)
+    slot_is d = ap (λ o. slot_in modules parts s o d) h.place
+
+    abbrev Slot : ℕ → OWord
+    Slot d = slot_in modules parts s (slice_get (trusted_parts parts) i) d
+
     from_imports : (st : Store) (mem : ℕ → OWord) (k : ℕ) (env : List Value) → Stored st mem
         → k < length h.source.imports
-        → DataPair p (IsPair G linked Begin) mem (2 * k) (pair_of W i env (Imported k))
+        → DataPair p (Slotted (WW.marks.imported i k) (IsPair G linked Begin)) mem (2 * k)
+        (pair_of W i env (Imported k))
     from_imports st mem k env kept lt =
         let c = imported in
         let x = there_is U.imports k (omega (arith, c, lt)) in
         let m = import_pair modules parts size s is aligned limits resolved linked holds i p h k x.0 x.1 in
+        let there : (d : ℕ) → if_there modules parts s (import_in (part_at W i) k) (Slot d) ≡ Slot d =
+        λ d. ap (λ o. if_there modules parts s o (Slot d)) (ap (λ o. import_in o k) here ∙ x.1) in
         record {
           first = m.code;
           second = m.half;
           inside = m.words.inside;
           stands = kept.pairs i p h (2 * k) (omega (arith, c, lt)) ∙ m.words.first;
           stands_too = kept.pairs i p h (2 * k + 1) (omega (arith, c, lt)) ∙ m.words.second;
-          is = subst (λ r. IsPair G linked Begin r m.code m.half) (sym m.pair_is) m.means;
+          is = (
+            subst (λ r. IsPair G linked Begin r m.code m.half) (sym m.pair_is) m.means,
+            ap Some (there (2 * k) ∙ slot_is (2 * k) ∙ m.words.first),
+            ap Some (there (2 * k + 1) ∙ slot_is (2 * k + 1) ∙ m.words.second),
+          );
         }
 
     abbrev Code : ℕ → OWord
@@ -283,28 +304,50 @@ module _ (modules : List ModuleFields) (parts : List PartSeen) (size : ℕ) (s :
           is = r;
         }
 
+    own_slot : (j : ℕ) (q : Procedure) → slice_get U.procs j ≡ Some q
+        → (Some (WW.marks.own i j CodeHalf) ≡ Some (Code j)) × (Some (WW.marks.own i j DataHalf) ≡ Some Data)
+    own_slot j q at =
+        let w = own_pair modules parts size s is aligned limits resolved linked holds i p h j q at in
+        let n : imports_in modules parts s (slice_get modules i) ≡ length U.imports =
+        ap (imports_in modules parts s) h.source_is ∙ sym imported in
+        let m = imports_in modules parts s (slice_get modules i) in
+        let there : (d : ℕ) → if_there modules parts s (proc_in (part_at W i) j) (Slot d) ≡ Slot d =
+        λ d. ap (λ o. if_there modules parts s o (Slot d)) (ap (λ o. proc_in o j) here ∙ at) in (
+          ap Some (there (2 * (m + j))) ∙ ap (λ n. Some (Slot (2 * (n + j)))) n
+              ∙ ap Some (slot_is (2 * (length U.imports + j)) ∙ w.first),
+          ap Some (there (2 * (m + j) + 1)) ∙ ap (λ n. Some (Slot (2 * (n + j) + 1))) n
+              ∙ ap Some (slot_is (2 * (length U.imports + j) + 1) ∙ w.second),
+        )
+
     from_own : (st : Store) (mem : ℕ → OWord) (j : ℕ) (env : List Value) → Stored st mem
         → j < length h.source.procs
-        → DataPair p (IsCalled G linked Begin) mem (2 * (length U.imports + j)) (pair_of W i env (Own j))
+        → DataPair p (Slotted (WW.marks.own i j) (IsCalled G linked Begin)) mem (2 * (length U.imports + j))
+        (pair_of W i env (Own j))
     from_own st mem j env kept lt =
         let c = owned in
         let x = there_is U.procs j (omega (arith, c, lt)) in
-        own_words st mem j x.0 (IsCalled G linked Begin) kept x.1 (called j x.0 x.1)
+        own_words st mem j x.0 (Slotted (WW.marks.own i j) (IsCalled G linked Begin)) kept x.1
+        (called j x.0 x.1, (own_slot j x.0 x.1).0, (own_slot j x.0 x.1).1)
 
     from_shared : (st : Store) (mem : ℕ → OWord) (j : ℕ) (env : List Value) → Stored st mem
         → j < length h.source.procs → shares h.source.procs j ≡ true
-        → DataPair p (IsPair G linked Begin) mem (2 * (length U.imports + j)) (pair_of W i env (Own j))
+        → DataPair p (Slotted (WW.marks.own i j) (IsPair G linked Begin)) mem (2 * (length U.imports + j))
+        (pair_of W i env (Own j))
     from_shared st mem j env kept lt sh =
         let c = owned in
         let x = there_is U.procs j (omega (arith, c, lt)) in
         let q : (x.0).shared ≡ true = sym (shared_is h.source 0 h.source.procs j x.0 x.1) ∙ sh in
-        own_words st mem j x.0 (IsPair G linked Begin) kept x.1 (record {
-          called = called j x.0 x.1;
-          shown = code_shown j x.0 x.1 q;
-          shown_too = data_shown;
-        })
+        own_words st mem j x.0 (Slotted (WW.marks.own i j) (IsPair G linked Begin)) kept x.1 (
+          record {
+            called = called j x.0 x.1;
+            shown = code_shown j x.0 x.1 q;
+            shown_too = data_shown;
+          },
+          (own_slot j x.0 x.1).0,
+          (own_slot j x.0 x.1).1,
+        )
 
-    pub part_in : PartIn W G linked Begin Stored i p
+    pub part_in : PartIn WW G linked Begin Stored i p
     part_in = record {
       trusted = trusted;
       failing = failing;
@@ -330,7 +373,7 @@ module _ (modules : List ModuleFields) (parts : List PartSeen) (size : ℕ) (s :
     fitted j q at = each_at (ProcedureFits (scope_of U)) U.procs j q part_is.procs.1 at
 
     stand : (j : ℕ) (q : Procedure) → slice_get U.procs j ≡ Some q
-        → Stands W G linked Begin Stored (target i j) p (offset_from 2 U.procs j)
+        → Stands WW G linked Begin Stored (target i j) p (offset_from 2 U.procs j)
     unfolding frame_of part_in globals
     stand j q at =
         let e = offset_from 2 U.procs j in
@@ -354,6 +397,6 @@ module _ (modules : List ModuleFields) (parts : List PartSeen) (size : ℕ) (s :
           numbered = numbered h.source module_is no_faults j q at;
         }
 
-  pub stands : (t : Target) (p : PartSeen) (e : ℕ) → Begin t p e → Stands W G linked Begin Stored t p e
-  stands t p e b = subst (Stands W G linked Begin Stored t p) (sym b.offset)
+  pub stands : (t : Target) (p : PartSeen) (e : ℕ) → Begin t p e → Stands WW G linked Begin Stored t p e
+  stands t p e b = subst (Stands WW G linked Begin Stored t p) (sym b.offset)
       (stand t.home p b.home t.proc b.what b.what_is)

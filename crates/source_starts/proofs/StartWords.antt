@@ -1,6 +1,6 @@
 -- What the overlay of a linked start of sources has in its cells.
-use Rattle.std.proofs.Common.{◌≡◌, inl, inr, ℕ, ◌+◌, ◌-◌, ◌<◌, pos, Bool, true, false, List}
-use Rattle.std.proofs.Common.{length, Option, Some, None, refl, sym, ap, ◌∙◌, subst, arith, eq-eqb}
+use Rattle.std.proofs.Common.{◌≡◌, inl, inr, ℕ, ◌+◌, ◌-◌, ◌<◌, pos, Bool, true, false, List, length, Option}
+use Rattle.std.proofs.Common.{Some, None, refl, sym, ap, ◌∙◌, subst, arith, eq-eqb}
 use Rattle.std.specs.Prelude.{slice_get, option_map, unwrap_or, is_some, ◌==◌, ◌&&◌, if◌then◌else◌}
 use Rattle.std.specs.List.{Contains}
 use Rattle.std.proofs.lemmas.Option.{slice_get_within}
@@ -12,8 +12,7 @@ use Rattle.flow_check.specs.Holds.{code_at}
 use Rattle.component_linker.specs.Parts.{PartSeen, IsPart}
 use Rattle.component_linker.specs.Regions.{regions_of, in_regions}
 use Rattle.component_linker.specs.Start.{Exported, imported, code_half, data_half, code_of, data_of}
-use Rattle.component_linker.specs.Start.{slot_word, part_word}
-use Rattle.component_linker.specs.Start.{start_cell, first_given, from, data_word}
+use Rattle.component_linker.specs.Start.{slot_word, part_word, start_cell, first_given, from, data_word}
 use Rattle.component_linker.specs.Started.{StartSeen}
 use Rattle.component_linker.specs.DataWords.{DataInCells}
 use Rattle.component_linker.proofs.RegionFacts.{in_regions_is}

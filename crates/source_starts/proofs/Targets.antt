@@ -1,7 +1,6 @@
 -- Where the names of shared procedures lead, and the names of imports.
 use Rattle.std.proofs.Common.{◌≡◌, ◌≢◌, inl, inr, ℕ, zero, suc, ◌+◌, ◌<◌, Bool, true, false, List, [], ◌∷◌}
-use Rattle.std.proofs.Common.{◌++◌}
-use Rattle.std.proofs.Common.{length, map, find, Option, Some, None, refl, sym, ap, ◌∙◌, subst, arith}
+use Rattle.std.proofs.Common.{◌++◌, length, map, find, Option, Some, None, refl, sym, ap, ◌∙◌, subst, arith}
 use Rattle.std.proofs.Common.{eqb-true}
 use Rattle.std.specs.Prelude.{slice_get, option_map, ◌==◌, ◌&&◌, not}
 use Rattle.std.specs.List.{Contains}
@@ -28,8 +27,7 @@ use Rattle.proc_templates.specs.Kept.{NoneNamed, NamesDiffer}
 use Rattle.proc_templates.specs.Compiled.{exports_of}
 use Rattle.proc_templates.proofs.Apart.{names_differ}
 use Rattle.proc_semantics.specs.declared.value.Target.{Target}
-use Rattle.proc_semantics.specs.Values.{World, part_at, target, shared_in, shared_at, is_shared}
-use Rattle.proc_semantics.specs.Values.{found}
+use Rattle.proc_semantics.specs.Values.{World, part_at, target, shared_in, shared_at, is_shared, found}
 use Rattle.template_runs.specs.Public.{IsSharedAt}
 use Rattle.source_starts.specs.Sources.{trusted_parts}
 use Rattle.source_starts.proofs.Carrying.{offset_from}

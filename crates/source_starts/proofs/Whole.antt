@@ -1,4 +1,8 @@
 -- The theorem of sources at a linked start of compiled modules.
+use Rattle.source_laws.proofs.Refined as tagged
+use Rattle.source_laws.specs.Words.{WhenceTold}
+use Rattle.source_laws.proofs.Forgets.{whence_told}
+use Rattle.source_starts.specs.Words.{slots, SourcesTellWords}
 use Rattle.std.proofs.Common.{◌≡◌, ℕ, ◌+◌, pos, true, List, [], ◌∷◌, map, Some, refl, sym, ap, ◌∙◌, subst}
 use Rattle.std.specs.Prelude.{slice_get}
 use Rattle.cap_words.specs.declared.Word.TheVariants.{Int}
@@ -44,8 +48,12 @@ use Rattle.template_runs.proofs.Named.{Named, named}
 use Rattle.source_laws.specs.Sources.{SourcesMean}
 use Rattle.source_laws.proofs.Parameters.{RegsFrom, nothing_more, RegsAre}
 use Rattle.source_laws.proofs.All.{in_main, outside_main}
-use Rattle.source_laws.proofs.StandIn.{StandIn, StartsIn, sources_mean}
-use Rattle.source_starts.specs.Sources.{trusted_parts, AreSources}
+use Rattle.source_laws.specs.Secrets.{LeavesNothing}
+use Rattle.source_starts.specs.Sources.{SourcesLeaveNothing, trusted_parts, AreSources}
+use Rattle.source_laws.specs.Wiped.{WipedAlways}
+use Rattle.source_starts.specs.Wiped.{WipedCellsAreTold}
+use Rattle.source_laws.proofs.StandIn.{StandIn, StartsIn, sources_mean, leave_nothing, words_meant}
+use Rattle.source_laws.proofs.StandIn.{wiped_told}
 use Rattle.source_starts.proofs.Worlds.{Aligned, home_of, aligned}
 use Rattle.source_starts.proofs.StartWords.{the_link, apart, first_words, data_there}
 use Rattle.source_starts.proofs.Targets.{BeginsAt, entry_found}
@@ -65,6 +73,10 @@ module _ (modules : List ModuleFields) (parts : List PartSeen) (size : ℕ) (s :
 
   abbrev W : World
   W = map part_of modules
+
+  -- the modules, with the words of their pairs
+  abbrev WW : tagged.World
+  WW = record { parts = map part_of modules; marks = slots modules parts s }
 
   abbrev Begin : Target → PartSeen → ℕ → Type 0
   Begin = BeginsAt modules parts
@@ -145,7 +157,7 @@ module _ (modules : List ModuleFields) (parts : List PartSeen) (size : ℕ) (s :
       ap (λ (x : Owner). part_name G.layout x.part) is_owner ∙ (told.named n.0 p n.1 at.trusted.1).name
       ∙ sym (name_is modules parts size s is beside limits resolved linked holds t.home p b.home)
 
-  stand_in : StandIn W G linked Begin Kept
+  stand_in : StandIn WW G linked Begin Kept
   stand_in = record {
     named = names;
     sealed = sealed;
@@ -162,19 +174,19 @@ module _ (modules : List ModuleFields) (parts : List PartSeen) (size : ℕ) (s :
   zero_shown : (w : OWord) → w ≡ Plain (Int (pos 0)) → IsPublic G w
   zero_shown w e = subst (IsPublic G) (sym e) (zero_public G)
 
-  no_args : RegsAre G linked Begin [] O
+  no_args : RegsAre G linked Begin (tagged.no_registers WW) O
   no_args =
-      subst (RegsFrom G linked Begin []) (sym (λ i.
+      subst (RegsFrom G linked Begin [] []) (sym (λ i.
       a0_zero modules parts size s is beside limits resolved linked holds i
       ∷ a1_zero modules parts size s is beside limits resolved linked holds i
       ∷ a2_zero modules parts size s is beside limits resolved linked holds i
       ∷ a3_zero modules parts size s is beside limits resolved linked holds i ∷ [])) (nothing_more 4)
 
-  starts_in : StartsIn W G linked Begin Kept size (first_words parts size s is) O
+  starts_in : StartsIn WW G linked Begin Kept size (first_words parts size s is) O
   starts_in = by (begins modules parts size s is beside limits resolved linked holds)
     where
       by : Beginning modules parts size s is beside limits resolved linked holds
-          → StartsIn W G linked Begin Kept size (first_words parts size s is) O
+          → StartsIn WW G linked Begin Kept size (first_words parts size s is) O
       by (inside m) =
           in_main m.to m.part m.entry m.main m.begins
           (valid modules parts size s is beside limits resolved linked holds)
@@ -193,9 +205,52 @@ module _ (modules : List ModuleFields) (parts : List PartSeen) (size : ℕ) (s :
 
   pub placed_mean : SourcesMean W size s
   placed_mean =
-      sources_mean W G linked Begin Kept stand_in size s (first_words parts size s is) refl
+      sources_mean WW G linked Begin Kept stand_in size s (first_words parts size s is) refl
       (λ p d ip lt. data_there parts size s is linked holds p d ip lt)
       (starts_stored modules parts size s is beside limits resolved linked holds) starts_in
+
+  pub placed_words : WhenceTold (slots modules parts s) W size s
+  placed_words =
+      whence_told (slots modules parts s) W size s
+      (words_meant WW G linked Begin Kept stand_in size s (first_words parts size s is) refl
+      (λ p d ip lt. data_there parts size s is linked holds p d ip lt)
+      (starts_stored modules parts size s is beside limits resolved linked holds) starts_in)
+
+  pub placed_leaves : LeavesNothing G s
+  placed_leaves =
+      leave_nothing WW G linked Begin Kept stand_in size s (first_words parts size s is) refl
+      (λ p d ip lt. data_there parts size s is linked holds p d ip lt)
+      (starts_stored modules parts size s is beside limits resolved linked holds) starts_in
+
+  pub placed_wiped : WipedAlways G W size s
+  placed_wiped =
+      wiped_told WW G linked Begin Kept stand_in size s (first_words parts size s is) refl
+      (λ p d ip lt. data_there parts size s is linked holds p d ip lt)
+      (starts_stored modules parts size s is beside limits resolved linked holds) starts_in
+
+pub start_wiped : StartsBegin → PairsAreOwn → WipedCellsAreTold
+start_wiped begin own modules parts size s is sources =
+    let held = begin s (overlay_at s) (is_overlay (placed parts size) size s is) (placed parts size) size
+    is in
+    placed_wiped modules (placed parts size) size s is (aligned parts size modules sources.compiled)
+    sources.limits
+    sources.resolved held.linked held.holds own
+
+pub start_words : StartsBegin → PairsAreOwn → SourcesTellWords
+start_words begin own modules parts size s is sources =
+    let held = begin s (overlay_at s) (is_overlay (placed parts size) size s is) (placed parts size) size
+    is in
+    placed_words modules (placed parts size) size s is (aligned parts size modules sources.compiled)
+    sources.limits
+    sources.resolved held.linked held.holds own
+
+pub start_leaves : StartsBegin → PairsAreOwn → SourcesLeaveNothing
+start_leaves begin own modules parts size s is sources =
+    let held = begin s (overlay_at s) (is_overlay (placed parts size) size s is) (placed parts size) size
+    is in
+    placed_leaves modules (placed parts size) size s is (aligned parts size modules sources.compiled)
+    sources.limits
+    sources.resolved held.linked held.holds own
 
 -- of every link of sources
 pub start_means : StartsBegin → PairsAreOwn → (modules : List ModuleFields) (parts : List PartSeen) (size : ℕ)

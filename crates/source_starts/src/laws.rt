@@ -6,10 +6,16 @@ ghost use Rattle.proc_language.specs.declared.module.ModuleFields.{ModuleFields}
 ghost use Rattle.proc_program.specs.Lower.{part_of};
 ghost use Rattle.component_linker.specs.LinkedStarts.{IsStartOf};
 ghost use Rattle.source_laws.specs.Sources.{SourcesMean};
-ghost use Rattle.source_starts.specs.Sources.{AreSources};
+ghost use Rattle.source_starts.specs.Sources.{AreSources, SourcesLeaveNothing};
+ghost use Rattle.source_starts.specs.PlainWords.{PlainRunsTellWords};
+ghost use Rattle.source_starts.specs.Words.{SourcesTellWords};
+ghost use Rattle.source_starts.specs.PlainSecrets.{PlainRunsLeaveNothing};
+ghost use Rattle.source_starts.specs.PlainWiped.{PlainRunsWipe};
+ghost use Rattle.source_starts.specs.Shown.{SourcesShowNothingElse};
+ghost use Rattle.source_starts.specs.Wiped.{WipedCellsAreTold};
 ghost use Rattle.source_starts.specs.RunMeans.{RunsMean, StacksBegin};
 
-use overlay_machine::laws::starts_begin;
+use overlay_machine::laws::{linked_starts_agree, starts_begin};
 use run_items::laws::events_are_told;
 use trace_tool::laws::{lines_are_a_feed, pairs_are_the_overlays, steps_tell_so, the_headline};
 
@@ -47,6 +53,101 @@ pub fn runs_mean()
     lines_are_a_feed();
     steps_tell_so();
     events_are_told();
+}
+
+/// Code outside learns nothing from linked sources but their events.
+///
+/// Let the trusted parts of a link be the components of some modules, in their order. At each point of the
+/// overlay's run at which a step that began in trusted code arrives outside it, that step writes a `call out`
+/// or a `leave` line, and all registers are told by it and by the pair that it opens; and each cell that code
+/// outside could reach is as it was when code outside ran last, or is a cell of the stack that holds 0.
+pub fn sources_leave_nothing()
+    ensures { SourcesLeaveNothing }
+{
+    starts_begin();
+    pairs_are_the_overlays();
+}
+
+/// What leaves linked sources is what their refined meaning tells: whom they call, with which words, from
+/// where.
+///
+/// Let the trusted parts of a link be the components of some modules, in their order. At each point of the
+/// overlay's run from its start, under every large enough fuel, the refined meaning of the items that came in
+/// so far tells first what has left, and where code outside runs it tells no more: of each call the pair by
+/// which it goes, what each argument register holds, and where its frame begins; of each procedure that left
+/// the pair by which it went, the stack that it gave back, and the calls that are open. A pair of an import or
+/// of an own procedure is the one that stands in the part's data at the start, one that came from outside is
+/// that of the argument registers behind its item, what is given back is what was handed over with the item of
+/// the entry, and the calls that are open are those that were open there.
+pub fn sources_tell_words()
+    ensures { SourcesTellWords }
+{
+    starts_begin();
+    pairs_are_the_overlays();
+}
+
+/// The cells that linked sources have wiped where they let go of control are those that their refined meaning
+/// tells of.
+///
+/// Let the trusted parts of a link be the components of some modules, in their order, and let a run of the
+/// overlay from its start have shown so much and got so much up to a point at which the next step, from
+/// trusted code, arrives outside it. Under every large enough fuel the refined meaning of the items that came
+/// in has an event of the next number, and it tells of the lowest wiped cell. Behind the step stk is the
+/// stack up to an end, its cells from the lowest wiped one to that end hold 0, and each other cell that is no
+/// trusted part's own is as it was when code outside ran last, or at the start if it hasn't run.
+pub fn wiped_cells_are_told()
+    ensures { WipedCellsAreTold }
+{
+    starts_begin();
+    pairs_are_the_overlays();
+}
+
+/// The same of the plain machine: after so many instructions code outside ran last, or the run began in
+/// trusted code, and after so many it has let go of control. Then the registers are those that
+/// `sources_leave_nothing` tells, and each cell that is no trusted part's own and in no frame of an open call
+/// is as it was after the first ones, or is a cell of the stack that holds 0.
+pub fn plain_runs_leave_nothing()
+    ensures { PlainRunsLeaveNothing }
+{
+    starts_begin();
+    linked_starts_agree();
+    the_headline();
+    sources_leave_nothing();
+}
+
+/// The same of the plain machine: after so many instructions code outside ran last, or the run began in
+/// trusted code, and after so many it has let go of control. Then stk is the stack up to an end, its cells
+/// from the lowest wiped one, of which the refined meaning tells, to that end hold 0, and each other cell
+/// that is no trusted part's own and in no frame of an open call is as it was after the first ones.
+pub fn plain_runs_wipe()
+    ensures { PlainRunsWipe }
+{
+    starts_begin();
+    linked_starts_agree();
+    the_headline();
+    wiped_cells_are_told();
+}
+
+/// The same of the plain machine: let a step of the overlay be a call out, before which so much had left and
+/// come. Then after so many instructions the plain machine's registers are the overlay's words, flattened;
+/// and under every large enough fuel the refined meaning's event of that number is this call: it tells the
+/// base of its frame, whence the pair is that stands in c1 and c2, and what stands in the argument registers.
+pub fn plain_runs_tell_words()
+    ensures { PlainRunsTellWords }
+{
+    the_headline();
+    sources_tell_words();
+}
+
+/// All this in one: what code outside is shown of linked sources, wherever their code lets go of control.
+pub fn sources_show_nothing_else()
+    ensures { SourcesShowNothingElse }
+{
+    sources_leave_nothing();
+    plain_runs_leave_nothing();
+    plain_runs_wipe();
+    sources_tell_words();
+    plain_runs_tell_words();
 }
 
 /// The stacks of linked sources begin where the sources say.

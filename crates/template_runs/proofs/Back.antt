@@ -25,8 +25,8 @@ use Rattle.component_linker.specs.declared.owners.Owner.{Owner}
 use Rattle.component_linker.specs.declared.owners.Site.{Site}
 use Rattle.trusted_border.specs.declared.events.Event.TheVariants.{Left}
 use Rattle.trusted_border.specs.declared.events.Back.TheVariants.{Out, Bad, Hop}
-use Rattle.trusted_border.specs.Reaches.{jump_plan, goes_on, back_if, back_under, back_of, hop_in}
-use Rattle.trusted_border.specs.Reaches.{hop_by, hop_to, closure_owner, entry_number, site_of_seal}
+use Rattle.trusted_border.specs.Reaches.{jump_plan, goes_on, back_if, back_under, back_of, hop_in, hop_by}
+use Rattle.trusted_border.specs.Reaches.{hop_to, closure_owner, entry_number, site_of_seal}
 use Rattle.overlay_machine.specs.declared.words.OWord.TheVariants.{Plain}
 use Rattle.overlay_machine.specs.Words.{look, is_plain}
 use Rattle.overlay_machine.specs.State.{OState}
@@ -38,6 +38,7 @@ use Rattle.overlay_machine.specs.Linked.{Linked}
 use Rattle.overlay_machine.specs.Agree.{IsForeign}
 use Rattle.overlay_machine.proofs.invariant.Bracketed.{found_at, numbered_is}
 use Rattle.overlay_machine.proofs.invariant.Ready.{foreign}
+use Rattle.overlay_machine.proofs.invariant.Crossing.{Crossed}
 use Rattle.flow_check.specs.Holds.{code_at, data_cap, PcAt}
 use Rattle.flow_check.specs.Places.{begins_entry}
 use Rattle.template_runs.specs.Public.{IsShown, IsSharedAt}
@@ -89,6 +90,8 @@ module _ (g : Link) (linked : Linked g) (named : Named g) (p : PartSeen) (k : �
     pub owner : Owner
     pub owner_is : owner_now g.layout o ≡ Some owner
     pub makes : Makes g.layout 1 (Some (Left owner.part)) o q
+    pub crossed : Crossed Rcode Rdata o.maps q.maps
+    pub keeps : Keeps o.maps q.maps
 
   -- the step hops to an entry
   pub record TrustedIn (r : PartSeen) (e : ℕ) (q : OState) : Type 0 where
@@ -159,12 +162,22 @@ module _ (g : Link) (linked : Linked g) (named : Named g) (p : PartSeen) (k : �
 
   by_jumps : (e : Effect) (q : OState) → jump_plan x y ≡ Goes e → Jumps g linked p k o v at h q → Tells
   unfolding faces
-  by_jumps e q j (leaves code oc op out fs cells a0 w ow mk) =
+  by_jumps e q j (leaves code oc op out fs cells a0 w ow mk cr kp) =
       let ox : opened_of x ≡ Some code = sym (ap (λ w. opened_of (look w)) ex) ∙ oc in
       let hf = half_there e j in
       goes_out q (good_back code hf.0 ox hf.1 (ap goes_on j)
       ∙ ap (λ t. hop_in t code.content) (open_no_owner g linked code.seal op))
-      (record { out = out; frames = fs; cells = cells; a0 = a0; owner = w; owner_is = ow; makes = mk })
+      (record {
+        out = out;
+        frames = fs;
+        cells = cells;
+        a0 = a0;
+        owner = w;
+        owner_is = ow;
+        makes = mk;
+        crossed = cr;
+        keeps = kp;
+      })
   by_jumps e q j (hops code oc r n seal content v2 ir en sh pc dat kp hf2 fs cells mk) =
       let ox : opened_of x ≡ Some code = sym (ap (λ w. opened_of (look w)) ex) ∙ oc in
       let hf = half_there e j in

@@ -1,6 +1,6 @@
 -- A call of trusted code, and what it is to be back from it.
-use Rattle.std.proofs.Common.{◌≡◌, ◌⊎◌, inl, inr, ℕ, zero, suc, ◌+◌, ◌-◌, ◌<◌, ◌≤◌, pos, ◌+ℤ◌, List, []}
-use Rattle.std.proofs.Common.{◌∷◌, length, Some, None, true, false, refl, sym, ap, ◌∙◌, subst, arith, le-leb}
+use Rattle.std.proofs.Common.{◌≡◌, ◌⊎◌, inl, inr, ℕ, zero, suc, ◌+◌, ◌-◌, ◌<◌, ◌≤◌, pos, ◌+ℤ◌, List, [], ◌∷◌}
+use Rattle.std.proofs.Common.{length, Some, None, true, false, refl, sym, ap, ◌∙◌, subst, arith, le-leb}
 use Rattle.std.proofs.Common.{lt-ltb}
 use Rattle.std.proofs.lemmas.Bool.{cases_lt}
 use Rattle.std.specs.Prelude.{slice_get, unwrap_or, int_lt, nat_le, ◌&&◌}
@@ -38,8 +38,7 @@ use Rattle.overlay_machine.specs.Words.{look, is_plain}
 use Rattle.overlay_machine.specs.State.{OpenFrame, OState, Cells, framed, word_of}
 use Rattle.overlay_machine.specs.Step.{goes, case_of, step_by, call_step, ask, need, own_stack, new_frame}
 use Rattle.overlay_machine.specs.Step.{at_call, with_frames, overlay_step, weight_of, weight_by, resumed}
-use Rattle.overlay_machine.specs.Events.{step_event, note_by, note_call, site_opened}
-use Rattle.overlay_machine.specs.Events.{event_after}
+use Rattle.overlay_machine.specs.Events.{step_event, note_by, note_call, site_opened, event_after}
 use Rattle.overlay_machine.specs.Link.{Link, IsTrusted, ranges_of}
 use Rattle.overlay_machine.specs.Linked.{Linked, SiteOf}
 use Rattle.overlay_machine.proofs.FrameWords.{words_from-at, all_there-from, put_back-in}

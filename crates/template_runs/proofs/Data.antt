@@ -45,7 +45,7 @@ pub mem_other : (mem : ℕ → OWord) (a b : ℕ) (x : OWord) → b ≢ a → me
 mem_other mem a b x ne = rw (ne_eqb b a ne) refl
 
 -- a cell of trusted data isn't free
-not_free : (g : Link) (p : PartSeen) (d : ℕ) → IsTrusted g p → d < length p.component.data_words
+pub not_free : (g : Link) (p : PartSeen) (d : ℕ) → IsTrusted g p → d < length p.component.data_words
     → IsFreeAt g (p.component.data_base + d) → ⊥
 not_free g p d ip lt free = elim (free.1 p ip) as (λ _. ⊥) [
   | inl low ↦ absurd (omega (arith, low))
@@ -153,13 +153,13 @@ module _ (g : Link) (linked : Linked g) (p : PartSeen) (ip : IsTrusted g p) (w t
           (o : OState)
           → (d : ℕ) (r : Reg) (x : OWord) → Placed g linked p k (Store Dat r) → At g linked p k o
           → Away (pos (p.component.data_base + d)) words mem o → d < length p.component.data_words
-          → reg o.maps.regs r ≡ x → is_linear (look x) ≡ false
+          → reg o.maps.regs r ≡ x → is_linear (look x) ≡ false → want.May (p.component.data_base + d)
           → (Away (pos (p.component.data_base + d)) words (mem_with mem (p.component.data_base + d) x)
           (with_data o (p.component.data_base + d) x)
           → At g linked p (k + 1) (with_data o (p.component.data_base + d) x)
           → want.Good b (with_data o (p.component.data_base + d) x))
           → 1 + b ≤ c → want.Good c o
-      store_data_law want c b words mem o d r x code at h lt is nl u le =
+      store_data_law want c b words mem o d r x code at h lt is nl may u le =
           let a = p.component.data_base + d in
           let la : p.component.data_base ≤ p.component.data_base + d = omega arith in
           let ha : p.component.data_base + d ≤ (ranges_of p).data_last = omega (arith, lt) in
@@ -174,7 +174,7 @@ module _ (g : Link) (linked : Linked g) (p : PartSeen) (ip : IsTrusted g p) (w t
           want.spend (1 + b) c o le
           (go_set g linked p k (Store Dat r) o h.valid at code refl want b _ (p.component.data_base + d) x
           does
-          refl refl (λ free. absurd (not_free g p d ip lt free)) (λ v1 at1.
+          refl refl (λ free. absurd (not_free g p d ip lt free)) may (λ v1 at1.
           u (record {
             valid = v1;
             at = h.at;

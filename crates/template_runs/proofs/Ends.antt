@@ -217,7 +217,8 @@ module _ (g : Link) (linked : Linked g) (p : PartSeen) (k : ℕ) (o : OState) (v
     leaves : (code : Opened) → opened_of (look o.maps.regs.rcode) ≡ Some code → IsOpenSeal g code.seal
         → Out g linked q → q.frames ≡ o.frames → q.maps.cells ≡ o.maps.cells
         → reg q.maps.regs A0 ≡ reg o.maps.regs A0 → (w : Owner) → owner_now g.layout o ≡ Some w
-        → Makes g.layout 1 (Some (Left w.part)) o q → Jumps q
+        → Makes g.layout 1 (Some (Left w.part)) o q → Crossed Rcode Rdata o.maps q.maps → Keeps o.maps q.maps
+        → Jumps q
     hops : (code : Opened) → opened_of (look o.maps.regs.rcode) ≡ Some code → (r : PartSeen) (e : ℕ)
         → code.seal ≡ r.component.closure → memory_content code.content ≡ Some (code_at (ranges_of r) e)
         → Valid g linked q → IsTrusted g r → begins_entry r.component e ≡ true → IsSharedAt r.component e
@@ -306,7 +307,7 @@ module _ (g : Link) (linked : Linked g) (p : PartSeen) (k : ℕ) (o : OState) (v
                 weight = weight_plain;
                 event = ev ∙ ap (λ b. if b then None else Some (Left owner_here.0.part))
                     (outside_here g linked jumped_to out);
-              })
+              }) x kept
           by_lead x w s1 o1 ev (to_entry r e ip en under ec hd) =
               let pc : PcAt look (ranges_of r) e s'.regs = ap look x.pc ∙ ap Mem ec in
               let v2 = valid_same g linked o jumped_to v goes_there x.cells refl in

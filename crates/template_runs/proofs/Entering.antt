@@ -91,14 +91,15 @@ module _ (g : Link) (linked : Linked g) (p : PartSeen) (ip : IsTrusted g p) (top
       (o : OState) → Code g linked p k (prologue g linked p ip top mem fs rs)
       → Reads g linked p ip top mem fs o.maps.regs rs ws → At g linked p k o
       → (h : Here g linked p (length words) top words mem fs o)
-      → top + 1 < g.layout.stack.base + (length words + length ws) → 2 * length rs + 1 ≤ c
+      → top + 1 < g.layout.stack.base + (length words + length ws)
+      → ((j : ℕ) → j < length words + length ws → want.runs.May (top - j)) → 2 * length rs + 1 ≤ c
       → want.runs.Good c o
-  prologue_fails [] ws words k want c o code reads at h short le =
+  prologue_fails [] ws words k want c o code reads at h short mays le =
       let l = h.low in
       let z : length ws ≡ 0 = ap length reads in
       absurd (omega (arith, l, short, z))
-  prologue_fails (r ∷ rs) [] words k want c o code reads at h short le = absurd reads
-  prologue_fails (r ∷ rs) (w ∷ ws) words k want c o code reads at h short le =
+  prologue_fails (r ∷ rs) [] words k want c o code reads at h short mays le = absurd reads
+  prologue_fails (r ∷ rs) (w ∷ ws) words k want c o code reads at h short mays le =
       elim (cases_lt top (g.layout.stack.base + length words)) as (λ _. want.runs.Good c o) [
         | inl full ↦ push_fails g linked p ip top mem fs k want c r words o code.0 at h full
             (omega (arith, le))
@@ -110,7 +111,7 @@ module _ (g : Link) (linked : Linked g) (p : PartSeen) (ip : IsTrusted g p) (top
             omega (arith, one, short) in
             push_law g linked p ip top mem fs k want.runs c (2 * length rs + 1) r reads.0 words o
             (code.0, (code.1.0, tt)) at h (omega (arith, room))
-            (subst (IsPublic g) (sym reads.1) reads.2) (λ h1 at1.
+            (subst (IsPublic g) (sym reads.1) reads.2) (mays (length words) (omega arith)) (λ h1 at1.
             let q = pushed g linked p ip top mem fs k o r (h.at -ℤ pos 1) (top - length words) in
             let h2 : Here g linked p (length (words ++ w ∷ [])) top (words ++ w ∷ []) mem fs q =
             subst (λ x. Here g linked p x top (words ++ w ∷ []) mem fs q) (sym one)
@@ -125,7 +126,7 @@ module _ (g : Link) (linked : Linked g) (p : PartSeen) (ip : IsTrusted g p) (top
             (Plain (next_pc g linked p (k + 1)))) in
             prologue_fails rs ws (words ++ w ∷ []) (k + 1 + 1) want (2 * length rs + 1) q code.1.1 reads2 at1
             h2
-            short2 (omega arith))
+            short2 (λ j lt. mays j (omega (arith, one, lt))) (omega arith))
             le1
             )
       ]

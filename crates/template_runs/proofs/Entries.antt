@@ -1,7 +1,7 @@
 -- A procedure's entry, and the prologue.
-use Rattle.std.proofs.Common.{◌≡◌, ℕ, suc, ◌+◌, ◌-◌, ◌*◌, ◌<◌, ◌≤◌, ℤ, pos, negsuc, ◌+ℤ◌, ◌-ℤ◌, List}
-use Rattle.std.proofs.Common.{[], ◌∷◌, ◌++◌, length, append_assoc, append-nil, Option, Some, None, Bool, true}
-use Rattle.std.proofs.Common.{false, refl, sym, ap, ◌∙◌, subst, arith, length-append}
+use Rattle.std.proofs.Common.{◌≡◌, ℕ, suc, ◌+◌, ◌-◌, ◌*◌, ◌<◌, ◌≤◌, ℤ, pos, negsuc, ◌+ℤ◌, ◌-ℤ◌, List, [], ◌∷◌}
+use Rattle.std.proofs.Common.{◌++◌, length, append_assoc, append-nil, Option, Some, None, Bool, true, false}
+use Rattle.std.proofs.Common.{refl, sym, ap, ◌∙◌, subst, arith, length-append}
 use Rattle.std.specs.Prelude.{if◌then◌else◌}
 use Rattle.std.proofs.lemmas.Int.{ints}
 use Rattle.cap_words.specs.declared.Word.{Word}
@@ -44,7 +44,7 @@ use Rattle.overlay_machine.proofs.invariant.View.{site_of}
 use Rattle.trace_tool.specs.Feed.{integer_in}
 use Rattle.template_runs.proofs.Numbers.{zero_more}
 use Rattle.template_runs.specs.Public.{IsPublic}
-use Rattle.template_runs.specs.Runs.{Makes, Runs, Failing}
+use Rattle.template_runs.specs.Runs.{Makes, Runs, Failing, no_cell}
 use Rattle.template_runs.proofs.Valid.{Valid, valid_same}
 use Rattle.template_runs.proofs.Steps.{At, Code, next_pc, inside_here, trusted_here}
 use Rattle.template_runs.proofs.Rows.{Here, Free, DataIs}
@@ -164,7 +164,8 @@ module _ (g : Link) (linked : Linked g) (p : PartSeen) (k : ℕ) where
             trusted = at.trusted;
             pc = ap (λ x. Mem (code_cap (ranges_of p).code_base (ranges_of p).code_last x)) e20;
           } in
-          want.spend (20 + b) c o le (want.go_on 20 b o entered entry_makes (u h at20))
+          want.spend (20 + b) c o le (want.go_on 20 b o entered entry_makes
+          (inside_here g linked p (k + 20) entered at20) (no_cell refl) (u h at20))
 
   -- ---- a number is taken: integers of 64 bits alone
 
@@ -205,17 +206,18 @@ module _ (g : Link) (linked : Linked g) (p : PartSeen) (ip : IsTrusted g p) (top
       (o : OState) → Code g linked p k (prologue rs) → Reads o.maps.regs rs ws → At g linked p k o
       → (h : Here g linked p (length words) top words mem fs o)
       → g.layout.stack.base + (length words + length ws) ≤ top + 1
+      → ((j : ℕ) → j < length words + length ws → want.May (top - j))
       → ((q : OState) → Here g linked p (length (words ++ ws)) top (words ++ ws) mem fs q
       → At g linked p (k + 2 * length rs) q → want.Good b q)
       → 2 * length rs + b ≤ c → want.Good c o
-  prologue_law [] ws words k want c b o code reads at h room u le =
+  prologue_law [] ws words k want c b o code reads at h room mays u le =
       let e : words ++ ws ≡ words = ap (λ x. words ++ x) reads ∙ append-nil words in
       let k0 : k ≡ k + 2 * 0 = omega arith in
       want.spend b c o (omega (arith, le))
       (u o (subst (λ x. Here g linked p (length x) top x mem fs o) (sym e) h)
       (subst (λ x. At g linked p x o) k0 at))
-  prologue_law (r ∷ rs) [] words k want c b o code reads at h room u le = absurd reads
-  prologue_law (r ∷ rs) (w ∷ ws) words k want c b o code reads at h room u le =
+  prologue_law (r ∷ rs) [] words k want c b o code reads at h room mays u le = absurd reads
+  prologue_law (r ∷ rs) (w ∷ ws) words k want c b o code reads at h room mays u le =
       let len = length-append words (w ∷ []) in
       let one : length (words ++ w ∷ []) ≡ length words + 1 = omega (arith, len) in
       let room1 : g.layout.stack.base + length words ≤ top = omega (arith, room) in
@@ -225,7 +227,7 @@ module _ (g : Link) (linked : Linked g) (p : PartSeen) (ip : IsTrusted g p) (top
       let assoc : (words ++ w ∷ []) ++ ws ≡ words ++ w ∷ ws = append_assoc words (w ∷ []) ws in
       push_law g linked p ip top mem fs k want c (2 * length rs + b) r reads.0 words o
       (code.0, (code.1.0, tt)) at h room1 (subst (IsPublic g) (sym reads.1) reads.2)
-      (λ h1 at1.
+      (mays (length words) (omega arith)) (λ h1 at1.
       let q = pushed g linked p ip top mem fs k o r (h.at -ℤ pos 1) (top - length words) in
       let h2 : Here g linked p (length (words ++ w ∷ [])) top (words ++ w ∷ []) mem fs q =
       subst (λ x. Here g linked p x top (words ++ w ∷ []) mem fs q) (sym one)
@@ -238,7 +240,7 @@ module _ (g : Link) (linked : Linked g) (p : PartSeen) (ip : IsTrusted g p) (top
       (reads.3 (Plain (next_pc g linked p k)) (Plain (Mem (stack_cap (ranges_of p) top (h.at -ℤ pos 1))))
       (Plain (next_pc g linked p (k + 1)))) in
       prologue_law rs ws (words ++ w ∷ []) (k + 1 + 1) want (2 * length rs + b) b q code.1.1 reads2 at1 h2
-      room2
+      room2 (λ j lt. mays j (omega (arith, one, lt)))
       (λ r2 hr atr.
       let ke : k + 1 + 1 + 2 * length rs ≡ k + 2 * suc (length rs) = omega arith in
       u r2 (subst (λ x. Here g linked p (length x) top x mem fs r2) assoc hr)

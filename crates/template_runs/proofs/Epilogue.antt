@@ -1,6 +1,6 @@
 -- The epilogue, from its first word to the `xjmp` that ends it.
 use Rattle.std.proofs.Common.{◌≡◌, ◌≢◌, ℕ, zero, suc, ◌+◌, ◌-◌, ◌*◌, ◌≤◌, pos, List, [], ◌∷◌, ◌++◌, length}
-use Rattle.std.proofs.Common.{refl, ap, ◌∙◌, subst, arith, length-append}
+use Rattle.std.proofs.Common.{refl, ap, ◌∙◌, subst, arith, length-append, Some, inl, inr, ◌<◌}
 use Rattle.cap_words.specs.declared.Word.TheVariants.{Int}
 use Rattle.lcm_isa.specs.declared.Reg.{Reg}
 use Rattle.lcm_isa.specs.declared.Reg.TheVariants.{Pc, Rcode, Rdata, Stk, Dat, T1, T2, C1, C2, A0, A1, A2, A3}
@@ -23,9 +23,11 @@ use Rattle.overlay_machine.specs.Linked.{Linked}
 use Rattle.template_runs.specs.Runs.{Runs}
 use Rattle.template_runs.proofs.Steps.{At, Placed, Code, next_pc, go}
 use Rattle.template_runs.proofs.Rows.{moved, Here, Free, free_t1, free_t2, free_c1, free_c2, free_a1, free_a2}
-use Rattle.template_runs.proofs.Rows.{free_a3}
-use Rattle.template_runs.proofs.Rows.{free_g0, free_g1, free_g2, free_rcode, free_rdata}
-use Rattle.template_runs.proofs.Frames.{popped, pop_law, pop_to_law}
+use Rattle.template_runs.proofs.Rows.{free_a3, free_g0, free_g1, free_g2, free_rcode, free_rdata}
+use Rattle.template_runs.proofs.Frames.{popped, pop_law, pop_to_law, IsWipedAt}
+use Rattle.lcm_machine.specs.Cells.{cell, set_cell}
+use Rattle.lcm_machine.proofs.CellLemmas.{cell-set_same, cell-set_other}
+use Rattle.std.proofs.lemmas.Bool.{cases_lt}
 
 last_of : (x : OWord) (ws : List OWord) → (front : List OWord) × (y : OWord) × (x ∷ ws ≡ front ++ y ∷ [])
 last_of x [] = ([], x, refl)
@@ -39,22 +41,48 @@ module _ (g : Link) (linked : Linked g) (p : PartSeen) (ip : IsTrusted g p) (top
   pops zero = []
   pops (suc n) = Cca Stk (Imm (pos 1)) ∷ Store Stk T1 ∷ pops n
 
+  -- the cells of slots from one up to below another hold 0, and those behind them are as before
+  pub record AreWiped (i n : ℕ) (o q : OState) : Type 0 where
+    pub wiped : (j : ℕ) → i ≤ j → j < n → cell q.maps.cells (top - j) ≡ Some (Plain (Int (pos 0)))
+    pub others : (a : ℕ) → a + n ≤ top → cell q.maps.cells a ≡ cell o.maps.cells a
+
+  -- one slot more, that was wiped before them
+  more_wiped : (n m at : ℕ) → m ≡ n + 1 → at ≡ 2 + n → g.layout.stack.base + (2 + m) ≤ top + 1
+      → (o q s : OState) → s.maps.cells ≡ set_cell o.maps.cells (top - at) (Plain (Int (pos 0)))
+      → AreWiped 2 (2 + n) s q → AreWiped 2 (2 + m) o q
+  more_wiped n m at e ea low o q s set w = record {
+    wiped = λ j lo hi. elim (cases_lt j (2 + n))
+        as (λ _. cell q.maps.cells (top - j) ≡ Some (Plain (Int (pos 0)))) [
+          | inl lt ↦ w.wiped j lo lt
+          | inr ge ↦ (let a : top - j ≡ top - at = omega (arith, ge, hi, e, ea) in
+              ap (cell q.maps.cells) a ∙ w.others (top - at) (omega (arith, e, ea, low))
+              ∙ ap (λ m. cell m (top - at)) set
+              ∙ cell-set_same o.maps.cells (top - at) (Plain (Int (pos 0))))
+        ];
+    others = λ a room. w.others a (omega (arith, room, e)) ∙ ap (λ m. cell m a) set
+        ∙ cell-set_other o.maps.cells (top - at) a (Plain (Int (pos 0)))
+        (let ne : a ≢ top - at = omega (arith, room, e, ea) in ne);
+  }
+
   -- all but the first two
   pub pops_law : (j : ℕ) (rc rd : OWord) (rest : List OWord) → length rest ≡ j
       → (k : ℕ) (want : Runs g.layout) (c b : ℕ) (o : OState) → Code g linked p k (pops j) → At g linked p k o
       → Here g linked p (2 + length rest) top (rc ∷ rd ∷ rest) mem fs o → o.maps.regs.t1 ≡ Plain (Int (pos 0))
+      → ((i : ℕ) → i < 2 + length rest → want.May (top - i))
       → ((q : OState) → Here g linked p 2 top (rc ∷ rd ∷ []) mem fs q → At g linked p (k + 2 * j) q
-      → q.maps.regs.t1 ≡ Plain (Int (pos 0)) → q.maps.regs.a0 ≡ o.maps.regs.a0 → want.Good b q)
+      → q.maps.regs.t1 ≡ Plain (Int (pos 0)) → q.maps.regs.a0 ≡ o.maps.regs.a0
+      → AreWiped 2 (2 + length rest) o q → want.Good b q)
       → 2 * j + b ≤ c → want.Good c o
-  pops_law zero rc rd [] e k want c b o code at h t1 u le =
+  pops_law zero rc rd [] e k want c b o code at h t1 mays u le =
       let k0 : k ≡ k + 2 * 0 = omega arith in
       let z : 2 + 0 ≡ 2 = omega arith in
       want.spend b c o (omega (arith, le))
       (u o (subst (λ x. Here g linked p x top (rc ∷ rd ∷ []) mem fs o) z h)
-      (subst (λ x. At g linked p x o) k0 at) t1 refl)
-  pops_law zero rc rd (x ∷ rest) e k want c b o code at h t1 u le = absurd (omega (arith, e))
-  pops_law (suc j) rc rd [] e k want c b o code at h t1 u le = absurd (omega (arith, e))
-  pops_law (suc j) rc rd (x ∷ rest) e k want c b o code at h t1 u le =
+      (subst (λ x. At g linked p x o) k0 at) t1 refl
+      (record { wiped = λ i lo hi. absurd (omega (arith, lo, hi)); others = λ a room. refl }))
+  pops_law zero rc rd (x ∷ rest) e k want c b o code at h t1 mays u le = absurd (omega (arith, e))
+  pops_law (suc j) rc rd [] e k want c b o code at h t1 mays u le = absurd (omega (arith, e))
+  pops_law (suc j) rc rd (x ∷ rest) e k want c b o code at h t1 mays u le =
       let r = last_of x rest in
       let front = rc ∷ rd ∷ r.0 in
       let len = length-append r.0 (r.1 ∷ []) in
@@ -67,15 +95,18 @@ module _ (g : Link) (linked : Linked g) (p : PartSeen) (ip : IsTrusted g p) (top
       let le1 : 2 + (2 * j + b) ≤ c = omega (arith, le) in
       let two : length (rc ∷ rd ∷ r.0) ≡ 2 + length r.0 = omega arith in
       pop_law g linked p ip top mem fs k want c (2 * j + b) (rc ∷ rd ∷ r.0) r.1 o (code.0, (code.1.0, tt)) at
-      h1 t1
+      h1 t1 (mays (length (rc ∷ rd ∷ r.0)) (omega (arith, lens)))
       (λ h2 at2.
       pops_law j rc rd r.0 ej (k + 1 + 1) want (2 * j + b) b
       (popped g linked p ip top mem fs k o (top - length (rc ∷ rd ∷ r.0))) code.1.1 at2
       (subst (λ y. Here g linked p y top (rc ∷ rd ∷ r.0) mem fs
       (popped g linked p ip top mem fs k o (top - length (rc ∷ rd ∷ r.0)))) two h2) t1
-      (λ q hq atq t1q a0q.
+      (λ i lt. mays i (omega (arith, lens, lt)))
+      (λ q hq atq t1q a0q wq.
       (let ke : k + 1 + 1 + 2 * j ≡ k + 2 * suc j = omega arith in
-      u q hq (subst (λ y. At g linked p y q) ke atq) t1q a0q)) (omega arith))
+      u q hq (subst (λ y. At g linked p y q) ke atq) t1q a0q
+      (more_wiped (length r.0) (length (x ∷ rest)) (length (rc ∷ rd ∷ r.0)) lens two h.low o q
+      (popped g linked p ip top mem fs k o (top - length (rc ∷ rd ∷ r.0))) refl wq))) (omega arith))
       le1
 
   -- ---- a register is set to 0
@@ -123,13 +154,14 @@ module _ (g : Link) (linked : Linked g) (p : PartSeen) (ip : IsTrusted g p) (top
   length-pops (suc j) = let e = length-pops j in omega (arith, e)
 
   -- what is known at the `xjmp`
-  pub record Left (o q : OState) (k : ℕ) (rc rd : OWord) : Type 0 where
+  pub record Left (o q : OState) (k n : ℕ) (rc rd : OWord) : Type 0 where
     pub here : Here g linked p 0 top [] mem fs q
     pub at : At g linked p k q
     pub jump : Placed g linked p k (Xjmp Rcode Rdata)
     pub code : q.maps.regs.rcode ≡ rc
     pub half : q.maps.regs.rdata ≡ rd
     pub value : q.maps.regs.a0 ≡ o.maps.regs.a0
+    pub wiped : (j : ℕ) → j < n → cell q.maps.cells (top - j) ≡ Some (Plain (Int (pos 0)))
     pub clean : (d : Reg) → d ≢ Pc → d ≢ Dat → d ≢ Stk → d ≢ Rcode → d ≢ Rdata → d ≢ A0
         → reg q.maps.regs d ≡ Plain (Int (pos 0))
 
@@ -169,9 +201,11 @@ module _ (g : Link) (linked : Linked g) (p : PartSeen) (ip : IsTrusted g p) (top
   pub epilogue_law : (rc rd : OWord) (rest : List OWord) (k : ℕ) (want : Runs g.layout) (c b : ℕ) (o : OState)
       → Code g linked p k (epilogue (length rest)) → At g linked p k o
       → Here g linked p (2 + length rest) top (rc ∷ rd ∷ rest) mem fs o
-      → ((q : OState) (e : ℕ) → Left o q e rc rd → want.Good b q) → 2 * length rest + 16 + b ≤ c
+      → ((i : ℕ) → i < 2 + length rest → want.May (top - i))
+      → ((q : OState) (e : ℕ) → Left o q e (2 + length rest) rc rd → want.Good b q)
+      → 2 * length rest + 16 + b ≤ c
       → want.Good c o
-  epilogue_law rc rd rest k want c b o code at h u le =
+  epilogue_law rc rd rest k want c b o code at h mays u le =
       let j = length rest in
       let tail = code_back (k + 1) (pops (length rest)) _ code.1 in
       let lp = length-pops (length rest) in
@@ -182,7 +216,7 @@ module _ (g : Link) (linked : Linked g) (p : PartSeen) (ip : IsTrusted g p) (top
       (λ h1 at1.
       pops_law (length rest) rc rd rest refl (k + 1) want (2 * length rest + (15 + b)) (15 + b)
       (zeroed o T1 k) (code_front (k + 1) (pops (length rest)) _ code.1) at1 h1 refl
-      (λ q2 h2 at2 t12 a02.
+      mays (λ q2 h2 at2 t12 a02 w2.
       let k2 = k + 1 + 2 * length rest in
       let here_k : k + 1 + length (pops (length rest)) ≡ k + 1 + 2 * length rest = omega (arith, lp) in
       let tl = subst (λ x. Code g linked p x
@@ -193,17 +227,32 @@ module _ (g : Link) (linked : Linked g) (p : PartSeen) (ip : IsTrusted g p) (top
       (Imm (pos 0))
       ∷ Xjmp Rcode Rdata ∷ [])) here_k tail in
       rest_law rc rd (k + 1 + 2 * length rest) want b q2 tl at2 h2 t12
-      (λ q e l. u q e (record {
+      (λ i lt. mays i (omega (arith, lt)))
+      (λ q e l w. u q e (record {
         here = l.here;
         at = l.at;
         jump = l.jump;
         code = l.code;
         half = l.half;
         value = l.value ∙ a02;
+        wiped = λ j lt. elim (cases_lt j 2)
+            as (λ _. cell q.maps.cells (top - j) ≡ Some (Plain (Int (pos 0)))) [
+              | inl two ↦ l.wiped j two
+              | inr ge ↦ (let lo = h.low in
+                  w (top - j) (omega (arith, lt, ge, lo)) ∙ w2.wiped j ge lt)
+            ];
         clean = l.clean;
       })))
       (omega arith)))
     where
+      two_wiped : (o q1 q2 : OState) → g.layout.stack.base + 2 ≤ top + 1
+          → IsWipedAt (top - 1) o.maps.cells q1.maps.cells → IsWipedAt (top - 0) q1.maps.cells q2.maps.cells
+          → (j : ℕ) → j < 2 → cell q2.maps.cells (top - j) ≡ Some (Plain (Int (pos 0)))
+      two_wiped o q1 q2 low z1 z2 zero lt = z2.wiped
+      two_wiped o q1 q2 low z1 z2 (suc zero) lt =
+          z2.others (top - 1) (let ne : top - 1 ≢ top - 0 = omega (arith, low) in ne) ∙ z1.wiped
+      two_wiped o q1 q2 low z1 z2 (suc (suc j)) lt = absurd (omega (arith, lt))
+
       rest_law : (rc rd : OWord) (k : ℕ) (want : Runs g.layout) (b : ℕ) (o : OState)
           → Code g linked p k (Cca Stk (Imm (pos 1)) ∷ Load Rdata Stk ∷ Store Stk T1 ∷ Cca Stk
           (Imm (pos 1)) ∷ Load Rcode Stk ∷ Store Stk T1
@@ -213,19 +262,22 @@ module _ (g : Link) (linked : Linked g) (p : PartSeen) (ip : IsTrusted g p) (top
           ∷ Xjmp Rcode Rdata ∷ [])
           → At g linked p k o → Here g linked p 2 top (rc ∷ rd ∷ []) mem fs o
           → o.maps.regs.t1 ≡ Plain (Int (pos 0))
-          → ((q : OState) (e : ℕ) → Left o q e rc rd → want.Good b q) → want.Good (15 + b) o
-      rest_law rc rd k want b o code at h t1 u =
+          → ((i : ℕ) → i < 2 → want.May (top - i))
+          → ((q : OState) (e : ℕ) → Left o q e 2 rc rd
+          → ((a : ℕ) → a + 2 ≤ top → cell q.maps.cells a ≡ cell o.maps.cells a) → want.Good b q)
+          → want.Good (15 + b) o
+      rest_law rc rd k want b o code at h t1 mays u =
           let less1 : 3 + (12 + b) ≤ 15 + b = omega arith in
           let less2 : 3 + (9 + b) ≤ 12 + b = omega arith in
           let less3 : 1 + (1 + (1 + (1 + (1 + (1 + (1 + (1 + (1 + b)))))))) ≤ 9 + b = omega arith in
           pop_to_law g linked p ip top mem fs k want (15 + b) (12 + b) Rdata (free_rdata g linked)
           (λ rs y. refl) (rc ∷ []) rd o (code.0, (code.1.0, (code.1.1.0, tt))) at h t1
-          (λ q1 e1 h1 at1.
+          (mays 1 (omega arith)) (λ q1 e1 z1 h1 at1.
           pop_to_law g linked p ip top mem fs (k + 1 + 1 + 1) want (12 + b) (9 + b) Rcode
           (free_rcode g linked)
           (λ rs y. refl) [] rc q1 (code.1.1.1.0, (code.1.1.1.1.0, (code.1.1.1.1.1.0, tt))) at1 h1
           (ap (λ x. x.t1) e1 ∙ t1)
-          (λ q2 e2 h2 at2.
+          (mays 0 (omega arith)) (λ q2 e2 z2 h2 at2.
           want.spend _ (9 + b) q2 less3
           (zero_law T2 (free_t2 g linked) 0 [] _ want _ q2 code.1.1.1.1.1.1.0 at2 h2 (λ h3 at3.
           zero_law C1 (free_c1 g linked) 0 [] _ want _ _ code.1.1.1.1.1.1.1.0 at3 h3 (λ h4 at4.
@@ -244,7 +296,10 @@ module _ (g : Link) (linked : Linked g) (p : PartSeen) (ip : IsTrusted g p) (top
             code = ap (λ x. x.rcode) e2;
             half = ap (λ x. x.rdata) e2 ∙ ap (λ x. x.rdata) e1;
             value = ap (λ x. x.a0) e2 ∙ ap (λ x. x.a0) e1;
+            wiped = two_wiped o q1 q2 h.low z1 z2;
             clean = clean q2.maps.regs (ap (λ x. x.t1) e2 ∙ ap (λ x. x.t1) e1 ∙ t1) _;
-          }))))))))))))
+          })
+          (λ a room. (let n0 : a ≢ top - 0 = omega (arith, room) in
+          let n1 : a ≢ top - 1 = omega (arith, room) in z2.others a n0 ∙ z1.others a n1)))))))))))))
           less2)
           less1

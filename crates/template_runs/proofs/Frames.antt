@@ -22,7 +22,7 @@ use Rattle.lcm_machine.specs.Cells.{cell, set_cell}
 use Rattle.lcm_machine.specs.Table.{fits_64}
 use Rattle.lcm_machine.specs.Row.{put, row, Outcome, went, halted, failed}
 use Rattle.lcm_machine.specs.Refusals.{HasFailed}
-use Rattle.lcm_machine.proofs.CellLemmas.{cell-set_same}
+use Rattle.lcm_machine.proofs.CellLemmas.{cell-set_same, cell-set_other}
 use Rattle.lcm_machine.proofs.Commute.{is_linear-face}
 use Rattle.lcm_machine.proofs.Goes.{stays, left, cca_goes, load_goes, load_linear_goes, store_goes}
 use Rattle.lcm_machine.proofs.Refusals.{store_fails}
@@ -60,6 +60,11 @@ below_stack (suc b) e z c cb ca h =
     let k : z ≡ pos b = omega (arith, ints, h) in
     rw (ca, k, cb, lt-leb (suc b) b (omega arith)) refl
 
+-- a cell holds 0, and the others are as before
+pub record IsWipedAt (a : ℕ) (m n : Cells) : Type 0 where
+  pub wiped : cell n a ≡ Some (Plain (Int (pos 0)))
+  pub others : (b : ℕ) → b ≢ a → cell n b ≡ cell m b
+
 slice_last : (ws : List OWord) (x : OWord) → slice_get (ws ++ x ∷ []) (length ws) ≡ Some x
 slice_last [] x = refl
 slice_last (w ∷ ws) x = slice_last ws x
@@ -85,13 +90,13 @@ module _ (g : Link) (linked : Linked g) (p : PartSeen) (ip : IsTrusted g p) (top
   pub push_law : (want : Runs g.layout) (c b : ℕ) → (r : Reg) → Free g linked r
       → (words : List OWord) (o : OState) → Code g linked p k (push r) → At g linked p k o
       → (h : Here g linked p (length words) top words mem fs o) → g.layout.stack.base + length words ≤ top
-      → IsPublic g (reg o.maps.regs r)
+      → IsPublic g (reg o.maps.regs r) → want.May (top - length words)
       → (Here g linked p (length words + 1) top (words ++ reg o.maps.regs r ∷ []) mem fs
       (pushed o r (h.at -ℤ pos 1) (top - length words))
       → At g linked p (k + 1 + 1) (pushed o r (h.at -ℤ pos 1) (top - length words))
       → want.Good b (pushed o r (h.at -ℤ pos 1) (top - length words)))
       → 2 + b ≤ c → want.Good c o
-  push_law want c b r free words o code at h room public u le =
+  push_law want c b r free words o code at h room public may u le =
       let j = length words in
       let a = top - length words in
       let x = reg o.maps.regs r in
@@ -136,7 +141,7 @@ module _ (g : Link) (linked : Linked g) (p : PartSeen) (ip : IsTrusted g p) (top
       ap look (free.keeps_dat o.maps.regs (left_of look Plain x)) ∙ h.dat in
       want.spend _ c o less
       (go_set g linked p k (Store Stk r) o h.valid at code.0 refl want _ s1 a x does refl refl (λ _. public)
-      (λ v1 at1.
+      may (λ v1 at1.
       go g linked p (k + 1) (Cca Stk (Imm (negsuc 0))) (record o { maps = s1 }) v1 at1 code.1.0 refl want b s2
       (cca_goes look Plain Stk (Imm (negsuc 0)) _ s1 (stack_cap (ranges_of p) top h.at) (negsuc 0)
       (h.at -ℤ pos 1) refl stk1 refl e_down fit) refl refl (λ v2 at2.
@@ -185,12 +190,12 @@ module _ (g : Link) (linked : Linked g) (p : PartSeen) (ip : IsTrusted g p) (top
   pub pop_law : (want : Runs g.layout) (c b : ℕ) → (words : List OWord) (x : OWord) (o : OState)
       → Code g linked p k pop → At g linked p k o
       → (h : Here g linked p (length words + 1) top (words ++ x ∷ []) mem fs o)
-      → o.maps.regs.t1 ≡ Plain (Int (pos 0))
+      → o.maps.regs.t1 ≡ Plain (Int (pos 0)) → want.May (top - length words)
       → (Here g linked p (length words) top words mem fs (popped o (top - length words))
       → At g linked p (k + 1 + 1) (popped o (top - length words))
       → want.Good b (popped o (top - length words)))
       → 2 + b ≤ c → want.Good c o
-  pop_law want c b words x o code at h t1 u le =
+  pop_law want c b words x o code at h t1 may u le =
       let a = top - length words in
       let hi = h.high in
       let lo = h.low in
@@ -226,7 +231,7 @@ module _ (g : Link) (linked : Linked g) (p : PartSeen) (ip : IsTrusted g p) (top
       (cca_goes look Plain Stk (Imm (pos 1)) _ o.maps (stack_cap (ranges_of p) top h.at) (pos 1) (pos a)
       refl h.stk refl e_up fit) refl refl (λ v1 at1.
       go_set g linked p (k + 1) (Store Stk T1) (record o { maps = s1 }) v1 at1 code.1.0 refl want b s2 a
-      (Plain (Int (pos 0))) does refl refl (λ _. zero_public g) (λ v2 at2.
+      (Plain (Int (pos 0))) does refl refl (λ _. zero_public g) may (λ v2 at2.
       u (record {
         valid = v2;
         at = pos a;
@@ -256,12 +261,13 @@ module _ (g : Link) (linked : Linked g) (p : PartSeen) (ip : IsTrusted g p) (top
       → ((rs : Regs OWord) (y : OWord) → (set_reg rs r y).t1 ≡ rs.t1)
       → (words : List OWord) (x : OWord) (o : OState) → Code g linked p k (pop_to r) → At g linked p k o
       → (h : Here g linked p (length words + 1) top (words ++ x ∷ []) mem fs o)
-      → o.maps.regs.t1 ≡ Plain (Int (pos 0))
+      → o.maps.regs.t1 ≡ Plain (Int (pos 0)) → want.May (top - length words)
       → ((q : OState) → q.maps.regs ≡ popped_regs o.maps.regs r x (top - length words)
+      → IsWipedAt (top - length words) o.maps.cells q.maps.cells
       → Here g linked p (length words) top words mem fs q → At g linked p (k + 1 + 1 + 1) q
       → want.Good b q)
       → 3 + b ≤ c → want.Good c o
-  pop_to_law want c b r free keeps words x o code at h t1 u le =
+  pop_to_law want c b r free keeps words x o code at h t1 may u le =
       let less : 1 + (1 + (1 + b)) ≤ c = omega (arith, le) in
       want.spend _ c o less
       (go g linked p k (Cca Stk (Imm (pos 1))) o h.valid at code.0 refl want _ s1
@@ -323,9 +329,10 @@ module _ (g : Link) (linked : Linked g) (p : PartSeen) (ip : IsTrusted g p) (top
           → s2.regs ≡ set_reg (set_reg s1.regs r x) Pc (Plain (next_pc g linked p (k + 1)))
           → cell s2.cells (top - length words) ≡ Some w → Holds s2.cells top 0 words
           → DataIs g linked mem s2.cells
+          → ((b : ℕ) → b ≢ top - length words → cell s2.cells b ≡ cell o.maps.cells b)
           → Valid g linked (record o { maps = s2 }) → At g linked p (k + 1 + 1) (record o { maps = s2 })
           → want.Good (1 + b) (record o { maps = s2 })
-      last s2 w rs there2 hs ds v2 at2 =
+      last s2 w rs there2 hs ds others v2 at2 =
           let t2 : s2.regs.t1 ≡ Plain (Int (pos 0)) = ap (λ y. y.t1) rs ∙ keeps s1.regs x ∙ t1 in
           let stk2 : look s2.regs.stk ≡ Mem (stack_cap (ranges_of p) top (pos (top - length words))) =
           ap (λ y. look y.stk) rs ∙ ap look (free.keeps_stk s1.regs x) in
@@ -343,8 +350,13 @@ module _ (g : Link) (linked : Linked g) (p : PartSeen) (ip : IsTrusted g p) (top
           let low : g.layout.stack.base + length words ≤ top + 1 = omega (arith, lo) in
           let fits' : length words ≤ length words = omega arith in
           go_set g linked p (k + 1 + 1) (Store Stk T1) (record o { maps = s2 }) v2 at2 code.1.1.0 refl want b
-          s3 (top - length words) (Plain (Int (pos 0))) does refl refl (λ _. zero_public g) (λ v3 at3.
+          s3 (top - length words) (Plain (Int (pos 0))) does refl refl (λ _. zero_public g) may (λ v3 at3.
           u (record o { maps = s3 }) (ap (λ y. set_reg y Pc (Plain (next_pc g linked p (k + 1 + 1)))) rs)
+          (record {
+            wiped = cell-set_same s2.cells (top - length words) (Plain (Int (pos 0)));
+            others = λ b ne. cell-set_other s2.cells (top - length words) b (Plain (Int (pos 0))) ne
+                ∙ others b ne;
+          })
           (record {
             valid = v3;
             at = pos (top - length words);
@@ -368,7 +380,7 @@ module _ (g : Link) (linked : Linked g) (p : PartSeen) (ip : IsTrusted g p) (top
           (load_goes look Plain r Stk _ s1 (stack_cap (ranges_of p) top (pos (top - length words)))
           (top - length words) x (look x) free.no_pc refl refl refl la ha there refl e
           (sym (is_linear-face (look x)) ∙ e)) refl refl
-          (λ v2 at2. last s2 x refl there front h.globs v2 at2)
+          (λ v2 at2. last s2 x refl there front h.globs (λ b ne. refl) v2 at2)
       by_kind true e v1 at1 =
           let s2 = put (put (put s1 (Cell (top - length words)) (zero_word Plain)) (R r) x) (R Pc)
           (Plain (next_pc g linked p (k + 1))) in
@@ -376,8 +388,9 @@ module _ (g : Link) (linked : Linked g) (p : PartSeen) (ip : IsTrusted g p) (top
           (top - length words) (zero_word Plain)
           (load_linear_goes look Plain r Stk _ s1 (stack_cap (ranges_of p) top (pos (top - length words)))
           (top - length words) x (look x) free.no_pc refl refl refl refl la ha there refl e
-          (sym (is_linear-face (look x)) ∙ e)) refl refl (λ _. zero_public g)
+          (sym (is_linear-face (look x)) ∙ e)) refl refl (λ _. zero_public g) may
           (λ v2 at2. last s2 (zero_word Plain) refl
           (cell-set_same o.maps.cells (top - length words) (zero_word Plain))
           (slots_kept o.maps.cells front)
-          (data_apart g linked mem (top - length words) (zero_word Plain) o.maps.cells lb hb h.globs) v2 at2)
+          (data_apart g linked mem (top - length words) (zero_word Plain) o.maps.cells lb hb h.globs)
+          (λ b ne. cell-set_other o.maps.cells (top - length words) b (zero_word Plain) ne) v2 at2)

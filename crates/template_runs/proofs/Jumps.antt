@@ -1,6 +1,6 @@
 -- The jumps of bodies: t2 is led to an offset of the part, and pc goes there.
-use Rattle.std.proofs.Common.{◌≡◌, ℕ, ◌+◌, ◌<◌, ◌≤◌, ℤ, pos, ◌+ℤ◌, List, None, true, false, refl, ap}
-use Rattle.std.proofs.Common.{subst, arith, length}
+use Rattle.std.proofs.Common.{◌≡◌, ℕ, ◌+◌, ◌<◌, ◌≤◌, ℤ, pos, ◌+ℤ◌, List, None, true, false, refl, ap, subst}
+use Rattle.std.proofs.Common.{arith, length}
 use Rattle.std.proofs.lemmas.Int.{ints}
 use Rattle.cap_words.specs.declared.Word.TheVariants.{Int, Mem}
 use Rattle.cap_words.specs.Linear.{is_linear}
@@ -22,9 +22,9 @@ use Rattle.overlay_machine.specs.Link.{Link, IsTrusted, ranges_of}
 use Rattle.overlay_machine.specs.Linked.{Linked}
 use Rattle.overlay_machine.proofs.invariant.Facts.{in_code, code_small}
 use Rattle.template_runs.proofs.Numbers.{fits_small}
-use Rattle.template_runs.specs.Runs.{Makes, Runs}
+use Rattle.template_runs.specs.Runs.{Makes, Runs, is_inside}
 use Rattle.template_runs.proofs.Valid.{Valid, valid_same}
-use Rattle.template_runs.proofs.Steps.{At, Code, next_pc, go_to, makes}
+use Rattle.template_runs.proofs.Steps.{At, Code, next_pc, go_to, makes, inside_here}
 use Rattle.template_runs.proofs.Rows.{moved}
 use Rattle.template_runs.proofs.Data.{Away, with_reg, set_law, skip_law, skipped}
 use Rattle.template_runs.proofs.Elements.{free_t2}
@@ -92,7 +92,8 @@ module _ (g : Link) (linked : Linked g) (p : PartSeen) (ip : IsTrusted g p) (w t
 
     -- where what is wanted behind the jump is another property: a loop goes back with a step less
     pub back_law : (later want : Runs g.layout)
-        → ((n c : ℕ) (o q : OState) → Makes g.layout n None o q → later.Good c q → want.Good (n + c) o)
+        → ((n c : ℕ) (o q : OState) → Makes g.layout n None o q → is_inside g.layout q ≡ true
+        → q.maps.cells ≡ o.maps.cells → later.Good c q → want.Good (n + c) o)
         → (c b : ℕ) (o : OState) → Code g linked p k (leading far (Jmp T2)) → At g linked p k o
         → Away' o → ((q : OState) → Away' q → At g linked p to q → Kept o q → later.Good b q) → 3 + b ≤ c
         → want.Good c o
@@ -104,7 +105,7 @@ module _ (g : Link) (linked : Linked g) (p : PartSeen) (ip : IsTrusted g p) (w t
         (put s.maps (R Pc) s.maps.regs.t2)
         (jmp_goes look Plain T2 _ s.maps s.maps (stays look Plain s.maps (R T2) refl)) in
         let at2 : At g linked p to (gone s) = record { trusted = at1.trusted; pc = refl } in
-        step 1 b s (gone s) k1 (u (gone s)
+        step 1 b s (gone s) k1 (inside_here g linked p to (gone s) at2) refl (u (gone s)
         (gone_away s h1 (valid_same g linked s (gone s) h1.valid k1.goes_on refl refl)) at2
         (record { g0 = refl; a0 = refl }))) le1
 

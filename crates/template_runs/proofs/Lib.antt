@@ -21,3 +21,6 @@ pub mod Operators
 pub mod Entering
 pub mod Taking
 pub mod Shared
+pub mod Clean
+pub mod Quiet
+pub mod Shows

@@ -1,14 +1,13 @@
 -- What a step of untrusted code does: it stays outside, enters a procedure, returns to the newest frame, or
 -- ends.
-use Rattle.std.proofs.Common.{◌≡◌, ◌≢◌, ◌⊎◌, inl, inr, ℕ, ◌+◌, ◌≤◌, pos, ◌+ℤ◌, List, [], ◌∷◌}
-use Rattle.std.proofs.Common.{Option, Some, None, Bool, true, false, refl, sym, ap, ◌∙◌, subst, arith}
-use Rattle.std.proofs.Common.{eqb-true}
+use Rattle.std.proofs.Common.{◌≡◌, ◌≢◌, ◌⊎◌, inl, inr, ℕ, ◌+◌, ◌≤◌, pos, ◌+ℤ◌, List, [], ◌∷◌, Option, Some}
+use Rattle.std.proofs.Common.{None, Bool, true, false, refl, sym, ap, ◌∙◌, subst, arith, eqb-true}
 use Rattle.std.specs.Prelude.{find, is_some, option_map, option_and_then, ◌&&◌, ◌==◌, if◌then◌else◌}
 use Rattle.std.proofs.lemmas.Bool.{and_parts, cases_lt}
 use Rattle.cap_words.specs.declared.Content.{Content}
 use Rattle.cap_words.specs.Faces.{address}
 use Rattle.call_sequence.specs.SequenceRuns.{Outside}
-use Rattle.lcm_machine.specs.Closed.{Closed}
+use Rattle.lcm_machine.specs.Closed.{Closed, AllAre, OpensTo}
 use Rattle.cap_words.specs.declared.Word.{Word}
 use Rattle.cap_words.specs.declared.Word.TheVariants.{Int, Mem, Seal, Sealed}
 use Rattle.cap_words.specs.declared.Sealable.{Sealable}
@@ -26,7 +25,6 @@ use Rattle.lcm_machine.specs.Places.{reg}
 use Rattle.lcm_machine.specs.Cells.{cell}
 use Rattle.lcm_machine.specs.Table.{target, unsealed, memory_content}
 use Rattle.lcm_machine.specs.Row.{went, faces, opens, cell_faces, fetch, some, row, step_of}
-use Rattle.lcm_machine.specs.Closed.{AllAre, OpensTo}
 use Rattle.lcm_machine.proofs.RegLemmas.{cases_reg}
 use Rattle.lcm_machine.proofs.RowLemmas.{fetch_normal}
 use Rattle.lcm_machine.proofs.TouchLemmas.{after_went, row_others, fetched_row, used_target}
@@ -86,7 +84,7 @@ xjmp_or (Xjmp r1 r2) = inl (r1, r2, refl)
 xjmp_or _ = inr (λ r1 r2 e. cc)
 
 -- a word that opens to a capability
-opened_is : (w : Word) (code : Opened) (c : CapFields) → opened_of w ≡ Some code
+pub opened_is : (w : Word) (code : Opened) (c : CapFields) → opened_of w ≡ Some code
     → memory_content code.content ≡ Some c → w ≡ Sealed code.seal (MemIn c)
 opened_is (Int z) code c o m = absurd cc
 opened_is (Mem d) code c o m = absurd cc

@@ -269,13 +269,13 @@ module _ (g : Link) (linked : Linked g) where
       pub store_law : (want : Runs g.layout) (c b : ℕ) → (r : Reg) → (words : List OWord) (j : ℕ) (o : OState)
           → Code g linked p k (store_slot w j r) → j < length words
           → reg (with_stk o.maps (pos (top - j)) k).regs r ≡ reg o.maps.regs r
-          → is_linear (look (reg o.maps.regs r)) ≡ false → IsPublic g (reg o.maps.regs r)
+          → is_linear (look (reg o.maps.regs r)) ≡ false → IsPublic g (reg o.maps.regs r) → want.May (top - j)
           → At g linked p k o → (h : Here p w top words mem fs o)
           → (Here p w top (with_at words j (reg o.maps.regs r)) mem fs (stored o h.at r (top - j))
           → At g linked p (k + 1 + 1 + 1) (stored o h.at r (top - j))
           → want.Good b (stored o h.at r (top - j)))
           → 3 + b ≤ c → want.Good c o
-      store_law want c b r words j o code lt same nl public at h u le =
+      store_law want c b r words j o code lt same nl public may at h u le =
           let l = h.low in
           let hi = h.high in
           let cu = h.cursor in
@@ -317,7 +317,7 @@ module _ (g : Link) (linked : Linked g) where
           (cca_goes look Plain Stk (Imm (up w j)) _ o.maps (stack_cap (ranges_of p) top h.at) (up w j)
           (pos (top - j)) refl h.stk refl e_up fit_a) refl refl (λ v1 at1.
           go_set g linked p (k + 1) (Store Stk r) (record o { maps = s1 }) v1 at1 code.1.0 refl want _ s2
-          (top - j) x does refl refl (λ _. public) (λ v2 at2.
+          (top - j) x does refl refl (λ _. public) may (λ v2 at2.
           go g linked p (k + 1 + 1) (Cca Stk (Imm (down w j))) (record o { maps = s2 }) v2 at2 code.1.1.0 refl
           want b s3 (cca_goes look Plain Stk (Imm (down w j)) _ s2
           (stack_cap (ranges_of p) top (pos (top - j))) (down w j) h.at refl refl refl e_down fit_z) refl

@@ -12,8 +12,7 @@ use Rattle.overlay_machine.specs.Link.{Link}
 use Rattle.overlay_machine.specs.Linked.{Linked}
 use Rattle.trace_tool.specs.Layout.{site_of}
 use Rattle.proc_templates.specs.Items.{Item, does, guards, goes, goes_if, finishes, label, site, entry}
-use Rattle.proc_templates.specs.Items.{leaves}
-use Rattle.proc_templates.specs.Items.{zero_of, wiped, leading}
+use Rattle.proc_templates.specs.Items.{leaves, zero_of, wiped, leading}
 use Rattle.template_runs.proofs.Steps.{Placed, Code}
 use Rattle.template_runs.proofs.Calls.{SiteHere}
 

@@ -35,7 +35,7 @@ use Rattle.overlay_machine.proofs.invariant.Facts.{in_code}
 use Rattle.overlay_machine.proofs.invariant.View.{site_of}
 use Rattle.trace_tool.specs.Views.{flat_view}
 use Rattle.template_runs.specs.Public.{IsPublic, IsFreeAt}
-use Rattle.template_runs.specs.Runs.{is_inside, Makes, Runs, Failing, Halting}
+use Rattle.template_runs.specs.Runs.{is_inside, Makes, Runs, Failing, Halting, Sets, no_cell, one_cell}
 use Rattle.template_runs.proofs.Valid.{Valid, valid_same, valid_set}
 
 module _ (g : Link) (linked : Linked g) where
@@ -152,13 +152,14 @@ module _ (g : Link) (linked : Linked g) where
       -- one step by the table, to an offset of the part
       go_by : (want : Runs g.layout) (c to : ℕ) (s : State OWord)
           → row look Plain i (next_pc p k) o.maps ≡ went s → PcAt look (ranges_of p) to s.regs
-          → Valid g linked (record o { maps = s })
+          → Valid g linked (record o { maps = s }) → Sets want.May o (record o { maps = s })
           → (Valid g linked (record o { maps = s }) → At p to (record o { maps = s })
           → want.Good c (record o { maps = s }))
           → want.Good (1 + c) o
-      go_by want c to s e pc v2 u =
+      go_by want c to s e pc v2 sets u =
+          let at2 : At p to (record o { maps = s }) = record { trusted = at.trusted; pc = pc } in
           want.go_on 1 c o (record o { maps = s }) (makes s e)
-          (u v2 (record { trusted = at.trusted; pc = pc }))
+          (inside_here p to (record o { maps = s }) at2) sets (u v2 at2)
 
       pub go_to : (want : Runs g.layout) (c to : ℕ) (s : State OWord)
           → row look Plain i (next_pc p k) o.maps ≡ went s → PcAt look (ranges_of p) to s.regs
@@ -168,7 +169,7 @@ module _ (g : Link) (linked : Linked g) where
           → want.Good (1 + c) o
       go_to want c to s e pc same u =
           let q = record o { maps = s } in
-          go_by want c to s e pc (valid_same g linked o q v (makes s e).goes_on same refl) u
+          go_by want c to s e pc (valid_same g linked o q v (makes s e).goes_on same refl) (no_cell same) u
 
       at_next : (s : State OWord) → s.regs.pc ≡ Plain (next_pc p k) → PcAt look (ranges_of p) (k + 1) s.regs
       at_next s pc =
@@ -188,14 +189,14 @@ module _ (g : Link) (linked : Linked g) where
       -- where it sets a cell
       pub go_set : (want : Runs g.layout) (c : ℕ) (s : State OWord) (a : ℕ) (x : OWord)
           → row look Plain i (next_pc p k) o.maps ≡ went s → s.regs.pc ≡ Plain (next_pc p k)
-          → s.cells ≡ set_cell o.maps.cells a x → (IsFreeAt g a → IsPublic g x)
+          → s.cells ≡ set_cell o.maps.cells a x → (IsFreeAt g a → IsPublic g x) → want.May a
           → (Valid g linked (record o { maps = s }) → At p (k + 1) (record o { maps = s })
           → want.Good c (record o { maps = s }))
           → want.Good (1 + c) o
-      go_set want c s a x e pc set public u =
+      go_set want c s a x e pc set public may u =
           let q = record o { maps = s } in
           go_by want c (k + 1) s e (at_next s pc)
-          (valid_set g linked o q v (makes s e).goes_on a x set refl public) u
+          (valid_set g linked o q v (makes s e).goes_on a x set refl public) (one_cell a x may set) u
 
       pub stop : (want : Failing g.layout) (c : ℕ) (cause : FailCause) (z : ℤ)
           → row look Plain i (next_pc p k) o.maps ≡ failed cause z → 1 ≤ c → want.runs.Good c o

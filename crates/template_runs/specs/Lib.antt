@@ -1,3 +1,4 @@
 pub mod Runs
 pub mod Public
 pub mod Sharing
+pub mod Border

@@ -5,6 +5,8 @@ use Rattle.lcm_isa.specs.declared.Reg.TheVariants.{Pc, A0}
 use Rattle.lcm_machine.specs.Row.{faces}
 use Rattle.trusted_border.specs.declared.layout.Layout.{Layout}
 use Rattle.trusted_border.specs.declared.events.Event.{Event}
+use Rattle.lcm_machine.specs.Cells.{set_cell}
+use Rattle.overlay_machine.specs.declared.words.OWord.{OWord}
 use Rattle.overlay_machine.specs.Words.{look}
 use Rattle.overlay_machine.specs.State.{OState}
 use Rattle.overlay_machine.specs.Step.{goes, halts, fails, overlay_step, weight_of}
@@ -23,12 +25,20 @@ pub record Makes (l : Layout) (n : ℕ) (e : Option Event) (o q : OState) : Type
   pub weight : weight_of l o ≡ n
   pub event : step_event l o q ≡ e
 
+-- a stretch sets at most one cell, at an address at which the run may
+pub data Sets (May : ℕ → Type 0) (o q : OState) : Type 0 where
+  no_cell : q.maps.cells ≡ o.maps.cells → Sets May o q
+  one_cell : (a : ℕ) (x : OWord) → May a → q.maps.cells ≡ set_cell o.maps.cells a x → Sets May o q
+
 -- What is wanted of runs: a property of states under a credit. It holds with more credit, and before a step
--- without an event if it holds behind it with the step's weight less.
+-- without an event if it holds behind it with the step's weight less, where the step sets no cell but those
+-- that it may.
 pub record Runs (l : Layout) : Type 1 where
   pub Good : ℕ → OState → Type 0
   pub spend : (b c : ℕ) (o : OState) → b ≤ c → Good b o → Good c o
-  pub go_on : (n c : ℕ) (o q : OState) → Makes l n None o q → Good c q → Good (n + c) o
+  pub May : ℕ → Type 0
+  pub go_on : (n c : ℕ) (o q : OState) → Makes l n None o q → is_inside l q ≡ true → Sets May o q → Good c q
+      → Good (n + c) o
 
 -- and it holds where a step fails that the credit pays
 pub record Failing (l : Layout) : Type 1 where

@@ -1,0 +1,47 @@
+-- The same of the plain machine: what it holds where sources let go of control.
+use Rattle.std.specs.Prelude.{◌≡◌, ◌⊎◌, ℕ, ◌≤◌, pos, List, None, Some}
+use Rattle.cap_words.specs.declared.Word.{Word}
+use Rattle.cap_words.specs.declared.Word.TheVariants.{Int}
+use Rattle.lcm_isa.specs.declared.Reg.{Reg}
+use Rattle.lcm_machine.specs.Places.{reg}
+use Rattle.lcm_machine.specs.Cells.{cell}
+use Rattle.lcm_machine.specs.Run.{plain}
+use Rattle.component_linker.specs.Parts.{PartSeen}
+use Rattle.component_linker.specs.Started.{StartSeen}
+use Rattle.component_linker.specs.LinkedStarts.{IsStartOf}
+use Rattle.overlay_machine.specs.State.{OState, framed}
+use Rattle.overlay_machine.specs.Flat.{flat}
+use Rattle.overlay_machine.specs.Link.{Link}
+use Rattle.trace_tool.specs.Layout.{layout}
+use Rattle.trace_tool.specs.Headline.{Matched}
+use Rattle.proc_language.specs.declared.module.ModuleFields.{ModuleFields}
+use Rattle.template_runs.specs.Public.{IsFreeAt}
+use Rattle.source_laws.specs.Secrets.{LetsGo, RanLast}
+use Rattle.source_starts.specs.Sources.{AreSources, linked_at}
+
+-- After so many instructions code outside ran last, or the run began in trusted code, and after so many
+-- trusted code has let go. Then the registers are those of the overlay, flattened; and each cell that is no
+-- trusted part's own and in no frame of an open call is as it was after the first ones, or is a stack cell
+-- that holds 0.
+pub record PlainShowsNoMore (g : Link) (s : StartSeen) (o q : OState) : Type 0 where
+  pub last : OState
+  pub ran : RanLast s o last
+  pub from : ℕ
+  pub to : ℕ
+  pub come : Matched s from last
+  pub gone : Matched s to q
+  pub later : from ≤ to
+  pub went : (plain to s.state).end ≡ None
+  pub registers : (d : Reg)
+      → reg (plain to s.state).maps.regs d ≡ flat (layout s) q.frames (reg q.maps.regs d)
+  pub cells : (a : ℕ) (w : Word) → IsFreeAt g a → framed q.frames a ≡ None
+      → cell (plain to s.state).maps.cells a ≡ Some w
+      → (cell (plain from s.state).maps.cells a ≡ Some w)
+      ⊎ ((w ≡ Int (pos 0)) × (g.layout.stack.base ≤ a) × (a ≤ g.layout.stack.end))
+
+-- of each point at which linked sources let go of control
+abbrev pub PlainRunsLeaveNothing : Type 0
+PlainRunsLeaveNothing =
+    (modules : List ModuleFields) (parts : List PartSeen) (size : ℕ) (s : StartSeen) → IsStartOf parts size s
+    → AreSources modules parts → (o p q : OState) → LetsGo s o p q
+    → PlainShowsNoMore (linked_at parts size s) s o q

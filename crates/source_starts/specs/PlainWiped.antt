@@ -1,0 +1,65 @@
+-- The same of the plain machine: which cells of the stack it holds 0 in where sources let go of control.
+use Rattle.std.specs.Prelude.{◌≡◌, ℕ, ◌≤◌, pos, true, false, List, length, map, Option, None, Some}
+use Rattle.cap_words.specs.declared.Word.{Word}
+use Rattle.cap_words.specs.declared.Word.TheVariants.{Int, Mem}
+use Rattle.lcm_isa.specs.declared.Reg.TheVariants.{Stk}
+use Rattle.lcm_machine.specs.Places.{reg}
+use Rattle.lcm_machine.specs.Cells.{cell}
+use Rattle.lcm_machine.specs.Run.{plain}
+use Rattle.call_sequence.specs.SequenceRuns.{Outside, stack_cap}
+use Rattle.component_linker.specs.Parts.{PartSeen}
+use Rattle.component_linker.specs.Started.{StartSeen}
+use Rattle.component_linker.specs.LinkedStarts.{IsStartOf}
+use Rattle.overlay_machine.specs.declared.words.OWord.{OWord}
+use Rattle.overlay_machine.specs.State.{OState, framed}
+use Rattle.overlay_machine.specs.Step.{goes, overlay_step}
+use Rattle.overlay_machine.specs.Starting.{overlay_at}
+use Rattle.overlay_machine.specs.Link.{Link}
+use Rattle.trace_tool.specs.Layout.{layout}
+use Rattle.trace_tool.specs.Headline.{Matched}
+use Rattle.proc_language.specs.declared.module.ModuleFields.{ModuleFields}
+use Rattle.proc_program.specs.Lower.{part_of}
+use Rattle.proc_semantics.specs.Marked.{Thing}
+use Rattle.template_runs.specs.Runs.{is_inside}
+use Rattle.template_runs.specs.Public.{IsFreeAt}
+use Rattle.template_runs.specs.Border.{low_at}
+use Rattle.source_laws.specs.Seen.{Back, Shown}
+use Rattle.source_laws.specs.Wiped.{TellsSince, WipedTold}
+use Rattle.source_starts.specs.Sources.{AreSources, linked_at}
+
+-- After so many instructions code outside ran last, or the run began in trusted code, and after so many it
+-- has let go: stk is the stack up to an end, its cells from the lowest wiped one to that end hold 0, and each
+-- other cell that is no trusted part's own and in no frame of an open call is as it was after the first ones.
+pub record PlainWiped (g : Link) (s : StartSeen) (low : Option ℕ) (b q : OState) : Type 0 where
+  pub from : ℕ
+  pub to : ℕ
+  pub come : Matched s from b
+  pub gone : Matched s to q
+  pub later : from ≤ to
+  pub went : (plain to s.state).end ≡ None
+  pub end : ℕ
+  pub stk : reg (plain to s.state).maps.regs Stk ≡ Mem (stack_cap g.layout.stack.base end end)
+  pub wiped : (a : ℕ) → low_at g.layout.stack.base end low ≤ a → a ≤ end
+      → cell (plain to s.state).maps.cells a ≡ Some (Int (pos 0))
+  pub kept : (a : ℕ) (w : Word) → IsFreeAt g a → framed q.frames a ≡ None
+      → Outside a (low_at g.layout.stack.base end low) end
+      → cell (plain to s.state).maps.cells a ≡ Some w → cell (plain from s.state).maps.cells a ≡ Some w
+
+-- the lowest wiped cell is the one that the refined meaning tells of
+pub record PlainWipedTold (modules : List ModuleFields) (g : Link) (size : ℕ) (s : StartSeen)
+    (es : List Shown) (is : List (Thing OWord Back)) (b q : OState) : Type 0 where
+  pub overlay : WipedTold g (map part_of modules) size (map (λ x. x.item) is) (length es) b q
+  pub plain : PlainWiped g s overlay.low b q
+
+-- wherever the sources of a start let go of control
+abbrev pub PlainWipedAlways : List ModuleFields → List PartSeen → ℕ → StartSeen → Type 0
+PlainWipedAlways modules parts size s =
+    (es : List Shown) (is : List (Thing OWord Back)) (b p q : OState)
+    → TellsSince (layout s) (overlay_at s).state es is b p → is_inside (layout s) p ≡ true
+    → overlay_step (layout s) p ≡ goes q → is_inside (layout s) q ≡ false
+    → PlainWipedTold modules (linked_at parts size s) size s es is b q
+
+abbrev pub PlainRunsWipe : Type 0
+PlainRunsWipe =
+    (modules : List ModuleFields) (parts : List PartSeen) (size : ℕ) (s : StartSeen) → IsStartOf parts size s
+    → AreSources modules parts → PlainWipedAlways modules parts size s
