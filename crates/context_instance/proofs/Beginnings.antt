@@ -1,0 +1,362 @@
+-- The starts of both modules beside the adversary, and that they are beside each other.
+use Rattle.std.proofs.Common.{◌≡◌, ◌⊎◌, inl, inr, ◌↔◌, ℕ, zero, suc, ◌+◌, ◌-◌, ◌<◌, ◌≤◌, Bool, true, false}
+use Rattle.std.proofs.Common.{List, [], ◌∷◌, map, length}
+use Rattle.std.proofs.Common.{Some, None, Ok, refl, sym, ap, ◌∙◌, arith, subst, rules}
+use Rattle.std.specs.Prelude.{slice_get, ◌&&◌, ◌||◌, nat_le}
+use Rattle.std.specs.List.{Contains}
+use Rattle.std.proofs.lemmas.Bool.{and_parts, cases_lt}
+use Rattle.std.proofs.Common.{leb-true}
+use Rattle.std.proofs.lemmas.List.Sorted.{IsPermutation-refl}
+use Rattle.lcm_isa.specs.Numbers.{number_of}
+use Rattle.lcm_machine.specs.declared.cells.Span.{Span}
+use Rattle.lcm_machine.specs.Regions.{Region}
+use Rattle.lcm_machine.specs.Spans.{AreSpans}
+use Rattle.lcm_machine.proofs.Offers.{bases_rise}
+use Rattle.lcm_machine.proofs.RegionLemmas.{contains_cases, contains_none}
+use Rattle.component_file.specs.declared.component.ComponentFields.{ComponentFields}
+use Rattle.component_file.specs.Limits.{IsComponent}
+use Rattle.component_check.specs.Verdict.{NoneBroken, check_from}
+use Rattle.component_check.specs.Rules.{rules_c}
+use Rattle.call_sequence.specs.SequenceRuns.{Outside}
+use Rattle.call_sequence.specs.Sequences.{call_code, return_code, entry_code}
+use Rattle.flow_check.specs.Verdict.{IsKept}
+use Rattle.component_linker.specs.Parts.{PartSeen, IsPart}
+use Rattle.component_linker.specs.Pairs.{NoneIsBroken, IsFirstBrokenIn, by_part}
+use Rattle.component_linker.specs.Links.{rules_l, rule_at, l10}
+use Rattle.component_linker.specs.Regions.{regions_of, region_span, stack_span, in_regions, in_region}
+use Rattle.component_linker.specs.Standing.{placed}
+use Rattle.component_linker.specs.Start.{Exported, main_of, stack_base_of, start_cell, start_regs, IsStart}
+use Rattle.component_linker.specs.Started.{StartSeen, Starts}
+use Rattle.component_linker.specs.Linked as linked
+use Rattle.component_linker.specs.LinkedStarts.{IsLinkedStart, IsStartOf}
+use Rattle.component_linker.specs.Owners.{AreSites, IsSite}
+use Rattle.component_linker.specs.declared.owners.Site.{Site}
+use Rattle.component_linker.proofs.FirstIn.{first_broken_in}
+use Rattle.component_linker.proofs.LinksKept.{are_linked}
+use Rattle.component_linker.proofs.PairStart.{filled, cells_filled, owners_of, owners_are}
+use Rattle.overlay_machine.specs.Link.{Link, IsTrusted, ranges_of, regions}
+use Rattle.template_runs.specs.Public.{IsFreeAt}
+use Rattle.proc_names.specs.Names.{variable_named}
+use Rattle.proc_templates.specs.Items.{put, instrs}
+use Rattle.proc_templates.specs.Templates.{before_epilogue}
+use Rattle.proc_templates.specs.Compiled.{frame_of, laid_of, lay_proc, data_of, exports_of, imports_of}
+use Rattle.proc_templates.specs.Compiled.{component_of, compiled}
+use Rattle.source_starts.specs.Sources.{AreSources, linked_at}
+use Rattle.context_laws.specs.Meanings.{SameUntrusted, AreBeside}
+use Rattle.context_instance.specs.Doubles.{sums, keeps}
+use Rattle.context_instance.proofs.Modules.{limits, limits_too, resolved, resolved_too}
+use Rattle.context_instance.proofs.Links.{other, parts_of, each_of, no_rule, one_limits, two_limits, one_flow}
+use Rattle.context_instance.proofs.Links.{two_flow}
+use Rattle.context_instance.proofs.Links.{one_checked, two_checked, one_linked, two_linked}
+
+abbrev pub main : Exported
+main = record {
+  part = other;
+  export = record { name = 109 ∷ 97 ∷ 105 ∷ 110 ∷ []; offset = 0; shared = true };
+}
+
+abbrev pub stack : Span
+stack = record { base = 300; end = 307 }
+
+or_cases : (a b : Bool) → (a || b) ≡ true → (a ≡ true) ⊎ (b ≡ true)
+or_cases true b e = inl refl
+or_cases false b e = inr e
+
+-- the regions, where a module has so many code and data words
+abbrev pub regions_are : ℕ → ℕ → List Region
+regions_are n d =
+    record { base = 1; end = n; linear = false } ∷ record { base = 200; end = 200 + d - 1; linear = false }
+    ∷ record { base = 250; end = 258; linear = false } ∷ record { base = 262; end = 265; linear = false }
+    ∷ record { base = 300; end = 307; linear = true } ∷ []
+
+-- what is asked of a module's component
+pub record Links (c : ComponentFields) (n d : ℕ) : Type 0 where
+  pub fits : IsComponent c
+  pub rules : NoneBroken (rules_c c true)
+  pub kept : IsKept c
+  pub links : NoneIsBroken (rules_l (parts_of c) 8)
+  pub room : NoneIsBroken (l10 (parts_of c) ∷ [])
+  pub main_is : main_of (parts_of c) ≡ Some main
+  pub still : c.movable ≡ false
+  pub no_sites : c.sites ≡ []
+  pub code_base : c.code_base ≡ 1
+  pub data_base : c.data_base ≡ 200
+  pub code_long : length c.code ≡ n
+  pub data_long : length c.data_words ≡ d
+  pub stack_base : c.stack_base ≡ 300
+  pub stack_is : stack_span (parts_of c) 8 ≡ Some stack
+  pub regions : regions_of (parts_of c) 8 ≡ regions_are n d
+  pub spans : AreSpans 0 (map region_span (regions_of (parts_of c) 8))
+
+pub one_links : Links (compiled sums) 71 2
+unfolding regions_of number_of entry_code call_code return_code component_of frame_of laid_of lay_proc
+    before_epilogue put instrs data_of exports_of imports_of variable_named l10
+one_links = record {
+  fits = one_limits;
+  rules = no_rule (compiled sums) true one_checked;
+  kept = one_flow;
+  links = subst (IsFirstBrokenIn rule_at (rules_l (parts_of (compiled sums)) 8)) one_linked
+      (first_broken_in rule_at (rules_l (parts_of (compiled sums)) 8));
+  room = (let e : check_from rule_at 1 (map by_part (l10 (parts_of (compiled sums)) ∷ [])) ≡ Ok tt = refl in
+      subst (IsFirstBrokenIn rule_at (l10 (parts_of (compiled sums)) ∷ [])) e
+      (first_broken_in rule_at (l10 (parts_of (compiled sums)) ∷ [])));
+  main_is = refl;
+  still = refl;
+  no_sites = refl;
+  code_base = refl;
+  data_base = refl;
+  code_long = refl;
+  data_long = refl;
+  stack_base = refl;
+  stack_is = refl;
+  regions = refl;
+  spans = search (rules, arith);
+}
+
+pub two_links : Links (compiled keeps) 109 3
+unfolding regions_of number_of entry_code call_code return_code component_of frame_of laid_of lay_proc
+    before_epilogue put instrs data_of exports_of imports_of variable_named l10
+two_links = record {
+  fits = two_limits;
+  rules = no_rule (compiled keeps) true two_checked;
+  kept = two_flow;
+  links = subst (IsFirstBrokenIn rule_at (rules_l (parts_of (compiled keeps)) 8)) two_linked
+      (first_broken_in rule_at (rules_l (parts_of (compiled keeps)) 8));
+  room = (let e : check_from rule_at 1 (map by_part (l10 (parts_of (compiled keeps)) ∷ [])) ≡ Ok tt = refl in
+      subst (IsFirstBrokenIn rule_at (l10 (parts_of (compiled keeps)) ∷ [])) e
+      (first_broken_in rule_at (l10 (parts_of (compiled keeps)) ∷ [])));
+  main_is = refl;
+  still = refl;
+  no_sites = refl;
+  code_base = refl;
+  data_base = refl;
+  code_long = refl;
+  data_long = refl;
+  stack_base = refl;
+  stack_is = refl;
+  regions = refl;
+  spans = search (rules, arith);
+}
+
+-- ---- a start
+
+module _ (c : ComponentFields) (n d : ℕ) (is : Links c n d) where
+  abbrev pub P : List PartSeen
+  P = parts_of c
+
+  each : (k : ℕ) (p : PartSeen) → slice_get P k ≡ Some p → IsPart p
+  each = each_of c is.fits is.rules is.kept
+
+  abbrev pub start : StartSeen
+  start = record {
+    state = record {
+      maps = record {
+        regs = start_regs P 8 main;
+        cells = filled (start_cell P 8) 1048576;
+        spans = map region_span (regions_of P 8);
+      };
+      count = 0;
+      end = None;
+    };
+    sites = [];
+    owners = owners_of c other.component;
+    stack = stack;
+  }
+
+  made : linked.Linked P 8
+  made = are_linked P 8 each is.links
+
+  no_site : (s : Site) → IsSite P s → ⊥
+  no_site s i = by s.part i.of i.of_is i.trusted i.offset_is
+    where
+      by : (k : ℕ) (p : PartSeen) → slice_get P k ≡ Some p → p.trusted ≡ true
+          → slice_get p.component.sites s.index ≡ Some i.offset → ⊥
+      by zero p at t e =
+          let k : record { component = c; trusted = true } ≡ p = cc in
+          let z : None ≡ Some i.offset = sym (ap (λ xs. slice_get xs s.index) is.no_sites)
+          ∙ ap (λ (x : PartSeen). slice_get x.component.sites s.index) k ∙ e in
+          cc
+      by (suc zero) p at t e =
+          let k : other ≡ p = cc in
+          let bad : false ≡ true = ap (λ (x : PartSeen). x.trusted) k ∙ t in
+          cc
+      by (suc (suc k)) p at t e = cc
+
+  sites_are : AreSites P []
+  sites_are = record {
+    ascend = λ i j x lt le. absurd (omega (arith, lt, le));
+    all = λ s. (λ m. absurd (contains_none s m), λ i. absurd (no_site s i));
+  }
+
+  is_start : IsStart P 8 start.state
+  is_start = record {
+    main = main;
+    main_is = is.main_is;
+    regs = refl;
+    cells = cells_filled P 8 made;
+    spans = record { same = IsPermutation-refl _; ascend = bases_rise 0 _ is.spans };
+    count = refl;
+    end = refl;
+  }
+
+  starts : Starts P 8 start
+  starts = record {
+    state = is_start;
+    sites = sites_are;
+    owners = owners_are c other.component (let b = is.code_base in omega (arith, b));
+    stack = is.stack_is;
+  }
+
+  is_linked : IsLinkedStart P 8 start
+  is_linked = record { accepted = each; room = is.room; rules = is.links; starts = starts }
+
+  pub placed_same : placed P 8 ≡ P
+  placed_same = rw (is.still) refl
+
+  pub is_start_of : IsStartOf P 8 start
+  is_start_of = subst (λ ps. IsLinkedStart ps 8 start) (sym placed_same) is_linked
+
+  -- ---- where it isn't free
+
+  abbrev K : Link
+  K = linked_at P 8 start
+
+  abbrev one : PartSeen
+  one = record { component = c; trusted = true }
+
+  one_there : IsTrusted K one
+  one_there = (subst (λ ps. Contains ps one) (sym placed_same) (0, omega arith, refl), refl)
+
+  only_one : (p : PartSeen) → IsTrusted K p → one ≡ p
+  only_one p t = elim (contains_cases one (other ∷ []) p (subst (λ ps. Contains ps p) placed_same t.0))
+      as (λ _. one ≡ p) [
+        | inl e ↦ e
+        | inr m ↦ elim (contains_cases other [] p m) as (λ _. one ≡ p) [
+          | inl e ↦ absurd (let bad : false ≡ true = ap (λ (x : PartSeen). x.trusted) e ∙ t.1 in cc)
+          | inr k ↦ absurd (contains_none p k)
+        ]
+      ]
+
+  -- below the adversary there are the regions of the module alone
+  low : (a : ℕ) → a < 250 → in_regions a (regions_are n d) ≡ true
+      → ((1 ≤ a) × (a ≤ n)) ⊎ ((200 ≤ a) × (a ≤ 200 + d - 1))
+  low a lt e = elim (or_cases (in_region a (record { base = 1; end = n; linear = false })) _ e)
+      as (λ _. ((1 ≤ a) × (a ≤ n)) ⊎ ((200 ≤ a) × (a ≤ 200 + d - 1))) [
+        | inl x ↦ inl (bounds 1 n x)
+        | inr x ↦ elim (or_cases (in_region a (record { base = 200; end = 200 + d - 1; linear = false })) _ x)
+            as (λ _. ((1 ≤ a) × (a ≤ n)) ⊎ ((200 ≤ a) × (a ≤ 200 + d - 1))) [
+              | inl y ↦ inr (bounds 200 (200 + d - 1) y)
+              | inr y ↦ absurd (
+                  elim (or_cases (in_region a (record { base = 250; end = 258; linear = false })) _ y)
+                  as (λ _. ⊥) [
+                    | inl z ↦ (let b = (bounds 250 258 z).0 in omega (arith, b, lt))
+                    | inr z ↦
+                        elim (or_cases (in_region a (record { base = 262; end = 265; linear = false })) _ z)
+                        as (λ _. ⊥) [
+                          | inl w ↦ (let b = (bounds 262 265 w).0 in omega (arith, b, lt))
+                          | inr w ↦
+                              elim (or_cases (in_region a (record { base = 300; end = 307; linear = true })) _
+                              w)
+                              as (λ _. ⊥) [
+                                | inl v ↦ (let b = (bounds 300 307 v).0 in omega (arith, b, lt))
+                                | inr v ↦ cc
+                              ]
+                        ]
+                  ])
+            ]
+      ]
+    where
+      bounds : (l h : ℕ) → (nat_le l a && nat_le a h) ≡ true → (l ≤ a) × (a ≤ h)
+      bounds l h x = let k = and_parts (nat_le l a) (nat_le a h) x in (leb-true l a k.0, leb-true a h k.1)
+
+  pub high : n ≤ 199 → d ≤ 50 → (a : ℕ) → in_regions a (regions K) ≡ true → IsFreeAt K a ↔ (250 ≤ a)
+  high small few a e = (λ f. by_lt f, λ ge. (λ p t. code_out p t ge, λ p t. data_out p t ge))
+    where
+      here : in_regions a (regions_are n d) ≡ true
+      here = sym (ap (λ ps. in_regions a (regions_of ps 8)) placed_same ∙ ap (in_regions a) is.regions) ∙ e
+
+      cb : c.code_base ≡ 1
+      cb = is.code_base
+
+      db : c.data_base ≡ 200
+      db = is.data_base
+
+      cl : length c.code ≡ n
+      cl = is.code_long
+
+      dl : length c.data_words ≡ d
+      dl = is.data_long
+
+      in_code : (1 ≤ a) → a ≤ n → Outside a c.code_base (c.code_base + length c.code - 1) → ⊥
+      in_code l h (inl x) = omega (arith, l, x, cb)
+      in_code l h (inr x) = omega (arith, h, x, cb, cl)
+
+      in_data : (200 ≤ a) → a ≤ 200 + d - 1 → Outside a c.data_base (c.data_base + length c.data_words - 1)
+          → ⊥
+      in_data l h (inl x) = omega (arith, l, x, db)
+      in_data l h (inr x) = omega (arith, h, x, db, dl)
+
+      by_lt : IsFreeAt K a → 250 ≤ a
+      by_lt f = elim (cases_lt a 250) as (λ _. 250 ≤ a) [
+        | inr ge ↦ ge
+        | inl lt ↦ elim (low a lt here) as (λ _. 250 ≤ a) [
+          | inl x ↦ absurd (in_code x.0 x.1 (f.0 one one_there))
+          | inr x ↦ absurd (in_data x.0 x.1 (f.1 one one_there))
+        ]
+      ]
+
+      code_out : (p : PartSeen) → IsTrusted K p → 250 ≤ a
+          → Outside a (ranges_of p).code_base (ranges_of p).code_last
+      code_out p t ge =
+          subst (λ (q : PartSeen). Outside a (ranges_of q).code_base (ranges_of q).code_last) (only_one p t)
+          (inr (omega (arith, ge, cb, cl, small)))
+
+      data_out : (p : PartSeen) → IsTrusted K p → 250 ≤ a
+          → Outside a (ranges_of p).data_base (ranges_of p).data_last
+      data_out p t ge =
+          subst (λ (q : PartSeen). Outside a (ranges_of q).data_base (ranges_of q).data_last) (only_one p t)
+          (inr (omega (arith, ge, db, dl, few)))
+
+-- ---- both
+
+abbrev pub sums_start : StartSeen
+sums_start = start (compiled sums) 71 2 one_links
+
+abbrev pub keeps_start : StartSeen
+keeps_start = start (compiled keeps) 109 3 two_links
+
+pub sums_starts : IsStartOf (parts_of (compiled sums)) 8 sums_start
+sums_starts = is_start_of (compiled sums) 71 2 one_links
+
+pub keeps_starts : IsStartOf (parts_of (compiled keeps)) 8 keeps_start
+keeps_starts = is_start_of (compiled keeps) 109 3 two_links
+
+pub sums_sources : AreSources (sums ∷ []) (parts_of (compiled sums))
+sums_sources = record { limits = (limits, tt); resolved = (resolved, tt); compiled = refl }
+
+pub keeps_sources : AreSources (keeps ∷ []) (parts_of (compiled keeps))
+keeps_sources = record { limits = (limits_too, tt); resolved = (resolved_too, tt); compiled = refl }
+
+pub sums_main : main_of (placed (parts_of (compiled sums)) 8) ≡ Some main
+sums_main = ap main_of (placed_same (compiled sums) 71 2 one_links) ∙ one_links.main_is
+
+pub keeps_main : main_of (placed (parts_of (compiled keeps)) 8) ≡ Some main
+keeps_main = ap main_of (placed_same (compiled keeps) 109 3 two_links) ∙ two_links.main_is
+
+same_places : (c e : ComponentFields) → SameUntrusted (parts_of c) (parts_of e)
+same_places c e = (inr (refl, refl), (inl (refl, refl), tt))
+
+pub beside : AreBeside (linked_at (parts_of (compiled sums)) 8 sums_start)
+    (linked_at (parts_of (compiled keeps)) 8 keeps_start)
+beside = record {
+  places = subst (λ ps. SameUntrusted ps (placed (parts_of (compiled keeps)) 8))
+      (sym (placed_same (compiled sums) 71 2 one_links))
+      (subst (SameUntrusted (parts_of (compiled sums))) (sym (placed_same (compiled keeps) 109 3 two_links))
+      (same_places (compiled sums) (compiled keeps)));
+  stack = ap stack_base_of (placed_same (compiled sums) 71 2 one_links) ∙ one_links.stack_base
+      ∙ sym two_links.stack_base ∙ sym (ap stack_base_of (placed_same (compiled keeps) 109 3 two_links));
+  free = λ a r t. (
+      let x = high (compiled sums) 71 2 one_links (omega arith) (omega arith) a r in
+      let y = high (compiled keeps) 109 3 two_links (omega arith) (omega arith) a t in
+      (λ f. y.1 (x.0 f), λ f. x.1 (y.0 f)));
+}

@@ -1,0 +1,122 @@
+-- Two modules that double a number, in two ways.
+use Rattle.std.specs.Prelude.{◌≡◌, ◌≢◌, ℕ, true, false, List, [], ◌∷◌, map, Some, None}
+use Rattle.component_linker.specs.Parts.{PartSeen}
+use Rattle.component_linker.specs.Standing.{placed}
+use Rattle.component_linker.specs.Start.{Exported, main_of}
+use Rattle.component_linker.specs.Started.{StartSeen}
+use Rattle.component_linker.specs.LinkedStarts.{IsStartOf}
+use Rattle.overlay_machine.specs.Starting.{overlay_at}
+use Rattle.proc_language.specs.declared.tree.Name.{Name}
+use Rattle.proc_language.specs.declared.tree.Op.TheVariants.{Plus, Equal}
+use Rattle.proc_language.specs.declared.module.ModuleFields.{ModuleFields}
+use Rattle.proc_language.specs.Tree.{Stmt, number, var, op, set, if_then, return, stmt, no_stmts}
+use Rattle.proc_language.specs.Limits.{IsModule}
+use Rattle.proc_names.specs.NameFaults.{name_faults}
+use Rattle.proc_program.specs.Lower.{part_of}
+use Rattle.proc_templates.specs.Compiled.{compiled}
+use Rattle.source_starts.specs.Sources.{AreSources, linked_at}
+use Rattle.context_laws.specs.Meanings.{MeanTheSame, AreBeside, DoesTheSame}
+
+abbrev pub named : ℕ → Name
+named letter = record { text = letter ∷ []; at = 0 }
+
+-- x, and g
+abbrev pub x : Name
+x = named 120
+
+abbrev pub g : Name
+g = named 103
+
+-- return x + x;
+abbrev pub by_sum : List Stmt
+by_sum = return 0 (op 0 Plus (var 0 x) (var 0 x)) ∷ []
+
+-- g = x; if (g == x) { return g + x; } return 0;
+abbrev pub by_global : List Stmt
+by_global =
+    set 0 g (var 0 x)
+    ∷ if_then 0 (op 0 Equal (var 0 g) (var 0 x)) (stmt (return 0 (op 0 Plus (var 0 g) (var 0 x))) no_stmts)
+    ∷ return 0 (number 0 0) ∷ []
+
+-- module t; export proc f(x) { return x + x; }
+abbrev pub sums : ModuleFields
+sums = record {
+  at = 0;
+  name = named 116;
+  code = 1;
+  data_base = 200;
+  closure = 10;
+  returns = 12;
+  return_count = 0;
+  stack = 300;
+  movable = false;
+  imports = [];
+  globals = [];
+  procs = record {
+    at = 0;
+    shared = true;
+    name = named 102;
+    params = record { name = x; arity = None } ∷ [];
+    locals = [];
+    body = by_sum;
+  } ∷ [];
+}
+
+-- module t; global g; export proc f(x) { g = x; if (g == x) { return g + x; } return 0; }
+abbrev pub keeps : ModuleFields
+keeps = record {
+  at = 0;
+  name = named 116;
+  code = 1;
+  data_base = 200;
+  closure = 10;
+  returns = 12;
+  return_count = 0;
+  stack = 300;
+  movable = false;
+  imports = [];
+  globals = record { at = 0; name = g; length = None; initial = None } ∷ [];
+  procs = record {
+    at = 0;
+    shared = true;
+    name = named 102;
+    params = record { name = x; arity = None } ∷ [];
+    locals = [];
+    body = by_global;
+  } ∷ [];
+}
+
+-- links of both, beside each other, with the same main, which is untrusted
+pub record LinksBeside : Type 0 where
+  pub parts : List PartSeen
+  pub parts_too : List PartSeen
+  pub size : ℕ
+  pub start : StartSeen
+  pub start_too : StartSeen
+  pub is : IsStartOf parts size start
+  pub is_too : IsStartOf parts_too size start_too
+  pub sources : AreSources (sums ∷ []) parts
+  pub sources_too : AreSources (keeps ∷ []) parts_too
+  pub beside : AreBeside (linked_at parts size start) (linked_at parts_too size start_too)
+  pub main : Exported
+  pub main_is : main_of (placed parts size) ≡ Some main
+  pub main_too : main_of (placed parts_too size) ≡ Some main
+  pub untrusted : main.part.trusted ≡ false
+
+-- Both are modules whose names are resolved, and their components differ; but they mean the same, so that
+-- they can't be told apart, whatever untrusted parts are linked beside them; and there are links of both.
+pub record TwoWays : Type 0 where
+  pub limits : IsModule sums × IsModule keeps
+  pub resolved : (name_faults sums ≡ []) × (name_faults keeps ≡ [])
+  pub differ : compiled sums ≢ compiled keeps
+  pub same : (size : ℕ) → MeanTheSame (map part_of (sums ∷ [])) (map part_of (keeps ∷ [])) size
+  pub apart : (parts parts' : List PartSeen) (size : ℕ) (s s' : StartSeen) → IsStartOf parts size s
+      → IsStartOf parts' size s' → AreSources (sums ∷ []) parts → AreSources (keeps ∷ []) parts'
+      → AreBeside (linked_at parts size s) (linked_at parts' size s')
+      → (m : Exported) → main_of (placed parts size) ≡ Some m → main_of (placed parts' size) ≡ Some m
+      → m.part.trusted ≡ false
+      → DoesTheSame (linked_at parts size s) (linked_at parts' size s') (overlay_at s).state
+      (overlay_at s').state
+      × DoesTheSame (linked_at parts' size s') (linked_at parts size s) (overlay_at s').state
+      (overlay_at s).state
+  pub there : LinksBeside

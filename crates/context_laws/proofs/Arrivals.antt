@@ -1,0 +1,342 @@
+-- Sources that mean the same can't be told apart, where main is theirs.
+use Rattle.std.proofs.Common.{◌≡◌, ℕ, ◌+◌, List, [], ◌∷◌, map, Some, true, refl, sym, ap, ◌∙◌}
+use Rattle.std.proofs.Common.{subst, arith}
+use Rattle.std.specs.Prelude.{slice_get}
+use Rattle.component_linker.specs.Parts.{PartSeen}
+use Rattle.component_linker.specs.Standing.{placed}
+use Rattle.component_linker.specs.Started.{StartSeen}
+use Rattle.component_linker.specs.LinkedStarts.{IsStartOf}
+use Rattle.overlay_machine.specs.State.{OState}
+use Rattle.overlay_machine.specs.Events.{step_event}
+use Rattle.overlay_machine.specs.Link.{Link}
+use Rattle.overlay_machine.specs.Linked.{Linked}
+use Rattle.overlay_machine.specs.Runs.{Reached, goes_on}
+use Rattle.overlay_machine.specs.Starting.{overlay_at, StartsBegin}
+use Rattle.trace_tool.specs.Layout.{layout}
+use Rattle.template_runs.specs.Runs.{is_inside}
+use Rattle.template_runs.specs.Border.{Shows}
+use Rattle.proc_language.specs.declared.module.ModuleFields.{ModuleFields}
+use Rattle.proc_program.specs.Lower.{part_of}
+use Rattle.proc_semantics.specs.Values.{World}
+use Rattle.proc_semantics.specs.Marked.{Event, Whence, refined, event_to}
+use Rattle.source_laws.specs.Seen.{shown_of, outs_of}
+use Rattle.source_laws.specs.Words.{word_from, back_at}
+use Rattle.source_laws.specs.Wiped.{none_yet, low_of}
+use Rattle.source_laws.specs.Secrets.{Until}
+use Rattle.source_laws.specs.Secrets as secrets
+use Rattle.source_starts.specs.Sources.{AreSources, linked_at, SourcesLeaveNothing}
+use Rattle.source_starts.specs.Words.{slots, SourcesTellWords}
+use Rattle.source_starts.specs.Wiped.{WipedCellsAreTold}
+use Rattle.context_laws.specs.Related.{SameNames, Calls}
+use Rattle.context_laws.specs.Lockstep.{Round, SameCrossing, by_call, by_leave, SameWiped, Holds, Tidies}
+use Rattle.context_laws.specs.Sources.{SamePlaces, IsFirst}
+use Rattle.context_laws.specs.Meanings.{name_of, MeanTheSame, GoByNames, GoesInStep, AreBeside, LetsGoToo}
+use Rattle.context_laws.specs.Meanings.{SameMeaningsLetGo}
+use Rattle.context_laws.proofs.Counts.{until_reached}
+use Rattle.context_laws.proofs.Whole.{runs_outside}
+use Rattle.context_laws.proofs.Sources.{StartsAgree, linked_is, holds_is, tidies_is}
+use Rattle.context_laws.proofs.Starts.{start_cells_alike}
+use Rattle.context_laws.proofs.First.{first_alike}
+use Rattle.context_laws.proofs.Open.{has_sites, met}
+use Rattle.context_laws.proofs.History.{back_alike}
+use Rattle.context_laws.proofs.Naming.{IsNamed, is_named, named_same}
+use Rattle.context_laws.proofs.Progress.{tells_of, goes_out, TellsMore}
+use Rattle.context_laws.proofs.Crossing.{crossed}
+use Rattle.context_laws.proofs.Rounds.{RoundTold, round_told}
+use Rattle.context_laws.proofs.Beside.{beside_by_names}
+use Rattle.context_laws.proofs.Apart.{mean_back, beside_back}
+use Rattle.context_laws.proofs.Meanings.{SourcesMeanAll, observed_at, told_too, wiped_same, same_ends}
+use Rattle.context_laws.proofs.Meanings.{all_behind}
+use Rattle.context_laws.proofs.Meanings.{calls_behind, Point, go_in_step}
+
+module _ (begin : StartsBegin) (agree : StartsAgree) (leaves : SourcesLeaveNothing) (words : SourcesTellWords)
+    (wipes : WipedCellsAreTold) (means : SourcesMeanAll)
+    (modules modules' : List ModuleFields) (parts parts' : List PartSeen) (size : ℕ) (s s' : StartSeen)
+    (is : IsStartOf parts size s) (is' : IsStartOf parts' size s') (src : AreSources modules parts)
+    (src' : AreSources modules' parts')
+    (names : SameNames (linked_at parts size s) (linked_at parts' size s')) (by_names : GoByNames names)
+    (places : SamePlaces names (placed parts size) (placed parts' size) (placed parts size)
+    (placed parts' size)) (same : MeanTheSame (map part_of modules) (map part_of modules') size)
+    (inside' : is_inside (layout s') (overlay_at s').state ≡ true) where
+  abbrev G : Link
+  G = linked_at parts size s
+
+  abbrev H : Link
+  H = linked_at parts' size s'
+
+  abbrev O : OState
+  O = (overlay_at s).state
+
+  abbrev O' : OState
+  O' = (overlay_at s').state
+
+  abbrev W : World
+  W = map part_of modules
+
+  abbrev W' : World
+  W' = map part_of modules'
+
+  lg : Linked G
+  lg = linked_is begin agree leaves parts size s is
+
+  lh : Linked H
+  lh = linked_is begin agree leaves parts' size s' is'
+
+  hg : Holds G O
+  hg = holds_is begin agree leaves parts size s is
+
+  hh : Holds H O'
+  hh = holds_is begin agree leaves parts' size s' is'
+
+  tg : Tidies G O
+  tg = tidies_is begin agree leaves modules parts size s is src
+
+  th : Tidies H O'
+  th = tidies_is begin agree leaves modules' parts' size s' is' src'
+
+  abbrev Behind : Round → Type 0
+  Behind a = (b : Round) × IsFirst s' b × (cs : Calls) × SameCrossing G H names [] a b cs
+      × GoesInStep G H names cs a.after b.after
+
+  -- a round from the start on
+  module _ (last after : OState)
+      (fa : IsFirst s
+      (record { before = (overlay_at s).state; entered = (overlay_at s).state; last = last; after = after }))
+    where
+      abbrev A : Round
+      A = record { before = O; entered = O; last = last; after = after }
+
+      shows : Shows (layout s) last after
+      shows = ((leaves modules parts size s is src).shows O last after
+          (record {
+            came = secrets.begins refl;
+            until = fa.until;
+            steps = fa.lets;
+            gone =
+                fa.gone;
+          })).registers
+
+      told : RoundTold G W size s refl (slots modules (placed parts size) s)
+          (words modules parts size s is src) (wipes modules parts size s is src) [] [] O last after
+      told = round_told G W size s refl (slots modules (placed parts size) s)
+          (words modules parts size s is src)
+          (wipes modules parts size s is src) [] [] O O last after none_yet fa.until fa.lets fa.gone shows
+
+      tells_more : TellsMore W' size s' (means modules' parts' size s' is' src') [] []
+      tells_more = (
+        told.enough + (same []).0,
+        λ f le. (
+            let x = told.event f (omega (arith, le)) in
+            let y = observed_at begin agree leaves words wipes means modules modules' parts parts' size s s'
+            is
+            is' src src'
+            names by_names same [] f 0 (omega (arith, le)) x.0 x.1 in
+            told_too begin agree leaves words wipes means modules modules' parts parts' size s s' is is' src
+            src' names
+            by_names same [] f 0 y.0 y.1),
+      )
+
+      other : (q m : OState) × IsFirst s' (record { before = O'; entered = O'; last = q; after = m })
+      other =
+          let g = goes_out W' size s' (means modules' parts' size s' is' src') [] [] O'
+          (tells_of (layout s') O' [] [] O' O' none_yet)
+          inside' tells_more in
+          (g.0, g.1, record { begins = refl; until = g.2; lets = g.3; gone = g.4 })
+
+      abbrev Q : OState
+      Q = other.0
+
+      abbrev B : Round
+      B = record { before = O'; entered = O'; last = Q; after = other.1 }
+
+      fb : IsFirst s' B
+      fb = other.2
+
+      shows_b : Shows (layout s') Q B.after
+      shows_b = ((leaves modules' parts' size s' is' src').shows O' Q B.after
+          (record {
+            came = secrets.begins refl;
+            until = fb.until;
+            steps = fb.lets;
+            gone =
+                fb.gone;
+          })).registers
+
+      told_b : RoundTold H W' size s' refl (slots modules' (placed parts' size) s')
+          (words modules' parts' size s' is' src') (wipes modules' parts' size s' is' src') [] [] O' Q B.after
+      told_b = round_told H W' size s' refl (slots modules' (placed parts' size) s')
+          (words modules' parts' size s' is' src') (wipes modules' parts' size s' is' src') [] [] O' O' Q
+          B.after none_yet
+          fb.until fb.lets fb.gone shows_b
+
+      ga : (i : ℕ) × Reached (layout s) O i after
+      ga = let u = until_reached G lg O hg O last 0 Reached.begins fa.until in (_, goes_on u.1 fa.lets)
+
+      gb : (j : ℕ) × Reached (layout s') O' j B.after
+      gb = let u = until_reached H lh O' hh O' Q 0 Reached.begins fb.until in (_, goes_on u.1 fb.lets)
+
+      abbrev F : ℕ
+      F = told.enough + told_b.enough + (same []).0 + told.wiped.enough + told_b.wiped.enough
+
+      record Both : Type 0 where
+        pub one : Event Whence ℕ
+        pub two : Event Whence ℕ
+        pub one_is : slice_get (refined W size [] F).events 0 ≡ Some one
+        pub two_is : slice_get (refined W' size [] F).events 0 ≡ Some two
+        pub one_shown : outs_of (layout s) after (step_event (layout s) last after)
+            ≡ shown_of (event_to (word_from (slots modules (placed parts size) s) []) (back_at []) one) ∷ []
+        pub two_shown : outs_of (layout s') B.after (step_event (layout s') Q B.after)
+            ≡ shown_of (event_to (word_from (slots modules' (placed parts' size) s') []) (back_at []) two)
+            ∷ []
+        pub names_same : event_to (name_of W) (λ (k : ℕ). k) one ≡ event_to (name_of W') (λ (k : ℕ). k) two
+
+      both : Both
+      both =
+          let x = told.event F (omega arith) in
+          let y = told_b.event F (omega arith) in
+          let z = observed_at begin agree leaves words wipes means modules modules' parts parts' size s s' is
+          is' src src'
+          names by_names same [] F 0 (omega arith) x.0 x.1 in
+          let at : Some z.0 ≡ Some y.0 = sym z.1 ∙ y.1 in
+          let one : z.0 ≡ y.0 = cc in
+          record {
+            one = x.0;
+            two = y.0;
+            one_is = x.1;
+            two_is = y.1;
+            one_shown = x.2;
+            two_shown = y.2;
+            names_same = z.2 ∙ ap (event_to (name_of W') (λ (k : ℕ). k)) one;
+          }
+
+      cross : (ds : Calls) × SameCrossing G H names [] A B ds × (low_of both.one ≡ low_of both.two)
+      cross =
+          crossed G H names by_names lg lh [] (name_of W) (name_of W')
+          (word_from (slots modules (placed parts size) s) [])
+          (word_from (slots modules' (placed parts' size) s') []) (back_at []) (back_at [])
+          (λ w v e. named_same G H names by_names [] [] [] tt (name_of W' v) _ _
+          (subst
+          (λ n. IsNamed (placed parts size) [] n (word_from (slots modules (placed parts size) s) [] w))
+          e (is_named begin modules parts size s is src [] w))
+          (is_named begin modules' parts' size s' is' src' [] v))
+          (λ n. back_alike G H names [] [] [] n tt) A B
+          (runs_outside G H names lg lh O O' hg hh tg th G O hg ga.0 after ga.1 fa.gone)
+          (runs_outside G H names lg lh O O' hg hh tg th H O' hh gb.0 B.after gb.1 fb.gone)
+          (has_sites G lg O hg ga.0 after ga.1) (has_sites H lh O' hh gb.0 B.after gb.1)
+          (met G lg O hg ga.0 after ga.1) (met H lh O' hh gb.0 B.after gb.1) shows shows_b both.one both.two
+          both.one_shown both.two_shown both.names_same
+
+      lows : told.wiped.low ≡ told_b.wiped.low
+      lows =
+          let u = told.wiped.told F (omega arith) in
+          let v = told_b.wiped.told F (omega arith) in
+          let x : Some u.0 ≡ Some both.one = sym u.1 ∙ both.one_is in
+          let y : Some v.0 ≡ Some both.two = sym v.1 ∙ both.two_is in
+          let i : u.0 ≡ both.one = cc in
+          let j : v.0 ≡ both.two = cc in
+          sym u.2 ∙ ap low_of i ∙ cross.2 ∙ sym (ap low_of j) ∙ v.2
+
+      wiped : SameWiped G A B
+      wiped =
+          wiped_same begin agree leaves words wipes means modules modules' parts parts' size s s' is is' src
+          src' names
+          by_names same [] A B (start_cells_alike begin parts parts' size size s s' is is' names places) ga gb
+          told.wiped.low told_b.wiped.low told.wiped.wiped told_b.wiped.wiped lows
+          (same_ends begin agree leaves words wipes means modules modules' parts parts' size s s' is is' src
+          src' names
+          by_names same [] cross.0 A B cross.1 told.wiped.wiped.end told_b.wiped.wiped.end
+          told.wiped.wiped.stk
+          told_b.wiped.wiped.stk)
+
+      point : Point begin agree leaves words wipes means modules modules' parts parts' size s s' is is' src
+          src'
+          names
+          by_names same cross.0 after B.after
+      point =
+          let al = first_alike begin agree leaves modules modules' parts parts' size size s s' is is' src src'
+          names places
+          A B fa fb cross.0 cross.1 wiped in
+          record {
+            es = told.shown ∷ [];
+            es' = told_b.shown ∷ [];
+            xs = [];
+            xs' = [];
+            b = told.since.0;
+            b' = told_b.since.0;
+            since = told.since.1;
+            since' = told_b.since.1;
+            count = refl;
+            all = all_behind begin agree leaves words wipes means modules modules' parts parts' size s s' is
+                is'
+                src src'
+                names by_names same [] cross.0 A B cross.1 [] [] tt;
+            calls = calls_behind begin agree leaves words wipes means modules modules' parts parts' size s s'
+                is
+                is' src
+                src' names by_names same [] cross.0 A B cross.1 (λ n m c. absurd c);
+            i = ga.0;
+            j = gb.0;
+            reached = ga.1;
+            reached' = gb.1;
+            outside = fa.gone;
+            outside' = fb.gone;
+            alike = al.0;
+            below = al.1;
+          }
+
+      behind : Behind A
+      behind = (
+        B,
+        fb,
+        cross.0,
+        cross.1,
+        λ n q as_ k. go_in_step begin agree leaves words wipes means modules modules' parts parts' size s s'
+            is
+            is' src src'
+            names by_names same n cross.0 after B.after q as_ point k,
+      )
+
+  -- of any round from there
+  crossing_of : (a : Round) (z e : OState) (b : Round) (cs : Calls)
+      → SameCrossing G H names [] (record { before = z; entered = e; last = a.last; after = a.after }) b cs
+      → SameCrossing G H names [] a b cs
+  crossing_of a z e b _ (by_call d f k sc tc ev ew base sites a0 a1 a2 a3) =
+      by_call d f k sc tc ev ew base sites a0 a1 a2 a3
+  crossing_of a z e b _ (by_leave d top sl tl a0 newest) = by_leave d top sl tl a0 newest
+
+  pub lets_go_too : (a : Round) → IsFirst s a → Behind a
+  lets_go_too a fa =
+      let x = behind a.last a.after (record {
+        begins = refl;
+        until = subst (λ z. Until (layout s) z a.last) fa.begins fa.until;
+        lets = fa.lets;
+        gone = fa.gone;
+      }) in
+      (x.0, x.1, x.2, crossing_of a O O x.0 x.2 x.3, x.4)
+
+module _ (begin : StartsBegin) (agree : StartsAgree) (leaves : SourcesLeaveNothing) (words : SourcesTellWords)
+    (wipes : WipedCellsAreTold) (means : SourcesMeanAll) where
+  one_way : (modules modules' : List ModuleFields) (parts parts' : List PartSeen) (size : ℕ)
+      (s s' : StartSeen)
+      → IsStartOf parts size s → IsStartOf parts' size s' → AreSources modules parts
+      → AreSources modules' parts' → AreBeside (linked_at parts size s) (linked_at parts' size s')
+      → is_inside (layout s') (overlay_at s').state ≡ true
+      → MeanTheSame (map part_of modules) (map part_of modules') size
+      → LetsGoToo (linked_at parts size s) (linked_at parts' size s') s s'
+  one_way modules modules' parts parts' size s s' is is' src src' beside i same =
+      let b = beside_by_names begin agree leaves modules modules' parts parts' size s s' is is' src src'
+      beside in (
+        b.0,
+        b.1,
+        lets_go_too begin agree leaves words wipes means modules modules' parts parts' size s s' is is' src
+            src' b.0 b.1
+            b.2 same i,
+      )
+
+  pub let_go : SameMeaningsLetGo
+  let_go modules modules' parts parts' size s s' is is' src src' beside i i' same = (
+    one_way modules modules' parts parts' size s s' is is' src src' beside i' same,
+    one_way modules' modules parts' parts size s' s is' is src' src
+        (beside_back (linked_at parts size s) (linked_at parts' size s') beside) i
+        (mean_back (map part_of modules) (map part_of modules') size same),
+  )

@@ -1,0 +1,528 @@
+-- Exports and sites of two links that stand for each other by their names.
+use Rattle.std.proofs.Common.{◌≡◌, ◌⊎◌, inl, inr, ℕ, zero, suc, ◌+◌, ◌<◌, List, [], ◌∷◌, length, Option, Some}
+use Rattle.std.proofs.Common.{None}
+use Rattle.std.proofs.Common.{Bool, true, false, refl, sym, ap, ◌∙◌, subst, arith, eq-eqb, eqb-true}
+use Rattle.std.specs.Prelude.{slice_get, find, option_map, option_and_then, if◌then◌else◌, ◌==◌, ◌&&◌}
+use Rattle.std.specs.List.{Contains}
+use Rattle.std.specs.Str.{bytes_eq}
+use Rattle.std.proofs.lemmas.Bool.{and_parts, cases_eq}
+use Rattle.std.proofs.lemmas.Option.{slice_get_within}
+use Rattle.component_file.specs.declared.component.Import.{Import}
+use Rattle.component_file.specs.declared.component.Export.{Export}
+use Rattle.component_linker.specs.Parts.{PartSeen}
+use Rattle.component_linker.specs.Standing.{placed}
+use Rattle.component_linker.specs.Start.{Exported, exported_by, export_that, part_named, imported, same_name}
+use Rattle.component_linker.specs.Started.{StartSeen}
+use Rattle.component_linker.specs.LinkedStarts.{IsStartOf}
+use Rattle.component_linker.specs.declared.owners.Site.{Site}
+use Rattle.component_linker.proofs.StartWords.{listed_at}
+use Rattle.trusted_border.specs.declared.layout.Layout.{Layout}
+use Rattle.trusted_border.specs.declared.layout.SiteCode.{SiteCode}
+use Rattle.trusted_border.specs.Layout.{site_code, code_in}
+use Rattle.overlay_machine.specs.Link.{Link, IsTrusted}
+use Rattle.overlay_machine.specs.Linked.{Linked}
+use Rattle.overlay_machine.specs.Names.{NamesTold, SiteTold}
+use Rattle.overlay_machine.specs.Safe.{IsOpenSeal}
+use Rattle.lcm_machine.specs.declared.cells.Span.{Span}
+use Rattle.component_linker.specs.Regions.{stack_span, is_stack_size, addresses}
+use Rattle.component_linker.specs.Start.{stack_base_of}
+use Rattle.overlay_machine.specs.Starting.{StartsBegin}
+use Rattle.source_starts.specs.Sources.{SourcesLeaveNothing}
+use Rattle.context_laws.proofs.Sources.{StartsAgree, linked_is}
+use Rattle.overlay_machine.proofs.invariant.FrameFacts.{contains_first, contains_rest}
+use Rattle.lcm_machine.proofs.RegionLemmas.{contains_cases, contains_none}
+use Rattle.overlay_machine.proofs.starts.ListFacts.{index_of, found_is}
+use Rattle.overlay_machine.proofs.starts.NameFacts.{starts_tell_names}
+use Rattle.trace_tool.specs.Layout.{layout, part_name, site_of}
+use Rattle.proc_language.specs.declared.module.ModuleFields.{ModuleFields}
+use Rattle.proc_program.specs.declared.program.Procedure.{Procedure}
+use Rattle.proc_program.specs.Lower.{part_of}
+use Rattle.source_starts.specs.Sources.{AreSources, linked_at}
+use Rattle.source_starts.proofs.Worlds.{aligned, home_of, NamesApart, names_apart, names_same, same_names}
+use Rattle.source_starts.proofs.Linking.{same_part, imported_names, Names}
+use Rattle.source_starts.proofs.Exports.{one_offset}
+use Rattle.source_starts.proofs.StartWords.{data_in}
+use Rattle.source_starts.proofs.Targets.{proc_of}
+use Rattle.context_laws.specs.Related.{SameNames, IsExport}
+use Rattle.context_laws.specs.Sources.{SameImported, SamePlaces}
+use Rattle.context_laws.specs.Meanings.{GoByNames, IsSameSite, told_name, export_name, SameUntrusted}
+use Rattle.context_laws.specs.Meanings.{AreBeside}
+use Rattle.context_laws.proofs.Itself.{all_of, in_all, of_all}
+use Rattle.context_laws.proofs.Told.{entry}
+
+-- ---- lists of pairs that pass a test
+
+module _ {A B : Type 0} (test : A → B → Bool) where
+  abbrev with_it : A → List B → List (A × B) → List (A × B)
+  with_it x [] zs = zs
+  with_it x (y ∷ ys) zs = if test x y then (x, y) ∷ with_it x ys zs else with_it x ys zs
+
+  abbrev pub paired : List A → List B → List (A × B)
+  paired [] ys = []
+  paired (x ∷ xs) ys = with_it x ys (paired xs ys)
+
+  more_in : (x : A) (ys : List B) (zs : List (A × B)) (z : A × B) → Contains zs z
+      → Contains (with_it x ys zs) z
+  more_in x [] zs z c = c
+  more_in x (y ∷ ys) zs z c = by (test x y) (more_in x ys zs z c)
+    where
+      by : (b : Bool) → Contains (with_it x ys zs) z
+          → Contains (if b then (x, y) ∷ with_it x ys zs else with_it x ys zs) z
+      by true k = contains_rest (x, y) z (with_it x ys zs) k
+      by false k = k
+
+  in_with : (x : A) (ys : List B) (zs : List (A × B)) (y : B) → Contains ys y → test x y ≡ true
+      → Contains (with_it x ys zs) (x, y)
+  in_with x [] zs y c t = absurd (contains_none y c)
+  in_with x (v ∷ ys) zs y c t =
+      elim (contains_cases v ys y c) as (λ _. Contains (with_it x (v ∷ ys) zs) (x, y)) [
+        | inl e ↦ subst
+            (λ w. Contains (if test x w then (x, w) ∷ with_it x ys zs else with_it x ys zs) (x, y))
+            (sym e) (first (test x y) t)
+        | inr m ↦ by (test x v) (in_with x ys zs y m t)
+      ]
+    where
+      first : (b : Bool) → b ≡ true
+          → Contains (if b then (x, y) ∷ with_it x ys zs else with_it x ys zs) (x, y)
+      first true e = contains_first (x, y) (with_it x ys zs)
+      first false e = absurd cc
+
+      by : (b : Bool) → Contains (with_it x ys zs) (x, y)
+          → Contains (if b then (x, v) ∷ with_it x ys zs else with_it x ys zs) (x, y)
+      by true k = contains_rest (x, v) (x, y) (with_it x ys zs) k
+      by false k = k
+
+  pub in_paired : (xs : List A) (ys : List B) (x : A) (y : B) → Contains xs x → Contains ys y
+      → test x y ≡ true → Contains (paired xs ys) (x, y)
+  in_paired [] ys x y c d t = absurd (contains_none x c)
+  in_paired (u ∷ xs) ys x y c d t = elim (contains_cases u xs x c)
+      as (λ _. Contains (paired (u ∷ xs) ys) (x, y)) [
+        | inl e ↦ subst (λ z. Contains (with_it z ys (paired xs ys)) (x, y)) (sym e)
+            (in_with x ys (paired xs ys) y d t)
+        | inr m ↦ more_in u ys (paired xs ys) (x, y) (in_paired xs ys x y m d t)
+      ]
+
+  abbrev Is : List A → List B → A × B → Type 0
+  Is xs ys z = Contains xs z.0 × Contains ys z.1 × (test z.0 z.1 ≡ true)
+
+  of_with : (x : A) (ys : List B) (zs : List (A × B)) (z : A × B) → Contains (with_it x ys zs) z
+      → ((z.0 ≡ x) × Contains ys z.1 × (test z.0 z.1 ≡ true)) ⊎ Contains zs z
+  of_with x [] zs z c = inr c
+  of_with x (y ∷ ys) zs z c = by (test x y) refl c (of_with x ys zs z)
+    where
+      Here : Type 0
+      Here = ((z.0 ≡ x) × Contains (y ∷ ys) z.1 × (test z.0 z.1 ≡ true)) ⊎ Contains zs z
+
+      later : ((z.0 ≡ x) × Contains ys z.1 × (test z.0 z.1 ≡ true)) ⊎ Contains zs z
+          → ((z.0 ≡ x) × Contains (y ∷ ys) z.1 × (test z.0 z.1 ≡ true)) ⊎ Contains zs z
+      later (inl k) = inl (k.0, contains_rest y z.1 ys k.1, k.2)
+      later (inr k) = inr k
+
+      by : (b : Bool) → test x y ≡ b → Contains (if b then (x, y) ∷ with_it x ys zs else with_it x ys zs) z
+          → (Contains (with_it x ys zs) z
+          → ((z.0 ≡ x) × Contains ys z.1 × (test z.0 z.1 ≡ true)) ⊎ Contains zs z)
+          → ((z.0 ≡ x) × Contains (y ∷ ys) z.1 × (test z.0 z.1 ≡ true)) ⊎ Contains zs z
+      by false t c more = later (more c)
+      by true t c more = elim (contains_cases (x, y) (with_it x ys zs) z c)
+          as (λ _. ((z.0 ≡ x) × Contains (y ∷ ys) z.1 × (test z.0 z.1 ≡ true)) ⊎ Contains zs z) [
+            | inl e ↦ inl (
+              sym (ap (λ w. w.0) e),
+              subst (λ w. Contains (y ∷ ys) w) (ap (λ w. w.1) e) (contains_first y ys),
+              subst (λ w. test w.0 w.1 ≡ true) e t,
+            )
+            | inr m ↦ later (more m)
+          ]
+
+  pub of_paired : (xs : List A) (ys : List B) (z : A × B) → Contains (paired xs ys) z → Is xs ys z
+  of_paired [] ys z c = absurd (contains_none z c)
+  of_paired (x ∷ xs) ys z c = elim (of_with x ys (paired xs ys) z c) as (λ _. Is (x ∷ xs) ys z) [
+    | inl k ↦ (subst (λ w. Contains (x ∷ xs) w) (sym k.0) (contains_first x xs), k.1, k.2)
+    | inr m ↦ (let k = of_paired xs ys z m in (contains_rest x z.0 xs k.0, k.1, k.2))
+  ]
+
+-- the numbers below one
+abbrev below : ℕ → List ℕ
+below zero = []
+below (suc n) = n ∷ below n
+
+in_below : (n i : ℕ) → i < n → Contains (below n) i
+in_below zero i lt = absurd (omega (arith, lt))
+in_below (suc n) i lt = elim (cases_eq i n) as (λ _. Contains (below (suc n)) i) [
+  | inl e ↦ subst (λ z. Contains (n ∷ below n) z) (sym e) (contains_first n (below n))
+  | inr ne ↦ contains_rest n i (below n) (in_below n i (omega (arith, lt, ne)))
+]
+
+of_below : (n i : ℕ) → Contains (below n) i → i < n
+of_below zero i c = absurd (contains_none i c)
+of_below (suc n) i c = elim (contains_cases n (below n) i c) as (λ _. i < suc n) [
+  | inl e ↦ omega (arith, e)
+  | inr m ↦ (let k = of_below n i m in omega (arith, k))
+]
+
+there_is : {A : Type 0} (xs : List A) (j : ℕ) → j < length xs → (x : A) × (slice_get xs j ≡ Some x)
+there_is [] j l = absurd (omega (arith, l))
+there_is (x ∷ xs) zero l = (x, refl)
+there_is (x ∷ xs) (suc j) l = there_is xs j (omega (arith, l))
+
+-- ---- one link of sources
+
+module _ (modules : List ModuleFields) (parts : List PartSeen) (size : ℕ) (s : StartSeen)
+    (is : IsStartOf parts size s)
+    (src : AreSources modules parts) (linked : Linked (linked_at parts size s)) where
+  abbrev K : Link
+  K = linked_at parts size s
+
+  abbrev P : List PartSeen
+  P = placed parts size
+
+  told : NamesTold P (layout s)
+  told = starts_tell_names P size s is
+
+  apart_names : NamesApart P
+  apart_names = names_apart P size is.rules
+
+  pub one_name : (p q : PartSeen) → Contains P p → Contains P q → p.component.name ≡ q.component.name → p ≡ q
+  one_name p q m n e =
+      let i = index_of P p m in
+      let j = index_of P q n in
+      same_part P apart_names i.0 j.0 p q i.1 j.1 e
+
+  -- lines call an export by its own name
+  pub told_is : (x : Exported) → IsExport K x → told_name x ≡ x.export.name
+  told_is x ix =
+      let e = entry K linked told x ix in
+      let f = found_is (λ (y : Export). y.offset == x.export.offset) x.part.component.exports e.export e.first
+      in
+      let beside = aligned parts size modules src.compiled in
+      let i = index_of P x.part ix.0.0 in
+      let h = home_of modules P beside i.0 x.part i.1 ix.0.1 in
+      let a = proc_of modules P beside apart_names src.resolved h.0 x.part h.1 e.export f.0 in
+      let b = proc_of modules P beside apart_names src.resolved h.0 x.part h.1 x.export ix.1 in
+      let at : e.export.offset ≡ x.export.offset = eqb-true e.export.offset x.export.offset f.1 in
+      let ps = (part_of h.1.source).procs in
+      let one = one_offset ps 2 a.index b.index (slice_get_within ps a.index a.proc a.at)
+      (slice_get_within ps b.index b.proc b.at) (sym a.offset ∙ at ∙ b.offset) in
+      let same : Some a.proc ≡ Some b.proc = sym a.at ∙ ap (slice_get ps) one ∙ b.at in
+      let proc : a.proc ≡ b.proc = cc in
+      ap export_name e.first ∙ a.name ∙ ap (λ (q : Procedure). q.name) proc ∙ sym b.name
+
+  -- a site by its name and number
+  pub record SiteAt (i : ℕ) : Type 0 where
+    pub code : SiteCode
+    pub code_is : site_code (layout s) i ≡ Some code
+    pub part : PartSeen
+    pub trusted : IsTrusted K part
+    pub index : ℕ
+    pub seal_is : code.seal ≡ part.component.seals.base + index
+    pub told_so : SiteTold P (layout s) i code part index
+
+  pub site_there : (i : ℕ) (c : SiteCode) → site_code (layout s) i ≡ Some c → SiteAt i
+  site_there i c e =
+      let x = linked.sites i c e in
+      record {
+        code = c;
+        code_is = e;
+        part = x.0;
+        trusted = x.2;
+        index = x.1;
+        seal_is = x.3.seal_is;
+        told_so = told.numbers i x.1 c x.0 e x.2.0 x.2.1 x.3;
+      }
+
+  site_name : (i : ℕ) (a : SiteAt i)
+      → part_name (layout s) (site_of (layout s) i).part ≡ a.part.component.name
+  site_name i a = (told.named (site_of (layout s) i).part a.part a.told_so.part_is a.trusted.1).name
+
+  -- sites of one name and number are one
+  pub one_site : (i j : ℕ) → SiteAt i → SiteAt j
+      → part_name (layout s) (site_of (layout s) i).part ≡ part_name (layout s) (site_of (layout s) j).part
+      → (site_of (layout s) i).index ≡ (site_of (layout s) j).index → i ≡ j
+  one_site i j a b n k =
+      let p : a.part ≡ b.part =
+      one_name a.part b.part a.trusted.0 b.trusted.0 (sym (site_name i a) ∙ n ∙ site_name j b) in
+      let x : a.index ≡ b.index = sym a.told_so.index_is ∙ k ∙ b.told_so.index_is in
+      let seals : a.code.seal ≡ b.code.seal =
+      a.seal_is ∙ ap (λ (q : PartSeen). q.component.seals.base + a.index) p
+      ∙ ap (λ z. b.part.component.seals.base + z) x ∙ sym b.seal_is in
+      linked.one_seal i j a.code b.code a.code_is b.code_is seals
+
+  pub site_listed : (i : ℕ) → i < length s.sites → SiteAt i
+  site_listed i lt =
+      let w = there_is s.sites i lt in
+      let u = linked.listed i w.0 w.1 in
+      site_there i u.0 u.1
+
+  pub site_below : (i : ℕ) (c : SiteCode) → site_code (layout s) i ≡ Some c → i < length s.sites
+  unfolding site_code
+  site_below i c e = by (slice_get s.sites i) refl e
+    where
+      by : (x : Option Site) → slice_get s.sites i ≡ x → option_and_then (code_in s.owners) x ≡ Some c
+          → i < length s.sites
+      by None f h = cc
+      by (Some w) f h = slice_get_within s.sites i w f
+
+  -- what a part imports is there
+  pub import_there : (p : PartSeen) (i : Import) → Contains P p → Contains p.component.imports i
+      → (x : Exported) × (imported P i ≡ Some x)
+  import_there p i m c =
+      let k = index_of P p m in
+      let n = index_of p.component.imports i c in
+      let h = (data_in P size s is k.0 p k.1).slots n.0 i n.1 in (h.names, h.names_is)
+
+-- ---- two lists
+
+found_export : (parts : List PartSeen) (i : Import) (x : Exported) → imported parts i ≡ Some x
+    → export_that (λ e. same_name e.name i.name) x.part ≡ Some x
+found_export parts i x e = by_part (part_named parts i.part) refl e
+  where
+    by_export : (p : PartSeen) (o : Option Export)
+        → find (λ (e : Export). same_name e.name i.name) p.component.exports ≡ o
+        → option_map (exported_by p) o ≡ Some x
+        → export_that (λ e. same_name e.name i.name) x.part ≡ Some x
+    by_export p None f e = cc
+    by_export p (Some y) f e =
+        let k : exported_by p y ≡ x = cc in
+        subst (λ (z : Exported). export_that (λ e. same_name e.name i.name) z.part ≡ Some z) k
+        (ap (option_map (exported_by p)) f)
+
+    by_part : (o : Option PartSeen) → part_named parts i.part ≡ o
+        → option_and_then (export_that (λ e. same_name e.name i.name)) o ≡ Some x
+        → export_that (λ e. same_name e.name i.name) x.part ≡ Some x
+    by_part None f e = cc
+    by_part (Some p) f e = by_export p (find (λ (e : Export). same_name e.name i.name) p.component.exports)
+        refl e
+
+-- an untrusted part of the one stands in the other
+stands_too : (ps qs : List PartSeen) → SameUntrusted ps qs → (p : PartSeen) → Contains ps p
+    → p.trusted ≡ false → Contains qs p
+stands_too [] qs s p c u = absurd (contains_none p c)
+stands_too (x ∷ ps) [] s p c u = absurd s
+stands_too (x ∷ ps) (y ∷ qs) s p c u = elim (contains_cases x ps p c) as (λ _. Contains (y ∷ qs) p) [
+  | inr m ↦ contains_rest y p qs (stands_too ps qs s.1 p m u)
+  | inl e ↦ elim s.0 as (λ _. Contains (y ∷ qs) p) [
+    | inl k ↦ subst (λ z. Contains (y ∷ qs) z) (sym k.0 ∙ e) (contains_first y qs)
+    | inr k ↦ absurd (let bad : true ≡ false = sym k.0 ∙ ap (λ (z : PartSeen). z.trusted) e ∙ u in cc)
+  ]
+]
+
+pub turned : (ps qs : List PartSeen) → SameUntrusted ps qs → SameUntrusted qs ps
+turned [] [] s = tt
+turned [] (q ∷ qs) s = absurd s
+turned (p ∷ ps) [] s = absurd s
+turned (p ∷ ps) (q ∷ qs) s = (by s.0, turned ps qs s.1)
+  where
+    by : ((p ≡ q) × (p.trusted ≡ false)) ⊎ ((p.trusted ≡ true) × (q.trusted ≡ true))
+        → ((q ≡ p) × (q.trusted ≡ false)) ⊎ ((q.trusted ≡ true) × (p.trusted ≡ true))
+    by (inl k) = inl (sym k.0, sym (ap (λ (z : PartSeen). z.trusted) k.0) ∙ k.1)
+    by (inr k) = inr (k.1, k.0)
+
+-- ---- the names
+
+abbrev same_names_of : Exported → Exported → Bool
+same_names_of x y =
+    bytes_eq x.part.component.name y.part.component.name && bytes_eq x.export.name y.export.name
+
+abbrev same_site : Layout → Layout → ℕ → ℕ → Bool
+same_site l m i j =
+    bytes_eq (part_name l (site_of l i).part) (part_name m (site_of m j).part)
+    && ((site_of l i).index == (site_of m j).index)
+
+module _ (begin : StartsBegin) (agree : StartsAgree) (leaves : SourcesLeaveNothing)
+    (modules modules' : List ModuleFields) (parts parts' : List PartSeen) (size : ℕ) (s s' : StartSeen)
+    (is : IsStartOf parts size s) (is' : IsStartOf parts' size s') (src : AreSources modules parts)
+    (src' : AreSources modules' parts')
+    (beside : AreBeside (linked_at parts size s) (linked_at parts' size s')) where
+  abbrev G : Link
+  G = linked_at parts size s
+
+  abbrev H : Link
+  H = linked_at parts' size s'
+
+  lg : Linked G
+  lg = linked_is begin agree leaves parts size s is
+
+  lh : Linked H
+  lh = linked_is begin agree leaves parts' size s' is'
+
+  abbrev Twins : List (Exported × Exported)
+  Twins = paired same_names_of (all_of G.parts) (all_of H.parts)
+
+  abbrev Sites : List (ℕ × ℕ)
+  Sites = paired (same_site (layout s) (layout s')) (below (length s.sites)) (below (length s'.sites))
+
+  twin_is : (x y : Exported) → Contains Twins (x, y) → IsExport G x × IsExport H y
+      × (x.part.component.name ≡ y.part.component.name) × (x.export.name ≡ y.export.name)
+  twin_is x y c =
+      let k = of_paired same_names_of (all_of G.parts) (all_of H.parts) (x, y) c in
+      let t = and_parts _ _ k.2 in (
+        of_all G.parts x k.0,
+        of_all H.parts y k.1,
+        same_names _ _ t.0,
+        same_names _ _ t.1,
+      )
+
+  in_twins : (x y : Exported) → IsExport G x → IsExport H y → x.part.component.name ≡ y.part.component.name
+      → x.export.name ≡ y.export.name → Contains Twins (x, y)
+  in_twins x y ix iy en ee =
+      in_paired same_names_of (all_of G.parts) (all_of H.parts) x y (in_all G.parts x ix.0.0 ix.0.1 ix.1)
+      (in_all H.parts y iy.0.0 iy.0.1 iy.1)
+      (rw (en, ee, names_same y.part.component.name, names_same y.export.name) refl)
+
+  sites_are : (i j : ℕ) → Contains Sites (i, j) → (i < length s.sites) × (j < length s'.sites)
+      × IsSameSite (layout s) (layout s') i j
+  sites_are i j c =
+      let k = of_paired (same_site (layout s) (layout s')) (below (length s.sites)) (below (length s'.sites))
+      (i, j) c in
+      let t = and_parts _ _ k.2 in (
+        of_below (length s.sites) i k.0,
+        of_below (length s'.sites) j k.1,
+        (same_names _ _ t.0, eqb-true _ _ t.1),
+      )
+
+  at_g : (i : ℕ) → i < length s.sites → SiteAt modules parts size s is src lg i
+  at_g i lt = site_listed modules parts size s is src lg i lt
+
+  at_h : (j : ℕ) → j < length s'.sites → SiteAt modules' parts' size s' is' src' lh j
+  at_h j lt = site_listed modules' parts' size s' is' src' lh j lt
+
+  open_too : (n : ℕ) → IsOpenSeal G n → IsOpenSeal H n
+  open_too n k = (k.0, (stands_too G.parts H.parts beside.places k.0 k.1.0 k.1.1, k.1.1), k.2)
+
+  open_back : (n : ℕ) → IsOpenSeal H n → IsOpenSeal G n
+  open_back n k = (
+    k.0,
+    (stands_too H.parts G.parts (turned G.parts H.parts beside.places) k.0 k.1.0 k.1.1, k.1.1),
+    k.2,
+  )
+
+  stack_of : (ps : List PartSeen) (sp : Span) → stack_span ps size ≡ Some sp → stack_base_of ps ≡ sp.base
+  stack_of [] sp e = absurd cc
+  stack_of (p ∷ ps) sp e = by (is_stack_size size) (size == 0) e
+    where
+      by : (b c : Bool)
+          → (if b then (if c then None else Some (addresses p.component.stack_base size)) else None) ≡ Some sp
+          → p.component.stack_base ≡ sp.base
+      by true true e = absurd cc
+      by true false e =
+          (let k : addresses p.component.stack_base size ≡ sp = cc in ap (λ (z : Span). z.base) k)
+      by false c e = absurd cc
+
+  pub by_name : SameNames G H
+  by_name = record {
+    twins = Twins;
+    sites = Sites;
+    exports = λ x y c. (let t = twin_is x y c in (t.0, t.1));
+    one_part = λ x y u v c d. (
+        let t = twin_is x y c in
+        let w = twin_is u v d in (
+          λ e. one_name modules' parts' size s' is' src' lh y.part v.part t.1.0.0 w.1.0.0
+              (sym t.2 ∙ ap (λ (p : PartSeen). p.component.name) e ∙ w.2),
+          λ e. one_name modules parts size s is src lg x.part u.part t.0.0.0 w.0.0.0
+              (t.2 ∙ ap (λ (p : PartSeen). p.component.name) e ∙ sym w.2),
+        ));
+    one_site = λ i j k m c d. (
+        let a = sites_are i j c in
+        let b = sites_are k m d in (
+          λ e. one_site modules' parts' size s' is' src' lh j m (at_h j a.1) (at_h m b.1)
+              (sym a.2.0 ∙ ap (λ z. part_name (layout s) (site_of (layout s) z).part) e ∙ b.2.0)
+              (sym a.2.1 ∙ ap (λ z. (site_of (layout s) z).index) e ∙ b.2.1),
+          λ e. one_site modules parts size s is src lg i k (at_g i a.0) (at_g k b.0)
+              (a.2.0 ∙ ap (λ z. part_name (layout s') (site_of (layout s') z).part) e ∙ sym b.2.0)
+              (a.2.1 ∙ ap (λ z. (site_of (layout s') z).index) e ∙ sym b.2.1),
+        ));
+    free = λ a r t. (beside.free a r t).0;
+    seals = λ n. (open_too n, open_back n);
+    stack = sym (stack_of G.parts s.stack lg.stack) ∙ beside.stack ∙ stack_of H.parts s'.stack lh.stack;
+  }
+
+  -- what one name names in both
+  same_imported : (i : Import) (x y : Exported) → imported G.parts i ≡ Some x → imported H.parts i ≡ Some y
+      → SameImported by_name (Some x) (Some y)
+  unfolding by_name
+  same_imported i x y e f = by x.part.trusted y.part.trusted refl refl
+    where
+      nx : Names G.parts i x
+      nx = imported_names G.parts i x e
+
+      ny : Names H.parts i y
+      ny = imported_names H.parts i y f
+
+      parts_same : x.part.component.name ≡ y.part.component.name
+      parts_same = nx.part ∙ sym ny.part
+
+      mx : Contains G.parts x.part
+      mx = listed_at G.parts nx.there.index x.part nx.there.at
+
+      my : Contains H.parts y.part
+      my = listed_at H.parts ny.there.index y.part ny.there.at
+
+      one : x.part ≡ y.part → x ≡ y
+      one p =
+          let k : Some x ≡ Some y = sym (found_export G.parts i x e)
+          ∙ ap (export_that (λ (e : Export). same_name e.name i.name)) p ∙ found_export H.parts i y f in
+          cc
+
+      by : (b c : Bool) → x.part.trusted ≡ b → y.part.trusted ≡ c → SameImported by_name (Some x) (Some y)
+      by true true t u = inr (in_twins x y ((mx, t), nx.there.listed) ((my, u), ny.there.listed) parts_same
+          (nx.name ∙ sym ny.name))
+      by false c t u =
+          inl (
+            one (one_name modules' parts' size s' is' src' lh x.part y.part
+                (stands_too G.parts H.parts beside.places x.part mx t) my parts_same),
+            t,
+          )
+      by true false t u =
+          let k = one_name modules parts size s is src lg x.part y.part mx
+          (stands_too H.parts G.parts (turned G.parts H.parts beside.places) y.part my u) parts_same in
+          absurd (let bad : true ≡ false = sym t ∙ ap (λ (z : PartSeen). z.trusted) k ∙ u in cc)
+
+  go_by_names : GoByNames by_name
+  unfolding by_name
+  go_by_names = record {
+    exports = same_imported;
+    twins = λ x y c. (
+        let t = twin_is x y c in (
+          t.2,
+          told_is modules parts size s is src lg x t.0 ∙ t.3
+              ∙ sym (told_is modules' parts' size s' is' src' lh y t.1),
+        ));
+    sites = λ i j c. (sites_are i j c).2;
+    all_sites = λ i j a b e f k.
+        in_paired (same_site (layout s) (layout s')) (below (length s.sites)) (below (length s'.sites)) i j
+        (in_below (length s.sites) i (site_below modules parts size s is src lg i a e))
+        (in_below (length s'.sites) j (site_below modules' parts' size s' is' src' lh j b f))
+        (rw (
+          k.0,
+          k.1,
+          names_same (part_name (layout s') (site_of (layout s') j).part),
+          eq-eqb (site_of (layout s') j).index (site_of (layout s') j).index refl,
+        ) refl);
+  }
+
+  places : (ps qs : List PartSeen) → ((p : PartSeen) → Contains ps p → Contains G.parts p)
+      → SameUntrusted ps qs → SamePlaces by_name G.parts H.parts ps qs
+  places [] [] m k = tt
+  places [] (q ∷ qs) m k = absurd k
+  places (p ∷ ps) [] m k = absurd k
+  places (p ∷ ps) (q ∷ qs) m k = (by k.0, places ps qs (λ x c. m x (contains_rest p x ps c)) k.1)
+    where
+      imports : p.trusted ≡ false → (i : Import) → Contains p.component.imports i
+          → SameImported by_name (imported G.parts i) (imported H.parts i)
+      imports u i c =
+          let mp = m p (contains_first p ps) in
+          let x = import_there modules parts size s is src lg p i mp c in
+          let y = import_there modules' parts' size s' is' src' lh p i
+          (stands_too G.parts H.parts beside.places p mp u) c in
+          rw (x.1, y.1) (same_imported i x.0 y.0 x.1 y.1)
+
+      by : ((p ≡ q) × (p.trusted ≡ false)) ⊎ ((p.trusted ≡ true) × (q.trusted ≡ true))
+          → ((p ≡ q) × (p.trusted ≡ false)
+          × ((i : Import) → Contains p.component.imports i
+          → SameImported by_name (imported G.parts i) (imported H.parts i)))
+          ⊎ ((p.trusted ≡ true) × (q.trusted ≡ true))
+      by (inl e) = inl (e.0, e.1, imports e.1)
+      by (inr t) = inr t
+
+  pub beside_by_names : (names : SameNames G H) × GoByNames names
+      × SamePlaces names (placed parts size) (placed parts' size) (placed parts size) (placed parts' size)
+  beside_by_names = (by_name, go_by_names, places G.parts H.parts (λ p c. c) beside.places)

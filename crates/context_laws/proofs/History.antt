@@ -1,0 +1,214 @@
+-- What came in to two runs alike: the same items, with words that stand for each other.
+use Rattle.std.proofs.Common.{◌≡◌, ℕ, zero, suc, pos, List, [], ◌∷◌, ◌++◌, map}
+use Rattle.std.proofs.Common.{refl, sym, ap, ◌∙◌, subst, inl, inr}
+use Rattle.std.specs.Prelude.{option_map, slice_index_or}
+use Rattle.cap_words.specs.declared.CapFields.{CapFields}
+use Rattle.cap_words.specs.declared.Word.TheVariants.{Int, Mem}
+use Rattle.cap_words.specs.Faces.{memory_in}
+use Rattle.cap_words.specs.Face.{face_of}
+use Rattle.lcm_isa.specs.declared.Reg.TheVariants.{Stk, Rcode, Rdata, A0, A1, A2, A3}
+use Rattle.lcm_machine.specs.Row.{faces}
+use Rattle.call_sequence.specs.SequenceRuns.{stack_cap}
+use Rattle.overlay_machine.specs.declared.words.OWord.{OWord}
+use Rattle.overlay_machine.specs.declared.words.OWord.TheVariants.{Plain}
+use Rattle.overlay_machine.specs.Words.{look}
+use Rattle.overlay_machine.specs.State.{OpenFrame, OState}
+use Rattle.overlay_machine.specs.Step.{own_stack, if_own}
+use Rattle.overlay_machine.specs.Events.{step_event}
+use Rattle.overlay_machine.specs.Link.{Link}
+use Rattle.overlay_machine.specs.Linked.{Linked}
+use Rattle.overlay_machine.specs.Names.{NamesTold}
+use Rattle.trace_tool.specs.Views.{flat_view}
+use Rattle.source_events.specs.declared.Item.{Item}
+use Rattle.proc_semantics.specs.Marked.{Thing}
+use Rattle.source_laws.specs.Seen.{Back, thing_of, words_of, entry_of, nothing_back, no_words}
+use Rattle.source_laws.specs.Seen as seen
+use Rattle.source_laws.specs.Trace as lines
+use Rattle.source_laws.specs.Words.{words_at, back_at}
+use Rattle.context_laws.specs.Related.{SameNames, Calls, SameWord, ours}
+use Rattle.context_laws.specs.Related.{Newest, ComesAlike, EnterAlike, ReturnAlike}
+use Rattle.context_laws.proofs.Step.{face_is, own_of}
+use Rattle.context_laws.proofs.Arrive.{more}
+use Rattle.context_laws.proofs.Told.{enter_item}
+
+module _ (g h : Link) (names : SameNames g h) where
+  module _ (cs : Calls) where
+    abbrev S : OWord → OWord → Type 0
+    S = SameWord g h names cs
+
+    abbrev pub WordsAlike : List OWord → List OWord → Type 0
+    WordsAlike [] [] = Unit {0}
+    WordsAlike [] (v ∷ vs) = ⊥
+    WordsAlike (w ∷ ws) [] = ⊥
+    WordsAlike (w ∷ ws) (v ∷ vs) = S w v × WordsAlike ws vs
+
+    -- what is given back is the same
+    pub record BackAlike (a b : Back) : Type 0 where
+      pub code : S a.code b.code
+      pub whole : S a.whole b.whole
+      pub stk : a.stk ≡ b.stk
+      pub newest : Newest g h names cs a.open_calls b.open_calls
+
+    pub record ThingAlike (x y : Thing OWord Back) : Type 0 where
+      pub item : x.item ≡ y.item
+      pub words : WordsAlike x.words y.words
+      pub entry : BackAlike x.entry y.entry
+
+    abbrev pub AllAlike : List (Thing OWord Back) → List (Thing OWord Back) → Type 0
+    AllAlike [] [] = Unit {0}
+    AllAlike [] (y ∷ ys) = ⊥
+    AllAlike (x ∷ xs) [] = ⊥
+    AllAlike (x ∷ xs) (y ∷ ys) = ThingAlike x y × AllAlike xs ys
+
+    pub all_both : (xs ys us vs : List (Thing OWord Back)) → AllAlike xs ys → AllAlike us vs
+        → AllAlike (xs ++ us) (ys ++ vs)
+    all_both [] [] us vs a b = b
+    all_both [] (y ∷ ys) us vs a b = absurd a
+    all_both (x ∷ xs) [] us vs a b = absurd a
+    all_both (x ∷ xs) (y ∷ ys) us vs a b = (a.0, all_both xs ys us vs a.1 b)
+
+    pub same_items : (xs ys : List (Thing OWord Back)) → AllAlike xs ys
+        → map (λ x. x.item) xs ≡ map (λ x. x.item) ys
+    same_items [] [] a = refl
+    same_items [] (y ∷ ys) a = absurd a
+    same_items (x ∷ xs) [] a = absurd a
+    same_items (x ∷ xs) (y ∷ ys) a =
+        ap (λ z. z ∷ map (λ x. x.item) xs) a.0.item ∙ ap (λ z. y.item ∷ z) (same_items xs ys a.1)
+
+    zeros : S (Plain (Int (pos 0))) (Plain (Int (pos 0)))
+    zeros = ours (Int (pos 0)) tt
+
+    pub word_alike : (ws vs : List OWord) (j : ℕ) → WordsAlike ws vs
+        → S (slice_index_or ws j (Plain (Int (pos 0)))) (slice_index_or vs j (Plain (Int (pos 0))))
+    word_alike [] [] j a = zeros
+    word_alike [] (v ∷ vs) j a = absurd a
+    word_alike (w ∷ ws) [] j a = absurd a
+    word_alike (w ∷ ws) (v ∷ vs) zero a = a.0
+    word_alike (w ∷ ws) (v ∷ vs) (suc j) a = word_alike ws vs j a.1
+
+    pub words_alike : (xs ys : List (Thing OWord Back)) (k : ℕ) → AllAlike xs ys
+        → WordsAlike (words_at xs k) (words_at ys k)
+    words_alike [] [] k a = tt
+    words_alike [] (y ∷ ys) k a = absurd a
+    words_alike (x ∷ xs) [] k a = absurd a
+    words_alike (x ∷ xs) (y ∷ ys) zero a = a.0.words
+    words_alike (x ∷ xs) (y ∷ ys) (suc k) a = words_alike xs ys k a.1
+
+    nothing_alike : BackAlike nothing_back nothing_back
+    nothing_alike = record { code = zeros; whole = zeros; stk = refl; newest = tt }
+
+    pub back_alike : (xs ys : List (Thing OWord Back)) (k : ℕ) → AllAlike xs ys
+        → BackAlike (back_at xs k) (back_at ys k)
+    back_alike [] [] k a = nothing_alike
+    back_alike [] (y ∷ ys) k a = absurd a
+    back_alike (x ∷ xs) [] k a = absurd a
+    back_alike (x ∷ xs) (y ∷ ys) zero a = a.0.entry
+    back_alike (x ∷ xs) (y ∷ ys) (suc k) a = back_alike xs ys k a.1
+
+  -- ---- behind a further call
+
+  newest_more : (c : ℕ × ℕ) (cs : Calls) (fs es : List OpenFrame) → Newest g h names cs fs es
+      → Newest g h names (c ∷ cs) fs es
+  newest_more c cs [] [] n = tt
+  newest_more c cs [] (e ∷ es) n = absurd n
+  newest_more c cs (f ∷ fs) [] n = absurd n
+  newest_more c cs (f ∷ fs) (e ∷ es) n = (inr n.0, n.1, n.2)
+
+  words_more : (k m : ℕ) (cs : Calls) (ws vs : List OWord) → WordsAlike cs ws vs
+      → WordsAlike ((k, m) ∷ cs) ws vs
+  words_more k m cs [] [] a = tt
+  words_more k m cs [] (v ∷ vs) a = absurd a
+  words_more k m cs (w ∷ ws) [] a = absurd a
+  words_more k m cs (w ∷ ws) (v ∷ vs) a = (more g h names k m cs w v a.0, words_more k m cs ws vs a.1)
+
+  back_more : (k m : ℕ) (cs : Calls) (a b : Back) → BackAlike cs a b → BackAlike ((k, m) ∷ cs) a b
+  back_more k m cs a b x = record {
+    code = more g h names k m cs _ _ x.code;
+    whole = more g h names k m cs _ _ x.whole;
+    stk = x.stk;
+    newest = newest_more (k, m) cs _ _ x.newest;
+  }
+
+  pub all_more : (k m : ℕ) (cs : Calls) (xs ys : List (Thing OWord Back)) → AllAlike cs xs ys
+      → AllAlike ((k, m) ∷ cs) xs ys
+  all_more k m cs [] [] a = tt
+  all_more k m cs [] (y ∷ ys) a = absurd a
+  all_more k m cs (x ∷ xs) [] a = absurd a
+  all_more k m cs (x ∷ xs) (y ∷ ys) a = (
+    record {
+      item = a.0.item;
+      words = words_more k m cs _ _ a.0.words;
+      entry = back_more k m cs _ _ a.0.entry;
+    },
+    all_more k m cs xs ys a.1,
+  )
+
+  -- ---- a step by which code outside comes in
+
+  module _ (lg : Linked g) (lh : Linked h) (tg : NamesTold g.parts g.layout) (th : NamesTold h.parts h.layout)
+      (cs : Calls) (o q p r : OState) (n : Newest g h names cs o.frames p.frames) where
+    same_own : (w v : OWord) → SameWord g h names cs w v
+        → if_own g.layout (memory_in (face_of (look w))) ≡ if_own h.layout (memory_in (face_of (look v)))
+    same_own w v a =
+        own_of g.layout h.layout names.stack (memory_in (face_of (look w)))
+        ∙ ap (λ x. if_own h.layout (memory_in x)) (sym (face_is g h names cs w v a))
+
+    same_stk : SameWord g h names cs q.maps.regs.stk r.maps.regs.stk
+        → (entry_of g.layout q).stk ≡ (entry_of h.layout r).stk
+    unfolding own_stack faces
+    same_stk a =
+        ap (option_map (λ (c : CapFields). Plain (Mem (stack_cap g.layout.stack.base c.end c.end))))
+        (same_own q.maps.regs.stk r.maps.regs.stk a)
+        ∙ ap (λ b. option_map (λ (c : CapFields). Plain (Mem (stack_cap b c.end c.end)))
+        (if_own h.layout (memory_in (face_of (look r.maps.regs.stk))))) names.stack
+
+    by_enter : EnterAlike g h names cs o q p r → (xs ys : List Item)
+        → lines.items_of g.layout (flat_view g.layout q) (step_event g.layout o q) ≡ xs
+        → lines.items_of h.layout (flat_view h.layout r) (step_event h.layout p r) ≡ ys → xs ≡ ys
+        → AllAlike cs (map (thing_of g.layout q) xs) (map (thing_of h.layout r) ys)
+    by_enter e xs ys ex ey same =
+        let ix = (names.exports e.one e.other e.twins).0 in
+        let one = sym ex ∙ enter_item g lg tg e.one ix o q e.pc e.event in
+        subst (λ zs. AllAlike cs (map (thing_of g.layout q) xs) (map (thing_of h.layout r) zs)) same
+        (subst (λ zs. AllAlike cs (map (thing_of g.layout q) zs) (map (thing_of h.layout r) zs)) (sym one) (
+          record {
+            item = refl;
+            words = (
+              e.words A0 (λ z. cc) (λ z. cc),
+              (
+                e.words A1 (λ z. cc) (λ z. cc),
+                (e.words A2 (λ z. cc) (λ z. cc), (e.words A3 (λ z. cc) (λ z. cc), tt)),
+              ),
+            );
+            entry = record {
+              code = e.words Rcode (λ z. cc) (λ z. cc);
+              whole = e.words Rdata (λ z. cc) (λ z. cc);
+              stk = same_stk (e.words Stk (λ z. cc) (λ z. cc));
+              newest = rw (e.frames, e.frames_other) n;
+            };
+          },
+          tt,
+        ))
+
+    by_return : ReturnAlike g h names cs o q p r → (xs ys : List Item)
+        → lines.items_of g.layout (flat_view g.layout q) (step_event g.layout o q) ≡ xs → xs ≡ ys
+        → AllAlike cs (map (thing_of g.layout q) xs) (map (thing_of h.layout r) ys)
+    by_return e xs ys ex same =
+        let one = sym ex ∙ ap (lines.items_of g.layout (flat_view g.layout q)) e.event in
+        subst (λ zs. AllAlike cs (map (thing_of g.layout q) xs) (map (thing_of h.layout r) zs)) same
+        (subst (λ zs. AllAlike cs (map (thing_of g.layout q) zs) (map (thing_of h.layout r) zs)) (sym one) (
+          record {
+            item = refl;
+            words = (zeros cs, (zeros cs, (zeros cs, (zeros cs, tt))));
+            entry = nothing_alike cs;
+          },
+          tt,
+        ))
+
+    pub things_alike : ComesAlike g h names cs o q p r
+        → lines.items_of g.layout (flat_view g.layout q) (step_event g.layout o q)
+        ≡ lines.items_of h.layout (flat_view h.layout r) (step_event h.layout p r)
+        → AllAlike cs (seen.items_of g.layout q (step_event g.layout o q))
+        (seen.items_of h.layout r (step_event h.layout p r))
+    things_alike (inl e) same = by_enter e _ _ refl refl same
+    things_alike (inr e) same = by_return e _ _ refl same

@@ -1,0 +1,763 @@
+-- Sources that mean the same can't be told apart.
+use Rattle.std.proofs.Common.{◌≡◌, inl, inr, ◌↔◌, ℕ, suc, ◌+◌, ◌-◌, ◌<◌, ◌≤◌, List, [], ◌∷◌, ◌++◌, map}
+use Rattle.std.proofs.Common.{length, Option}
+use Rattle.std.proofs.Common.{Some, None, true, false, refl, sym, ap, ◌∙◌, subst, arith}
+use Rattle.std.proofs.lemmas.Bool.{cases_lt}
+use Rattle.std.specs.Prelude.{slice_get, option_map, is_some, if◌then◌else◌}
+use Rattle.std.proofs.lemmas.Option.{slice_get-map, slice_get_within}
+use Rattle.std.proofs.lemmas.List.{append-nil, length-append, length-map}
+use Rattle.cap_words.specs.declared.Word.TheVariants.{Mem}
+use Rattle.call_sequence.specs.SequenceRuns.{Outside, stack_cap}
+use Rattle.lcm_machine.specs.Cells.{cell}
+use Rattle.component_linker.specs.Parts.{PartSeen}
+use Rattle.component_linker.specs.Standing.{placed}
+use Rattle.component_linker.specs.Started.{StartSeen}
+use Rattle.component_linker.specs.LinkedStarts.{IsStartOf}
+use Rattle.overlay_machine.specs.declared.words.OWord.{OWord}
+use Rattle.overlay_machine.specs.declared.words.OWord.TheVariants.{Plain}
+use Rattle.overlay_machine.specs.State.{OpenFrame, OState, frame_of}
+use Rattle.overlay_machine.specs.Step.{goes, overlay_step}
+use Rattle.overlay_machine.specs.Events.{step_event}
+use Rattle.overlay_machine.specs.Link.{Link}
+use Rattle.overlay_machine.specs.Linked.{Linked}
+use Rattle.overlay_machine.specs.Names.{NamesTold}
+use Rattle.overlay_machine.specs.Runs.{Reached, goes_on}
+use Rattle.overlay_machine.specs.Starting.{overlay_at, StartsBegin}
+use Rattle.overlay_machine.proofs.starts.NameFacts.{starts_tell_names}
+use Rattle.trusted_border.specs.declared.layout.Layout.{Layout}
+use Rattle.trace_tool.specs.Layout.{layout}
+use Rattle.trace_tool.specs.Views.{flat_view}
+use Rattle.template_runs.specs.Runs.{is_inside}
+use Rattle.template_runs.specs.Public.{IsFreeAt}
+use Rattle.template_runs.specs.Border.{zero, Shows, Wiped, low_at}
+use Rattle.template_runs.proofs.Valid.{goes_same, halts_not, fails_not}
+use Rattle.proc_language.specs.declared.module.ModuleFields.{ModuleFields}
+use Rattle.proc_program.specs.Lower.{part_of}
+use Rattle.source_events.specs.declared.Item.{Item}
+use Rattle.proc_semantics.specs.Values.{World}
+use Rattle.proc_semantics.specs.Meaning.{meaning}
+use Rattle.proc_semantics.specs.Marked.{Thing, Event, Whence, refined, event_to, plain_event}
+use Rattle.proc_semantics.proofs.Marked.{mark_laws}
+use Rattle.source_laws.specs.Seen.{Shown, Back, shown_of}
+use Rattle.source_laws.specs.Seen as seen
+use Rattle.source_laws.specs.Sources.{SourcesMean}
+use Rattle.source_laws.specs.Trace.{items_of}
+use Rattle.source_laws.specs.Words.{word_from, back_at}
+use Rattle.source_laws.specs.Wiped as since_start
+use Rattle.source_laws.specs.Wiped.{TellsSince, and_then, low_of, last_outside}
+use Rattle.source_laws.specs.Secrets.{Until}
+use Rattle.source_laws.specs.Secrets as secrets
+use Rattle.source_starts.specs.Sources.{AreSources, linked_at, SourcesLeaveNothing}
+use Rattle.source_starts.specs.Words.{slots, SourcesTellWords}
+use Rattle.source_starts.specs.Wiped.{WipedCellsAreTold}
+use Rattle.context_laws.specs.Related.{SameNames, Calls, SameWord, ours, code_halves, data_halves, ret_codes}
+use Rattle.context_laws.specs.Related.{ret_datas, CellPair, Alike, ComesAlike, StepsAlike, both_halt}
+use Rattle.context_laws.specs.Related.{both_fail, both_stay}
+use Rattle.context_laws.specs.Related.{both_come}
+use Rattle.context_laws.specs.Lockstep.{Round, IsRound, Path, SameCrossing, by_call, by_leave, SameWiped}
+use Rattle.context_laws.specs.Lockstep.{InStep, at_end, round}
+use Rattle.context_laws.specs.Lockstep.{Holds, Tidies, AreBelow}
+use Rattle.context_laws.specs.Lockstep as spec
+use Rattle.context_laws.specs.Meanings.{name_of, observed, MeanTheSame, GoByNames, item_by, items_in}
+use Rattle.context_laws.specs.Meanings.{SameMeaningsGoInStep}
+use Rattle.context_laws.proofs.Counts.{step_rises, until_reached}
+use Rattle.context_laws.proofs.Arrive.{in_region_of, arrive_alike}
+use Rattle.context_laws.proofs.Whole.{alike_step, runs_outside, below_later, below_after, after_a, after_b}
+use Rattle.context_laws.proofs.Sources.{StartsAgree, linked_is, holds_is, tidies_is}
+use Rattle.context_laws.proofs.Starts.{placed_alike}
+use Rattle.context_laws.proofs.Open.{CallsAlike, has_sites, met, step_kept, until_kept, calls_kept}
+use Rattle.context_laws.proofs.Open.{calls_more}
+use Rattle.context_laws.proofs.Told.{items_same}
+use Rattle.context_laws.proofs.History.{AllAlike, all_both, all_more, same_items, things_alike, back_alike}
+use Rattle.context_laws.proofs.Naming.{IsNamed, is_named, named_same}
+use Rattle.context_laws.proofs.Progress.{IsCalm, calm_since, tells_of, goes_out, TellsMore}
+use Rattle.context_laws.proofs.Crossing.{crossed, get_map, ends_same}
+use Rattle.context_laws.proofs.Rounds.{RoundTold, round_told, entry_silent}
+
+first_inside : (l : Layout) (p q : OState) → Until l p q → is_inside l p ≡ true
+first_inside l p _ (secrets.still_there i) = i
+first_inside l p _ (secrets.one_more u s i) = first_inside l p _ u
+
+-- where a word is 0, so is what stands for it
+zero_same : (g h : Link) (names : SameNames g h) (cs : Calls) (w v : OWord) → SameWord g h names cs w v
+    → (w ≡ zero) ↔ (v ≡ zero)
+zero_same g h names cs _ _ (ours w o) = (λ e. e, λ e. e)
+zero_same g h names cs _ _ (code_halves x y t) = (λ e. cc, λ e. cc)
+zero_same g h names cs _ _ (data_halves x y t) = (λ e. cc, λ e. cc)
+zero_same g h names cs _ _ (ret_codes i j t) = (λ e. cc, λ e. cc)
+zero_same g h names cs _ _ (ret_datas i j t) = (λ e. cc, λ e. cc)
+
+module _ (begin : StartsBegin) (agree : StartsAgree) (leaves : SourcesLeaveNothing) (words : SourcesTellWords)
+    (wipes : WipedCellsAreTold)
+    (means : (modules : List ModuleFields) (parts : List PartSeen) (size : ℕ) (s : StartSeen)
+    → IsStartOf parts size s → AreSources modules parts → SourcesMean (map part_of modules) size s)
+    (modules modules' : List ModuleFields) (parts parts' : List PartSeen) (size : ℕ) (s s' : StartSeen)
+    (is : IsStartOf parts size s) (is' : IsStartOf parts' size s') (src : AreSources modules parts)
+    (src' : AreSources modules' parts')
+    (names : SameNames (linked_at parts size s) (linked_at parts' size s')) (by_names : GoByNames names)
+    (same : MeanTheSame (map part_of modules) (map part_of modules') size) where
+  abbrev G : Link
+  G = linked_at parts size s
+
+  abbrev H : Link
+  H = linked_at parts' size s'
+
+  abbrev O : OState
+  O = (overlay_at s).state
+
+  abbrev O' : OState
+  O' = (overlay_at s').state
+
+  abbrev W : World
+  W = map part_of modules
+
+  abbrev W' : World
+  W' = map part_of modules'
+
+  lg : Linked G
+  lg = linked_is begin agree leaves parts size s is
+
+  lh : Linked H
+  lh = linked_is begin agree leaves parts' size s' is'
+
+  hg : Holds G O
+  hg = holds_is begin agree leaves parts size s is
+
+  hh : Holds H O'
+  hh = holds_is begin agree leaves parts' size s' is'
+
+  tg : Tidies G O
+  tg = tidies_is begin agree leaves modules parts size s is src
+
+  th : Tidies H O'
+  th = tidies_is begin agree leaves modules' parts' size s' is' src'
+
+  ng : NamesTold G.parts G.layout
+  ng = starts_tell_names (placed parts size) size s is
+
+  nh : NamesTold H.parts H.layout
+  nh = starts_tell_names (placed parts' size) size s' is'
+
+  abbrev Things : Type 0
+  Things = List (Thing OWord Back)
+
+  abbrev feed : Things → List Item
+  feed xs = map (λ (x : Thing OWord Back). x.item) xs
+
+  -- ---- what is observed
+
+  -- an event of the one is one of the other by the same name
+  pub observed_at : (xs : List Item) (f n : ℕ) → (same xs).0 ≤ f → (x : Event Whence ℕ)
+      → slice_get (refined W size xs f).events n ≡ Some x
+      → (y : Event Whence ℕ) × (slice_get (refined W' size xs f).events n ≡ Some y)
+      × (event_to (name_of W) (λ (k : ℕ). k) x ≡ event_to (name_of W') (λ (k : ℕ). k) y)
+  observed_at xs f n le x e =
+      let at : slice_get (observed W' size xs f) n ≡ Some (event_to (name_of W) (λ (k : ℕ). k) x) =
+      ap (λ z. slice_get z n) (sym ((same xs).1 f le))
+      ∙ slice_get-map (event_to (name_of W) (λ (k : ℕ). k)) (refined W size xs f).events n
+      ∙ ap (option_map (event_to (name_of W) (λ (k : ℕ). k))) e in
+      let y = get_map (event_to (name_of W') (λ (k : ℕ). k)) (refined W' size xs f).events n _ at in
+      (y.0, y.1, sym y.2)
+
+  -- so the meaning of the other tells it
+  pub told_too : (xs : List Item) (f n : ℕ) (y : Event Whence ℕ)
+      → slice_get (refined W' size xs f).events n ≡ Some y → n + 1 ≤ length (meaning W' size xs f).events
+  told_too xs f n y e =
+      let lt = slice_get_within (refined W' size xs f).events n y e in
+      let len = length-map (refined W' size xs f).events plain_event in
+      let k = ap (λ t. length t.events) (mark_laws.forgets W' size xs f) in
+      omega (arith, lt, len, k)
+
+  -- ---- two points of the runs
+
+  pub record Point (cs : Calls) (p p' : OState) : Type 0 where
+    pub es : List Shown
+    pub es' : List Shown
+    pub xs : Things
+    pub xs' : Things
+    pub b : OState
+    pub b' : OState
+    pub since : TellsSince (layout s) O es xs b p
+    pub since' : TellsSince (layout s') O' es' xs' b' p'
+    pub count : length es ≡ length es'
+    pub all : AllAlike G H names cs xs xs'
+    pub calls : CallsAlike G H names cs p.frames p'.frames
+    pub i : ℕ
+    pub j : ℕ
+    pub reached : Reached (layout s) O i p
+    pub reached' : Reached (layout s') O' j p'
+    pub outside : is_inside (layout s) p ≡ false
+    pub outside' : is_inside (layout s') p' ≡ false
+    pub alike : Alike G H names cs p p'
+    pub below : AreBelow cs p p'
+
+  abbrev Result : ℕ → Calls → List Round → OState → OState → Type 0
+  Result n cs as_ q p' =
+      (q' : OState) × (bs : List Round) × Path (layout s') n p' bs q' × InStep G H names cs as_ bs q q'
+      × (items_in (layout s) as_ q ≡ items_in (layout s') bs q')
+
+  steps_alike : (cs : Calls) (p p' : OState) → Point cs p p' → StepsAlike G H names cs p p'
+  steps_alike cs p p' k =
+      alike_step G H names lg lh O O' hg hh tg th cs k.i k.j p p' k.reached k.reached' k.outside k.outside'
+      k.alike k.below
+
+  -- ---- a step outside
+
+  stays_too : (cs : Calls) (p p' q : OState) → StepsAlike G H names cs p p'
+      → overlay_step (layout s) p ≡ goes q
+      → is_inside (layout s) q ≡ false → (q' : OState) × (overlay_step (layout s') p' ≡ goes q')
+      × (is_inside (layout s') q' ≡ false) × Alike G H names cs q q'
+      × (step_event (layout s) p q ≡ None) × (step_event (layout s') p' q' ≡ None)
+  stays_too cs p p' q (both_halt x y) e i = absurd (halts_not q (sym x ∙ e))
+  stays_too cs p p' q (both_fail x y) e i = absurd (fails_not q (sym x ∙ e))
+  stays_too cs p p' q (both_stay m m' x y im jm ev ew al) e i =
+      let k = goes_same m q (sym x ∙ e) in (
+        m',
+        y,
+        jm,
+        subst (λ z. Alike G H names cs z m') k al,
+        subst (λ z. step_event (layout s) p z ≡ None) k ev,
+        ew,
+      )
+  stays_too cs p p' q (both_come m m' x y im jm c) e i =
+      absurd (let bad : true ≡ false = sym im ∙ ap (is_inside (layout s)) (goes_same m q (sym x ∙ e)) ∙ i
+      in cc)
+
+  stays : (cs : Calls) (p p' q : OState) (k : Point cs p p') → overlay_step (layout s) p ≡ goes q
+      → is_inside (layout s) q ≡ false
+      → (q' : OState) × (overlay_step (layout s') p' ≡ goes q') × (is_inside (layout s') q' ≡ false)
+      × Point cs q q'
+  stays cs p p' q k e i =
+      let z = stays_too cs p p' q (steps_alike cs p p' k) e i in (
+        z.0,
+        z.1,
+        z.2,
+        record {
+          es = k.es;
+          es' = k.es';
+          xs = k.xs;
+          xs' = k.xs';
+          b = _;
+          b' = _;
+          since = calm_since (layout s) O k.es k.xs k.b p q k.since e (calm z.4);
+          since' = calm_since (layout s') O' k.es' k.xs' k.b' p' z.0 k.since' z.1 (calm z.5);
+          count = k.count;
+          all = k.all;
+          calls = calls_kept G H names cs p.frames p'.frames q.frames z.0.frames k.calls
+              (λ n m c f. step_kept G lg O hg k.i p q k.reached e n f (k.below.first n m c))
+              (λ n m c f. step_kept H lh O' hh k.j p' z.0 k.reached' z.1 m f (k.below.second n m c));
+          i = _;
+          j = _;
+          reached = goes_on k.reached e;
+          reached' = goes_on k.reached' z.1;
+          outside = i;
+          outside' = z.2;
+          alike = z.3;
+          below =
+              below_later G H names lg lh O O' hg hh tg th cs p p' q z.0
+              (step_rises G lg O hg k.i p q k.reached e)
+              (step_rises H lh O' hh k.j p' z.0 k.reached' z.1) k.below;
+        },
+      )
+    where
+      calm : {x : Option _} → x ≡ None → IsCalm x
+      calm e = subst IsCalm (sym e) tt
+
+  -- ---- a round
+
+  comes_too : (cs : Calls) (p p' q : OState) → StepsAlike G H names cs p p'
+      → overlay_step (layout s) p ≡ goes q
+      → is_inside (layout s) q ≡ true → (q' : OState) × (overlay_step (layout s') p' ≡ goes q')
+      × (is_inside (layout s') q' ≡ true) × ComesAlike G H names cs p q p' q'
+  comes_too cs p p' q (both_halt x y) e i = absurd (halts_not q (sym x ∙ e))
+  comes_too cs p p' q (both_fail x y) e i = absurd (fails_not q (sym x ∙ e))
+  comes_too cs p p' q (both_stay m m' x y im jm ev ew al) e i =
+      absurd (let bad : false ≡ true = sym im ∙ ap (is_inside (layout s)) (goes_same m q (sym x ∙ e)) ∙ i
+      in cc)
+  comes_too cs p p' q (both_come m m' x y im jm c) e i =
+      (m', y, jm, subst (λ z. ComesAlike G H names cs p z p' m') (goes_same m q (sym x ∙ e)) c)
+
+  -- the items are the same
+  come_items : (cs : Calls) (p p' : OState) (k : Point cs p p') (q q' : OState)
+      → overlay_step (layout s) p ≡ goes q
+      → overlay_step (layout s') p' ≡ goes q' → ComesAlike G H names cs p q p' q'
+      → items_of (layout s) (flat_view (layout s) q) (step_event (layout s) p q)
+      ≡ items_of (layout s') (flat_view (layout s') q') (step_event (layout s') p' q')
+  come_items cs p p' k q q' e e' c =
+      items_same G H names by_names lg lh ng nh cs p q p' q'
+      (calls_kept G H names cs p.frames p'.frames q.frames q'.frames k.calls
+      (λ n m c f. step_kept G lg O hg k.i p q k.reached e n f (k.below.first n m c))
+      (λ n m c f. step_kept H lh O' hh k.j p' q' k.reached' e' m f (k.below.second n m c)))
+      (has_sites G lg O hg _ q (goes_on k.reached e)) (has_sites H lh O' hh _ q' (goes_on k.reached' e'))
+      (met G lg O hg _ q (goes_on k.reached e)) (met H lh O' hh _ q' (goes_on k.reached' e')) c
+
+  last_item : (cs : Calls) (p p' : OState) → Point cs p p'
+      → item_by (layout s) p (overlay_step (layout s) p) ≡ item_by (layout s') p'
+      (overlay_step (layout s') p')
+  last_item cs p p' k = by (steps_alike cs p p' k)
+    where
+      by : StepsAlike G H names cs p p'
+          → item_by (layout s) p (overlay_step (layout s) p) ≡ item_by (layout s') p'
+          (overlay_step (layout s') p')
+      by (both_halt x y) = ap (item_by (layout s) p) x ∙ sym (ap (item_by (layout s') p') y)
+      by (both_fail x y) = ap (item_by (layout s) p) x ∙ sym (ap (item_by (layout s') p') y)
+      by (both_stay m m' x y i j ev ew al) =
+          ap (item_by (layout s) p) x
+          ∙ ap (λ b. if b then items_of (layout s) (flat_view (layout s) m) (step_event (layout s) p m) else
+          []) i ∙ sym (ap (item_by (layout s') p') y
+          ∙ ap (λ b. if b then items_of (layout s') (flat_view (layout s') m') (step_event (layout s') p' m')
+          else []) j)
+      by (both_come m m' x y i j c) =
+          ap (item_by (layout s) p) x
+          ∙ ap (λ b. if b then items_of (layout s) (flat_view (layout s) m) (step_event (layout s) p m) else
+          []) i ∙ come_items cs p p' k m m' x y c
+          ∙ sym (ap (item_by (layout s') p') y
+          ∙ ap (λ b. if b then items_of (layout s') (flat_view (layout s') m') (step_event (layout s') p' m')
+          else []) j)
+
+  -- where code outside comes in nothing is shown
+  silent : (cs : Calls) (p q p' q' : OState) → ComesAlike G H names cs p q p' q'
+      → (seen.outs_of (layout s) q (step_event (layout s) p q) ≡ [])
+      × (seen.outs_of (layout s') q' (step_event (layout s') p' q') ≡ [])
+  silent cs p q p' q' (inl e) = (
+    ap (seen.outs_of (layout s) q) e.event ∙ entry_silent (layout s) e.one q,
+    ap (seen.outs_of (layout s') q') e.event_other ∙ entry_silent (layout s') e.other q',
+  )
+  silent cs p q p' q' (inr e) =
+      (ap (seen.outs_of (layout s) q) e.event, ap (seen.outs_of (layout s') q') e.event_other)
+
+  -- what trusted code shows where it lets go
+  shows_g : (i : ℕ) (r : Round) → Reached (layout s) O i r.before → IsRound (layout s) r
+      → Shows (layout s) r.last r.after
+  shows_g i r reached ir =
+      ((leaves modules parts size s is src).shows r.entered r.last r.after
+      (record {
+        came = secrets.comes i r.before reached ir.outside ir.comes;
+        until = ir.until;
+        steps =
+            ir.lets;
+        gone = ir.gone;
+      })).registers
+
+  shows_h : (j : ℕ) (r : Round) → Reached (layout s') O' j r.before → IsRound (layout s') r
+      → Shows (layout s') r.last r.after
+  shows_h j r reached ir =
+      ((leaves modules' parts' size s' is' src').shows r.entered r.last r.after
+      (record {
+        came = secrets.comes j r.before reached ir.outside ir.comes;
+        until = ir.until;
+        steps =
+            ir.lets;
+        gone = ir.gone;
+      })).registers
+
+  -- both wipe the same cells
+  module _ (cs : Calls) (a b : Round)
+      (cells : (x : ℕ) → IsFreeAt G x
+      → CellPair (SameWord G H names cs) (IsFreeAt G) (cell a.before.maps.cells x)
+      (cell b.before.maps.cells x)) (ga : (i : ℕ) × Reached (layout s) O i a.after)
+      (gb : (j : ℕ) × Reached (layout s') O' j b.after) (low low' : Option ℕ)
+      (wa : Wiped G low a.before a.after)
+      (wb : Wiped H low' b.before b.after) (lows : low ≡ low') (ends : wa.end ≡ wb.end) where
+    abbrev Low : ℕ
+    Low = low_at G.layout.stack.base wa.end low
+
+    same_low : low_at H.layout.stack.base wb.end low' ≡ Low
+    same_low =
+        sym (ap (λ z. low_at z wa.end low) names.stack ∙ ap (λ z. low_at H.layout.stack.base z low) ends
+        ∙ ap (low_at H.layout.stack.base wb.end) lows)
+
+    kept_pair : (x : ℕ) → IsFreeAt G x → (o o' : Option OWord) → cell a.before.maps.cells x ≡ o
+        → cell b.before.maps.cells x ≡ o' → (w v : OWord) → o ≡ Some w → o' ≡ Some v
+        → CellPair (SameWord G H names cs) (IsFreeAt G) o o' → (w ≡ zero) ↔ (v ≡ zero)
+    kept_pair x free None o' e e' w v f f' p = absurd cc
+    kept_pair x free (Some u) None e e' w v f f' p = absurd cc
+    kept_pair x free (Some u) (Some t) e e' w v f f' p =
+        let i : u ≡ w = cc in
+        let j : t ≡ v = cc in
+        zero_same G H names cs w v
+        (subst (λ z. SameWord G H names cs z v) i (subst (λ z. SameWord G H names cs u z) j p))
+
+    word_there : (o : Option OWord) → is_some o ≡ true → (w : OWord) × (o ≡ Some w)
+    word_there None e = absurd cc
+    word_there (Some w) e = (w, refl)
+
+    pub wiped_same : SameWiped G a b
+    wiped_same x free ta tb =
+        let w = word_there (cell a.after.maps.cells x) ta in
+        let v = word_there (cell b.after.maps.cells x) tb in
+        some_same w.0 v.0 w.1 v.1 (by w.0 v.0 w.1 v.1)
+      where
+        some_same : (w v : OWord) → cell a.after.maps.cells x ≡ Some w → cell b.after.maps.cells x ≡ Some v
+            → (w ≡ zero) ↔ (v ≡ zero)
+            → (cell a.after.maps.cells x ≡ Some zero) ↔ (cell b.after.maps.cells x ≡ Some zero)
+        some_same w v e f z = (
+          λ h. f ∙ ap Some (z.0 (let y : Some w ≡ Some zero = sym e ∙ h in cc)),
+          λ h. e ∙ ap Some (z.1 (let y : Some v ≡ Some zero = sym f ∙ h in cc)),
+        )
+
+        outside_pair : (w v : OWord) → cell a.after.maps.cells x ≡ Some w → cell b.after.maps.cells x ≡ Some v
+            → Outside x Low wa.end → (w ≡ zero) ↔ (v ≡ zero)
+        outside_pair w v e f out =
+            let ia = hg ga.0 a.after ga.1 in
+            let ib = hh gb.0 b.after gb.1 in
+            let free' : IsFreeAt H x = names.free x (in_region_of G a.after ia.0 ia.1 x w e)
+            (in_region_of H b.after ib.0 ib.1 x v f) free in
+            let out' : Outside x (low_at H.layout.stack.base wb.end low') wb.end =
+            subst (λ z. Outside x z wb.end) (sym same_low) (subst (Outside x Low) ends out) in
+            kept_pair x free _ _ refl refl w v (wa.cells.kept x w free out e) (wb.cells.kept x v free' out' f)
+            (cells x free)
+
+        by : (w v : OWord) → cell a.after.maps.cells x ≡ Some w → cell b.after.maps.cells x ≡ Some v
+            → (w ≡ zero) ↔ (v ≡ zero)
+        by w v e f = elim (cases_lt x Low) as (λ _. (w ≡ zero) ↔ (v ≡ zero)) [
+          | inl lt ↦ outside_pair w v e f (inl lt)
+          | inr ge ↦ elim (cases_lt wa.end x) as (λ _. (w ≡ zero) ↔ (v ≡ zero)) [
+            | inl gt ↦ outside_pair w v e f (inr gt)
+            | inr le ↦ (
+                let z = wa.cells.wiped x w ge le e in
+                let sl = same_low in
+                let y = wb.cells.wiped x v (omega (arith, ge, sl)) (omega (arith, le, ends)) f in
+                (λ _. y, λ _. z)
+                )
+          ]
+        ]
+
+  -- both give the same stack away
+  pub same_ends : (cs ds : Calls) (a b : Round) → SameCrossing G H names cs a b ds → (e t : ℕ)
+      → a.after.maps.regs.stk ≡ Plain (Mem (stack_cap G.layout.stack.base e e))
+      → b.after.maps.regs.stk ≡ Plain (Mem (stack_cap H.layout.stack.base t t)) → e ≡ t
+  same_ends cs _ a b (by_call d f k sc tc ev ew base sites a0 a1 a2 a3) e t x y =
+      ends_same e (f.base - 1) (ap Some (sym x ∙ sc.stk)) ∙ ap (λ z. z - 1) base
+      ∙ sym (ends_same t (k.base - 1) (ap Some (sym y ∙ tc.stk)))
+  same_ends cs _ a b (by_leave d top sl tl a0 newest) e t x y =
+      ends_same e top (ap Some (sym x ∙ sl.stk)) ∙ sym (ends_same t top (ap Some (sym y ∙ tl.stk)))
+
+  -- what came in, and which calls are open, behind a crossing
+  pub all_behind : (cs ds : Calls) (a b : Round) → SameCrossing G H names cs a b ds → (xs ys : Things)
+      → AllAlike G H names cs xs ys → AllAlike G H names ds xs ys
+  all_behind cs _ a b (by_call d f k sc tc ev ew base sites a0 a1 a2 a3) xs ys al =
+      all_more G H names f.call k.call cs xs ys al
+  all_behind cs _ a b (by_leave d top sl tl a0 newest) xs ys al = al
+
+  pub calls_behind : (cs ds : Calls) (a b : Round) → SameCrossing G H names cs a b ds
+      → CallsAlike G H names cs a.after.frames b.after.frames
+      → CallsAlike G H names ds a.after.frames b.after.frames
+  calls_behind cs _ a b (by_call d f k sc tc ev ew base sites a0 a1 a2 a3) al =
+      calls_more G H names cs sc.older tc.older a.after.frames b.after.frames f k sc.newest tc.newest al sites
+      base
+  calls_behind cs _ a b (by_leave d top sl tl a0 newest) al = al
+
+  -- a call that was open before is open since
+  kept_g : (i n : ℕ) (f : OpenFrame) (r : Round) → Reached (layout s) O i r.before → IsRound (layout s) r
+      → n < r.before.calls → frame_of r.after.frames n ≡ Some f → frame_of r.before.frames n ≡ Some f
+  kept_g i n f r reached ir lt e =
+      let up = step_rises G lg O hg i r.before r.entered reached ir.comes in
+      let u = until_reached G lg O hg r.entered r.last _ (goes_on reached ir.comes) ir.until in
+      let more = u.2 in
+      step_kept G lg O hg i r.before r.entered reached ir.comes n f lt
+      (until_kept G lg O hg r.entered r.last _ (goes_on reached ir.comes) ir.until n f (omega (arith, lt, up))
+      (step_kept G lg O hg u.0 r.last r.after u.1 ir.lets n f (omega (arith, lt, up, more)) e))
+
+  kept_h : (j n : ℕ) (f : OpenFrame) (r : Round) → Reached (layout s') O' j r.before → IsRound (layout s') r
+      → n < r.before.calls → frame_of r.after.frames n ≡ Some f → frame_of r.before.frames n ≡ Some f
+  kept_h j n f r reached ir lt e =
+      let up = step_rises H lh O' hh j r.before r.entered reached ir.comes in
+      let u = until_reached H lh O' hh r.entered r.last _ (goes_on reached ir.comes) ir.until in
+      let more = u.2 in
+      step_kept H lh O' hh j r.before r.entered reached ir.comes n f lt
+      (until_kept H lh O' hh r.entered r.last _ (goes_on reached ir.comes) ir.until n f
+      (omega (arith, lt, up))
+      (step_kept H lh O' hh u.0 r.last r.after u.1 ir.lets n f (omega (arith, lt, up, more)) e))
+
+  module _ (cs : Calls) (a : Round) (p' : OState) (k : Point cs a.before p') (ia : IsRound (layout s) a)
+      (q' : OState) (e' : overlay_step (layout s') p' ≡ goes q') (i' : is_inside (layout s') q' ≡ true)
+      (c : ComesAlike G H names cs a.before a.entered p' q') where
+    abbrev new : Things
+    new = seen.items_of (layout s) a.entered (step_event (layout s) a.before a.entered)
+
+    abbrev new' : Things
+    new' = seen.items_of (layout s') q' (step_event (layout s') p' q')
+
+    abbrev xs : Things
+    xs = k.xs ++ new
+
+    abbrev ys : Things
+    ys = k.xs' ++ new'
+
+    items : items_of (layout s) (flat_view (layout s) a.entered) (step_event (layout s) a.before a.entered)
+        ≡ items_of (layout s') (flat_view (layout s') q') (step_event (layout s') p' q')
+    items = come_items cs a.before p' k a.entered q' ia.comes e' c
+
+    all_in : AllAlike G H names cs xs ys
+    all_in = all_both G H names cs k.xs k.xs' new new' k.all
+        (things_alike G H names lg lh ng nh cs a.before a.entered p' q' k.alike.newest c items)
+
+    same_feed : feed xs ≡ feed ys
+    same_feed = same_items G H names cs xs ys all_in
+
+    came : TellsSince (layout s) O k.es xs a.before a.entered
+    came =
+        subst (λ z. TellsSince (layout s) O k.es xs (last_outside z k.b a.before) a.entered) k.outside
+        (subst
+        (λ z. TellsSince (layout s) O z xs (last_outside (is_inside (layout s) a.before) k.b a.before)
+        a.entered)
+        (ap (λ z. k.es ++ z) (silent cs a.before a.entered p' q' c).0 ∙ append-nil k.es)
+        (and_then k.since ia.comes))
+
+    came' : TellsSince (layout s') O' k.es' ys p' q'
+    came' =
+        subst (λ z. TellsSince (layout s') O' k.es' ys (last_outside z k.b' p') q') k.outside'
+        (subst (λ z. TellsSince (layout s') O' z ys (last_outside (is_inside (layout s') p') k.b' p') q')
+        (ap (λ z. k.es' ++ z) (silent cs a.before a.entered p' q' c).1 ∙ append-nil k.es')
+        (and_then k.since' e'))
+
+    abbrev Told : Type 0
+    Told = RoundTold G W size s refl (slots modules (placed parts size) s) (words modules parts size s is src)
+        (wipes modules parts size s is src) k.es xs a.before a.last a.after
+
+    told : Told
+    told = round_told G W size s refl (slots modules (placed parts size) s)
+        (words modules parts size s is src)
+        (wipes modules parts size s is src) k.es xs a.before a.entered a.last a.after came ia.until ia.lets
+        ia.gone (shows_g k.i a k.reached ia)
+
+    -- the other lets go too
+    tells_more : TellsMore W' size s' (means modules' parts' size s' is' src') k.es' ys
+    tells_more = (
+      told.enough + (same (feed xs)).0,
+      λ f le. (
+          let x = told.event f (omega (arith, le)) in
+          let y = observed_at (feed xs) f (length k.es) (omega (arith, le)) x.0 x.1 in
+          let len = told_too (feed xs) f (length k.es) y.0 y.1 in
+          let n = k.count in
+          let m : length (meaning W' size (feed xs) f).events ≡ length (meaning W' size (feed ys) f).events =
+          ap (λ z. length (meaning W' size z f).events) same_feed in
+          omega (arith, len, n, m)),
+    )
+
+    other : (b : Round) × IsRound (layout s') b × (b.before ≡ p') × (b.entered ≡ q')
+    other =
+        let g = goes_out W' size s' (means modules' parts' size s' is' src') k.es' ys q'
+        (tells_of (layout s') O' k.es' ys p' q' came') i' tells_more in (
+          record { before = p'; entered = q'; last = g.0; after = g.1 },
+          record { outside = k.outside'; comes = e'; until = g.2; lets = g.3; gone = g.4 },
+          refl,
+          refl,
+        )
+
+    -- behind both rounds
+    module _ (b : Round) (ib : IsRound (layout s') b) (eb : b.before ≡ p') (ee : b.entered ≡ q') where
+      kb : Point cs a.before b.before
+      kb = subst (Point cs a.before) (sym eb) k
+
+      cb : ComesAlike G H names cs a.before a.entered b.before b.entered
+      cb = subst (λ z. ComesAlike G H names cs a.before a.entered z b.entered) (sym eb)
+          (subst (λ z. ComesAlike G H names cs a.before a.entered p' z) (sym ee) c)
+
+      abbrev Other : Type 0
+      Other = RoundTold H W' size s' refl (slots modules' (placed parts' size) s')
+          (words modules' parts' size s' is' src') (wipes modules' parts' size s' is' src') k.es' ys b.before
+          b.last
+          b.after
+
+      came_b : TellsSince (layout s') O' k.es' ys b.before b.entered
+      came_b = subst (λ z. TellsSince (layout s') O' k.es' ys z b.entered) (sym eb)
+          (subst (TellsSince (layout s') O' k.es' ys p') (sym ee) came')
+
+      reached_b : Reached (layout s') O' k.j b.before
+      reached_b = subst (Reached (layout s') O' k.j) (sym eb) k.reached'
+
+      told_b : Other
+      told_b = round_told H W' size s' refl (slots modules' (placed parts' size) s')
+          (words modules' parts' size s' is' src') (wipes modules' parts' size s' is' src') k.es' ys b.before
+          b.entered b.last b.after came_b ib.until ib.lets ib.gone (shows_h k.j b reached_b ib)
+
+      ga : (i : ℕ) × Reached (layout s) O i a.after
+      ga = after_a G H names lg lh O O' hg hh tg th cs a b k.i k.j k.reached reached_b ia ib kb.below
+
+      gb : (j : ℕ) × Reached (layout s') O' j b.after
+      gb = after_b G H names lg lh O O' hg hh tg th cs a b k.i k.j k.reached reached_b ia ib kb.below
+
+      abbrev F : ℕ
+      F = told.enough + told_b.enough + (same (feed xs)).0 + told.wiped.enough + told_b.wiped.enough
+
+      -- the event of both
+      record Both : Type 0 where
+        pub one : Event Whence ℕ
+        pub two : Event Whence ℕ
+        pub one_is : slice_get (refined W size (feed xs) F).events (length k.es) ≡ Some one
+        pub two_is : slice_get (refined W' size (feed ys) F).events (length k.es') ≡ Some two
+        pub one_shown : seen.outs_of (layout s) a.after (step_event (layout s) a.last a.after)
+            ≡ shown_of (event_to (word_from (slots modules (placed parts size) s) xs) (back_at xs) one) ∷ []
+        pub two_shown : seen.outs_of (layout s') b.after (step_event (layout s') b.last b.after)
+            ≡ shown_of (event_to (word_from (slots modules' (placed parts' size) s') ys) (back_at ys) two)
+            ∷ []
+        pub names_same : event_to (name_of W) (λ (k : ℕ). k) one ≡ event_to (name_of W') (λ (k : ℕ). k) two
+
+      both : Both
+      both =
+          let x = told.event F (omega arith) in
+          let y = told_b.event F (omega arith) in
+          let z = observed_at (feed xs) F (length k.es) (omega arith) x.0 x.1 in
+          let at : Some z.0 ≡ Some y.0 = sym z.1
+          ∙ ap (λ u. slice_get (refined W' size u F).events (length k.es)) same_feed
+          ∙ ap (slice_get (refined W' size (feed ys) F).events) k.count ∙ y.1 in
+          let one : z.0 ≡ y.0 = cc in
+          record {
+            one = x.0;
+            two = y.0;
+            one_is = x.1;
+            two_is = y.1;
+            one_shown = x.2;
+            two_shown = y.2;
+            names_same = z.2 ∙ ap (event_to (name_of W') (λ (k : ℕ). k)) one;
+          }
+
+      cross : (ds : Calls) × SameCrossing G H names cs a b ds × (low_of both.one ≡ low_of both.two)
+      cross =
+          crossed G H names by_names lg lh cs (name_of W) (name_of W')
+          (word_from (slots modules (placed parts size) s) xs)
+          (word_from (slots modules' (placed parts' size) s') ys) (back_at xs) (back_at ys)
+          (λ w v e. named_same G H names by_names cs xs ys all_in (name_of W' v) _ _
+          (subst
+          (λ n. IsNamed (placed parts size) xs n (word_from (slots modules (placed parts size) s) xs w)) e
+          (is_named begin modules parts size s is src xs w))
+          (is_named begin modules' parts' size s' is' src' ys v))
+          (λ n. back_alike G H names cs xs ys n all_in) a b
+          (runs_outside G H names lg lh O O' hg hh tg th G O hg ga.0 a.after ga.1 ia.gone)
+          (runs_outside G H names lg lh O O' hg hh tg th H O' hh gb.0 b.after gb.1 ib.gone)
+          (has_sites G lg O hg ga.0 a.after ga.1) (has_sites H lh O' hh gb.0 b.after gb.1)
+          (met G lg O hg ga.0 a.after ga.1) (met H lh O' hh gb.0 b.after gb.1) (shows_g k.i a k.reached ia)
+          (shows_h k.j b reached_b ib) both.one both.two both.one_shown both.two_shown both.names_same
+
+      lows : told.wiped.low ≡ told_b.wiped.low
+      lows =
+          let u = told.wiped.told F (omega arith) in
+          let v = told_b.wiped.told F (omega arith) in
+          let x : Some u.0 ≡ Some both.one = sym u.1 ∙ both.one_is in
+          let y : Some v.0 ≡ Some both.two = sym v.1 ∙ both.two_is in
+          let i : u.0 ≡ both.one = cc in
+          let j : v.0 ≡ both.two = cc in
+          sym u.2 ∙ ap low_of i ∙ cross.2 ∙ sym (ap low_of j) ∙ v.2
+
+      wiped : SameWiped G a b
+      wiped =
+          wiped_same cs a b kb.alike.seen.1 ga gb told.wiped.low told_b.wiped.low told.wiped.wiped
+          told_b.wiped.wiped lows
+          (same_ends cs cross.0 a b cross.1 told.wiped.wiped.end told_b.wiped.wiped.end told.wiped.wiped.stk
+          told_b.wiped.wiped.stk)
+
+      behind : Point cross.0 a.after b.after
+      behind = record {
+        es = k.es ++ told.shown ∷ [];
+        es' = k.es' ++ told_b.shown ∷ [];
+        xs = xs;
+        xs' = ys;
+        b = told.since.0;
+        b' = told_b.since.0;
+        since = told.since.1;
+        since' = told_b.since.1;
+        count = (let x = length-append k.es (told.shown ∷ []) in
+            let y = length-append k.es' (told_b.shown ∷ []) in
+            let z = k.count in omega (arith, x, y, z));
+        all = all_behind cs cross.0 a b cross.1 xs ys all_in;
+        calls = calls_behind cs cross.0 a b cross.1
+            (calls_kept G H names cs a.before.frames b.before.frames a.after.frames b.after.frames kb.calls
+            (λ n m c f. kept_g k.i n f a k.reached ia (kb.below.first n m c))
+            (λ n m c f. kept_h k.j m f b reached_b ib (kb.below.second n m c)));
+        i = ga.0;
+        j = gb.0;
+        reached = ga.1;
+        reached' = gb.1;
+        outside = ia.gone;
+        outside' = ib.gone;
+        alike = arrive_alike G H names lg lh cs a b
+            (runs_outside G H names lg lh O O' hg hh tg th G O hg ga.0 a.after ga.1 ia.gone)
+            (runs_outside G H names lg lh O O' hg hh tg th H O' hh gb.0 b.after gb.1 ib.gone) kb.alike.seen.1
+            (tg k.i a k.reached ia) (th k.j b reached_b ib) wiped cross.0 cross.1;
+        below = below_after G H names lg lh O O' hg hh tg th cs a b k.i k.j k.reached reached_b ia ib kb.below
+            cross.0 cross.1;
+      }
+
+      items_b : items_of (layout s) (flat_view (layout s) a.entered)
+          (step_event (layout s) a.before a.entered)
+          ≡ items_of (layout s') (flat_view (layout s') b.entered) (step_event (layout s') b.before b.entered)
+      items_b = items
+          ∙ sym (ap (λ z. items_of (layout s') (flat_view (layout s') z) (step_event (layout s') p' z)) ee)
+          ∙ sym
+          (ap (λ z. items_of (layout s') (flat_view (layout s') b.entered)
+          (step_event (layout s') z b.entered)) eb)
+
+      joined : (n : ℕ) (as_ : List Round) (q : OState) → Result n cross.0 as_ q b.after
+          → Result (suc n) cs (a ∷ as_) q p'
+      joined n as_ q r =
+          subst (λ z. Result (suc n) cs (a ∷ as_) q z) eb (
+            r.0,
+            b ∷ r.1,
+            spec.inside b ib r.2,
+            round a b cb cross.1 r.3,
+            ap (λ z. z ++ items_in (layout s) as_ q) items_b
+                ∙ ap (λ z. items_of (layout s') (flat_view (layout s') b.entered)
+                (step_event (layout s') b.before b.entered) ++ z) r.4,
+          )
+
+  -- ---- runs
+
+  pub go_in_step : (n : ℕ) (cs : Calls) (p p' q : OState) (as_ : List Round) → Point cs p p'
+      → Path (layout s) n p as_ q → Result n cs as_ q p'
+  go_in_step _ cs p p' _ _ k spec.ends =
+      (p', [], spec.ends, at_end k.alike (steps_alike cs p p' k), last_item cs p p' k)
+  go_in_step _ cs p p' q as_ k (spec.outside {n = n} {q = m} x e w r) =
+      let z = stays cs p p' m k e w in
+      let t = go_in_step n cs m z.0 q as_ z.3 r in
+      (t.0, t.1, spec.outside k.outside' z.1 z.2 t.2, t.3, t.4)
+  go_in_step _ cs _ p' q _ k (spec.inside {n = n} {rs = as_} a ia r) =
+      let c = comes_too cs a.before p' a.entered (steps_alike cs a.before p' k) ia.comes
+      (first_inside (layout s) a.entered a.last ia.until) in
+      let o = other cs a p' k ia c.0 c.1 c.2 c.3 in
+      joined cs a p' k ia c.0 c.1 c.2 c.3 o.0 o.1 o.2 o.3 n as_ q
+      (go_in_step n _ a.after o.0.after q as_ (behind cs a p' k ia c.0 c.1 c.2 c.3 o.0 o.1 o.2 o.3) r)
+
+  -- where no code has run
+  pub first_point : Alike G H names [] O O' → AreBelow [] O O' → is_inside (layout s) O ≡ false
+      → is_inside (layout s') O' ≡ false → Point [] O O'
+  first_point al below io io' = record {
+    es = [];
+    es' = [];
+    xs = [];
+    xs' = [];
+    b = O;
+    b' = O';
+    since = since_start.none_yet;
+    since' = since_start.none_yet;
+    count = refl;
+    all = tt;
+    calls = λ n m c. absurd c;
+    i = 0;
+    j = 0;
+    reached = Reached.begins;
+    reached' = Reached.begins;
+    outside = io;
+    outside' = io';
+    alike = al;
+    below = below;
+  }
+
+abbrev pub SourcesMeanAll : Type 0
+SourcesMeanAll =
+    (modules : List ModuleFields) (parts : List PartSeen) (size : ℕ) (s : StartSeen) → IsStartOf parts size s
+    → AreSources modules parts → SourcesMean (map part_of modules) size s
+
+pub same_meanings : StartsBegin → StartsAgree → SourcesLeaveNothing → SourcesTellWords → WipedCellsAreTold
+    → SourcesMeanAll → SameMeaningsGoInStep
+same_meanings begin agree leaves words wipes means modules modules' parts parts' size s s' is is' src src'
+    names
+    by_names places m e e' base io io' same n q as_ k =
+    let a = placed_alike begin parts parts' size s s' is is' names m e e' base places in
+    go_in_step begin agree leaves words wipes means modules modules' parts parts' size s s' is is' src src'
+    names
+    by_names same n [] (overlay_at s).state (overlay_at s').state q as_
+    (first_point begin agree leaves words wipes means modules modules' parts parts' size s s' is is' src src'
+    names
+    by_names same a.0 a.1 io io') k

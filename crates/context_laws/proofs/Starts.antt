@@ -1,0 +1,264 @@
+-- The cells of starts of parts that are the same but for their trusted ones.
+use Rattle.std.proofs.Common.{◌≡◌, ◌⊎◌, inl, inr, ℕ, ◌+◌, ◌-◌, ◌≤◌, ◌<◌, pos, List, [], ◌∷◌, length, Option}
+use Rattle.std.proofs.Common.{Some}
+use Rattle.std.proofs.Common.{None, Bool, true, false, refl, sym, ap, ◌∙◌, subst, arith, eq-eqb}
+use Rattle.std.specs.Prelude.{slice_get, option_map, if◌then◌else◌, nat_le, ◌==◌}
+use Rattle.std.specs.Option.{option_or}
+use Rattle.std.specs.List.{Contains}
+use Rattle.std.proofs.lemmas.Option.{slice_get_within}
+use Rattle.cap_words.specs.declared.Word.{Word}
+use Rattle.cap_words.specs.declared.Word.TheVariants.{Int, Mem, Seal, Sealed}
+use Rattle.component_file.specs.declared.component.Import.{Import}
+use Rattle.call_sequence.specs.SequenceRuns.{Outside}
+use Rattle.lcm_machine.specs.Cells.{cell}
+use Rattle.component_linker.specs.Parts.{PartSeen}
+use Rattle.component_linker.specs.Standing.{placed}
+use Rattle.component_linker.specs.Started.{StartSeen}
+use Rattle.component_linker.specs.LinkedStarts.{IsStartOf}
+use Rattle.component_linker.specs.Regions.{in_regions, regions_of}
+use Rattle.component_linker.specs.Start.{Exported, imported, code_half, data_half, slot_word, data_word, from}
+use Rattle.component_linker.specs.Start.{part_word, first_given, start_cell}
+use Rattle.component_linker.proofs.Found.{given, given_by}
+use Rattle.component_linker.specs.Linked.{Kept}
+use Rattle.component_linker.proofs.PartKept.{is_kept}
+use Rattle.component_linker.proofs.PartWords.{from_inv, slot_inv}
+use Rattle.component_linker.proofs.StartWords.{imported_there, listed_at}
+use Rattle.component_linker.proofs.OwnWords.{OwnWord, own_code, own_data}
+use Rattle.overlay_machine.specs.declared.words.OWord.{OWord}
+use Rattle.overlay_machine.specs.declared.words.OWord.TheVariants.{Plain}
+use Rattle.overlay_machine.specs.Link.{Link, IsTrusted, IsUntrusted}
+use Rattle.overlay_machine.specs.Linked.{Linked}
+use Rattle.overlay_machine.specs.Safe.{IsOpenSeal}
+use Rattle.overlay_machine.specs.Starting.{overlay_at, StartsBegin}
+use Rattle.overlay_machine.proofs.invariant.FrameFacts.{contains_first, contains_rest}
+use Rattle.overlay_machine.proofs.starts.OneOverlay.{is_overlay, start_word_is}
+use Rattle.template_runs.specs.Public.{IsFreeAt}
+use Rattle.source_starts.specs.Sources.{linked_at}
+use Rattle.context_laws.specs.Related.{SameNames, IsOurs, SameWord, ours, code_halves, data_halves, CellPair}
+use Rattle.context_laws.specs.Sources.{SameImported, SamePlaces, PlacedStartsAlike}
+use Rattle.overlay_machine.specs.Keeping.{HoldsFor}
+use Rattle.context_laws.proofs.Arrive.{in_region_of}
+use Rattle.context_laws.proofs.Sources.{starts_alike}
+
+-- where a part has a word
+data_within : (parts : List PartSeen) (p : PartSeen) → Kept p → (o : ℕ) (w : Word)
+    → data_word parts p.component o ≡ Some w → o < length p.component.data_words
+data_within parts p kept o w h =
+    elim (given_by (first_given (slot_word parts o) p.component.imports) (slice_get p.component.data_words o)
+    w h) as (λ _. o < length p.component.data_words) [
+      | inl s ↦ (
+          let g = given (slot_word parts o) p.component.imports w s in
+          let l = kept.slots_in g.index g.item g.at in
+          elim (slot_inv parts o g.item w g.is) as (λ _. o < length p.component.data_words)
+          [ inl e ↦ omega (arith, l, e) | inr e ↦ omega (arith, l, e) ]
+          )
+      | inr d ↦ slice_get_within p.component.data_words o w d
+    ]
+
+-- a trusted part has no word at an address that is free
+part_none : (g : Link) (linked : Linked g) (parts : List PartSeen) (a : ℕ) (p : PartSeen) → IsTrusted g p
+    → IsFreeAt g a → part_word parts a p ≡ None
+unfolding part_word
+part_none g linked parts a p ip free = by _ refl
+  where
+    apart : (b n o : ℕ) → b ≤ a → a - b < n → Outside a b (b + n - 1) → ⊥
+    apart b n o low lt (inl x) = omega (arith, low, x)
+    apart b n o low lt (inr x) = omega (arith, low, lt, x)
+
+    by : (x : Option Word) → option_or (from p.component.code_base (slice_get p.component.code) a)
+        (from p.component.data_base (data_word parts p.component) a) ≡ x
+        → option_or (from p.component.code_base (slice_get p.component.code) a)
+        (from p.component.data_base (data_word parts p.component) a) ≡ None
+    by None e = e
+    by (Some w) e = elim (given_by (from p.component.code_base (slice_get p.component.code) a)
+        (from p.component.data_base (data_word parts p.component) a) w e)
+        as (λ _. option_or (from p.component.code_base (slice_get p.component.code) a)
+        (from p.component.data_base (data_word parts p.component) a) ≡ None) [
+          | inl c ↦ absurd (
+              let f = from_inv p.component.code_base (slice_get p.component.code) a w c in
+              let lt = slice_get_within p.component.code (a - p.component.code_base) w f.1 in
+              apart p.component.code_base (length p.component.code) 0 f.0 lt (free.0 p ip))
+          | inr d ↦ absurd (
+              let f = from_inv p.component.data_base (data_word parts p.component) a w d in
+              let lt = data_within parts p (is_kept p (linked.parts p ip.0)) (a - p.component.data_base) w f.1
+              in
+              apart p.component.data_base (length p.component.data_words) 0 f.0 lt (free.1 p ip))
+        ]
+
+module _ (g h : Link) (names : SameNames g h) (lg : Linked g) (lh : Linked h) where
+  abbrev W : Word → Word → Type 0
+  W w v = SameWord g h names [] (Plain w) (Plain v)
+
+  -- both none, or both something that is the same
+  abbrev Pair : Option Word → Option Word → Type 0
+  Pair None None = Unit {0}
+  Pair None (Some v) = ⊥
+  Pair (Some w) None = ⊥
+  Pair (Some w) (Some v) = W w v
+
+  or_pair : (a b c d : Option Word) → Pair a b → Pair c d → Pair (option_or a c) (option_or b d)
+  or_pair None None c d p q = q
+  or_pair None (Some v) c d p q = absurd p
+  or_pair (Some w) None c d p q = absurd p
+  or_pair (Some w) (Some v) c d p q = p
+
+  from_pair : (base a : ℕ) (f f' : ℕ → Option Word) → ((o : ℕ) → Pair (f o) (f' o))
+      → Pair (from base f a) (from base f' a)
+  from_pair base a f f' p = by (nat_le base a)
+    where
+      by : (b : Bool) → Pair (if b then f (a - base) else None) (if b then f' (a - base) else None)
+      by true = p (a - base)
+      by false = tt
+
+  given_pair : (f f' : Import → Option Word) (is : List Import)
+      → ((i : Import) → Contains is i → Pair (f i) (f' i)) → Pair (first_given f is) (first_given f' is)
+  given_pair f f' [] p = tt
+  given_pair f f' (i ∷ is) p =
+      or_pair (f i) (f' i) (first_given f is) (first_given f' is) (p i (contains_first i is))
+      (given_pair f f' is (λ k m. p k (contains_rest i k is m)))
+
+  own_pair : (x : Option Word) → ((w : Word) → x ≡ Some w → IsOurs g w) → Pair x x
+  own_pair None k = tt
+  own_pair (Some w) k = ours w (k w refl)
+
+  own_ours : (p : PartSeen) (w : Word) → OwnWord p.component w → IsOurs g w
+  own_ours p (Int z) k = tt
+  own_ours p (Mem z) k = tt
+  own_ours p (Seal z) k = tt
+  own_ours p (Sealed n x) k = absurd k
+
+  -- what an import puts at its slots
+  slot_by : (first second : Bool) (x y : Option Exported) → SameImported names x y
+      → ((z : Exported) → x ≡ Some z → z.part.trusted ≡ false → IsOpenSeal g z.part.component.closure)
+      → Pair (if first then option_map code_half x else (if second then option_map data_half x else None))
+      (if first then option_map code_half y else (if second then option_map data_half y else None))
+  slot_by true second None None s k = tt
+  slot_by false true None None s k = tt
+  slot_by false false None None s k = tt
+  slot_by false false None (Some y) s k = tt
+  slot_by false false (Some x) None s k = tt
+  slot_by first second None (Some y) s k = absurd s
+  slot_by first second (Some x) None s k = absurd s
+  slot_by false false (Some x) (Some y) s k = tt
+  slot_by true second (Some x) (Some y) (inl e) k =
+      subst (λ z. W (code_half x) (code_half z)) e.0 (ours (code_half x) (k x refl e.1))
+  slot_by true second (Some x) (Some y) (inr t) k = code_halves x y t
+  slot_by false true (Some x) (Some y) (inl e) k =
+      subst (λ z. W (data_half x) (data_half z)) e.0 (ours (data_half x) (k x refl e.1))
+  slot_by false true (Some x) (Some y) (inr t) k = data_halves x y t
+
+  closure_open : (p : PartSeen) → IsUntrusted g p → IsOpenSeal g p.component.closure
+  closure_open p u = (p, u, rw (eq-eqb p.component.closure p.component.closure refl) refl)
+
+  module _ (ps qs : List PartSeen) (same : g.parts ≡ ps) (a : ℕ) (free : IsFreeAt g a)
+      (free' : IsFreeAt h a) where
+    import_open : (i : Import) (z : Exported) → imported ps i ≡ Some z → z.part.trusted ≡ false
+        → IsOpenSeal g z.part.component.closure
+    import_open i z e t =
+        let k = imported_there ps i z e in
+        closure_open z.part
+        (subst (λ xs. Contains xs z.part) (sym same) (listed_at ps k.index z.part k.at), t)
+
+    one_pair : (p : PartSeen) → Contains g.parts p
+        → ((i : Import) → Contains p.component.imports i → SameImported names (imported ps i) (imported qs i))
+        → Pair (part_word ps a p) (part_word qs a p)
+    unfolding part_word
+    one_pair p c names_same =
+        or_pair _ _ _ _
+        (from_pair p.component.code_base a (slice_get p.component.code) (slice_get p.component.code)
+        (λ o. own_pair (slice_get p.component.code o)
+        (λ w e. own_ours p w (own_code p (lg.parts p c) o w e))))
+        (from_pair p.component.data_base a (data_word ps p.component) (data_word qs p.component)
+        (λ o. or_pair _ _ _ _
+        (given_pair (slot_word ps o) (slot_word qs o) p.component.imports
+        (λ i m. slot_by (i.slot == o) (i.slot + 1 == o) (imported ps i) (imported qs i) (names_same i m)
+        (import_open i)))
+        (own_pair (slice_get p.component.data_words o)
+        (λ w e. own_ours p w (own_data p (lg.parts p c) o w e)))))
+
+    places : (xs ys : List PartSeen) → ((p : PartSeen) → Contains xs p → Contains g.parts p)
+        → ((p : PartSeen) → Contains ys p → Contains h.parts p) → SamePlaces names ps qs xs ys
+        → Pair (first_given (part_word ps a) xs) (first_given (part_word qs a) ys)
+    places [] [] cx cy s = tt
+    places [] (y ∷ ys) cx cy s = absurd s
+    places (x ∷ xs) [] cx cy s = absurd s
+    places (x ∷ xs) (y ∷ ys) cx cy s =
+        or_pair (part_word ps a x) (part_word qs a y) _ _ (by s.0)
+        (places xs ys (λ p m. cx p (contains_rest x p xs m)) (λ p m. cy p (contains_rest y p ys m)) s.1)
+      where
+        by : (((x ≡ y) × (x.trusted ≡ false)
+            × ((i : Import) → Contains x.component.imports i
+            → SameImported names (imported ps i) (imported qs i)))
+            ⊎ ((x.trusted ≡ true) × (y.trusted ≡ true))) → Pair (part_word ps a x) (part_word qs a y)
+        by (inl e) = subst (λ z. Pair (part_word ps a x) (part_word qs a z)) e.0
+            (one_pair x (cx x (contains_first x xs)) e.2)
+        by (inr t) = rw (
+          part_none g lg ps a x (cx x (contains_first x xs), t.0) free,
+          part_none h lh qs a y (cy y (contains_first y ys), t.1) free',
+        ) tt
+
+    cells_pair : (size size' : ℕ) → ((p : PartSeen) → Contains qs p → Contains h.parts p)
+        → SamePlaces names ps qs ps qs
+        → CellPair (SameWord g h names []) (IsFreeAt g) (option_map Plain (start_cell ps size a))
+        (option_map Plain (start_cell qs size' a))
+    unfolding start_cell
+    cells_pair size size' cq s =
+        by _ _ (in_regions a (regions_of ps size)) (in_regions a (regions_of qs size'))
+        (places ps qs (λ p m. subst (λ xs. Contains xs p) (sym same) m) cq s)
+      where
+        by : (x y : Option Word) (b c : Bool) → Pair x y
+            → CellPair (SameWord g h names []) (IsFreeAt g)
+            (option_map Plain (option_or x (if b then Some (Int (pos 0)) else None)))
+            (option_map Plain (option_or y (if c then Some (Int (pos 0)) else None)))
+        by None None true true p = ours (Int (pos 0)) tt
+        by None None true false p = tt
+        by None None false c p = tt
+        by None (Some v) b c p = absurd p
+        by (Some w) None b c p = absurd p
+        by (Some w) (Some v) b c p = p
+
+module _ (begin : StartsBegin) (parts parts' : List PartSeen) (size size' : ℕ) (s s' : StartSeen)
+    (is : IsStartOf parts size s) (is' : IsStartOf parts' size' s')
+    (names : SameNames (linked_at parts size s) (linked_at parts' size' s'))
+    (places_same : SamePlaces names (placed parts size) (placed parts' size') (placed parts size)
+    (placed parts' size')) where
+  abbrev G : Link
+  G = linked_at parts size s
+
+  abbrev H : Link
+  H = linked_at parts' size' s'
+
+  one_held : HoldsFor (placed parts size) size (overlay_at s) s.state.maps
+  one_held = begin s (overlay_at s) (is_overlay (placed parts size) size s is) (placed parts size) size is
+
+  other_held : HoldsFor (placed parts' size') size' (overlay_at s') s'.state.maps
+  other_held =
+      begin s' (overlay_at s') (is_overlay (placed parts' size') size' s' is') (placed parts' size') size' is'
+
+  pub start_cells_alike : (a : ℕ) → IsFreeAt G a → CellPair (SameWord G H names []) (IsFreeAt G)
+      (cell (overlay_at s).state.maps.cells a) (cell (overlay_at s').state.maps.cells a)
+  start_cells_alike a free = by _ _ refl refl
+    where
+      by : (x y : Option OWord) → cell (overlay_at s).state.maps.cells a ≡ x
+          → cell (overlay_at s').state.maps.cells a ≡ y
+          → CellPair (SameWord G H names []) (IsFreeAt G)
+          (cell (overlay_at s).state.maps.cells a) (cell (overlay_at s').state.maps.cells a)
+      by None y e f = rw e tt
+      by (Some w) None e f = rw (e, f) tt
+      by (Some w) (Some v) e f =
+          let free' : IsFreeAt H a = names.free a
+          (in_region_of G (overlay_at s).state s.state.maps one_held.holds a w e)
+          (in_region_of H (overlay_at s').state s'.state.maps other_held.holds a v f) free in
+          let one = (is_overlay (placed parts size) size s is).cells a
+          ∙ start_word_is (placed parts size) size s is a ∙ ap (option_map Plain) (is.starts.state.cells a) in
+          let two = (is_overlay (placed parts' size') size' s' is').cells a
+          ∙ start_word_is (placed parts' size') size' s' is' a
+          ∙ ap (option_map Plain) (is'.starts.state.cells a)
+          in
+          rw (one, two) (cells_pair G H names one_held.linked other_held.linked (placed parts size)
+          (placed parts' size') refl a free free' size size' (λ p k. k) places_same)
+
+pub placed_alike : StartsBegin → PlacedStartsAlike
+placed_alike begin parts parts' size s s' is is' names m e e' base places =
+    starts_alike parts parts' size s s' is is' names m e e' base
+    (start_cells_alike begin parts parts' size size s s' is is' names places)

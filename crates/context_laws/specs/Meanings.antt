@@ -1,0 +1,191 @@
+-- Sources that mean the same, and that no code outside can tell them apart.
+use Rattle.std.specs.Prelude.{◌≡◌, ◌⊎◌, ◌↔◌, ℕ, ◌≤◌, ◌==◌, true, false, List, [], ◌∷◌, ◌++◌, map, find}
+use Rattle.std.specs.Prelude.{Option, Some, None}
+use Rattle.std.specs.Prelude.{if◌then◌else◌}
+use Rattle.std.specs.List.{Contains}
+use Rattle.component_file.specs.declared.component.Import.{Import}
+use Rattle.component_file.specs.declared.component.Export.{Export}
+use Rattle.component_linker.specs.Parts.{PartSeen}
+use Rattle.component_linker.specs.Standing.{placed}
+use Rattle.component_linker.specs.Start.{Exported, main_of, imported, stack_base_of}
+use Rattle.component_linker.specs.Started.{StartSeen}
+use Rattle.component_linker.specs.LinkedStarts.{IsStartOf}
+use Rattle.trusted_border.specs.declared.layout.Layout.{Layout}
+use Rattle.trusted_border.specs.declared.layout.SiteCode.{SiteCode}
+use Rattle.trusted_border.specs.Layout.{site_code}
+use Rattle.component_linker.specs.Regions.{in_regions}
+use Rattle.overlay_machine.specs.Link.{Link, regions}
+use Rattle.overlay_machine.specs.State.{OState}
+use Rattle.overlay_machine.specs.Step.{Ending, goes, halts, fails, overlay_step}
+use Rattle.overlay_machine.specs.Events.{step_event}
+use Rattle.overlay_machine.specs.Starting.{overlay_at}
+use Rattle.trace_tool.specs.Layout.{layout, part_name, site_of}
+use Rattle.trace_tool.specs.Views.{flat_view}
+use Rattle.template_runs.specs.Runs.{is_inside}
+use Rattle.template_runs.specs.Public.{IsFreeAt}
+use Rattle.proc_language.specs.declared.module.ModuleFields.{ModuleFields}
+use Rattle.proc_program.specs.declared.program.Procedure.{Procedure}
+use Rattle.proc_program.specs.declared.program.Import.{Import as Imported}
+use Rattle.proc_program.specs.Lower.{part_of as program_of}
+use Rattle.source_events.specs.declared.Item.{Item}
+use Rattle.proc_semantics.specs.Values.{World, part_at, proc_in, import_in}
+use Rattle.proc_semantics.specs.Rules.{part_of}
+use Rattle.proc_semantics.specs.Marked.{PairHalf, Whence, OwnWord, ImportWord, CameWord, Event, refined}
+use Rattle.proc_semantics.specs.Marked.{report_to}
+use Rattle.source_laws.specs.Trace.{items_of}
+use Rattle.source_starts.specs.Sources.{AreSources, linked_at}
+use Rattle.context_laws.specs.Related.{SameNames, Calls}
+use Rattle.context_laws.specs.Lockstep.{Round, Path, SameCrossing, InStep}
+use Rattle.context_laws.specs.Sources.{SameImported, SamePlaces, IsFirst}
+
+-- ---- what is observed of a meaning
+
+-- a word of a pair by the names of a part and what that exports, or by the item with which it came and the
+-- argument register in which it came
+pub data Name : Type 0 where
+  Exports : (part name : List ℕ) → PairHalf → Name
+  Came : (item register : ℕ) → Name
+  Nothing : Name
+
+abbrev pub own_name : List ℕ → Option Procedure → PairHalf → Name
+own_name part None x = Nothing
+own_name part (Some p) x = Exports part p.name x
+
+abbrev pub import_name : Option Imported → PairHalf → Name
+import_name None x = Nothing
+import_name (Some i) x = Exports i.part i.name x
+
+abbrev pub name_of : World → Whence → Name
+name_of world (OwnWord home j x) = own_name (part_of world home) (proc_in (part_at world home) j) x
+name_of world (ImportWord home k x) = import_name (import_in (part_at world home) k) x
+name_of world (CameWord k j) = Came k j
+
+-- Of each call its part and number, the address where its frame begins, the lowest wiped cell, the names of
+-- the pair by which it goes, and of each argument register the number or the name; of each procedure that
+-- leaves its part, its value, the lowest wiped cell, and the number of the item that entered it.
+abbrev pub observed : World → ℕ → List Item → ℕ → List (Event Name ℕ)
+observed world stack feed fuel = (report_to (name_of world) (λ k. k) (refined world stack feed fuel)).events
+
+-- on each feed the same is observed, under every large enough fuel
+abbrev pub MeanTheSame : World → World → ℕ → Type 0
+MeanTheSame world world' stack =
+    (feed : List Item) → (enough : ℕ)
+    × ((f : ℕ) → enough ≤ f → observed world stack feed f ≡ observed world' stack feed f)
+
+-- ---- names of exports and sites
+
+abbrev pub export_name : Option Export → List ℕ
+export_name None = []
+export_name (Some e) = e.name
+
+-- what lines call an export: the first one at its offset
+abbrev pub told_name : Exported → List ℕ
+told_name x = export_name (find (λ e. e.offset == x.export.offset) x.part.component.exports)
+
+abbrev pub IsSameSite : Layout → Layout → ℕ → ℕ → Type 0
+IsSameSite l m i j =
+    (part_name l (site_of l i).part ≡ part_name m (site_of m j).part)
+    × ((site_of l i).index ≡ (site_of m j).index)
+
+-- What stands for each other has one name: exports of trusted parts by the names of part and export, sites by
+-- the name of the part and the number there.
+pub record GoByNames {g h : Link} (names : SameNames g h) : Type 0 where
+  pub exports : (i : Import) (x y : Exported) → imported g.parts i ≡ Some x → imported h.parts i ≡ Some y
+      → SameImported names (Some x) (Some y)
+  pub twins : (x y : Exported) → Contains names.twins (x, y)
+      → (x.part.component.name ≡ y.part.component.name) × (told_name x ≡ told_name y)
+  pub sites : (i j : ℕ) → Contains names.sites (i, j) → IsSameSite g.layout h.layout i j
+  pub all_sites : (i j : ℕ) (s u : SiteCode) → site_code g.layout i ≡ Some s → site_code h.layout j ≡ Some u
+      → IsSameSite g.layout h.layout i j → Contains names.sites (i, j)
+
+-- ---- the law
+
+-- the item of a step by which code outside comes in
+abbrev pub item_by : Layout → OState → Ending → List Item
+item_by l p (goes q) = if is_inside l q then items_of l (flat_view l q) (step_event l p q) else []
+item_by l p halts = []
+item_by l p fails = []
+
+-- the items of rounds, and of the step behind them if it comes in too
+abbrev pub items_in : Layout → List Round → OState → List Item
+items_in l [] q = item_by l q (overlay_step l q)
+items_in l (r ∷ rs) q = items_of l (flat_view l r.entered) (step_event l r.before r.entered)
+    ++ items_in l rs q
+
+-- from two points on: whatever code outside does in the run of the one link, it does in that of the other,
+-- step by step; as often it comes in and is let go, with the same items, and it ends alike
+abbrev pub GoesInStep : (g h : Link) → SameNames g h → Calls → OState → OState → Type 0
+GoesInStep g h names cs p p' =
+    (n : ℕ) (q : OState) (as_ : List Round) → Path g.layout n p as_ q
+    → (q' : OState) × (bs : List Round) × Path h.layout n p' bs q' × InStep g h names cs as_ bs q q'
+    × (items_in g.layout as_ q ≡ items_in h.layout bs q')
+
+-- Two lists of sources that mean the same, beside the same untrusted parts in their places, with the same
+-- main of theirs, go in step.
+abbrev pub SameMeaningsGoInStep : Type 0
+SameMeaningsGoInStep =
+    (modules modules' : List ModuleFields) (parts parts' : List PartSeen) (size : ℕ) (s s' : StartSeen)
+    → IsStartOf parts size s → IsStartOf parts' size s' → AreSources modules parts
+    → AreSources modules' parts'
+    → (names : SameNames (linked_at parts size s) (linked_at parts' size s')) → GoByNames names
+    → SamePlaces names (placed parts size) (placed parts' size) (placed parts size) (placed parts' size)
+    → (m : Exported) → main_of (placed parts size) ≡ Some m → main_of (placed parts' size) ≡ Some m
+    → stack_base_of (placed parts size) ≡ stack_base_of (placed parts' size)
+    → is_inside (layout s) (overlay_at s).state ≡ false → is_inside (layout s') (overlay_at s').state ≡ false
+    → MeanTheSame (map program_of modules) (map program_of modules') size
+    → GoesInStep (linked_at parts size s) (linked_at parts' size s') names [] (overlay_at s).state
+    (overlay_at s').state
+
+-- ---- links beside each other
+
+-- at each place the same untrusted part stands in both lists, or trusted ones
+abbrev pub SameUntrusted : List PartSeen → List PartSeen → Type 0
+SameUntrusted [] [] = Unit {0}
+SameUntrusted [] (q ∷ qs) = ⊥
+SameUntrusted (p ∷ ps) [] = ⊥
+SameUntrusted (p ∷ ps) (q ∷ qs) =
+    (((p ≡ q) × (p.trusted ≡ false)) ⊎ ((p.trusted ≡ true) × (q.trusted ≡ true))) × SameUntrusted ps qs
+
+-- Two links of the same untrusted parts in their places, with one stack, in which an address that is of a
+-- region in both is a trusted part's own in both or in neither.
+pub record AreBeside (g h : Link) : Type 0 where
+  pub places : SameUntrusted g.parts h.parts
+  pub stack : stack_base_of g.parts ≡ stack_base_of h.parts
+  pub free : (a : ℕ) → in_regions a (regions g) ≡ true → in_regions a (regions h) ≡ true
+      → IsFreeAt g a ↔ IsFreeAt h a
+
+-- from the first states on, where exports of trusted parts and sites stand for each other by their names
+abbrev pub DoesTheSame : (g h : Link) → OState → OState → Type 0
+DoesTheSame g h o o' = (names : SameNames g h) × GoByNames names × GoesInStep g h names [] o o'
+
+-- Sources that mean the same can't be told apart, where main is untrusted.
+abbrev pub SameMeaningsAreNotToldApart : Type 0
+SameMeaningsAreNotToldApart =
+    (modules modules' : List ModuleFields) (parts parts' : List PartSeen) (size : ℕ) (s s' : StartSeen)
+    → IsStartOf parts size s → IsStartOf parts' size s' → AreSources modules parts
+    → AreSources modules' parts' → AreBeside (linked_at parts size s) (linked_at parts' size s')
+    → (m : Exported) → main_of (placed parts size) ≡ Some m → main_of (placed parts' size) ≡ Some m
+    → m.part.trusted ≡ false → MeanTheSame (map program_of modules) (map program_of modules') size
+    → DoesTheSame (linked_at parts size s) (linked_at parts' size s') (overlay_at s).state
+    (overlay_at s').state
+    × DoesTheSame (linked_at parts' size s') (linked_at parts size s) (overlay_at s').state
+    (overlay_at s).state
+
+-- where trusted code runs first, and in the one lets go for the first time, so it does in the other, with the
+-- same shown; and from there on code outside does the same
+abbrev pub LetsGoToo : (g h : Link) → StartSeen → StartSeen → Type 0
+LetsGoToo g h s s' =
+    (names : SameNames g h) × GoByNames names
+    × ((a : Round) → IsFirst s a → (b : Round) × IsFirst s' b × (cs : Calls)
+    × SameCrossing g h names [] a b cs × GoesInStep g h names cs a.after b.after)
+
+-- Nor can they be told apart where main is theirs.
+abbrev pub SameMeaningsLetGo : Type 0
+SameMeaningsLetGo =
+    (modules modules' : List ModuleFields) (parts parts' : List PartSeen) (size : ℕ) (s s' : StartSeen)
+    → IsStartOf parts size s → IsStartOf parts' size s' → AreSources modules parts
+    → AreSources modules' parts' → AreBeside (linked_at parts size s) (linked_at parts' size s')
+    → is_inside (layout s) (overlay_at s).state ≡ true → is_inside (layout s') (overlay_at s').state ≡ true
+    → MeanTheSame (map program_of modules) (map program_of modules') size
+    → LetsGoToo (linked_at parts size s) (linked_at parts' size s') s s'
+    × LetsGoToo (linked_at parts' size s') (linked_at parts size s) s' s

@@ -1,0 +1,137 @@
+//! What code outside can't tell apart. These functions do nothing; their contracts are the laws.
+ghost use Rattle.overlay_machine.specs.Link.{Link};
+ghost use Rattle.context_laws.specs.Contexts.{NoContextTells};
+ghost use Rattle.context_laws.specs.Itself.{AlikeToItself};
+ghost use Rattle.context_laws.specs.Lockstep.{RunInStep};
+ghost use Rattle.context_laws.specs.Meanings.{SameMeaningsAreNotToldApart, SameMeaningsGoInStep};
+ghost use Rattle.context_laws.specs.Meanings.{SameMeaningsLetGo};
+ghost use Rattle.context_laws.specs.Related.{SameNames, OutsideStepsAlike};
+ghost use Rattle.context_laws.specs.Sources.{FirstArrivalsAlike, PlacedStartsAlike, SourcesAgainstContexts};
+ghost use Rattle.context_laws.specs.Sources.{SourcesInStep, StartsAlike, WholeRunsInStep};
+
+use overlay_machine::laws::{linked_starts_agree, starts_begin};
+use source_starts::laws::{
+    sources_leave_nothing, sources_mean, sources_tell_words, wiped_cells_are_told,
+};
+
+/// A step of code outside does the same in two runs of linked parts, from states that are alike to it: both
+/// halt, both fail, both stay outside in states that are alike again, or both come in, to twins of exports
+/// with the same words, or by a return to the newest call.
+pub fn outside_steps_are_alike()
+    ensures { (g h : Link) (names : SameNames g h) → OutsideStepsAlike g h names }
+{}
+
+/// Two runs of linked parts go in step: as long as the same is observed of their rounds, code outside makes
+/// the same steps in both, comes in alike, and is at the end in states that are alike to it, from which it
+/// ends alike.
+pub fn runs_go_in_step()
+    ensures { RunInStep }
+{}
+
+/// Trusted parts of which the same is observed on each feed can't be told apart by any code outside.
+pub fn no_context_tells<I, O>()
+    ensures { NoContextTells I O }
+{}
+
+/// So do two runs of linked sources, whatever the sources are and whatever untrusted parts are beside them.
+pub fn sources_go_in_step()
+    ensures { SourcesInStep }
+{
+    starts_begin();
+    linked_starts_agree();
+    sources_leave_nothing();
+}
+
+/// Sources of which the same is observed on each feed can't be told apart by any code outside.
+pub fn no_context_tells_sources<I, O>()
+    ensures { SourcesAgainstContexts I O }
+{
+    starts_begin();
+    linked_starts_agree();
+    sources_leave_nothing();
+}
+
+/// Starts with one main, of code outside, and one stack are alike to code outside where their cells are.
+pub fn starts_are_alike()
+    ensures { StartsAlike }
+{}
+
+/// And so are starts of placed parts that are the same but for their trusted ones, where the imports of the
+/// others name the same exports, or twins.
+pub fn placed_starts_are_alike()
+    ensures { PlacedStartsAlike }
+{
+    starts_begin();
+}
+
+/// Where main is trusted, and sources let go for the first time with the same observed, code outside comes to
+/// run in states that are alike to it.
+pub fn first_arrivals_are_alike()
+    ensures { FirstArrivalsAlike }
+{
+    starts_begin();
+    linked_starts_agree();
+    sources_leave_nothing();
+}
+
+/// Whole runs of two links of sources, beside the same untrusted parts in the same places: from the start on
+/// code outside makes the same steps in both, as long as the same is observed.
+pub fn whole_runs_go_in_step()
+    ensures { WholeRunsInStep }
+{
+    starts_begin();
+    linked_starts_agree();
+    sources_leave_nothing();
+}
+
+/// Sources that mean the same can't be told apart, whatever untrusted parts are linked beside them.
+///
+/// Take two lists of modules, linked with the same untrusted parts in the same places, where main is one of
+/// theirs, and let the refined meanings of both tell the same on each feed: of each call the name of its part
+/// and its number there, where its frame begins, the lowest wiped cell, and by names the pair by which it
+/// goes and what each argument register holds; of each procedure that leaves its part, its value, the lowest
+/// wiped cell, and the item that entered it. Then whatever code outside does beside the one, it does beside
+/// the other, and the other way round: it makes as many steps, comes in and is let go as often, the same
+/// items come in, and it ends alike.
+pub fn same_meanings_are_not_told_apart()
+    ensures { SameMeaningsAreNotToldApart }
+{
+    starts_begin();
+    linked_starts_agree();
+    sources_leave_nothing();
+    sources_tell_words();
+    wiped_cells_are_told();
+    sources_mean();
+}
+
+/// Nor can they where main is theirs: let trusted code run first in both. Where the one lets go for the first
+/// time, so does the other, with the same shown; and whatever code outside does from there on beside the one,
+/// it does beside the other, and the other way round.
+pub fn same_meanings_let_go()
+    ensures { SameMeaningsLetGo }
+{
+    starts_begin();
+    linked_starts_agree();
+    sources_leave_nothing();
+    sources_tell_words();
+    wiped_cells_are_told();
+    sources_mean();
+}
+
+/// The same, where main is untrusted, for any choice of which exports and sites stand for each other, as long
+/// as those do that have one name.
+pub fn same_meanings_go_in_step()
+    ensures { SameMeaningsGoInStep }
+{
+    starts_begin();
+    linked_starts_agree();
+    sources_leave_nothing();
+    sources_tell_words();
+    wiped_cells_are_told();
+    sources_mean();
+}
+
+/// That it speaks of something: each state at which code outside runs is alike to itself.
+pub fn states_are_alike_to_themselves()
+    ensures { AlikeToItself }
+{}
