@@ -1,4 +1,4 @@
--- A part that is entered runs within its report.
+-- A part that is entered runs within its report, and doesn't depend on what it can't read.
 use Rattle.std.proofs.Common.{◌≡◌, ℕ, List, Some, refl, sym, subst, ◌∙◌, pos}
 use Rattle.cap_words.specs.declared.Word.{Word}
 use Rattle.lcm_isa.specs.declared.Reg.{Reg}
@@ -17,9 +17,12 @@ use Rattle.authority_report.specs.Reaches.{its_code, its_data, the_stack}
 use Rattle.authority_report.specs.declared.reach.Reach.{Reach}
 use Rattle.authority_report.specs.Report.{told, owner_of_part, IsReport, Reports}
 use Rattle.authority_report.specs.Within.{Authority, IsWithin}
-use Rattle.authority_report.specs.Entered.{entered, HalvesUnsealed, ReportsBoundRuns}
+use Rattle.authority_report.specs.Bounds.{Holds}
+use Rattle.authority_report.specs.Entered.{IsLinked, entered, HalvesUnsealed, ReportsBoundRuns}
+use Rattle.authority_report.specs.Influence.{ReportsBoundInfluence}
 use Rattle.authority_report.proofs.ReachedWithin.{word_just, cell_just}
 use Rattle.authority_report.proofs.RunsWithin.{runs_within}
+use Rattle.authority_report.proofs.RunsBlind.{runs_blind}
 
 -- the registers that aren't the part's own are 0
 module _ (g : Authority) (parts : List PartSeen) (size : ℕ) (main : Exported) (s : StartSeen) (o : Owner)
@@ -64,19 +67,29 @@ its_report s part r o its (q, also, is) =
     let same : q ≡ o = cc in
     subst (λ (x : Owner). IsReport s.state.maps x r) same is
 
-pub reports_bound_runs : ReportsBoundRuns
-reports_bound_runs s part r linked reports o e its there =
+-- where a part is entered, no word gives more than its report tells
+pub holds_entered : (s : StartSeen) (part : ℕ) (r : Reach) → IsLinked s → Reports s part r → (o : Owner)
+    (e : Entry) → owner_of_part s.owners part ≡ Some o → Holds (told o r) (entered s o e)
+holds_entered s part r linked reports o e its =
     let m = s.state.maps in
     let g = told o r in
     let starts = linked.starts.state in
     let just = (its_report s part r o its reports).just in
-    runs_within g (entered s o e) (record {
+    record {
       regs = all_regs g linked.parts linked.size starts.main s o e starts.regs
           (word_just m o g (λ n. refl) just _ (its_code (pos e.at)))
           (word_just m o g (λ n. refl) just _ its_data)
           (word_just m o g (λ n. refl) just _ the_stack);
       cells = λ a w reads at. cell_just m o g (λ n. refl) just a w reads at;
-    })
+    }
+
+pub reports_bound_runs : ReportsBoundRuns
+reports_bound_runs s part r linked reports o e its there =
+    runs_within (told o r) (entered s o e) (holds_entered s part r linked reports o e its)
+
+pub reports_bound_influence : ReportsBoundInfluence
+reports_bound_influence s part r linked reports o e its there =
+    runs_blind (told o r) (entered s o e) (holds_entered s part r linked reports o e its)
 
 pub halves_unsealed : HalvesUnsealed
 unfolding owner_of

@@ -1,7 +1,9 @@
 mod WithinClosed
 mod RunsWithin
+mod RunsBlind
 mod ReachedWithin
 mod EnteredWithin
+mod ReportsBlind
 mod FoundLemmas
 mod OwnersSmall
 pub mod OneReport

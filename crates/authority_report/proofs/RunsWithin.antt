@@ -29,7 +29,7 @@ use Rattle.authority_report.specs.Within.{Authority, CapWithin, SealsWithin, IsW
 use Rattle.authority_report.specs.Bounds.{Does, Keeps, plain_run, StaysIn, RunsWithin, Holds}
 use Rattle.authority_report.proofs.WithinClosed.{within_closed, mem_within, opened_within, content_within}
 
-writes_read : (q : Perm) → may_write q ≡ true → may_read q ≡ true
+pub writes_read : (q : Perm) → may_write q ≡ true → may_read q ≡ true
 writes_read No e = cc
 writes_read ReadOnly e = refl
 writes_read Rw e = refl
@@ -53,7 +53,7 @@ module _ (g : Authority) (s : State Word) (h : Holds g s) where
   shown_seals r q e = subst (IsWithin g) (look_seals (reg s.regs r) q (ap seals_in e)) (h.regs r)
 
   -- what words of registers let, the authority allows
-  reads : (a : ℕ) → May may_read (λ w. w) s a → g.read a ≡ true
+  pub reads : (a : ℕ) → May may_read (λ w. w) s a → g.read a ≡ true
   reads a (r, (c, is, may, low, high)) = (shown r c is).read may a low high
 
   writes : (a : ℕ) → May may_write (λ w. w) s a → g.write a ≡ true
@@ -89,7 +89,7 @@ module _ (g : Authority) (s : State Word) (h : Holds g s) where
   -- ---- and what it leaves
 
   -- an instruction uses cells only that may be read
-  used : (i : Instr) → IsNext (λ w. w) s i → (a : ℕ)
+  pub used : (i : Instr) → IsNext (λ w. w) s i → (a : ℕ)
       → cell_used i (faces (λ w. w) s) (cell_faces (λ w. w) s) ≡ Some a → g.read a ≡ true
   used (Load r1 r2) next a e = does_on.loads a (r1, r2, (next, e))
   used (Store r1 r2) next a e =
@@ -121,12 +121,12 @@ module _ (g : Authority) (s : State Word) (h : Holds g s) where
 -- ---- runs
 
 module _ (g : Authority) where
-  stays_next : (n : ℕ) (s t : State Word) → Goes s t → StaysIn g.own (suc n) s → StaysIn g.own n t
+  pub stays_next : (n : ℕ) (s t : State Word) → Goes s t → StaysIn g.own (suc n) s → StaysIn g.own n t
   unfolding run_of
   stays_next n s t e stays k u seal lt run jumps =
       stays (suc k) u seal (omega (arith, lt)) (ap (λ o. and_then o (plain_run k)) e ∙ run) jumps
 
-  stays_here : (n : ℕ) (s : State Word) → StaysIn g.own (suc n) s → (seal : ℕ) → Jumps s seal
+  pub stays_here : (n : ℕ) (s : State Word) → StaysIn g.own (suc n) s → (seal : ℕ) → Jumps s seal
       → g.own seal ≡ true
   unfolding run_of
   stays_here n s stays seal jumps = stays 0 s seal (omega arith) refl jumps

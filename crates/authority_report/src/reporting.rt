@@ -2,6 +2,7 @@
 ghost use Rattle.std.specs.Prelude.{◌≡◌, ◌≤◌, ◌<◌, Some, IfOk, length, option_copied};
 ghost use Rattle.authority_report.specs.Report.{IsReport, owner_of_part, Reports};
 ghost use Rattle.authority_report.specs.Entered.{IsLinked, BoundsRuns};
+ghost use Rattle.authority_report.specs.Influence.{BoundsInfluence};
 
 use crate::found::Found;
 use crate::reach::Reach;
@@ -51,7 +52,8 @@ pub(crate) fn owner_at(start: &Start, part: u32) -> &Owner
 ///
 /// A report is the least that is true: an address has a right, and a seal stands there, exactly where a
 /// word that the part can come by gives it. And from each of its entries the part runs within it, up to
-/// and with the first jump under a seal that isn't its own.
+/// and with the first jump under a seal that isn't its own, and does the same whatever is in the cells
+/// that the report says can't be read.
 ///
 /// It takes four tables of 4 MiB while it is made.
 ///
@@ -63,6 +65,7 @@ pub fn report(alloc: Global, start: &Start, part: u32) -> Result<Reach, AllocErr
     requires part { part < length start.now.owners }
     ensures least { IfOk result (Reports start.now part) }
     ensures bounds { IfOk result (BoundsRuns start.now part) }
+    ensures influence { IfOk result (BoundsInfluence start.now part) }
 {
     let owner = owner_at(start, part);
     report_of(alloc, start.state(), owner)

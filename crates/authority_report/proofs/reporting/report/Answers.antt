@@ -1,7 +1,8 @@
 use Rattle.std.proofs.lemmas.Result.{IfOk-weaker}
 use Rattle.authority_report.specs.Report.{IsReport, Reports}
 use Rattle.authority_report.specs.Entered.{BoundsRuns}
-use Rattle.authority_report.proofs.EnteredWithin.{reports_it, reports_bound_runs}
+use Rattle.authority_report.specs.Influence.{BoundsInfluence}
+use Rattle.authority_report.proofs.EnteredWithin.{reports_it, reports_bound_runs, reports_bound_influence}
 use Rattle.authority_report.proofs.reporting.report.Goals as goal
 
 pub returns-clause-least : goal.returns-clause-least
@@ -19,3 +20,10 @@ returns-clause-bounds c =
     let part = c.args.part in
     IfOk-weaker c.report_of.result (Reports s part) (BoundsRuns s part)
     (λ r is. reports_bound_runs s part r c.requires.linked is) (returns-clause-least c)
+
+pub returns-clause-influence : goal.returns-clause-influence
+returns-clause-influence c =
+    let s = c.args.start.now in
+    let part = c.args.part in
+    IfOk-weaker c.report_of.result (Reports s part) (BoundsInfluence s part)
+    (λ r is. reports_bound_influence s part r c.requires.linked is) (returns-clause-least c)
