@@ -51,13 +51,11 @@ told_below : (l : Layout) (f : OpenFrame) (fs : List OpenFrame) (x : LineTold) �
 told_below l f [] x e h = tt
 told_below l f (g ∷ gs) x e h = omega (arith, e, h)
 
--- a frame's range isn't empty, and each of its addresses has a word
+-- each address of a frame's range has a word
 frame_wide : (l : Layout) (m : Cells) (f : OpenFrame) (fs : List OpenFrame) → FrameLies l m f
     → IsWide (told_seen (line_told l (frame_told l f fs)))
-frame_wide l m f fs h = (
-  h.order,
-  omega (arith, h.words, as_many word_text_of (map (flat l fs) f.words), as_many (flat l fs) f.words),
-)
+frame_wide l m f fs h =
+    omega (arith, h.words, as_many word_text_of (map (flat l fs) f.words), as_many (flat l fs) f.words)
 
 pub frames_lie : (l : Layout) (m : Cells) (n : ℕ) (fs : List OpenFrame) → FramesLie l m n fs
     → Lie (lines_told l fs)

@@ -1,18 +1,18 @@
 -- Lines that are followed spoil nothing, and lines that spoil nothing are followed.
-use Rattle.std.proofs.Common.{◌≡◌, ◌≢◌, ℕ, ◌+◌, ◌<◌, ◌≤◌, Bool, true, false, cond, List, [], ◌∷◌, ◌++◌}
-use Rattle.std.proofs.Common.{length, Option, Some, None, Result, Ok, Err, refl, sym, ap, ◌∙◌, subst, arith}
-use Rattle.std.proofs.Common.{eq-eqb, inl, inr}
-use Rattle.std.specs.Prelude.{not, nat_lt, ◌==◌, ◌⊎◌, if◌then◌else◌}
-use Rattle.std.proofs.lemmas.Bool.{eqb-true, ltb-true, lt-ltb, leb-true, le-leb, and_parts}
+use Rattle.std.proofs.Common.{◌≡◌, ℕ, ◌+◌, ◌<◌, ◌≤◌, Bool, true, false, List, [], ◌∷◌, ◌++◌}
+use Rattle.std.proofs.Common.{Result, Ok, Err, refl, sym, ap, ◌∙◌, subst, arith}
+use Rattle.std.proofs.Common.{eq-eqb}
+use Rattle.std.specs.Prelude.{not, if◌then◌else◌}
+use Rattle.std.proofs.lemmas.Bool.{eqb-true, ltb-true, lt-ltb}
 use Rattle.run_audit.specs.declared.fault.AuditFault.{AuditFault}
-use Rattle.run_audit.specs.declared.fault.AuditFault.TheVariants.{Form, Width, Overlap, Unopened, Mismatch}
+use Rattle.run_audit.specs.declared.fault.AuditFault.TheVariants.{Form, Width, Overlap, Mismatch}
 use Rattle.run_audit.specs.declared.line.Line.{Line}
 use Rattle.run_audit.specs.declared.line.Line.TheVariants.{Call, Ret, Enter, Pass, Leave, End}
-use Rattle.run_audit.specs.Told.{ToldSeen, is_wide, is_below, same_told}
+use Rattle.run_audit.specs.Told.{ToldSeen, is_wide, same_told}
 use Rattle.run_audit.specs.Lines.{is_end}
 use Rattle.run_audit.specs.Brackets.{Leads}
 use Rattle.run_audit.specs.Brackets.Leads.{at_end, passes as goes_by, opens, closes}
-use Rattle.run_audit.specs.Audit.{OpenSeen, below_newest, opened, closed_by, closed, passes, stepped, goes_on}
+use Rattle.run_audit.specs.Audit.{OpenSeen, below_newest, closed_by, stepped, goes_on}
 use Rattle.run_audit.specs.Audit.{followed}
 use Rattle.run_audit.specs.Traces.{InPlace, AreInPlace, lets_pass, IsWide, HasWidth, HaveWidth, LiesBelow}
 use Rattle.run_audit.specs.Traces.{AreApart, entered_by, Spoils, misplaced, call_width, ret_width, overlaps}
@@ -46,13 +46,13 @@ StepIs calls entered n l (Ok u) = Goes calls entered l u
 StepIs calls entered n l (Err e) = Spoils entered n calls l e
 
 pub wide_true : (t : ToldSeen) → IsWide t → is_wide t ≡ true
-wide_true t h = let some = le-leb _ _ h.0 in let each = eq-eqb _ _ h.1 in rw (some, each) refl
+wide_true t h = eq-eqb _ _ h
 
 not_wide : (t : ToldSeen) → is_wide t ≡ false → ¬ (IsWide t)
 not_wide t h w = let e = wide_true t w in cc
 
 pub true_wide : (t : ToldSeen) → is_wide t ≡ true → IsWide t
-true_wide t h = let both = and_parts _ _ h in (leb-true _ _ both.0, eqb-true _ _ both.1)
+true_wide t h = eqb-true _ _ h
 
 below_from : (t : ToldSeen) (b : ℕ) (os : List ToldSeen) → t.last < b → AllFrom b os → LiesBelow t os
 below_from t b [] h d = tt
@@ -72,7 +72,7 @@ same_call t u h = cc
 
 lower_base : (t : ToldSeen) (calls : List ToldSeen) → IsWide t → below_newest t calls ≡ true → Descends calls
     → Descends (t ∷ calls)
-lower_base t calls w h d = (from_below t calls (omega (arith, w.0)) (all_below t calls h d), d)
+lower_base t calls w h d = (from_below t calls (omega (arith, w)) (all_below t calls h d), d)
 
 call_is : (calls : List ToldSeen) (entered : Bool) (n : ℕ) (t : ToldSeen) (w b : Bool) → is_wide t ≡ w
     → below_newest t calls ≡ b

@@ -1,8 +1,8 @@
 -- What an audit answers is right, and what is right is answered.
-use Rattle.std.proofs.Common.{◌≡◌, ◌≢◌, ℕ, ◌+◌, ◌<◌, ◌≤◌, Bool, true, false, cond, List, [], ◌∷◌, ◌++◌}
+use Rattle.std.proofs.Common.{◌≡◌, ◌≢◌, ℕ, ◌+◌, ◌<◌, Bool, true, false, List, [], ◌∷◌, ◌++◌}
 use Rattle.std.proofs.Common.{length, Option, Some, None, Result, Ok, Err, refl, sym, ap, ◌∙◌, subst, arith}
 use Rattle.std.proofs.Common.{inl, inr, append_assoc, length-append}
-use Rattle.std.specs.Prelude.{not, nat_lt, ◌==◌, ◌⊎◌, if◌then◌else◌, OnOk, IfErr}
+use Rattle.std.specs.Prelude.{◌⊎◌, OnOk, IfErr}
 use Rattle.std.proofs.lemmas.Bool.{ltb-true}
 use Rattle.run_audit.specs.declared.fault.AuditFault.{AuditFault}
 use Rattle.run_audit.specs.declared.fault.AuditFault.TheVariants.{Form, Width, Overlap, Unopened, Mismatch}
@@ -13,10 +13,9 @@ use Rattle.run_audit.specs.Told.{ToldSeen, is_wide, is_below, same_told}
 use Rattle.line_fields.specs.Fields.{lines}
 use Rattle.line_fields.proofs.Cuts.{parts_some}
 use Rattle.run_audit.specs.Lines.{line_in, is_end}
-use Rattle.run_audit.specs.Brackets.{Leads}
 use Rattle.run_audit.specs.Audit.{OpenSeen, nothing_open, at_end, goes_on, stepped, judged, audited_from}
 use Rattle.run_audit.specs.Audit.{audited, followed, Answers}
-use Rattle.run_audit.specs.Traces.{IsLine, AreLines, InPlace, AreInPlace, IsWide, lets_pass, IsClean, IsTrace}
+use Rattle.run_audit.specs.Traces.{IsLine, AreLines, AreInPlace, IsWide, IsClean, IsTrace}
 use Rattle.run_audit.specs.Traces.{entered_by, Spoils, misplaced, call_width, ret_width, overlaps, unopened}
 use Rattle.run_audit.specs.Traces.{differs, GoesWrong, HasFault}
 use Rattle.run_audit.proofs.Same.{told_decides}

@@ -1,5 +1,5 @@
 -- The grammar of brackets and the list of open calls say the same.
-use Rattle.std.proofs.Common.{◌≡◌, ℕ, List, [], ◌∷◌, ◌++◌, refl, sym, ap, ◌∙◌, subst, append_assoc}
+use Rattle.std.proofs.Common.{List, [], ◌∷◌, ◌++◌, subst, append_assoc}
 use Rattle.run_audit.specs.declared.line.Line.{Line}
 use Rattle.run_audit.specs.declared.line.Line.TheVariants.{Call, Ret}
 use Rattle.run_audit.specs.Told.{ToldSeen}

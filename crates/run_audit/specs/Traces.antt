@@ -1,11 +1,10 @@
 -- What a trace is, and the first line that spoils a text, apart from the way in which they are found.
-use Rattle.std.specs.Prelude.{◌≡◌, ◌≢◌, ◌⊎◌, ℕ, ◌+◌, ◌<◌, ◌≤◌, Bool, true, false, List, [], ◌∷◌, ◌++◌, length}
-use Rattle.std.specs.Prelude.{Option, Some, None}
+use Rattle.std.specs.Prelude.{◌≡◌, ◌≢◌, ◌⊎◌, ℕ, ◌+◌, ◌<◌, Bool, true, false, List, [], ◌∷◌, ◌++◌, length}
+use Rattle.std.specs.Prelude.{Some}
 use Rattle.run_audit.specs.declared.fault.AuditFault.{AuditFault}
 use Rattle.run_audit.specs.declared.fault.AuditFault.TheVariants.{Form, Width, Overlap, Unopened, Mismatch}
-use Rattle.run_audit.specs.declared.fault.AuditFault.TheVariants.{NoMemory}
 use Rattle.run_audit.specs.declared.line.Line.{Line}
-use Rattle.run_audit.specs.declared.line.Line.TheVariants.{Call, Ret, Enter, Pass, Leave, End}
+use Rattle.run_audit.specs.declared.line.Line.TheVariants.{Call, Ret, Enter, Pass, End}
 use Rattle.run_audit.specs.Told.{ToldSeen}
 use Rattle.line_fields.specs.Fields.{lines}
 use Rattle.run_audit.specs.Lines.{line_in}
@@ -38,9 +37,9 @@ abbrev pub AreInPlace : Bool → List Line → Type 0
 AreInPlace entered [] = Unit {0}
 AreInPlace entered (l ∷ ls) = InPlace entered l × AreInPlace (lets_pass l) ls
 
--- a frame's range isn't empty, and there is a word for each of its addresses
+-- there is a word for each address of a frame's range, which has none where it ends right below its base
 abbrev pub IsWide : ToldSeen → Type 0
-IsWide t = (t.base ≤ t.last) × (t.base + length t.words ≡ t.last + 1)
+IsWide t = t.base + length t.words ≡ t.last + 1
 
 abbrev pub HasWidth : Line → Type 0
 HasWidth (Call t) = IsWide t

@@ -46,13 +46,11 @@ fn are_same(words: &Parts<'_>, others: &Parts<'_>) -> bool
 }
 
 impl<'a> Told<'a> {
-    /// Whether its range isn't empty, and there is a word for each of its addresses.
+    /// Whether there is a word for each address of its range, which has none where it ends right below its
+    /// base.
     pub(crate) fn is_wide(&self) -> bool
         ensures { result ≡ is_wide self.now }
     {
-        if self.base > self.last {
-            return false;
-        }
         let last = u64::from(self.last);
         let mut address = u64::from(self.base);
         let mut words = self.words.again();

@@ -1,8 +1,6 @@
-use Rattle.std.proofs.Common.{◌≡◌, ◌≤◌, ◌<◌, ◌^◌, ◌+◌, length, arith, rules, sym, ap, subst, ◌∙◌}
+use Rattle.std.proofs.Common.{◌+◌, arith, rules, sym, ap, ◌∙◌}
 use Rattle.std.proofs.lemmas.Result.{err_from_is_err_and}
-use Rattle.line_fields.specs.Fields.{lines}
-use Rattle.line_fields.proofs.Cuts.{parts_len}
-use Rattle.run_audit.specs.Audit.{Answers, goes_on, nothing_open, audited_from, audited}
+use Rattle.run_audit.specs.Audit.{goes_on, nothing_open, audited_from, audited}
 use Rattle.run_audit.proofs.Steps.{nothing_left, last_line, bad_line, end_line, event_line, fewer, few}
 use Rattle.run_audit.proofs.Steps.{line_fails, end_answers}
 use Rattle.run_audit.proofs.auditing.answer.Goals as goal
