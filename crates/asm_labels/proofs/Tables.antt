@@ -5,6 +5,7 @@ use Rattle.std.specs.Prelude.{◌<◌, IfSome, OnOk, OnErr}
 use Rattle.std.specs.Borrow.{Bor}
 use Rattle.std.specs.Str.{bytes_eq}
 use Rattle.std.specs.Map.{lookup}
+use Rattle.cap_words.specs.declared.TheConstants.{LONGEST_STRETCH}
 use Rattle.indexmap.specs.IndexMap.{insert_entry}
 use Rattle.asm_labels.specs.declared.labels.Label.{Label}
 use Rattle.asm_labels.specs.Labels.{label_of, AreWithin}
@@ -33,18 +34,19 @@ added k l (e ∷ es) h =
     rw new (ap (λ t. (e.0.now, e.1) ∷ t) r)
 
 pub one_more : (name : List ℕ) (l : Label) (labels : List (List ℕ × Label)) → AreWithin labels
-    → l.offset < 65536
+    → l.offset < LONGEST_STRETCH
     → AreWithin (labels ++ (name, l) ∷ [])
 one_more name l [] h lt = (lt, tt)
 one_more name l (m ∷ labels) h lt = (h.0, one_more name l labels h.1 lt)
 
-first : (b : Bool) (m : Label) (r : Option Label) → m.offset < 65536 → IfSome r (λ l. l.offset < 65536)
-    → IfSome (cond b (Some m) r) (λ l. l.offset < 65536)
+first : (b : Bool) (m : Label) (r : Option Label) → m.offset < LONGEST_STRETCH
+    → IfSome r (λ l. l.offset < LONGEST_STRETCH)
+    → IfSome (cond b (Some m) r) (λ l. l.offset < LONGEST_STRETCH)
 first true m r h k = h
 first false m r h k = k
 
 pub within : (name : List ℕ) (labels : List (List ℕ × Label)) → AreWithin labels
-    → IfSome (label_of name labels) (λ l. l.offset < 65536)
+    → IfSome (label_of name labels) (λ l. l.offset < LONGEST_STRETCH)
 within name [] h = tt
 within name (m ∷ labels) h = first (bytes_eq name m.0) m.1 (label_of name labels) h.0 (within name labels h.1)
 

@@ -1,6 +1,7 @@
 -- The labels of a text.
 use Rattle.std.specs.Prelude.{ℕ, ◌<◌, Bool, true, false, List, [], ◌∷◌, Option, Some, None, if◌then◌else◌}
 use Rattle.std.specs.Str.{bytes_eq}
+use Rattle.cap_words.specs.declared.TheConstants.{LONGEST_STRETCH}
 use Rattle.asm_labels.specs.declared.labels.Section.{Section}
 use Rattle.asm_labels.specs.declared.labels.Section.TheVariants.{Code, Data}
 use Rattle.asm_labels.specs.declared.labels.Label.{Label}
@@ -30,4 +31,4 @@ offset_of section name labels = offset_in section (label_of name labels)
 -- a section has at most 65,536 words
 abbrev pub AreWithin : List (List ℕ × Label) → Type 0
 AreWithin [] = Unit {0}
-AreWithin (l ∷ labels) = (l.1.offset < 65536) × AreWithin labels
+AreWithin (l ∷ labels) = (l.1.offset < LONGEST_STRETCH) × AreWithin labels

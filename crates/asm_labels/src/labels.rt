@@ -2,6 +2,7 @@
 ghost use Rattle.std.specs.Prelude.{◌≡◌, ◌<◌, [], ◌∷◌, ◌++◌, None, OnOk, OnErr, IfSome};
 ghost use Rattle.asm_labels.specs.Labels.{label_of, is_in, offset_of};
 
+use cap_words::LONGEST_STRETCH;
 use indexmap::IndexMap;
 use std::alloc::{AllocError, Global};
 use std::marker::Model;
@@ -62,7 +63,7 @@ impl<'a> Labels<'a> {
     /// The label of this name.
     pub fn find(&self, name: &[u8]) -> Option<Label>
         ensures is { result ≡ label_of name.now self.now }
-        ensures within { IfSome result (λ l. l.offset < 65536) }
+        ensures within { IfSome result (λ l. l.offset < LONGEST_STRETCH) }
     {
         self.table.get(name).copied()
     }
@@ -70,7 +71,7 @@ impl<'a> Labels<'a> {
     /// The offset of the label of this name, where it stands in this section.
     pub fn offset_of(&self, section: Section, name: &[u8]) -> Option<u32>
         ensures is { result ≡ offset_of section name.now self.now }
-        ensures within { IfSome result (λ n. n < 65536) }
+        ensures within { IfSome result (λ n. n < LONGEST_STRETCH) }
     {
         match self.find(name) {
             Some(label) if is_in(label, section) => Some(label.offset),
@@ -81,7 +82,7 @@ impl<'a> Labels<'a> {
     /// Adds a label whose name is new. Where memory is refused, nothing changes.
     pub fn add(&mut self, name: &'a [u8], label: Label) -> Result<(), AllocError>
         requires new { label_of name.now self.old ≡ None }
-        requires within { label.offset < 65536 }
+        requires within { label.offset < LONGEST_STRETCH }
         ensures ok { OnOk result (self.new ≡ self.old ++ (name.now, label) ∷ []) }
         ensures err { OnErr result (self.new ≡ self.old) }
     {

@@ -8,7 +8,7 @@ ghost use Rattle.asm_labels.specs.References.{resolved, Resolves, HasOwn, WaitsF
 
 use crate::fixup::Fixup;
 use crate::labels::{Labels, Section};
-use cap_words::Word;
+use cap_words::{LONGEST_STRETCH, Word};
 use std::alloc::{AllocError, Global};
 use std::marker::Model;
 
@@ -71,8 +71,8 @@ impl User {
     // Gives a word of code what it waits for.
     fn resolve(self, section: Section, offset: u32, code: &mut Vec<Word>)
         requires ready { IsReady code.old.items (user_word self) }
-        requires few { length code.old.items ≤ 65536 }
-        requires within { offset < 65536 }
+        requires few { length code.old.items ≤ LONGEST_STRETCH }
+        requires within { offset < LONGEST_STRETCH }
         ensures { code.new.items ≡ word_resolved (user_word self) section offset code.old.items }
     {
         match self {
@@ -87,8 +87,8 @@ impl User {
 
 // What the word at an offset of the code gets from a label.
 fn value_of(word: u32, section: Section, offset: u32) -> i32
-    requires word { word < 65536 }
-    requires offset { offset < 65536 }
+    requires word { word < LONGEST_STRETCH }
+    requires offset { offset < LONGEST_STRETCH }
     ensures { result ≡ value_of word section offset }
 {
     match section {
@@ -187,7 +187,7 @@ impl<'a> References<'a> {
     #[tactic(auto, unfolding(crate::specs::References::resolved))]
     pub fn resolve(self, labels: &Labels<'_>, code: &mut Vec<Word>) -> Result<(), MissingLabel>
         requires ready { AreReady 0 code.old.items self }
-        requires few { length code.old.items ≤ 65536 }
+        requires few { length code.old.items ≤ LONGEST_STRETCH }
         ensures exact { Resolves result code.new.items (resolved labels.now self.entry code.old.items) }
         // Each word that waits gets what its own reference says, and no other word changes.
         ensures own { OnOk result

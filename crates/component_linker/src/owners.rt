@@ -12,7 +12,7 @@ use cap_words::{Items, LAST_PLACE, SealRange};
 use lcm_machine::Span;
 use std::alloc::{AllocError, Global};
 
-/// A call of trusted code to elsewhere, as its part declares it.
+/// A call that a trusted part declares, wherever it leads.
 #[derive(Clone, Copy, Debug, PartialEq, Eq)]
 pub struct Site {
     /// The part, by its place among the parts.
@@ -25,7 +25,7 @@ pub struct Site {
     pub at: u32,
 }
 
-/// An entry of a part that others may call, under its name.
+/// An entry of a part, under the name of its export.
 #[derive(Debug, Drop)]
 pub struct Entry {
     /// The name.

@@ -43,8 +43,10 @@ fails_behind a c n x y f = record {
   rose = f.rose;
   front = (
     length x + f.front.0,
-    (let le : f.front.0 ≤ length y = f.front.1 in let more : length (x ++ y) ≡ length x + length y = length-append x y in omega arith),
-    f.front.2 ∙ after_by a.written x (take f.front.0 y) ∙ ap (λ (t : List ℕ). written_after a t) (sym (take-append-add x y f.front.0)),
+    (let le : f.front.0 ≤ length y = f.front.1 in
+        let more : length (x ++ y) ≡ length x + length y = length-append x y in omega arith),
+    f.front.2 ∙ after_by a.written x (take f.front.0 y)
+        ∙ ap (λ (t : List ℕ). written_after a t) (sym (take-append-add x y f.front.0)),
   );
 }
 
@@ -57,7 +59,8 @@ fails_more a c x y f = record {
   rose = f.rose;
   front = (
     f.front.0,
-    (let le : f.front.0 ≤ length x = f.front.1 in let more : length (x ++ y) ≡ length x + length y = length-append x y in omega arith),
+    (let le : f.front.0 ≤ length x = f.front.1 in
+        let more : length (x ++ y) ≡ length x + length y = length-append x y in omega arith),
     f.front.2 ∙ ap (λ (t : List ℕ). written_after a t) (sym (take-append-le f.front.0 x y f.front.1)),
   );
 }
@@ -76,8 +79,10 @@ pieces_none a = record { text = adds_none a; counted = sym (raised_none a.writes
 pub pieces_then : (a b c : SinkSeen) (xs ys : List (List ℕ)) → AddsPieces a xs b → AddsPieces b ys c
     → AddsPieces a (xs ++ ys) c
 pieces_then a b c xs ys e f = record {
-  text = subst (λ t. Adds a t c) (sym (concat-append xs ys)) (adds_then a b c (concat xs) (concat ys) e.text f.text);
-  counted = f.counted ∙ ap (λ n. raised n (length ys)) e.counted ∙ raised-raised a.writes (length xs) (length ys) ∙ ap (raised a.writes) (sym (length-append xs ys));
+  text = subst (λ t. Adds a t c) (sym (concat-append xs ys))
+      (adds_then a b c (concat xs) (concat ys) e.text f.text);
+  counted = f.counted ∙ ap (λ n. raised n (length ys)) e.counted
+      ∙ raised-raised a.writes (length xs) (length ys) ∙ ap (raised a.writes) (sym (length-append xs ys));
 }
 
 pub pieces_fail : (a b c : SinkSeen) (xs ys : List (List ℕ)) → AddsPieces a xs b → FailsAtPiece b ys c
@@ -112,7 +117,8 @@ fails_upto T x grows a c zero zero le f = f
 fails_upto T x grows a c (suc i) zero le f = absurd (omega arith)
 fails_upto T x grows a c i (suc n) le f = elim (cases_lt n i) as (λ _. FailsAtPiece a (T (suc n)) c) [
   | inl above ↦ (let same : i ≡ suc n = omega arith in subst (λ k. FailsAtPiece a (T k) c) same f)
-  | inr below ↦ subst (λ t. FailsAtPiece a t c) (sym (grows n)) (fail_more a c (T n) (x n) (fails_upto T x grows a c i n below f))
+  | inr below ↦ subst (λ t. FailsAtPiece a t c) (sym (grows n))
+      (fail_more a c (T n) (x n) (fails_upto T x grows a c i n below f))
 ]
 
 -- a text in pieces written behind another, whether it came or not
@@ -148,7 +154,8 @@ one_write a c x (Err e) well badly one = record {
 -- where one of the pieces failed to be written, so did their text
 pub text_failed : (a c : SinkSeen) (xs : List (List ℕ)) → FailsAtPiece a xs c → FailsToWrite a (concat xs) c
 text_failed a c xs f =
-    let joined : concat xs ≡ concat f.before ++ (f.piece ++ concat f.behind) = ap concat f.are ∙ concat-append f.before (f.piece ∷ f.behind) in
+    let joined : concat xs ≡ concat f.before ++ (f.piece ++ concat f.behind) =
+    ap concat f.are ∙ concat-append f.before (f.piece ∷ f.behind) in
     subst (λ t. FailsToWrite a t c) (sym joined)
     (adds_fails a f.mid c (concat f.before) (f.piece ++ concat f.behind) f.written.text
     (fails_more f.mid c f.piece (concat f.behind) f.fails))

@@ -110,13 +110,34 @@ fn keeps_put<R: Abort + AllocGlobal + rt::Files>(
     rt: &R,
     files: &mut HostFiles<&R>,
     path: &str,
-    bytes: &str,
+    bytes: &[u8],
 ) -> Result<(), Fail>
     requires { IsFileName path.now }
 {
-    files.put(path, bytes.as_bytes())?;
+    files.put(path, bytes)?;
     let left = fs::read(rt, path)?;
-    assert_eq!(rt; left.as_slice(), bytes.as_bytes());
+    assert_eq!(rt; left.as_slice(), bytes);
+    Ok(())
+}
+
+// So many bytes, of which those of two pieces differ that a reader takes.
+fn differing(alloc: Global, len: u32) -> Result<Vec<u8>, AllocError> {
+    let mut bytes = Vec::new(alloc);
+    for place in 0..len {
+        bytes.push((place % 251) as u8)?;
+    }
+    Ok(bytes)
+}
+
+// A file of five pieces, whose length 16 bits don't tell.
+fn keeps_much<R: Abort + AllocGlobal + rt::Files>(rt: &R, path: &str) -> Result<(), Fail>
+    requires { IsFileName path.now }
+{
+    let mut files = HostFiles::new(rt);
+    let bytes = differing(rt.alloc(), 70_000)?;
+    keeps_put(rt, &mut files, path, bytes.as_slice())?;
+    let whole = read_whole(rt.alloc(), &mut files, path, 70_000)?;
+    assert_eq!(rt; whole.as_slice(), bytes.as_slice());
     Ok(())
 }
 
@@ -153,11 +174,12 @@ fn tells_what_is_gone<R: Abort + rt::Files>(
 
 fn are_kept<R: Abort + AllocGlobal + rt::Files>(rt: &R, path: &str) -> Result<(), Fail> {
     assert!(rt; !path.is_empty() && path.len() <= LONGEST_NAME);
+    keeps_much(rt, path)?;
     let mut files = HostFiles::new(rt);
-    keeps_put(rt, &mut files, path, "longer than what follows")?;
-    keeps_put(rt, &mut files, path, "hello")?;
-    keeps_put(rt, &mut files, path, "")?;
-    keeps_put(rt, &mut files, path, "hello")?;
+    keeps_put(rt, &mut files, path, b"longer than what follows")?;
+    keeps_put(rt, &mut files, path, b"hello")?;
+    keeps_put(rt, &mut files, path, b"")?;
+    keeps_put(rt, &mut files, path, b"hello")?;
     gives_what_was_put(rt, rt.alloc(), &mut files, path)?;
     fs::remove_file(rt, path)?;
     tells_what_is_gone(rt, rt.alloc(), &mut files, path);

@@ -14,7 +14,7 @@ ghost use Rattle.proc_compiler.specs.Drafts.{with_items};
 
 use crate::draft::Draft;
 use lcm_isa::{Instr, Operand, Reg};
-use proc_language::Op;
+use proc_language::{MOST_REGISTERS, Op};
 use proc_program::{Arg, Exp, ExpKind, Handle, Place, Row};
 use proc_templates::Frame;
 use std::alloc::AllocError;
@@ -121,7 +121,7 @@ fn call(draft: &mut Draft, f: Frame, h: Handle, args: &[Arg], slot: u32) -> Resu
     requires frame { f.words ≤ MOST_WORDS }
     requires handle_fits { HandleBound f h }
     requires fits { ArgsBound f (args_of args.now) }
-    requires few { arg_registers (args_of args.now) ≤ 4 }
+    requires few { arg_registers (args_of args.now) ≤ MOST_REGISTERS }
     requires room { slot + call_words h (args_of args.now) ≤ LAST_PLACE }
     requires placed { length draft.old.laid.code + call_words h (args_of args.now) ≤ MOST_WORDS }
     requires seals { length draft.old.laid.sites + args_calls (args_of args.now) + 1 ≤ draft.old.seals }
@@ -144,8 +144,8 @@ fn call(draft: &mut Draft, f: Frame, h: Handle, args: &[Arg], slot: u32) -> Resu
 fn values(draft: &mut Draft, f: Frame, args: &[Arg], slot: u32, from: u32) -> Result<(), AllocError>
     requires frame { f.words ≤ MOST_WORDS }
     requires fits { ArgsBound f (args_of args.now) }
-    requires few { from + arg_registers (args_of args.now) ≤ 4 }
-    requires room { slot + 4 + values_words (args_of args.now) ≤ LAST_PLACE }
+    requires few { from + arg_registers (args_of args.now) ≤ MOST_REGISTERS }
+    requires room { slot + MOST_REGISTERS + values_words (args_of args.now) ≤ LAST_PLACE }
     requires placed { length draft.old.laid.code + values_words (args_of args.now) ≤ MOST_WORDS }
     requires seals { length draft.old.laid.sites + args_calls (args_of args.now) ≤ draft.old.seals }
     ensures written { OnOk result (draft.new ≡ with_items (args_code f slot from (args_of args.now)) draft.old) }
@@ -180,7 +180,7 @@ pub(crate) fn argument(index: u32) -> Reg
 
 /// How many registers arguments take.
 pub(crate) fn arg_registers(args: &[Arg]) -> u32
-    requires { arg_registers (args_of args.now) ≤ 4 }
+    requires { arg_registers (args_of args.now) ≤ MOST_REGISTERS }
     ensures { result ≡ arg_registers (args_of args.now) }
 {
     match args.split_first() {
@@ -195,8 +195,8 @@ pub(crate) fn arg_registers(args: &[Arg]) -> u32
 fn loads(draft: &mut Draft, f: Frame, args: &[Arg], slot: u32, from: u32) -> Result<(), AllocError>
     requires frame { f.words ≤ MOST_WORDS }
     requires fits { ArgsBound f (args_of args.now) }
-    requires few { from + arg_registers (args_of args.now) ≤ 4 }
-    requires room { slot + 4 ≤ LAST_PLACE }
+    requires few { from + arg_registers (args_of args.now) ≤ MOST_REGISTERS }
+    requires room { slot + MOST_REGISTERS ≤ LAST_PLACE }
     ensures written { OnOk result (draft.new ≡ with_items (load_args f slot from (args_of args.now)) draft.old) }
     ensures grown { OnOk result
         (length draft.new.laid.code ≡ length draft.old.laid.code + loads_words (args_of args.now)) }
@@ -219,7 +219,7 @@ fn loads(draft: &mut Draft, f: Frame, args: &[Arg], slot: u32, from: u32) -> Res
 // The registers of arguments that a call doesn't hand over become 0.
 #[tactic(auto, using(crate::proofs::Written::items))]
 fn unused(draft: &mut Draft, count: u32) -> Result<(), AllocError>
-    requires { count ≤ 4 }
+    requires { count ≤ MOST_REGISTERS }
     ensures written { OnOk result (draft.new ≡ with_items (zeros (drop count arguments)) draft.old) }
     ensures grown { OnOk result (length draft.new.laid.code + count ≡ length draft.old.laid.code + 4) }
     ensures sited { OnOk result (draft.new.laid.sites ≡ draft.old.laid.sites) }
@@ -241,8 +241,8 @@ fn call_with(
     requires frame { f.words ≤ MOST_WORDS }
     requires handle_fits { HandleBound f h }
     requires fits { ArgsBound f (args_of args.now) }
-    requires few { arg_registers (args_of args.now) ≤ 4 }
-    requires room { slot + 4 ≤ LAST_PLACE }
+    requires few { arg_registers (args_of args.now) ≤ MOST_REGISTERS }
+    requires room { slot + MOST_REGISTERS ≤ LAST_PLACE }
     requires placed { length draft.old.laid.code + after_values h (args_of args.now) ≤ MOST_WORDS }
     requires seals { length draft.old.laid.sites < draft.old.seals }
     ensures written { OnOk result (draft.new ≡ with_items (call_code f slot h (args_of args.now)) draft.old) }

@@ -16,6 +16,7 @@ use crate::draft::Draft;
 use crate::exprs::argument;
 use crate::stmts::block;
 use lcm_isa::{Instr, Operand, Reg};
+use proc_language::MOST_REGISTERS;
 use proc_program::Procedure;
 use proc_templates::Frame;
 use std::alloc::AllocError;
@@ -29,7 +30,7 @@ fn register_count(callback: bool) -> u32
 
 /// How many registers parameters take.
 pub(crate) fn registers_of(callbacks: &[bool]) -> u32
-    requires { registers_of callbacks.now ≤ 4 }
+    requires { registers_of callbacks.now ≤ MOST_REGISTERS }
     ensures { result ≡ registers_of callbacks.now }
 {
     callbacks
@@ -41,7 +42,7 @@ pub(crate) fn registers_of(callbacks: &[bool]) -> u32
 // The check of a callback whose first half is handed over in this register.
 fn check_callback(draft: &mut Draft, from: u32) -> Result<(), AllocError>
     requires placed { length draft.old.laid.code ≤ MOST_WORDS }
-    requires few { from + 2 ≤ 4 }
+    requires few { from + 2 ≤ MOST_REGISTERS }
     ensures written { OnOk result (draft.new
         ≡ with_items (guards (check_half (argument from) ++ check_half (argument (from + 1))) ∷ []) draft.old) }
     ensures grown { OnOk result (length draft.new.laid.code ≡ length draft.old.laid.code + 13) }
@@ -54,7 +55,7 @@ fn check_callback(draft: &mut Draft, from: u32) -> Result<(), AllocError>
 // The check of a parameter that is handed over in this register.
 fn check(draft: &mut Draft, callback: bool, from: u32) -> Result<(), AllocError>
     requires placed { length draft.old.laid.code ≤ MOST_WORDS }
-    requires few { from + register_count callback ≤ 4 }
+    requires few { from + register_count callback ≤ MOST_REGISTERS }
     ensures written { OnOk result (draft.new ≡ with_items (check_param from callback ∷ []) draft.old) }
     ensures grown { OnOk result (length draft.new.laid.code ≡ length draft.old.laid.code + check_words callback) }
     ensures sited { OnOk result (draft.new.laid.sites ≡ draft.old.laid.sites) }
@@ -70,7 +71,7 @@ fn check(draft: &mut Draft, callback: bool, from: u32) -> Result<(), AllocError>
 // The checks of parameters, the first of which is handed over in this register.
 #[tactic(auto, using(crate::proofs::Written::items))]
 fn checks(draft: &mut Draft, callbacks: &[bool], from: u32) -> Result<(), AllocError>
-    requires few { from + registers_of callbacks.now ≤ 4 }
+    requires few { from + registers_of callbacks.now ≤ MOST_REGISTERS }
     requires placed { length draft.old.laid.code + checks_words callbacks.now ≤ MOST_WORDS }
     ensures written { OnOk result (draft.new ≡ with_items (check_params from callbacks.now) draft.old) }
     ensures grown { OnOk result (length draft.new.laid.code ≡ length draft.old.laid.code + checks_words callbacks.now) }
@@ -89,7 +90,7 @@ fn checks(draft: &mut Draft, callbacks: &[bool], from: u32) -> Result<(), AllocE
 // A frame of so many words is pushed.
 #[tactic(auto, using(crate::proofs::Written::pushed))]
 fn prologue(draft: &mut Draft, params: u32, words: u32) -> Result<(), AllocError>
-    requires few { params ≤ 4 }
+    requires few { params ≤ MOST_REGISTERS }
     requires room { 2 + params ≤ words }
     ensures written { OnOk result (draft.new ≡ with_items (push (pushed params words)) draft.old) }
     ensures grown { OnOk result (length draft.new.laid.code ≡ length draft.old.laid.code + 2 * words) }
@@ -106,7 +107,7 @@ fn prologue(draft: &mut Draft, params: u32, words: u32) -> Result<(), AllocError
 #[tactic(auto, using(crate::proofs::Written::items))]
 pub(crate) fn proc_at(draft: &mut Draft, f: Frame, p: &Procedure) -> Result<(), AllocError>
     requires frame { f.words ≤ MOST_WORDS }
-    requires few { registers_of p.now.callbacks ≤ 4 }
+    requires few { registers_of p.now.callbacks ≤ MOST_REGISTERS }
     requires slots { 2 + registers_of p.now.callbacks ≤ f.words }
     requires fits { BlockBound f (block_of p.now.body) }
     requires room { f.temps + block_words (block_of p.now.body) ≤ LAST_PLACE }

@@ -123,6 +123,78 @@ fn modules_are_laid_by_the_table(rt: HostRuntime) -> Result<(), Fail> {
     Ok(())
 }
 
+// ---- numbers that no byte tells
+
+// A procedure of 300 calls.
+fn many_calls(alloc: Global) -> Result<Vec<u8>, AllocError> {
+    let mut text = Vec::from_slice(
+        alloc,
+        b"module m code 1 data 100000 closure 0 returns 0 300 stack 0;\nproc main() {\n",
+    )?;
+    for _ in 0..300 {
+        text.extend_from_slice(b"f();\n")?;
+    }
+    text.extend_from_slice(b"}\nproc f() { }\n")?;
+    Ok(text)
+}
+
+// Eight locals, whose names begin with a letter.
+fn push_locals(text: &mut Vec<u8>, letter: u8) -> Result<(), AllocError> {
+    for other in b"abcdefgh" {
+        text.extend_from_slice(b"local ")?;
+        text.extend_from_slice(&[letter, *other])?;
+        text.extend_from_slice(b";\n")?;
+    }
+    Ok(())
+}
+
+// A procedure whose frame has 302 words: 2 for its return, 4 parameters, 64 locals, and 232 temporaries for
+// 58 calls inside one another.
+fn wide_frame(alloc: Global) -> Result<Vec<u8>, AllocError> {
+    let mut text = Vec::from_slice(
+        alloc,
+        b"module m code 1 data 100000 closure 0 returns 0 58 stack 0;\nproc f(a, b, c, d) {\n",
+    )?;
+    for letter in b"abcdefgh" {
+        push_locals(&mut text, *letter)?;
+    }
+    text.extend_from_slice(b"return ")?;
+    for _ in 0..57 {
+        text.extend_from_slice(b"f(0, 0, 0, 0 +\n")?;
+    }
+    text.extend_from_slice(b"f(0, 0, 0, 0)")?;
+    for _ in 0..57 {
+        text.push(b')')?;
+    }
+    text.extend_from_slice(b";\n}\n")?;
+    Ok(text)
+}
+
+// How many code and data words a component has, and how many calls, and its last label.
+fn counted(
+    alloc: Global,
+    text: &[u8],
+) -> Result<(Option<u32>, Option<u32>, Option<u32>, Option<u32>), AllocError> {
+    let numbers = laid(alloc, text)?;
+    let numbers = numbers.as_slice();
+    Ok((
+        numbers.first().copied(),
+        numbers.get(1).copied(),
+        numbers.get(2).copied(),
+        numbers.last().copied(),
+    ))
+}
+
+#[test]
+fn calls_and_words_of_a_frame_go_past_a_byte(rt: HostRuntime) -> Result<(), Fail> {
+    let alloc = rt.alloc();
+    let calls = counted(alloc, many_calls(alloc)?.as_slice())?;
+    assert_eq!(rt; calls, (Some(11_786), Some(4), Some(300), Some(11_769)));
+    let frame = counted(alloc, wide_frame(alloc)?.as_slice())?;
+    assert_eq!(rt; frame, (Some(5_362), Some(2), Some(58), Some(4_745)));
+    Ok(())
+}
+
 // ---- faults
 
 // Procedures whose statements take four and three words each: `44 + 4 * fours + 3 * threes` code words.

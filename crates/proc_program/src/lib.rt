@@ -6,7 +6,6 @@
 
 pub mod laws;
 mod lower;
-mod needs;
 mod program;
 
 pub use lower::lowered;

@@ -1,6 +1,8 @@
 //! From the tree of a module to the program that it runs as.
-ghost use Rattle.std.specs.Prelude.{◌≡◌, ℕ, ◌+◌, ◌<◌, ◌≤◌, ◌++◌, IfOk, OnOk, length, replicate, map, sum_by};
-ghost use Rattle.std.specs.Prelude.{is_some, ◌^◌};
+ghost use Rattle.std.specs.Prelude.{◌≡◌, ℕ, ◌+◌, ◌<◌, ◌≤◌, ◌++◌, IfOk, OnOk, OnErr, length, replicate, map};
+ghost use Rattle.std.specs.Prelude.{sum_by};
+ghost use Rattle.std.specs.Prelude.{is_some, ◌^◌, MatchOption};
+ghost use Rattle.proc_names.specs.Need.{need};
 ghost use Rattle.proc_language.specs.Limits.{Each, ProcFits, GlobalFits, IsModule, params_registers};
 ghost use Rattle.proc_language.specs.StmtView.{block_of as stmts_of};
 ghost use Rattle.proc_language.specs.View.{args_of as tree_args};
@@ -14,15 +16,17 @@ ghost use Rattle.proc_program.specs.Lower.{step_of};
 ghost use Rattle.proc_program.specs.Lower.{steps_of, procedure_of, procedures_of, globals_of, import_of};
 ghost use Rattle.proc_program.specs.Lower.{header_of, part_of};
 
-use crate::needs::{params_registers, words_needed};
 use crate::program::{
     Arg, Call, Exp, ExpKind, Handle, Header, Import, Part, Place, Procedure, Row, Step, StepKind,
 };
 use cap_words::Items;
 use proc_language::{
-    Expr, ExprKind, Global, Module, ModuleFields, Name, Param, Proc, Stmt, StmtKind,
+    Expr, ExprKind, Global, MOST_ITEMS, MOST_REGISTERS, Module, ModuleFields, Name, Param, Proc,
+    Stmt, StmtKind,
 };
-use proc_names::{Callee, Variable, callee_named, passed_named, variable_named};
+use proc_names::{
+    Callee, Variable, callee_named, params_registers, passed_named, variable_named, words_needed,
+};
 use std::alloc::{AllocError, Global as Heap};
 
 // ---- names
@@ -44,7 +48,7 @@ fn words_in(gs: &[Global]) -> u32
 #[tactic(auto, using(crate::proofs::Limits::words_before, crate::proofs::Limits::words_in_le))]
 fn word_at(gs: &[Global], k: usize) -> u32
     requires within { k < length gs.now }
-    requires few { length gs.now ≤ 512 }
+    requires few { length gs.now ≤ MOST_ITEMS }
     requires fits { Each GlobalFits gs.now }
     ensures { result ≡ word_at gs.now k }
 {
@@ -53,7 +57,7 @@ fn word_at(gs: &[Global], k: usize) -> u32
 
 fn row_at(gs: &[Global], k: usize) -> Row
     requires within { k < length gs.now }
-    requires few { length gs.now ≤ 512 }
+    requires few { length gs.now ≤ MOST_ITEMS }
     requires fits { Each GlobalFits gs.now }
     ensures { result ≡ row_at gs.now k }
 {
@@ -66,7 +70,7 @@ fn row_at(gs: &[Global], k: usize) -> Row
 #[tactic(auto, using(crate::proofs::Limits::registers_before))]
 fn param_place(params: &[Param], i: usize) -> u32
     requires within { i < length params.now }
-    requires fits { params_registers params.now ≤ 4 }
+    requires fits { params_registers params.now ≤ MOST_REGISTERS }
     ensures { result ≡ param_place params.now i }
 {
     params_registers(&params[..i])
@@ -163,6 +167,7 @@ fn passed_of(m: &ModuleFields, p: &Proc, f: &Name) -> Handle
 fn next_site(next: &mut u32) -> Result<u32, AllocError>
     ensures same { IfOk result (λ n. n ≡ next.old) }
     ensures counted { OnOk result (next.new ≡ next.old + 1) }
+    ensures fails { OnErr result (2 ^ 32 ≤ next.old + 1) }
 {
     let site = *next;
     *next = site.checked_add(1).ok_or(AllocError)?;
@@ -339,6 +344,15 @@ fn callbacks_of(alloc: Heap, params: &[Param]) -> Result<Vec<bool>, AllocError>
     Ok(callbacks)
 }
 
+// The words that a procedure needs of the stack, where they are less than the largest number of 32 bits.
+fn need_of(p: &Proc) -> Option<u32>
+    requires { ProcFits p.now }
+    ensures { MatchOption result (2 ^ 32 ≤ need p.now + 1) (λ n. n ≡ need p.now) }
+{
+    let need = words_needed(p);
+    if need == u32::MAX { None } else { Some(need) }
+}
+
 fn procedure_of(
     alloc: Heap,
     m: &ModuleFields,
@@ -350,7 +364,7 @@ fn procedure_of(
     ensures same { IfOk result (λ q. q ≡ procedure_of m.now next.old p.now) }
     ensures counted { OnOk result (next.new ≡ next.old + proc_calls p.now) }
 {
-    let need = words_needed(p).ok_or(AllocError)?;
+    let need = need_of(p).ok_or(AllocError)?;
     let name = text_of(alloc, &p.name)?;
     let callbacks = callbacks_of(alloc, p.params.as_slice())?;
     let body = steps_of(alloc, m, p, p.body.as_slice(), next)?;
@@ -433,7 +447,7 @@ fn header_of(m: &ModuleFields) -> Header
 /// # Errors
 ///
 /// `AllocError` where memory was refused, or would have to be: a module that has 2^32 calls, or a
-/// procedure that needs 2^32 words of the stack, has a tree of as many nodes.
+/// procedure that needs 2^32 - 1 words of the stack, has a tree of about as many nodes.
 pub fn lowered(alloc: Heap, m: &Module) -> Result<Part, AllocError>
     ensures { IfOk result (λ part. part ≡ part_of m.now) }
 {

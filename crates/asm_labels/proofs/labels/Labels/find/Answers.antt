@@ -1,5 +1,6 @@
 use Rattle.std.proofs.Common.{◌∙◌, ap, sym, subst, Option, ◌<◌}
 use Rattle.std.specs.Prelude.{IfSome}
+use Rattle.cap_words.specs.declared.TheConstants.{LONGEST_STRETCH}
 use Rattle.asm_labels.specs.declared.labels.Label.{Label}
 use Rattle.asm_labels.specs.Labels.{label_of}
 use Rattle.asm_labels.proofs.Tables.{seen, found, within}
@@ -12,6 +13,6 @@ returns-clause-is c = c.copied.ensures ∙ c.get.ensures.value
 pub returns-clause-within : goal.returns-clause-within
 returns-clause-within c =
     let old = c.self.inside.table.entries in
-    let P : Option Label → Type 0 = λ o. IfSome o (λ l. l.offset < 65536) in
+    let P : Option Label → Type 0 = λ o. IfSome o (λ l. l.offset < LONGEST_STRETCH) in
     subst P (sym (c.copied.ensures ∙ c.get.ensures.value ∙ found c.args.name.now old))
     (within c.args.name.now (seen old) c.self.invariant)

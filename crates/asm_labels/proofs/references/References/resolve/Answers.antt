@@ -1,5 +1,6 @@
 use Rattle.std.proofs.Common.{◌≡◌, ◌∙◌, ℕ, ◌≤◌, ap, sym, subst, length, map, ◌∷◌}
 use Rattle.std.specs.Prelude.{reverse}
+use Rattle.cap_words.specs.declared.TheConstants.{LONGEST_STRETCH}
 use Rattle.asm_labels.specs.References.{AreReady, resolved, behind, word_resolved}
 use Rattle.asm_labels.proofs.Resolved.{referring, reversed_twice, last_is_next, word_len, rest_ready}
 use Rattle.asm_labels.proofs.Resolved.{one_resolved, ends, each_has_its_own, others_stay, as_many}
@@ -30,7 +31,8 @@ loop-reference-preserved c =
     let made : c.resolve.new.code.items ≡ word_resolved r.word r.section offset code = c.resolve.ensures in
     record {
       few = let L : ℕ → Type 0 =
-          λ n. n ≤ 65536 in subst L (sym (ap length made ∙ word_len r.word r.section offset code)) kept.few;
+          λ n. n ≤ LONGEST_STRETCH
+          in subst L (sym (ap length made ∙ word_len r.word r.section offset code)) kept.few;
       low = behind kept.low r.word;
       ready = subst (λ l. AreReady (behind kept.low r.word) l rest) (sym made)
           (rest_ready kept.low code r rest offset (subst (AreReady kept.low code) all kept.ready));

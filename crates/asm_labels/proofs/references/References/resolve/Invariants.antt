@@ -1,5 +1,6 @@
 use Rattle.std.proofs.Common.{◌≡◌, ◌≤◌, ℕ, length, map}
 use Rattle.std.specs.Prelude.{reverse}
+use Rattle.cap_words.specs.declared.TheConstants.{LONGEST_STRETCH}
 use Rattle.asm_labels.specs.References.{AreReady, resolved}
 use Rattle.asm_labels.proofs.Resolved.{referring}
 use Rattle.asm_labels.proofs.references.References.resolve.Given as goal
@@ -9,7 +10,7 @@ decreases-loop-reference l = length l.list.items
 
 abbrev pub invariant-loop-reference : goal.invariant-loop-reference
 invariant-loop-reference l = record {
-  few : length l.code.items ≤ 65536;
+  few : length l.code.items ≤ LONGEST_STRETCH;
   low : ℕ;
   ready : AreReady low l.code.items (reverse (map referring l.list.items));
   so_far : resolved l.labels (reverse (map referring l.list.items))
