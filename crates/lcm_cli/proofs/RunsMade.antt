@@ -10,6 +10,7 @@ use Rattle.command_words.specs.declared.command.LinkDeed.TheVariants as link_dee
 use Rattle.command_words.specs.declared.command.Command.{Command}
 use Rattle.command_words.specs.declared.command.Command.TheVariants.{Links}
 use Rattle.authority_report.specs.Entered.{IsLinked, ReportsBoundRuns}
+use Rattle.authority_report.specs.Influence.{ReportsBoundInfluence}
 use Rattle.component_linker.specs.Parts.{PartSeen}
 use Rattle.image_loader.specs.declared.fault.ImageFault.{ImageFault}
 use Rattle.image_loader.specs.declared.fault.ImageFault.TheVariants as image
@@ -22,6 +23,7 @@ use Rattle.overlay_machine.specs.Seen.{OverlaySeen, IsOverlayOf}
 use Rattle.audited_runs.specs.Audited.{RunsPass}
 use Rattle.command_words.specs.Fits.{Fits}
 use Rattle.trace_tool.specs.OpenCalls.{OpenCallsAreKept}
+use Rattle.trace_tool.specs.Secrecy.{OpenFramesAreSecret}
 use Rattle.trace_tool.specs.Headline.{HeadlineHolds}
 use Rattle.trace_tool.specs.declared.run.RunEnd.{RunEnd}
 use Rattle.trace_tool.specs.declared.run.RunEnd.TheVariants as run_end
@@ -81,10 +83,11 @@ refused_none why a ended x e r = no_run why (subst IsRunStatus (e ∙ ap (λ (b 
 -- what holds of all starts that are linked
 pub record StartLaws : Type 0 where
   pub calls : OpenCallsAreKept
+  pub secret : OpenFramesAreSecret
   pub headline : HeadlineHolds
 
-pub both : OpenCallsAreKept → HeadlineHolds → StartLaws
-both calls headline = record { calls = calls; headline = headline }
+pub all_of : OpenCallsAreKept → OpenFramesAreSecret → HeadlineHolds → StartLaws
+all_of calls secret headline = record { calls = calls; secret = secret; headline = headline }
 
 -- what came of the image, and the start of its parts
 abbrev pub started : StartLaws → (l : Linked) (old seen : FilesSeen) (i : ImageSeen) (start : StartSeen)
@@ -99,6 +102,7 @@ started all l old seen i start c s =
       start = start;
       linked_start = s;
       calls = all.calls (placed i.parts i.stack) i.stack start s;
+      secret = all.secret (placed i.parts i.stack) i.stack start s;
       headline = all.headline (placed i.parts i.stack) i.stack start s;
     }
 
@@ -313,12 +317,13 @@ linked_as parts size s h = record {
   starts = h.starts;
 }
 
-given_reach : StartLaws → ReportsBoundRuns → (l : Linked) (old : Outside) (seen : FilesSeen)
+given_reach : StartLaws → ReportsBoundRuns → ReportsBoundInfluence
+    → (l : Linked) (old : Outside) (seen : FilesSeen)
     (ended : Status) (new : Outside) (a : Answer) → DeedDue l link_deed.Reach old.files seen a
     → GivesWhole (with_files old seen) a ended new → IsRunStatus ended → ReachGiven l old ended new
-given_reach all bounds l old seen ended new a (told why c e) g r =
+given_reach all bounds influences l old seen ended new a (told why c e) g r =
     absurd (refused_none why a ended e g.status_is r)
-given_reach all bounds l old seen ended new a (made i c x) g r =
+given_reach all bounds influences l old seen ended new a (made i c x) g r =
     let h : GivesWhole (with_files old seen) (writes status.Done x.1) ended new =
     subst (λ b. GivesWhole (with_files old seen) b ended new) x.4 g in
     let p : new.files ≡ seen = h.put in
@@ -328,17 +333,18 @@ given_reach all bounds l old seen ended new a (made i c x) g r =
       text = x.1;
       text_is = x.3;
       bound = λ part r. bounds x.0 part r (linked_as i.parts i.stack x.0 x.2);
+      influence = λ part r. influences x.0 part r (linked_as i.parts i.stack x.0 x.2);
       status_is = h.status_is;
       written = h.written;
       kept_is = h.kept_is;
     }
 
-pub reaches : StartLaws → ReportsBoundRuns → (asked : Option Command) (old : Outside)
+pub reaches : StartLaws → ReportsBoundRuns → ReportsBoundInfluence → (asked : Option Command) (old : Outside)
     (ended : Status) (new : Outside) → Answers (plan_in asked) old ended new → (l : Linked)
     → asked ≡ Some (Links l link_deed.Reach) → IsRunStatus ended → ReachGiven l old ended new
-reaches all bounds asked old ended new a l e r =
+reaches all bounds influences asked old ended new a l e r =
     let w = whole_run (plan_in asked) old ended new a r in
-    given_reach all bounds l old w.seen ended new w.gives
+    given_reach all bounds influences l old w.seen ended new w.gives
     (asked_due asked l link_deed.Reach e old.files w.seen w.due w.gives w.came w.is) w.given r
 
 refused_cut : {plan : Plan Task} {old new : Outside} (l : Linked) (k : Cut plan old new) (why : Refusal)

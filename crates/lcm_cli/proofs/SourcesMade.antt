@@ -18,6 +18,7 @@ use Rattle.proc_language.specs.declared.module.ModuleFields.{ModuleFields}
 use Rattle.proc_program.specs.Lower.{part_of}
 use Rattle.source_starts.specs.Sources.{AreSources}
 use Rattle.source_starts.specs.RunMeans.{RunMeans, RunsMean, StacksBegin}
+use Rattle.source_starts.specs.Shown.{SourcesShowNothingElse}
 use Rattle.source_events.specs.declared.Item.{Item}
 use Rattle.component_linker.specs.Standing.{placed}
 use Rattle.linked_modules.specs.Among.{LinkedModulesKeepRules}
@@ -56,6 +57,7 @@ pub record RunLaws : Type 0 where
   pub pass : RunsPass
   pub sources : SourceLaws
   pub mean : RunsMean
+  pub show : SourcesShowNothingElse
   pub begin : StacksBegin
   pub tells : TextsTellItems
   pub keep : LinkedModulesKeepRules
@@ -74,6 +76,7 @@ sources_mean laws words stack steps old new sources from =
       came = g.came;
       sources = g.are;
       means = means;
+      shows = laws.show g.modules from.parts stack from.start is g.are;
       feed = feed_of laws.begin laws.tells laws.keep g.modules from.parts stack from.start steps is
           g.are means.items means.came;
     }

@@ -28,6 +28,7 @@ use Rattle.image_loader.specs.declared.fault.ImageFault.TheVariants as image
 use Rattle.authority_report.specs.declared.reach.Reach.{Reach as Reached}
 use Rattle.authority_report.specs.Report.{Reports}
 use Rattle.authority_report.specs.Entered.{BoundsRuns}
+use Rattle.authority_report.specs.Influence.{BoundsInfluence}
 use Rattle.authority_report.specs.Text.{IsReachText}
 use Rattle.debug_script.specs.declared.command.Command.{Command as Line}
 use Rattle.debug_script.specs.declared.fault.ScriptFault.{ScriptFault}
@@ -48,6 +49,7 @@ use Rattle.trace_tool.specs.declared.run.RunEnd.{RunEnd}
 use Rattle.trace_tool.specs.declared.run.RunEnd.TheVariants as run_end
 use Rattle.trace_tool.specs.Runs.{written, run_text, end_of}
 use Rattle.trace_tool.specs.OpenCalls.{CallsAreKept}
+use Rattle.trace_tool.specs.Secrecy.{FramesAreSecret}
 use Rattle.trace_tool.specs.Headline.{Headline}
 use Rattle.trace_tool.specs.Layout.{layout}
 use Rattle.trace_tool.specs.Traces.{trace_of, trace_text}
@@ -363,9 +365,10 @@ LinkedCame (what.Image name) old parts size new =
     × (image_of bytes ≡ Ok (record { stack = size; parts = parts }))
 
 -- the words or the image made parts that keep the rules, and this is the start that they link to. Its calls
--- are kept: each ret line closes the newest open call, whose range only its own return uses till then. And it
--- has the headline: the plain run agrees with the run of the start's overlay, its calls and returns are
--- bracketed, and its frames are private.
+-- are kept: each ret line closes the newest open call, whose range only its own return uses till then. Their
+-- frames are secret: whatever is in them, the machine runs the same till then. And it has the headline: the
+-- plain run agrees with the run of the start's overlay, its calls and returns are bracketed, and its frames
+-- are private.
 pub record Started (l : Linked) (old new : FilesSeen) : Type 0 where
   pub parts : List PartSeen
   pub size : ℕ
@@ -374,6 +377,7 @@ pub record Started (l : Linked) (old new : FilesSeen) : Type 0 where
   pub start : StartSeen
   pub linked_start : IsStartOf parts size start
   pub calls : CallsAreKept start
+  pub secret : FramesAreSecret start
   pub headline : Headline start
 
 -- the text of the plain run from a start: its lines and its end line
@@ -390,13 +394,15 @@ pub record RunGiven (l : Linked) (steps : ℕ) (old : Outside) (status : Status)
   pub kept_is : new.kept ≡ Some (plain steps from.start.state)
 
 -- the load of a seed links, and the plain run of its start gave the status, the text and the machine: its
--- totals where it halted, and else its end line. The start's calls are kept, and it has the headline.
+-- totals where it halted, and else its end line. The start's calls are kept, its frames are secret, and it
+-- has the headline.
 pub record LoadGiven (seed : ℕ) (old : Outside) (status : Status) (new : Outside) : Type 0 where
   pub image : ImageSeen
   pub made : load_image (load_of seed) ≡ Made image
   pub start : StartSeen
   pub linked_start : IsStartOf image.parts image.stack start
   pub calls : CallsAreKept start
+  pub secret : FramesAreSecret start
   pub headline : Headline start
   pub status_is : status ≡ end_status (end_of (last_step (plain load_steps start.state)))
   pub written : Adds old.sink (totals_text (load_of seed) start load_steps) new.sink
@@ -404,12 +410,13 @@ pub record LoadGiven (seed : ℕ) (old : Outside) (status : Status) (new : Outsi
   pub files_stay : new.files ≡ old.files
 
 -- what links came and keeps the rules, and the text of what the parts of its start can reach was written.
--- From each of its entries a part runs within its report.
+-- From each of its entries a part runs within its report, and what isn't in the report doesn't influence it.
 pub record ReachGiven (l : Linked) (old : Outside) (status : Status) (new : Outside) : Type 0 where
   pub from : Started l old.files new.files
   pub text : List ℕ
   pub text_is : IsReachText from.start text
   pub bound : (part : ℕ) (r : Reached) → Reports from.start part r → BoundsRuns from.start part r
+  pub influence : (part : ℕ) (r : Reached) → Reports from.start part r → BoundsInfluence from.start part r
   pub status_is : status ≡ Done
   pub written : Adds old.sink text new.sink
   pub kept_is : new.kept ≡ old.kept

@@ -20,6 +20,7 @@ use Rattle.source_events.specs.declared.Item.{Item}
 use Rattle.source_events.specs.declared.Told.{Told}
 use Rattle.source_starts.specs.Sources.{AreSources}
 use Rattle.source_starts.specs.RunMeans.{RunMeans, MeaningEnds, MeaningBegins}
+use Rattle.source_starts.specs.Shown.{ShowsNothingElse}
 use Rattle.trace_tool.specs.Layout.{layout}
 use Rattle.trace_tool.specs.Feed.{outs_of, OutEvent as Event}
 use Rattle.trace_tool.specs.Runs.{written as written_lines}
@@ -67,13 +68,15 @@ pub record IsFeed (modules : List ModuleFields) (stack : ℕ) (start : StartSeen
       → stack_base_of modules ≡ (layout start).stack.base
 
 -- the trusted parts that a run starts from are the components of the modules that the words' texts spell, in
--- their order; what its lines tell is what these modules mean, by the feed that its text is
+-- their order; what its lines tell is what these modules mean, by the feed that its text is; and wherever
+-- their code lets go of control, code outside is shown nothing else
 pub record SourcesMean (words : List PartWord) (stack steps : ℕ) (old new : FilesSeen)
     (from : Started (what.Parts words stack) old new) : Type 0 where
   pub modules : List ModuleFields
   pub came : SourcesCame words old modules new
   pub sources : AreSources modules from.parts
   pub means : RunMeans (map part_of modules) stack from.start steps
+  pub shows : ShowsNothingElse modules from.parts stack from.start
   pub feed : IsFeed modules stack from.start steps means.items
 
 -- a run whose trusted parts are sources: the plain run gave the status, the text and the machine, and its

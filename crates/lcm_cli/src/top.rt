@@ -27,7 +27,7 @@ use crate::load::totals;
 use crate::refusal_line::{refusal_line, refusal_status};
 use crate::status::Status;
 use audited_runs::laws::runs_pass;
-use authority_report::laws::reports_bound_runs;
+use authority_report::laws::{reports_bound_influence, reports_bound_runs};
 use cap_words::Items;
 use command_words::laws::commands_fit;
 use command_words::{FileName, Steps, WordsFault, command_of};
@@ -46,9 +46,9 @@ use overlay_machine::laws::a_start_has_one_overlay;
 use proc_sources::laws::sources_are_modules;
 use run_items::laws::texts_tell_items;
 use source_events::End;
-use source_starts::laws::{runs_mean, stacks_begin};
+use source_starts::laws::{runs_mean, sources_show_nothing_else, stacks_begin};
 use std::alloc::Global;
-use trace_tool::laws::{open_calls_are_kept, the_headline};
+use trace_tool::laws::{frames_are_secret, open_calls_are_kept, the_headline};
 use trace_tool::{RunEnd, run_counted, run_overlay, run_plain};
 
 // Writes a text, and answers the status, or WriteFault where the sink fails.
@@ -259,8 +259,8 @@ fn answer<F: Files, S: Sink>(
 
 /// All that the program does, with the words after its own name.
 ///
-/// `run`, with 1 to 16 parts `u:NAME` or `t:NAME` of names that end in `.stc`, `.asm`, `.prc` or
-/// `.tok`, reads the parts in their order, each with its form (a source is compiled) and the rules of
+/// `run`, with 1 to 16 parts `u:NAME` or `t:NAME` of names that end in `.stc`, `.asm` or `.prc`, or
+/// `t:NAME.tok`, reads the parts in their order, each with its form (a source is compiled) and the rules of
 /// its mark, links them with a stack of `--stack` words, runs the machine that they start for `--steps`
 /// steps or up to its end, and writes a line for each event and the end line. In place of parts it
 /// takes one image, `NAME.img`, checks and links its parts anew, and runs them so. Where all of that
@@ -271,7 +271,7 @@ fn answer<F: Files, S: Sink>(
 /// writes the replies of a debugger to its commands. `link` reads and links parts as `run` does, puts
 /// their image under the name of `--out`, and then writes `ok`. `check` reads one part in the same way,
 /// `u:NAME` or, by the rules of trusted parts, `t:NAME`, and writes `ok`. `asm` reads one part, of
-/// either mark and a name in `.asm`, `compile` one of a name in `.prc` or `.tok`; both ask no rules,
+/// either mark and a name in `.asm`, `compile` one of a name in `.prc`, or `t:NAME.tok`; both ask no rules,
 /// put its component's file under the name of `--out`, and then write `ok`. `dis` reads one part of
 /// either mark, asks no rules, and writes its text. `mean` reads 1 to 16 sources `t:NAME.prc` or
 /// `t:NAME.tok` and the feed of `--feed`, and writes what the sources mean under that feed with a stack
@@ -297,9 +297,9 @@ pub fn stk_main<F: Files, S: Sink>(
         result (outside (F.seen files.new) (S.seen out.new) kept.new) }
 
     // What a run writes, answers and hands over, and what holds of its start. Its calls are kept: each ret
-    // line closes the newest open call, whose range only its own return uses till then. And it has the
-    // headline: the plain machine agrees with the overlay, returns are bracketed, frames are private. The
-    // text passes an audit.
+    // line closes the newest open call, whose range only its own return uses till then. Their frames are
+    // secret: whatever is in them, the machine runs the same till then. And it has the headline: the plain
+    // machine agrees with the overlay, returns are bracketed, frames are private. The text passes an audit.
     ensures ran { (l : Linked) (steps : ℕ)
         → asked_in (texts words.now.items) ≡ Some (Links l (link_deed.Run steps))
         → IsRunStatus result → RunGiven l steps
@@ -307,7 +307,8 @@ pub fn stk_main<F: Files, S: Sink>(
         result (outside (F.seen files.new) (S.seen out.new) kept.new) }
 
     // Where every trusted part of a run is a source: what the run's lines tell is what the sources mean,
-    // with the events that code outside caused as input, whatever that code is; also where the sink failed.
+    // with the events that code outside caused as input, whatever that code is; and wherever their code lets
+    // go of control, code outside is shown nothing else. Also where the sink failed.
     ensures sourced { (words_of : List PartWord) (stack steps : ℕ)
         → asked_in (texts words.now.items)
         ≡ Some (Links (what.Parts words_of stack) (link_deed.Run steps))
@@ -322,7 +323,8 @@ pub fn stk_main<F: Files, S: Sink>(
         (outside (F.seen files.old) (S.seen out.old) kept.old)
         result (outside (F.seen files.new) (S.seen out.new) kept.new) }
 
-    // What `reach` writes: what each part of such a start can reach.
+    // What `reach` writes: what each part of such a start can reach. The part's runs stay within that, and
+    // nothing else influences them.
     ensures reached { (l : Linked)
         → asked_in (texts words.now.items) ≡ Some (Links l link_deed.Reach)
         → IsRunStatus result → ReachGiven l
@@ -381,13 +383,16 @@ pub fn stk_main<F: Files, S: Sink>(
 {
     the_headline();
     open_calls_are_kept();
+    frames_are_secret();
     reports_bound_runs();
+    reports_bound_influence();
     commands_remember();
     commands_fit();
     runs_pass();
     a_start_has_one_overlay();
     sources_are_modules();
     runs_mean();
+    sources_show_nothing_else();
     stacks_begin();
     texts_tell_items();
     linked_modules_keep_rules();

@@ -22,6 +22,8 @@ mod parts;
 #[cfg(test)]
 mod runs;
 #[cfg(test)]
+mod secrets;
+#[cfg(test)]
 mod source_faults;
 #[cfg(test)]
 mod sources;

@@ -174,7 +174,13 @@ static CUT: Case<'static> = (
     None,
 );
 
-fn add_feed(alloc: Global, files: &mut MemFiles, name: &str, line: &str) -> Result<(), AllocError> {
+/// The text of a run becomes a file.
+pub(crate) fn add_feed(
+    alloc: Global,
+    files: &mut MemFiles,
+    name: &str,
+    line: &str,
+) -> Result<(), AllocError> {
     let told = run(alloc, line, files)?;
     files.add(name, told.text.as_bytes())
 }

@@ -71,7 +71,7 @@ static REFUSED: [&str; 29] = [
     "mean --feed one.txt",
     "mean --feed one.txt u:one.prc",
     "mean --feed one.txt t:one.asm",
-    // What isn't built yet.
+    // An option that the action doesn't take.
     "generate --steps 5 --seed 1",
 ];
 

@@ -8,7 +8,7 @@ use Rattle.lcm_cli.proofs.Audits.{audits}
 use Rattle.lcm_cli.proofs.DebugsMade.{debugs}
 use Rattle.lcm_cli.proofs.MeaningMade.{means}
 use Rattle.lcm_cli.proofs.SourcesMade.{sources_told}
-use Rattle.lcm_cli.proofs.RunsMade.{both, runs, traces, reaches, run_cut, trace_cut}
+use Rattle.lcm_cli.proofs.RunsMade.{all_of, runs, traces, reaches, run_cut, trace_cut}
 use Rattle.lcm_cli.proofs.top.stk_main.Goals as goal
 
 pub returns-clause-promised : goal.returns-clause-promised
@@ -16,23 +16,32 @@ returns-clause-promised g c = promised (asked_in (texts c.args.words.now.items))
     (rw c.as_slice.ensures.value at c.answer.ensures)
 
 pub returns-clause-ran : goal.returns-clause-ran
-returns-clause-ran g c = runs (both c.open_calls_are_kept.ensures.kept c.the_headline.ensures.holds)
+returns-clause-ran g c = runs
+    (all_of c.open_calls_are_kept.ensures.kept c.frames_are_secret.ensures.secret
+    c.the_headline.ensures.holds)
     c.runs_pass.ensures
     (asked_in (texts c.args.words.now.items)) (c.commands_fit.ensures (texts c.args.words.now.items)) _ _ _
     (rw c.as_slice.ensures.value at c.answer.ensures)
 
 pub returns-clause-traced : goal.returns-clause-traced
-returns-clause-traced g c = traces (both c.open_calls_are_kept.ensures.kept c.the_headline.ensures.holds)
+returns-clause-traced g c = traces
+    (all_of c.open_calls_are_kept.ensures.kept c.frames_are_secret.ensures.secret
+    c.the_headline.ensures.holds)
     c.a_start_has_one_overlay.ensures
     (asked_in (texts c.args.words.now.items)) _ _ _ (rw c.as_slice.ensures.value at c.answer.ensures)
 
 pub returns-clause-reached : goal.returns-clause-reached
-returns-clause-reached g c = reaches (both c.open_calls_are_kept.ensures.kept c.the_headline.ensures.holds)
+returns-clause-reached g c = reaches
+    (all_of c.open_calls_are_kept.ensures.kept c.frames_are_secret.ensures.secret
+    c.the_headline.ensures.holds)
     c.reports_bound_runs.ensures.bound
+    c.reports_bound_influence.ensures.influence
     (asked_in (texts c.args.words.now.items)) _ _ _ (rw c.as_slice.ensures.value at c.answer.ensures)
 
 pub returns-clause-debugged : goal.returns-clause-debugged
-returns-clause-debugged g c = debugs (both c.open_calls_are_kept.ensures.kept c.the_headline.ensures.holds)
+returns-clause-debugged g c = debugs
+    (all_of c.open_calls_are_kept.ensures.kept c.frames_are_secret.ensures.secret
+    c.the_headline.ensures.holds)
     c.commands_remember.ensures
     (asked_in (texts c.args.words.now.items)) _ _ _ (rw c.as_slice.ensures.value at c.answer.ensures)
 
@@ -41,12 +50,16 @@ returns-clause-audited g c = audits (asked_in (texts c.args.words.now.items)) _ 
     (rw c.as_slice.ensures.value at c.answer.ensures)
 
 pub returns-clause-run_cut : goal.returns-clause-run_cut
-returns-clause-run_cut g c = run_cut (both c.open_calls_are_kept.ensures.kept c.the_headline.ensures.holds)
+returns-clause-run_cut g c = run_cut
+    (all_of c.open_calls_are_kept.ensures.kept c.frames_are_secret.ensures.secret
+    c.the_headline.ensures.holds)
     (asked_in (texts c.args.words.now.items)) _ _ _ (rw c.as_slice.ensures.value at c.answer.ensures)
 
 pub returns-clause-trace_cut : goal.returns-clause-trace_cut
 returns-clause-trace_cut g c =
-    trace_cut (both c.open_calls_are_kept.ensures.kept c.the_headline.ensures.holds)
+    trace_cut
+    (all_of c.open_calls_are_kept.ensures.kept c.frames_are_secret.ensures.secret
+    c.the_headline.ensures.holds)
     (asked_in (texts c.args.words.now.items)) _ _ _ (rw c.as_slice.ensures.value at c.answer.ensures)
 
 pub returns-clause-usage : goal.returns-clause-usage
@@ -66,13 +79,17 @@ returns-clause-meant g c = means (asked_in (texts c.args.words.now.items)) _ _ _
     (rw c.as_slice.ensures.value at c.answer.ensures)
 
 pub returns-clause-generated : goal.returns-clause-generated
-returns-clause-generated g c = loads (both c.open_calls_are_kept.ensures.kept c.the_headline.ensures.holds)
+returns-clause-generated g c = loads
+    (all_of c.open_calls_are_kept.ensures.kept c.frames_are_secret.ensures.secret
+    c.the_headline.ensures.holds)
     (asked_in (texts c.args.words.now.items)) _ _ _ (rw c.as_slice.ensures.value at c.answer.ensures)
 
 pub returns-clause-sourced : goal.returns-clause-sourced
 returns-clause-sourced g c = sources_told
     (record {
-      starts = both c.open_calls_are_kept.ensures.kept c.the_headline.ensures.holds;
+      starts =
+          all_of c.open_calls_are_kept.ensures.kept c.frames_are_secret.ensures.secret
+          c.the_headline.ensures.holds;
       pass = c.runs_pass.ensures;
       sources = record {
         limits = c.sources_are_modules.ensures.limits;
@@ -80,6 +97,7 @@ returns-clause-sourced g c = sources_told
         compiled_from = c.sources_are_modules.ensures.compiled;
       };
       mean = c.runs_mean.ensures;
+      show = c.sources_show_nothing_else.ensures;
       begin = c.stacks_begin.ensures;
       tells = c.texts_tell_items.ensures.runs;
       keep = c.linked_modules_keep_rules.ensures;
