@@ -17,8 +17,8 @@ use Rattle.proc_semantics.specs.Values.{World, Store, target, if_there, first_of
 use Rattle.proc_semantics.specs.Rules.{Domain, Then, Level, with_place, result_of, with_number, enough}
 use Rattle.proc_semantics.specs.Rules.{body_of, begin}
 use Rattle.proc_semantics.specs.Rules.{proc_of, hopped, left_by, entered, by_item, level, finish}
-use Rattle.proc_semantics.specs.Marked.{Thing, Event, Leaves, Report, Whence, Frame, Regs, whences, numbered}
-use Rattle.proc_semantics.specs.Marked.{marked, refined, event_to}
+use Rattle.proc_semantics.specs.Marked.{Thing, Event, Leaves, Whence, Frame, Regs, whences, numbered}
+use Rattle.proc_semantics.specs.Marked.{marked}
 use Rattle.proc_semantics.specs.Marked as tagged
 
 abbrev pub M : Domain

@@ -11,7 +11,6 @@ use Rattle.overlay_machine.specs.Runs.{Reached, goes_on}
 use Rattle.overlay_machine.specs.Starting.{overlay_at, StartsBegin}
 use Rattle.template_runs.specs.Public.{IsFreeAt}
 use Rattle.template_runs.specs.Border.{IsTidied}
-use Rattle.source_laws.specs.Secrets.{Until}
 use Rattle.source_laws.specs.Secrets as secrets
 use Rattle.source_starts.specs.Sources.{AreSources, linked_at, SourcesLeaveNothing}
 use Rattle.context_laws.specs.Related.{RunsOutside, Calls, SameWord, CellPair}

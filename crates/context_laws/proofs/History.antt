@@ -21,7 +21,7 @@ use Rattle.overlay_machine.specs.Names.{NamesTold}
 use Rattle.trace_tool.specs.Views.{flat_view}
 use Rattle.source_events.specs.declared.Item.{Item}
 use Rattle.proc_semantics.specs.Marked.{Thing}
-use Rattle.source_laws.specs.Seen.{Back, thing_of, words_of, entry_of, nothing_back, no_words}
+use Rattle.source_laws.specs.Seen.{Back, thing_of, entry_of, nothing_back}
 use Rattle.source_laws.specs.Seen as seen
 use Rattle.source_laws.specs.Trace as lines
 use Rattle.source_laws.specs.Words.{words_at, back_at}

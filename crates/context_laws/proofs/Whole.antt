@@ -13,7 +13,7 @@ use Rattle.template_runs.proofs.Valid.{goes_same, halts_not, fails_not}
 use Rattle.source_laws.specs.Secrets.{Until, still_there, one_more}
 use Rattle.context_laws.specs.Related.{RunsOutside, SameNames, Calls, AreCalls, Alike, StepsAlike, both_halt}
 use Rattle.context_laws.specs.Related.{both_fail, both_stay, both_come, ComesAlike}
-use Rattle.context_laws.specs.Lockstep.{Round, IsRound, Path, SameCrossing, by_call, by_leave, SameWiped}
+use Rattle.context_laws.specs.Lockstep.{Round, IsRound, Path, SameCrossing, by_call, by_leave}
 use Rattle.context_laws.specs.Lockstep.{SameObserved, InStep, at_end, round, AreBelow, Holds, Tidies}
 use Rattle.context_laws.specs.Lockstep.{RunInStep}
 use Rattle.context_laws.specs.Lockstep as spec

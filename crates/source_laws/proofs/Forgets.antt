@@ -29,7 +29,7 @@ use Rattle.run_items.specs.Items.{event_told}
 use Rattle.proc_semantics.specs.Values as values
 use Rattle.proc_semantics.specs.Meaning as plain
 use Rattle.proc_semantics.specs.Marked as marked
-use Rattle.proc_semantics.specs.Marked.{Marks, Thing, Arg, Whence, CameWord, whences, numbered, plain_arg}
+use Rattle.proc_semantics.specs.Marked.{Marks, Thing, Whence, whences, numbered, plain_arg}
 use Rattle.proc_semantics.specs.Marked.{plain_event, plain_report, marked_meaning, thing_to, refined}
 use Rattle.proc_semantics.specs.Marked.{report_to}
 use Rattle.proc_semantics.proofs.Marked.{marked_forgets, marked_renames}
@@ -38,7 +38,7 @@ use Rattle.source_laws.specs.Trace as lines
 use Rattle.source_laws.specs.Trace.{Final, Running, Outside, HaltedWith, Failed, weighed}
 use Rattle.source_laws.specs.Good as good
 use Rattle.source_laws.specs.Seen as seen
-use Rattle.source_laws.specs.Seen.{Shown, Trace, shown_of, events_of, arg_shown, args_shown, call_shown}
+use Rattle.source_laws.specs.Seen.{Shown, Trace, shown_of, events_of, arg_shown, args_shown}
 use Rattle.source_laws.specs.Seen.{thing_of}
 use Rattle.source_laws.specs.Words.{Tells, none_yet, and_then, words_at, back_at, word_from, TellsSo}
 use Rattle.source_laws.specs.Words.{WordsTold, WhenceTold}

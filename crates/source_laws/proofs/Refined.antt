@@ -22,7 +22,7 @@ use Rattle.proc_semantics.specs.Told.{repeated}
 use Rattle.proc_semantics.specs.Rules as rules
 use Rattle.proc_semantics.specs.Rules.{Domain}
 use Rattle.proc_semantics.specs.Marked as marked
-use Rattle.proc_semantics.specs.Marked.{Marks, PairHalf, Calls}
+use Rattle.proc_semantics.specs.Marked.{Marks, PairHalf}
 use Rattle.proc_semantics.proofs.Kin.{Kin, proc_kept, item_kept, turn_kept, levels_kept, then_less, next_less}
 use Rattle.proc_semantics.proofs.Kin.{wait_less, RLevel, RWait}
 
