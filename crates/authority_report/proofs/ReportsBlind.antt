@@ -52,8 +52,14 @@ module _ (m t : State Word) (o : Owner) (g : Authority) (just : IsJust m o g) (d
 
     allows_same : (may : Perm → Bool) (a : ℕ) → Allows m o may a ↔ Allows t o may a
     allows_same may a = (
-      λ x. record { cap = x.cap; reached = there _ x.reached; allowed = x.allowed; low = x.low; high =
-          x.high },
+      λ x. record {
+        cap = x.cap;
+        reached = there _ x.reached;
+        allowed = x.allowed;
+        low = x.low;
+        high =
+            x.high;
+      },
       λ x. record {
         cap = x.cap;
         reached = back_again _ x.reached;
