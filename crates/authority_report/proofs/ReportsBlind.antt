@@ -57,8 +57,7 @@ module _ (m t : State Word) (o : Owner) (g : Authority) (just : IsJust m o g) (d
         reached = there _ x.reached;
         allowed = x.allowed;
         low = x.low;
-        high =
-            x.high;
+        high = x.high;
       },
       λ x. record {
         cap = x.cap;
