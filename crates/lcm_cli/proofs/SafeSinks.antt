@@ -1,6 +1,6 @@
 -- A sink of reserved memory that has room for a text takes all of it.
-use Rattle.std.proofs.Common.{◌≡◌, ◌≢◌, ℕ, ◌+◌, ◌<◌, ◌≤◌, List, [], length, Option, Some, None}
-use Rattle.std.proofs.Common.{refl, sym, ap, ◌∙◌, arith}
+use Rattle.std.proofs.Common.{◌≡◌, ◌≢◌, ℕ, ◌+◌, ◌≤◌, List, [], length, Option, Some, None}
+use Rattle.std.proofs.Common.{refl, sym, ap, subst, ◌∙◌, arith}
 use Rattle.outside_io.specs.FilesSeen.{FilesSeen}
 use Rattle.outside_io.specs.SinkSeen.{FailsToWrite}
 use Rattle.outside_io.specs.SafeSink.{SafeBytes, seen_of_safe_sink}
@@ -11,18 +11,19 @@ use Rattle.command_words.specs.declared.command.Command.{Command}
 use Rattle.command_words.specs.declared.command.Command.TheVariants.{Links}
 use Rattle.lcm_machine.specs.Run.{answer as last_step, plain}
 use Rattle.lcm_cli.specs.declared.status.Status.TheVariants as status
+use Rattle.file_plans.specs.Plans.{Comes}
 use Rattle.lcm_cli.specs.Commands.{plan_in}
 use Rattle.lcm_cli.specs.Answers.{Answer, outside}
 use Rattle.lcm_cli.specs.SafeRuns.{SafeSinksHoldRuns}
 use Rattle.lcm_cli.proofs.RunsMade.{cut_of, DeedDue, told, made, asked_due, no_cut, never_cut, run_never}
 
 -- the text of which a write failed fills the room
-full_by : (room : ℕ) (first last : SafeBytes room) (text : List ℕ) → first.taken.bytes ≡ []
-    → FailsToWrite (seen_of_safe_sink first) text (seen_of_safe_sink last) → length text < room → ⊥
-full_by room first last text e f short =
+filled : (room : ℕ) (first last : SafeBytes room) (text : List ℕ) → first.taken.bytes ≡ []
+    → FailsToWrite (seen_of_safe_sink first) text (seen_of_safe_sink last) → room ≤ length text
+filled room first last text e f =
     let fills : room ≤ length first.taken.bytes + length text = failed_text_fills first last text f in
     let none : length first.taken.bytes ≡ 0 = ap length e in
-    omega (arith, fills, none, short)
+    omega (arith, fills, none)
 
 -- the answer to a run has no file, and another status
 plainly : (l : Linked) (steps : ℕ) (old seen : FilesSeen) (a : Answer)
@@ -38,12 +39,18 @@ plainly l steps old seen a (made i c x) = (
 )
 
 pub safe_sinks_hold : SafeSinksHoldRuns
-safe_sinks_hold room first last e l steps files seen kept left ended answers short w =
+safe_sinks_hold room first last e l steps files seen kept left answers =
     let deed = link_deed.Run steps in
     let asked : Option Command = Some (Links l deed) in
-    let k = cut_of (plan_in asked) (outside files (seen_of_safe_sink first) kept) ended
-    (outside seen (seen_of_safe_sink last) left) answers w in
+    let k = cut_of (plan_in asked) (outside files (seen_of_safe_sink first) kept) status.WriteFault
+    (outside seen (seen_of_safe_sink last) left) answers refl in
     let p = plainly l steps files k.seen k.gives
     (asked_due asked l deed refl files k.seen k.due k.gives k.came k.is) in
-    full_by room first last k.gives.text e (k.fails p.0 p.1).1
-    (short k.due k.seen k.gives k.came k.is)
+    let f = k.fails p.0 p.1 in
+    record {
+      due = k.due;
+      came = subst (λ z. Comes (plan_in asked) files k.due z) (sym f.0) k.came;
+      gives = k.gives;
+      is = k.is;
+      fills = filled room first last k.gives.text e f.1;
+    }

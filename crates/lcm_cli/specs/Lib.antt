@@ -11,3 +11,4 @@ pub mod Causes
 pub mod SourceRuns
 pub mod Erasures
 pub mod SafeRuns
+pub mod Pieces

@@ -58,8 +58,9 @@ pub fn tokens_are_gone()
     printed_modules_are_sources();
 }
 
-/// Over an empty [`SafeSink`](outside_io::SafeSink) that has room for a byte more at least than the text that
-/// is due, no `run` ends with WriteFault: a write of it fails only where it leaves the sink full.
+/// Over an empty [`SafeSink`](outside_io::SafeSink) a `run` ends with WriteFault only where the text that is
+/// due has as many bytes as the sink has room for, or more. So where there is room for a byte more than that
+/// text, whatever the files hold and whether they tell it, `run` never does.
 pub fn safe_sinks_hold_runs()
     ensures { SafeSinksHoldRuns }
 {}

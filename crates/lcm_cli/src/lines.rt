@@ -3,6 +3,8 @@ ghost use Rattle.std.specs.Prelude.{◌≡◌, ◌+◌, ◌<◌, length, min, On
 ghost use Rattle.std.specs.List.{position_or_len};
 ghost use Rattle.text_scan.specs.Bytes.{is_newline};
 ghost use Rattle.outside_io.specs.SinkSeen.{Adds, FailsToWrite};
+ghost use Rattle.outside_io.specs.Writes.{Writes};
+ghost use Rattle.lcm_cli.specs.Pieces.{cut_lines};
 
 use outside_io::{Failed, Sink};
 
@@ -25,10 +27,11 @@ fn piece_len(text: &[u8]) -> usize
     }
 }
 
-/// Writes a text, one piece a line.
+/// Writes a text, one write a line, each with its newline.
 pub(crate) fn write_lines<S: Sink>(out: &mut S, text: &[u8]) -> Result<(), Failed>
     ensures ok { OnOk result (Adds (S.seen out.old) text.now (S.seen out.new)) }
     ensures err { OnErr result (FailsToWrite (S.seen out.old) text.now (S.seen out.new)) }
+    ensures pieces { Writes (S.seen out.old) (cut_lines text.now) result (S.seen out.new) }
 {
     let mut rest = text;
     while !rest.is_empty() {

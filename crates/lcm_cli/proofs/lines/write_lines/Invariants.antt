@@ -1,4 +1,4 @@
--- What the rest of the text adds is what the whole text adds; it gets shorter.
+-- The lines in front of the rest were written; it gets shorter.
 use Rattle.std.proofs.Common.{length}
 use Rattle.lcm_cli.proofs.Sinks.{Behind}
 use Rattle.lcm_cli.proofs.lines.write_lines.Given as goal
