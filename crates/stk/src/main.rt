@@ -1,33 +1,65 @@
 //! The program `stk`: the top call over the files and the standard output of the system.
 #![tactic(auto)]
 
+ghost use Rattle.std.specs.Prelude.{◌≡◌, ◌⊎◌, [], drop, IfOk, OnErr};
+ghost use Rattle.std.specs.Vec.Iter.{into_iter_items};
+ghost use Rattle.command_words.specs.Texts.{texts};
+ghost use Rattle.stk.specs.Handed.{IsAnswered, IsUncalled};
+
 use lcm_cli::{Status, stk_main};
-use outside_io::{HostFiles, HostSink};
+use outside_io::{Files, HostFiles, HostSink, Sink};
+use std::alloc::{AllocError, Global};
+use std::env::Args;
 use std::process::ExitCode;
-use std::rt::Env;
 use std::{env, io};
 
-// The words after the program's own name.
-fn words_after_name(rt: &(impl Env + AllocGlobal)) -> io::Result<Vec<String>> {
-    let mut words = Vec::new(rt.alloc());
-    for word in env::args(rt)?.skip(1) {
-        words.push(word)?;
+// The words behind the first, which is the program's own name.
+fn words_behind(alloc: Global, args: Args) -> Result<Vec<String>, AllocError>
+    ensures { IfOk result (λ words. words.items ≡ drop 1 (into_iter_items args)) }
+{
+    args.skip(1).collect(alloc)
+}
+
+// The number of the top call's answer to these words.
+fn answered<F: Files, S: Sink>(alloc: Global, words: &Vec<String>, files: &mut F, out: &mut S) -> u8
+    ensures { IsAnswered (texts words.now.items) (F.seen files.old) (S.seen out.old)
+        result (F.seen files.new) (S.seen out.new) }
+{
+    let mut kept = None;
+    stk_main(alloc, words, files, out, &mut kept).number()
+}
+
+// The status of the process, whose arguments are these: the number of the top call's answer to the words behind
+// the first. A word that is no text makes the command line no command, as no words do.
+fn status<F: Files, S: Sink>(
+    alloc: Global,
+    args: io::Result<Args>,
+    files: &mut F,
+    out: &mut S,
+) -> u8
+    ensures words { IfOk args (λ a.
+        IsAnswered (texts (drop 1 (into_iter_items a))) (F.seen files.old) (S.seen out.old)
+        result (F.seen files.new) (S.seen out.new)
+        ⊎ IsUncalled (F.seen files.old) (S.seen out.old) result (F.seen files.new) (S.seen out.new)) }
+    ensures none { OnErr args
+        (IsAnswered [] (F.seen files.old) (S.seen out.old) result (F.seen files.new) (S.seen out.new)
+        ⊎ IsUncalled (F.seen files.old) (S.seen out.old) result (F.seen files.new) (S.seen out.new)) }
+{
+    match args {
+        Ok(args) => match words_behind(alloc, args) {
+            Ok(words) => answered(alloc, &words, files, out),
+            Err(_) => Status::NoMemory.number(),
+        },
+        Err(error) if error.kind() == io::ErrorKind::OutOfMemory => Status::NoMemory.number(),
+        Err(_) => {
+            let words = Vec::new(alloc);
+            answered(alloc, &words, files, out)
+        }
     }
-    Ok(words)
 }
 
 fn main(rt: HostRuntime) -> ExitCode {
-    let words = match words_after_name(&rt) {
-        Ok(words) => words,
-        Err(error) if error.kind() == io::ErrorKind::OutOfMemory => {
-            return ExitCode::from(Status::NoMemory.number());
-        }
-        // A word that is no text makes the command line no command, as no words do.
-        Err(_) => Vec::new(rt.alloc()),
-    };
     let mut files = HostFiles::new(&rt);
     let mut out = HostSink::new(&rt);
-    let mut kept = None;
-    let status = stk_main(rt.alloc(), &words, &mut files, &mut out, &mut kept);
-    ExitCode::from(status.number())
+    ExitCode::from(status(rt.alloc(), env::args(&rt), &mut files, &mut out))
 }
