@@ -1,7 +1,7 @@
 //! Calls of the program, and the files that they read.
 use lcm_cli::{Status, stk_main};
 use lcm_machine::LcmState;
-use outside_io::{MemFiles, MemSink};
+use outside_io::{MemFiles, MemSink, SafeSink};
 use std::alloc::{AllocError, Global};
 use std::process::Abort;
 
@@ -66,6 +66,18 @@ pub(crate) fn status_with(
 ) -> Result<Status, AllocError> {
     let words = words_of(alloc, line)?;
     status_of(alloc, &words, files, kept)
+}
+
+/// The status of the call with the words of a line, over an empty sink of so many reserved bytes.
+pub(crate) fn status_over<const ROOM: usize>(
+    alloc: Global,
+    line: &str,
+    files: &mut MemFiles,
+) -> Result<Status, AllocError> {
+    let words = words_of(alloc, line)?;
+    let mut out = SafeSink::<ROOM>::reserve(alloc)?;
+    let mut kept: Option<LcmState> = None;
+    Ok(stk_main(alloc, &words, files, &mut out, &mut kept))
 }
 
 /// Calls the program with the words of a line, which are parted by blanks.

@@ -1,5 +1,5 @@
 //! Faults outside.
-use crate::call::{Case, files, is_told, is_told_unwritten};
+use crate::call::{Case, files, is_told, is_told_unwritten, status_over};
 use crate::sources;
 use lcm_cli::Status;
 use outside_io::MemFiles;
@@ -76,5 +76,18 @@ fn a_write_that_fails_keeps_no_machine(rt: HostRuntime) -> Result<(), Fail> {
     // The line is one piece: a second write never comes.
     let case = ("run u:one.asm", Status::Done, "halted 0 steps 1\n", Some(1));
     is_told_unwritten(&rt, rt.alloc(), &mut files, 2, case)?;
+    Ok(())
+}
+
+// Of a text of ten bytes, `asm 0 7 0` and a newline, over sinks with room for a byte more and for a byte less.
+#[test]
+fn a_reserved_sink_takes_a_text_that_fits(rt: HostRuntime) -> Result<(), Fail> {
+    let mut files = MemFiles::new(rt.alloc())?;
+    files.add("e.asm", b"")?;
+    let statuses = (
+        status_over::<11>(rt.alloc(), "run u:e.asm", &mut files)?,
+        status_over::<9>(rt.alloc(), "run u:e.asm", &mut files)?,
+    );
+    assert_eq!(rt; statuses, (Status::AsmRefused, Status::WriteFault));
     Ok(())
 }
