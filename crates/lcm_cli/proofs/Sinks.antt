@@ -1,5 +1,6 @@
 -- A text that is written line after line.
-use Rattle.std.proofs.Common.{◌≡◌, ℕ, suc, ◌+◌, ◌<◌, Bool, true, false, List, [], ◌∷◌, ◌++◌, length, min, take, drop}
+use Rattle.std.proofs.Common.{◌≡◌, ℕ, suc, ◌+◌, ◌<◌, Bool, true, false, List, [], ◌∷◌, ◌++◌, length, min}
+use Rattle.std.proofs.Common.{take, drop}
 use Rattle.std.proofs.Common.{Ok, Err, refl, sym, ap, ◌∙◌, subst, arith, append-nil, append_assoc}
 use Rattle.std.specs.Prelude.{Result}
 use Rattle.std.specs.List.{position_or_len, concat}
@@ -7,7 +8,8 @@ use Rattle.text_scan.specs.Bytes.{is_newline}
 use Rattle.outside_io.specs.declared.outside.Failed.{Failed}
 use Rattle.outside_io.specs.SinkSeen.{SinkSeen, Adds, FailsToWrite, IsOneWrite}
 use Rattle.outside_io.specs.Writes.{AddsPieces, FailsAtPiece}
-use Rattle.outside_io.proofs.Writing.{pieces_none, pieces_then, pieces_fail, fail_more, one_write, text_failed}
+use Rattle.outside_io.proofs.Writing.{pieces_none, pieces_then, pieces_fail, fail_more, one_write}
+use Rattle.outside_io.proofs.Writing.{text_failed}
 use Rattle.lcm_cli.specs.Pieces.{before_first, cut_lines}
 
 -- ---- the first line of a text
@@ -59,7 +61,8 @@ cut_is (b ∷ bs) = by_byte (cut_is bs) (is_newline b) refl
     joined [] = refl
     joined (l ∷ ls) = refl
 
-    by_byte : concat (cut_lines bs) ≡ bs → (n : Bool) → is_newline b ≡ n → concat (cut_lines (b ∷ bs)) ≡ b ∷ bs
+    by_byte : concat (cut_lines bs) ≡ bs → (n : Bool) → is_newline b ≡ n → concat (cut_lines (b ∷ bs)) ≡ b
+        ∷ bs
     by_byte h true e = rw e (ap (λ t. b ∷ t) h)
     by_byte h false e = rw e (joined (cut_lines bs) ∙ ap (λ t. b ∷ t) h)
 
@@ -82,7 +85,8 @@ no_line : (now mid : SinkSeen) (line : List ℕ) (e : Failed) → FailsToWrite n
     → FailsAtPiece now (line ∷ []) mid
 no_line now mid line e h one = one_write now mid line (let r : Result (Unit {0}) Failed = Err e in r) tt h one
 
-pub behind_line : (old now mid : SinkSeen) (text rest line more : List ℕ) → cut_lines rest ≡ line ∷ cut_lines more
+pub behind_line : (old now mid : SinkSeen) (text rest line more : List ℕ) → cut_lines rest ≡ line
+    ∷ cut_lines more
     → Behind old text now rest → Adds now line mid → IsOneWrite now mid → Behind old text mid more
 behind_line old now mid text rest line more first b h one = record {
   done = b.done ++ line ∷ [];

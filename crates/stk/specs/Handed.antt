@@ -16,7 +16,8 @@ pub record IsAnswered (words : List (List ℕ)) (files : FilesSeen) (sink : Sink
   pub status : Status
   pub number_is : number ≡ status_number status
   pub kept : Option Machine
-  pub promised : Promised (asked_in words) (outside files sink None) status (outside files_then sink_then kept)
+  pub promised : Promised (asked_in words) (outside files sink None) status
+      (outside files_then sink_then kept)
 
 -- memory was refused before the call, and nothing was read, put or written
 pub record IsUncalled (files : FilesSeen) (sink : SinkSeen) (number : ℕ)

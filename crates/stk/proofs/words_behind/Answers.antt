@@ -17,5 +17,5 @@ returns c =
     let skipped : YieldsList into_iter_steps (λ y. y) (skip_source c.skip.result) items =
     rw c.skip.ensures.source whole in
     the_first (λ v. v.items ≡ drop 1 items) (λ v. vec_len v ≡ length (drop 1 items)) c.collect.result
-    (fact_from_collect (λ xs v. (v.items ≡ xs) × (vec_len v ≡ length xs)) c.collect.result c.collect.ensures.ran
-    (YieldsList-from_skip 1 skipped c.skip.ensures.count))
+    (fact_from_collect (λ xs v. (v.items ≡ xs) × (vec_len v ≡ length xs)) c.collect.result
+    c.collect.ensures.ran (YieldsList-from_skip 1 skipped c.skip.ensures.count))
