@@ -22,21 +22,21 @@ use Rattle.command_words.specs.declared.command.Command.TheVariants.{Debug, Audi
 use Rattle.command_words.specs.declared.action.Action.{Action}
 use Rattle.command_words.specs.declared.action.Action.TheVariants as action
 
+-- the first words
+abbrev pub actions : List (Text × Action)
+actions =
+    (codes "run", action.Run) ∷ (codes "trace", action.Trace) ∷ (codes "asm", action.Assemble)
+    ∷ (codes "compile", action.Compile) ∷ (codes "dis", action.Disassemble) ∷ (codes "check", action.Check)
+    ∷ (codes "link", action.Link) ∷ (codes "mean", action.Mean) ∷ (codes "generate", action.Generate)
+    ∷ (codes "reach", action.Reach) ∷ (codes "debug", action.Debug) ∷ (codes "audit", action.Audit)
+    ∷ (codes "erase", action.Erase) ∷ []
+
+abbrev pub first_named : Text → List (Text × Action) → Option Action
+first_named word [] = None
+first_named word ((name, a) ∷ others) = if bytes_eq word name then Some a else first_named word others
+
 unfoldable pub action_in : Text → Option Action
-action_in word =
-    if bytes_eq word (codes "run") then Some action.Run
-    else (if bytes_eq word (codes "trace") then Some action.Trace
-    else (if bytes_eq word (codes "asm") then Some action.Assemble
-    else (if bytes_eq word (codes "compile") then Some action.Compile
-    else (if bytes_eq word (codes "dis") then Some action.Disassemble
-    else (if bytes_eq word (codes "check") then Some action.Check
-    else (if bytes_eq word (codes "link") then Some action.Link
-    else (if bytes_eq word (codes "mean") then Some action.Mean
-    else (if bytes_eq word (codes "generate") then Some action.Generate
-    else (if bytes_eq word (codes "reach") then Some action.Reach
-    else (if bytes_eq word (codes "debug") then Some action.Debug
-    else (if bytes_eq word (codes "audit") then Some action.Audit
-    else (if bytes_eq word (codes "erase") then Some action.Erase else None))))))))))))
+action_in word = first_named word actions
 
 -- one of these options is used
 abbrev pub any_used : List (Option Text) → Bool

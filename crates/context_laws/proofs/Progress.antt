@@ -147,11 +147,11 @@ module _ (l : Layout) where
       let k = shows_of s es is p t in (
         _,
         _,
-        subst (λ z. Shows l s (k.0 + weight_of l p) (k.1 + weighed l (is_inside l p) (weight_of l p)) z
+        subst (λ z. Shows l s (k.0 + weight_of l p) (k.1 + weighed (is_inside l p) (weight_of l p)) z
             (map (λ x. x.item) (is ++ seen.items_of l q (step_event l p q))) q)
             (ap (λ z. map (λ x. x.line) es ++ z) (sym (outs_line l q (step_event l p q)))
             ∙ sym (map-both (λ x. x.line) es (seen.outs_of l q (step_event l p q))))
-            (subst (λ z. Shows l s (k.0 + weight_of l p) (k.1 + weighed l (is_inside l p) (weight_of l p))
+            (subst (λ z. Shows l s (k.0 + weight_of l p) (k.1 + weighed (is_inside l p) (weight_of l p))
             (map (λ x. x.line) es ++ lines.outs_of l (flat_view l q) (step_event l p q)) z q)
             (ap (λ z. map (λ x. x.item) is ++ z)
             (sym (things_item l q (lines.items_of l (flat_view l q) (step_event l p q))))
@@ -229,15 +229,15 @@ module _ (l : Layout) where
       let k = far_shows s es is p q n j w f t in
       let iq = until_inside p q (far_until p q n f) in
       let c = lines_calm m (step_event l q m) (inside_calm q m iq i) in
-      let up : weighed l (is_inside l q) (weight_of l q) ≡ weight_of l q =
-      ap (λ b. weighed l b (weight_of l q)) iq in
+      let up : weighed (is_inside l q) (weight_of l q) ≡ weight_of l q =
+      ap (λ b. weighed b (weight_of l q)) iq in
       let one = weighs q in
       let far = k.3 in (
         _,
         _,
-        subst (λ z. Shows l s (k.0 + weight_of l q) (k.1 + weighed l (is_inside l q) (weight_of l q)) z is m)
+        subst (λ z. Shows l s (k.0 + weight_of l q) (k.1 + weighed (is_inside l q) (weight_of l q)) z is m)
             (ap (λ z. es ++ z) c.0 ∙ append-nil es)
-            (subst (λ z. Shows l s (k.0 + weight_of l q) (k.1 + weighed l (is_inside l q) (weight_of l q))
+            (subst (λ z. Shows l s (k.0 + weight_of l q) (k.1 + weighed (is_inside l q) (weight_of l q))
             (es ++ lines.outs_of l (flat_view l m) (step_event l q m)) z m)
             (ap (λ z. is ++ z) c.1 ∙ append-nil is) (sources.and_then k.2 e)),
         omega (arith, up, one, far),

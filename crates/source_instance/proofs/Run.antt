@@ -104,7 +104,7 @@ tells {j} {n} {ls} {more} {es} {going} {is} {coming} {p} {q} {v} r m t = record 
 }
   where
     next_weight : ℕ
-    next_weight = r.weight + weighed L (is_inside L p) (weight_of L p)
+    next_weight = r.weight + weighed (is_inside L p) (weight_of L p)
 
 no_event : {q : OState} → Tells q None [] [] []
 no_event = record { lines = refl; outs = refl; items = refl }

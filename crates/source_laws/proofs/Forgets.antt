@@ -137,7 +137,7 @@ module _ (l : Layout) where
       by below (goes q) =
           let es = seen.outs_of l q (step_event l o q) in
           let is = seen.items_of l q (step_event l o q) in
-          let n = weighed l (is_inside l o) (weight_of l o) in
+          let n = weighed (is_inside l o) (weight_of l o) in
           shown_line es is n (seen.trace l k q)
           ∙ ap (λ z. lines.shown (map line_of es) (map item_of is) n z) (below q)
           ∙ ap (λ z. lines.shown z (map item_of is) n (lines.trace l k q)) (outs_line q (step_event l o q))
@@ -225,7 +225,7 @@ shown_shown es fs is ks n m t =
 module _ (l : Layout) where
   pub trace_step : (k : ℕ) (p q : OState) → overlay_step l p ≡ goes q
       → seen.trace l (suc k) p ≡ seen.shown (seen.outs_of l q (step_event l p q))
-      (seen.items_of l q (step_event l p q)) (weighed l (is_inside l p) (weight_of l p)) (seen.trace l k q)
+      (seen.items_of l q (step_event l p q)) (weighed (is_inside l p) (weight_of l p)) (seen.trace l k q)
   unfolding seen.trace
   trace_step k p q e = ap (λ x. seen.show l p x (seen.trace l k)) e
 
@@ -248,12 +248,12 @@ module _ (l : Layout) where
   tells_trace o _ _ q (and_then {es = es} {is = is} {p = p} s e) =
       let r = tells_trace o es is p s in (
         r.0 + 1,
-        r.1 + weighed l (is_inside l p) (weight_of l p),
+        r.1 + weighed (is_inside l p) (weight_of l p),
         λ k. (
             let a : r.0 + 1 + k ≡ r.0 + suc k = omega arith in
             ap (λ x. seen.trace l x o) a ∙ r.2 (suc k) ∙ ap (seen.shown es is r.1) (trace_step k p q e)
             ∙ shown_shown es (seen.outs_of l q (step_event l p q)) is
-            (seen.items_of l q (step_event l p q)) r.1 (weighed l (is_inside l p) (weight_of l p))
+            (seen.items_of l q (step_event l p q)) r.1 (weighed (is_inside l p) (weight_of l p))
             (seen.trace l k q)
             ),
       )

@@ -40,7 +40,7 @@ shown_shown es fs is ks n m t =
 module _ (l : Layout) where
   trace_step : (k : ℕ) (p q : OState) → overlay_step l p ≡ goes q
       → trace l (suc k) p ≡ shown (outs_of l (flat_view l q) (step_event l p q))
-      (items_of l (flat_view l q) (step_event l p q)) (weighed l (is_inside l p) (weight_of l p))
+      (items_of l (flat_view l q) (step_event l p q)) (weighed (is_inside l p) (weight_of l p))
       (trace l k q)
   unfolding trace
   trace_step k p q e = ap (λ x. show l p x (trace l k)) e
@@ -66,7 +66,7 @@ module _ (l : Layout) where
             let a : r.0 + 1 + k ≡ r.0 + suc k = omega arith in
             ap (λ x. trace l x o) a ∙ r.1 (suc k) ∙ ap (shown es is n) (trace_step k p q e)
             ∙ shown_shown es (outs_of l (flat_view l q) (step_event l p q)) is
-            (items_of l (flat_view l q) (step_event l p q)) n (weighed l (is_inside l p) (weight_of l p))
+            (items_of l (flat_view l q) (step_event l p q)) n (weighed (is_inside l p) (weight_of l p))
             (trace l k q)
             ),
       )

@@ -124,9 +124,9 @@ module _ (g : Link) where
   trace_goes k n e o q m =
       ap (λ x. show l o x (trace l k)) m.goes_on
       ∙ ap (λ x. shown (outs_of l q x) (items_of l q x)
-      (weighed l (is_inside l o) (weight_of l o)) (trace l k q)) m.event
+      (weighed (is_inside l o) (weight_of l o)) (trace l k q)) m.event
       ∙ ap (λ b. shown (outs_of l q e) (items_of l q e)
-      (weighed l b (weight_of l o))
+      (weighed b (weight_of l o))
       (trace l k q)) m.inside
       ∙ ap (λ w. shown (outs_of l q e) (items_of l q e) w (trace l k q)) m.weight
 

@@ -114,7 +114,7 @@ module _ (g : Link) (linked : Linked g) where
             outside_more k (goes q) i
             ∙ ap (λ b. shown (outs_of g.layout q (step_event g.layout o q))
             (items_of g.layout q (step_event g.layout o q))
-            (weighed g.layout b (weight_of g.layout o)) (trace g.layout k q)) (outside_here g linked o h)
+            (weighed b (weight_of g.layout o)) (trace g.layout k q)) (outside_here g linked o h)
             ∙ ap (λ x. shown (outs_of g.layout q x)
             (items_of g.layout q x) 0 (trace g.layout k q)) ev
 

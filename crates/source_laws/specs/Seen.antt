@@ -186,7 +186,7 @@ module _ (l : Layout) where
   abbrev pub show : OState → Ending → (OState → Trace) → Trace
   show o (goes q) rest =
       shown (outs_of l q (step_event l o q)) (items_of l q (step_event l o q))
-      (weighed l (is_inside l o) (weight_of l o)) (rest q)
+      (weighed (is_inside l o) (weight_of l o)) (rest q)
   show o halts rest = ended (is_inside l o) (weight_of l o) (HaltedWith ((flat_view l o).reg A0))
   show o fails rest = ended (is_inside l o) (weight_of l o) Failed
 

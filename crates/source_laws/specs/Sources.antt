@@ -27,7 +27,7 @@ pub data Shows (l : Layout) (o : OState) : ℕ → ℕ → List OutEvent → Lis
   none_yet : Shows l o 0 0 [] [] o
   and_then : {j n : ℕ} {es : List OutEvent} {is : List Item} {p q : OState} → Shows l o j n es is p
       → overlay_step l p ≡ goes q
-      → Shows l o (j + weight_of l p) (n + weighed l (is_inside l p) (weight_of l p))
+      → Shows l o (j + weight_of l p) (n + weighed (is_inside l p) (weight_of l p))
       (es ++ outs_of l (flat_view l q) (step_event l p q))
       (is ++ items_of l (flat_view l q) (step_event l p q)) q
 

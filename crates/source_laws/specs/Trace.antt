@@ -32,6 +32,7 @@ use Rattle.source_events.specs.declared.OutArg.TheVariants.{Int, Half}
 use Rattle.source_events.specs.declared.OutEvent.TheVariants.{CallOut}
 use Rattle.run_items.specs.Items.{event_told}
 use Rattle.template_runs.specs.Runs.{is_inside}
+pub use Rattle.trace_tool.specs.Cuts.{weighed}
 
 abbrev pub out_arg : Option ℤ → OutArg
 out_arg (Some z) = Int z
@@ -112,10 +113,6 @@ module _ (l : Layout) where
   abbrev pub ended : Bool → ℕ → Final → Trace
   ended true n f = rests n f
   ended false n f = rests 0 Outside
-
-  abbrev pub weighed : Bool → ℕ → ℕ
-  weighed true n = n
-  weighed false n = 0
 
   abbrev pub show : OState → Ending → (OState → Trace) → Trace
   show o (goes q) rest =

@@ -22,9 +22,12 @@ use Rattle.trace_tool.specs.Views.{View, flat_view}
 use Rattle.trace_tool.specs.Lines.{Line, args_of, return_of, passed_of, pass_line, lines_for}
 use Rattle.trace_tool.specs.StepLines.{no_step, and_step, StepsTellSo}
 use Rattle.trace_tool.specs.Told.{Told, none_yet, and_then, step_lines}
+use Rattle.trace_tool.specs.Cuts.{Leads, first_point}
+use Rattle.trace_tool.specs.Cuts as cuts
 use Rattle.trace_tool.specs.Feed as line
 use Rattle.trace_tool.specs.Feed.{integer_in, OutsJoin, ItemsJoin, EntriesAreItems}
 use Rattle.run_items.specs.Items.{arg_told, item_of, pair_of, back_of}
+use Rattle.source_events.specs.declared.Item.{Item}
 use Rattle.source_events.specs.declared.Item.TheVariants.{Enter}
 use Rattle.template_runs.specs.Runs.{is_inside}
 use Rattle.source_laws.specs.Trace.{out_arg, out_args, feed_back, feed_pair, outs_of, items_of, weighed}
@@ -109,10 +112,17 @@ module _ (l : Layout) (o : OState) (join : OutsJoin) (items_join : ItemsJoin) (e
       (line.items_of l.stack.base (step_lines l p q))
       ∙ ap (λ xs. map item_of (line.items_of l.stack.base ls) ++ xs)
       (items_same l (flat_view l q) entries (step_event l p q)) in (
-        h.0 + weighed l (is_inside l p) (weight_of l p),
-        subst (λ xs. Shows l o (j + weight_of l p) (h.0 + weighed l (is_inside l p) (weight_of l p)) xs
+        h.0 + weighed (is_inside l p) (weight_of l p),
+        subst (λ xs. Shows l o (j + weight_of l p) (h.0 + weighed (is_inside l p) (weight_of l p)) xs
             (map item_of (line.items_of l.stack.base (ls ++ step_lines l p q))) q) (sym outs)
-            (subst (λ ys. Shows l o (j + weight_of l p) (h.0 + weighed l (is_inside l p) (weight_of l p))
+            (subst (λ ys. Shows l o (j + weight_of l p) (h.0 + weighed (is_inside l p) (weight_of l p))
             (line.outs_of ls ++ outs_of l (flat_view l q) (step_event l p q)) ys q) (sym items)
             (runs.and_then h.1 e)),
       )
+
+-- steps that show something lead to where they come to
+pub shows_lead : (l : Layout) (o : OState) (j n : ℕ) (es : List line.OutEvent) (is : List Item) (p : OState)
+    → Shows l o j n es is p → Leads l (first_point o) (record { at = j; trusted = n; overlay = p })
+shows_lead l o _ _ _ _ _ runs.none_yet = cuts.no_step
+shows_lead l o _ _ _ _ q (runs.and_then {j = j} {n = n} {es = es} {is = is} {p = p} h e) =
+    cuts.and_step (shows_lead l o j n es is p h) e

@@ -1,6 +1,6 @@
 -- What the plain run says of the step at the greatest matched point.
 use Rattle.std.proofs.Common.{◌≡◌, ℕ, ◌+◌, ◌≤◌, ℤ, Bool, false, List, inl, inr, Option, Some, None, refl, sym}
-use Rattle.std.proofs.Common.{ap, ◌∙◌, arith}
+use Rattle.std.proofs.Common.{ap, ◌∙◌, arith, subst}
 use Rattle.std.proofs.lemmas.Bool.{cases_lt}
 use Rattle.cap_words.specs.Face.{face_of}
 use Rattle.cap_words.specs.declared.Word.{Word}
@@ -30,6 +30,7 @@ use Rattle.overlay_machine.specs.Runs.{goes_on}
 use Rattle.trace_tool.specs.Layout.{layout, is_trusted}
 use Rattle.trace_tool.specs.Views.{flat_view}
 use Rattle.trace_tool.specs.Told.{StopsAt}
+use Rattle.trace_tool.specs.Cuts.{StopsAreCuts}
 use Rattle.trace_tool.specs.Headline.{Matched, Agrees, PlainEnds, OverlayHalts, OverlayFails}
 use Rattle.template_runs.specs.Runs.{is_inside}
 use Rattle.source_starts.specs.RunMeans.{runs_trusted}
@@ -73,8 +74,8 @@ end_by (Some (end.Failed c k)) s end.Halted a b = absurd (let z : Failed c k ≡
 end_by (Some (end.Failed c k)) s (end.Failed cause at) a b =
     let z : Failed c k ≡ Failed cause at = a ∙ b in cc
 
-module _ (s : StartSeen) (agree : Agrees s) (steps j : ℕ) (p : OState) (at : Matched s j p)
-    (stop : StopsAt (layout s) steps j p) where
+module _ (stops : StopsAreCuts) (s : StartSeen) (agree : Agrees s) (steps j : ℕ) (p : OState)
+    (at : Matched s j p) (stop : StopsAt (layout s) steps j p) where
   -- where the plain run has gone on, it hasn't ended before
   not_yet : (n : ℕ) (x : End) → steps ≤ n → (plain n s.state).end ≡ None
       → (plain steps s.state).end ≡ Some x → ⊥
@@ -110,14 +111,17 @@ module _ (s : StartSeen) (agree : Agrees s) (steps j : ℕ) (p : OState) (at : M
     | inr (inl stops) ↦ (let z : goes q ≡ halts = sym e ∙ stops in cc)
     | inr (inr stops) ↦ (let z : goes q ≡ fails = sym e ∙ stops in cc)
   ]
-  said x h halts e = ended_so j x end.Halted ((agree.halts j).1 (p, at, e)) h
+  said x h halts e =
+      let same = sym (stops s j j p at (omega arith, inr (inl e))).1 in
+      let there = subst (λ q. Matched s j q × OverlayHalts s q) same (at, e) in
+      ended_so j x end.Halted ((agree.halts j).1 there) h
   said x h fails e =
       let f = agree.overlay_fails j p at e in
       (f.1, f.2, (ended_so f.0 x (end.Failed f.1 f.2) f.4 h).0)
 
 -- what the meaning's cases ask of the overlay
-module _ (s : StartSeen) (agree : Agrees s) (steps j : ℕ) (p : OState) (at : Matched s j p)
-    (stop : StopsAt (layout s) steps j p) where
+module _ (stops : StopsAreCuts) (s : StartSeen) (agree : Agrees s) (steps j : ℕ) (p : OState)
+    (at : Matched s j p) (stop : StopsAt (layout s) steps j p) where
   pub runs_inside : (b : Bool) → runs_trusted s j ≡ b → is_inside (layout s) p ≡ b
   runs_inside b e = sym (inside_flat (layout s) p (plain j s.state).maps (agree.matched j p at).1) ∙ e
 
@@ -130,12 +134,12 @@ module _ (s : StartSeen) (agree : Agrees s) (steps j : ℕ) (p : OState) (at : M
     where
       by : (y : Ending) → overlay_step (layout s) p ≡ y
           → OverlayHalts s p × (reg (plain steps s.state).maps.regs A0 ≡ (flat_view (layout s) p).reg A0)
-      by (goes q) e = absurd (said s agree steps j p at stop end.Halted (has_ended end.Halted a) (goes q) e)
+      by (goes q) e = absurd (said stops s agree steps j p at stop end.Halted (has_ended end.Halted a) (goes q) e)
       by halts e =
-          let t = said s agree steps j p at stop end.Halted (has_ended end.Halted a) halts e in
+          let t = said stops s agree steps j p at stop end.Halted (has_ended end.Halted a) halts e in
           (e, ap (λ (r : Run). reg r.maps.regs A0) t.1 ∙ (agree.alike j p at e).1)
       by fails e =
-          let t = said s agree steps j p at stop end.Halted (has_ended end.Halted a) fails e in
+          let t = said stops s agree steps j p at stop end.Halted (has_ended end.Halted a) fails e in
           let z : end.Halted ≡ end.Failed t.0 t.1 = t.2 in
           absurd cc
 
@@ -145,10 +149,10 @@ module _ (s : StartSeen) (agree : Agrees s) (steps j : ℕ) (p : OState) (at : M
     where
       by : (y : Ending) → overlay_step (layout s) p ≡ y → OverlayFails s p
       by (goes q) e =
-          absurd (said s agree steps j p at stop (end.Failed cause pc) (has_ended (end.Failed cause pc) a)
+          absurd (said stops s agree steps j p at stop (end.Failed cause pc) (has_ended (end.Failed cause pc) a)
           (goes q) e)
       by halts e =
-          let t = said s agree steps j p at stop (end.Failed cause pc) (has_ended (end.Failed cause pc) a)
+          let t = said stops s agree steps j p at stop (end.Failed cause pc) (has_ended (end.Failed cause pc) a)
           halts e in
           let z : end.Failed cause pc ≡ end.Halted = t.0 in
           absurd cc

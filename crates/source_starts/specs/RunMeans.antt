@@ -11,14 +11,12 @@ use Rattle.lcm_machine.specs.Run.{plain, answer as last_step}
 use Rattle.component_linker.specs.Parts.{PartSeen}
 use Rattle.component_linker.specs.Started.{StartSeen}
 use Rattle.component_linker.specs.LinkedStarts.{IsStartOf}
-use Rattle.overlay_machine.specs.State.{OState}
 use Rattle.overlay_machine.specs.Step.{weight_of}
 use Rattle.overlay_machine.specs.Starting.{overlay_at}
 use Rattle.trace_tool.specs.Layout.{layout, is_trusted}
 use Rattle.trace_tool.specs.Feed.{outs_of, items_of}
-use Rattle.trace_tool.specs.Told.{StopsAt}
 use Rattle.trace_tool.specs.Runs.{written}
-use Rattle.trace_tool.specs.Headline.{Matched}
+use Rattle.trace_tool.specs.Cuts.{cut_point}
 use Rattle.run_items.specs.Items.{item_of, event_told}
 use Rattle.proc_language.specs.declared.module.ModuleFields.{ModuleFields}
 use Rattle.proc_program.specs.Lower.{part_of}
@@ -58,36 +56,44 @@ module _ (world : World) (size : ℕ) (items : List Item) (events : List OutEven
 abbrev pub runs_trusted : StartSeen → ℕ → Bool
 runs_trusted s n = is_trusted (layout s) (faces (λ w. w) (plain n s.state).maps Pc)
 
+-- whether it does at their cut point
+abbrev pub cut_in_trusted : StartSeen → ℕ → Bool
+cut_in_trusted s n = runs_trusted s (cut_point s n).at
+
+-- the weight of the steps up to there that began in trusted code, with that of the next one
+abbrev pub trusted_with : StartSeen → ℕ → ℕ
+trusted_with s n = (cut_point s n).trusted + weight_of (layout s) (cut_point s n).overlay
+
 pub record RunMeans (world : World) (size : ℕ) (s : StartSeen) (steps : ℕ) : Type 0 where
   -- by the lines that so many instructions write, these events went out, and these items came in
   pub events : List OutEvent
   pub items : List Item
   pub out : outs_of (written s steps) ≡ map event_told events
   pub came : map item_of (items_of (layout s).stack.base (written s steps)) ≡ items
-  -- the greatest matched point up to there
-  pub at : ℕ
-  pub overlay : OState
-  pub matched : Matched s at overlay
-  pub greatest : StopsAt (layout s) steps at overlay
-  -- of the instructions up to it so many are of steps that began in trusted code
-  pub weight : ℕ
-  pub shows : Shows (layout s) (overlay_at s).state at weight (outs_of (written s steps)) items overlay
-  -- code that isn't trusted runs there: the meaning waits for an item (a return that such code began, and
-  -- that fails in a sequence of trusted code, belongs here)
-  pub waits : runs_trusted s at ≡ false → MeaningEnds world size items events Waiting
+  -- code that isn't trusted runs at the cut point: the meaning waits for an item (a return that such code
+  -- began, and that fails in a sequence of trusted code, belongs here)
+  pub waits : cut_in_trusted s steps ≡ false → MeaningEnds world size items events Waiting
   -- trusted code runs there: the meaning comes at least as far
-  pub goes_on : runs_trusted s at ≡ true → MeaningBegins world size items events
+  pub goes_on : cut_in_trusted s steps ≡ true → MeaningBegins world size items events
   -- and where the run has halted, or failed, from there, the meaning ends so
-  pub halts : runs_trusted s at ≡ true → last_step (plain steps s.state) ≡ Halted
+  pub halts : cut_in_trusted s steps ≡ true → last_step (plain steps s.state) ≡ Halted
       → (v : ℤ) × (reg (plain steps s.state).maps.regs A0 ≡ Int v)
       × MeaningEnds world size items events (Halt v)
-      × MeaningTakes world size items events (weight + weight_of (layout s) overlay)
-  pub fails : runs_trusted s at ≡ true → (cause : FailCause) (pc : ℤ)
+      × MeaningTakes world size items events (trusted_with s steps)
+  pub fails : cut_in_trusted s steps ≡ true → (cause : FailCause) (pc : ℤ)
       → last_step (plain steps s.state) ≡ Failed cause pc
       → MeaningEnds world size items events Fail
-      × MeaningTakes world size items events (weight + weight_of (layout s) overlay)
-  -- a tick of the meaning pays for at most 200 instructions of such steps
-  pub slow : MeaningTakes world size items events weight
+      × MeaningTakes world size items events (trusted_with s steps)
+  -- a tick of the meaning pays for at most 200 instructions of steps that began in trusted code
+  pub slow : MeaningTakes world size items events (cut_point s steps).trusted
+
+-- up to the cut point the run shows what its lines tell, and what weight is trusted code's
+abbrev pub CutsShow : Type 0
+CutsShow =
+    (parts : List PartSeen) (size : ℕ) (s : StartSeen) → IsStartOf parts size s → (steps : ℕ)
+    → (let c = cut_point s steps in
+    Shows (layout s) (overlay_at s).state c.at c.trusted (outs_of (written s steps))
+    (map item_of (items_of (layout s).stack.base (written s steps))) c.overlay)
 
 -- of every run of linked sources
 abbrev pub RunsMean : Type 0

@@ -13,11 +13,13 @@ ghost use Rattle.source_starts.specs.PlainSecrets.{PlainRunsLeaveNothing};
 ghost use Rattle.source_starts.specs.PlainWiped.{PlainRunsWipe};
 ghost use Rattle.source_starts.specs.Shown.{SourcesShowNothingElse};
 ghost use Rattle.source_starts.specs.Wiped.{WipedCellsAreTold};
-ghost use Rattle.source_starts.specs.RunMeans.{RunsMean, StacksBegin};
+ghost use Rattle.source_starts.specs.RunMeans.{CutsShow, RunsMean, StacksBegin};
 
 use overlay_machine::laws::{linked_starts_agree, starts_begin};
 use run_items::laws::events_are_told;
-use trace_tool::laws::{lines_are_a_feed, pairs_are_the_overlays, steps_tell_so, the_headline};
+use trace_tool::laws::{
+    cuts_are_greatest, lines_are_a_feed, pairs_are_the_overlays, steps_tell_so, the_headline,
+};
 
 /// A run of linked sources is what the sources mean, whatever untrusted parts are linked beside them.
 ///
@@ -36,11 +38,22 @@ pub fn sources_mean()
     pairs_are_the_overlays();
 }
 
+/// What the lines of a run tell of what goes out and of what comes in is what the overlay's steps show up to
+/// the cut point, and the cut point has the weight of those that began in trusted code.
+pub fn cuts_show()
+    ensures { CutsShow }
+{
+    the_headline();
+    lines_are_a_feed();
+    steps_tell_so();
+    cuts_are_greatest();
+}
+
 /// The plain run of linked sources is what the sources mean, whatever untrusted parts are linked beside
 /// them.
 ///
 /// Let the plain run have made so many instructions, and take the events and items that its lines tell.
-/// At the greatest matched point up to there: where code that isn't trusted runs, the meaning of these
+/// At the cut point, the greatest matched point up to there: where code that isn't trusted runs, the meaning of these
 /// items waits, with these events; where trusted code runs, its events begin with these; and where the
 /// run has halted or failed from there, the meaning ends so, with these events and with the value of
 /// the run's a0. The meaning spends a tick at least for each 200 instructions of the steps that began in
@@ -50,8 +63,8 @@ pub fn runs_mean()
 {
     sources_mean();
     the_headline();
-    lines_are_a_feed();
-    steps_tell_so();
+    cuts_are_greatest();
+    cuts_show();
     events_are_told();
 }
 

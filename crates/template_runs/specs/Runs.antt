@@ -13,10 +13,7 @@ use Rattle.overlay_machine.specs.Step.{goes, halts, fails, overlay_step, weight_
 use Rattle.overlay_machine.specs.Events.{step_event}
 use Rattle.trace_tool.specs.Layout.{is_trusted}
 use Rattle.trace_tool.specs.Views.{flat_view}
-
--- whether trusted code runs
-abbrev pub is_inside : Layout → OState → Bool
-is_inside l o = is_trusted l (faces look o.maps Pc)
+pub use Rattle.trace_tool.specs.Cuts.{is_inside}
 
 -- a step of trusted code goes on, with this weight and this event
 pub record Makes (l : Layout) (n : ℕ) (e : Option Event) (o q : OState) : Type 0 where

@@ -1,5 +1,5 @@
 -- The plain run with its count and end agrees with the overlay's, where their states do.
-use Rattle.std.proofs.Common.{◌≡◌, ℕ, ◌+◌, ℤ, Option, Some, None, refl, sym, ap, subst, ◌∙◌}
+use Rattle.std.proofs.Common.{◌≡◌, inl, inr, ℕ, ◌+◌, ℤ, Option, Some, None, refl, sym, ap, subst, ◌∙◌, arith}
 use Rattle.cap_words.specs.declared.Word.{Word}
 use Rattle.lcm_isa.specs.declared.Reg.TheVariants.{A0}
 use Rattle.lcm_machine.specs.declared.FailCause.{FailCause}
@@ -19,7 +19,9 @@ use Rattle.overlay_machine.specs.Runs.{plain_run, HaltsBehind, FailsBehind, Runs
 use Rattle.overlay_machine.specs.Starting.{overlay_at}
 use Rattle.trace_tool.specs.Layout.{layout}
 use Rattle.trace_tool.specs.Views.{flat_view}
-use Rattle.trace_tool.specs.Headline.{Matched, OverlayHalts, PlainEnds, Agrees}
+use Rattle.trace_tool.specs.Cuts.{cut_point}
+use Rattle.trace_tool.specs.Headline.{Matched, OverlayHalts, OverlayFails, PlainEnds, Within, Agrees}
+use Rattle.trace_tool.proofs.CutPoints.{stops_are_cuts, of_cut}
 
 -- the machine after n instructions that went, and the next one
 abbrev pub gone : State Word → ℕ → Run
@@ -144,23 +146,27 @@ module _ (s : StartSeen) (is : s.state ≡ fresh s.state.maps) (alone : HaltsAlo
   agrees = record {
     matched = matched_is;
     halts = λ n. (
-      λ e. runs.plain_halts n
-          (there_halts s.state.maps n (sym (end_is n) ∙ e.goes) (sym (end_is (n + 1)) ∙ e.ends)),
-      λ k. (let e =
-          halts_there s.state.maps n (runs.overlay_halts n k.0 k.1 k.2) in ends_is n Halted e.0 e.1),
+      λ e. (let k = runs.plain_halts n
+          (there_halts s.state.maps n (sym (end_is n) ∙ e.goes) (sym (end_is (n + 1)) ∙ e.ends)) in
+          subst (λ p. Matched s n p × OverlayHalts s p)
+          (sym (stops_are_cuts s n n k.0 k.1 (omega arith, inr (inl k.2))).1) (k.1, k.2)),
+      λ k. (let e = halts_there s.state.maps n (runs.overlay_halts n (cut_point s n).overlay k.0 k.1) in
+          ends_is n Halted e.0 e.1),
     );
     alike = alike_is;
     plain_fails =
         λ n cause at e.
         (let k = runs.plain_fails n
         (there_fails s.state.maps n cause at (sym (end_is n) ∙ e.goes) (sym (end_is (n + 1)) ∙ e.ends)) in
-        (k.0, k.1, (k.2, k.3, k.4), k.5));
+        of_cut s n k.0 k.1 k.2 (k.3, inl k.4) (λ j p. Within s n j p × OverlayFails s p)
+        ((k.2, k.3, k.4), k.5));
     overlay_fails =
         λ j p m h. (let k = runs.overlay_fails j p m h in let e = fails_there s.state.maps k.0 k.3 in
         (k.0, e.0, e.1, (m, k.1, k.2), ends_is k.0 (Failed e.0 e.1) e.2 e.3));
     goes = λ n e.
         (let u = has_gone s.state.maps n (sym (end_is n) ∙ e) in let k =
-        runs.plain_goes n u.0 u.1 in (k.0, k.1, (k.2, k.3, k.4)));
+        runs.plain_goes n u.0 u.1 in
+        of_cut s n k.0 k.1 k.2 (k.3, inl k.4) (λ j p. Within s n j p) (k.2, k.3, k.4));
   }
 
 -- the machine of a start has made no step, and hasn't ended

@@ -23,5 +23,6 @@ pub mod secrecy
 mod OwnPairs
 mod OwnEntries
 mod StepTold
+mod CutPoints
 mod FeedJoins
 mod InstanceRun

@@ -25,6 +25,7 @@ use Rattle.trace_tool.specs.Views.{flat_view}
 use Rattle.trace_tool.specs.Lines.{Line, Args, call, ret}
 use Rattle.trace_tool.specs.Runs.{written}
 use Rattle.trace_tool.specs.Told.{Told, StopsAt}
+use Rattle.trace_tool.specs.Cuts.{cut_point}
 use Rattle.trace_tool.specs.Traces.{trace_of}
 use Rattle.trace_tool.specs.OpenCalls.{LineTold}
 use Rattle.trace_tool.specs.Brackets.{marks_in, IsRet}
@@ -59,27 +60,29 @@ pub record Agrees (s : StartSeen) : Type 0 where
   pub matched : (j : ℕ) (p : OState) → Matched s j p
       → ((plain j s.state).end ≡ None) × IsFlat (layout s) p (plain j s.state).maps
   -- it halts exactly where the overlay halts, with one instruction, and both have the same word in a0
-  pub halts : (n : ℕ) → PlainEnds s n Halted ↔ ((p : OState) × Matched s n p × OverlayHalts s p)
+  pub halts : (n : ℕ) → PlainEnds s n Halted
+      ↔ (Matched s n (cut_point s n).overlay × OverlayHalts s (cut_point s n).overlay)
   pub alike : (n : ℕ) (p : OState) → Matched s n p → OverlayHalts s p
       → (weight_of (layout s) p ≡ 1)
       × (reg (plain (n + 1) s.state).maps.regs A0 ≡ (flat_view (layout s) p).reg A0)
-  -- where it fails, the overlay stands at a matched point and fails, and the instruction lies within the
-  -- weight of that step; where the overlay fails, so does the plain machine, within that weight
+  -- where it fails, the overlay fails at the cut point, and the instruction lies within the weight of that
+  -- step; where the overlay fails, so does the plain machine, within that weight
   pub plain_fails : (n : ℕ) (cause : FailCause) (at : ℤ) → PlainEnds s n (Failed cause at)
-      → (j : ℕ) × (p : OState) × Within s n j p × OverlayFails s p
+      → Within s n (cut_point s n).at (cut_point s n).overlay × OverlayFails s (cut_point s n).overlay
   pub overlay_fails : (j : ℕ) (p : OState) → Matched s j p → OverlayFails s p
       → (n : ℕ) × (cause : FailCause) × (at : ℤ) × Within s n j p × PlainEnds s n (Failed cause at)
-  -- where it has gone on, it stands less than the next weight behind a matched point, which is the greatest
-  -- so far
-  pub goes : (n : ℕ) → (plain n s.state).end ≡ None → (j : ℕ) × (p : OState) × Within s n j p
+  -- where it has gone on, it stands less than the next weight behind the cut point
+  pub goes : (n : ℕ) → (plain n s.state).end ≡ None
+      → Within s n (cut_point s n).at (cut_point s n).overlay
 
 -- ---- what is written
 
--- the event lines that `run` writes are those of the overlay's first steps, up to the greatest matched point
--- that is at most so many instructions
+-- the event lines that `run` writes are those of the overlay's steps up to the cut point, the greatest matched
+-- point that is at most so many instructions
 abbrev pub LinesOfSteps : StartSeen → ℕ → Type 0
 LinesOfSteps s n =
-    (j : ℕ) × (p : OState) × Told (layout s) (overlay_at s).state j (written s n) p × StopsAt (layout s) n j p
+    let c = cut_point s n in
+    Told (layout s) (overlay_at s).state c.at (written s n) c.overlay × StopsAt (layout s) n c.at c.overlay
 
 -- a call line is open until a ret line closes it, and each ret line closes the newest open one, with its
 -- part, site, base, last and words; at first none is open

@@ -11,6 +11,7 @@ pub mod Runs
 pub mod Counts
 pub mod Traces
 pub mod Told
+pub mod Cuts
 pub mod Alike
 pub mod Brackets
 pub mod Headline

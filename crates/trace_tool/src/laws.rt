@@ -10,6 +10,7 @@ ghost use Rattle.overlay_machine.specs.Linked.{Linked};
 ghost use Rattle.overlay_machine.specs.Invariant.{Invariant};
 ghost use Rattle.overlay_machine.specs.Keeping.{HoldsFor};
 ghost use Rattle.trace_tool.specs.Told.{TracesSteps};
+ghost use Rattle.trace_tool.specs.Cuts.{CutsAreGreatest, StopsAreCuts};
 ghost use Rattle.trace_tool.specs.Brackets.{LinesAreBracketed, TraceIsBracketed, CallsArePrivate};
 ghost use Rattle.trace_tool.specs.Headline.{Headline, HeadlineHolds, CallThere};
 ghost use Rattle.trace_tool.specs.OpenCalls.{OpenCallsAreKept, CallsAreKept, UseThere};
@@ -28,6 +29,13 @@ use overlay_machine::laws::{
 /// at most its limit.
 pub fn traces_tell_steps()
     ensures { (o : OverlaySeen) → TracesSteps o }
+{}
+
+/// The matched point at which the steps of the overlay stop, where no more instructions are wanted, is the cut
+/// point: the greatest matched point that is at most so many instructions.
+pub fn cuts_are_greatest()
+    ensures steps { CutsAreGreatest }
+    ensures matched { StopsAreCuts }
 {}
 
 /// Call and ret lines are bracketed, where the invariant of linked parts holds.

@@ -31,7 +31,8 @@ use Rattle.trace_tool.specs.Layout.{layout, part_name, site_of, site_or}
 use Rattle.trace_tool.specs.Runs.{begun, lines_of, written}
 use Rattle.trace_tool.specs.Brackets.{marks_in, lines_told, LinesAreBracketed}
 use Rattle.trace_tool.specs.Alike.{LinesAgree}
-use Rattle.trace_tool.specs.Headline.{Matched, AreBracketed}
+use Rattle.trace_tool.specs.Cuts.{cut_point}
+use Rattle.trace_tool.specs.Headline.{Matched, Within, AreBracketed}
 use Rattle.trace_tool.proofs.Agreeing.{HaltsAlone, agrees, has_gone, state_is}
 use Rattle.trace_tool.proofs.LeftAlone.{told_of}
 use Rattle.trace_tool.proofs.alike.Calm.{id}
@@ -137,18 +138,18 @@ module _ (parts : List PartSeen) (size : ℕ) (s : StartSeen)
 
   left_alone : RangesAreLeftAlone s
   left_alone n a c used =
-      let k = (agrees s is alone runs).goes n used.goes in
-      let j = k.0 in
-      let p = k.1 in
-      let le : j ≤ n = k.2.1 in
-      let lt : n < j + weight_of l p = k.2.2 in
+      let j = (cut_point s n).at in
+      let p = (cut_point s n).overlay in
+      let k : Within s n j p = (agrees s is alone runs).goes n used.goes in
+      let le : j ≤ n = k.1 in
+      let lt : n < j + weight_of l p = k.2 in
       let told =
-      frame_of_call l p.frames c (subst (λ cs. Contains cs c) (open_are n j p k.2.0 le lt) used.is_open)
+      frame_of_call l p.frames c (subst (λ cs. Contains cs c) (open_are n j p k.0 le lt) used.is_open)
       in
       let f = told.0 in
       let low_f : f.base ≤ a = (let e = (told.2).base in let low = used.low in omega (arith, low, e)) in
       let high_f : a ≤ f.end = (let e = (told.2).last in let high = used.high in omega (arith, high, e)) in
-      let at = matched g h.linked first s.state.maps h.holds j p k.2.0 in
+      let at = matched g h.linked first s.state.maps h.holds j p k.0 in
       let u = at.0 in
       let inv : Invariant g p u = at.2 in
       let v = has_gone s.state.maps n (sym (ap (λ (r : Run). (plain n r).end) is) ∙ used.goes) in
@@ -167,13 +168,13 @@ module _ (parts : List PartSeen) (size : ℕ) (s : StartSeen)
       (subst (λ fs. Contains fs f) touch.frames_are told.1) (omega (arith, low_f, base)) in
       let is_open =
       subst (λ fs. Contains (lines_told l fs) c) touch.frames_are
-      (subst (λ cs. Contains cs c) (open_are n j p k.2.0 le lt) used.is_open) in
+      (subst (λ cs. Contains cs c) (open_are n j p k.0 le lt) used.is_open) in
       let line =
       newest_line l p.maps.cells p.calls touch.frame touch.older c
       (subst (λ fs. FramesLie l p.maps.cells p.calls fs) touch.frames_are inv.frames)
       is_open (let low = used.low in omega (arith, low, base)) in
       let there : open_behind [] (written s j) ≡ lines_told l p.frames =
-      open_are j j p k.2.0 (omega arith) (omega (arith, le, lt)) in
+      open_are j j p k.0 (omega arith) (omega (arith, le, lt)) in
       reads_or_wipes n j own.0 p u v.0 a v.1 at.1 le own.1 touch c (subst (λ y. IsCallOf l y c) newest told.2)
       (there ∙ ap (lines_told l) touch.frames_are ∙ line)
 

@@ -25,6 +25,7 @@ use Rattle.trace_tool.specs.Runs.{written}
 use Rattle.trace_tool.specs.Brackets.{lines_told, LinesAreBracketed}
 use Rattle.trace_tool.specs.Alike.{LinesAgree}
 use Rattle.trace_tool.specs.OpenCalls.{LineTold, open_behind, after}
+use Rattle.trace_tool.specs.Cuts.{cut_point}
 use Rattle.trace_tool.proofs.Agreeing.{HaltsAlone, agrees}
 use Rattle.trace_tool.proofs.privacy.OpenCalls.{open_are}
 use Rattle.trace_tool.proofs.privacy.FramesTold.{frame_of_call}
@@ -83,11 +84,12 @@ module _ (parts : List PartSeen) (size : ℕ) (s : StartSeen)
   last_point n goes =
       let a = agrees s is alone runs in
       let k = a.goes n goes in
-      let at = matched g h.linked (overlay_at s).state s.state.maps h.holds k.0 k.1 k.2.0 in (
-        k.0,
-        k.1,
-        open_are parts size s h is alone runs agree brackets n k.0 k.1 k.2.0 k.2.1 k.2.2,
-        (a.matched k.0 k.1 k.2.0).1,
+      let c = cut_point s n in
+      let at = matched g h.linked (overlay_at s).state s.state.maps h.holds c.at c.overlay k.0 in (
+        c.at,
+        c.overlay,
+        open_are parts size s h is alone runs agree brackets n c.at c.overlay k.0 k.1 k.2,
+        (a.matched c.at c.overlay k.0).1,
         (at.2).frames,
       )
 

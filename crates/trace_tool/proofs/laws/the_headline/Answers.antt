@@ -4,12 +4,15 @@ use Rattle.overlay_machine.specs.Starting.{overlay_at}
 use Rattle.overlay_machine.specs.Keeping.{link_of}
 use Rattle.trace_tool.specs.Layout.{layout}
 use Rattle.trace_tool.specs.Lines.{Line}
-use Rattle.trace_tool.specs.Told.{Told}
+use Rattle.trace_tool.specs.Runs.{written}
+use Rattle.trace_tool.specs.Told.{Told, StopsAt}
 use Rattle.trace_tool.specs.Traces.{trace_of}
 use Rattle.trace_tool.specs.OpenCalls.{LineTold}
 use Rattle.trace_tool.specs.Brackets.{marks_in, lines_told}
 use Rattle.trace_tool.specs.Headline.{LinesOfSteps}
 use Rattle.trace_tool.proofs.Agreeing.{agrees, start_fresh}
+use Rattle.trace_tool.proofs.CutPoints.{of_cut}
+use Rattle.trace_tool.proofs.StepTold.{reached_by}
 use Rattle.trace_tool.proofs.InstanceRun.{call_there}
 use Rattle.trace_tool.proofs.LeftAlone.{left_alone, each_call}
 use Rattle.trace_tool.proofs.laws.the_headline.Goals as goal
@@ -25,13 +28,12 @@ returns-clause-holds c = λ parts size s is.
     let runs = (c.linked_starts_agree.ensures parts size s is).runs in
     let agree = c.start_lines_agree.ensures.agree parts size s is in
     let private_lines = c.call_lines_are_private.ensures g o.state s.state.maps h.linked h.holds in
-    let lines : (n : ℕ) → LinesOfSteps s n = λ n. (let k = c.traces_tell_steps.ensures o refl refl n in (
-      k.0,
-      (trace_of n o).overlay.state,
-      subst
-          (λ (ls : List Line). Told (layout s) o.state k.0 ls (trace_of n o).overlay.state) (same n) k.1,
-      k.2,
-    ))
+    let lines : (n : ℕ) → LinesOfSteps s n = λ n. (let k = c.traces_tell_steps.ensures o refl refl n in
+    let p = (trace_of n o).overlay.state in
+    let told : Told (layout s) o.state k.0 (written s n) p =
+    subst (λ (ls : List Line). Told (layout s) o.state k.0 ls p) (same n) k.1 in
+    of_cut s n k.0 p (reached_by (layout s) o.state k.0 (written s n) p told) k.2
+    (λ j q. Told (layout s) o.state j (written s n) q × StopsAt (layout s) n j q) (told, k.2))
     in
     record {
       agrees = agrees s is_fresh c.a_halt_weighs_one.ensures runs;
