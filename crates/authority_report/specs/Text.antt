@@ -2,6 +2,7 @@
 use Rattle.std.specs.Prelude.{◌≡◌, ℕ, ◌+◌, Bool, ◌++◌, List, [], ◌∷◌, codes, decimal, length, Some}
 use Rattle.std.specs.Prelude.{if◌then◌else◌}
 use Rattle.std.specs.List.{flat_map}
+use Rattle.cap_words.specs.Text.{field_text, newline}
 use Rattle.component_linker.specs.declared.owners.Owner.{Owner}
 use Rattle.component_linker.specs.declared.owners.Call.{Call}
 use Rattle.component_linker.specs.Start.{same_name}
@@ -11,13 +12,6 @@ use Rattle.place_sets.specs.declared.set.Stretch.{Stretch}
 use Rattle.authority_report.specs.declared.reach.Reach.{Reach}
 use Rattle.authority_report.specs.Report.{owner_of_part, IsReport}
 
--- a blank, and a field
-abbrev pub field : List ℕ → List ℕ
-field t = 32 ∷ t
-
-abbrev pub newline : List ℕ
-newline = 10 ∷ []
-
 -- a letter where there is the right, and else a dash
 abbrev pub letter : Bool → ℕ → ℕ
 letter b c = if b then c else 45
@@ -26,18 +20,18 @@ abbrev pub rights : ReachSpan → List ℕ
 rights s = letter s.read 114 ∷ letter s.write 119 ∷ letter s.run 120 ∷ []
 
 abbrev pub part_line : Owner → List ℕ
-part_line o = codes "part" ++ field o.name ++ newline
+part_line o = codes "part" ++ field_text o.name ++ newline
 
 abbrev pub span_line : ReachSpan → List ℕ
-span_line s = codes "at" ++ field (decimal s.base) ++ field (decimal s.end) ++ field (rights s) ++ newline
+span_line s = codes "at" ++ field_text (decimal s.base) ++ field_text (decimal s.end) ++ field_text (rights s) ++ newline
 
 abbrev pub seals_line : Stretch → List ℕ
-seals_line s = codes "seals" ++ field (decimal s.base) ++ field (decimal s.end) ++ newline
+seals_line s = codes "seals" ++ field_text (decimal s.base) ++ field_text (decimal s.end) ++ newline
 
 -- a call of an own entry is no exit
 abbrev pub exit_line : Owner → Call → List ℕ
 exit_line o c =
-    if same_name c.part o.name then [] else codes "exit" ++ field c.part ++ field c.name ++ newline
+    if same_name c.part o.name then [] else codes "exit" ++ field_text c.part ++ field_text c.name ++ newline
 
 -- the lines of one part
 unfoldable pub part_text : Owner → Reach → List ℕ

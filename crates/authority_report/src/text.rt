@@ -2,7 +2,8 @@
 ghost use Rattle.std.specs.Prelude.{◌≡◌, ◌++◌, decimal, OnOk, IfOk};
 ghost use Rattle.std.specs.List.{flat_map};
 ghost use Rattle.authority_report.specs.Entered.{IsLinked};
-ghost use Rattle.authority_report.specs.Text.{field, newline, rights, part_line, span_line, seals_line};
+ghost use Rattle.cap_words.specs.Text.{field_text, newline};
+ghost use Rattle.authority_report.specs.Text.{rights, part_line, span_line, seals_line};
 ghost use Rattle.authority_report.specs.Text.{exit_line, part_text, IsReachText};
 
 use crate::reach::Reach;
@@ -14,14 +15,14 @@ use place_sets::{ReachSpan, Stretch};
 use std::alloc::{AllocError, Global};
 
 fn push_field(text: &mut Vec<u8>, bytes: &[u8]) -> Result<(), AllocError>
-    ensures { OnOk result (text.new.items ≡ text.old.items ++ field bytes.now) }
+    ensures { OnOk result (text.new.items ≡ text.old.items ++ field_text bytes.now) }
 {
     text.push(b' ')?;
     text.extend_from_slice(bytes)
 }
 
 fn push_number(text: &mut Vec<u8>, number: u32) -> Result<(), AllocError>
-    ensures { OnOk result (text.new.items ≡ text.old.items ++ field (decimal number)) }
+    ensures { OnOk result (text.new.items ≡ text.old.items ++ field_text (decimal number)) }
 {
     let mut digits = Buffer::new();
     push_field(text, digits.format(number).as_bytes())
@@ -42,7 +43,7 @@ fn push_part(text: &mut Vec<u8>, owner: &Owner) -> Result<(), AllocError>
 }
 
 fn push_rights(text: &mut Vec<u8>, span: &ReachSpan) -> Result<(), AllocError>
-    ensures { OnOk result (text.new.items ≡ text.old.items ++ field (rights span.now)) }
+    ensures { OnOk result (text.new.items ≡ text.old.items ++ field_text (rights span.now)) }
 {
     let read = if span.read { b'r' } else { b'-' };
     let write = if span.write { b'w' } else { b'-' };

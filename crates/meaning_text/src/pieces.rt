@@ -1,7 +1,8 @@
 //! The pieces of a line: words, fields behind a blank, the newline.
 ghost use Rattle.std.specs.Prelude.{◌≡◌, ◌++◌, decimal, OnOk};
 ghost use Rattle.std.specs.Fmt.{signed_decimal};
-ghost use Rattle.meaning_text.specs.Text.{field, out_arg_text, newline};
+ghost use Rattle.cap_words.specs.Text.{field_text, newline};
+ghost use Rattle.meaning_text.specs.Text.{out_arg_text};
 
 use itoa::Buffer;
 use source_events::OutArg;
@@ -16,7 +17,7 @@ pub(crate) fn push(text: &mut Vec<u8>, piece: &str) -> Result<(), AllocError>
 
 /// Appends a blank and a field.
 pub(crate) fn push_field(text: &mut Vec<u8>, bytes: &[u8]) -> Result<(), AllocError>
-    ensures { OnOk result (text.new.items ≡ text.old.items ++ field bytes.now) }
+    ensures { OnOk result (text.new.items ≡ text.old.items ++ field_text bytes.now) }
 {
     text.push(b' ')?;
     text.extend_from_slice(bytes)
@@ -24,7 +25,7 @@ pub(crate) fn push_field(text: &mut Vec<u8>, bytes: &[u8]) -> Result<(), AllocEr
 
 /// Appends a blank and a number.
 pub(crate) fn push_number(text: &mut Vec<u8>, number: u64) -> Result<(), AllocError>
-    ensures { OnOk result (text.new.items ≡ text.old.items ++ field (decimal number)) }
+    ensures { OnOk result (text.new.items ≡ text.old.items ++ field_text (decimal number)) }
 {
     let mut digits = Buffer::new();
     push_field(text, digits.format(number).as_bytes())
@@ -32,7 +33,7 @@ pub(crate) fn push_number(text: &mut Vec<u8>, number: u64) -> Result<(), AllocEr
 
 /// Appends a blank and an integer, with a `-` where it is negative.
 pub(crate) fn push_integer(text: &mut Vec<u8>, integer: i64) -> Result<(), AllocError>
-    ensures { OnOk result (text.new.items ≡ text.old.items ++ field (signed_decimal integer)) }
+    ensures { OnOk result (text.new.items ≡ text.old.items ++ field_text (signed_decimal integer)) }
 {
     let mut digits = Buffer::new();
     push_field(text, digits.format(integer).as_bytes())
@@ -40,7 +41,7 @@ pub(crate) fn push_integer(text: &mut Vec<u8>, integer: i64) -> Result<(), Alloc
 
 /// Appends a blank and what a register holds.
 pub(crate) fn push_arg(text: &mut Vec<u8>, arg: OutArg) -> Result<(), AllocError>
-    ensures { OnOk result (text.new.items ≡ text.old.items ++ field (out_arg_text arg)) }
+    ensures { OnOk result (text.new.items ≡ text.old.items ++ field_text (out_arg_text arg)) }
 {
     match arg {
         OutArg::Int(integer) => push_integer(text, integer),
