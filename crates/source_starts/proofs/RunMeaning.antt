@@ -1,10 +1,9 @@
 -- The plain run of linked sources means what the sources mean.
-use Rattle.std.proofs.Common.{◌≡◌, ℕ, ◌+◌, Bool, true, false, List, ◌∷◌, map, Some, refl, sym, ap, ◌∙◌}
+use Rattle.std.proofs.Common.{◌≡◌, ℕ, Bool, true, false, List, ◌∷◌, Some, refl, sym, ap, ◌∙◌}
 use Rattle.component_linker.specs.Parts.{PartSeen}
 use Rattle.component_linker.specs.Standing.{placed}
 use Rattle.component_linker.specs.Started.{StartSeen}
 use Rattle.component_linker.specs.LinkedStarts.{IsStartOf}
-use Rattle.overlay_machine.specs.Step.{weight_of}
 use Rattle.overlay_machine.specs.Starting.{overlay_at, StartsBegin}
 use Rattle.overlay_machine.proofs.starts.ListFacts.{listed_at}
 use Rattle.overlay_machine.proofs.starts.OneOverlay.{is_overlay}
@@ -13,20 +12,17 @@ use Rattle.trace_tool.specs.StepLines.{StepsTellSo}
 use Rattle.trace_tool.specs.Feed.{outs_of, items_of, OutsJoin, ItemsJoin, EntriesAreItems}
 use Rattle.trace_tool.specs.Runs.{written}
 use Rattle.trace_tool.specs.Headline.{HeadlineHolds}
-use Rattle.run_items.specs.Items.{item_of, EventsAreTold}
 use Rattle.proc_language.specs.declared.module.ModuleFields.{ModuleFields}
 use Rattle.proc_program.specs.Lower.{part_of}
-use Rattle.source_events.specs.declared.End.TheVariants.{Halt, Fail, Waiting}
 use Rattle.proc_semantics.specs.Values.{World}
 use Rattle.source_laws.specs.Sources.{SourcesMean}
 use Rattle.source_starts.specs.RunMeans.{RunMeans, StacksBegin, runs_trusted}
 use Rattle.source_starts.proofs.Worlds.{aligned, part_of_home}
 use Rattle.source_starts.proofs.LinesShow.{reached_of, lines_show}
 use Rattle.source_starts.proofs.RunEnds.{runs_inside, halts_there, fails_there}
-use Rattle.source_starts.proofs.Meanings.{events_there, ends_of, begins_of, takes_of}
 
 module _ (headline : HeadlineHolds) (outs : OutsJoin) (joined : ItemsJoin) (entries : EntriesAreItems)
-    (tell : StepsTellSo) (told : EventsAreTold) where
+    (tell : StepsTellSo) where
   pub run_means : (world : World) (parts : List PartSeen) (size : ℕ) (s : StartSeen) → IsStartOf parts size s
       → SourcesMean world size s → (steps : ℕ) → RunMeans world size s steps
   run_means world parts size s is mean steps =
@@ -40,42 +36,30 @@ module _ (headline : HeadlineHolds) (outs : OutsJoin) (joined : ItemsJoin) (entr
       lines_show (layout s) (overlay_at s).state outs joined entries tell j (written s steps) p x.2 in
       let n = shows.0 in
       let es = outs_of (written s steps) in
-      let items = map item_of (items_of (layout s).stack.base (written s steps)) in
+      let items = items_of (layout s).stack.base (written s steps) in
       let means = mean j n es items p shows.1 in
       let inside = λ (b : Bool) (e : runs_trusted s j ≡ b). runs_inside s agree steps j p at x.3 b e in
-      let said = events_there world size items (layout s) n es p means (runs_trusted s j)
-      (inside (runs_trusted s j) refl) in
-      let xs = said.0 in
       record {
-        events = xs;
+        events = es;
         items = items;
-        out = said.1;
+        out = refl;
         came = refl;
+        integers = means.integers;
         at = j;
         overlay = p;
         matched = at;
         greatest = x.3;
         weight = n;
         shows = shows.1;
-        waits = λ e. ends_of told world size items es xs said.1 Waiting (means.waits (inside false e));
-        goes_on = λ e. begins_of told world size items es xs said.1 (means.goes_on (inside true e));
+        waits = λ e. means.waits (inside false e);
+        goes_on = λ e. means.goes_on (inside true e);
         halts = λ e a. (
             let h = halts_there s agree steps j p at x.3 a in
-            let m = means.halts (inside true e) h.0 in (
-              m.0,
-              h.1 ∙ m.1,
-              ends_of told world size items es xs said.1 (Halt m.0) m.2,
-              takes_of told world size items es xs said.1 (n + weight_of (layout s) p) m.3,
-            )
+            let m = means.halts (inside true e) h.0 in
+            (m.0, h.1 ∙ m.1, m.2, m.3)
             );
-        fails = λ e cause pc a. (
-            let h = fails_there s agree steps j p at x.3 cause pc a in
-            let m = means.fails (inside true e) h in (
-              ends_of told world size items es xs said.1 Fail m.0,
-              takes_of told world size items es xs said.1 (n + weight_of (layout s) p) m.1,
-            )
-            );
-        slow = takes_of told world size items es xs said.1 n means.slow;
+        fails = λ e cause pc a. means.fails (inside true e) (fails_there s agree steps j p at x.3 cause pc a);
+        slow = means.slow;
       }
 
 pub stacks_begin : StartsBegin → StacksBegin

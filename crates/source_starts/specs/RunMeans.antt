@@ -1,6 +1,6 @@
 -- What the plain run of linked sources means: after so many instructions, what its lines tell of the sources,
 -- and what the meaning of the items that came in tells of it.
-use Rattle.std.specs.Prelude.{◌≡◌, ℕ, ◌+◌, ◌*◌, ◌<◌, ◌≤◌, ℤ, Bool, true, false, List, ◌∷◌, map}
+use Rattle.std.specs.Prelude.{◌≡◌, ℕ, ◌+◌, ℤ, Bool, true, false, List, ◌∷◌, map}
 use Rattle.cap_words.specs.declared.Word.TheVariants.{Int}
 use Rattle.lcm_isa.specs.declared.Reg.TheVariants.{Pc, A0}
 use Rattle.lcm_machine.specs.declared.FailCause.{FailCause}
@@ -19,40 +19,15 @@ use Rattle.trace_tool.specs.Feed.{outs_of, items_of}
 use Rattle.trace_tool.specs.Told.{StopsAt}
 use Rattle.trace_tool.specs.Runs.{written}
 use Rattle.trace_tool.specs.Headline.{Matched}
-use Rattle.run_items.specs.Items.{item_of, event_told}
 use Rattle.proc_language.specs.declared.module.ModuleFields.{ModuleFields}
 use Rattle.proc_program.specs.Lower.{part_of}
 use Rattle.source_events.specs.declared.Item.{Item}
 use Rattle.source_events.specs.declared.OutEvent.{OutEvent}
-use Rattle.source_events.specs.declared.End.{End}
-use Rattle.source_events.specs.declared.End.TheVariants.{Halt, Fail, Waiting, OutOfFuel}
+use Rattle.source_events.specs.declared.End.TheVariants.{Halt, Fail, Waiting}
+use Rattle.source_events.specs.Outs.{LeaveIntegers}
 use Rattle.proc_semantics.specs.Values.{World}
-use Rattle.proc_semantics.specs.Meaning.{meaning}
-use Rattle.proc_semantics.specs.Fuel.{Prefix}
-use Rattle.source_laws.specs.Sources.{Shows}
+use Rattle.source_laws.specs.Sources.{Shows, MeaningEnds, MeaningBegins, MeaningTakes}
 use Rattle.source_starts.specs.Sources.{AreSources}
-
--- ---- what is told of the items that came in
-
-module _ (world : World) (size : ℕ) (items : List Item) (events : List OutEvent) where
-  -- an end, with these events, under every large enough fuel
-  pub record MeaningEnds (end : End) : Type 0 where
-    pub enough : ℕ
-    pub ends : (fuel : ℕ) → enough ≤ fuel → (meaning world size items fuel).end ≡ end
-    pub told : (fuel : ℕ) → enough ≤ fuel → (meaning world size items fuel).events ≡ events
-
-  -- under every large enough fuel these events, and perhaps more
-  pub record MeaningBegins : Type 0 where
-    pub enough : ℕ
-    pub begins : (fuel : ℕ) → enough ≤ fuel → Prefix events (meaning world size items fuel).events
-
-  -- no end and not more than these events, under a fuel that 200 instructions a tick make less than so many
-  abbrev pub MeaningTakes : ℕ → Type 0
-  MeaningTakes n =
-      (fuel : ℕ) → fuel * 200 < n → ((meaning world size items fuel).end ≡ OutOfFuel)
-      × Prefix (meaning world size items fuel).events events
-
--- ---- the plain run
 
 -- whether pc stands in trusted code after so many instructions
 abbrev pub runs_trusted : StartSeen → ℕ → Bool
@@ -62,8 +37,10 @@ pub record RunMeans (world : World) (size : ℕ) (s : StartSeen) (steps : ℕ) :
   -- by the lines that so many instructions write, these events went out, and these items came in
   pub events : List OutEvent
   pub items : List Item
-  pub out : outs_of (written s steps) ≡ map event_told events
-  pub came : map item_of (items_of (layout s).stack.base (written s steps)) ≡ items
+  pub out : outs_of (written s steps) ≡ events
+  pub came : items_of (layout s).stack.base (written s steps) ≡ items
+  -- each procedure that left gave an integer
+  pub integers : LeaveIntegers events
   -- the greatest matched point up to there
   pub at : ℕ
   pub overlay : OState
@@ -71,7 +48,7 @@ pub record RunMeans (world : World) (size : ℕ) (s : StartSeen) (steps : ℕ) :
   pub greatest : StopsAt (layout s) steps at overlay
   -- of the instructions up to it so many are of steps that began in trusted code
   pub weight : ℕ
-  pub shows : Shows (layout s) (overlay_at s).state at weight (outs_of (written s steps)) items overlay
+  pub shows : Shows (layout s) (overlay_at s).state at weight events items overlay
   -- code that isn't trusted runs there: the meaning waits for an item (a return that such code began, and
   -- that fails in a sequence of trusted code, belongs here)
   pub waits : runs_trusted s at ≡ false → MeaningEnds world size items events Waiting

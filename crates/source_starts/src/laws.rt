@@ -16,7 +16,6 @@ ghost use Rattle.source_starts.specs.Wiped.{WipedCellsAreTold};
 ghost use Rattle.source_starts.specs.RunMeans.{RunsMean, StacksBegin};
 
 use overlay_machine::laws::{linked_starts_agree, starts_begin};
-use run_items::laws::events_are_told;
 use trace_tool::laws::{lines_are_a_feed, pairs_are_the_overlays, steps_tell_so, the_headline};
 
 /// A run of linked sources is what the sources mean, whatever untrusted parts are linked beside them.
@@ -26,7 +25,8 @@ use trace_tool::laws::{lines_are_a_feed, pairs_are_the_overlays, steps_tell_so, 
 /// the modules waits, and has told the run's outgoing events; where trusted code is about to halt or to
 /// fail, the meaning ends so, with those events; where it goes on, the meaning's events begin with those;
 /// and the meaning spends a tick at least for each 200 instructions of the steps that began in trusted
-/// code. The meaning is that of the items that came in so far, with the whole stack of the link.
+/// code. Each procedure that left gave an integer. The meaning is that of the items that came in so far,
+/// with the whole stack of the link.
 pub fn sources_mean()
     ensures { (modules : List ModuleFields) (parts : List PartSeen) (size : ℕ) (s : StartSeen)
         → IsStartOf parts size s → AreSources modules parts
@@ -43,8 +43,8 @@ pub fn sources_mean()
 /// At the greatest matched point up to there: where code that isn't trusted runs, the meaning of these
 /// items waits, with these events; where trusted code runs, its events begin with these; and where the
 /// run has halted or failed from there, the meaning ends so, with these events and with the value of
-/// the run's a0. The meaning spends a tick at least for each 200 instructions of the steps that began in
-/// trusted code.
+/// the run's a0. Each procedure that left gave an integer. The meaning spends a tick at least for each 200
+/// instructions of the steps that began in trusted code.
 pub fn runs_mean()
     ensures { RunsMean }
 {
@@ -52,7 +52,6 @@ pub fn runs_mean()
     the_headline();
     lines_are_a_feed();
     steps_tell_so();
-    events_are_told();
 }
 
 /// Code outside learns nothing from linked sources but their events.

@@ -6,5 +6,5 @@ use Rattle.source_starts.proofs.laws.runs_mean.Goals as goal
 pub returns : goal.returns
 returns c modules parts size s is sources steps =
     run_means c.the_headline.ensures.holds c.lines_are_a_feed.ensures.outs c.lines_are_a_feed.ensures.items
-    c.lines_are_a_feed.ensures.entries c.steps_tell_so.ensures.step c.events_are_told.ensures
-    (map part_of modules) parts size s is (c.sources_mean.ensures modules parts size s is sources) steps
+    c.lines_are_a_feed.ensures.entries c.steps_tell_so.ensures.step (map part_of modules)
+    parts size s is (c.sources_mean.ensures modules parts size s is sources) steps
