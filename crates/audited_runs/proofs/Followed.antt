@@ -15,7 +15,8 @@ use Rattle.overlay_machine.specs.Invariant.{FrameLies, LiesBelow, FramesLie}
 use Rattle.overlay_machine.specs.Runs.{Reached, begins, goes_on}
 use Rattle.overlay_machine.specs.Brackets.{frame_told, Brackets, at_end, one_opens, one_closes}
 use Rattle.trace_tool.specs.Views.{flat_view}
-use Rattle.trace_tool.specs.Lines.{Passed, Line, call, ret, enter, pass, leave, passed_of, pass_lines}
+use Rattle.source_events.specs.declared.FeedPair.{FeedPair}
+use Rattle.trace_tool.specs.Lines.{Line, call, ret, enter, pass, leave, feed_pair, pass_lines}
 use Rattle.trace_tool.specs.Lines.{line_of, lines_for}
 use Rattle.trace_tool.specs.Pairs.{pairs_of, no_pairs}
 use Rattle.trusted_border.specs.declared.events.Event.TheVariants.{Called, Returned, Entered, Left}
@@ -113,7 +114,7 @@ one (pass p0 p1 p2) ps qs b other h lp lq n = absurd other
 one (leave part a0) ps _ b other (at_end _) lp lq n = (false, refl)
 
 -- what stands behind an enter line
-behind_enter : (b : Bool) (x y z : Passed) (ps qs : List LineTold)
+behind_enter : (b : Bool) (x y z : FeedPair) (ps qs : List LineTold)
     → Brackets LineTold ps (marks_in (if b then [] else pass x y z ∷ [])) qs → (n : ℕ)
     → (c : Bool) × (followed (opened_at ps true) n (map line_seen (if b then [] else pass x y z ∷ [])) ≡ Ok
     (opened_at qs c))
@@ -148,7 +149,7 @@ none_or_some l q (Some (Returned inward i base last)) ps qs h lp lq n b =
 none_or_some l q (Some (Entered part k back)) ps qs h lp lq n b =
     let v = flat_view l q in
     let p = pairs_of l v in
-    let r = behind_enter (no_pairs p) (passed_of l p.p0) (passed_of l p.p1) (passed_of l p.p2) ps qs h
+    let r = behind_enter (no_pairs p) (feed_pair l p.p0) (feed_pair l p.p1) (feed_pair l p.p2) ps qs h
     (n + 1) in
     (r.0, enter_goes ps b n (line_of l v (Entered part k back)) (pass_lines l p) refl ∙ r.1)
 none_or_some l q (Some (Left part)) ps qs h lp lq n b =

@@ -6,23 +6,23 @@ use Rattle.std.specs.List.{list_all}
 use Rattle.cap_words.specs.declared.Word.{Word}
 use Rattle.cap_words.specs.Text.{word_text_of}
 use Rattle.cap_words.specs.Names.{is_name}
-use Rattle.trace_tool.specs.Lines.{Args, Return, Passed, nothing, bad_pair, out_pair, hop_pair}
-use Rattle.trace_tool.specs.Lines.{Line, call, ret, enter, pass, leave}
-use Rattle.trace_tool.specs.Texts.{direction, field, words_text, args_text, place_text, return_text}
-use Rattle.trace_tool.specs.Texts.{passed_text}
-use Rattle.trace_tool.specs.Fits.{IsName, AllOf, ArgsOf, LineFits, is_told}
+use Rattle.source_events.specs.declared.FeedBack.{FeedBack}
+use Rattle.source_events.specs.declared.FeedPair.{FeedPair}
+use Rattle.source_events.specs.Forms.{IsName, back_text, pair_text, is_pair}
+use Rattle.trace_tool.specs.Lines.{Args, Line, call, ret, enter, pass, leave}
+use Rattle.trace_tool.specs.Texts.{direction, field, words_text, args_text, place_text}
+use Rattle.trace_tool.specs.Fits.{AllOf, ArgsOf, LineFits}
 use Rattle.line_fields.specs.Words.{HasText, is_word}
 use Rattle.line_fields.specs.Fields.{meant, tested, whole}
 use Rattle.line_fields.proofs.WordTexts.{fits_has_text, text_is_word}
 use Rattle.run_items.proofs.High.{IsHigh, decimal_high, word_high, name_high, name_is}
 use Rattle.run_items.proofs.Spaced.{spaced, AllHigh, fields_are, words_spaced, words_high}
-use Rattle.run_items.proofs.FieldsRead.{natural_again, back_read, pair_read, pair_field}
-use Rattle.run_items.proofs.FieldsRead.{back_high, pair_high}
+use Rattle.run_items.proofs.FieldsRead.{natural_again, back_read, pair_read, back_high, pair_high}
 use Rattle.run_items.proofs.LinesSeen.{body}
 use Rattle.run_audit.specs.declared.line.Line.TheVariants.{Enter, Pass, Leave}
 use Rattle.run_audit.specs.declared.line.Line.{Line as AuditLine}
 use Rattle.run_audit.specs.Lines.{line_in, line_at, line_named, told, words_left, call as call_in}
-use Rattle.run_audit.specs.Lines.{ret as ret_in, entered, passed, is_pair, left}
+use Rattle.run_audit.specs.Lines.{ret as ret_in, entered, passed, left}
 use Rattle.audited_runs.specs.Audited.{line_seen}
 use Rattle.audited_runs.specs.Spelling.{LineHasText, FittingHaveTexts}
 use Rattle.cap_words.specs.WordBytes.{WordFits}
@@ -201,26 +201,26 @@ regroup_enter : (c sp p e s x0 x1 x2 x3 b : List ℕ)
     ++ (sp ++ (b ++ []))))))))))))))))
 regroup_enter c sp p e s x0 x1 x2 x3 b = simp append_assoc
 
-abbrev pub enter_fields : List ℕ → List ℕ → Word → Args → Return → List (List ℕ)
+abbrev pub enter_fields : List ℕ → List ℕ → Word → Args → FeedBack → List (List ℕ)
 enter_fields part export stk a back =
     part ∷ export ∷ word_text_of stk ∷ word_text_of a.a0 ∷ word_text_of a.a1 ∷ word_text_of a.a2
-    ∷ word_text_of a.a3 ∷ return_text back ∷ []
+    ∷ word_text_of a.a3 ∷ back_text back ∷ []
 
-pub enter_body : (part export : List ℕ) (stk : Word) (a : Args) (back : Return)
+pub enter_body : (part export : List ℕ) (stk : Word) (a : Args) (back : FeedBack)
     → body (enter part export stk a back) ≡ codes "enter" ++ spaced (enter_fields part export stk a back)
 unfolding args_text
 enter_body part export stk a back =
     regroup_enter (codes "enter") (codes " ") part export (word_text_of stk) (word_text_of a.a0)
-    (word_text_of a.a1) (word_text_of a.a2) (word_text_of a.a3) (return_text back)
+    (word_text_of a.a1) (word_text_of a.a2) (word_text_of a.a3) (back_text back)
 
-enter_high : (part export : List ℕ) (stk : Word) (a : Args) (back : Return)
+enter_high : (part export : List ℕ) (stk : Word) (a : Args) (back : FeedBack)
     → LineHasText (enter part export stk a back) → AllHigh (enter_fields part export stk a back)
 enter_high part export stk a back h =
-    let args : AllHigh (word_text_of a.a1 ∷ word_text_of a.a2 ∷ word_text_of a.a3 ∷ return_text back ∷ []) =
+    let args : AllHigh (word_text_of a.a1 ∷ word_text_of a.a2 ∷ word_text_of a.a3 ∷ back_text back ∷ []) =
     (word_high a.a1, (word_high a.a2, (word_high a.a3, (back_high back h.4, tt)))) in
     (name_high part h.0, (name_high export h.1, (word_high stk, (word_high a.a0, args))))
 
-enter_at : (part export : List ℕ) (stk : Word) (a : Args) (back : Return)
+enter_at : (part export : List ℕ) (stk : Word) (a : Args) (back : FeedBack)
     → LineHasText (enter part export stk a back)
     → line_at (codes "enter" ∷ enter_fields part export stk a back) ≡ Some (Enter, [])
 unfolding line_at line_named entered meant tested
@@ -237,37 +237,28 @@ enter_at part export stk a back h =
 
 -- ---- pass lines
 
-pair_told : (p : Passed) → is_pair (pair_field p) ≡ is_told p
-pair_told nothing = refl
-pair_told bad_pair = refl
-pair_told out_pair = refl
-pair_told (hop_pair part export) = refl
-
 pub regroup_pass : (c sp x y z : List ℕ)
     → ((c ++ sp) ++ (x ++ ((sp ++ y) ++ (sp ++ z)))) ++ [] ≡ c
     ++ (sp ++ (x ++ (sp ++ (y ++ (sp ++ (z ++ []))))))
 regroup_pass c sp x y z = simp append_assoc
 
-abbrev pub pass_fields : Passed → Passed → Passed → List (List ℕ)
-pass_fields p0 p1 p2 = passed_text p0 ∷ passed_text p1 ∷ passed_text p2 ∷ []
+abbrev pub pass_fields : FeedPair → FeedPair → FeedPair → List (List ℕ)
+pass_fields p0 p1 p2 = pair_text p0 ∷ pair_text p1 ∷ pair_text p2 ∷ []
 
 some_told : (a b c : Bool) → (a || (b || c)) ≡ true → (a || b || c) ≡ true
 some_told true b c e = refl
 some_told false true c e = refl
 some_told false false c e = e
 
-pass_at : (p0 p1 p2 : Passed) → LineHasText (pass p0 p1 p2)
+pass_at : (p0 p1 p2 : FeedPair) → LineHasText (pass p0 p1 p2)
     → line_at (codes "pass" ∷ pass_fields p0 p1 p2) ≡ Some (Pass, [])
 unfolding line_at line_named passed meant
 pass_at p0 p1 p2 h =
     let x0 = pair_read p0 h.0 in
     let x1 = pair_read p1 h.1 in
     let x2 = pair_read p2 h.2 in
-    let t0 = pair_told p0 in
-    let t1 = pair_told p1 in
-    let t2 = pair_told p2 in
-    let some = some_told (is_told p0) (is_told p1) (is_told p2) h.3 in
-    rw (x0, x1, x2, t0, t1, t2, some) refl
+    let some = some_told (is_pair p0) (is_pair p1) (is_pair p2) h.3 in
+    rw (x0, x1, x2, some) refl
 
 -- ---- leave lines
 
@@ -299,7 +290,7 @@ text_read (enter part export stk a back) h =
     (record { all = refl }) (enter_high part export stk a back h) (enter_at part export stk a back h)
 text_read (pass p0 p1 p2) h =
     read_by _ (codes "pass") (pass_fields p0 p1 p2) _
-    (regroup_pass (codes "pass") (codes " ") (passed_text p0) (passed_text p1) (passed_text p2))
+    (regroup_pass (codes "pass") (codes " ") (pair_text p0) (pair_text p1) (pair_text p2))
     (record { all = refl }) (pair_high p0 h.0, (pair_high p1 h.1, (pair_high p2 h.2, tt)))
     (pass_at p0 p1 p2 h)
 text_read (leave part a0) h =

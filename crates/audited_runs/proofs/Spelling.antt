@@ -6,7 +6,7 @@ use Rattle.std.specs.Str.{bytes_eq}
 use Rattle.cap_words.specs.Names.{is_name}
 use Rattle.cap_words.specs.Text.{word_text_of}
 use Rattle.trace_tool.specs.Lines.{Line, call, ret, enter, pass, leave}
-use Rattle.trace_tool.specs.Texts.{passed_text}
+use Rattle.source_events.specs.Forms.{pair_text, is_pair}
 use Rattle.trace_tool.specs.Fits.{PlaceFits}
 use Rattle.trace_tool.specs.OpenCalls.{LineTold}
 use Rattle.line_fields.specs.Options.{where_true}
@@ -21,7 +21,7 @@ use Rattle.run_audit.specs.declared.line.Line.{Line as AuditLine}
 use Rattle.run_audit.specs.declared.line.Line.TheVariants.{Call, Ret, Pass}
 use Rattle.run_audit.specs.Told.{ToldSeen}
 use Rattle.run_audit.specs.Lines.{is_direction, registers, told, words_left}
-use Rattle.run_audit.specs.Lines.{call as call_in, ret as ret_in, entered, passed, is_pair, left}
+use Rattle.run_audit.specs.Lines.{call as call_in, ret as ret_in, entered, passed, left}
 use Rattle.audited_runs.specs.Audited.{told_seen, line_seen}
 use Rattle.audited_runs.specs.Spelling.{LineHasText, LineIsSpelled}
 use Rattle.audited_runs.proofs.Spelled.{dir_text, call_body, ret_body}
@@ -144,13 +144,13 @@ enter_spelled fs l h =
     let x = a.args in
     let args = a.is
     ∙ ap (λ us. word_text_of x.a0 ∷ word_text_of x.a1 ∷ word_text_of x.a2 ∷ word_text_of x.a3 ∷ us)
-    (and_then b.2 both.1) in
+    (and_then b.1 both.1) in
     let is = and_then p.1 (and_then e.1 (and_then s.2 args)) in
     record {
-      line = enter g0.value g1.value s.0 x b.0;
-      is = enter_body g0.value g1.value s.0 x b.0 ∙ ap (λ us. codes "enter" ++ spaced us) (sym is);
+      line = enter g0.value g1.value s.0 x g4.value;
+      is = enter_body g0.value g1.value s.0 x g4.value ∙ ap (λ us. codes "enter" ++ spaced us) (sym is);
       seen = both.0;
-      has_text = (p.0, e.0, s.1, a.texts, b.1);
+      has_text = (p.0, e.0, s.1, a.texts, b.0);
     }
 
 some_pair : (a b c : Bool) → (a || b || c) ≡ true → (a || (b || c)) ≡ true
@@ -171,20 +171,18 @@ pass_spelled fs l h =
     let some = is_pair g0.value || is_pair g1.value || is_pair g2.value in
     let u = unless_is (where_true some Pass) g2.rest l [] g2.next in
     let c = chosen some Pass l u.0 in
-    let is = and_then p0.2 (and_then p1.2 (and_then p2.2 u.1)) in
+    let is = and_then p0.1 (and_then p1.1 (and_then p2.1 u.1)) in
     record {
-      line = pass p0.0 p1.0 p2.0;
-      is = regroup_pass (codes "pass") (codes " ") (passed_text p0.0) (passed_text p1.0) (passed_text p2.0)
+      line = pass g0.value g1.value g2.value;
+      is = regroup_pass (codes "pass") (codes " ") (pair_text g0.value) (pair_text g1.value)
+          (pair_text g2.value)
           ∙ ap (λ us. codes "pass" ++ spaced us) (sym is);
       seen = c.1;
       has_text = (
-        p0.1,
-        p1.1,
-        p2.1,
-        (let t0 = p0.3 in
-            let t1 = p1.3 in
-            let t2 = p2.3 in
-            rw (t0, t1, t2) (some_pair (is_pair g0.value) (is_pair g1.value) (is_pair g2.value) c.0)),
+        p0.0,
+        p1.0,
+        p2.0,
+        some_pair (is_pair g0.value) (is_pair g1.value) (is_pair g2.value) c.0,
       );
     }
 

@@ -10,26 +10,22 @@ use Rattle.std.proofs.lemmas.List.Splits.{join_with_byte-slice_split}
 use Rattle.cap_words.specs.declared.Word.{Word}
 use Rattle.cap_words.specs.Names.{is_name}
 use Rattle.cap_words.specs.Text.{word_text_of}
-use Rattle.trace_tool.specs.Lines.{Args, Return, out, bad, hop, pair, Passed, nothing, bad_pair, out_pair}
-use Rattle.trace_tool.specs.Lines.{hop_pair}
-use Rattle.trace_tool.specs.Texts.{return_text, passed_text}
-use Rattle.trace_tool.specs.Fits.{IsName, ReturnFits, PassedFits, is_told}
+use Rattle.source_events.specs.declared.FeedBack.{FeedBack}
+use Rattle.source_events.specs.declared.FeedPair.{FeedPair}
+use Rattle.source_events.specs.Forms.{IsName, BackFits, PairFits, back_text, pair_text}
+use Rattle.trace_tool.specs.Lines.{Args}
 use Rattle.line_fields.specs.Options.{where_true}
 use Rattle.line_fields.specs.Cuts.{parts}
 use Rattle.line_fields.specs.Numbers.{number_in}
 use Rattle.line_fields.specs.Words.{HasText, word_in, is_word}
-use Rattle.line_fields.specs.declared.forms.Back.{Back}
-use Rattle.line_fields.specs.declared.forms.Back.TheVariants as back
-use Rattle.line_fields.specs.declared.forms.Handed.{Handed}
-use Rattle.line_fields.specs.declared.forms.Handed.TheVariants as handed
-use Rattle.line_fields.specs.Forms.{back_in, handed_in, BackFits, back_text, HandedFits, handed_text}
+use Rattle.line_fields.specs.Forms.{back_in, handed_in}
 use Rattle.line_fields.specs.Fields.{Reader, goes_on, done, field, unless_none, meant, tested, fields}
 use Rattle.line_fields.specs.Fields.{whole}
 use Rattle.line_fields.proofs.Numbers.{number_is, chosen}
 use Rattle.line_fields.proofs.WordTexts.{word_is}
 use Rattle.line_fields.proofs.JumpTexts.{back_is, handed_is}
 use Rattle.run_items.proofs.Spaced.{spaced, no_rest}
-use Rattle.run_audit.specs.Lines.{is_direction, registers, words_left, is_pair}
+use Rattle.run_audit.specs.Lines.{is_direction, registers, words_left}
 use Rattle.audited_runs.proofs.Spelled.{dir_text}
 use Rattle.trace_tool.specs.Fits.{AllOf}
 use Rattle.trace_tool.specs.Fits.{ArgsOf}
@@ -139,35 +135,20 @@ mark_taken mark ts x rest h =
     k.1 ∙ ap (λ u. u ∷ rest) (sym ((bytes_eq-Decides mark x).0 k.0))
 
 -- where a return leads
-return_as : (b : Back) → BackFits b → (r : Return) × ReturnFits r × (return_text r ≡ back_text b)
-return_as back.Out h = (out, tt, refl)
-return_as back.Bad h = (bad, tt, refl)
-return_as (back.Hop entry) h = (hop entry.part entry.name, h, refl)
-return_as (back.Pair call) h = (pair call.part call.site call.base, h, refl)
-
-pub back_taken : (ts : Fields) (b : Back) (rest : Fields) → meant back_in ts ≡ Some (b, rest)
-    → (r : Return) × ReturnFits r × (ts ≡ return_text r ∷ rest)
+pub back_taken : (ts : Fields) (b : FeedBack) (rest : Fields) → meant back_in ts ≡ Some (b, rest)
+    → BackFits b × (ts ≡ back_text b ∷ rest)
 back_taken ts b rest h =
     let k = meant_is back_in ts b rest h in
     let t = back_is b k.0 k.1 in
-    let r = return_as b t.0 in
-    (r.0, r.1, k.2 ∙ ap (λ u. u ∷ rest) (t.1 ∙ sym r.2))
+    (t.0, k.2 ∙ ap (λ u. u ∷ rest) t.1)
 
 -- what two registers are
-passed_as : (p : Handed) → HandedFits p
-    → (q : Passed) × PassedFits q × (passed_text q ≡ handed_text p) × (is_told q ≡ is_pair p)
-passed_as handed.Nothing h = (nothing, tt, refl, refl)
-passed_as handed.Bad h = (bad_pair, tt, refl, refl)
-passed_as handed.Out h = (out_pair, tt, refl, refl)
-passed_as (handed.Hop entry) h = (hop_pair entry.part entry.name, h, refl, refl)
-
-pub pair_taken : (ts : Fields) (p : Handed) (rest : Fields) → meant handed_in ts ≡ Some (p, rest)
-    → (q : Passed) × PassedFits q × (ts ≡ passed_text q ∷ rest) × (is_told q ≡ is_pair p)
+pub pair_taken : (ts : Fields) (p : FeedPair) (rest : Fields) → meant handed_in ts ≡ Some (p, rest)
+    → PairFits p × (ts ≡ pair_text p ∷ rest)
 pair_taken ts p rest h =
     let k = meant_is handed_in ts p rest h in
     let t = handed_is p k.0 k.1 in
-    let q = passed_as p t.0 in
-    (q.0, q.1, k.2 ∙ ap (λ u. u ∷ rest) (t.1 ∙ sym q.2), q.3)
+    (t.0, k.2 ∙ ap (λ u. u ∷ rest) t.1)
 
 -- ---- many fields
 

@@ -16,6 +16,7 @@ use Rattle.cap_words.specs.declared.Face.TheVariants.{Memory}
 use Rattle.cap_words.specs.Face.{face_of, FaceInOrder}
 use Rattle.cap_words.specs.Faces.{covers, perm_number, same_kind}
 use Rattle.cap_words.specs.Linear.{is_linear, lin_is, zero_word}
+use Rattle.cap_words.specs.Stacks.{is_stack_from}
 use Rattle.lcm_isa.specs.declared.Reg.TheVariants.{C1, C2}
 use Rattle.lcm_isa.specs.declared.Instr.TheVariants.{Fail, Xjmp}
 use Rattle.lcm_machine.specs.declared.FailCause.TheVariants.{F4}
@@ -198,7 +199,7 @@ EntryRuns {W} look plain = (s : State W) (base last at stack_base : ℕ) (c : Ca
 
 -- what an entry asks of stk
 abbrev pub is_stack_at : ℕ → Face → Bool
-is_stack_at stack_base (Memory c) = lin_is c.lin && (perm_number c.perm == 2) && (c.base == stack_base)
+is_stack_at stack_base (Memory c) = is_stack_from stack_base c
 is_stack_at stack_base _ = false
 
 -- with any other stk, of whatever kind, it fails at the `fail`

@@ -8,5 +8,6 @@ pub mod Reading
 pub mod WordBytes
 pub mod WordReading
 pub mod Names
+pub mod Stacks
 pub mod FaultText
 pub mod formers

@@ -26,7 +26,10 @@ use Rattle.overlay_machine.specs.Link.{Link}
 use Rattle.overlay_machine.specs.Linked.{Linked}
 use Rattle.overlay_machine.specs.Safe.{IsOpenSeal, IsMet}
 use Rattle.trace_tool.specs.Layout.{part_name, site_of}
-use Rattle.trace_tool.specs.Feed as line
+use Rattle.source_events.specs.declared.OutArg.TheVariants.{Int as IntArg, Half}
+use Rattle.source_events.specs.declared.OutEvent.{OutEvent}
+use Rattle.source_events.specs.declared.OutEvent.TheVariants.{LeaveOut}
+use Rattle.source_events.specs.Outs.{out_arg}
 use Rattle.trace_tool.specs.Feed.{integer_in}
 use Rattle.template_runs.specs.Border.{Opened, code_word, half_word, content_of, ShowsCall, ShowsLeave}
 use Rattle.template_runs.specs.Border.{ShowsBy, by_call}
@@ -122,26 +125,25 @@ record LeaveIs (q : OState) (o : Option ℤ) (back : ℕ → Back) (v : ℤ) (k 
 
 leave_is : (l : Layout) (q : OState) (p : ℕ) (o : Option ℤ) (word : Whence → OWord) (back : ℕ → Back)
     (part : List ℕ) (v : ℤ) (low : Option ℕ) (k : ℕ)
-    → left_shown (line.leave_out (part_name l p) (line.out_arg o)) (left_with q)
+    → left_shown (LeaveOut (part_name l p) (out_arg o)) (left_with q)
     ≡ shown_of (event_to word back (Leaves part v low k)) ∷ []
     → LeaveIs q o back v k
 leave_is l q p o word back part v low k e =
     let x = ap (λ (z : Shown). z.back) (head_same e) in
     record {
       back_is = (let z : left_with q ≡ back k = cc in z);
-      value =
-          by o (ap (λ (z : Shown). z.line) (head_same e));
+      value = by o (ap (λ (z : Shown). z.line) (head_same e));
     }
   where
     by : (o : Option ℤ)
-        → line.leave_out (part_name l p) (line.out_arg o) ≡ line.leave_out part (line.integer v) → o ≡ Some v
-    by None e = absurd (let z : line.half ≡ line.integer v = cc in cc)
-    by (Some y) e = (let z : line.integer y ≡ line.integer v = cc in let u : y ≡ v = cc in ap Some u)
+        → LeaveOut (part_name l p) (out_arg o) ≡ LeaveOut part (IntArg v) → o ≡ Some v
+    by None e = absurd (let z : Half ≡ IntArg v = cc in cc)
+    by (Some y) e = (let z : IntArg y ≡ IntArg v = cc in let u : y ≡ v = cc in ap Some u)
 
 no_leave : (l : Layout) (q : OState) (i base : ℕ) (s : Shown) → s.went ≡ None → call_shown l q i base ≡ s → ⊥
 no_leave l q i base s n e = let w = ap (λ (z : Shown). z.went) e ∙ n in cc
 
-no_call : (e : line.OutEvent) (b : Back) (s : Shown) (w : Went) → s.went ≡ Some w
+no_call : (e : OutEvent) (b : Back) (s : Shown) (w : Went) → s.went ≡ Some w
     → record { line = e; went = None; back = Some b } ≡ s → ⊥
 no_call e b s w n h = let k = ap (λ (z : Shown). z.went) h ∙ n in cc
 
@@ -364,9 +366,9 @@ module _ (g h : Link) (names : SameNames g h) (by_names : GoByNames names) (lg :
         → ShowsLeave h.layout e end b.after
         → (part : List ℕ) (v : ℤ) (low : Option ℕ) (k : ℕ) (part' : List ℕ) (v' : ℤ) (low' : Option ℕ)
         (k' : ℕ)
-        → left_shown (line.leave_out (part_name g.layout p) (line.out_arg (Va A0))) (left_with a.after)
+        → left_shown (LeaveOut (part_name g.layout p) (out_arg (Va A0))) (left_with a.after)
         ≡ shown_of (event_to word back (Leaves part v low k)) ∷ []
-        → left_shown (line.leave_out (part_name h.layout q) (line.out_arg (Vb A0))) (left_with b.after)
+        → left_shown (LeaveOut (part_name h.layout q) (out_arg (Vb A0))) (left_with b.after)
         ≡ shown_of (event_to word' back' (Leaves part' v' low' k')) ∷ []
         → event_to name (λ (k : ℕ). k) (Leaves part v low k) ≡ event_to name' (λ (k : ℕ). k)
         (Leaves part' v' low' k') → Crossed (Leaves part v low k) (Leaves part' v' low' k')
@@ -425,7 +427,7 @@ module _ (g h : Link) (names : SameNames g h) (by_names : GoByNames names) (lg :
             refl
             (head_same hx))
         by _ _ ev ew (by_leave p d top sl) t (Calls part site base low m n xs) y hx hy hn =
-            absurd (no_call (line.leave_out (part_name g.layout p) (line.out_arg (Va A0))) (left_with a.after)
+            absurd (no_call (LeaveOut (part_name g.layout p) (out_arg (Va A0))) (left_with a.after)
             (shown_of (event_to word back (Calls part site base low m n xs))) _ refl (head_same hx))
         by _ _ ev ew s (by_call d f sc) x (Leaves part v low k) hx hy hn =
             absurd
@@ -433,7 +435,7 @@ module _ (g h : Link) (names : SameNames g h) (by_names : GoByNames names) (lg :
             (shown_of (event_to word' back' (Leaves part v low k))) refl
             (head_same hy))
         by _ _ ev ew s (by_leave p d top sl) x (Calls part site base low m n xs) hx hy hn =
-            absurd (no_call (line.leave_out (part_name h.layout p) (line.out_arg (Vb A0))) (left_with b.after)
+            absurd (no_call (LeaveOut (part_name h.layout p) (out_arg (Vb A0))) (left_with b.after)
             (shown_of (event_to word' back' (Calls part site base low m n xs))) _ refl (head_same hy))
         by _ _ ev ew s t (Calls part site base low m n xs) (Leaves part' v' low' k') hx hy hn = absurd cc
         by _ _ ev ew s t (Leaves part v low k) (Calls part' site' base' low' m' n' ys) hx hy hn = absurd cc

@@ -30,8 +30,7 @@ use Rattle.template_runs.specs.Runs.{is_inside}
 use Rattle.proc_semantics.specs.Values.{World}
 use Rattle.proc_semantics.specs.Meaning.{meaning}
 use Rattle.proc_semantics.specs.Marked.{Thing}
-use Rattle.trace_tool.specs.Feed as line
-use Rattle.run_items.specs.Items.{event_told}
+use Rattle.source_events.specs.declared.OutEvent.{OutEvent}
 use Rattle.source_events.specs.declared.Item.{Item}
 use Rattle.source_laws.specs.Seen.{Shown, Back}
 use Rattle.source_laws.specs.Seen as seen
@@ -40,7 +39,6 @@ use Rattle.source_laws.specs.Trace.{weighed}
 use Rattle.source_laws.specs.Words.{Tells, none_yet, and_then}
 use Rattle.source_laws.specs.Wiped as since
 use Rattle.source_laws.specs.Wiped.{TellsSince, last_outside}
-use Rattle.source_laws.specs.Good.{events_of}
 use Rattle.source_laws.specs.Sources as sources
 use Rattle.source_laws.specs.Sources.{Shows, SourcesMean, MeansAt}
 use Rattle.source_laws.specs.Secrets.{Until, still_there, one_more}
@@ -222,7 +220,7 @@ module _ (l : Layout) where
   lines_calm q (Some (Entered p k b)) c = absurd c
   lines_calm q (Some (Left p)) c = absurd c
 
-  far_shows : (s : OState) (es : List line.OutEvent) (is : List Item) (p q : OState) (n j w : ℕ) → Far p n q
+  far_shows : (s : OState) (es : List OutEvent) (is : List Item) (p q : OState) (n j w : ℕ) → Far p n q
       → Shows l s j w es is p → (i v : ℕ) × Shows l s i v es is q × (n ≤ v)
   far_shows s es is p _ _ j w (here i) t = (j, w, t, omega arith)
   far_shows s es is p m _ j w (more {n = n} {q = q} f e i) t =
@@ -270,7 +268,7 @@ module _ (world : World) (size : ℕ) (s : StartSeen) (means : SourcesMean world
       → (q m : OState) × Until L p q × (overlay_step L q ≡ goes m) × (is_inside L m ≡ false)
   goes_out es is p t i told = by (fate L p (told.0 * 200 + 1) i)
     where
-      Lines : List line.OutEvent
+      Lines : List OutEvent
       Lines = map (λ (x : Shown). x.line) es
 
       at : (n : ℕ) (q : OState) → Far L p n q → (v : ℕ)
@@ -281,14 +279,13 @@ module _ (world : World) (size : ℕ) (s : StartSeen) (means : SourcesMean world
           (z.1, means z.0 z.1 Lines (map (λ x. x.item) is) q z.2, z.3)
 
       long : (f : ℕ) → told.0 ≤ f
-          → length Lines + 1 ≤ length (events_of (meaning world size (map (λ x. x.item) is) f))
+          → length Lines + 1 ≤ length (meaning world size (map (λ x. x.item) is) f).events
       long f le =
           let a = told.1 f le in
           let b = length-map es (λ (x : Shown). x.line) in
-          let c = length-map (meaning world size (map (λ x. x.item) is) f).events event_told in
-          omega (arith, a, b, c)
+          omega (arith, a, b)
 
-      never : (f : ℕ) → told.0 ≤ f → events_of (meaning world size (map (λ x. x.item) is) f) ≡ Lines → ⊥
+      never : (f : ℕ) → told.0 ≤ f → (meaning world size (map (λ x. x.item) is) f).events ≡ Lines → ⊥
       never f le e = let a = long f le in let b = ap length e in omega (arith, a, b)
 
       by : Fate L p (told.0 * 200 + 1)
@@ -298,12 +295,12 @@ module _ (world : World) (size : ℕ) (s : StartSeen) (means : SourcesMean world
           let k = at n q f in
           let h = k.1.halts (until_inside L p q (far_until L p q n f)) e in
           absurd (never (told.0 + h.2.enough) (omega arith)
-          (h.2.ends (told.0 + h.2.enough) (omega arith)).1)
+          (h.2.told (told.0 + h.2.enough) (omega arith)))
       by (ended n q f (inr e)) =
           let k = at n q f in
           let h = k.1.fails (until_inside L p q (far_until L p q n f)) e in
           absurd (never (told.0 + h.0.enough) (omega arith)
-          (h.0.ends (told.0 + h.0.enough) (omega arith)).1)
+          (h.0.told (told.0 + h.0.enough) (omega arith)))
       by (goes_on q f) =
           let k = at (told.0 * 200 + 1) q f in
           let lt = k.2 in

@@ -36,13 +36,14 @@ use Rattle.overlay_machine.proofs.starts.ListFacts.{index_of}
 use Rattle.trace_tool.specs.Layout.{entry_name}
 use Rattle.trace_tool.specs.Views.{View, flat_view}
 use Rattle.trace_tool.specs.Pairs.{if_normal, content_linear, pair_to, pair_if, pair_of, pair_under, pairs_of}
-use Rattle.trace_tool.specs.Lines.{args_of}
-use Rattle.trace_tool.specs.Feed.{integer_in, integers_in, left_in, left_by}
+use Rattle.trace_tool.specs.Lines.{args_of, feed_back, feed_pair}
+use Rattle.trace_tool.specs.Feed.{integer_in, integers_in, feed_pairs}
+use Rattle.source_events.specs.Left.{left_in, left_by}
 use Rattle.source_events.specs.declared.FeedBack.TheVariants as way
 use Rattle.source_events.specs.declared.FeedPair.TheVariants as fed
 use Rattle.source_events.specs.declared.Item.{Item}
 use Rattle.source_events.specs.declared.Item.TheVariants.{Enter}
-use Rattle.source_laws.specs.Trace.{items_of, feed_back, feed_pair, feed_pairs}
+use Rattle.source_laws.specs.Trace.{items_of}
 use Rattle.template_runs.proofs.Outside.{open_no_owner}
 use Rattle.source_starts.proofs.Halves.{open_foreign, closure_foreign}
 use Rattle.context_laws.specs.Related.{SameNames, IsExport, Calls, SameWord}

@@ -10,16 +10,16 @@ use Rattle.std.proofs.lemmas.Slice.Eq.{bytes_eq-Decides}
 use Rattle.cap_words.specs.declared.TheConstants.{LONGEST_NAME}
 use Rattle.cap_words.specs.Names.{is_digit, is_name_byte, is_name}
 use Rattle.line_fields.specs.declared.TheConstants.{LAST_NATURAL}
-use Rattle.line_fields.specs.declared.forms.Back.{Back}
-use Rattle.line_fields.specs.declared.forms.Back.TheVariants as back
-use Rattle.line_fields.specs.declared.forms.Handed.{Handed}
-use Rattle.line_fields.specs.declared.forms.Handed.TheVariants as handed
+use Rattle.source_events.specs.declared.FeedBack.{FeedBack}
+use Rattle.source_events.specs.declared.FeedBack.TheVariants as back
+use Rattle.source_events.specs.declared.FeedPair.{FeedPair}
+use Rattle.source_events.specs.declared.FeedPair.TheVariants as handed
+use Rattle.source_events.specs.Forms.{IsName, IsSmall, BackFits, PairFits, back_text, pair_text}
 use Rattle.line_fields.specs.Cuts.{cut, behind}
 use Rattle.line_fields.specs.Numbers.{natural_in}
 use Rattle.line_fields.specs.Entries.{EntrySeen, CallSeen}
-use Rattle.line_fields.specs.Forms.{name_in, entry_in, call_in, pair_behind, back_behind, back_in}
-use Rattle.line_fields.specs.Forms.{handed_behind, handed_in, entry_text, call_text, back_text, handed_text}
-use Rattle.line_fields.specs.Forms.{EntryFits, CallFits, BackFits, HandedFits}
+use Rattle.line_fields.specs.Forms.{name_in, entry_in, call_in, hop_back, pair_back, hop_pair, pair_behind}
+use Rattle.line_fields.specs.Forms.{back_behind, back_in, handed_behind, handed_in}
 use Rattle.line_fields.proofs.Cuts.{cut_is}
 use Rattle.line_fields.proofs.Numbers.{number_again, number_is, some_from, some_of, chosen}
 use Rattle.line_fields.proofs.Fronts.{is_free, behind_is, cut_front, decimal_free}
@@ -51,6 +51,18 @@ name_is text name h =
     (sym (ap is_name k.1) ∙ k.0, k.1)
 
 -- ---- what they name
+
+abbrev EntryFits : EntrySeen → Type 0
+EntryFits e = IsName e.part × IsName e.name
+
+abbrev CallFits : CallSeen → Type 0
+CallFits c = IsName c.part × IsSmall c.site × IsSmall c.base
+
+abbrev entry_text : EntrySeen → List ℕ
+entry_text e = e.part ++ (codes ":" ++ e.name)
+
+abbrev call_text : CallSeen → List ℕ
+call_text c = c.part ++ (codes ":" ++ (decimal c.site ++ (codes ":" ++ decimal c.base)))
 
 entry_again : (e : EntrySeen) → EntryFits e → entry_in (entry_text e) ≡ Some e
 unfolding entry_in
@@ -111,33 +123,35 @@ call_is text c h =
 
 -- ---- what a return would do
 
-back_again : (b : Back) → BackFits b → back_in (back_text b) ≡ Some b
+back_again : (b : FeedBack) → BackFits b → back_in (back_text b) ≡ Some b
 unfolding back_in behind
 back_again back.Out h = refl
 back_again back.Bad h = refl
-back_again (back.Hop entry) h = ap (option_map back.Hop) (entry_again entry h)
-back_again (back.Pair call) h = ap (option_map back.Pair) (call_again call h)
+back_again (back.Hop part name) h =
+    ap (option_map hop_back) (entry_again (record { part = part; name = name }) h)
+back_again (back.Pair part site base) h =
+    ap (option_map pair_back) (call_again (record { part = part; site = site; base = base }) h)
 
-pub text_is_back : (b : Back) (text : List ℕ) → BackFits b × (text ≡ back_text b) → back_in text ≡ Some b
+pub text_is_back : (b : FeedBack) (text : List ℕ) → BackFits b × (text ≡ back_text b) → back_in text ≡ Some b
 text_is_back b text h = ap back_in h.1 ∙ back_again b h.0
 
-abbrev IsBackText : List ℕ → Back → Type 0
+abbrev IsBackText : List ℕ → FeedBack → Type 0
 IsBackText text b = BackFits b × (text ≡ back_text b)
 
-pair_is : (text : List ℕ) (o : Option (List ℕ)) (b : Back) → behind (codes "pair:") text ≡ o
+pair_is : (text : List ℕ) (o : Option (List ℕ)) (b : FeedBack) → behind (codes "pair:") text ≡ o
     → pair_behind o ≡ Some b → IsBackText text b
 pair_is text None b is h = absurd cc
 pair_is text (Some call) b is h =
-    let k = some_of (call_in call) back.Pair b h in
+    let k = some_of (call_in call) pair_back b h in
     let c = call_is call k.0 k.1 in
     subst (IsBackText text) k.2
     (c.0, behind_is (codes "pair:") text call is ∙ ap (λ t. codes "pair:" ++ t) c.1)
 
-hop_is : (text : List ℕ) (o : Option (List ℕ)) (b : Back) → behind (codes "hop:") text ≡ o
+hop_is : (text : List ℕ) (o : Option (List ℕ)) (b : FeedBack) → behind (codes "hop:") text ≡ o
     → back_behind text o ≡ Some b → IsBackText text b
 hop_is text None b is h = pair_is text (behind (codes "pair:") text) b refl h
 hop_is text (Some entry) b is h =
-    let k = some_of (entry_in entry) back.Hop b h in
+    let k = some_of (entry_in entry) hop_back b h in
     let e = entry_is entry k.0 k.1 in
     subst (IsBackText text) k.2
     (e.0, behind_is (codes "hop:") text entry is ∙ ap (λ t. codes "hop:" ++ t) e.1)
@@ -145,7 +159,7 @@ hop_is text (Some entry) b is h =
 same_text : (front text : List ℕ) → bytes_eq front text ≡ true → text ≡ front
 same_text front text h = sym ((bytes_eq-Decides front text).0 h)
 
-bad_is : (text : List ℕ) (t : Bool) (b : Back) → bytes_eq (codes "bad") text ≡ t
+bad_is : (text : List ℕ) (t : Bool) (b : FeedBack) → bytes_eq (codes "bad") text ≡ t
     → (if t then Some back.Bad else back_behind text (behind (codes "hop:") text)) ≡ Some b
     → IsBackText text b
 bad_is text true b is h =
@@ -153,7 +167,7 @@ bad_is text true b is h =
     subst (IsBackText text) same (tt, same_text (codes "bad") text is)
 bad_is text false b is h = hop_is text (behind (codes "hop:") text) b refl h
 
-out_is : (text : List ℕ) (t : Bool) (b : Back) → bytes_eq (codes "out") text ≡ t
+out_is : (text : List ℕ) (t : Bool) (b : FeedBack) → bytes_eq (codes "out") text ≡ t
     → (if t then Some back.Out
     else if bytes_eq (codes "bad") text then Some back.Bad
     else back_behind text (behind (codes "hop:") text)) ≡ Some b
@@ -163,36 +177,37 @@ out_is text true b is h =
     subst (IsBackText text) same (tt, same_text (codes "out") text is)
 out_is text false b is h = bad_is text (bytes_eq (codes "bad") text) b refl h
 
-pub back_is : (b : Back) (text : List ℕ) → back_in text ≡ Some b → BackFits b × (text ≡ back_text b)
+pub back_is : (b : FeedBack) (text : List ℕ) → back_in text ≡ Some b → BackFits b × (text ≡ back_text b)
 unfolding back_in
 back_is b text h = out_is text (bytes_eq (codes "out") text) b refl h
 
 -- ---- what two argument registers are
 
-handed_again : (p : Handed) → HandedFits p → handed_in (handed_text p) ≡ Some p
+handed_again : (p : FeedPair) → PairFits p → handed_in (pair_text p) ≡ Some p
 unfolding handed_in behind
 handed_again handed.Nothing h = refl
 handed_again handed.Bad h = refl
 handed_again handed.Out h = refl
-handed_again (handed.Hop entry) h = ap (option_map handed.Hop) (entry_again entry h)
+handed_again (handed.Hop part name) h =
+    ap (option_map hop_pair) (entry_again (record { part = part; name = name }) h)
 
-pub text_is_handed : (p : Handed) (text : List ℕ) → HandedFits p × (text ≡ handed_text p)
+pub text_is_handed : (p : FeedPair) (text : List ℕ) → PairFits p × (text ≡ pair_text p)
     → handed_in text ≡ Some p
 text_is_handed p text h = ap handed_in h.1 ∙ handed_again p h.0
 
-abbrev IsHandedText : List ℕ → Handed → Type 0
-IsHandedText text p = HandedFits p × (text ≡ handed_text p)
+abbrev IsHandedText : List ℕ → FeedPair → Type 0
+IsHandedText text p = PairFits p × (text ≡ pair_text p)
 
-handed_hop_is : (text : List ℕ) (o : Option (List ℕ)) (p : Handed) → behind (codes "hop:") text ≡ o
+handed_hop_is : (text : List ℕ) (o : Option (List ℕ)) (p : FeedPair) → behind (codes "hop:") text ≡ o
     → handed_behind o ≡ Some p → IsHandedText text p
 handed_hop_is text None p is h = absurd cc
 handed_hop_is text (Some entry) p is h =
-    let k = some_of (entry_in entry) handed.Hop p h in
+    let k = some_of (entry_in entry) hop_pair p h in
     let e = entry_is entry k.0 k.1 in
     subst (IsHandedText text) k.2
     (e.0, behind_is (codes "hop:") text entry is ∙ ap (λ t. codes "hop:" ++ t) e.1)
 
-handed_out_is : (text : List ℕ) (t : Bool) (p : Handed) → bytes_eq (codes "out") text ≡ t
+handed_out_is : (text : List ℕ) (t : Bool) (p : FeedPair) → bytes_eq (codes "out") text ≡ t
     → (if t then Some handed.Out else handed_behind (behind (codes "hop:") text)) ≡ Some p
     → IsHandedText text p
 handed_out_is text true p is h =
@@ -200,7 +215,7 @@ handed_out_is text true p is h =
     subst (IsHandedText text) same (tt, same_text (codes "out") text is)
 handed_out_is text false p is h = handed_hop_is text (behind (codes "hop:") text) p refl h
 
-handed_bad_is : (text : List ℕ) (t : Bool) (p : Handed) → bytes_eq (codes "bad") text ≡ t
+handed_bad_is : (text : List ℕ) (t : Bool) (p : FeedPair) → bytes_eq (codes "bad") text ≡ t
     → (if t then Some handed.Bad
     else if bytes_eq (codes "out") text then Some handed.Out
     else handed_behind (behind (codes "hop:") text)) ≡ Some p
@@ -210,7 +225,7 @@ handed_bad_is text true p is h =
     subst (IsHandedText text) same (tt, same_text (codes "bad") text is)
 handed_bad_is text false p is h = handed_out_is text (bytes_eq (codes "out") text) p refl h
 
-none_is : (text : List ℕ) (t : Bool) (p : Handed) → bytes_eq (codes "none") text ≡ t
+none_is : (text : List ℕ) (t : Bool) (p : FeedPair) → bytes_eq (codes "none") text ≡ t
     → (if t then Some handed.Nothing
     else if bytes_eq (codes "bad") text then Some handed.Bad
     else if bytes_eq (codes "out") text then Some handed.Out
@@ -221,7 +236,7 @@ none_is text true p is h =
     subst (IsHandedText text) same (tt, same_text (codes "none") text is)
 none_is text false p is h = handed_bad_is text (bytes_eq (codes "bad") text) p refl h
 
-pub handed_is : (p : Handed) (text : List ℕ) → handed_in text ≡ Some p
-    → HandedFits p × (text ≡ handed_text p)
+pub handed_is : (p : FeedPair) (text : List ℕ) → handed_in text ≡ Some p
+    → PairFits p × (text ≡ pair_text p)
 unfolding handed_in
 handed_is p text h = none_is text (bytes_eq (codes "none") text) p refl h

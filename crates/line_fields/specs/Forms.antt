@@ -1,9 +1,11 @@
 -- Fields that tell where a jump leads.
-use Rattle.std.specs.Prelude.{ℕ, ◌≤◌, ◌++◌, IsTrue, List, codes, decimal, Option, Some, None, option_map}
-use Rattle.std.specs.Prelude.{if◌then◌else◌}
+use Rattle.std.specs.Prelude.{ℕ, List, codes, Option, Some, None, option_map, if◌then◌else◌}
 use Rattle.std.specs.Str.{bytes_eq}
 use Rattle.cap_words.specs.Names.{is_name}
-use Rattle.line_fields.specs.declared.TheConstants.{LAST_NATURAL}
+use Rattle.source_events.specs.declared.FeedBack.{FeedBack}
+use Rattle.source_events.specs.declared.FeedBack.TheVariants as feed_back
+use Rattle.source_events.specs.declared.FeedPair.{FeedPair}
+use Rattle.source_events.specs.declared.FeedPair.TheVariants as feed_pair
 use Rattle.line_fields.specs.declared.forms.Back.{Back}
 use Rattle.line_fields.specs.declared.forms.Back.TheVariants as back
 use Rattle.line_fields.specs.declared.forms.Handed.{Handed}
@@ -34,68 +36,51 @@ call_in text = do
   base ← natural_in place.1
   Some (record { part = part; site = site; base = base })
 
-abbrev pub pair_behind : Option (List ℕ) → Option Back
-pair_behind None = None
-pair_behind (Some call) = option_map back.Pair (call_in call)
+-- what the jumps that were read tell
+abbrev pub hop_back : EntrySeen → FeedBack
+hop_back entry = feed_back.Hop entry.part entry.name
 
-abbrev pub back_behind : List ℕ → Option (List ℕ) → Option Back
+abbrev pub pair_back : CallSeen → FeedBack
+pair_back call = feed_back.Pair call.part call.site call.base
+
+abbrev pub back_seen : Back → FeedBack
+back_seen back.Out = feed_back.Out
+back_seen back.Bad = feed_back.Bad
+back_seen (back.Hop entry) = hop_back entry
+back_seen (back.Pair call) = pair_back call
+
+abbrev pub hop_pair : EntrySeen → FeedPair
+hop_pair entry = feed_pair.Hop entry.part entry.name
+
+abbrev pub handed_seen : Handed → FeedPair
+handed_seen handed.Nothing = feed_pair.Nothing
+handed_seen handed.Bad = feed_pair.Bad
+handed_seen handed.Out = feed_pair.Out
+handed_seen (handed.Hop entry) = hop_pair entry
+
+abbrev pub pair_behind : Option (List ℕ) → Option FeedBack
+pair_behind None = None
+pair_behind (Some call) = option_map pair_back (call_in call)
+
+abbrev pub back_behind : List ℕ → Option (List ℕ) → Option FeedBack
 back_behind text None = pair_behind (behind (codes "pair:") text)
-back_behind text (Some entry) = option_map back.Hop (entry_in entry)
+back_behind text (Some entry) = option_map hop_back (entry_in entry)
 
 -- out, bad, hop:PART:EXPORT or pair:PART:SITE:BASE
-unfoldable pub back_in : List ℕ → Option Back
+unfoldable pub back_in : List ℕ → Option FeedBack
 back_in text =
-    if bytes_eq (codes "out") text then Some back.Out
-    else if bytes_eq (codes "bad") text then Some back.Bad
+    if bytes_eq (codes "out") text then Some feed_back.Out
+    else if bytes_eq (codes "bad") text then Some feed_back.Bad
     else back_behind text (behind (codes "hop:") text)
 
-abbrev pub handed_behind : Option (List ℕ) → Option Handed
+abbrev pub handed_behind : Option (List ℕ) → Option FeedPair
 handed_behind None = None
-handed_behind (Some entry) = option_map handed.Hop (entry_in entry)
+handed_behind (Some entry) = option_map hop_pair (entry_in entry)
 
 -- none, bad, out or hop:PART:EXPORT
-unfoldable pub handed_in : List ℕ → Option Handed
+unfoldable pub handed_in : List ℕ → Option FeedPair
 handed_in text =
-    if bytes_eq (codes "none") text then Some handed.Nothing
-    else if bytes_eq (codes "bad") text then Some handed.Bad
-    else if bytes_eq (codes "out") text then Some handed.Out
+    if bytes_eq (codes "none") text then Some feed_pair.Nothing
+    else if bytes_eq (codes "bad") text then Some feed_pair.Bad
+    else if bytes_eq (codes "out") text then Some feed_pair.Out
     else handed_behind (behind (codes "hop:") text)
-
--- ---- how they are written
-
--- names are names, and numbers have 32 bits
-abbrev pub EntryFits : EntrySeen → Type 0
-EntryFits e = IsTrue (is_name e.part) × IsTrue (is_name e.name)
-
-abbrev pub CallFits : CallSeen → Type 0
-CallFits c = IsTrue (is_name c.part) × (c.site ≤ LAST_NATURAL) × (c.base ≤ LAST_NATURAL)
-
-abbrev pub BackFits : Back → Type 0
-BackFits back.Out = Unit {0}
-BackFits back.Bad = Unit {0}
-BackFits (back.Hop entry) = EntryFits entry
-BackFits (back.Pair call) = CallFits call
-
-abbrev pub HandedFits : Handed → Type 0
-HandedFits handed.Nothing = Unit {0}
-HandedFits handed.Bad = Unit {0}
-HandedFits handed.Out = Unit {0}
-HandedFits (handed.Hop entry) = EntryFits entry
-
-abbrev pub entry_text : EntrySeen → List ℕ
-entry_text e = e.part ++ (codes ":" ++ e.name)
-
-abbrev pub call_text : CallSeen → List ℕ
-call_text c = c.part ++ (codes ":" ++ (decimal c.site ++ (codes ":" ++ decimal c.base)))
-
-abbrev pub back_text : Back → List ℕ
-back_text back.Out = codes "out"
-back_text back.Bad = codes "bad"
-back_text (back.Hop entry) = codes "hop:" ++ entry_text entry
-back_text (back.Pair call) = codes "pair:" ++ call_text call
-
-abbrev pub handed_text : Handed → List ℕ
-handed_text handed.Nothing = codes "none"
-handed_text handed.Bad = codes "bad"
-handed_text handed.Out = codes "out"
-handed_text (handed.Hop entry) = codes "hop:" ++ entry_text entry

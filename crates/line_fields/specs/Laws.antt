@@ -6,9 +6,10 @@ use Rattle.cap_words.specs.declared.Word.{Word}
 use Rattle.cap_words.specs.Text.{word_text_of}
 use Rattle.line_fields.specs.Numbers.{number_in, integer_in}
 use Rattle.line_fields.specs.Words.{HasText, word_in}
-use Rattle.line_fields.specs.declared.forms.Back.{Back}
-use Rattle.line_fields.specs.declared.forms.Handed.{Handed}
-use Rattle.line_fields.specs.Forms.{back_in, BackFits, back_text, handed_in, HandedFits, handed_text}
+use Rattle.source_events.specs.declared.FeedBack.{FeedBack}
+use Rattle.source_events.specs.declared.FeedPair.{FeedPair}
+use Rattle.source_events.specs.Forms.{BackFits, back_text, PairFits, pair_text}
+use Rattle.line_fields.specs.Forms.{back_in, handed_in}
 
 -- up to a bound of 64 bits
 abbrev pub NumbersAreRead : Type 0
@@ -24,8 +25,8 @@ abbrev pub WordsAreRead : Type 0
 WordsAreRead = (w : Word) (text : List ℕ) → (word_in text ≡ Some w) ↔ (HasText w × (text ≡ word_text_of w))
 
 abbrev pub BacksAreRead : Type 0
-BacksAreRead = (b : Back) (text : List ℕ) → (back_in text ≡ Some b) ↔ (BackFits b × (text ≡ back_text b))
+BacksAreRead = (b : FeedBack) (text : List ℕ) → (back_in text ≡ Some b) ↔ (BackFits b × (text ≡ back_text b))
 
 abbrev pub HandedAreRead : Type 0
 HandedAreRead =
-    (p : Handed) (text : List ℕ) → (handed_in text ≡ Some p) ↔ (HandedFits p × (text ≡ handed_text p))
+    (p : FeedPair) (text : List ℕ) → (handed_in text ≡ Some p) ↔ (PairFits p × (text ≡ pair_text p))

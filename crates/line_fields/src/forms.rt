@@ -1,7 +1,8 @@
 //! Fields that tell where a jump leads.
 ghost use Rattle.std.specs.Prelude.{◌≡◌, option_map};
 ghost use Rattle.std.specs.Str.{bytes_eq};
-ghost use Rattle.line_fields.specs.Forms.{name_in, entry_in, call_in, back_in, handed_in};
+ghost use Rattle.line_fields.specs.Forms.{name_in, entry_in, call_in, back_seen, back_in, handed_seen};
+ghost use Rattle.line_fields.specs.Forms.{handed_in};
 
 use crate::entry::{CallPlace, EntryName};
 use crate::marks::{behind, cut};
@@ -76,7 +77,7 @@ fn call_in(text: &[u8]) -> Option<CallPlace<'_>>
 /// text is none of these.
 #[tactic(auto, unfolding(crate::specs::Forms::back_in))]
 pub fn back_in(text: &[u8]) -> Option<Back<'_>>
-    ensures { result ≡ back_in text.now }
+    ensures { option_map back_seen result ≡ back_in text.now }
 {
     if is_text("out", text) {
         return Some(Back::Out);
@@ -95,7 +96,7 @@ pub fn back_in(text: &[u8]) -> Option<Back<'_>>
 /// exactly where the text is none of these.
 #[tactic(auto, unfolding(crate::specs::Forms::handed_in))]
 pub fn handed_in(text: &[u8]) -> Option<Handed<'_>>
-    ensures { result ≡ handed_in text.now }
+    ensures { option_map handed_seen result ≡ handed_in text.now }
 {
     if is_text("none", text) {
         return Some(Handed::Nothing);

@@ -4,7 +4,7 @@ ghost use Rattle.std.specs.Str.{bytes_eq};
 ghost use Rattle.cap_words.specs.Names.{is_name};
 ghost use Rattle.line_fields.specs.Numbers.{natural_in};
 ghost use Rattle.line_fields.specs.Words.{is_word};
-ghost use Rattle.line_fields.specs.Forms.{back_in, handed_in};
+ghost use Rattle.line_fields.specs.Forms.{back_seen, back_in, handed_seen, handed_in};
 ghost use Rattle.line_fields.specs.Fields.{fields, lines, field, meant, tested, is_none_left, GivesAs};
 
 use crate::forms::{self, Back, Handed, is_text};
@@ -130,7 +130,7 @@ impl<'a> Parts<'a> {
     /// The next part, which tells what a return would do.
     #[tactic(auto, unfolding(crate::specs::Fields::meant))]
     pub fn back(&mut self) -> Option<Back<'a>>
-        ensures { GivesAs (λ b. b) result self.new (meant back_in self.old) }
+        ensures { GivesAs back_seen result self.new (meant back_in self.old) }
     {
         let field = self.part()?;
         forms::back_in(field)
@@ -139,7 +139,7 @@ impl<'a> Parts<'a> {
     /// The next part, which tells what two argument registers are as a closure pair.
     #[tactic(auto, unfolding(crate::specs::Fields::meant))]
     pub fn handed(&mut self) -> Option<Handed<'a>>
-        ensures { GivesAs (λ h. h) result self.new (meant handed_in self.old) }
+        ensures { GivesAs handed_seen result self.new (meant handed_in self.old) }
     {
         let field = self.part()?;
         forms::handed_in(field)

@@ -7,6 +7,7 @@ use Rattle.cap_words.specs.declared.CapFields.{CapFields}
 use Rattle.cap_words.specs.declared.Word.TheVariants.{Int}
 use Rattle.cap_words.specs.Faces.{covers, address, memory_in, perm_number}
 use Rattle.cap_words.specs.Linear.{lin_is}
+use Rattle.cap_words.specs.Stacks.{is_stack_from}
 use Rattle.lcm_isa.specs.declared.Reg.TheVariants.{C1, C2, Stk}
 use Rattle.lcm_isa.specs.declared.Instr.TheVariants.{Xjmp}
 use Rattle.lcm_machine.specs.declared.FailCause.{FailCause}
@@ -22,7 +23,7 @@ use Rattle.overlay_machine.specs.declared.words.OWord.TheVariants.{Plain}
 use Rattle.overlay_machine.specs.Words.{look, is_plain}
 use Rattle.overlay_machine.specs.State.{OState}
 use Rattle.lcm_machine.specs.Cells.{all_there}
-use Rattle.overlay_machine.specs.Step.{goes, fails, ask, need, with_frames, own_stack, if_own, is_own_stack}
+use Rattle.overlay_machine.specs.Step.{goes, fails, ask, need, with_frames, own_stack, if_own}
 use Rattle.overlay_machine.specs.Step.{call_step, at_call, new_frame}
 use Rattle.overlay_machine.specs.declared.machine.Machine.{Machine}
 use Rattle.overlay_machine.specs.declared.machine.Outcome.TheVariants.{Went, Failed}
@@ -30,9 +31,10 @@ use Rattle.overlay_machine.specs.Machine.{overlay_of, frames_of, Ends, called}
 
 own-some : (l : Layout) (o : Option CapFields) (c : CapFields) → if_own l o ≡ Some c → c.base ≡ l.stack.base
 own-some l None c e = cc
-own-some l (Some d) c e = either (is_own_stack l d) refl e
+own-some l (Some d) c e = either (is_stack_from l.stack.base d) refl e
   where
-    either : (b : Bool) → is_own_stack l d ≡ b → (if b then Some d else None) ≡ Some c → c.base ≡ l.stack.base
+    either : (b : Bool) → is_stack_from l.stack.base d ≡ b → (if b then Some d else None) ≡ Some c
+        → c.base ≡ l.stack.base
     either true t k = let same : d ≡ c = cc in let p =
         and_parts (lin_is d.lin && (perm_number d.perm == 2)) (d.base == l.stack.base) t in
         subst (λ x. x.base ≡ l.stack.base) same (eqb-true d.base l.stack.base p.1)

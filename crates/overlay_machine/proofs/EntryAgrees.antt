@@ -10,6 +10,7 @@ use Rattle.cap_words.specs.declared.Face.TheVariants.{Number, Memory, Seals, Sea
 use Rattle.cap_words.specs.Face.{face_of, FaceInOrder}
 use Rattle.cap_words.specs.Faces.{memory_in}
 use Rattle.cap_words.specs.Linear.{zero_word}
+use Rattle.cap_words.specs.Stacks.{is_stack_from}
 use Rattle.lcm_isa.specs.declared.Reg.{Reg}
 use Rattle.lcm_isa.specs.declared.Reg.TheVariants.{Pc, Rcode, Rdata, Stk, Dat, T1, T2, C1, C2, A0, A1, A2, A3}
 use Rattle.lcm_isa.specs.declared.Reg.TheVariants.{G0, G1, G2}
@@ -26,7 +27,7 @@ use Rattle.overlay_machine.specs.declared.words.OWord.{OWord}
 use Rattle.overlay_machine.specs.declared.words.OWord.TheVariants.{Plain}
 use Rattle.overlay_machine.specs.Words.{look}
 use Rattle.overlay_machine.specs.State.{OState}
-use Rattle.overlay_machine.specs.Step.{goes, need, is_own_stack, if_own, own_stack, entry_step}
+use Rattle.overlay_machine.specs.Step.{goes, need, if_own, own_stack, entry_step}
 use Rattle.overlay_machine.specs.Flat.{flat, IsFlat}
 use Rattle.overlay_machine.specs.Agree.{Agrees, Looks, AtEntry}
 use Rattle.overlay_machine.proofs.FlatLemmas.{flat-mem, flat-plain, mem_of_face, HasEntry-flat, both_fail}
@@ -40,7 +41,8 @@ not_own : (l : Layout) (x : Face) → if_own l (memory_in x) ≡ None → is_sta
 not_own l (Number z) e = refl
 not_own l (Seals z) e = refl
 not_own l (Sealed z) e = refl
-not_own l (Memory c) e = false_from_ne_true (is_own_stack l c) (λ h. let k : Some c ≡ None = rw h at e in cc)
+not_own l (Memory c) e =
+    false_from_ne_true (is_stack_from l.stack.base c) (λ h. let k : Some c ≡ None = rw h at e in cc)
 
 module _ (l : Layout) (a : ℕ) (o : OState) (t : State Word) (at_entry : AtEntry l a o) (m : IsFlat l o t)
     (k : Looks l o) where

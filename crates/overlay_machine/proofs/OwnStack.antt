@@ -14,6 +14,7 @@ use Rattle.cap_words.specs.declared.Face.TheVariants.{Number, Memory, Seals, Sea
 use Rattle.cap_words.specs.Face.{face_of}
 use Rattle.cap_words.specs.Faces.{same_kind, same_lin, perm_number, memory_in}
 use Rattle.cap_words.specs.Linear.{lin_is}
+use Rattle.cap_words.specs.Stacks.{is_stack_from}
 use Rattle.lcm_machine.specs.Maps.{State}
 use Rattle.lcm_machine.specs.Row.{faces}
 use Rattle.call_sequence.specs.SequenceRuns.{stack_cap}
@@ -21,7 +22,7 @@ use Rattle.trusted_border.specs.declared.layout.Layout.{Layout}
 use Rattle.overlay_machine.specs.declared.words.OWord.{OWord}
 use Rattle.overlay_machine.specs.Words.{look}
 use Rattle.overlay_machine.specs.State.{OpenFrame}
-use Rattle.overlay_machine.specs.Step.{is_own_stack, if_own, own_stack}
+use Rattle.overlay_machine.specs.Step.{if_own, own_stack}
 use Rattle.overlay_machine.proofs.FlatLemmas.{mem_of_face}
 
 -- the stack's kind read backwards
@@ -49,29 +50,30 @@ stack_of c a b d e =
     ap (λ x. record c { perm = x }) perm ∙ ap (λ x. record c { perm = Rw; lin = x }) lin
 
 pub face_of_own : (l : Layout) (x : Face) (c : CapFields) → if_own l (memory_in x) ≡ Some c → (x ≡ Memory c)
-    × (is_own_stack l c ≡ true)
+    × (is_stack_from l.stack.base c ≡ true)
 face_of_own l (Number z) c e = cc
 face_of_own l (Seals z) c e = cc
 face_of_own l (SealedFace z) c e = cc
 face_of_own l (Memory b) c e =
-    elim (cases_Bool (is_own_stack l b)) as (λ _. (Memory b ≡ Memory c) × (is_own_stack l c ≡ true)) [
+    elim (cases_Bool (is_stack_from l.stack.base b))
+    as (λ _. (Memory b ≡ Memory c) × (is_stack_from l.stack.base c ≡ true)) [
       | inl holds ↦
           (let k : Some b ≡ Some c = rw holds at e in let q : b ≡ c = cc in (ap Memory q, rw (← q) holds))
       | inr lacks ↦ (let k : None ≡ Some c = rw lacks at e in cc)
     ]
 
 pub own_true : (l : Layout) (s : State OWord) (c : CapFields) → own_stack l s ≡ Some c
-    → is_own_stack l c ≡ true
+    → is_stack_from l.stack.base c ≡ true
 unfolding own_stack faces
 own_true l s c e = (face_of_own l (face_of (look s.regs.stk)) c e).1
 
-pub own_parts : (l : Layout) (c : CapFields) → is_own_stack l c ≡ true → (lin_is c.lin ≡ true)
+pub own_parts : (l : Layout) (c : CapFields) → is_stack_from l.stack.base c ≡ true → (lin_is c.lin ≡ true)
     × ((perm_number c.perm == 2) ≡ true) × (c.base ≡ l.stack.base)
 own_parts l c e = let p = and_parts _ _ e in let q =
     and_parts _ _ p.0 in (q.0, q.1, eqb-true c.base l.stack.base p.1)
 
-pub own_joins : (l : Layout) (c : CapFields) (g : OpenFrame) → is_own_stack l c ≡ true → c.end + 1 ≡ g.base
-    → (same_kind c (stack_cap g.base g.end g.base) && (c.end + 1 == g.base)) ≡ false → ⊥
+pub own_joins : (l : Layout) (c : CapFields) (g : OpenFrame) → is_stack_from l.stack.base c ≡ true
+    → c.end + 1 ≡ g.base → (same_kind c (stack_cap g.base g.end g.base) && (c.end + 1 == g.base)) ≡ false → ⊥
 own_joins l c g own e h =
     let p = own_parts l c own in
     let k : (same_kind c (stack_cap g.base g.end g.base) && (c.end + 1 == g.base)) ≡ true =

@@ -3,8 +3,9 @@ use Rattle.std.specs.Prelude.{ℕ, ◌+◌, ◌-◌, ◌==◌, nat_le, Bool, ◌
 use Rattle.std.specs.Prelude.{Option, Some, None, if◌then◌else◌}
 use Rattle.cap_words.specs.declared.CapFields.{CapFields}
 use Rattle.cap_words.specs.declared.Word.TheVariants.{Int, Mem}
-use Rattle.cap_words.specs.Faces.{perm_number, covers, address, memory_in}
-use Rattle.cap_words.specs.Linear.{lin_is, zero_word}
+use Rattle.cap_words.specs.Faces.{covers, address, memory_in}
+use Rattle.cap_words.specs.Linear.{zero_word}
+use Rattle.cap_words.specs.Stacks.{is_stack_from}
 use Rattle.lcm_isa.specs.declared.Reg.{Reg}
 use Rattle.lcm_isa.specs.declared.Reg.TheVariants.{Pc, Stk, Dat, C1, C2}
 use Rattle.lcm_isa.specs.declared.Instr.TheVariants.{Xjmp}
@@ -71,13 +72,10 @@ with_frames fs n (went s) = goes (record { maps = s; frames = fs; calls = n })
 with_frames fs n halted = halts
 with_frames fs n (failed cause at) = fails
 
--- stk, where it is a linear rw capability that begins where the stack does
-abbrev pub is_own_stack : Layout → CapFields → Bool
-is_own_stack l c = lin_is c.lin && (perm_number c.perm == 2) && (c.base == l.stack.base)
-
+-- stk, where it is the capability of the stack
 abbrev pub if_own : Layout → Option CapFields → Option CapFields
 if_own l None = None
-if_own l (Some c) = if is_own_stack l c then Some c else None
+if_own l (Some c) = if is_stack_from l.stack.base c then Some c else None
 
 unfoldable pub own_stack : Layout → State OWord → Option CapFields
 own_stack l s = if_own l (memory_in (faces look s Stk))

@@ -6,3 +6,4 @@ pub mod Marked
 pub mod Apart
 pub mod Whole
 pub mod Fuel
+pub mod Leaves

@@ -4,6 +4,7 @@ ghost use Rattle.proc_semantics.specs.Apart.{ToldApart};
 ghost use Rattle.proc_semantics.specs.Marked.{MarkLaws};
 ghost use Rattle.proc_semantics.specs.Whole.{IsRecursive};
 ghost use Rattle.proc_semantics.specs.Fuel.{FuelLaws};
+ghost use Rattle.proc_semantics.specs.Leaves.{MeaningsLeaveIntegers};
 
 /// No more ticks are told than there is fuel, and as many where it ran out. With more fuel the same is
 /// told, or the fuel had run out after some of the same events; so a feed has one end, if it has any. That
@@ -24,6 +25,12 @@ pub fn recursion()
 #[tactic(auto, using(crate::proofs::Marked::mark_laws))]
 pub fn marks_are_beside()
     ensures { MarkLaws }
+{}
+
+/// Each procedure that leaves by a meaning gives an integer.
+#[tactic(auto, using(crate::proofs::Leaves::meanings_leave))]
+pub fn leaves_are_integers()
+    ensures { MeaningsLeaveIntegers }
 {}
 
 /// The refined meaning tells more than the meaning: there are modules that tell the same events of a feed,

@@ -4,12 +4,11 @@ use Rattle.std.specs.Prelude.{Option, Some, None, if◌then◌else◌, is_some}
 use Rattle.std.specs.List.{list_all}
 use Rattle.std.specs.Str.{bytes_eq}
 use Rattle.cap_words.specs.Names.{is_name}
+use Rattle.source_events.specs.Forms.{is_pair}
 use Rattle.line_fields.specs.Options.{where_true}
 use Rattle.line_fields.specs.Cuts.{behind}
 use Rattle.line_fields.specs.Numbers.{number_in, natural_in, integer_in}
 use Rattle.line_fields.specs.Words.{is_word}
-use Rattle.line_fields.specs.declared.forms.Handed.{Handed}
-use Rattle.line_fields.specs.declared.forms.Handed.TheVariants.{Nothing, Bad, Out, Hop}
 use Rattle.line_fields.specs.Forms.{back_in, handed_in}
 use Rattle.line_fields.specs.Fields.{Reader, ◌>>=◌, done, field, unless_none, meant, tested, whole, fields}
 use Rattle.run_audit.specs.declared.TheConstants.{LAST_COUNT, LAST_CAUSE}
@@ -88,13 +87,6 @@ entered = do
   args ← registers true
   back ← meant back_in
   done Enter
-
--- of two registers, that they are a pair
-abbrev pub is_pair : Handed → Bool
-is_pair Nothing = false
-is_pair Bad = true
-is_pair Out = true
-is_pair (Hop entry) = true
 
 unfoldable pub passed : Reader Line
 passed = do

@@ -1,8 +1,10 @@
 //! The lines of a trace.
 ghost use Rattle.std.specs.Prelude.{◌≡◌};
+ghost use Rattle.source_events.specs.Forms.{is_pair};
+ghost use Rattle.line_fields.specs.Forms.{handed_seen};
 ghost use Rattle.line_fields.specs.Fields.{GivesAs};
-ghost use Rattle.run_audit.specs.Lines.{registers, told, call, ret, entered, is_pair, passed, left, steps};
-ghost use Rattle.run_audit.specs.Lines.{halted, failed, running, line_named, line_at, line_in, is_end};
+ghost use Rattle.run_audit.specs.Lines.{registers, told, call, ret, entered, passed, left, steps, halted};
+ghost use Rattle.run_audit.specs.Lines.{failed, running, line_named, line_at, line_in, is_end};
 
 use crate::fields::{address, cause, count, direction, words};
 use crate::told::Told;
@@ -73,7 +75,7 @@ fn entered<'a>(fields: &mut Parts<'a>) -> Option<Line<'a>>
 
 // Whether the two registers are a pair.
 fn is_pair(handed: &Handed<'_>) -> bool
-    ensures { result ≡ is_pair handed.now }
+    ensures { result ≡ is_pair (handed_seen handed.now) }
 {
     !matches!(handed, Handed::Nothing)
 }

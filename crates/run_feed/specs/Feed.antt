@@ -1,21 +1,11 @@
 -- What a feed tells, line by line.
-use Rattle.std.specs.Prelude.{ℕ, ◌+◌, ◌-◌, ◌==◌, ◌&&◌, Bool, true, false, List, [], ◌∷◌, Option, Some, None}
-use Rattle.std.specs.Prelude.{Result, Ok, Err, if◌then◌else◌}
-use Rattle.cap_words.specs.declared.CapFields.{CapFields}
-use Rattle.cap_words.specs.declared.Word.{Word}
-use Rattle.cap_words.specs.declared.Word.TheVariants.{Int, Mem, Seal, Sealed}
-use Rattle.cap_words.specs.Faces.{perm_number}
-use Rattle.cap_words.specs.Linear.{lin_is}
+use Rattle.std.specs.Prelude.{ℕ, ◌+◌, Bool, true, false, List, [], ◌∷◌, Option, Some, None}
+use Rattle.std.specs.Prelude.{Result, Ok, Err, option_and_then}
 use Rattle.source_events.specs.declared.Item.{Item}
 use Rattle.source_events.specs.declared.Item.TheVariants as item
-use Rattle.source_events.specs.declared.FeedBack.{FeedBack}
-use Rattle.source_events.specs.declared.FeedBack.TheVariants as feed_back
 use Rattle.source_events.specs.declared.FeedPair.{FeedPair}
-use Rattle.source_events.specs.declared.FeedPair.TheVariants as feed_pair
-use Rattle.line_fields.specs.declared.forms.Back.{Back}
-use Rattle.line_fields.specs.declared.forms.Back.TheVariants as back
-use Rattle.line_fields.specs.declared.forms.Handed.{Handed}
-use Rattle.line_fields.specs.declared.forms.Handed.TheVariants as handed
+use Rattle.source_events.specs.Forms.{no_pairs}
+use Rattle.source_events.specs.Left.{left_in}
 use Rattle.line_fields.specs.Numbers.{integer_in}
 use Rattle.line_fields.specs.Words.{word_in}
 use Rattle.line_fields.specs.Fields.{lines}
@@ -26,43 +16,13 @@ use Rattle.run_feed.specs.declared.line.FeedLine.TheVariants.{Enter, Ret, Pass, 
 use Rattle.run_feed.specs.Seen.{EnterSeen, RetSeen}
 use Rattle.run_feed.specs.Lines.{seen, is_enter}
 
--- ---- fields as values
-
-abbrev pub back_of : Back → FeedBack
-back_of back.Out = feed_back.Out
-back_of back.Bad = feed_back.Bad
-back_of (back.Hop entry) = feed_back.Hop entry.part entry.name
-back_of (back.Pair call) = feed_back.Pair call.part call.site call.base
-
-abbrev pub pair_of : Handed → FeedPair
-pair_of handed.Nothing = feed_pair.Nothing
-pair_of handed.Bad = feed_pair.Bad
-pair_of handed.Out = feed_pair.Out
-pair_of (handed.Hop entry) = feed_pair.Hop entry.part entry.name
-
--- how many words of stack are handed over by a linear rw capability whose range begins where stacks begin
-abbrev pub left_by : ℕ → CapFields → Option ℕ
-left_by base c =
-    if lin_is c.lin && (perm_number c.perm == 2) && (c.base == base) then Some (c.end + 1 - c.base) else None
-
--- every other word is refused as a stack, and so is a text that is none of a word
-abbrev pub left_of : ℕ → Option Word → Option ℕ
-left_of base None = None
-left_of base (Some (Int n)) = None
-left_of base (Some (Mem c)) = left_by base c
-left_of base (Some (Seal s)) = None
-left_of base (Some (Sealed seal content)) = None
-
 -- ---- items
-
-abbrev pub no_pairs : List FeedPair
-no_pairs = feed_pair.Nothing ∷ feed_pair.Nothing ∷ feed_pair.Nothing ∷ []
 
 abbrev pub pairs_of : Option FeedLine → List FeedPair
 pairs_of None = no_pairs
 pairs_of (Some (Enter e)) = no_pairs
 pairs_of (Some (Ret r)) = no_pairs
-pairs_of (Some (Pass p)) = pair_of p.p0 ∷ pair_of p.p1 ∷ pair_of p.p2 ∷ []
+pairs_of (Some (Pass p)) = p.p0 ∷ p.p1 ∷ p.p2 ∷ []
 pairs_of (Some Other) = no_pairs
 
 -- the pairs of an `enter` line, by the lines behind it
@@ -70,10 +30,14 @@ abbrev pub pairs_behind : List (List ℕ) → List FeedPair
 pairs_behind [] = no_pairs
 pairs_behind (line ∷ rest) = pairs_of (seen true line)
 
+-- how many words of stack are handed over by a field; none by a text that is none of a word
+abbrev pub left_of : ℕ → List ℕ → Option ℕ
+left_of base text = option_and_then (left_in base) (word_in text)
+
 abbrev pub entered_item : ℕ → EnterSeen → List FeedPair → Item
 entered_item base e pairs =
-    item.Enter e.part e.name (left_of base (word_in e.stk))
-    (integer_in e.a0 ∷ integer_in e.a1 ∷ integer_in e.a2 ∷ integer_in e.a3 ∷ []) pairs (back_of e.back)
+    item.Enter e.part e.name (left_of base e.stk)
+    (integer_in e.a0 ∷ integer_in e.a1 ∷ integer_in e.a2 ∷ integer_in e.a3 ∷ []) pairs e.back
 
 abbrev pub answer_item : RetSeen → Item
 answer_item r = item.Ret r.part r.site r.base (integer_in r.a0)

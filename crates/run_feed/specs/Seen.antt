@@ -1,7 +1,7 @@
 -- What lines of a feed tell, field by field.
 use Rattle.std.specs.Prelude.{ℕ, List}
-use Rattle.line_fields.specs.declared.forms.Back.{Back}
-use Rattle.line_fields.specs.declared.forms.Handed.{Handed}
+use Rattle.source_events.specs.declared.FeedBack.{FeedBack}
+use Rattle.source_events.specs.declared.FeedPair.{FeedPair}
 
 -- PART EXPORT STK A0 A1 A2 A3 BACK
 pub record EnterSeen : Type 0 where
@@ -12,7 +12,7 @@ pub record EnterSeen : Type 0 where
   pub a1 : List ℕ
   pub a2 : List ℕ
   pub a3 : List ℕ
-  pub back : Back
+  pub back : FeedBack
 
 -- PART SITE BASE END A0 :
 pub record RetSeen : Type 0 where
@@ -23,6 +23,6 @@ pub record RetSeen : Type 0 where
 
 -- P0 P1 P2
 pub record PassSeen : Type 0 where
-  pub p0 : Handed
-  pub p1 : Handed
-  pub p2 : Handed
+  pub p0 : FeedPair
+  pub p1 : FeedPair
+  pub p2 : FeedPair

@@ -1,8 +1,9 @@
 //! The items of lines.
 ghost use Rattle.std.specs.Prelude.{◌≡◌, [], ◌∷◌, IfOk};
-ghost use Rattle.line_fields.specs.Words.{word_in};
-ghost use Rattle.run_feed.specs.Feed.{back_of, pair_of, left_by, left_of, no_pairs, pairs_of, pairs_behind};
-ghost use Rattle.run_feed.specs.Feed.{entered_item, answer_item, item_of};
+ghost use Rattle.source_events.specs.Forms.{no_pairs};
+ghost use Rattle.source_events.specs.Left.{left_by};
+ghost use Rattle.line_fields.specs.Forms.{back_seen, handed_seen};
+ghost use Rattle.run_feed.specs.Feed.{left_of, pairs_of, pairs_behind, entered_item, answer_item, item_of};
 
 use crate::line::{FeedLine, seen};
 use crate::seen::{Answered, Entered, Passed};
@@ -19,7 +20,7 @@ fn owned(alloc: Global, text: &[u8]) -> Result<Items<u8>, AllocError>
 
 // What a return would do.
 fn back_of(alloc: Global, back: &Back<'_>) -> Result<FeedBack, AllocError>
-    ensures { IfOk result (λ b. b ≡ back_of back.now) }
+    ensures { IfOk result (λ b. b ≡ back_seen back.now) }
 {
     match back {
         Back::Out => Ok(FeedBack::Out),
@@ -34,7 +35,7 @@ fn back_of(alloc: Global, back: &Back<'_>) -> Result<FeedBack, AllocError>
 
 // What two argument registers are.
 fn pair_of(alloc: Global, pair: &Handed<'_>) -> Result<FeedPair, AllocError>
-    ensures { IfOk result (λ p. p ≡ pair_of pair.now) }
+    ensures { IfOk result (λ p. p ≡ handed_seen pair.now) }
 {
     match pair {
         Handed::Nothing => Ok(FeedPair::Nothing),
@@ -61,7 +62,7 @@ fn left_by(base: u32, cap: &Cap) -> Option<u32>
 
 // The words of stack that are handed over.
 fn left_in(base: u32, stk: &[u8]) -> Option<u32>
-    ensures { result ≡ left_of base (word_in stk.now) }
+    ensures { result ≡ left_of base stk.now }
 {
     match word_in(stk) {
         Some(Word::Mem(cap)) => left_by(base, &cap),
@@ -76,8 +77,7 @@ fn no_pairs() -> [FeedPair; 3]
 }
 
 fn passed_pairs(alloc: Global, passed: &Passed<'_>) -> Result<[FeedPair; 3], AllocError>
-    ensures { IfOk result (λ pairs.
-        pairs ≡ pair_of passed.now.p0 ∷ pair_of passed.now.p1 ∷ pair_of passed.now.p2 ∷ []) }
+    ensures { IfOk result (λ pairs. pairs ≡ passed.now.p0 ∷ passed.now.p1 ∷ passed.now.p2 ∷ []) }
 {
     let p0 = pair_of(alloc, &passed.p0)?;
     let p1 = pair_of(alloc, &passed.p1)?;

@@ -18,6 +18,7 @@ pub struct Entered<'a> {
 }
 
 impl<'a> Model for Entered<'a> {
+    ghost use Rattle.line_fields.specs.Forms.{back_seen};
     ghost use Rattle.run_feed.specs.Seen.{EnterSeen};
 
     ghost Value = { EnterSeen };
@@ -30,7 +31,7 @@ impl<'a> Model for Entered<'a> {
       a1 = e.a1.now;
       a2 = e.a2.now;
       a3 = e.a3.now;
-      back = e.back;
+      back = back_seen e.back;
     } };
 }
 
@@ -65,9 +66,14 @@ pub struct Passed<'a> {
 }
 
 impl<'a> Model for Passed<'a> {
+    ghost use Rattle.line_fields.specs.Forms.{handed_seen};
     ghost use Rattle.run_feed.specs.Seen.{PassSeen};
 
     ghost Value = { PassSeen };
 
-    ghost view = { λ p. record { p0 = p.p0; p1 = p.p1; p2 = p.p2 } };
+    ghost view = { λ p. record {
+      p0 = handed_seen p.p0;
+      p1 = handed_seen p.p1;
+      p2 = handed_seen p.p2;
+    } };
 }

@@ -1,10 +1,13 @@
 -- A text of lines that fit, and then a line that is passed over, is a feed: the items of the lines.
 use Rattle.std.proofs.Common.{◌≡◌, ℕ, ◌+◌, Bool, true, false, List, [], ◌∷◌, ◌++◌, Some}
 use Rattle.std.proofs.Common.{Ok, refl, sym, ap, ◌∙◌, append_assoc}
-use Rattle.std.specs.Prelude.{map, codes}
+use Rattle.std.specs.Prelude.{codes}
 use Rattle.cap_words.specs.declared.Word.{Word}
-use Rattle.trace_tool.specs.Lines.{Args, Return, out, bad, hop, pair, Passed, nothing, bad_pair, out_pair}
-use Rattle.trace_tool.specs.Lines.{hop_pair, Line, call, ret, enter, pass, leave}
+use Rattle.source_events.specs.declared.FeedBack.{FeedBack}
+use Rattle.source_events.specs.declared.Item.{Item}
+use Rattle.source_events.specs.declared.Item.TheVariants.{Enter}
+use Rattle.source_events.specs.Left.{left_in}
+use Rattle.trace_tool.specs.Lines.{Args, Line, call, ret, enter, pass, leave}
 use Rattle.trace_tool.specs.Texts.{line_text, lines_text}
 use Rattle.trace_tool.specs.Fits.{LineFits, LinesFit}
 use Rattle.trace_tool.specs.Feed as line
@@ -13,75 +16,49 @@ use Rattle.line_fields.specs.Fields.{lines}
 use Rattle.line_fields.proofs.Cuts.{parts_at, parts_none}
 use Rattle.line_fields.proofs.Fronts.{is_free, cut_front}
 use Rattle.run_feed.specs.Lines.{seen, is_enter}
-use Rattle.run_feed.specs.Feed.{back_of as back_seen, pair_of as pair_seen, pairs_of}
-use Rattle.run_feed.specs.Feed.{pairs_behind, item_of as item_seen, with_item, told, fed_from}
-use Rattle.run_feed.specs.Feed.{fed}
-use Rattle.run_items.specs.Items.{back_of, pair_of, item_of}
+use Rattle.run_feed.specs.Feed.{pairs_of, pairs_behind, item_of as item_seen, with_item, told, fed_from, fed}
 use Rattle.run_items.proofs.Spaced.{cut_free}
-use Rattle.run_items.proofs.FieldsRead.{integer_read, left_read, back_field, pair_field}
+use Rattle.run_items.proofs.FieldsRead.{integer_read, left_read}
 use Rattle.run_items.proofs.LinesSeen.{line_told, body, line_text_is, line_seen}
 use Rattle.run_items.proofs.EndLinesSeen.{IsPassedOver}
 
 -- ---- a line's item
 
-back_same : (r : Return) → back_seen (back_field r) ≡ back_of r
-back_same out = refl
-back_same bad = refl
-back_same (hop part export) = refl
-back_same (pair part site base) = refl
-
-pair_same : (p : Passed) → pair_seen (pair_field p) ≡ pair_of p
-pair_same nothing = refl
-pair_same bad_pair = refl
-pair_same out_pair = refl
-pair_same (hop_pair part export) = refl
-
 -- the pairs that a line tells behind an enter line
-pairs_told : (l : Line) → pairs_of (Some (line_told true l)) ≡ map pair_of (line.pairs_in l)
+pairs_told : (l : Line) → pairs_of (Some (line_told true l)) ≡ line.pairs_in l
 pairs_told (call inward part site base last args words) = refl
 pairs_told (ret true part site base last a0 words) = refl
 pairs_told (ret false part site base last a0 words) = refl
 pairs_told (enter part export stk args back) = refl
-pairs_told (pass p0 p1 p2) =
-    let a = pair_same p0 in
-    let b = pair_same p1 in
-    let c = pair_same p2 in
-    rw (a, b, c) refl
+pairs_told (pass p0 p1 p2) = refl
 pairs_told (leave part a0) = refl
 
 -- the lines of the text behind it have these pairs
 abbrev HasPairs : List Line → List (List ℕ) → Type 0
-HasPairs ls rest = pairs_behind rest ≡ map pair_of (line.pairs_behind ls)
+HasPairs ls rest = pairs_behind rest ≡ line.pairs_behind ls
 
-abbrev enters_of : ℕ → List ℕ → List ℕ → Word → Args → Return → List Line → line.Item
-enters_of base part export stk a back ls =
-    line.enters part export (line.left_in base stk) (line.integers_in a) (line.pairs_behind ls) back
-
-entered_is : (base : ℕ) (part export : List ℕ) (stk : Word) (a : Args) (back : Return) (ls : List Line)
+entered_is : (base : ℕ) (part export : List ℕ) (stk : Word) (a : Args) (back : FeedBack) (ls : List Line)
     (rest : List (List ℕ)) → LineFits (enter part export stk a back) → HasPairs ls rest
     → item_seen base (line_told false (enter part export stk a back)) rest
-    ≡ Some (item_of (enters_of base part export stk a back ls))
+    ≡ Some (Enter part export (left_in base stk) (line.integers_in a) (line.pairs_behind ls) back)
 entered_is base part export stk a back ls rest h same =
     let s = left_read base stk h.2 in
     let x0 = integer_read a.a0 h.3.0 in
     let x1 = integer_read a.a1 h.3.1 in
     let x2 = integer_read a.a2 h.3.2 in
     let x3 = integer_read a.a3 h.3.3 in
-    let b = back_same back in
-    rw (s, x0, x1, x2, x3, b, same) refl
+    rw (s, x0, x1, x2, x3, same) refl
 
 -- the items of a line, before those of the lines behind it
-told_is : (entry : Bool) (base : ℕ) (l : Line) (ls : List Line) (rest : List (List ℕ))
-    (items : List line.Item)
+told_is : (entry : Bool) (base : ℕ) (l : Line) (ls : List Line) (rest : List (List ℕ)) (items : List Item)
     → LineFits l → HasPairs ls rest
-    → with_item (item_seen base (line_told entry l) rest) (Ok (map item_of items))
-    ≡ Ok (map item_of (line.item_of base l ls ++ items))
+    → with_item (item_seen base (line_told entry l) rest) (Ok items) ≡ Ok (line.item_of base l ls ++ items)
 told_is entry base (call inward part site b last args words) ls rest items h same = refl
 told_is entry base (ret true part site b last a0 words) ls rest items h same = refl
 told_is entry base (ret false part site b last a0 words) ls rest items h same =
     let x = integer_read a0 h.1 in rw x refl
 told_is entry base (enter part export stk a back) ls rest items h same =
-    ap (λ i. with_item i (Ok (map item_of items))) (entered_is base part export stk a back ls rest h same)
+    ap (λ i. with_item i (Ok items)) (entered_is base part export stk a back ls rest h same)
 told_is true base (pass p0 p1 p2) ls rest items h same = refl
 told_is false base (pass p0 p1 p2) ls rest items h same = refl
 told_is entry base (leave part a0) ls rest items h same = refl
@@ -132,7 +109,7 @@ fed_end base n entry t e =
     ∙ empty_last base (n + 1)
 
 fed_all : (base n : ℕ) (entry : Bool) (ls : List Line) (t : List ℕ) → LinesFit ls → IsPassedOver t
-    → fed_from base entry n (lines (lines_text ls ++ t)) ≡ Ok (map item_of (line.items_of base ls))
+    → fed_from base entry n (lines (lines_text ls ++ t)) ≡ Ok (line.items_of base ls)
 unfolding fed_from
 fed_all base n entry [] t h e = fed_end base n entry t e
 fed_all base n entry (l ∷ ls) t h e =
@@ -144,6 +121,6 @@ fed_all base n entry (l ∷ ls) t h e =
     ∙ told_is entry base l ls rest (line.items_of base ls) h.0 (pairs_are ls t h.1 e)
 
 pub fed_is : (base : ℕ) (ls : List Line) (t : List ℕ) → LinesFit ls → IsPassedOver t
-    → fed base (lines_text ls ++ t) ≡ Ok (map item_of (line.items_of base ls))
+    → fed base (lines_text ls ++ t) ≡ Ok (line.items_of base ls)
 unfolding fed
 fed_is base ls t h e = fed_all base 1 false ls t h e

@@ -1,32 +1,29 @@
 -- What fields of lines are read as: numbers, words as integers and as stacks, and where jumps lead.
-use Rattle.std.proofs.Common.{◌≡◌, ℕ, ◌≤◌, Bool, true, false, ◌∷◌, ◌++◌, Option}
-use Rattle.std.proofs.Common.{Some, None, refl, sym, ap, ◌∙◌, arith, inr}
-use Rattle.std.specs.Prelude.{ℤ, pos, negsuc, FitsSigned, codes, decimal}
+use Rattle.std.proofs.Common.{◌≡◌, ℕ, ◌≤◌, Bool, true, false, Option}
+use Rattle.std.proofs.Common.{Some, None, refl, sym, ap, ◌∙◌, arith}
+use Rattle.std.specs.Prelude.{ℤ, pos, negsuc, FitsSigned, codes, decimal, option_and_then}
 use Rattle.std.specs.Int.{w64}
 use Rattle.std.proofs.lemmas.Bool.{lt-ltb}
 use Rattle.cap_words.specs.declared.Word.{Word}
 use Rattle.cap_words.specs.declared.Word.TheVariants.{Int, Mem, Seal, Sealed}
-use Rattle.cap_words.specs.Names.{is_name}
 use Rattle.cap_words.specs.Text.{word_text_of}
 use Rattle.cap_words.specs.WordBytes.{WordFits}
 use Rattle.lcm_machine.specs.Table.{fits_64}
-use Rattle.trace_tool.specs.Lines.{Return, out, bad, hop, pair, Passed, nothing, bad_pair, out_pair, hop_pair}
-use Rattle.trace_tool.specs.Texts.{return_text, passed_text}
+use Rattle.source_events.specs.declared.FeedBack.{FeedBack}
+use Rattle.source_events.specs.declared.FeedBack.TheVariants as back
+use Rattle.source_events.specs.declared.FeedPair.{FeedPair}
+use Rattle.source_events.specs.declared.FeedPair.TheVariants as pair
+use Rattle.source_events.specs.Forms.{BackFits, PairFits, back_text, pair_text}
+use Rattle.source_events.specs.Left.{left_in}
 use Rattle.trace_tool.specs.Feed as line
-use Rattle.trace_tool.specs.Fits.{ReturnFits, PassedFits}
-use Rattle.line_fields.specs.declared.forms.Back.{Back}
-use Rattle.line_fields.specs.declared.forms.Back.TheVariants as back
-use Rattle.line_fields.specs.declared.forms.Handed.{Handed}
-use Rattle.line_fields.specs.declared.forms.Handed.TheVariants as handed
-use Rattle.line_fields.specs.Cuts.{behind}
 use Rattle.line_fields.specs.Numbers.{natural_in, integer_in}
 use Rattle.line_fields.specs.Words.{word_in}
-use Rattle.line_fields.specs.Forms.{entry_in, call_in, back_in, handed_in}
+use Rattle.line_fields.specs.Forms.{back_in, handed_in}
 use Rattle.line_fields.proofs.Numbers.{number_again, integer_again, integer_is}
-use Rattle.line_fields.proofs.Fronts.{cut_front, decimal_free}
 use Rattle.line_fields.proofs.WordTexts.{fits_has_text, text_is_word}
+use Rattle.line_fields.proofs.JumpTexts.{text_is_back, text_is_handed}
 use Rattle.run_feed.specs.Feed.{left_of}
-use Rattle.run_items.proofs.High.{IsHigh, high_join, decimal_high, name_high, name_free, name_is}
+use Rattle.run_items.proofs.High.{IsHigh, high_join, decimal_high, name_high}
 
 -- ---- numbers and words
 
@@ -72,79 +69,37 @@ integer_read (Mem c) h = no_integer (Mem c) h refl
 integer_read (Seal s) h = no_integer (Seal s) h refl
 integer_read (Sealed n x) h = no_integer (Sealed n x) h refl
 
-left_is : (base : ℕ) (w : Word) → left_of base (Some w) ≡ line.left_in base w
-left_is base (Int z) = refl
-left_is base (Mem c) = refl
-left_is base (Seal s) = refl
-left_is base (Sealed n x) = refl
-
-pub left_read : (base : ℕ) (w : Word) → WordFits w
-    → left_of base (word_in (word_text_of w)) ≡ line.left_in base w
-left_read base w h = ap (left_of base) (word_again w h) ∙ left_is base w
+pub left_read : (base : ℕ) (w : Word) → WordFits w → left_of base (word_text_of w) ≡ left_in base w
+left_read base w h = ap (option_and_then (left_in base)) (word_again w h)
 
 -- ---- where jumps lead
 
-abbrev pub back_field : Return → Back
-back_field out = back.Out
-back_field bad = back.Bad
-back_field (hop part export) = back.Hop (record { part = part; name = export })
-back_field (pair part site base) = back.Pair (record { part = part; site = site; base = base })
+pub back_read : (b : FeedBack) → BackFits b → back_in (back_text b) ≡ Some b
+back_read b h = text_is_back b (back_text b) (h, refl)
 
-abbrev pub pair_field : Passed → Handed
-pair_field nothing = handed.Nothing
-pair_field bad_pair = handed.Bad
-pair_field out_pair = handed.Out
-pair_field (hop_pair part export) = handed.Hop (record { part = part; name = export })
-
-pub back_read : (r : Return) → ReturnFits r → back_in (return_text r) ≡ Some (back_field r)
-unfolding back_in entry_in call_in behind
-back_read out h = refl
-back_read bad h = refl
-back_read (hop part export) h =
-    let k = cut_front 58 part export (name_free part h.0) in
-    let p : is_name part ≡ true = name_is part h.0 in
-    let e : is_name export ≡ true = name_is export h.1 in
-    rw (k, p, e) refl
-back_read (pair part site base) h =
-    let k = cut_front 58 part (decimal site ++ 58 ∷ decimal base) (name_free part h.0) in
-    let free = decimal_free 58 site (inr (omega arith)) (omega (arith, h)) in
-    let m = cut_front 58 (decimal site) (decimal base) free in
-    let p : is_name part ≡ true = name_is part h.0 in
-    let s = natural_again site h.1 in
-    let b = natural_again base h.2 in
-    rw (k, p, m, s, b) refl
-
-pub pair_read : (p : Passed) → PassedFits p → handed_in (passed_text p) ≡ Some (pair_field p)
-unfolding handed_in entry_in behind
-pair_read nothing h = refl
-pair_read bad_pair h = refl
-pair_read out_pair h = refl
-pair_read (hop_pair part export) h =
-    let k = cut_front 58 part export (name_free part h.0) in
-    let p : is_name part ≡ true = name_is part h.0 in
-    let e : is_name export ≡ true = name_is export h.1 in
-    rw (k, p, e) refl
+pub pair_read : (p : FeedPair) → PairFits p → handed_in (pair_text p) ≡ Some p
+pair_read p h = text_is_handed p (pair_text p) (h, refl)
 
 -- ---- and what bytes they have
 
 colon : IsHigh (codes ":")
 colon = record { all = refl }
 
-pub back_high : (r : Return) → ReturnFits r → IsHigh (return_text r)
-back_high out h = record { all = refl }
-back_high bad h = record { all = refl }
-back_high (hop part export) h =
+pub back_high : (b : FeedBack) → BackFits b → IsHigh (back_text b)
+back_high back.Out h = record { all = refl }
+back_high back.Bad h = record { all = refl }
+back_high (back.Hop part name) h =
     let begin : IsHigh (codes "hop:") = record { all = refl } in
-    high_join begin (high_join (name_high part h.0) (high_join colon (name_high export h.1)))
-back_high (pair part site base) h =
+    high_join begin (high_join (name_high part h.0) (high_join colon (name_high name h.1)))
+back_high (back.Pair part site base) h =
     let begin : IsHigh (codes "pair:") = record { all = refl } in
     let place = high_join (decimal_high site) (high_join colon (decimal_high base)) in
     high_join begin (high_join (name_high part h.0) (high_join colon place))
 
-pub pair_high : (p : Passed) → PassedFits p → IsHigh (passed_text p)
-pair_high nothing h = record { all = refl }
-pair_high bad_pair h = record { all = refl }
-pair_high out_pair h = record { all = refl }
-pair_high (hop_pair part export) h =
+pub pair_high : (p : FeedPair) → PairFits p → IsHigh (pair_text p)
+pair_high pair.Nothing h = record { all = refl }
+pair_high pair.Bad h = record { all = refl }
+pair_high pair.Out h = record { all = refl }
+pair_high (pair.Hop part name) h =
     let begin : IsHigh (codes "hop:") = record { all = refl } in
-    high_join begin (high_join (name_high part h.0) (high_join colon (name_high export h.1)))
+    high_join begin (high_join (name_high part h.0) (high_join colon (name_high name h.1)))

@@ -19,7 +19,7 @@ use Rattle.cap_words.specs.declared.Word.TheVariants.{Int, Mem, Seal, Sealed}
 use Rattle.cap_words.specs.Names.{is_name, is_name_byte}
 use Rattle.cap_words.specs.Text.{perm_name, lin_name, range_text, cap_text, seal_text, sealable_text}
 use Rattle.cap_words.specs.Text.{sealed_text, word_text_of}
-use Rattle.trace_tool.specs.Fits.{IsName}
+use Rattle.source_events.specs.Forms.{IsName}
 use Rattle.line_fields.proofs.Fronts.{is_free}
 
 pub record IsHigh (text : List ℕ) : Type 0 where

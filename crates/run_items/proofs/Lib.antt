@@ -5,4 +5,3 @@ pub mod LinesSeen
 pub mod EndLinesSeen
 pub mod Feeding
 mod TraceEnds
-mod EventsTold

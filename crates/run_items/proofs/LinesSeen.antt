@@ -5,10 +5,13 @@ use Rattle.std.specs.Prelude.{map, option_map, codes, decimal}
 use Rattle.cap_words.specs.declared.Word.{Word}
 use Rattle.cap_words.specs.Names.{is_name}
 use Rattle.cap_words.specs.Text.{word_text_of}
-use Rattle.trace_tool.specs.Lines.{Args, Return, Passed, Line, call, ret, enter, pass, leave}
-use Rattle.trace_tool.specs.Texts.{direction, field, words_text, args_text, place_text, return_text}
-use Rattle.trace_tool.specs.Texts.{passed_text, head_text, words_of, line_text}
-use Rattle.trace_tool.specs.Fits.{IsName, LineFits}
+use Rattle.source_events.specs.declared.FeedBack.{FeedBack}
+use Rattle.source_events.specs.declared.FeedPair.{FeedPair}
+use Rattle.source_events.specs.Forms.{IsName, back_text, pair_text}
+use Rattle.trace_tool.specs.Lines.{Args, Line, call, ret, enter, pass, leave}
+use Rattle.trace_tool.specs.Texts.{direction, field, words_text, args_text, place_text, head_text, words_of}
+use Rattle.trace_tool.specs.Texts.{line_text}
+use Rattle.trace_tool.specs.Fits.{LineFits}
 use Rattle.line_fields.specs.Cuts.{behind}
 use Rattle.line_fields.specs.Fields.{meant, tested, whole}
 use Rattle.run_feed.specs.declared.line.FeedLine.{FeedLine}
@@ -17,8 +20,7 @@ use Rattle.run_feed.specs.Lines.{begun, entered, answered, passed, enter_in, ret
 use Rattle.run_items.proofs.High.{IsHigh, decimal_high, word_high, name_high, name_is, IsOneLine, line_join}
 use Rattle.run_items.proofs.High.{high_line}
 use Rattle.run_items.proofs.Spaced.{spaced, AllHigh, fields_are, spaced_line, words_spaced, words_high}
-use Rattle.run_items.proofs.FieldsRead.{natural_again, back_field, pair_field, back_read, pair_read}
-use Rattle.run_items.proofs.FieldsRead.{back_high, pair_high}
+use Rattle.run_items.proofs.FieldsRead.{natural_again, back_read, pair_read, back_high, pair_high}
 
 -- what a line is seen as, right behind an enter line or not
 abbrev pub line_told : Bool → Line → FeedLine
@@ -35,9 +37,9 @@ line_told entry (enter part export stk a back) =
       a1 = word_text_of a.a1;
       a2 = word_text_of a.a2;
       a3 = word_text_of a.a3;
-      back = back_field back;
+      back = back;
     })
-line_told true (pass p0 p1 p2) = Pass (record { p0 = pair_field p0; p1 = pair_field p1; p2 = pair_field p2 })
+line_told true (pass p0 p1 p2) = Pass (record { p0 = p0; p1 = p1; p2 = p2 })
 line_told false (pass p0 p1 p2) = Other
 line_told entry (leave part a0) = Other
 
@@ -195,23 +197,23 @@ regroup_enter : (c sp p e s x0 x1 x2 x3 b : List ℕ)
     ++ (sp ++ (b ++ [])))))))))))))))
 regroup_enter c sp p e s x0 x1 x2 x3 b = simp append_assoc
 
-abbrev enter_fields : List ℕ → Word → Args → Return → List (List ℕ)
+abbrev enter_fields : List ℕ → Word → Args → FeedBack → List (List ℕ)
 enter_fields export stk a back =
     export ∷ word_text_of stk ∷ word_text_of a.a0 ∷ word_text_of a.a1 ∷ word_text_of a.a2 ∷ word_text_of a.a3
-    ∷ return_text back ∷ []
+    ∷ back_text back ∷ []
 
-enter_body : (part export : List ℕ) (stk : Word) (a : Args) (back : Return)
+enter_body : (part export : List ℕ) (stk : Word) (a : Args) (back : FeedBack)
     → body (enter part export stk a back)
     ≡ codes "enter " ++ (part ++ spaced (enter_fields export stk a back))
 unfolding args_text
 enter_body part export stk a back =
     regroup_enter (codes "enter ") (codes " ") part export (word_text_of stk) (word_text_of a.a0)
-    (word_text_of a.a1) (word_text_of a.a2) (word_text_of a.a3) (return_text back)
+    (word_text_of a.a1) (word_text_of a.a2) (word_text_of a.a3) (back_text back)
 
-entered_high : (part export : List ℕ) (stk : Word) (a : Args) (back : Return)
+entered_high : (part export : List ℕ) (stk : Word) (a : Args) (back : FeedBack)
     → LineFits (enter part export stk a back) → AllHigh (enter_fields export stk a back)
 entered_high part export stk a back h =
-    let args : AllHigh (word_text_of a.a2 ∷ word_text_of a.a3 ∷ return_text back ∷ []) =
+    let args : AllHigh (word_text_of a.a2 ∷ word_text_of a.a3 ∷ back_text back ∷ []) =
     (word_high a.a2, (word_high a.a3, (back_high back h.4, tt))) in
     (name_high export h.1, (word_high stk, (word_high a.a0, (word_high a.a1, args))))
 
@@ -220,7 +222,7 @@ enter_at : (entry : Bool) (rest : List ℕ)
 unfolding seen behind
 enter_at entry rest = refl
 
-entered_in : (part export : List ℕ) (stk : Word) (a : Args) (back : Return)
+entered_in : (part export : List ℕ) (stk : Word) (a : Args) (back : FeedBack)
     → LineFits (enter part export stk a back)
     → enter_in (part ++ spaced (enter_fields export stk a back))
     ≡ Some (record {
@@ -231,7 +233,7 @@ entered_in : (part export : List ℕ) (stk : Word) (a : Args) (back : Return)
       a1 = word_text_of a.a1;
       a2 = word_text_of a.a2;
       a3 = word_text_of a.a3;
-      back = back_field back;
+      back = back;
     })
 unfolding enter_in entered meant tested
 entered_in part export stk a back h =
@@ -242,7 +244,7 @@ entered_in part export stk a back h =
     let b = back_read back h.4 in
     ap (λ ts. whole (entered ts)) fs ∙ rw (p, e, b) refl
 
-enter_seen : (part export : List ℕ) (stk : Word) (a : Args) (back : Return)
+enter_seen : (part export : List ℕ) (stk : Word) (a : Args) (back : FeedBack)
     → LineFits (enter part export stk a back)
     → IsSeen (body (enter part export stk a back)) (enter part export stk a back)
 enter_seen part export stk a back h =
@@ -263,8 +265,8 @@ regroup_pass : (c sp x y z : List ℕ)
     → (c ++ (x ++ ((sp ++ y) ++ (sp ++ z)))) ++ [] ≡ c ++ (x ++ (sp ++ (y ++ (sp ++ (z ++ [])))))
 regroup_pass c sp x y z = simp append_assoc
 
-abbrev pass_fields : Passed → Passed → List (List ℕ)
-pass_fields p1 p2 = passed_text p1 ∷ passed_text p2 ∷ []
+abbrev pass_fields : FeedPair → FeedPair → List (List ℕ)
+pass_fields p1 p2 = pair_text p1 ∷ pair_text p2 ∷ []
 
 pass_at : (rest : List ℕ) → seen true (codes "pass " ++ rest) ≡ option_map Pass (pass_in rest)
 unfolding seen behind
@@ -274,29 +276,29 @@ other_pass : (rest : List ℕ) → seen false (codes "pass " ++ rest) ≡ Some O
 unfolding seen behind
 other_pass rest = refl
 
-passed_in : (p0 p1 p2 : Passed) → LineFits (pass p0 p1 p2)
-    → pass_in (passed_text p0 ++ spaced (pass_fields p1 p2))
-    ≡ Some (record { p0 = pair_field p0; p1 = pair_field p1; p2 = pair_field p2 })
+passed_in : (p0 p1 p2 : FeedPair) → LineFits (pass p0 p1 p2)
+    → pass_in (pair_text p0 ++ spaced (pass_fields p1 p2))
+    ≡ Some (record { p0 = p0; p1 = p1; p2 = p2 })
 unfolding pass_in passed meant
 passed_in p0 p1 p2 h =
     let all : AllHigh (pass_fields p1 p2) = (pair_high p1 h.1, (pair_high p2 h.2, tt)) in
-    let fs = fields_are (passed_text p0) (pass_fields p1 p2) (pair_high p0 h.0) all in
+    let fs = fields_are (pair_text p0) (pass_fields p1 p2) (pair_high p0 h.0) all in
     let x0 = pair_read p0 h.0 in
     let x1 = pair_read p1 h.1 in
     let x2 = pair_read p2 h.2 in
     ap (λ ts. whole (passed ts)) fs ∙ rw (x0, x1, x2) refl
 
-pass_read : (entry : Bool) (p0 p1 p2 : Passed) → LineFits (pass p0 p1 p2)
-    → seen entry (codes "pass " ++ (passed_text p0 ++ spaced (pass_fields p1 p2)))
+pass_read : (entry : Bool) (p0 p1 p2 : FeedPair) → LineFits (pass p0 p1 p2)
+    → seen entry (codes "pass " ++ (pair_text p0 ++ spaced (pass_fields p1 p2)))
     ≡ Some (line_told entry (pass p0 p1 p2))
 pass_read true p0 p1 p2 h =
-    pass_at (passed_text p0 ++ spaced (pass_fields p1 p2)) ∙ ap (option_map Pass) (passed_in p0 p1 p2 h)
-pass_read false p0 p1 p2 h = other_pass (passed_text p0 ++ spaced (pass_fields p1 p2))
+    pass_at (pair_text p0 ++ spaced (pass_fields p1 p2)) ∙ ap (option_map Pass) (passed_in p0 p1 p2 h)
+pass_read false p0 p1 p2 h = other_pass (pair_text p0 ++ spaced (pass_fields p1 p2))
 
-pass_seen : (p0 p1 p2 : Passed) → LineFits (pass p0 p1 p2) → IsSeen (body (pass p0 p1 p2)) (pass p0 p1 p2)
+pass_seen : (p0 p1 p2 : FeedPair) → LineFits (pass p0 p1 p2) → IsSeen (body (pass p0 p1 p2)) (pass p0 p1 p2)
 pass_seen p0 p1 p2 h =
     let name : IsOneLine (codes "pass ") = record { free = refl } in
-    let is = regroup_pass (codes "pass ") (codes " ") (passed_text p0) (passed_text p1) (passed_text p2) in
+    let is = regroup_pass (codes "pass ") (codes " ") (pair_text p0) (pair_text p1) (pair_text p2) in
     let rest = spaced_line (pass_fields p1 p2) (pair_high p1 h.1, (pair_high p2 h.2, tt)) in
     record {
       read = λ entry. ap (seen entry) is ∙ pass_read entry p0 p1 p2 h;

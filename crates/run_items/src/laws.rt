@@ -1,5 +1,5 @@
 //! What holds of texts of runs. These functions do nothing; their contracts are the laws.
-ghost use Rattle.run_items.specs.Items.{TextsTellItems, TracesTellItems, EventsAreTold};
+ghost use Rattle.run_items.specs.Items.{TextsTellItems, TracesTellItems};
 
 use trace_tool::laws::{lines_fit, start_lines_agree};
 
@@ -12,8 +12,3 @@ pub fn texts_tell_items()
     lines_fit();
     start_lines_agree();
 }
-
-/// Events that lines tell alike are the same.
-pub fn events_are_told()
-    ensures { EventsAreTold }
-{}

@@ -1,7 +1,9 @@
-//! What goes into a run of sources and what comes out of it, without instructions: the items of a feed,
-//! which code outside causes, and what a meaning tells.
+//! What crosses the border of trusted code, without instructions: the items of a feed, which code outside
+//! causes, and what goes out.
 //!
-//! `docs/LANGUAGE.md` has the rules by which a meaning goes through a feed. The crate has types alone.
+//! The lines of runs, the feeds that are read of them and the meanings of sources all tell it in these words.
+//! `docs/LANGUAGE.md` has the rules by which a meaning goes through a feed. The crate has types, and
+//! definitions about them, alone.
 #![tactic(auto)]
 
 use cap_words::Items;
@@ -63,22 +65,23 @@ pub enum FeedPair {
     Hop(Items<u8>, Items<u8>),
 }
 
-/// What an argument register holds where a call leaves.
+/// What an argument register holds where trusted code is left.
 #[derive(Clone, Copy, Debug, PartialEq, Eq)]
 pub enum OutArg {
     /// An integer.
     Int(i64),
-    /// One half of a closure pair.
+    /// Any other word; where a module calls, one half of a closure pair.
     Half,
 }
 
-/// What leaves the modules.
+/// What leaves trusted code.
 #[derive(Debug, Drop)]
 pub enum OutEvent {
     /// A call: the name of its part, its number, and what the four argument registers hold.
     CallOut(Items<u8>, u32, [OutArg; 4]),
-    /// The return of a procedure that was entered: the name of its part, and the value.
-    LeaveOut(Items<u8>, i64),
+    /// The return of a procedure that was entered: the name of its part, and the value, which is an integer
+    /// wherever a module tells it.
+    LeaveOut(Items<u8>, OutArg),
 }
 
 /// How a meaning ends.

@@ -26,11 +26,10 @@ use Rattle.overlay_machine.specs.Runs.{Reached}
 use Rattle.overlay_machine.specs.Runs as reached
 use Rattle.trace_tool.specs.Layout.{layout, is_trusted, part_name, entry_name, site_of}
 use Rattle.trace_tool.specs.Views.{flat_view}
-use Rattle.trace_tool.specs.Lines.{Line, Args, out, call, ret, enter, leave, lines_for}
+use Rattle.trace_tool.specs.Lines.{Line, Args, call, ret, enter, leave, lines_for}
 use Rattle.trace_tool.specs.Alike.{StartLinesAgree}
 use Rattle.trace_tool.specs.Told.{Told}
 use Rattle.trace_tool.specs.Told as told
-use Rattle.trace_tool.specs.Feed as line
 use Rattle.trace_tool.specs.Feed.{outs_of as outs_in, items_of as items_in}
 use Rattle.trace_tool.specs.Runs.{written}
 use Rattle.trace_tool.specs.Headline.{HeadlineHolds}
@@ -47,13 +46,12 @@ use Rattle.source_events.specs.declared.OutEvent.{OutEvent}
 use Rattle.source_events.specs.declared.OutEvent.TheVariants.{CallOut, LeaveOut}
 use Rattle.source_events.specs.declared.End.TheVariants.{Waiting}
 use Rattle.proc_semantics.specs.Values.{World}
-use Rattle.run_items.specs.Items.{EventsAreTold, event_told, item_of}
 use Rattle.template_runs.specs.Runs.{is_inside}
-use Rattle.source_laws.specs.Sources.{Shows, SourcesMean}
+use Rattle.source_laws.specs.Sources.{Shows, SourcesMean, MeaningEnds}
 use Rattle.source_laws.specs.Sources as shown
 use Rattle.source_laws.specs.Trace.{outs_of, items_of, weighed}
 use Rattle.source_starts.specs.Sources.{AreSources}
-use Rattle.source_starts.specs.RunMeans.{MeaningEnds, runs_trusted}
+use Rattle.source_starts.specs.RunMeans.{runs_trusted}
 use Rattle.source_instance.specs.There.{SourceThere}
 use Rattle.source_instance.proofs.Module.{source}
 use Rattle.source_instance.proofs.Parts.{parts, second, are_sources}
@@ -65,7 +63,7 @@ use Rattle.source_instance.proofs.Leaves as leaves
 
 -- ---- a run that tells lines, and shows what goes out and what comes in
 
-pub record Comes (j : ℕ) (ls : List Line) (es : List line.OutEvent) (is : List Item) (p : OState)
+pub record Comes (j : ℕ) (ls : List Line) (es : List OutEvent) (is : List Item) (p : OState)
     : Type 0 where
   pub reached : Reached L enters.o0 j p
   pub lines : Told L enters.o0 j ls p
@@ -76,14 +74,14 @@ begins : Comes 0 [] [] [] enters.o0
 begins = record { reached = reached.begins; lines = told.none_yet; weight = 0; shows = shown.none_yet }
 
 -- the lines and items of a step's event
-pub record Tells (q : OState) (v : Option Event) (ls : List Line) (es : List line.OutEvent)
+pub record Tells (q : OState) (v : Option Event) (ls : List Line) (es : List OutEvent)
     (is : List Item) : Type 0 where
   pub lines : lines_for L (flat_view L q) v ≡ ls
   pub outs : outs_of L (flat_view L q) v ≡ es
   pub items : items_of L (flat_view L q) v ≡ is
 
 -- one more step, whatever it tells
-tells : {j n : ℕ} {ls more : List Line} {es going : List line.OutEvent} {is coming : List Item} {p q : OState}
+tells : {j n : ℕ} {ls more : List Line} {es going : List OutEvent} {is coming : List Item} {p q : OState}
     {v : Option Event} → Comes j ls es is p → Makes p q n v → Tells q v more going coming
     → Comes (j + n) (ls ++ more) (es ++ going) (is ++ coming) q
 tells {j} {n} {ls} {more} {es} {going} {is} {coming} {p} {q} {v} r m t = record {
@@ -96,7 +94,7 @@ tells {j} {n} {ls} {more} {es} {going} {is} {coming} {p} {q} {v} r m t = record 
   weight = next_weight;
   shows =
       subst (λ (k : ℕ). Shows L enters.o0 (j + k) next_weight (es ++ going) (is ++ coming) q) m.weight
-      (subst (λ (xs : List line.OutEvent). Shows L enters.o0 (j + weight_of L p) next_weight (es ++ xs)
+      (subst (λ (xs : List OutEvent). Shows L enters.o0 (j + weight_of L p) next_weight (es ++ xs)
       (is ++ coming) q) (ap (outs_of L (flat_view L q)) m.event ∙ t.outs)
       (subst (λ (xs : List Item). Shows L enters.o0 (j + weight_of L p) next_weight
       (es ++ outs_of L (flat_view L q) (step_event L p q)) (is ++ xs) q)
@@ -130,7 +128,7 @@ abbrev frame_words : List Word
 frame_words = Mem (own_data 90) ∷ g_data ∷ g_code ∷ []
 
 abbrev enter_line : Line
-enter_line = enter (116 ∷ []) (102 ∷ []) stack_word zeros out
+enter_line = enter (116 ∷ []) (102 ∷ []) stack_word zeros way.Out
 
 abbrev call_line : Line
 call_line = call false (116 ∷ []) 0 116 118 zeros frame_words
@@ -151,7 +149,7 @@ abbrev call_out : OutEvent
 call_out = CallOut (116 ∷ []) 0 numbers
 
 abbrev leave_out : OutEvent
-leave_out = LeaveOut (116 ∷ []) (pos 0)
+leave_out = LeaveOut (116 ∷ []) (given.Int (pos 0))
 
 pub enter_told : Tells enters.o8 (Some enters.entry_event) (enter_line ∷ []) [] (enter_item ∷ [])
 unfolding flat owner_of part_name entry_name entry_code call_code return_code
@@ -160,7 +158,7 @@ enter_told = record { lines = refl; outs = refl; items = refl }
 gone : (a : ℕ) → 116 ≤ a → a ≤ 118 → cell calls.taken a ≡ None
 gone a low high = cell-without_in calls.pushed 116 118 a low high
 
-call_told : Tells calls.o26 (Some calls.call_event) (call_line ∷ []) (event_told call_out ∷ []) []
+call_told : Tells calls.o26 (Some calls.call_event) (call_line ∷ []) (call_out ∷ []) []
 unfolding flat beside word_of site_code owner_of part_name site_of entry_code call_code return_code
 call_told = record {
   lines = rw (
@@ -176,7 +174,7 @@ pub ret_told : Tells calls.o27 (Some calls.return_event) (ret_line ∷ []) [] (r
 unfolding flat owner_of part_name site_of entry_code call_code return_code
 ret_told = record { lines = rw (calls.data117, calls.code118); outs = refl; items = refl }
 
-leave_told : Tells leaves.o49 (Some leaves.leave_event) (leave_line ∷ []) (event_told leave_out ∷ []) []
+leave_told : Tells leaves.o49 (Some leaves.leave_event) (leave_line ∷ []) (leave_out ∷ []) []
 unfolding flat owner_of part_name entry_code call_code return_code
 leave_told = record { lines = refl; outs = refl; items = refl }
 
@@ -215,14 +213,14 @@ to_call =
     let r15 = tells r14 calls.step23 no_event in
     tells r15 calls.step24 no_event
 
-called : Comes 60 (enter_line ∷ call_line ∷ []) (event_told call_out ∷ []) (enter_item ∷ []) calls.o26
+called : Comes 60 (enter_line ∷ call_line ∷ []) (call_out ∷ []) (enter_item ∷ []) calls.o26
 called = tells to_call calls.call_made call_told
 
-answered : Comes 71 (enter_line ∷ call_line ∷ ret_line ∷ []) (event_told call_out ∷ [])
+answered : Comes 71 (enter_line ∷ call_line ∷ ret_line ∷ []) (call_out ∷ [])
     (enter_item ∷ ret_item ∷ []) calls.o27
 answered = tells called calls.return_made ret_told
 
-pub to_leave : Comes 92 (enter_line ∷ call_line ∷ ret_line ∷ []) (event_told call_out ∷ [])
+pub to_leave : Comes 92 (enter_line ∷ call_line ∷ ret_line ∷ []) (call_out ∷ [])
     (enter_item ∷ ret_item ∷ []) leaves.o48
 to_leave =
     let r0 = tells answered leaves.step27 no_event in
@@ -248,7 +246,7 @@ to_leave =
     tells r19 leaves.step47 no_event
 
 left : Comes 93 (enter_line ∷ call_line ∷ ret_line ∷ leave_line ∷ [])
-    (event_told call_out ∷ event_told leave_out ∷ [])
+    (call_out ∷ leave_out ∷ [])
     (enter_item ∷ ret_item ∷ []) leaves.o49
 left = tells to_leave leaves.step48 leave_told
 
@@ -276,30 +274,24 @@ all_lines = enter_line ∷ call_line ∷ ret_line ∷ leave_line ∷ []
 it_writes : StartLinesAgree → written start 93 ≡ all_lines
 it_writes agree = (agree parts 8 start is_start_of).matched 93 all_lines leaves.o49 left.lines
 
-came : StartLinesAgree → map item_of (items_in 111 (written start 93)) ≡ enter_item ∷ ret_item ∷ []
-came agree = ap (λ ls. map item_of (items_in 111 ls)) (it_writes agree)
+came : StartLinesAgree → items_in 111 (written start 93) ≡ enter_item ∷ ret_item ∷ []
+came agree = ap (items_in 111) (it_writes agree)
 
 abbrev world : World
 world = map part_of (source ∷ [])
 
--- where it stands outside, the meaning waits, and its events are told as those of the run are
-it_means : SourcesMean world 8 start → EventsAreTold
+-- where it stands outside, the meaning waits
+it_means : SourcesMean world 8 start
     → MeaningEnds world 8 (enter_item ∷ ret_item ∷ []) (call_out ∷ leave_out ∷ []) Waiting
-it_means mean told =
-    let w = (mean 93 left.weight _ _ leaves.o49 left.shows).waits stands_outside in
-    record {
-      enough = w.enough;
-      ends = λ f le. (w.ends f le).0;
-      told = λ f le. told _ _ (w.ends f le).1;
-    }
+it_means mean = (mean 93 left.weight _ _ leaves.o49 left.shows).waits stands_outside
 
 abbrev StartsMean : Type 0
 StartsMean =
     (modules : List ModuleFields) (ps : List PartSeen) (size : ℕ) (s : StartSeen) → IsStartOf ps size s
     → AreSources modules ps → SourcesMean (map part_of modules) size s
 
-pub source_there : HeadlineHolds → StartLinesAgree → StartsMean → EventsAreTold → SourceThere
-source_there headline agree mean told = record {
+pub source_there : HeadlineHolds → StartLinesAgree → StartsMean → SourceThere
+source_there headline agree mean = record {
   modules = source ∷ [];
   parts = parts;
   size = 8;
@@ -336,5 +328,5 @@ source_there headline agree mean told = record {
   went = ap outs_in (it_writes agree);
   means =
       subst (λ items. MeaningEnds world 8 items (call_out ∷ leave_out ∷ []) Waiting) (sym (came agree))
-      (it_means (mean (source ∷ []) parts 8 start is_start_of are_sources) told);
+      (it_means (mean (source ∷ []) parts 8 start is_start_of are_sources));
 }

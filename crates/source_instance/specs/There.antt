@@ -9,7 +9,7 @@ use Rattle.component_linker.specs.Started.{StartSeen}
 use Rattle.component_linker.specs.LinkedStarts.{IsStartOf}
 use Rattle.overlay_machine.specs.State.{OState}
 use Rattle.trace_tool.specs.Layout.{layout}
-use Rattle.trace_tool.specs.Lines.{Args, out, call, ret, enter, leave}
+use Rattle.trace_tool.specs.Lines.{Args, call, ret, enter, leave}
 use Rattle.trace_tool.specs.Feed.{integers_in, outs_of, items_of}
 use Rattle.trace_tool.specs.Runs.{written}
 use Rattle.trace_tool.specs.Headline.{Matched}
@@ -19,12 +19,13 @@ use Rattle.source_events.specs.declared.FeedBack.TheVariants as back
 use Rattle.source_events.specs.declared.FeedPair.TheVariants.{Nothing}
 use Rattle.source_events.specs.declared.Item.TheVariants.{Enter, Ret}
 use Rattle.source_events.specs.declared.OutArg.{OutArg}
+use Rattle.source_events.specs.declared.OutArg.TheVariants as arg
 use Rattle.source_events.specs.declared.OutEvent.{OutEvent}
 use Rattle.source_events.specs.declared.OutEvent.TheVariants.{CallOut, LeaveOut}
 use Rattle.source_events.specs.declared.End.TheVariants.{Waiting}
-use Rattle.run_items.specs.Items.{item_of, event_told}
+use Rattle.source_laws.specs.Sources.{MeaningEnds}
 use Rattle.source_starts.specs.Sources.{AreSources}
-use Rattle.source_starts.specs.RunMeans.{MeaningEnds, runs_trusted}
+use Rattle.source_starts.specs.RunMeans.{runs_trusted}
 
 pub record SourceThere : Type 0 where
   pub modules : List ModuleFields
@@ -56,18 +57,18 @@ pub record SourceThere : Type 0 where
   pub answer : ℤ
   pub result : ℤ
   pub lines : written start steps
-      ≡ enter part name stk args out ∷ call false part site base last given words
+      ≡ enter part name stk args back.Out ∷ call false part site base last given words
       ∷ ret false part site base last (Int answer) words ∷ leave part (Int result) ∷ []
   -- by these lines this came in: the entry, with so many words of stack and no pairs, and the answer
   pub left : ℕ
-  pub came : map item_of (items_of (layout start).stack.base (written start steps))
+  pub came : items_of (layout start).stack.base (written start steps)
       ≡ Enter part name (Some left) (integers_in args) (Nothing ∷ Nothing ∷ Nothing ∷ []) back.Out
       ∷ Ret part site base (Some answer) ∷ []
   -- and this went out: the call, with these arguments, and the leaving
   pub outs : List OutArg
   pub events : List OutEvent
-  pub events_are : events ≡ CallOut part site outs ∷ LeaveOut part result ∷ []
-  pub went : outs_of (written start steps) ≡ map event_told events
+  pub events_are : events ≡ CallOut part site outs ∷ LeaveOut part (arg.Int result) ∷ []
+  pub went : outs_of (written start steps) ≡ events
   -- what the modules mean by what came in is that so much goes out, and that they wait for more
   pub means : MeaningEnds (map part_of modules) size
-      (map item_of (items_of (layout start).stack.base (written start steps))) events Waiting
+      (items_of (layout start).stack.base (written start steps)) events Waiting

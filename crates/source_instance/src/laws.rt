@@ -2,7 +2,6 @@
 ghost use Rattle.source_instance.specs.There.{SourceThere};
 ghost use Rattle.source_instance.specs.Shows.{SourceShows};
 
-use run_items::laws::events_are_told;
 use source_laws::laws::each_lets_go;
 use source_starts::laws::{plain_runs_wipe, sources_leave_nothing, sources_mean};
 use trace_tool::laws::{start_lines_agree, the_headline};
@@ -17,7 +16,6 @@ pub fn a_source_is_entered()
     the_headline();
     start_lines_agree();
     sources_mean();
-    events_are_told();
 }
 
 /// What the laws say of the same run where the procedure calls out and where it leaves, computed.

@@ -12,8 +12,8 @@ use Rattle.overlay_machine.specs.State.{OState}
 use Rattle.overlay_machine.specs.Flat.{flat}
 use Rattle.overlay_machine.specs.Link.{Link}
 use Rattle.overlay_machine.specs.Linked.{Linked}
-use Rattle.trace_tool.specs.Feed.{integers_in}
-use Rattle.trace_tool.specs.Lines.{args_of}
+use Rattle.trace_tool.specs.Feed.{integers_in, feed_pairs}
+use Rattle.trace_tool.specs.Lines.{args_of, feed_pair}
 use Rattle.trace_tool.specs.Pairs.{pair_of, pairs_of}
 use Rattle.trace_tool.specs.Views.{flat_view}
 use Rattle.proc_semantics.specs.declared.value.Target.{Target}
@@ -22,7 +22,6 @@ use Rattle.proc_semantics.specs.Values.{pair_fed}
 use Rattle.template_runs.specs.Public.{IsShown}
 use Rattle.template_runs.proofs.Checks.{is_half}
 use Rattle.template_runs.proofs.Valid.{Valid}
-use Rattle.source_laws.specs.Trace.{feed_pair, feed_pairs}
 use Rattle.source_laws.proofs.Callings.{flat_reg}
 use Rattle.source_laws.proofs.Parameters.{PairIs, fed_none, fed, all_fed, RegsAre}
 

@@ -4,7 +4,7 @@ use Rattle.std.proofs.Common.{◌≡◌, ℕ, zero, suc, ◌+◌, ◌*◌, ◌<�
 use Rattle.std.proofs.Common.{Option, Some, None, Bool, true, false, refl, sym, ap, ◌∙◌, subst, arith}
 use Rattle.std.proofs.Common.{append_assoc, append-nil}
 use Rattle.std.specs.Prelude.{slice_index_or}
-use Rattle.cap_words.specs.declared.Word.TheVariants.{Int}
+use Rattle.cap_words.specs.declared.Word.TheVariants as cap
 use Rattle.lcm_isa.specs.declared.Reg.TheVariants.{A0}
 use Rattle.component_linker.specs.Started.{StartSeen}
 use Rattle.trusted_border.specs.declared.layout.Layout.{Layout}
@@ -19,15 +19,17 @@ use Rattle.overlay_machine.specs.Starting.{overlay_at}
 use Rattle.trace_tool.specs.Layout.{layout, part_name, site_of}
 use Rattle.trace_tool.specs.Views.{flat_view}
 use Rattle.trace_tool.specs.Lines.{args_of}
-use Rattle.trace_tool.specs.Feed as line
-use Rattle.trace_tool.specs.Feed.{integer_in}
+use Rattle.trace_tool.specs.Feed.{integer_in, out_args}
 use Rattle.source_events.specs.declared.Item.{Item}
 use Rattle.source_events.specs.declared.Item.TheVariants.{Enter, Ret}
-use Rattle.source_events.specs.declared.OutEvent.TheVariants.{CallOut}
+use Rattle.source_events.specs.declared.OutArg.TheVariants.{Int}
+use Rattle.source_events.specs.declared.OutEvent.{OutEvent}
+use Rattle.source_events.specs.declared.OutEvent.TheVariants.{CallOut, LeaveOut}
+use Rattle.source_events.specs.Outs.{out_arg}
 use Rattle.source_events.specs.declared.End.TheVariants.{OutOfFuel}
-use Rattle.run_items.specs.Items.{event_told}
 use Rattle.proc_semantics.specs.Values as values
 use Rattle.proc_semantics.specs.Meaning as plain
+use Rattle.proc_semantics.specs.Fuel.{Prefix}
 use Rattle.proc_semantics.specs.Marked as marked
 use Rattle.proc_semantics.specs.Marked.{Marks, Thing, Whence, whences, numbered, plain_arg}
 use Rattle.proc_semantics.specs.Marked.{plain_event, plain_report, marked_meaning, thing_to, refined}
@@ -49,7 +51,7 @@ pub map-both : {A B : Type 0} (f : A → B) (xs ys : List A) → map f (xs ++ ys
 map-both f [] ys = refl
 map-both f (x ∷ xs) ys = ap (λ z. f x ∷ z) (map-both f xs ys)
 
-abbrev line_of : Shown → line.OutEvent
+abbrev line_of : Shown → OutEvent
 line_of x = x.line
 
 abbrev item_of : Thing OWord Entry → Item
@@ -65,30 +67,30 @@ plain_trace t = record {
 
 -- ---- traces
 
-arg_line : (o : Option ℤ) (w : OWord) → plain_arg (arg_shown o w) ≡ lines.out_arg o
+arg_line : (o : Option ℤ) (w : OWord) → plain_arg (arg_shown o w) ≡ out_arg o
 arg_line None w = refl
 arg_line (Some z) w = refl
 
 module _ (l : Layout) where
-  args_line : (q : OState) → map plain_arg (args_shown l q) ≡ lines.out_args (flat_view l q)
+  args_line : (q : OState) → map plain_arg (args_shown l q) ≡ out_args (args_of (flat_view l q))
   args_line q =
       let v = args_of (flat_view l q) in
       let r = q.maps.regs in
       ap (λ z. z ∷ plain_arg (arg_shown (integer_in v.a1) r.a1) ∷ plain_arg (arg_shown (integer_in v.a2) r.a2)
       ∷ plain_arg (arg_shown (integer_in v.a3) r.a3) ∷ []) (arg_line (integer_in v.a0) r.a0)
-      ∙ ap (λ z. lines.out_arg (integer_in v.a0) ∷ z ∷ plain_arg (arg_shown (integer_in v.a2) r.a2)
+      ∙ ap (λ z. out_arg (integer_in v.a0) ∷ z ∷ plain_arg (arg_shown (integer_in v.a2) r.a2)
       ∷ plain_arg (arg_shown (integer_in v.a3) r.a3) ∷ []) (arg_line (integer_in v.a1) r.a1)
-      ∙ ap (λ z. lines.out_arg (integer_in v.a0) ∷ lines.out_arg (integer_in v.a1) ∷ z
+      ∙ ap (λ z. out_arg (integer_in v.a0) ∷ out_arg (integer_in v.a1) ∷ z
       ∷ plain_arg (arg_shown (integer_in v.a3) r.a3) ∷ []) (arg_line (integer_in v.a2) r.a2)
-      ∙ ap (λ z. lines.out_arg (integer_in v.a0) ∷ lines.out_arg (integer_in v.a1)
-      ∷ lines.out_arg (integer_in v.a2) ∷ z ∷ []) (arg_line (integer_in v.a3) r.a3)
+      ∙ ap (λ z. out_arg (integer_in v.a0) ∷ out_arg (integer_in v.a1)
+      ∷ out_arg (integer_in v.a2) ∷ z ∷ []) (arg_line (integer_in v.a3) r.a3)
 
   pub outs_line : (q : OState) (e : Option Event)
       → map line_of (seen.outs_of l q e) ≡ lines.outs_of l (flat_view l q) e
   outs_line q None = refl
   outs_line q (Some (Called true i base last)) = refl
   outs_line q (Some (Called false i base last)) =
-      ap (λ z. event_told (CallOut (part_name l (site_of l i).part) (site_of l i).index z) ∷ []) (args_line q)
+      ap (λ z. CallOut (part_name l (site_of l i).part) (site_of l i).index z ∷ []) (args_line q)
   outs_line q (Some (Returned inward i base last)) = refl
   outs_line q (Some (Entered part k back)) = refl
   outs_line q (Some (Left part)) = refl
@@ -148,16 +150,14 @@ module _ (l : Layout) where
 
 -- ---- meanings
 
-events_line : (es : List (marked.Event OWord Entry))
-    → map event_told (map plain_event es) ≡ map line_of (map shown_of es)
+events_line : (es : List (marked.Event OWord Entry)) → map plain_event es ≡ map line_of (map shown_of es)
 events_line [] = refl
 events_line (marked.Calls part site base low x y xs ∷ es) =
-    ap (λ z. event_told (CallOut part site (map plain_arg xs)) ∷ z) (events_line es)
-events_line (marked.Leaves part v low e ∷ es) = ap
-    (λ z. event_told (plain_event {T = OWord} {E = Entry} (marked.Leaves part v low e)) ∷ z) (events_line es)
+    ap (λ z. CallOut part site (map plain_arg xs) ∷ z) (events_line es)
+events_line (marked.Leaves part v low e ∷ es) = ap (λ z. LeaveOut part (Int v) ∷ z) (events_line es)
 
 prefix_line : (out : List Shown) (r : Report) → (rest : List Shown) × (events_of r ≡ out ++ rest)
-    → good.Prefix (map line_of out) (good.events_of (plain_report r))
+    → Prefix (map line_of out) (plain_report r).events
 prefix_line out r h =
     (map line_of h.0, events_line r.events ∙ ap (map line_of) h.1 ∙ map-both line_of out h.0)
 
@@ -169,7 +169,7 @@ fits_line (HaltedWith w) out r h = (h.0, h.1, h.2, events_line r.events ∙ ap (
 fits_line Failed out r h = (h.0, events_line r.events ∙ ap (map line_of) h.1)
 
 slow_line : (out : List Shown) (r : Report) → (rest : List Shown) × (out ≡ events_of r ++ rest)
-    → good.Prefix (good.events_of (plain_report r)) (map line_of out)
+    → Prefix (plain_report r).events (map line_of out)
 slow_line out r h = (
   map line_of h.0,
   ap (map line_of) h.1 ∙ map-both line_of (events_of r) h.0
@@ -193,12 +193,11 @@ forgets world stack t a = record {
   fits = λ f le. subst (good.Fits t.final (map line_of t.out)) (same f)
       (fits_line t.final t.out (marked_meaning OWord Entry world.marks world.parts stack t.items f)
       (a.fits f le));
-  slow = λ f lt. subst (λ z. (z.end ≡ OutOfFuel) × good.Prefix (good.events_of z)
-      (map line_of t.out)) (same f) (
-        (a.slow f lt).0,
-        slow_line t.out (marked_meaning OWord Entry world.marks world.parts stack t.items f)
-            ((a.slow f lt).1),
-      );
+  slow = λ f lt. subst (λ z. (z.end ≡ OutOfFuel) × Prefix z.events (map line_of t.out)) (same f) (
+    (a.slow f lt).0,
+    slow_line t.out (marked_meaning OWord Entry world.marks world.parts stack t.items f)
+        ((a.slow f lt).1),
+  );
 }
   where
     same : (f : ℕ) → plain_report (marked_meaning OWord Entry world.marks world.parts stack t.items f)
@@ -295,6 +294,9 @@ words_told world stack s all es is p tells =
 
 -- ---- whence words are
 
+abbrev zero_word : OWord
+zero_word = Plain (cap.Int (pos 0))
+
 abbrev IsFour : List OWord → Type 0
 IsFour ws = (a b c d : OWord) × (ws ≡ a ∷ b ∷ c ∷ d ∷ [])
 
@@ -343,11 +345,11 @@ module _ (marks : Marks OWord) where
   back is = thing_to (word_from marks is) (back_at is)
 
   came_back : (ws : List OWord) → IsFour ws
-      → slice_index_or ws 0 (Plain (Int (pos 0))) ∷ slice_index_or ws 1 (Plain (Int (pos 0)))
-      ∷ slice_index_or ws 2 (Plain (Int (pos 0))) ∷ slice_index_or ws 3 (Plain (Int (pos 0))) ∷ [] ≡ ws
+      → slice_index_or ws 0 zero_word ∷ slice_index_or ws 1 zero_word ∷ slice_index_or ws 2 zero_word
+      ∷ slice_index_or ws 3 zero_word ∷ [] ≡ ws
   came_back ws e =
-      ap (λ ws. slice_index_or ws 0 (Plain (Int (pos 0))) ∷ slice_index_or ws 1 (Plain (Int (pos 0)))
-      ∷ slice_index_or ws 2 (Plain (Int (pos 0))) ∷ slice_index_or ws 3 (Plain (Int (pos 0))) ∷ []) e.4
+      ap (λ ws. slice_index_or ws 0 zero_word ∷ slice_index_or ws 1 zero_word ∷ slice_index_or ws 2 zero_word
+      ∷ slice_index_or ws 3 zero_word ∷ []) e.4
       ∙ sym e.4
 
   things_back : (pre suf : List (Thing OWord Entry)) (k : ℕ) → length pre ≡ k → Four suf
@@ -356,10 +358,10 @@ module _ (marks : Marks OWord) where
   things_back pre (x ∷ suf) k e h =
       let at : words_at (pre ++ x ∷ suf) k ≡ x.words =
       ap (words_at (pre ++ x ∷ suf)) (sym e) ∙ words_behind pre x suf in
-      let ws : slice_index_or (words_at (pre ++ x ∷ suf) k) 0 (Plain (Int (pos 0)))
-      ∷ slice_index_or (words_at (pre ++ x ∷ suf) k) 1 (Plain (Int (pos 0)))
-      ∷ slice_index_or (words_at (pre ++ x ∷ suf) k) 2 (Plain (Int (pos 0)))
-      ∷ slice_index_or (words_at (pre ++ x ∷ suf) k) 3 (Plain (Int (pos 0))) ∷ [] ≡ x.words =
+      let ws : slice_index_or (words_at (pre ++ x ∷ suf) k) 0 zero_word
+      ∷ slice_index_or (words_at (pre ++ x ∷ suf) k) 1 zero_word
+      ∷ slice_index_or (words_at (pre ++ x ∷ suf) k) 2 zero_word
+      ∷ slice_index_or (words_at (pre ++ x ∷ suf) k) 3 zero_word ∷ [] ≡ x.words =
       came_back (words_at (pre ++ x ∷ suf) k) (subst IsFour (sym at) h.0) ∙ at in
       let len : length (pre ++ x ∷ []) ≡ k + 1 = long pre k e in
       let en : back_at (pre ++ x ∷ suf) k ≡ x.entry =

@@ -40,7 +40,6 @@ use Rattle.proc_semantics.specs.Marked.{Leaves}
 use Rattle.source_events.specs.declared.End.TheVariants.{Fail as Fails}
 use Rattle.overlay_machine.proofs.invariant.ReturnKept.{Returned}
 use Rattle.flow_check.specs.Places.{begins_entry}
-use Rattle.source_laws.specs.Trace.{feed_back, feed_pairs}
 use Rattle.template_runs.specs.Border.{GivesBack, Shows, by_leave}
 use Rattle.template_runs.proofs.Clean.{none, untold, ended}
 use Rattle.template_runs.proofs.Shows.{shows_leave, pair_left, half_is}
@@ -58,12 +57,15 @@ use Rattle.source_laws.proofs.CallsIn.{leaves_wiped}
 use Rattle.template_runs.proofs.Ends.{weight_small}
 use Rattle.template_runs.proofs.Mixed.{mixed}
 use Rattle.source_laws.proofs.Waiting.{Meets, left_same}
-use Rattle.trace_tool.specs.Feed.{integer_in, left_in, integers_in}
+use Rattle.source_events.specs.Left.{left_in}
+use Rattle.trace_tool.specs.Feed.{integer_in, integers_in, feed_pairs}
 use Rattle.trace_tool.specs.Pairs.{pairs_of}
 use Rattle.template_runs.proofs.Named.{Named}
-use Rattle.trace_tool.specs.Lines.{args_of}
+use Rattle.trace_tool.specs.Lines.{args_of, feed_back}
 use Rattle.template_runs.specs.Public.{IsShown, IsSharedAt}
-use Rattle.trace_tool.specs.Feed as line
+use Rattle.source_events.specs.declared.OutArg.TheVariants as arg
+use Rattle.source_events.specs.declared.OutEvent.TheVariants.{LeaveOut}
+use Rattle.source_events.specs.Outs.{out_arg}
 
 module _ (world : World) (g : Link) (linked : Linked g) (Begins : Target → PartSeen → ℕ → Type 0)
     (StoreIs : Store → (ℕ → OWord) → Type 0) (RegsAre : Registers → OState → Type 0) where
@@ -309,13 +311,13 @@ module _ (world : World) (g : Link) (linked : Linked g) (Begins : Target → Par
         by_tells x y ex ey eb (goes_out q' b l) =
             let a0 : (flat_view g.layout q').reg A0 ≡ Int v = ap (flat g.layout q'.frames) (l.a0 ∙ a.value) in
             let fits = a.fits in
-            let value : line.out_arg (integer_in ((flat_view g.layout q').reg A0)) ≡ line.integer v =
-            ap (λ z. line.out_arg (integer_in z)) a0 ∙ rw (a.fits) refl in
-            let shows = ap (λ z. left_shown (line.leave_out z
-            (line.out_arg (integer_in ((flat_view g.layout q').reg A0)))) (left_with q'))
+            let value : out_arg (integer_in ((flat_view g.layout q').reg A0)) ≡ arg.Int v =
+            ap (λ z. out_arg (integer_in z)) a0 ∙ rw (a.fits) refl in
+            let shows = ap (λ z. left_shown (LeaveOut z
+            (out_arg (integer_in ((flat_view g.layout q').reg A0)))) (left_with q'))
             (names l.owner l.owner_is)
-            ∙ ap (λ z. left_shown (line.leave_out (part_of world t.home) z) (left_with q')) value
-            ∙ ap (left_shown (line.leave_out (part_of world t.home) (line.integer v)))
+            ∙ ap (λ z. left_shown (LeaveOut (part_of world t.home) z) (left_with q')) value
+            ∙ ap (left_shown (LeaveOut (part_of world t.home) (arg.Int v)))
             (gives_same world g linked Begins StoreIs RegsAre p en o q q' v mem a entry l.keeps
             (pair_left g linked a.part a.at.trusted a.top q q' x y ex ey a.stk a.clean l.crossed l.keeps)
             (shows_leave g linked a.part a.at.trusted a.top q q' x y ex ey a.stk a.clean l.crossed l.keeps)
@@ -329,7 +331,7 @@ module _ (world : World) (g : Link) (linked : Linked g) (Begins : Target → Par
             (go_out g n 1 c (Some (Left l.owner.part))
             (λ low. Leaves (part_of world t.home) v low (entry_of g.layout en))
             (record {
-              line = line.leave_out (part_of world t.home) (line.integer v);
+              line = LeaveOut (part_of world t.home) (arg.Int v);
               went = None;
               back = Some (entry_of g.layout en);
             }) q q'

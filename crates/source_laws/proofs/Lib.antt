@@ -3,6 +3,7 @@ pub mod Follows
 pub mod Forgets
 pub mod Agreeing
 pub mod Upto
+mod Integers
 pub mod Sum
 pub mod Handed
 pub mod Waits

@@ -11,16 +11,19 @@ use Rattle.overlay_machine.specs.Starting.{overlay_at}
 use Rattle.trace_tool.specs.Layout.{layout}
 use Rattle.trace_tool.specs.Views.{flat_view}
 use Rattle.proc_semantics.specs.Values.{World}
-use Rattle.trace_tool.specs.Feed.{OutEvent}
 use Rattle.source_events.specs.declared.Item.{Item}
-use Rattle.source_events.specs.declared.End.TheVariants.{Halt as Halted}
+use Rattle.source_events.specs.declared.OutEvent.{OutEvent}
+use Rattle.source_events.specs.declared.End.TheVariants.{Halt as Halted, Waiting}
+use Rattle.source_events.specs.Outs.{LeaveIntegers}
 use Rattle.proc_semantics.specs.Told.{Comp}
 use Rattle.proc_semantics.specs.Meaning.{meaning}
 use Rattle.source_laws.specs.Trace.{Running, Outside, HaltedWith, Failed, rests, shown, outs_of, items_of}
 use Rattle.source_laws.specs.Trace.{standing, ended, weighed, show, trace, Trace, Final}
 use Rattle.template_runs.specs.Runs.{is_inside}
-use Rattle.source_laws.specs.Good.{Agrees, events_of}
-use Rattle.source_laws.specs.Sources.{Shows, none_yet, and_then, TakesLong, MeansAt, AgreeingRunsMean}
+use Rattle.source_laws.specs.Good.{Agrees}
+use Rattle.source_laws.specs.Sources.{Shows, none_yet, and_then, MeaningEnds, MeaningBegins, MeaningTakes}
+use Rattle.source_laws.specs.Sources.{MeansAt, AgreeingRunsMean}
+use Rattle.source_laws.proofs.Integers.{where_ends, where_begins}
 
 shown_shown : (es fs : List OutEvent) (is ks : List Item) (n m : ℕ) (t : Trace)
     → shown es is n (shown fs ks m t) ≡ shown (es ++ fs) (is ++ ks) (n + m) t
@@ -106,33 +109,48 @@ module _ (world : World) (stack : ℕ) (l : Layout) (o : OState)
 
     long : (m : ℕ) (f : Final)
         → Agrees 0 (record { out = es; items = is; weight = m; final = f })
-        (λ fuel feed. meaning world stack feed fuel) → TakesLong world stack is es m
+        (λ fuel feed. meaning world stack feed fuel) → MeaningTakes world stack is es m
     long m f a x lt = a.slow x (omega (arith, lt))
+
+    waits_there : is_inside l p ≡ false → MeaningEnds world stack is es Waiting
+    waits_there i =
+        let a = agrees_at 0 0 Outside (trace_rests l p ∙ ap (standing l) i) in
+        record { enough = a.enough; ends = λ f le. (a.fits f le).0; told = λ f le. (a.fits f le).1 }
+
+    goes_on_there : is_inside l p ≡ true → MeaningBegins world stack is es
+    goes_on_there i =
+        let a = agrees_at 0 0 Running (trace_rests l p ∙ ap (standing l) i) in
+        record { enough = a.enough; begins = λ f le. a.fits f le }
+
+    integers_there : (b : Bool) → is_inside l p ≡ b → LeaveIntegers es
+    integers_there false i = where_ends world stack is es Waiting (waits_there i)
+    integers_there true i = where_begins world stack is es (goes_on_there i)
 
     pub means_at : MeansAt world stack l n es is p
     means_at = record {
-      waits = λ i. (
-          let a = agrees_at 0 0 Outside (trace_rests l p ∙ ap (standing l) i) in
-          record { enough = a.enough; ends = λ f le. a.fits f le }
-          );
+      waits = waits_there;
       halts = λ i e. (
           let a = agrees_at 1 (weight_of l p) (HaltedWith ((flat_view l p).reg A0)) (trace_halts l p i e) in
           let b = a.fits a.enough (omega arith) in (
             b.0,
             b.1,
-            record { enough = a.enough; ends = λ f le. halted a b.0 b.1 f le },
+            record {
+              enough = a.enough;
+              ends = λ f le. (halted a b.0 b.1 f le).0;
+              told = λ f le. (halted a b.0 b.1 f le).1;
+            },
             long (n + weight_of l p) _ a,
           )
           );
       fails = λ i e. (
-          let a = agrees_at 1 (weight_of l p) Failed (trace_fails l p i e) in
-          (record { enough = a.enough; ends = λ f le. a.fits f le }, long (n + weight_of l p) _ a)
+          let a = agrees_at 1 (weight_of l p) Failed (trace_fails l p i e) in (
+            record { enough = a.enough; ends = λ f le. (a.fits f le).0; told = λ f le. (a.fits f le).1 },
+            long (n + weight_of l p) _ a,
+          )
           );
-      goes_on = λ i. (
-          let a = agrees_at 0 0 Running (trace_rests l p ∙ ap (standing l) i) in
-          record { enough = a.enough; begins = λ f le. a.fits f le }
-          );
+      goes_on = goes_on_there;
       slow = (λ x lt. slow_by (is_inside l p) refl x lt);
+      integers = integers_there (is_inside l p) refl;
     }
       where
         halted : (a : Agrees 0
@@ -144,14 +162,14 @@ module _ (world : World) (stack : ℕ) (l : Layout) (o : OState)
             }) (λ fuel feed. meaning world stack feed fuel))
             (v : ℤ) → (flat_view l p).reg A0 ≡ Int v
             → (f : ℕ) → a.enough ≤ f → ((meaning world stack is f).end ≡ Halted v)
-            × (events_of (meaning world stack is f) ≡ es)
+            × ((meaning world stack is f).events ≡ es)
         halted a v e f le =
             let b = a.fits f le in
             let same : Int b.0 ≡ Int v = sym b.1 ∙ e in
             let w : b.0 ≡ v = cc in
             (b.2 ∙ ap Halted w, b.3)
 
-        slow_by : (b : Bool) → is_inside l p ≡ b → TakesLong world stack is es n
+        slow_by : (b : Bool) → is_inside l p ≡ b → MeaningTakes world stack is es n
         slow_by true i x lt =
             (agrees_at 0 0 Running (trace_rests l p ∙ ap (standing l) i)).slow x (omega (arith, lt))
         slow_by false i x lt =

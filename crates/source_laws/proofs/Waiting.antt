@@ -23,7 +23,8 @@ use Rattle.overlay_machine.specs.declared.words.OWord.TheVariants.{Plain, RetCod
 use Rattle.component_linker.specs.declared.owners.Owner.{Owner}
 use Rattle.overlay_machine.specs.Words.{look}
 use Rattle.overlay_machine.specs.State.{OpenFrame, OState, frame_of}
-use Rattle.overlay_machine.specs.Step.{own_stack, is_own_stack}
+use Rattle.cap_words.specs.Stacks.{is_stack_from}
+use Rattle.overlay_machine.specs.Step.{own_stack}
 use Rattle.overlay_machine.specs.Flat.{flat, flat_code, flat_range, flat_data}
 use Rattle.overlay_machine.specs.Events.{owner_now}
 use Rattle.overlay_machine.specs.Link.{Link, IsTrusted, ranges_of}
@@ -36,7 +37,6 @@ use Rattle.source_laws.proofs.Refined.{single, World, found, registers_fed, Regi
 use Rattle.source_laws.proofs.Refined.{entered, resumed, left_by, part_of, whole, recursive}
 use Rattle.proc_semantics.specs.Values.{Store}
 use Rattle.proc_semantics.specs.declared.value.Target.{Target}
-use Rattle.source_laws.specs.Trace.{feed_back, feed_pairs}
 use Rattle.template_runs.proofs.Clean.{none, untold, ended}
 use Rattle.template_runs.proofs.Quiet.{Owing, Among, depth}
 use Rattle.source_laws.proofs.Upto.{UpTo, in_frame, stack_top}
@@ -46,10 +46,11 @@ use Rattle.template_runs.proofs.Rows.{DataIs}
 use Rattle.template_runs.proofs.Outside.{Out, SameData}
 use Rattle.source_laws.proofs.Waits.{enter_item, ret_item, outside_law}
 use Rattle.source_laws.proofs.CallsIn.{SameEntry, shown_public, AtEnd, ProcLaw, left_now}
-use Rattle.trace_tool.specs.Feed.{integer_in, left_in, integers_in}
+use Rattle.source_events.specs.Left.{left_in}
+use Rattle.trace_tool.specs.Feed.{integer_in, integers_in, feed_pairs}
 use Rattle.trace_tool.specs.Pairs.{pairs_of}
 use Rattle.template_runs.proofs.Named.{Named}
-use Rattle.trace_tool.specs.Lines.{args_of}
+use Rattle.trace_tool.specs.Lines.{args_of, feed_back}
 use Rattle.template_runs.specs.Public.{IsShown, IsSharedAt}
 
 code_left : (base : ℕ) (o : Option SiteCode) → left_in base (flat_code o) ≡ None
@@ -73,7 +74,8 @@ module _ (world : World) (g : Link) (linked : Linked g) (Begins : Target → Par
   unfolding flat own_stack faces
   left_same q = by q.maps.regs.stk refl
     where
-      by_cap : (c : CapFields) (b : Bool) → is_own_stack g.layout c ≡ b → q.maps.regs.stk ≡ Plain (Mem c)
+      by_cap : (c : CapFields) (b : Bool) → is_stack_from g.layout.stack.base c ≡ b
+          → q.maps.regs.stk ≡ Plain (Mem c)
           → left_in g.layout.stack.base (flat g.layout q.frames q.maps.regs.stk) ≡ option_map
           (λ (c : CapFields). c.end + 1 - c.base) (own_stack g.layout q.maps)
       by_cap c true e is = rw (is, e) refl
@@ -83,7 +85,7 @@ module _ (world : World) (g : Link) (linked : Linked g) (Begins : Target → Par
           → left_in g.layout.stack.base (flat g.layout q.frames q.maps.regs.stk) ≡ option_map
           (λ (c : CapFields). c.end + 1 - c.base) (own_stack g.layout q.maps)
       by (Plain (Int z)) is = rw is refl
-      by (Plain (Mem c)) is = by_cap c (is_own_stack g.layout c) refl is
+      by (Plain (Mem c)) is = by_cap c (is_stack_from g.layout.stack.base c) refl is
       by (Plain (Seal c)) is = rw is refl
       by (Plain (Sealed s (MemIn x))) is = rw is refl
       by (Plain (Sealed s (SealIn x))) is = rw is refl

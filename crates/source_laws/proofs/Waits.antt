@@ -30,7 +30,7 @@ use Rattle.source_events.specs.declared.Item.TheVariants.{Enter, Ret}
 use Rattle.source_laws.proofs.Refined.{Comp, Thing, take_item}
 use Rattle.source_laws.specs.Seen.{thing_of, rests, shown, outs_of, items_of, standing, ended, show}
 use Rattle.source_laws.specs.Seen.{trace}
-use Rattle.source_laws.specs.Trace.{Outside, HaltedWith, Failed, weighed, feed_back, feed_pairs}
+use Rattle.source_laws.specs.Trace.{Outside, HaltedWith, Failed, weighed}
 use Rattle.source_laws.proofs.Follows.{Agrees}
 use Rattle.source_laws.proofs.Agreeing.{taken, unseen, waits, weaker}
 use Rattle.template_runs.specs.Border.{Shows, GivesBack, zero as no_word}
@@ -45,8 +45,9 @@ use Rattle.template_runs.proofs.Quiet.{Quiet, Stays, quiet_outside, quiet_ended}
 use Rattle.template_runs.proofs.Valid.{halts_not, fails_not, Valid}
 use Rattle.source_laws.proofs.Upto.{UpTo, Since, in_frame, stack_top, nothing_yet, nothing_more}
 use Rattle.template_runs.proofs.Outside.{Out, SameData, Leaves, stays, enters, returns, outside_here, leaves}
-use Rattle.trace_tool.specs.Feed.{integer_in, integers_in, left_in}
-use Rattle.trace_tool.specs.Lines.{args_of}
+use Rattle.source_events.specs.Left.{left_in}
+use Rattle.trace_tool.specs.Feed.{integer_in, integers_in, feed_pairs}
+use Rattle.trace_tool.specs.Lines.{args_of, feed_back}
 use Rattle.trace_tool.specs.Pairs.{pairs_of}
 use Rattle.template_runs.specs.Public.{IsShown, IsSharedAt}
 use Rattle.template_runs.proofs.Named.{Named}

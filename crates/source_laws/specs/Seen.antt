@@ -1,5 +1,5 @@
--- What a run of the overlay shows to the refined meaning: the lines of what leaves, and of a call the words
--- by which it goes; and the items that come in, with the words in the argument registers.
+-- What a run of the overlay shows to the refined meaning: what leaves, and of a call the words by which it
+-- goes; and the items that come in, with the words in the argument registers.
 use Rattle.std.specs.Prelude.{option_map, ℕ, zero, suc, ◌+◌, ℤ, pos, Bool, true, false, List, [], ◌∷◌, ◌++◌}
 use Rattle.std.specs.Prelude.{Option, Some, map, None}
 use Rattle.cap_words.specs.declared.CapFields.{CapFields}
@@ -20,12 +20,13 @@ use Rattle.overlay_machine.specs.Events.{step_event}
 use Rattle.trace_tool.specs.Layout.{part_name, site_of}
 use Rattle.trace_tool.specs.Views.{flat_view}
 use Rattle.trace_tool.specs.Lines.{args_of}
-use Rattle.trace_tool.specs.Feed as line
 use Rattle.trace_tool.specs.Feed.{integer_in}
 use Rattle.source_events.specs.declared.Item.{Item}
 use Rattle.source_events.specs.declared.Item.TheVariants.{Enter, Ret}
+use Rattle.source_events.specs.declared.OutArg.TheVariants as arg
+use Rattle.source_events.specs.declared.OutEvent.{OutEvent}
 use Rattle.source_events.specs.declared.OutEvent.TheVariants.{CallOut, LeaveOut}
-use Rattle.run_items.specs.Items.{event_told}
+use Rattle.source_events.specs.Outs.{out_arg}
 use Rattle.template_runs.specs.Runs.{is_inside}
 use Rattle.proc_semantics.specs.Marked as marked
 use Rattle.proc_semantics.specs.Marked.{Thing, Arg, Number, OfPair, Report, plain_arg}
@@ -58,22 +59,22 @@ nothing_back = record {
 }
 
 pub record Shown : Type 0 where
-  pub line : line.OutEvent
+  pub line : OutEvent
   pub went : Option Went
   pub back : Option Back
 
-abbrev pub left_shown : line.OutEvent → Back → List Shown
+abbrev pub left_shown : OutEvent → Back → List Shown
 left_shown e b = record { line = e; went = None; back = Some b } ∷ []
 
 -- what the meaning says of it, whatever was wiped
 abbrev pub shown_of : marked.Event OWord Back → Shown
 shown_of (marked.Calls part site base low x y xs) = record {
-  line = event_told (CallOut part site (map plain_arg xs));
+  line = CallOut part site (map plain_arg xs);
   went = Some (record { base = base; first = x; second = y; args = xs });
   back = None;
 }
 shown_of (marked.Leaves part v low e) =
-    record { line = event_told (LeaveOut part v); went = None; back = Some e }
+    record { line = LeaveOut part (arg.Int v); went = None; back = Some e }
 
 abbrev pub events_of : Report OWord Back → List Shown
 events_of t = map shown_of t.events
@@ -128,8 +129,7 @@ module _ (l : Layout) where
 
   abbrev pub call_shown : OState → ℕ → ℕ → Shown
   call_shown q i base = record {
-    line = event_told (CallOut (part_name l (site_of l i).part) (site_of l i).index
-        (map plain_arg (args_shown q)));
+    line = CallOut (part_name l (site_of l i).part) (site_of l i).index (map plain_arg (args_shown q));
     went = Some (record {
       base = base;
       first = Some q.maps.regs.c1;
@@ -146,7 +146,7 @@ module _ (l : Layout) where
   outs_of q (Some (Returned inward i base last)) = []
   outs_of q (Some (Entered part k back)) = []
   outs_of q (Some (Left part)) =
-      left_shown (line.leave_out (part_name l part) (line.out_arg (integer_in ((flat_view l q).reg A0))))
+      left_shown (LeaveOut (part_name l part) (out_arg (integer_in ((flat_view l q).reg A0))))
       (left_with q)
 
   -- an item, with the words where it is an entry

@@ -12,14 +12,16 @@ use Rattle.overlay_machine.specs.Starting.{overlay_at}
 use Rattle.trace_tool.specs.Layout.{layout}
 use Rattle.trace_tool.specs.Views.{flat_view}
 use Rattle.proc_semantics.specs.Values.{World}
-use Rattle.trace_tool.specs.Feed.{OutEvent}
 use Rattle.source_events.specs.declared.Item.{Item}
+use Rattle.source_events.specs.declared.OutEvent.{OutEvent}
 use Rattle.source_events.specs.declared.End.{End}
 use Rattle.source_events.specs.declared.End.TheVariants.{Halt as Halted, Fail as Fails, Waiting, OutOfFuel}
+use Rattle.source_events.specs.Outs.{LeaveIntegers}
 use Rattle.proc_semantics.specs.Meaning.{meaning}
+use Rattle.proc_semantics.specs.Fuel.{Prefix}
 use Rattle.template_runs.specs.Runs.{is_inside}
 use Rattle.source_laws.specs.Trace.{outs_of, items_of, weighed, trace}
-use Rattle.source_laws.specs.Good.{Agrees, Prefix, events_of}
+use Rattle.source_laws.specs.Good.{Agrees}
 
 -- from one overlay a run of this weight comes to another, which is a matched point: of it the weight of the
 -- steps that began in trusted code, what went out of the modules, and the items of the feed
@@ -31,36 +33,41 @@ pub data Shows (l : Layout) (o : OState) : ℕ → ℕ → List OutEvent → Lis
       (es ++ outs_of l (flat_view l q) (step_event l p q))
       (is ++ items_of l (flat_view l q) (step_event l p q)) q
 
--- a meaning comes to an end with these events, under every large enough fuel
-pub record ComesTo (world : World) (stack : ℕ) (feed : List Item) (end : End) (events : List OutEvent) : Type
-    0 where
-  pub enough : ℕ
-  pub ends : (f : ℕ) → enough ≤ f → ((meaning world stack feed f).end ≡ end)
-      × (events_of (meaning world stack feed f) ≡ events)
+-- ---- what is told of the items that came in
 
--- under every large enough fuel its events begin with these
-pub record BeginsWith (world : World) (stack : ℕ) (feed : List Item) (events : List OutEvent) : Type 0 where
-  pub enough : ℕ
-  pub begins : (f : ℕ) → enough ≤ f → Prefix events (events_of (meaning world stack feed f))
+module _ (world : World) (size : ℕ) (items : List Item) (events : List OutEvent) where
+  -- an end, with these events, under every large enough fuel
+  pub record MeaningEnds (end : End) : Type 0 where
+    pub enough : ℕ
+    pub ends : (fuel : ℕ) → enough ≤ fuel → (meaning world size items fuel).end ≡ end
+    pub told : (fuel : ℕ) → enough ≤ fuel → (meaning world size items fuel).events ≡ events
 
--- it is out of fuel under every fuel that is too small for so many instructions, after some of these events
-abbrev pub TakesLong : World → ℕ → List Item → List OutEvent → ℕ → Type 0
-TakesLong world stack feed events n =
-    (f : ℕ) → f * 200 < n → ((meaning world stack feed f).end ≡ OutOfFuel)
-    × Prefix (events_of (meaning world stack feed f)) events
+  -- under every large enough fuel these events, and perhaps more
+  pub record MeaningBegins : Type 0 where
+    pub enough : ℕ
+    pub begins : (fuel : ℕ) → enough ≤ fuel → Prefix events (meaning world size items fuel).events
+
+  -- no end and not more than these events, under a fuel that 200 instructions a tick make less than so many
+  abbrev pub MeaningTakes : ℕ → Type 0
+  MeaningTakes n =
+      (fuel : ℕ) → fuel * 200 < n → ((meaning world size items fuel).end ≡ OutOfFuel)
+      × Prefix (meaning world size items fuel).events events
+
+-- ---- at each matched point
 
 -- at a matched point: where it stands outside, where the next step halts or fails in trusted code, where it
--- goes on there, and the bound of 200 instructions on a tick
+-- goes on there, and the bound of 200 instructions on a tick; and each procedure that left gave an integer
 pub record MeansAt (world : World) (stack : ℕ) (l : Layout) (n : ℕ) (es : List OutEvent) (is : List Item)
     (p : OState) : Type 0 where
-  pub waits : is_inside l p ≡ false → ComesTo world stack is Waiting es
+  pub waits : is_inside l p ≡ false → MeaningEnds world stack is es Waiting
   pub halts : is_inside l p ≡ true → overlay_step l p ≡ halts
-      → (v : ℤ) × ((flat_view l p).reg A0 ≡ Int v) × ComesTo world stack is (Halted v) es
-      × TakesLong world stack is es (n + weight_of l p)
-  pub fails : is_inside l p ≡ true → overlay_step l p ≡ fails → ComesTo world stack is Fails es
-      × TakesLong world stack is es (n + weight_of l p)
-  pub goes_on : is_inside l p ≡ true → BeginsWith world stack is es
-  pub slow : TakesLong world stack is es n
+      → (v : ℤ) × ((flat_view l p).reg A0 ≡ Int v) × MeaningEnds world stack is es (Halted v)
+      × MeaningTakes world stack is es (n + weight_of l p)
+  pub fails : is_inside l p ≡ true → overlay_step l p ≡ fails → MeaningEnds world stack is es Fails
+      × MeaningTakes world stack is es (n + weight_of l p)
+  pub goes_on : is_inside l p ≡ true → MeaningBegins world stack is es
+  pub slow : MeaningTakes world stack is es n
+  pub integers : LeaveIntegers es
 
 -- at each matched point of the run from a start
 abbrev pub SourcesMean : World → ℕ → StartSeen → Type 0

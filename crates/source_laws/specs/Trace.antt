@@ -1,75 +1,40 @@
 -- What a run of the overlay shows to a source: what leaves, what comes in, the weight of its trusted steps,
 -- and where it stands.
-use Rattle.std.specs.Prelude.{ℕ, zero, suc, ◌+◌, ℤ, Bool, true, false, List, [], ◌∷◌, ◌++◌, Option, Some}
+use Rattle.std.specs.Prelude.{ℕ, zero, suc, ◌+◌, Bool, true, false, List, [], ◌∷◌, ◌++◌, Option, Some}
 use Rattle.std.specs.Prelude.{None}
 use Rattle.cap_words.specs.declared.Word.{Word}
 use Rattle.lcm_isa.specs.declared.Reg.TheVariants.{Stk, A0}
 use Rattle.trusted_border.specs.declared.layout.Layout.{Layout}
-use Rattle.trusted_border.specs.declared.events.Back.{Back}
-use Rattle.trusted_border.specs.declared.events.Back.TheVariants.{Out, Bad, Hop, Pair}
 use Rattle.trusted_border.specs.declared.events.Event.{Event}
 use Rattle.trusted_border.specs.declared.events.Event.TheVariants.{Called, Returned, Entered, Left}
 use Rattle.overlay_machine.specs.State.{OState}
 use Rattle.overlay_machine.specs.Step.{Ending, goes, halts, fails, overlay_step, weight_of}
 use Rattle.overlay_machine.specs.Events.{step_event}
-use Rattle.trace_tool.specs.declared.pairs.Pair as passed
-use Rattle.trace_tool.specs.declared.pairs.Pair.TheVariants as pair
-use Rattle.trace_tool.specs.declared.pairs.Pairs.{Pairs}
 use Rattle.trace_tool.specs.Layout.{part_name, entry_name, site_of}
 use Rattle.trace_tool.specs.Views.{View, flat_view}
 use Rattle.trace_tool.specs.Pairs.{pairs_of}
-use Rattle.trace_tool.specs.Lines.{args_of}
-use Rattle.trace_tool.specs.Feed as line
-use Rattle.trace_tool.specs.Feed.{integer_in, integers_in, left_in}
-use Rattle.source_events.specs.declared.FeedBack.{FeedBack}
-use Rattle.source_events.specs.declared.FeedBack.TheVariants as way
-use Rattle.source_events.specs.declared.FeedPair.{FeedPair}
-use Rattle.source_events.specs.declared.FeedPair.TheVariants as fed
+use Rattle.trace_tool.specs.Lines.{args_of, feed_back}
+use Rattle.trace_tool.specs.Feed.{integer_in, integers_in, out_args, feed_pairs}
 use Rattle.source_events.specs.declared.Item.{Item}
 use Rattle.source_events.specs.declared.Item.TheVariants.{Enter, Ret}
-use Rattle.source_events.specs.declared.OutArg.{OutArg}
-use Rattle.source_events.specs.declared.OutArg.TheVariants.{Int, Half}
-use Rattle.source_events.specs.declared.OutEvent.TheVariants.{CallOut}
-use Rattle.run_items.specs.Items.{event_told}
+use Rattle.source_events.specs.declared.OutEvent.{OutEvent}
+use Rattle.source_events.specs.declared.OutEvent.TheVariants.{CallOut, LeaveOut}
+use Rattle.source_events.specs.Left.{left_in}
+use Rattle.source_events.specs.Outs.{out_arg}
 use Rattle.template_runs.specs.Runs.{is_inside}
 pub use Rattle.trace_tool.specs.Cuts.{weighed}
 
-abbrev pub out_arg : Option ℤ → OutArg
-out_arg (Some z) = Int z
-out_arg None = Half
-
-abbrev pub out_args : View → List OutArg
-out_args v =
-    out_arg (integer_in (args_of v).a0) ∷ out_arg (integer_in (args_of v).a1)
-    ∷ out_arg (integer_in (args_of v).a2) ∷ out_arg (integer_in (args_of v).a3) ∷ []
-
 module _ (l : Layout) where
-  abbrev pub feed_back : Back → FeedBack
-  feed_back Out = way.Out
-  feed_back Bad = way.Bad
-  feed_back (Hop part k) = way.Hop (part_name l part) (entry_name l part k)
-  feed_back (Pair i base) = way.Pair (part_name l (site_of l i).part) (site_of l i).index base
-
-  abbrev pub feed_pair : passed.Pair → FeedPair
-  feed_pair pair.Nothing = fed.Nothing
-  feed_pair pair.Bad = fed.Bad
-  feed_pair pair.Out = fed.Out
-  feed_pair (pair.Hop part k) = fed.Hop (part_name l part) (entry_name l part k)
-
-  abbrev pub feed_pairs : Pairs → List FeedPair
-  feed_pairs p = feed_pair p.p0 ∷ feed_pair p.p1 ∷ feed_pair p.p2 ∷ []
-
   -- ---- of an event, whose state behind it shows these words
 
-  abbrev pub outs_of : View → Option Event → List line.OutEvent
+  abbrev pub outs_of : View → Option Event → List OutEvent
   outs_of v None = []
   outs_of v (Some (Called true i base last)) = []
   outs_of v (Some (Called false i base last)) =
-      event_told (CallOut (part_name l (site_of l i).part) (site_of l i).index (out_args v)) ∷ []
+      CallOut (part_name l (site_of l i).part) (site_of l i).index (out_args (args_of v)) ∷ []
   outs_of v (Some (Returned inward i base last)) = []
   outs_of v (Some (Entered part k back)) = []
-  outs_of v (Some (Left part)) =
-      line.leave_out (part_name l part) (line.out_arg (integer_in (v.reg A0))) ∷ []
+  outs_of v (Some (Left part)) = LeaveOut (part_name l part) (out_arg (integer_in (v.reg A0))) ∷ []
 
   abbrev pub items_of : View → Option Event → List Item
   items_of v None = []
@@ -80,7 +45,7 @@ module _ (l : Layout) where
   items_of v (Some (Entered part k back)) =
       Enter (part_name l part) (entry_name l part k) (left_in l.stack.base (v.reg Stk))
       (integers_in (args_of v))
-      (feed_pairs (pairs_of l v)) (feed_back back) ∷ []
+      (feed_pairs l (pairs_of l v)) (feed_back l back) ∷ []
   items_of v (Some (Left part)) = []
 
 -- ---- runs
@@ -92,12 +57,12 @@ pub data Final : Type 0 where
   Failed : Final
 
 pub record Trace : Type 0 where
-  pub out : List line.OutEvent
+  pub out : List OutEvent
   pub items : List Item
   pub weight : ℕ
   pub final : Final
 
-abbrev pub shown : List line.OutEvent → List Item → ℕ → Trace → Trace
+abbrev pub shown : List OutEvent → List Item → ℕ → Trace → Trace
 shown es is n t =
     record { out = es ++ t.out; items = is ++ t.items; weight = n + t.weight; final = t.final }
 

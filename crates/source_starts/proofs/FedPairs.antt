@@ -51,7 +51,7 @@ use Rattle.template_runs.specs.Public.{IsShown, IsSharedAt}
 use Rattle.template_runs.proofs.Outside.{open_no_owner}
 use Rattle.template_runs.proofs.Checks.{is_half}
 use Rattle.template_runs.proofs.Calls.{content_of}
-use Rattle.source_laws.specs.Trace.{feed_pair}
+use Rattle.trace_tool.specs.Lines.{feed_pair}
 use Rattle.source_laws.proofs.Parameters.{PairIs}
 use Rattle.source_laws.proofs.Callings.{Sealing, FailsBy}
 use Rattle.source_starts.specs.Sources.{trusted_parts}

@@ -19,7 +19,6 @@ pub mod Standings
 pub mod Whole
 pub mod LinesShow
 pub mod RunEnds
-pub mod Meanings
 pub mod RunMeaning
 pub mod PlainSecrets
 pub mod PlainWords

@@ -1,5 +1,5 @@
 -- The plain run of linked sources means what the sources mean.
-use Rattle.std.proofs.Common.{◌≡◌, ℕ, Bool, true, false, List, ◌∷◌, map, Some, refl, sym, ap, ◌∙◌, subst}
+use Rattle.std.proofs.Common.{◌≡◌, ℕ, Bool, true, false, List, ◌∷◌, Some, refl, sym, ap, ◌∙◌, subst}
 use Rattle.component_linker.specs.Parts.{PartSeen}
 use Rattle.component_linker.specs.Standing.{placed}
 use Rattle.component_linker.specs.Started.{StartSeen}
@@ -13,17 +13,14 @@ use Rattle.trace_tool.specs.Feed.{outs_of, items_of, OutsJoin, ItemsJoin, Entrie
 use Rattle.trace_tool.specs.Runs.{written}
 use Rattle.trace_tool.specs.Cuts.{Point, cut_point, CutsAreGreatest, StopsAreCuts}
 use Rattle.trace_tool.specs.Headline.{HeadlineHolds}
-use Rattle.run_items.specs.Items.{item_of, EventsAreTold}
 use Rattle.proc_language.specs.declared.module.ModuleFields.{ModuleFields}
 use Rattle.proc_program.specs.Lower.{part_of}
-use Rattle.source_events.specs.declared.End.TheVariants.{Halt, Fail, Waiting}
 use Rattle.proc_semantics.specs.Values.{World}
 use Rattle.source_laws.specs.Sources.{SourcesMean, Shows}
-use Rattle.source_starts.specs.RunMeans.{RunMeans, StacksBegin, CutsShow, runs_trusted, trusted_with}
+use Rattle.source_starts.specs.RunMeans.{RunMeans, StacksBegin, CutsShow, runs_trusted}
 use Rattle.source_starts.proofs.Worlds.{aligned, part_of_home}
 use Rattle.source_starts.proofs.LinesShow.{reached_of, lines_show, shows_lead}
 use Rattle.source_starts.proofs.RunEnds.{runs_inside, halts_there, fails_there}
-use Rattle.source_starts.proofs.Meanings.{events_there, ends_of, begins_of, takes_of}
 
 -- what a run shows up to its cut point
 module _ (headline : HeadlineHolds) (outs : OutsJoin) (joined : ItemsJoin) (entries : EntriesAreItems)
@@ -34,14 +31,14 @@ module _ (headline : HeadlineHolds) (outs : OutsJoin) (joined : ItemsJoin) (entr
       let o = (overlay_at s).state in
       let c = cut_point s steps in
       let es = outs_of (written s steps) in
-      let items = map item_of (items_of l.stack.base (written s steps)) in
+      let items = items_of l.stack.base (written s steps) in
       let x = (headline (placed parts size) size s is).lines steps in
       let k = lines_show l o outs joined entries tell c.at (written s steps) c.overlay x.0 in
       let p : Point = record { at = c.at; trusted = k.0; overlay = c.overlay } in
       let e = greatest s steps p (shows_lead l o c.at k.0 es items c.overlay k.1) x.1 in
       subst (λ n. Shows l o c.at n es items c.overlay) (sym (ap (λ (q : Point). q.trusted) e)) k.1
 
-module _ (headline : HeadlineHolds) (stops : StopsAreCuts) (show : CutsShow) (told : EventsAreTold) where
+module _ (headline : HeadlineHolds) (stops : StopsAreCuts) (show : CutsShow) where
   pub run_means : (world : World) (parts : List PartSeen) (size : ℕ) (s : StartSeen) → IsStartOf parts size s
       → SourcesMean world size s → (steps : ℕ) → RunMeans world size s steps
   run_means world parts size s is mean steps =
@@ -54,36 +51,21 @@ module _ (headline : HeadlineHolds) (stops : StopsAreCuts) (show : CutsShow) (to
       let p = c.overlay in
       let at = reached_of (layout s) (overlay_at s).state j (written s steps) p x.0 in
       let es = outs_of (written s steps) in
-      let items = map item_of (items_of (layout s).stack.base (written s steps)) in
+      let items = items_of (layout s).stack.base (written s steps) in
       let means = mean j n es items p (show parts size s is steps) in
       let inside = λ (b : Bool) (e : runs_trusted s j ≡ b). runs_inside stops s agree steps j p at x.1 b e in
-      let said = events_there world size items (layout s) n es p means (runs_trusted s j)
-      (inside (runs_trusted s j) refl) in
-      let xs = said.0 in
       record {
-        events = xs;
-        items = items;
-        out = said.1;
-        came = refl;
-        waits = λ e. ends_of told world size items es xs said.1 Waiting (means.waits (inside false e));
-        goes_on = λ e. begins_of told world size items es xs said.1 (means.goes_on (inside true e));
+        integers = means.integers;
+        waits = λ e. means.waits (inside false e);
+        goes_on = λ e. means.goes_on (inside true e);
         halts = λ e a. (
             let h = halts_there stops s agree steps j p at x.1 a in
-            let m = means.halts (inside true e) h.0 in (
-              m.0,
-              h.1 ∙ m.1,
-              ends_of told world size items es xs said.1 (Halt m.0) m.2,
-              takes_of told world size items es xs said.1 (trusted_with s steps) m.3,
-            )
+            let m = means.halts (inside true e) h.0 in
+            (m.0, h.1 ∙ m.1, m.2, m.3)
             );
-        fails = λ e cause pc a. (
-            let h = fails_there stops s agree steps j p at x.1 cause pc a in
-            let m = means.fails (inside true e) h in (
-              ends_of told world size items es xs said.1 Fail m.0,
-              takes_of told world size items es xs said.1 (trusted_with s steps) m.1,
-            )
-            );
-        slow = takes_of told world size items es xs said.1 n means.slow;
+        fails = λ e cause pc a.
+            means.fails (inside true e) (fails_there stops s agree steps j p at x.1 cause pc a);
+        slow = means.slow;
       }
 
 pub stacks_begin : StartsBegin → StacksBegin

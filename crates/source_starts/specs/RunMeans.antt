@@ -1,6 +1,6 @@
 -- What the plain run of linked sources means: after so many instructions, what its lines tell of the sources,
 -- and what the meaning of the items that came in tells of it.
-use Rattle.std.specs.Prelude.{◌≡◌, ℕ, ◌+◌, ◌*◌, ◌<◌, ◌≤◌, ℤ, Bool, true, false, List, ◌∷◌, map}
+use Rattle.std.specs.Prelude.{◌≡◌, ℕ, ◌+◌, ℤ, Bool, true, false, List, ◌∷◌, map}
 use Rattle.cap_words.specs.declared.Word.TheVariants.{Int}
 use Rattle.lcm_isa.specs.declared.Reg.TheVariants.{Pc, A0}
 use Rattle.lcm_machine.specs.declared.FailCause.{FailCause}
@@ -17,40 +17,15 @@ use Rattle.trace_tool.specs.Layout.{layout, is_trusted}
 use Rattle.trace_tool.specs.Feed.{outs_of, items_of}
 use Rattle.trace_tool.specs.Runs.{written}
 use Rattle.trace_tool.specs.Cuts.{cut_point}
-use Rattle.run_items.specs.Items.{item_of, event_told}
 use Rattle.proc_language.specs.declared.module.ModuleFields.{ModuleFields}
 use Rattle.proc_program.specs.Lower.{part_of}
 use Rattle.source_events.specs.declared.Item.{Item}
 use Rattle.source_events.specs.declared.OutEvent.{OutEvent}
-use Rattle.source_events.specs.declared.End.{End}
-use Rattle.source_events.specs.declared.End.TheVariants.{Halt, Fail, Waiting, OutOfFuel}
+use Rattle.source_events.specs.declared.End.TheVariants.{Halt, Fail, Waiting}
+use Rattle.source_events.specs.Outs.{LeaveIntegers}
 use Rattle.proc_semantics.specs.Values.{World}
-use Rattle.proc_semantics.specs.Meaning.{meaning}
-use Rattle.proc_semantics.specs.Fuel.{Prefix}
-use Rattle.source_laws.specs.Sources.{Shows}
+use Rattle.source_laws.specs.Sources.{Shows, MeaningEnds, MeaningBegins, MeaningTakes}
 use Rattle.source_starts.specs.Sources.{AreSources}
-
--- ---- what is told of the items that came in
-
-module _ (world : World) (size : ℕ) (items : List Item) (events : List OutEvent) where
-  -- an end, with these events, under every large enough fuel
-  pub record MeaningEnds (end : End) : Type 0 where
-    pub enough : ℕ
-    pub ends : (fuel : ℕ) → enough ≤ fuel → (meaning world size items fuel).end ≡ end
-    pub told : (fuel : ℕ) → enough ≤ fuel → (meaning world size items fuel).events ≡ events
-
-  -- under every large enough fuel these events, and perhaps more
-  pub record MeaningBegins : Type 0 where
-    pub enough : ℕ
-    pub begins : (fuel : ℕ) → enough ≤ fuel → Prefix events (meaning world size items fuel).events
-
-  -- no end and not more than these events, under a fuel that 200 instructions a tick make less than so many
-  abbrev pub MeaningTakes : ℕ → Type 0
-  MeaningTakes n =
-      (fuel : ℕ) → fuel * 200 < n → ((meaning world size items fuel).end ≡ OutOfFuel)
-      × Prefix (meaning world size items fuel).events events
-
--- ---- the plain run
 
 -- whether pc stands in trusted code after so many instructions
 abbrev pub runs_trusted : StartSeen → ℕ → Bool
@@ -64,36 +39,43 @@ cut_in_trusted s n = runs_trusted s (cut_point s n).at
 abbrev pub trusted_with : StartSeen → ℕ → ℕ
 trusted_with s n = (cut_point s n).trusted + weight_of (layout s) (cut_point s n).overlay
 
+-- what went out of the modules by the lines that so many instructions write
+abbrev pub went_out : StartSeen → ℕ → List OutEvent
+went_out s n = outs_of (written s n)
+
+-- and what came in
+abbrev pub came_in : StartSeen → ℕ → List Item
+came_in s n = items_of (layout s).stack.base (written s n)
+
+-- the meaning of what came in is what went out
 pub record RunMeans (world : World) (size : ℕ) (s : StartSeen) (steps : ℕ) : Type 0 where
-  -- by the lines that so many instructions write, these events went out, and these items came in
-  pub events : List OutEvent
-  pub items : List Item
-  pub out : outs_of (written s steps) ≡ map event_told events
-  pub came : map item_of (items_of (layout s).stack.base (written s steps)) ≡ items
   -- code that isn't trusted runs at the cut point: the meaning waits for an item (a return that such code
   -- began, and that fails in a sequence of trusted code, belongs here)
-  pub waits : cut_in_trusted s steps ≡ false → MeaningEnds world size items events Waiting
+  pub waits : cut_in_trusted s steps ≡ false
+      → MeaningEnds world size (came_in s steps) (went_out s steps) Waiting
   -- trusted code runs there: the meaning comes at least as far
-  pub goes_on : cut_in_trusted s steps ≡ true → MeaningBegins world size items events
+  pub goes_on : cut_in_trusted s steps ≡ true
+      → MeaningBegins world size (came_in s steps) (went_out s steps)
   -- and where the run has halted, or failed, from there, the meaning ends so
   pub halts : cut_in_trusted s steps ≡ true → last_step (plain steps s.state) ≡ Halted
       → (v : ℤ) × (reg (plain steps s.state).maps.regs A0 ≡ Int v)
-      × MeaningEnds world size items events (Halt v)
-      × MeaningTakes world size items events (trusted_with s steps)
+      × MeaningEnds world size (came_in s steps) (went_out s steps) (Halt v)
+      × MeaningTakes world size (came_in s steps) (went_out s steps) (trusted_with s steps)
   pub fails : cut_in_trusted s steps ≡ true → (cause : FailCause) (pc : ℤ)
       → last_step (plain steps s.state) ≡ Failed cause pc
-      → MeaningEnds world size items events Fail
-      × MeaningTakes world size items events (trusted_with s steps)
-  -- a tick of the meaning pays for at most 200 instructions of steps that began in trusted code
-  pub slow : MeaningTakes world size items events (cut_point s steps).trusted
+      → MeaningEnds world size (came_in s steps) (went_out s steps) Fail
+      × MeaningTakes world size (came_in s steps) (went_out s steps) (trusted_with s steps)
+  -- a tick of the meaning pays for some instructions of steps that began in trusted code, and no more
+  pub slow : MeaningTakes world size (came_in s steps) (went_out s steps) (cut_point s steps).trusted
+  -- each procedure that left gave an integer
+  pub integers : LeaveIntegers (went_out s steps)
 
 -- up to the cut point the run shows what its lines tell, and what weight is trusted code's
 abbrev pub CutsShow : Type 0
 CutsShow =
     (parts : List PartSeen) (size : ℕ) (s : StartSeen) → IsStartOf parts size s → (steps : ℕ)
     → (let c = cut_point s steps in
-    Shows (layout s) (overlay_at s).state c.at c.trusted (outs_of (written s steps))
-    (map item_of (items_of (layout s).stack.base (written s steps))) c.overlay)
+    Shows (layout s) (overlay_at s).state c.at c.trusted (went_out s steps) (came_in s steps) c.overlay)
 
 -- of every run of linked sources
 abbrev pub RunsMean : Type 0

@@ -16,7 +16,6 @@ ghost use Rattle.source_starts.specs.Wiped.{WipedCellsAreTold};
 ghost use Rattle.source_starts.specs.RunMeans.{CutsShow, RunsMean, StacksBegin};
 
 use overlay_machine::laws::{linked_starts_agree, starts_begin};
-use run_items::laws::events_are_told;
 use trace_tool::laws::{
     cuts_are_greatest, lines_are_a_feed, pairs_are_the_overlays, steps_tell_so, the_headline,
 };
@@ -28,7 +27,8 @@ use trace_tool::laws::{
 /// the modules waits, and has told the run's outgoing events; where trusted code is about to halt or to
 /// fail, the meaning ends so, with those events; where it goes on, the meaning's events begin with those;
 /// and the meaning spends a tick at least for each 200 instructions of the steps that began in trusted
-/// code. The meaning is that of the items that came in so far, with the whole stack of the link.
+/// code. Each procedure that left gave an integer. The meaning is that of the items that came in so far,
+/// with the whole stack of the link.
 pub fn sources_mean()
     ensures { (modules : List ModuleFields) (parts : List PartSeen) (size : ℕ) (s : StartSeen)
         → IsStartOf parts size s → AreSources modules parts
@@ -56,8 +56,8 @@ pub fn cuts_show()
 /// At the cut point, the greatest matched point up to there: where code that isn't trusted runs, the meaning of these
 /// items waits, with these events; where trusted code runs, its events begin with these; and where the
 /// run has halted or failed from there, the meaning ends so, with these events and with the value of
-/// the run's a0. The meaning spends a tick at least for each 200 instructions of the steps that began in
-/// trusted code.
+/// the run's a0. Each procedure that left gave an integer. The meaning spends a tick at least for each 200
+/// instructions of the steps that began in trusted code.
 pub fn runs_mean()
     ensures { RunsMean }
 {
@@ -65,7 +65,6 @@ pub fn runs_mean()
     the_headline();
     cuts_are_greatest();
     cuts_show();
-    events_are_told();
 }
 
 /// Code outside learns nothing from linked sources but their events.

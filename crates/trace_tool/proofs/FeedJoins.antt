@@ -6,17 +6,21 @@ use Rattle.std.proofs.lemmas.List.{append_assoc}
 use Rattle.cap_words.specs.declared.Word.{Word}
 use Rattle.lcm_isa.specs.declared.Reg.TheVariants.{Stk}
 use Rattle.trusted_border.specs.declared.layout.Layout.{Layout}
+use Rattle.source_events.specs.declared.FeedBack.{FeedBack}
+use Rattle.source_events.specs.declared.FeedPair.TheVariants.{Nothing as Untold}
+use Rattle.source_events.specs.declared.Item.TheVariants.{Enter}
+use Rattle.source_events.specs.Forms.{no_pairs}
+use Rattle.source_events.specs.Left.{left_in}
 use Rattle.trace_tool.specs.declared.pairs.Pair.{Pair}
 use Rattle.trace_tool.specs.declared.pairs.Pair.TheVariants.{Nothing, Bad, Out, Hop}
 use Rattle.trace_tool.specs.declared.pairs.Pairs.{Pairs}
 use Rattle.trace_tool.specs.Layout.{part_name, entry_name}
-use Rattle.trace_tool.specs.Pairs.{is_nothing, no_pairs, pairs_of}
-use Rattle.trace_tool.specs.Lines.{Args, Return, nothing, Line, call, ret, enter, pass, leave}
-use Rattle.trace_tool.specs.Lines.{args_of, return_of, passed_of}
+use Rattle.trace_tool.specs.Pairs.{is_nothing, no_pairs as none_are, pairs_of}
+use Rattle.trace_tool.specs.Lines.{Args, Line, call, ret, enter, pass, leave, args_of, feed_back, feed_pair}
 use Rattle.trace_tool.specs.StepLines.{IsNoPass, AreOfStep, none_told, one_told, pass_told}
 use Rattle.trace_tool.specs.StepLines.{AreOfSteps, no_step, and_step}
-use Rattle.trace_tool.specs.Feed.{integers_in, left_in, out_of, outs_of, enters, no_pair_told, pairs_in}
-use Rattle.trace_tool.specs.Feed.{pairs_behind, item_of, items_of, told_pairs}
+use Rattle.trace_tool.specs.Feed.{integers_in, out_of, outs_of, pairs_in, pairs_behind, item_of, items_of}
+use Rattle.trace_tool.specs.Feed.{feed_pairs}
 use Rattle.trace_tool.specs.Feed.{OutsJoin, ItemsJoin, EntriesAreItems}
 
 pub outs_join : OutsJoin
@@ -47,14 +51,14 @@ steps_right _ no_step = tt
 steps_right _ (and_step {ls = ls} {more = more} h k) =
     right_append ls more (steps_right ls h) (step_right more k)
 
-no_pass_in : (x : Line) → IsNoPass x → pairs_in x ≡ no_pair_told
+no_pass_in : (x : Line) → IsNoPass x → pairs_in x ≡ no_pairs
 no_pass_in (call inward part site base last args words) h = refl
 no_pass_in (ret inward part site base last a0 words) h = refl
 no_pass_in (enter part export stk args back) h = refl
 no_pass_in (pass p0 p1 p2) h = absurd h
 no_pass_in (leave part a0) h = refl
 
-none_behind : (ys : List Line) → BeginsRight ys → pairs_behind ys ≡ no_pair_told
+none_behind : (ys : List Line) → BeginsRight ys → pairs_behind ys ≡ no_pairs
 unfolding BeginsRight
 none_behind [] h = refl
 none_behind (y ∷ ys) h = no_pass_in y h
@@ -71,7 +75,7 @@ same_item base (call inward part site b last args words) xs ys h = refl
 same_item base (ret true part site b last a0 words) xs ys h = refl
 same_item base (ret false part site b last a0 words) xs ys h = refl
 same_item base (enter part export stk args back) xs ys h =
-    ap (λ ps. enters part export (left_in base stk) (integers_in args) ps back ∷ []) (same_pairs xs ys h)
+    ap (λ ps. Enter part export (left_in base stk) (integers_in args) ps back ∷ []) (same_pairs xs ys h)
 same_item base (pass p0 p1 p2) xs ys h = refl
 same_item base (leave part a0) xs ys h = refl
 
@@ -88,32 +92,32 @@ items_join base xs ys h = join base xs ys (steps_right ys h)
 
 -- ---- the item of an entry
 
-untold : (l : Layout) (p : Pair) → is_nothing p ≡ true → passed_of l p ≡ nothing
+untold : (l : Layout) (p : Pair) → is_nothing p ≡ true → feed_pair l p ≡ Untold
 untold l Nothing e = refl
 untold l Bad e = absurd cc
 untold l Out e = absurd cc
 untold l (Hop part k) e = absurd cc
 
-all_untold : (l : Layout) (p : Pairs) → no_pairs p ≡ true → told_pairs l p ≡ no_pair_told
+all_untold : (l : Layout) (p : Pairs) → none_are p ≡ true → feed_pairs l p ≡ no_pairs
 all_untold l p e =
     let first = and_parts (is_nothing p.p0) (is_nothing p.p1 && is_nothing p.p2) e in
     let rest = and_parts (is_nothing p.p1) (is_nothing p.p2) first.1 in
-    let a : passed_of l p.p0 ≡ nothing = untold l p.p0 first.0 in
-    let b : passed_of l p.p1 ≡ nothing = untold l p.p1 rest.0 in
-    let c : passed_of l p.p2 ≡ nothing = untold l p.p2 rest.1 in
+    let a : feed_pair l p.p0 ≡ Untold = untold l p.p0 first.0 in
+    let b : feed_pair l p.p1 ≡ Untold = untold l p.p1 rest.0 in
+    let c : feed_pair l p.p2 ≡ Untold = untold l p.p2 rest.1 in
     rw (a, b, c) refl
 
 told_or_not : (b : Bool) (base : ℕ) (l : Layout) (p : Pairs) (part export : List ℕ) (stk : Word) (args : Args)
-    (back : Return) → no_pairs p ≡ b
+    (back : FeedBack) → none_are p ≡ b
     → items_of base (enter part export stk args back
-    ∷ (if b then [] else pass (passed_of l p.p0) (passed_of l p.p1) (passed_of l p.p2) ∷ []))
-    ≡ enters part export (left_in base stk) (integers_in args) (told_pairs l p) back ∷ []
+    ∷ (if b then [] else pass (feed_pair l p.p0) (feed_pair l p.p1) (feed_pair l p.p2) ∷ []))
+    ≡ Enter part export (left_in base stk) (integers_in args) (feed_pairs l p) back ∷ []
 told_or_not true base l p part export stk args back e =
-    ap (λ ps. enters part export (left_in base stk) (integers_in args) ps back ∷ []) (sym (all_untold l p e))
+    ap (λ ps. Enter part export (left_in base stk) (integers_in args) ps back ∷ []) (sym (all_untold l p e))
 told_or_not false base l p part export stk args back e = refl
 
 pub entries_are_items : EntriesAreItems
 entries_are_items base l v part k back =
     let p = pairs_of l v in
-    told_or_not (no_pairs p) base l p (part_name l part) (entry_name l part k) (v.reg Stk) (args_of v)
-    (return_of l back) refl
+    told_or_not (none_are p) base l p (part_name l part) (entry_name l part k) (v.reg Stk) (args_of v)
+    (feed_back l back) refl

@@ -24,7 +24,8 @@ use Rattle.trace_tool.specs.Layout.{part_name, site_of}
 use Rattle.trace_tool.specs.Views.{View, flat_view}
 use Rattle.trace_tool.specs.declared.pairs.Pairs.{Pairs}
 use Rattle.trace_tool.specs.Pairs.{no_pairs, pairs_of}
-use Rattle.trace_tool.specs.Lines.{Args, Passed, Line, call, pass, list_of, words_from, passed_of, pass_lines}
+use Rattle.source_events.specs.declared.FeedPair.{FeedPair}
+use Rattle.trace_tool.specs.Lines.{Args, Line, call, pass, list_of, words_from, feed_pair, pass_lines}
 use Rattle.trace_tool.specs.Lines.{line_of, lines_for}
 use Rattle.trace_tool.specs.Told.{step_lines, Told, none_yet as nothing_yet, and_then as tells}
 use Rattle.trace_tool.specs.OpenCalls.{LineTold}
@@ -47,9 +48,9 @@ of_marks l ms = map (mark_map (line_told l)) ms
 
 -- a pass line is no mark
 pass_mute : (l : Layout) (p : Pairs) → marks_in (pass_lines l p) ≡ []
-pass_mute l p = by (no_pairs p) (passed_of l p.p0) (passed_of l p.p1) (passed_of l p.p2)
+pass_mute l p = by (no_pairs p) (feed_pair l p.p0) (feed_pair l p.p1) (feed_pair l p.p2)
   where
-    by : (b : Bool) (x y z : Passed) → marks_in (if b then [] else pass x y z ∷ []) ≡ []
+    by : (b : Bool) (x y z : FeedPair) → marks_in (if b then [] else pass x y z ∷ []) ≡ []
     by true x y z = refl
     by false x y z = refl
 

@@ -8,15 +8,17 @@ use Rattle.overlay_machine.specs.Events.{step_event}
 use Rattle.lcm_machine.specs.Run.{next_state}
 use Rattle.overlay_machine.specs.State.{OState}
 use Rattle.overlay_machine.specs.Runs.{Reached, begins, goes_on}
+use Rattle.source_events.specs.declared.FeedBack.{FeedBack}
+use Rattle.source_events.specs.declared.FeedPair.{FeedPair}
 use Rattle.trace_tool.specs.Views.{view_of, flat_view}
 use Rattle.trace_tool.specs.Pairs.{pairs_of, no_pairs}
-use Rattle.trace_tool.specs.Lines.{Args, Return, Passed, Line, enter, pass, passed_of}
+use Rattle.trace_tool.specs.Lines.{Args, Line, enter, pass, feed_pair}
 use Rattle.trace_tool.specs.Runs.{Watched, watched, event_next, line_next}
 use Rattle.trace_tool.specs.Told.{Told, none_yet, and_then}
 use Rattle.trace_tool.specs.StepLines.{AreOfStep, none_told, one_told, pass_told, no_step, and_step}
 use Rattle.trace_tool.specs.StepLines.{StepsTellSo, RunsAreOfSteps, ToldAreOfSteps}
 
-with_pass : (part export : List ℕ) (stk : Word) (args : Args) (back : Return) (b : Bool) (x y z : Passed)
+with_pass : (part export : List ℕ) (stk : Word) (args : Args) (back : FeedBack) (b : Bool) (x y z : FeedPair)
     → AreOfStep (enter part export stk args back ∷ (if b then [] else pass x y z ∷ []))
 with_pass part export stk args back true x y z = one_told tt
 with_pass part export stk args back false x y z = pass_told
@@ -27,7 +29,7 @@ steps_tell_so l v (Some (Called inward i base last)) = one_told tt
 steps_tell_so l v (Some (Returned inward i base last)) = one_told tt
 steps_tell_so l v (Some (Entered part k back)) =
     let p = pairs_of l v in
-    with_pass _ _ _ _ _ (no_pairs p) (passed_of l p.p0) (passed_of l p.p1) (passed_of l p.p2)
+    with_pass _ _ _ _ _ (no_pairs p) (feed_pair l p.p0) (feed_pair l p.p1) (feed_pair l p.p2)
 steps_tell_so l v (Some (Left part)) = one_told tt
 
 next_tells : (l : Layout) (w : Watched) → AreOfStep (line_next l w)

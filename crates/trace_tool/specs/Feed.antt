@@ -1,22 +1,28 @@
 -- What lines tell of trusted code as a whole: what goes out of it, and what comes in, one after another.
-use Rattle.std.specs.Prelude.{◌≡◌, ℕ, ◌+◌, ◌-◌, ◌==◌, ◌++◌, true, false, ◌&&◌, ℤ, List, [], ◌∷◌}
-use Rattle.std.specs.Prelude.{Option, Some, None, if◌then◌else◌}
-use Rattle.cap_words.specs.declared.CapFields.{CapFields}
+use Rattle.std.specs.Prelude.{◌≡◌, ℕ, ◌++◌, true, false, ℤ, List, [], ◌∷◌, Option, Some, None}
+use Rattle.std.specs.Prelude.{if◌then◌else◌}
 use Rattle.cap_words.specs.declared.Word.{Word}
-use Rattle.cap_words.specs.declared.Word.TheVariants.{Int, Mem}
-use Rattle.cap_words.specs.Faces.{perm_number}
-use Rattle.cap_words.specs.Linear.{lin_is}
+use Rattle.cap_words.specs.declared.Word.TheVariants.{Int}
 use Rattle.lcm_isa.specs.declared.Reg.TheVariants.{Stk}
 use Rattle.lcm_machine.specs.Table.{fits_64}
 use Rattle.trusted_border.specs.declared.layout.Layout.{Layout}
 use Rattle.trusted_border.specs.declared.events.Back.{Back}
 use Rattle.trusted_border.specs.declared.events.Event.TheVariants.{Entered}
+use Rattle.source_events.specs.declared.FeedPair.{FeedPair}
+use Rattle.source_events.specs.declared.Item.{Item}
+use Rattle.source_events.specs.declared.Item.TheVariants.{Enter, Ret}
+use Rattle.source_events.specs.declared.OutArg.{OutArg}
+use Rattle.source_events.specs.declared.OutEvent.{OutEvent}
+use Rattle.source_events.specs.declared.OutEvent.TheVariants.{CallOut, LeaveOut}
+use Rattle.source_events.specs.Forms.{no_pairs}
+use Rattle.source_events.specs.Left.{left_in}
+use Rattle.source_events.specs.Outs.{out_arg}
 use Rattle.trace_tool.specs.declared.pairs.Pairs.{Pairs}
 use Rattle.trace_tool.specs.Layout.{part_name, entry_name}
 use Rattle.trace_tool.specs.Views.{View}
 use Rattle.trace_tool.specs.Pairs.{pairs_of}
-use Rattle.trace_tool.specs.Lines.{Args, Return, Passed, nothing, Line, call, ret, enter, pass, leave}
-use Rattle.trace_tool.specs.Lines.{args_of, return_of, passed_of, lines_for}
+use Rattle.trace_tool.specs.Lines.{Args, Line, call, ret, enter, pass, leave}
+use Rattle.trace_tool.specs.Lines.{args_of, feed_back, feed_pair, lines_for}
 use Rattle.trace_tool.specs.StepLines.{AreOfSteps}
 
 -- ---- words as values
@@ -29,30 +35,7 @@ integer_in _ = None
 abbrev pub integers_in : Args → List (Option ℤ)
 integers_in a = integer_in a.a0 ∷ integer_in a.a1 ∷ integer_in a.a2 ∷ integer_in a.a3 ∷ []
 
--- how many words of stack are handed over: entries take a linear rw capability whose range begins at the
--- stack's base, and refuse any other word
-abbrev pub left_by : ℕ → CapFields → Option ℕ
-left_by base c =
-    if lin_is c.lin && (perm_number c.perm == 2) && (c.base == base) then Some (c.end + 1 - c.base) else None
-
-abbrev pub left_in : ℕ → Word → Option ℕ
-left_in base (Mem c) = left_by base c
-left_in base _ = None
-
 -- ---- what goes out
-
--- an integer, or any other word
-pub data OutArg : Type 0 where
-  integer : ℤ → OutArg
-  half : OutArg
-
-pub data OutEvent : Type 0 where
-  call_out : (part : List ℕ) (site : ℕ) (args : List OutArg) → OutEvent
-  leave_out : (part : List ℕ) (value : OutArg) → OutEvent
-
-abbrev pub out_arg : Option ℤ → OutArg
-out_arg (Some z) = integer z
-out_arg None = half
 
 abbrev pub out_args : Args → List OutArg
 out_args a =
@@ -62,11 +45,11 @@ out_args a =
 -- calls and leaves to code that isn't trusted
 abbrev pub out_of : Line → List OutEvent
 out_of (call true part site base last args words) = []
-out_of (call false part site base last args words) = call_out part site (out_args args) ∷ []
+out_of (call false part site base last args words) = CallOut part site (out_args args) ∷ []
 out_of (ret inward part site base last a0 words) = []
 out_of (enter part export stk args back) = []
 out_of (pass p0 p1 p2) = []
-out_of (leave part a0) = leave_out part (out_arg (integer_in a0)) ∷ []
+out_of (leave part a0) = LeaveOut part (out_arg (integer_in a0)) ∷ []
 
 abbrev pub outs_of : List Line → List OutEvent
 outs_of [] = []
@@ -74,32 +57,22 @@ outs_of (x ∷ xs) = out_of x ++ outs_of xs
 
 -- ---- what comes in
 
--- an entry is entered, with so many words of stack, the argument registers as integers and as pairs, and what
--- `xjmp rcode rdata` would do; or a call is answered, by this value
-pub data Item : Type 0 where
-  enters : (part export : List ℕ) (left : Option ℕ) (args : List (Option ℤ)) (pairs : List Passed)
-      (back : Return) → Item
-  answers : (part : List ℕ) (site base : ℕ) (value : Option ℤ) → Item
-
-abbrev pub no_pair_told : List Passed
-no_pair_told = nothing ∷ nothing ∷ nothing ∷ []
-
-abbrev pub pairs_in : Line → List Passed
+abbrev pub pairs_in : Line → List FeedPair
 pairs_in (pass p0 p1 p2) = p0 ∷ p1 ∷ p2 ∷ []
-pairs_in _ = no_pair_told
+pairs_in _ = no_pairs
 
 -- the pairs of an enter line, by the lines behind it
-abbrev pub pairs_behind : List Line → List Passed
-pairs_behind [] = no_pair_told
+abbrev pub pairs_behind : List Line → List FeedPair
+pairs_behind [] = no_pairs
 pairs_behind (x ∷ xs) = pairs_in x
 
 -- an enter line is an item, and so is the ret line of a call that code which isn't trusted answers
 abbrev pub item_of : ℕ → Line → List Line → List Item
 item_of base (call inward part site b last args words) xs = []
 item_of base (ret true part site b last a0 words) xs = []
-item_of base (ret false part site b last a0 words) xs = answers part site b (integer_in a0) ∷ []
+item_of base (ret false part site b last a0 words) xs = Ret part site b (integer_in a0) ∷ []
 item_of base (enter part export stk args back) xs =
-    enters part export (left_in base stk) (integers_in args) (pairs_behind xs) back ∷ []
+    Enter part export (left_in base stk) (integers_in args) (pairs_behind xs) back ∷ []
 item_of base (pass p0 p1 p2) xs = []
 item_of base (leave part a0) xs = []
 
@@ -119,13 +92,13 @@ ItemsJoin =
     (base : ℕ) (xs ys : List Line) → AreOfSteps ys
     → items_of base (xs ++ ys) ≡ items_of base xs ++ items_of base ys
 
-abbrev pub told_pairs : Layout → Pairs → List Passed
-told_pairs l p = passed_of l p.p0 ∷ passed_of l p.p1 ∷ passed_of l p.p2 ∷ []
+abbrev pub feed_pairs : Layout → Pairs → List FeedPair
+feed_pairs l p = feed_pair l p.p0 ∷ feed_pair l p.p1 ∷ feed_pair l p.p2 ∷ []
 
 -- the item of an entry has the pairs of the state, whether a pass line tells them or not
 abbrev pub EntriesAreItems : Type 0
 EntriesAreItems =
     (base : ℕ) (l : Layout) (v : View) (part k : ℕ) (back : Back)
     → items_of base (lines_for l v (Some (Entered part k back)))
-    ≡ enters (part_name l part) (entry_name l part k) (left_in base (v.reg Stk)) (integers_in (args_of v))
-    (told_pairs l (pairs_of l v)) (return_of l back) ∷ []
+    ≡ Enter (part_name l part) (entry_name l part k) (left_in base (v.reg Stk)) (integers_in (args_of v))
+    (feed_pairs l (pairs_of l v)) (feed_back l back) ∷ []

@@ -1,25 +1,17 @@
 -- That the words, names and numbers of lines are those that there are.
-use Rattle.std.specs.Prelude.{◌≡◌, ℕ, ◌≤◌, Bool, true, false, ◌||◌, IsTrue, List, [], ◌∷◌}
+use Rattle.std.specs.Prelude.{◌≡◌, ℕ, true, ◌||◌, List, [], ◌∷◌}
 use Rattle.cap_words.specs.declared.Word.{Word}
 use Rattle.cap_words.specs.WordBytes.{WordFits}
-use Rattle.cap_words.specs.Names.{is_name}
 use Rattle.lcm_machine.specs.Run.{plain}
 use Rattle.component_linker.specs.Parts.{PartSeen}
 use Rattle.component_linker.specs.Started.{StartSeen}
 use Rattle.lcm_machine.specs.Fitting.{MapsFit}
 use Rattle.component_linker.specs.LinkedStarts.{IsLinkedStart}
-use Rattle.trace_tool.specs.Lines.{Args, Return, out, bad, hop, pair, Passed, nothing, hop_pair, Line}
-use Rattle.trace_tool.specs.Lines.{call, ret, enter, pass, leave}
+use Rattle.source_events.specs.Forms.{IsName, IsSmall, BackFits, PairFits, is_pair}
+use Rattle.trace_tool.specs.Lines.{Args, Line, call, ret, enter, pass, leave}
 use Rattle.trace_tool.specs.Runs.{written}
 
 -- ---- lines
-
-abbrev pub IsName : List ℕ → Type 0
-IsName text = IsTrue (is_name text)
-
--- a number of 32 bits
-abbrev pub IsSmall : ℕ → Type 0
-IsSmall n = n ≤ 4294967295
 
 -- each of them is of a kind
 abbrev pub AllOf : (Word → Type 0) → List Word → Type 0
@@ -28,20 +20,6 @@ AllOf Is (w ∷ ws) = Is w × AllOf Is ws
 
 abbrev pub ArgsOf : (Word → Type 0) → Args → Type 0
 ArgsOf Is a = Is a.a0 × Is a.a1 × Is a.a2 × Is a.a3
-
-abbrev pub ReturnFits : Return → Type 0
-ReturnFits out = Unit {0}
-ReturnFits bad = Unit {0}
-ReturnFits (hop part export) = IsName part × IsName export
-ReturnFits (pair part site base) = IsName part × IsSmall site × IsSmall base
-
-abbrev pub PassedFits : Passed → Type 0
-PassedFits (hop_pair part export) = IsName part × IsName export
-PassedFits _ = Unit {0}
-
-abbrev pub is_told : Passed → Bool
-is_told nothing = false
-is_told _ = true
 
 abbrev pub PlaceFits : List ℕ → ℕ → ℕ → ℕ → Type 0
 PlaceFits part site base last = IsName part × IsSmall site × IsSmall base × IsSmall last
@@ -52,9 +30,9 @@ LineOf Is (call inward part site base last args words) =
     PlaceFits part site base last × ArgsOf Is args × AllOf Is words
 LineOf Is (ret inward part site base last a0 words) = PlaceFits part site base last × Is a0 × AllOf Is words
 LineOf Is (enter part export stk args back) =
-    IsName part × IsName export × Is stk × ArgsOf Is args × ReturnFits back
+    IsName part × IsName export × Is stk × ArgsOf Is args × BackFits back
 LineOf Is (pass p0 p1 p2) =
-    PassedFits p0 × PassedFits p1 × PassedFits p2 × ((is_told p0 || (is_told p1 || is_told p2)) ≡ true)
+    PairFits p0 × PairFits p1 × PairFits p2 × ((is_pair p0 || (is_pair p1 || is_pair p2)) ≡ true)
 LineOf Is (leave part a0) = IsName part × Is a0
 
 -- its words are words of a machine

@@ -8,6 +8,10 @@ use Rattle.trusted_border.specs.declared.events.Back.{Back}
 use Rattle.trusted_border.specs.declared.events.Back.TheVariants.{Out, Bad, Hop, Pair}
 use Rattle.trusted_border.specs.declared.events.Event.{Event}
 use Rattle.trusted_border.specs.declared.events.Event.TheVariants.{Called, Returned, Entered, Left}
+use Rattle.source_events.specs.declared.FeedBack.{FeedBack}
+use Rattle.source_events.specs.declared.FeedBack.TheVariants as way
+use Rattle.source_events.specs.declared.FeedPair.{FeedPair}
+use Rattle.source_events.specs.declared.FeedPair.TheVariants as fed
 use Rattle.trace_tool.specs.Layout.{part_name, entry_name, site_of}
 use Rattle.trace_tool.specs.declared.pairs.Pair.{Pair as PairOf}
 use Rattle.trace_tool.specs.declared.pairs.Pair.TheVariants.{Nothing, Bad as BadPair, Out as OutPair}
@@ -23,26 +27,13 @@ pub record Args : Type 0 where
   pub a2 : Word
   pub a3 : Word
 
--- what an `xjmp rcode rdata` would do
-pub data Return : Type 0 where
-  out : Return
-  bad : Return
-  hop : (part export : List ℕ) → Return
-  pair : (part : List ℕ) (site base : ℕ) → Return
-
--- what an `xjmp` of an argument register and the next one would do, and nothing where one of the two holds no
--- sealed word or a linear one
-pub data Passed : Type 0 where
-  nothing : Passed
-  bad_pair : Passed
-  out_pair : Passed
-  hop_pair : (part export : List ℕ) → Passed
-
+-- An enter line tells what an `xjmp rcode rdata` would do, and a pass line what an `xjmp` of an argument
+-- register and the next one would do, and nothing where one of the two holds no sealed word or a linear one.
 pub data Line : Type 0 where
   call : (inward : Bool) (part : List ℕ) (site base last : ℕ) (args : Args) (words : List Word) → Line
   ret : (inward : Bool) (part : List ℕ) (site base last : ℕ) (a0 : Word) (words : List Word) → Line
-  enter : (part export : List ℕ) (stk : Word) (args : Args) (back : Return) → Line
-  pass : (p0 p1 p2 : Passed) → Line
+  enter : (part export : List ℕ) (stk : Word) (args : Args) (back : FeedBack) → Line
+  pass : (p0 p1 p2 : FeedPair) → Line
   leave : (part : List ℕ) (a0 : Word) → Line
 
 abbrev pub args_of : View → Args
@@ -57,17 +48,18 @@ abbrev pub words_from : View → ℕ → ℕ → List Word
 words_from v a zero = []
 words_from v a (suc n) = words_from v a n ++ list_of (v.cell (a + n))
 
-abbrev pub return_of : Layout → Back → Return
-return_of l Out = out
-return_of l Bad = bad
-return_of l (Hop part k) = hop (part_name l part) (entry_name l part k)
-return_of l (Pair i base) = pair (part_name l (site_of l i).part) (site_of l i).index base
+-- where returns and pairs lead, by the names of the start
+abbrev pub feed_back : Layout → Back → FeedBack
+feed_back l Out = way.Out
+feed_back l Bad = way.Bad
+feed_back l (Hop part k) = way.Hop (part_name l part) (entry_name l part k)
+feed_back l (Pair i base) = way.Pair (part_name l (site_of l i).part) (site_of l i).index base
 
-abbrev pub passed_of : Layout → PairOf → Passed
-passed_of l Nothing = nothing
-passed_of l BadPair = bad_pair
-passed_of l OutPair = out_pair
-passed_of l (HopPair part k) = hop_pair (part_name l part) (entry_name l part k)
+abbrev pub feed_pair : Layout → PairOf → FeedPair
+feed_pair l Nothing = fed.Nothing
+feed_pair l BadPair = fed.Bad
+feed_pair l OutPair = fed.Out
+feed_pair l (HopPair part k) = fed.Hop (part_name l part) (entry_name l part k)
 
 -- its names are those of the start, its words are read from the state after the instruction
 abbrev pub line_of : Layout → View → Event → Line
@@ -78,11 +70,11 @@ line_of l v (Returned inward i base last) =
     ret inward (part_name l (site_of l i).part) (site_of l i).index base last (v.reg A0)
     (v.reg Dat ∷ words_from v (base + 1) (last - base))
 line_of l v (Entered part k back) =
-    enter (part_name l part) (entry_name l part k) (v.reg Stk) (args_of v) (return_of l back)
+    enter (part_name l part) (entry_name l part k) (v.reg Stk) (args_of v) (feed_back l back)
 line_of l v (Left part) = leave (part_name l part) (v.reg A0)
 
 abbrev pub pass_line : Layout → Pairs → Line
-pass_line l p = pass (passed_of l p.p0) (passed_of l p.p1) (passed_of l p.p2)
+pass_line l p = pass (feed_pair l p.p0) (feed_pair l p.p1) (feed_pair l p.p2)
 
 -- the line of the pairs of an entry, where one is more than nothing
 abbrev pub pass_lines : Layout → Pairs → List Line

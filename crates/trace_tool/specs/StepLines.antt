@@ -4,8 +4,10 @@ use Rattle.cap_words.specs.declared.Word.{Word}
 use Rattle.trusted_border.specs.declared.layout.Layout.{Layout}
 use Rattle.trusted_border.specs.declared.events.Event.{Event}
 use Rattle.overlay_machine.specs.State.{OState}
+use Rattle.source_events.specs.declared.FeedBack.{FeedBack}
+use Rattle.source_events.specs.declared.FeedPair.{FeedPair}
 use Rattle.trace_tool.specs.Views.{View}
-use Rattle.trace_tool.specs.Lines.{Args, Return, Passed, Line, enter, pass, lines_for}
+use Rattle.trace_tool.specs.Lines.{Args, Line, enter, pass, lines_for}
 use Rattle.trace_tool.specs.Runs.{Watched, lines_of}
 use Rattle.trace_tool.specs.Told.{Told}
 
@@ -17,7 +19,7 @@ IsNoPass _ = Unit {0}
 pub data AreOfStep : List Line → Type 0 where
   none_told : AreOfStep []
   one_told : {x : Line} → IsNoPass x → AreOfStep (x ∷ [])
-  pass_told : {part export : List ℕ} {stk : Word} {args : Args} {back : Return} {p0 p1 p2 : Passed}
+  pass_told : {part export : List ℕ} {stk : Word} {args : Args} {back : FeedBack} {p0 p1 p2 : FeedPair}
       → AreOfStep (enter part export stk args back ∷ pass p0 p1 p2 ∷ [])
 
 -- those of steps, one behind the other

@@ -2,9 +2,8 @@
 use Rattle.std.specs.Prelude.{ℕ, ◌++◌, Bool, true, false, List, [], ◌∷◌, codes, decimal}
 use Rattle.cap_words.specs.declared.Word.{Word}
 use Rattle.cap_words.specs.Text.{word_text_of}
-use Rattle.trace_tool.specs.Lines.{Args, Return, out, bad, hop, pair, Passed, nothing, bad_pair, out_pair}
-use Rattle.trace_tool.specs.Lines.{hop_pair}
-use Rattle.trace_tool.specs.Lines.{Line, call, ret, enter, pass, leave}
+use Rattle.source_events.specs.Forms.{back_text, pair_text}
+use Rattle.trace_tool.specs.Lines.{Args, Line, call, ret, enter, pass, leave}
 
 abbrev pub direction : Bool → List ℕ
 direction true = codes "in "
@@ -27,19 +26,6 @@ unfoldable pub place_text : Bool → List ℕ → ℕ → ℕ → ℕ → List �
 place_text inward part site base last =
     direction inward ++ (part ++ (field (decimal site) ++ (field (decimal base) ++ field (decimal last))))
 
-abbrev pub return_text : Return → List ℕ
-return_text out = codes "out"
-return_text bad = codes "bad"
-return_text (hop part export) = codes "hop:" ++ (part ++ (codes ":" ++ export))
-return_text (pair part site base) =
-    codes "pair:" ++ (part ++ (codes ":" ++ (decimal site ++ (codes ":" ++ decimal base))))
-
-abbrev pub passed_text : Passed → List ℕ
-passed_text nothing = codes "none"
-passed_text bad_pair = codes "bad"
-passed_text out_pair = codes "out"
-passed_text (hop_pair part export) = codes "hop:" ++ (part ++ (codes ":" ++ export))
-
 -- a line begins with a head, and those of calls and returns go on with words
 abbrev pub head_text : Line → List ℕ
 head_text (call inward part site base last args words) =
@@ -48,9 +34,9 @@ head_text (ret inward part site base last a0 words) =
     codes "ret " ++ (place_text inward part site base last ++ (field (word_text_of a0) ++ codes " :"))
 head_text (enter part export stk args back) =
     codes "enter " ++ (part ++ (field export ++ (field (word_text_of stk)
-    ++ (args_text args ++ field (return_text back)))))
+    ++ (args_text args ++ field (back_text back)))))
 head_text (pass p0 p1 p2) =
-    codes "pass " ++ (passed_text p0 ++ (field (passed_text p1) ++ field (passed_text p2)))
+    codes "pass " ++ (pair_text p0 ++ (field (pair_text p1) ++ field (pair_text p2)))
 head_text (leave part a0) = codes "leave " ++ (part ++ field (word_text_of a0))
 
 abbrev pub words_of : Line → List Word

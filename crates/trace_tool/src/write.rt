@@ -7,9 +7,10 @@ ghost use Rattle.outside_io.specs.Writes.{Writes};
 ghost use Rattle.cap_words.specs.Text.{word_text_of};
 ghost use Rattle.trace_tool.specs.Layout.{layout, part_name, site_of};
 ghost use Rattle.trace_tool.specs.Pairs.{pairs_of};
-ghost use Rattle.trace_tool.specs.Lines.{list_of, args_of, words_from, return_of, passed_of, line_of};
+ghost use Rattle.trace_tool.specs.Lines.{list_of, args_of, words_from, feed_back, feed_pair, line_of};
 ghost use Rattle.trace_tool.specs.Lines.{pass_line, pass_lines, lines_behind, lines_for};
-ghost use Rattle.trace_tool.specs.Texts.{field, args_text, place_text, return_text, passed_text, head_text};
+ghost use Rattle.source_events.specs.Forms.{back_text, pair_text};
+ghost use Rattle.trace_tool.specs.Texts.{field, args_text, place_text, head_text};
 ghost use Rattle.trace_tool.specs.Texts.{words_pieces, line_pieces, lines_pieces};
 
 use crate::find::{entry_name, part_name, site_of};
@@ -110,7 +111,7 @@ fn push_place(head: &mut Head, start: &Start, call: Call)
 // Appends what `xjmp rcode rdata` would do.
 fn push_back(head: &mut Head, start: &Start, back: Back)
     requires { array_vec_len head.old + 80 ≤ ROOM }
-    ensures bytes { head.new.items ≡ head.old.items ++ return_text (return_of (layout start.now) back) }
+    ensures bytes { head.new.items ≡ head.old.items ++ back_text (feed_back (layout start.now) back) }
     ensures len { array_vec_len head.new ≤ array_vec_len head.old + 80 }
 {
     match back {
@@ -137,7 +138,7 @@ fn push_back(head: &mut Head, start: &Start, back: Back)
 // Appends what an `xjmp` of an argument register and the next one would do.
 fn push_pair(head: &mut Head, start: &Start, pair: Pair)
     requires { array_vec_len head.old + 70 ≤ ROOM }
-    ensures bytes { head.new.items ≡ head.old.items ++ passed_text (passed_of (layout start.now) pair) }
+    ensures bytes { head.new.items ≡ head.old.items ++ pair_text (feed_pair (layout start.now) pair) }
     ensures len { array_vec_len head.new ≤ array_vec_len head.old + 70 }
 {
     match pair {

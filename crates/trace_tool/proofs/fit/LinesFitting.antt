@@ -53,12 +53,12 @@ use Rattle.trace_tool.specs.Views.{View, view_of}
 use Rattle.trace_tool.specs.Events.{note_last, noted_by, noted, reaches_trusted, called_with, called}
 use Rattle.trace_tool.specs.Events.{returned_at, returned, entered, leapt_by, event_after}
 use Rattle.trace_tool.specs.Pairs.{is_nothing, if_normal, pair_to, pair_if, pair_of, pairs_of, no_pairs}
-use Rattle.trace_tool.specs.Lines.{Line, pass, args_of, list_of, words_from, return_of, passed_of, line_of}
+use Rattle.trace_tool.specs.Lines.{Line, pass, args_of, list_of, words_from, feed_back, feed_pair, line_of}
 use Rattle.trace_tool.specs.Lines.{lines_behind, lines_for, pass_lines}
 use Rattle.trace_tool.specs.Runs.{Watched, begun, if_went, watched, event_next, line_next, lines_of}
 use Rattle.lcm_machine.specs.Fitting.{MapsFit}
-use Rattle.trace_tool.specs.Fits.{IsName, IsSmall, AllOf, ArgsOf, ReturnFits, PassedFits, PlaceFits}
-use Rattle.trace_tool.specs.Fits.{LineFits, LinesFit, StartLinesFit, is_told}
+use Rattle.source_events.specs.Forms.{IsName, IsSmall, BackFits, PairFits, is_pair}
+use Rattle.trace_tool.specs.Fits.{AllOf, ArgsOf, PlaceFits, LineFits, LinesFit, StartLinesFit}
 use Rattle.lcm_machine.proofs.Offers.{OpenedFits, opened_fits, next_state_fits}
 use Rattle.component_linker.proofs.StartFits.{starts_fit}
 use Rattle.trace_tool.proofs.fit.NamesFit.{number_at, part_named, entry_named, site_fits}
@@ -194,24 +194,24 @@ module _ (parts : List PartSeen) (closed : AreClosed parts) (l : Layout) (are_si
       by_target (Some a) = by_number (λ e. e.at == a) (number_of (λ e. e.at == a) o.entries) refl
 
   hop_fits_to : (o : Owner) → OwnerThere o → (n : Option ℕ) → When (λ k. IsName (entry_name l o.part k)) n
-      → ReturnFits (return_of l (hop_to o n))
+      → BackFits (feed_back l (hop_to o n))
   hop_fits_to o m None h = tt
   hop_fits_to o m (Some k) h = (part_named parts closed l are_sites are_owners o m, h)
 
-  hop_fits : (o : Option Owner) → When OwnerThere o → (x : Content) → ReturnFits (return_of l (hop_in o x))
+  hop_fits : (o : Option Owner) → When OwnerThere o → (x : Content) → BackFits (feed_back l (hop_in o x))
   hop_fits None m x = tt
   hop_fits (Some o) m (MemC c) = hop_fits_to o m (entry_number o (Memory c)) (entry_fits o m (Memory c))
   hop_fits (Some o) m (SealC s) = tt
 
   back_fits_under : (o : Option ℕ) → When SiteThere o → (code half : Opened) → OpenedFits half.content
-      → ReturnFits (return_of l (back_under l o code half))
+      → BackFits (feed_back l (back_under l o code half))
   back_fits_under None h code half f = hop_fits (closure_owner l code.seal) (owner_found _) code.content
   back_fits_under (Some i) h code half f =
       let k = site_fits parts closed l are_sites are_owners i h.0 h.1 in
       (k.0, k.1, content_small half.content f)
 
   back_fits_if : (b : Bool) (x y : Option Opened) → When (λ (k : Opened). OpenedFits k.content) y
-      → ReturnFits (return_of l (back_if b l x y))
+      → BackFits (feed_back l (back_if b l x y))
   back_fits_if true (Some code) (Some half) h =
       back_fits_under (site_of_seal l code.seal) (site_numbered _) code half h
   back_fits_if false (Some code) (Some half) h = tt
@@ -225,16 +225,16 @@ module _ (parts : List PartSeen) (closed : AreClosed parts) (l : Layout) (are_si
       by None e = tt
       by (Some k) e = opened_fits w k e h
 
-  back_fits : (w v : Word) → WordFits v → ReturnFits (return_of l (back_of l w v))
+  back_fits : (w v : Word) → WordFits v → BackFits (feed_back l (back_of l w v))
   back_fits w v h = back_fits_if (goes_on (jump_plan w v)) (opened_of w) (opened_of v) (when_opened v h)
 
-  pair_to_fits : (b : Back) → ReturnFits (return_of l b) → PassedFits (passed_of l (pair_to b))
+  pair_to_fits : (b : Back) → BackFits (feed_back l b) → PairFits (feed_pair l (pair_to b))
   pair_to_fits Out h = tt
   pair_to_fits Bad h = tt
   pair_to_fits (Hop part k) h = h
   pair_to_fits (Pair i base) h = tt
 
-  pair_fits_if : (b : Bool) (x y : Option Opened) → PassedFits (passed_of l (pair_if b l x y))
+  pair_fits_if : (b : Bool) (x y : Option Opened) → PairFits (feed_pair l (pair_if b l x y))
   pair_fits_if true (Some code) (Some half) =
       let to = closure_owner l code.seal in
       pair_to_fits (hop_in to code.content) (hop_fits to (owner_found _) code.content)
@@ -242,7 +242,7 @@ module _ (parts : List PartSeen) (closed : AreClosed parts) (l : Layout) (are_si
   pair_fits_if b None y = tt
   pair_fits_if b (Some code) None = tt
 
-  told_is : (x : PairOf) → is_told (passed_of l x) ≡ not (is_nothing x)
+  told_is : (x : PairOf) → is_pair (feed_pair l x) ≡ not (is_nothing x)
   told_is NoPair = refl
   told_is BadPair = refl
   told_is OutPair = refl
@@ -255,23 +255,23 @@ module _ (parts : List PartSeen) (closed : AreClosed parts) (l : Layout) (are_si
   not_all false b c e = refl
 
   some_told : (p : Pairs) → no_pairs p ≡ false
-      → (is_told (passed_of l p.p0) || (is_told (passed_of l p.p1) || is_told (passed_of l p.p2))) ≡ true
+      → (is_pair (feed_pair l p.p0) || (is_pair (feed_pair l p.p1) || is_pair (feed_pair l p.p2))) ≡ true
   some_told p e =
       let a = told_is p.p0 in
       let b = told_is p.p1 in
       let c = told_is p.p2 in
       rw (a, b, c) (not_all (is_nothing p.p0) (is_nothing p.p1) (is_nothing p.p2) e)
 
-  pass_fits : (p : Pairs) → PassedFits (passed_of l p.p0) → PassedFits (passed_of l p.p1)
-      → PassedFits (passed_of l p.p2) → LinesFit (pass_lines l p)
+  pass_fits : (p : Pairs) → PairFits (feed_pair l p.p0) → PairFits (feed_pair l p.p1)
+      → PairFits (feed_pair l p.p2) → LinesFit (pass_lines l p)
   pass_fits p h j k = by (no_pairs p) refl
     where
       by : (b : Bool) → no_pairs p ≡ b
-          → LinesFit (if b then [] else pass (passed_of l p.p0) (passed_of l p.p1) (passed_of l p.p2) ∷ [])
+          → LinesFit (if b then [] else pass (feed_pair l p.p0) (feed_pair l p.p1) (feed_pair l p.p2) ∷ [])
       by true e = tt
       by false e = ((h, j, k, some_told p e), tt)
 
-  pair_fits : (w v : Word) → PassedFits (passed_of l (pair_of l w v))
+  pair_fits : (w v : Word) → PairFits (feed_pair l (pair_of l w v))
   pair_fits w v = pair_fits_if (goes_on (jump_plan w v)) (if_normal (opened_of w)) (if_normal (opened_of v))
 
   -- ---- events
@@ -283,7 +283,7 @@ module _ (parts : List PartSeen) (closed : AreClosed parts) (l : Layout) (are_si
   EventFits (Called inward i base last) = PlaceOf i base last
   EventFits (Returned inward i base last) = PlaceOf i base last
   EventFits (Entered part k back) = NamesPart part × IsName (entry_name l part k)
-      × ReturnFits (return_of l back)
+      × BackFits (feed_back l back)
   EventFits (Left part) = NamesPart part
 
   place_fits : (i base last : ℕ) → PlaceOf i base last → PlaceFits (part_name l (site_of l i).part)

@@ -19,7 +19,7 @@ use Rattle.trusted_border.specs.Layout.{numbered, number_of}
 use Rattle.overlay_machine.proofs.Offers.{listed_at, only_found, position_is}
 use Rattle.trace_tool.specs.Layout.{name_of, numbered_owner, part_name, entry_text, entry_of as entry_in}
 use Rattle.trace_tool.specs.Layout.{entry_name, site_or, site_of}
-use Rattle.trace_tool.specs.Fits.{IsName}
+use Rattle.source_events.specs.Forms.{IsName}
 
 -- the name of each export
 export_named : (xs : List Export) (b : Option Export) (k : ℕ) (e : Export) → Chain ExportFits b xs

@@ -6,5 +6,4 @@ use Rattle.source_starts.proofs.laws.runs_mean.Goals as goal
 pub returns : goal.returns
 returns c modules parts size s is sources steps =
     run_means c.the_headline.ensures.holds c.cuts_are_greatest.ensures.matched c.cuts_show.ensures
-    c.events_are_told.ensures (map part_of modules) parts size s is
-    (c.sources_mean.ensures modules parts size s is sources) steps
+    (map part_of modules) parts size s is (c.sources_mean.ensures modules parts size s is sources) steps

@@ -3,15 +3,17 @@ use Rattle.std.proofs.lemmas.Grind.{common_steps}
 use Rattle.outside_io.specs.Writes.{Writes}
 use Rattle.cap_words.specs.declared.Word.{Word}
 use Rattle.cap_words.specs.Text.{word_text_of}
-use Rattle.trace_tool.specs.Lines.{Args, Return, enter}
-use Rattle.trace_tool.specs.Texts.{field, args_text, return_text, line_text}
+use Rattle.source_events.specs.declared.FeedBack.{FeedBack}
+use Rattle.source_events.specs.Forms.{back_text}
+use Rattle.trace_tool.specs.Lines.{Args, enter}
+use Rattle.trace_tool.specs.Texts.{field, args_text, line_text}
 use Rattle.trace_tool.proofs.write.write_enter.Goals as goal
 
 -- the pieces of the line, one behind the other
-pieces : (part export : List ℕ) (stk : Word) (args : Args) (back : Return) (a b : List ℕ)
+pieces : (part export : List ℕ) (stk : Word) (args : Args) (back : FeedBack) (a b : List ℕ)
     {c d e f g h : List ℕ}
     → a ≡ codes "enter " → b ≡ a ++ part → c ≡ b ++ field export → d ≡ c ++ field (word_text_of stk)
-    → e ≡ d ++ args_text args → f ≡ e ++ codes " " → g ≡ f ++ return_text back → h ≡ g ++ codes "\n"
+    → e ≡ d ++ args_text args → f ≡ e ++ codes " " → g ≡ f ++ back_text back → h ≡ g ++ codes "\n"
     → h ≡ line_text (enter part export stk args back)
 unfolding line_text
 pieces part export stk args back x y a b c d e f g h =
