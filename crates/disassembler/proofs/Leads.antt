@@ -20,7 +20,7 @@ use Rattle.asm_draft.specs.Draft.{Draft}
 use Rattle.asm_draft.specs.Lines.{line_in}
 use Rattle.asm_draft.specs.Whole.{is_newline as is_line_end, lines_of, onto_first, line_or_none, drafted}
 use Rattle.asm_draft.specs.Whole.{goes_to}
-use Rattle.disassembler.specs.Disassembled.{newline}
+use Rattle.cap_words.specs.Text.{newline}
 
 -- reading on from a place of the text, where the lines before made a draft, ends in another
 pub record Goes (whole : List ℕ) (end number at : ℕ) (rest : List ℕ) (d final : Draft) : Type 0 where

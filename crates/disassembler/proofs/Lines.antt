@@ -34,7 +34,8 @@ use Rattle.asm_draft.specs.Draft.{Draft, has_word_room, with_word, may_end, may_
 use Rattle.asm_draft.specs.Operands.{operands_in}
 use Rattle.asm_draft.specs.Lines.{may_stand}
 use Rattle.asm_draft.proofs.Again.{instr_line_again, word_line_again, item_line_again, offset_forms}
-use Rattle.disassembler.specs.Disassembled.{newline, item_line, word_line, code_line, integer_line}
+use Rattle.cap_words.specs.Text.{newline}
+use Rattle.disassembler.specs.Disassembled.{item_line, word_line, code_line, integer_line}
 use Rattle.disassembler.proofs.Leads.{Leads, leads_line, leads_fields}
 
 -- what lines without labels have made

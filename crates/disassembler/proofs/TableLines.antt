@@ -26,7 +26,8 @@ use Rattle.asm_draft.proofs.Again.{offset_forms, import_forms, export_forms, kin
 use Rattle.asm_draft.proofs.Again.{import_again, export_again, site_again, fail_again, literal_again}
 use Rattle.asm_draft.proofs.Again.{row_again}
 use Rattle.assembler.proofs.Chains.{item_in_chain}
-use Rattle.disassembler.specs.Disassembled.{behind_blank, optional_line, import_line, export_line}
+use Rattle.cap_words.specs.Text.{field_text}
+use Rattle.disassembler.specs.Disassembled.{optional_line, import_line, export_line}
 use Rattle.disassembler.specs.Disassembled.{site_line, kind_fields, row_line}
 use Rattle.disassembler.proofs.Leads.{Leads, leads_optional, leads_all}
 use Rattle.disassembler.proofs.Lines.{so_far, one_operand, leads_item, ends, last_in, last_behind, follows}
@@ -208,7 +209,7 @@ wider n m text forms le r = record {
 }
 
 abbrev kinds_text : List Kind → List ℕ
-kinds_text ks = flat_map behind_blank (flat_map kind_fields ks)
+kinds_text ks = flat_map field_text (flat_map kind_fields ks)
 
 -- one more kind, which is its name
 named_rest : (k : Kind) (ks : List Kind) → IsRest (11 * length ks) (kinds_text ks) (flat_map kind_forms ks)
@@ -240,7 +241,7 @@ all_of before [] h = tt
 all_of before (k ∷ ks) h = (h.0, all_of (Some k) ks h.1)
 
 row_rest : (r : KindRow) → r.offset ≤ 65535 → length r.kinds ≡ 15 → AllByRecursion KindFits r.kinds
-    → IsRest 171 (flat_map behind_blank (decimal r.offset ∷ flat_map kind_fields r.kinds)) (row_forms r)
+    → IsRest 171 (flat_map field_text (decimal r.offset ∷ flat_map kind_fields r.kinds)) (row_forms r)
 row_rest r offset many kinds =
     let all = subst (λ fs. IsRest (11 * length r.kinds) (kinds_text r.kinds) fs)
     (sym (append-nil (flat_map kind_forms r.kinds))) (kinds_rest r.kinds kinds) in

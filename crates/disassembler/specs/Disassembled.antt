@@ -5,7 +5,7 @@ use Rattle.std.specs.List.{flat_map, concat}
 use Rattle.std.specs.Fmt.{signed_decimal}
 use Rattle.cap_words.specs.declared.Word.{Word}
 use Rattle.cap_words.specs.declared.Word.TheVariants.{Int, Mem, Seal, Sealed}
-use Rattle.cap_words.specs.Text.{perm_name, lin_name}
+use Rattle.cap_words.specs.Text.{perm_name, lin_name, field_text, newline}
 use Rattle.lcm_isa.specs.declared.Instr.{Instr}
 use Rattle.lcm_isa.specs.Numbers.{decode_of}
 use Rattle.lcm_isa.specs.Texts.{instr_text}
@@ -26,16 +26,9 @@ use Rattle.asm_fields.specs.Names.{kind_name, ownership}
 
 -- ---- lines
 
-abbrev pub newline : List ℕ
-newline = codes "\n"
-
--- a blank, and an operand
-abbrev pub behind_blank : List ℕ → List ℕ
-behind_blank operand = 32 ∷ operand
-
 -- a directive, its operands, and a newline
 abbrev pub directive_line : Directive → List (List ℕ) → List ℕ
-directive_line d operands = dot ∷ directive_name d ++ (flat_map behind_blank operands ++ newline)
+directive_line d operands = dot ∷ directive_name d ++ (flat_map field_text operands ++ newline)
 
 abbrev pub item_line : Item → List (List ℕ) → List ℕ
 item_line i operands = directive_line (directive.Of i) operands

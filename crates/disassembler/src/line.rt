@@ -3,7 +3,7 @@ ghost use Rattle.std.specs.Prelude.{◌≡◌, ◌++◌, ◌∷◌, decimal, OnO
 ghost use Rattle.std.specs.Fmt.{signed_decimal};
 ghost use Rattle.asm_fields.specs.Fields.{dot};
 ghost use Rattle.asm_fields.specs.Directives.{directive_name};
-ghost use Rattle.disassembler.specs.Disassembled.{newline, behind_blank};
+ghost use Rattle.cap_words.specs.Text.{field_text, newline};
 
 use asm_fields::{Directive, Item};
 use itoa::Buffer;
@@ -26,7 +26,7 @@ pub(crate) fn begin_item(text: &mut Vec<u8>, item: Item) -> Result<(), AllocErro
 
 /// Appends a blank and an operand.
 pub(crate) fn push_operand(text: &mut Vec<u8>, operand: &[u8]) -> Result<(), AllocError>
-    ensures { OnOk result (text.new.items ≡ text.old.items ++ behind_blank operand.now) }
+    ensures { OnOk result (text.new.items ≡ text.old.items ++ field_text operand.now) }
 {
     text.push(b' ')?;
     text.extend_from_slice(operand)
@@ -34,7 +34,7 @@ pub(crate) fn push_operand(text: &mut Vec<u8>, operand: &[u8]) -> Result<(), All
 
 /// Appends a blank and a number.
 pub(crate) fn push_number(text: &mut Vec<u8>, number: u32) -> Result<(), AllocError>
-    ensures { OnOk result (text.new.items ≡ text.old.items ++ behind_blank (decimal number)) }
+    ensures { OnOk result (text.new.items ≡ text.old.items ++ field_text (decimal number)) }
 {
     let mut digits = Buffer::new();
     push_operand(text, digits.format(number).as_bytes())
@@ -42,7 +42,7 @@ pub(crate) fn push_number(text: &mut Vec<u8>, number: u32) -> Result<(), AllocEr
 
 /// Appends a blank and an integer, with a `-` where it is negative.
 pub(crate) fn push_integer(text: &mut Vec<u8>, integer: i64) -> Result<(), AllocError>
-    ensures { OnOk result (text.new.items ≡ text.old.items ++ behind_blank (signed_decimal integer)) }
+    ensures { OnOk result (text.new.items ≡ text.old.items ++ field_text (signed_decimal integer)) }
 {
     let mut digits = Buffer::new();
     push_operand(text, digits.format(integer).as_bytes())

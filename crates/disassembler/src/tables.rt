@@ -1,7 +1,8 @@
 //! The lines of data and of items that may be many or missing.
 ghost use Rattle.std.specs.Prelude.{◌≡◌, ◌++◌, ℕ, List, [], ◌∷◌, decimal, OnOk};
 ghost use Rattle.std.specs.List.{flat_map};
-ghost use Rattle.disassembler.specs.Disassembled.{behind_blank, item_line, flag_line, word_line};
+ghost use Rattle.cap_words.specs.Text.{field_text};
+ghost use Rattle.disassembler.specs.Disassembled.{item_line, flag_line, word_line};
 ghost use Rattle.disassembler.specs.Disassembled.{stretch_line};
 ghost use Rattle.disassembler.specs.Disassembled.{optional_line, import_line, export_line, site_line};
 ghost use Rattle.disassembler.specs.Disassembled.{kind_fields, row_line};
@@ -80,7 +81,7 @@ impl Listed for KindRow {
 
 // The name of a kind, and the offset behind `pc`.
 fn push_kind(text: &mut Vec<u8>, kind: Kind) -> Result<(), AllocError>
-    ensures { OnOk result (text.new.items ≡ text.old.items ++ flat_map behind_blank (kind_fields kind)) }
+    ensures { OnOk result (text.new.items ≡ text.old.items ++ flat_map field_text (kind_fields kind)) }
 {
     push_operand(text, kind_name(kind).as_bytes())?;
     match kind {
@@ -91,7 +92,7 @@ fn push_kind(text: &mut Vec<u8>, kind: Kind) -> Result<(), AllocError>
 
 fn push_kinds(text: &mut Vec<u8>, kinds: &[Kind]) -> Result<(), AllocError>
     ensures { OnOk result
-        (text.new.items ≡ text.old.items ++ flat_map behind_blank (flat_map kind_fields kinds.now)) }
+        (text.new.items ≡ text.old.items ++ flat_map field_text (flat_map kind_fields kinds.now)) }
 {
     for kind in kinds {
         push_kind(text, *kind)?;

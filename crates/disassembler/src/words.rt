@@ -2,7 +2,8 @@
 ghost use Rattle.std.specs.Prelude.{◌≡◌, ◌++◌, OnOk};
 ghost use Rattle.std.specs.List.{flat_map};
 ghost use Rattle.lcm_isa.specs.Texts.{instr_text};
-ghost use Rattle.disassembler.specs.Disassembled.{newline, word_line, code_line};
+ghost use Rattle.cap_words.specs.Text.{newline};
+ghost use Rattle.disassembler.specs.Disassembled.{word_line, code_line};
 
 use crate::line::{begin, end, push_integer, push_number, push_operand};
 use asm_fields::{Directive, WordKind};
