@@ -15,11 +15,12 @@ use Rattle.trace_tool.specs.Views.{View, flat_view}
 use Rattle.trace_tool.specs.Lines.{Line, pass_line, lines_for}
 use Rattle.trace_tool.specs.StepLines.{no_step, and_step, StepsTellSo}
 use Rattle.trace_tool.specs.Told.{Told, none_yet, and_then, step_lines}
-use Rattle.trace_tool.specs.Cuts.{Leads, first_point}
+use Rattle.trace_tool.specs.Cuts.{Leads}
 use Rattle.trace_tool.specs.Cuts as cuts
 use Rattle.trace_tool.specs.Feed as line
 use Rattle.trace_tool.specs.Feed.{OutsJoin, ItemsJoin, EntriesAreItems}
 use Rattle.source_events.specs.declared.Item.{Item}
+use Rattle.source_events.specs.declared.OutEvent.{OutEvent}
 use Rattle.template_runs.specs.Runs.{is_inside}
 use Rattle.source_laws.specs.Trace.{outs_of, items_of, weighed}
 use Rattle.source_laws.specs.Sources as runs
@@ -81,8 +82,8 @@ module _ (l : Layout) (o : OState) (join : OutsJoin) (items_join : ItemsJoin) (e
       )
 
 -- steps that show something lead to where they come to
-pub shows_lead : (l : Layout) (o : OState) (j n : ℕ) (es : List line.OutEvent) (is : List Item) (p : OState)
-    → Shows l o j n es is p → Leads l (first_point o) (record { at = j; trusted = n; overlay = p })
+pub shows_lead : (l : Layout) (o : OState) (j n : ℕ) (es : List OutEvent) (is : List Item) (p : OState)
+    → Shows l o j n es is p → Leads l o j n p
 shows_lead l o _ _ _ _ _ runs.none_yet = cuts.no_step
 shows_lead l o _ _ _ _ q (runs.and_then {j = j} {n = n} {es = es} {is = is} {p = p} h e) =
     cuts.and_step (shows_lead l o j n es is p h) e

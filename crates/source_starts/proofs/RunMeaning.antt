@@ -11,7 +11,7 @@ use Rattle.trace_tool.specs.Layout.{layout}
 use Rattle.trace_tool.specs.StepLines.{StepsTellSo}
 use Rattle.trace_tool.specs.Feed.{outs_of, items_of, OutsJoin, ItemsJoin, EntriesAreItems}
 use Rattle.trace_tool.specs.Runs.{written}
-use Rattle.trace_tool.specs.Cuts.{Point, cut_point, CutsAreGreatest, StopsAreCuts}
+use Rattle.trace_tool.specs.Cuts.{cut, cut_overlay, trusted_weight, CutsAreGreatest, StopsAreCuts}
 use Rattle.trace_tool.specs.Headline.{HeadlineHolds}
 use Rattle.proc_language.specs.declared.module.ModuleFields.{ModuleFields}
 use Rattle.proc_program.specs.Lower.{part_of}
@@ -29,14 +29,14 @@ module _ (headline : HeadlineHolds) (outs : OutsJoin) (joined : ItemsJoin) (entr
   cuts_show parts size s is steps =
       let l = layout s in
       let o = (overlay_at s).state in
-      let c = cut_point s steps in
+      let j = (cut s steps).at in
+      let p = cut_overlay s steps in
       let es = outs_of (written s steps) in
       let items = items_of l.stack.base (written s steps) in
       let x = (headline (placed parts size) size s is).lines steps in
-      let k = lines_show l o outs joined entries tell c.at (written s steps) c.overlay x.0 in
-      let p : Point = record { at = c.at; trusted = k.0; overlay = c.overlay } in
-      let e = greatest s steps p (shows_lead l o c.at k.0 es items c.overlay k.1) x.1 in
-      subst (λ n. Shows l o c.at n es items c.overlay) (sym (ap (λ (q : Point). q.trusted) e)) k.1
+      let k = lines_show l o outs joined entries tell j (written s steps) p x.0 in
+      let e = greatest s steps j k.0 p (shows_lead l o j k.0 es items p k.1) x.1 in
+      subst (λ n. Shows l o j n es items p) (sym e.2) k.1
 
 module _ (headline : HeadlineHolds) (stops : StopsAreCuts) (show : CutsShow) where
   pub run_means : (world : World) (parts : List PartSeen) (size : ℕ) (s : StartSeen) → IsStartOf parts size s
@@ -45,10 +45,9 @@ module _ (headline : HeadlineHolds) (stops : StopsAreCuts) (show : CutsShow) whe
       let head = headline (placed parts size) size s is in
       let agree = head.agrees in
       let x = head.lines steps in
-      let c = cut_point s steps in
-      let j = c.at in
-      let n = c.trusted in
-      let p = c.overlay in
+      let j = (cut s steps).at in
+      let n = trusted_weight s steps in
+      let p = cut_overlay s steps in
       let at = reached_of (layout s) (overlay_at s).state j (written s steps) p x.0 in
       let es = outs_of (written s steps) in
       let items = items_of (layout s).stack.base (written s steps) in

@@ -16,7 +16,7 @@ use Rattle.overlay_machine.specs.Starting.{overlay_at}
 use Rattle.trace_tool.specs.Layout.{layout, is_trusted}
 use Rattle.trace_tool.specs.Feed.{outs_of, items_of}
 use Rattle.trace_tool.specs.Runs.{written}
-use Rattle.trace_tool.specs.Cuts.{cut_point}
+use Rattle.trace_tool.specs.Cuts.{cut, cut_overlay, trusted_weight}
 use Rattle.proc_language.specs.declared.module.ModuleFields.{ModuleFields}
 use Rattle.proc_program.specs.Lower.{part_of}
 use Rattle.source_events.specs.declared.Item.{Item}
@@ -33,11 +33,11 @@ runs_trusted s n = is_trusted (layout s) (faces (λ w. w) (plain n s.state).maps
 
 -- whether it does at their cut point
 abbrev pub cut_in_trusted : StartSeen → ℕ → Bool
-cut_in_trusted s n = runs_trusted s (cut_point s n).at
+cut_in_trusted s n = runs_trusted s (cut s n).at
 
 -- the weight of the steps up to there that began in trusted code, with that of the next one
 abbrev pub trusted_with : StartSeen → ℕ → ℕ
-trusted_with s n = (cut_point s n).trusted + weight_of (layout s) (cut_point s n).overlay
+trusted_with s n = trusted_weight s n + weight_of (layout s) (cut_overlay s n)
 
 -- what went out of the modules by the lines that so many instructions write
 abbrev pub went_out : StartSeen → ℕ → List OutEvent
@@ -66,7 +66,7 @@ pub record RunMeans (world : World) (size : ℕ) (s : StartSeen) (steps : ℕ) :
       → MeaningEnds world size (came_in s steps) (went_out s steps) Fail
       × MeaningTakes world size (came_in s steps) (went_out s steps) (trusted_with s steps)
   -- a tick of the meaning pays for some instructions of steps that began in trusted code, and no more
-  pub slow : MeaningTakes world size (came_in s steps) (went_out s steps) (cut_point s steps).trusted
+  pub slow : MeaningTakes world size (came_in s steps) (went_out s steps) (trusted_weight s steps)
   -- each procedure that left gave an integer
   pub integers : LeaveIntegers (went_out s steps)
 
@@ -74,8 +74,8 @@ pub record RunMeans (world : World) (size : ℕ) (s : StartSeen) (steps : ℕ) :
 abbrev pub CutsShow : Type 0
 CutsShow =
     (parts : List PartSeen) (size : ℕ) (s : StartSeen) → IsStartOf parts size s → (steps : ℕ)
-    → (let c = cut_point s steps in
-    Shows (layout s) (overlay_at s).state c.at c.trusted (went_out s steps) (came_in s steps) c.overlay)
+    → Shows (layout s) (overlay_at s).state (cut s steps).at (trusted_weight s steps) (went_out s steps)
+    (came_in s steps) (cut_overlay s steps)
 
 -- of every run of linked sources
 abbrev pub RunsMean : Type 0

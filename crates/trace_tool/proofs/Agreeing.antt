@@ -19,7 +19,7 @@ use Rattle.overlay_machine.specs.Runs.{plain_run, HaltsBehind, FailsBehind, Runs
 use Rattle.overlay_machine.specs.Starting.{overlay_at}
 use Rattle.trace_tool.specs.Layout.{layout}
 use Rattle.trace_tool.specs.Views.{flat_view}
-use Rattle.trace_tool.specs.Cuts.{cut_point}
+use Rattle.trace_tool.specs.Cuts.{cut_overlay}
 use Rattle.trace_tool.specs.Headline.{Matched, OverlayHalts, OverlayFails, PlainEnds, Within, Agrees}
 use Rattle.trace_tool.proofs.CutPoints.{stops_are_cuts, of_cut}
 
@@ -150,7 +150,7 @@ module _ (s : StartSeen) (is : s.state ≡ fresh s.state.maps) (alone : HaltsAlo
           (there_halts s.state.maps n (sym (end_is n) ∙ e.goes) (sym (end_is (n + 1)) ∙ e.ends)) in
           subst (λ p. Matched s n p × OverlayHalts s p)
           (sym (stops_are_cuts s n n k.0 k.1 (omega arith, inr (inl k.2))).1) (k.1, k.2)),
-      λ k. (let e = halts_there s.state.maps n (runs.overlay_halts n (cut_point s n).overlay k.0 k.1) in
+      λ k. (let e = halts_there s.state.maps n (runs.overlay_halts n (cut_overlay s n) k.0 k.1) in
           ends_is n Halted e.0 e.1),
     );
     alike = alike_is;

@@ -18,7 +18,7 @@ use Rattle.trace_tool.specs.Runs.{begun, lines_of, written}
 use Rattle.trace_tool.specs.Told.{Told, none_yet, and_then, step_lines}
 use Rattle.trace_tool.specs.Brackets.{marks_in, IsRet, CallsArePrivate}
 use Rattle.trace_tool.specs.Alike.{LinesAgree}
-use Rattle.trace_tool.specs.Cuts.{cut_point}
+use Rattle.trace_tool.specs.Cuts.{cut, cut_overlay}
 use Rattle.trace_tool.specs.Headline.{LinesOfSteps, FramesAreLeftAlone, EachCallIsPrivate}
 use Rattle.trace_tool.proofs.StepTold.{reached_by}
 use Rattle.trace_tool.proofs.CallLines.{one_tells}
@@ -109,8 +109,8 @@ module _ (s : StartSeen) (is : s.state ≡ fresh s.state.maps) (alone : HaltsAlo
       let line = call inward part site base last args words in
       let k = lines n in
       let one =
-      one_tells l o inward part site base last args words (cut_point s n).at (written s n) before after
-      (cut_point s n).overlay k.0 e in
+      one_tells l o inward part site base last args words (cut s n).at (written s n) before after
+      (cut_overlay s n) k.0 e in
       let m = reached_by l o one.at before one.caller one.told in
       let here = written_is one.at before one.caller one.told in
       let behind = written_is (one.at + weight_of l one.caller) (before ++ step_lines l one.caller one.called)

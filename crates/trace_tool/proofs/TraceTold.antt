@@ -38,7 +38,7 @@ told_then l o p q j _ ls _ h (and_then {j = k} {ls = ms} {p = r} more e) =
     (and_then t e))
 
 -- what a step of a seen overlay is
-data StepIs (o : OverlaySeen) : OStep → OverlaySeen → Type 0 where
+pub data StepIs (o : OverlaySeen) : OStep → OverlaySeen → Type 0 where
   it_went : (q : OState) → overlay_step o.layout o.state ≡ goes q
       → StepIs o (Went (step_event o.layout o.state q))
       (record o { state = q; weight = o.weight + weight_of o.layout o.state })
@@ -60,7 +60,7 @@ by_end o (Some AtHalt) h =
 by_end o (Some AtFailure) h =
     it_failed o refl (λ none. absurd (let bad : None ≡ Some AtFailure = sym none ∙ h in cc))
 
-step_is : (o : OverlaySeen) → StepIs o (answer_of o) (next_overlay o)
+pub step_is : (o : OverlaySeen) → StepIs o (answer_of o) (next_overlay o)
 unfolding answer_of next_overlay
 step_is o = by_end o o.end refl
 
@@ -87,12 +87,12 @@ stays_told l limit n o p same e ends = (
 )
 
 -- `traced_by`, with the next overlay beside
-abbrev traced_with : OStep → OverlaySeen → OverlaySeen → (OverlaySeen → Traced) → Traced
+abbrev pub traced_with : OStep → OverlaySeen → OverlaySeen → (OverlaySeen → Traced) → Traced
 traced_with (Went event) o next more = behind (lines_after next event) (more next)
-traced_with Halted o next more = ended RunHalted next (halted_text (overlay_view next) (weight_with o))
-traced_with Failed o next more = ended RunFailed next (failed_text (overlay_view next) o.weight)
+traced_with Halted o next more = ended RunHalted o.weight next (halted_text (overlay_view next) (weight_with o))
+traced_with Failed o next more = ended RunFailed o.weight next (failed_text (overlay_view next) o.weight)
 
-with_next : (a : OStep) (o : OverlaySeen) (more : OverlaySeen → Traced)
+pub with_next : (a : OStep) (o : OverlaySeen) (more : OverlaySeen → Traced)
     → traced_by a o more ≡ traced_with a o (next_overlay o) more
 with_next (Went event) o more = refl
 with_next Halted o more = refl

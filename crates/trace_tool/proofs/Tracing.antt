@@ -257,7 +257,7 @@ module _ (limit : ℕ) (o : OverlaySeen) (sink : SinkSeen) where
       → (g : Going now seen)
       → (TracesTo limit o sink new seen2 end → Traces limit o sink new seen2 end)
       → ((n : ℕ) × (n ≤ limit) × (new ≡ steps_on n o)) → new.weight ≤ limit
-      → traced limit g.left now ≡ ended end new line
+      → traced limit g.left now ≡ ended end now.weight new line
       → EndsBy seen line end seen2 result → Traces limit o sink new seen2 result
   ends now seen new seen2 line end result g lift made within is w =
       elim w as (λ _. Traces limit o sink new seen2 result) [
@@ -315,7 +315,7 @@ module _ (limit : ℕ) (o : OverlaySeen) (sink : SinkSeen) where
   ends_running now seen seen2 line result g over e w =
       ends now seen now seen2 line Running result g (λ t. t)
       (g.steps, (let f = g.few in let l = g.within in omega (arith, f, l)), g.same) g.within
-      (stops_at limit g.left now over ∙ ap (ended Running now) (sym e)) w
+      (stops_at limit g.left now over ∙ ap (ended Running now.weight now) (sym e)) w
 
   -- the end of the machine
   at_end : (now : OverlaySeen) (seen : SinkSeen) (new : OverlaySeen) (g : Going now seen)
@@ -340,8 +340,8 @@ module _ (limit : ℕ) (o : OverlaySeen) (sink : SinkSeen) where
       ends now seen new seen2 line RunHalted result g (λ t. t) (at_end now seen new g fits e)
       (end_weight now new fits e)
       (s.2 ∙ ap (λ x. traced_by x now (traced limit s.0)) a
-      ∙ ap (λ x. ended RunHalted x (halted_text (overlay_view x) (weight_with now))) (sym e)
-      ∙ ap (ended RunHalted new) (sym k)) w
+      ∙ ap (λ x. ended RunHalted now.weight x (halted_text (overlay_view x) (weight_with now))) (sym e)
+      ∙ ap (ended RunHalted now.weight new) (sym k)) w
 
   pub ends_failed : (now : OverlaySeen) (seen : SinkSeen) (new : OverlaySeen) (seen2 : SinkSeen)
       (line : List ℕ) (result : RunEnd)
@@ -353,5 +353,5 @@ module _ (limit : ℕ) (o : OverlaySeen) (sink : SinkSeen) where
       ends now seen new seen2 line RunFailed result g (λ t. t) (at_end now seen new g fits e)
       (end_weight now new fits e)
       (s.2 ∙ ap (λ x. traced_by x now (traced limit s.0)) a
-      ∙ ap (λ x. ended RunFailed x (failed_text (overlay_view x) now.weight)) (sym e)
-      ∙ ap (ended RunFailed new) (sym k)) w
+      ∙ ap (λ x. ended RunFailed now.weight x (failed_text (overlay_view x) now.weight)) (sym e)
+      ∙ ap (ended RunFailed now.weight new) (sym k)) w

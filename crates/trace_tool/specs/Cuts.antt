@@ -1,76 +1,73 @@
--- The cut point of a run: the greatest matched point that is at most so many instructions.
-use Rattle.std.specs.Prelude.{◌≡◌, ℕ, zero, suc, ◌+◌, nat_le, Bool, true, false, if◌then◌else◌}
+-- The cut point of a run: the greatest matched point that is at most so many instructions, where the overlay's
+-- run up to as many stops.
+use Rattle.std.specs.Prelude.{◌≡◌, ℕ, zero, suc, ◌+◌, nat_lt, Bool, true, false, if◌then◌else◌}
 use Rattle.lcm_isa.specs.declared.Reg.TheVariants.{Pc}
 use Rattle.lcm_machine.specs.Row.{faces}
 use Rattle.component_linker.specs.Started.{StartSeen}
 use Rattle.trusted_border.specs.declared.layout.Layout.{Layout}
+use Rattle.overlay_machine.specs.declared.overlay.OStep.{OStep}
+use Rattle.overlay_machine.specs.declared.overlay.OStep.TheVariants.{Went, Halted, Failed}
 use Rattle.overlay_machine.specs.Words.{look}
 use Rattle.overlay_machine.specs.State.{OState}
-use Rattle.overlay_machine.specs.Step.{Ending, goes, halts, fails, overlay_step, weight_of}
+use Rattle.overlay_machine.specs.Step.{goes, overlay_step, weight_of}
+use Rattle.overlay_machine.specs.Seen.{OverlaySeen, next_overlay, answer_of}
 use Rattle.overlay_machine.specs.Runs.{Reached}
 use Rattle.overlay_machine.specs.Starting.{overlay_at}
 use Rattle.trace_tool.specs.Layout.{layout, is_trusted}
 use Rattle.trace_tool.specs.Told.{StopsAt}
+use Rattle.trace_tool.specs.Traces.{weight_with, Traced, trace_of}
+
+-- the overlay's run up to so many instructions: `at` is the cut point
+abbrev pub cut : StartSeen → ℕ → Traced
+cut s n = trace_of n (overlay_at s)
+
+-- where the overlay stands there
+abbrev pub cut_overlay : StartSeen → ℕ → OState
+cut_overlay s n = (cut s n).overlay.state
+
+-- ---- what of the weight up to there is trusted code's
 
 -- whether trusted code runs
 abbrev pub is_inside : Layout → OState → Bool
 is_inside l o = is_trusted l (faces look o.maps Pc)
 
--- what of a weight is trusted code's
 abbrev pub weighed : Bool → ℕ → ℕ
 weighed true n = n
 weighed false n = 0
 
--- a matched point: the instructions before it, how many of them are of steps that began in trusted code, and
--- the overlay there
-pub record Point : Type 0 where
-  pub at : ℕ
-  pub trusted : ℕ
-  pub overlay : OState
+-- of a step, and the steps behind it
+abbrev pub trusted_by : OStep → OverlaySeen → ℕ → ℕ
+trusted_by (Went event) o more = weighed (is_inside o.layout o.state) (weight_of o.layout o.state) + more
+trusted_by Halted o more = 0
+trusted_by Failed o more = 0
 
--- behind a step that goes
-abbrev pub step_on : Layout → Point → OState → Point
-step_on l p q = record {
-  at = p.at + weight_of l p.overlay;
-  trusted = p.trusted + weighed (is_inside l p.overlay) (weight_of l p.overlay);
-  overlay = q;
-}
+-- of n steps at most, within a limit
+abbrev pub trusted_in : ℕ → ℕ → OverlaySeen → ℕ
+trusted_in limit zero o = 0
+trusted_in limit (suc n) o =
+    if nat_lt limit (weight_with o) then 0
+    else trusted_by (answer_of o) o (trusted_in limit n (next_overlay o))
 
--- a step is made where it goes, and stays within the limit
-abbrev pub walk_on : Layout → ℕ → Point → Ending → (Point → Point) → Point
-walk_on l limit p (goes q) more =
-    if nat_le (p.at + weight_of l p.overlay) limit then more (step_on l p q) else p
-walk_on l limit p halts more = p
-walk_on l limit p fails more = p
-
--- by n steps at most
-abbrev pub walk : Layout → ℕ → ℕ → Point → Point
-walk l limit zero p = p
-walk l limit (suc n) p = walk_on l limit p (overlay_step l p.overlay) (walk l limit n)
-
-abbrev pub first_point : OState → Point
-first_point o = record { at = 0; trusted = 0; overlay = o }
-
--- each step has some weight, so it takes no more steps than instructions
-unfoldable pub cut_point : StartSeen → ℕ → Point
-cut_point s n = walk (layout s) n n (first_point (overlay_at s).state)
+-- the weight of the steps up to the cut point that began in trusted code
+abbrev pub trusted_weight : StartSeen → ℕ → ℕ
+trusted_weight s n = trusted_in n (n + 1) (overlay_at s)
 
 -- ---- laws
 
--- from a point steps that go lead to another
-pub data Leads (l : Layout) (p : Point) : Point → Type 0 where
-  no_step : Leads l p p
-  and_step : {q : Point} {o : OState} → Leads l p q → overlay_step l q.overlay ≡ goes o
-      → Leads l p (step_on l q o)
+-- steps that go lead from one overlay to another: their weight, and what of it is trusted code's
+pub data Leads (l : Layout) (o : OState) : ℕ → ℕ → OState → Type 0 where
+  no_step : Leads l o 0 0 o
+  and_step : {j t : ℕ} {p q : OState} → Leads l o j t p → overlay_step l p ≡ goes q
+      → Leads l o (j + weight_of l p) (t + weighed (is_inside l p) (weight_of l p)) q
 
 -- where steps lead that stop at the limit, there is the cut point
 abbrev pub CutsAreGreatest : Type 0
 CutsAreGreatest =
-    (s : StartSeen) (n : ℕ) (p : Point) → Leads (layout s) (first_point (overlay_at s).state) p
-    → StopsAt (layout s) n p.at p.overlay → cut_point s n ≡ p
+    (s : StartSeen) (n j t : ℕ) (p : OState) → Leads (layout s) (overlay_at s).state j t p
+    → StopsAt (layout s) n j p → ((cut s n).at ≡ j) × (cut_overlay s n ≡ p) × (trusted_weight s n ≡ t)
 
--- so at each matched point that stops at the limit
+-- so it is at each matched point that stops at the limit
 abbrev pub StopsAreCuts : Type 0
 StopsAreCuts =
     (s : StartSeen) (n j : ℕ) (p : OState) → Reached (layout s) (overlay_at s).state j p
-    → StopsAt (layout s) n j p → ((cut_point s n).at ≡ j) × ((cut_point s n).overlay ≡ p)
+    → StopsAt (layout s) n j p → ((cut s n).at ≡ j) × (cut_overlay s n ≡ p)

@@ -25,7 +25,7 @@ use Rattle.trace_tool.specs.Views.{flat_view}
 use Rattle.trace_tool.specs.Lines.{Line, Args, call, ret}
 use Rattle.trace_tool.specs.Runs.{written}
 use Rattle.trace_tool.specs.Told.{Told, StopsAt}
-use Rattle.trace_tool.specs.Cuts.{cut_point}
+use Rattle.trace_tool.specs.Cuts.{cut, cut_overlay}
 use Rattle.trace_tool.specs.Traces.{trace_of}
 use Rattle.trace_tool.specs.OpenCalls.{LineTold}
 use Rattle.trace_tool.specs.Brackets.{marks_in, IsRet}
@@ -61,19 +61,19 @@ pub record Agrees (s : StartSeen) : Type 0 where
       → ((plain j s.state).end ≡ None) × IsFlat (layout s) p (plain j s.state).maps
   -- it halts exactly where the overlay halts, with one instruction, and both have the same word in a0
   pub halts : (n : ℕ) → PlainEnds s n Halted
-      ↔ (Matched s n (cut_point s n).overlay × OverlayHalts s (cut_point s n).overlay)
+      ↔ (Matched s n (cut_overlay s n) × OverlayHalts s (cut_overlay s n))
   pub alike : (n : ℕ) (p : OState) → Matched s n p → OverlayHalts s p
       → (weight_of (layout s) p ≡ 1)
       × (reg (plain (n + 1) s.state).maps.regs A0 ≡ (flat_view (layout s) p).reg A0)
   -- where it fails, the overlay fails at the cut point, and the instruction lies within the weight of that
   -- step; where the overlay fails, so does the plain machine, within that weight
   pub plain_fails : (n : ℕ) (cause : FailCause) (at : ℤ) → PlainEnds s n (Failed cause at)
-      → Within s n (cut_point s n).at (cut_point s n).overlay × OverlayFails s (cut_point s n).overlay
+      → Within s n (cut s n).at (cut_overlay s n) × OverlayFails s (cut_overlay s n)
   pub overlay_fails : (j : ℕ) (p : OState) → Matched s j p → OverlayFails s p
       → (n : ℕ) × (cause : FailCause) × (at : ℤ) × Within s n j p × PlainEnds s n (Failed cause at)
   -- where it has gone on, it stands less than the next weight behind the cut point
   pub goes : (n : ℕ) → (plain n s.state).end ≡ None
-      → Within s n (cut_point s n).at (cut_point s n).overlay
+      → Within s n (cut s n).at (cut_overlay s n)
 
 -- ---- what is written
 
@@ -81,8 +81,8 @@ pub record Agrees (s : StartSeen) : Type 0 where
 -- point that is at most so many instructions
 abbrev pub LinesOfSteps : StartSeen → ℕ → Type 0
 LinesOfSteps s n =
-    let c = cut_point s n in
-    Told (layout s) (overlay_at s).state c.at (written s n) c.overlay × StopsAt (layout s) n c.at c.overlay
+    Told (layout s) (overlay_at s).state (cut s n).at (written s n) (cut_overlay s n)
+    × StopsAt (layout s) n (cut s n).at (cut_overlay s n)
 
 -- a call line is open until a ret line closes it, and each ret line closes the newest open one, with its
 -- part, site, base, last and words; at first none is open

@@ -27,31 +27,33 @@ weight_with o = o.weight + weight_of o.layout o.state
 abbrev pub lines_after : OverlaySeen → Option Event → List Line
 lines_after o event = lines_for o.layout (overlay_view o) event
 
--- how a run goes on: its lines, and then how it ends, with the overlay and the last line
+-- how a run goes on: its lines, and then how it ends, at which weight of steps that went, with the overlay and
+-- the last line
 pub record Traced : Type 0 where
   pub lines : List Line
   pub end : RunEnd
+  pub at : ℕ
   pub overlay : OverlaySeen
   pub last : List ℕ
 
-abbrev pub ended : RunEnd → OverlaySeen → List ℕ → Traced
-ended end o last = record { lines = []; end = end; overlay = o; last = last }
+abbrev pub ended : RunEnd → ℕ → OverlaySeen → List ℕ → Traced
+ended end at o last = record { lines = []; end = end; at = at; overlay = o; last = last }
 
 abbrev pub behind : List Line → Traced → Traced
 behind lines t = record t { lines = lines ++ t.lines }
 
 -- before a step that would take the weight past the limit
 abbrev pub stopped : OverlaySeen → Traced
-stopped o = ended Running o (running_text (overlay_view o) o.weight)
+stopped o = ended Running o.weight o (running_text (overlay_view o) o.weight)
 
 -- A run of n steps at most: each has some weight, so limit + 1 are enough. A halt counts its step, a failure
 -- doesn't.
 abbrev pub traced_by : OStep → OverlaySeen → (OverlaySeen → Traced) → Traced
 traced_by (Went event) o more = behind (lines_after (next_overlay o) event) (more (next_overlay o))
 traced_by Halted o more =
-    ended RunHalted (next_overlay o) (halted_text (overlay_view (next_overlay o)) (weight_with o))
+    ended RunHalted o.weight (next_overlay o) (halted_text (overlay_view (next_overlay o)) (weight_with o))
 traced_by Failed o more =
-    ended RunFailed (next_overlay o) (failed_text (overlay_view (next_overlay o)) o.weight)
+    ended RunFailed o.weight (next_overlay o) (failed_text (overlay_view (next_overlay o)) o.weight)
 
 abbrev pub traced : ℕ → ℕ → OverlaySeen → Traced
 traced limit zero o = stopped o

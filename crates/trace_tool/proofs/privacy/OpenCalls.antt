@@ -31,7 +31,7 @@ use Rattle.trace_tool.specs.Layout.{layout, part_name, site_of, site_or}
 use Rattle.trace_tool.specs.Runs.{begun, lines_of, written}
 use Rattle.trace_tool.specs.Brackets.{marks_in, lines_told, LinesAreBracketed}
 use Rattle.trace_tool.specs.Alike.{LinesAgree}
-use Rattle.trace_tool.specs.Cuts.{cut_point}
+use Rattle.trace_tool.specs.Cuts.{cut, cut_overlay}
 use Rattle.trace_tool.specs.Headline.{Matched, Within, AreBracketed}
 use Rattle.trace_tool.proofs.Agreeing.{HaltsAlone, agrees, has_gone, state_is}
 use Rattle.trace_tool.proofs.LeftAlone.{told_of}
@@ -138,8 +138,8 @@ module _ (parts : List PartSeen) (size : ℕ) (s : StartSeen)
 
   left_alone : RangesAreLeftAlone s
   left_alone n a c used =
-      let j = (cut_point s n).at in
-      let p = (cut_point s n).overlay in
+      let j = (cut s n).at in
+      let p = cut_overlay s n in
       let k : Within s n j p = (agrees s is alone runs).goes n used.goes in
       let le : j ≤ n = k.1 in
       let lt : n < j + weight_of l p = k.2 in

@@ -25,7 +25,7 @@ use Rattle.trace_tool.specs.Runs.{written}
 use Rattle.trace_tool.specs.Brackets.{lines_told, LinesAreBracketed}
 use Rattle.trace_tool.specs.Alike.{LinesAgree}
 use Rattle.trace_tool.specs.OpenCalls.{LineTold, open_behind, after}
-use Rattle.trace_tool.specs.Cuts.{cut_point}
+use Rattle.trace_tool.specs.Cuts.{cut, cut_overlay}
 use Rattle.trace_tool.proofs.Agreeing.{HaltsAlone, agrees}
 use Rattle.trace_tool.proofs.privacy.OpenCalls.{open_are}
 use Rattle.trace_tool.proofs.privacy.FramesTold.{frame_of_call}
@@ -84,12 +84,13 @@ module _ (parts : List PartSeen) (size : ℕ) (s : StartSeen)
   last_point n goes =
       let a = agrees s is alone runs in
       let k = a.goes n goes in
-      let c = cut_point s n in
-      let at = matched g h.linked (overlay_at s).state s.state.maps h.holds c.at c.overlay k.0 in (
-        c.at,
-        c.overlay,
-        open_are parts size s h is alone runs agree brackets n c.at c.overlay k.0 k.1 k.2,
-        (a.matched c.at c.overlay k.0).1,
+      let j = (cut s n).at in
+      let p = cut_overlay s n in
+      let at = matched g h.linked (overlay_at s).state s.state.maps h.holds j p k.0 in (
+        j,
+        p,
+        open_are parts size s h is alone runs agree brackets n j p k.0 k.1 k.2,
+        (a.matched j p k.0).1,
         (at.2).frames,
       )
 

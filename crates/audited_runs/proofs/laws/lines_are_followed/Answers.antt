@@ -2,7 +2,7 @@ use Rattle.std.proofs.Common.{refl}
 use Rattle.overlay_machine.specs.Starting.{overlay_at}
 use Rattle.overlay_machine.specs.Keeping.{link_of}
 use Rattle.trace_tool.specs.Layout.{layout}
-use Rattle.trace_tool.specs.Cuts.{cut_point}
+use Rattle.trace_tool.specs.Cuts.{cut, cut_overlay}
 use Rattle.audited_runs.proofs.Followed.{frames_lie, follows}
 use Rattle.audited_runs.proofs.laws.lines_are_followed.Goals as goal
 
@@ -17,5 +17,5 @@ returns c = λ parts size s is n.
     let k = follows (layout s) o.state
     (λ j p r. frames_lie (layout s) p.maps.cells p.calls p.frames (matched j p r).2.frames)
     (λ j p r. c.lines_are_bracketed.ensures.steps g p (matched j p r).0 h.linked (matched j p r).2)
-    (cut_point s n).at _ (cut_point s n).overlay told.0 in
+    (cut s n).at _ (cut_overlay s n) told.0 in
     (_, k.1))
