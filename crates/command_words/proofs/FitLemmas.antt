@@ -1,4 +1,4 @@
--- What words ask for keeps the bounds.
+-- What words ask for fits.
 use Rattle.std.proofs.Common.{◌≡◌, refl, ap, subst, suc, arith, ℕ, ◌≤◌, Bool, true, false, List, [], ◌∷◌}
 use Rattle.std.proofs.Common.{length, Option, Some, None}
 use Rattle.std.specs.Prelude.{IfSome, is_some, nat_le, nat_lt, option_and_then, option_map, if◌then◌else◌}
@@ -203,7 +203,8 @@ mean_fits t = unless _ _ Fits (
     next (steps_in t.steps) _ FitsSteps Fits (steps_fit t.steps) (λ fuel f.
     next (file_of t.feed) _ FitsName Fits (file_fits t.feed) (λ feed n.
     next (some_parts_in t.parts) _ FitsParts Fits (some_parts_fit t.parts) (λ modules p.
-    where_true (list_all is_module modules) (Some (Mean modules size fuel feed)) Fits (λ e. (p, s, f, n)))))))
+    where_true (list_all is_module modules) (Some (Mean modules size fuel feed)) Fits
+    (λ e. ((p, e), s, f, n)))))))
 
 generate_fits : (t : Taken) → IfSome (generate_in t) Fits
 unfolding generate_in
@@ -231,7 +232,7 @@ unfolding erase_in
 erase_fits t = unless _ _ Fits (
     next (one_part_in t.parts) _ FitsPart Fits (one_part_fits t.parts) (λ part p.
     next (file_of t.out) _ FitsName Fits (file_fits t.out) (λ out o.
-    where_true (has_tokens part.ending) (Some (Erase part out)) Fits (λ e. (p, o)))))
+    where_true (has_tokens part.ending) (Some (Erase part out)) Fits (λ e. (p, e, o)))))
 
 asked_of_fits : (a : Action) (t : Taken) → IfSome (asked_of a t) Fits
 asked_of_fits action.Run t = made (run_in t) (λ p. Links p.0 (Run p.1)) FitsRun Fits (run_fits t) (λ p h. h)

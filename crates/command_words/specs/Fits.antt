@@ -1,8 +1,10 @@
--- The bounds that each command keeps.
+-- The bounds that each command keeps, and that `mean` and `erase` take sources.
 use Rattle.std.specs.Prelude.{ℕ, ◌≤◌, List, length, IsTrue}
-use Rattle.std.specs.List.{All}
+use Rattle.std.specs.List.{All, list_all}
 use Rattle.command_words.specs.Texts.{Text}
 use Rattle.command_words.specs.Name.{is_file_name}
+use Rattle.command_words.specs.Part.{has_tokens}
+use Rattle.command_words.specs.Action.{is_module}
 use Rattle.command_words.specs.declared.TheConstants.{MOST_PARTS, MOST_STEPS, GREATEST_STACK, GREATEST_SEED}
 use Rattle.command_words.specs.declared.part.PartWord.{PartWord}
 use Rattle.command_words.specs.declared.command.Linked.{Linked}
@@ -28,6 +30,10 @@ pub record FitsParts (parts : List PartWord) : Type 0 where
   pub few : length parts ≤ MOST_PARTS
   pub each : All FitsPart parts
 
+-- and each a trusted source
+abbrev pub FitsModules : List PartWord → Type 0
+FitsModules parts = FitsParts parts × IsTrue (list_all is_module parts)
+
 abbrev pub FitsSteps : ℕ → Type 0
 FitsSteps n = (1 ≤ n) × (n ≤ MOST_STEPS)
 
@@ -52,8 +58,8 @@ abbrev pub Fits : Command → Type 0
 Fits (Links what deed) = FitsLinked what × FitsLinkDeed deed
 Fits (Takes part deed) = FitsPart part × FitsComponentDeed deed
 Fits (Checks part) = FitsPart part
-Fits (Mean modules size fuel feed) = FitsParts modules × FitsStack size × FitsSteps fuel × FitsName feed
+Fits (Mean modules size fuel feed) = FitsModules modules × FitsStack size × FitsSteps fuel × FitsName feed
 Fits (Generate seed) = seed ≤ GREATEST_SEED
 Fits (Debug what script) = FitsLinked what × FitsName script
 Fits (Audit text) = FitsName text
-Fits (Erase part out) = FitsPart part × FitsName out
+Fits (Erase part out) = FitsPart part × IsTrue (has_tokens part.ending) × FitsName out

@@ -24,14 +24,17 @@ use Rattle.lcm_cli.proofs.Reasons.{Reasoned, ByBytes, reason_by, reads_reasoned}
 
 -- ---- why it ends
 
-audit_by : (name : List ℕ) → ByBytes name 0 (λ text. unless refusal.Audit (audited text))
+audit_by : (name : List ℕ)
+    → ByBytes (Some (asked.Audit name)) name 0 (λ text. unless refusal.Audit (audited text))
 audit_by name =
-    reason_by refusal.Audit audited name 0
-    (λ old mid text f w e. (0, (name, old, inl (refl, refl, refl), text, w, answered_fault text f e)))
+    reason_by (Some (asked.Audit name)) refusal.Audit audited name 0
+    (λ old mid text f w e. (name, refl, (old, inl (refl, refl, refl), text, w, answered_fault text f e)))
 
-pub audit_reasoned : (name : List ℕ) → Reasoned (audit_at name)
+pub audit_reasoned : (name : List ℕ) → Reasoned (Some (asked.Audit name)) (audit_at name)
 unfolding audit_at
-audit_reasoned name = reads_reasoned name 0 (λ text. unless refusal.Audit (audited text)) (audit_by name)
+audit_reasoned name =
+    reads_reasoned (Some (asked.Audit name)) name 0 (λ text. unless refusal.Audit (audited text))
+    (audit_by name)
 
 -- by its own file alone
 pub never_audit : (why : Refusal) → refusal.TooLong 0 ≢ why → refusal.ReadFault ≢ why

@@ -8,6 +8,7 @@ use Rattle.outside_io.specs.FilesSeen.{FilesSeen}
 use Rattle.outside_io.specs.SinkSeen.{Adds}
 use Rattle.outside_io.specs.Whole.{OnlyGave}
 use Rattle.command_words.specs.declared.command.Command.{Command}
+use Rattle.command_words.specs.Fits.{Fits}
 use Rattle.asm_fields.specs.declared.fault.AsmFault.{AsmFault}
 use Rattle.component_file.specs.declared.fault.FileFault.{FileFault}
 use Rattle.component_linker.specs.declared.fault.RuleAt.{RuleAt}
@@ -116,20 +117,22 @@ Caused asked old new status.TooLong =
     (index : ℕ) × Wrote (refusal.TooLong index) old new × IsLong (plan_in asked) old.files index new.files
 Caused asked old new status.AsmRefused =
     (index : ℕ) × (f : AsmFault) × Wrote (refusal.Assembly index f) old new
-    × IsUnassembled (plan_in asked) old.files index f new.files
+    × IsUnassembled asked (plan_in asked) old.files index f new.files
 Caused asked old new status.SourceRefused =
     (index : ℕ) × (f : SourceFault) × Wrote (refusal.Source index f) old new
-    × (IsUncompiled (plan_in asked) old.files index f new.files ⊎ IsUnmade asked (refusal.Source index f))
+    × (IsUncompiled asked (plan_in asked) old.files index f new.files
+    ⊎ IsUnmade asked (refusal.Source index f))
 Caused asked old new status.AuditRefused =
-    (f : AuditFault) × Wrote (refusal.Audit f) old new × IsUnaudited (plan_in asked) old.files f new.files
+    (f : AuditFault) × Wrote (refusal.Audit f) old new
+    × IsUnaudited asked (plan_in asked) old.files f new.files
 Caused asked old new status.FileRefused =
     ((index : ℕ) × (f : FileFault) × Wrote (refusal.File index f) old new
-    × IsUndecoded (plan_in asked) old.files index f new.files)
+    × IsUndecoded asked (plan_in asked) old.files index f new.files)
     ⊎ (((f : ImageFault) × (image_status f ≡ status.FileRefused) × Wrote (refusal.Image f) old new
     × IsUnloaded asked old.files f new.files)
     ⊎ (((line : ℕ) × Wrote (refusal.Feed line) old new × IsUnfed asked old.files line new.files)
     ⊎ ((line : ℕ) × Wrote (refusal.Script line) old new
-    × IsUnscripted (plan_in asked) old.files line new.files)))
+    × IsUnscripted asked (plan_in asked) old.files line new.files)))
 Caused asked old new status.RuleBroken =
     (r : RuleAt) × Wrote (refusal.Rule r) old new
     × (Breaks asked old.files r new.files ⊎ IsUnloaded asked old.files (image.Rule r) new.files)
@@ -197,61 +200,64 @@ unput_seen : (seen new : FilesSeen) (a b : Answer) → a ≡ b → b.file ≡ No
     ≡ seen
 unput_seen seen new a b e n p = subst (λ f. IsPut seen f new) (ap (λ (x : Answer). x.file) e ∙ n) p
 
-due_caused : (asked : Option Command) (old new : Outside) (seen : FilesSeen) (due : Result Task Refusal)
+due_caused : (asked : Option Command) → ((c : Command) → asked ≡ Some c → Fits c)
+    → (old new : Outside) (seen : FilesSeen) (due : Result Task Refusal)
     (a : Answer) → Comes (plan_in asked) old.files due seen → IsAnswerOf due a → IsPut seen a.file new.files
     → Adds old.sink a.text new.sink → Caused asked old new a.status
-due_caused asked old new seen (Ok (Run i steps telling)) a c x p w =
+due_caused asked fits old new seen (Ok (Run i steps telling)) a c x p w =
     let n : new.files ≡ seen = unput_seen seen new.files a (ran x.0 steps telling) x.2 refl p in
     subst (λ (b : Answer). Caused asked old new b.status) (sym x.2)
     (run_caused asked old new i steps telling (rw n c) x.0 x.1 (last_step (plain steps x.0.state)) refl)
-due_caused asked old new seen (Ok (Trace i steps)) a c x p w =
+due_caused asked fits old new seen (Ok (Trace i steps)) a c x p w =
     let n : new.files ≡ seen = unput_seen seen new.files a (traced x.1 steps) x.4 refl p in
     subst (λ (b : Answer). Caused asked old new b.status) (sym x.4)
     (trace_caused asked old new i steps (rw n c) x.0 x.1 x.2 x.3 (trace_of steps x.1).end refl)
-due_caused asked old new seen (Ok (Put name d)) a c x p w =
+due_caused asked fits old new seen (Ok (Put name d)) a c x p w =
     subst (λ (b : Answer). Caused asked old new b.status) (sym x.1)
     (inr (inr (inl (name, d, seen, c, x.0, subst (λ (b : Answer). IsPut seen b.file new.files) x.1 p))))
-due_caused asked old new seen (Ok (Write text)) a c x p w =
+due_caused asked fits old new seen (Ok (Write text)) a c x p w =
     let n : new.files ≡ seen = unput_seen seen new.files a (writes status.Done text) x refl p in
     subst (λ (b : Answer). Caused asked old new b.status) (sym x)
     (inr (inr (inr (inl (Write text, tt, rw n c)))))
-due_caused asked old new seen (Ok (Reach i)) a c x p w =
+due_caused asked fits old new seen (Ok (Reach i)) a c x p w =
     let n : new.files ≡ seen = unput_seen seen new.files a (writes status.Done x.1) x.4 refl p in
     subst (λ (b : Answer). Caused asked old new b.status) (sym x.4)
     (inr (inr (inr (inl (Reach i, tt, rw n c)))))
-due_caused asked old new seen (Ok (Debug i script)) a c x p w =
+due_caused asked fits old new seen (Ok (Debug i script)) a c x p w =
     let n : new.files ≡ seen =
     unput_seen seen new.files a (writes status.Done (debug_text x.0.state script)) x.2 refl p in
     subst (λ (b : Answer). Caused asked old new b.status) (sym x.2)
     (inr (inr (inr (inl (Debug i script, tt, rw n c)))))
-due_caused asked old new seen (Ok (Tell s fuel)) a c x p w =
+due_caused asked fits old new seen (Ok (Tell s fuel)) a c x p w =
     let n : new.files ≡ seen = unput_seen seen new.files a (tells (told_of s fuel)) x refl p in
     subst (λ (b : Answer). Caused asked old new b.status) (sym x)
     (mean_caused asked old new s fuel (rw n c) (told_of s fuel).end refl)
-due_caused asked old new seen (Err why) a c x p w =
+due_caused asked fits old new seen (Err why) a c x p w =
     let n : new.files ≡ seen = unput_seen seen new.files a (refused why) x refl p in
     subst (λ (b : Answer). Caused asked old new b.status) (sym x)
-    (err_caused asked old new why (why_is asked old.files new.files why (rw n c))
+    (err_caused asked old new why (why_is asked fits old.files new.files why (rw n c))
     (subst (λ (b : Answer). Adds old.sink b.text new.sink) x w))
 
 -- ---- each cause
 
-caused : (asked : Option Command) (old : Outside) (ended : Status) (new : Outside)
+caused : (asked : Option Command) → ((c : Command) → asked ≡ Some c → Fits c)
+    → (old : Outside) (ended : Status) (new : Outside)
     → Answers (plan_in asked) old ended new → Caused asked old new ended
-caused asked old ended new (nothing n) = subst (Caused asked old new) (sym n.status_is) (
+caused asked fits old ended new (nothing n) = subst (Caused asked old new) (sym n.status_is) (
   n.quiet,
   n.unwritten,
   n.kept_is,
 )
-caused asked old ended new (answer due a seen c x (whole g)) =
-    subst (Caused asked old new) (sym g.status_is) (due_caused asked old new seen due a c x g.put g.written)
-caused asked old ended new (answer due a seen c x (unput f i w u k s)) =
+caused asked fits old ended new (answer due a seen c x (whole g)) =
+    subst (Caused asked old new) (sym g.status_is)
+    (due_caused asked fits old new seen due a c x g.put g.written)
+caused asked fits old ended new (answer due a seen c x (unput f i w u k s)) =
     subst (Caused asked old new) (sym s) (inr (
       puts_rose (plan_in asked) old.files seen due new.files.failed_puts c w.rose,
       (put_of asked due a f old.files seen c x i).3
           ∙ ap (λ n. Some n) (sym (ap (λ (s : FilesSeen). s.last_failed_put) w.stays)),
     ))
-caused asked old ended new (answer due a seen c x (unwritten p f k s)) =
+caused asked fits old ended new (answer due a seen c x (unwritten p f k s)) =
     subst (Caused asked old new) (sym s) (inl f.rose)
 
 causes : (asked : Option Command) (old : Outside) (ended : Status) (new : Outside)
@@ -272,11 +278,12 @@ causes asked old ended new c = record {
   audit_refused = λ e. subst (Caused asked old new) e c;
 }
 
-pub promised : (asked : Option Command) (old : Outside) (ended : Status) (new : Outside)
+pub promised : (asked : Option Command) → ((c : Command) → asked ≡ Some c → Fits c)
+    → (old : Outside) (ended : Status) (new : Outside)
     → Answers (plan_in asked) old ended new → Promised asked old ended new
-promised asked old ended new a = record {
+promised asked fits old ended new a = record {
   answers = a;
-  causes = causes asked old ended new (caused asked old ended new a);
+  causes = causes asked old ended new (caused asked fits old ended new a);
   complete = complete (plan_in asked) old ended new a;
 }
 

@@ -1,11 +1,12 @@
 -- What links and is debugged: why its plan ends, and what comes of it.
-use Rattle.std.proofs.Common.{◌≡◌, ℕ, ◌<◌, ◌≤◌, ◌^◌, List, length, Some, refl, sym, subst, ◌∙◌, inl, inr}
-use Rattle.std.proofs.Common.{arith}
+use Rattle.std.proofs.Common.{◌≡◌, ℕ, ◌<◌, ◌≤◌, ◌^◌, List, length, Option, Some, refl, sym, subst, ◌∙◌}
+use Rattle.std.proofs.Common.{inl, inr, arith}
 use Rattle.std.specs.Prelude.{Result, Ok, Err}
 use Rattle.outside_io.specs.FilesSeen.{FilesSeen}
 use Rattle.outside_io.specs.Whole.{GivesWhole}
 use Rattle.command_words.specs.declared.command.Linked.{Linked}
 use Rattle.command_words.specs.declared.command.Linked.TheVariants as what
+use Rattle.command_words.specs.declared.command.Command.{Command}
 use Rattle.command_words.specs.declared.command.Command.TheVariants as asked
 use Rattle.component_linker.specs.declared.TheConstants.{MOST_PARTS}
 use Rattle.component_linker.specs.declared.fault.RuleAt.{RuleAt}
@@ -42,22 +43,27 @@ behind script i = script_at script (length i.parts) >>= (λ lines. Made (Debug i
 
 -- ---- why it ends
 
-script_by : (name : List ℕ) (index : ℕ) → ByBytes name index (λ text. unless unscripted (scripted text))
-script_by name index =
-    reason_by unscripted scripted name index
-    (λ old mid text f w e. (index, (name, old, inl (refl, refl, refl), text, w, (f, e, refl))))
+module _ (l : Linked) (script : List ℕ) where
+  abbrev the_command : Option Command
+  the_command = Some (asked.Debug l script)
 
-script_reasoned : (name : List ℕ) (index : ℕ) → Reasoned (script_at name index)
-unfolding script_at
-script_reasoned name index =
-    reads_reasoned name index (λ text. unless unscripted (scripted text)) (script_by name index)
+  script_by : (index : ℕ) → ByBytes the_command script index (λ text. unless unscripted (scripted text))
+  script_by index =
+      reason_by the_command unscripted scripted script index
+      (λ old mid text f w e. (l, script, refl, index, (old, inl (refl, refl, refl), text, w, (f, e, refl))))
 
-pub debug_reasoned : (l : Linked) (script : List ℕ) → Reasoned (debug_plan l script)
-unfolding debug_plan
-debug_reasoned l script =
-    reasoned_bind (linked_in l) (behind script) (in_reasoned l)
-    (λ i. reasoned_bind (script_at script (length i.parts)) _ (script_reasoned script (length i.parts))
-    (λ lines. reasoned_made (Debug i lines)))
+  script_reasoned : (index : ℕ) → Reasoned the_command (script_at script index)
+  unfolding script_at
+  script_reasoned index =
+      reads_reasoned the_command script index (λ text. unless unscripted (scripted text)) (script_by index)
+
+  pub debug_reasoned : Reasoned (Some (asked.Debug l script)) (debug_plan l script)
+  unfolding debug_plan
+  debug_reasoned =
+      reasoned_bind the_command (linked_in l) (behind script)
+      (in_reasoned the_command (λ d text f e. e) l refl)
+      (λ i. reasoned_bind the_command (script_at script (length i.parts)) _ (script_reasoned (length i.parts))
+      (λ lines. reasoned_made the_command (Debug i lines)))
 
 -- a script ends by its own file alone
 abbrev pub NotOfScript : Refusal → Type 0

@@ -1,14 +1,22 @@
 -- Modules and their feed: how reading them ends, and what came.
-use Rattle.std.proofs.Common.{◌≡◌, ℕ, List, length, refl, sym, subst, ◌∙◌, inl, inr}
-use Rattle.std.specs.Prelude.{Some, Result, Ok, Err}
+use Rattle.std.proofs.Common.{◌≡◌, ℕ, zero, suc, List, [], ◌∷◌, length, Option, Some, refl, sym, subst, ◌∙◌}
+use Rattle.std.proofs.Common.{true, inl, inr}
+use Rattle.std.proofs.lemmas.Bool.{and_parts}
+use Rattle.std.specs.List.{list_all}
+use Rattle.std.specs.Prelude.{Result, Ok, Err, slice_get}
 use Rattle.outside_io.specs.FilesSeen.{FilesSeen}
 use Rattle.outside_io.specs.Whole.{GivesWhole}
+use Rattle.command_words.specs.declared.part.Ending.{Ending}
+use Rattle.command_words.specs.declared.part.Ending.TheVariants.{Source, Assembler, Component}
 use Rattle.command_words.specs.declared.part.PartWord.{PartWord}
-use Rattle.command_words.specs.declared.command.Command.TheVariants.{Mean}
+use Rattle.command_words.specs.declared.command.Command.{Command}
+use Rattle.command_words.specs.declared.command.Command.TheVariants.{Mean, Erase}
+use Rattle.command_words.specs.Action.{is_module, is_source}
+use Rattle.command_words.specs.Part.{has_tokens, is_trusted}
 use Rattle.component_linker.specs.declared.fault.RuleAt.{RuleAt}
 use Rattle.proc_language.specs.declared.module.ModuleFields.{ModuleFields}
 use Rattle.proc_sources.specs.declared.fault.SourceFault.{SourceFault}
-use Rattle.proc_sources.specs.Sources.{module_in, sourced}
+use Rattle.proc_sources.specs.Sources.{module_in}
 use Rattle.source_events.specs.declared.Item.{Item}
 use Rattle.module_rules.specs.Rules.{stack_base_of, ruled}
 use Rattle.run_feed.specs.declared.fault.FeedFault.{FeedFault}
@@ -20,13 +28,12 @@ use Rattle.file_plans.specs.Plans.{Made, ◌>>=◌, unless, each_at, whole, too_
 use Rattle.meaning_tool.specs.Subjects.{Subject, language_of, module_at, feed_line, unfed, feed_at}
 use Rattle.meaning_tool.specs.Subjects.{subject_of, subject_in}
 use Rattle.token_language.specs.declared.dialect.Dialect.{Dialect}
-use Rattle.lcm_cli.specs.Causes.{IsUnfed, ModulesBreak}
+use Rattle.lcm_cli.specs.Causes.{IsUnsourced, IsUnfed, ModulesBreak}
 use Rattle.lcm_cli.proofs.Ends.{Never, comes_split, same_err, ended_unless, not_made, never_unless}
 use Rattle.lcm_cli.proofs.Ends.{never_bind}
 use Rattle.lcm_cli.proofs.Ends.{never_reads, never_told, never_each, Foreign, foreign, no_rule_by}
 use Rattle.lcm_cli.proofs.Reasons.{Reasoned, reasoned_bind, reasoned_made, reasoned_rule, reads_reasoned}
-use Rattle.lcm_cli.proofs.Reasons.{reason_by}
-use Rattle.lcm_cli.proofs.Reasons.{each_reasoned, same_rule, err_same}
+use Rattle.lcm_cli.proofs.Reasons.{reason_by, IsWord, each_reasoned, same_rule, err_same}
 
 abbrev subject_by : ℕ → List ModuleFields → List Item → Subject
 subject_by size modules items = record { modules = modules; size = size; feed = items }
@@ -82,40 +89,76 @@ never_subject why h k words size feed =
 
 -- ---- wherever reading them ends the call, it has a reason
 
--- a text that spells no module has no component, by the same fault
-unsourced : (d : Dialect) (text : List ℕ) (f : SourceFault) → module_in d text ≡ Err f
-    → sourced d text ≡ Err f
-unfolding sourced
-unsourced d text f e = rw e refl
+its_language : (ending : Ending) → is_source ending ≡ true → ending ≡ Source (language_of ending)
+its_language (Source d) h = refl
+its_language Assembler h = absurd (cc)
+its_language Component h = absurd (cc)
 
-pub module_reasoned : (index : ℕ) (w : PartWord) → Reasoned (module_at index w)
-unfolding module_at
-module_reasoned index w =
-    let d = language_of w.ending in
-    reads_reasoned w.name index _ (reason_by (refusal.Source index) (module_in d) w.name index
-    (λ old mid text f g e. (w.name, old, inl (refl, refl, refl), text, g, (d, unsourced d text f e))))
+module _ (asked : Option Command) where
+  -- of its sources the command asks modules
+  abbrev AsksModules : Type 0
+  AsksModules = (d : Dialect) (text : List ℕ) (f : SourceFault) → module_in d text ≡ Err f
+      → IsUnsourced asked d text f
 
-feed_reasoned : (name : List ℕ) (index base : ℕ) → Reasoned (feed_at name index base)
-unfolding feed_at
-feed_reasoned name index base =
-    reads_reasoned name index _ (reason_by unfed (fed base) name index (λ old mid text f g e. tt))
+  pub module_reasoned : AsksModules → (index : ℕ) (w : PartWord) → IsWord asked index w
+      → is_source w.ending ≡ true → Reasoned asked (module_at index w)
+  unfolding module_at
+  module_reasoned asks index w is source =
+      let d = language_of w.ending in
+      let e = its_language w.ending source in
+      reads_reasoned asked w.name index _ (reason_by asked (refusal.Source index) (module_in d) w.name index
+      (λ old mid text f g k. (d, (w, is, e, (old, inl (refl, refl, refl), text, g, asks d text f k)))))
 
-subject_of_reasoned : (count size : ℕ) (feed : List ℕ) (modules : List ModuleFields)
-    → Reasoned (subject_of count size feed modules)
-unfolding subject_of
-subject_of_reasoned count size feed modules =
-    reasoned_bind (unless refusal.Rule (ruled modules size)) _
-    (reasoned_rule refusal.Rule (ruled modules size) (λ f old new. tt))
-    (λ u. reasoned_bind (feed_at feed count (stack_base_of modules)) _
-    (feed_reasoned feed count (stack_base_of modules))
-    (λ items. reasoned_made (subject_by size modules items)))
+  feed_reasoned : (name : List ℕ) (index base : ℕ) → Reasoned asked (feed_at name index base)
+  unfolding feed_at
+  feed_reasoned name index base =
+      reads_reasoned asked name index _
+      (reason_by asked unfed (fed base) name index (λ old mid text f g e. tt))
 
-pub subject_reasoned : (words : List PartWord) (size : ℕ) (feed : List ℕ)
-    → Reasoned (subject_in words size feed)
+  subject_of_reasoned : (count size : ℕ) (feed : List ℕ) (modules : List ModuleFields)
+      → Reasoned asked (subject_of count size feed modules)
+  unfolding subject_of
+  subject_of_reasoned count size feed modules =
+      reasoned_bind asked (unless refusal.Rule (ruled modules size)) _
+      (reasoned_rule asked refusal.Rule (ruled modules size) (λ f old new. tt))
+      (λ u. reasoned_bind asked (feed_at feed count (stack_base_of modules)) _
+      (feed_reasoned feed count (stack_base_of modules))
+      (λ items. reasoned_made asked (subject_by size modules items)))
+
+-- each word of modules is a source's
+sources_all : (ws : List PartWord) → list_all is_module ws ≡ true → (k : ℕ) (w : PartWord)
+    → slice_get ws k ≡ Some w → is_source w.ending ≡ true
+sources_all [] all k w g = absurd (cc)
+sources_all (v ∷ ws) all zero w g =
+    let both = and_parts (is_module v) (list_all is_module ws) all in
+    let same : v ≡ w = cc in
+    let source = (and_parts (is_trusted v.mark) (is_source v.ending) both.0).1 in
+    subst (λ (x : PartWord). is_source x.ending ≡ true) same source
+sources_all (v ∷ ws) all (suc k) w g =
+    sources_all ws (and_parts (is_module v) (list_all is_module ws) all).1 k w g
+
+pub subject_reasoned : (words : List PartWord) (size fuel : ℕ) (feed : List ℕ)
+    → list_all is_module words ≡ true
+    → Reasoned (Some (Mean words size fuel feed)) (subject_in words size feed)
 unfolding subject_in
-subject_reasoned words size feed =
-    reasoned_bind (each_at module_at 0 words) _ (each_reasoned module_at module_reasoned 0 words)
-    (λ modules. subject_of_reasoned (length words) size feed modules)
+subject_reasoned words size fuel feed all =
+    let asked : Option Command = Some (Mean words size fuel feed) in
+    reasoned_bind asked (each_at module_at 0 words) _
+    (each_reasoned asked module_at
+    (λ index w is. module_reasoned asked (λ d text f e. e) index w is (sources_all words all index w is))
+    words refl)
+    (λ modules. subject_of_reasoned asked (length words) size feed modules)
+
+tokens_are_sources : (ending : Ending) → has_tokens ending ≡ true → is_source ending ≡ true
+tokens_are_sources (Source d) h = refl
+tokens_are_sources Assembler h = absurd (cc)
+tokens_are_sources Component h = absurd (cc)
+
+pub erase_reasoned : (word : PartWord) (out : List ℕ) → has_tokens word.ending ≡ true
+    → Reasoned (Some (Erase word out)) (module_at 0 word)
+erase_reasoned word out h =
+    module_reasoned (Some (Erase word out)) (λ d text f e. e) 0 word refl
+    (tokens_are_sources word.ending h)
 
 -- ---- what a layer below gave
 

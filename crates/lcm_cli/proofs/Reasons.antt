@@ -1,6 +1,7 @@
 -- Why plans end.
-use Rattle.std.proofs.Common.{◌≡◌, ℕ, ◌+◌, List, [], ◌∷◌, refl, sym, subst, ◌∙◌, inl, inr}
-use Rattle.std.specs.Prelude.{Result, Ok, Err, ⊤}
+use Rattle.std.proofs.Common.{◌≡◌, ℕ, suc, ◌+◌, List, [], ◌∷◌, Option, Some, refl, sym, ap, subst, ◌∙◌}
+use Rattle.std.proofs.Common.{inl, inr, arith}
+use Rattle.std.specs.Prelude.{Result, Ok, Err, slice_get, ⊤}
 use Rattle.outside_io.specs.FilesSeen.{FilesSeen}
 use Rattle.outside_io.specs.Whole.{GivesWhole}
 use Rattle.command_words.specs.declared.part.Ending.{Ending}
@@ -8,6 +9,7 @@ use Rattle.command_words.specs.declared.part.Ending.TheVariants.{Source, Assembl
 use Rattle.command_words.specs.declared.part.PartWord.{PartWord}
 use Rattle.command_words.specs.declared.command.Linked.{Linked}
 use Rattle.command_words.specs.declared.command.Linked.TheVariants as what
+use Rattle.command_words.specs.declared.command.Command.{Command}
 use Rattle.component_file.specs.Reading.{decoded}
 use Rattle.assembler.specs.Assembled.{assembled}
 use Rattle.component_linker.specs.declared.fault.RuleAt.{RuleAt}
@@ -23,10 +25,12 @@ use Rattle.component_linker.specs.Accepted.{accepted}
 use Rattle.command_words.specs.Part.{is_trusted}
 use Rattle.lcm_cli.specs.Parts.{broken_in, linked, loaded, form_by, component_at, part_at}
 use Rattle.lcm_cli.specs.Commands.{linked_parts, linked_image, linked_in}
+use Rattle.proc_sources.specs.declared.fault.SourceFault.{SourceFault}
 use Rattle.proc_sources.specs.Sources.{sourced}
 use Rattle.token_language.specs.declared.dialect.Dialect.{Dialect}
-use Rattle.lcm_cli.specs.Causes.{IsTurn, IsUnread, IsLong, IsUndecoded, IsUncompiled, IsUnassembled}
-use Rattle.lcm_cli.specs.Causes.{IsUnscripted, IsUnaudited, PartBreaks, SomeBreaks}
+use Rattle.lcm_cli.specs.Causes.{linked_words, words_in, IsTurn, IsUnread, IsLong, Holds, HoldsPart}
+use Rattle.lcm_cli.specs.Causes.{IsUndecoded, IsUnassembled, IsUnsourced, IsUncompiled, IsUnscripted}
+use Rattle.lcm_cli.specs.Causes.{IsUnaudited, PartBreaks, SomeBreaks}
 use Rattle.lcm_cli.specs.Causes.{AllBreak, LinkBreaks, LinkedCame}
 use Rattle.lcm_cli.proofs.Ends.{comes_split, same_err, ended_unless, not_made, no_rule}
 use Rattle.lcm_cli.proofs.Linking.{image_with, loaded_read}
@@ -59,180 +63,222 @@ turn_next (Reads n k next) f old mid seen x name index (whole bytes m w h) g =
 turn_next (Reads n k next) f old mid seen x name index (too_long t e) g = absurd (cc)
 turn_next (Reads n k next) f old mid seen x name index (unread t e) g = absurd (cc)
 
+-- each turn in the one plan is one in the other
+abbrev Turns : {A B : Type 0} → Plan A → FilesSeen → Plan B → FilesSeen → Type 0
+Turns p mid q old = (seen : FilesSeen) (name : List ℕ) (index : ℕ) → IsTurn p mid name index seen
+    → IsTurn q old name index seen
+
+holds_by : {A B : Type 0} (p : Plan A) (q : Plan B) (mid old new : FilesSeen) → Turns p mid q old
+    → (name : List ℕ) (index : ℕ) (P : List ℕ → Type 0) → Holds p mid name index new P
+    → Holds q old name index new P
+holds_by p q mid old new t name index P h = (h.0, t h.0 name index h.1, h.2, h.3, h.4)
+
 -- ---- why a plan ends, where a file alone says it
 
-abbrev pub FileReason : {A : Type 0} → Plan A → FilesSeen → Refusal → FilesSeen → Type 0
-FileReason plan old refusal.Usage new = ⊤
-FileReason plan old refusal.ReadFault new = IsUnread plan old new
-FileReason plan old (refusal.TooLong index) new = IsLong plan old index new
-FileReason plan old (refusal.Assembly index f) new = IsUnassembled plan old index f new
-FileReason plan old (refusal.Source index f) new = IsUncompiled plan old index f new
-FileReason plan old (refusal.File index f) new = IsUndecoded plan old index f new
-FileReason plan old (refusal.Rule r) new = ⊤
-FileReason plan old (refusal.Image f) new = ⊤
-FileReason plan old (refusal.Feed line) new = ⊤
-FileReason plan old (refusal.Script line) new = IsUnscripted plan old line new
-FileReason plan old (refusal.Audit f) new = IsUnaudited plan old f new
+module _ (asked : Option Command) where
+  abbrev pub FileReason : {A : Type 0} → Plan A → FilesSeen → Refusal → FilesSeen → Type 0
+  FileReason plan old refusal.Usage new = ⊤
+  FileReason plan old refusal.ReadFault new = IsUnread plan old new
+  FileReason plan old (refusal.TooLong index) new = IsLong plan old index new
+  FileReason plan old (refusal.Assembly index f) new = IsUnassembled asked plan old index f new
+  FileReason plan old (refusal.Source index f) new = IsUncompiled asked plan old index f new
+  FileReason plan old (refusal.File index f) new = IsUndecoded asked plan old index f new
+  FileReason plan old (refusal.Rule r) new = ⊤
+  FileReason plan old (refusal.Image f) new = ⊤
+  FileReason plan old (refusal.Feed line) new = ⊤
+  FileReason plan old (refusal.Script line) new = IsUnscripted asked plan old line new
+  FileReason plan old (refusal.Audit f) new = IsUnaudited asked plan old f new
 
-pub reason_first : {A B : Type 0} (p : Plan A) (f : A → Plan B) (old new : FilesSeen) (why : Refusal)
-    → FileReason p old why new → FileReason (p >>= f) old why new
-reason_first p f old new refusal.Usage h = tt
-reason_first p f old new refusal.ReadFault h = (h.0, h.1, h.2, turn_first p f old h.2 h.0 h.1 h.3, h.4)
-reason_first p f old new (refusal.TooLong index) h = (h.0, h.1, turn_first p f old h.1 h.0 index h.2, h.3)
-reason_first p f old new (refusal.Assembly index x) h =
-    (h.0, h.1, turn_first p f old h.1 h.0 index h.2, h.3, h.4, h.5)
-reason_first p f old new (refusal.Source index x) h =
-    (h.0, h.1, turn_first p f old h.1 h.0 index h.2, h.3, h.4, h.5)
-reason_first p f old new (refusal.File index x) h =
-    (h.0, h.1, turn_first p f old h.1 h.0 index h.2, h.3, h.4, h.5)
-reason_first p f old new (refusal.Rule r) h = tt
-reason_first p f old new (refusal.Image x) h = tt
-reason_first p f old new (refusal.Feed line) h = tt
-reason_first p f old new (refusal.Script line) h =
-    (h.0, (h.1.0, h.1.1, turn_first p f old h.1.1 h.1.0 h.0 h.1.2, h.1.3, h.1.4, h.1.5))
-reason_first p f old new (refusal.Audit x) h =
-    (h.0, (h.1.0, h.1.1, turn_first p f old h.1.1 h.1.0 h.0 h.1.2, h.1.3, h.1.4, h.1.5))
+  part_by : {A B : Type 0} (p : Plan A) (q : Plan B) (mid old new : FilesSeen) → Turns p mid q old
+      → (index : ℕ) (ending : Ending) (P : List ℕ → Type 0) → HoldsPart asked p mid index ending new P
+      → HoldsPart asked q old index ending new P
+  part_by p q mid old new t index ending P h =
+      (h.0, h.1, h.2, holds_by p q mid old new t h.0.name index P h.3)
 
-reason_next : {A B : Type 0} (p : Plan A) (f : A → Plan B) (old mid new : FilesSeen) (x : A) (why : Refusal)
-    → Comes p old (Ok x) mid → FileReason (f x) mid why new → FileReason (p >>= f) old why new
-reason_next p f old mid new x refusal.Usage c h = tt
-reason_next p f old mid new x refusal.ReadFault c h =
-    (h.0, h.1, h.2, turn_next p f old mid h.2 x h.0 h.1 c h.3, h.4)
-reason_next p f old mid new x (refusal.TooLong index) c h =
-    (h.0, h.1, turn_next p f old mid h.1 x h.0 index c h.2, h.3)
-reason_next p f old mid new x (refusal.Assembly index y) c h =
-    (h.0, h.1, turn_next p f old mid h.1 x h.0 index c h.2, h.3, h.4, h.5)
-reason_next p f old mid new x (refusal.Source index y) c h =
-    (h.0, h.1, turn_next p f old mid h.1 x h.0 index c h.2, h.3, h.4, h.5)
-reason_next p f old mid new x (refusal.File index y) c h =
-    (h.0, h.1, turn_next p f old mid h.1 x h.0 index c h.2, h.3, h.4, h.5)
-reason_next p f old mid new x (refusal.Rule r) c h = tt
-reason_next p f old mid new x (refusal.Image y) c h = tt
-reason_next p f old mid new x (refusal.Feed line) c h = tt
-reason_next p f old mid new x (refusal.Script line) c h =
-    (h.0, (h.1.0, h.1.1, turn_next p f old mid h.1.1 x h.1.0 h.0 c h.1.2, h.1.3, h.1.4, h.1.5))
-reason_next p f old mid new x (refusal.Audit y) c h =
-    (h.0, (h.1.0, h.1.1, turn_next p f old mid h.1.1 x h.1.0 h.0 c h.1.2, h.1.3, h.1.4, h.1.5))
+  reason_by_turn : {A B : Type 0} (p : Plan A) (q : Plan B) (mid old new : FilesSeen) → Turns p mid q old
+      → (why : Refusal) → FileReason p mid why new → FileReason q old why new
+  reason_by_turn p q mid old new t refusal.Usage h = tt
+  reason_by_turn p q mid old new t refusal.ReadFault h = (h.0, h.1, h.2, t h.2 h.0 h.1 h.3, h.4)
+  reason_by_turn p q mid old new t (refusal.TooLong index) h = (h.0, h.1, t h.1 h.0 index h.2, h.3)
+  reason_by_turn p q mid old new t (refusal.Assembly index f) h =
+      part_by p q mid old new t index Assembler (λ text. assembled text ≡ Err f) h
+  reason_by_turn p q mid old new t (refusal.Source index f) h =
+      (h.0, part_by p q mid old new t index (Source h.0) (λ text. IsUnsourced asked h.0 text f) h.1)
+  reason_by_turn p q mid old new t (refusal.File index f) h =
+      part_by p q mid old new t index Component (λ bytes. decoded bytes ≡ Err f) h
+  reason_by_turn p q mid old new t (refusal.Rule r) h = tt
+  reason_by_turn p q mid old new t (refusal.Image f) h = tt
+  reason_by_turn p q mid old new t (refusal.Feed line) h = tt
+  reason_by_turn p q mid old new t (refusal.Script line) h =
+      (h.0, h.1, h.2, h.3, holds_by p q mid old new t h.1 h.3 _ h.4)
+  reason_by_turn p q mid old new t (refusal.Audit f) h =
+      (h.0, h.1, holds_by p q mid old new t h.0 0 _ h.2)
 
--- wherever a plan ends the call, it has a reason
-pub record Reasoned {A : Type 0} (plan : Plan A) : Type 0 where
-  pub gives : (old new : FilesSeen) (why : Refusal) → Comes plan old (Err why) new
-      → FileReason plan old why new
+  pub reason_first : {A B : Type 0} (p : Plan A) (f : A → Plan B) (old new : FilesSeen) (why : Refusal)
+      → FileReason p old why new → FileReason (p >>= f) old why new
+  reason_first p f old new why =
+      reason_by_turn p (p >>= f) old old new (λ seen name index. turn_first p f old seen name index) why
 
-pub reasoned_bind : {A B : Type 0} (p : Plan A) (f : A → Plan B) → Reasoned p → ((x : A) → Reasoned (f x))
-    → Reasoned (p >>= f)
-reasoned_bind p f a b = record {
-  gives = λ old new why h. elim (comes_split p f old new (Err why) h) as (λ _. FileReason
-      (p >>= f) old why new) [
-        | inl s ↦ reason_next p f old s.1 new s.0 why s.2 ((b s.0).gives s.1 new why s.3)
-        | inr s ↦ reason_first p f old new why (let e = same_err why s.0 s.2 in
-            rw (← e) ((a.gives old new s.0 s.1)))
-      ];
-}
+  reason_next : {A B : Type 0} (p : Plan A) (f : A → Plan B) (old mid new : FilesSeen) (x : A) (why : Refusal)
+      → Comes p old (Ok x) mid → FileReason (f x) mid why new → FileReason (p >>= f) old why new
+  reason_next p f old mid new x why c =
+      reason_by_turn (f x) (p >>= f) mid old new
+      (λ seen name index. turn_next p f old mid seen x name index c) why
 
-pub reasoned_made : {A : Type 0} (x : A) → Reasoned (Made x)
-reasoned_made x = record { gives = λ old new why h. absurd (let e = h.0 in cc) }
+  -- wherever a plan ends the call, it has a reason
+  pub record Reasoned {A : Type 0} (plan : Plan A) : Type 0 where
+    pub gives : (old new : FilesSeen) (why : Refusal) → Comes plan old (Err why) new
+        → FileReason plan old why new
 
--- its own rules and those of the link are no reason of a file
-pub reasoned_rule : {A F : Type 0} (told : F → Refusal) (r : Result A F)
-    → ((f : F) (old new : FilesSeen) → FileReason (unless told r) old (told f) new) → Reasoned (unless told r)
-reasoned_rule told r k = record {
-  gives = λ old new why h. let e = ended_unless told r old new why h in
-      let s = e.2 in rw s (k e.0 old new);
-}
+  pub reasoned_bind : {A B : Type 0} (p : Plan A) (f : A → Plan B) → Reasoned p → ((x : A) → Reasoned (f x))
+      → Reasoned (p >>= f)
+  reasoned_bind p f a b = record {
+    gives = λ old new why h. elim (comes_split p f old new (Err why) h) as (λ _. FileReason
+        (p >>= f) old why new) [
+          | inl s ↦ reason_next p f old s.1 new s.0 why s.2 ((b s.0).gives s.1 new why s.3)
+          | inr s ↦ reason_first p f old new why (let e = same_err why s.0 s.2 in
+              rw (← e) ((a.gives old new s.0 s.1)))
+        ];
+  }
 
--- a file is read, and then its bytes alone say how the plan goes on: it ends since the file is too long or
--- unread, or by its bytes
-abbrev pub ByBytes : {A : Type 0} → List ℕ → ℕ → (List ℕ → Plan A) → Type 0
-ByBytes {A} name index next = (old mid new : FilesSeen) (bytes : List ℕ) (why : Refusal)
-    → GivesWhole old name LONGEST_FILE bytes mid → Comes (next bytes) mid (Err why) new
-    → FileReason (let p : Plan A = Reads name index next in p) old why new
+  pub reasoned_made : {A : Type 0} (x : A) → Reasoned (Made x)
+  reasoned_made x = record { gives = λ old new why h. absurd (let e = h.0 in cc) }
 
-pub reads_reasoned : {A : Type 0} (name : List ℕ) (index : ℕ) (next : List ℕ → Plan A)
-    → ByBytes name index next
-    → Reasoned (let p : Plan A = Reads name index next in p)
-reads_reasoned {A} name index next k = record { gives = by }
-  where
-    by : (old new : FilesSeen) (why : Refusal)
-        → Comes (let p : Plan A = Reads name index next in p) old (Err why) new
-        → FileReason (let p : Plan A = Reads name index next in p) old why new
-    by old new why (whole bytes mid w h) = k old mid new bytes why w h
-    by old new why (too_long t e) = let s = same_err {A = A} (refusal.TooLong index) why (sym e) in
-        rw s (name, old, inl (refl, refl, refl), t)
-    by old new why (unread t e) = let s = same_err {A = A} refusal.ReadFault why (sym e) in
-        rw s (name, index, old, inl (refl, refl, refl), t)
+  -- its own rules and those of the link are no reason of a file
+  pub reasoned_rule : {A F : Type 0} (told : F → Refusal) (r : Result A F)
+      → ((f : F) (old new : FilesSeen) → FileReason (unless told r) old (told f) new)
+      → Reasoned (unless told r)
+  reasoned_rule told r k = record {
+    gives = λ old new why h. let e = ended_unless told r old new why h in
+        let s = e.2 in rw s (k e.0 old new);
+  }
 
--- the bytes have a fault, which is the reason
-module _ {A F : Type 0} (told : F → Refusal) (gives : List ℕ → Result A F) (name : List ℕ) (index : ℕ) where
-  abbrev Told : Plan A
-  Told = Reads name index (λ bytes. unless told (gives bytes))
+  -- a file is read, and then its bytes alone say how the plan goes on: it ends since the file is too long or
+  -- unread, or by its bytes
+  abbrev pub ByBytes : {A : Type 0} → List ℕ → ℕ → (List ℕ → Plan A) → Type 0
+  ByBytes {A} name index next = (old mid new : FilesSeen) (bytes : List ℕ) (why : Refusal)
+      → GivesWhole old name LONGEST_FILE bytes mid → Comes (next bytes) mid (Err why) new
+      → FileReason (let p : Plan A = Reads name index next in p) old why new
 
-  pub reason_by : ((old mid : FilesSeen) (bytes : List ℕ) (f : F) → GivesWhole old name LONGEST_FILE bytes mid
-      → gives bytes ≡ Err f → FileReason Told old (told f) mid)
-      → ByBytes name index (λ bytes. unless told (gives bytes))
-  reason_by k old mid new bytes why w h =
-      let e = ended_unless told (gives bytes) mid new why h in
-      let P : Refusal → FilesSeen → Type 0 = λ v z. FileReason Told old v z in
-      subst (P why) (sym e.3) (subst (λ v. P v mid) (sym e.2) (k old mid bytes e.0 w e.1))
+  pub reads_reasoned : {A : Type 0} (name : List ℕ) (index : ℕ) (next : List ℕ → Plan A)
+      → ByBytes name index next
+      → Reasoned (let p : Plan A = Reads name index next in p)
+  reads_reasoned {A} name index next k = record { gives = by }
+    where
+      by : (old new : FilesSeen) (why : Refusal)
+          → Comes (let p : Plan A = Reads name index next in p) old (Err why) new
+          → FileReason (let p : Plan A = Reads name index next in p) old why new
+      by old new why (whole bytes mid w h) = k old mid new bytes why w h
+      by old new why (too_long t e) = let s = same_err {A = A} (refusal.TooLong index) why (sym e) in
+          rw s (name, old, inl (refl, refl, refl), t)
+      by old new why (unread t e) = let s = same_err {A = A} refusal.ReadFault why (sym e) in
+          rw s (name, index, old, inl (refl, refl, refl), t)
 
-source_by : (d : Dialect) (name : List ℕ) (index : ℕ) → ByBytes name index (form_by (Source d) index)
-source_by d name index =
-    reason_by (refusal.Source index) (sourced d) name index
-    (λ old mid bytes f w e. (name, old, inl (refl, refl, refl), bytes, w, (d, e)))
+  -- the bytes have a fault, which is the reason
+  module _ {A F : Type 0} (told : F → Refusal) (gives : List ℕ → Result A F) (name : List ℕ) (index : ℕ) where
+    abbrev Told : Plan A
+    Told = Reads name index (λ bytes. unless told (gives bytes))
 
-text_by : (name : List ℕ) (index : ℕ) → ByBytes name index (form_by Assembler index)
-text_by name index =
-    reason_by (refusal.Assembly index) assembled name index
-    (λ old mid bytes f w e. (name, old, inl (refl, refl, refl), bytes, w, e))
+    pub reason_by : ((old mid : FilesSeen) (bytes : List ℕ) (f : F)
+        → GivesWhole old name LONGEST_FILE bytes mid
+        → gives bytes ≡ Err f → FileReason Told old (told f) mid)
+        → ByBytes name index (λ bytes. unless told (gives bytes))
+    reason_by k old mid new bytes why w h =
+        let e = ended_unless told (gives bytes) mid new why h in
+        let P : Refusal → FilesSeen → Type 0 = λ v z. FileReason Told old v z in
+        subst (P why) (sym e.3) (subst (λ v. P v mid) (sym e.2) (k old mid bytes e.0 w e.1))
 
-file_by : (name : List ℕ) (index : ℕ) → ByBytes name index (form_by Component index)
-file_by name index =
-    reason_by (refusal.File index) decoded name index
-    (λ old mid bytes f w e. (name, old, inl (refl, refl, refl), bytes, w, e))
+  -- ---- part words
 
-form_by_bytes : (ending : Ending) (name : List ℕ) (index : ℕ) → ByBytes name index (form_by ending index)
-form_by_bytes (Source d) name index = source_by d name index
-form_by_bytes Assembler name index = text_by name index
-form_by_bytes Component name index = file_by name index
+  -- this is the command's part word of this index
+  abbrev pub IsWord : ℕ → PartWord → Type 0
+  IsWord index w = slice_get (words_in asked) index ≡ Some w
 
-pub component_reasoned : (index : ℕ) (w : PartWord) → Reasoned (component_at index w)
-unfolding component_at
-component_reasoned index w = reads_reasoned w.name index (form_by w.ending index)
-    (form_by_bytes w.ending w.name index)
+  -- of its sources the command asks components
+  abbrev pub AsksComponents : Type 0
+  AsksComponents = (d : Dialect) (text : List ℕ) (f : SourceFault) → sourced d text ≡ Err f
+      → IsUnsourced asked d text f
 
-pub part_reasoned : (index : ℕ) (w : PartWord) → Reasoned (part_at index w)
-unfolding part_at
-part_reasoned index w = reasoned_bind (component_at index w) _ (component_reasoned index w)
-    (λ c. reasoned_rule (broken_in index) (accepted (record { component = c; trusted = is_trusted w.mark }))
-    (λ f old new. tt))
+  form_by_bytes : (index : ℕ) (w : PartWord) → IsWord index w → AsksComponents → (ending : Ending)
+      → w.ending ≡ ending → ByBytes w.name index (form_by ending index)
+  form_by_bytes index w is asks (Source d) e =
+      reason_by (refusal.Source index) (sourced d) w.name index
+      (λ old mid text f g k. (d, (w, is, e, (old, inl (refl, refl, refl), text, g, asks d text f k))))
+  form_by_bytes index w is asks Assembler e =
+      reason_by (refusal.Assembly index) assembled w.name index
+      (λ old mid text f g k. (w, is, e, (old, inl (refl, refl, refl), text, g, k)))
+  form_by_bytes index w is asks Component e =
+      reason_by (refusal.File index) decoded w.name index
+      (λ old mid bytes f g k. (w, is, e, (old, inl (refl, refl, refl), bytes, g, k)))
 
-pub each_reasoned : {A : Type 0} (item : ℕ → PartWord → Plan A)
-    → ((index : ℕ) (w : PartWord) → Reasoned (item index w)) → (index : ℕ) (ws : List PartWord)
-    → Reasoned (each_at item index ws)
-each_reasoned item h index [] = reasoned_made []
-each_reasoned item h index (w ∷ ws) = reasoned_bind (item index w) _ (h index w)
-    (λ x. reasoned_bind (each_at item (index + 1) ws) _ (each_reasoned item h (index + 1) ws)
-    (λ xs. reasoned_made (x ∷ xs)))
+  pub component_reasoned : AsksComponents → (index : ℕ) (w : PartWord) → IsWord index w
+      → Reasoned (component_at index w)
+  unfolding component_at
+  component_reasoned asks index w is = reads_reasoned w.name index (form_by w.ending index)
+      (form_by_bytes index w is asks w.ending refl)
 
-linked_reasoned : (words : List PartWord) (size : ℕ) → Reasoned (linked_parts words size)
-unfolding linked_parts
-linked_reasoned words size =
-    reasoned_bind (each_at part_at 0 words) _ (each_reasoned part_at part_reasoned 0 words)
-    (λ parts. reasoned_bind (unless refusal.Rule (linked parts size)) _
-    (reasoned_rule refusal.Rule (linked parts size) (λ f old new. tt))
-    (λ u. reasoned_made (image_with size parts)))
+  pub part_reasoned : AsksComponents → (index : ℕ) (w : PartWord) → IsWord index w
+      → Reasoned (part_at index w)
+  unfolding part_at
+  part_reasoned asks index w is = reasoned_bind (component_at index w) _ (component_reasoned asks index w is)
+      (λ c. reasoned_rule (broken_in index) (accepted (record { component = c; trusted = is_trusted w.mark }))
+      (λ f old new. tt))
 
-image_by : (name : List ℕ) → ByBytes name 0 (λ bytes. unless refusal.Image (loaded bytes))
-image_by name old mid new bytes why w h = let e =
-    (ended_unless refusal.Image (loaded bytes) mid new why h).2 in rw e tt
+  -- these are the command's part words from this index on
+  abbrev pub AreWords : ℕ → List PartWord → Type 0
+  AreWords index ws = (k : ℕ) (w : PartWord) → slice_get ws k ≡ Some w → IsWord (index + k) w
 
-image_reasoned : (name : List ℕ) → Reasoned (linked_image name)
-unfolding linked_image
-image_reasoned name = reads_reasoned name 0 (λ bytes. unless refusal.Image (loaded bytes)) (image_by name)
+  first_word : (index : ℕ) (w : PartWord) (ws : List PartWord) → AreWords index (w ∷ ws) → IsWord index w
+  first_word index w ws are = let e : index + 0 ≡ index = omega arith in subst (λ n. IsWord n w) e
+      (are 0 w refl)
 
-pub in_reasoned : (l : Linked) → Reasoned (linked_in l)
-in_reasoned (what.Parts words size) = linked_reasoned words size
-in_reasoned (what.Image name) = image_reasoned name
+  next_words : (index : ℕ) (w : PartWord) (ws : List PartWord) → AreWords index (w ∷ ws)
+      → AreWords (index + 1) ws
+  next_words index w ws are k v g =
+      let e : index + suc k ≡ (index + 1) + k = omega arith in
+      subst (λ n. IsWord n v) e (are (suc k) v g)
+
+  all_words : (ws : List PartWord) → words_in asked ≡ ws → AreWords 0 ws
+  all_words ws e k w g =
+      let z : 0 + k ≡ k = omega arith in
+      subst (λ n. IsWord n w) (sym z) (ap (λ xs. slice_get xs k) e ∙ g)
+
+  each_behind : {A : Type 0} (item : ℕ → PartWord → Plan A)
+      → ((index : ℕ) (w : PartWord) → IsWord index w → Reasoned (item index w))
+      → (index : ℕ) (ws : List PartWord) → AreWords index ws → Reasoned (each_at item index ws)
+  each_behind item h index [] are = reasoned_made []
+  each_behind item h index (w ∷ ws) are =
+      reasoned_bind (item index w) _ (h index w (first_word index w ws are))
+      (λ x. reasoned_bind (each_at item (index + 1) ws) _
+      (each_behind item h (index + 1) ws (next_words index w ws are))
+      (λ xs. reasoned_made (x ∷ xs)))
+
+  pub each_reasoned : {A : Type 0} (item : ℕ → PartWord → Plan A)
+      → ((index : ℕ) (w : PartWord) → IsWord index w → Reasoned (item index w))
+      → (ws : List PartWord) → words_in asked ≡ ws → Reasoned (each_at item 0 ws)
+  each_reasoned item h ws e = each_behind item h 0 ws (all_words ws e)
+
+  linked_reasoned : AsksComponents → (words : List PartWord) (size : ℕ) → words_in asked ≡ words
+      → Reasoned (linked_parts words size)
+  unfolding linked_parts
+  linked_reasoned asks words size e =
+      reasoned_bind (each_at part_at 0 words) _ (each_reasoned part_at (part_reasoned asks) words e)
+      (λ parts. reasoned_bind (unless refusal.Rule (linked parts size)) _
+      (reasoned_rule refusal.Rule (linked parts size) (λ f old new. tt))
+      (λ u. reasoned_made (image_with size parts)))
+
+  image_by : (name : List ℕ) → ByBytes name 0 (λ bytes. unless refusal.Image (loaded bytes))
+  image_by name old mid new bytes why w h = let e =
+      (ended_unless refusal.Image (loaded bytes) mid new why h).2 in rw e tt
+
+  image_reasoned : (name : List ℕ) → Reasoned (linked_image name)
+  unfolding linked_image
+  image_reasoned name =
+      reads_reasoned name 0 (λ bytes. unless refusal.Image (loaded bytes)) (image_by name)
+
+  pub in_reasoned : AsksComponents → (l : Linked) → words_in asked ≡ linked_words l → Reasoned (linked_in l)
+  in_reasoned asks (what.Parts words size) e = linked_reasoned asks words size e
+  in_reasoned asks (what.Image name) e = image_reasoned name
 
 -- ---- rules
 

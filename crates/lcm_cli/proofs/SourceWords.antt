@@ -1,5 +1,5 @@
 -- The modules of words of which every trusted one is a source.
-use Rattle.std.proofs.Common.{◌≡◌, ℕ, ◌+◌, List, [], ◌∷◌, refl, ap, subst, ◌∙◌, inl, inr, true, false}
+use Rattle.std.proofs.Common.{◌≡◌, ℕ, ◌+◌, List, [], ◌∷◌, refl, sym, ap, subst, ◌∙◌, inl, inr, true, false}
 use Rattle.std.specs.Prelude.{Bool, Result, Ok, Err, map, if◌then◌else◌}
 use Rattle.std.specs.Result.{result_and}
 use Rattle.outside_io.specs.FilesSeen.{FilesSeen}
@@ -30,7 +30,7 @@ use Rattle.file_plans.specs.declared.refusal.Refusal.{Refusal}
 use Rattle.file_plans.specs.declared.refusal.Refusal.TheVariants as refusal
 use Rattle.file_plans.specs.Plans.{Plan, Made, each_at, whole, too_long, unread, Comes}
 use Rattle.command_words.specs.Part.{is_trusted}
-use Rattle.lcm_cli.specs.Parts.{broken_in, form_by, component_at, part_at}
+use Rattle.lcm_cli.specs.Parts.{broken_in, form_by, HasForm, component_at, part_at, IsPartOf}
 use Rattle.lcm_cli.specs.SourceRuns.{AllSources, SourcesCame}
 use Rattle.lcm_cli.proofs.Ends.{comes_split}
 use Rattle.lcm_cli.proofs.Modules.{unless_came}
@@ -50,29 +50,32 @@ accepted_is q p e =
     both_ok (check_from (broken_at C) 1 (rules_of q))
     (if q.trusted then flow_answer q.component else Ok tt) q p e
 
--- its file came whole, it has the word's mark, and where it is a source, it is compiled from it
+-- its file came whole, and its bytes are the word's part
 pub record PartCame (w : PartWord) (old : FilesSeen) (p : PartSeen) (new : FilesSeen) : Type 0 where
   pub text : List ℕ
   pub came : GivesWhole old w.name LONGEST_FILE text new
-  pub marked : p.trusted ≡ is_trusted w.mark
-  pub source : is_source w.ending ≡ true → sourced (language_of w.ending) text ≡ Ok p.component
+  pub is : IsPartOf w text p
 
 -- the form that the bytes have
 formed : (ending : Ending) (index : ℕ) (text : List ℕ) (c : ComponentFields) (old new : FilesSeen)
     → Comes (form_by ending index text) old (Ok c) new
-    → (is_source ending ≡ true → sourced (language_of ending) text ≡ Ok c) × (new ≡ old)
-formed (Source d) index text c old new h =
-    let e = unless_came (refusal.Source index) (sourced d text) c old new h in (λ s. e.0, e.1)
-formed Assembler index text c old new h =
-    let e = unless_came (refusal.Assembly index) (assembled text) c old new h in (λ s. absurd (cc), e.1)
-formed Component index text c old new h =
-    let e = unless_came (refusal.File index) (decoded text) c old new h in (λ s. absurd (cc), e.1)
+    → HasForm ending text c × (new ≡ old)
+formed (Source d) index text c old new h = unless_came (refusal.Source index) (sourced d text) c old new h
+formed Assembler index text c old new h = unless_came (refusal.Assembly index) (assembled text) c old new h
+formed Component index text c old new h = unless_came (refusal.File index) (decoded text) c old new h
+
+-- where it is a source, it is compiled from them
+compiled_by : (ending : Ending) (text : List ℕ) (c : ComponentFields) → HasForm ending text c
+    → is_source ending ≡ true → sourced (language_of ending) text ≡ Ok c
+compiled_by (Source d) text c h s = h
+compiled_by Assembler text c h s = absurd (cc)
+compiled_by Component text c h s = absurd (cc)
 
 -- a component's file
 record FileCame (w : PartWord) (old : FilesSeen) (c : ComponentFields) (new : FilesSeen) : Type 0 where
   pub text : List ℕ
   pub came : GivesWhole old w.name LONGEST_FILE text new
-  pub source : is_source w.ending ≡ true → sourced (language_of w.ending) text ≡ Ok c
+  pub form : HasForm w.ending text c
 
 file_came : (index : ℕ) (w : PartWord) (c : ComponentFields) (old new : FilesSeen)
     → Comes (component_at index w) old (Ok c) new → FileCame w old c new
@@ -80,7 +83,7 @@ unfolding component_at
 file_came index w c old new (whole text mid g h) =
     let f = formed w.ending index text c mid new h in
     let q = f.1 in
-    record { text = text; came = rw q g; source = f.0 }
+    record { text = text; came = rw q g; form = f.0 }
 file_came index w c old new (too_long t e) = absurd (cc)
 file_came index w c old new (unread t e) = absurd (cc)
 
@@ -93,11 +96,18 @@ part_came index w p old new h =
           let a : PartSeen = record { component = s.0; trusted = is_trusted w.mark } in
           let e = unless_came (broken_in index) (accepted a) p s.1 new s.3 in
           let q = e.1 in
-          let is : a ≡ p = accepted_is a p e.0 in
+          let same : a ≡ p = accepted_is a p e.0 in
           let c : Comes (component_at index w) old (Ok s.0) new = rw q s.2 in
           let f = file_came index w s.0 old new c in
-          subst (λ z. PartCame w old z new) is
-          (record { text = f.text; came = f.came; marked = refl; source = f.source })
+          record {
+            text = f.text;
+            came = f.came;
+            is = (
+              subst (λ (z : PartSeen). HasForm w.ending f.text z.component) same f.form,
+              ap (λ (z : PartSeen). z.trusted) (sym same),
+              subst (λ (z : PartSeen). accepted z ≡ Ok p) same e.0,
+            );
+          }
           )
       | inr s ↦ absurd (let e = s.2 in cc)
     ]
@@ -116,7 +126,7 @@ pub record SourceLaws : Type 0 where
 pub record Gathered (words : List PartWord) (old : FilesSeen) (parts : List PartSeen) (new : FilesSeen) : Type
     0 where
   pub modules : List ModuleFields
-  pub came : SourcesCame words old modules new
+  pub came : SourcesCame words old parts modules new
   pub are : AreSources modules parts
 
 abbrev component_in : PartSeen → ComponentFields
@@ -147,24 +157,25 @@ module _ (laws : SourceLaws) where
       → Gathered (w ∷ words) old (p ∷ ps) new
   with_part w words p ps old mid new true e s c g =
       let d = language_of w.ending in
-      let k = laws.compiled_from d c.text p.component (c.source (s e)) in
+      let k = laws.compiled_from d c.text p.component
+      (compiled_by w.ending c.text p.component c.is.0 (s e)) in
       record {
         modules = k.0 ∷ g.modules;
-        came = (c.text, mid, c.came, rw e (k.1, g.came));
-        are = with_source p k.0 ps g.modules (c.marked ∙ e) k.2 (laws.limits d c.text k.0 k.1)
+        came = (c.text, mid, c.came, c.is, rw e (k.1, g.came));
+        are = with_source p k.0 ps g.modules (c.is.1 ∙ e) k.2 (laws.limits d c.text k.0 k.1)
             (laws.resolved d c.text k.0 k.1) g.are;
       }
   with_part w words p ps old mid new false e s c g = record {
     modules = g.modules;
-    came = (c.text, mid, c.came, rw e g.came);
-    are = with_other p ps g.modules (c.marked ∙ e) g.are;
+    came = (c.text, mid, c.came, c.is, rw e g.came);
+    are = with_other p ps g.modules (c.is.1 ∙ e) g.are;
   }
 
   none_gathered : (old new : FilesSeen) (parts : List PartSeen)
       → Comes (let q : Plan (List PartSeen) = Made [] in q) old (Ok parts) new → Gathered [] old parts new
   none_gathered old new [] h = record {
     modules = [];
-    came = (refl, h.1);
+    came = (refl, refl, h.1);
     are = record { limits = tt; resolved = tt; compiled = refl };
   }
   none_gathered old new (p ∷ ps) h = absurd (let e = h.0 in cc)

@@ -10,6 +10,7 @@ use Rattle.command_words.specs.declared.command.Command.{Command}
 use Rattle.command_words.specs.declared.command.Command.TheVariants as asked
 use Rattle.command_words.specs.declared.command.Command.TheVariants.{Links, Takes, Checks, Mean, Generate}
 use Rattle.command_words.specs.declared.part.PartWord.{PartWord}
+use Rattle.command_words.specs.Fits.{Fits}
 use Rattle.component_linker.specs.declared.fault.RuleAt.{RuleAt}
 use Rattle.generated_load.specs.Loads.{load_of}
 use Rattle.image_loader.specs.declared.fault.ImageFault.{ImageFault}
@@ -32,7 +33,7 @@ use Rattle.lcm_cli.proofs.Loads.{never_load, load_ended}
 use Rattle.lcm_cli.specs.Audits.{audit_at}
 use Rattle.lcm_cli.proofs.Audits.{audit_reasoned, never_audit}
 use Rattle.lcm_cli.proofs.Debugs.{debug_reasoned, never_debug, debug_breaks, debug_unloaded}
-use Rattle.lcm_cli.proofs.Modules.{never_module, no_rule_module, module_reasoned}
+use Rattle.lcm_cli.proofs.Modules.{never_module, no_rule_module, erase_reasoned}
 use Rattle.lcm_cli.proofs.Modules.{never_subject, subject_reasoned, modules_break, feed_fails}
 use Rattle.lcm_cli.proofs.Tasks.{err_of}
 
@@ -42,19 +43,19 @@ abbrev pub WhyIs : {A : Type 0} → Option Command → Plan A → FilesSeen → 
 WhyIs asked plan old refusal.Usage new = asked ≡ None
 WhyIs asked plan old refusal.ReadFault new = IsUnread plan old new
 WhyIs asked plan old (refusal.TooLong index) new = IsLong plan old index new
-WhyIs asked plan old (refusal.Assembly index f) new = IsUnassembled plan old index f new
+WhyIs asked plan old (refusal.Assembly index f) new = IsUnassembled asked plan old index f new
 WhyIs asked plan old (refusal.Source index f) new =
-    IsUncompiled plan old index f new ⊎ IsUnmade asked (refusal.Source index f)
-WhyIs asked plan old (refusal.File index f) new = IsUndecoded plan old index f new
+    IsUncompiled asked plan old index f new ⊎ IsUnmade asked (refusal.Source index f)
+WhyIs asked plan old (refusal.File index f) new = IsUndecoded asked plan old index f new
 WhyIs asked plan old (refusal.Rule r) new = Breaks asked old r new
 WhyIs asked plan old (refusal.Image f) new = IsUnloaded asked old f new
 WhyIs asked plan old (refusal.Feed line) new = IsUnfed asked old line new
-WhyIs asked plan old (refusal.Script line) new = IsUnscripted plan old line new
-WhyIs asked plan old (refusal.Audit f) new = IsUnaudited plan old f new
+WhyIs asked plan old (refusal.Script line) new = IsUnscripted asked plan old line new
+WhyIs asked plan old (refusal.Audit f) new = IsUnaudited asked plan old f new
 
 -- what a plan says of its ends, where it is part of what the words ask for
 record Explains {A : Type 0} (asked : Option Command) (plan : Plan A) (old new : FilesSeen) : Type 0 where
-  reasoned : Reasoned plan
+  reasoned : Reasoned asked plan
   no_usage : Never plan refusal.Usage
   breaks : (r : RuleAt) → Comes plan old (Err (refusal.Rule r)) new → Breaks asked old r new
   unloaded : (f : ImageFault) → Comes plan old (Err (refusal.Image f)) new → IsUnloaded asked old f new
@@ -81,23 +82,23 @@ why_first : {A : Type 0} (asked : Option Command) (p : Plan A) (f : A → Task) 
     (why : Refusal) → WhyIs asked p old why new → WhyIs asked (for_task p f) old why new
 why_first asked p f old new refusal.Usage h = h
 why_first asked p f old new refusal.ReadFault h =
-    reason_first p (λ x. Made (f x)) old new refusal.ReadFault h
+    reason_first asked p (λ x. Made (f x)) old new refusal.ReadFault h
 why_first asked p f old new (refusal.TooLong index) h =
-    reason_first p (λ x. Made (f x)) old new (refusal.TooLong index) h
+    reason_first asked p (λ x. Made (f x)) old new (refusal.TooLong index) h
 why_first asked p f old new (refusal.Assembly index y) h =
-    reason_first p (λ x. Made (f x)) old new (refusal.Assembly index y) h
+    reason_first asked p (λ x. Made (f x)) old new (refusal.Assembly index y) h
 why_first asked p f old new (refusal.Source index y) (inl h) =
-    inl (reason_first p (λ x. Made (f x)) old new (refusal.Source index y) h)
+    inl (reason_first asked p (λ x. Made (f x)) old new (refusal.Source index y) h)
 why_first asked p f old new (refusal.Source index y) (inr h) = inr h
 why_first asked p f old new (refusal.File index y) h =
-    reason_first p (λ x. Made (f x)) old new (refusal.File index y) h
+    reason_first asked p (λ x. Made (f x)) old new (refusal.File index y) h
 why_first asked p f old new (refusal.Rule r) h = h
 why_first asked p f old new (refusal.Image y) h = h
 why_first asked p f old new (refusal.Feed line) h = h
 why_first asked p f old new (refusal.Script line) h =
-    reason_first p (λ x. Made (f x)) old new (refusal.Script line) h
+    reason_first asked p (λ x. Made (f x)) old new (refusal.Script line) h
 why_first asked p f old new (refusal.Audit y) h =
-    reason_first p (λ x. Made (f x)) old new (refusal.Audit y) h
+    reason_first asked p (λ x. Made (f x)) old new (refusal.Audit y) h
 
 why_task : {A : Type 0} (asked : Option Command) (p : Plan A) (f : A → Task) (old new : FilesSeen)
     (why : Refusal) → Explains asked p old new → Comes (for_task p f) old (Err why) new
@@ -110,14 +111,15 @@ why_task asked p f old new why t h =
 links_explain : (l : Linked) (deed : LinkDeed) (old new : FilesSeen)
     → Explains (Some (Links l deed)) (linked_in l) old new
 links_explain (what.Parts words size) deed old new = record {
-  reasoned = in_reasoned (what.Parts words size);
+  reasoned = in_reasoned (Some (Links (what.Parts words size) deed)) (λ d text f e. e)
+      (what.Parts words size) refl;
   no_usage = never_linked refusal.Usage tt words size;
   breaks = linked_break words size old new;
   unloaded = λ f h. absurd (never_linked (refusal.Image f) tt words size old new h);
   unfed = λ line h. absurd (never_linked (refusal.Feed line) tt words size old new h);
 }
 links_explain (what.Image name) deed old new = record {
-  reasoned = in_reasoned (what.Image name);
+  reasoned = in_reasoned (Some (Links (what.Image name) deed)) (λ d text f e. e) (what.Image name) refl;
   no_usage = never_image refusal.Usage tt name;
   breaks = λ r h. never_image (refusal.Rule r) tt name old new h;
   unloaded = λ f h. (let g = image_fails name old new f h in (name, refl, g.0, g.1, g.2));
@@ -127,7 +129,7 @@ links_explain (what.Image name) deed old new = record {
 component_explains : (word : PartWord) (deed : ComponentDeed) (old new : FilesSeen)
     → Explains (Some (Takes word deed)) (component_at 0 word) old new
 component_explains word deed old new = record {
-  reasoned = component_reasoned 0 word;
+  reasoned = component_reasoned (Some (Takes word deed)) (λ d text f e. e) 0 word refl;
   no_usage = never_component refusal.Usage tt 0 word;
   breaks = λ r h. no_rule 0 word r old new h;
   unloaded = λ f h. absurd (never_component (refusal.Image f) tt 0 word old new h);
@@ -137,17 +139,17 @@ component_explains word deed old new = record {
 part_explains : (word : PartWord) (old new : FilesSeen)
     → Explains (Some (Checks word)) (part_at 0 word) old new
 part_explains word old new = record {
-  reasoned = part_reasoned 0 word;
+  reasoned = part_reasoned (Some (Checks word)) (λ d text f e. e) 0 word refl;
   no_usage = never_part refusal.Usage tt 0 word;
   breaks = part_breaks 0 word old new;
   unloaded = λ f h. absurd (never_part (refusal.Image f) tt 0 word old new h);
   unfed = λ line h. absurd (never_part (refusal.Feed line) tt 0 word old new h);
 }
 
-mean_explains : (words : List PartWord) (size fuel : ℕ) (feed : List ℕ) (old new : FilesSeen)
-    → Explains (Some (Mean words size fuel feed)) (subject_in words size feed) old new
-mean_explains words size fuel feed old new = record {
-  reasoned = subject_reasoned words size feed;
+mean_explains : (words : List PartWord) (size fuel : ℕ) (feed : List ℕ) → Fits (Mean words size fuel feed)
+    → (old new : FilesSeen) → Explains (Some (Mean words size fuel feed)) (subject_in words size feed) old new
+mean_explains words size fuel feed fits old new = record {
+  reasoned = subject_reasoned words size fuel feed fits.0.1;
   no_usage = never_subject refusal.Usage tt tt words size feed;
   breaks = modules_break words size feed old new;
   unloaded = λ f h. absurd (never_subject (refusal.Image f) tt tt words size feed old new h);
@@ -175,10 +177,10 @@ audit_explains name old new = record {
   unfed = λ line h. absurd (never_audit (refusal.Feed line) (λ e. cc) (λ e. cc) (λ f e. cc) name old new h);
 }
 
-module_explains : (word : PartWord) (out : List ℕ) (old new : FilesSeen)
+module_explains : (word : PartWord) (out : List ℕ) → Fits (asked.Erase word out) → (old new : FilesSeen)
     → Explains (Some (asked.Erase word out)) (module_at 0 word) old new
-module_explains word out old new = record {
-  reasoned = module_reasoned 0 word;
+module_explains word out fits old new = record {
+  reasoned = erase_reasoned word out fits.1;
   no_usage = never_module refusal.Usage tt 0 word;
   breaks = λ r h. no_rule_module r 0 word old new h;
   unloaded = λ f h. absurd (never_module (refusal.Image f) tt 0 word old new h);
@@ -210,33 +212,33 @@ load_why seed old new (refusal.Feed line) h =
 
 -- ---- and so of the words' plan
 
-command_why : (c : Command) (old new : FilesSeen) (why : Refusal)
+command_why : (c : Command) → Fits c → (old new : FilesSeen) (why : Refusal)
     → Comes (plan_of c) old (Err why) new → WhyIs (Some c) (plan_of c) old why new
-command_why (Links l deed) old new why h =
+command_why (Links l deed) fits old new why h =
     why_task (Some (Links l deed)) (linked_in l) (link_task deed) old new why
     (links_explain l deed old new) h
-command_why (Takes word deed) old new why h =
+command_why (Takes word deed) fits old new why h =
     why_task (Some (Takes word deed)) (component_at 0 word) (component_task deed) old new why
     (component_explains word deed old new) h
-command_why (Checks word) old new why h =
+command_why (Checks word) fits old new why h =
     why_task (Some (Checks word)) (part_at 0 word) _ old new why (part_explains word old new) h
-command_why (Mean words size fuel feed) old new why h =
+command_why (Mean words size fuel feed) fits old new why h =
     why_task (Some (Mean words size fuel feed)) (subject_in words size feed) _ old new why
-    (mean_explains words size fuel feed old new) h
-command_why (asked.Debug l script) old new why h =
+    (mean_explains words size fuel feed fits old new) h
+command_why (asked.Debug l script) fits old new why h =
     why_from (Some (asked.Debug l script)) (debug_plan l script) old new why
     (debug_explains l script old new) h
-command_why (asked.Audit name) old new why h =
+command_why (asked.Audit name) fits old new why h =
     why_task (Some (asked.Audit name)) (audit_at name) _ old new why (audit_explains name old new) h
-command_why (asked.Erase word out) old new why h =
-    why_task (Some (asked.Erase word out)) (module_at 0 word) _ old new why (module_explains word out old new)
-    h
-command_why (Generate seed) old new why h =
+command_why (asked.Erase word out) fits old new why h =
+    why_task (Some (asked.Erase word out)) (module_at 0 word) _ old new why
+    (module_explains word out fits old new) h
+command_why (Generate seed) fits old new why h =
     load_why seed old new why (err_of (load_image (load_of seed)) _ old new why h)
 
-pub why_is : (asked : Option Command) (old new : FilesSeen) (why : Refusal)
-    → Comes (plan_in asked) old (Err why) new → WhyIs asked (plan_in asked) old why new
-why_is None old new why h =
+pub why_is : (asked : Option Command) → ((c : Command) → asked ≡ Some c → Fits c) → (old new : FilesSeen)
+    (why : Refusal) → Comes (plan_in asked) old (Err why) new → WhyIs asked (plan_in asked) old why new
+why_is None fits old new why h =
     let e = same_err {A = Task} refusal.Usage why (sym h.0) in
     subst (λ w. WhyIs None (plan_in None) old w new) (sym e) refl
-why_is (Some c) old new why h = command_why c old new why h
+why_is (Some c) fits old new why h = command_why c (fits c refl) old new why h

@@ -1,9 +1,12 @@
 -- The causes: what holds of a call wherever it ends with a status.
-use Rattle.std.specs.Prelude.{◌≡◌, ◌⊎◌, ℕ, ◌+◌, ℤ, List, [], ◌∷◌, map, Option, Some, None, Ok, Err}
+use Rattle.std.specs.Prelude.{◌≡◌, ◌⊎◌, ℕ, ◌+◌, ℤ, List, [], ◌∷◌, map, slice_get, Option, Some, None}
+use Rattle.std.specs.Prelude.{Ok, Err}
 use Rattle.outside_io.specs.Counts.{Rose}
 use Rattle.outside_io.specs.FilesSeen.{FilesSeen, Puts, KeepsOthers}
 use Rattle.outside_io.specs.SinkSeen.{Adds, FailsToWrite}
 use Rattle.outside_io.specs.Whole.{GivesWhole as ComesWhole, IsTooLong, Faults, OnlyGave}
+use Rattle.command_words.specs.declared.part.Ending.{Ending}
+use Rattle.command_words.specs.declared.part.Ending.TheVariants.{Source, Assembler, Component}
 use Rattle.command_words.specs.declared.part.PartWord.{PartWord}
 use Rattle.command_words.specs.declared.command.Linked.{Linked}
 use Rattle.command_words.specs.declared.command.Linked.TheVariants as what
@@ -13,8 +16,7 @@ use Rattle.command_words.specs.declared.command.ComponentDeed.{ComponentDeed}
 use Rattle.command_words.specs.declared.command.ComponentDeed.TheVariants as component_deed
 use Rattle.command_words.specs.declared.command.Command.{Command}
 use Rattle.command_words.specs.declared.command.Command.TheVariants.{Links, Takes, Checks, Mean, Generate}
-use Rattle.command_words.specs.declared.command.Command.TheVariants.{Debug}
-use Rattle.command_words.specs.declared.command.Command.TheVariants as asked
+use Rattle.command_words.specs.declared.command.Command.TheVariants.{Debug, Audit, Erase}
 use Rattle.asm_fields.specs.declared.fault.AsmFault.{AsmFault}
 use Rattle.assembler.specs.Assembled.{assembled}
 use Rattle.component_file.specs.declared.fault.FileFault.{FileFault}
@@ -60,7 +62,7 @@ use Rattle.lcm_machine.specs.Run.{answer as last_step, plain}
 use Rattle.proc_language.specs.declared.module.ModuleFields.{ModuleFields}
 use Rattle.proc_program.specs.Lower.{part_of}
 use Rattle.proc_sources.specs.declared.fault.SourceFault.{SourceFault}
-use Rattle.proc_sources.specs.Sources.{sourced}
+use Rattle.proc_sources.specs.Sources.{module_in, sourced}
 use Rattle.token_language.specs.declared.dialect.Dialect.{Dialect}
 use Rattle.source_events.specs.declared.Item.{Item}
 use Rattle.source_events.specs.declared.End.{End}
@@ -115,36 +117,69 @@ IsLong plan old index new =
     (name : List ℕ) × (seen : FilesSeen) × IsTurn plan old name index seen
     × IsTooLong seen name LONGEST_FILE new
 
--- the file of this index came last, whole, and its bytes are such
-abbrev pub Holds : {A : Type 0} → Plan A → FilesSeen → ℕ → FilesSeen → (List ℕ → Type 0) → Type 0
-Holds plan old index new P =
-    (name : List ℕ) × (seen : FilesSeen) × IsTurn plan old name index seen
+-- the part words of a command
+abbrev pub linked_words : Linked → List PartWord
+linked_words (what.Parts words size) = words
+linked_words (what.Image name) = []
+
+abbrev pub words_in : Option Command → List PartWord
+words_in (Some (Links l deed)) = linked_words l
+words_in (Some (Takes word deed)) = word ∷ []
+words_in (Some (Checks word)) = word ∷ []
+words_in (Some (Mean words size fuel feed)) = words
+words_in (Some (Debug l script)) = linked_words l
+words_in (Some (Erase word out)) = word ∷ []
+words_in _ = []
+
+-- the file of this name, whose turn it was, came last, whole, and its bytes are such
+abbrev pub Holds : {A : Type 0} → Plan A → FilesSeen → List ℕ → ℕ → FilesSeen → (List ℕ → Type 0) → Type 0
+Holds plan old name index new P =
+    (seen : FilesSeen) × IsTurn plan old name index seen
     × (bytes : List ℕ) × ComesWhole seen name LONGEST_FILE bytes new × P bytes
 
--- the bytes of the file of this index spell no component, with this first fault
-abbrev pub IsUndecoded : {A : Type 0} → Plan A → FilesSeen → ℕ → FileFault → FilesSeen → Type 0
-IsUndecoded plan old index f new = Holds plan old index new (λ bytes. decoded bytes ≡ Err f)
+-- the same of the file of the command's part word of this index, which has this ending
+abbrev pub HoldsPart : {A : Type 0} → Option Command → Plan A → FilesSeen → ℕ → Ending → FilesSeen
+    → (List ℕ → Type 0) → Type 0
+HoldsPart asked plan old index ending new P =
+    (word : PartWord) × (slice_get (words_in asked) index ≡ Some word) × (word.ending ≡ ending)
+    × Holds plan old word.name index new P
 
--- the text in the file of this index spells no component, with this first fault
-abbrev pub IsUnassembled : {A : Type 0} → Plan A → FilesSeen → ℕ → AsmFault → FilesSeen → Type 0
-IsUnassembled plan old index f new = Holds plan old index new (λ text. assembled text ≡ Err f)
+-- the bytes of a part's component file spell no component, with this first fault
+abbrev pub IsUndecoded : {A : Type 0} → Option Command → Plan A → FilesSeen → ℕ → FileFault → FilesSeen
+    → Type 0
+IsUndecoded asked plan old index f new =
+    HoldsPart asked plan old index Component new (λ bytes. decoded bytes ≡ Err f)
 
--- the text in the file of this index is a source, of one of the languages, that has no component, with this
--- first fault
-abbrev pub IsUncompiled : {A : Type 0} → Plan A → FilesSeen → ℕ → SourceFault → FilesSeen → Type 0
-IsUncompiled plan old index f new =
-    Holds plan old index new (λ text. (d : Dialect) × (sourced d text ≡ Err f))
+-- a part's assembler text spells no component, with this first fault
+abbrev pub IsUnassembled : {A : Type 0} → Option Command → Plan A → FilesSeen → ℕ → AsmFault → FilesSeen
+    → Type 0
+IsUnassembled asked plan old index f new =
+    HoldsPart asked plan old index Assembler new (λ text. assembled text ≡ Err f)
 
--- the text in the file of this index is no script, and this is its first bad line
-abbrev pub IsUnscripted : {A : Type 0} → Plan A → FilesSeen → ℕ → FilesSeen → Type 0
-IsUnscripted plan old line new =
-    (index : ℕ) × Holds plan old index new
+-- a text of this language has not what the command asks of a source, with this first fault: by `mean` and
+-- `erase` a module, else a component
+abbrev pub IsUnsourced : Option Command → Dialect → List ℕ → SourceFault → Type 0
+IsUnsourced (Some (Mean words size fuel feed)) d text f = module_in d text ≡ Err f
+IsUnsourced (Some (Erase word out)) d text f = module_in d text ≡ Err f
+IsUnsourced _ d text f = sourced d text ≡ Err f
+
+-- a part's source has not, in its language, what the command asks of it
+abbrev pub IsUncompiled : {A : Type 0} → Option Command → Plan A → FilesSeen → ℕ → SourceFault → FilesSeen
+    → Type 0
+IsUncompiled asked plan old index f new =
+    (d : Dialect) × HoldsPart asked plan old index (Source d) new (λ text. IsUnsourced asked d text f)
+
+-- the text of the command's script is none, and this is its first bad line
+abbrev pub IsUnscripted : {A : Type 0} → Option Command → Plan A → FilesSeen → ℕ → FilesSeen → Type 0
+IsUnscripted asked plan old line new =
+    (l : Linked) × (script : List ℕ) × (asked ≡ Some (Debug l script)) × (index : ℕ)
+    × Holds plan old script index new
     (λ text. (f : ScriptFault) × (scripted text ≡ Err f) × (line ≡ script_line f))
 
--- the text in the file of this index is no trace of a run, and this is what its first line that spoils it
--- does
-abbrev pub IsUnaudited : {A : Type 0} → Plan A → FilesSeen → AuditFault → FilesSeen → Type 0
-IsUnaudited plan old f new = (index : ℕ) × Holds plan old index new (λ text. HasFault text f)
+-- the text that the command audits is no trace of a run, and this is what its first line that spoils it does
+abbrev pub IsUnaudited : {A : Type 0} → Option Command → Plan A → FilesSeen → AuditFault → FilesSeen → Type 0
+IsUnaudited asked plan old f new =
+    (name : List ℕ) × (asked ≡ Some (Audit name)) × Holds plan old name 0 new (λ text. HasFault text f)
 
 -- the name of an image word
 abbrev pub image_in : Option Command → Option (List ℕ)
@@ -273,7 +308,7 @@ component_out component_deed.Show = None
 abbrev pub out_of : Option Command → Option (List ℕ)
 out_of (Some (Links l deed)) = link_out deed
 out_of (Some (Takes word deed)) = component_out deed
-out_of (Some (asked.Erase word out)) = Some out
+out_of (Some (Erase word out)) = Some out
 out_of _ = None
 
 -- the refusal's line was written
@@ -305,24 +340,26 @@ pub record Causes (asked : Option Command) (old : Outside) (status : Status) (ne
   pub too_long : status ≡ TooLong → (index : ℕ) × Wrote (refusal.TooLong index) old new
       × IsLong (plan_in asked) old.files index new.files
   pub asm_refused : status ≡ AsmRefused → (index : ℕ) × (f : AsmFault)
-      × Wrote (refusal.Assembly index f) old new × IsUnassembled (plan_in asked) old.files index f new.files
+      × Wrote (refusal.Assembly index f) old new
+      × IsUnassembled asked (plan_in asked) old.files index f new.files
   -- the bytes of a part's file are no component, those of an image's file no image, or the text of a feed's
   -- file no feed
   pub file_refused : status ≡ FileRefused → ((index : ℕ) × (f : FileFault)
-      × Wrote (refusal.File index f) old new × IsUndecoded (plan_in asked) old.files index f new.files)
+      × Wrote (refusal.File index f) old new × IsUndecoded asked (plan_in asked) old.files index f new.files)
       ⊎ (((f : ImageFault) × (image_status f ≡ FileRefused) × Wrote (refusal.Image f) old new
       × IsUnloaded asked old.files f new.files)
       ⊎ (((line : ℕ) × Wrote (refusal.Feed line) old new × IsUnfed asked old.files line new.files)
       ⊎ ((line : ℕ) × Wrote (refusal.Script line) old new
-      × IsUnscripted (plan_in asked) old.files line new.files)))
+      × IsUnscripted asked (plan_in asked) old.files line new.files)))
   -- parts of words break a rule, or those of an image do
   pub rule_broken : status ≡ RuleBroken → (r : RuleAt) × Wrote (refusal.Rule r) old new
       × (Breaks asked old.files r new.files ⊎ IsUnloaded asked old.files (image.Rule r) new.files)
   pub source_refused : status ≡ SourceRefused → (index : ℕ) × (f : SourceFault)
       × Wrote (refusal.Source index f) old new
-      × (IsUncompiled (plan_in asked) old.files index f new.files ⊎ IsUnmade asked (refusal.Source index f))
+      × (IsUncompiled asked (plan_in asked) old.files index f new.files
+      ⊎ IsUnmade asked (refusal.Source index f))
   pub audit_refused : status ≡ AuditRefused → (f : AuditFault) × Wrote (refusal.Audit f) old new
-      × IsUnaudited (plan_in asked) old.files f new.files
+      × IsUnaudited asked (plan_in asked) old.files f new.files
 
 -- ---- files that stay
 

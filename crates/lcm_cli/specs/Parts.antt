@@ -1,6 +1,6 @@
 -- The parts of part words: read, length, form, rules C, and K where it is trusted; and then the rules L of
 -- all of them. And those of an image.
-use Rattle.std.specs.Prelude.{ℕ, List, map, Result, Ok, Err}
+use Rattle.std.specs.Prelude.{◌≡◌, ℕ, List, map, Result, Ok, Err}
 use Rattle.assembler.specs.Assembled.{assembled}
 use Rattle.command_words.specs.Part.{is_trusted}
 use Rattle.command_words.specs.declared.part.Ending.{Ending}
@@ -59,6 +59,12 @@ form_by (Source d) index text = unless (refusal.Source index) (sourced d text)
 form_by Assembler index text = unless (refusal.Assembly index) (assembled text)
 form_by Component index bytes = unless (refusal.File index) (decoded bytes)
 
+-- and that they are this component
+abbrev pub HasForm : Ending → List ℕ → ComponentFields → Type 0
+HasForm (Source d) text c = sourced d text ≡ Ok c
+HasForm Assembler text c = assembled text ≡ Ok c
+HasForm Component bytes c = decoded bytes ≡ Ok c
+
 -- read, length, form
 unfoldable pub component_at : ℕ → PartWord → Plan ComponentFields
 component_at index word = do
@@ -70,3 +76,8 @@ unfoldable pub part_at : ℕ → PartWord → Plan PartSeen
 part_at index word = do
   c ← component_at index word
   unless (broken_in index) (accepted (record { component = c; trusted = is_trusted word.mark }))
+
+-- the bytes of a word's file are this part, which keeps its own rules
+abbrev pub IsPartOf : PartWord → List ℕ → PartSeen → Type 0
+IsPartOf word bytes p =
+    HasForm word.ending bytes p.component × (p.trusted ≡ is_trusted word.mark) × (accepted p ≡ Ok p)

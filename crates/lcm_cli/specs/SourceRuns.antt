@@ -12,6 +12,7 @@ use Rattle.proc_program.specs.Lower.{part_of}
 use Rattle.proc_sources.specs.Sources.{module_in}
 use Rattle.token_language.specs.declared.dialect.Dialect.{Dialect}
 use Rattle.meaning_tool.specs.Subjects.{language_of}
+use Rattle.component_linker.specs.Parts.{PartSeen}
 use Rattle.component_linker.specs.Started.{StartSeen}
 use Rattle.module_rules.specs.Rules.{stack_base_of, ruled}
 use Rattle.run_feed.specs.Feed.{fed}
@@ -30,6 +31,7 @@ use Rattle.file_plans.specs.declared.refusal.Refusal.{Refusal}
 use Rattle.file_plans.specs.Plans.{Comes}
 use Rattle.lcm_cli.specs.declared.status.Status.{Status}
 use Rattle.command_words.specs.Part.{is_trusted}
+use Rattle.lcm_cli.specs.Parts.{IsPartOf}
 use Rattle.lcm_cli.specs.Commands.{linked_in}
 use Rattle.lcm_cli.specs.Refusals.{refusal_text}
 use Rattle.proc_semantics.specs.Meaning.{meaning}
@@ -49,14 +51,15 @@ SpelledBy true d text [] rest = ⊥
 SpelledBy true d text (m ∷ modules) rest = (module_in d text ≡ Ok m) × rest modules
 SpelledBy false d text modules rest = rest modules
 
--- the files of words came whole, one after another, and the modules are those that the texts of trusted words
--- spell
-abbrev pub SourcesCame : List PartWord → FilesSeen → List ModuleFields → FilesSeen → Type 0
-SourcesCame [] old modules new = (modules ≡ []) × (new ≡ old)
-SourcesCame (w ∷ words) old modules new =
-    (text : List ℕ) × (mid : FilesSeen) × ComesWhole old w.name LONGEST_FILE text mid
+-- the files of words came whole, one after another; each text is its word's part, and the modules are those
+-- that the texts of trusted words spell, the same that their parts are compiled from
+abbrev pub SourcesCame : List PartWord → FilesSeen → List PartSeen → List ModuleFields → FilesSeen → Type 0
+SourcesCame [] old parts modules new = (parts ≡ []) × (modules ≡ []) × (new ≡ old)
+SourcesCame (w ∷ words) old [] modules new = ⊥
+SourcesCame (w ∷ words) old (p ∷ parts) modules new =
+    (text : List ℕ) × (mid : FilesSeen) × ComesWhole old w.name LONGEST_FILE text mid × IsPartOf w text p
     × SpelledBy (is_trusted w.mark) (language_of w.ending) text modules
-    (λ others. SourcesCame words mid others new)
+    (λ others. SourcesCame words mid parts others new)
 
 -- the text of the run is a feed of these modules: they keep the rules of a meaning, the feed's reader takes
 -- from the text what came in, and its base is that of the first module's stack
@@ -73,7 +76,7 @@ pub record IsFeed (modules : List ModuleFields) (stack : ℕ) (start : StartSeen
 pub record SourcesMean (words : List PartWord) (stack steps : ℕ) (old new : FilesSeen)
     (from : Started (what.Parts words stack) old new) : Type 0 where
   pub modules : List ModuleFields
-  pub came : SourcesCame words old modules new
+  pub came : SourcesCame words old from.parts modules new
   pub sources : AreSources modules from.parts
   pub means : RunMeans (map part_of modules) stack from.start steps
   pub shows : ShowsNothingElse modules from.parts stack from.start

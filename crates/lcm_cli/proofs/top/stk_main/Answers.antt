@@ -12,7 +12,8 @@ use Rattle.lcm_cli.proofs.RunsMade.{all_of, runs, traces, reaches, run_cut, trac
 use Rattle.lcm_cli.proofs.top.stk_main.Goals as goal
 
 pub returns-clause-promised : goal.returns-clause-promised
-returns-clause-promised g c = promised (asked_in (texts c.args.words.now.items)) _ _ _
+returns-clause-promised g c = promised
+    (asked_in (texts c.args.words.now.items)) (c.commands_fit.ensures (texts c.args.words.now.items)) _ _ _
     (rw c.as_slice.ensures.value at c.answer.ensures)
 
 pub returns-clause-ran : goal.returns-clause-ran
