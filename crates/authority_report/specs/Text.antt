@@ -1,13 +1,13 @@
 -- The text of reports.
-use Rattle.std.specs.Prelude.{◌≡◌, ℕ, ◌+◌, Bool, ◌++◌, List, [], ◌∷◌, codes, decimal, length, Some}
+use Rattle.std.specs.Prelude.{◌≡◌, ℕ, ◌+◌, ◌-◌, Bool, ◌++◌, List, [], ◌∷◌, codes, decimal, length, Some}
 use Rattle.std.specs.Prelude.{if◌then◌else◌}
 use Rattle.std.specs.List.{flat_map}
+use Rattle.cap_words.specs.Stretch.{Stretch}
 use Rattle.component_linker.specs.declared.owners.Owner.{Owner}
 use Rattle.component_linker.specs.declared.owners.Call.{Call}
 use Rattle.component_linker.specs.Start.{same_name}
 use Rattle.component_linker.specs.Started.{StartSeen}
 use Rattle.place_sets.specs.declared.spans.ReachSpan.{ReachSpan}
-use Rattle.place_sets.specs.declared.set.Stretch.{Stretch}
 use Rattle.authority_report.specs.declared.reach.Reach.{Reach}
 use Rattle.authority_report.specs.Report.{owner_of_part, IsReport}
 
@@ -32,7 +32,7 @@ abbrev pub span_line : ReachSpan → List ℕ
 span_line s = codes "at" ++ field (decimal s.base) ++ field (decimal s.end) ++ field (rights s) ++ newline
 
 abbrev pub seals_line : Stretch → List ℕ
-seals_line s = codes "seals" ++ field (decimal s.base) ++ field (decimal s.end) ++ newline
+seals_line s = codes "seals" ++ field (decimal s.base) ++ field (decimal (s.base + s.count - 1)) ++ newline
 
 -- a call of an own entry is no exit
 abbrev pub exit_line : Owner → Call → List ℕ
