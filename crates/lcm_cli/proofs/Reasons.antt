@@ -24,7 +24,7 @@ use Rattle.command_words.specs.Part.{is_trusted}
 use Rattle.lcm_cli.specs.Parts.{broken_in, linked, loaded, form_by, component_at, part_at}
 use Rattle.lcm_cli.specs.Commands.{linked_parts, linked_image, linked_in}
 use Rattle.proc_sources.specs.Sources.{sourced}
-use Rattle.token_language.specs.declared.dialect.Dialect.{Dialect}
+use Rattle.proc_language.specs.declared.dialect.Dialect.{Dialect}
 use Rattle.lcm_cli.specs.Causes.{IsTurn, IsUnread, IsLong, IsUndecoded, IsUncompiled, IsUnassembled}
 use Rattle.lcm_cli.specs.Causes.{IsUnscripted, IsUnaudited, PartBreaks, SomeBreaks}
 use Rattle.lcm_cli.specs.Causes.{AllBreak, LinkBreaks, LinkedCame}
