@@ -18,7 +18,7 @@ use Rattle.proc_templates.specs.Compiled.{code_words, data_count, component_of}
 use Rattle.proc_compiler.specs.declared.fault.CompileFault.{CompileFault}
 use Rattle.proc_compiler.specs.declared.fault.CompileFault.TheVariants.{TooLarge, SealsShort}
 use Rattle.proc_sources.specs.declared.fault.SourceFault.TheVariants.{Text, Name, Size}
-use Rattle.token_language.specs.declared.dialect.Dialect.TheVariants.{Plain}
+use Rattle.proc_language.specs.declared.dialect.Dialect.TheVariants.{Plain}
 use Rattle.proc_sources.specs.Sources.{compile_answer, plain_in, module_in, sourced}
 use Rattle.proc_again.specs.Reprint.{ReadAgain}
 use Rattle.alike_modules.specs.Alike.{IsParsedBack, IsSourceOf}

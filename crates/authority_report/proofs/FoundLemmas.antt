@@ -29,6 +29,7 @@ use Rattle.authority_report.specs.Within.{CapWithin, SealsWithin, IsWithin}
 use Rattle.authority_report.specs.declared.reach.Reach.{Reach}
 use Rattle.place_sets.specs.Spans.{allows}
 use Rattle.authority_report.specs.Report.{told, IsJust}
+use Rattle.authority_report.specs.SealRanges.{is_in}
 use Rattle.authority_report.specs.Found.{bared, gives, gives_seal, Adds, authority_of, IsSound, IsClosedBut}
 use Rattle.authority_report.proofs.ReachedWithin.{reached_within}
 
@@ -354,7 +355,7 @@ pub found_told : (m : State Word) (o : Owner) (f : Found) (r : Reach)
     → ((a : ℕ) → allows (λ f. f.read) r.spans a ≡ has f.read a)
     → ((a : ℕ) → allows (λ f. f.write) r.spans a ≡ has f.write a)
     → ((a : ℕ) → allows (λ f. f.run) r.spans a ≡ has f.run a)
-    → ((n : ℕ) → is_left r.seals n ≡ has f.seals n)
+    → ((n : ℕ) → is_in r.seals n ≡ has f.seals n)
     → IsJust m o (authority_of o f) → IsJust m o (told o r)
 found_told m o f r read write run seals h = record {
   read = λ a. (λ e. (h.read a).0 (sym (read a) ∙ e), λ k. read a ∙ (h.read a).1 k);

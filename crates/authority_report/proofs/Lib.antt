@@ -6,4 +6,6 @@ mod EnteredWithin
 mod ReportsBlind
 mod FoundLemmas
 mod OwnersSmall
+mod SealsOwn
+mod Ranges
 pub mod OneReport

@@ -2,15 +2,16 @@
 use Rattle.std.proofs.Common.{◌≡◌, ◌⊎◌, inl, inr, ◌↔◌, ℕ, ◌+◌, Bool, true, false, List, [], ◌++◌, refl, sym}
 use Rattle.std.proofs.Common.{ap, subst, ◌∙◌, arith}
 use Rattle.std.specs.Prelude.{Some}
+use Rattle.cap_words.specs.Stretch.{Stretch}
 use Rattle.component_linker.specs.declared.owners.Owner.{Owner}
 use Rattle.component_linker.specs.Started.{StartSeen}
 use Rattle.place_sets.specs.declared.spans.ReachSpan.{ReachSpan}
-use Rattle.place_sets.specs.declared.set.Stretch.{Stretch}
-use Rattle.place_sets.proofs.OneReport.{one_spans, one_stretches}
+use Rattle.place_sets.proofs.OneReport.{one_spans}
 use Rattle.authority_report.specs.declared.reach.Reach.{Reach}
 use Rattle.authority_report.specs.Report.{owner_of_part, IsReport}
 use Rattle.authority_report.specs.Text.{part_text, TextOf, none, next}
 use Rattle.authority_report.specs.One.{ReportsAreOne, TextsAreOne}
+use Rattle.authority_report.proofs.Ranges.{one_ranges}
 
 same_test : {P : Type 0} (b c : Bool) → ((b ≡ true) ↔ P) → ((c ≡ true) ↔ P) → b ≡ c
 same_test true c h k = sym (k.1 (h.0 refl))
@@ -23,7 +24,7 @@ one_report m o r q h k =
     (λ a. same_test _ _ (h.just.read a) (k.just.read a))
     (λ a. same_test _ _ (h.just.write a) (k.just.write a))
     (λ a. same_test _ _ (h.just.run a) (k.just.run a)) in
-    let seals : r.seals ≡ q.seals = one_stretches r.seals q.seals h.seals k.seals
+    let seals : r.seals ≡ q.seals = one_ranges r.seals q.seals h.seals k.seals
     (λ n. same_test _ _ (h.just.seal n) (k.just.seal n)) in
     ap (λ (x : List ReachSpan). record { spans = x; seals = r.seals }) spans
     ∙ ap (λ (x : List Stretch). record { spans = q.spans; seals = x }) seals

@@ -26,7 +26,7 @@ pub linked : (s : StartSeen) (is : IsLinked s) → Linked is.parts is.size
 linked s is = are_linked is.parts is.size is.accepted is.rules
 
 module _ (s : StartSeen) (here : IsLinked s) (o : Owner) (listed : Contains s.owners o) where
-  is_owner : IsOwner here.parts o
+  pub is_owner : IsOwner here.parts o
   is_owner = (here.starts.owners.all o).0 listed
 
   pub code_small : o.code.end ≤ LAST_PLACE

@@ -18,6 +18,7 @@ use Rattle.component_linker.specs.Pairs.{NoneIsBroken}
 use Rattle.component_linker.specs.Links.{rules_l}
 use Rattle.authority_report.specs.declared.reach.Reach.{Reach}
 use Rattle.authority_report.specs.Reaches.{code_of, data_of}
+use Rattle.authority_report.specs.SealRanges.{SealsAreOwn}
 use Rattle.authority_report.specs.Report.{told, owner_of_part, Reports}
 use Rattle.authority_report.specs.Bounds.{RunsWithin}
 
@@ -29,6 +30,12 @@ pub record IsLinked (s : StartSeen) : Type 0 where
   pub accepted : (k : ℕ) (p : PartSeen) → slice_get parts k ≡ Some p → IsPart p
   pub rules : NoneIsBroken (rules_l parts size)
   pub starts : Starts parts size s
+
+-- a part of such a start can seal by return seals of its own alone
+abbrev pub ReachedSealsAreOwn : Type 0
+ReachedSealsAreOwn =
+    (s : StartSeen) (part : ℕ) (o : Owner) → IsLinked s → owner_of_part s.owners part ≡ Some o
+    → SealsAreOwn s.state.maps o
 
 -- the start, with pc and data replaced by the halves of an entry, unsealed
 abbrev pub entered : StartSeen → Owner → Entry → State Word

@@ -6,10 +6,9 @@ use Rattle.lcm_machine.specs.Maps.{State}
 use Rattle.component_linker.specs.declared.owners.Owner.{Owner}
 use Rattle.component_linker.specs.Started.{StartSeen}
 use Rattle.place_sets.specs.Spans.{allows, AreTidy}
-use Rattle.place_sets.specs.Takes.{is_left}
-use Rattle.place_sets.specs.Stretches.{AreApart}
 use Rattle.authority_report.specs.declared.reach.Reach.{Reach}
 use Rattle.authority_report.specs.Reaches.{Allows, SealsWith, is_seal_of}
+use Rattle.authority_report.specs.SealRanges.{is_in, AreApart}
 use Rattle.authority_report.specs.Within.{Authority}
 
 -- what a report tells, beside the seals that its part may open
@@ -18,7 +17,7 @@ told o r = record {
   read = allows (λ f. f.read) r.spans;
   write = allows (λ f. f.write) r.spans;
   run = allows (λ f. f.run) r.spans;
-  seal = is_left r.seals;
+  seal = is_in r.seals;
   own = is_seal_of o;
 }
 

@@ -1,14 +1,14 @@
 -- The text of reports.
-use Rattle.std.specs.Prelude.{◌≡◌, ℕ, ◌+◌, Bool, ◌++◌, List, [], ◌∷◌, codes, decimal, length, Some}
+use Rattle.std.specs.Prelude.{◌≡◌, ℕ, ◌+◌, ◌-◌, Bool, ◌++◌, List, [], ◌∷◌, codes, decimal, length, Some}
 use Rattle.std.specs.Prelude.{if◌then◌else◌}
 use Rattle.std.specs.List.{flat_map}
 use Rattle.cap_words.specs.Text.{field_text, newline}
+use Rattle.cap_words.specs.Stretch.{Stretch}
 use Rattle.component_linker.specs.declared.owners.Owner.{Owner}
 use Rattle.component_linker.specs.declared.owners.Call.{Call}
 use Rattle.component_linker.specs.Start.{same_name}
 use Rattle.component_linker.specs.Started.{StartSeen}
 use Rattle.place_sets.specs.declared.spans.ReachSpan.{ReachSpan}
-use Rattle.place_sets.specs.declared.set.Stretch.{Stretch}
 use Rattle.authority_report.specs.declared.reach.Reach.{Reach}
 use Rattle.authority_report.specs.Report.{owner_of_part, IsReport}
 
@@ -23,10 +23,12 @@ abbrev pub part_line : Owner → List ℕ
 part_line o = codes "part" ++ field_text o.name ++ newline
 
 abbrev pub span_line : ReachSpan → List ℕ
-span_line s = codes "at" ++ field_text (decimal s.base) ++ field_text (decimal s.end) ++ field_text (rights s) ++ newline
+span_line s =
+    codes "at" ++ field_text (decimal s.base) ++ field_text (decimal s.end) ++ field_text (rights s) ++ newline
 
 abbrev pub seals_line : Stretch → List ℕ
-seals_line s = codes "seals" ++ field_text (decimal s.base) ++ field_text (decimal s.end) ++ newline
+seals_line s =
+    codes "seals" ++ field_text (decimal s.base) ++ field_text (decimal (s.base + s.count - 1)) ++ newline
 
 -- a call of an own entry is no exit
 abbrev pub exit_line : Owner → Call → List ℕ

@@ -1,6 +1,6 @@
 //! Laws of runs and of reports. The functions do nothing: what is said stands in their clauses.
 ghost use Rattle.authority_report.specs.Bounds.{WordsBoundRuns};
-ghost use Rattle.authority_report.specs.Entered.{HalvesUnsealed, ReportsBoundRuns};
+ghost use Rattle.authority_report.specs.Entered.{HalvesUnsealed, ReachedSealsAreOwn, ReportsBoundRuns};
 ghost use Rattle.authority_report.specs.Influence.{WordsBoundInfluence, ReportsBoundInfluence};
 ghost use Rattle.authority_report.specs.Influence.{UnreadIsInNoSpan, ReportsAreBlind};
 ghost use Rattle.authority_report.specs.One.{ReportsAreOne, TextsAreOne};
@@ -40,6 +40,11 @@ pub fn reports_bound_influence()
     ensures influence { ReportsBoundInfluence }
     ensures spans { UnreadIsInNoSpan }
     ensures same { ReportsAreBlind }
+{}
+
+/// What a part of a linked start can seal by, and so each seal of its report, is a return seal of its own.
+pub fn seals_are_own()
+    ensures { ReachedSealsAreOwn }
 {}
 
 /// There is one report of a part, and so there is one text of the reports of a start.

@@ -11,9 +11,10 @@ mod found;
 pub mod laws;
 mod reach;
 mod reporting;
+mod seals;
 mod text;
 
-pub use place_sets::{ReachSpan, Stretch};
+pub use place_sets::ReachSpan;
 pub use reach::Reach;
 pub use reporting::report;
 pub use text::reach_text;

@@ -1,13 +1,13 @@
 //! Reports.
-use cap_words::Items;
-use place_sets::{ReachSpan, Stretch};
+use cap_words::{Items, SealRange};
+use place_sets::ReachSpan;
 
-/// What a part can reach: the spans of addresses with the same rights, and the stretches of seals.
-/// Both are maximal, disjoint, and in ascending order.
+/// What a part can reach: the spans of addresses with the same rights, and the ranges of seals. Both
+/// are maximal, disjoint, and in ascending order.
 #[derive(Drop)]
 pub struct Reach {
     /// The addresses that it can read, write or run.
     pub spans: Items<ReachSpan>,
-    /// The seals that it can seal by.
-    pub seals: Items<Stretch>,
+    /// The seals that it can seal by, each a return seal of its own ([`crate::laws::seals_are_own`]).
+    pub seals: Items<SealRange>,
 }

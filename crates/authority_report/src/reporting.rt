@@ -1,12 +1,14 @@
 //! Reports of parts.
 ghost use Rattle.std.specs.Prelude.{◌≡◌, ◌≤◌, ◌<◌, Some, IfOk, length, option_copied};
 ghost use Rattle.authority_report.specs.Report.{IsReport, owner_of_part, Reports};
+ghost use Rattle.authority_report.specs.SealRanges.{SealsAreOwn};
 ghost use Rattle.authority_report.specs.Entered.{IsLinked, BoundsRuns};
 ghost use Rattle.authority_report.specs.Influence.{BoundsInfluence};
 
 use crate::found::Found;
 use crate::reach::Reach;
-use cap_words::LAST_PLACE;
+use crate::seals::ranges_of;
+use cap_words::{LAST_PLACE, LONGEST_STRETCH};
 use component_linker::{Owner, Start};
 use lcm_machine::LcmState;
 use place_sets::spans_of;
@@ -16,12 +18,15 @@ use std::alloc::{AllocError, Global};
 pub(crate) fn report_of(alloc: Global, state: &LcmState, owner: &Owner) -> Result<Reach, AllocError>
     requires code { owner.now.code.end ≤ LAST_PLACE }
     requires its_data { owner.now.data_span.end ≤ LAST_PLACE }
+    requires seals { SealsAreOwn state.now.maps owner.now }
+    requires few { owner.now.seals.count ≤ LONGEST_STRETCH }
     ensures { IfOk result (IsReport state.now.maps owner.now) }
 {
     let mut found = Found::begin(alloc, state, owner)?;
     found.finish(state, owner)?;
     let spans = spans_of(alloc, &found.read, &found.write, &found.run)?;
-    let seals = found.seals.stretches(alloc)?;
+    let stretches = found.seals.stretches(alloc)?;
+    let seals = ranges_of(alloc, stretches.as_slice())?;
     Ok(Reach { spans, seals })
 }
 
@@ -39,6 +44,8 @@ pub(crate) fn owner_at(start: &Start, part: u32) -> &Owner
     ensures is { owner_of_part start.now.owners part ≡ Some result.now }
     ensures code { result.now.code.end ≤ LAST_PLACE }
     ensures its_data { result.now.data_span.end ≤ LAST_PLACE }
+    ensures seals { SealsAreOwn start.now.state.maps result.now }
+    ensures few { result.now.seals.count ≤ LONGEST_STRETCH }
 {
     let Some(owner) = find_owner(start.owners(), part) else {
         unreachable!()

@@ -1,17 +1,18 @@
 //! The text of reports.
 ghost use Rattle.std.specs.Prelude.{◌≡◌, ◌++◌, decimal, OnOk, IfOk};
-ghost use Rattle.std.specs.List.{flat_map};
+ghost use Rattle.std.specs.List.{All, flat_map};
 ghost use Rattle.authority_report.specs.Entered.{IsLinked};
 ghost use Rattle.cap_words.specs.Text.{field_text, newline};
+ghost use Rattle.authority_report.specs.SealRanges.{IsRange};
 ghost use Rattle.authority_report.specs.Text.{rights, part_line, span_line, seals_line};
 ghost use Rattle.authority_report.specs.Text.{exit_line, part_text, IsReachText};
 
 use crate::reach::Reach;
 use crate::reporting::{owner_at, report_of};
-use cap_words::Items;
+use cap_words::{Items, SealRange};
 use component_linker::{Call, Owner, Start};
 use itoa::Buffer;
-use place_sets::{ReachSpan, Stretch};
+use place_sets::ReachSpan;
 use std::alloc::{AllocError, Global};
 
 fn push_field(text: &mut Vec<u8>, bytes: &[u8]) -> Result<(), AllocError>
@@ -61,12 +62,13 @@ fn push_span(text: &mut Vec<u8>, span: &ReachSpan) -> Result<(), AllocError>
     end_line(text)
 }
 
-fn push_seals(text: &mut Vec<u8>, seals: &Stretch) -> Result<(), AllocError>
+fn push_seals(text: &mut Vec<u8>, seals: &SealRange) -> Result<(), AllocError>
+    requires { IsRange seals.now }
     ensures { OnOk result (text.new.items ≡ text.old.items ++ seals_line seals.now) }
 {
     text.extend_from_slice(b"seals")?;
-    push_number(text, seals.base)?;
-    push_number(text, seals.end)?;
+    push_number(text, seals.base())?;
+    push_number(text, seals.base() + seals.count() - 1)?;
     end_line(text)
 }
 
@@ -91,10 +93,11 @@ fn push_spans(text: &mut Vec<u8>, spans: &[ReachSpan]) -> Result<(), AllocError>
     Ok(())
 }
 
-fn push_all_seals(text: &mut Vec<u8>, stretches: &[Stretch]) -> Result<(), AllocError>
-    ensures { OnOk result (text.new.items ≡ text.old.items ++ flat_map seals_line stretches.now) }
+fn push_all_seals(text: &mut Vec<u8>, ranges: &[SealRange]) -> Result<(), AllocError>
+    requires { All IsRange ranges.now }
+    ensures { OnOk result (text.new.items ≡ text.old.items ++ flat_map seals_line ranges.now) }
 {
-    for seals in stretches {
+    for seals in ranges {
         push_seals(text, seals)?;
     }
     Ok(())
@@ -112,6 +115,7 @@ fn push_exits(text: &mut Vec<u8>, owner: &Owner) -> Result<(), AllocError>
 
 #[tactic(auto, unfolding(crate::specs::Text::part_text))]
 fn push_report(text: &mut Vec<u8>, owner: &Owner, reach: &Reach) -> Result<(), AllocError>
+    requires { All IsRange reach.now.seals }
     ensures { OnOk result (text.new.items ≡ text.old.items ++ part_text owner.now reach.now) }
 {
     push_part(text, owner)?;

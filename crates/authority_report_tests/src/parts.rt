@@ -4,10 +4,10 @@ ghost use Rattle.authority_report.specs.Entered.{IsLinked};
 use assembler::assemble;
 use authority_report::reach_text;
 use component_linker::{Part, Start, accept, link};
+use proc_language::Dialect;
 use proc_sources::component_of;
 use std::alloc::{AllocError, Global};
 use std::process::Abort;
-use token_language::Dialect;
 
 /// A part that is assembled of a text.
 pub(crate) fn assembled(rt: &impl Abort, alloc: Global, text: &str, trusted: bool) -> Part {

@@ -10,8 +10,8 @@ use Rattle.command_words.specs.declared.part.Mark.TheVariants.{Trusted, Untruste
 use Rattle.command_words.specs.declared.part.Ending.{Ending}
 use Rattle.command_words.specs.declared.part.Ending.TheVariants.{Source, Assembler, Component}
 use Rattle.command_words.specs.declared.part.PartWord.{PartWord}
-use Rattle.token_language.specs.declared.dialect.Dialect.{Dialect}
-use Rattle.token_language.specs.declared.dialect.Dialect.TheVariants.{Plain, Tokens}
+use Rattle.proc_language.specs.declared.dialect.Dialect.{Dialect}
+use Rattle.proc_language.specs.declared.dialect.Dialect.TheVariants.{Plain, Tokens}
 
 infixl 10 ◌>>=◌
 abbrev pub ◌>>=◌ : {A B : Type 0} → Option A → (A → Option B) → Option B

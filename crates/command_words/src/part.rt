@@ -8,9 +8,9 @@ ghost use Rattle.command_words.specs.Texts.{texts_of, all_texts};
 
 use crate::MOST_PARTS;
 use crate::name::FileName;
+use proc_language::Dialect;
 use std::alloc::{AllocError, Global};
 use std::marker::Model;
-use token_language::Dialect;
 
 /// What stands before a part's name.
 #[derive(Clone, Copy, Debug, PartialEq, Eq)]

@@ -4,10 +4,10 @@ use command_words::{
     Command, ComponentDeed, Ending, LinkDeed, Linked, Mark, PartWord, PartWords, WordsFault,
     command_of,
 };
+use proc_language::Dialect;
 use std::alloc::{AllocError, Global};
 use std::process::Abort;
 use std::test::Fail;
-use token_language::Dialect;
 
 fn part_text(alloc: Global, part: &PartWord<'_>) -> Result<String, AllocError> {
     let mark = match part.mark {

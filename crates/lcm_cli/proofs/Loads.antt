@@ -11,7 +11,7 @@ use Rattle.generated_load.specs.declared.TheConstants.{LOAD_STACK}
 use Rattle.generated_load.specs.declared.load.Load.{Load}
 use Rattle.generated_load.specs.Loads.{load_of, load_steps, module_text, adder}
 use Rattle.proc_sources.specs.Sources.{sourced}
-use Rattle.token_language.specs.declared.dialect.Dialect.TheVariants.{Plain}
+use Rattle.proc_language.specs.declared.dialect.Dialect.TheVariants.{Plain}
 use Rattle.file_plans.specs.declared.refusal.Refusal.{Refusal}
 use Rattle.file_plans.specs.declared.refusal.Refusal.TheVariants as refusal
 use Rattle.file_plans.specs.declared.refusal.Stop.{Stop}

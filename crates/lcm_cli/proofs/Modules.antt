@@ -27,7 +27,7 @@ use Rattle.file_plans.specs.declared.refusal.Refusal.TheVariants as refusal
 use Rattle.file_plans.specs.Plans.{Made, ◌>>=◌, unless, each_at, whole, too_long, unread, Comes}
 use Rattle.meaning_tool.specs.Subjects.{Subject, language_of, module_at, feed_line, unfed, feed_at}
 use Rattle.meaning_tool.specs.Subjects.{subject_of, subject_in}
-use Rattle.token_language.specs.declared.dialect.Dialect.{Dialect}
+use Rattle.proc_language.specs.declared.dialect.Dialect.{Dialect}
 use Rattle.lcm_cli.specs.Causes.{IsUnsourced, IsUnfed, ModulesBreak}
 use Rattle.lcm_cli.proofs.Ends.{Never, comes_split, same_err, ended_unless, not_made, never_unless}
 use Rattle.lcm_cli.proofs.Ends.{never_bind}

@@ -27,7 +27,7 @@ use Rattle.lcm_cli.specs.Parts.{broken_in, linked, loaded, form_by, component_at
 use Rattle.lcm_cli.specs.Commands.{linked_parts, linked_image, linked_in}
 use Rattle.proc_sources.specs.declared.fault.SourceFault.{SourceFault}
 use Rattle.proc_sources.specs.Sources.{sourced}
-use Rattle.token_language.specs.declared.dialect.Dialect.{Dialect}
+use Rattle.proc_language.specs.declared.dialect.Dialect.{Dialect}
 use Rattle.lcm_cli.specs.Causes.{linked_words, words_in, IsTurn, IsUnread, IsLong, Holds, HoldsPart}
 use Rattle.lcm_cli.specs.Causes.{IsUndecoded, IsUnassembled, IsUnsourced, IsUncompiled, IsUnscripted}
 use Rattle.lcm_cli.specs.Causes.{IsUnaudited, PartBreaks, SomeBreaks}

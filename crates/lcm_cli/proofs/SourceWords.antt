@@ -8,7 +8,7 @@ use Rattle.command_words.specs.declared.part.Ending.{Ending}
 use Rattle.command_words.specs.declared.part.Ending.TheVariants.{Source, Assembler, Component}
 use Rattle.command_words.specs.declared.part.PartWord.{PartWord}
 use Rattle.command_words.specs.Action.{is_source}
-use Rattle.token_language.specs.declared.dialect.Dialect.{Dialect}
+use Rattle.proc_language.specs.declared.dialect.Dialect.{Dialect}
 use Rattle.meaning_tool.specs.Subjects.{language_of}
 use Rattle.component_file.specs.declared.component.ComponentFields.{ComponentFields}
 use Rattle.component_check.specs.declared.rule.Group.TheVariants.{C}

@@ -63,7 +63,7 @@ use Rattle.proc_language.specs.declared.module.ModuleFields.{ModuleFields}
 use Rattle.proc_program.specs.Lower.{part_of}
 use Rattle.proc_sources.specs.declared.fault.SourceFault.{SourceFault}
 use Rattle.proc_sources.specs.Sources.{module_in, sourced}
-use Rattle.token_language.specs.declared.dialect.Dialect.{Dialect}
+use Rattle.proc_language.specs.declared.dialect.Dialect.{Dialect}
 use Rattle.source_events.specs.declared.Item.{Item}
 use Rattle.source_events.specs.declared.End.{End}
 use Rattle.source_events.specs.declared.End.TheVariants as meaning_end

@@ -6,7 +6,7 @@ use Rattle.command_words.specs.declared.command.Linked.TheVariants as what
 use Rattle.command_words.specs.declared.command.Command.{Command}
 use Rattle.command_words.specs.declared.command.Command.TheVariants.{Links, Takes, Checks, Mean}
 use Rattle.command_words.specs.declared.command.Command.TheVariants as asked
-use Rattle.token_language.specs.declared.dialect.Dialect.TheVariants.{Plain, Tokens}
+use Rattle.proc_language.specs.declared.dialect.Dialect.TheVariants.{Plain, Tokens}
 use Rattle.proc_language.specs.declared.module.ModuleFields.{ModuleFields}
 use Rattle.proc_print.specs.Printed.{printed}
 use Rattle.proc_sources.specs.Sources.{module_in}

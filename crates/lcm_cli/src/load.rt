@@ -15,8 +15,8 @@ use generated_load::{LOAD_STACK, Load, adder, module_text};
 use itoa::Buffer;
 use lcm_isa::Reg;
 use lcm_machine::{LcmState, Step};
+use proc_language::Dialect;
 use std::alloc::Global;
-use token_language::Dialect;
 use trace_tool::{Counted, EndLine, end_line};
 
 // The trusted module.

@@ -17,9 +17,9 @@ use component_file::{Component, FileFault, decode_component};
 use component_linker::{Part, RuleAt, accept};
 use file_plans::{Refusal, Stop, read};
 use outside_io::Files;
+use proc_language::Dialect;
 use proc_sources::{SourceFault, component_of};
 use std::alloc::Global;
-use token_language::Dialect;
 
 // The component that the bytes of a file spell.
 fn decode_at(alloc: Global, index: u32, bytes: &[u8]) -> Result<Component, Stop>

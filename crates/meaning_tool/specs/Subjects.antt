@@ -3,8 +3,8 @@ use Rattle.std.specs.Prelude.{◌≡◌, ℕ, List, length, map, Result, Ok, Err
 use Rattle.command_words.specs.declared.part.Ending.{Ending}
 use Rattle.command_words.specs.declared.part.PartWord.{PartWord}
 use Rattle.command_words.specs.Part.{dialect_of}
-use Rattle.token_language.specs.declared.dialect.Dialect.{Dialect}
-use Rattle.token_language.specs.declared.dialect.Dialect.TheVariants.{Plain}
+use Rattle.proc_language.specs.declared.dialect.Dialect.{Dialect}
+use Rattle.proc_language.specs.declared.dialect.Dialect.TheVariants.{Plain}
 use Rattle.component_linker.specs.declared.fault.RuleAt.{RuleAt}
 use Rattle.proc_language.specs.declared.module.ModuleFields.{ModuleFields}
 use Rattle.proc_program.specs.Lower.{part_of}

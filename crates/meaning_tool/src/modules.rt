@@ -11,10 +11,9 @@ use cap_words::Items;
 use command_words::{Ending, PartWord};
 use file_plans::{Refusal, Stop, read};
 use outside_io::Files;
-use proc_language::Module;
+use proc_language::{Dialect, Module};
 use proc_sources::{SourceFault, module_of};
 use std::alloc::Global;
-use token_language::Dialect;
 
 fn language_of(ending: Ending) -> Dialect
     ensures { result ≡ language_of ending }

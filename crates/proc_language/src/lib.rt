@@ -5,10 +5,12 @@
 //! rules.
 #![tactic(auto)]
 
+mod dialect;
 mod module;
 mod tree;
 mod words;
 
+pub use dialect::Dialect;
 pub use module::{Global, Import, Module, ModuleFields, Param, Proc};
 pub use tree::{Arg, Call, Expr, ExprKind, Name, Op, Stmt, StmtKind};
 pub use words::{is_name, is_reserved};

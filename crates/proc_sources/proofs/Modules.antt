@@ -16,8 +16,8 @@ use Rattle.proc_names.specs.Calls.{module_calls}
 use Rattle.proc_templates.specs.Compiled.{compiled}
 use Rattle.proc_compiler.specs.declared.fault.CompileFault.{CompileFault}
 use Rattle.proc_compiler.specs.declared.fault.CompileFault.TheVariants.{TooLarge, SealsShort}
-use Rattle.token_language.specs.declared.dialect.Dialect.{Dialect}
-use Rattle.token_language.specs.declared.dialect.Dialect.TheVariants.{Plain, Tokens}
+use Rattle.proc_language.specs.declared.dialect.Dialect.{Dialect}
+use Rattle.proc_language.specs.declared.dialect.Dialect.TheVariants.{Plain, Tokens}
 use Rattle.token_language.specs.declared.module.TokenModuleFields.{TokenModuleFields}
 use Rattle.token_language.specs.Limits.{IsTokenModule}
 use Rattle.token_language.specs.Erased.{erased}

@@ -15,8 +15,8 @@ use Rattle.proc_program.specs.Lower.{part_of}
 use Rattle.proc_templates.specs.Compiled.{code_words, data_count, compiled}
 use Rattle.proc_compiler.specs.declared.fault.CompileFault.{CompileFault}
 use Rattle.proc_compiler.specs.declared.fault.CompileFault.TheVariants.{TooLarge, SealsShort}
-use Rattle.token_language.specs.declared.dialect.Dialect.{Dialect}
-use Rattle.token_language.specs.declared.dialect.Dialect.TheVariants.{Plain, Tokens}
+use Rattle.proc_language.specs.declared.dialect.Dialect.{Dialect}
+use Rattle.proc_language.specs.declared.dialect.Dialect.TheVariants.{Plain, Tokens}
 use Rattle.token_language.specs.declared.module.TokenModuleFields.{TokenModuleFields}
 use Rattle.token_language.specs.Erased.{erased}
 use Rattle.token_parse.specs.Text.{parsed_text as parsed_tokens}

@@ -5,8 +5,8 @@ ghost use Rattle.proc_language.specs.declared.module.ModuleFields.{ModuleFields}
 ghost use Rattle.proc_language.specs.Limits.{IsModule};
 ghost use Rattle.proc_names.specs.NameFaults.{name_faults};
 ghost use Rattle.proc_templates.specs.Compiled.{compiled};
-ghost use Rattle.token_language.specs.declared.dialect.Dialect.{Dialect};
-ghost use Rattle.token_language.specs.declared.dialect.Dialect.TheVariants.{Tokens};
+ghost use Rattle.proc_language.specs.declared.dialect.Dialect.{Dialect};
+ghost use Rattle.proc_language.specs.declared.dialect.Dialect.TheVariants.{Tokens};
 ghost use Rattle.token_language.specs.declared.module.TokenModuleFields.{TokenModuleFields};
 ghost use Rattle.token_language.specs.Erased.{erased};
 ghost use Rattle.token_language.specs.Limits.{IsTokenModule};

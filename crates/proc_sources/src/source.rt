@@ -15,13 +15,13 @@ use crate::fault::SourceFault;
 use component_file::Component;
 use proc_compiler::{CompileFault, compile};
 use proc_grammar::ParseFault;
-use proc_language::Module;
+use proc_language::{Dialect, Module};
 use proc_names::resolve;
 use proc_parse::parse;
 use std::alloc::Global;
 use token_check::check_tokens;
 use token_erase::erase;
-use token_language::{Dialect, TokenModule};
+use token_language::TokenModule;
 use token_names::resolve_tokens;
 use token_parse::parse_tokens;
 

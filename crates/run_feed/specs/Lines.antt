@@ -10,6 +10,22 @@ use Rattle.run_feed.specs.declared.line.FeedLine.{FeedLine}
 use Rattle.run_feed.specs.declared.line.FeedLine.TheVariants.{Enter, Ret, Pass, Other}
 use Rattle.run_feed.specs.Seen.{EnterSeen, RetSeen, PassSeen}
 
+-- what a line tells; the code's type and its variants are named in this crate alone
+abbrev pub LineSeen : Type 0
+LineSeen = FeedLine
+
+abbrev pub enter_line : EnterSeen → LineSeen
+enter_line = Enter
+
+abbrev pub ret_line : RetSeen → LineSeen
+ret_line = Ret
+
+abbrev pub pass_line : PassSeen → LineSeen
+pass_line = Pass
+
+abbrev pub other_line : LineSeen
+other_line = Other
+
 -- PART EXPORT STK A0 A1 A2 A3 BACK, where any bytes do for a word
 unfoldable pub entered : Reader EnterSeen
 entered = do

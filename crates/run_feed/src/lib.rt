@@ -13,6 +13,4 @@ mod reading;
 mod seen;
 
 pub use fault::FeedFault;
-pub use line::FeedLine;
 pub use reading::read_feed;
-pub use seen::{Answered, Entered, Passed};

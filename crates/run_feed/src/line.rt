@@ -8,7 +8,7 @@ use line_fields::{Parts, behind};
 
 /// What a line of a feed tells.
 #[derive(Debug, Drop)]
-pub enum FeedLine<'a> {
+pub(crate) enum FeedLine<'a> {
     /// A procedure is entered.
     Enter(Entered<'a>),
     /// A call is answered.

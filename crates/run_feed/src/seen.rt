@@ -6,7 +6,7 @@ use std::marker::Model;
 
 /// What an `enter` line tells. Of words it has the fields.
 #[derive(Debug, Drop)]
-pub struct Entered<'a> {
+pub(crate) struct Entered<'a> {
     pub(crate) part: &'a [u8],
     pub(crate) name: &'a [u8],
     pub(crate) stk: &'a [u8],
@@ -37,7 +37,7 @@ impl<'a> Model for Entered<'a> {
 
 /// What a `ret out` line tells. Of the value it has the field.
 #[derive(Debug, Drop)]
-pub struct Answered<'a> {
+pub(crate) struct Answered<'a> {
     pub(crate) part: &'a [u8],
     pub(crate) site: u32,
     pub(crate) base: u32,
@@ -59,7 +59,7 @@ impl<'a> Model for Answered<'a> {
 
 /// What a `pass` line tells.
 #[derive(Debug, Drop)]
-pub struct Passed<'a> {
+pub(crate) struct Passed<'a> {
     pub(crate) p0: Handed<'a>,
     pub(crate) p1: Handed<'a>,
     pub(crate) p2: Handed<'a>,

@@ -14,8 +14,8 @@ use Rattle.trace_tool.specs.Texts.{line_text}
 use Rattle.trace_tool.specs.Fits.{LineFits}
 use Rattle.line_fields.specs.Cuts.{behind}
 use Rattle.line_fields.specs.Fields.{meant, tested, whole}
-use Rattle.run_feed.specs.declared.line.FeedLine.{FeedLine}
-use Rattle.run_feed.specs.declared.line.FeedLine.TheVariants.{Enter, Ret, Pass, Other}
+use Rattle.run_feed.specs.Lines.{LineSeen, enter_line as Enter, ret_line as Ret, pass_line as Pass}
+use Rattle.run_feed.specs.Lines.{other_line as Other}
 use Rattle.run_feed.specs.Lines.{begun, entered, answered, passed, enter_in, ret_in, pass_in, seen}
 use Rattle.run_items.proofs.High.{IsHigh, decimal_high, word_high, name_high, name_is, IsOneLine, line_join}
 use Rattle.run_items.proofs.High.{high_line}
@@ -23,7 +23,7 @@ use Rattle.run_items.proofs.Spaced.{spaced, AllHigh, fields_are, spaced_line, wo
 use Rattle.run_items.proofs.FieldsRead.{natural_again, back_read, pair_read, back_high, pair_high}
 
 -- what a line is seen as, right behind an enter line or not
-abbrev pub line_told : Bool → Line → FeedLine
+abbrev pub line_told : Bool → Line → LineSeen
 line_told entry (call inward part site base last args words) = Other
 line_told entry (ret true part site base last a0 words) = Other
 line_told entry (ret false part site base last a0 words) =

@@ -4,11 +4,9 @@
 //! module is what is left without the tokens.
 #![tactic(auto)]
 
-mod dialect;
 mod module;
 mod named;
 mod tree;
 
-pub use dialect::Dialect;
 pub use module::{TokenLocal, TokenModule, TokenModuleFields, TokenParam, TokenProc};
 pub use tree::{TokenArg, TokenCall, TokenExpr, TokenExprKind, TokenStmt, TokenStmtKind};

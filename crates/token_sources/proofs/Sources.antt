@@ -3,7 +3,7 @@ use Rattle.std.proofs.Common.{◌≡◌, refl, ◌∙◌, ap, subst, ℕ, List, 
 use Rattle.std.proofs.lemmas.List.Elements.{All-nil, All-cons}
 use Rattle.std.specs.Prelude.{Ok}
 use Rattle.proc_language.specs.declared.module.ModuleFields.{ModuleFields}
-use Rattle.token_language.specs.declared.dialect.Dialect.{Dialect}
+use Rattle.proc_language.specs.declared.dialect.Dialect.{Dialect}
 use Rattle.token_language.specs.Erased.{erased}
 use Rattle.proc_sources.specs.Sources.{module_in}
 use Rattle.token_semantics.specs.Law.{IsAccepted, TokensAreSpent}

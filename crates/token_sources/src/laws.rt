@@ -1,7 +1,7 @@
 //! What becomes of the tokens of sources. This function does nothing; its contract is the law.
 ghost use Rattle.std.specs.Prelude.{◌≡◌, ℕ, List, map, Ok};
 ghost use Rattle.proc_language.specs.declared.module.ModuleFields.{ModuleFields};
-ghost use Rattle.token_language.specs.declared.dialect.Dialect.{Dialect};
+ghost use Rattle.proc_language.specs.declared.dialect.Dialect.{Dialect};
 ghost use Rattle.proc_sources.specs.Sources.{module_in};
 ghost use Rattle.token_sources.specs.Law.{Source, IsLeft, module_of, AreLeft, MeanTheSame};
 

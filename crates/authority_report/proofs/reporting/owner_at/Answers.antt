@@ -1,7 +1,10 @@
-use Rattle.std.proofs.Common.{Some, None, ◌≡◌, sym, ap, ◌∙◌}
+use Rattle.std.proofs.Common.{Some, None, ◌≡◌, ℕ, List, sym, ap, ◌∙◌}
+use Rattle.std.specs.List.{Contains}
+use Rattle.component_linker.specs.declared.owners.Owner.{Owner}
 use Rattle.std.specs.Prelude.{option_copied, is_some, true, false}
 use Rattle.authority_report.specs.Report.{owner_of_part}
 use Rattle.authority_report.proofs.OwnersSmall.{owner_listed, code_small, data_small, owner_there}
+use Rattle.authority_report.proofs.SealsOwn.{seals_own, seals_few}
 use Rattle.authority_report.proofs.reporting.owner_at.Goals as goal
 
 pub unreachable-requires : goal.unreachable-requires
@@ -13,18 +16,26 @@ unreachable-requires c =
     let f : false ≡ true = ap is_some none ∙ some in
     cc
 
+its_own : (owners all : List Owner) (part : ℕ) (o : Owner) → Some o ≡ owner_of_part owners part → owners ≡ all
+    → Contains all o
+its_own owners all part o is same = owner_listed all part o (sym (is ∙ ap (λ os. owner_of_part os part) same))
+
 pub returns-clause-code : goal.returns-clause-code
 returns-clause-code c =
-    let s = c.args.start.now in
-    let is : Some c.in-Some.owner.now ≡ owner_of_part s.owners c.args.part = c.in-Some.ensures
-    ∙ ap (λ os. owner_of_part os c.args.part) c.owners.ensures in
-    code_small s c.requires.linked c.in-Some.owner.now
-    (owner_listed s.owners c.args.part c.in-Some.owner.now (sym is))
+    code_small c.args.start.now c.requires.linked c.in-Some.owner.now
+    (its_own _ _ c.args.part c.in-Some.owner.now c.in-Some.ensures c.owners.ensures)
 
 pub returns-clause-its_data : goal.returns-clause-its_data
 returns-clause-its_data c =
-    let s = c.args.start.now in
-    let is : Some c.in-Some.owner.now ≡ owner_of_part s.owners c.args.part = c.in-Some.ensures
-    ∙ ap (λ os. owner_of_part os c.args.part) c.owners.ensures in
-    data_small s c.requires.linked c.in-Some.owner.now
-    (owner_listed s.owners c.args.part c.in-Some.owner.now (sym is))
+    data_small c.args.start.now c.requires.linked c.in-Some.owner.now
+    (its_own _ _ c.args.part c.in-Some.owner.now c.in-Some.ensures c.owners.ensures)
+
+pub returns-clause-seals : goal.returns-clause-seals
+returns-clause-seals c =
+    seals_own c.args.start.now c.requires.linked c.in-Some.owner.now
+    (its_own _ _ c.args.part c.in-Some.owner.now c.in-Some.ensures c.owners.ensures)
+
+pub returns-clause-few : goal.returns-clause-few
+returns-clause-few c =
+    seals_few c.args.start.now c.requires.linked c.in-Some.owner.now
+    (its_own _ _ c.args.part c.in-Some.owner.now c.in-Some.ensures c.owners.ensures)

@@ -5,4 +5,4 @@ use Rattle.authority_report.proofs.text.push_all_seals.Given as goal
 
 abbrev pub invariant-loop-seals : goal.invariant-loop-seals
 invariant-loop-seals l = l.text.items ≡ l.fn.text.items ++ flat_map seals_line
-    (take l.seals-index l.stretches)
+    (take l.seals-index l.ranges)

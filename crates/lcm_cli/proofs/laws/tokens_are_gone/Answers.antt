@@ -1,5 +1,5 @@
 use Rattle.std.proofs.Common.{List, ℕ, subst, sym}
-use Rattle.token_language.specs.declared.dialect.Dialect.TheVariants.{Tokens}
+use Rattle.proc_language.specs.declared.dialect.Dialect.TheVariants.{Tokens}
 use Rattle.alike_modules.specs.Alike.{IsSourceOf}
 use Rattle.lcm_cli.specs.Erasures.{IsErasure}
 use Rattle.lcm_cli.proofs.Erasures.{answers_agree}

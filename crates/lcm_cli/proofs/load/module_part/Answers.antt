@@ -3,7 +3,7 @@ use Rattle.std.specs.Prelude.{Err}
 use Rattle.std.proofs.lemmas.Result.{err_from_is_err_and}
 use Rattle.component_linker.specs.Accepted.{accepted}
 use Rattle.proc_sources.specs.Sources.{sourced}
-use Rattle.token_language.specs.declared.dialect.Dialect.TheVariants.{Plain}
+use Rattle.proc_language.specs.declared.dialect.Dialect.TheVariants.{Plain}
 use Rattle.generated_load.specs.Loads.{module_text}
 use Rattle.file_plans.specs.declared.refusal.Refusal.TheVariants as refusal
 use Rattle.file_plans.specs.Plans.{Made, unless, Meets}

@@ -1,7 +1,7 @@
 use Rattle.std.proofs.Common.{sym, ap, inl}
 use Rattle.std.specs.Prelude.{Ok}
 use Rattle.readers.specs.Results.{◌>>=◌}
-use Rattle.token_language.specs.declared.dialect.Dialect.TheVariants.{Plain, Tokens}
+use Rattle.proc_language.specs.declared.dialect.Dialect.TheVariants.{Plain, Tokens}
 use Rattle.token_semantics.specs.Plain.{tokened}
 use Rattle.token_sources.proofs.Sources.{all_are_left}
 use Rattle.token_sources.proofs.laws.sources_spend_their_tokens.Goals as goal
