@@ -1,13 +1,11 @@
 -- What `mean` tells over the text of a run of sources.
-use Rattle.std.proofs.Common.{◌≡◌, ℕ, List, ◌++◌, sym, ap, subst, ◌∙◌}
+use Rattle.std.proofs.Common.{◌≡◌, ℕ, List, sym, ap, subst, ◌∙◌}
 use Rattle.std.specs.Prelude.{map, Result, Ok}
-use Rattle.std.proofs.lemmas.List.{map-append}
 use Rattle.outside_io.specs.SinkSeen.{Adds}
 use Rattle.command_words.specs.declared.part.PartWord.{PartWord}
 use Rattle.proc_program.specs.Lower.{part_of}
 use Rattle.source_events.specs.declared.Item.{Item}
 use Rattle.source_events.specs.declared.Told.{Told}
-use Rattle.source_events.specs.declared.OutEvent.{OutEvent}
 use Rattle.proc_semantics.specs.Meaning.{meaning}
 use Rattle.proc_semantics.specs.Fuel.{Prefix}
 use Rattle.module_rules.specs.Rules.{stack_base_of}
@@ -15,8 +13,6 @@ use Rattle.run_feed.specs.declared.fault.FeedFault.{FeedFault}
 use Rattle.run_feed.specs.Feed.{fed}
 use Rattle.meaning_text.specs.Text.{told_text}
 use Rattle.trace_tool.specs.Layout.{layout}
-use Rattle.trace_tool.specs.Feed.{OutEvent as Event}
-use Rattle.run_items.specs.Items.{event_told}
 use Rattle.lcm_cli.specs.declared.status.Status.{Status}
 use Rattle.lcm_cli.specs.Answers.{Outside, meaning_status}
 use Rattle.lcm_cli.specs.Causes.{text_of_run}
@@ -24,10 +20,6 @@ use Rattle.lcm_cli.specs.SourceRuns.{SourcesRun, TellsOfRun, MeanTellsRuns}
 
 same_items : (xs ys : List Item) → (let r : Result (List Item) FeedFault = Ok xs in r) ≡ Ok ys → xs ≡ ys
 same_items xs ys e = cc
-
-front_told : (xs ys : List OutEvent) → Prefix xs ys
-    → (more : List Event) × (map event_told ys ≡ map event_told xs ++ more)
-front_told xs ys p = (map event_told p.0, ap (map event_told) p.1 ∙ map-append event_told xs p.0)
 
 tells_of : (words : List PartWord) (stack steps : ℕ) (old : Outside) (status : Status) (new : Outside)
     (run : SourcesRun words stack steps old status new) (fuel : ℕ) (before : Outside) (ended : Status)
@@ -44,14 +36,11 @@ tells_of words stack steps old status new run fuel before ended after told is st
       written = adds;
       tells = λ end ends enough. (
         ap (λ t. t.end) is ∙ ends.ends fuel enough,
-        ap (λ t. map event_told t.events) is ∙ ap (map event_told) (ends.told fuel enough)
-            ∙ sym run.meant.means.out,
+        ap (λ t. t.events) is ∙ ends.told fuel enough ∙ sym run.meant.means.out,
       );
       begins = λ begun enough.
-          let front =
-          front_told run.meant.means.events told.events
-          (subst (λ t. Prefix run.meant.means.events t.events) (sym is) (begun.begins fuel enough)) in
-          (front.0, front.1 ∙ ap (λ es. es ++ front.0) (sym run.meant.means.out));
+          subst (λ es. Prefix es told.events) (sym run.meant.means.out)
+          (subst (λ t. Prefix run.meant.means.events t.events) (sym is) (begun.begins fuel enough));
     }
 
 pub mean_tells : MeanTellsRuns

@@ -23,7 +23,7 @@ use Rattle.source_events.specs.declared.Item.{Item}
 use Rattle.component_linker.specs.Standing.{placed}
 use Rattle.linked_modules.specs.Among.{LinkedModulesKeepRules}
 use Rattle.module_rules.specs.Rules.{stack_base_of}
-use Rattle.run_items.specs.Items.{item_of, TextsTellItems}
+use Rattle.run_items.specs.Items.{TextsTellItems}
 use Rattle.trace_tool.specs.Feed.{items_of}
 use Rattle.trace_tool.specs.Layout.{layout}
 use Rattle.lcm_cli.specs.declared.status.Status.{Status}
@@ -41,7 +41,7 @@ use Rattle.lcm_cli.proofs.SourceFeeds.{among, each_resolved}
 feed_of : StacksBegin → TextsTellItems → LinkedModulesKeepRules → (modules : List ModuleFields)
     (parts : List PartSeen) (size : ℕ) (s : StartSeen) (steps : ℕ) → IsStartOf parts size s
     → (are : AreSources modules parts) → (items : List Item)
-    → map item_of (items_of (layout s).stack.base (written s steps)) ≡ items
+    → items_of (layout s).stack.base (written s steps) ≡ items
     → IsFeed modules size s steps items
 feed_of begin tells keep modules parts size s steps is are items came = record {
   rules = keep parts size modules is.rules (among parts modules are.compiled)

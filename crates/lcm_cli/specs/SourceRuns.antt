@@ -1,5 +1,5 @@
 -- Runs of parts of which every trusted one is a source.
-use Rattle.std.specs.Prelude.{◌≡◌, ◌⊎◌, ℕ, ◌≤◌, Bool, true, false, List, [], ◌∷◌, ◌++◌, map, Ok, Err}
+use Rattle.std.specs.Prelude.{◌≡◌, ◌⊎◌, ℕ, ◌≤◌, Bool, true, false, List, [], ◌∷◌, map, Ok, Err}
 use Rattle.outside_io.specs.FilesSeen.{FilesSeen}
 use Rattle.outside_io.specs.SinkSeen.{Adds, FailsToWrite}
 use Rattle.outside_io.specs.Whole.{GivesWhole as ComesWhole}
@@ -19,12 +19,12 @@ use Rattle.source_events.specs.declared.End.{End}
 use Rattle.source_events.specs.declared.Item.{Item}
 use Rattle.source_events.specs.declared.Told.{Told}
 use Rattle.source_starts.specs.Sources.{AreSources}
-use Rattle.source_starts.specs.RunMeans.{RunMeans, MeaningEnds, MeaningBegins}
+use Rattle.source_laws.specs.Sources.{MeaningEnds, MeaningBegins}
+use Rattle.source_starts.specs.RunMeans.{RunMeans}
 use Rattle.source_starts.specs.Shown.{ShowsNothingElse}
 use Rattle.trace_tool.specs.Layout.{layout}
-use Rattle.trace_tool.specs.Feed.{outs_of, OutEvent as Event}
+use Rattle.trace_tool.specs.Feed.{outs_of}
 use Rattle.trace_tool.specs.Runs.{written as written_lines}
-use Rattle.run_items.specs.Items.{event_told}
 use Rattle.file_plans.specs.declared.TheConstants.{LONGEST_FILE}
 use Rattle.file_plans.specs.declared.refusal.Refusal.{Refusal}
 use Rattle.file_plans.specs.Plans.{Comes}
@@ -33,6 +33,7 @@ use Rattle.command_words.specs.Part.{is_trusted}
 use Rattle.lcm_cli.specs.Commands.{linked_in}
 use Rattle.lcm_cli.specs.Refusals.{refusal_text}
 use Rattle.proc_semantics.specs.Meaning.{meaning}
+use Rattle.proc_semantics.specs.Fuel.{Prefix}
 use Rattle.meaning_text.specs.Text.{told_text}
 use Rattle.lcm_cli.specs.Answers.{Outside, meaning_status}
 use Rattle.lcm_cli.specs.declared.status.Status.TheVariants.{WriteFault}
@@ -116,13 +117,12 @@ pub record TellsOfRun (words : List PartWord) (stack steps : ℕ) (first : Outsi
       (ends : MeaningEnds (map part_of run.meant.modules) stack run.meant.means.items
       run.meant.means.events end)
       → ends.enough ≤ fuel
-      → (told.end ≡ end) × (map event_told told.events ≡ outs_of (written_lines run.given.from.start steps))
+      → (told.end ≡ end) × (told.events ≡ outs_of (written_lines run.given.from.start steps))
   pub begins :
       (begun : MeaningBegins (map part_of run.meant.modules) stack run.meant.means.items
       run.meant.means.events)
       → begun.enough ≤ fuel
-      → (more : List Event) × (map event_told told.events
-      ≡ outs_of (written_lines run.given.from.start steps) ++ more)
+      → Prefix (outs_of (written_lines run.given.from.start steps)) told.events
 
 -- wherever `mean` is asked of the sources of a run, over the text of that run
 abbrev pub MeanTellsRuns : Type 0
