@@ -7,6 +7,7 @@ use Rattle.command_words.specs.declared.command.Command.{Command}
 use Rattle.command_words.specs.declared.command.Command.TheVariants.{Mean}
 use Rattle.proc_program.specs.Lower.{part_of}
 use Rattle.proc_semantics.specs.Meaning.{meaning}
+use Rattle.proc_semantics.proofs.Leaves.{meanings_leave}
 use Rattle.file_plans.specs.declared.refusal.Refusal.{Refusal}
 use Rattle.file_plans.specs.Plans.{Comes}
 use Rattle.meaning_tool.specs.Subjects.{Subject, told_of, subject_in}
@@ -40,6 +41,7 @@ module _ (words : List PartWord) (size fuel : ℕ) (feed : List ℕ) (old : Outs
         is_feed = c.is_feed;
         status_is = h.status_is;
         written = h.written;
+        integers = meanings_leave (map part_of s.modules) size s.feed fuel;
         kept_is = h.kept_is;
       }
 

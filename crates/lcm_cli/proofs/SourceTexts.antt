@@ -1,13 +1,11 @@
 -- What `mean` tells over the text of a run of sources.
-use Rattle.std.proofs.Common.{◌≡◌, ℕ, List, ◌++◌, sym, ap, subst, ◌∙◌}
+use Rattle.std.proofs.Common.{◌≡◌, ℕ, List, sym, ap, subst, ◌∙◌}
 use Rattle.std.specs.Prelude.{map, Result, Ok}
-use Rattle.std.proofs.lemmas.List.{map-append}
 use Rattle.outside_io.specs.SinkSeen.{Adds}
 use Rattle.command_words.specs.declared.part.PartWord.{PartWord}
 use Rattle.proc_program.specs.Lower.{part_of}
 use Rattle.source_events.specs.declared.Item.{Item}
 use Rattle.source_events.specs.declared.Told.{Told}
-use Rattle.source_events.specs.declared.OutEvent.{OutEvent}
 use Rattle.proc_semantics.specs.Meaning.{meaning}
 use Rattle.proc_semantics.specs.Fuel.{Prefix}
 use Rattle.module_rules.specs.Rules.{stack_base_of}
@@ -15,8 +13,7 @@ use Rattle.run_feed.specs.declared.fault.FeedFault.{FeedFault}
 use Rattle.run_feed.specs.Feed.{fed}
 use Rattle.meaning_text.specs.Text.{told_text}
 use Rattle.trace_tool.specs.Layout.{layout}
-use Rattle.trace_tool.specs.Feed.{OutEvent as Event}
-use Rattle.run_items.specs.Items.{event_told}
+use Rattle.source_starts.specs.RunMeans.{went_out, came_in}
 use Rattle.lcm_cli.specs.declared.status.Status.{Status}
 use Rattle.lcm_cli.specs.Answers.{Outside, meaning_status}
 use Rattle.lcm_cli.specs.Causes.{text_of_run}
@@ -25,14 +22,10 @@ use Rattle.lcm_cli.specs.SourceRuns.{SourcesRun, TellsOfRun, MeanTellsRuns}
 same_items : (xs ys : List Item) → (let r : Result (List Item) FeedFault = Ok xs in r) ≡ Ok ys → xs ≡ ys
 same_items xs ys e = cc
 
-front_told : (xs ys : List OutEvent) → Prefix xs ys
-    → (more : List Event) × (map event_told ys ≡ map event_told xs ++ more)
-front_told xs ys p = (map event_told p.0, ap (map event_told) p.1 ∙ map-append event_told xs p.0)
-
 tells_of : (words : List PartWord) (stack steps : ℕ) (old : Outside) (status : Status) (new : Outside)
     (run : SourcesRun words stack steps old status new) (fuel : ℕ) (before : Outside) (ended : Status)
     (after : Outside) (told : Told)
-    → told ≡ meaning (map part_of run.meant.modules) stack run.meant.means.items fuel
+    → told ≡ meaning (map part_of run.meant.modules) stack (came_in run.given.from.start steps) fuel
     → ended ≡ meaning_status told.end
     → Adds before.sink (told_text told) after.sink
     → TellsOfRun words stack steps old status new run fuel before ended after
@@ -44,14 +37,11 @@ tells_of words stack steps old status new run fuel before ended after told is st
       written = adds;
       tells = λ end ends enough. (
         ap (λ t. t.end) is ∙ ends.ends fuel enough,
-        ap (λ t. map event_told t.events) is ∙ ap (map event_told) (ends.told fuel enough)
-            ∙ sym run.meant.means.out,
+        ap (λ t. t.events) is ∙ ends.told fuel enough,
       );
       begins = λ begun enough.
-          let front =
-          front_told run.meant.means.events told.events
-          (subst (λ t. Prefix run.meant.means.events t.events) (sym is) (begun.begins fuel enough)) in
-          (front.0, front.1 ∙ ap (λ es. es ++ front.0) (sym run.meant.means.out));
+          subst (λ t. Prefix (went_out run.given.from.start steps) t.events) (sym is)
+          (begun.begins fuel enough);
     }
 
 pub mean_tells : MeanTellsRuns
@@ -62,10 +52,10 @@ mean_tells words stack steps old status new run m ms is sources fuel feed before
     let read : fed (layout start).stack.base (text_of_run start steps) ≡ Ok mean.items =
     subst (λ b. fed b (text_of_run start steps) ≡ Ok mean.items) base
     (subst (λ t. fed (stack_base_of mean.modules) t ≡ Ok mean.items) text mean.is_feed) in
-    let items : mean.items ≡ run.meant.means.items =
-    same_items mean.items run.meant.means.items (sym read ∙ run.meant.feed.read) in
+    let items : mean.items ≡ came_in start steps =
+    same_items mean.items (came_in start steps) (sym read ∙ run.meant.feed.read) in
     let told : meaning (map part_of mean.modules) stack mean.items fuel
-    ≡ meaning (map part_of run.meant.modules) stack run.meant.means.items fuel =
+    ≡ meaning (map part_of run.meant.modules) stack (came_in start steps) fuel =
     ap (λ ms. meaning (map part_of ms) stack mean.items fuel) same
     ∙ ap (λ xs. meaning (map part_of run.meant.modules) stack xs fuel) items in
     tells_of words stack steps old status new run fuel before ended after

@@ -17,13 +17,13 @@ use Rattle.trace_tool.specs.Runs.{written}
 use Rattle.proc_language.specs.declared.module.ModuleFields.{ModuleFields}
 use Rattle.proc_program.specs.Lower.{part_of}
 use Rattle.source_starts.specs.Sources.{AreSources}
-use Rattle.source_starts.specs.RunMeans.{RunMeans, RunsMean, StacksBegin}
+use Rattle.source_starts.specs.RunMeans.{RunsMean, StacksBegin}
 use Rattle.source_starts.specs.Shown.{SourcesShowNothingElse}
 use Rattle.source_events.specs.declared.Item.{Item}
 use Rattle.component_linker.specs.Standing.{placed}
 use Rattle.linked_modules.specs.Among.{LinkedModulesKeepRules}
 use Rattle.module_rules.specs.Rules.{stack_base_of}
-use Rattle.run_items.specs.Items.{item_of, TextsTellItems}
+use Rattle.run_items.specs.Items.{TextsTellItems}
 use Rattle.trace_tool.specs.Feed.{items_of}
 use Rattle.trace_tool.specs.Layout.{layout}
 use Rattle.lcm_cli.specs.declared.status.Status.{Status}
@@ -40,13 +40,11 @@ use Rattle.lcm_cli.proofs.SourceFeeds.{among, each_resolved}
 -- the text of a run is a feed of its modules
 feed_of : StacksBegin → TextsTellItems → LinkedModulesKeepRules → (modules : List ModuleFields)
     (parts : List PartSeen) (size : ℕ) (s : StartSeen) (steps : ℕ) → IsStartOf parts size s
-    → (are : AreSources modules parts) → (items : List Item)
-    → map item_of (items_of (layout s).stack.base (written s steps)) ≡ items
-    → IsFeed modules size s steps items
-feed_of begin tells keep modules parts size s steps is are items came = record {
+    → AreSources modules parts → IsFeed modules size s steps
+feed_of begin tells keep modules parts size s steps is are = record {
   rules = keep parts size modules is.rules (among parts modules are.compiled)
       (each_resolved modules are.resolved);
-  read = tells (placed parts size) size s is (layout s).stack.base steps ∙ ap (λ xs. Ok xs) came;
+  read = tells (placed parts size) size s is (layout s).stack.base steps;
   base = λ m others e. subst (λ ms. stack_base_of ms ≡ (layout s).stack.base) (sym e)
       (begin m others parts size s is (subst (λ ms. AreSources ms parts) e are));
 }
@@ -69,16 +67,14 @@ sources_mean laws words stack steps old new sources from =
     let g = gathered laws.sources words 0 old new from.parts sources from.came.0 in
     let is : IsStartOf from.parts stack from.start =
     subst (λ n. IsStartOf from.parts n from.start) from.came.1 from.linked_start in
-    let means : RunMeans (map part_of g.modules) stack from.start steps =
-    laws.mean g.modules from.parts stack from.start is g.are steps in
     record {
       modules = g.modules;
       came = g.came;
       sources = g.are;
-      means = means;
+      means = laws.mean g.modules from.parts stack from.start is g.are steps;
       shows = laws.show g.modules from.parts stack from.start is g.are;
       feed = feed_of laws.begin laws.tells laws.keep g.modules from.parts stack from.start steps is
-          g.are means.items means.came;
+          g.are;
     }
 
 sources_run : RunLaws → (asked : Option Command) → ((c : Command) → asked ≡ Some c → Fits c)

@@ -1,5 +1,5 @@
 -- Runs of parts of which every trusted one is a source.
-use Rattle.std.specs.Prelude.{◌≡◌, ◌⊎◌, ℕ, ◌≤◌, Bool, true, false, List, [], ◌∷◌, ◌++◌, map, Ok, Err}
+use Rattle.std.specs.Prelude.{◌≡◌, ◌⊎◌, ℕ, ◌≤◌, Bool, true, false, List, [], ◌∷◌, map, Ok, Err}
 use Rattle.outside_io.specs.FilesSeen.{FilesSeen}
 use Rattle.outside_io.specs.SinkSeen.{Adds, FailsToWrite}
 use Rattle.outside_io.specs.Whole.{GivesWhole as ComesWhole}
@@ -20,12 +20,10 @@ use Rattle.source_events.specs.declared.End.{End}
 use Rattle.source_events.specs.declared.Item.{Item}
 use Rattle.source_events.specs.declared.Told.{Told}
 use Rattle.source_starts.specs.Sources.{AreSources}
-use Rattle.source_starts.specs.RunMeans.{RunMeans, MeaningEnds, MeaningBegins}
+use Rattle.source_laws.specs.Sources.{MeaningEnds, MeaningBegins}
+use Rattle.source_starts.specs.RunMeans.{went_out, came_in, RunMeans}
 use Rattle.source_starts.specs.Shown.{ShowsNothingElse}
 use Rattle.trace_tool.specs.Layout.{layout}
-use Rattle.trace_tool.specs.Feed.{outs_of, OutEvent as Event}
-use Rattle.trace_tool.specs.Runs.{written as written_lines}
-use Rattle.run_items.specs.Items.{event_told}
 use Rattle.file_plans.specs.declared.TheConstants.{LONGEST_FILE}
 use Rattle.file_plans.specs.declared.refusal.Refusal.{Refusal}
 use Rattle.file_plans.specs.Plans.{Comes}
@@ -35,6 +33,7 @@ use Rattle.lcm_cli.specs.Parts.{IsPartOf}
 use Rattle.lcm_cli.specs.Commands.{linked_in}
 use Rattle.lcm_cli.specs.Refusals.{refusal_text}
 use Rattle.proc_semantics.specs.Meaning.{meaning}
+use Rattle.proc_semantics.specs.Fuel.{Prefix}
 use Rattle.meaning_text.specs.Text.{told_text}
 use Rattle.lcm_cli.specs.Answers.{Outside, meaning_status}
 use Rattle.lcm_cli.specs.declared.status.Status.TheVariants.{WriteFault}
@@ -63,10 +62,9 @@ SourcesCame (w ∷ words) old (p ∷ parts) modules new =
 
 -- the text of the run is a feed of these modules: they keep the rules of a meaning, the feed's reader takes
 -- from the text what came in, and its base is that of the first module's stack
-pub record IsFeed (modules : List ModuleFields) (stack : ℕ) (start : StartSeen) (steps : ℕ)
-    (items : List Item) : Type 0 where
+pub record IsFeed (modules : List ModuleFields) (stack : ℕ) (start : StartSeen) (steps : ℕ) : Type 0 where
   pub rules : ruled modules stack ≡ Ok tt
-  pub read : fed (layout start).stack.base (text_of_run start steps) ≡ Ok items
+  pub read : fed (layout start).stack.base (text_of_run start steps) ≡ Ok (came_in start steps)
   pub base : (m : ModuleFields) (others : List ModuleFields) → modules ≡ m ∷ others
       → stack_base_of modules ≡ (layout start).stack.base
 
@@ -80,7 +78,7 @@ pub record SourcesMean (words : List PartWord) (stack steps : ℕ) (old new : Fi
   pub sources : AreSources modules from.parts
   pub means : RunMeans (map part_of modules) stack from.start steps
   pub shows : ShowsNothingElse modules from.parts stack from.start
-  pub feed : IsFeed modules stack from.start steps means.items
+  pub feed : IsFeed modules stack from.start steps
 
 -- a run whose trusted parts are sources: the plain run gave the status, the text and the machine, and its
 -- lines are told by what the sources mean
@@ -112,20 +110,17 @@ pub record TellsOfRun (words : List PartWord) (stack steps : ℕ) (first : Outsi
     (last : Outside) (run : SourcesRun words stack steps first answered last) (fuel : ℕ) (old : Outside)
     (status : Status) (new : Outside) : Type 0 where
   pub told : Told
-  pub told_is : told ≡ meaning (map part_of run.meant.modules) stack run.meant.means.items fuel
+  pub told_is : told ≡ meaning (map part_of run.meant.modules) stack (came_in run.given.from.start steps) fuel
   pub status_is : status ≡ meaning_status told.end
   pub written : Adds old.sink (told_text told) new.sink
   pub tells : (end : End)
-      (ends : MeaningEnds (map part_of run.meant.modules) stack run.meant.means.items
-      run.meant.means.events end)
-      → ends.enough ≤ fuel
-      → (told.end ≡ end) × (map event_told told.events ≡ outs_of (written_lines run.given.from.start steps))
+      (ends : MeaningEnds (map part_of run.meant.modules) stack (came_in run.given.from.start steps)
+      (went_out run.given.from.start steps) end)
+      → ends.enough ≤ fuel → (told.end ≡ end) × (told.events ≡ went_out run.given.from.start steps)
   pub begins :
-      (begun : MeaningBegins (map part_of run.meant.modules) stack run.meant.means.items
-      run.meant.means.events)
-      → begun.enough ≤ fuel
-      → (more : List Event) × (map event_told told.events
-      ≡ outs_of (written_lines run.given.from.start steps) ++ more)
+      (begun : MeaningBegins (map part_of run.meant.modules) stack (came_in run.given.from.start steps)
+      (went_out run.given.from.start steps))
+      → begun.enough ≤ fuel → Prefix (went_out run.given.from.start steps) told.events
 
 -- wherever `mean` is asked of the sources of a run, over the text of that run
 abbrev pub MeanTellsRuns : Type 0
