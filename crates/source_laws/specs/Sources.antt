@@ -35,6 +35,10 @@ pub data Shows (l : Layout) (o : OState) : ℕ → ℕ → List OutEvent → Lis
 
 -- ---- what is told of the items that came in
 
+-- a tick of a meaning pays for so many instructions of trusted code
+abbrev pub PER_TICK : ℕ
+PER_TICK = 200
+
 module _ (world : World) (size : ℕ) (items : List Item) (events : List OutEvent) where
   -- an end, with these events, under every large enough fuel
   pub record MeaningEnds (end : End) : Type 0 where
@@ -47,16 +51,16 @@ module _ (world : World) (size : ℕ) (items : List Item) (events : List OutEven
     pub enough : ℕ
     pub begins : (fuel : ℕ) → enough ≤ fuel → Prefix events (meaning world size items fuel).events
 
-  -- no end and not more than these events, under a fuel that 200 instructions a tick make less than so many
+  -- no end and not more than these events, under a fuel whose ticks pay for fewer instructions than so many
   abbrev pub MeaningTakes : ℕ → Type 0
   MeaningTakes n =
-      (fuel : ℕ) → fuel * 200 < n → ((meaning world size items fuel).end ≡ OutOfFuel)
+      (fuel : ℕ) → fuel * PER_TICK < n → ((meaning world size items fuel).end ≡ OutOfFuel)
       × Prefix (meaning world size items fuel).events events
 
 -- ---- at each matched point
 
 -- at a matched point: where it stands outside, where the next step halts or fails in trusted code, where it
--- goes on there, and the bound of 200 instructions on a tick; and each procedure that left gave an integer
+-- goes on there, and the bound of instructions on a tick; and each procedure that left gave an integer
 pub record MeansAt (world : World) (stack : ℕ) (l : Layout) (n : ℕ) (es : List OutEvent) (is : List Item)
     (p : OState) : Type 0 where
   pub waits : is_inside l p ≡ false → MeaningEnds world stack is es Waiting
