@@ -12,7 +12,6 @@ use Rattle.trusted_border.specs.declared.events.Event.TheVariants.{Called, Retur
 use Rattle.overlay_machine.specs.State.{OState}
 use Rattle.overlay_machine.specs.Step.{weight_of}
 use Rattle.overlay_machine.specs.Events.{step_event}
-use Rattle.overlay_machine.specs.Runs.{Reached, begins, goes_on}
 use Rattle.trace_tool.specs.declared.pairs.Pair.{Pair as PairOf}
 use Rattle.trace_tool.specs.declared.pairs.Pair.TheVariants as passing
 use Rattle.trace_tool.specs.declared.pairs.Pairs.{Pairs}
@@ -85,11 +84,6 @@ module _ (l : Layout) (v : View) where
         ∷ pair_same l (pairs_of l v).p2 i ∷ [])
         (back_same l back i) ∷ [])
     items_same (Some (Left part)) = refl
-
-pub reached_of : (l : Layout) (o : OState) (j : ℕ) (ls : List Line) (p : OState) → Told l o j ls p
-    → Reached l o j p
-reached_of l o _ _ _ none_yet = begins
-reached_of l o _ _ _ (and_then t e) = goes_on (reached_of l o _ _ _ t) e
 
 -- ---- of all steps
 

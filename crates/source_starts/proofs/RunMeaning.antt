@@ -13,6 +13,7 @@ use Rattle.trace_tool.specs.Feed.{outs_of, items_of, OutsJoin, ItemsJoin, Entrie
 use Rattle.trace_tool.specs.Runs.{written}
 use Rattle.trace_tool.specs.Cuts.{Point, cut_point, CutsAreGreatest, StopsAreCuts}
 use Rattle.trace_tool.specs.Headline.{HeadlineHolds}
+use Rattle.trace_tool.proofs.StepTold.{reached_by}
 use Rattle.run_items.specs.Items.{item_of, EventsAreTold}
 use Rattle.proc_language.specs.declared.module.ModuleFields.{ModuleFields}
 use Rattle.proc_program.specs.Lower.{part_of}
@@ -21,7 +22,7 @@ use Rattle.proc_semantics.specs.Values.{World}
 use Rattle.source_laws.specs.Sources.{SourcesMean, Shows}
 use Rattle.source_starts.specs.RunMeans.{RunMeans, StacksBegin, CutsShow, runs_trusted, trusted_with}
 use Rattle.source_starts.proofs.Worlds.{aligned, part_of_home}
-use Rattle.source_starts.proofs.LinesShow.{reached_of, lines_show, shows_lead}
+use Rattle.source_starts.proofs.LinesShow.{lines_show, shows_lead}
 use Rattle.source_starts.proofs.RunEnds.{runs_inside, halts_there, fails_there}
 use Rattle.source_starts.proofs.Meanings.{events_there, ends_of, begins_of, takes_of}
 
@@ -52,7 +53,7 @@ module _ (headline : HeadlineHolds) (stops : StopsAreCuts) (show : CutsShow) (to
       let j = c.at in
       let n = c.trusted in
       let p = c.overlay in
-      let at = reached_of (layout s) (overlay_at s).state j (written s steps) p x.0 in
+      let at = reached_by (layout s) (overlay_at s).state j (written s steps) p x.0 in
       let es = outs_of (written s steps) in
       let items = map item_of (items_of (layout s).stack.base (written s steps)) in
       let means = mean j n es items p (show parts size s is steps) in
