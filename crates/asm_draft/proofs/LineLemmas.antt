@@ -6,6 +6,7 @@ use Rattle.std.specs.Prelude.{OnOk, is_err}
 use Rattle.std.proofs.lemmas.List.{drop_all}
 use Rattle.text_scan.specs.declared.token.Token.{Token}
 use Rattle.text_scan.specs.Grammar.{Placed}
+use Rattle.text_scan.proofs.Places.{placed_ends}
 use Rattle.asm_fields.specs.declared.fault.AsmFault.{AsmFault}
 use Rattle.readers.specs.Answers.{Fails}
 use Rattle.asm_fields.specs.Fault.{is_refusal}
@@ -15,12 +16,6 @@ use Rattle.asm_draft.specs.Whole.{is_newline, lines_of, goes_to, line_or_none, d
 use Rattle.readers.proofs.Faults.{still_fails}
 
 -- ---- tokens within the text
-
-placed_ends : (low high : ℕ) (tokens : List Token) → Placed low high tokens → low ≤ high
-placed_ends low high [] placed = placed
-placed_ends low high (t ∷ tokens) placed =
-    let behind : t.at + t.len ≤ high = placed_ends (t.at + t.len) high tokens placed.1 in
-    omega (arith, placed.0)
 
 pub placed_in_text : (text : List ℕ) (low : ℕ) (tokens : List Token) → Placed low (length text) tokens
     → InText text tokens

@@ -7,14 +7,15 @@ use Rattle.std.proofs.lemmas.Bool.{cases_Bool}
 use Rattle.cap_words.specs.declared.TheConstants.{LAST_PLACE}
 use Rattle.component_linker.specs.declared.owners.Owner.{Owner}
 use Rattle.component_linker.specs.Owners.{owner_of, IsOwner}
-use Rattle.component_linker.specs.Parts.{PartSeen}
 use Rattle.component_linker.specs.Started.{StartSeen}
 use Rattle.component_linker.specs.Linked.{Linked}
 use Rattle.component_linker.proofs.LinksKept.{are_linked}
 use Rattle.component_linker.proofs.Found.{found}
 use Rattle.component_linker.proofs.StartWords.{listed_at}
+use Rattle.component_linker.proofs.ListedOwners.{part_of}
 use Rattle.authority_report.specs.Entered.{IsLinked}
 use Rattle.authority_report.specs.Report.{owner_of_part}
+use Rattle.component_file.proofs.Lists.{inside}
 
 pub owner_listed : (owners : List Owner) (part : ℕ) (o : Owner) → owner_of_part owners part ≡ Some o
     → Contains owners o
@@ -58,22 +59,13 @@ there : (p : Owner → Bool) (o : Owner) (owners : List Owner) → Contains owne
     → IsSome (find p owners)
 there p o owners listed h = there_at p owners listed.0 o listed.1 (ap p listed.2 ∙ h)
 
-item : {X : Type 0} (xs : List X) (k : ℕ) → k < length xs → (x : X) × (slice_get xs k ≡ Some x)
-item [] k lt = absurd (omega (arith, lt))
-item (x ∷ xs) zero lt = (x, refl)
-item (x ∷ xs) (suc k) lt = item xs k (omega (arith, lt))
-
-owner_part : (k : ℕ) (p : PartSeen) → (owner_of k p).part ≡ k
-unfolding owner_of
-owner_part k p = refl
-
 pub owner_there : (s : StartSeen) → IsLinked s → (k : ℕ) → k < length s.owners
     → IsSome (owner_of_part s.owners k)
 owner_there s here k lt =
     let e = here.starts.owners.count in
-    let at = item here.parts k (omega (arith, lt, e)) in
+    let at = inside here.parts k (omega (arith, lt, e)) in
     let o = owner_of k at.0 in
-    let its = owner_part k at.0 in
+    let its = part_of k at.0 in
     there (λ o. o.part == k) o s.owners
     ((here.starts.owners.all o).1 (record {
       of = at.0;

@@ -3,7 +3,7 @@ use Rattle.std.proofs.Common.{◌≡◌, ◌≤◌, ◌↔◌, ℕ, zero, suc, B
 use Rattle.std.proofs.Common.{sym}
 use Rattle.std.proofs.Common.{ap, subst, ◌∙◌, arith}
 use Rattle.std.specs.List.{list_any, All}
-use Rattle.std.proofs.lemmas.Bool.{or_parts}
+use Rattle.std.proofs.lemmas.Bool.{or_parts, false_from_ne_true, and_right}
 use Rattle.cap_words.specs.declared.Word.{Word}
 use Rattle.cap_words.specs.declared.Word.TheVariants.{Mem}
 use Rattle.cap_words.specs.declared.Perm.{Perm}
@@ -106,15 +106,12 @@ module _ (m : State Word) (o : Owner) (g : Authority) (just : IsJust m o g) wher
       })) ∙ f in
       cc
 
-  off_by : (b : Bool) → (b ≡ true → ⊥) → b ≡ false
-  off_by true h = absurd (h refl)
-  off_by false h = refl
-
   unwritten : (a : ℕ) → Unread g a → g.write a ≡ false
-  unwritten a f = off_by (g.write a) (λ e. read_too may_write writes_read a ((just.write a).0 e) f)
+  unwritten a f = false_from_ne_true (g.write a)
+      (λ e. read_too may_write writes_read a ((just.write a).0 e) f)
 
   not_run : (a : ℕ) → Unread g a → g.run a ≡ false
-  not_run a f = off_by (g.run a) (λ e. read_too may_run runs_read a ((just.run a).0 e) f)
+  not_run a f = false_from_ne_true (g.run a) (λ e. read_too may_run runs_read a ((just.run a).0 e) f)
 
 uncovered : (r w x c : Bool) → (r || (w || x)) ≡ true → (r && c) ≡ false → (w && c) ≡ false
     → (x && c) ≡ false → c ≡ false
@@ -137,16 +134,12 @@ in_none (s ∷ ss) a each i j k =
     ap (λ b. b || list_any (λ q. covers q a) ss) here
     ∙ in_none ss a (λ n d l. each (suc n) d (omega (arith, l))) x.1 y.1 z.1
 
-off_there : (b c : Bool) → c ≡ false → (b && c) ≡ false
-off_there true c e = e
-off_there false c e = refl
-
 unread_off : (spans : List ReachSpan) (a : ℕ) → list_any (λ s. covers s a) spans ≡ false
     → allows (λ f. f.read) spans a ≡ false
 unread_off [] a e = refl
 unread_off (s ∷ ss) a e =
     let k = or_parts (covers s a) (list_any (λ q. covers q a) ss) e in
-    ap (λ b. b || allows (λ f. f.read) ss a) (off_there s.read (covers s a) k.0) ∙ unread_off ss a k.1
+    ap (λ b. b || allows (λ f. f.read) ss a) (and_right s.read (covers s a) k.0) ∙ unread_off ss a k.1
 
 pub unread_in_no_span : UnreadIsInNoSpan
 unread_in_no_span m o r is a =

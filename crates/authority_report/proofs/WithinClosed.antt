@@ -1,7 +1,7 @@
 -- Words within an authority make words within it.
-use Rattle.std.proofs.Common.{◌≡◌, inl, inr, ℕ, ◌+◌, ◌<◌, ◌≤◌, ℤ, pos, negsuc, Bool, true, refl, sym, ap}
-use Rattle.std.proofs.Common.{subst, ◌∙◌, arith, leb-true, ltb-true}
-use Rattle.std.specs.Prelude.{Some, ◌==◌, nat_le, nat_lt}
+use Rattle.std.proofs.Common.{◌≡◌, inl, inr, ℕ, ◌+◌, ℤ, pos, Bool, true, refl, sym, ap}
+use Rattle.std.proofs.Common.{subst, ◌∙◌, arith}
+use Rattle.std.specs.Prelude.{Some, ◌==◌}
 use Rattle.std.proofs.lemmas.Bool.{and_parts, cases_lt, eqb-true}
 use Rattle.cap_words.specs.declared.Word.{Word}
 use Rattle.cap_words.specs.declared.Word.TheVariants.{Int, Mem, Seal, Sealed}
@@ -18,6 +18,7 @@ use Rattle.cap_words.specs.Faces.{may_read, may_run, may_write, is_below, can_sp
 use Rattle.cap_words.specs.Faces.{same_kind, perm_number, perm_at}
 use Rattle.lcm_machine.specs.Closed.{Closed}
 use Rattle.lcm_machine.specs.Table.{unsealed, memory_content}
+use Rattle.lcm_machine.proofs.Offers.{split_bounds, below_runs}
 use Rattle.authority_report.specs.Within.{Authority, Spans, CapWithin, SealsWithin, IsWithin}
 
 -- ---- permissions
@@ -54,13 +55,6 @@ below_writes Rw q h e = h
 below_writes Rx q h e = cc
 below_writes Rwx q h e = (and_parts (may_write q) (may_run q) h).0
 
-below_runs : (p q : Perm) → is_below p q ≡ true → may_run p ≡ true → may_run q ≡ true
-below_runs No q h e = cc
-below_runs ReadOnly q h e = cc
-below_runs Rw q h e = cc
-below_runs Rx q h e = h
-below_runs Rwx q h e = (and_parts (may_write q) (may_run q) h).1
-
 numbered : (p : Perm) → perm_at (pos (perm_number p)) ≡ Some p
 numbered No = refl
 numbered ReadOnly = refl
@@ -78,11 +72,6 @@ same_perm a b e =
 
 -- ---- ranges
 
-cut : (c : CapFields) (z : ℤ) → can_split c z ≡ true → (c.base ≤ address z) × (address z < c.end)
-cut c (pos n) e = let k = and_parts (nat_le c.base n) (nat_lt n c.end) e in
-    (leb-true c.base n k.0, ltb-true n c.end k.1)
-cut c (negsuc n) e = cc
-
 module _ (g : Authority) where
   pub mem_within : (w : Word) (c : CapFields) → w ≡ Mem c → IsWithin g w → CapWithin g c
   mem_within w c e h = subst (IsWithin g) e h
@@ -94,11 +83,11 @@ module _ (g : Authority) where
   module _ (may : Perm → Bool) (flag : ℕ → Bool) where
     low_part : (c : CapFields) (z : ℤ) → can_split c z ≡ true → Spans may flag c
         → Spans may flag (record c { end = address z })
-    low_part c z b h m a l u = let k = cut c z b in let y = k.1 in h m a l (omega (arith, u, y))
+    low_part c z b h m a l u = let k = split_bounds c z b in let y = k.1 in h m a l (omega (arith, u, y))
 
     high_part : (c : CapFields) (z : ℤ) → can_split c z ≡ true → Spans may flag c
         → Spans may flag (record c { base = address z + 1 })
-    high_part c z b h m a l u = let k = cut c z b in let y = k.0 in h m a (omega (arith, l, y)) u
+    high_part c z b h m a l u = let k = split_bounds c z b in let y = k.0 in h m a (omega (arith, l, y)) u
 
     join : (a b : CapFields) → b.perm ≡ a.perm → a.end + 1 ≡ b.base → Spans may flag a → Spans may flag b
         → Spans may flag (record b { base = a.base })

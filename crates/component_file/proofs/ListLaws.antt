@@ -1,12 +1,12 @@
 -- The readers of lists, and of the items in them.
-use Rattle.std.proofs.Common.{◌≡◌, ℕ, ◌+◌, ◌-◌, ◌^◌, ◌<◌, ◌≤◌, List, ◌++◌}
+use Rattle.std.proofs.Common.{◌≡◌, ℕ, ◌^◌, ◌<◌, ◌≤◌, List, ◌++◌}
 use Rattle.std.proofs.Common.{length, Option, Some, None, refl, ap}
 use Rattle.std.proofs.Common.{append-nil, arith}
 use Rattle.std.specs.Prelude.{IsTrue, nat_lt, option_map}
 use Rattle.std.specs.List.{flat_map}
 use Rattle.cap_words.specs.declared.Word.{Word}
 use Rattle.cap_words.specs.WordBytes.{word_bytes_of, WordFits, IsUnsealed}
-use Rattle.readers.specs.Readers.{Reader, ◌>>=◌}
+use Rattle.readers.specs.Readers.{Reader}
 use Rattle.cap_words.specs.Reading.{Input, meant, next_number, within}
 use Rattle.readers.proofs.Grammar.{All, reads_then, reads_last, reads_done, reads_as, reads_text}
 use Rattle.readers.proofs.Grammar.{reads_placed, reads_learned, reads_holds}

@@ -14,6 +14,12 @@ use Rattle.component_file.specs.Reading.{next_items}
 abbrev pub newest : {A : Type 0} → List A → Option A
 newest items = slice_get items (length items - 1)
 
+-- an item at each index within the list
+pub inside : {A : Type 0} (items : List A) (i : ℕ) → i < length items → (x : A) × (slice_get items i ≡ Some x)
+inside [] i lt = absurd (omega (arith, lt))
+inside (x ∷ items) zero lt = (x, refl)
+inside (x ∷ items) (suc i) lt = inside items i (omega (arith, lt))
+
 pub get_pushed : {A : Type 0} (items : List A) (x : A) → slice_get (items ++ x ∷ []) (length items) ≡ Some x
 get_pushed [] x = refl
 get_pushed (y ∷ items) x = get_pushed items x

@@ -1,7 +1,6 @@
 -- The start of the instance.
 use Rattle.std.proofs.Common.{◌≡◌, ℕ, zero, suc, true, List, [], ◌∷◌, map}
 use Rattle.std.proofs.Common.{Some, None, refl, sym, arith, subst}
-use Rattle.std.specs.FinMap as maps
 use Rattle.lcm_isa.specs.Numbers.{number_of}
 use Rattle.call_sequence.specs.Sequences.{call_code, return_code, entry_code}
 use Rattle.std.proofs.lemmas.List.Sorted.{IsPermutation-refl}

@@ -227,7 +227,7 @@ other_fits = record {
 
 -- ---- both
 
-no_rule : (c : ComponentFields) (trusted : Bool) → check_from (broken_at C) 1 (rules_c c trusted) ≡ Ok tt
+pub no_rule : (c : ComponentFields) (trusted : Bool) → check_from (broken_at C) 1 (rules_c c trusted) ≡ Ok tt
     → NoneBroken (rules_c c trusted)
 no_rule c trusted e =
     subst (IsFirstBroken (broken_at C) (rules_c c trusted)) e (first_broken (broken_at C) (rules_c c trusted))

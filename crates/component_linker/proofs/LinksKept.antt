@@ -8,10 +8,11 @@ use Rattle.std.specs.Option.{option_or}
 use Rattle.std.specs.List.{list_any, AllPairs, Contains, flat_map}
 use Rattle.std.proofs.lemmas.Bool.Decides.{nat_tests}
 use Rattle.std.proofs.lemmas.Option.{slice_get_within, slice_get_past, get_or_from_slice_get}
-use Rattle.std.proofs.lemmas.List.{get_or_append_left, get_or-append-add, get_or_default}
-use Rattle.std.proofs.lemmas.List.Elements.{Contains-append_cases}
+use Rattle.std.proofs.lemmas.List.{get_or_append_left, get_or-append_right}
+use Rattle.std.proofs.lemmas.List.Elements.{Contains-append_cases, Contains-get_or}
 use Rattle.std.proofs.lemmas.Bool.{and_parts, not-false, or_parts}
 use Rattle.component_file.specs.declared.component.Import.{Import}
+use Rattle.component_file.proofs.Lists.{inside}
 use Rattle.component_check.specs.Places.{Test, BrokenAt, plainly}
 use Rattle.lcm_machine.specs.declared.cells.Span.{Span}
 use Rattle.lcm_machine.specs.Regions.{Region}
@@ -24,7 +25,7 @@ use Rattle.component_linker.specs.Pairs.{NoneIsBroken, within_or, at_each, once,
 use Rattle.component_linker.specs.Links.{rules_l, l1, l4, l6, l7, l8, l9, has_main, are_few, sites_upto, near}
 use Rattle.component_linker.specs.Links.{near_part, near_before, part_spans}
 use Rattle.component_linker.specs.Linked.{Linked}
-use Rattle.component_linker.proofs.RuleLemmas.{inside, slice_get-take}
+use Rattle.component_linker.proofs.RuleLemmas.{slice_get-take}
 use Rattle.component_linker.proofs.RegionFacts.{of_part}
 use Rattle.component_linker.proofs.PartKept.{is_kept}
 
@@ -216,16 +217,6 @@ far a b la lb r s e in_b in_a =
     elim apart as (λ _. Apart s r)
     [ inl l ↦ inl (omega (arith, l, x.2, y.3)) | inr l ↦ inr (omega (arith, l, x.3, y.2)) ]
 
--- of a list of two pieces
-behind_it : {X : Type 0} (xs ys : List X) (i : ℕ) (d : X) → length xs ≤ i
-    → get_or (xs ++ ys) i d ≡ get_or ys (i - length xs) d
-behind_it xs ys i d le =
-    let back : i ≡ length xs + (i - length xs) = omega (arith, le) in
-    ap (λ k. get_or (xs ++ ys) k d) back ∙ get_or-append-add xs ys (i - length xs) d
-
-contained : {X : Type 0} (xs : List X) (i : ℕ) (d : X) → i < length xs → Contains xs (get_or xs i d)
-contained xs i d lt = (i, lt, get_or_default xs i (get_or xs i d) d lt)
-
 pub pairs_append : {X : Type 0} (R : X → X → Type 0) (xs ys : List X) → AllPairs R xs → AllPairs R ys
     → ((x y : X) → Contains xs x → Contains ys y → R x y) → AllPairs R (xs ++ ys)
 pairs_append {X} R xs ys left right across i j d lt le =
@@ -234,13 +225,14 @@ pairs_append {X} R xs ys left right across i j d lt le =
         | inl b ↦ at (get_or_append_left xs ys d i a) (get_or_append_left xs ys d j b) (left i j d lt b)
         | inr b ↦ (
             let l : j - length xs < length ys = omega (arith, b, le, length-append xs ys) in
-            at (get_or_append_left xs ys d i a) (behind_it xs ys j d b)
-            (across _ _ (contained xs i d a) (contained ys (j - length xs) d l))
+            at (get_or_append_left xs ys d i a) (get_or-append_right xs ys (length xs) j d refl b)
+            (across _ _ (Contains-get_or xs i d a) (Contains-get_or ys (j - length xs) d l))
             )
       ]
       | inr a ↦ (
           let b : length xs ≤ j = omega (arith, a, lt) in
-          at (behind_it xs ys i d a) (behind_it xs ys j d b)
+          at (get_or-append_right xs ys (length xs) i d refl a)
+          (get_or-append_right xs ys (length xs) j d refl b)
           (right (i - length xs) (j - length xs) d (omega (arith, a, lt))
           (omega (arith, b, le, length-append xs ys)))
           )

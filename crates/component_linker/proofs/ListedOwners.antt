@@ -255,7 +255,7 @@ base_of : (i : ℕ) (p : PartSeen) → (owner_of i p).code.base ≡ p.component.
 unfolding owner_of
 base_of i p = refl
 
-part_of : (i : ℕ) (p : PartSeen) → (owner_of i p).part ≡ i
+pub part_of : (i : ℕ) (p : PartSeen) → (owner_of i p).part ≡ i
 unfolding owner_of
 part_of i p = refl
 

@@ -5,7 +5,7 @@ use Rattle.std.specs.Prelude.{slice_get, slice_index, nat_le, nat_lt, ◌&&◌, 
 use Rattle.std.specs.Prelude.{if◌then◌else◌}
 use Rattle.std.proofs.lemmas.Bool.Decides.{nat_tests}
 use Rattle.std.proofs.lemmas.Option.{slice_get_within, get_or_from_slice_get, slice_get-map}
-use Rattle.std.proofs.lemmas.Bool.{not-false, and_parts}
+use Rattle.std.proofs.lemmas.Bool.{not-false, and_parts, or_cases}
 use Rattle.cap_words.specs.declared.Word.TheVariants.{Mem}
 use Rattle.cap_words.specs.declared.CapFields.{CapFields}
 use Rattle.cap_words.specs.Linear.{lin_is}
@@ -126,10 +126,6 @@ pub range_in : (base count : ℕ) (m : CapFields)
     → has_all (record { base = base; count = count }) m.base m.end ≡ true → HasRange base count m
 range_in base count m e = (grind (arith, nat_tests), grind (arith, nat_tests))
 
-either : (a b : Bool) → (a || b) ≡ true → (a ≡ true) ⊎ (b ≡ true)
-either true b e = inl refl
-either false b e = inr e
-
 -- C7, as the start rests on it
 own_range : (c : ComponentFields) (m : CapFields) → is_own c m ≡ true → IsOwn c m
 own_range c m e = by_lin (lin_is m.lin) refl
@@ -155,7 +151,7 @@ own_range c m e = by_lin (lin_is m.lin) refl
         else (has_all (code_area c)
         m.base m.end || (not (may_run m.perm) && has_all (data_area c) m.base m.end))) lin) ∙ e in
         normal _ _ lin (range_in c.code_base (length c.code) m)
-        (λ x. range_in c.data_base (length c.data_words) m (and_parts _ _ x).1) (either _ _ own)
+        (λ x. range_in c.data_base (length c.data_words) m (and_parts _ _ x).1) (or_cases _ _ own)
 
 pub owns : (p : PartSeen) → IsPart p → (k : ℕ) (m : CapFields)
     → slice_get (words p.component) k ≡ Some (Mem m) → IsOwn p.component m

@@ -212,7 +212,7 @@ pub record Standing (p : PartSeen) (a : ℕ) : Type 0 where
   pub low : region.base ≤ a
   pub high : a ≤ region.end
 
-data_within : (parts : List PartSeen) (p : PartSeen) → Kept p → (o : ℕ) (w : Word)
+pub data_within : (parts : List PartSeen) (p : PartSeen) → Kept p → (o : ℕ) (w : Word)
     → data_word parts p.component o ≡ Some w → o < length p.component.data_words
 data_within parts p kept o w h =
     elim (given_by (first_given (slot_word parts o) p.component.imports) (slice_get p.component.data_words o)

@@ -9,6 +9,7 @@ use Rattle.std.proofs.lemmas.Bool.{or_right}
 use Rattle.component_check.specs.Places.{Test, first_place, FirstBy}
 use Rattle.component_check.proofs.First.{plain_first}
 use Rattle.component_linker.specs.Pairs.{passes, at_each, within_or, never}
+use Rattle.component_file.proofs.Lists.{inside}
 
 -- ---- lists
 
@@ -23,11 +24,6 @@ pub taken : {A : Type 0} (n : ℕ) (xs : List A) → n ≤ length xs → n ≡ l
 taken zero xs le = refl
 taken (suc n) [] le = absurd (omega (arith, le))
 taken (suc n) (x ∷ xs) le = ap suc (taken n xs (omega (arith, le))) ∙ omega arith
-
-pub inside : {A : Type 0} (xs : List A) (i : ℕ) → i < length xs → (x : A) × (slice_get xs i ≡ Some x)
-inside [] i lt = absurd (omega (arith, lt))
-inside (x ∷ xs) zero lt = (x, refl)
-inside (x ∷ xs) (suc i) lt = inside xs i (omega (arith, lt))
 
 pub take_whole : {A : Type 0} (xs : List A) (n : ℕ) → length xs ≤ n → take n xs ≡ xs
 take_whole [] zero le = refl

@@ -2,7 +2,7 @@
 use Rattle.std.proofs.Common.{◌≡◌, ℕ, ◌+◌, ◌<◌, ◌≤◌, ◌⊎◌, inl, inr, Bool, true, false, not, List, length}
 use Rattle.std.proofs.Common.{take, Some, refl, sym, ap, subst, ◌∙◌, arith, eq-eqb}
 use Rattle.std.specs.Prelude.{slice_get, ◌==◌, ◌||◌, IsTrue}
-use Rattle.std.proofs.lemmas.Bool.{cases_eq, or_right}
+use Rattle.std.proofs.lemmas.Bool.{cases_eq, or_right, or_left}
 use Rattle.std.proofs.lemmas.Bool.Decides.{nat_tests}
 use Rattle.std.proofs.lemmas.Option.{slice_get_within}
 use Rattle.cap_words.specs.Stretch.{Stretch}
@@ -71,10 +71,6 @@ same_site s t part index seal at = λ i. record { part = part i; index = index i
 of_range : (r : Stretch) (k seal : ℕ) → seal ≡ r.base + k → k < r.count → has_seal r seal ≡ true
 of_range r k seal e lt = grind (arith, nat_tests)
 
-of_first : (a b : Bool) → a ≡ true → (a || b) ≡ true
-of_first true b e = refl
-of_first false b e = absurd cc
-
 own_seal : (parts : List PartSeen) → ((k : ℕ) (p : PartSeen) → slice_get parts k ≡ Some p → IsPart p)
     → (s : Site) (is : IsSite parts s) → has_seal is.of.component.seals s.seal ≡ true
 own_seal parts kept s is =
@@ -110,7 +106,7 @@ sites_apart parts sites kept apart are = record {
         → s.seal ≡ p.component.closure → ⊥
     closed s is k p at e =
         let has : IsTrue (is_seal_of p s.seal) =
-        of_first (p.component.closure == s.seal) (has_seal p.component.seals s.seal)
+        or_left (p.component.closure == s.seal) (has_seal p.component.seals s.seal)
         (eq-eqb p.component.closure s.seal (sym e)) in
         let same = one_part s is k p at has in
         let own : has_seal p.component.seals p.component.closure ≡ true =

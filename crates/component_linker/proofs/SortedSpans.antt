@@ -72,7 +72,7 @@ before_of_far s t h le order = elim (cases_lt t.base (s.end + 1)) as (λ _. s.en
 
 -- ---- regions as spans
 
-map_at : (rs : List Region) (i : ℕ) (d : Region)
+pub map_at : (rs : List Region) (i : ℕ) (d : Region)
     → get_or (map region_span rs) i (region_span d) ≡ region_span (get_or rs i d)
 map_at [] i d = refl
 map_at (r ∷ rs) zero d = refl

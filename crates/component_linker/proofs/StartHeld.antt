@@ -5,7 +5,7 @@ use Rattle.std.proofs.Common.{◌++◌, length, Option, Some, None, refl, sym, a
 use Rattle.std.proofs.Common.{pos, lt-ltb}
 use Rattle.std.specs.Prelude.{slice_get, IsTrue, nat_lt, ◌==◌, option_map, if◌then◌else◌}
 use Rattle.std.specs.List.{Contains}
-use Rattle.std.proofs.lemmas.Bool.{cases_order, false≢true}
+use Rattle.std.proofs.lemmas.Bool.{cases_order, false≢true, cases_Bool}
 use Rattle.std.proofs.lemmas.Bool.Decides.{nat_tests}
 use Rattle.std.proofs.lemmas.Option.{slice_get_within}
 use Rattle.cap_words.specs.declared.Word.{Word}
@@ -428,10 +428,6 @@ one_holder parts size a x y linked (a_word k i p c at word here lin low high ran
           absurd (parts_alone parts size n k a q p d c linked gt at_n at below above stretch low high range)
     ]
 
-lin_cases : (b : Bool) → (b ≡ true) ⊎ (b ≡ false)
-lin_cases true = inl refl
-lin_cases false = inr refl
-
 -- what covers an address of a linear region is a linear capability
 holder_of : (parts : List PartSeen) (size a : ℕ) (s : State Word) (place : Place) (o : Option CapFields)
     (w : Word)
@@ -442,7 +438,7 @@ holder_of parts size a s place (Some c) w linked start linear there m over =
     let cap = cap_at parts size s place w c linked start there m in
     let inside = fits parts size s linked start place w there c m in
     let bounds = over_bounds c a over in
-    elim (lin_cases (lin_is c.lin)) as (λ _. Holder parts size place a) [
+    elim (cases_Bool (lin_is c.lin)) as (λ _. Holder parts size place a) [
       | inl lin ↦ linear_holder parts size a place c linked cap lin bounds.0 bounds.1
       | inr normal ↦
           absurd (normal_apart (regions_of parts size) c a (apart_all (regions_of parts size) linked.apart)

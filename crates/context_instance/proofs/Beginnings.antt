@@ -1,10 +1,10 @@
 -- The starts of both modules beside the adversary, and that they are beside each other.
-use Rattle.std.proofs.Common.{◌≡◌, ◌⊎◌, inl, inr, ◌↔◌, ℕ, zero, suc, ◌+◌, ◌-◌, ◌<◌, ◌≤◌, Bool, true, false}
+use Rattle.std.proofs.Common.{◌≡◌, ◌⊎◌, inl, inr, ◌↔◌, ℕ, zero, suc, ◌+◌, ◌-◌, ◌<◌, ◌≤◌, true, false}
 use Rattle.std.proofs.Common.{List, [], ◌∷◌, map, length}
 use Rattle.std.proofs.Common.{Some, None, Ok, refl, sym, ap, ◌∙◌, arith, subst, rules}
-use Rattle.std.specs.Prelude.{slice_get, ◌&&◌, ◌||◌, nat_le}
+use Rattle.std.specs.Prelude.{slice_get, ◌&&◌, nat_le}
 use Rattle.std.specs.List.{Contains}
-use Rattle.std.proofs.lemmas.Bool.{and_parts, cases_lt}
+use Rattle.std.proofs.lemmas.Bool.{and_parts, cases_lt, or_cases}
 use Rattle.std.proofs.Common.{leb-true}
 use Rattle.std.proofs.lemmas.List.Sorted.{IsPermutation-refl}
 use Rattle.lcm_isa.specs.Numbers.{number_of}
@@ -34,6 +34,7 @@ use Rattle.component_linker.specs.declared.owners.Site.{Site}
 use Rattle.component_linker.proofs.FirstIn.{first_broken_in}
 use Rattle.component_linker.proofs.LinksKept.{are_linked}
 use Rattle.component_linker.proofs.PairStart.{filled, cells_filled, owners_of, owners_are}
+use Rattle.component_linker.proofs.ExampleParts.{no_rule}
 use Rattle.overlay_machine.specs.Link.{Link, IsTrusted, ranges_of, regions}
 use Rattle.template_runs.specs.Public.{IsFreeAt}
 use Rattle.proc_names.specs.Names.{variable_named}
@@ -45,7 +46,7 @@ use Rattle.source_starts.specs.Sources.{AreSources, linked_at}
 use Rattle.context_laws.specs.Meanings.{SameUntrusted, AreBeside}
 use Rattle.context_instance.specs.Doubles.{sums, keeps}
 use Rattle.context_instance.proofs.Modules.{limits, limits_too, resolved, resolved_too}
-use Rattle.context_instance.proofs.Links.{other, parts_of, each_of, no_rule, one_limits, two_limits, one_flow}
+use Rattle.context_instance.proofs.Links.{other, parts_of, each_of, one_limits, two_limits, one_flow}
 use Rattle.context_instance.proofs.Links.{two_flow}
 use Rattle.context_instance.proofs.Links.{one_checked, two_checked, one_linked, two_linked}
 
@@ -57,10 +58,6 @@ main = record {
 
 abbrev pub stack : Span
 stack = record { base = 300; end = 307 }
-
-or_cases : (a b : Bool) → (a || b) ≡ true → (a ≡ true) ⊎ (b ≡ true)
-or_cases true b e = inl refl
-or_cases false b e = inr e
 
 -- the regions, where a module has so many code and data words
 abbrev pub regions_are : ℕ → ℕ → List Region

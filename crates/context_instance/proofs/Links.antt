@@ -1,5 +1,5 @@
 -- Both modules link with an adversary, in whose main the run begins.
-use Rattle.std.proofs.Common.{◌≡◌, ℕ, zero, suc, pos, Bool, true, false, List, [], ◌∷◌, map, Some, None, Ok}
+use Rattle.std.proofs.Common.{◌≡◌, ℕ, zero, suc, pos, true, false, List, [], ◌∷◌, map, Some, None, Ok}
 use Rattle.std.proofs.Common.{refl, arith, subst, rules}
 use Rattle.std.specs.Prelude.{slice_get}
 use Rattle.cap_words.specs.Names.{is_name}
@@ -12,14 +12,14 @@ use Rattle.component_file.specs.declared.component.ComponentFields.{ComponentFie
 use Rattle.component_file.specs.Limits.{IsComponent}
 use Rattle.component_check.specs.declared.rule.Group.TheVariants.{C}
 use Rattle.component_check.specs.RuleText.{broken_at}
-use Rattle.component_check.specs.Verdict.{NoneBroken, IsFirstBroken, check_from}
+use Rattle.component_check.specs.Verdict.{NoneBroken, check_from}
 use Rattle.component_check.specs.Rules.{rules_c, c1, c2, c3, c4, c5, c6, c7, c8, c9, c10, c11, c12}
-use Rattle.component_check.proofs.First.{first_broken}
 use Rattle.call_sequence.specs.Sequences.{call_code, return_code, entry_code}
 use Rattle.flow_check.specs.Verdict.{IsKept}
 use Rattle.component_linker.specs.Parts.{PartSeen, IsPart}
 use Rattle.component_linker.specs.Pairs.{by_part}
 use Rattle.component_linker.specs.Links.{rules_l, rule_at, l1, l2, l3, l4, l5, l6, l7, l8, l9}
+use Rattle.component_linker.proofs.ExampleParts.{no_rule}
 use Rattle.proc_names.specs.Names.{variable_named}
 use Rattle.proc_program.specs.Lower.{part_of}
 use Rattle.proc_program.proofs.Kept.{part_fits}
@@ -119,10 +119,6 @@ adversary_fits = record {
 adversary_checked : check_from (broken_at C) 1 (rules_c adversary false) ≡ Ok tt
 unfolding c1 c2 c3 c4 c5 c6 c7 c8 c9 number_of
 adversary_checked = refl
-
-pub no_rule : (c : ComponentFields) (t : Bool) → check_from (broken_at C) 1 (rules_c c t) ≡ Ok tt
-    → NoneBroken (rules_c c t)
-no_rule c t e = subst (IsFirstBroken (broken_at C) (rules_c c t)) e (first_broken (broken_at C) (rules_c c t))
 
 abbrev pub other : PartSeen
 other = record { component = adversary; trusted = false }

@@ -3,7 +3,6 @@ use Rattle.std.proofs.Common.{◌≡◌, ℕ, ◌+◌, ◌-◌, ℤ, pos, List, 
 use Rattle.std.proofs.Common.{Bool, true, false, refl, sym, ap, ◌∙◌, arith}
 use Rattle.std.specs.Prelude.{slice_index_or, if◌then◌else◌}
 use Rattle.std.proofs.lemmas.Bool.Decides.{Decides-int_eq}
-use Rattle.std.specs.Ordering.{int_eq}
 use Rattle.source_events.specs.declared.Item.{Item}
 use Rattle.source_events.specs.declared.Item.TheVariants.{Enter, Ret}
 use Rattle.source_events.specs.declared.FeedBack.{FeedBack}
@@ -35,9 +34,6 @@ U = part_of sums
 abbrev V : Part
 V = part_of keeps
 
-same_int : (v : ℤ) → int_eq v v ≡ true
-same_int v = (Decides-int_eq v v).1 refl
-
 -- ---- the first
 
 sums_body : (l : Level M) (f : Frame Whence ℕ) (v : ℤ) (k : Then M) (st : Store)
@@ -67,7 +63,7 @@ keeps_home : (l : Level M) (left need : ℕ) (words : List (Option Whence)) (v w
     ≡ repeated tick 10
     (with_number M (result_of Plus v v) (finish M (V ∷ []) (first V.procs).need k) (one_word v))
 unfolding variable_named
-keeps_home l left need words v w k = rw (same_int v) refl
+keeps_home l left need words v w k = rw ((Decides-int_eq v v).1 refl) refl
 
 keeps_body : (l : Level M) (f : Frame Whence ℕ) (v : ℤ) (k : Then M) (st : Store) → f.home ≡ 0 → Holds st
     → body_of M (V ∷ []) l f (first V.procs) (Some (Num v ∷ [])) k st

@@ -9,6 +9,7 @@ use Rattle.std.proofs.lemmas.Bool.{and_parts, cases_eq}
 use Rattle.std.proofs.lemmas.Option.{slice_get_within}
 use Rattle.component_file.specs.declared.component.Import.{Import}
 use Rattle.component_file.specs.declared.component.Export.{Export}
+use Rattle.component_file.proofs.Lists.{inside}
 use Rattle.component_linker.specs.Parts.{PartSeen}
 use Rattle.component_linker.specs.Standing.{placed}
 use Rattle.component_linker.specs.Start.{Exported, exported_by, export_that, part_named, imported, same_name}
@@ -159,11 +160,6 @@ of_below (suc n) i c = elim (contains_cases n (below n) i c) as (λ _. i < suc n
   | inr m ↦ (let k = of_below n i m in omega (arith, k))
 ]
 
-there_is : {A : Type 0} (xs : List A) (j : ℕ) → j < length xs → (x : A) × (slice_get xs j ≡ Some x)
-there_is [] j l = absurd (omega (arith, l))
-there_is (x ∷ xs) zero l = (x, refl)
-there_is (x ∷ xs) (suc j) l = there_is xs j (omega (arith, l))
-
 -- ---- one link of sources
 
 module _ (modules : List ModuleFields) (parts : List PartSeen) (size : ℕ) (s : StartSeen)
@@ -248,7 +244,7 @@ module _ (modules : List ModuleFields) (parts : List PartSeen) (size : ℕ) (s :
 
   pub site_listed : (i : ℕ) → i < length s.sites → SiteAt i
   site_listed i lt =
-      let w = there_is s.sites i lt in
+      let w = inside s.sites i lt in
       let u = linked.listed i w.0 w.1 in
       site_there i u.0 u.1
 

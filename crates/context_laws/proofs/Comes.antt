@@ -13,6 +13,7 @@ use Rattle.lcm_isa.specs.declared.Instr.TheVariants.{Xjmp}
 use Rattle.lcm_machine.specs.Maps.{State}
 use Rattle.lcm_machine.specs.Places.{reg}
 use Rattle.lcm_machine.specs.Row.{faces, opens, cell_faces, fetch, some}
+use Rattle.lcm_machine.proofs.Offers.{is_none}
 use Rattle.component_linker.specs.declared.owners.Owner.{Owner}
 use Rattle.trusted_border.specs.declared.events.Event.TheVariants.{Returned}
 use Rattle.trusted_border.specs.Reaches.{closure_owner}
@@ -36,17 +37,13 @@ seal_never : (s : State OWord) (n : Instr) (next : Word) → ((r1 r2 : Reg) → 
 seal_never s (Xjmp r1 r2) next f = absurd (f r1 r2 refl)
 seal_never s _ next f = (refl, refl)
 
-none_if : {A : Type 0} (o : Option A) → is_some o ≡ false → o ≡ None
-none_if None e = refl
-none_if (Some x) e = cc
-
 module _ (g : Link) (linked : Linked g) (o : OState) (h : RunsOutside g o) where
   abbrev IsOpen : Option Opened → Type 0
   IsOpen None = Unit {0}
   IsOpen (Some x) = IsOpenSeal g x.seal
 
   no_owner : owner_now g.layout o ≡ None
-  no_owner = none_if (owner_now g.layout o) h.outside
+  no_owner = is_none (owner_now g.layout o) h.outside
 
   module _ (r1 r2 : Reg) (next : Word) (q : OState) where
     pub enter_event : (x : Opened) → fetch (faces look o.maps Pc) (cell_faces look o.maps) ≡ some (Xjmp r1 r2)

@@ -1,6 +1,7 @@
 -- No code outside can tell trusted parts apart of which the same is observed on each feed.
 use Rattle.std.proofs.Common.{◌≡◌, ℕ, suc, List, [], ◌∷◌, Option, Some, true, false}
 use Rattle.std.proofs.Common.{sym, ap, ◌∙◌, subst}
+use Rattle.std.proofs.lemmas.Option.{same_Some}
 use Rattle.overlay_machine.specs.State.{OState}
 use Rattle.overlay_machine.specs.Step.{goes, overlay_step}
 use Rattle.overlay_machine.specs.Link.{Link}
@@ -80,9 +81,6 @@ module _ {I O : Type 0} (g h : Link) (names : SameNames g h) (lg : Linked g) (lh
     pub below : AreBelow cs p p'
     pub follows : Follows h.layout u observed (seconds cs) p'
 
-  one_value : (x y : O) → Some x ≡ Some y → x ≡ y
-  one_value x y e = cc
-
   other_run : (observed : List I → Option O) (n i j : ℕ) (cs : Calls) (p p' q : OState) (as_ : List Round)
       → Reached g.layout o i p → is_inside g.layout p ≡ false → Follows g.layout t observed (firsts cs) p
       → Beside observed j cs p p' → Path g.layout n p as_ q → Other n cs as_ q p'
@@ -138,7 +136,7 @@ module _ {I O : Type 0} (g h : Link) (names : SameNames g h) (lg : Linked g) (lh
           in
           let f = fg.shows 0 [] a observed (firsts cs) spec.ends none_yet ia in
           let v = be.follows.shows 0 [] b observed (seconds cs) spec.ends none_yet ib in
-          let x : f.0 ≡ v.0 = one_value f.0 v.0 (sym f.2 ∙ ap (λ y. observed (y ∷ [])) same ∙ v.2) in
+          let x : f.0 ≡ v.0 = same_Some f.0 v.0 (sym f.2 ∙ ap (λ y. observed (y ∷ [])) same ∙ v.2) in
           let sh = tell.shown cs i j a b f.0 f.1 v.1 r be.reached ia ib be.alike be.below f.3
           (subst (λ y. ShowsBy u (seconds cs) b y v.1) (sym x) v.3) in
           let ra = after_a g h names lg lh o o' hg hh tg th cs a b i j r be.reached ia ib be.below in

@@ -1,7 +1,7 @@
 -- Two rounds of which the same is observed cross alike.
 use Rattle.std.proofs.lemmas.Option.{slice_get-map}
 use Rattle.std.specs.Prelude.{slice_get}
-use Rattle.std.proofs.Common.{◌≡◌, ℕ, zero, suc, ℤ, List, [], ◌∷◌, map, Option, Some, None, Bool, true}
+use Rattle.std.proofs.Common.{◌≡◌, ℕ, ℤ, List, [], ◌∷◌, map, Option, Some, None, Bool, true}
 use Rattle.std.proofs.Common.{false, refl, sym, ap, ◌∙◌, subst}
 use Rattle.std.specs.Prelude.{option_map, if◌then◌else◌}
 use Rattle.std.specs.List.{Contains}
@@ -25,6 +25,7 @@ use Rattle.overlay_machine.specs.Events.{step_event}
 use Rattle.overlay_machine.specs.Link.{Link}
 use Rattle.overlay_machine.specs.Linked.{Linked}
 use Rattle.overlay_machine.specs.Safe.{IsOpenSeal, IsMet}
+use Rattle.overlay_machine.proofs.Offers.{map_get}
 use Rattle.trace_tool.specs.Layout.{part_name, site_of}
 use Rattle.source_events.specs.declared.OutArg.TheVariants.{Int as IntArg, Half}
 use Rattle.source_events.specs.declared.OutEvent.{OutEvent}
@@ -74,12 +75,6 @@ number_is l fs g same sites (RetData n) m z e =
 
 head_same : {A : Type 0} {x y : A} → x ∷ [] ≡ y ∷ [] → x ≡ y
 head_same e = cc
-
-pub get_map : {A B : Type 0} (f : A → B) (xs : List A) (n : ℕ) (y : B) → slice_get (map f xs) n ≡ Some y
-    → (x : A) × (slice_get xs n ≡ Some x) × (f x ≡ y)
-get_map f [] n y e = absurd (let z : None ≡ Some y = e in cc)
-get_map f (x ∷ xs) zero y e = (x, refl, (let z : f x ≡ y = cc in z))
-get_map f (x ∷ xs) (suc n) y e = get_map f xs n y e
 
 abbrev answers : {T : Type 0} → Event T ℕ → Option ℕ
 answers (Calls part site base low x y xs) = None
@@ -286,8 +281,8 @@ module _ (g h : Link) (names : SameNames g h) (by_names : GoByNames names) (lg :
         → (x y : Arg Whence) × (arg_to word back x ≡ w) × (arg_to word' back' y ≡ v)
         × (arg_to name (λ (k : ℕ). k) x ≡ arg_to name' (λ (k : ℕ). k) y)
     args_at n xs ys w v e f k =
-        let x = get_map (arg_to word back) xs n w e in
-        let y = get_map (arg_to word' back') ys n v f in
+        let x = map_get (arg_to word back) xs n w e in
+        let y = map_get (arg_to word' back') ys n v f in
         let s : Some (arg_to name (λ (k : ℕ). k) x.0) ≡ Some (arg_to name' (λ (k : ℕ). k) y.0) =
         sym (slice_get-map (arg_to name (λ (k : ℕ). k)) xs n
         ∙ ap (option_map (arg_to name (λ (k : ℕ). k))) x.1)

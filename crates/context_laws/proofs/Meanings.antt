@@ -24,6 +24,7 @@ use Rattle.overlay_machine.specs.Names.{NamesTold}
 use Rattle.overlay_machine.specs.Runs.{Reached, goes_on}
 use Rattle.overlay_machine.specs.Starting.{overlay_at, StartsBegin}
 use Rattle.overlay_machine.proofs.starts.NameFacts.{starts_tell_names}
+use Rattle.overlay_machine.proofs.Offers.{map_get}
 use Rattle.trusted_border.specs.declared.layout.Layout.{Layout}
 use Rattle.trace_tool.specs.Layout.{layout}
 use Rattle.trace_tool.specs.Views.{flat_view}
@@ -71,7 +72,7 @@ use Rattle.context_laws.proofs.Told.{items_same}
 use Rattle.context_laws.proofs.History.{AllAlike, all_both, all_more, same_items, things_alike, back_alike}
 use Rattle.context_laws.proofs.Naming.{IsNamed, is_named, named_same}
 use Rattle.context_laws.proofs.Progress.{IsCalm, calm_since, tells_of, goes_out, TellsMore}
-use Rattle.context_laws.proofs.Crossing.{crossed, get_map, ends_same}
+use Rattle.context_laws.proofs.Crossing.{crossed, ends_same}
 use Rattle.context_laws.proofs.Rounds.{RoundTold, round_told, entry_silent}
 
 first_inside : (l : Layout) (p q : OState) → Until l p q → is_inside l p ≡ true
@@ -156,7 +157,7 @@ module _ (begin : StartsBegin) (agree : StartsAgree) (leaves : SourcesLeaveNothi
       ap (λ z. slice_get z n) (sym ((same xs).1 f le))
       ∙ slice_get-map (event_to (name_of W) (λ (k : ℕ). k)) (refined W size xs f).events n
       ∙ ap (option_map (event_to (name_of W) (λ (k : ℕ). k))) e in
-      let y = get_map (event_to (name_of W') (λ (k : ℕ). k)) (refined W' size xs f).events n _ at in
+      let y = map_get (event_to (name_of W') (λ (k : ℕ). k)) (refined W' size xs f).events n _ at in
       (y.0, y.1, sym y.2)
 
   -- so the meaning of the other tells it

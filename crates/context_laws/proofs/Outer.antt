@@ -1,19 +1,16 @@
 -- Steps of code outside, of one run.
-use Rattle.std.proofs.Common.{◌≡◌, inl, inr, ℕ, ◌+◌, ◌<◌, ◌≤◌, pos, ◌+ℤ◌, List}
-use Rattle.std.proofs.Common.{Option, Some, None, true, false, refl, sym, ap, ◌∙◌, subst, arith}
-use Rattle.std.proofs.Common.{le-leb, lt-ltb}
-use Rattle.std.specs.Prelude.{◌==◌, ◌&&◌, not, IsTrue, find, is_some}
-use Rattle.std.proofs.lemmas.Bool.{cases_lt, or_right}
+use Rattle.std.proofs.Common.{◌≡◌, inl, inr, ℕ, ◌+◌, ◌≤◌, pos, ◌+ℤ◌, List}
+use Rattle.std.proofs.Common.{Some, true, false, refl, sym, ap, ◌∙◌, subst, arith}
+use Rattle.std.specs.Prelude.{◌==◌, ◌&&◌, not, is_some}
+use Rattle.std.proofs.lemmas.Bool.{cases_lt}
 use Rattle.cap_words.specs.declared.Word.{Word}
-use Rattle.cap_words.specs.declared.Word.TheVariants.{Int, Mem, Seal, Sealed}
-use Rattle.cap_words.specs.declared.Sealable.{Sealable}
-use Rattle.cap_words.specs.declared.Sealable.TheVariants.{Mem as MemIn, Seal as SealIn}
-use Rattle.cap_words.specs.declared.SealFields.{SealFields}
+use Rattle.cap_words.specs.declared.Word.TheVariants.{Mem, Sealed}
+use Rattle.cap_words.specs.declared.Sealable.TheVariants.{Mem as MemIn}
 use Rattle.cap_words.specs.declared.CapFields.{CapFields}
 use Rattle.cap_words.specs.declared.Opened.{Opened}
 use Rattle.cap_words.specs.declared.Content.TheVariants.{Mem as MemC}
 use Rattle.cap_words.specs.Face.{face_of, opened_of}
-use Rattle.cap_words.specs.Faces.{address, seals_at, target_of, may_run}
+use Rattle.cap_words.specs.Faces.{target_of, may_run}
 use Rattle.cap_words.specs.Linear.{lin_is}
 use Rattle.call_sequence.specs.SequenceRuns.{Outside}
 use Rattle.lcm_isa.specs.declared.Reg.{Reg}
@@ -31,15 +28,12 @@ use Rattle.lcm_machine.specs.Table.{ask, need}
 use Rattle.lcm_machine.specs.Refusals.{HasFailed}
 use Rattle.lcm_machine.specs.Closed.{AllAre, OpensTo}
 use Rattle.lcm_machine.proofs.RowLemmas.{fetch_normal}
-use Rattle.lcm_machine.proofs.StepActs.{in_seals}
 use Rattle.lcm_machine.proofs.TouchLemmas.{after_went, used_target}
 use Rattle.lcm_machine.proofs.WordsKept.{row_keeps}
 use Rattle.flow_check.specs.Holds.{PcAt}
 use Rattle.component_linker.specs.Parts.{PartSeen}
-use Rattle.component_linker.specs.SealsApart.{is_seal_of}
 use Rattle.trusted_border.specs.declared.layout.SiteCode.{SiteCode}
-use Rattle.trusted_border.specs.Layout.{site_code, trusted_owner, runs_part}
-use Rattle.component_linker.specs.declared.owners.Owner.{Owner}
+use Rattle.trusted_border.specs.Layout.{site_code}
 use Rattle.overlay_machine.specs.Invariant.{PcPart, at_fail, at_row, outside}
 use Rattle.overlay_machine.specs.declared.words.OWord.{OWord}
 use Rattle.overlay_machine.specs.declared.words.OWord.TheVariants.{Plain}
@@ -53,10 +47,10 @@ use Rattle.component_linker.proofs.RegionFacts.{in_regions_is}
 use Rattle.lcm_machine.specs.Cells.{cell}
 use Rattle.overlay_machine.specs.Link.{Link, IsTrusted, ranges_of, regions, data_region}
 use Rattle.overlay_machine.specs.Linked.{Linked}
-use Rattle.overlay_machine.specs.Safe.{IsSafeCap, AreSafeSeals, IsOpenSeal, IsSafe}
+use Rattle.overlay_machine.specs.Safe.{IsSafeCap, IsOpenSeal, IsSafe}
 use Rattle.overlay_machine.proofs.FlatLemmas.{mem_of_face}
 use Rattle.overlay_machine.proofs.invariant.Targets.{target_bounds, target_reg}
-use Rattle.overlay_machine.proofs.invariant.Facts.{mem_safe, not_trusted, open_safe, same_region}
+use Rattle.overlay_machine.proofs.invariant.Facts.{mem_safe, open_safe, same_region}
 use Rattle.overlay_machine.proofs.invariant.SafeClosed.{safe_closed}
 use Rattle.overlay_machine.proofs.invariant.View.{pc_untrusted}
 use Rattle.overlay_machine.proofs.invariant.Crossing.{xjmp_crossed, half_seal}
@@ -72,22 +66,7 @@ pub not_code_fails : (a b : Reg) (next : Word) (s : State OWord) (x y : Opened) 
 unfolding row plan_in ask need
 not_code_fails a b next s x y c ha hb he hc hl hr = rw (ha, hb, he, hc, hl, hr) tt
 
-own_seal : (p : PartSeen) (n : ℕ) → p.component.seals.base ≤ n
-    → n < p.component.seals.base + p.component.seals.count → IsTrue (is_seal_of p n)
-own_seal p n low high =
-    rw (le-leb p.component.seals.base n low, lt-ltb n (p.component.seals.base + p.component.seals.count) high)
-    (or_right (p.component.closure == n) true refl)
-
 module _ (g : Link) (linked : Linked g) where
-  pub open_seal : (q : SealFields) → seals_at q q.cur ≡ true → AreSafeSeals g q → IsOpenSeal g (address q.cur)
-  open_seal q b h =
-      let k = in_seals q q.cur b in
-      let x = k.0 in
-      let y = k.1 in
-      let l = h.low in
-      let u = h.high in
-      (h.of, h.untrusted, own_seal h.of (address q.cur) (omega (arith, l, x)) (omega (arith, u, y)))
-
   pub pc_inside : (p : PartSeen) (k : ℕ) (q : OState) → IsTrusted g p
       → PcAt look (ranges_of p) k q.maps.regs → is_inside g.layout q ≡ true
   unfolding faces
@@ -135,30 +114,6 @@ module _ (g : Link) (linked : Linked g) where
                   | inr l2 ↦ absurd (data_target fs d a p s bl bh ip l1 l2)
                 ]
           ]
-
-  -- where pc holds a safe word code outside runs
-  pub safe_outside : (fs : List OpenFrame) (o : OState) → IsSafe g fs o.maps.regs.pc
-      → is_inside g.layout o ≡ false
-  unfolding faces
-  safe_outside fs o h = by_look (look o.maps.regs.pc) refl
-    where
-      by_owner : (c : CapFields) (r : Option Owner) → look o.maps.regs.pc ≡ Mem c
-          → find (runs_part c) g.layout.owners ≡ r → is_some r ≡ false
-      by_owner c None e q = refl
-      by_owner c (Some x) e q =
-          let k = linked.owners c x q in
-          absurd (not_trusted g linked fs k.0 c k.1 (mem_safe g fs o.maps.regs.pc c e h)
-          (ap (λ y. y.base) k.2) (ap (λ y. y.end) k.2))
-
-      by_sealed : (n : ℕ) (c : Sealable) → is_some (trusted_owner g.layout (face_of (Sealed n c))) ≡ false
-      by_sealed n (MemIn m) = refl
-      by_sealed n (SealIn m) = refl
-
-      by_look : (x : Word) → look o.maps.regs.pc ≡ x → is_some (trusted_owner g.layout (face_of x)) ≡ false
-      by_look (Int z) e = refl
-      by_look (Mem c) e = by_owner c (find (runs_part c) g.layout.owners) e refl
-      by_look (Seal c) e = refl
-      by_look (Sealed n c) e = by_sealed n c
 
   module _ (o : OState) (h : RunsOutside g o) where
     pub safe : (r : Reg) → IsSafe g o.frames (reg o.maps.regs r)

@@ -21,6 +21,7 @@ use Rattle.overlay_machine.specs.Step.{goes, overlay_step}
 use Rattle.overlay_machine.specs.Events.{step_event, entered, shown}
 use Rattle.overlay_machine.specs.Link.{Link}
 use Rattle.overlay_machine.specs.Starting.{overlay_at}
+use Rattle.overlay_machine.proofs.Offers.{map_get}
 use Rattle.trace_tool.specs.Layout.{layout}
 use Rattle.template_runs.specs.Runs.{is_inside}
 use Rattle.template_runs.specs.Border.{Shows, ShowsBy, by_call, by_leave}
@@ -31,12 +32,8 @@ use Rattle.source_laws.specs.Words.{WhenceTold, TellsSo, word_from, back_at}
 use Rattle.source_laws.specs.Wiped.{TellsSince, and_then, last_outside, WipedTold, WipedAlways}
 use Rattle.source_laws.specs.Secrets.{Until}
 use Rattle.context_laws.specs.Related.{entered_at}
-use Rattle.context_laws.proofs.Crossing.{get_map}
 use Rattle.context_laws.proofs.Progress.{tells_of, until_since, until_inside}
-
-get_mid : {A : Type 0} (es : List A) (c : A) → slice_get (es ++ c ∷ []) (length es) ≡ Some c
-get_mid [] c = refl
-get_mid (e ∷ es) c = get_mid es c
+use Rattle.component_file.proofs.Lists.{get_pushed}
 
 -- an entry shows nothing
 pub entry_silent : (l : Layout) (x : Exported) (q : OState) → outs_of l q (entered_at l x q) ≡ []
@@ -115,7 +112,7 @@ module _ (g : Link) (world : World) (size : ℕ) (s : StartSeen) (same : g.layou
           let told = (refined world size (feed_of is) f).events in
           let word = event_to (word_from marks is) (back_at is) in
           let at : slice_get (map shown_of (map word told)) (length es) ≡ Some c =
-          ap (λ z. slice_get z (length es)) (h.1 out) ∙ get_mid es c in
-          let m = get_map shown_of (map word told) (length es) c at in
-          let n = get_map word told (length es) m.0 m.1 in
+          ap (λ z. slice_get z (length es)) (h.1 out) ∙ get_pushed es c in
+          let m = map_get shown_of (map word told) (length es) c at in
+          let n = map_get word told (length es) m.0 m.1 in
           (n.0, n.1, ec ∙ ap (λ z. z ∷ []) (sym (ap shown_of n.2 ∙ m.2)))

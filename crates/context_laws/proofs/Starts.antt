@@ -18,10 +18,9 @@ use Rattle.component_linker.specs.LinkedStarts.{IsStartOf}
 use Rattle.component_linker.specs.Regions.{in_regions, regions_of}
 use Rattle.component_linker.specs.Start.{Exported, imported, code_half, data_half, slot_word, data_word, from}
 use Rattle.component_linker.specs.Start.{part_word, first_given, start_cell}
-use Rattle.component_linker.proofs.Found.{given, given_by}
-use Rattle.component_linker.specs.Linked.{Kept}
+use Rattle.component_linker.proofs.Found.{given_by}
 use Rattle.component_linker.proofs.PartKept.{is_kept}
-use Rattle.component_linker.proofs.PartWords.{from_inv, slot_inv}
+use Rattle.component_linker.proofs.PartWords.{from_inv, data_within}
 use Rattle.component_linker.proofs.StartWords.{imported_there, listed_at}
 use Rattle.component_linker.proofs.OwnWords.{OwnWord, own_code, own_data}
 use Rattle.overlay_machine.specs.declared.words.OWord.{OWord}
@@ -39,21 +38,6 @@ use Rattle.context_laws.specs.Sources.{SameImported, SamePlaces, PlacedStartsAli
 use Rattle.overlay_machine.specs.Keeping.{HoldsFor}
 use Rattle.context_laws.proofs.Arrive.{in_region_of}
 use Rattle.context_laws.proofs.Sources.{starts_alike}
-
--- where a part has a word
-data_within : (parts : List PartSeen) (p : PartSeen) → Kept p → (o : ℕ) (w : Word)
-    → data_word parts p.component o ≡ Some w → o < length p.component.data_words
-data_within parts p kept o w h =
-    elim (given_by (first_given (slot_word parts o) p.component.imports) (slice_get p.component.data_words o)
-    w h) as (λ _. o < length p.component.data_words) [
-      | inl s ↦ (
-          let g = given (slot_word parts o) p.component.imports w s in
-          let l = kept.slots_in g.index g.item g.at in
-          elim (slot_inv parts o g.item w g.is) as (λ _. o < length p.component.data_words)
-          [ inl e ↦ omega (arith, l, e) | inr e ↦ omega (arith, l, e) ]
-          )
-      | inr d ↦ slice_get_within p.component.data_words o w d
-    ]
 
 -- a trusted part has no word at an address that is free
 part_none : (g : Link) (linked : Linked g) (parts : List PartSeen) (a : ℕ) (p : PartSeen) → IsTrusted g p

@@ -1,5 +1,5 @@
 -- A step of code outside does the same in two runs, from states that are alike to it.
-use Rattle.std.proofs.Common.{◌≡◌, ◌≢◌, ◌⊎◌, inl, inr, ℕ, ◌+◌, pos, List, [], ◌∷◌}
+use Rattle.std.proofs.Common.{◌≡◌, ◌≢◌, inl, inr, ℕ, ◌+◌, pos, List, [], ◌∷◌}
 use Rattle.std.proofs.Common.{Option, Some, None, Bool, true, false, refl, sym, ap, ◌∙◌, subst}
 use Rattle.std.proofs.Common.{eqb-true, eq-eqb}
 use Rattle.std.specs.Prelude.{◌==◌, ◌&&◌, is_some, ◌↔◌, if◌then◌else◌}
@@ -54,6 +54,8 @@ use Rattle.overlay_machine.specs.Linked.{Linked}
 use Rattle.overlay_machine.specs.Safe.{IsOpenSeal, IsSafe}
 use Rattle.overlay_machine.proofs.invariant.Facts.{seals_safe}
 use Rattle.overlay_machine.proofs.invariant.Crossing.{code_is}
+use Rattle.overlay_machine.proofs.Offers.{is_xjmp, open_seal}
+use Rattle.template_runs.proofs.Outside.{safe_outside}
 use Rattle.template_runs.specs.Public.{IsFreeAt}
 use Rattle.context_laws.specs.Related.{RunsOutside, SameNames, Calls, AreCalls, OneToOne, IsOurs, SameWord}
 use Rattle.context_laws.specs.Related.{ours, code_halves}
@@ -61,11 +63,11 @@ use Rattle.context_laws.specs.Related.{data_halves, ret_codes, ret_datas, Newest
 use Rattle.context_laws.specs.Related.{StepsAlike, both_halt, both_fail, both_stay, both_come}
 use Rattle.context_laws.specs.Related.{OutsideStepsAlike}
 use Rattle.context_laws.proofs.Rows.{Fresh, EndsTwin, fetch_twin, row_twin, faces_twin, clear_twin, put_twin}
-use Rattle.context_laws.proofs.Outer.{not_code_fails, open_seal, pc_inside, site_inside, safe, pc_free}
+use Rattle.context_laws.proofs.Outer.{not_code_fails, pc_inside, site_inside, safe, pc_free}
 use Rattle.context_laws.proofs.Outer.{target_free, pc_there}
 use Rattle.context_laws.proofs.Outer.{target_there}
 use Rattle.context_laws.proofs.Comes.{enter_event, return_event, straight_event, own_event}
-use Rattle.context_laws.proofs.Outer.{other_is, back_is, safe_outside, next_mem, straight_pc, cross_pc}
+use Rattle.context_laws.proofs.Outer.{other_is, back_is, next_mem, straight_pc, cross_pc}
 
 eqb_same : (k f m e : ℕ) → (k ≡ f) ↔ (m ≡ e) → (k == f) ≡ (m == e)
 eqb_same k f m e h = elim (cases_Bool (k == f)) as (λ _. (k == f) ≡ (m == e)) [
@@ -76,11 +78,6 @@ eqb_same k f m e h = elim (cases_Bool (k == f)) as (λ _. (k == f) ≡ (m == e))
     | inr n' ↦ n ∙ sym n'
   ]
 ]
-
-is_xjmp : (n : Instr)
-    → ((r1 : Reg) × (r2 : Reg) × (n ≡ Xjmp r1 r2)) ⊎ ((r1 r2 : Reg) → n ≡ Xjmp r1 r2 → ⊥)
-is_xjmp (Xjmp r1 r2) = inl (r1, r2, refl)
-is_xjmp _ = inr (λ r1 r2 e. cc)
 
 opens_never : (v w : Reg → Option Opened) (n : Instr) → ((r1 r2 : Reg) → n ≡ Xjmp r1 r2 → ⊥) → OpensSame v w n
 opens_never v w (Xjmp r1 r2) f = absurd (f r1 r2 refl)
@@ -242,7 +239,7 @@ module _ (g h : Link) (names : SameNames g h) (cs : Calls) where
     fresh (Sealed n x) f =
         let k = look_seals (look (reg q.maps.regs f.0)) f.1 f.2 in
         let s = seals_safe g q.frames (reg q.maps.regs f.0) f.1 k (safe g lg q oq f.0) in
-        ours (Sealed n x) (subst (IsOpenSeal g) (sym f.4) (open_seal g lg f.1 f.3 s))
+        ours (Sealed n x) (subst (IsOpenSeal g) (sym f.4) (open_seal g f.1 f.3 s))
 
     faces_same : faces look r.maps ≡ faces look q.maps
     faces_same = faces_twin look Plain Rel Free face_is q.maps r.maps al.seen

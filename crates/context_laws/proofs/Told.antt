@@ -17,10 +17,8 @@ use Rattle.lcm_machine.specs.Row.{faces}
 use Rattle.flow_check.specs.Holds.{PcAt}
 use Rattle.component_linker.specs.Owners.{owner_of}
 use Rattle.component_linker.specs.Start.{Exported, code_of}
-use Rattle.trusted_border.specs.declared.layout.Layout.{Layout}
 use Rattle.trusted_border.specs.declared.layout.SiteCode.{SiteCode}
 use Rattle.trusted_border.specs.declared.events.Event.TheVariants.{Entered}
-use Rattle.trusted_border.specs.declared.events.Back.TheVariants.{Bad}
 use Rattle.trusted_border.specs.Layout.{site_code}
 use Rattle.trusted_border.specs.Reaches.{closure_owner, entry_number, site_of_seal, hop_in, hop_to, back_of}
 use Rattle.trusted_border.specs.Reaches.{back_if, back_under}
@@ -45,6 +43,7 @@ use Rattle.source_events.specs.declared.Item.{Item}
 use Rattle.source_events.specs.declared.Item.TheVariants.{Enter}
 use Rattle.source_laws.specs.Trace.{items_of}
 use Rattle.template_runs.proofs.Outside.{open_no_owner}
+use Rattle.template_runs.proofs.Mixed.{if_bad}
 use Rattle.source_starts.proofs.Halves.{open_foreign, closure_foreign}
 use Rattle.context_laws.specs.Related.{SameNames, IsExport, Calls, SameWord}
 use Rattle.context_laws.specs.Related.{EnterAlike, ReturnAlike, ComesAlike, entered_at}
@@ -128,11 +127,6 @@ module _ (k : Link) (linked : Linked k) (told : NamesTold k.parts k.layout) wher
   foreign : (n : ℕ) → IsOpenSeal k n → site_of_seal k.layout n ≡ None
   foreign n o = open_foreign k linked (λ t p k. Unit {0}) n o
 
-back_false : (l : Layout) (a b : Option Opened) → back_if false l a b ≡ Bad
-back_false l None b = refl
-back_false l (Some a) None = refl
-back_false l (Some a) (Some b) = refl
-
 -- ---- two links
 
 module _ (g h : Link) (names : SameNames g h) (by_names : GoByNames names) (lg : Linked g) (lh : Linked h)
@@ -189,9 +183,9 @@ module _ (g h : Link) (names : SameNames g h) (by_names : GoByNames names) (lg :
   back_same : (a b c d : Option Opened) → Jump g h names a b c d → B a b c d
   back_same _ _ _ _ (fails w v x y e f) =
       ap (λ z. feed_back g.layout (back_if z g.layout w v)) e
-      ∙ ap (feed_back g.layout) (back_false g.layout w v)
+      ∙ ap (feed_back g.layout) (if_bad g.layout w v)
       ∙ sym (ap (λ z. feed_back h.layout (back_if z h.layout x y)) f
-      ∙ ap (feed_back h.layout) (back_false h.layout x y))
+      ∙ ap (feed_back h.layout) (if_bad h.layout x y))
   back_same _ _ _ _ (outside w v o) = by (jumps (Some w) (Some v))
     where
       no : (site_of_seal g.layout w.seal ≡ None) × (site_of_seal h.layout w.seal ≡ None)

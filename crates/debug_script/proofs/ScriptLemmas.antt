@@ -95,10 +95,6 @@ module _ (cs : List Command) (n : ℕ) (text : List ℕ) where
   ends at none =
       ap (behind_commands cs) (at_last n text at ∙ ap (at_end n) none) ∙ ap Ok (append-nil cs)
 
-pub no_bytes : (text : List ℕ) → length text ≡ 0 → text ≡ []
-no_bytes [] h = refl
-no_bytes (b ∷ bs) h = absurd (omega (arith, h))
-
 some_end : (n : ℕ) (text : List ℕ) → 0 < length text → at_end n text ≡ Err (Line n)
 some_end n [] h = absurd (omega (arith, h))
 some_end n (b ∷ bs) h = refl

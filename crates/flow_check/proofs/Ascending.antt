@@ -1,10 +1,10 @@
 -- Lists that ascend by a key, and what a search by halving finds in them.
 use Rattle.std.proofs.Common.{◌≡◌, ℕ, zero, suc, ◌<◌, ◌≤◌, ◌⊎◌, inl, inr, Bool, true, false, List, [], ◌∷◌}
 use Rattle.std.proofs.Common.{length, get_or, Option, Some, None, refl, sym, ◌∙◌, arith, lt-ltb}
-use Rattle.std.specs.Prelude.{◌==◌, nat_lt, IsTrue}
+use Rattle.std.specs.Prelude.{◌==◌, nat_lt}
 use Rattle.std.specs.List.{find, list_any}
 use Rattle.std.specs.List.Sorted.{IsPartitionedBy, IsPartitionPoint}
-use Rattle.std.proofs.lemmas.Bool.{cases_eq, eqb-true}
+use Rattle.std.proofs.lemmas.Bool.{cases_eq, eqb-true, ltb-true, ltb-false}
 use Rattle.std.proofs.lemmas.Bool.Decides.{nat_tests}
 use Rattle.std.proofs.lemmas.List.Folds.{list_any_at}
 use Rattle.component_file.specs.declared.component.KindRow.{KindRow}
@@ -12,15 +12,6 @@ use Rattle.component_file.specs.declared.component.ComponentFields.{ComponentFie
 use Rattle.component_file.specs.Limits.{Chain, SiteFits, RowFits, IsComponent}
 use Rattle.flow_check.specs.Ascending.{IsSplitAt}
 use Rattle.flow_check.specs.Places.{is_behind}
-
-lt_true : (a b : ℕ) → IsTrue (nat_lt a b) → a < b
-lt_true a b h = grind (arith, nat_tests)
-
-pub lt_of : (a b : ℕ) → nat_lt a b ≡ true → a < b
-lt_of a b h = grind (arith, nat_tests)
-
-pub le_of : (a b : ℕ) → nat_lt a b ≡ false → b ≤ a
-le_of a b h = grind (arith, nat_tests)
 
 pub eq_not : (a b : ℕ) → (a ≡ b → ⊥) → (a == b) ≡ false
 eq_not a b ne = by_test (a == b) refl
@@ -77,7 +68,7 @@ module _ {A : Type 0} (key : A → ℕ) where
   pub parted : (xs : List A) (bound : ℕ) → Ascends xs → IsPartitionedBy (λ x. nat_lt (key x) bound) xs
   parted xs bound h i j d le lt e =
       let up : key (get_or xs i d) ≤ key (get_or xs j d) = up_eq xs h i j d le lt in
-      let high : key (get_or xs j d) < bound = lt_of _ bound e in
+      let high : key (get_or xs j d) < bound = ltb-true _ bound e in
       lt-ltb _ bound (omega arith)
 
   pub split_is : (xs : List A) (bound i : ℕ) → i ≤ length xs
@@ -85,8 +76,8 @@ module _ {A : Type 0} (key : A → ℕ) where
       → IsSplitAt key bound xs i
   split_is xs bound i le q = record {
     within = le;
-    below = λ j d lt. lt_of (key (get_or xs j d)) bound (q.0 j d (omega arith) lt);
-    others = λ j d ge lt. le_of (key (get_or xs j d)) bound (q.1 j d ge lt);
+    below = λ j d lt. ltb-true (key (get_or xs j d)) bound (q.0 j d (omega arith) lt);
+    others = λ j d ge lt. ltb-false (key (get_or xs j d)) bound (q.1 j d ge lt);
   }
 
   -- an item whose key this is stands at the split, if there is one
@@ -134,11 +125,12 @@ module _ {A : Type 0} (key : A → ℕ) where
 -- ---- the two lists
 
 pub sites_up : (c : ComponentFields) → IsComponent c → Ascends (λ s. s) c.sites
-sites_up c h = chain_up (λ s. s) SiteFits (λ b x p. lt_true b x p.1) None c.sites h.sites.1
+sites_up c h = chain_up (λ s. s) SiteFits (λ b x p. ltb-true b x p.1) None c.sites h.sites.1
 
 pub rows_up : (c : ComponentFields) → IsComponent c → Ascends (λ (r : KindRow). r.offset) c.rows
 rows_up c h =
-    chain_up (λ (r : KindRow). r.offset) RowFits (λ b x p. lt_true b.offset x.offset p.1) None c.rows h.rows.1
+    chain_up (λ (r : KindRow). r.offset) RowFits (λ b x p. ltb-true b.offset x.offset p.1) None c.rows
+    h.rows.1
 
 pub any_none : {A : Type 0} (p : A → Bool) (xs : List A) (d : A)
     → ((j : ℕ) → j < length xs → p (get_or xs j d) ≡ false) → list_any p xs ≡ false

@@ -1,14 +1,13 @@
 -- The rules of the lists: what they say of each item.
 use Rattle.std.proofs.Common.{◌≡◌, ℕ, ◌+◌, ◌<◌, ◌≤◌, true, false, length, Option, Some, None, refl, ap, ◌∙◌}
 use Rattle.std.specs.Prelude.{nat_lt, option_map, unwrap_or, is_some}
-use Rattle.std.proofs.lemmas.Bool.{or_parts}
+use Rattle.std.proofs.lemmas.Bool.{or_parts, ltb-false}
 use Rattle.component_file.specs.declared.component.ComponentFields.{ComponentFields}
 use Rattle.component_check.specs.Places.{Test, first_of, first_place}
 use Rattle.component_check.proofs.First.{IsFirstIn, first_below_is}
 use Rattle.call_sequence.specs.declared.TheConstants.{SITE_WORDS}
 use Rattle.call_sequence.specs.Standing.{site_difference}
 use Rattle.flow_check.specs.Lists.{site_of, site_is_bad, k1, k2}
-use Rattle.flow_check.proofs.Ascending.{le_of}
 
 -- a rule that has no first place is broken nowhere
 pub each_kept : {P : Type 0} (t : Test P) → first_place t ≡ None → (i : ℕ) → i < t.count → t.broken i ≡ false
@@ -30,7 +29,7 @@ broken_first t p e = by_first (first_of t) (first_below_is t.broken t.count) e
 pub site_room : (c : ComponentFields) (i : ℕ) → site_is_bad c i ≡ false
     → site_of c i + SITE_WORDS ≤ length c.code
 site_room c i e =
-    le_of (length c.code) (site_of c i + SITE_WORDS)
+    ltb-false (length c.code) (site_of c i + SITE_WORDS)
     (or_parts (nat_lt (length c.code) (site_of c i + SITE_WORDS)) _ e).0
 
 -- where K1 is kept, the code has room for each site

@@ -22,6 +22,7 @@ use Rattle.flow_check.specs.Places.{begins_entry, begins_site, declared}
 use Rattle.flow_check.specs.Walk.{instr_at, keep, comes_in, site_ready, good_target, flow_of, after_flow}
 use Rattle.flow_check.specs.Walk.{at_row, past, at_word, at_entry, at_end, next_from, next, walk, Comes}
 use Rattle.flow_check.specs.Verdict.{IsFirstOfFlow, found_by, flow_answer}
+use Rattle.flow_check.proofs.Walks.{stays}
 
 -- ---- a walk ends within the code's length
 
@@ -120,17 +121,12 @@ module _ (c : ComponentFields) where
   ends (Before o current) h = let past_end : nat_lt o (length c.code) ≡ false =
       grind (arith, nat_tests) in rw past_end (ends_there current)
 
-  stays : (w : Walk) (n k : ℕ) → next c w ≡ w → walk c n ≡ w → walk c (k + n) ≡ w
-  stays w n zero s e = let k : 0 + n ≡ n = omega arith in rw k e
-  stays w n (suc k) s e = let m : suc k + n ≡ suc (k + n) =
-      omega arith in rw m (ap (next c) (stays w n k s e) ∙ s)
-
   comes_to : (w : Walk) → next c w ≡ w → Comes c w → walk c (suc (length c.code)) ≡ w
   comes_to w stops h =
       let n = suc (length c.code) in
       let m : h.0 + n ≡ n + h.0 = omega arith in
-      sym (stays (walk c n) n h.0 (ends (walk c (length c.code)) (far (length c.code))) refl) ∙ ap (walk c) m
-      ∙ stays w h.0 n stops h.1
+      sym (stays c (walk c n) n h.0 (ends (walk c (length c.code)) (far (length c.code))) refl)
+      ∙ ap (walk c) m ∙ stays c w h.0 n stops h.1
 
 -- ---- what is answered
 

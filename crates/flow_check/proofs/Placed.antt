@@ -6,6 +6,7 @@ use Rattle.std.specs.Prelude.{◌==◌, nat_le, nat_lt, slice_get, not, ◌&&◌
 use Rattle.std.specs.Prelude.{option_map}
 use Rattle.std.specs.List.{find}
 use Rattle.std.proofs.lemmas.Bool.{eqb-true, and_parts, not-false, or_parts, false_from_ne_true, and_from}
+use Rattle.std.proofs.lemmas.Bool.{ltb-true, ltb-false, leb-true, leb-false}
 use Rattle.std.proofs.lemmas.Bool.Decides.{nat_tests}
 use Rattle.std.proofs.lemmas.Option.{slice_get_within, get_or_from_slice_get}
 use Rattle.std.proofs.lemmas.List.Folds.{list_any_at}
@@ -22,7 +23,7 @@ use Rattle.flow_check.specs.Kinds.{Row}
 use Rattle.flow_check.specs.Places.{begins_entry, begins_site, in_entry, in_site, is_inside, declared}
 use Rattle.flow_check.specs.Lists.{site_of, site_is_bad, overlap, meets_entry, meets_site, entry_is_bad}
 use Rattle.flow_check.specs.Lists.{row_offset, of_entry, is_misplaced, k1, k2, k3, k4, lists}
-use Rattle.flow_check.proofs.Ascending.{lt_of, le_of, eq_is, eq_not}
+use Rattle.flow_check.proofs.Ascending.{eq_is, eq_not}
 use Rattle.flow_check.proofs.Listing.{site_room}
 use Rattle.flow_check.proofs.Entries.{any_index, no_export, entry_of, entry_at, export_fits}
 use Rattle.flow_check.proofs.Walks.{Inside, ListsKept}
@@ -75,7 +76,7 @@ module _ (c : ComponentFields) (placed : NoneBroken (lists c)) where
   next_apart i lt =
       let before : suc i - 1 ≡ i = omega arith in
       let h = (or_parts (nat_lt (length c.code) (site_of c (suc i) + SITE_WORDS)) _ (k1_kept (suc i) lt)).1 in
-      le_of (site_of c (suc i)) (site_of c i + SITE_WORDS)
+      ltb-false (site_of c (suc i)) (site_of c i + SITE_WORDS)
       (second_false (nat_lt 0 (suc i)) _ (lt-ltb 0 (suc i) (omega arith)) (rw before at h))
 
   apart : (i k : ℕ) → suc (k + i) < length c.sites → site_of c i + SITE_WORDS ≤ site_of c (suc (k + i))
@@ -139,12 +140,9 @@ module _ (c : ComponentFields) (placed : NoneBroken (lists c)) where
     unfolding is_entry
     entry_room o e = by_fail c.fail_at refl
       where
-        le_true : (a b : ℕ) → nat_le a b ≡ true → a ≤ b
-        le_true a b h = grind (arith, nat_tests)
-
         by_fail : (f : Option ℕ) → c.fail_at ≡ f → o + ENTRY_WORDS ≤ length c.code
         by_fail None m = cc (rw m at e)
-        by_fail (Some f) m = le_true (o + ENTRY_WORDS) (length c.code) (and_parts _ _ (rw m at e)).0
+        by_fail (Some f) m = leb-true (o + ENTRY_WORDS) (length c.code) (and_parts _ _ (rw m at e)).0
 
     pub entry_within : (o : ℕ) → begins_entry c o ≡ true → o + ENTRY_WORDS ≤ length c.code
     entry_within o e = entry_room o (entry_stands o e)
@@ -225,9 +223,6 @@ module _ (c : ComponentFields) (placed : NoneBroken (lists c)) where
     unfolding in_entry in_site begins_site
     inside_is o h = by_entry (in_entry c o) refl h
       where
-        lt_true : (a b : ℕ) → nat_lt a b ≡ true → a < b
-        lt_true a b h = grind (arith, nat_tests)
-
         by_entry : (b : Bool) → in_entry c o ≡ b → (b || in_site c o) ≡ true → Inside c o
         by_entry true e t =
             let k = any_index (λ (x : Export). nat_lt x.offset o && nat_lt o (x.offset + ENTRY_WORDS))
@@ -237,8 +232,8 @@ module _ (c : ComponentFields) (placed : NoneBroken (lists c)) where
               start = (get_or c.exports k.0 no_export).offset;
               size = ENTRY_WORDS;
               seq = inl (entry_at c k.0 no_export k.1, refl);
-              after = lt_true _ _ m.0;
-              before_end = lt_true _ _ m.1;
+              after = ltb-true _ _ m.0;
+              before_end = ltb-true _ _ m.1;
             }
         by_entry false e t =
             let k = any_index (λ s. nat_lt s o && nat_lt o (s + SITE_WORDS)) c.sites 0 t in
@@ -251,8 +246,8 @@ module _ (c : ComponentFields) (placed : NoneBroken (lists c)) where
                     c.sites k.0 0 k.1 (eq_is (get_or c.sites k.0 0) (get_or c.sites k.0 0) refl),
                 refl,
               );
-              after = lt_true _ _ m.0;
-              before_end = lt_true _ _ m.1;
+              after = ltb-true _ _ m.0;
+              before_end = ltb-true _ _ m.1;
             }
 
     -- ---- all of it
@@ -280,10 +275,10 @@ module _ (c : ComponentFields) (placed : NoneBroken (lists c)) where
           let k = any_index (λ (x : Export). nat_lt x.offset o && nat_lt o (x.offset + ENTRY_WORDS))
           c.exports no_export e in
           let m = and_parts _ _ k.2 in
-          let low : (get_or c.exports k.0 no_export).offset < o = lt_of _ o m.0 in
+          let low : (get_or c.exports k.0 no_export).offset < o = ltb-true _ o m.0 in
           no_contradiction (of_entry c o)
           (within_entry o (get_or c.exports k.0 no_export).offset (entry_at c k.0 no_export k.1)
-          (omega arith) (lt_of o _ m.1)) h),
+          (omega arith) (ltb-true o _ m.1)) h),
     )
 
     free_row : (o : ℕ) → is_misplaced c o ≡ false
@@ -293,10 +288,7 @@ module _ (c : ComponentFields) (placed : NoneBroken (lists c)) where
         let a = or_parts (nat_le (length c.code) o) _ h in
         let b = or_parts (of_entry c o) (in_site c o) a.1 in
         let e = free_of_entry o b.0 in
-        (within (length c.code) o a.0, e.0, outside o (rw (e.1, b.1) refl))
-      where
-        within : (n o : ℕ) → nat_le n o ≡ false → o < n
-        within n o e = grind (arith, nat_tests)
+        (leb-false (length c.code) o a.0, e.0, outside o (rw (e.1, b.1) refl))
 
     row_index : (o : ℕ) (d : Row) → declared c o ≡ Some d
         → (i : ℕ) × (i < length c.rows) × (row_offset c i ≡ o)

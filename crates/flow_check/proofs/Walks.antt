@@ -121,7 +121,7 @@ module _ (c : ComponentFields) where
 
   -- ---- the walk ends in one way
 
-  stays : (w : Walk) (n k : ℕ) → next c w ≡ w → walk c n ≡ w → walk c (k + n) ≡ w
+  pub stays : (w : Walk) (n k : ℕ) → next c w ≡ w → walk c n ≡ w → walk c (k + n) ≡ w
   stays w n zero s e = let k : 0 + n ≡ n = omega arith in rw k e
   stays w n (suc k) s e = let m : suc k + n ≡ suc (k + n) =
       omega arith in rw m (ap (next c) (stays w n k s e) ∙ s)

@@ -4,6 +4,7 @@ use Rattle.std.proofs.Common.{◌≡◌, ◌≢◌, ◌⊎◌, inl, inr, ℕ, ze
 use Rattle.std.proofs.Common.{true, false, not, List, [], ◌∷◌, refl, sym, ap, subst, ◌∙◌, arith}
 use Rattle.std.specs.Prelude.{Option, Some, None, IsTrue, if◌then◌else◌, nat_lt, nat_le, ◌+ℤ◌, ◌-ℤ◌}
 use Rattle.std.proofs.lemmas.Bool.{not-true, eqb-true, leb-true, ltb-true, and_parts, cases_lt}
+use Rattle.std.proofs.lemmas.Option.{same_Some}
 use Rattle.lcm_isa.specs.declared.Reg.{Reg}
 use Rattle.lcm_isa.specs.declared.Reg.TheVariants.{Pc, Dat}
 use Rattle.lcm_isa.specs.declared.Operand.TheVariants.{R as InReg, Imm}
@@ -64,9 +65,6 @@ pub split_bounds : (c : CapFields) (z : ℤ) → can_split c z ≡ true → (c.b
 split_bounds c (pos n) e = let k =
     and_parts (nat_le c.base n) (nat_lt n c.end) e in (leb-true c.base n k.0, ltb-true n c.end k.1)
 split_bounds c (negsuc n) e = cc
-
-some_same : {A : Type 0} (a b : A) → Some a ≡ Some b → a ≡ b
-some_same a b h = cc
 
 -- each capability of the one lies within that of the other, and is as linear
 abbrev pub Within : Word → Word → Type 0
@@ -156,7 +154,7 @@ module _ {W : Type 0} (look : W → Word) (plain : Word → W) (seen : (x : Word
 
   word-put_at : (b : Bool) (s : State W) (d r : Reg) → R d ≢ R r
       → reg (if b then put s (R r) (zero_word plain) else s).regs d ≡ reg s.regs d
-  word-put_at true s d r ne = some_same _ _ (word_at-other s (R r) (R d) (zero_word plain) ne)
+  word-put_at true s d r ne = same_Some _ _ (word_at-other s (R r) (R d) (zero_word plain) ne)
   word-put_at false s d r ne = refl
 
   word-clear : (s : State W) (d r : Reg) → R d ≢ R r → reg (clear look plain s (R r)).regs d ≡ reg s.regs d
@@ -215,10 +213,10 @@ module _ {W : Type 0} (look : W → Word) (plain : Word → W) (seen : (x : Word
         let rest : CapFields = record c { base = address z + 1 } in
         let f = i.safe_places (R r3) w refl in
         let low : Within (Mem cut) (look w) = λ d m. let same =
-        some_same cut d m in rw (← same)
+        same_Some cut d m in rw (← same)
         (c, ap memory_of e, omega arith, λ h. k.0, omega (arith, k.1), refl) in
         let high : Within (Mem rest) (look w) = λ d m. let same =
-        some_same rest d m in rw (← same)
+        same_Some rest d m in rw (← same)
         (c, ap memory_of e, omega (arith, k.0), λ h. omega (arith, k.1), omega arith, refl) in
         let apart : Disjoint Owns (plain (Mem cut)) (plain (Mem rest)) = λ a o p.
         let h = over_bounds cut a (owns_plain (Mem cut) a o).1 in
@@ -260,7 +258,7 @@ module _ {W : Type 0} (look : W → Word) (plain : Word → W) (seen : (x : Word
         let v = reg (clear look plain s (R r2)).regs r3 in
         let ev : look v ≡ Mem b = ap look (word-clear s r3 r2 (two_registers r2 r3 a b ea eb meet)) ∙ eb in
         let fits : FitsIn (Mem both) =
-        λ d m. rw (← some_same both d m)
+        λ d m. rw (← same_Some both d m)
         (joined_in rs a b regions (i.safe_places (R r2) u refl a (ap memory_of ea))
         (i.safe_places (R r3) (reg s.regs r3) refl b (ap memory_of eb)) meet) in
         let parts : (x : ℕ) → Owns (plain (Mem both)) x → Owns v x ⊎ Owns u x = λ x o.
@@ -298,7 +296,7 @@ module _ {W : Type 0} (look : W → Word) (plain : Word → W) (seen : (x : Word
         → memory_of x ≡ Some d → d.base ≡ c.base → d.end ≡ c.end → lin_is d.lin ≡ lin_is c.lin
         → Within x (look (reg s.regs r))
     same_range r c d x m e eb ee el = λ q h.
-        let same : d ≡ q = some_same d q (sym e ∙ h) in
+        let same : d ≡ q = same_Some d q (sym e ∙ h) in
         rw (← same) (
           c,
           ap memory_of (memory_look r c m),
@@ -328,7 +326,7 @@ module _ {W : Type 0} (look : W → Word) (plain : Word → W) (seen : (x : Word
     code_free r o c e m l =
         let k : memory_of (look (reg s.regs r)) ≡ Some c =
         sym (opened_same r o e) ∙ ap memory_of (content_is o.content c m) in
-        free_normal (Mem c) (λ d h. rw (← some_same c d h) (i.safe_places (R r) (reg s.regs r) refl c k))
+        free_normal (Mem c) (λ d h. rw (← same_Some c d h) (i.safe_places (R r) (reg s.regs r) refl c k))
         (not-true (lin_is c.lin) l)
 
     pub plan-Keeps : (n : Instr) (there : Option Face)
@@ -421,7 +419,7 @@ module _ {W : Type 0} (look : W → Word) (plain : Word → W) (seen : (x : Word
       → lin_is c.lin ≡ false → Free (Mem (record c { addr = c.addr +ℤ pos 1 }))
   next_free s i c e l =
       free_normal (Mem (record c { addr = c.addr +ℤ pos 1 }))
-      (λ d h. rw (← some_same (record c { addr = c.addr +ℤ pos 1 }) d h)
+      (λ d h. rw (← same_Some (record c { addr = c.addr +ℤ pos 1 }) d h)
       (i.safe_places (R Pc) (reg s.regs Pc) refl c (ap memory_of e))) l
 
   keeps-fetched : (s : State W) → Good s [] → (f : Fetched)

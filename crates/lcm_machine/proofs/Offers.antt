@@ -34,12 +34,13 @@ pub use Rattle.lcm_machine.proofs.XjmpFails.{opened-memory, xjmp_fails, xjmp_run
 pub use Rattle.lcm_machine.proofs.Refusals.{failed_more, splice_fails, split_fails, stops, store_fails}
 pub use Rattle.lcm_machine.proofs.Refusals.{then_failed}
 -- a step counts at most one, and an ended machine stays as it is
-pub use Rattle.lcm_machine.proofs.RunLemmas.{count_next, is_none, plain_ended, plain_ends, plain_more}
+pub use Rattle.lcm_machine.proofs.RunLemmas.{count_next, is_none, plain_count, plain_ended, plain_ends}
+pub use Rattle.lcm_machine.proofs.RunLemmas.{plain_more}
 -- what a step leaves of memory, and the address that its instruction uses
 pub use Rattle.lcm_machine.proofs.TouchLemmas.{after_each, after_went, fetched_row, row_cells, row_others}
 pub use Rattle.lcm_machine.proofs.TouchLemmas.{plain_same, there_same, touched_by, used_target}
--- what a capability that allows an access covers
-pub use Rattle.lcm_machine.proofs.StepActs.{covered, in_seals}
+-- what a capability that allows an access covers, and that a lower permission lets no more run
+pub use Rattle.lcm_machine.proofs.StepActs.{below_runs, covered, in_seals}
 -- a run that goes without a cell doesn't touch it where it is there
 pub use Rattle.lcm_machine.proofs.Quiet.{lacking, lacks, quiet, untouched_then}
 -- a step that touches none of some cells goes the same way whatever is in them

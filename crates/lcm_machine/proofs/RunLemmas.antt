@@ -33,6 +33,10 @@ pub count_next : (s : Run) → (next_state s).count ≤ s.count + 1
 unfolding next_state
 count_next s = count_by s.end s
 
+pub plain_count : (n : ℕ) (s : Run) → (plain n s).count ≤ s.count + n
+plain_count zero s = omega arith
+plain_count (suc n) s = let h = plain_count n s in let k = count_next (plain n s) in omega (arith, h, k)
+
 moved_stays : (o : Outcome Word) (s : Run) → answer (moved o s) ≢ Went → (moved o s).maps ≡ s.maps
 moved_stays (went t) s h = absurd (h refl)
 moved_stays halted s h = refl

@@ -7,12 +7,13 @@ use Rattle.cap_words.specs.declared.Word.{Word}
 use Rattle.cap_words.specs.declared.CapFields.{CapFields}
 use Rattle.cap_words.specs.declared.SealFields.{SealFields}
 use Rattle.cap_words.specs.declared.Perm.{Perm}
+use Rattle.cap_words.specs.declared.Perm.TheVariants.{No, R as ReadOnly, Rw, Rx, Rwx}
 use Rattle.cap_words.specs.declared.Face.{Face}
 use Rattle.cap_words.specs.declared.Face.TheVariants.{Number, Memory, Seals, Sealed}
 use Rattle.cap_words.specs.Face.{face_of}
 use Rattle.cap_words.specs.Linear.{is_linear, lin_is, zero_word}
 use Rattle.cap_words.specs.Faces.{may_read, may_run, may_write, seals_at, address, covers, target_of}
-use Rattle.cap_words.specs.Faces.{seals_in, memory_in, face_linear}
+use Rattle.cap_words.specs.Faces.{is_below, seals_in, memory_in, face_linear}
 use Rattle.lcm_isa.specs.declared.Reg.{Reg}
 use Rattle.lcm_isa.specs.declared.Reg.TheVariants.{Pc}
 use Rattle.lcm_isa.specs.declared.Instr.{Instr}
@@ -51,6 +52,14 @@ covered c a e = by_addr c.addr (covers c c.addr) refl e
           subst (λ m. c.base ≤ m) same (leb-true c.base n k.0),
           subst (λ m. m ≤ c.end) same (leb-true n c.end k.1),
         )
+
+-- what a permission below another lets run, that one lets run too
+pub below_runs : (p q : Perm) → is_below p q ≡ true → may_run p ≡ true → may_run q ≡ true
+below_runs No q h e = cc
+below_runs ReadOnly q h e = cc
+below_runs Rw q h e = cc
+below_runs Rx q h e = h
+below_runs Rwx q h e = (and_parts (may_write q) (may_run q) h).1
 
 lets_reached : (may : Perm → Bool) (x : Face) (cells : ℕ → Option Face) (a : ℕ)
     → reached may x cells ≡ Some a → Lets may x a

@@ -1,5 +1,5 @@
 -- What is noted of a state before a step, and a state with that put back.
-use Rattle.std.specs.Prelude.{◌≡◌, ℕ, ◌≤◌, Option, Some, None, IsSome}
+use Rattle.std.specs.Prelude.{ℕ, ◌≤◌, Option, Some, None, IsSome}
 use Rattle.std.specs.Ordering.{nat_cmp}
 use Rattle.std.specs.FinMap.{FinMap}
 use Rattle.cap_words.specs.declared.Word.{Word}

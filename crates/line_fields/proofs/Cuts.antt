@@ -8,12 +8,9 @@ use Rattle.std.proofs.lemmas.List.Elements.{All-from_get_or}
 use Rattle.std.proofs.lemmas.List.Sums.{fails_before_first, count_by-le-length}
 use Rattle.std.proofs.lemmas.List.Splits.{join_with_byte-slice_split, slice_split_first, slice_split_none}
 use Rattle.std.proofs.lemmas.List.Splits.{length-slice_split}
+use Rattle.std.proofs.lemmas.Option.{cond_some}
 use Rattle.line_fields.specs.Cuts.{is_mark, cut, parts, parts_left}
 use Rattle.line_fields.specs.Fields.{is_none_left, field}
-
-cut_some : {A : Type 0} (b : Bool) (x y : A) → cond b (Some x) None ≡ Some y → (b ≡ true) × (x ≡ y)
-cut_some true x y h = (refl, cc)
-cut_some false x y h = absurd cc
 
 cut_none : {A : Type 0} (b : Bool) (x : A) → cond b (Some x) None ≡ None → b ≡ false
 cut_none true x h = absurd cc
@@ -25,7 +22,7 @@ pub parts_at : (mark : ℕ) (text front back : List ℕ) → Some (front, back) 
 unfolding cut parts
 parts_at mark text front back h =
     let found =
-    cut_some (nat_lt (position_or_len (is_mark mark) text) (length text))
+    cond_some (nat_lt (position_or_len (is_mark mark) text) (length text))
     (before_first (is_mark mark) text, after_first (is_mark mark) text) (front, back) (sym h) in
     let lt : position_or_len (is_mark mark) text < length text = ltb-true _ _ found.0 in
     let one : before_first (is_mark mark) text ≡ front = ap (λ (p : List ℕ × List ℕ). p.0) found.1 in
@@ -99,3 +96,15 @@ pub none_left : (mark : ℕ) (o : Option (Bor (List ℕ))) (r : Bool) → is_som
 none_left mark None r h = not_false r h
 none_left mark (Some text) r h =
     not_true r h ∙ sym (some_left (parts mark text.now) (parts_some mark text.now))
+
+-- ---- lines
+
+-- the next line, and those behind it
+pub next_line : (left : List (List ℕ)) (line : List ℕ) (rest : List (List ℕ)) → field left ≡ Some (line, rest)
+    → left ≡ line ∷ rest
+next_line [] line rest h = absurd (let k : None ≡ Some (line, rest) = h in cc)
+next_line (t ∷ ts) line rest h =
+    let both : (t, ts) ≡ (line, rest) = cc in
+    let one : t ≡ line = ap (λ (p : List ℕ × List (List ℕ)). p.0) both in
+    let two : ts ≡ rest = ap (λ (p : List ℕ × List (List ℕ)). p.1) both in
+    λ i. one i ∷ two i

@@ -30,7 +30,7 @@ byte_free : (b : ℕ) → is_name_byte b ≡ true → not (b == 58) ≡ true
 byte_free b h =
     ap not (ne_eqb b 58 (λ e. let bad : true ≡ false = sym h ∙ ap is_name_byte e in absurd cc))
 
-bytes_free : (text : List ℕ) → list_all is_name_byte text ≡ true → is_free 58 text ≡ true
+pub bytes_free : (text : List ℕ) → list_all is_name_byte text ≡ true → is_free 58 text ≡ true
 bytes_free [] h = refl
 bytes_free (b ∷ text) h =
     let p = and_parts (is_name_byte b) (list_all is_name_byte text) h in

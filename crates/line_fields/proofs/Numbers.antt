@@ -8,7 +8,8 @@ use Rattle.std.specs.Int.{w64}
 use Rattle.std.specs.List.{list_all}
 use Rattle.std.specs.Fmt.{decimal, signed_decimal}
 use Rattle.std.specs.Str.Parse.{digits_value}
-use Rattle.std.proofs.lemmas.Bool.{and_parts, leb-true, le-leb, lt-ltb, ltb-true, eqb-true, ne_eqb}
+use Rattle.std.proofs.lemmas.Bool.{and_parts, leb-true, le-leb, lt-ltb, ltb-true, eqb-true, ne_eqb, or_cases}
+use Rattle.std.proofs.lemmas.Bool.{not-true}
 use Rattle.std.proofs.lemmas.Str.Parse.{IsNumeralModel, IsDigitsTest, numerals_by_value}
 use Rattle.std.proofs.lemmas.Fmt.{digits_decimal, digits_value-decimal, decimal-digits_value}
 use Rattle.std.proofs.lemmas.Fmt.{decimal_nonempty, first_decimal, decimal_digit}
@@ -77,20 +78,12 @@ number_again most n le h =
     let small : nat_le n most ≡ true = le-leb n most le in
     rw (digits, value, small) refl
 
-one_of : (a b : Bool) → (a || b) ≡ true → (a ≡ true) ⊎ (b ≡ true)
-one_of true b h = inl refl
-one_of false b h = inr h
-
-not_is : (b : Bool) → not b ≡ true → b ≡ false
-not_is true h = absurd cc
-not_is false h = refl
-
 first_zero : (text : List ℕ) → is_plain text ≡ true → get_or text 0 0 ≡ 48 → length text ≡ 1
-first_zero text h e = elim (one_of (length text == 1) (not (slice_index text 0 == 48)) h) [
+first_zero text h e = elim (or_cases (length text == 1) (not (slice_index text 0 == 48)) h) [
   | inl one ↦ eqb-true (length text) 1 one
   | inr other ↦
       absurd (let yes : (slice_index text 0 == 48) ≡ true = eq-eqb (slice_index text 0) 48 e in
-      let n = not_is _ other in
+      let n = not-true _ other in
       let bad : true ≡ false = sym yes ∙ n in
       cc)
 ]

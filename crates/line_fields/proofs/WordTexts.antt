@@ -24,12 +24,13 @@ use Rattle.cap_words.specs.Names.{is_digit}
 use Rattle.cap_words.specs.Text.{perm_name, lin_name, range_text, cap_text, seal_text, sealable_text}
 use Rattle.cap_words.specs.Text.{sealed_text, word_text_of}
 use Rattle.cap_words.specs.WordBytes.{ContentFits, WordFits}
+use Rattle.cap_words.specs.WordReading.{as_word}
 use Rattle.line_fields.specs.declared.TheConstants.{LAST_NATURAL}
 use Rattle.line_fields.specs.Cuts.{cut, behind}
 use Rattle.line_fields.specs.Numbers.{are_digits, number_in, integer_in}
 use Rattle.line_fields.specs.Words.{HasText, perm_named, lin_named, range_in, cap_in, seals_behind}
 use Rattle.line_fields.specs.Words.{content_behind}
-use Rattle.line_fields.specs.Words.{content_in, sealed_in, as_word, unsealed_or, word_behind, candidate_in}
+use Rattle.line_fields.specs.Words.{content_in, sealed_in, unsealed_or, word_behind, candidate_in}
 use Rattle.line_fields.specs.Words.{where_text, word_in}
 use Rattle.line_fields.proofs.Numbers.{digits_of_decimal, number_again, integer_again, number_is, integer_is}
 use Rattle.line_fields.proofs.Numbers.{some_from, some_of, chosen}

@@ -15,6 +15,7 @@ use Rattle.cap_words.specs.declared.Word.{Word}
 use Rattle.cap_words.specs.declared.Word.TheVariants.{Int, Mem, Seal, Sealed}
 use Rattle.cap_words.specs.Text.{perm_name, lin_name, word_text_of}
 use Rattle.cap_words.specs.WordBytes.{ContentFits, WordFits}
+use Rattle.cap_words.specs.WordReading.{as_word}
 use Rattle.line_fields.specs.declared.TheConstants.{LAST_NATURAL}
 use Rattle.line_fields.specs.Options.{◌>>=◌, where_true}
 use Rattle.line_fields.specs.Cuts.{cut, behind}
@@ -79,10 +80,6 @@ sealed_in text = do
   number ← number_in LAST_NATURAL seal.0
   content ← content_in seal.1
   Some (Sealed number content)
-
-abbrev pub as_word : Sealable → Word
-as_word (MemIn c) = Mem c
-as_word (SealIn s) = Seal s
 
 abbrev pub unsealed_or : List ℕ → Option ℤ → Option Word
 unsealed_or text (Some n) = Some (Int n)

@@ -6,36 +6,19 @@ use Rattle.std.specs.List.{list_any}
 use Rattle.std.specs.Str.{bytes_eq}
 use Rattle.std.proofs.lemmas.Slice.Eq.{bytes_eq-Decides}
 use Rattle.component_file.specs.declared.component.Import.{Import}
-use Rattle.component_file.specs.declared.component.Export.{Export}
-use Rattle.component_file.specs.Limits.{name_lt}
 use Rattle.proc_language.specs.declared.module.Import.{Import as ModuleImport}
 use Rattle.proc_language.specs.declared.module.Proc.{Proc}
 use Rattle.proc_language.specs.declared.module.ModuleFields.{ModuleFields}
 use Rattle.proc_program.specs.declared.program.Procedure.{Procedure}
 use Rattle.proc_program.specs.Lower.{import_of, procedures_of, part_of}
 use Rattle.proc_names.specs.Calls.{proc_calls}
-use Rattle.proc_templates.specs.Compiled.{size_of_proc, import_slots, imports_of, export_into, exports_from}
+use Rattle.proc_templates.specs.Compiled.{size_of_proc, import_slots, imports_of, exports_from}
 use Rattle.proc_templates.specs.Compiled.{exports_of, component_of, compiled}
 use Rattle.proc_templates.specs.Kept.{NoneNamed, NamesDiffer}
+use Rattle.proc_templates.proofs.Entries.{any_into}
 use Rattle.module_rules.specs.Rules.{proc_named}
 
 -- ---- exports
-
-into_any : (q : Export → Bool) (e : Export) (es : List Export)
-    → list_any q (export_into e es) ≡ (q e || list_any q es)
-into_any q e [] = refl
-into_any q e (x ∷ xs) = by (name_lt e.name x.name) (into_any q e xs)
-  where
-    swapped : (a b d : Bool) → (b || (a || d)) ≡ (a || (b || d))
-    swapped true true d = refl
-    swapped true false d = refl
-    swapped false true d = refl
-    swapped false false d = refl
-
-    by : (t : Bool) → list_any q (export_into e xs) ≡ (q e || list_any q xs)
-        → list_any q (if t then e ∷ x ∷ xs else x ∷ export_into e xs) ≡ (q e || (q x || list_any q xs))
-    by true h = refl
-    by false h = ap (λ z. q x || z) h ∙ swapped (q e) (q x) (list_any q xs)
 
 -- a test of the name, and of whether it is shared
 module _ (g : List ℕ → Bool → Bool) where
@@ -43,7 +26,7 @@ module _ (g : List ℕ → Bool → Bool) where
       → list_any (λ e. g e.name e.shared) (exports_from o ps) ≡ list_any (λ p. g p.name p.shared) ps
   from_any o [] = refl
   from_any o (p ∷ ps) =
-      into_any (λ e. g e.name e.shared) (record { name = p.name; offset = o; shared = p.shared })
+      any_into (λ e. g e.name e.shared) (record { name = p.name; offset = o; shared = p.shared })
       (exports_from (o + size_of_proc p) ps)
       ∙ ap (λ b. g p.name p.shared || b) (from_any (o + size_of_proc p) ps)
 
@@ -71,9 +54,6 @@ named_any name (p ∷ ps) h = by (bytes_eq p.name.text name) refl (named_any nam
     by true e more = rw e refl
     by false e more = rw e (more (sym (ap (λ t. t || list_any (λ q. bytes_eq q.name.text name) ps) e) ∙ h))
 
-same_bytes : (a b : List ℕ) → bytes_eq a b ≡ true → a ≡ b
-same_bytes a b h = (bytes_eq-Decides a b).0 h
-
 none_shared : (m : ModuleFields) (name other : List ℕ) (n : ℕ) (ps : List Proc) → other ≡ name
     → NoneNamed other (procedures_of m n ps)
     → list_any (λ p. bytes_eq p.name.text name && p.shared) ps ≡ false
@@ -89,7 +69,7 @@ none_shared m name other n (p ∷ ps) same h =
         by : (t : Bool) → bytes_eq p.name.text name ≡ t → bytes_eq p.name.text name ≡ false
         by false e = e
         by true e =
-            let k = same ∙ sym (same_bytes p.name.text name e) in
+            let k = same ∙ sym ((bytes_eq-Decides p.name.text name).0 e) in
             let f : true ≡ false = sym ((bytes_eq-Decides other p.name.text).1 k) ∙ h.0 in
             absurd cc
 
@@ -109,7 +89,7 @@ none_is_shared m name n (q ∷ ps) p differ is h =
         let found : Some q ≡ Some p = sym (ap (λ t. if t then Some q else proc_named ps name) e) ∙ is in
         let same : q ≡ p = cc in
         let unshared : q.shared ≡ false = ap (λ (r : Proc). r.shared) same ∙ h in
-        let named = same_bytes q.name.text name e in
+        let named = (bytes_eq-Decides q.name.text name).0 e in
         let rest = none_shared m name q.name.text (n + proc_calls q) ps named differ.0 in
         rw (e, unshared, rest) refl
     by false e more =

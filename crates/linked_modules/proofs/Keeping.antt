@@ -5,13 +5,15 @@ use Rattle.std.specs.Prelude.{◌||◌, ◌&&◌, not, ◌==◌, nat_le, find, s
 use Rattle.std.specs.Prelude.{option_and_then, codes, if◌then◌else◌}
 use Rattle.std.specs.List.{list_any}
 use Rattle.std.specs.Str.{bytes_eq}
-use Rattle.std.proofs.lemmas.Bool.{and_parts, not-false, cases_lt}
+use Rattle.std.proofs.lemmas.Bool.{and_parts, not-false, cases_lt, not-true}
 use Rattle.std.proofs.lemmas.Bool.Decides.{nat_tests}
 use Rattle.std.proofs.lemmas.Option.{slice_get_within}
 use Rattle.std.proofs.lemmas.Slice.Eq.{bytes_eq-Decides}
+use Rattle.std.proofs.lemmas.Map.Keys.{any_passes_from_place}
 use Rattle.component_check.specs.Places.{Test, BrokenAt}
 use Rattle.component_file.specs.declared.component.Import.{Import}
 use Rattle.component_file.specs.declared.component.Export.{Export}
+use Rattle.component_file.proofs.Lists.{inside}
 use Rattle.component_linker.specs.Parts.{PartSeen}
 use Rattle.component_linker.specs.Standing.{placed}
 use Rattle.component_linker.specs.Regions.{is_stack_size}
@@ -22,8 +24,9 @@ use Rattle.component_linker.specs.Pairs.{passes, at_each, within_or, each_part}
 use Rattle.component_linker.specs.Links.{l3, l5, l6, rules_l, is_private as is_private_in}
 use Rattle.component_linker.specs.Links.{has_main as part_has_main}
 use Rattle.component_linker.proofs.FirstIn.{first_broken_in}
-use Rattle.component_linker.proofs.RuleLemmas.{slice_get-take, taken, inside, any_settled}
+use Rattle.component_linker.proofs.RuleLemmas.{slice_get-take, taken, any_settled}
 use Rattle.component_linker.proofs.LinksKept.{in_part, stack_fits as parts_fit, stack_bases, imports_found}
+use Rattle.component_linker.proofs.PartWords.{taken_get}
 use Rattle.proc_language.specs.declared.module.Import.{Import as ModuleImport}
 use Rattle.proc_language.specs.declared.module.Proc.{Proc}
 use Rattle.proc_language.specs.declared.module.ModuleFields.{ModuleFields}
@@ -70,26 +73,6 @@ any_is {A = A} f (y ∷ ys) h = by (f y) refl (any_is f ys)
     by false e more =
         let r = more (sym (ap (λ t. t || list_any f ys) e) ∙ h) in
         (suc r.0, r.1, r.2, r.3)
-
-any_at : {A : Type 0} (f : A → Bool) (xs : List A) (k : ℕ) (x : A) → slice_get xs k ≡ Some x → f x ≡ true
-    → list_any f xs ≡ true
-any_at f [] k x e h = absurd cc
-any_at f (y ∷ ys) zero x e h = let same : y ≡ x = cc in let t : f y ≡ true = ap f same ∙ h in rw t refl
-any_at f (y ∷ ys) (suc k) x e h = let t = any_at f ys k x e h in rw t (or_true (f y))
-  where
-    or_true : (b : Bool) → (b || true) ≡ true
-    or_true true = refl
-    or_true false = refl
-
-taken_is : {A : Type 0} (xs : List A) (n k : ℕ) (x : A) → slice_get (take n xs) k ≡ Some x
-    → (k < n) × (slice_get xs k ≡ Some x)
-taken_is xs zero k x h = absurd cc
-taken_is [] (suc n) k x h = absurd cc
-taken_is (y ∷ ys) (suc n) zero x h = (omega arith, h)
-taken_is (y ∷ ys) (suc n) (suc k) x h =
-    let r = taken_is ys n k x h in
-    let lt = r.0 in
-    (omega (arith, lt), r.1)
 
 false_not : (b : Bool) → b ≡ true → b ≡ false → ⊥
 false_not b t f = let e : true ≡ false = sym t ∙ f in absurd cc
@@ -210,7 +193,7 @@ module _ (parts : List PartSeen) (size : ℕ) (rules : NoneIsBroken (rules_l par
         apart p i b =
             let m = in_module modules (name_test modules) p i b in
             let q = at_item (take p modules) (same_module m.0) i m.2 in
-            let low = taken_is modules p i q.0 q.1 in
+            let low = taken_get modules p i q.0 q.1 in
             let o = there p m.0 m.1 in
             let u = there i q.0 low.1 in
             let lower = rises i p low.0 (slice_get_within modules p m.0 m.1) in
@@ -298,7 +281,7 @@ module _ (parts : List PartSeen) (size : ℕ) (rules : NoneIsBroken (rules_l par
         by_module i k m x (Some q) is im found h =
             let e = import_means i k m q x is im found in
             let es = e.from.part.component.exports in
-            let any = any_at (λ d. bytes_eq d.name x.name.text) es e.place e.export e.is
+            let any = any_passes_from_place (λ d. bytes_eq d.name x.name.text) es e.place e.export e.is
             e.named in
             let procs = sym (any_export (λ a b. bytes_eq a x.name.text) e.index q e.from) ∙ any in
             false_not (is_none (proc_named q.procs x.name.text)) h (named_any x.name.text q.procs procs)
@@ -313,10 +296,6 @@ module _ (parts : List PartSeen) (size : ℕ) (rules : NoneIsBroken (rules_l par
     unfolding imports_are_shared l5
     imports_shared_kept = record { none = shared_all }
       where
-        not_it : (b : Bool) → not b ≡ true → b ≡ false
-        not_it true h = absurd cc
-        not_it false h = refl
-
         -- the part's rule L5 of the same import
         or_own : (i k : ℕ) (m q : ModuleFields) (x : ModuleImport) (e : Means i k m q x)
             → (e.export.shared || same_name e.from.part.component.name e.importer.part.component.name) ≡ true
@@ -338,7 +317,7 @@ module _ (parts : List PartSeen) (size : ℕ) (rules : NoneIsBroken (rules_l par
             let both : (bytes_eq e.export.name x.name.text && e.export.shared) ≡ true =
             (let a = e.named in rw (a, s) refl) in
             let es = e.from.part.component.exports in
-            let any = any_at (λ d. bytes_eq d.name x.name.text && d.shared) es e.place
+            let any = any_passes_from_place (λ d. bytes_eq d.name x.name.text && d.shared) es e.place
             e.export e.is both in
             let procs = sym (any_export (λ a c. bytes_eq a x.name.text && c) e.index q e.from) ∙ any in
             false_not (list_any (λ r. bytes_eq r.name.text x.name.text && r.shared) q.procs) procs
@@ -361,7 +340,7 @@ module _ (parts : List PartSeen) (size : ℕ) (rules : NoneIsBroken (rules_l par
         by_proc i k m q x (Some p) is im found named h other =
             let e = import_means i k m q x is im found in
             let g = find_is (λ n. bytes_eq n.name.text x.part.text) modules q found in
-            by_shared i k m q x p e e.export.shared refl (differ g.0 q g.1) named (not_it p.shared h) other
+            by_shared i k m q x p e e.export.shared refl (differ g.0 q g.1) named (not-true p.shared h) other
 
         by_module : (i k : ℕ) (m : ModuleFields) (x : ModuleImport) (o : Option ModuleFields)
             → slice_get modules i ≡ Some m → slice_get m.imports k ≡ Some x
@@ -369,7 +348,7 @@ module _ (parts : List PartSeen) (size : ℕ) (rules : NoneIsBroken (rules_l par
         by_module i k m x None is im found h = absurd cc
         by_module i k m x (Some q) is im found h =
             let b = and_parts (is_unshared (proc_named q.procs x.name.text)) (not (same_module q m)) h in
-            let other = not_it (same_module q m) b.1 in
+            let other = not-true (same_module q m) b.1 in
             by_proc i k m q x (proc_named q.procs x.name.text) is im found refl b.0 other
 
         private_one : ModuleFields → ModuleImport → Bool
@@ -421,7 +400,7 @@ module _ (parts : List PartSeen) (size : ℕ) (rules : NoneIsBroken (rules_l par
             let m = in_module modules (main_test modules) p i b in
             let h = and_parts (has_main m.0) (list_any has_main (take p modules)) m.2.1 in
             let q = any_is has_main (take p modules) h.1 in
-            let low = taken_is modules p q.0 q.1 q.2 in
+            let low = taken_get modules p q.0 q.1 q.2 in
             second p q.0 m.0 q.1 m.1 low.1 low.0 h.0 q.3
 
     base_of : (i : ℕ) (m : ModuleFields) → slice_get modules i ≡ Some m → m.stack ≡ parts_base parts

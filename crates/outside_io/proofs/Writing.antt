@@ -134,7 +134,7 @@ failed_writes a c xs (Ok v) bad f = absurd (let no : ⊥ = cc in no)
 failed_writes a c xs (Err e) bad f = f
 
 -- one piece, by one write
-one_piece : (a c : SinkSeen) (x : List ℕ) → Adds a x c → IsOneWrite a c → AddsPieces a (x ∷ []) c
+pub one_piece : (a c : SinkSeen) (x : List ℕ) → Adds a x c → IsOneWrite a c → AddsPieces a (x ∷ []) c
 one_piece a c x e one = record { text = subst (λ t. Adds a t c) (sym (append-nil x)) e; counted = one }
 
 pub one_write : {A : Type 0} → (a c : SinkSeen) (x : List ℕ) (r : Result A Failed) → OnOk r (Adds a x c)

@@ -43,11 +43,6 @@ pub some_of : {W : Type 0} (o : Option W) (z : W) → IsSome o → o ≡ Some (u
 some_of None z h = cc
 some_of (Some w) z h = refl
 
-pub some_at : (ws : List OWord) (j : ℕ) → j < length ws → (w : OWord) × (slice_get ws j ≡ Some w)
-some_at [] j h = absurd (omega arith)
-some_at (w ∷ ws) zero h = (w, refl)
-some_at (w ∷ ws) (suc j) h = some_at ws j (omega arith)
-
 pub word_of-below : (f : OpenFrame) (q : ℕ) → q < f.base → word_of f q ≡ None
 unfolding word_of
 word_of-below f q h = rw (lt-ltb q f.base h) refl

@@ -24,6 +24,8 @@ pub use Rattle.overlay_machine.proofs.BracketLemmas.{depth_unmapped, mapped, mar
 -- what calls and returns tell of frames along a run
 pub use Rattle.overlay_machine.proofs.Marks.{AreBracketed, Marked, OpenedArePrivate, StaysPrivate, and_then}
 pub use Rattle.overlay_machine.proofs.Marks.{flat_cell, if_there, marks_by, marks_of, none_yet, words_at}
+-- registers but pc, and whether an instruction is an `xjmp`
+pub use Rattle.overlay_machine.proofs.invariant.OtherKept.{is_xjmp, pc_false}
 -- what linked parts say of addresses
 pub use Rattle.overlay_machine.proofs.invariant.Facts.{in_code, one_part}
 -- where words lead to, by their faces
@@ -35,14 +37,20 @@ pub use Rattle.overlay_machine.proofs.invariant.View.{site_of, view}
 pub use Rattle.overlay_machine.proofs.invariant.Ready.{entry_kind, foreign, looks, ready}
 -- an entry is no other kind of step
 pub use Rattle.overlay_machine.proofs.invariant.EntryKept.{never_entry}
--- a call that goes, with its parts
-pub use Rattle.overlay_machine.proofs.invariant.CallKept.{Called, called}
+-- a call that goes, with its parts; a word that shows a capability
+pub use Rattle.overlay_machine.proofs.invariant.CallKept.{Called, called, mem_plain}
+-- a safe capability for seals leads to open seals
+pub use Rattle.overlay_machine.proofs.invariant.SafeClosed.{open_seal}
 -- a return that goes, with its parts
 pub use Rattle.overlay_machine.proofs.invariant.ReturnKept.{Returned, returned}
 -- each step keeps the invariant
 pub use Rattle.overlay_machine.proofs.invariant.Kept.{kept}
--- runs are told by marks, bracketed, with the invariant at each matched point
-pub use Rattle.overlay_machine.proofs.invariant.Bracketed.{bracketed, matched, reached}
+-- runs are told by marks, bracketed, with the invariant at each matched point; what a list has at an index
+pub use Rattle.overlay_machine.proofs.invariant.Bracketed.{bracketed, found_at, map_get, matched, reached}
+-- how many words are read
+pub use Rattle.overlay_machine.proofs.invariant.FramesKept.{length-words_from}
+-- a step that doesn't touch an address
+pub use Rattle.overlay_machine.proofs.invariant.StepQuiet.{untouched_one}
 -- a plain word is no code half
 pub use Rattle.overlay_machine.proofs.invariant.FramePrivate.{no_ret_code}
 -- the range of each frame that opens is private

@@ -34,7 +34,8 @@ use Rattle.overlay_machine.specs.Flat.{flat, beside, IsFlat}
 use Rattle.overlay_machine.specs.Agree.{Looks, IsOther, FrameSound}
 use Rattle.overlay_machine.proofs.OutLemmas.{put_back-other}
 use Rattle.overlay_machine.proofs.FrameWords.{word_of-below, word_of-within, flat-other, mapped-same}
-use Rattle.overlay_machine.proofs.FrameWords.{put_back-in, some_at}
+use Rattle.overlay_machine.proofs.FrameWords.{put_back-in}
+use Rattle.component_file.proofs.Lists.{inside}
 
 module _ (l : Layout) (s : State OWord) (f : OpenFrame) (fs : List OpenFrame) (n : ℕ) (t : State Word)
     (r2 : Reg) (sc : SiteCode) (c : CapFields)
@@ -170,7 +171,7 @@ module _ (l : Layout) (s : State OWord) (f : OpenFrame) (fs : List OpenFrame) (n
   cell_next j h =
       let h1 = sound.order in
       let h2 = sound.as_long in
-      let w = some_at sound.rest j h in
+      let w = inside sound.rest j h in
       let q = f.base + suc j in
       let less : f.base + suc j - f.base ≡ suc j = omega arith in
       let ne : f.base + suc j ≢ f.base = omega arith in

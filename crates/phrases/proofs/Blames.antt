@@ -3,6 +3,7 @@ use Rattle.std.proofs.Common.{◌≡◌, Bool, true, false, ℕ, zero, suc, ◌+
 use Rattle.std.proofs.Common.{◌∷◌, ◌++◌, length, Option, Some, Result, Ok, Err, refl, sym, ap, subst}
 use Rattle.std.proofs.Common.{◌∙◌, append_assoc, arith, length-append, append-nil}
 use Rattle.std.specs.Prelude.{IsTrue}
+use Rattle.std.proofs.lemmas.Bool.{cases_Bool}
 use Rattle.readers.specs.Readers.{◌>>=◌, done, holds}
 use Rattle.phrases.specs.Phrase as phrases
 use Rattle.phrases.specs.Phrase.{Meaning, Phrase, then, only, where_true, ◌or◌}
@@ -10,7 +11,7 @@ use Rattle.phrases.specs.Reading.{Input, Tells, Reader}
 use Rattle.phrases.specs.Reading.{next_means, place, case_next, expected, one, is_there, many}
 use Rattle.phrases.proofs.Readers.{at_end, goes_on_ok, goes_on_err, ok_value, cases_next, case_some}
 use Rattle.phrases.proofs.Readers.{case_none}
-use Rattle.phrases.proofs.Repeats.{Begins, Ends, cases_bool, ok_not_err, err_not_ok, many_stop, many_out}
+use Rattle.phrases.proofs.Repeats.{Begins, Ends, ok_not_err, err_not_ok, many_stop, many_out}
 use Rattle.phrases.proofs.Repeats.{many_go, more_behind, many_less, many_worse}
 
 -- the place is that of a token, up to which the tokens begin what the phrase spells
@@ -536,11 +537,11 @@ module _ {L F : Type 0} {tells : Tells L F} {limit : F → Option ℕ} {fuel : �
 
     many_takes : (n : ℕ) (s : S) (i : Input L) (xs : List A) (j : Input L) → many tells n begins next r s i
         ≡ Ok (xs, j) → Taken (phrases.many next p' s) i xs j
-    many_takes zero s i xs j e = elim (cases_bool (is_there (next_means begins i))) [
+    many_takes zero s i xs j e = elim (cases_Bool (is_there (next_means begins i))) [
       | inl there ↦ absurd (err_not_ok _ _ (sym (many_out tells begins next r s i there) ∙ e))
       | inr none ↦ at_stop zero s i xs j none e
     ]
-    many_takes (suc n) s i xs j e = elim (cases_bool (is_there (next_means begins i))) [
+    many_takes (suc n) s i xs j e = elim (cases_Bool (is_there (next_means begins i))) [
       | inl there ↦
           let x = goes_on_ok (r s i) (more_behind tells begins next r n s) (xs, j)
           (sym (many_go tells begins next r n s i there) ∙ e) in
@@ -563,11 +564,11 @@ module _ {L F : Type 0} {tells : Tells L F} {limit : F → Option ℕ} {fuel : �
 
     many_blames : (n : ℕ) (s : S) (i : Input L) (e : F) → length i.rest ≤ fuel → length i.rest ≤ n
         → many tells n begins next r s i ≡ Err e → Blamed tells limit K (phrases.many next p' s) i e
-    many_blames zero s i e len fits h = elim (cases_bool (is_there (next_means begins i))) [
+    many_blames zero s i e len fits h = elim (cases_Bool (is_there (next_means begins i))) [
       | inl there ↦ absurd (none_left begins i.rest there fits)
       | inr none ↦ absurd (ok_not_err _ _ (sym (many_stop tells begins next r zero s i none) ∙ h))
     ]
-    many_blames (suc n) s i e len fits h = elim (cases_bool (is_there (next_means begins i))) [
+    many_blames (suc n) s i e len fits h = elim (cases_Bool (is_there (next_means begins i))) [
       | inl there ↦ elim (goes_on_err (r s i) (more_behind tells begins next r n s) e
           (sym (many_go tells begins next r n s i there) ∙ h)) [
             | inl g ↦ elim ((items s).blames i e len g) [

@@ -1,12 +1,13 @@
 -- A reader that passes limits over reads what the other reads, and expects what the other expects.
 use Rattle.std.proofs.Common.{◌≡◌, Bool, true, false, ℕ, zero, suc, ◌≤◌, arith, inl, inr}
 use Rattle.std.proofs.Common.{◌∷◌, Option, Some, None, Result, Ok, Err, refl, sym, ap, ◌∙◌}
+use Rattle.std.proofs.lemmas.Bool.{cases_Bool}
 use Rattle.readers.specs.Readers.{goes_on, ◌>>=◌, done, holds}
 use Rattle.phrases.specs.Phrase.{Meaning}
 use Rattle.phrases.specs.Reading.{Input, Tells, Reader, next_means, behind, going, case_next}
 use Rattle.phrases.specs.Reading.{is_there, many}
 use Rattle.phrases.proofs.Readers.{Distinct, goes_on_ok, goes_on_err}
-use Rattle.phrases.proofs.Repeats.{cases_bool, more_behind, many_stop, many_out, many_go}
+use Rattle.phrases.proofs.Repeats.{more_behind, other_fault, many_stop, many_out, many_go}
 
 pub record Looser {L F A : Type 0} (tells : Tells L F) (r r' : Reader L F A) : Type 0 where
   pub reads : (i : Input L) (y : A × Input L) → r i ≡ Ok y → r' i ≡ Ok y
@@ -71,12 +72,6 @@ module _ {L F : Type 0} {tells : Tells L F} (distinct : Distinct tells) where
       Err (tells.too_many at) in r) ≡ Ok y → ⊥
   bad_ok at y e = absurd cc
 
-  bad_expected : {A : Type 0} (n at : ℕ) → (let r : Result (A × Input L) F = Err (tells.too_many n) in r)
-      ≡ Err (tells.expected at) → ⊥
-  bad_expected n at e =
-      let same : tells.too_many n ≡ tells.expected at = cc in
-      distinct.apart n at same
-
   -- more items may be read
   module _ {S A B : Type 0} (begins : Meaning L B) (next : S → A → S) {r r' : S → Reader L F A}
       (items : (s : S) → Looser tells (r s) (r' s)) where
@@ -88,13 +83,13 @@ module _ {L F : Type 0} {tells : Tells L F} (distinct : Distinct tells) where
         let step = loose_then (items s) (λ x. loose_then (before (next s x)) (λ xs.
         loose_same (done (x ∷ xs)))) in
         record {
-          reads = λ i y e. elim (cases_bool (is_there (next_means begins i))) [
+          reads = λ i y e. elim (cases_Bool (is_there (next_means begins i))) [
             | inl there ↦ many_go tells begins next r' k s i there
                 ∙ step.reads i y (sym (many_go tells begins next r n s i there) ∙ e)
             | inr none ↦ many_stop tells begins next r' (suc k) s i none
                 ∙ sym (many_stop tells begins next r (suc n) s i none) ∙ e
           ];
-          expects = λ i at e. elim (cases_bool (is_there (next_means begins i))) [
+          expects = λ i at e. elim (cases_Bool (is_there (next_means begins i))) [
             | inl there ↦ many_go tells begins next r' k s i there
                 ∙ step.expects i at (sym (many_go tells begins next r n s i there) ∙ e)
             | inr none ↦ many_stop tells begins next r' (suc k) s i none
@@ -105,13 +100,13 @@ module _ {L F : Type 0} {tells : Tells L F} (distinct : Distinct tells) where
     pub loose_many : (n k : ℕ) → n ≤ k → (s : S) → Looser tells (many tells n begins next r s)
         (many tells k begins next r' s)
     loose_many zero k le s = record {
-      reads = λ i y e. elim (cases_bool (is_there (next_means begins i))) [
+      reads = λ i y e. elim (cases_Bool (is_there (next_means begins i))) [
         | inl there ↦ absurd (bad_ok _ _ (sym (many_out tells begins next r s i there) ∙ e))
         | inr none ↦ many_stop tells begins next r' k s i none
             ∙ sym (many_stop tells begins next r zero s i none) ∙ e
       ];
-      expects = λ i at e. elim (cases_bool (is_there (next_means begins i))) [
-        | inl there ↦ absurd (bad_expected _ _ (sym (many_out tells begins next r s i there) ∙ e))
+      expects = λ i at e. elim (cases_Bool (is_there (next_means begins i))) [
+        | inl there ↦ absurd (other_fault distinct _ _ (sym (many_out tells begins next r s i there) ∙ e))
         | inr none ↦ many_stop tells begins next r' k s i none
             ∙ sym (many_stop tells begins next r zero s i none) ∙ e
       ];

@@ -1,7 +1,8 @@
 -- Readers of any number of items.
-use Rattle.std.proofs.Common.{◌≡◌, Bool, true, false, cond, ℕ, zero, suc, ◌+◌, ◌≤◌, inl, inr, ◌⊎◌, List, []}
+use Rattle.std.proofs.Common.{◌≡◌, true, false, cond, ℕ, zero, suc, ◌+◌, ◌≤◌, inl, inr, List, []}
 use Rattle.std.proofs.Common.{◌∷◌, ◌++◌, length, Result, Ok, Err, refl, sym, ap, subst}
 use Rattle.std.proofs.Common.{◌∙◌, append_assoc, arith, length-append, append-nil}
+use Rattle.std.proofs.lemmas.Bool.{cases_Bool}
 use Rattle.readers.specs.Readers.{goes_on, ◌>>=◌, done}
 use Rattle.phrases.specs.Phrase as phrases
 use Rattle.phrases.specs.Phrase.{Meaning, Phrase}
@@ -9,10 +10,6 @@ use Rattle.phrases.specs.Reading.{Input, Tells, place_in, Reader, first, meant_i
 use Rattle.phrases.specs.Reading.{is_there, many}
 use Rattle.phrases.proofs.Readers.{Distinct, at_end, Took, Failed, Reads, goes_on_ok, goes_on_err, ok_value}
 use Rattle.phrases.proofs.Readers.{first_behind, meant_alike}
-
-pub cases_bool : (b : Bool) → (b ≡ true) ⊎ (b ≡ false)
-cases_bool true = inl refl
-cases_bool false = inr refl
 
 module _ {L : Type 0} where
   -- the next token begins an item
@@ -90,7 +87,7 @@ module _ {L F : Type 0} (tells : Tells L F) {S A B : Type 0} (begins : Meaning L
   many_bad n s x i e h = ap (λ q. goes_on q (λ ys. done (x ∷ ys))) h
 
 module _ {L F : Type 0} {tells : Tells L F} (distinct : Distinct tells) where
-  other_fault : {A : Type 0} (at n : ℕ) → (let r : Result (A × Input L) F = Err (tells.too_many at) in r)
+  pub other_fault : {A : Type 0} (at n : ℕ) → (let r : Result (A × Input L) F = Err (tells.too_many at) in r)
       ≡ Err (tells.expected n) → ⊥
   other_fault at n h =
       let same : tells.too_many at ≡ tells.expected n = cc in
@@ -154,11 +151,11 @@ module _ {L F : Type 0} {tells : Tells L F} (distinct : Distinct tells) where
     many_takes : (n : ℕ) (s : S) (i : Input L) (xs : List A) (j : Input L) → many tells n begins next r s i
         ≡ Ok (xs, j) → Took (phrases.many next p s) (phrases.many next p' s) (many tells n begins next r s) i
         xs j
-    many_takes zero s i xs j e = elim (cases_bool (is_there (next_means begins i))) [
+    many_takes zero s i xs j e = elim (cases_Bool (is_there (next_means begins i))) [
       | inl there ↦ absurd (err_not_ok _ _ (sym (many_out tells begins next r s i there) ∙ e))
       | inr none ↦ none_taken zero s i xs j none e
     ]
-    many_takes (suc n) s i xs j e = elim (cases_bool (is_there (next_means begins i))) [
+    many_takes (suc n) s i xs j e = elim (cases_Bool (is_there (next_means begins i))) [
       | inl there ↦
           let x = goes_on_ok (r s i) (more_behind tells begins next r n s) (xs, j)
           (sym (many_go tells begins next r n s i there) ∙ e) in
@@ -202,11 +199,11 @@ module _ {L F : Type 0} {tells : Tells L F} (distinct : Distinct tells) where
 
     many_fails : (n : ℕ) (s : S) (i : Input L) (at : ℕ) → many tells n begins next r s i
         ≡ Err (tells.expected at) → Failed tells (phrases.many next p' s) (many tells n begins next r s) i at
-    many_fails zero s i at e = elim (cases_bool (is_there (next_means begins i))) [
+    many_fails zero s i at e = elim (cases_Bool (is_there (next_means begins i))) [
       | inl there ↦ absurd (other_fault _ _ (sym (many_out tells begins next r s i there) ∙ e))
       | inr none ↦ absurd (none_fails zero s i at none e)
     ]
-    many_fails (suc n) s i at e = elim (cases_bool (is_there (next_means begins i))) [
+    many_fails (suc n) s i at e = elim (cases_Bool (is_there (next_means begins i))) [
       | inl there ↦ elim (goes_on_err (r s i) (more_behind tells begins next r n s) (tells.expected at)
           (sym (many_go tells begins next r n s i there) ∙ e)) [
             | inl h ↦

@@ -2,9 +2,10 @@
 use Rattle.std.proofs.Common.{◌≡◌, ℕ, suc, ◌+◌, ◌^◌, ◌<◌, ◌≤◌, Bool, true, false, IsTrue, List, [], ◌∷◌, ◌++◌}
 use Rattle.std.proofs.Common.{Option, Some, None, refl, sym, ◌∙◌, ap, subst, arith, append_assoc, length, map}
 use Rattle.std.proofs.Common.{flat_map}
-use Rattle.std.specs.Prelude.{nat_lt, nat_le, codes, ℤ, pos, negsuc, IfSome}
+use Rattle.std.specs.Prelude.{codes, ℤ, pos, negsuc, IfSome}
 use Rattle.std.proofs.lemmas.Bool.Decides.{nat_tests}
 use Rattle.std.proofs.lemmas.List.Sums.{sum_by-cons}
+use Rattle.std.proofs.lemmas.Bool.{lt-ltb, le-leb}
 use Rattle.proc_grammar.specs.PlainTrees.{plain_trees}
 use Rattle.cap_words.specs.declared.TheConstants.{LAST_PLACE}
 use Rattle.proc_language.specs.declared.TheConstants.{MOST_ITEMS, MOST_LOCALS, MOST_REGISTERS}
@@ -45,12 +46,6 @@ use Rattle.proc_again.proofs.Nesting.{block_nesting}
 use Rattle.proc_again.proofs.Exprs.{renamed}
 use Rattle.proc_again.proofs.Stmts.{block_again}
 
-below : (n most : ℕ) → n < most → nat_lt n most ≡ true
-below n most h = grind (arith, nat_tests)
-
-upto : (n most : ℕ) → n ≤ most → nat_le n most ≡ true
-upto n most h = grind (arith, nat_tests)
-
 -- ---- lists of items, of which there are at most so many
 
 -- by what is counted of those before
@@ -81,11 +76,11 @@ pub import_again : (i : Import) → ImportFits i → (count : ℕ) → count < M
     → Again (import_item [] true count) (import_pieces i) (λ x. unplaced_import x ≡ unplaced_import i)
 unfolding import_item
 import_again i fits count few =
-    step (a_word_again (codes "import")) (λ _ _. step (test (below count MOST_ITEMS few))
+    step (a_word_again (codes "import")) (λ _ _. step (test (lt-ltb count MOST_ITEMS few))
     (λ _ _. step (name_again i.part fits.0) (λ part same.
     step (a_sign_again dot (codes ".") refl)
     (λ _ _. step (name_again i.name fits.1) (λ x same'. step (a_sign_again slash (codes "/") refl) (λ _ _.
-    step (num_again is_arity i.arity (upto i.arity 4 fits.2))
+    step (num_again is_arity i.arity (le-leb i.arity 4 fits.2))
     (λ n is. step (a_sign_again semicolon (codes ";") refl) (λ _ _.
     done (λ j. record {
       at = 0;
@@ -125,13 +120,13 @@ initial_again (Some (pos n)) fits =
     left (step (a_sign_again assign (codes "=") refl)
     (λ _ _. step no_minus_again
     (λ b is. step (num_again (is_initial b) n (subst (λ b. IsTrue (is_initial b n)) (sym is)
-    (below n (2 ^ 63) fits)))
+    (lt-ltb n (2 ^ 63) fits)))
     (λ m same. done (ap (λ z. Some z) (ap (λ b. signed b m) is ∙ ap (λ k. pos k) same))))))
 initial_again (Some (negsuc n)) fits =
     left (step (a_sign_again assign (codes "=") refl)
     (λ _ _. step minus_again
     (λ b is. step (num_again (is_initial b) (suc n)
-    (subst (λ b. IsTrue (is_initial b (suc n))) (sym is) (upto (suc n) (2 ^ 63) (omega arith))))
+    (subst (λ b. IsTrue (is_initial b (suc n))) (sym is) (le-leb (suc n) (2 ^ 63) (omega arith))))
     (λ m same. done (ap (λ z. Some z) (ap (λ b. signed b m) is ∙ ap (λ k. signed true k) same))))))
 
 pub record InitialFits (g : Global) : Type 0 where
@@ -142,7 +137,7 @@ pub global_again : (g : Global) → InitialFits g → (count : ℕ) → count < 
     → Again (global_item [] true count) (global_pieces g) (λ x. unplaced_global x ≡ unplaced_global g)
 unfolding global_item
 global_again g fits count few =
-    step (a_word_again (codes "global")) (λ _ _. step (test (below count MOST_ITEMS few))
+    step (a_word_again (codes "global")) (λ _ _. step (test (lt-ltb count MOST_ITEMS few))
     (λ _ _. step (name_again g.name fits.global.0) (λ x same.
     at (sym (append_assoc (length_pieces g.length) (initial_pieces g.initial) (a_sign (codes ";") ∷ [])))
     (step (length_again g.length fits.global.1) (λ n is. step (initial_again g.initial fits.initial) (λ z is'.
@@ -160,8 +155,8 @@ unfolding arity_part
 arity_again x y None used same fits few =
     right (done ((λ i. record { name = renamed x y same i; arity = None }), refl))
 arity_again x y (Some n) used same fits few =
-    left (step (a_sign_again slash (codes "/") refl) (λ _ _. step (test (below (used + 1) 4 (omega arith)))
-    (λ _ _. step (num_again is_arity n (upto n 4 fits))
+    left (step (a_sign_again slash (codes "/") refl) (λ _ _. step (test (lt-ltb (used + 1) 4 (omega arith)))
+    (λ _ _. step (num_again is_arity n (le-leb n 4 fits))
     (λ m is. done ((λ i. record { name = renamed x y same i; arity = Some (is i) }), refl)))))
 
 abbrev AlikeP : Param → Param → Type 0
@@ -177,7 +172,7 @@ param_again : (p : Param) → ParamFits p → (used : Taken)
 unfolding plain_param
 param_again p fits used few =
     let some = registers_some p.arity in
-    right (step (name_again p.name fits.0) (λ y same. step (test (below used.slots 4 (omega arith)))
+    right (step (name_again p.name fits.0) (λ y same. step (test (lt-ltb used.slots 4 (omega arith)))
     (λ _ _. arity_again p.name y p.arity used.slots same fits.1 few)))
 
 params_more : (p : Param) (ps : List Param) → params_registers (p ∷ ps) ≡ param_registers p.arity +
@@ -215,7 +210,7 @@ local_again : (x : Name) → NameFits x → (used : Taken) → used.slots < MOST
     → Again (local_item plain_trees true used) (local_pieces x) (λ y. unplaced_name y ≡ unplaced_name x)
 unfolding plain_local
 local_again x fits used few =
-    right (step (a_word_again (codes "local")) (λ _ _. step (test (below used.slots MOST_LOCALS few))
+    right (step (a_word_again (codes "local")) (λ _ _. step (test (lt-ltb used.slots MOST_LOCALS few))
     (λ _ _. step (name_again x fits) (λ y same. step (a_sign_again semicolon (codes ";") refl)
     (λ _ _. done (renamed x y same))))))
 
@@ -272,12 +267,12 @@ proc_again_by : (p : Proc) → ProcAgain p → (count : ℕ) → count < MOST_IT
     (export_pieces b ++ (a_word (codes "proc") ∷ behind_pieces p))
     (λ q. unplaced_proc q ≡ unplaced_proc p)
 proc_again_by p h count few true is =
-    left (step (a_word_again (codes "export")) (λ place _. step (test (below count MOST_ITEMS few))
+    left (step (a_word_again (codes "export")) (λ place _. step (test (lt-ltb count MOST_ITEMS few))
     (λ _ _. step (a_word_again (codes "proc"))
     (λ _ _. subst (λ b. Again (proc_behind plain_trees true room_in_body place b) (behind_pieces p)
     (λ q. unplaced_proc q ≡ unplaced_proc p)) is (proc_behind_again p h place)))))
 proc_again_by p h count few false is =
-    right (step (a_word_again (codes "proc")) (λ place _. step (test (below count MOST_ITEMS few))
+    right (step (a_word_again (codes "proc")) (λ place _. step (test (lt-ltb count MOST_ITEMS few))
     (λ _ _. subst (λ b. Again (proc_behind plain_trees true room_in_body place b) (behind_pieces p)
     (λ q. unplaced_proc q ≡ unplaced_proc p)) is (proc_behind_again p h place))))
 
@@ -291,7 +286,7 @@ a_proc_again p h count few = proc_again_by p h count few p.shared refl
 
 field_again : (w : List ℕ) (n : ℕ) → n ≤ LAST_PLACE → Again (field true w) (field_pieces w n) (λ m. m ≡ n)
 unfolding field field_pieces
-field_again w n fits = step (a_word_again w) (λ _ _. num_again is_address n (upto n LAST_PLACE fits))
+field_again w n fits = step (a_word_again w) (λ _ _. num_again is_address n (le-leb n LAST_PLACE fits))
 
 movable_again : (movable : Bool) → Again (movable_part true) (movable_pieces movable) (λ b. b ≡ movable)
 unfolding movable_part

@@ -1,11 +1,10 @@
 -- Words, signs, names and numbers are read again.
 use Rattle.std.proofs.Common.{◌≡◌, ℕ, Bool, true, false, IsTrue, if◌then◌else◌, List, [], ◌∷◌, Some, None}
-use Rattle.std.proofs.Common.{refl, sym, ◌∙◌, ap, subst, arith, length, not}
-use Rattle.std.specs.Prelude.{◌==◌, nat_le, slice_index, ◌<◌, ◌^◌, ℤ, pos, negsuc}
+use Rattle.std.proofs.Common.{refl, sym, ◌∙◌, ap, subst, length, not}
+use Rattle.std.specs.Prelude.{nat_le, slice_index, ◌<◌, ◌^◌, ℤ, pos, negsuc}
 use Rattle.std.specs.List.{list_all}
-use Rattle.std.specs.Str.{bytes_eq}
-use Rattle.std.proofs.lemmas.Bool.{and_parts}
-use Rattle.std.proofs.lemmas.Bool.Decides.{nat_tests}
+use Rattle.std.proofs.lemmas.Bool.{and_parts, not-true, eq-eqb}
+use Rattle.std.proofs.lemmas.Slice.Eq.{bytes_eq-Decides}
 use Rattle.text_scan.specs.declared.token.TokenKind.TheVariants.{Sign}
 use Rattle.cap_words.specs.Names as part
 use Rattle.cap_words.specs.declared.TheConstants.{LONGEST_NAME}
@@ -20,19 +19,12 @@ use Rattle.proc_print.specs.Printed.{word as a_word, numeral as a_numeral, sign 
 use Rattle.proc_again.specs.Written.{IsWritten, Again, sign_kind}
 use Rattle.proc_again.proofs.Steps.{step, done, test, token}
 
-same_number : (n : ℕ) → (n == n) ≡ true
-same_number n = grind (arith, nat_tests)
-
-pub same_bytes : (text : List ℕ) → bytes_eq text text ≡ true
-same_bytes [] = refl
-same_bytes (b ∷ text) = rw (same_number b, same_bytes text) refl
-
 word_here : (w : List ℕ) (t : Lexeme) → IsWritten t (a_word w) → word w t ≡ Some t.at
 unfolding word
 word_here w t h =
     ap (λ k. word_in w t.at (name_text k t.text)) h.0
     ∙ ap (λ text. word_in w t.at (Some text)) h.1
-    ∙ ap (λ b. if b then Some t.at else None) (same_bytes w)
+    ∙ ap (λ b. if b then Some t.at else None) ((bytes_eq-Decides w w).1 refl)
 
 pub a_word_again : (w : List ℕ) → Again (one (word w)) (a_word w ∷ []) (λ at. Unit {0})
 a_word_again w = token (a_word w) (λ t h. (t.at, word_here w t h, tt))
@@ -41,7 +33,7 @@ sign_here : (s : ℕ) (text : List ℕ) (t : Lexeme) → sign_kind text ≡ Sign
     → sign s t ≡ Some t.at
 unfolding sign
 sign_here s text t e h =
-    ap (λ k. sign_in s k t.at) (h ∙ e) ∙ ap (λ b. if b then Some t.at else None) (same_number s)
+    ap (λ k. sign_in s k t.at) (h ∙ e) ∙ ap (λ b. if b then Some t.at else None) (eq-eqb s s refl)
 
 pub a_sign_again : (s : ℕ) (text : List ℕ) → sign_kind text ≡ Sign s
     → Again (one (sign s)) (a_sign text ∷ []) (λ at. Unit {0})
@@ -51,10 +43,6 @@ pub record NameParts (text : List ℕ) : Type 0 where
   pub short : nat_le (length text) LONGEST_NAME ≡ true
   pub free : is_reserved text ≡ false
 
-not_not : (b : Bool) → not b ≡ true → b ≡ false
-not_not true h = sym h
-not_not false h = refl
-
 name_parts : (text : List ℕ) → IsTrue (is_name text) → NameParts text
 unfolding is_name part.is_name
 name_parts text h =
@@ -62,7 +50,7 @@ name_parts text h =
     let b = and_parts _ (list_all part.is_name_byte text) a.0 in
     let c = and_parts _ (not (part.is_digit (slice_index text 0))) b.0 in
     let d = and_parts (nat_le 1 (length text)) (nat_le (length text) LONGEST_NAME) c.0 in
-    record { short = d.1; free = not_not (is_reserved text) a.1 }
+    record { short = d.1; free = not-true (is_reserved text) a.1 }
 
 name_here : (x : Name) (t : Lexeme) → NameParts x.text → IsWritten t (a_word x.text)
     → a_name [] t ≡ Some (record { text = x.text; at = t.at })

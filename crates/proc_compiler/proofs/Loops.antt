@@ -7,13 +7,7 @@ use Rattle.proc_templates.specs.declared.Frame.{Frame}
 use Rattle.proc_templates.specs.Templates.{step_code, block_code}
 use Rattle.proc_compiler.specs.Drafts.{Drafted, with_items}
 use Rattle.proc_compiler.proofs.Written.{items_append}
-
--- what is left, from an item on
-pub drop_item : {A : Type 0} (xs : List A) (i : ℕ) (x : A) → i < length xs → x ≡ get_or xs i x
-    → drop i xs ≡ x ∷ drop (i + 1) xs
-drop_item xs i x below is =
-    drop-cons xs i x below ∙ ap (λ y. y ∷ drop (suc i) xs) (sym is)
-    ∙ ap (λ j. x ∷ drop j xs) (sym (add-one i))
+use Rattle.proc_language.proofs.ListLemmas.{drop_item}
 
 pub block_told : (f : Frame) (steps : List Step) (i : ℕ) (s : Step) (start d e : Drafted)
     → drop i steps ≡ s ∷ drop (i + 1) steps

@@ -4,6 +4,8 @@ use Rattle.std.proofs.Common.{replicate, refl, sym}
 use Rattle.std.proofs.Common.{ap, ◌∙◌, append_assoc, arith}
 use Rattle.std.specs.Prelude.{Result, Ok, Err, OnOk, ◌==◌, slice_get, pos}
 use Rattle.std.specs.Option.{option_map_or}
+use Rattle.std.proofs.lemmas.List.{nil_from_length}
+use Rattle.std.proofs.lemmas.Result.{on_ok_weaker}
 use Rattle.cap_words.specs.declared.Word.{Word}
 use Rattle.cap_words.specs.declared.Word.TheVariants.{Int}
 use Rattle.lcm_isa.specs.declared.Reg.{Reg}
@@ -40,10 +42,7 @@ items_cons x xs d = refl
 
 pub ruleset items = (items_append, items_nil, items_cons)
 
-pub args_split : (xs : Args) → args_words xs ≡ values_words xs + loads_words xs
-args_split xs = args-split xs
-
-pub ruleset called = (items_append, items_nil, items_cons, args_split)
+pub ruleset called = (items_append, items_nil, items_cons, args-split)
 
 pub push_both : (a b : List Reg) → push (a ++ b) ≡ push a ++ push b
 push_both [] b = refl
@@ -76,14 +75,6 @@ last_of (x ∷ y ∷ ys) o =
     let k : length (y ∷ ys) - 1 ≡ length ys = omega arith in
     last_of (y ∷ ys) o ∙ ap (λ n. option_map_or (λ l. l == o) (slice_get (y ∷ ys) n) false) k
     ∙ sym (ap (λ n. option_map_or (λ l. l == o) (slice_get (x ∷ y ∷ ys) n) false) e)
-
-pub on_ok : {A E : Type 0} {P Q : Type 0} (r : Result A E) → (P → Q) → OnOk r P → OnOk r Q
-on_ok (Ok a) f h = f h
-on_ok (Err e) f h = tt
-
-pub none : {A : Type 0} (xs : List A) → length xs ≡ 0 → xs ≡ []
-none [] h = refl
-none (x ∷ xs) h = absurd (omega arith)
 
 -- one piece, and then another
 pub then : (a b : List Item) (d e f : Drafted) → e ≡ with_items a d → f ≡ with_items b e

@@ -4,6 +4,7 @@ use Rattle.std.proofs.Common.{Some, None, refl, ap, ◌∙◌, inl, inr, ◌⊎�
 use Rattle.std.specs.Prelude.{codes, nat_lt, not, ◌||◌}
 use Rattle.std.specs.List.{list_any}
 use Rattle.std.specs.Str.{bytes_eq}
+use Rattle.std.proofs.lemmas.Bool.{or_right}
 use Rattle.proc_language.specs.declared.tree.Name.{Name}
 use Rattle.proc_language.specs.Words.{is_reserved}
 use Rattle.proc_grammar.specs.Makes.{Makes}
@@ -23,7 +24,7 @@ use Rattle.proc_grammar.proofs.Told.{Reads, distinct, many_apart}
 use Rattle.phrases.proofs.Readers.{Any, reads_next, reads_done, reads_case, reads_holds}
 use Rattle.phrases.proofs.Readers.{reads_none}
 use Rattle.phrases.proofs.Repeats.{reads_many}
-use Rattle.proc_grammar.proofs.Tokens.{or_right, sign_token, sign_kind, name_kind}
+use Rattle.proc_grammar.proofs.Tokens.{sign_token, sign_kind, name_kind}
 use Rattle.proc_grammar.proofs.Tokens.{word_kind, sign_apart, sign_no_word}
 use Rattle.proc_grammar.proofs.Added.{reads_added, heads_added, name_no_token, word_no_token, tokens_apart}
 use Rattle.proc_grammar.proofs.Tokens.{name_no_word, word_other}

@@ -4,7 +4,7 @@ use Rattle.std.proofs.Common.{[], ◌∷◌, Option, Some, None, refl, ap, ◌�
 use Rattle.std.specs.Prelude.{◌==◌, ◌||◌, nat_lt}
 use Rattle.std.specs.List.{list_any, list_all}
 use Rattle.std.specs.Str.{bytes_eq}
-use Rattle.std.proofs.lemmas.Bool.{eqb-true, ltb-true, and_parts}
+use Rattle.std.proofs.lemmas.Bool.{eqb-true, ltb-true, and_parts, or_right, false_from_ne_true, both_ways}
 use Rattle.std.proofs.lemmas.Slice.Eq.{bytes_eq-Decides}
 use Rattle.text_scan.specs.declared.token.TokenKind.{TokenKind}
 use Rattle.text_scan.specs.declared.token.TokenKind.TheVariants as kinds
@@ -40,13 +40,6 @@ two_chosen : (b c : Bool) (x y o : Op) → cond b (Some x) (cond c (Some y) None
 two_chosen true c x y o e = inl refl
 two_chosen false true x y o e = inr refl
 two_chosen false false x y o e = absurd cc
-
-apart : (b : Bool) → (b ≡ true → ⊥) → b ≡ false
-apart true h = absurd (h refl)
-apart false h = refl
-
-clash : {b : Bool} → b ≡ false → b ≡ true → ⊥
-clash e h = absurd cc
 
 by_kind : (s : ℕ) (k : TokenKind) (at a : ℕ) → sign_in s k at ≡ Some a → k ≡ kinds.Sign s
 by_kind s kinds.Name at a e = absurd cc
@@ -152,10 +145,6 @@ pub no_word_kind : (w : List ℕ) (u : Lexeme) (k : TokenKind) → u.kind ≡ k
 unfolding word
 no_word_kind w u k e h = ap (λ z. word_in w u.at (name_text z u.text)) e ∙ h
 
-pub or_right : (b c : Bool) → c ≡ true → (b || c) ≡ true
-or_right true c e = refl
-or_right false c e = e
-
 -- a word of the language is reserved, whatever words are added
 pub reserved_taken : (words : List (List ℕ)) (w : List ℕ) → is_reserved w ≡ true → taken words w ≡ true
 reserved_taken [] w e = e
@@ -166,8 +155,8 @@ pub no_word_taken : (words : List (List ℕ)) (w : List ℕ) (u : Lexeme) → u.
     → taken words u.text ≡ false → taken words w ≡ true → word w u ≡ None
 unfolding word
 no_word_taken words w u k free reserved =
-    let differs : bytes_eq u.text w ≡ false = apart (bytes_eq u.text w)
-    (λ e. clash free (ap (taken words) ((bytes_eq-Decides u.text w).0 e) ∙ reserved)) in
+    let differs : bytes_eq u.text w ≡ false = false_from_ne_true (bytes_eq u.text w)
+    (λ e. both_ways _ free (ap (taken words) ((bytes_eq-Decides u.text w).0 e) ∙ reserved)) in
     ap (λ z. word_in w u.at (name_text z u.text)) k ∙ ap (λ b. cond b (Some u.at) None) differs
 
 pub no_word_name : (words : List (List ℕ)) (w : List ℕ) (u : Lexeme) → u.kind ≡ kinds.Name
@@ -223,7 +212,7 @@ long_for [] = 8
 long_for (w ∷ words) = length w + long_for words
 
 differ : (w text : List ℕ) → length w < length text → bytes_eq w text ≡ false
-differ w text less = apart (bytes_eq w text) (λ e. let same : length w ≡ length text =
+differ w text less = false_from_ne_true (bytes_eq w text) (λ e. let same : length w ≡ length text =
     ap length ((bytes_eq-Decides w text).0 e) in omega (arith, less, same))
 
 none_is : (words : List (List ℕ)) (text : List ℕ) → list_all (λ w. nat_lt (length w) 8) words ≡ true

@@ -34,19 +34,19 @@ name_in _ = record { text = []; at = 0 }
 name_back : (x : Name) → name_in (name x) ≡ x
 name_back x = ap (λ ns. let y : Name = record { text = ns; at = x.at } in y) (numbers_back x.text)
 
-abbrev sign : Op → Gv
+abbrev pub sign : Op → Gv
 sign Plus = gnum 0
 sign Minus = gnum 1
 sign Less = gnum 2
 sign Equal = gnum 3
 
-abbrev sign_in : Gv → Op
+abbrev pub sign_in : Gv → Op
 sign_in (gnum zero) = Plus
 sign_in (gnum (suc zero)) = Minus
 sign_in (gnum (suc (suc zero))) = Less
 sign_in _ = Equal
 
-sign_back : (o : Op) → sign_in (sign o) ≡ o
+pub sign_back : (o : Op) → sign_in (sign o) ≡ o
 sign_back Plus = refl
 sign_back Minus = refl
 sign_back Less = refl

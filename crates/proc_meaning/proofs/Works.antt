@@ -1,7 +1,7 @@
 -- Work lists that grow and shrink at their end.
-use Rattle.std.proofs.Common.{Result, Ok, Err, IfOk, replicate, ◌≡◌, ℕ, zero, suc, ◌+◌, ℤ}
+use Rattle.std.proofs.Common.{replicate, ◌≡◌, ℕ, zero, suc, ◌+◌, ℤ}
 use Rattle.std.proofs.Common.{pos, negsuc, List, [], ◌∷◌, ◌++◌}
-use Rattle.std.proofs.Common.{length, reverse, refl, sym, ap, ◌∙◌, arith, if◌then◌else◌}
+use Rattle.std.proofs.Common.{reverse, refl, sym, ap, ◌∙◌, arith, if◌then◌else◌}
 use Rattle.std.proofs.lemmas.List.{reverse-append, append_assoc, replicate-append-replicate}
 use Rattle.proc_meaning.specs.declared.places.Run.{Run}
 use Rattle.proc_meaning.specs.declared.work.Work.{Work}
@@ -24,10 +24,6 @@ module _ (world : World) where
 
 pub reversed : (items new : List Work) (w : Work) → new ≡ items ++ w ∷ [] → reverse new ≡ w ∷ reverse items
 reversed items new w e = ap reverse e ∙ reverse-append items (w ∷ [])
-
-pub no_items : {A : Type 0} (l : List A) → length l ≡ 0 → l ≡ []
-no_items [] e = refl
-no_items (x ∷ l) e = absurd (omega (arith, e))
 
 pub zero_if : {A : Type 0} (v : ℤ) (x y : A) → v ≡ pos 0 → (if is_zero v then x else y) ≡ x
 zero_if v x y e = rw e
@@ -55,7 +51,3 @@ one_more l one two n a e d =
 
 pub as_many_as : (need n : ℕ) (m : Comp) → n ≡ need + 1 → ticks (1 + need) m ≡ ticks n m
 as_many_as need n m e = let same : 1 + need ≡ n = omega (arith, e) in ap (λ k. ticks k m) same
-
-pub mapped : {A E : Type 0} (r : Result A E) (P Q : A → Type 0) → ((a : A) → P a → Q a) → IfOk r P → IfOk r Q
-mapped (Ok a) P Q f h = f a h
-mapped (Err e) P Q f h = h

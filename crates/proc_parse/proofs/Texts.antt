@@ -5,12 +5,14 @@ use Rattle.std.proofs.Common.{subst, inl, inr, ◌⊎◌}
 use Rattle.std.specs.Prelude.{Result, Ok, Err, IfOk, IfErr, IsOkAnd, All, slice_range}
 use Rattle.std.proofs.lemmas.List.{length-take}
 use Rattle.std.proofs.lemmas.List.Elements.{All-head, All-tail, All-cons, All-nil}
+use Rattle.std.proofs.lemmas.Option.{same_Some}
 use Rattle.text_scan.specs.declared.token.TokenKind.{TokenKind}
 use Rattle.text_scan.specs.declared.token.TokenKind.TheVariants as kinds
 use Rattle.text_scan.specs.declared.token.Token.{Token}
 use Rattle.text_scan.specs.declared.fault.ScanFault.{ScanFault}
 use Rattle.text_scan.specs.Tokens.{scanned}
 use Rattle.text_scan.specs.Grammar.{HasTokens, IsSpelled, IsTokenText, Placed}
+use Rattle.text_scan.proofs.Places.{placed_ends}
 use Rattle.proc_grammar.specs.declared.fault.ParseFault.{ParseFault}
 use Rattle.proc_grammar.specs.declared.fault.ParseFault.TheVariants.{Scan, Expected, Range, TooMany, NoMemory}
 use Rattle.proc_grammar.specs.Fault.{AnswersAs, Fails, limit_place}
@@ -39,11 +41,6 @@ lexemes_are text (t ∷ tokens) =
     map_cond text (is_line_end t.kind) t (proper tokens) (proper tokens)
     ∙ ap (λ l. cond (is_line_end t.kind) l (seen text t ∷ l)) (lexemes_are text tokens)
 
-placed_le : (low high : ℕ) (tokens : List Token) → Placed low high tokens → low ≤ high
-placed_le low high [] p = p
-placed_le low high (t ∷ tokens) p = let rest = placed_le (t.at + t.len) high tokens p.1 in
-    omega (arith, p.0, rest)
-
 in_cond : (text : List ℕ) (b : Bool) (t : Token) (xs : List Token) → t.at + t.len ≤ length text
     → InText text xs → InText text (cond b xs (t ∷ xs))
 in_cond text true t xs le p = p
@@ -53,7 +50,7 @@ pub in_text : (text : List ℕ) (low : ℕ) (tokens : List Token) → Placed low
     → InText text (proper tokens)
 in_text text low [] p = tt
 in_text text low (t ∷ tokens) p = in_cond text (is_line_end t.kind) t (proper tokens)
-    (placed_le (t.at + t.len) (length text) tokens p.1) (in_text text (t.at + t.len) tokens p.1)
+    (placed_ends (t.at + t.len) (length text) tokens p.1) (in_text text (t.at + t.len) tokens p.1)
 
 -- ---- as many tokens as bytes
 
@@ -127,9 +124,6 @@ stands_before (x ∷ b) t u rest end h = stands_before b t u rest end h.1
 
 -- ---- faults
 
-some_is : (p n : ℕ) → Some p ≡ Some n → p ≡ n
-some_is p n e = cc
-
 no_limit : (e : ParseFault) (at n : ℕ) → e ≡ Expected at → limit_place e ≡ Some n → ⊥
 no_limit e at n is limit = let none : None ≡ Some n = sym (ap limit_place is) ∙ limit in cc
 
@@ -176,8 +170,8 @@ module _ {E A S P V R M : Type 0} (T : Makes E A S P V R M) where
       → Passes T text e → PassesBefore T text at e
   passes_before text at (Scan s) n is lt h = absurd (let none : None ≡ Some n = is in cc)
   passes_before text at (Expected p) n is lt h = absurd (let none : None ≡ Some n = is in cc)
-  passes_before text at (Range p) n is lt h = (let same = some_is p n is in omega (arith, same, lt), h)
-  passes_before text at (TooMany p) n is lt h = (let same = some_is p n is in omega (arith, same, lt), h)
+  passes_before text at (Range p) n is lt h = (let same = same_Some p n is in omega (arith, same, lt), h)
+  passes_before text at (TooMany p) n is lt h = (let same = same_Some p n is in omega (arith, same, lt), h)
   passes_before text at NoMemory n is lt h = absurd (let none : None ≡ Some n = is in cc)
 
   -- a text spells one module

@@ -17,7 +17,7 @@ use Rattle.proc_program.specs.StepView.{block_of as block_view}
 
 module _ (m : ModuleFields) (p : Proc) where
   mutual
-    exp_calls : (e : Expr) (n : ℕ) → calls (exp_of m p n e) ≡ text.calls e
+    pub exp_calls : (e : Expr) (n : ℕ) → calls (exp_of m p n e) ≡ text.calls e
     exp_calls (number at v) n = refl
     exp_calls (var at x) n = refl
     exp_calls (element at x e) n = exp_calls e n
@@ -25,13 +25,13 @@ module _ (m : ModuleFields) (p : Proc) where
     exp_calls (op at o a b) n = let x = exp_calls a n in let y = exp_calls b (n + text.calls a) in
         omega (arith, x, y)
 
-    among : (xs : Args) (n : ℕ) → args_calls (args_view (args_of m p n xs)) ≡ text.args_calls xs
+    pub among : (xs : Args) (n : ℕ) → args_calls (args_view (args_of m p n xs)) ≡ text.args_calls xs
     among no_args n = refl
     among (value e xs) n = let x = exp_calls e n in let y = among xs (n + text.calls e) in omega (arith, x, y)
     among (proc f xs) n = among xs n
 
   mutual
-    stmt_kept : (s : Stmt) (n : ℕ) → step_calls (step_of m p n s) ≡ text.stmt_calls s
+    pub stmt_kept : (s : Stmt) (n : ℕ) → step_calls (step_of m p n s) ≡ text.stmt_calls s
     stmt_kept (set at x e) n = exp_calls e n
     stmt_kept (set_at at x i e) n =
         let x = exp_calls i n in let y = exp_calls e (n + text.calls i) in omega (arith, x, y)
@@ -46,7 +46,7 @@ module _ (m : ModuleFields) (p : Proc) where
     stmt_kept (return at e) n = exp_calls e n
     stmt_kept (halt at e) n = exp_calls e n
 
-    block_kept : (b : Block) (n : ℕ) → block_calls (block_view (steps_of m p n b)) ≡ text.block_calls b
+    pub block_kept : (b : Block) (n : ℕ) → block_calls (block_view (steps_of m p n b)) ≡ text.block_calls b
     block_kept no_stmts n = refl
     block_kept (stmt s b) n = let x = stmt_kept s n in let y = block_kept b (n + text.stmt_calls s) in
         omega (arith, x, y)

@@ -5,7 +5,7 @@ use Rattle.std.specs.Prelude.{replicate, slice_get, is_some}
 use Rattle.std.specs.Option.{option_map_or}
 use Rattle.std.specs.Int.{w64}
 use Rattle.std.specs.Int.RustNames.{FitsSigned}
-use Rattle.std.proofs.lemmas.List.{length-map}
+use Rattle.std.proofs.lemmas.List.{length-map, length-replicate}
 use Rattle.std.proofs.lemmas.List.Sums.{sum_by-cons}
 use Rattle.proc_language.specs.declared.module.Import.{Import}
 use Rattle.proc_language.specs.declared.module.Global.{Global}
@@ -41,22 +41,19 @@ use Rattle.proc_program.proofs.Limits.{passed_within}
 
 -- ---- lengths
 
-replicate-length : {A : Type 0} (n : ℕ) (x : A) → length (replicate n x) ≡ n
-replicate-length zero x = refl
-replicate-length (suc n) x = ap suc (replicate-length n x)
-
-globals-length : (gs : List Global) → length (globals_of gs) ≡ words_in gs
+pub globals-length : (gs : List Global) → length (globals_of gs) ≡ words_in gs
 globals-length [] = refl
 globals-length (g ∷ gs) =
     length-append (replicate (words g) (unwrap_or g.initial (pos 0))) (globals_of gs)
-    ∙ (let a = replicate-length (words g) (unwrap_or g.initial (pos 0)) in let b = globals-length gs in
+    ∙ (let a = length-replicate (words g) (unwrap_or g.initial (pos 0)) in let b = globals-length gs in
     let e = sum_by-cons words g gs in omega (arith, a, b, e))
 
-procs-length : (m : ModuleFields) (n : ℕ) (ps : List Proc) → length (procedures_of m n ps) ≡ length ps
+pub procs-length : (m : ModuleFields) (n : ℕ) (ps : List Proc) → length (procedures_of m n ps) ≡ length ps
 procs-length m n [] = refl
 procs-length m n (p ∷ ps) = ap suc (procs-length m (n + proc_calls p) ps)
 
-row_within : (gs : List Global) (k : ℕ) → word_at gs k + option_map_or words (slice_get gs k) 0 ≤ words_in gs
+pub row_within : (gs : List Global) (k : ℕ)
+    → word_at gs k + option_map_or words (slice_get gs k) 0 ≤ words_in gs
 row_within [] zero = omega arith
 row_within [] (suc k) = omega arith
 row_within (g ∷ gs) zero = let e = sum_by-cons words g gs in omega (arith, e)
@@ -66,7 +63,7 @@ row_within (g ∷ gs) (suc k) =
     let h = row_within gs k in
     omega (arith, a, b, h)
 
-count_same : (a : Option ℕ) → register_count (is_some a) ≡ param_registers a
+pub count_same : (a : Option ℕ) → register_count (is_some a) ≡ param_registers a
 count_same None = refl
 count_same (Some n) = refl
 

@@ -1,10 +1,9 @@
 -- Programs as ghost values: each is told from every other.
-use Rattle.std.specs.Prelude.{◌≡◌, refl, zero, suc}
+use Rattle.std.specs.Prelude.{◌≡◌, refl}
 use Rattle.std.specs.Coded.{Coded}
 use Rattle.std.proofs.Common.{sym, ◌∙◌, ap}
 use base.Stored.{Gv, gnil, gnum, gcons}
-use Rattle.proc_language.specs.declared.tree.Op.{Op}
-use Rattle.proc_language.specs.declared.tree.Op.TheVariants.{Plus, Minus, Less, Equal}
+use Rattle.proc_language.specs.Codes.{sign_back, sign_in, sign}
 use Rattle.proc_program.specs.declared.program.Handle.{Handle}
 use Rattle.proc_program.specs.declared.program.Handle.TheVariants.{Given, Own, Imported}
 use Rattle.proc_program.specs.declared.program.Place.{Place}
@@ -13,24 +12,6 @@ use Rattle.proc_program.specs.Program.{Exp, Number, Load, Element, Call, Binary,
 use Rattle.proc_program.specs.Program.{Step, Set, SetAt, Do, If, While, Return, Halt, Block, no_steps, step}
 
 -- ---- small things
-
-abbrev sign : Op → Gv
-sign Plus = gnum 0
-sign Minus = gnum 1
-sign Less = gnum 2
-sign Equal = gnum 3
-
-abbrev sign_in : Gv → Op
-sign_in (gnum zero) = Plus
-sign_in (gnum (suc zero)) = Minus
-sign_in (gnum (suc (suc zero))) = Less
-sign_in _ = Equal
-
-sign_back : (o : Op) → sign_in (sign o) ≡ o
-sign_back Plus = refl
-sign_back Minus = refl
-sign_back Less = refl
-sign_back Equal = refl
 
 abbrev handle : Handle → Gv
 handle (Given i) = gnum i

@@ -38,15 +38,15 @@ name_too text h = (and_parts (part.is_name text) (not (is_reserved text)) h).0
 
 -- ---- no name twice
 
-left_none : {A : Type 0} (a b : List A) → a ++ b ≡ [] → a ≡ []
+pub left_none : {A : Type 0} (a b : List A) → a ++ b ≡ [] → a ≡ []
 left_none [] b e = refl
 left_none (x ∷ a) b e = cc
 
-right_none : {A : Type 0} (a b : List A) → a ++ b ≡ [] → b ≡ []
+pub right_none : {A : Type 0} (a b : List A) → a ++ b ≡ [] → b ≡ []
 right_none [] b e = e
 right_none (x ∷ a) b e = cc
 
-once : (b : Bool) (f : NameFault) → unless (not b) f ≡ [] → b ≡ false
+pub once : (b : Bool) (f : NameFault) → unless (not b) f ≡ [] → b ≡ false
 once true f e = cc
 once false f e = refl
 

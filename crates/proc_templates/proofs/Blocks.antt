@@ -3,6 +3,7 @@ use Rattle.std.proofs.Common.{◌≡◌, ℕ, zero, suc, ◌+◌, ◌-◌, ◌<�
 use Rattle.std.proofs.Common.{[], ◌∷◌, ◌++◌, length, map, Some, None, refl, sym, ap, ◌∙◌, subst, arith}
 use Rattle.std.proofs.Common.{eqb-true}
 use Rattle.std.specs.Prelude.{if◌then◌else◌, slice_get, ◌||◌, ◌==◌}
+use Rattle.std.proofs.lemmas.Bool.{or_cases}
 use Rattle.component_file.specs.declared.component.ComponentFields.{ComponentFields}
 use Rattle.lcm_isa.specs.declared.Reg.TheVariants.{A0, Rcode, Rdata}
 use Rattle.lcm_isa.specs.declared.Instr.{Instr}
@@ -54,10 +55,6 @@ got_last (y ∷ xs) o (suc i) x e =
       | inl h ↦ inl h
       | inr h ↦ inr (ap suc h.0, h.1)
     ]
-
-or_cases : (a b : Bool) → (a || b) ≡ true → (a ≡ true) ⊎ (b ≡ true)
-or_cases true b e = inl refl
-or_cases false b e = inr e
 
 or_none : (b : Bool) → (b || false) ≡ true → b ≡ true
 or_none true e = refl

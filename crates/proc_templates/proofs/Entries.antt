@@ -117,7 +117,7 @@ entries_proc m l p =
     ∙ entries_kept (spot_of m l p) (behind_entry f p.callbacks (block_of p.body))
     (put (spot_of m l p) l entry) (inner_proc f p.callbacks (block_of p.body))
 
-any_into : (q : Export → Bool) (e : Export) (es : List Export)
+pub any_into : (q : Export → Bool) (e : Export) (es : List Export)
     → list_any q (export_into e es) ≡ (q e || list_any q es)
 any_into q e [] = refl
 any_into q e (x ∷ xs) = by (name_lt e.name x.name) (any_into q e xs)

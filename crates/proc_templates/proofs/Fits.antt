@@ -10,7 +10,7 @@ use Rattle.lcm_isa.specs.declared.Instr.{Instr}
 use Rattle.lcm_isa.specs.declared.Instr.TheVariants as instr
 use Rattle.lcm_isa.specs.declared.Instr.TheVariants.{Store}
 use Rattle.lcm_isa.specs.Numbers.{IsInstr}
-use Rattle.call_sequence.proofs.LawLemmas.{near_operand}
+use Rattle.call_sequence.proofs.LawLemmas.{near_operand, small_operand as near}
 use Rattle.proc_language.specs.declared.TheConstants.{LARGEST_LITERAL}
 use Rattle.proc_language.specs.declared.tree.Op.{Op}
 use Rattle.proc_language.specs.declared.tree.Op.TheVariants as operator
@@ -37,9 +37,6 @@ use Rattle.proc_templates.proofs.Standing.{zero_fits}
 
 small : (n : ℕ) → n ≤ LARGEST_LITERAL → FitsSigned w32 (pos n)
 small n h = record { sfits = omega (arith, h) }
-
-near : (n : ℕ) → n ≤ LAST_PLACE → FitsSigned w32 (pos n)
-near n h = small n (omega (arith, h))
 
 pub record Fit (xs : List Item) : Type 0 where
   pub by : ItemsFit xs

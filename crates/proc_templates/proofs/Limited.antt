@@ -5,7 +5,7 @@ use Rattle.std.proofs.Common.{◌∙◌, subst, arith, length-append, eq-eqb, lt
 use Rattle.std.specs.Prelude.{if◌then◌else◌, ◌||◌, ◌==◌, nat_lt, IfSome, FitsSigned, IsTrue, option_map}
 use Rattle.std.specs.Int.{w32, w64}
 use Rattle.std.proofs.lemmas.Bool.{cases_lt}
-use Rattle.std.proofs.lemmas.List.{length-map}
+use Rattle.std.proofs.lemmas.List.{length-map, length-replicate}
 use Rattle.cap_words.specs.declared.TheConstants.{LAST_PLACE}
 use Rattle.cap_words.specs.declared.Word.{Word}
 use Rattle.cap_words.specs.declared.Word.TheVariants.{Int}
@@ -20,7 +20,7 @@ use Rattle.component_file.specs.declared.component.KindRow.{KindRow}
 use Rattle.component_file.specs.Limits.{ascends, name_lt, Chain, ImportFits, ExportFits, SiteFits, RowFits}
 use Rattle.component_file.specs.Limits.{StretchFits, IsComponent}
 use Rattle.call_sequence.specs.declared.TheConstants.{CALL_WORDS, SITE_WORDS}
-use Rattle.call_sequence.proofs.LawLemmas.{near_operand}
+use Rattle.call_sequence.proofs.LawLemmas.{near_operand, small_operand as near}
 use Rattle.call_sequence.specs.Sequences.{call_code, return_code, entry_code}
 use Rattle.proc_program.specs.declared.program.Part.{Part}
 use Rattle.proc_program.specs.declared.program.Import as program
@@ -52,6 +52,7 @@ use Rattle.proc_templates.proofs.Listed.{labels_end}
 use Rattle.proc_templates.proofs.Readies.{ready, code-length}
 use Rattle.lcm_isa.proofs.NumberLemmas.{number_below}
 use Rattle.proc_templates.proofs.Apart.{name_too, exports_chain}
+use Rattle.proc_templates.proofs.OwnRules.{imports_length, own_length, one_at_least}
 
 -- ---- words
 
@@ -74,9 +75,6 @@ instrs_good : (is : List Instr) → AllFit is → AllGood (map word_of is)
 instrs_good [] f = tt
 instrs_good (i ∷ is) f = let h = number_below i f.0 in
     ((record { sfits = omega (arith, h) }, tt), instrs_good is f.1)
-
-near : (n : ℕ) → n ≤ LAST_PLACE → FitsSigned w32 (pos n)
-near n h = record { sfits = omega (arith, h) }
 
 last_fits : FitsSigned w32 (negsuc 0)
 last_fits = record { sfits = omega arith }
@@ -333,10 +331,6 @@ globals_good : (zs : List ℤ) → language.Each (FitsSigned w64) zs → AllGood
 globals_good [] f = tt
 globals_good (z ∷ zs) f = ((f.0, tt), globals_good zs f.1)
 
-same-length : (n : ℕ) (w : Word) → length (replicate n w) ≡ n
-same-length zero w = refl
-same-length (suc n) w = ap suc (same-length n w)
-
 data_words_good : (m : Part) → IsPart m → AllGood (data_of m)
 unfolding data_of
 data_words_good m f =
@@ -347,7 +341,7 @@ pub data-length : (m : Part) → length (data_of m) ≡ data_count m
 unfolding data_of data_count
 data-length m =
     length-append (replicate (pair_count m) (Int (pos 0))) (map int_word m.globals)
-    ∙ (let a = same-length (pair_count m) (Int (pos 0)) in let b = length-map m.globals int_word in
+    ∙ (let a = length-replicate (pair_count m) (Int (pos 0)) in let b = length-map m.globals int_word in
     omega (arith, a, b))
 
 -- ---- slots
@@ -378,14 +372,6 @@ own_chain s0 part named (p ∷ ps) s before f h a = (
   (name_too part named, name_too p.name f.0.name, omega (arith, h), a),
   own_chain s0 part named ps (s + 2) (Some _) f.1 (omega (arith, h)) (lt-ltb s (s + 2) (omega arith)),
 )
-
-imports-length : (s : ℕ) (xs : List program.Import) → length (import_slots s xs) ≡ length xs
-imports-length s [] = refl
-imports-length s (x ∷ xs) = ap suc (imports-length (s + 2) xs)
-
-own-length : (part : List ℕ) (s : ℕ) (ps : List Procedure) → length (own_slots part s ps) ≡ length ps
-own-length part s [] = refl
-own-length part s (p ∷ ps) = ap suc (own-length part (s + 2) ps)
 
 into-length : (e : Export) (es : List Export) → length (export_into e es) ≡ suc (length es)
 into-length e [] = refl
@@ -460,10 +446,6 @@ rising_less low (x ∷ xs) top l h r =
 
 -- ---- the component
 
-one_at_least : (n k : ℕ) → (n == 0) ≡ false → n ≤ k → 1 ≤ k
-one_at_least zero k e h = cc
-one_at_least (suc n) k e h = omega (arith, h)
-
 module _ (m : Part) (f : Fits m) (named : NamesDiffer m.procs)
     (seals : part_calls m ≤ m.header.return_count) where
   code : length (laid_of m).code ≤ MOST_WORDS
@@ -509,7 +491,7 @@ module _ (m : Part) (f : Fits m) (named : NamesDiffer m.procs)
   imports_fit =
       let a = f.limits.imports.0 in let b = f.limits.procs.0 in let h = pairs in
       let e = length-append (import_slots 0 m.imports) (own_slots m.name (2 * length m.imports) m.procs) in
-      let x = imports-length 0 m.imports in let y = own-length m.name (2 * length m.imports) m.procs in (
+      let x = imports_length 0 m.imports in let y = own_length m.name (2 * length m.imports) m.procs in (
         omega (arith, e, x, y, a, b),
         imports_chain m.imports 0 None (own_slots m.name (2 * length m.imports) m.procs) f.limits.imports.1
             (omega (arith, h)) refl

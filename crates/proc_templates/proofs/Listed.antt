@@ -25,8 +25,10 @@ use Rattle.flow_check.specs.Places.{begins_entry, begins_site, declared, in_site
 use Rattle.flow_check.specs.Lists.{k1, k2, k3, k4, site_of, site_is_bad, overlap, meets_entry, meets_site}
 use Rattle.flow_check.specs.Lists.{entry_is_bad, row_offset, of_entry, is_misplaced, lists}
 use Rattle.flow_check.specs.Verdict.{IsKept}
-use Rattle.std.proofs.lemmas.Bool.{and_parts, cases_lt}
+use Rattle.std.proofs.lemmas.Bool.{and_parts, cases_lt, not-true, false_from_ne_true, lt-leb, or_from}
 use Rattle.std.proofs.lemmas.Option.{slice_get_within}
+use Rattle.std.proofs.lemmas.Map.Keys.{any_passes_from_place}
+use Rattle.std.proofs.Math.Bool.{and-false}
 use Rattle.proc_templates.specs.Items.{FAIL_AT, LITERAL_AT, word_of}
 use Rattle.proc_templates.specs.Compiled.{label_row, row_at_label, laid_of, component_of}
 use Rattle.proc_program.specs.Calls.{part_calls}
@@ -43,28 +45,6 @@ any_false : {A : Type 0} (q : A → Bool) (xs : List A)
 any_false q [] h = refl
 any_false q (x ∷ xs) h = let e = h 0 x refl in rw e (any_false q xs (λ j y g. h (suc j) y g))
 
-pub any_true : {A : Type 0} (q : A → Bool) (xs : List A) (j : ℕ) (x : A) → slice_get xs j ≡ Some x
-    → q x ≡ true → list_any q xs ≡ true
-any_true q [] j x e h = cc
-any_true q (y ∷ xs) zero x e h = let f : y ≡ x = cc in let g : q y ≡ true = ap q f ∙ h in rw g refl
-any_true q (y ∷ xs) (suc j) x e h = or_right (q y) (list_any q xs) (any_true q xs j x e h)
-  where
-    or_right : (a b : Bool) → b ≡ true → (a || b) ≡ true
-    or_right true b e = refl
-    or_right false b e = e
-
-pub and_false : (b : Bool) → (b && false) ≡ false
-and_false true = refl
-and_false false = refl
-
-pub false_of : (b : Bool) → (b ≡ true → ⊥) → b ≡ false
-false_of true h = absurd (h refl)
-false_of false h = refl
-
-not_false : (b : Bool) → not b ≡ true → b ≡ false
-not_false true e = cc
-not_false false e = refl
-
 pub got_index : (xs : List ℕ) (i : ℕ) → i < length xs → slice_get xs i ≡ Some (slice_index xs i)
 got_index [] i h = absurd (omega (arith, h))
 got_index (x ∷ xs) zero h = refl
@@ -72,7 +52,7 @@ got_index (x ∷ xs) (suc i) h = got_index xs i (omega (arith, h))
 
 -- ---- words that stand differ nowhere
 
-int_self : (z : ℤ) → int_eq z z ≡ true
+pub int_self : (z : ℤ) → int_eq z z ≡ true
 int_self z = search (rules, tests)
 
 alike : (words : List Word) (is : List Instr) (at : ℕ)
@@ -94,9 +74,6 @@ some_no r e = cc
 map-length_of : (ls : List ℕ) → length (map row_at_label ls) ≡ length ls
 map-length_of [] = refl
 map-length_of (l ∷ ls) = ap suc (map-length_of ls)
-
-pub lt-leb : (a b : ℕ) → a < b → nat_le b a ≡ false
-lt-leb a b h = false_of (nat_le b a) (λ e. let g = leb-true b a e in absurd (omega (arith, h, g)))
 
 pub broken_not : (k : Test ℕ) (i : ℕ) (t : Test ℕ) → Some k ≡ Some t
     → ((j : ℕ) → j < k.count → k.broken j ≡ false) → BrokenAt t i → ⊥
@@ -162,7 +139,7 @@ module _ (m : Part) (ready : AllReady m m.procs) (most : length (laid_of m).code
           let e : nat_lt (site_of c (suc j)) (site_of c j + SITE_WORDS) ≡ false =
           le-ltb (site_of c (suc j)) (site_of c j + SITE_WORDS) gap in
           ap (λ k. nat_lt 0 (suc j) && nat_lt (site_of c (suc j)) (site_of c k + SITE_WORDS)) n
-          ∙ rw e (and_false (nat_lt 0 (suc j)))
+          ∙ rw e (and-false (nat_lt 0 (suc j)))
 
   -- K2
   some_calls : (i : ℕ) → i < length c.sites → (part_calls m == 0) ≡ false
@@ -205,12 +182,13 @@ module _ (m : Part) (ready : AllReady m m.procs) (most : length (laid_of m).code
   no_entry_near : (o : ℕ) → o < length c.code → begins_entry c o ≡ true → meets_entry c o ≡ false
   unfolding begins_entry
   no_entry_near o lt h = any_false _ c.exports
-      (λ j x g. by x (any_true (λ e. e.offset == x.offset) c.exports j x g (eq-eqb x.offset x.offset refl)))
+      (λ j x g. by x (any_passes_from_place (λ e. e.offset == x.offset) c.exports j x g
+      (eq-eqb x.offset x.offset refl)))
     where
       by : (x : Export) → list_any (λ e. e.offset == x.offset) c.exports ≡ true
           → (not (x.offset == o) && overlap x.offset ENTRY_WORDS o ENTRY_WORDS) ≡ false
-      by x there_x' = false_of _ (λ e.
-          let ne : (x.offset == o) ≡ false = not_false (x.offset == o)
+      by x there_x' = false_from_ne_true _ (λ e.
+          let ne : (x.offset == o) ≡ false = not-true (x.offset == o)
           ((and_parts (not (x.offset == o)) _ e).0) in
           let ov = (and_parts (not (x.offset == o)) _ e).1 in
           let lo = ltb-true x.offset (o + ENTRY_WORDS) ((and_parts _ _ ov).0) in
@@ -229,11 +207,11 @@ module _ (m : Part) (ready : AllReady m m.procs) (most : length (laid_of m).code
   no_site_near : (o : ℕ) → o < length c.code → begins_entry c o ≡ true → meets_site c o ≡ false
   unfolding begins_site
   no_site_near o lt h = any_false _ c.sites
-      (λ j x g. by j x g (any_true (λ s. s == x) c.sites j x g (eq-eqb x x refl)))
+      (λ j x g. by j x g (any_passes_from_place (λ s. s == x) c.sites j x g (eq-eqb x x refl)))
     where
       by : (j x : ℕ) → slice_get c.sites j ≡ Some x → list_any (λ s. s == x) c.sites ≡ true
           → overlap x SITE_WORDS o ENTRY_WORDS ≡ false
-      by j x g here = false_of _ (λ ov.
+      by j x g here = false_from_ne_true _ (λ ov.
           let lo = ltb-true x (o + ENTRY_WORDS) ((and_parts _ _ ov).0) in
           let hi = ltb-true o (x + SITE_WORDS) ((and_parts (nat_lt x (o + ENTRY_WORDS)) _ ov).1) in
           let t = entry_at o lt h in
@@ -248,9 +226,6 @@ module _ (m : Part) (ready : AllReady m m.procs) (most : length (laid_of m).code
             ]
           ])
 
-  or_both : (a b : Bool) → a ≡ false → b ≡ false → (a || b) ≡ false
-  or_both a b e h = rw e h
-
   exports_inside : (o : ℕ) → begins_entry c o ≡ true → o < length c.code
   unfolding c
   exports_inside o h = let t = entry_room o (there.entries o (sym (entries_whole m ready o) ∙ h)) in
@@ -258,13 +233,13 @@ module _ (m : Part) (ready : AllReady m m.procs) (most : length (laid_of m).code
 
   kept_3 : (o : ℕ) → (begins_entry c o && entry_is_bad c o) ≡ false
   unfolding entry_is_bad
-  kept_3 o = false_of _ (λ e.
+  kept_3 o = false_from_ne_true _ (λ e.
       let h = (and_parts (begins_entry c o) _ e).0 in
       let lt = exports_inside o h in
       let bad = (and_parts (begins_entry c o) _ e).1 in
       let s : not (is_entry c o) ≡ false = ap not (entry_stands o (entry_at o lt h)) in
-      true≢false (sym bad ∙ or_both (not (is_entry c o)) (meets_entry c o || meets_site c o) s
-      (or_both (meets_entry c o) (meets_site c o) (no_entry_near o lt h) (no_site_near o lt h))))
+      true≢false (sym bad ∙ or_from (not (is_entry c o)) (meets_entry c o || meets_site c o) s
+      (or_from (meets_entry c o) (meets_site c o) (no_entry_near o lt h) (no_site_near o lt h))))
 
   -- K4
   same_rows : c.rows ≡ map row_at_label (laid_of m).labels
@@ -287,7 +262,7 @@ module _ (m : Part) (ready : AllReady m m.procs) (most : length (laid_of m).code
       ∙ map-length_of (laid_of m).labels in
       let g = got_index (laid_of m).labels i (omega (arith, h, n)) in
       let k : row_offset c i ≡ slice_index (laid_of m).labels i = ap (λ xs. slice_index xs i) e in
-      ap (has (laid_of m).labels) k ∙ any_true (λ y. y == slice_index (laid_of m).labels i)
+      ap (has (laid_of m).labels) k ∙ any_passes_from_place (λ y. y == slice_index (laid_of m).labels i)
       (laid_of m).labels i (slice_index (laid_of m).labels i) g
       (eq-eqb (slice_index (laid_of m).labels i) (slice_index (laid_of m).labels i) refl)
 
@@ -295,11 +270,12 @@ module _ (m : Part) (ready : AllReady m m.procs) (most : length (laid_of m).code
   outside_entries : (x : ℕ) → x < length c.code → declared c x ≡ Some label_row → of_entry c x ≡ false
   unfolding of_entry begins_entry
   outside_entries x lt d = any_false _ c.exports
-      (λ j e g. by e (any_true (λ y. y.offset == e.offset) c.exports j e g (eq-eqb e.offset e.offset refl)))
+      (λ j e g. by e (any_passes_from_place (λ y. y.offset == e.offset) c.exports j e g
+      (eq-eqb e.offset e.offset refl)))
     where
       by : (e : Export) → list_any (λ (y : Export). y.offset == e.offset) c.exports ≡ true
           → (nat_le e.offset x && nat_lt x (e.offset + ENTRY_WORDS)) ≡ false
-      by e here = false_of _ (λ h.
+      by e here = false_from_ne_true _ (λ h.
           let lo = leb-true e.offset x ((and_parts _ _ h).0) in
           let hi = ltb-true x (e.offset + ENTRY_WORDS) ((and_parts (nat_le e.offset x) _ h).1) in
           let t = entry_at e.offset (omega (arith, lo, lt)) here in
@@ -311,7 +287,7 @@ module _ (m : Part) (ready : AllReady m m.procs) (most : length (laid_of m).code
 
   outside_sites : (x : ℕ) → declared c x ≡ Some label_row → in_site c x ≡ false
   unfolding in_site
-  outside_sites x d = any_false _ c.sites (λ j s g. false_of _ (λ h.
+  outside_sites x d = any_false _ c.sites (λ j s g. false_from_ne_true _ (λ h.
       let lo = ltb-true s x ((and_parts _ _ h).0) in
       let hi = ltb-true x (s + SITE_WORDS) ((and_parts (nat_lt s x) _ h).1) in
       let g' : slice_get (laid_of m).sites j ≡ Some s = subst (λ xs. slice_get xs j ≡ Some s) same_sites g in
@@ -329,8 +305,8 @@ module _ (m : Part) (ready : AllReady m m.procs) (most : length (laid_of m).code
         | inr ge ↦ absurd (true≢false (sym l
             ∙ there.closed.labels x (subst (λ ws. length ws ≤ x) same_code ge)))
       ] in
-      or_both (nat_le (length c.code) x) (of_entry c x || in_site c x) (lt-leb x (length c.code) lt)
-      (or_both (of_entry c x) (in_site c x) (outside_entries x lt d) (outside_sites x d))
+      or_from (nat_le (length c.code) x) (of_entry c x || in_site c x) (lt-leb (length c.code) x lt)
+      (or_from (of_entry c x) (in_site c x) (outside_entries x lt d) (outside_sites x d))
 
   -- ---- the verdict
 

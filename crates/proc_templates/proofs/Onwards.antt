@@ -18,7 +18,7 @@ use Rattle.flow_check.specs.Kinds.{Row, kind_of, set_kind, below_any, row_below,
 use Rattle.flow_check.specs.declared.judging.Flow.TheVariants.{Flows as flows}
 use Rattle.flow_check.specs.declared.walking.Walk.{Walk}
 use Rattle.flow_check.specs.declared.walking.Walk.TheVariants.{Before as before, Ended as ended}
-use Rattle.flow_check.specs.Flow.{flow, ask, seen, led, shows_nothing}
+use Rattle.flow_check.specs.Flow.{flow, ask, led, shows_nothing}
 use Rattle.flow_check.specs.Places.{begins_entry, begins_site, declared}
 use Rattle.flow_check.specs.Walk.{instr_at, instr_in, keep, comes_in, site_ready, passes, good_target}
 use Rattle.flow_check.specs.Walk.{after_flow, at_row, past, at_word, next_from, next, Comes}
@@ -225,9 +225,6 @@ module _ (c : ComponentFields) where
   jumps o p s d t (live a) =
       none_on (o + 1) (moved _ _ (bare_row o _ a.row s d ∙ ap (after_flow c o a.row) (jmp_flow o p a.row a.t2)
       ∙ kept 7 o _ _ (t.good a.row a.works)) (steps _ a.comes))
-
-  low_seen : (o : ℕ) (r : Row) (g : Reg) → Works r → is_low g ≡ true → seen o r g ≡ true
-  low_seen o r g w e = low-seen o r g w e
 
   jnz_flow : (o p : ℕ) (r : Row) (g : Reg) → Works r → is_low g ≡ true → kind_of r T2 ≡ kind.Pc p
       → flow (Jnz T2 g) o r ≡ flows (Some p) (Some r)

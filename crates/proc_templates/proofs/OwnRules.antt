@@ -1,13 +1,14 @@
 -- The component keeps the rules of its own slots, exports and words.
-use Rattle.std.proofs.lemmas.Bool.{and_parts}
+use Rattle.std.proofs.lemmas.Bool.{and_parts, or_right, lt-leb}
+use Rattle.std.proofs.lemmas.List.{length-replicate}
+use Rattle.std.proofs.Math.Bool.{and-false}
 use Rattle.std.proofs.Common.{◌≡◌, ℕ, zero, suc, ◌+◌, ◌-◌, ◌*◌, ◌<◌, ◌≤◌, Bool, true, false, List, [], ◌∷◌}
 use Rattle.std.proofs.Common.{◌++◌, length, map, Option, Some, None, refl, sym, ap, ◌∙◌, subst, arith}
 use Rattle.std.proofs.Common.{append_assoc, length-append, le-ltb, le-leb, lt-ltb, eqb-true, eq-eqb, ne_eqb}
-use Rattle.std.proofs.Common.{ℤ, pos, rules, tests}
-use Rattle.std.specs.Prelude.{if◌then◌else◌, ◌||◌, ◌&&◌, ◌==◌, not, nat_lt, nat_le, slice_get, slice_index}
+use Rattle.std.proofs.Common.{ℤ, pos}
+use Rattle.std.specs.Prelude.{if◌then◌else◌, ◌&&◌, ◌==◌, not, nat_lt, nat_le, slice_get, slice_index}
 use Rattle.std.specs.Prelude.{is_some, replicate}
 use Rattle.std.specs.List.{list_any, list_all}
-use Rattle.std.specs.Ordering.{int_eq}
 use Rattle.cap_words.specs.declared.Word.{Word}
 use Rattle.cap_words.specs.declared.Word.TheVariants.{Int, Mem, Seal, Sealed}
 use Rattle.lcm_isa.specs.declared.Instr.{Instr}
@@ -35,7 +36,7 @@ use Rattle.proc_templates.specs.Compiled.{imports_of, component_of}
 use Rattle.proc_program.specs.Calls.{part_calls}
 use Rattle.proc_templates.proofs.Whole.{AllReady, spot_of, proc_laid}
 use Rattle.proc_templates.proofs.Counted.{sites_are_calls}
-use Rattle.proc_templates.proofs.Listed.{entries_inside, and_false, broken_not, lt-leb}
+use Rattle.proc_templates.proofs.Listed.{int_self, entries_inside, broken_not}
 
 -- ---- words
 
@@ -137,11 +138,11 @@ step_at s [] i h lt = absurd (omega (arith, lt))
 step_at s (x ∷ is) zero h lt = h.0 ∙ omega arith
 step_at s (x ∷ is) (suc i) h lt = step_at (s + 2) is i h.1 (omega (arith, lt)) ∙ omega arith
 
-imports_length : (s : ℕ) (xs : List program.Import) → length (import_slots s xs) ≡ length xs
+pub imports_length : (s : ℕ) (xs : List program.Import) → length (import_slots s xs) ≡ length xs
 imports_length s [] = refl
 imports_length s (x ∷ xs) = ap suc (imports_length (s + 2) xs)
 
-own_length : (part : List ℕ) (s : ℕ) (ps : List Procedure) → length (own_slots part s ps) ≡ length ps
+pub own_length : (part : List ℕ) (s : ℕ) (ps : List Procedure) → length (own_slots part s ps) ≡ length ps
 own_length part s [] = refl
 own_length part s (p ∷ ps) = ap suc (own_length part (s + 2) ps)
 
@@ -151,20 +152,9 @@ zeros_at zero ys j h = absurd (omega (arith, h))
 zeros_at (suc n) ys zero h = refl
 zeros_at (suc n) ys (suc j) h = zeros_at n ys j (omega (arith, h))
 
-replicate-size : (n : ℕ) (w : Word) → length (replicate n w) ≡ n
-replicate-size zero w = refl
-replicate-size (suc n) w = ap suc (replicate-size n w)
-
 no_first : (f : ℕ → Bool) (n : ℕ) → ((i : ℕ) → f i ≡ false) → first_below f n ≡ None
 no_first f zero h = refl
 no_first f (suc n) h = let e = no_first f n h in let g = h n in rw (e, g) refl
-
-or_right : (a b : Bool) → b ≡ true → (a || b) ≡ true
-or_right true b e = refl
-or_right false b e = e
-
-int_same : (z : ℤ) → int_eq z z ≡ true
-int_same z = search (rules, tests)
 
 abbrev is_mem : Word → Bool
 is_mem (Mem x) = true
@@ -172,7 +162,7 @@ is_mem (Int z) = false
 is_mem (Seal x) = false
 is_mem (Sealed o x) = false
 
-one_at_least : (n k : ℕ) → (n == 0) ≡ false → n ≤ k → 1 ≤ k
+pub one_at_least : (n k : ℕ) → (n == 0) ≡ false → n ≤ k → 1 ≤ k
 one_at_least zero k e h = cc
 one_at_least (suc n) k e h = omega (arith, h)
 
@@ -208,7 +198,7 @@ module _ (m : Part) (ready : AllReady m m.procs) (most : length (laid_of m).code
   data_length : pair_count m ≤ length (data_of m)
   unfolding data_of
   data_length = let e = length-append (replicate (pair_count m) (Int (pos 0))) (map int_word m.globals) in
-      let n = replicate-size (pair_count m) (Int (pos 0)) in omega (arith, e, n)
+      let n = length-replicate (pair_count m) (Int (pos 0)) in omega (arith, e, n)
 
   slot_is : (i : ℕ) → i < length c.imports → slot_of c i ≡ 2 * i
   unfolding c component_of
@@ -221,7 +211,7 @@ module _ (m : Part) (ready : AllReady m m.procs) (most : length (laid_of m).code
       let n = count in
       let d = data_length in
       let a : nat_le (length c.data_words) (slot_of c i + 1) ≡ false =
-      lt-leb (slot_of c i + 1) (length c.data_words) (omega (arith, e, n, d, h)) in
+      lt-leb (length c.data_words) (slot_of c i + 1) (omega (arith, e, n, d, h)) in
       rw a (by i h)
     where
       by : (i : ℕ) → i < length (imports_of m)
@@ -234,7 +224,7 @@ module _ (m : Part) (ready : AllReady m m.procs) (most : length (laid_of m).code
           let b : nat_lt (slot_of c (suc j)) (slot_of c j + 2) ≡ false =
           le-ltb (slot_of c (suc j)) (slot_of c j + 2) (omega (arith, e, g)) in
           ap (λ z. nat_lt 0 (suc j) && nat_lt (slot_of c (suc j)) (slot_of c z + 2)) k
-          ∙ rw b (and_false (nat_lt 0 (suc j)))
+          ∙ rw b (and-false (nat_lt 0 (suc j)))
 
   kept_5 : (i : ℕ) → i < length c.imports → not (slot_is_free c i) ≡ false
   unfolding c component_of data_of
@@ -248,7 +238,7 @@ module _ (m : Part) (ready : AllReady m m.procs) (most : length (laid_of m).code
   kept_6 : (i : ℕ) → i < length c.exports → nat_le (length c.code) (export_offset c i) ≡ false
   unfolding c begins_entry
   kept_6 i h =
-      lt-leb (export_offset c i) (length c.code)
+      lt-leb (length c.code) (export_offset c i)
       (entries_inside m ready most (export_offset c i) (any_offset c.exports i h))
 
   the_words : Tail (head_of m).code (laid_of m).code
@@ -358,7 +348,7 @@ module _ (m : Part) (ready : AllReady m m.procs) (most : length (laid_of m).code
       let b : (m.header.returns + m.header.return_count - 1 + 1 == m.header.returns + m.header.return_count)
       ≡ true = eq-eqb (m.header.returns + m.header.return_count - 1 + 1)
       (m.header.returns + m.header.return_count) (omega (arith, some)) in
-      let d = int_same (pos m.header.returns) in
+      let d = int_self (pos m.header.returns) in
       rw (h, n, a, b, d) refl
 
   no_sites : (part_calls m == 0) ≡ true → nat_lt 0 (length (laid_of m).sites) ≡ false
@@ -376,11 +366,11 @@ module _ (m : Part) (ready : AllReady m m.procs) (most : length (laid_of m).code
   literal_kept true e = let a = no_sites e in rw a refl
   literal_kept false e = let a = some_sites e in
       let b : is_over_seals (component_of m) (slice_get (laid_of m).code 1) ≡ true = seal_there e in
-      rw (e, b) (and_false (has_sites c))
+      rw (e, b) (and-false (has_sites c))
 
   literal_bare : (t : Bool) → (part_calls m == 0) ≡ t → (not (has_sites c) && is_some c.literal_at) ≡ false
   unfolding c component_of
-  literal_bare true e = rw e (and_false (not (has_sites c)))
+  literal_bare true e = rw e (and-false (not (has_sites c)))
   literal_bare false e = let a = some_sites e in rw a refl
 
   kept_12 : (i : ℕ) → (c12 c).broken i ≡ false

@@ -1,5 +1,5 @@
 -- Rows that are below the one at labels, and what instructions do to them.
-use Rattle.std.proofs.lemmas.Bool.{and_parts}
+use Rattle.std.proofs.lemmas.Bool.{and_parts, and_from}
 use Rattle.std.proofs.Common.{◌≡◌, ◌≢◌, ℕ, zero, suc, ◌-◌, Bool, true, false, [], ◌∷◌, length, Some, None}
 use Rattle.std.proofs.Common.{refl, sym, ap, ◌∙◌, subst, arith, get_or-set_other, get_or-set_same}
 use Rattle.std.specs.Prelude.{◌&&◌, not, slice_index_or, slice_set}
@@ -258,9 +258,6 @@ pub record GoesOn (i : Instr) (o : ℕ) (row : Row) : Type 0 where
   pub works : Works after
   pub t2 : kind_of after T2 ≡ kind_of row T2
 
-both_true : (a b : Bool) → a ≡ true → b ≡ true → (a && b) ≡ true
-both_true a b e h = rw e h
-
 module _ (o : ℕ) (row : Row) (w : Works row) where
   takes : (r : Reg) → is_low r ≡ true → take_from row r ≡ set_kind row r (taken (kind_of row r))
   takes r e = rw (no_pc r e) refl
@@ -287,7 +284,7 @@ module _ (o : ℕ) (row : Row) (w : Works row) where
       let e1 = (and_parts (is_low r1) (is_low r2 && is_low_operand n) e).0 in
       let e2 = (and_parts (is_low r1) (is_low r2 && is_low_operand n) e).1 in
       into_low r1 _ e1 ∙ asked 6 _ _
-      (both_true (seen o row r2) (seen_operand o row n)
+      (and_from (seen o row r2) (seen_operand o row n)
       (low-seen o row r2 w ((and_parts (is_low r2) (is_low_operand n) e2).0))
       (low-operand o row n w ((and_parts (is_low r2) (is_low_operand n) e2).1)))
 
@@ -355,7 +352,7 @@ module _ (o : ℕ) (row : Row) (w : Works row) where
       let e2 = (and_parts (leads_to_area r1) (is_low r2) e).1 in
       record {
         after = take_from row r2;
-        is = asked 6 _ _ (both_true _ _ (area-kind o row r1 w e1)
+        is = asked 6 _ _ (and_from _ _ (area-kind o row r1 w e1)
             (ap below_any (low-source o row r2 e2) ∙ low-kind row r2 w e2));
         works = takes-works r2 e2;
         t2 = takes-t2 r2 e2;

@@ -1,11 +1,12 @@
 -- Items that were laid stand in the component.
-use Rattle.std.proofs.Common.{◌≡◌, ℕ, zero, suc, ◌+◌, ◌<◌, ◌≤◌, inl, inr, Bool, true, false, List, [], ◌∷◌}
+use Rattle.std.proofs.Common.{◌≡◌, ℕ, suc, ◌+◌, ◌<◌, ◌≤◌, inl, inr, Bool, true, false, List, [], ◌∷◌}
 use Rattle.std.proofs.Common.{◌++◌, length, map, Some, None, refl, ap, ◌∙◌, subst, arith, lt-ltb, pos}
 use Rattle.std.specs.Prelude.{if◌then◌else◌, slice_get, nat_lt, FitsSigned}
 use Rattle.std.specs.Int.{w32}
 use Rattle.std.proofs.lemmas.Option.{slice_get_within}
 use Rattle.cap_words.specs.declared.TheConstants.{LAST_PLACE}
 use Rattle.component_file.specs.declared.component.ComponentFields.{ComponentFields}
+use Rattle.component_file.proofs.Lists.{inside}
 use Rattle.lcm_isa.specs.declared.Reg.TheVariants.{T2}
 use Rattle.lcm_isa.specs.declared.Instr.{Instr}
 use Rattle.lcm_isa.specs.Numbers.{IsInstr}
@@ -29,11 +30,6 @@ zero_fits = record { sfits = omega arith }
 pub fit_both : (a b : List Instr) → AllFit a → AllFit b → AllFit (a ++ b)
 fit_both [] b x y = y
 fit_both (i ∷ a) b x y = (x.0, fit_both a b x.1 y)
-
-pub there_is : {A : Type 0} (xs : List A) (j : ℕ) → j < length xs → (w : A) × (slice_get xs j ≡ Some w)
-there_is [] j h = absurd (omega (arith, h))
-there_is (x ∷ xs) zero h = (x, refl)
-there_is (x ∷ xs) (suc j) h = there_is xs j (omega (arith, h))
 
 pub after-least : (xs : List Item) (o : ℕ) → o ≤ after o xs
 after-least [] o = omega arith
@@ -105,7 +101,7 @@ module _ (c : ComponentFields) where
 
   pub within_here : (l : Laid) (q : ℕ) → Rest l c → q < length l.code → nat_lt q (length c.code) ≡ true
   within_here l q r lt =
-      let w = there_is l.code q lt in
+      let w = inside l.code q lt in
       lt-ltb q (length c.code) (slice_get_within c.code q w.0 (r.code q w.0 w.1))
 
   module _ (spot : Spot) (low : spot.epilogue ≤ LAST_PLACE) where

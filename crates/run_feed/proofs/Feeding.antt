@@ -4,7 +4,7 @@ use Rattle.std.proofs.Common.{Some, None, Result, Ok, Err, refl, sym, ap, ◌∙
 use Rattle.std.proofs.Common.{arith}
 use Rattle.source_events.specs.declared.Item.{Item}
 use Rattle.line_fields.specs.Fields.{field, lines}
-use Rattle.line_fields.proofs.Cuts.{parts_len}
+use Rattle.line_fields.proofs.Cuts.{parts_len, next_line}
 use Rattle.run_feed.specs.declared.fault.FeedFault.{FeedFault}
 use Rattle.run_feed.specs.declared.fault.FeedFault.TheVariants.{Line}
 use Rattle.run_feed.specs.declared.line.FeedLine.{FeedLine}
@@ -15,16 +15,6 @@ use Rattle.run_feed.specs.Feed.{item_of, with_item, told, fed_from, fed}
 abbrev pub behind_items : List Item → Result (List Item) FeedFault → Result (List Item) FeedFault
 behind_items items (Ok more) = Ok (items ++ more)
 behind_items items (Err e) = Err e
-
--- the next line, and those behind it
-pub next_line : (left : List (List ℕ)) (line : List ℕ) (rest : List (List ℕ)) → field left ≡ Some (line, rest)
-    → left ≡ line ∷ rest
-next_line [] line rest h = absurd (let k : None ≡ Some (line, rest) = h in cc)
-next_line (t ∷ ts) line rest h =
-    let both : (t, ts) ≡ (line, rest) = cc in
-    let one : t ≡ line = ap (λ (p : List ℕ × List (List ℕ)). p.0) both in
-    let two : ts ≡ rest = ap (λ (p : List ℕ × List (List ℕ)). p.1) both in
-    λ i. one i ∷ two i
 
 no_line : (left : List (List ℕ)) → field left ≡ None → left ≡ []
 no_line [] h = refl

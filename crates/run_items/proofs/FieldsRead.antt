@@ -56,12 +56,12 @@ no_integer w h other = by_read (integer_in (word_text_of w)) refl
         let f : true ≡ false = sym is ∙ other in
         absurd cc
 
-small : (z : ℤ) → FitsSigned w64 z → fits_64 z ≡ true
-small (pos n) h = lt-ltb n 9223372036854775808 (omega (arith, h))
-small (negsuc n) h = lt-ltb n 9223372036854775808 (omega (arith, h))
+pub signed_fits : (z : ℤ) → FitsSigned w64 z → fits_64 z ≡ true
+signed_fits (pos n) h = lt-ltb n 9223372036854775808 (omega (arith, h))
+signed_fits (negsuc n) h = lt-ltb n 9223372036854775808 (omega (arith, h))
 
 int_read : (z : ℤ) → FitsSigned w64 z → line.integer_in (Int z) ≡ Some z
-int_read z h = let e = small z h in rw e refl
+int_read z h = let e = signed_fits z h in rw e refl
 
 pub integer_read : (w : Word) → WordFits w → integer_in (word_text_of w) ≡ line.integer_in w
 integer_read (Int z) h = integer_again z h ∙ sym (int_read z h)

@@ -21,6 +21,7 @@ use Rattle.cap_words.specs.Text.{perm_name, lin_name, range_text, cap_text, seal
 use Rattle.cap_words.specs.Text.{sealed_text, word_text_of}
 use Rattle.source_events.specs.Forms.{IsName}
 use Rattle.line_fields.proofs.Fronts.{is_free}
+use Rattle.line_fields.proofs.JumpTexts.{bytes_free}
 
 pub record IsHigh (text : List ℕ) : Type 0 where
   pub all : list_all (λ b. nat_le 40 b) text ≡ true
@@ -128,20 +129,9 @@ bytes_of t h = (and_parts _ _ h).1
 pub name_high : (t : List ℕ) → IsName t → IsHigh t
 name_high t h = name_bytes_high t (bytes_of t (name_is t h))
 
-name_byte_free : (b : ℕ) → is_name_byte b ≡ true → not (b == 58) ≡ true
-name_byte_free b h = grind (arith, nat_tests)
-
-name_bytes_free : (t : List ℕ) → list_all is_name_byte t ≡ true → is_free 58 t ≡ true
-name_bytes_free [] h = refl
-name_bytes_free (b ∷ t) h =
-    let p = and_parts (is_name_byte b) (list_all is_name_byte t) h in
-    let one = name_byte_free b p.0 in
-    let rest = name_bytes_free t p.1 in
-    rw (one, rest) refl
-
 -- nor has a name a colon
 pub name_free : (t : List ℕ) → IsName t → is_free 58 t ≡ true
-name_free t h = name_bytes_free t (bytes_of t (name_is t h))
+name_free t h = bytes_free t (bytes_of t (name_is t h))
 
 -- ---- marks
 

@@ -21,9 +21,10 @@ use Rattle.overlay_machine.specs.Words.{look}
 use Rattle.overlay_machine.specs.Flat.{flat}
 use Rattle.overlay_machine.specs.Starting.{overlay_at}
 use Rattle.source_instance.proofs.Start.{start}
-use Rattle.source_instance.proofs.Machine.{M, has, zero_, regs_with, maps, state, own_code, own_data}
+use Rattle.source_instance.proofs.Machine.{M, has, maps, state, own_code, own_data}
 use Rattle.source_instance.proofs.Machine.{its_code, its_data, stack, f_code, f_data, g_code, g_data, Makes}
 use Rattle.source_instance.proofs.Machine.{its_stands, by_row, after, loads, adds}
+use Rattle.trace_tool.proofs.InstanceRun.{regs_with, zero_}
 
 -- ---- the states: memory is as at the start
 

@@ -20,10 +20,11 @@ use Rattle.overlay_machine.specs.declared.words.OWord.TheVariants.{Plain}
 use Rattle.overlay_machine.specs.State.{OState, Cells}
 use Rattle.overlay_machine.specs.Words.{look}
 use Rattle.proc_templates.specs.Items.{zero_of}
-use Rattle.source_instance.proofs.Machine.{IsSame, has_in, set_above, zero_, own_code, its_code, its_data}
+use Rattle.source_instance.proofs.Machine.{IsSame, has_in, set_above, own_code, its_code, its_data}
 use Rattle.source_instance.proofs.Machine.{stack, g_code, g_data, Makes, own_stands, by_row, after, loads}
 use Rattle.source_instance.proofs.Machine.{stores, adds, clears, copies}
 use Rattle.source_instance.proofs.Calls.{o27, given_back, given_back_same, data117, code118}
+use Rattle.trace_tool.proofs.InstanceRun.{zero_}
 
 -- ---- memory: the words that were pushed are wiped
 

@@ -3,7 +3,7 @@ use Rattle.std.proofs.Common.{◌≡◌, ℕ, ◌+◌, ◌≤◌, ◌<◌, pos, 
 use Rattle.std.proofs.Common.{refl, ap, ◌∙◌, arith, le-leb}
 use Rattle.std.specs.Prelude.{option_map}
 use Rattle.cap_words.specs.declared.Word.{Word}
-use Rattle.cap_words.specs.declared.Word.TheVariants.{Int, Mem, Sealed}
+use Rattle.cap_words.specs.declared.Word.TheVariants.{Mem, Sealed}
 use Rattle.cap_words.specs.declared.Sealable.TheVariants.{Mem as MemIn}
 use Rattle.cap_words.specs.declared.Perm.TheVariants.{Rw, Rwx}
 use Rattle.cap_words.specs.declared.Lin.TheVariants.{Normal, Linear}
@@ -44,6 +44,7 @@ use Rattle.overlay_machine.specs.Seen.{IsOverlayOf}
 use Rattle.overlay_machine.specs.Starting.{overlay_at}
 use Rattle.overlay_machine.proofs.Offers.{is_overlay, start_word_is}
 use Rattle.trace_tool.specs.Layout.{layout}
+use Rattle.trace_tool.proofs.InstanceRun.{zero_}
 use Rattle.proc_templates.specs.Items.{zero_of}
 use Rattle.source_instance.proofs.Module.{as_word}
 use Rattle.source_instance.proofs.Parts.{parts}
@@ -79,29 +80,6 @@ pub set_above : (m : Cells) (q : ℕ) (w : OWord) → IsSame m → 116 ≤ q →
 set_above m q w same high a lt = cell-set_other m q a w (omega (arith, high, lt)) ∙ same a lt
 
 -- ---- states
-
-abbrev pub zero_ : OWord
-zero_ = Plain (Int (pos 0))
-
-abbrev pub regs_with : (pc rcode rdata stk dat c1 c2 : OWord) → Regs OWord
-regs_with pc rcode rdata stk dat c1 c2 = record {
-  pc = pc;
-  rcode = rcode;
-  rdata = rdata;
-  stk = stk;
-  dat = dat;
-  t1 = zero_;
-  t2 = zero_;
-  c1 = c1;
-  c2 = c2;
-  a0 = zero_;
-  a1 = zero_;
-  a2 = zero_;
-  a3 = zero_;
-  g0 = zero_;
-  g1 = zero_;
-  g2 = zero_;
-}
 
 abbrev pub maps : Regs OWord → Cells → State OWord
 maps rs m = record { regs = rs; cells = m; spans = spans }

@@ -1,6 +1,6 @@
 -- The module's component, and an adversary whose main enters it and whose `g` goes right back. They keep the
 -- rules.
-use Rattle.std.proofs.Common.{◌≡◌, ℕ, zero, suc, pos, Bool, true, false, List, [], ◌∷◌, map, Some, None, Ok}
+use Rattle.std.proofs.Common.{◌≡◌, ℕ, zero, suc, pos, true, false, List, [], ◌∷◌, map, Some, None, Ok}
 use Rattle.std.proofs.Common.{refl, sym, ap, arith, subst, rules}
 use Rattle.std.specs.Prelude.{slice_get}
 use Rattle.cap_words.specs.Names.{is_name}
@@ -14,14 +14,14 @@ use Rattle.component_file.specs.declared.component.ComponentFields.{ComponentFie
 use Rattle.component_file.specs.Limits.{IsComponent}
 use Rattle.component_check.specs.declared.rule.Group.TheVariants.{C}
 use Rattle.component_check.specs.RuleText.{broken_at}
-use Rattle.component_check.specs.Verdict.{NoneBroken, IsFirstBroken, check_from}
+use Rattle.component_check.specs.Verdict.{check_from}
 use Rattle.component_check.specs.Rules.{rules_c, c1, c2, c3, c4, c5, c6, c7, c8, c9, c10, c11, c12}
-use Rattle.component_check.proofs.First.{first_broken}
 use Rattle.call_sequence.specs.Sequences.{call_code, return_code, entry_code}
 use Rattle.component_linker.specs.Parts.{PartSeen, IsPart}
 use Rattle.component_linker.specs.Pairs.{NoneIsBroken, IsFirstBrokenIn, by_part}
 use Rattle.component_linker.specs.Links.{rules_l, rule_at, l1, l2, l3, l4, l5, l6, l7, l8, l9, l10}
 use Rattle.component_linker.proofs.FirstIn.{first_broken_in}
+use Rattle.component_linker.proofs.ExampleParts.{no_rule}
 use Rattle.source_starts.specs.Sources.{AreSources}
 use Rattle.source_instance.proofs.Module.{source, limits, resolved, as_word, trusted, is_compiled}
 use Rattle.source_instance.proofs.Module.{component_fits, flow_kept}
@@ -79,11 +79,6 @@ adversary_fits = record {
 }
 
 -- ---- the rules of each
-
-no_rule : (c : ComponentFields) (t : Bool) → check_from (broken_at C) 1 (rules_c c t) ≡ Ok tt
-    → NoneBroken (rules_c c t)
-no_rule c t e =
-    subst (IsFirstBroken (broken_at C) (rules_c c t)) e (first_broken (broken_at C) (rules_c c t))
 
 trusted_checked : check_from (broken_at C) 1 (rules_c trusted true) ≡ Ok tt
 unfolding c1 c2 c3 c4 c5 c6 c7 c8 c9 c10 c11 c12 number_of entry_code call_code return_code

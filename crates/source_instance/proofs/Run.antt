@@ -26,13 +26,18 @@ use Rattle.overlay_machine.specs.Runs.{Reached}
 use Rattle.overlay_machine.specs.Runs as reached
 use Rattle.trace_tool.specs.Layout.{layout, is_trusted, part_name, entry_name, site_of}
 use Rattle.trace_tool.specs.Views.{flat_view}
+<<<<<<< HEAD
 use Rattle.trace_tool.specs.Lines.{Line, Args, call, ret, enter, leave, lines_for}
+=======
+use Rattle.trace_tool.specs.Lines.{Line, out, call, ret, enter, leave, lines_for}
+>>>>>>> 3d5478f012a1b907ffee0f2d83404e6bef70f885
 use Rattle.trace_tool.specs.Alike.{StartLinesAgree}
 use Rattle.trace_tool.specs.Told.{Told}
 use Rattle.trace_tool.specs.Told as told
 use Rattle.trace_tool.specs.Feed.{outs_of as outs_in, items_of as items_in}
 use Rattle.trace_tool.specs.Runs.{written}
 use Rattle.trace_tool.specs.Headline.{HeadlineHolds}
+use Rattle.trace_tool.proofs.InstanceRun.{zeros}
 use Rattle.proc_language.specs.declared.module.ModuleFields.{ModuleFields}
 use Rattle.proc_program.specs.Lower.{part_of}
 use Rattle.source_events.specs.declared.FeedBack.TheVariants as way
@@ -108,9 +113,6 @@ no_event : {q : OState} → Tells q None [] [] []
 no_event = record { lines = refl; outs = refl; items = refl }
 
 -- ---- what the four events tell
-
-abbrev zeros : Args
-zeros = record { a0 = Int (pos 0); a1 = Int (pos 0); a2 = Int (pos 0); a3 = Int (pos 0) }
 
 abbrev ints : List (Option ℤ)
 ints = Some (pos 0) ∷ Some (pos 0) ∷ Some (pos 0) ∷ Some (pos 0) ∷ []

@@ -4,13 +4,14 @@ use Rattle.std.proofs.Common.{◌+ℤ◌, ◌-ℤ◌, List, [], ◌∷◌, ◌++
 use Rattle.std.proofs.Common.{sym, ap, ◌∙◌, subst, arith, append_assoc, append-nil, length-append}
 use Rattle.source_laws.proofs.Refined.{of_handle, of_args, World, pair_of, Comp, args, Frame, whole}
 use Rattle.proc_semantics.specs.Marked.{PairHalf, CodeHalf, DataHalf}
-use Rattle.source_laws.proofs.Variables.{AtPlace, EnvIn, PairAt, env_same, index_is, there_lt}
+use Rattle.source_laws.proofs.Variables.{AtPlace, EnvIn, PairAt, env_same, index_is}
 use Rattle.source_laws.proofs.CallsIn.{int_public}
 use Rattle.template_runs.proofs.Quiet.{Owing}
 use Rattle.source_laws.proofs.Upto.{upto, UpTo, spend, tick_up}
 use Rattle.template_runs.proofs.Clean.{used}
 use Rattle.std.specs.Prelude.{slice_get, drop, replicate}
 use Rattle.std.proofs.lemmas.Int.{ints}
+use Rattle.std.proofs.lemmas.Option.{slice_get_within}
 use Rattle.cap_words.specs.declared.Word.{Word}
 use Rattle.cap_words.specs.declared.Word.TheVariants.{Int, Mem}
 use Rattle.cap_words.specs.Linear.{is_linear}
@@ -130,16 +131,13 @@ get_two (w ∷ ws) x y z (suc j) e =
       | inr (inr h) ↦ inr (inr ((let k = h.0 in omega (arith, k)), h.1))
     ]
 
-get_lt : (ws : List OWord) (x : OWord) (j : ℕ) → slice_get ws j ≡ Some x → j < length ws
-get_lt ws x j e = there_lt ws j x e
-
 pub holding_push : (ws : List OWord) (x : OWord) (o q : OState) → length ws < 4 → Holding ws o
     → reg q.maps.regs (argument (length ws)) ≡ x → Others (argument (length ws) ∷ []) o q
     → Holding (ws ++ x ∷ []) q
 holding_push ws x o q lt h e others j y is =
     elim (get_push ws x y j is) as (λ _. reg q.maps.regs (argument j) ≡ y) [
       | inl k ↦ others (argument j) (argument_spare j)
-          (arguments_differ (length ws) j (get_lt ws y j k) lt, tt)
+          (arguments_differ (length ws) j (slice_get_within ws j y k) lt, tt)
           ∙ h j y k
       | inr k ↦ ap (λ i. reg q.maps.regs (argument i)) k.0 ∙ e ∙ k.1
     ]
@@ -365,11 +363,11 @@ module _ (world : World) (g : Link) (linked : Linked g) (StoreIs : Store → (�
             code1 d at h u le
         loads_law (Given i) k r t o x ne fr ft sr st1 code1 at h u le =
             let hv = rel_halves x.pair x.first x.second x.is in
-            let lt1 : i + 2 < length words = there_lt words (i + 2) x.first x.stands in
+            let lt1 : i + 2 < length words = slice_get_within words (i + 2) x.first x.stands in
             let z : i + 2 + 1 ≡ i + 3 = omega arith in
             let too : slice_get words (i + 3) ≡ Some x.second =
             subst (λ y. slice_get words y ≡ Some x.second) z x.stands_too in
-            let lt2 : i + 3 < length words = there_lt words (i + 3) x.second too in
+            let lt2 : i + 3 < length words = slice_get_within words (i + 3) x.second too in
             let is : pair_of world f.home env (Given i) ≡ x.pair =
             ap pair_in (index_is env i (Closure x.pair) Other x.meant) in
             let e6 : k + 3 + 3 ≡ k + words_in (load_pair s (Given i) r t) = omega arith in
@@ -494,7 +492,7 @@ module _ (world : World) (g : Link) (linked : Linked g) (StoreIs : Store → (�
           (subst (λ y. At g linked p y o) z at) (subst (λ y. Holding y o) (sym (append-nil done)) hd))
       load_args_law (value e xs) vs t i k c b done o fit few ld is code1 at h hd u le =
           let v = is.0 in
-          let lt : t + i < length words = there_lt words (t + i) (Plain (Int is.0)) is.3 in
+          let lt : t + i < length words = slice_get_within words (t + i) (Plain (Int is.0)) is.3 in
           let small : length done < 4 = omega (arith, few, ld) in
           let te : t + i + 1 ≡ t + (i + 1) = omega arith in
           slot_law n c (3 * arg_registers xs + b) m words mem k (t + i) (argument i) (Plain (Int is.0)) o
@@ -561,7 +559,7 @@ module _ (world : World) (g : Link) (linked : Linked g) (StoreIs : Store → (�
               → Others (argument i ∷ argument (i + 1) ∷ []) o q → Holding (ws ++ x ∷ y ∷ []) q
           holding_two ws x y i o q ld le h ex ey others j z is =
               elim (get_two ws x y z j is) as (λ _. reg q.maps.regs (argument j) ≡ z) [
-                | inl k ↦ (let lj = get_lt ws z j k in
+                | inl k ↦ (let lj = slice_get_within ws j z k in
                     others (argument j) (argument_spare j) (
                       arguments_differ i j (omega (arith, lj, ld)) (omega (arith, le)),
                       (arguments_differ (i + 1) j (omega (arith, lj, ld)) (omega (arith, le)), tt),

@@ -56,14 +56,14 @@ use Rattle.proc_semantics.specs.declared.value.Value.TheVariants.{Num, Closure, 
 use Rattle.proc_templates.specs.Templates.{argument}
 use Rattle.template_runs.specs.Runs.{is_inside}
 use Rattle.template_runs.proofs.Quiet.{quiet_fewer, Owing}
-use Rattle.template_runs.specs.Border.{Shows, GivesBack}
+use Rattle.template_runs.specs.Border.{Shows, GivesBack, content_of}
 use Rattle.source_laws.proofs.Upto.{UpTo, go_fail, fewer, upto, none_inside}
 use Rattle.template_runs.proofs.Clean.{used}
 use Rattle.template_runs.proofs.Valid.{Valid}
 use Rattle.template_runs.proofs.Steps.{At, Placed, inside_here}
 use Rattle.template_runs.proofs.Rows.{Here}
 use Rattle.template_runs.proofs.Calls.{called_valid, SiteHere, Pair as PairHere, case_call, called_to, own}
-use Rattle.template_runs.proofs.Calls.{all, above, within_stack, content_of}
+use Rattle.template_runs.proofs.Calls.{all, above, within_stack}
 use Rattle.source_laws.proofs.CallsIn.{int_public, ProcLaw, call_in_law}
 use Rattle.source_laws.proofs.CallsOut.{call_out_law}
 use Rattle.template_runs.proofs.Outside.{unsealed_public}

@@ -34,7 +34,7 @@ use Rattle.template_runs.proofs.Clean.{Clean, untold, ended, clean_same, clean_a
 use Rattle.template_runs.proofs.Clean.{clean_wiped, used}
 use Rattle.call_sequence.specs.SequenceRuns.{stack_cap as stack_part}
 use Rattle.template_runs.specs.Border.{Opened, code_word, half_word, content_of as content_in, ShowsLeave}
-use Rattle.template_runs.specs.Border.{GivesBack, Wiped}
+use Rattle.template_runs.specs.Border.{GivesBack, Wiped, content_of}
 use Rattle.template_runs.proofs.Ends.{Keeps, back_valid, resumed_to, back_makes, back_returned}
 use Rattle.template_runs.proofs.Shows.{given_there}
 use Rattle.template_runs.proofs.Outside.{Out}
@@ -44,7 +44,7 @@ use Rattle.template_runs.proofs.Valid.{Valid}
 use Rattle.template_runs.proofs.Steps.{At, Placed, inside_here}
 use Rattle.template_runs.proofs.Rows.{Here, DataIs}
 use Rattle.template_runs.proofs.Calls.{called_valid, called_stk, called_data, called_own, SiteHere, Pair}
-use Rattle.template_runs.proofs.Calls.{called_to, call_makes, here_back, at_back, content_of}
+use Rattle.template_runs.proofs.Calls.{called_to, call_makes, here_back, at_back}
 use Rattle.template_runs.specs.Public.{IsShown, IsPublic}
 use Rattle.cap_words.specs.declared.Sealable.{Sealable}
 use Rattle.cap_words.specs.declared.Sealable.TheVariants.{Mem as MemIn, Seal as SealIn}

@@ -2,7 +2,7 @@
 -- to.
 use Rattle.source_laws.proofs.Refined.{Registers, taken_marks, World, proc_at, Comp, ends, Then, block}
 use Rattle.source_laws.proofs.Refined.{part_of, stack_of, Frame, whole}
-use Rattle.source_laws.proofs.Variables.{AtPlace, EnvIn, there_lt}
+use Rattle.source_laws.proofs.Variables.{AtPlace, EnvIn}
 use Rattle.std.proofs.Common.{Option, ◌≡◌, ℕ, zero, suc, ◌+◌, ◌-◌, ◌*◌, ◌<◌, ◌≤◌, ℤ, pos, List, [], ◌∷◌, ◌++◌}
 use Rattle.std.proofs.Common.{length, replicate, Some, None, true, refl, sym, ap, ◌∙◌, subst, arith}
 use Rattle.std.proofs.Common.{length-append}
@@ -12,6 +12,7 @@ use Rattle.source_laws.proofs.Upto.{upto, UpTo, spend}
 use Rattle.template_runs.proofs.Clean.{used}
 use Rattle.std.specs.Prelude.{slice_get}
 use Rattle.std.proofs.lemmas.List.{length-replicate}
+use Rattle.std.proofs.lemmas.Option.{slice_get_within}
 use Rattle.cap_words.specs.declared.Word.TheVariants.{Int}
 use Rattle.lcm_isa.specs.declared.Reg.{Reg}
 use Rattle.lcm_isa.specs.declared.Reg.TheVariants.{Rcode, Rdata, T1, A0}
@@ -252,7 +253,7 @@ module _ (world : World) (g : Link) (linked : Linked g) (Begins : Target → Par
         (epilogue_of g linked p ip End top mem fs (c.what.need - 2) End epilogue_there)
 
     pub end_in : End < length p.component.code
-    end_in = there_lt p.component.code End _ epilogue_there.0.has
+    end_in = slice_get_within p.component.code End _ epilogue_there.0.has
 
     calls_there : BlockCallsAt p.component Fr Begin Body
     calls_there =

@@ -1,5 +1,5 @@
 -- Statements, given their expressions.
-use Rattle.source_laws.proofs.Variables.{AtPlace, EnvIn, env_same, env_set, there_lt}
+use Rattle.source_laws.proofs.Variables.{AtPlace, EnvIn, env_same, env_set}
 use Rattle.source_laws.proofs.CallsIn.{int_public}
 use Rattle.template_runs.proofs.Data.{not_free, with_reg, with_data, set_law, dat_law, store_data_law}
 use Rattle.template_runs.proofs.Data.{mem_with}
@@ -10,6 +10,7 @@ use Rattle.std.proofs.Common.{◌≡◌, ℕ, zero, suc, ◌+◌, ◌<◌, ◌�
 use Rattle.std.proofs.Common.{◌++◌, length, Some, Bool, true, false, refl, sym, ap, ◌∙◌, subst, arith, ne_eqb}
 use Rattle.std.specs.Prelude.{slice_get, slice_set, if◌then◌else◌}
 use Rattle.std.proofs.lemmas.Int.{ints}
+use Rattle.std.proofs.lemmas.Option.{slice_get_within}
 use Rattle.cap_words.specs.declared.Word.TheVariants.{Int, Mem}
 use Rattle.cap_words.specs.Linear.{is_linear}
 use Rattle.lcm_isa.specs.declared.Reg.TheVariants.{Dat, A0, G0}
@@ -138,7 +139,7 @@ module _ (world : World) (g : Link) (linked : Linked g) (StoreIs : Store → (�
           (λ v st2 mem2 words2 q at2 h2 same ev fv store2.
           let tail = stand_back g linked p end k (code s s.temps e) (store_var s (Local i)) st1 in
           let cnt = same.count in
-          let lt = there_lt kinds i AsNumber ki in
+          let lt = slice_get_within kinds i AsNumber ki in
           let lt1 : i + 2 < length words2 = omega (arith, lt, cnt, len, temps, slots) in
           let l = words-append (code s s.temps e) (store_var s (Local i)) in
           let e3 : k + words_in (code s s.temps e) + 1 + 1 + 1 ≡ k + words_in

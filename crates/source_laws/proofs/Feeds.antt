@@ -1,7 +1,7 @@
 -- The registers of an entry, as the feed has them, given what two words of them are as a pair.
 use Rattle.source_laws.specs.Seen.{words_of}
-use Rattle.std.proofs.Common.{◌≡◌, ◌≢◌, ℕ, Bool, true, false, refl}
-use Rattle.std.specs.Prelude.{◌&&◌}
+use Rattle.std.proofs.Common.{◌≢◌, ℕ}
+use Rattle.std.proofs.Math.Bool.{and-false}
 use Rattle.lcm_isa.specs.declared.Reg.{Reg}
 use Rattle.lcm_isa.specs.declared.Reg.TheVariants.{Pc, Dat, A0, A1, A2, A3}
 use Rattle.lcm_machine.specs.Places.{reg}
@@ -24,10 +24,6 @@ use Rattle.template_runs.proofs.Checks.{is_half}
 use Rattle.template_runs.proofs.Valid.{Valid}
 use Rattle.source_laws.proofs.Callings.{flat_reg}
 use Rattle.source_laws.proofs.Parameters.{PairIs, fed_none, fed, all_fed, RegsAre}
-
-last_alone : (b : Bool) → (b && false) ≡ false
-last_alone true = refl
-last_alone false = refl
 
 module _ (world : World) (g : Link) (linked : Linked g) (Begins : Target → PartSeen → ℕ → Type 0) where
   -- two words that code outside may hold are the pair that is told of them
@@ -52,5 +48,5 @@ module _ (world : World) (g : Link) (linked : Linked g) (Begins : Target → Par
       all_fed (fed _ q.maps.regs.a0 (flat_reg g linked Begins q v A0) (words q r.a0 r.a1 v s0 s1)
       (fed _ q.maps.regs.a1 (flat_reg g linked Begins q v A1) (words q r.a1 r.a2 v s1 s2)
       (fed _ q.maps.regs.a2 (flat_reg g linked Begins q v A2) (words q r.a2 r.a3 v s2 s3)
-      (fed _ q.maps.regs.a3 (flat_reg g linked Begins q v A3) (last_alone (is_half (look q.maps.regs.a3)))
+      (fed _ q.maps.regs.a3 (flat_reg g linked Begins q v A3) (and-false (is_half (look q.maps.regs.a3)))
       fed_none))))

@@ -1,10 +1,11 @@
 -- Every body does what it means: calls, and the induction on programs.
-use Rattle.source_laws.proofs.Variables.{AtPlace, EnvIn, env_same, there_lt}
+use Rattle.source_laws.proofs.Variables.{AtPlace, EnvIn, env_same}
 use Rattle.source_laws.proofs.Refined.{Way, way, handed, of_args, World, pair_of, Comp, Registers, Then, Next}
 use Rattle.source_laws.proofs.Refined.{args, call, stmt, block, part_of, stack_of, Frame, whole}
 use Rattle.std.proofs.Common.{Option, ◌≡◌, ℕ, zero, suc, ◌+◌, ◌-◌, ◌*◌, ◌<◌, ◌≤◌, pos, List, [], ◌∷◌, ◌++◌}
 use Rattle.std.proofs.Common.{length, Some, refl, sym, ap, ◌∙◌, subst, arith}
 use Rattle.std.specs.Prelude.{slice_get, drop, replicate}
+use Rattle.std.proofs.lemmas.Option.{slice_get_within}
 use Rattle.cap_words.specs.declared.Word.TheVariants.{Int}
 use Rattle.lcm_isa.specs.declared.Reg.{Reg}
 use Rattle.lcm_isa.specs.declared.Reg.TheVariants.{C1, C2, G0, G1, G2, A0}
@@ -148,7 +149,7 @@ module _ (world : World) (g : Link) (linked : Linked g) (Begins : Target → Par
   handles_fit t i (pass hd xs) h = (h.0, handles_fit t (i + 2) xs h.1)
 
   local_room : (i : ℕ) → slice_get kinds i ≡ Some AsNumber → i + 2 < s.words
-  local_room i ki = let lt = there_lt kinds i AsNumber ki in omega (arith, lt, temps, slots)
+  local_room i ki = let lt = slice_get_within kinds i AsNumber ki in omega (arith, lt, temps, slots)
 
   passed : (vs : List Value) (ms : List (Option OWord)) (ws : List OWord)
       → ValuesAre world g linked StoreIs p ip failing top fs ow f s end kinds (IsPair g linked Begins) rests

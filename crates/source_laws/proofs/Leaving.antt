@@ -4,6 +4,7 @@ use Rattle.std.proofs.Common.{true, false, refl, sym, ap, ◌∙◌, subst, arit
 use Rattle.std.specs.Prelude.{option_map, ◌&&◌, ◌==◌, if◌then◌else◌}
 use Rattle.std.specs.Str.{bytes_eq}
 use Rattle.std.proofs.lemmas.Bool.{eq-eqb, ne_eqb}
+use Rattle.std.proofs.Math.Bool.{and-false}
 use Rattle.cap_words.specs.declared.Word.{Word}
 use Rattle.cap_words.specs.declared.Word.TheVariants.{Int, Mem}
 use Rattle.cap_words.specs.declared.CapFields.{CapFields}
@@ -73,10 +74,6 @@ use Rattle.source_events.specs.declared.OutEvent.TheVariants.{LeaveOut}
 use Rattle.source_events.specs.Outs.{out_arg}
 use Rattle.trace_tool.specs.Feed.{integer_in}
 use Rattle.template_runs.proofs.Named.{Named}
-
-and_false : (a : Bool) → (a && false) ≡ false
-and_false true = refl
-and_false false = refl
 
 module _ (g : Link) (linked : Linked g) (p : PartSeen) (k : ℕ) (q : OState) (v : Valid g linked q)
     (at : At g linked p k q) (h : Placed g linked p k (Xjmp Rcode Rdata)) (i j : ℕ)
@@ -422,7 +419,7 @@ module _ (world : World) (g : Link) (linked : Linked g) (Begins : Target → Par
                 (told_pair i f.base ∙ ap (λ z. if bytes_eq (part_name g.layout (site_of g.layout i).part)
                 w.part && ((site_of g.layout i).index == w.site) && (f.base == w.base) && z then wipes
                 w.given (w.resume v
-                st) else ends Fails) e ∙ fails_if _ _ (and_false _))
+                st) else ends Fails) e ∙ fails_if _ _ (and-false _))
                 (not_joined g linked a.part a.offset q a.valid a.at a.jump i j ec ed f fs frames u
                 (stack_at (ranges_of a.part) a.top (pos a.top)) both iu own (ne_eqb (a.top + 1) f.base ne))
             by true e =
@@ -490,7 +487,7 @@ module _ (world : World) (g : Link) (linked : Linked g) (Begins : Target → Par
             test = elim (frame_of-cons f fs j hf (subst (λ x. frame_of x j ≡ Some hf) frames fk)) as (λ _.
                 ((j == f.call) && (i == f.site)) ≡ false) [
                   | inl h ↦ (let ne : i ≢ f.site = (λ e. site_ne (e ∙ ap (λ x. x.site) h.1)) in
-                      ap (λ x. (j == f.call) && x) (ne_eqb i f.site ne) ∙ and_false (j == f.call))
+                      ap (λ x. (j == f.call) && x) (ne_eqb i f.site ne) ∙ and-false (j == f.call))
                   | inr h ↦ ap (λ x. x && (i == f.site)) (ne_eqb j f.call (λ e. h.0 (sym e)))
                 ]
         pair_told i j u uh hf ec ed iu fk iuh true es =
@@ -524,7 +521,7 @@ module _ (world : World) (g : Link) (linked : Linked g) (Begins : Target → Par
                 (ne_eqb hf.base w.base ne)
                 ∙ ap (λ z. if z && ((a.top + 1 - g.layout.stack.base) == w.given) then wipes w.given
                 (w.resume v st) else ends
-                Fails) (and_false _)
+                Fails) (and-false _)
 
         mixed_case : (is_plain q.maps.regs.rcode && is_plain q.maps.regs.rdata) ≡ false
             → ((i j : ℕ) → q.maps.regs.rcode ≡ RetCode i → q.maps.regs.rdata ≡ RetData j → ⊥)

@@ -49,6 +49,7 @@ use Rattle.template_runs.proofs.Checks.{is_half, fail_pc_law, at_fail, half_goes
 use Rattle.template_runs.proofs.Data.{Away, with_reg, set_law}
 use Rattle.template_runs.proofs.Standing.{Stand, guarded, words_in}
 use Rattle.template_runs.proofs.Elements.{free_t2, free_a0, free_a1, free_a2, free_a3}
+use Rattle.template_runs.proofs.Entries.{none_fits}
 use Rattle.source_laws.proofs.Arguments.{Holding, with_other, with_same, argument_spare}
 use Rattle.source_laws.proofs.Callings.{IsPair, Passed, no_more, one_more, two_more, filled}
 use Rattle.trace_tool.specs.Feed.{integer_in}
@@ -86,10 +87,6 @@ sealed_of (Sealed s x) e = record { seal = s; inner = x; is = refl; normal = by 
 
 zero_more : (z : ℤ) → z +ℤ pos 0 ≡ z
 zero_more z = omega (arith, ints)
-
-none_fits : (b : Bool) (z : ℤ) → (if b then Some z else None) ≡ None → b ≡ false
-none_fits true z k = cc
-none_fits false z k = refl
 
 module _ (g : Link) (linked : Linked g) (Begins : Target → PartSeen → ℕ → Type 0) where
   -- ---- what registers hold

@@ -1,9 +1,9 @@
 -- The rows of the table of templates that have values: an index, and two operands.
 use Rattle.std.proofs.Common.{◌≡◌, ℕ, ◌+◌, ◌<◌, ◌≤◌, ℤ, pos, negsuc, List, length, Option, Some, None, Bool}
-use Rattle.std.proofs.Common.{true, false, refl, sym, ap, ◌∙◌, subst, arith, ltb-false, inl, inr, le-ltb}
+use Rattle.std.proofs.Common.{true, false, refl, sym, ap, ◌∙◌, subst, arith, ltb-false}
 use Rattle.std.specs.Prelude.{nat_lt, int_lt, if◌then◌else◌}
 use Rattle.std.specs.Ordering.{int_eq}
-use Rattle.std.proofs.lemmas.Bool.{cases_lt}
+use Rattle.std.proofs.lemmas.Bool.{ltb-true}
 use Rattle.cap_words.specs.declared.Word.TheVariants.{Int}
 use Rattle.lcm_isa.specs.declared.Instr.TheVariants.{Fail, Plus, Cca}
 use Rattle.lcm_machine.specs.Table.{fits_64, bit}
@@ -66,19 +66,13 @@ module _ (world : World) (g : Link) (linked : Linked g) (p : PartSeen) (ip : IsT
     where
       by : (t : Bool) → nat_lt i a.length ≡ t → UpTo g ow.owes (used w top) n c o (element world a (pos i) kk)
       by true t =
-          let lt : i < a.length = ltb-is i a.length t in
+          let lt : i < a.length = ltb-true i a.length t in
           subst (UpTo g ow.owes (used w top) n c o)
           (sym (ap (λ y. with_place world (if y then Some (a.first + i) else None) kk) t))
           (index_goes g linked p ip w top fs fail a.length
           (upto g ow.owes (used w top) n (kk (a.first + i))) k c b i words
           mem o z code at h e lt
           (λ q h2 at2 g2 a2. u i q refl lt h2 at2 g2 a2) le)
-        where
-          ltb-is : (x y : ℕ) → nat_lt x y ≡ true → x < y
-          ltb-is x y t = elim (cases_lt x y) as (λ _. x < y) [
-            | inl lt ↦ lt
-            | inr ge ↦ absurd (let f : true ≡ false = sym t ∙ le-ltb x y ge in cc)
-          ]
       by false t =
           subst (UpTo g ow.owes (used w top) n c o)
           (sym (ap (λ y. with_place world (if y then Some (a.first + i) else None) kk) t))

@@ -3,6 +3,7 @@ use Rattle.std.proofs.Common.{Option, None, ◌≡◌, ◌≢◌, inl, inr, ℕ,
 use Rattle.std.proofs.Common.{length, Some, true, refl, sym, ap, ◌∙◌, subst, arith}
 use Rattle.std.specs.Prelude.{slice_get, slice_set, slice_index_or}
 use Rattle.std.proofs.lemmas.Bool.{cases_eq}
+use Rattle.std.proofs.lemmas.Option.{slice_get_within}
 use Rattle.cap_words.specs.declared.Word.TheVariants.{Int}
 use Rattle.lcm_machine.specs.Table.{fits_64}
 use Rattle.overlay_machine.specs.declared.words.OWord.{OWord}
@@ -41,11 +42,6 @@ get-with_other (w ∷ ws) zero (suc j) x ne = refl
 get-with_other (w ∷ ws) (suc i) zero x ne = refl
 get-with_other (w ∷ ws) (suc i) (suc j) x ne = get-with_other ws i j x (λ e. ne (ap suc e))
 
-pub there_lt : {A : Type 0} (xs : List A) (i : ℕ) (x : A) → slice_get xs i ≡ Some x → i < length xs
-there_lt [] i x e = cc
-there_lt (y ∷ xs) zero x e = omega arith
-there_lt (y ∷ xs) (suc i) x e = let h = there_lt xs i x e in omega (arith, h)
-
 -- two words that stand in a place, and are those that its marks say
 abbrev pub AtPlace : List (Option OWord) → (Pair → OWord → OWord → Type 0) → ℕ → Pair → OWord → OWord → Type 0
 AtPlace ms R i r x y = R r x y × (slice_index_or ms i None ≡ Some x)
@@ -82,7 +78,7 @@ module _ (kinds : List Kind) (IsPair : ℕ → Pair → OWord → OWord → Type
     }
       where
         number : (i : ℕ) → slice_get kinds i ≡ Some AsNumber → NumberAt env words i → NumberAt env words' i
-        number i k x = let lt = there_lt kinds i AsNumber k in
+        number i k x = let lt = slice_get_within kinds i AsNumber k in
             record {
               number = x.number;
               meant = x.meant;
@@ -93,8 +89,8 @@ module _ (kinds : List Kind) (IsPair : ℕ → Pair → OWord → OWord → Type
 
         pair : (i : ℕ) → slice_get kinds i ≡ Some AsPair → PairAt env words i → PairAt env words' i
         pair i k x =
-            let lt = there_lt kinds i AsPair k in
-            let lt1 = there_lt kinds (i + 1) AsRest (rests i k) in
+            let lt = slice_get_within kinds i AsPair k in
+            let lt1 = slice_get_within kinds (i + 1) AsRest (rests i k) in
             record {
               pair = x.pair;
               first = x.first;

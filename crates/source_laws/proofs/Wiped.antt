@@ -14,6 +14,7 @@ use Rattle.overlay_machine.specs.Events.{step_event}
 use Rattle.overlay_machine.specs.Runs.{Reached}
 use Rattle.overlay_machine.specs.Starting.{overlay_at}
 use Rattle.overlay_machine.specs.Link.{Link}
+use Rattle.overlay_machine.proofs.Offers.{map_get}
 use Rattle.trace_tool.specs.Layout.{layout}
 use Rattle.template_runs.specs.Runs.{is_inside}
 use Rattle.template_runs.specs.Border.{Shows, ShowsBy, by_call, by_leave, GivesBack, IsTidied, Wiped, zero}
@@ -30,7 +31,7 @@ use Rattle.source_laws.specs.Wiped.{low_of, last_outside, TellsSince, none_yet, 
 use Rattle.source_laws.proofs.Refined.{World, Thing, Event, meaning}
 use Rattle.source_laws.proofs.Forgets.{trace_step, trace_rests, whence_same}
 use Rattle.source_laws.proofs.Wipes.{Crossing, crossed, crossings, cross_none, cross_more, AreWiped, Tell}
-use Rattle.source_laws.proofs.Wipes.{Wipes, After, after, wiped_last, told_at, get_map}
+use Rattle.source_laws.proofs.Wipes.{Wipes, After, after, wiped_last, told_at}
 use Rattle.source_laws.proofs.Secrets.{shows, stays, gives_back, each_lets_go}
 
 pub low_same : (w : Whence → OWord) (k : ℕ → Back) (e : marked.Event Whence ℕ) → low_of e
@@ -262,5 +263,5 @@ module _ (g : Link) (s : StartSeen) (same : g.layout ≡ layout s)
           let at : slice_get (map (event_to w k) es') (length es) ≡ Some x.0 =
           ap (λ r. slice_get r.events (length es))
           (whence_same world.marks world.parts stack L Z es is p (tells_of L Z es is b p t) f) ∙ x.1 in
-          let m = get_map (event_to w k) es' (length es) x.0 at in
+          let m = map_get (event_to w k) es' (length es) x.0 at in
           (m.0, m.1, low_same w k m.0 ∙ ap low_of m.2 ∙ x.2)

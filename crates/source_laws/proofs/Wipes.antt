@@ -1,6 +1,6 @@
 -- What a run has wiped where it lets go of control is what a meaning tells: how that goes over one step, one
 -- tick, one event and one item.
-use Rattle.std.proofs.Common.{◌≡◌, ℕ, zero, suc, ◌+◌, ◌≤◌, List, [], ◌∷◌, ◌++◌, length, map, Option, Some}
+use Rattle.std.proofs.Common.{◌≡◌, ℕ, zero, suc, ◌+◌, ◌≤◌, List, [], ◌∷◌, ◌++◌, length, Option, Some}
 use Rattle.std.proofs.Common.{None, refl, sym, ap, ◌∙◌, subst, arith, append_assoc, length-append}
 use Rattle.std.specs.Prelude.{slice_get}
 use Rattle.trusted_border.specs.declared.layout.Layout.{Layout}
@@ -165,9 +165,3 @@ told_at [] es n low h t = absurd (let z : None ≡ Some low = h in cc)
 told_at (x ∷ xs) [] n low h t = absurd t
 told_at (x ∷ xs) (e ∷ es) zero low h t = (e, refl, t.0 ∙ (let z : x ≡ low = cc in z))
 told_at (x ∷ xs) (e ∷ es) (suc n) low h t = told_at xs es n low h t.1
-
-pub get_map : {A B : Type 0} (f : A → B) (xs : List A) (n : ℕ) (y : B) → slice_get (map f xs) n ≡ Some y
-    → (x : A) × (slice_get xs n ≡ Some x) × (f x ≡ y)
-get_map f [] n y e = absurd (let z : None ≡ Some y = e in cc)
-get_map f (x ∷ xs) zero y e = (x, refl, (let z : f x ≡ y = cc in z))
-get_map f (x ∷ xs) (suc n) y e = get_map f xs n y e

@@ -1,7 +1,8 @@
 -- What two words of untrusted code are as a pair: what the feed tells of them is what a call of them does.
-use Rattle.std.proofs.Common.{◌≡◌, ℕ, pos, Bool, true, false, not, List, [], map, Option, Some, None, refl}
+use Rattle.std.proofs.Common.{◌≡◌, ℕ, pos, Bool, true, false, List, [], map, Option, Some, None, refl}
 use Rattle.std.proofs.Common.{sym, ap, ◌∙◌, subst}
-use Rattle.std.specs.Prelude.{◌&&◌, find, is_some, if◌then◌else◌}
+use Rattle.std.specs.Prelude.{find, is_some, if◌then◌else◌}
+use Rattle.std.proofs.lemmas.Bool.{not-true, and_left, and_right}
 use Rattle.cap_words.specs.declared.Word.{Word}
 use Rattle.cap_words.specs.declared.Word.TheVariants.{Int, Mem, Seal, Sealed}
 use Rattle.cap_words.specs.declared.Sealable.{Sealable}
@@ -48,10 +49,15 @@ use Rattle.proc_program.specs.Lower.{part_of}
 use Rattle.proc_semantics.specs.declared.value.Target.{Target}
 use Rattle.proc_semantics.specs.Values.{World, pair_fed, pair_found}
 use Rattle.template_runs.specs.Public.{IsShown, IsSharedAt}
-use Rattle.template_runs.proofs.Outside.{open_no_owner}
+use Rattle.template_runs.proofs.Outside.{open_no_owner, opened_is}
 use Rattle.template_runs.proofs.Checks.{is_half}
+<<<<<<< HEAD
 use Rattle.template_runs.proofs.Calls.{content_of}
 use Rattle.trace_tool.specs.Lines.{feed_pair}
+=======
+use Rattle.template_runs.specs.Border.{content_of}
+use Rattle.source_laws.specs.Trace.{feed_pair}
+>>>>>>> 3d5478f012a1b907ffee0f2d83404e6bef70f885
 use Rattle.source_laws.proofs.Parameters.{PairIs}
 use Rattle.source_laws.proofs.Callings.{Sealing, FailsBy}
 use Rattle.source_starts.specs.Sources.{trusted_parts}
@@ -62,21 +68,6 @@ use Rattle.source_starts.proofs.Halves.{trusted_pair, open_foreign}
 use Rattle.source_starts.proofs.JumpFacts.{half_is, normal_is, normal_none, JumpFacts, jump_facts, call_fails}
 
 -- ---- sealed words by what they open to
-
-code_word : (w : Word) (k : Opened) (c : CapFields) → opened_of w ≡ Some k → memory_content k.content ≡ Some c
-    → w ≡ Sealed k.seal (MemIn c)
-code_word (Int z) k c e m = cc
-code_word (Mem y) k c e m = cc
-code_word (Seal y) k c e m = cc
-code_word (Sealed n (MemIn y)) k c e m =
-    let s : record { seal = n; content = MemC y } ≡ k = cc in
-    let a : Some y ≡ Some c = ap (λ (z : Opened). memory_content z.content) s ∙ m in
-    let b : y ≡ c = cc in
-    let q : n ≡ k.seal = ap (λ (z : Opened). z.seal) s in
-    ap (λ z. Sealed n (MemIn z)) b ∙ ap (λ z. Sealed z (MemIn c)) q
-code_word (Sealed n (SealIn y)) k c e m =
-    let s : record { seal = n; content = SealC y } ≡ k = cc in
-    let a : None ≡ Some c = ap (λ (z : Opened). memory_content z.content) s ∙ m in cc
 
 abbrev pub inner : Content → Sealable
 inner (MemC c) = MemIn c
@@ -107,10 +98,6 @@ content_is (SealC c) = refl
 linear_is : (n : ℕ) (c : Content) → is_linear (Sealed n (inner c)) ≡ content_linear c
 linear_is n (MemC c) = refl
 linear_is n (SealC c) = refl
-
-not_true : (b : Bool) → not b ≡ true → b ≡ false
-not_true true e = cc
-not_true false e = refl
 
 module _ (modules : List ModuleFields) (parts : List PartSeen) (size : ℕ) (s : StartSeen)
     (is : IsLinkedStart parts size s) (aligned : Aligned modules (trusted_parts parts))
@@ -151,13 +138,6 @@ module _ (modules : List ModuleFields) (parts : List PartSeen) (size : ℕ) (s :
       ∙ ap (λ o. pair_to (hop_to (owner_of n p) o)) num
   hop_is n p k number (SealC y) cap m e num = cc
 
-  left_out : (a b : Bool) → a ≡ false → (a && b) ≡ false
-  left_out a b e = ap (λ x. x && b) e
-
-  right_out : (a b : Bool) → b ≡ false → (a && b) ≡ false
-  right_out true b e = e
-  right_out false b e = refl
-
   module _ (fs : List OpenFrame) (w v : Word) (sw : IsShown G fs (Plain w)) (sv : IsShown G fs (Plain v))
       (hw : is_half w ≡ true) (hv : is_half v ≡ true) (code half : Opened) (e1 : opened_of w ≡ Some code)
       (e2 : opened_of v ≡ Some half) (n2 : content_linear half.content ≡ false) (f : JumpFacts code half)
@@ -166,7 +146,7 @@ module _ (modules : List ModuleFields) (parts : List PartSeen) (size : ℕ) (s :
       Fed k = PairIs G linked Begin (pair_fed W (feed_pair G.layout k)) (Plain w) (Plain v)
 
       code_is : w ≡ Sealed code.seal (MemIn f.cap)
-      code_is = code_word w code f.cap e1 f.memory
+      code_is = opened_is w code f.cap e1 f.memory
 
       half_is_word : v ≡ Sealed code.seal (inner half.content)
       half_is_word = half_word v half e2 ∙ ap (λ n. Sealed n (inner half.content)) (sym f.one_seal)
@@ -200,7 +180,7 @@ module _ (modules : List ModuleFields) (parts : List PartSeen) (size : ℕ) (s :
                   normal = f.normal;
                   runs = f.runs;
                   half_normal = linear_is code.seal half.content ∙ n2;
-                  half_rests = ap runs_in (content_is half.content) ∙ not_true (runs_in half.content) f.rests;
+                  half_rests = ap runs_in (content_is half.content) ∙ not-true (runs_in half.content) f.rests;
                   foreign = open_foreign G linked Begin code.seal op;
                 },
                 not_its a,
@@ -297,12 +277,12 @@ module _ (modules : List ModuleFields) (parts : List PartSeen) (size : ℕ) (s :
       by_first None b e1 e2 =
           subst (λ k. PairIs G linked Begin (pair_fed W (feed_pair G.layout k)) w v)
           (sym (ap (λ x. pair_if (own_goes G.layout o w v) G.layout x (if_normal (opened_of (look v)))) e1))
-          (left_out (is_half (look w)) (is_half (look v)) (normal_none (look w) e1))
+          (and_left (is_half (look w)) (is_half (look v)) (normal_none (look w) e1))
       by_first (Some code) None e1 e2 =
           subst (λ k. PairIs G linked Begin (pair_fed W (feed_pair G.layout k)) w v)
           (sym (ap (λ x. pair_if (own_goes G.layout o w v) G.layout x (if_normal (opened_of (look v)))) e1
           ∙ ap (pair_if (own_goes G.layout o w v) G.layout (Some code)) e2))
-          (right_out (is_half (look w)) (is_half (look v)) (normal_none (look v) e2))
+          (and_right (is_half (look w)) (is_half (look v)) (normal_none (look v) e2))
       by_first (Some code) (Some half) e1 e2 =
           subst (λ k. PairIs G linked Begin (pair_fed W (feed_pair G.layout k)) w v)
           (sym (ap (λ x. pair_if (own_goes G.layout o w v) G.layout x (if_normal (opened_of (look v)))) e1

@@ -1,14 +1,12 @@
 -- The procedures of a module whose names are resolved fit their frames and their module.
 use Rattle.std.proofs.Common.{◌≡◌, ℕ, zero, suc, ◌+◌, ◌^◌, ◌<◌, ◌≤◌, pos, Bool, true, false, List, [], ◌∷◌}
-use Rattle.std.proofs.Common.{◌++◌, length, map, take, Option, Some, None, refl, sym, ap, ◌∙◌, arith, get_or}
-use Rattle.std.proofs.Common.{IfSome, unwrap_or, lt-ltb, length-append}
+use Rattle.std.proofs.Common.{length, map, take, Option, Some, None, refl, sym, ap, ◌∙◌, arith}
+use Rattle.std.proofs.Common.{IfSome, unwrap_or, lt-ltb}
 use Rattle.std.specs.Prelude.{slice_get, position, replicate, is_some, if◌then◌else◌, ◌&&◌}
 use Rattle.std.specs.Option.{option_map_or}
 use Rattle.std.proofs.lemmas.Bool.{and_parts}
-use Rattle.std.proofs.lemmas.List.{length-replicate}
 use Rattle.std.proofs.lemmas.Option.{slice_get_within}
 use Rattle.std.proofs.lemmas.List.Sums.{sum_by-cons}
-use Rattle.std.proofs.lemmas.List.Quantifiers.{position-Some}
 use Rattle.lcm_machine.specs.Table.{fits_64}
 use Rattle.proc_language.specs.declared.tree.Name.{Name}
 use Rattle.proc_language.specs.declared.module.Global.{Global}
@@ -33,7 +31,7 @@ use Rattle.proc_names.specs.NameFaults.{expr_faults, args_faults, stmt_faults, b
 use Rattle.proc_names.specs.Need.{depth, args_depth, stmt_depth, block_depth, need}
 use Rattle.proc_names.specs.Calls.{calls, stmt_calls, block_calls}
 use Rattle.proc_program.specs.Lower.{words, words_in, word_at, param_place, place_by, row_by, handle_by}
-use Rattle.proc_program.specs.Lower.{exp_of, args_of, step_of, steps_of, globals_of}
+use Rattle.proc_program.specs.Lower.{exp_of, args_of, step_of, steps_of}
 use Rattle.proc_program.specs.Limits.{register_count, registers_of, arg_registers}
 use Rattle.proc_program.specs.declared.program.Place.{Place}
 use Rattle.proc_program.specs.declared.program.Handle.{Handle}
@@ -42,18 +40,13 @@ use Rattle.proc_program.specs.Program as run
 use Rattle.proc_program.specs.Program.{Exp, Step}
 use Rattle.proc_program.specs.View.{args_of as args_view}
 use Rattle.proc_program.specs.StepView.{block_of as block_view}
+use Rattle.proc_program.proofs.Kept.{row_within, count_same}
 use Rattle.source_laws.specs.Fits.{Kind, AsNumber, AsPair, kinds_from, PlaceFits, RowFits, HandleFits}
 use Rattle.source_laws.specs.Fits.{PassFits, ExpFits, ArgsFit, StepFits, BlockFits}
+use Rattle.overlay_machine.proofs.Offers.{found_at}
+use Rattle.proc_templates.proofs.Apart.{left_none, right_none}
 
 -- ---- lists
-
-pub left_none : {A : Type 0} (a b : List A) → a ++ b ≡ [] → a ≡ []
-left_none [] b e = refl
-left_none (x ∷ a) b e = cc
-
-pub right_none : {A : Type 0} (a b : List A) → a ++ b ≡ [] → b ≡ []
-right_none [] b e = e
-right_none (x ∷ a) b e = cc
 
 -- ---- kinds of places
 
@@ -77,10 +70,6 @@ kind_local (true ∷ bs) n k h =
     let s = sum_by-cons register_count true bs in
     let e : registers_of (true ∷ bs) + k ≡ suc (suc (registers_of bs + k)) = omega (arith, s) in
     ap (slice_get (kinds_from (true ∷ bs) n)) e ∙ kind_local bs n k h
-
-count_same : (a : Option ℕ) → register_count (is_some a) ≡ param_registers a
-count_same None = refl
-count_same (Some n) = refl
 
 abbrev kind_by : Bool → Kind
 kind_by true = AsPair
@@ -117,17 +106,7 @@ registers_same (p ∷ ps) =
     let h = registers_same ps in
     omega (arith, a, b, c, h)
 
-within : {A : Type 0} (xs : List A) (k : ℕ) (x : A) → slice_get xs k ≡ Some x → k < length xs
-within xs k x e = slice_get_within xs k x e
-
 -- ---- globals
-
-pub globals-length : (gs : List Global) → length (globals_of gs) ≡ words_in gs
-globals-length [] = refl
-globals-length (g ∷ gs) =
-    length-append (replicate (words g) (unwrap_or g.initial (pos 0))) (globals_of gs)
-    ∙ (let a = length-replicate (words g) (unwrap_or g.initial (pos 0)) in let b = globals-length gs in
-    let e = sum_by-cons words g gs in omega (arith, a, b, e))
 
 some_words : (g : Global) → GlobalFits g → 1 ≤ words g
 some_words g fits = by g.length fits.1
@@ -147,34 +126,7 @@ word_within (g ∷ gs) (suc k) fits h =
     let r = word_within gs k fits.1 (omega (arith, h)) in
     omega (arith, a, b, r)
 
-row_within : (gs : List Global) (k : ℕ) → word_at gs k + option_map_or words (slice_get gs k) 0 ≤ words_in gs
-row_within [] zero = omega arith
-row_within [] (suc k) = omega arith
-row_within (g ∷ gs) zero = let e = sum_by-cons words g gs in omega (arith, e)
-row_within (g ∷ gs) (suc k) =
-    let a = sum_by-cons words g (take k gs) in
-    let b = sum_by-cons words g gs in
-    let h = row_within gs k in
-    omega (arith, a, b, h)
-
 -- ---- names
-
--- what a position found is there, and passes
-found_at : {A : Type 0} (test : A → Bool) (xs : List A) (i : ℕ) → position test xs ≡ Some i
-    → (x : A) × (slice_get xs i ≡ Some x) × (test x ≡ true)
-found_at test xs i e = by xs i (position_or_none xs i e)
-  where
-    by : (xs : List _) (i : ℕ) → (i < length xs) × ((d : _) → test (get_or xs i d) ≡ true)
-        → (x : _) × (slice_get xs i ≡ Some x) × (test x ≡ true)
-    by [] i h = absurd (let l = h.0 in omega (arith, l))
-    by (x ∷ xs) zero h = (x, refl, h.1 x)
-    by (x ∷ xs) (suc i) h = by xs i (let l = h.0 in omega (arith, l), h.1)
-
-    position_or_none : (xs : List _) (i : ℕ) → position test xs ≡ Some i
-        → (i < length xs) × ((d : _) → test (get_or xs i d) ≡ true)
-    position_or_none [] i e = cc
-    position_or_none (x ∷ xs) i e =
-        ((position-Some test (x ∷ xs) i x e).0, λ d. (position-Some test (x ∷ xs) i d e).1)
 
 -- what an index leads to, where one is found
 by_index : {A V : Type 0} (P : V → Type 0) (test : A → Bool) (xs : List A) (to : ℕ → V) (rest : V)
@@ -248,7 +200,7 @@ module _ (m : ModuleFields) (limits : IsModule m) (p : Proc) (fits : ProcFits p)
     where
       by : (b : Bool) → Variable-fits x (if b then named.Array k else named.Global k)
       by true = λ f. cc
-      by false = λ f. word_within m.globals k limits.globals.1 (within m.globals k g at)
+      by false = λ f. word_within m.globals k limits.globals.1 (slice_get_within m.globals k g at)
 
   other_case : (x : Name) (b : Bool) → Variable-fits x (if b then named.Other else named.Missing)
   other_case x true = λ f. cc
@@ -259,7 +211,7 @@ module _ (m : ModuleFields) (limits : IsModule m) (p : Proc) (fits : ProcFits p)
   local_case x k y at f =
       let e = registers_same p.params in
       ap (slice_get Kinds) (ap (λ n. n + k) (sym e))
-      ∙ kind_local (map is_call p.params) (length p.locals) k (within p.locals k y at)
+      ∙ kind_local (map is_call p.params) (length p.locals) k (slice_get_within p.locals k y at)
 
   variable_fits : (x : Name) → plain_faults x (variable_named m p x) ≡ []
       → Placed (place_by m p (variable_named m p x))
@@ -306,18 +258,19 @@ module _ (m : ModuleFields) (limits : IsModule m) (p : Proc) (fits : ProcFits p)
   unfolding callee_named
   called_fits f xs =
       by_index (Called-fits f xs) _ p.params _ _ (λ i q at t e. given_pair f i q at t)
-      (by_index (Called-fits f xs) _ m.imports _ _ (λ k x at t e. within m.imports k x at)
-      (by_index (Called-fits f xs) _ m.procs _ _ (λ j x at t e. within m.procs j x at) (called_other f xs _)))
+      (by_index (Called-fits f xs) _ m.imports _ _ (λ k x at t e. slice_get_within m.imports k x at)
+      (by_index (Called-fits f xs) _ m.procs _ _ (λ j x at t e. slice_get_within m.procs j x at)
+      (called_other f xs _)))
 
   passed_fits : (f : Name) → passed_faults f (passed_named m p f) ≡ []
       → Passed (handle_by p.params (passed_named m p f))
   unfolding passed_named
   passed_fits f =
       by_index (Passed-fits f) _ p.params _ _ (λ i q at t e. given_pair f i q at t)
-      (by_index (Passed-fits f) _ m.imports _ _ (λ k x at t e. within m.imports k x at)
+      (by_index (Passed-fits f) _ m.imports _ _ (λ k x at t e. slice_get_within m.imports k x at)
       (by_index (Passed-fits f) _ m.procs _ _
       (λ j q at t e. (
-        within m.procs j q at,
+        slice_get_within m.procs j q at,
         ap (λ o. option_map_or (λ (y : Proc). y.shared) o false) at
             ∙ (and_parts q.shared (same q.name f) t).0,
       ))

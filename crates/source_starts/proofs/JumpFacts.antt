@@ -3,6 +3,7 @@
 use Rattle.std.proofs.Common.{◌≡◌, ℤ, pos, Bool, true, false, not, Option, Some, None, refl, sym, ap, ◌∙◌}
 use Rattle.std.proofs.Common.{subst, eqb-true}
 use Rattle.std.specs.Prelude.{◌==◌, if◌then◌else◌}
+use Rattle.std.proofs.lemmas.Bool.{not-true}
 use Rattle.cap_words.specs.declared.Word.{Word}
 use Rattle.cap_words.specs.declared.Word.TheVariants.{Int, Mem, Seal, Sealed}
 use Rattle.cap_words.specs.declared.Sealable.TheVariants.{Mem as MemIn, Seal as SealIn}
@@ -29,6 +30,7 @@ use Rattle.overlay_machine.specs.declared.words.OWord.TheVariants.{Plain, RetCod
 use Rattle.overlay_machine.specs.Words.{look}
 use Rattle.trace_tool.specs.Pairs.{if_normal, content_linear}
 use Rattle.template_runs.proofs.Checks.{is_half}
+use Rattle.template_runs.proofs.Back.{need_halts}
 use Rattle.source_laws.proofs.Arguments.{Half}
 
 -- ---- halves
@@ -99,10 +101,6 @@ pub record JumpFacts (code half : Opened) : Type 0 where
   pub runs : may_run cap.perm ≡ true
   pub rests : not (runs_in half.content) ≡ true
 
-not_true : (b : Bool) → not b ≡ true → b ≡ false
-not_true true e = cc
-not_true false e = refl
-
 abbrev Opens : Word → Word → Type 0
 Opens w v = (code : Opened) × (half : Opened) × (opened_of w ≡ Some code) × (opened_of v ≡ Some half)
     × JumpFacts code half
@@ -127,7 +125,7 @@ all_facts w v =
         cap = c;
         memory = m;
         one_seal = eqb-true code.seal half.seal q;
-        normal = not_true (lin_is c.lin) n;
+        normal = not-true (lin_is c.lin) n;
         runs = r;
         rests = nc;
       },
@@ -154,12 +152,6 @@ ask_halts : (f : FailCause) (b : Bool) (q : Plan) → (q ≡ Halts → ⊥) → 
 unfolding ask
 ask_halts f true q h e = h e
 ask_halts f false q h e = cc
-
-need_halts : {A : Type 0} (f : FailCause) (a : Option A) (k : A → Plan) → ((x : A) → k x ≡ Halts → ⊥)
-    → need f a k ≡ Halts → ⊥
-unfolding need
-need_halts f None k h e = cc
-need_halts f (Some x) k h e = h x e
 
 -- the plan, by what the words open to and the register that is spent
 abbrev jump_by : Reg → Option Opened → Option Opened → Plan

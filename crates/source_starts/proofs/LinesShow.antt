@@ -8,7 +8,12 @@ use Rattle.trusted_border.specs.declared.events.Event.TheVariants.{Called, Retur
 use Rattle.overlay_machine.specs.State.{OState}
 use Rattle.overlay_machine.specs.Step.{weight_of}
 use Rattle.overlay_machine.specs.Events.{step_event}
+<<<<<<< HEAD
 use Rattle.overlay_machine.specs.Runs.{Reached, begins, goes_on}
+=======
+use Rattle.trace_tool.specs.declared.pairs.Pair.{Pair as PairOf}
+use Rattle.trace_tool.specs.declared.pairs.Pair.TheVariants as passing
+>>>>>>> 3d5478f012a1b907ffee0f2d83404e6bef70f885
 use Rattle.trace_tool.specs.declared.pairs.Pairs.{Pairs}
 use Rattle.trace_tool.specs.Pairs.{pairs_of, no_pairs}
 use Rattle.trace_tool.specs.Views.{View, flat_view}
@@ -48,11 +53,6 @@ module _ (l : Layout) (v : View) where
     items_same (Some (Returned false i base last)) = refl
     items_same (Some (Entered part k back)) = entries l.stack.base l v part k back
     items_same (Some (Left part)) = refl
-
-pub reached_of : (l : Layout) (o : OState) (j : ℕ) (ls : List Line) (p : OState) → Told l o j ls p
-    → Reached l o j p
-reached_of l o _ _ _ none_yet = begins
-reached_of l o _ _ _ (and_then t e) = goes_on (reached_of l o _ _ _ t) e
 
 -- ---- of all steps
 

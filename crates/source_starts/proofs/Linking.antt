@@ -1,8 +1,8 @@
 -- What imports name among linked parts, whose names differ.
-use Rattle.std.proofs.Common.{◌≡◌, ◌⊎◌, inl, inr, ℕ, Bool, true, false, not, List, find, Option, Some, None}
+use Rattle.std.proofs.Common.{◌≡◌, ◌⊎◌, inl, inr, ℕ, true, false, not, List, find, Option, Some, None}
 use Rattle.std.proofs.Common.{refl, sym, ap, ◌∙◌, arith}
 use Rattle.std.specs.Prelude.{slice_get, option_map, option_and_then, ◌||◌}
-use Rattle.std.proofs.lemmas.Bool.{cases_eq, cases_lt, not-false}
+use Rattle.std.proofs.lemmas.Bool.{cases_eq, cases_lt, not-false, or_cases}
 use Rattle.std.proofs.lemmas.Option.{slice_get_within}
 use Rattle.component_file.specs.declared.component.Import.{Import}
 use Rattle.component_file.specs.declared.component.Export.{Export}
@@ -74,10 +74,6 @@ pub imported_names : (parts : List PartSeen) (i : Import) (x : Exported) → imp
     → Names parts i x
 imported_names parts i x e =
     let n = names_of parts i x e in record { there = imported_there parts i x e; part = n.0; name = n.1 }
-
-or_cases : (a b : Bool) → (a || b) ≡ true → (a ≡ true) ⊎ (b ≡ true)
-or_cases true b e = inl refl
-or_cases false b e = inr e
 
 -- it is shared, or the part's own
 pub may_import : (parts : List PartSeen) (size : ℕ) → NoneIsBroken (rules_l parts size)

@@ -1,7 +1,7 @@
 -- What the data of compiled modules hold at a linked start: the pairs of imports and own procedures, and the
 -- globals.
-use Rattle.std.proofs.Common.{◌≡◌, inl, inr, ℕ, zero, suc, ◌+◌, ◌*◌, ◌<◌, ℤ, pos, Bool, true, false, List, []}
-use Rattle.std.proofs.Common.{◌∷◌, length, map, Some, refl, sym, ap, ◌∙◌, subst, arith}
+use Rattle.std.proofs.Common.{◌≡◌, inl, inr, ℕ, ◌+◌, ◌*◌, ◌<◌, ℤ, pos, Bool, true, false, List, []}
+use Rattle.std.proofs.Common.{length, map, Some, refl, sym, ap, ◌∙◌, subst, arith}
 use Rattle.std.specs.Prelude.{slice_get, slice_index_or, unwrap_or, option_map, position}
 use Rattle.std.specs.List.{Contains}
 use Rattle.std.specs.Int.{w64}
@@ -11,6 +11,7 @@ use Rattle.cap_words.specs.declared.Word.{Word}
 use Rattle.cap_words.specs.declared.Word.TheVariants.{Int, Sealed}
 use Rattle.cap_words.specs.declared.Sealable.TheVariants.{Mem as MemIn}
 use Rattle.component_file.specs.declared.component.Import.{Import}
+use Rattle.component_file.proofs.Lists.{inside as there_is}
 use Rattle.lcm_machine.specs.Cells.{cell}
 use Rattle.lcm_machine.specs.Table.{fits_64}
 use Rattle.flow_check.specs.Holds.{code_at, data_cap}
@@ -28,6 +29,7 @@ use Rattle.overlay_machine.specs.Starting.{overlay_at}
 use Rattle.overlay_machine.proofs.starts.ListFacts.{listed_at}
 use Rattle.proc_language.specs.declared.module.ModuleFields.{ModuleFields}
 use Rattle.proc_language.specs.Limits.{Each, IsModule}
+use Rattle.proc_language.proofs.ListLemmas.{each_at}
 use Rattle.proc_names.specs.NameFaults.{name_faults}
 use Rattle.proc_program.specs.declared.program.Import as program
 use Rattle.proc_program.specs.declared.program.Part.{Part}
@@ -49,10 +51,11 @@ use Rattle.source_starts.proofs.Linking.{imported_names, may_import, same_part}
 use Rattle.source_starts.proofs.Slots.{import_at, own_at, slot_below, global_at}
 use Rattle.source_starts.proofs.StartWords.{the_link, cell_start, data_in, apart, first_words, code_public}
 use Rattle.source_starts.proofs.StartWords.{data_public}
-use Rattle.source_starts.proofs.Targets.{each_at, one_proc, imports_apart, BeginsAt, part_here, differ}
+use Rattle.source_starts.proofs.Targets.{one_proc, imports_apart, BeginsAt, part_here, differ}
 use Rattle.source_starts.proofs.Targets.{shared_found, proc_of}
 use Rattle.source_starts.proofs.Halves.{half_of, trusted_pair, trusted_code, open_pair, open_leaves}
-use Rattle.source_starts.proofs.Stores.{StoreIs, data_size, index_is, signed_fits}
+use Rattle.source_starts.proofs.Stores.{StoreIs, data_size, index_is}
+use Rattle.run_items.proofs.FieldsRead.{signed_fits}
 
 module _ (modules : List ModuleFields) (parts : List PartSeen) (size : ℕ) (s : StartSeen)
     (is : IsLinkedStart parts size s) (aligned : Aligned modules (trusted_parts parts))
@@ -260,11 +263,6 @@ module _ (modules : List ModuleFields) (parts : List PartSeen) (size : ℕ) (s :
       by_mark i p h k im at w.0 w.1 w.2 w.0.part.trusted refl
 
   -- ---- globals
-
-  there_is : {A : Type 0} (xs : List A) (j : ℕ) → j < length xs → (x : A) × (slice_get xs j ≡ Some x)
-  there_is [] j l = absurd (omega (arith, l))
-  there_is (x ∷ xs) zero l = (x, refl)
-  there_is (x ∷ xs) (suc j) l = there_is xs j (omega (arith, l))
 
   global_word : (i : ℕ) (p : PartSeen) (h : Home modules parts i p) (o : ℕ) (z : ℤ)
       → slice_get (part_of h.source).globals o ≡ Some z

@@ -1,61 +1,26 @@
 -- The calls of a lowered module are numbered in their order.
-use Rattle.std.proofs.Common.{◌≡◌, ℕ, ◌+◌, refl, sym, ap, subst, arith}
+use Rattle.std.proofs.Common.{ℕ, ◌+◌, sym, ap, subst, arith}
 use Rattle.proc_language.specs.declared.module.Proc.{Proc}
 use Rattle.proc_language.specs.declared.module.ModuleFields.{ModuleFields}
 use Rattle.proc_language.specs.Tree.{Expr, Args, Stmt, Block, number, var, element, call, op, no_args, value}
 use Rattle.proc_language.specs.Tree.{proc, set, set_at, do_call, if_then, if_else, while, return, halt}
 use Rattle.proc_language.specs.Tree.{no_stmts, stmt}
 use Rattle.proc_names.specs.Calls as text
-use Rattle.proc_program.specs.Calls.{calls, args_calls, step_calls, block_calls}
 use Rattle.proc_program.specs.Lower.{exp_of, args_of, step_of, steps_of}
 use Rattle.proc_program.specs.View.{args_of as args_view}
 use Rattle.proc_program.specs.StepView.{block_of as block_view}
+use Rattle.proc_program.proofs.Counted.{exp_calls, among, stmt_kept, block_kept}
 use Rattle.source_laws.specs.Sites.{Numbered, ArgsNumbered, StepNumbered, BlockNumbered}
 
 module _ (m : ModuleFields) (p : Proc) where
-  mutual
-    exp_calls : (e : Expr) (n : ℕ) → calls (exp_of m p n e) ≡ text.calls e
-    exp_calls (number at v) n = refl
-    exp_calls (var at x) n = refl
-    exp_calls (element at x e) n = exp_calls e n
-    exp_calls (call at f xs) n = ap (λ k. k + 1) (among xs n)
-    exp_calls (op at o a b) n = let x = exp_calls a n in let y = exp_calls b (n + text.calls a) in
-        omega (arith, x, y)
-
-    among : (xs : Args) (n : ℕ) → args_calls (args_view (args_of m p n xs)) ≡ text.args_calls xs
-    among no_args n = refl
-    among (value e xs) n = let x = exp_calls e n in let y = among xs (n + text.calls e) in omega (arith, x, y)
-    among (proc f xs) n = among xs n
-
-  mutual
-    stmt_calls : (s : Stmt) (n : ℕ) → step_calls (step_of m p n s) ≡ text.stmt_calls s
-    stmt_calls (set at x e) n = exp_calls e n
-    stmt_calls (set_at at x i e) n =
-        let x = exp_calls i n in let y = exp_calls e (n + text.calls i) in omega (arith, x, y)
-    stmt_calls (do_call at f xs) n = ap (λ k. k + 1) (among xs n)
-    stmt_calls (if_then at c b) n =
-        let x = exp_calls c n in let y = body_calls b (n + text.calls c) in omega (arith, x, y)
-    stmt_calls (if_else at c a b) n =
-        let x = exp_calls c n in let y = body_calls a (n + text.calls c) in
-        let z = body_calls b (n + text.calls c + text.block_calls a) in omega (arith, x, y, z)
-    stmt_calls (while at c b) n =
-        let x = exp_calls c n in let y = body_calls b (n + text.calls c) in omega (arith, x, y)
-    stmt_calls (return at e) n = exp_calls e n
-    stmt_calls (halt at e) n = exp_calls e n
-
-    pub body_calls : (b : Block) (n : ℕ) → block_calls (block_view (steps_of m p n b)) ≡ text.block_calls b
-    body_calls no_stmts n = refl
-    body_calls (stmt s b) n = let x = stmt_calls s n in let y = body_calls b (n + text.stmt_calls s) in
-        omega (arith, x, y)
-
   mutual
     numbered : (e : Expr) (n : ℕ) → Numbered n (exp_of m p n e)
     numbered (number at v) n = tt
     numbered (var at x) n = tt
     numbered (element at x e) n = numbered e n
-    numbered (call at f xs) n = (args_numbered xs n, ap (λ k. n + k) (sym (among xs n)))
+    numbered (call at f xs) n = (args_numbered xs n, ap (λ k. n + k) (sym (among m p xs n)))
     numbered (op at o a b) n =
-        let e = sym (exp_calls a n) in (
+        let e = sym (exp_calls m p a n) in (
           numbered a n,
           subst (λ k. Numbered (n + k) (exp_of m p (n + text.calls a) b)) e
               (numbered b (n + text.calls a)),
@@ -64,7 +29,7 @@ module _ (m : ModuleFields) (p : Proc) where
     args_numbered : (xs : Args) (n : ℕ) → ArgsNumbered n (args_view (args_of m p n xs))
     args_numbered no_args n = tt
     args_numbered (value e xs) n =
-        let k = sym (exp_calls e n) in (
+        let k = sym (exp_calls m p e n) in (
           numbered e n,
           subst (λ k. ArgsNumbered (n + k) (args_view (args_of m p (n + text.calls e) xs))) k
               (args_numbered xs (n + text.calls e)),
@@ -76,19 +41,19 @@ module _ (m : ModuleFields) (p : Proc) where
     stmt_numbered (set at x e) n = numbered e n
     stmt_numbered (set_at at x i e) n = (
       numbered i n,
-      subst (λ k. Numbered (n + k) (exp_of m p (n + text.calls i) e)) (sym (exp_calls i n))
+      subst (λ k. Numbered (n + k) (exp_of m p (n + text.calls i) e)) (sym (exp_calls m p i n))
           (numbered e (n + text.calls i)),
     )
-    stmt_numbered (do_call at f xs) n = (args_numbered xs n, ap (λ k. n + k) (sym (among xs n)))
+    stmt_numbered (do_call at f xs) n = (args_numbered xs n, ap (λ k. n + k) (sym (among m p xs n)))
     stmt_numbered (if_then at c b) n = (
       numbered c n,
       subst (λ k. BlockNumbered (n + k) (block_view (steps_of m p (n + text.calls c) b)))
-          (sym (exp_calls c n)) (block_numbered b (n + text.calls c)),
+          (sym (exp_calls m p c n)) (block_numbered b (n + text.calls c)),
       tt,
     )
     stmt_numbered (if_else at c a b) n =
-        let x = exp_calls c n in
-        let y = body_calls a (n + text.calls c) in (
+        let x = exp_calls m p c n in
+        let y = block_kept m p a (n + text.calls c) in (
           numbered c n,
           subst (λ k. BlockNumbered (n + k) (block_view (steps_of m p (n + text.calls c) a)))
               (sym x) (block_numbered a (n + text.calls c)),
@@ -98,7 +63,7 @@ module _ (m : ModuleFields) (p : Proc) where
     stmt_numbered (while at c b) n = (
       numbered c n,
       subst (λ k. BlockNumbered (n + k) (block_view (steps_of m p (n + text.calls c) b)))
-          (sym (exp_calls c n)) (block_numbered b (n + text.calls c)),
+          (sym (exp_calls m p c n)) (block_numbered b (n + text.calls c)),
     )
     stmt_numbered (return at e) n = numbered e n
     stmt_numbered (halt at e) n = numbered e n
@@ -108,5 +73,5 @@ module _ (m : ModuleFields) (p : Proc) where
     block_numbered (stmt s b) n = (
       stmt_numbered s n,
       subst (λ k. BlockNumbered (n + k) (block_view (steps_of m p (n + text.stmt_calls s) b)))
-          (sym (stmt_calls s n)) (block_numbered b (n + text.stmt_calls s)),
+          (sym (stmt_kept m p s n)) (block_numbered b (n + text.stmt_calls s)),
     )

@@ -12,13 +12,13 @@ use Rattle.overlay_machine.specs.Step.{goes, overlay_step, weight_of}
 use Rattle.overlay_machine.specs.Events.{step_event}
 use Rattle.overlay_machine.specs.Runs.{Reached}
 use Rattle.overlay_machine.specs.Starting.{overlay_at}
+use Rattle.overlay_machine.proofs.Offers.{map_get}
 use Rattle.trace_tool.specs.Layout.{layout}
 use Rattle.trace_tool.specs.Headline.{Headline, Matched, HeadlineHolds}
 use Rattle.template_runs.specs.Runs.{is_inside}
 use Rattle.proc_semantics.specs.Values.{World}
 use Rattle.proc_semantics.specs.Marked.{Marks, Thing, Event, Calls, Leaves, Whence, refined, arg_to, event_to}
 use Rattle.source_laws.specs.Seen.{Back, Shown, args_shown, call_shown, shown_of, outs_of, items_of}
-use Rattle.source_laws.proofs.Wipes.{get_map}
 use Rattle.source_laws.specs.Words.{Tells, none_yet, and_then, word_from, back_at, WhenceTold, TellsSo}
 use Rattle.source_starts.specs.PlainWords.{CallTold, PlainCallTold, PlainRunsTellWords}
 use Rattle.source_starts.specs.Words.{SourcesTellWords}
@@ -114,9 +114,9 @@ module _ (s : StartSeen) (head : Headline s) where
           let at : slice_get (map shown_of (map (event_to word back) es')) (length es)
           ≡ Some (call_shown (layout s) q i base) =
           ap (λ z. slice_get z (length es)) h.0.1 ∙ get_mid es (call_shown (layout s) q i base) h.0.0 in
-          let a = get_map shown_of (map (event_to word back) es') (length es)
+          let a = map_get shown_of (map (event_to word back) es') (length es)
           (call_shown (layout s) q i base) at in
-          let b = get_map (event_to word back) es' (length es) a.0 a.1 in
+          let b = map_get (event_to word back) es' (length es) a.0 a.1 in
           (b.0, b.1, call_told (layout s) q i base word back b.0 (ap shown_of b.2 ∙ a.2))
 
 pub start_plain : HeadlineHolds → SourcesTellWords → PlainRunsTellWords

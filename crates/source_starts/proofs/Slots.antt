@@ -1,25 +1,19 @@
 -- The imports of a compiled module: two words of the data for each import, and then for each own procedure.
 use Rattle.std.proofs.Common.{◌≡◌, inl, inr, ℕ, zero, suc, ◌+◌, ◌-◌, ◌*◌, ◌<◌, ℤ, pos, List, [], ◌∷◌, ◌++◌}
-use Rattle.std.proofs.Common.{length, map, Some, None, refl, sym, ap, ◌∙◌, arith, length-append}
+use Rattle.std.proofs.Common.{length, map, Some, None, sym, ap, ◌∙◌, arith, length-append}
 use Rattle.std.specs.Prelude.{slice_get, replicate, option_map}
 use Rattle.std.proofs.lemmas.Bool.{cases_lt}
 use Rattle.std.proofs.lemmas.List.{length-replicate}
 use Rattle.std.proofs.lemmas.Option.{slice_get_within, slice_get-map}
 use Rattle.cap_words.specs.declared.Word.TheVariants.{Int}
 use Rattle.component_file.specs.declared.component.Import.{Import}
+use Rattle.component_file.proofs.Lists.{inside}
 use Rattle.proc_program.specs.declared.program.Import as program
 use Rattle.proc_program.specs.declared.program.Part.{Part}
 use Rattle.proc_program.specs.declared.program.Procedure.{Procedure}
 use Rattle.proc_templates.specs.Compiled.{pair_count, import_slots, own_slots, imports_of, data_of, int_word}
 use Rattle.proc_templates.proofs.Laying.{get-left, get-right}
-
-slots_length : (s : ℕ) (is : List program.Import) → length (import_slots s is) ≡ length is
-slots_length s [] = refl
-slots_length s (i ∷ is) = ap suc (slots_length (s + 2) is)
-
-owns_length : (part : List ℕ) (s : ℕ) (ps : List Procedure) → length (own_slots part s ps) ≡ length ps
-owns_length part s [] = refl
-owns_length part s (p ∷ ps) = ap suc (owns_length part (s + 2) ps)
+use Rattle.proc_templates.proofs.OwnRules.{imports_length, own_length}
 
 import_slot : (s : ℕ) (is : List program.Import) (k : ℕ) (i : program.Import) → slice_get is k ≡ Some i
     → slice_get (import_slots s is) k ≡ Some (record { part = i.part; name = i.name; slot = s + 2 * k })
@@ -59,7 +53,7 @@ module _ (m : Part) where
       ≡ Some (record { part = m.name; name = q.name; slot = 2 * (length m.imports + j) })
   unfolding imports_of
   own_at j q e =
-      let l = slots_length 0 m.imports in
+      let l = imports_length 0 m.imports in
       let z : 2 * length m.imports + 2 * j ≡ 2 * (length m.imports + j) = omega arith in
       ap (λ n. slice_get (import_slots 0 m.imports ++ own_slots m.name (2 * length m.imports) m.procs)
       (n + j)) (sym l)
@@ -67,23 +61,18 @@ module _ (m : Part) where
       ∙ own_slot m.name (2 * length m.imports) m.procs j q e
       ∙ ap (λ n. Some (record { part = m.name; name = q.name; slot = n })) z
 
-  there_is : {A : Type 0} (xs : List A) (j : ℕ) → j < length xs → (x : A) × (slice_get xs j ≡ Some x)
-  there_is [] j h = absurd (omega (arith, h))
-  there_is (x ∷ xs) zero h = (x, refl)
-  there_is (x ∷ xs) (suc j) h = there_is xs j (omega (arith, h))
-
   -- each slot lies before the globals
   pub slot_below : (n : ℕ) (i : Import) → slice_get (imports_of m) n ≡ Some i → i.slot + 1 < pair_count m
   unfolding imports_of
   slot_below n i e =
       let l = length-append (import_slots 0 m.imports) (own_slots m.name (2 * length m.imports) m.procs) in
-      let a = slots_length 0 m.imports in
-      let b = owns_length m.name (2 * length m.imports) m.procs in
+      let a = imports_length 0 m.imports in
+      let b = own_length m.name (2 * length m.imports) m.procs in
       let w = slice_get_within (import_slots 0 m.imports ++ own_slots m.name (2 * length m.imports) m.procs) n
       i e in
       elim (cases_lt n (length m.imports)) as (λ _. i.slot + 1 < pair_count m) [
         | inl lt ↦ (
-            let x = there_is m.imports n lt in
+            let x = inside m.imports n lt in
             let s : Some i ≡ Some (record { part = x.0.part; name = x.0.name; slot = 2 * n }) = sym e
             ∙ import_at n x.0 x.1 in
             let t : i ≡ record { part = x.0.part; name = x.0.name; slot = 2 * n } = cc in
@@ -92,7 +81,7 @@ module _ (m : Part) where
             let j = n - length m.imports in
             let lt : j < length m.procs = omega (arith, w, l, a, b, ge) in
             let z : n ≡ length m.imports + (n - length m.imports) = omega (arith, ge) in
-            let x = there_is m.procs j lt in
+            let x = inside m.procs j lt in
             let s : Some i ≡ Some
             (record { part = m.name; name = x.0.name; slot = 2 * (length m.imports + j) }) =
             sym e ∙ ap (slice_get

@@ -24,10 +24,12 @@ use Rattle.proc_templates.specs.Compiled.{lay_proc, lay_procs, laid_of, componen
 use Rattle.proc_templates.proofs.Laying.{lay-length}
 use Rattle.proc_templates.proofs.Procs.{FrameFits, proc-size}
 use Rattle.proc_templates.proofs.Whole.{spot_of, proc_laid}
+use Rattle.proc_templates.proofs.Apart.{left_none, right_none}
 use Rattle.source_laws.specs.Fits.{kinds_from, BlockFits}
 use Rattle.source_laws.specs.Sites.{BlockNumbered}
-use Rattle.source_starts.proofs.Numbers.{body_calls, block_numbered}
-use Rattle.source_starts.proofs.Fitted.{is_call, shares, registers_same, left_none, right_none, block_fits}
+use Rattle.proc_program.proofs.Counted.{block_kept}
+use Rattle.source_starts.proofs.Numbers.{block_numbered}
+use Rattle.source_starts.proofs.Fitted.{is_call, shares, registers_same, block_fits}
 use Rattle.source_starts.proofs.Carrying.{calls_from}
 
 -- ---- which procedure of the source
@@ -47,7 +49,7 @@ lowered m n (p ∷ ps) zero q e =
     record { source = p; source_is = refl; first = n; is = sym s; first_is = refl }
 lowered m n (p ∷ ps) (suc j) q e =
     let x = lowered m (n + proc_calls p) ps j q e in
-    let c = body_calls m p (stmts_of p.body) n in
+    let c = block_kept m p (stmts_of p.body) n in
     record {
       source = x.source;
       source_is = x.source_is;
@@ -62,10 +64,6 @@ shared_is m n ps j q e =
     let x = lowered m n ps j q e in
     ap (λ (o : Option Proc). option_map_or (λ (p : Proc). p.shared) o false) x.source_is
     ∙ ap (λ (p : Procedure). p.shared) (sym x.is)
-
-pub procs-length : (m : ModuleFields) (n : ℕ) (ps : List Proc) → length (procedures_of m n ps) ≡ length ps
-procs-length m n [] = refl
-procs-length m n (p ∷ ps) = ap suc (procs-length m (n + proc_calls p) ps)
 
 -- ---- faults
 

@@ -3,7 +3,7 @@ use Rattle.source_laws.proofs.Refined as tagged
 use Rattle.source_laws.proofs.Arguments.{Slotted, DataPair}
 use Rattle.proc_semantics.specs.Marked.{CodeHalf, DataHalf}
 use Rattle.source_starts.specs.Words.{slots, slot_in, imports_in, if_there}
-use Rattle.std.proofs.Common.{◌≡◌, ℕ, zero, suc, ◌+◌, ◌*◌, ◌<◌, pos, true, List, [], ◌∷◌, length, map, Some}
+use Rattle.std.proofs.Common.{◌≡◌, ℕ, ◌+◌, ◌*◌, ◌<◌, pos, true, List, [], length, map, Some}
 use Rattle.std.proofs.Common.{refl, sym, ap, ◌∙◌, subst, arith, eqb-true}
 use Rattle.std.specs.Prelude.{slice_get, ◌==◌}
 use Rattle.std.specs.List.{Contains}
@@ -29,6 +29,7 @@ use Rattle.overlay_machine.proofs.starts.ListFacts.{listed_at, index_of, any_of}
 use Rattle.overlay_machine.proofs.starts.NameFacts.{starts_tell_names}
 use Rattle.proc_language.specs.declared.module.ModuleFields.{ModuleFields}
 use Rattle.proc_language.specs.Limits.{Each, IsModule}
+use Rattle.proc_language.proofs.ListLemmas.{each_at}
 use Rattle.proc_names.specs.NameFaults.{name_faults}
 use Rattle.proc_program.specs.declared.program.Part.{Part}
 use Rattle.proc_program.specs.declared.program.Procedure.{Procedure}
@@ -36,6 +37,7 @@ use Rattle.proc_program.specs.declared.program.Handle.TheVariants.{Own, Imported
 use Rattle.proc_program.specs.Lower.{part_of, import_of, words_in}
 use Rattle.proc_program.specs.Limits.{scope_of, ProcedureFits, IsPart}
 use Rattle.proc_program.specs.StepView.{block_of}
+use Rattle.proc_program.proofs.Kept.{globals-length, procs-length}
 use Rattle.proc_templates.specs.Items.{FAIL_AT, Spot}
 use Rattle.proc_templates.specs.Templates.{proc_code, before_epilogue}
 use Rattle.proc_templates.specs.Compiled.{pair_count, frame_of, head_of, laid_of, component_of, data_count}
@@ -61,21 +63,17 @@ use Rattle.source_starts.proofs.Alike.{entries_same, sites_same, carries_same, s
 use Rattle.source_starts.proofs.Carrying.{all_stand, offset_from, calls_from}
 use Rattle.source_starts.proofs.Worlds.{Aligned, Home}
 use Rattle.source_starts.proofs.StartWords.{the_link, apart}
-use Rattle.source_starts.proofs.Targets.{each_at, BeginsAt, part_here, export_of}
+use Rattle.source_starts.proofs.Targets.{BeginsAt, part_here, export_of}
 use Rattle.source_starts.proofs.Exports.{export_at}
 use Rattle.source_starts.proofs.Halves.{half_of, trusted_pair}
-use Rattle.source_starts.proofs.Fitted.{globals-length, shares}
-use Rattle.source_starts.proofs.Sourced.{shared_is, procs-length, numbered, fits, code_length}
+use Rattle.source_starts.proofs.Fitted.{shares}
+use Rattle.source_starts.proofs.Sourced.{shared_is, numbered, fits, code_length}
 use Rattle.source_starts.proofs.Stores.{StoreIs, data_size, sets}
 use Rattle.source_starts.proofs.ModulePairs.{OwnCode, OwnData, own_pair, import_pair, module_fits}
 use Rattle.source_starts.proofs.ModulePairs.{home_trusted}
 use Rattle.proc_semantics.specs.Meaning as meaning
 use Rattle.source_starts.proofs.ModulePairs as words
-
-there_is : {A : Type 0} (xs : List A) (j : ℕ) → j < length xs → (x : A) × (slice_get xs j ≡ Some x)
-there_is [] j l = absurd (omega (arith, l))
-there_is (x ∷ xs) zero l = (x, refl)
-there_is (x ∷ xs) (suc j) l = there_is xs j (omega (arith, l))
+use Rattle.component_file.proofs.Lists.{inside as there_is}
 
 module _ (modules : List ModuleFields) (parts : List PartSeen) (size : ℕ) (s : StartSeen)
     (is : IsLinkedStart parts size s) (aligned : Aligned modules (trusted_parts parts))

@@ -1,10 +1,8 @@
 -- How the words of the modules' globals stand in the data of their parts.
-use Rattle.std.proofs.Common.{◌≡◌, ◌≢◌, inl, inr, ℕ, zero, suc, ◌+◌, ◌<◌, ℤ, pos, negsuc, true, List, [], ◌∷◌}
+use Rattle.std.proofs.Common.{◌≡◌, ◌≢◌, inl, inr, ℕ, zero, suc, ◌+◌, ◌<◌, ℤ, pos, true, List, [], ◌∷◌}
 use Rattle.std.proofs.Common.{length, Some, None, refl, sym, ap, ◌∙◌, subst, arith}
-use Rattle.std.specs.Prelude.{slice_get, slice_index_or, slice_set, FitsSigned}
-use Rattle.std.specs.Int.{w64}
+use Rattle.std.specs.Prelude.{slice_get, slice_index_or, slice_set}
 use Rattle.std.proofs.lemmas.Bool.{cases_eq}
-use Rattle.std.proofs.lemmas.Bool.Decides.{nat_tests}
 use Rattle.cap_words.specs.declared.Word.TheVariants.{Int}
 use Rattle.lcm_machine.specs.Table.{fits_64}
 use Rattle.component_linker.specs.Parts.{PartSeen}
@@ -57,10 +55,6 @@ index_is (y ∷ xs) zero x d e = let s : y ≡ x = cc in s
 index_is (y ∷ xs) (suc i) x d e = index_is xs i x d e
 
 -- ---- numbers of 64 bits
-
-pub signed_fits : (z : ℤ) → FitsSigned w64 z → fits_64 z ≡ true
-signed_fits (pos n) h = let k = h.sfits in grind (arith, nat_tests, k)
-signed_fits (negsuc n) h = let k = h.sfits in grind (arith, nat_tests, k)
 
 -- ---- globals
 

@@ -1,12 +1,12 @@
 -- Where the names of shared procedures lead, and the names of imports.
-use Rattle.std.proofs.Common.{◌≡◌, ◌≢◌, inl, inr, ℕ, zero, suc, ◌+◌, ◌<◌, Bool, true, false, List, [], ◌∷◌}
+use Rattle.std.proofs.Common.{◌≡◌, ◌≢◌, inl, inr, ℕ, zero, suc, ◌+◌, ◌<◌, true, false, List, [], ◌∷◌}
 use Rattle.std.proofs.Common.{◌++◌, length, map, find, Option, Some, None, refl, sym, ap, ◌∙◌, subst, arith}
 use Rattle.std.proofs.Common.{eqb-true}
-use Rattle.std.specs.Prelude.{slice_get, option_map, ◌==◌, ◌&&◌, not}
+use Rattle.std.specs.Prelude.{slice_get, option_map, ◌==◌, not}
 use Rattle.std.specs.List.{Contains}
 use Rattle.std.specs.Option.{option_map_or}
 use Rattle.std.specs.Str.{bytes_eq}
-use Rattle.std.proofs.lemmas.Bool.{cases_lt}
+use Rattle.std.proofs.lemmas.Bool.{cases_lt, and_right}
 use Rattle.std.proofs.lemmas.Option.{slice_get_within, slice_get-map}
 use Rattle.component_file.specs.declared.component.Export.{Export}
 use Rattle.component_linker.specs.Parts.{PartSeen}
@@ -15,17 +15,17 @@ use Rattle.proc_language.specs.declared.tree.Name.{Name}
 use Rattle.proc_language.specs.declared.module.Proc.{Proc}
 use Rattle.proc_language.specs.declared.module.ModuleFields.{ModuleFields}
 use Rattle.proc_language.specs.Limits.{Each}
+use Rattle.proc_language.proofs.ListLemmas.{each_at}
 use Rattle.proc_names.specs.Names.{same}
 use Rattle.proc_names.specs.NameFaults.{name_faults, again, twice, item_names, procs_faults}
 use Rattle.proc_names.specs.Faults.{unless}
-use Rattle.proc_names.specs.declared.fault.NameFault.{NameFault}
 use Rattle.proc_program.specs.declared.program.Import as program
 use Rattle.proc_program.specs.declared.program.Procedure.{Procedure}
 use Rattle.proc_program.specs.Lower.{part_of, procedures_of, import_of}
 use Rattle.proc_names.specs.Calls.{proc_calls}
 use Rattle.proc_templates.specs.Kept.{NoneNamed, NamesDiffer}
 use Rattle.proc_templates.specs.Compiled.{exports_of}
-use Rattle.proc_templates.proofs.Apart.{names_differ}
+use Rattle.proc_templates.proofs.Apart.{names_differ, left_none, right_none, once}
 use Rattle.proc_semantics.specs.declared.value.Target.{Target}
 use Rattle.proc_semantics.specs.Values.{World, part_at, target, shared_in, shared_at, is_shared, found}
 use Rattle.template_runs.specs.Public.{IsSharedAt}
@@ -35,26 +35,7 @@ use Rattle.source_starts.proofs.Worlds.{position_at, names_same, differ_back, Na
 use Rattle.source_starts.proofs.Worlds.{found_home}
 use Rattle.source_starts.proofs.Exports.{export_at, export_there, export_only, one_offset}
 
--- what holds of each module holds of one at an index
-pub each_at : {A : Type 0} (P : A → Type 0) (xs : List A) (i : ℕ) (x : A) → Each P xs
-    → slice_get xs i ≡ Some x → P x
-each_at P [] i x h e = absurd (let z : None ≡ Some x = e in cc)
-each_at P (y ∷ ys) zero x h e = let s : y ≡ x = cc in subst P s h.0
-each_at P (y ∷ ys) (suc i) x h e = each_at P ys i x h.1 e
-
 -- ---- names within a module
-
-left_none : {A : Type 0} (a b : List A) → a ++ b ≡ [] → a ≡ []
-left_none [] b e = refl
-left_none (x ∷ a) b e = cc
-
-right_none : {A : Type 0} (a b : List A) → a ++ b ≡ [] → b ≡ []
-right_none [] b e = e
-right_none (x ∷ a) b e = cc
-
-once : (b : Bool) (f : NameFault) → unless (not b) f ≡ [] → b ≡ false
-once true f e = cc
-once false f e = refl
 
 none_at : (name : List ℕ) (ps : List Procedure) (j : ℕ) (q : Procedure) → NoneNamed name ps
     → slice_get ps j ≡ Some q → bytes_eq name q.name ≡ false
@@ -186,15 +167,11 @@ module _ (modules : List ModuleFields) (parts : List PartSeen) (is : Aligned mod
       ∙ ap (option_map (target i)) (position_at (is_shared name) (part_of h.source).procs j q at
       (rw sh (ap (λ n. bytes_eq n q.name) e ∙ names_same q.name)) before)
     where
-      and_false : (a b : Bool) → b ≡ false → (a && b) ≡ false
-      and_false true b f = f
-      and_false false b f = refl
-
       before : (k : ℕ) (y : Procedure) → k < j → slice_get (part_of h.source).procs k ≡ Some y
           → is_shared name y ≡ false
       before k y lt at_y =
           let d = procs_differ (part_of h.source).procs k j y q (differ i p h) lt at_y at in
-          and_false y.shared (bytes_eq name y.name)
+          and_right y.shared (bytes_eq name y.name)
           (ap (λ n. bytes_eq n y.name) e ∙ differ_back y.name q.name d)
 
   -- what begins at an offset of a part

@@ -7,6 +7,7 @@ use Rattle.lcm_machine.specs.declared.End.{End}
 use Rattle.lcm_machine.specs.Row.{Outcome, went, halted, failed, step_of}
 use Rattle.lcm_machine.specs.Run.{Run, moved, next_by, next_state, plain}
 use Rattle.lcm_machine.proofs.RunLemmas.{count_next}
+use Rattle.lcm_machine.proofs.Offers.{plain_count}
 use Rattle.step_back.specs.declared.debugger.Stop.TheVariants.{Break}
 use Rattle.step_back.specs.Seen.{Debugging}
 use Rattle.step_back.specs.Debug.{begun, forward, forward_by, back, back_by, go, go_by, go_back, is_stop}
@@ -23,10 +24,6 @@ moved_count (failed c at) s = refl
 step_count : (s : Run) → s.end ≡ None → (next_state s).count ≡ s.count + 1
 unfolding next_state
 step_count s e = ap (λ o. (next_by o s).count) e ∙ moved_count (step_of (λ w. w) (λ w. w) s.maps) s
-
-plain_count : (n : ℕ) (s : Run) → (plain n s).count ≤ s.count + n
-plain_count zero s = omega arith
-plain_count (suc n) s = let h = plain_count n s in let k = count_next (plain n s) in omega arith
 
 -- ---- one call
 

@@ -55,7 +55,7 @@ unfolding ask
 if_halts true f q h e = h e
 if_halts false f q h e = cc
 
-need_halts : {A : Type 0} (f : FailCause) (a : Option A) (k : A → Plan) → ((x : A) → k x ≡ Halts → ⊥)
+pub need_halts : {A : Type 0} (f : FailCause) (a : Option A) (k : A → Plan) → ((x : A) → k x ≡ Halts → ⊥)
     → need f a k ≡ Halts → ⊥
 unfolding need
 need_halts f None k h e = cc

@@ -9,8 +9,6 @@ use Rattle.std.proofs.lemmas.Int.{ints}
 use Rattle.cap_words.specs.declared.Word.TheVariants.{Int, Mem, Sealed}
 use Rattle.cap_words.specs.declared.Sealable.{Sealable}
 use Rattle.cap_words.specs.declared.Sealable.TheVariants.{Mem as MemIn, Seal as SealIn}
-use Rattle.cap_words.specs.declared.Content.{Content}
-use Rattle.cap_words.specs.declared.Content.TheVariants.{Mem as MemC, Seal as SealC}
 use Rattle.cap_words.specs.declared.CapFields.{CapFields}
 use Rattle.cap_words.specs.Linear.{is_linear, zero_word, lin_is}
 use Rattle.cap_words.specs.Face.{opened_of}
@@ -46,17 +44,14 @@ use Rattle.overlay_machine.proofs.OutLemmas.{put_back-other}
 use Rattle.overlay_machine.proofs.OwnStack.{own_from, own_is}
 use Rattle.overlay_machine.proofs.invariant.Facts.{stack_cells, safe_stk}
 use Rattle.overlay_machine.proofs.invariant.ReturnKept.{Returned}
+use Rattle.overlay_machine.proofs.Offers.{length-words_from}
 use Rattle.template_runs.specs.Public.{IsShown}
 use Rattle.template_runs.specs.Runs.{is_inside, Makes}
 use Rattle.template_runs.proofs.Valid.{Valid, valid_called, mem_public}
 use Rattle.template_runs.proofs.Steps.{At, inside_here, trusted_here}
 use Rattle.template_runs.proofs.Slots.{holds_get, holds_same}
 use Rattle.template_runs.proofs.Rows.{Here, DataIs, data_not_stack, stack_free}
-
--- what a sealed word opens to
-abbrev pub content_of : Sealable → Content
-content_of (MemIn c) = MemC c
-content_of (SealIn s) = SealC s
+use Rattle.template_runs.specs.Border.{content_of}
 
 opened_sealed : (n : ℕ) (d : Sealable)
     → opened_of (Sealed n d) ≡ Some (record { seal = n; content = content_of d })
@@ -255,17 +250,12 @@ module _ (g : Link) (linked : Linked g) where
       site_same = let e : Some r.site ≡ Some u = sym r.site_is ∙ ap (λ f. site_code g.layout f.site) is
           ∙ s.code_is in cc
 
-      length_words : (m : Cells) (a n : ℕ) → length (words_from Plain m a n) ≡ n
-      unfolding words_from
-      length_words m a zero = refl
-      length_words m a (suc n) = ap suc (length_words m (a + 1) n)
-
       slot_back : (j : ℕ) → j < length words → cell Put (top - j) ≡ cell o.maps.cells (top - j)
       slot_back j lt =
           let ft = h.fit in
           let n = w - j - 1 in
           let a : top - w + (w - j) ≡ top - j = omega (arith, lt, ft, room) in
-          let len = length_words o.maps.cells (top - w + 1) (top - (top - w)) in
+          let len = length-words_from o.maps.cells (top - w + 1) (top - (top - w)) in
           let lt1 : w - j < length
           (zero_word Plain ∷ words_from Plain o.maps.cells (top - w + 1) (top - (top - w))) =
           omega (arith, len, lt, ft, room) in
@@ -292,7 +282,7 @@ module _ (g : Link) (linked : Linked g) where
 
       data_back : DataIs g linked mem' Put
       data_back x d ix lt =
-          let len = length_words o.maps.cells (top - w + 1) (top - (top - w)) in
+          let len = length-words_from o.maps.cells (top - w + 1) (top - (top - w)) in
           let hi = h.high in
           put_back-other t.maps.cells (top - w) _ (x.component.data_base + d) (out x d ix lt)
           ∙ globs x d ix lt
@@ -309,7 +299,7 @@ module _ (g : Link) (linked : Linked g) where
                 | inr b ↦ inr (elim (cases_lt top (x.component.data_base + d)) as (λ _. top - w + length
                     (zero_word Plain ∷ words_from Plain o.maps.cells (top - w + 1) (top - (top - w)))
                     ≤ x.component.data_base + d) [
-                      | inl c ↦ (let len = length_words o.maps.cells (top - w + 1) (top - (top - w)) in
+                      | inl c ↦ (let len = length-words_from o.maps.cells (top - w + 1) (top - (top - w)) in
                           omega (arith, len, c, room))
                       | inr c ↦ absurd (let hi = h.high in
                           data_not_stack g linked x d ix lt (omega (arith, b, room)) (omega (arith, c, hi)))

@@ -9,7 +9,6 @@ use Rattle.lcm_isa.specs.declared.Reg.{Reg}
 use Rattle.lcm_isa.specs.declared.Reg.TheVariants.{Pc, Rcode, Rdata, Stk, Dat, T1, T2, C1, C2, A0, A1, A2, A3}
 use Rattle.lcm_isa.specs.declared.Reg.TheVariants.{G0, G1, G2}
 use Rattle.lcm_machine.specs.Places.{reg, set_reg}
-use Rattle.lcm_machine.specs.Table.{is_pc}
 use Rattle.flow_check.specs.Kinds.{Row, kind_of, entry_row}
 use Rattle.flow_check.specs.Walk.{RowAt}
 use Rattle.flow_check.specs.Holds.{stack_cap, Fits, HasKind}
@@ -27,6 +26,7 @@ use Rattle.overlay_machine.specs.Linked.{Linked}
 use Rattle.overlay_machine.specs.Safe.{IsSafe}
 use Rattle.overlay_machine.proofs.invariant.View.{View, at_entry, in_part, out, view}
 use Rattle.overlay_machine.proofs.invariant.EntryKept.{never_entry}
+use Rattle.overlay_machine.proofs.Offers.{pc_false}
 use Rattle.template_runs.specs.Public.{IsPublic}
 use Rattle.template_runs.specs.Runs.{Failing}
 use Rattle.template_runs.proofs.Valid.{Valid}
@@ -54,10 +54,6 @@ any_kind G0 a b = refl
 any_kind G1 a b = refl
 any_kind G2 a b = refl
 
-no_pc : (d : Reg) → d ≢ Pc → is_pc d ≡ false
-no_pc Pc a = absurd (a refl)
-no_pc _ a = refl
-
 -- at an entry all registers but pc and data are safe
 module _ (g : Link) (linked : Linked g) (p : PartSeen) (e : ℕ) (o : OState) (v : Valid g linked o)
     (at : At g linked p e o) (entry : begins_entry p.component e ≡ true) where
@@ -67,7 +63,7 @@ module _ (g : Link) (linked : Linked g) (p : PartSeen) (e : ℕ) (o : OState) (v
       → (d : Reg) → d ≢ Pc → d ≢ Dat → IsSafe g o.frames (reg o.maps.regs d)
   by_row q k en there (inl r) f d np nd =
       subst (λ x. HasKind look (IsSafe g o.frames) (IsStackCell g o.frames) (ranges_of q) x
-      (reg o.maps.regs d)) (ap (λ r. kind_of r d) r.1 ∙ any_kind d np nd) (f.each d (no_pc d np))
+      (reg o.maps.regs d)) (ap (λ r. kind_of r d) r.1 ∙ any_kind d np nd) (f.each d (pc_false d np))
   by_row q k en there (inr r) f d np nd = absurd (let bad : true ≡ false = sym en ∙ r.0 in cc)
 
   by_view : (c : Case) → c ≡ Entry (p.component.code_base + e) → View g o.frames o.maps c → (d : Reg) → d ≢ Pc

@@ -50,7 +50,7 @@ use Rattle.template_runs.proofs.Steps.{At, Code, next_pc, inside_here, trusted_h
 use Rattle.template_runs.proofs.Rows.{Here, Free, DataIs}
 use Rattle.template_runs.proofs.Frames.{push_law, pushed}
 
-none_fits : (b : Bool) (z : ℤ) → (if b then Some z else None) ≡ None → b ≡ false
+pub none_fits : (b : Bool) (z : ℤ) → (if b then Some z else None) ≡ None → b ≡ false
 none_fits true z k = cc
 none_fits false z k = refl
 

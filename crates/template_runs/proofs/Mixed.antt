@@ -38,7 +38,7 @@ use Rattle.template_runs.proofs.Valid.{Valid}
 use Rattle.template_runs.proofs.Steps.{At, Placed}
 use Rattle.template_runs.proofs.Ends.{case_is}
 
-if_bad : (l : Layout) (a b : Option Opened) → back_if false l a b ≡ Bad
+pub if_bad : (l : Layout) (a b : Option Opened) → back_if false l a b ≡ Bad
 if_bad l None b = refl
 if_bad l (Some a) None = refl
 if_bad l (Some a) (Some b) = refl

@@ -1,6 +1,6 @@
 -- What a step of untrusted code does: it stays outside, enters a procedure, returns to the newest frame, or
 -- ends.
-use Rattle.std.proofs.Common.{◌≡◌, ◌≢◌, ◌⊎◌, inl, inr, ℕ, ◌+◌, ◌≤◌, pos, ◌+ℤ◌, List, [], ◌∷◌, Option, Some}
+use Rattle.std.proofs.Common.{◌≡◌, ◌≢◌, inl, inr, ℕ, ◌+◌, ◌≤◌, pos, ◌+ℤ◌, List, [], ◌∷◌, Option, Some}
 use Rattle.std.proofs.Common.{None, Bool, true, false, refl, sym, ap, ◌∙◌, subst, arith, eqb-true}
 use Rattle.std.specs.Prelude.{find, is_some, option_map, option_and_then, ◌&&◌, ◌==◌, if◌then◌else◌}
 use Rattle.std.proofs.lemmas.Bool.{and_parts, cases_lt}
@@ -29,6 +29,7 @@ use Rattle.lcm_machine.proofs.RegLemmas.{cases_reg}
 use Rattle.lcm_machine.proofs.RowLemmas.{fetch_normal}
 use Rattle.lcm_machine.proofs.TouchLemmas.{after_went, row_others, fetched_row, used_target}
 use Rattle.lcm_machine.proofs.WordsKept.{row_keeps}
+use Rattle.lcm_machine.proofs.Offers.{is_none}
 use Rattle.flow_check.specs.Holds.{data_cap, code_at, PcAt}
 use Rattle.flow_check.specs.Places.{begins_entry}
 use Rattle.component_linker.specs.Parts.{PartSeen}
@@ -48,7 +49,7 @@ use Rattle.overlay_machine.specs.Step.{goes, case_of, case_fetched, step_by, oth
 use Rattle.overlay_machine.specs.Events.{step_event, note_by, note_return, note_jump, event_after, owner_now}
 use Rattle.overlay_machine.specs.Events.{jump_seal, entered}
 use Rattle.overlay_machine.specs.Link.{Link, IsTrusted, ranges_of, data_region}
-use Rattle.overlay_machine.specs.Safe.{IsSafeCap, IsOpenSeal}
+use Rattle.overlay_machine.specs.Safe.{IsSafe, IsSafeCap, IsOpenSeal}
 use Rattle.overlay_machine.specs.Linked.{Linked}
 use Rattle.overlay_machine.proofs.FlatLemmas.{mem_of_face}
 use Rattle.overlay_machine.proofs.OtherAgrees.{plain_both}
@@ -61,14 +62,11 @@ use Rattle.overlay_machine.proofs.invariant.Crossing.{leads_to}
 use Rattle.overlay_machine.proofs.invariant.OtherKept.{plain_is, went_other}
 use Rattle.overlay_machine.proofs.invariant.EntryKept.{never_call, never_entry}
 use Rattle.overlay_machine.proofs.invariant.ReturnKept.{Returned, returned}
+use Rattle.overlay_machine.proofs.Offers.{is_xjmp}
 use Rattle.template_runs.specs.Runs.{is_inside}
 use Rattle.template_runs.specs.Sharing as sharing
 use Rattle.template_runs.specs.Public.{IsPublic, IsShown, IsFreeAt, IsSharedAt, FramesPublic}
 use Rattle.template_runs.proofs.Valid.{Valid, valid_next, valid_same, valid_back, zero_public}
-
-none_if : {A : Type 0} (o : Option A) → is_some o ≡ false → o ≡ None
-none_if None e = refl
-none_if (Some x) e = cc
 
 true_by : {X : Type 0} (p : X → Bool) (y x : X) (rest : Option X) (b : Bool) → p y ≡ b
     → (rest ≡ Some x → p x ≡ true) → (if b then Some y else rest) ≡ Some x → p x ≡ true
@@ -78,10 +76,6 @@ true_by p y x rest false h more e = more e
 found_true : {X : Type 0} (p : X → Bool) (xs : List X) (x : X) → find p xs ≡ Some x → p x ≡ true
 found_true p [] x e = cc
 found_true p (y ∷ ys) x e = true_by p y x (find p ys) (p y) refl (found_true p ys x) e
-
-xjmp_or : (n : Instr) → ((r1 : Reg) × (r2 : Reg) × (n ≡ Xjmp r1 r2)) ⊎ ((r1 r2 : Reg) → n ≡ Xjmp r1 r2 → ⊥)
-xjmp_or (Xjmp r1 r2) = inl (r1, r2, refl)
-xjmp_or _ = inr (λ r1 r2 e. cc)
 
 -- a word that opens to a capability
 pub opened_is : (w : Word) (code : Opened) (c : CapFields) → opened_of w ≡ Some code
@@ -177,32 +171,36 @@ module _ (g : Link) (linked : Linked g) where
           absurd (linked.closure_closed c.0 c.1
           (subst (λ y. IsOpenSeal g y) (sym (c.2 ∙ eqb-true x.closure n t.1)) h))
 
+  -- where pc holds a safe word code outside runs
+  pub safe_outside : (fs : List OpenFrame) (o : OState) → IsSafe g fs o.maps.regs.pc
+      → is_inside g.layout o ≡ false
+  unfolding faces
+  safe_outside fs o h = by_look (look o.maps.regs.pc) refl
+    where
+      by_owner : (c : CapFields) (r : Option Owner) → look o.maps.regs.pc ≡ Mem c
+          → find (runs_part c) g.layout.owners ≡ r → is_some r ≡ false
+      by_owner c None e q = refl
+      by_owner c (Some x) e q =
+          let k = linked.owners c x q in
+          absurd (not_trusted g linked fs k.0 c k.1 (mem_safe g fs o.maps.regs.pc c e h)
+          (ap (λ y. y.base) k.2) (ap (λ y. y.end) k.2))
+
+      by_sealed : (n : ℕ) (c : Sealable) → is_some (trusted_owner g.layout (face_of (Sealed n c))) ≡ false
+      by_sealed n (MemIn m) = refl
+      by_sealed n (SealIn m) = refl
+
+      by_look : (x : Word) → look o.maps.regs.pc ≡ x → is_some (trusted_owner g.layout (face_of x)) ≡ false
+      by_look (Int z) e = refl
+      by_look (Mem c) e = by_owner c (find (runs_part c) g.layout.owners) e refl
+      by_look (Seal c) e = refl
+      by_look (Sealed n c) e = by_sealed n c
+
   module _ (o : OState) (h : Out o) where
     pub outside_here : is_inside g.layout o ≡ false
-    unfolding faces
-    outside_here = by_look (look o.maps.regs.pc) refl
-      where
-        by_owner : (c : CapFields) (r : Option Owner) → look o.maps.regs.pc ≡ Mem c
-            → find (runs_part c) g.layout.owners ≡ r → is_some r ≡ false
-        by_owner c None e q = refl
-        by_owner c (Some x) e q =
-            let k = linked.owners c x q in
-            absurd (not_trusted g linked o.frames k.0 c k.1
-            (mem_safe g o.frames o.maps.regs.pc c e (h.safe Pc).0) (ap (λ x. x.base) k.2)
-            (ap (λ x. x.end) k.2))
-
-        by_sealed : (n : ℕ) (c : Sealable) → is_some (trusted_owner g.layout (face_of (Sealed n c))) ≡ false
-        by_sealed n (MemIn m) = refl
-        by_sealed n (SealIn m) = refl
-
-        by_look : (x : Word) → look o.maps.regs.pc ≡ x → is_some (trusted_owner g.layout (face_of x)) ≡ false
-        by_look (Int z) e = refl
-        by_look (Mem c) e = by_owner c (find (runs_part c) g.layout.owners) e refl
-        by_look (Seal c) e = refl
-        by_look (Sealed n c) e = by_sealed n c
+    outside_here = safe_outside o.frames o (h.safe Pc).0
 
     no_owner_now : owner_now g.layout o ≡ None
-    no_owner_now = none_if (owner_now g.layout o) outside_here
+    no_owner_now = is_none (owner_now g.layout o) outside_here
 
     case_out : case_of g.layout o.maps ≡ case_fetched o.maps
         (fetch (faces look o.maps Pc) (cell_faces look o.maps))
@@ -393,7 +391,7 @@ module _ (g : Link) (linked : Linked g) where
       other c e =
           let k = went_other o.frames o.calls (step_of look Plain o.maps) q e in
           let f = fetched_row look Plain o.maps k.0 k.1 in
-          elim (xjmp_or f.0) as (λ _. Leaves o q) [
+          elim (is_xjmp f.0) as (λ _. Leaves o q) [
             | inl x ↦ crossing k.0 k.2 x.0 x.1 f.1 c (f.2 ∙ ap (λ i. some i f.1) x.2)
                 (sym (ap (λ i. row look Plain i f.1 o.maps) x.2) ∙ f.3)
             | inr never ↦ straight k.0 k.2 f.0 f.1 c f.2 f.3 never

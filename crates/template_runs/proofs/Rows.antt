@@ -1,5 +1,5 @@
 -- The rows of the table of templates, over the overlay's steps.
-use Rattle.std.proofs.Common.{◌≡◌, ◌≢◌, inl, inr, ℕ, zero, suc, ◌+◌, ◌-◌, ◌<◌, ◌≤◌, ℤ, pos, ◌+ℤ◌, ◌-ℤ◌, List}
+use Rattle.std.proofs.Common.{◌≡◌, ◌≢◌, inl, inr, ℕ, ◌+◌, ◌-◌, ◌<◌, ◌≤◌, ℤ, pos, ◌+ℤ◌, ◌-ℤ◌, List}
 use Rattle.std.proofs.Common.{[], ◌∷◌, length, Some, None, true, false, refl, sym, ap, ◌∙◌, subst, arith}
 use Rattle.std.specs.Prelude.{slice_get}
 use Rattle.std.proofs.lemmas.Int.{ints}
@@ -38,6 +38,7 @@ use Rattle.template_runs.specs.Runs.{Runs}
 use Rattle.template_runs.proofs.Valid.{Valid}
 use Rattle.template_runs.proofs.Steps.{At, Code, next_pc, go, go_set}
 use Rattle.template_runs.proofs.Slots.{Holds, with_at, length-with_at, holds_get, holds_set}
+use Rattle.component_file.proofs.Lists.{inside as there_before}
 
 module _ (g : Link) (linked : Linked g) where
   -- the words of trusted data
@@ -130,11 +131,6 @@ module _ (g : Link) (linked : Linked g) where
                   | inr l2 ↦ absurd (inside q iq l1 l2)
                 ]
           ]
-
-  there_before : (ws : List OWord) (i : ℕ) → i < length ws → (x : OWord) × (slice_get ws i ≡ Some x)
-  there_before [] i lt = absurd (omega (arith, lt))
-  there_before (x ∷ ws) zero lt = (x, refl)
-  there_before (x ∷ ws) (suc i) lt = there_before ws i (omega (arith, lt))
 
   -- a register other than pc, stk and data
   pub record Free (r : Reg) : Type 0 where

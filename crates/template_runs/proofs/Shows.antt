@@ -22,7 +22,7 @@ use Rattle.call_sequence.specs.SequenceRuns.{stack_cap}
 use Rattle.component_linker.specs.Parts.{PartSeen}
 use Rattle.trusted_border.specs.declared.layout.SiteCode.{SiteCode}
 use Rattle.overlay_machine.specs.declared.words.OWord.{OWord}
-use Rattle.overlay_machine.specs.declared.words.OWord.TheVariants.{Plain, RetCode, RetData}
+use Rattle.overlay_machine.specs.declared.words.OWord.TheVariants.{Plain}
 use Rattle.overlay_machine.specs.Words.{look}
 use Rattle.overlay_machine.specs.State.{OpenFrame, OState}
 use Rattle.overlay_machine.specs.Step.{new_frame}
@@ -39,6 +39,7 @@ use Rattle.template_runs.proofs.Valid.{Valid}
 use Rattle.lcm_machine.specs.Cells.{cell}
 use Rattle.overlay_machine.specs.Safe.{IsSafe}
 use Rattle.overlay_machine.proofs.invariant.Facts.{mem_safe, stack_cells}
+use Rattle.overlay_machine.proofs.Offers.{mem_plain}
 
 abbrev seal_in : Content → Sealable
 seal_in (MemC c) = MemIn c
@@ -58,11 +59,6 @@ opened_word (Sealed n (MemIn c)) h e =
 opened_word (Sealed n (SealIn c)) h e =
     let k : record { seal = n; content = SealC c } ≡ h = cc in
     ap (λ (x : WordOpened). Sealed x.seal (seal_in x.content)) k
-
-mem_is : (w : OWord) (c : CapFields) → look w ≡ Mem c → w ≡ Plain (Mem c)
-mem_is (Plain x) c e = ap Plain e
-mem_is (RetCode i) c e = absurd cc
-mem_is (RetData k) c e = absurd cc
 
 plain_is : (w : OWord) (x : Word) → w ≡ Plain x → look w ≡ x
 plain_is w x e = ap look e
@@ -111,7 +107,7 @@ module _ (g : Link) (linked : Linked g) where
       dat = r.dat ∙ ap (λ c. Plain (unsealed c)) (sym (content_back r.half.content));
       rcode = k.rcode ∙ code_is;
       rdata = k.rdata ∙ ap (left_of look Plain) half_is;
-      stk = k.stk ∙ mem_is o.maps.regs.stk _ stk
+      stk = k.stk ∙ mem_plain o.maps.regs.stk _ stk
           ∙ ap (λ b. Plain (Mem (record (stack_cap b top top) { base = b }))) (linked.stack_bases p ip);
       t1 = zero_in T1 (λ e. cc) (λ e. cc) (λ e. cc) (λ e. cc) (λ e. cc) (λ e. cc);
       t2 = zero_in T2 (λ e. cc) (λ e. cc) (λ e. cc) (λ e. cc) (λ e. cc) (λ e. cc);

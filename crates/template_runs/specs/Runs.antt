@@ -1,17 +1,14 @@
 -- Steps of trusted code, and what is wanted of the runs that they are the first of.
-use Rattle.std.specs.Prelude.{◌≡◌, ℕ, ◌+◌, ◌≤◌, ℤ, Bool, true, Option, None}
+use Rattle.std.specs.Prelude.{◌≡◌, ℕ, ◌+◌, ◌≤◌, ℤ, true, Option, None}
 use Rattle.cap_words.specs.declared.Word.TheVariants.{Int}
-use Rattle.lcm_isa.specs.declared.Reg.TheVariants.{Pc, A0}
-use Rattle.lcm_machine.specs.Row.{faces}
+use Rattle.lcm_isa.specs.declared.Reg.TheVariants.{A0}
 use Rattle.trusted_border.specs.declared.layout.Layout.{Layout}
 use Rattle.trusted_border.specs.declared.events.Event.{Event}
 use Rattle.lcm_machine.specs.Cells.{set_cell}
 use Rattle.overlay_machine.specs.declared.words.OWord.{OWord}
-use Rattle.overlay_machine.specs.Words.{look}
 use Rattle.overlay_machine.specs.State.{OState}
 use Rattle.overlay_machine.specs.Step.{goes, halts, fails, overlay_step, weight_of}
 use Rattle.overlay_machine.specs.Events.{step_event}
-use Rattle.trace_tool.specs.Layout.{is_trusted}
 use Rattle.trace_tool.specs.Views.{flat_view}
 pub use Rattle.trace_tool.specs.Cuts.{is_inside}
 

@@ -16,6 +16,13 @@ use Rattle.text_scan.specs.Grammar.{IsSpelled}
 
 -- ---- places
 
+-- tokens end behind where they begin
+pub placed_ends : (low high : ℕ) (tokens : List Token) → Placed low high tokens → low ≤ high
+placed_ends low high [] placed = placed
+placed_ends low high (t ∷ tokens) placed =
+    let behind : t.at + t.len ≤ high = placed_ends (t.at + t.len) high tokens placed.1 in
+    omega (arith, placed.0)
+
 lower : (low other high : ℕ) (ts : List Token) → low ≤ other → Placed other high ts → Placed low high ts
 lower low other high [] le h = omega (arith, h)
 lower low other high (t ∷ ts) le h = (omega (arith, h.0), h.1)

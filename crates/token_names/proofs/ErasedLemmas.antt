@@ -56,7 +56,7 @@ and_rest : (b x y : Bool) → (x ≡ true → y ≡ true) → (b && x) ≡ true 
 and_rest true x y more h = more h
 and_rest false x y more h = h
 
-never : {A : Type 0} → false ≡ true → A
+pub never : {A : Type 0} → false ≡ true → A
 never h = absurd (cc)
 
 fits_plain : (args : Args) (params : List TokenParam) → fit args params ≡ true

@@ -1,9 +1,9 @@
 -- No site ends between the last word of one and that of the next.
 use Rattle.std.proofs.Common.{◌≡◌, ℕ, zero, suc, ◌+◌, ◌-◌, ◌^◌, ◌<◌, ◌≤◌, Bool, true, false, ◌&&◌, List}
-use Rattle.std.proofs.Common.{length, get_or, leb, refl, sym, ap, ◌∙◌, arith, inl, inr, lt-ltb}
+use Rattle.std.proofs.Common.{length, get_or, leb, refl, ap, arith, inl, inr, lt-ltb}
 use Rattle.std.specs.Prelude.{nat_le, nat_lt, if◌then◌else◌}
 use Rattle.std.specs.List.Sorted.{IsPartitionedBy, IsPartitionPoint}
-use Rattle.std.proofs.lemmas.Bool.{cases_lt, leb-true, ltb-true, le-leb}
+use Rattle.std.proofs.lemmas.Bool.{cases_lt, leb-true, ltb-true, leb-false}
 use Rattle.std.proofs.lemmas.List.{get_or_default}
 use Rattle.std.proofs.lemmas.List.Sorted.{IsPartitionedBy-leb}
 use Rattle.component_linker.specs.declared.owners.Site.{Site}
@@ -65,11 +65,6 @@ ends_parted sites a h =
     IsPartitionedBy-leb last_word sites a
     (λ i j d le lt. let up = up_to sites i j d h le lt in omega (arith, up))
 
-above_is : (b a : ℕ) → leb b a ≡ false → a < b
-above_is b a h =
-    elim (cases_lt a b) as (λ _. a < b)
-    [ inl lt ↦ lt | inr ge ↦ (let e = le-leb b a ge in let bad : true ≡ false = sym e ∙ h in cc) ]
-
 abbrev IsPoint : List Site → ℕ → ℕ → Type 0
 IsPoint sites a place =
     IsPartitionPoint (λ (s : Site). leb (last_word s) a ≡ true) (λ (s : Site). leb (last_word s) a ≡ false)
@@ -88,7 +83,7 @@ to_high sites a place p small = by_test (nat_lt place (length sites)) refl
     by_test : (b : Bool) → nat_lt place (length sites) ≡ b
         → a < (if b then last_word (get_or sites place no_site) else 2 ^ 64 - 1)
     by_test true e =
-        above_is (last_word (get_or sites place no_site))
+        leb-false (last_word (get_or sites place no_site))
         a (p.1 place no_site (omega arith) (ltb-true place (length sites) e))
     by_test false e = omega (arith, small)
 

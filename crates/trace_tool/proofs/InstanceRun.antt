@@ -99,10 +99,10 @@ at70 = refl
 
 -- ---- the states
 
-abbrev zero_ : OWord
+abbrev pub zero_ : OWord
 zero_ = Plain (Int (pos 0))
 
-abbrev regs_with : (pc rcode rdata stk dat c1 c2 : OWord) → Regs OWord
+abbrev pub regs_with : (pc rcode rdata stk dat c1 c2 : OWord) → Regs OWord
 regs_with pc rcode rdata stk dat c1 c2 = record {
   pc = pc;
   rcode = rcode;
@@ -308,7 +308,7 @@ weight4 : weight_of L o4 ≡ 16
 unfolding weight_of
 weight4 = ap (weight_by o4.maps) case4
 
-abbrev zeros : Args
+abbrev pub zeros : Args
 zeros = record { a0 = Int (pos 0); a1 = Int (pos 0); a2 = Int (pos 0); a3 = Int (pos 0) }
 
 abbrev pub call_line : Line

@@ -22,7 +22,7 @@ pub mod privacy
 pub mod secrecy
 mod OwnPairs
 mod OwnEntries
-mod StepTold
+pub mod StepTold
 mod CutPoints
 mod FeedJoins
-mod InstanceRun
+pub mod InstanceRun

@@ -93,8 +93,8 @@ map_same f h [] k = refl
 map_same f h (x ∷ xs) k =
     ap (λ y. y ∷ map f xs) (k 0 x refl) ∙ ap (λ ys. h x ∷ ys) (map_same f h xs (λ j y e. k (suc j) y e))
 
-map_get : {A B : Type 0} (f : A → B) (xs : List A) (j : ℕ) (y : B) → slice_get (map f xs) j ≡ Some y → (x : A)
-    × (slice_get xs j ≡ Some x) × (f x ≡ y)
+pub map_get : {A B : Type 0} (f : A → B) (xs : List A) (j : ℕ) (y : B) → slice_get (map f xs) j ≡ Some y
+    → (x : A) × (slice_get xs j ≡ Some x) × (f x ≡ y)
 map_get f [] j y e = cc
 map_get f (x ∷ xs) zero y e = (x, refl, (let q : f x ≡ y = cc in q))
 map_get f (x ∷ xs) (suc j) y e = map_get f xs j y e

@@ -12,7 +12,8 @@ use Rattle.trusted_border.specs.declared.layout.Layout.{Layout}
 use Rattle.overlay_machine.specs.declared.words.OWord.{OWord}
 use Rattle.overlay_machine.specs.State.{OpenFrame, Cells, framed, frame_of, word_of}
 use Rattle.overlay_machine.specs.Invariant.{FrameLies, FramesLie}
-use Rattle.overlay_machine.proofs.FrameWords.{word_of-below, word_of-within, some_at}
+use Rattle.overlay_machine.proofs.FrameWords.{word_of-below, word_of-within}
+use Rattle.component_file.proofs.Lists.{inside}
 
 pub contains_first : {A : Type 0} (x : A) (xs : List A) → Contains (x ∷ xs) x
 contains_first x xs = (0, omega arith, refl)
@@ -71,7 +72,7 @@ pub has_word : (l : Layout) (m : Cells) (f : OpenFrame) (a : ℕ) → FrameLies 
 has_word l m f a s low high =
     let long = s.words in
     let lt : a - f.base < length f.words = omega (arith, long, low, high) in
-    let k = some_at f.words (a - f.base) lt in
+    let k = inside f.words (a - f.base) lt in
     (k.0, word_of-within f a low ∙ k.1)
 
 pub word_in_frame : (l : Layout) (m : Cells) (f : OpenFrame) (a : ℕ) (w : OWord) → FrameLies l m f
@@ -137,7 +138,7 @@ below_all l cs n f (x ∷ gs) h k (suc i, lt, e) =
     let a = below_all l cs f.call x gs h k.3 (i, omega (arith, lt), e) in
     let b = k.2 in let s = (k.3.0).order in omega (arith, a, b, s)
 
--- outside the stack some_at are no frames
+-- outside the stack there are no frames
 pub unframed : (l : Layout) (m : Cells) (n : ℕ) (fs : List OpenFrame) (a : ℕ) → FramesLie l m n fs
     → (l.stack.base ≤ a → a ≤ l.stack.end → ⊥) → framed fs a ≡ None
 unframed l m n fs a h never = by_word (framed fs a) refl

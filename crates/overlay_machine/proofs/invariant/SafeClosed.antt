@@ -2,13 +2,12 @@
 use Rattle.std.proofs.Common.{◌≡◌, inl, inr, ℕ, ◌+◌, ◌<◌, ◌≤◌, ℤ, true, List, refl, ap, arith, le-leb}
 use Rattle.std.proofs.Common.{lt-ltb}
 use Rattle.std.specs.Prelude.{None, ◌==◌, IsTrue}
-use Rattle.std.proofs.lemmas.Bool.{and_parts, cases_lt, or_right}
-use Rattle.lcm_machine.proofs.Offers.{in_seals, split_bounds}
+use Rattle.std.proofs.lemmas.Bool.{cases_lt, or_right}
+use Rattle.lcm_machine.proofs.Offers.{in_seals, split_bounds, below_runs}
 use Rattle.cap_words.specs.declared.CapFields.{CapFields}
 use Rattle.cap_words.specs.declared.SealFields.{SealFields}
 use Rattle.cap_words.specs.declared.Perm.{Perm}
-use Rattle.cap_words.specs.declared.Perm.TheVariants.{No, R as ReadOnly, Rw, Rx, Rwx}
-use Rattle.cap_words.specs.Faces.{may_run, may_write, is_below, can_split, seals_at, address}
+use Rattle.cap_words.specs.Faces.{is_below, can_split, seals_at, address}
 use Rattle.lcm_machine.specs.Closed.{Closed}
 use Rattle.component_linker.specs.Parts.{PartSeen}
 use Rattle.component_linker.specs.SealsApart.{is_seal_of}
@@ -20,19 +19,23 @@ use Rattle.overlay_machine.specs.Linked.{Linked}
 use Rattle.overlay_machine.specs.Safe.{IsSafeCap, AreSafeSeals, IsOpenSeal, IsSafe}
 use Rattle.overlay_machine.proofs.invariant.Facts.{mem_safe, seals_safe}
 
-below_runs : (p q : Perm) → is_below p q ≡ true → may_run p ≡ true → may_run q ≡ true
-below_runs No q h e = cc
-below_runs ReadOnly q h e = cc
-below_runs Rw q h e = cc
-below_runs Rx q h e = h
-below_runs Rwx q h e = (and_parts (may_write q) (may_run q) h).1
-
 -- a seal of a part's stretch is one of the part
 own_seal : (p : PartSeen) (n : ℕ) → p.component.seals.base ≤ n
     → n < p.component.seals.base + p.component.seals.count → IsTrue (is_seal_of p n)
 own_seal p n low high =
     rw (le-leb p.component.seals.base n low, lt-ltb n (p.component.seals.base + p.component.seals.count) high)
     (or_right (p.component.closure == n) true refl)
+
+-- what a capability for seals leads to is an open seal, where it is safe
+pub open_seal : (g : Link) (q : SealFields) → seals_at q q.cur ≡ true → AreSafeSeals g q
+    → IsOpenSeal g (address q.cur)
+open_seal g q b h =
+    let k = in_seals q q.cur b in
+    let x = k.0 in
+    let y = k.1 in
+    let l = h.low in
+    let u = h.high in
+    (h.of, h.untrusted, own_seal h.of (address q.cur) (omega (arith, l, x)) (omega (arith, u, y)))
 
 module _ (g : Link) (linked : Linked g) (fs : List OpenFrame) where
   less : (c : CapFields) (p : Perm) → is_below p c.perm ≡ true → IsSafeCap g fs c
@@ -147,15 +150,6 @@ module _ (g : Link) (linked : Linked g) (fs : List OpenFrame) where
   turn : (c : SealFields) (z : ℤ) → AreSafeSeals g c → AreSafeSeals g (record c { cur = z })
   turn c z h = record { of = h.of; untrusted = h.untrusted; low = h.low; order = h.order; high = h.high }
 
-  open_seal : (q : SealFields) → seals_at q q.cur ≡ true → AreSafeSeals g q → IsOpenSeal g (address q.cur)
-  open_seal q b h =
-      let k = in_seals q q.cur b in
-      let x = k.0 in
-      let y = k.1 in
-      let l = h.low in
-      let u = h.high in
-      (h.of, h.untrusted, own_seal h.of (address q.cur) (omega (arith, l, x)) (omega (arith, u, y)))
-
   pub safe_closed : Closed look Plain (IsSafe g fs)
   safe_closed = record {
     ints = λ z. tt;
@@ -166,7 +160,7 @@ module _ (g : Link) (linked : Linked g) (fs : List OpenFrame) where
     cut_high = λ w c z e b h. high_part c z b (mem_safe g fs w c e h);
     joined = λ u v a b eu ev s j hu hv. join a b j (mem_safe g fs u a eu hu) (mem_safe g fs v b ev hv);
     sealed_memory =
-        λ u v c q eu ev b hu hv. inl (open_seal q b (seals_safe g fs v q ev hv), mem_safe g fs u c eu hu);
+        λ u v c q eu ev b hu hv. inl (open_seal g q b (seals_safe g fs v q ev hv), mem_safe g fs u c eu hu);
     sealed_seals =
-        λ u v c q eu ev b hu hv. inl (open_seal q b (seals_safe g fs v q ev hv), seals_safe g fs u c eu hu);
+        λ u v c q eu ev b hu hv. inl (open_seal g q b (seals_safe g fs v q ev hv), seals_safe g fs u c eu hu);
   }

@@ -55,7 +55,7 @@ abbrev id : Word → Word
 id w = w
 
 -- a step that doesn't touch an address
-untouched_one : (a : ℕ) (t : State Word) → (Touches id t a → ⊥) → Untouched id id a 1 t
+pub untouched_one : (a : ℕ) (t : State Word) → (Touches id t a → ⊥) → Untouched id id a 1 t
 untouched_one a t h = (h, after_each (Untouched id id a 0) (step_of id id t) (λ v e. tt))
 
 -- the first cell of the newest frame has its first word

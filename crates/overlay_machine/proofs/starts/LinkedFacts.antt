@@ -4,6 +4,7 @@ use Rattle.std.proofs.Common.{sym, ap, subst, ◌∙◌, arith, eq-eqb}
 use Rattle.std.specs.Prelude.{slice_get, is_some, IsTrue}
 use Rattle.std.specs.List.{Contains}
 use Rattle.std.proofs.lemmas.List.Elements.{Contains-append_left, Contains-append_right}
+use Rattle.std.proofs.lemmas.Bool.{both_ways}
 use Rattle.component_file.specs.declared.component.Export.{Export}
 use Rattle.lcm_machine.specs.declared.cells.Span.{Span}
 use Rattle.lcm_machine.specs.Regions.{Region}
@@ -41,9 +42,6 @@ use Rattle.overlay_machine.proofs.starts.LayoutFacts.{one_place, no_site_at}
 -- a closure seal is a seal of its part
 pub own_closure : (p : PartSeen) → IsTrue (is_seal_of p p.component.closure)
 own_closure p = let t = eq-eqb p.component.closure p.component.closure refl in rw t refl
-
-no_bool : (b : Bool) → b ≡ false → b ≡ true → ⊥
-no_bool b f t = let e : false ≡ true = sym f ∙ t in cc
 
 -- ---- regions
 
@@ -130,7 +128,7 @@ module _ (site_words : SitesStand) (entry_words : EntriesStand) (parts : List Pa
       → Contains (part_regions q) r → Contains (part_regions p) s → r ≢ s
   no_trusted q p r s u t n m e =
       let part = one_region q p r s u.0 t.0 n m e in
-      no_bool q.trusted u.1 (ap (λ (x : PartSeen). x.trusted) part ∙ t.1)
+      both_ways q.trusted u.1 (ap (λ (x : PartSeen). x.trusted) part ∙ t.1)
 
   closed : (s : Region) (p : PartSeen) → IsTrusted g p → Contains (part_regions p) s
       → (r : Region) (runs : Bool) → IsUsable g r runs → r ≢ s
@@ -161,7 +159,7 @@ module _ (site_words : SitesStand) (entry_words : EntriesStand) (parts : List Pa
   closed_closure : (p : PartSeen) → IsTrusted g p → IsOpenSeal g p.component.closure → ⊥
   closed_closure p t (q, u, has) =
       let part : q ≡ p = one_of_seal q p p.component.closure u.0 t.0 has (own_closure p) in
-      no_bool q.trusted u.1 (ap (λ (x : PartSeen). x.trusted) part ∙ t.1)
+      both_ways q.trusted u.1 (ap (λ (x : PartSeen). x.trusted) part ∙ t.1)
 
   -- the site of a number is one of the start's
   start_site : (j : ℕ) (c : SiteCode) (n : NumberedSite parts l j c) → Contains s.sites n.site
@@ -178,7 +176,7 @@ module _ (site_words : SitesStand) (entry_words : EntriesStand) (parts : List Pa
       let n = numbered j c e in
       let k = index_of parts q u.0 in
       let none = link.sites_apart.no_untrusted n.site (start_site j c n) k.0 q k.1 u.1 in
-      no_bool (is_seal_of q n.site.seal) none (subst (λ x. IsTrue (is_seal_of q x)) (seal_of j c n) has)
+      both_ways (is_seal_of q n.site.seal) none (subst (λ x. IsTrue (is_seal_of q x)) (seal_of j c n) has)
 
   other_return : (j : ℕ) (c : SiteCode) (p : PartSeen) → site_code l j ≡ Some c → IsTrusted g p
       → p.component.closure ≢ c.seal

@@ -4,13 +4,12 @@ use Rattle.std.proofs.Common.{[], ◌∷◌, length, Option, Some, None, refl, s
 use Rattle.std.proofs.Common.{le-leb, lt-ltb, eq-eqb, get_or}
 use Rattle.std.specs.Prelude.{if◌then◌else◌, ◌==◌, ◌^◌, ◌&&◌, nat_le, nat_lt, slice_get, is_some, find}
 use Rattle.std.specs.Prelude.{position}
-use Rattle.std.specs.Prelude.{option_and_then, IsTrue}
+use Rattle.std.specs.Prelude.{option_and_then}
 use Rattle.std.specs.List.{position_or_len}
 use Rattle.std.proofs.lemmas.Bool.{cases_lt, eqb-true, ltb-true, and_parts}
-use Rattle.std.proofs.lemmas.Bool.Decides.{nat_tests}
 use Rattle.std.proofs.lemmas.List.Sums.{fails_before_first}
 use Rattle.std.proofs.lemmas.Grind.{common_steps}
-use Rattle.std.proofs.lemmas.Option.{get_or_from_slice_get, slice_get_within}
+use Rattle.std.proofs.lemmas.Option.{get_or_from_slice_get, slice_get_within, same_Some}
 use Rattle.cap_words.specs.declared.Word.{Word}
 use Rattle.cap_words.specs.declared.Opened.{Opened}
 use Rattle.cap_words.specs.Face.{opened_of}
@@ -31,9 +30,6 @@ use Rattle.overlay_machine.proofs.Offers.{found_is, position_is, site_of}
 use Rattle.trace_tool.specs.Layout.{site_before, is_trusted}
 
 -- ---- lists
-
-lt_true : (a b : ℕ) → IsTrue (nat_lt a b) → a < b
-lt_true a b h = grind (arith, nat_tests)
 
 numbered_is : (o : Option ℕ) (j : ℕ) → option_and_then numbered o ≡ Some j → (o ≡ Some j) × (j < 2 ^ 32)
 numbered_is None j e = cc
@@ -67,13 +63,10 @@ number_at p xs i x e h small =
     let le = f.2 in
     (f.0, ap (option_and_then numbered) f.1 ∙ rw (lt-ltb f.0 (2 ^ 32) (omega (arith, le, small))) refl)
 
-some_nat : (a b : ℕ) → Some a ≡ Some b → a ≡ b
-some_nat a b e = cc
-
 above : (b : ℕ) (xs : List ℕ) → Chain SiteFits (Some b) xs → (j x : ℕ) → slice_get xs j ≡ Some x → b < x
 above b [] h j x e = absurd cc
-above b (y ∷ ys) h zero x e = let k = some_nat y x e in let lt = lt_true b y h.0.1 in omega (arith, k, lt)
-above b (y ∷ ys) h (suc j) x e = let lt = lt_true b y h.0.1 in let up =
+above b (y ∷ ys) h zero x e = let k = same_Some y x e in let lt = ltb-true b y h.0.1 in omega (arith, k, lt)
+above b (y ∷ ys) h (suc j) x e = let lt = ltb-true b y h.0.1 in let up =
     above y ys h.1 j x e in omega (arith, lt, up)
 
 -- sites ascend, so no two have one offset
@@ -82,9 +75,9 @@ distinct : (b : Option ℕ) (xs : List ℕ) → Chain SiteFits b xs → (i j o :
 distinct b [] h i j o ei ej = absurd cc
 distinct b (x ∷ xs) h zero zero o ei ej = refl
 distinct b (x ∷ xs) h zero (suc j) o ei ej =
-    absurd (let up = above x xs h.1 j o ej in let k = some_nat x o ei in omega (arith, up, k))
+    absurd (let up = above x xs h.1 j o ej in let k = same_Some x o ei in omega (arith, up, k))
 distinct b (x ∷ xs) h (suc i) zero o ei ej =
-    absurd (let up = above x xs h.1 i o ei in let k = some_nat x o ej in omega (arith, up, k))
+    absurd (let up = above x xs h.1 i o ei in let k = same_Some x o ej in omega (arith, up, k))
 distinct b (x ∷ xs) h (suc i) (suc j) o ei ej = let e =
     distinct (Some x) xs h.1 i j o ei ej in omega (arith, e)
 

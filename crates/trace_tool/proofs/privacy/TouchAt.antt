@@ -21,6 +21,7 @@ use Rattle.call_sequence.specs.SequenceRuns.{Outside}
 use Rattle.trace_tool.proofs.alike.Calm.{id}
 use Rattle.trace_tool.proofs.alike.Straight.{is_straight, is_store, Num, straight_goes}
 use Rattle.trace_tool.proofs.alike.Laying.{shown_at, target_code, stands_kept}
+use Rattle.overlay_machine.proofs.Offers.{untouched_one}
 
 -- what has failed hasn't gone on
 pub not_failed : (n m : ℕ) (s v : State Word) → HasFailed (run_of id id n s) → run_of id id (n + m) s ≡ went v
@@ -53,9 +54,6 @@ untouched_at a (suc n) (suc i) s v h e lt x =
     let k = first_step i s v e in
     untouched_at a n i k.0 v (after_went (Untouched id id a n) (step_of id id s) k.0 h.1 k.1)
     k.2 (omega (arith, lt)) x
-
-pub untouched_one : (a : ℕ) (t : State Word) → (Touches id t a → ⊥) → Untouched id id a 1 t
-untouched_one a t h = (h, after_each (Untouched id id a 0) (step_of id id t) (λ v e. tt))
 
 -- ---- code that lies apart from an address
 

@@ -35,6 +35,7 @@ use Rattle.trace_tool.proofs.alike.Alike.{site_free}
 use Rattle.trace_tool.proofs.alike.CallLine.{whole_calm}
 use Rattle.trace_tool.proofs.privacy.UseInstance.{there, told}
 use Rattle.trace_tool.specs.Secrecy.{SecretThere}
+use Rattle.trace_tool.proofs.privacy.TouchAt.{first_step, run_none}
 
 -- ---- runs that go
 
@@ -52,30 +53,15 @@ front i n s u le e =
     by_outcome halted m k = cc
     by_outcome (failed c at) m k = cc
 
-one_step : (n : ℕ) (s u : State Word) → run_of id id (suc n) s ≡ went u
-    → (v : State Word) × (step_of id id s ≡ went v) × (run_of id id n v ≡ went u)
-unfolding run_of
-one_step n s u e = by_outcome (step_of id id s) refl e
-  where
-    by_outcome : (r : Outcome Word) → step_of id id s ≡ r → and_then r (run_of id id n) ≡ went u
-        → (v : State Word) × (step_of id id s ≡ went v) × (run_of id id n v ≡ went u)
-    by_outcome (went v) m k = (v, m, k)
-    by_outcome halted m k = cc
-    by_outcome (failed c at) m k = cc
-
-run_zero : (s u : State Word) → run_of id id 0 s ≡ went u → s ≡ u
-unfolding run_of
-run_zero s u e = cc
-
 -- each of n calm instructions that go is quiet
 calm_at : (l : Layout) (i n : ℕ) (s v u : State Word) → Calm l n s → i < n → run_of id id i s ≡ went v
     → step_of id id v ≡ went u → IsQuiet l v
 calm_at l i zero s v u h lt e f = absurd (omega (arith, lt))
 calm_at l zero (suc n) s v u h lt e f =
-    let same : s ≡ v = run_zero s v e in
+    let same : s ≡ v = run_none s v e in
     subst (λ x. IsQuiet l x) same (h u (subst (λ x. step_of id id x ≡ went u) (sym same) f)).0
 calm_at l (suc i) (suc n) s v u h lt e f =
-    let k = one_step i s v e in calm_at l i n k.0 v u (h k.0 k.1).1 (omega (arith, lt)) k.2 f
+    let k = first_step i s v e in calm_at l i n k.0 v u (h k.0 k.1).1 (omega (arith, lt)) k.2 f
 
 jumps_not : (o : Option Reg) (r : Reg) → o ≡ None → o ≡ Some r → ⊥
 jumps_not o r e h = let bad : None ≡ Some r = sym e ∙ h in cc
@@ -124,7 +110,7 @@ module _ (h : HoldsFor pair 4 (overlay_at start) start.state.maps) (alone : Halt
       subst (λ n. run_of id id n start.state.maps ≡ went mid.0) z
       (run_then id id 23 (b - 23) start.state.maps behind.0 _ behind.1 mid.1) in
       let left : 15 - (b - 23) ≡ suc (37 - b) = omega (arith, low, high) in
-      let next = one_step (37 - b) mid.0 upto.0 (subst (λ n. run_of id id n mid.0 ≡ went upto.0) left mid.2)
+      let next = first_step (37 - b) mid.0 upto.0 (subst (λ n. run_of id id n mid.0 ≡ went upto.0) left mid.2)
       in
       rw (after_is b mid.0 here) (calm_at L (b - 23) 15 behind.0 mid.0 next.0 calm (omega (arith, low, high))
       mid.1 next.1).0

@@ -1,9 +1,10 @@
 use Rattle.std.proofs.Common.{arith, rules, sym, ap, ◌∙◌, ◌≡◌, ◌<◌, ◌∷◌, [], ◌++◌, length}
 use Rattle.std.proofs.Common.{length-append, inr}
 use Rattle.std.proofs.lemmas.List.Elements.{All-nil, All-push}
+use Rattle.std.proofs.lemmas.List.{nil_from_length}
 use Rattle.debug_script.specs.Commands.{Fits}
 use Rattle.debug_script.proofs.CommandLemmas.{command_is}
-use Rattle.debug_script.proofs.ScriptLemmas.{command_fits, begins, bad_line, good_line, no_bytes, ends}
+use Rattle.debug_script.proofs.ScriptLemmas.{command_fits, begins, bad_line, good_line, ends}
 use Rattle.debug_script.proofs.ScriptLemmas.{bad_end}
 use Rattle.debug_script.proofs.script.script_of.Goals as goal
 
@@ -45,7 +46,7 @@ pub returns-then-is_empty-clause-read : goal.returns-then-is_empty-clause-read
 returns-then-is_empty-clause-read c =
     sym c.loop-line.invariant.so_far
     ∙ ends c.loop-line.commands.items c.loop-line.number c.loop-line.rest.now c.in_default.ensures.exact
-    (no_bytes c.loop-line.rest.now (search rules))
+    (nil_from_length c.loop-line.rest.now (search rules))
 
 pub returns-else-is_empty-clause-fails : goal.returns-else-is_empty-clause-fails
 returns-else-is_empty-clause-fails c =

@@ -1,9 +1,9 @@
 use Rattle.std.proofs.Common.{◌+◌, ◌-◌, ◌*◌, ap, ◌∙◌, arith}
+use Rattle.std.proofs.lemmas.Result.{on_ok_weaker}
 use Rattle.proc_program.specs.StepView.{block_of}
 use Rattle.proc_templates.specs.Items.{Spot}
 use Rattle.proc_templates.specs.Templates.{proc_code}
 use Rattle.proc_compiler.specs.Drafts.{with_items}
-use Rattle.proc_compiler.proofs.Written.{on_ok}
 use Rattle.proc_compiler.proofs.Modules.{frame_words, epilogue_at, proc_written, spot_kept}
 use Rattle.proc_compiler.proofs.module.proc_in.Goals as goal
 
@@ -22,7 +22,7 @@ returns-clause-laid c =
     let n = c.size_of_proc.ensures in
     let w = frame_words m p f e in
     let before = epilogue_at m p f.words w in
-    on_ok c.proc_at.result
+    on_ok_weaker c.proc_at.result
     (λ h. proc_written m p f s d c.proc_at.new.draft e c.requires.base (omega (arith, at, n, w, before))
     (h ∙ ap (with_items (proc_code f p.callbacks (block_of p.body))) c.begin.ensures))
     c.proc_at.ensures.written
@@ -37,7 +37,7 @@ returns-clause-base c =
       stack_base = d.spot.stack_base;
       epilogue = c.at.result + c.size_of_proc.result - (2 * f.words + 13);
     } in
-    on_ok c.proc_at.result
+    on_ok_weaker c.proc_at.result
     (λ h. spot_kept m p f s d c.proc_at.new.draft c.requires.base
     (h ∙ ap (with_items (proc_code f p.callbacks (block_of p.body))) c.begin.ensures))
     c.proc_at.ensures.written

@@ -1,6 +1,7 @@
 use Rattle.std.proofs.Common.{◌≡◌, ◌+◌, ◌-◌, [], ◌∷◌, ◌++◌, pos, length, drop, ap, sym, subst, ◌∙◌}
 use Rattle.std.proofs.Common.{arith}
 use Rattle.std.proofs.lemmas.List.{drop_all}
+use Rattle.std.proofs.lemmas.Result.{on_ok_weaker}
 use Rattle.call_sequence.specs.Sequences.{distance}
 use Rattle.proc_program.specs.Program.{step_size, block_size}
 use Rattle.proc_program.specs.StepView.{block_of}
@@ -9,10 +10,11 @@ use Rattle.proc_templates.specs.Items.{Item, goes, label}
 use Rattle.proc_templates.specs.Templates.{exp_words, step_words, block_words, code, block_code}
 use Rattle.proc_templates.specs.Bounds.{BlockBound}
 use Rattle.proc_compiler.specs.Drafts.{with_items}
-use Rattle.proc_compiler.proofs.Written.{items_nil, on_ok, then}
+use Rattle.proc_compiler.proofs.Written.{items_nil, then}
 use Rattle.proc_compiler.proofs.Branches.{led, branch_written, repeat_written}
-use Rattle.proc_compiler.proofs.Loops.{drop_item, block_told}
+use Rattle.proc_compiler.proofs.Loops.{block_told}
 use Rattle.proc_compiler.proofs.stmts.+step.Goals as goal
+use Rattle.proc_language.proofs.ListLemmas.{drop_item}
 
 pub block-loop-s-preserved : goal.block-loop-s-preserved
 block-loop-s-preserved t c =
@@ -84,7 +86,7 @@ branch-returns-clause-written t c =
     c.block-2.new.draft c.lead-2.new.self (sym again) beyond c.in_ok-jump-2.ensures.written
     (then (label ∷ []) ds c.jump-2.new.self c.label-2.new.self c.block-2.new.draft
     c.in_ok-label-2.ensures.written c.in_ok-block-2.ensures.written) c.lead-2.ensures.aimed in
-    on_ok c.label-3.result
+    on_ok_weaker c.label-3.result
     (λ h. branch_written cs bs ds m n c.args.draft.now c.expr.new.draft c.jump_if.new.self c.lead.new.self
     c.lead-2.new.self c.label-3.new.self c.in_ok-expr.ensures.written c.in_ok-jump_if.ensures.written
     first second h)
@@ -120,7 +122,7 @@ repeat-returns-clause-written t c =
     c.in_ok-label-2.ensures.written
     (then bs (back ∷ []) c.label-2.new.self c.block.new.draft c.jump_back.new.self
     c.in_ok-block.ensures.written jumped)) c.lead.ensures.aimed in
-    on_ok c.label-3.result
+    on_ok_weaker c.label-3.result
     (λ h. repeat_written cs bs k m c.args.draft.now c.label.new.self c.expr.new.draft c.jump_if.new.self
     c.lead.new.self c.label-3.new.self c.in_ok-label.ensures.written c.in_ok-expr.ensures.written
     c.in_ok-jump_if.ensures.written body h)

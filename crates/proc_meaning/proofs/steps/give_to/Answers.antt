@@ -1,5 +1,6 @@
 use Rattle.std.proofs.Common.{rules, ◌≡◌, [], ◌∷◌, ◌++◌, sym, ap, ap₂, ◌∙◌, reverse, w64}
 use Rattle.std.proofs.Common.{to_z, of_z}
+use Rattle.std.proofs.lemmas.Result.{IfOk-weaker}
 use Rattle.proc_program.specs.View.{args_of}
 use Rattle.proc_program.specs.StepView.{block_of}
 use Rattle.proc_semantics.specs.declared.value.Value.TheVariants.{Num}
@@ -9,7 +10,7 @@ use Rattle.proc_semantics.specs.Values.{set_word, word_at}
 use Rattle.proc_semantics.specs.Meaning.{assigned, element_at, result_of, with_place}
 use Rattle.proc_semantics.specs.Meaning.{with_number}
 use Rattle.proc_meaning.specs.Rest.{with_value, call_with, chosen, tested, after, back}
-use Rattle.proc_meaning.proofs.Works.{mapped, pushed, kept}
+use Rattle.proc_meaning.proofs.Works.{pushed, kept}
 use Rattle.proc_meaning.proofs.steps.give_to.Goals as goal
 
 pub returns-in-Some-clause-same : goal.returns-in-Some-clause-same
@@ -116,7 +117,7 @@ returns-in-Choose-clause-same c =
     let items = c.args.work.now.items in let ws = reverse items in let r = c.args.run.now in
     let st = c.args.store.now.items in let v = c.args.v in let x = c.in-Choose in
     let z : to_z w64 (of_z w64 v) ≡ v = search rules in
-    mapped c.choose.result _ _ (λ a h world.
+    IfOk-weaker c.choose.result _ _ (λ a h world.
     ap (λ w. with_value world (w ∷ ws) r.frame r.env.items v st) x.is
     ∙ ap (λ v. chosen world v (block_of x.a.now) (block_of x.b.now) r.frame
     (back world ws r.frame) (after world ws r.frame) r.env.items st) (sym z)
@@ -127,7 +128,7 @@ returns-in-Test-clause-same c =
     let items = c.args.work.now.items in let ws = reverse items in let r = c.args.run.now in
     let st = c.args.store.now.items in let v = c.args.v in let x = c.in-Test in
     let z : to_z w64 (of_z w64 v) ≡ v = search rules in
-    mapped c.test.result _ _ (λ a h world.
+    IfOk-weaker c.test.result _ _ (λ a h world.
     ap (λ w. with_value world (w ∷ ws) r.frame r.env.items v st) x.is
     ∙ ap (λ v. tested world v x.c.now (block_of x.b.now) r.frame
     (back world ws r.frame) (after world ws r.frame) r.env.items st) (sym z)

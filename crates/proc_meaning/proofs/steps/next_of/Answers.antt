@@ -1,4 +1,5 @@
 use Rattle.std.proofs.Common.{◌∷◌, sym, ap, ◌∙◌, reverse}
+use Rattle.std.proofs.lemmas.List.{nil_from_length}
 use Rattle.proc_program.specs.StepView.{block_of}
 use Rattle.proc_meaning.specs.declared.work.Now.TheVariants as now
 use Rattle.proc_meaning.specs.declared.work.Work.TheVariants.{Rest, Test}
@@ -6,7 +7,7 @@ use Rattle.proc_semantics.specs.Told.{tick}
 use Rattle.proc_semantics.specs.Meaning.{stmt, block}
 use Rattle.proc_semantics.specs.Whole.{whole}
 use Rattle.proc_meaning.specs.Rest.{after, back}
-use Rattle.proc_meaning.proofs.Works.{pushed, kept, reversed, no_items}
+use Rattle.proc_meaning.proofs.Works.{pushed, kept, reversed}
 use Rattle.proc_semantics.proofs.Recursive.{recursive}
 use Rattle.proc_meaning.proofs.steps.next_of.Goals as goal
 
@@ -16,7 +17,7 @@ returns-in-None-clause-same c world st =
     let f = r.frame in let env = r.env.items in
     ap (λ w. after world (w ∷ ws) f env st) c.in-Rest.is
     ∙ ap (λ b. block world (whole world) f (block_of b) (back world ws f) (after world ws f) env st)
-    (no_items c.in-Rest.steps.now c.in-None.ensures.cases)
+    (nil_from_length c.in-Rest.steps.now c.in-None.ensures.cases)
     ∙ sym (kept world now.Next items r st)
 
 pub returns-in-Rest-clause-same : goal.returns-in-Rest-clause-same

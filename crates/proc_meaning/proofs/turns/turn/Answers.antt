@@ -1,9 +1,10 @@
 use Rattle.std.proofs.Common.{rules, ◌≡◌, sym, ap, ◌∙◌, subst, reverse, w64, to_z, of_z}
+use Rattle.std.proofs.lemmas.Result.{IfOk-weaker}
 use Rattle.proc_meaning.specs.declared.work.Now.TheVariants as now
 use Rattle.proc_semantics.specs.Meaning.{expr, left_by, part_of}
 use Rattle.proc_semantics.specs.Whole.{whole}
 use Rattle.proc_meaning.specs.Rest.{with_value, back, ended, waiting, rest_of, ahead_of}
-use Rattle.proc_meaning.proofs.Works.{kept, mapped}
+use Rattle.proc_meaning.proofs.Works.{kept}
 use Rattle.proc_semantics.proofs.Recursive.{recursive}
 use Rattle.proc_meaning.proofs.turns.turn.Goals as goal
 
@@ -12,7 +13,7 @@ returns-in-Eval-clause-same c =
     let world = c.args.world.now in let items = c.args.work.now.items in let r = c.args.run.now in
     let st = c.args.store.now.items in
     let e = c.in-Eval.e in
-    mapped c.eval.result _ _ (λ a h.
+    IfOk-weaker c.eval.result _ _ (λ a h.
     ap (λ n. rest_of world n items r st) c.in-Eval.is ∙ kept world (now.Eval e) items r st
     ∙ subst (λ s. expr world (whole world) r.frame r.env.items e.now
     (with_value world (reverse items) r.frame r.env.items) s
@@ -22,7 +23,7 @@ pub returns-in-Args-clause-same : goal.returns-in-Args-clause-same
 returns-in-Args-clause-same c =
     let world = c.args.world.now in let items = c.args.work.now.items in let r = c.args.run.now in
     let st = c.args.store.now.items in
-    mapped c.arguments.result _ _ (λ a h.
+    IfOk-weaker c.arguments.result _ _ (λ a h.
     ap (λ n. rest_of world n items r st) c.in-Args.is
     ∙ kept world (now.Args c.in-Args.to c.in-Args.values c.in-Args.args) items r st
     ∙ h st) c.arguments.ensures.same
@@ -32,7 +33,7 @@ returns-in-Value-clause-same c =
     let world = c.args.world.now in let items = c.args.work.now.items in let r = c.args.run.now in
     let st = c.args.store.now.items in
     let z : to_z w64 (of_z w64 c.in-Value.v) ≡ c.in-Value.v = search rules in
-    mapped c.give.result _ _ (λ a h.
+    IfOk-weaker c.give.result _ _ (λ a h.
     ap (λ n. rest_of world n items r st) c.in-Value.is ∙ kept world (now.Value c.in-Value.v) items r st
     ∙ ap (λ x. with_value world (reverse items) r.frame r.env.items x st) (sym z)
     ∙ h world) c.give.ensures.same
@@ -41,7 +42,7 @@ pub returns-in-Next-clause-same : goal.returns-in-Next-clause-same
 returns-in-Next-clause-same c =
     let world = c.args.world.now in let items = c.args.work.now.items in let r = c.args.run.now in
     let st = c.args.store.now.items in
-    mapped c.next.result _ _ (λ a h.
+    IfOk-weaker c.next.result _ _ (λ a h.
     ap (λ n. rest_of world n items r st) c.in-Next.is ∙ kept world now.Next items r st
     ∙ h world st) c.next.ensures.same
 
@@ -60,7 +61,7 @@ returns-in-Left-clause-same c =
     let st = c.args.store.now.items in
     let x = c.in-Left in
     let z : to_z w64 (of_z w64 x.v) ≡ x.v = search rules in
-    mapped c.leave.result _ _ (λ a h.
+    IfOk-weaker c.leave.result _ _ (λ a h.
     ap (λ n. rest_of world n items r st) x.is ∙ kept world (now.Left x.home x.left x.way x.v) items r st
     ∙ ap (λ v. left_by world (whole world) (part_of world x.home)
     (waiting world (reverse items)) x.left x.way.now v st) (sym z)
@@ -71,7 +72,7 @@ returns-in-Begin-clause-same c =
     let world = c.args.world.now in let items = c.args.work.now.items in let r = c.args.run.now in
     let st = c.args.store.now.items in
     let x = c.in-Begin in
-    mapped c.begin.result _ _ (λ a h.
+    IfOk-weaker c.begin.result _ _ (λ a h.
     ap (λ n. rest_of world n items r st) x.is
     ∙ kept world (now.Begin x.target x.left x.registers x.whence) items r st
     ∙ ap (λ rs. (whole world).proc x.target x.left rs (ended world x.whence (reverse items)) st)
@@ -89,7 +90,7 @@ pub returns-in-Take-clause-same : goal.returns-in-Take-clause-same
 returns-in-Take-clause-same c =
     let world = c.args.world.now in let items = c.args.work.now.items in let r = c.args.run.now in
     let st = c.args.store.now.items in
-    mapped c.take.result _ _ (λ a h.
+    IfOk-weaker c.take.result _ _ (λ a h.
     ap (λ n. rest_of world n items r st) c.in-Take.is ∙ kept world (now.Take c.in-Take.item) items r st
     ∙ h st) c.take.ensures.same
 
