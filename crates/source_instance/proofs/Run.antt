@@ -26,11 +26,7 @@ use Rattle.overlay_machine.specs.Runs.{Reached}
 use Rattle.overlay_machine.specs.Runs as reached
 use Rattle.trace_tool.specs.Layout.{layout, is_trusted, part_name, entry_name, site_of}
 use Rattle.trace_tool.specs.Views.{flat_view}
-<<<<<<< HEAD
-use Rattle.trace_tool.specs.Lines.{Line, Args, call, ret, enter, leave, lines_for}
-=======
-use Rattle.trace_tool.specs.Lines.{Line, out, call, ret, enter, leave, lines_for}
->>>>>>> 3d5478f012a1b907ffee0f2d83404e6bef70f885
+use Rattle.trace_tool.specs.Lines.{Line, call, ret, enter, leave, lines_for}
 use Rattle.trace_tool.specs.Alike.{StartLinesAgree}
 use Rattle.trace_tool.specs.Told.{Told}
 use Rattle.trace_tool.specs.Told as told

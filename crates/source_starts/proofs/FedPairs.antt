@@ -51,13 +51,8 @@ use Rattle.proc_semantics.specs.Values.{World, pair_fed, pair_found}
 use Rattle.template_runs.specs.Public.{IsShown, IsSharedAt}
 use Rattle.template_runs.proofs.Outside.{open_no_owner, opened_is}
 use Rattle.template_runs.proofs.Checks.{is_half}
-<<<<<<< HEAD
-use Rattle.template_runs.proofs.Calls.{content_of}
-use Rattle.trace_tool.specs.Lines.{feed_pair}
-=======
 use Rattle.template_runs.specs.Border.{content_of}
-use Rattle.source_laws.specs.Trace.{feed_pair}
->>>>>>> 3d5478f012a1b907ffee0f2d83404e6bef70f885
+use Rattle.trace_tool.specs.Lines.{feed_pair}
 use Rattle.source_laws.proofs.Parameters.{PairIs}
 use Rattle.source_laws.proofs.Callings.{Sealing, FailsBy}
 use Rattle.source_starts.specs.Sources.{trusted_parts}

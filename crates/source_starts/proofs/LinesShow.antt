@@ -8,12 +8,6 @@ use Rattle.trusted_border.specs.declared.events.Event.TheVariants.{Called, Retur
 use Rattle.overlay_machine.specs.State.{OState}
 use Rattle.overlay_machine.specs.Step.{weight_of}
 use Rattle.overlay_machine.specs.Events.{step_event}
-<<<<<<< HEAD
-use Rattle.overlay_machine.specs.Runs.{Reached, begins, goes_on}
-=======
-use Rattle.trace_tool.specs.declared.pairs.Pair.{Pair as PairOf}
-use Rattle.trace_tool.specs.declared.pairs.Pair.TheVariants as passing
->>>>>>> 3d5478f012a1b907ffee0f2d83404e6bef70f885
 use Rattle.trace_tool.specs.declared.pairs.Pairs.{Pairs}
 use Rattle.trace_tool.specs.Pairs.{pairs_of, no_pairs}
 use Rattle.trace_tool.specs.Views.{View, flat_view}

@@ -13,11 +13,7 @@ use Rattle.trace_tool.specs.Feed.{outs_of, items_of, OutsJoin, ItemsJoin, Entrie
 use Rattle.trace_tool.specs.Runs.{written}
 use Rattle.trace_tool.specs.Cuts.{cut, cut_overlay, trusted_weight, CutsAreGreatest, StopsAreCuts}
 use Rattle.trace_tool.specs.Headline.{HeadlineHolds}
-<<<<<<< HEAD
-=======
 use Rattle.trace_tool.proofs.StepTold.{reached_by}
-use Rattle.run_items.specs.Items.{item_of, EventsAreTold}
->>>>>>> 3d5478f012a1b907ffee0f2d83404e6bef70f885
 use Rattle.proc_language.specs.declared.module.ModuleFields.{ModuleFields}
 use Rattle.proc_program.specs.Lower.{part_of}
 use Rattle.proc_semantics.specs.Values.{World}
@@ -50,18 +46,10 @@ module _ (headline : HeadlineHolds) (stops : StopsAreCuts) (show : CutsShow) whe
       let head = headline (placed parts size) size s is in
       let agree = head.agrees in
       let x = head.lines steps in
-<<<<<<< HEAD
       let j = (cut s steps).at in
       let n = trusted_weight s steps in
       let p = cut_overlay s steps in
-      let at = reached_of (layout s) (overlay_at s).state j (written s steps) p x.0 in
-=======
-      let c = cut_point s steps in
-      let j = c.at in
-      let n = c.trusted in
-      let p = c.overlay in
       let at = reached_by (layout s) (overlay_at s).state j (written s steps) p x.0 in
->>>>>>> 3d5478f012a1b907ffee0f2d83404e6bef70f885
       let es = outs_of (written s steps) in
       let items = items_of (layout s).stack.base (written s steps) in
       let means = mean j n es items p (show parts size s is steps) in
