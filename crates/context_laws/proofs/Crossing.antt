@@ -100,7 +100,7 @@ call_is : (l : Layout) (q : OState) (i base : ℕ) (word : Whence → OWord) (ba
     → CallIs l q i base word back part site b m n xs
 call_is l q i base word back part site b low m n xs e =
     let w = ap (λ (z : Shown). z.went) e in
-    let k = ap (λ (z : Shown). z.line) e in
+    let k = ap (λ (z : Shown). z.event) e in
     record {
       part_is = cc;
       site_is = cc;
@@ -127,7 +127,7 @@ leave_is l q p o word back part v low k e =
     let x = ap (λ (z : Shown). z.back) (head_same e) in
     record {
       back_is = (let z : left_with q ≡ back k = cc in z);
-      value = by o (ap (λ (z : Shown). z.line) (head_same e));
+      value = by o (ap (λ (z : Shown). z.event) (head_same e));
     }
   where
     by : (o : Option ℤ)
@@ -139,7 +139,7 @@ no_leave : (l : Layout) (q : OState) (i base : ℕ) (s : Shown) → s.went ≡ N
 no_leave l q i base s n e = let w = ap (λ (z : Shown). z.went) e ∙ n in cc
 
 no_call : (e : OutEvent) (b : Back) (s : Shown) (w : Went) → s.went ≡ Some w
-    → record { line = e; went = None; back = Some b } ≡ s → ⊥
+    → record { event = e; went = None; back = Some b } ≡ s → ⊥
 no_call e b s w n h = let k = ap (λ (z : Shown). z.went) h ∙ n in cc
 
 pub ends_same : (e t : ℕ) {a b : ℕ}

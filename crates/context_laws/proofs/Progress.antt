@@ -139,7 +139,7 @@ module _ (l : Layout) where
   -- ---- what a source is shown
 
   pub shows_of : (s : OState) (es : List Shown) (is : List (Thing OWord Back)) (p : OState)
-      → Tells l s es is p → (j n : ℕ) × Shows l s j n (map (λ x. x.line) es) (map (λ x. x.item) is) p
+      → Tells l s es is p → (j n : ℕ) × Shows l s j n (map (λ x. x.event) es) (map (λ x. x.item) is) p
   shows_of s _ _ _ none_yet = (0, 0, sources.none_yet)
   shows_of s _ _ q (and_then {es = es} {is = is} {p = p} t e) =
       let k = shows_of s es is p t in (
@@ -147,10 +147,10 @@ module _ (l : Layout) where
         _,
         subst (λ z. Shows l s (k.0 + weight_of l p) (k.1 + weighed (is_inside l p) (weight_of l p)) z
             (map (λ x. x.item) (is ++ seen.items_of l q (step_event l p q))) q)
-            (ap (λ z. map (λ x. x.line) es ++ z) (sym (outs_line l q (step_event l p q)))
-            ∙ sym (map-both (λ x. x.line) es (seen.outs_of l q (step_event l p q))))
+            (ap (λ z. map (λ x. x.event) es ++ z) (sym (outs_line l q (step_event l p q)))
+            ∙ sym (map-both (λ x. x.event) es (seen.outs_of l q (step_event l p q))))
             (subst (λ z. Shows l s (k.0 + weight_of l p) (k.1 + weighed (is_inside l p) (weight_of l p))
-            (map (λ x. x.line) es ++ lines.outs_of l (flat_view l q) (step_event l p q)) z q)
+            (map (λ x. x.event) es ++ lines.outs_of l (flat_view l q) (step_event l p q)) z q)
             (ap (λ z. map (λ x. x.item) is ++ z)
             (sym (things_item l q (lines.items_of l (flat_view l q) (step_event l p q))))
             ∙ sym (map-both (λ x. x.item) is (seen.items_of l q (step_event l p q))))
@@ -268,24 +268,24 @@ module _ (world : World) (size : ℕ) (s : StartSeen) (means : SourcesMean world
       → (q m : OState) × Until L p q × (overlay_step L q ≡ goes m) × (is_inside L m ≡ false)
   goes_out es is p t i told = by (fate L p (told.0 * 200 + 1) i)
     where
-      Lines : List OutEvent
-      Lines = map (λ (x : Shown). x.line) es
+      Outs : List OutEvent
+      Outs = map (λ (x : Shown). x.event) es
 
       at : (n : ℕ) (q : OState) → Far L p n q → (v : ℕ)
-          × MeansAt world size L v Lines (map (λ x. x.item) is) q × (n ≤ v)
+          × MeansAt world size L v Outs (map (λ x. x.item) is) q × (n ≤ v)
       at n q f =
           let k = shows_of L O es is p t in
-          let z = far_shows L O Lines (map (λ x. x.item) is) p q n k.0 k.1 f k.2 in
-          (z.1, means z.0 z.1 Lines (map (λ x. x.item) is) q z.2, z.3)
+          let z = far_shows L O Outs (map (λ x. x.item) is) p q n k.0 k.1 f k.2 in
+          (z.1, means z.0 z.1 Outs (map (λ x. x.item) is) q z.2, z.3)
 
       long : (f : ℕ) → told.0 ≤ f
-          → length Lines + 1 ≤ length (meaning world size (map (λ x. x.item) is) f).events
+          → length Outs + 1 ≤ length (meaning world size (map (λ x. x.item) is) f).events
       long f le =
           let a = told.1 f le in
-          let b = length-map es (λ (x : Shown). x.line) in
+          let b = length-map es (λ (x : Shown). x.event) in
           omega (arith, a, b)
 
-      never : (f : ℕ) → told.0 ≤ f → (meaning world size (map (λ x. x.item) is) f).events ≡ Lines → ⊥
+      never : (f : ℕ) → told.0 ≤ f → (meaning world size (map (λ x. x.item) is) f).events ≡ Outs → ⊥
       never f le e = let a = long f le in let b = ap length e in omega (arith, a, b)
 
       by : Fate L p (told.0 * 200 + 1)
@@ -305,4 +305,4 @@ module _ (world : World) (size : ℕ) (s : StartSeen) (means : SourcesMean world
           let k = at (told.0 * 200 + 1) q f in
           let lt = k.2 in
           let h = k.1.slow told.0 (omega (arith, lt)) in
-          absurd (prefix_short _ Lines h.1.0 (length Lines) h.1.1 refl (long told.0 (omega arith)))
+          absurd (prefix_short _ Outs h.1.0 (length Outs) h.1.1 refl (long told.0 (omega arith)))

@@ -51,15 +51,15 @@ pub map-both : {A B : Type 0} (f : A → B) (xs ys : List A) → map f (xs ++ ys
 map-both f [] ys = refl
 map-both f (x ∷ xs) ys = ap (λ z. f x ∷ z) (map-both f xs ys)
 
-abbrev line_of : Shown → OutEvent
-line_of x = x.line
+abbrev event_of : Shown → OutEvent
+event_of x = x.event
 
 abbrev item_of : Thing OWord Entry → Item
 item_of x = x.item
 
 abbrev pub plain_trace : Trace → lines.Trace
 plain_trace t = record {
-  out = map line_of t.out;
+  out = map event_of t.out;
   items = map item_of t.items;
   weight = t.weight;
   final = t.final;
@@ -86,7 +86,7 @@ module _ (l : Layout) where
       ∷ out_arg (integer_in v.a2) ∷ z ∷ []) (arg_line (integer_in v.a3) r.a3)
 
   pub outs_line : (q : OState) (e : Option Event)
-      → map line_of (seen.outs_of l q e) ≡ lines.outs_of l (flat_view l q) e
+      → map event_of (seen.outs_of l q e) ≡ lines.outs_of l (flat_view l q) e
   outs_line q None = refl
   outs_line q (Some (Called true i base last)) = refl
   outs_line q (Some (Called false i base last)) =
@@ -113,7 +113,7 @@ module _ (l : Layout) where
   ended_line false n f = refl
 
   shown_line : (es : List Shown) (is : List (Thing OWord Entry)) (n : ℕ) (t : Trace)
-      → plain_trace (seen.shown es is n t) ≡ lines.shown (map line_of es) (map item_of is) n (plain_trace t)
+      → plain_trace (seen.shown es is n t) ≡ lines.shown (map event_of es) (map item_of is) n (plain_trace t)
   shown_line es is n t =
       ap (λ z. record {
         out = z;
@@ -121,9 +121,9 @@ module _ (l : Layout) where
         weight = n + t.weight;
         final = t.final;
       })
-      (map-both line_of es t.out)
+      (map-both event_of es t.out)
       ∙ ap (λ z. record {
-        out = map line_of es ++ map line_of t.out;
+        out = map event_of es ++ map event_of t.out;
         items = z;
         weight = n + t.weight;
         final = t.final;
@@ -141,7 +141,7 @@ module _ (l : Layout) where
           let is = seen.items_of l q (step_event l o q) in
           let n = weighed (is_inside l o) (weight_of l o) in
           shown_line es is n (seen.trace l k q)
-          ∙ ap (λ z. lines.shown (map line_of es) (map item_of is) n z) (below q)
+          ∙ ap (λ z. lines.shown (map event_of es) (map item_of is) n z) (below q)
           ∙ ap (λ z. lines.shown z (map item_of is) n (lines.trace l k q)) (outs_line q (step_event l o q))
           ∙ ap (λ z. lines.shown (lines.outs_of l (flat_view l q) (step_event l o q)) z n (lines.trace l k q))
           (things_item q (lines.items_of l (flat_view l q) (step_event l o q)))
@@ -150,30 +150,30 @@ module _ (l : Layout) where
 
 -- ---- meanings
 
-events_line : (es : List (marked.Event OWord Entry)) → map plain_event es ≡ map line_of (map shown_of es)
+events_line : (es : List (marked.Event OWord Entry)) → map plain_event es ≡ map event_of (map shown_of es)
 events_line [] = refl
 events_line (marked.Calls part site base low x y xs ∷ es) =
     ap (λ z. CallOut part site (map plain_arg xs) ∷ z) (events_line es)
 events_line (marked.Leaves part v low e ∷ es) = ap (λ z. LeaveOut part (Int v) ∷ z) (events_line es)
 
 prefix_line : (out : List Shown) (r : Report) → (rest : List Shown) × (events_of r ≡ out ++ rest)
-    → Prefix (map line_of out) (plain_report r).events
+    → Prefix (map event_of out) (plain_report r).events
 prefix_line out r h =
-    (map line_of h.0, events_line r.events ∙ ap (map line_of) h.1 ∙ map-both line_of out h.0)
+    (map event_of h.0, events_line r.events ∙ ap (map event_of) h.1 ∙ map-both event_of out h.0)
 
 fits_line : (x : Final) (out : List Shown) (r : Report) → Fits x out r
-    → good.Fits x (map line_of out) (plain_report r)
+    → good.Fits x (map event_of out) (plain_report r)
 fits_line Running out r h = prefix_line out r h
-fits_line Outside out r h = (h.0, events_line r.events ∙ ap (map line_of) h.1)
-fits_line (HaltedWith w) out r h = (h.0, h.1, h.2, events_line r.events ∙ ap (map line_of) h.3)
-fits_line Failed out r h = (h.0, events_line r.events ∙ ap (map line_of) h.1)
+fits_line Outside out r h = (h.0, events_line r.events ∙ ap (map event_of) h.1)
+fits_line (HaltedWith w) out r h = (h.0, h.1, h.2, events_line r.events ∙ ap (map event_of) h.3)
+fits_line Failed out r h = (h.0, events_line r.events ∙ ap (map event_of) h.1)
 
 slow_line : (out : List Shown) (r : Report) → (rest : List Shown) × (out ≡ events_of r ++ rest)
-    → Prefix (plain_report r).events (map line_of out)
+    → Prefix (plain_report r).events (map event_of out)
 slow_line out r h = (
-  map line_of h.0,
-  ap (map line_of) h.1 ∙ map-both line_of (events_of r) h.0
-      ∙ ap (λ z. z ++ map line_of h.0) (sym (events_line r.events)),
+  map event_of h.0,
+  ap (map event_of) h.1 ∙ map-both event_of (events_of r) h.0
+      ∙ ap (λ z. z ++ map event_of h.0) (sym (events_line r.events)),
 )
 
 -- an agreement with the refined meaning from nothing wiped is one with the meaning
@@ -190,10 +190,10 @@ pub forgets : (world : World) (stack : ℕ) (t : Trace) → Starts world stack t
     → good.Agrees 0 (plain_trace t) (λ fuel feed. plain.meaning world.parts stack feed fuel)
 forgets world stack t a = record {
   enough = a.enough;
-  fits = λ f le. subst (good.Fits t.final (map line_of t.out)) (same f)
+  fits = λ f le. subst (good.Fits t.final (map event_of t.out)) (same f)
       (fits_line t.final t.out (marked_meaning OWord Entry world.marks world.parts stack t.items f)
       (a.fits f le));
-  slow = λ f lt. subst (λ z. (z.end ≡ OutOfFuel) × Prefix z.events (map line_of t.out)) (same f) (
+  slow = λ f lt. subst (λ z. (z.end ≡ OutOfFuel) × Prefix z.events (map event_of t.out)) (same f) (
     (a.slow f lt).0,
     slow_line t.out (marked_meaning OWord Entry world.marks world.parts stack t.items f)
         ((a.slow f lt).1),

@@ -362,7 +362,7 @@ module _ (world : World) (g : Link) (linked : Linked g) (Begins : Target → Par
             (go_out g n 1 c (Some (Left l.owner.part))
             (λ low. Leaves (part_of world t.home) v low (entry_of g.layout en))
             (record {
-              line = LeaveOut (part_of world t.home) (arg.Int v);
+              event = LeaveOut (part_of world t.home) (arg.Int v);
               went = None;
               back = Some (entry_of g.layout en);
             }) q q'

@@ -59,22 +59,22 @@ nothing_back = record {
 }
 
 pub record Shown : Type 0 where
-  pub line : OutEvent
+  pub event : OutEvent
   pub went : Option Went
   pub back : Option Back
 
 abbrev pub left_shown : OutEvent → Back → List Shown
-left_shown e b = record { line = e; went = None; back = Some b } ∷ []
+left_shown e b = record { event = e; went = None; back = Some b } ∷ []
 
 -- what the meaning says of it, whatever was wiped
 abbrev pub shown_of : marked.Event OWord Back → Shown
 shown_of (marked.Calls part site base low x y xs) = record {
-  line = CallOut part site (map plain_arg xs);
+  event = CallOut part site (map plain_arg xs);
   went = Some (record { base = base; first = x; second = y; args = xs });
   back = None;
 }
 shown_of (marked.Leaves part v low e) =
-    record { line = LeaveOut part (arg.Int v); went = None; back = Some e }
+    record { event = LeaveOut part (arg.Int v); went = None; back = Some e }
 
 abbrev pub events_of : Report OWord Back → List Shown
 events_of t = map shown_of t.events
@@ -129,7 +129,7 @@ module _ (l : Layout) where
 
   abbrev pub call_shown : OState → ℕ → ℕ → Shown
   call_shown q i base = record {
-    line = CallOut (part_name l (site_of l i).part) (site_of l i).index (map plain_arg (args_shown q));
+    event = CallOut (part_name l (site_of l i).part) (site_of l i).index (map plain_arg (args_shown q));
     went = Some (record {
       base = base;
       first = Some q.maps.regs.c1;
