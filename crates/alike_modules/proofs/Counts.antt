@@ -17,7 +17,7 @@ use Rattle.proc_language.specs.Unplaced.{unplaced_block, unplaced_global, unplac
 use Rattle.proc_language.specs.Unplaced.{unplaced}
 use Rattle.proc_names.specs.Calls.{calls, args_calls, stmt_calls, block_calls, proc_calls, module_calls}
 use Rattle.proc_names.specs.Need.{depth, args_depth, stmt_depth, block_depth, need}
-use Rattle.proc_program.specs.Lower.{words, words_in, word_at, param_place}
+use Rattle.proc_program.specs.Lower.{words, words_in, first_word_of, param_place}
 use Rattle.alike_modules.proofs.Lists.{sum_of}
 
 -- ---- statements
@@ -118,7 +118,7 @@ param_place_alike ps k = ap params_registers (take-map unplaced_param k ps) ∙
 words_in_alike : (gs : List Global) → words_in (map unplaced_global gs) ≡ words_in gs
 words_in_alike gs = sum_of unplaced_global words gs
 
-pub word_at_alike : (gs : List Global) (k : ℕ) → word_at (map unplaced_global gs) k ≡ word_at gs k
+pub word_at_alike : (gs : List Global) (k : ℕ) → first_word_of (map unplaced_global gs) k ≡ first_word_of gs k
 word_at_alike gs k = ap words_in (take-map unplaced_global k gs) ∙ words_in_alike (take k gs)
 
 pub need_alike : (p : Proc) → need (unplaced_proc p) ≡ need p

@@ -10,7 +10,7 @@ use Rattle.proc_language.specs.StmtView.{block_of}
 use Rattle.proc_language.specs.Unplaced.{unplaced_name, unplaced_expr, unplaced_args, unplaced_stmt}
 use Rattle.proc_language.specs.Unplaced.{unplaced_block, unplaced_import, unplaced_global, unplaced_param}
 use Rattle.proc_language.specs.Unplaced.{unplaced_proc, unplaced, IsAlike}
-use Rattle.proc_print.specs.Printed.{Piece, word, sign, spelled, named, within, bracketed, signs_of}
+use Rattle.proc_print.specs.Printed.{Piece, word, sign, spelled, named, between_signs, bracketed, signs_of}
 use Rattle.proc_print.specs.Printed.{expr_pieces, args_pieces, more_pieces, ended, in_curly}
 use Rattle.proc_print.specs.Printed.{stmt_pieces, block_pieces, import_pieces, global_pieces, param_pieces}
 use Rattle.proc_print.specs.Printed.{more_params, params_pieces, local_pieces, export_pieces}
@@ -32,8 +32,8 @@ mutual
   expr_alike : (e : Expr) → expr_pieces (unplaced_expr e) ≡ expr_pieces e
   expr_alike (number at n) = refl
   expr_alike (var at x) = refl
-  expr_alike (element at x e) = λ i. named x ++ within (codes "[") (expr_alike e i) (codes "]")
-  expr_alike (call at f args) = λ i. named f ++ within (codes "(") (args_alike args i) (codes ")")
+  expr_alike (element at x e) = λ i. named x ++ between_signs (codes "[") (expr_alike e i) (codes "]")
+  expr_alike (call at f args) = λ i. named f ++ between_signs (codes "(") (args_alike args i) (codes ")")
   expr_alike (op at o a b) = λ i.
       bracketed_alike a (expr_alike a i) i ++ (sign (signs_of o) ∷ bracketed_alike b (expr_alike b i) i)
 
@@ -53,10 +53,10 @@ mutual
   stmt_alike : (s : Stmt) → stmt_pieces (unplaced_stmt s) ≡ stmt_pieces s
   stmt_alike (set at x e) = λ i. ended (named x ++ (sign (codes "=") ∷ expr_alike e i))
   stmt_alike (set_at at x k e) = λ i.
-      ended (named x ++ (within (codes "[") (expr_alike k i) (codes "]")
+      ended (named x ++ (between_signs (codes "[") (expr_alike k i) (codes "]")
       ++ (sign (codes "=") ∷ expr_alike e i)))
   stmt_alike (do_call at f args) = λ i.
-      ended (named f ++ within (codes "(") (args_alike args i) (codes ")"))
+      ended (named f ++ between_signs (codes "(") (args_alike args i) (codes ")"))
   stmt_alike (if_then at c b) = λ i. word (codes "if") ∷ (expr_alike c i ++ in_curly (pieces_alike b i))
   stmt_alike (if_else at c b d) = λ i.
       word (codes "if") ∷ (expr_alike c i ++ (in_curly (pieces_alike b i)
@@ -85,7 +85,8 @@ body_alike p = ap block_pieces (block_alike p.body) ∙ pieces_alike (block_of p
 proc_alike : (p : Proc) → proc_pieces (unplaced_proc p) ≡ proc_pieces p
 proc_alike p = λ i.
     export_pieces p.shared
-    ++ (word (codes "proc") ∷ (named p.name ++ (within (codes "(") (params_alike p.params i) (codes ")")
+    ++ (word (codes "proc") ∷ (named p.name ++
+    (between_signs (codes "(") (params_alike p.params i) (codes ")")
     ++ in_curly (flat_of unplaced_name local_pieces p.locals i ++ body_alike p i))))
 
 procs_alike : (ps : List Proc) → flat_map proc_pieces (map unplaced_proc ps) ≡ flat_map proc_pieces ps

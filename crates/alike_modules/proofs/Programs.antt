@@ -25,7 +25,7 @@ use Rattle.proc_program.specs.Program as run
 use Rattle.proc_program.specs.View.{args_of as args_view}
 use Rattle.proc_program.specs.StepView.{block_of as block_view}
 use Rattle.proc_program.specs.Lower.{words, place_by, variable_of, row_by, row_of, handle_by, handle_of}
-use Rattle.proc_program.specs.Lower.{passed_of}
+use Rattle.proc_program.specs.Lower.{passed_handle}
 use Rattle.proc_program.specs.Lower.{exp_of, args_of, step_of, steps_of, procedure_of, procedures_of}
 use Rattle.proc_program.specs.Lower.{globals_of, import_of, header_of, part_of}
 use Rattle.alike_modules.proofs.Lists.{map_of, get_of}
@@ -75,7 +75,8 @@ module _ (m : ModuleFields) (p : Proc) where
   handle_of_alike : (f : Name) → handle_of (unplaced m) (unplaced_proc p) (unplaced_name f) ≡ handle_of m p f
   handle_of_alike f = λ i. handle_alike (callee_alike m p f i) i
 
-  passed_of_alike : (f : Name) → passed_of (unplaced m) (unplaced_proc p) (unplaced_name f) ≡ passed_of m p f
+  passed_of_alike : (f : Name) → passed_handle (unplaced m) (unplaced_proc p) (unplaced_name f)
+      ≡ passed_handle m p f
   passed_of_alike f = λ i. handle_alike (passed_alike m p f i) i
 
   -- ---- expressions and statements

@@ -4,7 +4,7 @@ use Rattle.std.proofs.Common.{None, refl, sym, ap, ◌∙◌, subst}
 use Rattle.std.specs.Prelude.{pos, negsuc, ◌&&◌, codes}
 use Rattle.std.specs.List.{flat_map, AllByRecursion}
 use Rattle.text_scan.specs.declared.token.TokenKind.{TokenKind}
-use Rattle.text_scan.proofs.Printed.{Form, name_form, sign_form, integer_forms}
+use Rattle.text_scan.proofs.Offers.{Form, name_form, sign_form, integer_forms}
 use Rattle.cap_words.specs.declared.Word.{Word}
 use Rattle.lcm_isa.specs.declared.Operand.{Operand}
 use Rattle.lcm_isa.specs.declared.Operand.TheVariants.{R, Imm}
@@ -36,16 +36,15 @@ use Rattle.asm_fields.specs.Words.{word_line}
 use Rattle.asm_fields.specs.Instrs.{Plain, row_named, shape_of, operands_at}
 use Rattle.asm_fields.specs.Operands.{address_at, stretch_at, Number, offset_at, kind_at, kind_behind}
 use Rattle.asm_fields.specs.Operands.{Plain as PlainKind, Pc as PcKind}
-use Rattle.asm_fields.proofs.Again.{Alike, Again, Whole, left, again_then, again_last, again_done}
-use Rattle.asm_fields.proofs.Again.{again_some, again_holds, again_sign, again_name_or, again_name}
-use Rattle.asm_fields.proofs.Again.{again_proper, again_meant, whole_then, whole_placed, whole_last}
-use Rattle.asm_fields.proofs.Again.{whole_line}
-use Rattle.asm_fields.proofs.Printed.{operand_forms, last_of, instr_again, instr_forms, address_again}
-use Rattle.asm_fields.proofs.Printed.{stretch_again, offset_again, shared_at_again}
+use Rattle.asm_fields.proofs.Offers.{Alike, Again, Whole, left, again_then, again_last, again_done}
+use Rattle.asm_fields.proofs.Offers.{again_some, again_holds, again_sign, again_name_or, again_name}
+use Rattle.asm_fields.proofs.Offers.{again_proper, again_meant, whole_then, whole_placed, whole_last}
+use Rattle.asm_fields.proofs.Offers.{whole_line, operand_forms, last_of, instr_again, instr_forms}
+use Rattle.asm_fields.proofs.Offers.{address_again, stretch_again, offset_again, shared_at_again}
 use Rattle.asm_draft.specs.Order.{section_of}
 use Rattle.asm_draft.specs.Tables.{Tables, with_import, with_export, with_site, with_row}
 use Rattle.asm_draft.specs.Draft.{Draft, has_word_room, with_word, with_instr, with_header, with_tables}
-use Rattle.asm_draft.specs.Operands.{offset_in, kind_in, kind_found, kinds_in, import_in, export_in}
+use Rattle.asm_draft.specs.Operands.{offset_operand, kind_in, kind_found, kinds_in, import_in, export_in}
 use Rattle.asm_draft.specs.Operands.{site_in, fail_in, literal_in, row_in, operands_in, seals_of}
 use Rattle.asm_draft.specs.Lines.{is_code, instr_in, word_in, may_stand, item_in, directive_from, directed}
 use Rattle.asm_draft.specs.Lines.{directive_in, behind_label, line_in}
@@ -221,8 +220,8 @@ item_line_again i fs new d may one = directive_line_again (directive.Of i) fs ne
 -- ---- operands of items
 
 pub offset_in_again : (section : SectionOf) (n : ℕ) (d : Draft) → n ≤ 65535 → Again (integer_forms (pos n))
-    (n, d) (offset_in section d)
-unfolding offset_in
+    (n, d) (offset_operand section d)
+unfolding offset_operand
 offset_in_again section n d h = again_then (integer_forms (pos n)) [] (Number n) (n, d) _ _
     (offset_again n h) (again_done (n, d))
 

@@ -11,7 +11,7 @@ use Rattle.readers.specs.Readers.{goes_on, done}
 use Rattle.asm_fields.specs.Fields.{Input}
 use Rattle.asm_draft.specs.Draft.{Draft}
 use Rattle.asm_draft.specs.Operands.{kind_in, kinds_in}
-use Rattle.readers.proofs.Faults.{still_fails}
+use Rattle.readers.proofs.Offers.{still_fails}
 
 abbrev pub Read : Type 0
 Read = Result ((List Kind × Draft) × Input) AsmFault

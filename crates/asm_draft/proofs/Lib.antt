@@ -1,3 +1,4 @@
 mod KindLemmas
 mod LineLemmas
 pub mod Again
+pub mod Offers

@@ -6,14 +6,14 @@ use Rattle.std.specs.Prelude.{OnOk, is_err}
 use Rattle.std.proofs.lemmas.List.{drop_all}
 use Rattle.text_scan.specs.declared.token.Token.{Token}
 use Rattle.text_scan.specs.Grammar.{Placed}
-use Rattle.text_scan.proofs.Places.{placed_ends}
+use Rattle.text_scan.proofs.Offers.{placed_ends}
 use Rattle.asm_fields.specs.declared.fault.AsmFault.{AsmFault}
 use Rattle.readers.specs.Answers.{Fails}
 use Rattle.asm_fields.specs.Fault.{is_refusal}
 use Rattle.asm_fields.specs.Fields.{Lexeme, Input, seen, InText}
 use Rattle.asm_draft.specs.Draft.{Draft}
 use Rattle.asm_draft.specs.Whole.{is_newline, lines_of, goes_to, line_or_none, drafted}
-use Rattle.readers.proofs.Faults.{still_fails}
+use Rattle.readers.proofs.Offers.{still_fails}
 
 -- ---- tokens within the text
 

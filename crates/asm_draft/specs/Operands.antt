@@ -30,8 +30,8 @@ offset_found section (Label at name) d = (
   },
 )
 
-unfoldable pub offset_in : Section → Draft → Reader Input AsmFault (ℕ × Draft)
-offset_in section d = offset_at >>= λ o. done (offset_found section o d)
+unfoldable pub offset_operand : Section → Draft → Reader Input AsmFault (ℕ × Draft)
+offset_operand section d = offset_at >>= λ o. done (offset_found section o d)
 
 -- ---- rows
 
@@ -60,7 +60,7 @@ unfoldable pub import_in : ℕ → Draft → Reader Input AsmFault Draft
 import_in at d = do
   part ← proper_name_at
   name ← proper_name_at
-  slot ← offset_in Data d
+  slot ← offset_operand Data d
   let new = with_import at (record { part = part; name = name; slot = slot.0 }) slot.1.tables in
       done (with_tables new slot.1)
 
@@ -68,7 +68,7 @@ import_in at d = do
 unfoldable pub export_in : ℕ → Draft → Reader Input AsmFault Draft
 export_in at d = do
   name ← proper_name_at
-  off ← offset_in Code d
+  off ← offset_operand Code d
   shared ← shared_at
   let new = with_export at (record { name = name; offset = off.0; shared = shared }) off.1.tables in
       done (with_tables new off.1)
@@ -76,25 +76,25 @@ export_in at d = do
 -- OFF
 unfoldable pub site_in : ℕ → Draft → Reader Input AsmFault Draft
 site_in at d = do
-  off ← offset_in Code d
+  off ← offset_operand Code d
   done (with_tables (with_site at off.0 off.1.tables) off.1)
 
 -- OFF
 unfoldable pub fail_in : Draft → Reader Input AsmFault Draft
 fail_in d = do
-  off ← offset_in Code d
+  off ← offset_operand Code d
   done (with_tables (record off.1.tables { fail_at = Some off.0 }) off.1)
 
 -- OFF
 unfoldable pub literal_in : Draft → Reader Input AsmFault Draft
 literal_in d = do
-  off ← offset_in Code d
+  off ← offset_operand Code d
   done (with_tables (record off.1.tables { literal_at = Some off.0 }) off.1)
 
 -- OFF, and the kinds of the registers 1 to 15
 unfoldable pub row_in : ℕ → Draft → Reader Input AsmFault Draft
 row_in at d = do
-  off ← offset_in Code d
+  off ← offset_operand Code d
   kinds ← kinds_in 15 off.1
   done (with_tables (with_row at (record { offset = off.0; kinds = kinds.0 }) kinds.1.tables) kinds.1)
 

@@ -12,7 +12,7 @@ ghost use Rattle.asm_draft.specs.Order.{reaches_data};
 ghost use Rattle.asm_draft.specs.Tables.{tables_seen};
 ghost use Rattle.asm_draft.specs.Draft.{nothing, words_in, has_word_room, with_word, may_end, with_label};
 ghost use Rattle.asm_draft.specs.Draft.{with_instr};
-ghost use Rattle.asm_draft.specs.Operands.{offset_found, offset_in, kind_found, kind_in, kinds_in};
+ghost use Rattle.asm_draft.specs.Operands.{offset_found, offset_operand, kind_found, kind_in, kinds_in};
 ghost use Rattle.asm_draft.specs.Operands.{import_in, export_in, site_in, fail_in, literal_in, row_in};
 ghost use Rattle.asm_draft.specs.Operands.{operands_in};
 ghost use Rattle.asm_draft.specs.Lines.{label_in, label_if, is_code, instr_in, word_in, may_stand, item_in};
@@ -283,9 +283,9 @@ impl<'a> Draft<'a> {
         }
     }
 
-    #[tactic(auto, unfolding(crate::specs::Operands::offset_in))]
+    #[tactic(auto, unfolding(crate::specs::Operands::offset_operand))]
     fn offset(&mut self, section: Section, fields: &mut Fields<'a, '_>) -> Result<u32, AsmFault>
-        ensures { MakesAs result self.new fields.new (offset_in section self.old fields.old) }
+        ensures { MakesAs result self.new fields.new (offset_operand section self.old fields.old) }
     {
         let offset = fields.offset()?;
         Ok(self.offset_found(section, offset)?)

@@ -5,7 +5,7 @@ use Rattle.std.specs.Prelude.{ℤ, pos, negsuc, nat_abs, int_le, ◌==◌, ◌&&
 use Rattle.std.specs.Fmt.{decimal}
 use Rattle.text_scan.specs.declared.token.TokenKind.TheVariants.{Number, Sign}
 use Rattle.text_scan.specs.declared.token.Token.{Token}
-use Rattle.text_scan.proofs.Printed.{Form, form_in, name_form, integer_forms}
+use Rattle.text_scan.proofs.Offers.{Form, form_in, name_form, integer_forms}
 use Rattle.cap_words.specs.Names.{is_name}
 use Rattle.asm_fields.specs.declared.fault.AsmFault.{AsmFault}
 use Rattle.asm_fields.specs.declared.fault.AsmFault.TheVariants.{Operand, Range}

@@ -1,3 +1,4 @@
 mod RegNames
 pub mod Again
 pub mod Printed
+pub mod Offers

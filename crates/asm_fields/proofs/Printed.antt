@@ -12,9 +12,9 @@ use Rattle.std.proofs.lemmas.Fmt.{length-decimal-le}
 use Rattle.text_scan.specs.Bytes.{is_name_start, is_name_byte}
 use Rattle.text_scan.specs.Tokens.{first_of}
 use Rattle.text_scan.specs.Grammar.{IsName}
-use Rattle.text_scan.proofs.Printed.{Form, InNumbers, name_form, sign_form, integer_forms, IsField}
-use Rattle.text_scan.proofs.Printed.{IsPrinted, widened, rest_all, printed, name_field, directive_field}
-use Rattle.text_scan.proofs.Printed.{number_field, integer_field}
+use Rattle.text_scan.proofs.Offers.{Form, InNumbers, name_form, sign_form, integer_forms, IsField, IsPrinted}
+use Rattle.text_scan.proofs.Offers.{widened, rest_all, printed, name_field, directive_field, number_field}
+use Rattle.text_scan.proofs.Offers.{integer_field}
 use Rattle.cap_words.specs.declared.Perm.{Perm}
 use Rattle.cap_words.specs.declared.Perm.TheVariants.{No, R as ReadOnly, Rw, Rx, Rwx}
 use Rattle.cap_words.specs.declared.Lin.{Lin}
@@ -35,7 +35,7 @@ use Rattle.lcm_isa.specs.declared.Instr.TheVariants.{Getlin, Move, Store, Load, 
 use Rattle.lcm_isa.specs.declared.Instr.TheVariants.{Minus, Seta2b, Xjmp, Cseal, Split, Splice}
 use Rattle.lcm_isa.specs.Numbers.{IsInstr, IsOperand, all_with}
 use Rattle.lcm_isa.specs.Texts.{reg_name, mnemonic_of, operand_text, operands_of, instr_text}
-use Rattle.lcm_isa.proofs.TextLemmas.{few}
+use Rattle.lcm_isa.proofs.Offers.{few}
 use Rattle.cap_words.specs.Names.{is_name, is_name_byte as is_file_name_byte, is_digit as is_file_digit}
 use Rattle.component_file.specs.declared.component.Kind.{Kind}
 use Rattle.component_file.specs.declared.component.Kind.TheVariants as kind

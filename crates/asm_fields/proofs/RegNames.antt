@@ -3,7 +3,7 @@ use Rattle.std.proofs.Common.{◌≡◌, ◌≢◌, ◌∙◌, ℕ, List, Option
 use Rattle.std.specs.Prelude.{IfSome, IfNone}
 use Rattle.lcm_isa.specs.declared.Reg.{Reg}
 use Rattle.lcm_isa.specs.Texts.{reg_name}
-use Rattle.lcm_isa.proofs.NameLemmas.{first_named, first_named-reg_name, named_found}
+use Rattle.lcm_isa.proofs.Offers.{first_named, first_named-reg_name, named_found}
 use Rattle.asm_fields.specs.Names.{reg_named}
 
 none_found : (name : List ℕ) (o : Option Reg) → IfSome o (λ r. name ≡ reg_name r)

@@ -1,2 +1,3 @@
 pub mod Tables
 pub mod Resolved
+pub mod Offers

@@ -14,7 +14,7 @@ use Rattle.asm_labels.specs.declared.references.MissingLabel.{MissingLabel}
 use Rattle.asm_labels.specs.declared.references.Reference.{Reference as Held}
 use Rattle.asm_labels.specs.Labels.{offset_of}
 use Rattle.asm_labels.specs.Patch.{with_immediate, instr_in, some_immediate, with_instr_at, code_patched}
-use Rattle.asm_labels.specs.References.{Reference, user_word, user_place, value_of, word_resolved, goes_on}
+use Rattle.asm_labels.specs.References.{Reference, user_word, user_place, value_of, word_resolved, at_offset}
 use Rattle.asm_labels.specs.References.{resolved}
 use Rattle.asm_labels.specs.References.{IsReady, IsFrom, behind, AreReady, WordHas, HasOwn, WaitsForNone}
 
@@ -109,12 +109,12 @@ pub one_resolved : (labels : List (List ℕ × Label)) (r : Reference) (referenc
     ≡ resolved labels (r ∷ references) code
 unfolding resolved
 one_resolved labels r references code offset is =
-    ap (λ o. goes_on o r.at (λ n. resolved labels references (word_resolved r.word r.section n code))) is
+    ap (λ o. at_offset o r.at (λ n. resolved labels references (word_resolved r.word r.section n code))) is
 
 -- ---- what each word has in the end
 
 went_on : (o : Option ℕ) (at : ℕ) (f : ℕ → Result (List Word) MissingLabel) (new : List Word)
-    → goes_on o at f ≡ Ok new
+    → at_offset o at f ≡ Ok new
     → (offset : ℕ) × (o ≡ Some offset) × (f offset ≡ Ok new)
 went_on (Some offset) at f new h = (offset, refl, h)
 went_on None at f new h = absurd cc

@@ -38,15 +38,15 @@ abbrev pub word_resolved : Option ℕ → Section → ℕ → List Word → List
 word_resolved (Some word) section offset code = code_patched code word (value_of word section offset)
 word_resolved None section offset code = code
 
-abbrev pub goes_on : Option ℕ → ℕ → (ℕ → Result (List Word) MissingLabel) → Result (List Word) MissingLabel
-goes_on (Some offset) at f = f offset
-goes_on None at f = Err (record { at = at })
+abbrev pub at_offset : Option ℕ → ℕ → (ℕ → Result (List Word) MissingLabel) → Result (List Word) MissingLabel
+at_offset (Some offset) at f = f offset
+at_offset None at f = Err (record { at = at })
 
 -- the code in which each word has what it waits for, or the first reference whose label isn't there
 unfoldable pub resolved : List (List ℕ × Label) → List Reference → List Word → Result (List Word) MissingLabel
 resolved labels [] code = Ok code
 resolved labels (r ∷ references) code =
-    goes_on (offset_of r.section r.name labels) r.at
+    at_offset (offset_of r.section r.name labels) r.at
     (λ offset. resolved labels references (word_resolved r.word r.section offset code))
 
 abbrev pub Resolves : Result (Unit {0}) MissingLabel → List Word → Result (List Word) MissingLabel → Type 0

@@ -15,7 +15,7 @@ use Rattle.lcm_isa.specs.declared.Instr.TheVariants.{Fail, Halt, Jmp, Jnz, Getty
 use Rattle.lcm_isa.specs.declared.Instr.TheVariants.{Getlin, Move, Store, Load, Cca, Restrict, Lt, Plus}
 use Rattle.lcm_isa.specs.declared.Instr.TheVariants.{Minus, Seta2b, Xjmp, Cseal, Split, Splice}
 use Rattle.lcm_isa.specs.Numbers.{IsInstr}
-use Rattle.lcm_isa.proofs.NumberLemmas.{decode_of-fits}
+use Rattle.lcm_isa.proofs.Offers.{decode_of-fits}
 use Rattle.component_file.specs.declared.component.ComponentFields.{ComponentFields}
 use Rattle.component_file.specs.Limits.{Each, IsComponent}
 use Rattle.asm_labels.specs.declared.labels.Section.{Section}
@@ -25,8 +25,7 @@ use Rattle.asm_labels.specs.Labels.{AreWithin, label_of, is_in, offset_in}
 use Rattle.asm_labels.specs.Patch.{with_immediate, instr_in, with_instr_at}
 use Rattle.asm_labels.specs.References.{Reference, value_of, word_resolved, resolved, IsReady, AreReady}
 use Rattle.asm_labels.specs.References.{behind}
-use Rattle.asm_labels.proofs.Tables.{within}
-use Rattle.asm_labels.proofs.Resolved.{first_of, last, rest_ready, word_len, as_many}
+use Rattle.asm_labels.proofs.Offers.{within, first_of, last, rest_ready, word_len, as_many}
 use Rattle.asm_fields.specs.declared.fault.AsmFault.{AsmFault}
 use Rattle.asm_fields.specs.declared.fault.AsmFault.TheVariants.{LabelMissing}
 use Rattle.asm_fields.specs.Fault.{of_scan}
@@ -37,7 +36,7 @@ use Rattle.asm_draft.specs.Whole.{drafted, ended_all, draft_of_text}
 use Rattle.assembler.specs.Assembled.{assembled, none_missing, in_order, component_of, finished}
 use Rattle.readers.specs.Readers.{told_by}
 use Rattle.readers.specs.Results.{◌>>=◌}
-use Rattle.readers.proofs.Faults.{told_ok}
+use Rattle.readers.proofs.Offers.{told_ok}
 use Rattle.assembler.proofs.Chains.{each_set}
 use Rattle.assembler.proofs.Words.{IsPartWord, instr_fits}
 use Rattle.assembler.proofs.Kept.{IsDraft, word_within}

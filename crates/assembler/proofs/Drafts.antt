@@ -17,7 +17,7 @@ use Rattle.asm_labels.specs.declared.labels.Section.TheVariants as section
 use Rattle.asm_labels.specs.declared.labels.Label.{Label}
 use Rattle.asm_labels.specs.Labels.{label_of}
 use Rattle.asm_labels.specs.References.{Reference, AreReady}
-use Rattle.asm_labels.proofs.Tables.{one_more}
+use Rattle.asm_labels.proofs.Offers.{one_more}
 use Rattle.asm_fields.specs.declared.directives.Item.{Item}
 use Rattle.asm_fields.specs.declared.directives.Item.TheVariants as item
 use Rattle.asm_fields.specs.declared.directives.WordKind.{WordKind}

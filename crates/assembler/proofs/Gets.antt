@@ -5,7 +5,7 @@ use Rattle.std.proofs.lemmas.Bool.Decides.{nat_tests}
 use Rattle.std.specs.Prelude.{ℤ, pos, negsuc, nat_abs, int_le, IsTrue, FitsSigned}
 use Rattle.std.specs.Int.{w32, w64}
 use Rattle.std.proofs.lemmas.Bool.{and_parts}
-use Rattle.readers.proofs.Grammar.{goes_on_ok, ok_value, some_ok}
+use Rattle.readers.proofs.Offers.{goes_on_ok, ok_value, some_ok}
 use Rattle.asm_fields.specs.declared.fault.AsmFault.{AsmFault}
 use Rattle.asm_fields.specs.declared.fault.AsmFault.TheVariants.{Range}
 use Rattle.readers.specs.Readers.{Reader, ◌>>=◌, done, unless_none, holds}

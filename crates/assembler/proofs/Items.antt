@@ -14,7 +14,7 @@ use Rattle.component_file.specs.declared.component.Import.{Import}
 use Rattle.component_file.specs.declared.component.Export.{Export}
 use Rattle.component_file.specs.declared.component.KindRow.{KindRow}
 use Rattle.cap_words.specs.Names.{is_name}
-use Rattle.component_file.specs.Limits.{Each, ImportFits, ExportFits, SiteFits, RowFits, KindFits}
+use Rattle.component_file.specs.Limits.{Each, ImportFits, ExportFits, SiteFits, KindRowFits, KindFits}
 use Rattle.component_file.specs.Limits.{StretchFits}
 use Rattle.asm_labels.specs.declared.labels.Section.{Section}
 use Rattle.asm_labels.specs.declared.labels.Section.TheVariants.{Code, Data}
@@ -22,7 +22,7 @@ use Rattle.asm_labels.specs.declared.labels.Label.{Label as LabelOf}
 use Rattle.asm_labels.specs.Labels.{label_of, is_in}
 use Rattle.asm_labels.specs.Labels.{offset_in as label_offset}
 use Rattle.asm_labels.specs.References.{Reference, AreReady}
-use Rattle.asm_labels.proofs.Tables.{within}
+use Rattle.asm_labels.proofs.Offers.{within}
 use Rattle.asm_fields.specs.declared.fault.AsmFault.TheVariants as fault
 use Rattle.asm_fields.specs.Fields.{place, place_of, name_or}
 use Rattle.asm_fields.specs.Fields.{meant, proper_name_from, proper_name_at}
@@ -32,7 +32,7 @@ use Rattle.asm_fields.specs.Operands.{KindField, Plain, Pc, kind_behind, kind_at
 use Rattle.asm_draft.specs.Tables.{Tables, first_out_of_order, with_import, with_export, with_site}
 use Rattle.asm_draft.specs.Tables.{with_row}
 use Rattle.asm_draft.specs.Draft.{Draft}
-use Rattle.asm_draft.specs.Operands.{offset_found, offset_in, kind_found, kind_in, kinds_in, import_in}
+use Rattle.asm_draft.specs.Operands.{offset_found, offset_operand, kind_found, kind_in, kinds_in, import_in}
 use Rattle.asm_draft.specs.Operands.{export_in, site_in, fail_in, literal_in, row_in}
 use Rattle.assembler.proofs.Gets.{Gets, Any, gets_any, gets_then, gets_done, gets_holds, gets_if}
 use Rattle.assembler.proofs.Gets.{gets_looking, natural_within}
@@ -114,8 +114,8 @@ found section (Label at name) d k fits =
 abbrev pub OffsetFound : Draft → ℕ × Draft → Type 0
 OffsetFound d x = (x.0 ≤ LAST_OFFSET) × Refers d x.1
 
-offset_is : (section : Section) (d : Draft) → IsDraft d → Gets (OffsetFound d) (offset_in section d)
-unfolding offset_in
+offset_is : (section : Section) (d : Draft) → IsDraft d → Gets (OffsetFound d) (offset_operand section d)
+unfolding offset_operand
 offset_is section d k =
     gets_then _ (OffsetFound d) _ _ offset_fits
     (λ o fits. gets_done (OffsetFound d) (offset_found section o d) (found section o d k fits))
@@ -260,7 +260,7 @@ row_kept at r t k room offset kinds = record {
   ordered = λ none.
       let p = none_before t.out_of_order _ at none in
       let before = k.ordered p.0 in
-      (before.0, before.1, before.2, one_behind RowFits t.rows r before.3 (offset, p.1, kinds));
+      (before.0, before.1, before.2, one_behind KindRowFits t.rows r before.3 (offset, p.1, kinds));
 }
 
 -- other tables, and other references

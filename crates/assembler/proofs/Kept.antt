@@ -3,17 +3,18 @@ use Rattle.std.proofs.Common.{◌≡◌, ℕ, ◌+◌, ◌<◌, ◌≤◌, zero,
 use Rattle.std.proofs.Common.{Some, None, refl, sym, ap, ◌∙◌, subst, arith}
 use Rattle.std.specs.Prelude.{IsTrue, IfSome, slice_get, pos}
 use Rattle.std.proofs.lemmas.Option.{slice_get_within}
-use Rattle.component_file.proofs.Lists.{get_pushed}
+use Rattle.component_file.proofs.Offers.{get_pushed}
 use Rattle.cap_words.specs.declared.TheConstants.{LAST_PLACE}
 use Rattle.cap_words.specs.declared.Word.{Word}
 use Rattle.cap_words.specs.declared.Word.TheVariants.{Int}
 use Rattle.lcm_isa.specs.declared.Instr.{Instr}
 use Rattle.lcm_isa.specs.Numbers.{number_of, IsInstr}
-use Rattle.lcm_isa.proofs.NumberLemmas.{decode_of-number_of}
+use Rattle.lcm_isa.proofs.Offers.{decode_of-number_of}
 use Rattle.component_file.specs.declared.TheConstants.{LAST_OFFSET, MOST_WORDS, MOST_IMPORTS, MOST_EXPORTS}
 use Rattle.component_file.specs.declared.TheConstants.{MOST_SITES, MOST_ROWS}
 use Rattle.cap_words.specs.Names.{is_name}
-use Rattle.component_file.specs.Limits.{Chain, Each, ImportFits, ExportFits, SiteFits, RowFits, StretchFits}
+use Rattle.component_file.specs.Limits.{Chain, Each, ImportFits, ExportFits, SiteFits, KindRowFits}
+use Rattle.component_file.specs.Limits.{StretchFits}
 use Rattle.asm_labels.specs.declared.labels.Label.{Label}
 use Rattle.asm_labels.specs.Labels.{AreWithin}
 use Rattle.asm_labels.specs.Patch.{instr_in, some_immediate, has_immediate, has_immediate_at}
@@ -47,7 +48,7 @@ pub record HeaderKept (h : Header) : Type 0 where
 
 abbrev pub AreOrdered : Tables → Type 0
 AreOrdered t = Chain ImportFits None t.imports × Chain ExportFits None t.exports
-    × Chain SiteFits None t.sites × Chain RowFits None t.rows
+    × Chain SiteFits None t.sites × Chain KindRowFits None t.rows
 
 pub record TablesKept (t : Tables) : Type 0 where
   pub imports : length t.imports ≤ MOST_IMPORTS

@@ -5,3 +5,4 @@ pub mod Kept
 pub mod Items
 pub mod Drafts
 pub mod Complete
+pub mod Offers

@@ -6,12 +6,11 @@ use Rattle.std.specs.Str.{bytes_eq}
 use Rattle.std.proofs.lemmas.List.{append_cancel_right}
 use Rattle.std.proofs.lemmas.Slice.Eq.{bytes_eq-Decides}
 use Rattle.line_fields.specs.Fields.{Reader, field, fields}
-use Rattle.run_items.proofs.Spaced.{spaced}
-use Rattle.run_items.proofs.LinesSeen.{body, line_text_is}
+use Rattle.run_items.proofs.Offers.{spaced, body, line_text_is}
 use Rattle.run_audit.specs.declared.line.Line.{Line as AuditLine}
 use Rattle.run_audit.specs.declared.line.Line.TheVariants.{Call, Ret, Enter, Pass, Leave, End}
 use Rattle.run_audit.specs.Lines.{call, ret, entered, passed, left, halted, failed, running}
-use Rattle.run_audit.specs.Lines.{line_named, line_at, line_in}
+use Rattle.run_audit.specs.Lines.{line_named, one_line, line_in}
 use Rattle.audited_runs.specs.Spelling.{LineIsSpelled, IsSpelled, LinesAreRead}
 use Rattle.audited_runs.proofs.Spelled.{text_read}
 use Rattle.audited_runs.proofs.Taken.{Fields, goes, whole_is, field_is, by_fields}
@@ -80,7 +79,7 @@ module _ (text name : List ℕ) (fs : Fields) (l : AuditLine) (is : text ≡ nam
       (λ e k. running_spelled text fs l (under _ e) k) (λ h8. absurd cc))))))))
 
 read_is_text : (text : List ℕ) (l : AuditLine) → line_in text ≡ Some l → IsSpelled text l
-unfolding line_in line_at
+unfolding line_in one_line
 read_is_text text l h =
     let g = goes (field (fields text)) line_named (l, []) (whole_is _ l h) in
     let is = by_fields text g.value g.rest (field_is (fields text) g.value g.rest g.first) in

@@ -16,18 +16,17 @@ use Rattle.lcm_machine.specs.declared.Step.TheVariants.{Went, Halted, Failed}
 use Rattle.lcm_machine.specs.Places.{reg}
 use Rattle.lcm_machine.specs.Fitting.{MapsFit}
 use Rattle.lcm_machine.specs.Run.{Run, plain}
-use Rattle.lcm_machine.proofs.RunLemmas.{count_next}
+use Rattle.lcm_machine.proofs.Offers.{count_next}
 use Rattle.trace_tool.specs.EndLines.{cause_text, pc_text}
 use Rattle.line_fields.specs.Cuts.{behind}
 use Rattle.line_fields.specs.Numbers.{number_in}
 use Rattle.line_fields.specs.Words.{HasText}
 use Rattle.line_fields.specs.Fields.{tested, meant}
-use Rattle.line_fields.proofs.Numbers.{number_again, integer_again}
-use Rattle.line_fields.proofs.WordTexts.{fits_has_text}
-use Rattle.run_items.proofs.High.{IsHigh, decimal_high, word_high}
-use Rattle.run_items.proofs.EndLinesSeen.{cause_high, pc_high, end_body}
+use Rattle.line_fields.proofs.Offers.{number_again, integer_again, fits_has_text}
+use Rattle.run_items.proofs.Offers.{IsHigh, decimal_high, word_high, cause_high, pc_high, end_body}
 use Rattle.run_audit.specs.declared.line.Line.TheVariants.{End}
-use Rattle.run_audit.specs.Lines.{is_address, is_cause, line_in, line_at, line_named, halted, failed, running}
+use Rattle.run_audit.specs.Lines.{is_address, is_cause, line_in, one_line, line_named, halted, failed}
+use Rattle.run_audit.specs.Lines.{running}
 use Rattle.run_audit.specs.Lines.{steps}
 use Rattle.audited_runs.proofs.Spelled.{word_read, read_by}
 
@@ -85,18 +84,18 @@ pub steps_high : IsHigh (codes "steps")
 steps_high = record { all = refl }
 
 pub halted_at : (w : Word) (n : ℕ) → HasText w → n < 2 ^ 64
-    → line_at (codes "halted" ∷ word_text_of w ∷ codes "steps" ∷ decimal n ∷ []) ≡ Some (End, [])
-unfolding line_at line_named halted steps tested meant
+    → one_line (codes "halted" ∷ word_text_of w ∷ codes "steps" ∷ decimal n ∷ []) ≡ Some (End, [])
+unfolding one_line line_named halted steps tested meant
 halted_at w n h lt = let x = word_read w h in let k = count_read n lt in rw (x, k) refl
 
 pub running_at : (w : Word) (n : ℕ) → HasText w → n < 2 ^ 64
-    → line_at (codes "running" ∷ pc_text w ∷ codes "steps" ∷ decimal n ∷ []) ≡ Some (End, [])
-unfolding line_at line_named running steps tested meant
+    → one_line (codes "running" ∷ pc_text w ∷ codes "steps" ∷ decimal n ∷ []) ≡ Some (End, [])
+unfolding one_line line_named running steps tested meant
 running_at w n h lt = let x = pc_read w h in let k = count_read n lt in rw (x, k) refl
 
 pub failed_at : (w : Word) (f : FailCause) (n : ℕ) → HasText w → n < 2 ^ 64
-    → line_at (codes "failed" ∷ pc_text w ∷ cause_text f ∷ codes "steps" ∷ decimal n ∷ []) ≡ Some (End, [])
-unfolding line_at line_named failed steps tested meant
+    → one_line (codes "failed" ∷ pc_text w ∷ cause_text f ∷ codes "steps" ∷ decimal n ∷ []) ≡ Some (End, [])
+unfolding one_line line_named failed steps tested meant
 failed_at w f n h lt =
     let x = pc_read w h in let c = cause_read f in let k = count_read n lt in rw (x, c, k) refl
 

@@ -18,7 +18,7 @@ use Rattle.trace_tool.specs.Views.{flat_view}
 use Rattle.source_events.specs.declared.FeedPair.{FeedPair}
 use Rattle.trace_tool.specs.Lines.{Line, call, ret, enter, pass, leave, feed_pair, pass_lines}
 use Rattle.trace_tool.specs.Lines.{line_of, lines_for}
-use Rattle.trace_tool.specs.Pairs.{pairs_of, no_pairs}
+use Rattle.trace_tool.specs.Pairs.{pairs_of, none_paired}
 use Rattle.trusted_border.specs.declared.events.Event.TheVariants.{Called, Returned, Entered, Left}
 use Rattle.trace_tool.specs.Told.{step_lines, Told, none_yet, and_then}
 use Rattle.trace_tool.specs.OpenCalls.{LineTold}
@@ -26,11 +26,9 @@ use Rattle.trace_tool.specs.Brackets.{mark_of, marks_in, line_told, lines_told, 
 use Rattle.run_audit.specs.declared.line.Line.TheVariants.{Call, Ret, Enter}
 use Rattle.run_audit.specs.Told.{ToldSeen, same_told}
 use Rattle.run_audit.specs.Traces.{IsWide}
-use Rattle.run_audit.specs.Audit.{OpenSeen, below_newest, stepped, goes_on as goes_on_with}
+use Rattle.run_audit.specs.Audit.{OpenSeen, below_newest, stepped, audit_on as goes_on_with}
 use Rattle.run_audit.specs.Audit.{followed}
-use Rattle.run_audit.proofs.Same.{told_decides}
-use Rattle.run_audit.proofs.Clean.{wide_true}
-use Rattle.run_audit.proofs.Steps.{followed_append}
+use Rattle.run_audit.proofs.Offers.{told_decides, wide_true, followed_append}
 use Rattle.audited_runs.specs.Audited.{told_seen, line_seen}
 
 as_many : {A B : Type 0} (f : A → B) (xs : List A) → length (map f xs) ≡ length xs
@@ -149,7 +147,7 @@ none_or_some l q (Some (Returned inward i base last)) ps qs h lp lq n b =
 none_or_some l q (Some (Entered part k back)) ps qs h lp lq n b =
     let v = flat_view l q in
     let p = pairs_of l v in
-    let r = behind_enter (no_pairs p) (feed_pair l p.p0) (feed_pair l p.p1) (feed_pair l p.p2) ps qs h
+    let r = behind_enter (none_paired p) (feed_pair l p.p0) (feed_pair l p.p1) (feed_pair l p.p2) ps qs h
     (n + 1) in
     (r.0, enter_goes ps b n (line_of l v (Entered part k back)) (pass_lines l p) refl ∙ r.1)
 none_or_some l q (Some (Left part)) ps qs h lp lq n b =

@@ -6,23 +6,20 @@ use Rattle.trace_tool.specs.Lines.{Line, call, ret, enter, pass, leave}
 use Rattle.trace_tool.specs.Texts.{lines_text}
 use Rattle.trace_tool.specs.Fits.{LinesFit}
 use Rattle.line_fields.specs.Fields.{lines}
-use Rattle.run_items.proofs.LinesSeen.{body}
-use Rattle.run_items.proofs.EndLinesSeen.{IsPassedOver}
-use Rattle.run_items.proofs.Feeding.{lines_are, end_line_is}
+use Rattle.run_items.proofs.Offers.{body, IsPassedOver, lines_are, end_line_is}
 use Rattle.run_audit.specs.declared.fault.AuditFault.{AuditFault}
 use Rattle.run_audit.specs.declared.line.Line.TheVariants.{End}
 use Rattle.run_audit.specs.Lines.{line_in, is_end}
-use Rattle.run_audit.specs.Audit.{OpenSeen, nothing_open, goes_on, judged, stepped, followed, audited}
+use Rattle.run_audit.specs.Audit.{OpenSeen, nothing_open, audit_on, judged, stepped, followed, audited}
 use Rattle.run_audit.specs.Audit.{audited_from}
 use Rattle.run_audit.specs.Traces.{IsTrace}
-use Rattle.run_audit.proofs.Steps.{before_more, judged_event}
-use Rattle.run_audit.proofs.Found.{answered_trace}
-use Rattle.line_fields.proofs.Cuts.{parts_some}
+use Rattle.run_audit.proofs.Offers.{before_more, judged_event, answered_trace}
+use Rattle.line_fields.proofs.Offers.{parts_some}
 use Rattle.audited_runs.specs.Audited.{line_seen}
 use Rattle.audited_runs.proofs.Spelled.{line_read}
 
 first_went : (r : Result OpenSeen AuditFault) (f : OpenSeen → Result OpenSeen AuditFault) (u : OpenSeen)
-    → goes_on r f ≡ Ok u → (s : OpenSeen) × (r ≡ Ok s) × (f s ≡ Ok u)
+    → audit_on r f ≡ Ok u → (s : OpenSeen) × (r ≡ Ok s) × (f s ≡ Ok u)
 first_went (Ok s) f u h = (s, refl, h)
 first_went (Err e) f u h = absurd cc
 
@@ -49,7 +46,7 @@ module _ (t : List ℕ) (e : IsPassedOver t) (read : line_in e.0 ≡ Some End) w
       ∙ before_more s n (body l) rest (parts_some 10 (lines_text ls ++ t))
       ∙ ap (λ x. judged s n x rest (λ u. audited_from u (n + 1) rest)) (line_read l fit.0)
       ∙ judged_event s n (line_seen l) rest (λ u. audited_from u (n + 1) rest) (no_end l)
-      ∙ ap (λ q. goes_on q (λ u. audited_from u (n + 1) rest)) k.1
+      ∙ ap (λ q. audit_on q (λ u. audited_from u (n + 1) rest)) k.1
       ∙ pass_from ls k.0 o (n + 1) fit.1 k.2
 
   pub passes : (ls : List Line) (o : OpenSeen) → LinesFit ls

@@ -14,14 +14,13 @@ use Rattle.trace_tool.specs.Texts.{direction, field, words_text, args_text, plac
 use Rattle.trace_tool.specs.Fits.{AllOf, ArgsOf, LineFits}
 use Rattle.line_fields.specs.Words.{HasText, is_word}
 use Rattle.line_fields.specs.Fields.{meant, tested, whole}
-use Rattle.line_fields.proofs.WordTexts.{fits_has_text, text_is_word}
-use Rattle.run_items.proofs.High.{IsHigh, decimal_high, word_high, name_high, name_is}
-use Rattle.run_items.proofs.Spaced.{spaced, AllHigh, fields_are, words_spaced, words_high}
-use Rattle.run_items.proofs.FieldsRead.{natural_again, back_read, pair_read, back_high, pair_high}
-use Rattle.run_items.proofs.LinesSeen.{body}
+use Rattle.line_fields.proofs.Offers.{fits_has_text, text_is_word}
+use Rattle.run_items.proofs.Offers.{IsHigh, decimal_high, word_high, name_high, name_is, spaced, AllHigh}
+use Rattle.run_items.proofs.Offers.{fields_are, words_spaced, words_high, natural_again, back_read, pair_read}
+use Rattle.run_items.proofs.Offers.{back_high, pair_high, body}
 use Rattle.run_audit.specs.declared.line.Line.TheVariants.{Enter, Pass, Leave}
 use Rattle.run_audit.specs.declared.line.Line.{Line as AuditLine}
-use Rattle.run_audit.specs.Lines.{line_in, line_at, line_named, told, words_left, call as call_in}
+use Rattle.run_audit.specs.Lines.{line_in, one_line, line_named, told, words_left, call as call_in}
 use Rattle.run_audit.specs.Lines.{ret as ret_in, entered, passed, left}
 use Rattle.audited_runs.specs.Audited.{line_seen}
 use Rattle.audited_runs.specs.Spelling.{LineHasText, FittingHaveTexts}
@@ -54,10 +53,10 @@ colon = record { all = refl }
 -- ---- a line's fields, the first of which is its name
 
 pub read_by : (text : List ℕ) (name : List ℕ) (fs : List (List ℕ)) (l : AuditLine) → text ≡ name ++ spaced fs
-    → IsHigh name → AllHigh fs → line_at (name ∷ fs) ≡ Some (l, []) → line_in text ≡ Some l
+    → IsHigh name → AllHigh fs → one_line (name ∷ fs) ≡ Some (l, []) → line_in text ≡ Some l
 unfolding line_in
 read_by text name fs l is high all read =
-    ap line_in is ∙ ap (λ ts. whole (line_at ts)) (fields_are name fs high all) ∙ ap whole read
+    ap line_in is ∙ ap (λ ts. whole (one_line ts)) (fields_are name fs high all) ∙ ap whole read
 
 -- ---- call lines
 
@@ -105,9 +104,9 @@ call_high inward part site base last a words h =
 
 call_at : (inward : Bool) (part : List ℕ) (site base last : ℕ) (a : Args) (words : List Word)
     → LineHasText (call inward part site base last a words)
-    → line_at (codes "call" ∷ call_fields inward part site base last a words)
+    → one_line (codes "call" ∷ call_fields inward part site base last a words)
     ≡ Some (line_seen (call inward part site base last a words), [])
-unfolding line_at line_named call_in told words_left meant tested
+unfolding one_line line_named call_in told words_left meant tested
 call_at true part site base last a words h =
     let p : is_name part ≡ true = name_is part h.0.0 in
     let s = natural_again site h.0.1 in
@@ -171,9 +170,9 @@ ret_high inward part site base last a0 words h =
 
 ret_at : (inward : Bool) (part : List ℕ) (site base last : ℕ) (a0 : Word) (words : List Word)
     → LineHasText (ret inward part site base last a0 words)
-    → line_at (codes "ret" ∷ ret_fields inward part site base last a0 words)
+    → one_line (codes "ret" ∷ ret_fields inward part site base last a0 words)
     ≡ Some (line_seen (ret inward part site base last a0 words), [])
-unfolding line_at line_named ret_in told words_left meant tested
+unfolding one_line line_named ret_in told words_left meant tested
 ret_at true part site base last a0 words h =
     let p : is_name part ≡ true = name_is part h.0.0 in
     let s = natural_again site h.0.1 in
@@ -222,8 +221,8 @@ enter_high part export stk a back h =
 
 enter_at : (part export : List ℕ) (stk : Word) (a : Args) (back : FeedBack)
     → LineHasText (enter part export stk a back)
-    → line_at (codes "enter" ∷ enter_fields part export stk a back) ≡ Some (Enter, [])
-unfolding line_at line_named entered meant tested
+    → one_line (codes "enter" ∷ enter_fields part export stk a back) ≡ Some (Enter, [])
+unfolding one_line line_named entered meant tested
 enter_at part export stk a back h =
     let p : is_name part ≡ true = name_is part h.0 in
     let e : is_name export ≡ true = name_is export h.1 in
@@ -251,8 +250,8 @@ some_told false true c e = refl
 some_told false false c e = e
 
 pass_at : (p0 p1 p2 : FeedPair) → LineHasText (pass p0 p1 p2)
-    → line_at (codes "pass" ∷ pass_fields p0 p1 p2) ≡ Some (Pass, [])
-unfolding line_at line_named passed meant
+    → one_line (codes "pass" ∷ pass_fields p0 p1 p2) ≡ Some (Pass, [])
+unfolding one_line line_named passed meant
 pass_at p0 p1 p2 h =
     let x0 = pair_read p0 h.0 in
     let x1 = pair_read p1 h.1 in
@@ -267,8 +266,8 @@ pub regroup_leave : (c sp p x : List ℕ)
 regroup_leave c sp p x = simp append_assoc
 
 leave_at : (part : List ℕ) (a0 : Word) → LineHasText (leave part a0)
-    → line_at (codes "leave" ∷ part ∷ word_text_of a0 ∷ []) ≡ Some (Leave, [])
-unfolding line_at line_named left tested
+    → one_line (codes "leave" ∷ part ∷ word_text_of a0 ∷ []) ≡ Some (Leave, [])
+unfolding one_line line_named left tested
 leave_at part a0 h =
     let p : is_name part ≡ true = name_is part h.0 in
     let x = word_read a0 h.1 in

@@ -14,9 +14,8 @@ use Rattle.line_fields.specs.Numbers.{natural_in}
 use Rattle.line_fields.specs.Words.{is_word}
 use Rattle.line_fields.specs.Forms.{back_in, handed_in}
 use Rattle.line_fields.specs.Fields.{meant, tested}
-use Rattle.line_fields.proofs.Numbers.{chosen}
-use Rattle.run_items.proofs.Spaced.{spaced}
-use Rattle.run_items.proofs.LinesSeen.{body, line_text_is}
+use Rattle.line_fields.proofs.Offers.{chosen}
+use Rattle.run_items.proofs.Offers.{spaced, body, line_text_is}
 use Rattle.run_audit.specs.declared.line.Line.{Line as AuditLine}
 use Rattle.run_audit.specs.declared.line.Line.TheVariants.{Call, Ret, Pass}
 use Rattle.run_audit.specs.Told.{ToldSeen}

@@ -19,12 +19,10 @@ use Rattle.line_fields.specs.Cuts.{parts}
 use Rattle.line_fields.specs.Numbers.{number_in}
 use Rattle.line_fields.specs.Words.{HasText, word_in, is_word}
 use Rattle.line_fields.specs.Forms.{back_in, handed_in}
-use Rattle.line_fields.specs.Fields.{Reader, goes_on, done, field, unless_none, meant, tested, fields}
+use Rattle.line_fields.specs.Fields.{Reader, reads_on, done, field, unless_none, meant, tested, fields}
 use Rattle.line_fields.specs.Fields.{whole}
-use Rattle.line_fields.proofs.Numbers.{number_is, chosen}
-use Rattle.line_fields.proofs.WordTexts.{word_is}
-use Rattle.line_fields.proofs.JumpTexts.{back_is, handed_is}
-use Rattle.run_items.proofs.Spaced.{spaced, no_rest}
+use Rattle.line_fields.proofs.Offers.{number_is, chosen, word_is, back_is, handed_is}
+use Rattle.run_items.proofs.Offers.{spaced, no_rest}
 use Rattle.run_audit.specs.Lines.{is_direction, registers, words_left}
 use Rattle.audited_runs.proofs.Spelled.{dir_text}
 use Rattle.trace_tool.specs.Fits.{AllOf}
@@ -42,7 +40,7 @@ pub record Goes {A B : Type 0} (o : Option (A × Fields)) (f : A → Reader B) (
   pub next : f value rest ≡ Some y
 
 pub goes : {A B : Type 0} (o : Option (A × Fields)) (f : A → Reader B) (y : B × Fields)
-    → goes_on o f ≡ Some y → Goes o f y
+    → reads_on o f ≡ Some y → Goes o f y
 goes None f y h = absurd cc
 goes (Some x) f y h = record { value = x.0; rest = x.1; first = refl; next = h }
 

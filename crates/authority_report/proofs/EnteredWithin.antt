@@ -1,4 +1,4 @@
--- A part that is entered runs within its report, and doesn't depend on what it can't read.
+-- A part that is entered_at runs within its report, and doesn't depend on what it can't read.
 use Rattle.std.proofs.Common.{◌≡◌, ℕ, List, Some, refl, sym, subst, ◌∙◌, pos}
 use Rattle.cap_words.specs.declared.Word.{Word}
 use Rattle.lcm_isa.specs.declared.Reg.{Reg}
@@ -15,10 +15,10 @@ use Rattle.component_linker.specs.Owners.{owner_of}
 use Rattle.component_linker.specs.Start.{Exported, start_regs}
 use Rattle.authority_report.specs.Reaches.{its_code, its_data, the_stack}
 use Rattle.authority_report.specs.declared.reach.Reach.{Reach}
-use Rattle.authority_report.specs.Report.{told, owner_of_part, IsReport, Reports}
+use Rattle.authority_report.specs.Report.{told_authority, owner_of_part, IsReport, Reports}
 use Rattle.authority_report.specs.Within.{Authority, IsWithin}
-use Rattle.authority_report.specs.Bounds.{Holds}
-use Rattle.authority_report.specs.Entered.{IsLinked, entered, HalvesUnsealed, ReportsBoundRuns}
+use Rattle.authority_report.specs.Bounds.{IsBounded}
+use Rattle.authority_report.specs.Entered.{IsLinked, entered_at, HalvesUnsealed, ReportsBoundRuns}
 use Rattle.authority_report.specs.Influence.{ReportsBoundInfluence}
 use Rattle.authority_report.proofs.ReachedWithin.{word_just, cell_just}
 use Rattle.authority_report.proofs.RunsWithin.{runs_within}
@@ -28,14 +28,14 @@ use Rattle.authority_report.proofs.RunsBlind.{runs_blind}
 module _ (g : Authority) (parts : List PartSeen) (size : ℕ) (main : Exported) (s : StartSeen) (o : Owner)
     (e : Entry)
     (is : s.state.maps.regs ≡ start_regs parts size main)
-    (pc : IsWithin g (reg (entered s o e).regs Pc))
-    (dat : IsWithin g (reg (entered s o e).regs Dat))
+    (pc : IsWithin g (reg (entered_at s o e).regs Pc))
+    (dat : IsWithin g (reg (entered_at s o e).regs Dat))
     (stk : IsWithin g (reg s.state.maps.regs Stk)) where
   zero_at : (at : Regs Word → Word) → IsWithin g (at (start_regs parts size main))
       → IsWithin g (at s.state.maps.regs)
   zero_at at h = subst (λ r. IsWithin g (at r)) (sym is) h
 
-  all_regs : (r : Reg) → IsWithin g (reg (entered s o e).regs r)
+  all_regs : (r : Reg) → IsWithin g (reg (entered_at s o e).regs r)
   unfolding start_regs
   all_regs Pc = pc
   all_regs Dat = dat
@@ -67,12 +67,12 @@ its_report s part r o its (q, also, is) =
     let same : q ≡ o = cc in
     subst (λ (x : Owner). IsReport s.state.maps x r) same is
 
--- where a part is entered, no word gives more than its report tells
+-- where a part is entered_at, no word gives more than its report tells
 pub holds_entered : (s : StartSeen) (part : ℕ) (r : Reach) → IsLinked s → Reports s part r → (o : Owner)
-    (e : Entry) → owner_of_part s.owners part ≡ Some o → Holds (told o r) (entered s o e)
+    (e : Entry) → owner_of_part s.owners part ≡ Some o → IsBounded (told_authority o r) (entered_at s o e)
 holds_entered s part r linked reports o e its =
     let m = s.state.maps in
-    let g = told o r in
+    let g = told_authority o r in
     let starts = linked.starts.state in
     let just = (its_report s part r o its reports).just in
     record {
@@ -85,11 +85,11 @@ holds_entered s part r linked reports o e its =
 
 pub reports_bound_runs : ReportsBoundRuns
 reports_bound_runs s part r linked reports o e its there =
-    runs_within (told o r) (entered s o e) (holds_entered s part r linked reports o e its)
+    runs_within (told_authority o r) (entered_at s o e) (holds_entered s part r linked reports o e its)
 
 pub reports_bound_influence : ReportsBoundInfluence
 reports_bound_influence s part r linked reports o e its there =
-    runs_blind (told o r) (entered s o e) (holds_entered s part r linked reports o e its)
+    runs_blind (told_authority o r) (entered_at s o e) (holds_entered s part r linked reports o e its)
 
 pub halves_unsealed : HalvesUnsealed
 unfolding owner_of

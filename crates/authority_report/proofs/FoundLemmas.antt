@@ -21,14 +21,15 @@ use Rattle.component_linker.specs.declared.owners.Owner.{Owner}
 use Rattle.place_sets.specs.declared.set.Stretch.{Stretch}
 use Rattle.place_sets.specs.Has.{has}
 use Rattle.place_sets.specs.Takes.{is_left}
-use Rattle.place_sets.proofs.TakesLemmas.{kept, fresh, only}
+use Rattle.place_sets.proofs.Offers.{kept, fresh, only}
 use Rattle.authority_report.specs.declared.found.Found.{Found}
-use Rattle.authority_report.specs.Reaches.{is_seal_of, code_of, data_of, bare, Reaches, its_code, its_data}
+use Rattle.authority_report.specs.Reaches.{is_seal_of, whole_code, whole_data, bare, Reaches, its_code}
+use Rattle.authority_report.specs.Reaches.{its_data}
 use Rattle.authority_report.specs.Reaches.{the_stack, in_cell, opened, Allows, SealsWith}
 use Rattle.authority_report.specs.Within.{CapWithin, SealsWithin, IsWithin}
 use Rattle.authority_report.specs.declared.reach.Reach.{Reach}
 use Rattle.place_sets.specs.Spans.{allows}
-use Rattle.authority_report.specs.Report.{told, IsJust}
+use Rattle.authority_report.specs.Report.{told_authority, IsJust}
 use Rattle.authority_report.specs.SealRanges.{is_in}
 use Rattle.authority_report.specs.Found.{bared, gives, gives_seal, Adds, authority_of, IsSound, IsClosedBut}
 use Rattle.authority_report.proofs.ReachedWithin.{reached_within}
@@ -170,8 +171,8 @@ module _ (m : State Word) (o : Owner) (f g : Found) (w : Word) (r : Reaches m o 
   stays_closed some h = record {
     sound = stays_sound h.sound;
     begun = record {
-      its_code = λ z. cap_grows o f g (bared o w) adds (code_of o z) (h.begun.its_code z);
-      its_data = cap_grows o f g (bared o w) adds (data_of o) h.begun.its_data;
+      its_code = λ z. cap_grows o f g (bared o w) adds (whole_code o z) (h.begun.its_code z);
+      its_data = cap_grows o f g (bared o w) adds (whole_data o) h.begun.its_data;
       its_stack = grows o f g (bared o w) adds (reg m.regs Stk) h.begun.its_stack;
     };
     looked = λ a e. more_read o f g (bared o w) adds a (h.looked a e);
@@ -215,21 +216,22 @@ sound_none m o f r w x s l = record {
 pub closed_begun : (m : State Word) (o : Owner) (z : ℤ) (f0 f1 f2 f3 : Found)
     → ((a : ℕ) → has f0.read a ≡ false) → ((a : ℕ) → has f0.write a ≡ false)
     → ((a : ℕ) → has f0.run a ≡ false) → ((a : ℕ) → has f0.seals a ≡ false) → f0.left.items ≡ []
-    → Adds f0 (Mem (code_of o z)) f1 → Adds f1 (Mem (data_of o)) f2 → Adds f2 (bared o (reg m.regs Stk)) f3
+    → Adds f0 (Mem (whole_code o z)) f1 → Adds f1 (Mem (whole_data o)) f2 → Adds f2
+    (bared o (reg m.regs Stk)) f3
     → IsClosedBut (λ a. false) m o f3
 closed_begun m o z f0 f1 f2 f3 r w x s l first second third = record {
   sound = stays_sound m o f2 f3 (reg m.regs Stk) the_stack third
-      (stays_sound m o f1 f2 (Mem (data_of o)) its_data second
-      (stays_sound m o f0 f1 (Mem (code_of o z)) (its_code z) first (sound_none m o f0 r w x s l)));
+      (stays_sound m o f1 f2 (Mem (whole_data o)) its_data second
+      (stays_sound m o f0 f1 (Mem (whole_code o z)) (its_code z) first (sound_none m o f0 r w x s l)));
   begun = record {
     its_code = λ y. (
-        let k = cap_added o f0 f1 (code_of o z) first in
-        let n = cap_grows o f2 f3 (bared o (reg m.regs Stk)) third (code_of o z)
-        (cap_grows o f1 f2 (Mem (data_of o)) second (code_of o z) k) in
+        let k = cap_added o f0 f1 (whole_code o z) first in
+        let n = cap_grows o f2 f3 (bared o (reg m.regs Stk)) third (whole_code o z)
+        (cap_grows o f1 f2 (Mem (whole_data o)) second (whole_code o z) k) in
         record { read = n.read; write = n.write; run = n.run }
         );
-    its_data = cap_grows o f2 f3 (bared o (reg m.regs Stk)) third (data_of o)
-        (cap_added o f1 f2 (data_of o) second);
+    its_data = cap_grows o f2 f3 (bared o (reg m.regs Stk)) third (whole_data o)
+        (cap_added o f1 f2 (whole_data o) second);
     its_stack = word_added o f2 f3 (reg m.regs Stk) third;
   };
   looked = λ a e. absurd (let f : false ≡ true = e in cc);
@@ -356,7 +358,7 @@ pub found_told : (m : State Word) (o : Owner) (f : Found) (r : Reach)
     → ((a : ℕ) → allows (λ f. f.write) r.spans a ≡ has f.write a)
     → ((a : ℕ) → allows (λ f. f.run) r.spans a ≡ has f.run a)
     → ((n : ℕ) → is_in r.seals n ≡ has f.seals n)
-    → IsJust m o (authority_of o f) → IsJust m o (told o r)
+    → IsJust m o (authority_of o f) → IsJust m o (told_authority o r)
 found_told m o f r read write run seals h = record {
   read = λ a. (λ e. (h.read a).0 (sym (read a) ∙ e), λ k. read a ∙ (h.read a).1 k);
   write = λ a. (λ e. (h.write a).0 (sym (write a) ∙ e), λ k. write a ∙ (h.write a).1 k);

@@ -6,7 +6,7 @@ use Rattle.cap_words.specs.Stretch.{Stretch}
 use Rattle.component_linker.specs.declared.owners.Owner.{Owner}
 use Rattle.component_linker.specs.Started.{StartSeen}
 use Rattle.place_sets.specs.declared.spans.ReachSpan.{ReachSpan}
-use Rattle.place_sets.proofs.OneReport.{one_spans}
+use Rattle.place_sets.proofs.Offers.{one_spans}
 use Rattle.authority_report.specs.declared.reach.Reach.{Reach}
 use Rattle.authority_report.specs.Report.{owner_of_part, IsReport}
 use Rattle.authority_report.specs.Text.{part_text, TextOf, none, next}

@@ -9,13 +9,10 @@ use Rattle.component_linker.specs.declared.owners.Owner.{Owner}
 use Rattle.component_linker.specs.Owners.{owner_of, IsOwner}
 use Rattle.component_linker.specs.Started.{StartSeen}
 use Rattle.component_linker.specs.Linked.{Linked}
-use Rattle.component_linker.proofs.LinksKept.{are_linked}
-use Rattle.component_linker.proofs.Found.{found}
-use Rattle.component_linker.proofs.StartWords.{listed_at}
-use Rattle.component_linker.proofs.ListedOwners.{part_of}
+use Rattle.component_linker.proofs.Offers.{are_linked, found, listed_at, part_of}
 use Rattle.authority_report.specs.Entered.{IsLinked}
 use Rattle.authority_report.specs.Report.{owner_of_part}
-use Rattle.component_file.proofs.Lists.{inside}
+use Rattle.component_file.proofs.Offers.{inside}
 
 pub owner_listed : (owners : List Owner) (part : ℕ) (o : Owner) → owner_of_part owners part ≡ Some o
     → Contains owners o

@@ -14,7 +14,7 @@ use Rattle.seal_space.specs.Seals.{has_seal}
 use Rattle.place_sets.specs.declared.set.Stretch.{Stretch as FromTo}
 use Rattle.place_sets.specs.Takes.{is_left}
 use Rattle.place_sets.specs.Stretches.{IsStretch, AreApart as FromTosApart}
-use Rattle.place_sets.proofs.OneReport.{one_stretches}
+use Rattle.place_sets.proofs.Offers.{one_stretches}
 use Rattle.authority_report.specs.SealRanges.{is_in, IsRange, AreApart, range_of, Fits}
 
 -- ---- lists whose items are made from others

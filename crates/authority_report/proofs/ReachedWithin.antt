@@ -12,7 +12,8 @@ use Rattle.lcm_machine.specs.Maps.{State}
 use Rattle.lcm_machine.specs.Places.{reg}
 use Rattle.lcm_machine.specs.Cells.{cell}
 use Rattle.component_linker.specs.declared.owners.Owner.{Owner}
-use Rattle.authority_report.specs.Reaches.{is_seal_of, code_of, data_of, bare, Reaches, its_code, its_data}
+use Rattle.authority_report.specs.Reaches.{is_seal_of, whole_code, whole_data, bare, Reaches, its_code}
+use Rattle.authority_report.specs.Reaches.{its_data}
 use Rattle.authority_report.specs.Reaches.{the_stack, in_cell, opened}
 use Rattle.authority_report.specs.Within.{Authority, CapWithin, SealsWithin, IsWithin}
 use Rattle.authority_report.specs.Report.{IsJust}
@@ -50,7 +51,7 @@ module _ (m : State Word) (o : Owner) (g : Authority) (own : (n : ℕ) → g.own
         word_just w (in_cell k.cap a w k.reached k.allowed k.low k.high there)
 
   -- of an authority that has what the part begins with, and the words of the cells that may be read
-  module _ (code : (z : ℤ) → CapWithin g (code_of o z)) (its_words : CapWithin g (data_of o))
+  module _ (code : (z : ℤ) → CapWithin g (whole_code o z)) (its_words : CapWithin g (whole_data o))
       (stack : IsWithin g (reg m.regs Stk))
       (cells : (a : ℕ) (w : Word) → g.read a ≡ true → cell m.cells a ≡ Some w → IsWithin g w) where
     bare_within : (n : ℕ) (x : Sealable) → IsWithin g (Sealed n x) → g.own n ≡ true → IsWithin g (bare x)

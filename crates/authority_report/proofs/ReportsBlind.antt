@@ -15,11 +15,11 @@ use Rattle.lcm_machine.specs.Places.{reg}
 use Rattle.lcm_machine.specs.Blind.{SameBut}
 use Rattle.component_linker.specs.declared.owners.Owner.{Owner}
 use Rattle.place_sets.specs.declared.spans.ReachSpan.{ReachSpan}
-use Rattle.place_sets.specs.Spans.{allows, covers, IsSpan}
+use Rattle.place_sets.specs.Spans.{allows, span_has, IsSpan}
 use Rattle.authority_report.specs.Reaches.{Reaches, its_code, its_data, the_stack, in_cell, opened}
 use Rattle.authority_report.specs.Reaches.{Allows, SealsWith}
 use Rattle.authority_report.specs.Within.{Authority}
-use Rattle.authority_report.specs.Report.{IsJust, told}
+use Rattle.authority_report.specs.Report.{IsJust, told_authority}
 use Rattle.authority_report.specs.Influence.{Unread, UnreadIsInNoSpan, ReportsAreBlind}
 use Rattle.authority_report.proofs.RunsWithin.{writes_read}
 use Rattle.authority_report.proofs.RunsBlind.{runs_read}
@@ -87,7 +87,7 @@ module _ (m t : State Word) (o : Owner) (g : Authority) (just : IsJust m o g) (d
 
 pub reports_are_blind : ReportsAreBlind
 reports_are_blind m t o r d is =
-    record { just = just_same m t o (told o r) is.just d; spans = is.spans; seals = is.seals }
+    record { just = just_same m t o (told_authority o r) is.just d; spans = is.spans; seals = is.seals }
 
 -- ---- cells in no span
 
@@ -123,27 +123,27 @@ uncovered false false false true e i j k = cc
 
 in_none : (spans : List ReachSpan) (a : ℕ) → All IsSpan spans → allows (λ f. f.read) spans a ≡ false
     → allows (λ f. f.write) spans a ≡ false → allows (λ f. f.run) spans a ≡ false
-    → list_any (λ s. covers s a) spans ≡ false
+    → list_any (λ s. span_has s a) spans ≡ false
 in_none [] a each i j k = refl
 in_none (s ∷ ss) a each i j k =
     let x = or_parts _ _ i in
     let y = or_parts _ _ j in
     let z = or_parts _ _ k in
-    let here : covers s a ≡ false =
-    uncovered s.read s.write s.run (covers s a) (each zero s (omega arith)).right x.0 y.0 z.0 in
-    ap (λ b. b || list_any (λ q. covers q a) ss) here
+    let here : span_has s a ≡ false =
+    uncovered s.read s.write s.run (span_has s a) (each zero s (omega arith)).right x.0 y.0 z.0 in
+    ap (λ b. b || list_any (λ q. span_has q a) ss) here
     ∙ in_none ss a (λ n d l. each (suc n) d (omega (arith, l))) x.1 y.1 z.1
 
-unread_off : (spans : List ReachSpan) (a : ℕ) → list_any (λ s. covers s a) spans ≡ false
+unread_off : (spans : List ReachSpan) (a : ℕ) → list_any (λ s. span_has s a) spans ≡ false
     → allows (λ f. f.read) spans a ≡ false
 unread_off [] a e = refl
 unread_off (s ∷ ss) a e =
-    let k = or_parts (covers s a) (list_any (λ q. covers q a) ss) e in
-    ap (λ b. b || allows (λ f. f.read) ss a) (and_right s.read (covers s a) k.0) ∙ unread_off ss a k.1
+    let k = or_parts (span_has s a) (list_any (λ q. span_has q a) ss) e in
+    ap (λ b. b || allows (λ f. f.read) ss a) (and_right s.read (span_has s a) k.0) ∙ unread_off ss a k.1
 
 pub unread_in_no_span : UnreadIsInNoSpan
 unread_in_no_span m o r is a =
-    let g = told o r in (
+    let g = told_authority o r in (
       λ f. in_none r.spans a is.spans.each f (unwritten m o g is.just a f) (not_run m o g is.just a f),
       λ e. unread_off r.spans a e,
     )

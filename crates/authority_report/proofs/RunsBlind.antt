@@ -20,11 +20,9 @@ use Rattle.lcm_machine.specs.Row.{Fetched, none, some, fetch}
 use Rattle.lcm_machine.specs.Runs.{and_then, run_of}
 use Rattle.lcm_machine.specs.Acts.{JumpsUnder, May}
 use Rattle.lcm_machine.specs.Blind.{SameBut, Keeps, HasNoMore, EndsAlike}
-use Rattle.lcm_machine.proofs.Stretches.{tied_same}
-use Rattle.lcm_machine.proofs.Blind.{fetch_blind, step_blind}
-use Rattle.lcm_machine.proofs.StepActs.{does_as_it_may}
+use Rattle.lcm_machine.proofs.Offers.{tied_same, fetch_blind, step_blind, does_as_it_may}
 use Rattle.authority_report.specs.Within.{Authority, IsWithin}
-use Rattle.authority_report.specs.Bounds.{plain_run, StaysIn, Holds}
+use Rattle.authority_report.specs.Bounds.{plain_run, StaysIn, IsBounded}
 use Rattle.authority_report.specs.Influence.{Unread, RunsBlind}
 use Rattle.authority_report.proofs.RunsWithin.{holds_on, reads, stays_here, stays_next, used}
 
@@ -79,7 +77,7 @@ module _ (g : Authority) where
   same_as_is s = record { regs = refl; cells = λ a off. refl; spans = refl }
 
   -- a step touches no cell that may not be read
-  module _ (s : State Word) (h : Holds g s) where
+  module _ (s : State Word) (h : IsBounded g s) where
     fetched_read : (a : ℕ) → May may_run (λ w. w) s a → g.read a ≡ true
     fetched_read a (r, (c, is, may, low, high)) = reads g s h a (r, (c, is, runs_read c.perm may, low, high))
 
@@ -96,12 +94,12 @@ module _ (g : Authority) where
     spares a p e = let f : true ≡ false = sym (touched_read a e) ∙ not-true (g.read a) p in cc
 
   -- so it goes as without them
-  step_bare : (s t : State Word) → Holds g t → SameBut (Unread g) s t
+  step_bare : (s t : State Word) → IsBounded g t → SameBut (Unread g) s t
       → EndsAlike Closed t (bare s) (StepOf t) (StepOf (bare s))
   step_bare s t h d =
       step_blind Closed (λ w. w) (λ w. w) t (bare s) (like_bare s t d) (bare_less s t) (spares t h)
 
-  fetch_bare : (s t : State Word) → Holds g t → SameBut (Unread g) s t → FetchOf (bare s) ≡ FetchOf t
+  fetch_bare : (s t : State Word) → IsBounded g t → SameBut (Unread g) s t → FetchOf (bare s) ≡ FetchOf t
   fetch_bare s t h d =
       fetch_blind Closed (λ w. w) (λ w. w) t (bare s) (like_bare s t d) (bare_less s t) (spares t h)
 
@@ -128,19 +126,19 @@ module _ (g : Authority) where
   joined s t u o (failed d to) halted k m = absurd m
   joined s t u _ _ _ k m = absurd assumption
 
-  holds_same : (s t : State Word) → Holds g s → SameBut (Unread g) s t → Holds g t
+  holds_same : (s t : State Word) → IsBounded g s → SameBut (Unread g) s t → IsBounded g t
   holds_same s t h d = record {
     regs = λ r. subst (λ m. IsWithin g (reg m r)) (sym d.regs) (h.regs r);
     cells = λ a w reads there.
         h.cells a w reads (sym (d.cells a (λ f. let bad : true ≡ false = sym reads ∙ f in cc)) ∙ there);
   }
 
-  step_alike : (s t : State Word) → Holds g s → SameBut (Unread g) s t
+  step_alike : (s t : State Word) → IsBounded g s → SameBut (Unread g) s t
       → EndsAlike (Unread g) s t (StepOf s) (StepOf t)
   step_alike s t h d =
       joined s t (bare s) _ _ _ (step_bare s s h (same_as_is s)) (step_bare s t (holds_same s t h d) d)
 
-  fetch_alike : (s t : State Word) → Holds g s → SameBut (Unread g) s t → FetchOf s ≡ FetchOf t
+  fetch_alike : (s t : State Word) → IsBounded g s → SameBut (Unread g) s t → FetchOf s ≡ FetchOf t
   fetch_alike s t h d =
       sym (fetch_bare s s h (same_as_is s)) ∙ fetch_bare s t (holds_same s t h d) d
 
@@ -151,7 +149,7 @@ module _ (g : Authority) where
   goes_too s t y halted k = absurd k
   goes_too s t y (failed c at) k = absurd k
 
-  went_too : (s t y : State Word) → Holds g s → SameBut (Unread g) s t → StepOf t ≡ went y
+  went_too : (s t y : State Word) → IsBounded g s → SameBut (Unread g) s t → StepOf t ≡ went y
       → (x : State Word) × (StepOf s ≡ went x) × SameBut (Unread g) x y
   went_too s t y h d e =
       goes_too s t y (StepOf s) (subst (EndsAlike (Unread g) s t (StepOf s)) e (step_alike s t h d))
@@ -161,7 +159,7 @@ module _ (g : Authority) where
   unfolding opens
   opens_alike s t d r = ap (λ m. opened_of (reg m r)) (sym d.regs)
 
-  jumps_alike : (s t : State Word) → Holds g s → SameBut (Unread g) s t → (n : ℕ)
+  jumps_alike : (s t : State Word) → IsBounded g s → SameBut (Unread g) s t → (n : ℕ)
       → JumpsUnder (λ w. w) (λ w. w) t n → JumpsUnder (λ w. w) (λ w. w) s n
   jumps_alike s t h d n (r1, r2, next, code, is, at, y, e) =
       let k = went_too s t y h d e in
@@ -169,7 +167,7 @@ module _ (g : Authority) where
 
   -- ---- runs
 
-  stays_alike : (n : ℕ) (s t : State Word) → Holds g s → SameBut (Unread g) s t → StaysIn g.own n s
+  stays_alike : (n : ℕ) (s t : State Word) → IsBounded g s → SameBut (Unread g) s t → StaysIn g.own n s
       → StaysIn g.own n t
   unfolding run_of
   stays_alike zero s t h d stays k u seal lt run jumps = absurd (omega (arith, lt))
@@ -207,7 +205,7 @@ module _ (g : Authority) where
   after_first n s t (failed c at) (failed d to) k on = k
   after_first n s t _ _ k on = absurd assumption
 
-  ends_alike : (n : ℕ) (s t : State Word) → Holds g s → SameBut (Unread g) s t → StaysIn g.own n s
+  ends_alike : (n : ℕ) (s t : State Word) → IsBounded g s → SameBut (Unread g) s t → StaysIn g.own n s
       → EndsAlike (Unread g) s t (plain_run (suc n) s) (plain_run (suc n) t)
   unfolding run_of
   ends_alike zero s t h d stays =
@@ -221,7 +219,7 @@ module _ (g : Authority) where
   turned : (s t : State Word) → SameBut (Unread g) s t → SameBut (Unread g) t s
   turned s t d = record { regs = sym d.regs; cells = λ a off. sym (d.cells a off); spans = sym d.spans }
 
-  pub runs_blind : (s : State Word) → Holds g s → RunsBlind g s
+  pub runs_blind : (s : State Word) → IsBounded g s → RunsBlind g s
   runs_blind s h t d n =
       let one : suc n ≡ n + 1 = omega arith in
       record {

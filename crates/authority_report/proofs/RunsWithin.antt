@@ -21,12 +21,10 @@ use Rattle.lcm_machine.specs.Touched.{cell_used}
 use Rattle.lcm_machine.specs.Row.{Outcome, went, halted, failed, faces, cell_faces, opens, step_of}
 use Rattle.lcm_machine.specs.Runs.{and_then, run_of}
 use Rattle.lcm_machine.specs.Acts.{IsNext, GoesTo, JumpsUnder, May, MaySeal}
-use Rattle.lcm_machine.proofs.WordsKept.{step_keeps}
-use Rattle.lcm_machine.proofs.RowLemmas.{look_memory, look_seals}
-use Rattle.lcm_machine.proofs.TouchLemmas.{after_went}
-use Rattle.lcm_machine.proofs.StepActs.{does_as_it_may, writes_where_it_may}
+use Rattle.lcm_machine.proofs.Offers.{step_keeps, look_memory, look_seals, after_went, does_as_it_may}
+use Rattle.lcm_machine.proofs.Offers.{writes_where_it_may}
 use Rattle.authority_report.specs.Within.{Authority, CapWithin, SealsWithin, IsWithin}
-use Rattle.authority_report.specs.Bounds.{Does, Keeps, plain_run, StaysIn, RunsWithin, Holds}
+use Rattle.authority_report.specs.Bounds.{Does, KeepsUnwritten, plain_run, StaysIn, RunsWithin, IsBounded}
 use Rattle.authority_report.proofs.WithinClosed.{within_closed, mem_within, opened_within, content_within}
 
 pub writes_read : (q : Perm) → may_write q ≡ true → may_read q ≡ true
@@ -42,7 +40,7 @@ Goes s t = GoesTo (λ w. w) (λ w. w) s t
 abbrev Jumps : State Word → ℕ → Type 0
 Jumps s n = JumpsUnder (λ w. w) (λ w. w) s n
 
-module _ (g : Authority) (s : State Word) (h : Holds g s) where
+module _ (g : Authority) (s : State Word) (h : IsBounded g s) where
   -- a register that shows a capability
   shown : (r : Reg) (c : CapFields) → faces (λ w. w) s r ≡ Memory c → CapWithin g c
   unfolding faces
@@ -81,7 +79,7 @@ module _ (g : Authority) (s : State Word) (h : Holds g s) where
         seals = λ n l. seals n (d.seals n l);
       }
 
-  pub keeps_on : (t : State Word) → Goes s t → Keeps g s t
+  pub keeps_on : (t : State Word) → Goes s t → KeepsUnwritten g s t
   keeps_on t e a out = writes_where_it_may (λ w. w) (λ w. w) s t a e (λ may.
       let f : true ≡ false = sym (writes a may) ∙ out in
       cc)
@@ -110,7 +108,7 @@ module _ (g : Authority) (s : State Word) (h : Holds g s) where
         )
     opens_to _ next = tt
 
-    pub holds_on : Holds g t
+    pub holds_on : IsBounded g t
     holds_on =
         let all = after_went (AllAre (IsWithin g) (λ a. g.read a ≡ true)) _ t
         (step_keeps (λ w. w) (λ w. w) (IsWithin g) (λ a. g.read a ≡ true) (within_closed g) s
@@ -131,25 +129,25 @@ module _ (g : Authority) where
   unfolding run_of
   stays_here n s stays seal jumps = stays 0 s seal (omega arith) refl jumps
 
-  along : (n : ℕ) (s t : State Word) → Holds g s → plain_run n s ≡ went t → StaysIn g.own n s
-      → Holds g t × Keeps g s t
+  along : (n : ℕ) (s t : State Word) → IsBounded g s → plain_run n s ≡ went t → StaysIn g.own n s
+      → IsBounded g t × KeepsUnwritten g s t
   unfolding run_of
   along zero s t h e stays =
       let same : s ≡ t = cc in
-      (subst (Holds g) same h, λ a out. ap (λ (u : State Word). cell u.cells a) (sym same))
+      (subst (IsBounded g) same h, λ a out. ap (λ (u : State Word). cell u.cells a) (sym same))
   along (suc n) s t h e stays = by_step (λ u. along n u t) (step_of (λ w. w) (λ w. w) s) refl e
     where
-      by_step : ((u : State Word) → Holds g u → plain_run n u ≡ went t → StaysIn g.own n u
-          → Holds g t × Keeps g u t)
+      by_step : ((u : State Word) → IsBounded g u → plain_run n u ≡ went t → StaysIn g.own n u
+          → IsBounded g t × KeepsUnwritten g u t)
           → (o : Outcome Word) → step_of (λ w. w) (λ w. w) s ≡ o → and_then o (plain_run n) ≡ went t
-          → Holds g t × Keeps g s t
+          → IsBounded g t × KeepsUnwritten g s t
       by_step on halted is r = cc
       by_step on (failed c at) is r = cc
       by_step on (went u) is r =
           let k = on u (holds_on g s h u is (stays_here n s stays)) r (stays_next n s u is stays) in
           (k.0, λ a out. k.1 a out ∙ keeps_on g s h u is a out)
 
-  pub runs_within : (s : State Word) → Holds g s → RunsWithin g s
+  pub runs_within : (s : State Word) → IsBounded g s → RunsWithin g s
   runs_within s h n t r stays =
       let k = along n s t h r stays in
       record {

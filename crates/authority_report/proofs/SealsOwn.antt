@@ -27,13 +27,11 @@ use Rattle.component_linker.specs.Start.{Exported, code_half, data_half, stack_b
 use Rattle.component_linker.specs.Started.{StartSeen}
 use Rattle.component_linker.specs.Linked.{HasRange}
 use Rattle.component_linker.specs.SealsApart.{is_seal_of as is_seal}
-use Rattle.component_linker.proofs.RegionFacts.{whole, code_in, data_in, linear_in, stack_in, in_regions_is}
-use Rattle.component_linker.proofs.RegionFacts.{apart_parts, apart_stack, size_bounds}
-use Rattle.component_linker.proofs.StartWords.{IsExport, CellIs, of_code, of_data, of_slot, of_none, cell_is}
-use Rattle.component_linker.proofs.OwnWords.{OwnCap, over_code, over_data, over_linear, OwnWord, own_code}
-use Rattle.component_linker.proofs.OwnWords.{own_data}
-use Rattle.component_linker.proofs.SealsKept.{parts_apart}
-use Rattle.authority_report.specs.Reaches.{is_seal_of, code_of, data_of}
+use Rattle.component_linker.proofs.Offers.{whole, code_in, data_in, linear_in, stack_in, in_regions_is}
+use Rattle.component_linker.proofs.Offers.{apart_parts, apart_stack, size_bounds, IsExport, CellIs, of_code}
+use Rattle.component_linker.proofs.Offers.{of_data, of_slot, of_none, cell_is, OwnCap, over_code, over_data}
+use Rattle.component_linker.proofs.Offers.{over_linear, OwnWord, own_code, own_data, parts_apart}
+use Rattle.authority_report.specs.Reaches.{is_seal_of, whole_code, whole_data}
 use Rattle.authority_report.specs.Within.{Authority, CapWithin, IsWithin}
 use Rattle.authority_report.specs.Entered.{IsLinked}
 use Rattle.authority_report.specs.SealRanges.{SealsAreOwn}
@@ -131,19 +129,19 @@ module _ (s : StartSeen) (here : IsLinked s) (k : ℕ) (p : PartSeen)
   some_data : 1 ≤ length p.component.data_words
   some_data = ((linked s here).closed.kept k p at).limits.data_words.0.0
 
-  code_within : (z : ℤ) → CapWithin own (code_of (owner_of k p) z)
+  code_within : (z : ℤ) → CapWithin own (whole_code (owner_of k p) z)
   unfolding owner_of
   code_within z =
       let some = some_code in
-      range_in p.component.code_base (length p.component.code) false (code_of (owner_of k p) z)
+      range_in p.component.code_base (length p.component.code) false (whole_code (owner_of k p) z)
       (omega (arith, some))
       (omega arith, omega (arith, some)) (code_in p)
 
-  data_within : CapWithin own (data_of (owner_of k p))
+  data_within : CapWithin own (whole_data (owner_of k p))
   unfolding owner_of
   data_within =
       let some = some_data in
-      range_in p.component.data_base (length p.component.data_words) false (data_of (owner_of k p))
+      range_in p.component.data_base (length p.component.data_words) false (whole_data (owner_of k p))
       (omega (arith, some))
       (omega arith, omega (arith, some)) (data_in p)
 

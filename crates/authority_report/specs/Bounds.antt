@@ -20,8 +20,8 @@ pub record Does (g : Authority) (t : State Word) : Type 0 where
   pub seals : (n : ℕ) → SealsBy (λ w. w) (λ w. w) t n → g.seal n ≡ true
 
 -- each cell that may not be written is as it was
-abbrev pub Keeps : Authority → State Word → State Word → Type 0
-Keeps g s t = (a : ℕ) → g.write a ≡ false → cell t.cells a ≡ cell s.cells a
+abbrev pub KeepsUnwritten : Authority → State Word → State Word → Type 0
+KeepsUnwritten g s t = (a : ℕ) → g.write a ≡ false → cell t.cells a ≡ cell s.cells a
 
 -- ---- runs
 
@@ -38,18 +38,18 @@ StaysIn own n s =
 -- is as at the start, now and after that step
 pub record StepWithin (g : Authority) (s t : State Word) : Type 0 where
   pub does : Does g t
-  pub keeps : Keeps g s t
-  pub keeps_next : (u : State Word) → GoesTo (λ w. w) (λ w. w) t u → Keeps g s u
+  pub keeps : KeepsUnwritten g s t
+  pub keeps_next : (u : State Word) → GoesTo (λ w. w) (λ w. w) t u → KeepsUnwritten g s u
 
 -- each step of a run is so, up to and with the first that jumps under a seal that isn't an own one
 abbrev pub RunsWithin : Authority → State Word → Type 0
 RunsWithin g s = (n : ℕ) (t : State Word) → plain_run n s ≡ went t → StaysIn g.own n s → StepWithin g s t
 
 -- no word of a register, or of a cell that may be read, gives more than an authority
-pub record Holds (g : Authority) (s : State Word) : Type 0 where
+pub record IsBounded (g : Authority) (s : State Word) : Type 0 where
   pub regs : (r : Reg) → IsWithin g (reg s.regs r)
   pub cells : (a : ℕ) (w : Word) → g.read a ≡ true → cell s.cells a ≡ Some w → IsWithin g w
 
 -- a run stays within an authority that the words of its first state don't exceed
 abbrev pub WordsBoundRuns : Type 0
-WordsBoundRuns = (g : Authority) (s : State Word) → Holds g s → RunsWithin g s
+WordsBoundRuns = (g : Authority) (s : State Word) → IsBounded g s → RunsWithin g s

@@ -10,16 +10,16 @@ use Rattle.lcm_machine.specs.Maps.{State}
 use Rattle.lcm_machine.specs.Row.{put}
 use Rattle.component_linker.specs.declared.owners.Owner.{Owner}
 use Rattle.component_linker.specs.declared.owners.Entry.{Entry}
-use Rattle.component_linker.specs.Owners.{entry_of, owner_of}
+use Rattle.component_linker.specs.Owners.{placed_entry, owner_of}
 use Rattle.component_linker.specs.Start.{Exported, code_half, data_half}
 use Rattle.component_linker.specs.Started.{StartSeen, Starts}
 use Rattle.component_linker.specs.Parts.{PartSeen, IsPart}
 use Rattle.component_linker.specs.Pairs.{NoneIsBroken}
 use Rattle.component_linker.specs.Links.{rules_l}
 use Rattle.authority_report.specs.declared.reach.Reach.{Reach}
-use Rattle.authority_report.specs.Reaches.{code_of, data_of}
+use Rattle.authority_report.specs.Reaches.{whole_code, whole_data}
 use Rattle.authority_report.specs.SealRanges.{SealsAreOwn}
-use Rattle.authority_report.specs.Report.{told, owner_of_part, Reports}
+use Rattle.authority_report.specs.Report.{told_authority, owner_of_part, Reports}
 use Rattle.authority_report.specs.Bounds.{RunsWithin}
 
 -- a start as linking leaves it: of some parts, each of which keeps its own rules, and which keep the rules L
@@ -38,26 +38,26 @@ ReachedSealsAreOwn =
     → SealsAreOwn s.state.maps o
 
 -- the start, with pc and data replaced by the halves of an entry, unsealed
-abbrev pub entered : StartSeen → Owner → Entry → State Word
-entered s o e =
-    put (put s.state.maps (R Pc) (Mem (code_of o (pos e.at)))) (R Dat) (Mem (data_of o))
+abbrev pub entered_at : StartSeen → Owner → Entry → State Word
+entered_at s o e =
+    put (put s.state.maps (R Pc) (Mem (whole_code o (pos e.at)))) (R Dat) (Mem (whole_data o))
 
 -- from each of its entries a part runs within what a report tells
 abbrev pub BoundsRuns : StartSeen → ℕ → Reach → Type 0
 BoundsRuns s part r =
     (o : Owner) (e : Entry) → owner_of_part s.owners part ≡ Some o → Contains o.entries e
-    → RunsWithin (told o r) (entered s o e)
+    → RunsWithin (told_authority o r) (entered_at s o e)
 
 -- and so it does within what its report tells
 abbrev pub ReportsBoundRuns : Type 0
 ReportsBoundRuns =
     (s : StartSeen) (part : ℕ) (r : Reach) → IsLinked s → Reports s part r → BoundsRuns s part r
 
--- the code and data with which a part is entered are the halves of the export, unsealed
+-- the code and data with which a part is entered_at are the halves of the export, unsealed
 abbrev pub HalvesUnsealed : Type 0
 HalvesUnsealed =
     (k : ℕ) (x : Exported)
     → let o = owner_of k x.part in
-    let e = entry_of x.part.component x.export in
-    (code_half x ≡ Sealed o.closure (MemIn (code_of o (pos e.at))))
-    × (data_half x ≡ Sealed o.closure (MemIn (data_of o)))
+    let e = placed_entry x.part.component x.export in
+    (code_half x ≡ Sealed o.closure (MemIn (whole_code o (pos e.at))))
+    × (data_half x ≡ Sealed o.closure (MemIn (whole_data o)))

@@ -19,7 +19,7 @@ use Rattle.place_sets.specs.Free.{free_below}
 use Rattle.cap_words.specs.declared.TheConstants.{LAST_PLACE}
 use Rattle.place_sets.specs.Takes.{is_left, Takes}
 use Rattle.authority_report.specs.declared.found.Found.{Found}
-use Rattle.authority_report.specs.Reaches.{is_seal_of, code_of, data_of, bare, Allows, SealsWith}
+use Rattle.authority_report.specs.Reaches.{is_seal_of, whole_code, whole_data, bare, Allows, SealsWith}
 use Rattle.authority_report.specs.Within.{Authority, CapWithin, IsWithin}
 
 -- a word without the part's own seal; under another seal it gives nothing
@@ -74,8 +74,8 @@ pub record IsSound (m : State Word) (o : Owner) (f : Found) : Type 0 where
 
 -- what the part begins with is found
 pub record IsBegun (m : State Word) (o : Owner) (f : Found) : Type 0 where
-  pub its_code : (z : ℤ) → CapWithin (authority_of o f) (code_of o z)
-  pub its_data : CapWithin (authority_of o f) (data_of o)
+  pub its_code : (z : ℤ) → CapWithin (authority_of o f) (whole_code o z)
+  pub its_data : CapWithin (authority_of o f) (whole_data o)
   pub its_stack : IsWithin (authority_of o f) (reg m.regs Stk)
 
 -- the word of each cell that may be read is found, but for cells that are left, and some that are being

@@ -8,12 +8,12 @@ use Rattle.lcm_machine.specs.Blind.{SameBut, EndsAlike}
 use Rattle.component_linker.specs.declared.owners.Owner.{Owner}
 use Rattle.component_linker.specs.declared.owners.Entry.{Entry}
 use Rattle.component_linker.specs.Started.{StartSeen}
-use Rattle.place_sets.specs.Spans.{covers}
+use Rattle.place_sets.specs.Spans.{span_has}
 use Rattle.authority_report.specs.declared.reach.Reach.{Reach}
 use Rattle.authority_report.specs.Within.{Authority}
-use Rattle.authority_report.specs.Report.{told, owner_of_part, IsReport, Reports}
-use Rattle.authority_report.specs.Bounds.{plain_run, StaysIn, Holds}
-use Rattle.authority_report.specs.Entered.{IsLinked, entered}
+use Rattle.authority_report.specs.Report.{told_authority, owner_of_part, IsReport, Reports}
+use Rattle.authority_report.specs.Bounds.{plain_run, StaysIn, IsBounded}
+use Rattle.authority_report.specs.Entered.{IsLinked, entered_at}
 
 -- the cells that may not be read
 abbrev pub Unread : Authority → ℕ → Type 0
@@ -33,13 +33,13 @@ RunsBlind g s = (t : State Word) → SameBut (Unread g) s t → (n : ℕ) → Ru
 
 -- so runs a state whose words don't exceed the authority
 abbrev pub WordsBoundInfluence : Type 0
-WordsBoundInfluence = (g : Authority) (s : State Word) → Holds g s → RunsBlind g s
+WordsBoundInfluence = (g : Authority) (s : State Word) → IsBounded g s → RunsBlind g s
 
 -- so runs a part from each of its entries, of the cells that a report says can't be read
 abbrev pub BoundsInfluence : StartSeen → ℕ → Reach → Type 0
 BoundsInfluence s part r =
     (o : Owner) (e : Entry) → owner_of_part s.owners part ≡ Some o → Contains o.entries e
-    → RunsBlind (told o r) (entered s o e)
+    → RunsBlind (told_authority o r) (entered_at s o e)
 
 -- and so it does, of those that its report says can't be read
 abbrev pub ReportsBoundInfluence : Type 0
@@ -50,10 +50,10 @@ ReportsBoundInfluence =
 abbrev pub UnreadIsInNoSpan : Type 0
 UnreadIsInNoSpan =
     (m : State Word) (o : Owner) (r : Reach) → IsReport m o r → (a : ℕ)
-    → Unread (told o r) a ↔ (list_any (λ s. covers s a) r.spans ≡ false)
+    → Unread (told_authority o r) a ↔ (list_any (λ s. span_has s a) r.spans ≡ false)
 
 -- and the report itself doesn't depend on them
 abbrev pub ReportsAreBlind : Type 0
 ReportsAreBlind =
-    (m t : State Word) (o : Owner) (r : Reach) → SameBut (Unread (told o r)) m t → IsReport m o r
+    (m t : State Word) (o : Owner) (r : Reach) → SameBut (Unread (told_authority o r)) m t → IsReport m o r
     → IsReport t o r

@@ -22,8 +22,8 @@ abbrev pub is_seal_of : Owner → ℕ → Bool
 is_seal_of o n = (n == o.closure) || (nat_le o.seals.base n && nat_lt n (o.seals.base + o.seals.count))
 
 -- the capability over its whole code, at any address; trusted code can't be written
-abbrev pub code_of : Owner → ℤ → CapFields
-code_of o z = record {
+abbrev pub whole_code : Owner → ℤ → CapFields
+whole_code o z = record {
   perm = if o.trusted then Rx else Rwx;
   lin = Normal;
   base = o.code.base;
@@ -32,8 +32,8 @@ code_of o z = record {
 }
 
 -- the capability over its whole data, at its base
-abbrev pub data_of : Owner → CapFields
-data_of o = record {
+abbrev pub whole_data : Owner → CapFields
+whole_data o = record {
   perm = Rw;
   lin = Normal;
   base = o.data_span.base;
@@ -49,8 +49,8 @@ bare (SealIn q) = Seal q
 -- The least set of words that has the part's code, its data and the stack, the word in each cell of a memory
 -- capability of the set that may be read, and what is under a seal of the part in a word of the set.
 pub data Reaches (m : State Word) (o : Owner) : Word → Type 0 where
-  its_code : (z : ℤ) → Reaches m o (Mem (code_of o z))
-  its_data : Reaches m o (Mem (data_of o))
+  its_code : (z : ℤ) → Reaches m o (Mem (whole_code o z))
+  its_data : Reaches m o (Mem (whole_data o))
   the_stack : Reaches m o (reg m.regs Stk)
   in_cell : (c : CapFields) (a : ℕ) (w : Word)
       → Reaches m o (Mem c) → may_read c.perm ≡ true → c.base ≤ a → a ≤ c.end

@@ -12,8 +12,8 @@ use Rattle.authority_report.specs.SealRanges.{is_in, AreApart}
 use Rattle.authority_report.specs.Within.{Authority}
 
 -- what a report tells, beside the seals that its part may open
-abbrev pub told : Owner → Reach → Authority
-told o r = record {
+abbrev pub told_authority : Owner → Reach → Authority
+told_authority o r = record {
   read = allows (λ f. f.read) r.spans;
   write = allows (λ f. f.write) r.spans;
   run = allows (λ f. f.run) r.spans;
@@ -31,7 +31,7 @@ pub record IsJust (m : State Word) (o : Owner) (g : Authority) : Type 0 where
 -- A report of a part: an address can be read, written or run, and a seal be sealed with, exactly where it
 -- says so, and its spans and seals are maximal, disjoint and ascending.
 pub record IsReport (m : State Word) (o : Owner) (r : Reach) : Type 0 where
-  pub just : IsJust m o (told o r)
+  pub just : IsJust m o (told_authority o r)
   pub spans : AreTidy r.spans
   pub seals : AreApart r.seals
 

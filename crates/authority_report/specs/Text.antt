@@ -24,7 +24,8 @@ part_line o = codes "part" ++ field_text o.name ++ newline
 
 abbrev pub span_line : ReachSpan → List ℕ
 span_line s =
-    codes "at" ++ field_text (decimal s.base) ++ field_text (decimal s.end) ++ field_text (rights s) ++ newline
+    codes "at" ++ field_text (decimal s.base) ++ field_text (decimal s.end) ++ field_text (rights s)
+    ++ newline
 
 abbrev pub seals_line : Stretch → List ℕ
 seals_line s =

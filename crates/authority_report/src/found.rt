@@ -2,7 +2,7 @@
 ghost use Rattle.std.specs.Prelude.{◌≡◌, ◌≤◌, ◌+◌, ◌&&◌, ℕ, false, nat_le, pos, IfOk, OnOk, []};
 ghost use Rattle.cap_words.specs.declared.Word.TheVariants.{Mem as MemWord, Seal as SealWord};
 ghost use Rattle.place_sets.specs.Has.{has};
-ghost use Rattle.authority_report.specs.Reaches.{is_seal_of, code_of, data_of};
+ghost use Rattle.authority_report.specs.Reaches.{is_seal_of, whole_code, whole_data};
 ghost use Rattle.cap_words.specs.Face.{FaceInOrder, ContentInOrder};
 ghost use Rattle.authority_report.specs.Found.{bared, bare_word, opened_word, Adds, IsClosedBut, unread};
 
@@ -34,7 +34,7 @@ fn is_own(owner: &Owner, seal: u32) -> bool
 
 // The capability over a part's whole code.
 fn code_of(owner: &Owner) -> CapFields
-    ensures { result ≡ code_of owner.now (pos owner.now.code.base) }
+    ensures { result ≡ whole_code owner.now (pos owner.now.code.base) }
 {
     CapFields {
         perm: if owner.trusted { Perm::Rx } else { Perm::Rwx },
@@ -47,7 +47,7 @@ fn code_of(owner: &Owner) -> CapFields
 
 // The capability over a part's whole data.
 fn data_of(owner: &Owner) -> CapFields
-    ensures { result ≡ data_of owner.now }
+    ensures { result ≡ whole_data owner.now }
 {
     CapFields {
         perm: Perm::Rw,

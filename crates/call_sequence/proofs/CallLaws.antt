@@ -24,7 +24,7 @@ use Rattle.lcm_machine.proofs.Offers.{store_goes, load_goes, cca_goes, cca_seal_
 use Rattle.lcm_machine.proofs.Offers.{split_goes, cseal_goes, run_then, step_row, run_one, store_fails}
 use Rattle.lcm_machine.proofs.Offers.{split_fails, stops, then_failed}
 use Rattle.call_sequence.specs.Sequences.{call_code, distance}
-use Rattle.call_sequence.specs.SequenceRuns.{stack_cap, Outside, HasCall, at_xjmp, CallRuns, CallJumps}
+use Rattle.call_sequence.specs.SequenceRuns.{stack_cap, IsOutsideRange, HasCall, at_xjmp, CallRuns, CallJumps}
 use Rattle.call_sequence.specs.SequenceRuns.{CallAtBaseFails, CallOutsideFails}
 use Rattle.call_sequence.proofs.LawLemmas.{fits_small, small_operand, near_operand, leads, fits_less}
 use Rattle.call_sequence.proofs.LawLemmas.{Stands-outside, differs}
@@ -147,7 +147,7 @@ module _ {W : Type 0} (look : W → Word) (plain : Word → W) (seen : (x : Word
 
   -- the call's last word, once a cell outside the code was set
   xjmp_stands : (m : FinMap nat_cmp W) (base last at seal a : ℕ) (w : W) → HasCall look m base last at seal
-      → Outside a base last
+      → IsOutsideRange a base last
       → look_face look (cell (set_cell m a w) (at + 15)) ≡ Some (Number (pos (number_of (Xjmp C1 C2))))
   unfolding call_code
   xjmp_stands m base last at seal a w h out =

@@ -13,7 +13,7 @@ use Rattle.lcm_machine.specs.Table.{fits_64, is_zero}
 use Rattle.lcm_machine.specs.Runs.{Stands}
 use Rattle.lcm_machine.proofs.Offers.{Stands-set, Stands-set_below}
 use Rattle.call_sequence.specs.Sequences.{distance}
-use Rattle.call_sequence.specs.SequenceRuns.{Outside}
+use Rattle.call_sequence.specs.SequenceRuns.{IsOutsideRange}
 
 pub fits_small : (n : ℕ) → n ≤ LAST_PLACE → fits_64 (pos n) ≡ true
 fits_small n h = lt-ltb n (2 ^ 63) (omega (arith, h))
@@ -55,13 +55,13 @@ fits_less a b h g = elim (cases_lt a b) as (λ _. fits_64 (pos a -ℤ pos b) ≡
 -- code within a range stands as before where a cell outside is set
 pub Stands-outside : {W : Type 0} (look : W → Word) (m : FinMap nat_cmp W) (a : ℕ) (w : W) (base last at : ℕ)
     (is : List Instr)
-    → Outside a base last → base ≤ at → at + length is ≤ last + 1 → Stands look m at is
+    → IsOutsideRange a base last → base ≤ at → at + length is ≤ last + 1 → Stands look m at is
     → Stands look (set_cell m a w) at is
 Stands-outside look m a w base last at is (inl below) low high h =
     Stands-set_below look m a w at is (omega (arith, below, low)) h
 Stands-outside look m a w base last at is (inr above) low high h =
     Stands-set look m a w at is (omega (arith, above, high)) h
 
-pub differs : (a base last q : ℕ) → Outside a base last → base ≤ q → q ≤ last → q ≢ a
+pub differs : (a base last q : ℕ) → IsOutsideRange a base last → base ≤ q → q ≤ last → q ≢ a
 differs a base last q (inl below) low high = omega (arith, below, low)
 differs a base last q (inr above) low high = omega (arith, above, high)

@@ -3,3 +3,4 @@ pub mod LawLemmas
 pub mod CallLaws
 pub mod ReturnLaws
 pub mod EntryLaws
+pub mod Offers

@@ -23,7 +23,8 @@ use Rattle.lcm_machine.proofs.Offers.{set_goes, store_goes, load_goes, cca_goes,
 use Rattle.lcm_machine.proofs.Offers.{splice_goes, jnz_goes, jnz_jumps, splice_fails, stops, run_one}
 use Rattle.lcm_machine.proofs.Offers.{run_then, step_row}
 use Rattle.call_sequence.specs.Sequences.{return_code, distance}
-use Rattle.call_sequence.specs.SequenceRuns.{stack_cap, Outside, HasReturn, ReturnRuns, ReturnApartFails}
+use Rattle.call_sequence.specs.SequenceRuns.{stack_cap, IsOutsideRange, HasReturn, ReturnRuns}
+use Rattle.call_sequence.specs.SequenceRuns.{ReturnApartFails}
 use Rattle.call_sequence.specs.SequenceRuns.{ReturnOffBaseFails}
 use Rattle.call_sequence.proofs.LawLemmas.{fits_small, small_operand, near_operand, leads, not_zero}
 use Rattle.call_sequence.proofs.LawLemmas.{fits_less, Stands-outside}
@@ -178,7 +179,8 @@ module _ {W : Type 0} (look : W → Word) (plain : Word → W) (seen : (x : Word
 
 -- a return stands as before where a cell outside its code is set
 pub HasReturn-set : {W : Type 0} (look : W → Word) (m : FinMap nat_cmp W) (base last at sb a : ℕ) (w : W)
-    → Outside a base last → HasReturn look m base last at sb → HasReturn look (set_cell m a w) base last at sb
+    → IsOutsideRange a base last → HasReturn look m base last at sb → HasReturn look
+    (set_cell m a w) base last at sb
 unfolding return_code
 HasReturn-set look m base last at sb a w out h =
     let ai = h.at_is in

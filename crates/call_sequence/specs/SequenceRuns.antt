@@ -33,8 +33,8 @@ abbrev pub stack_cap : ℕ → ℕ → ℕ → CapFields
 stack_cap base end at = record { perm = Rw; lin = Linear; base = base; end = end; addr = pos at }
 
 -- an address outside a range
-abbrev pub Outside : ℕ → ℕ → ℕ → Type 0
-Outside a base last = (a < base) ⊎ (last < a)
+abbrev pub IsOutsideRange : ℕ → ℕ → ℕ → Type 0
+IsOutsideRange a base last = (a < base) ⊎ (last < a)
 
 -- ---- sequences in memory, in the code of a part from base to last
 
@@ -108,7 +108,7 @@ CallRuns {W} look plain = (s : State W) (base last at seal stack_base end b : �
     → HasCall look s.cells base last at seal
     → look s.regs.pc ≡ Mem (code_cap base last at) → look s.regs.stk ≡ Mem (stack_cap stack_base end (b + 1))
     → is_linear (look s.regs.dat) ≡ false → stack_base ≤ b → b + 1 ≤ end → end ≤ LAST_PLACE
-    → Outside (b + 1) base last → cell s.cells (b + 1) ≡ Some w
+    → IsOutsideRange (b + 1) base last → cell s.cells (b + 1) ≡ Some w
     → run_of look plain (CALL_WORDS - 1) s ≡ went (at_xjmp plain s base last at seal stack_base end b)
 
 -- and with it: that is an `xjmp` of c1 and c2
@@ -117,7 +117,7 @@ CallJumps {W} look plain = (s : State W) (base last at seal stack_base end b : �
     → HasCall look s.cells base last at seal
     → look s.regs.pc ≡ Mem (code_cap base last at) → look s.regs.stk ≡ Mem (stack_cap stack_base end (b + 1))
     → is_linear (look s.regs.dat) ≡ false → stack_base ≤ b → b + 1 ≤ end → end ≤ LAST_PLACE
-    → Outside (b + 1) base last → cell s.cells (b + 1) ≡ Some w
+    → IsOutsideRange (b + 1) base last → cell s.cells (b + 1) ≡ Some w
     → run_of look plain CALL_WORDS s
     ≡ row look plain (Xjmp C1 C2) (Mem (code_cap base last (at + CALL_WORDS)))
     (at_xjmp plain s base last at seal stack_base end b)
@@ -129,7 +129,7 @@ CallAtBaseFails {W} look plain = (s : State W) (base last at seal stack_base end
     → look s.regs.pc ≡ Mem (code_cap base last at)
     → look s.regs.stk ≡ Mem (stack_cap stack_base end stack_base)
     → is_linear (look s.regs.dat) ≡ false → stack_base ≤ end → end ≤ LAST_PLACE
-    → Outside stack_base base last → cell s.cells stack_base ≡ Some w
+    → IsOutsideRange stack_base base last → cell s.cells stack_base ≡ Some w
     → HasFailed (run_of look plain 8 s)
 
 -- with stk outside its range it fails at its first word, a `store`
@@ -150,7 +150,7 @@ ReturnRuns {W} look plain = (s : State W) (base last at stack_base low b end : �
     → look s.regs.stk ≡ Mem (record (stack_cap stack_base low 0) { addr = to })
     → look s.regs.dat ≡ Mem (stack_cap b end b)
     → low + 1 ≡ b → stack_base ≤ b → b ≤ end → end ≤ LAST_PLACE
-    → Outside b base last → cell s.cells b ≡ Some w → is_linear (look w) ≡ false
+    → IsOutsideRange b base last → cell s.cells b ≡ Some w → is_linear (look w) ≡ false
     → run_of look plain RETURN_WORDS s ≡ went (record s {
       regs = record s.regs {
         pc = plain (Mem (code_cap base last (at + RETURN_WORDS)));

@@ -1,7 +1,7 @@
 -- Readers of bytes that take just what a spelling has.
 use Rattle.std.proofs.Common.{ℕ, ◌<◌, List, get_or}
 use Rattle.readers.specs.Readers.{Reader}
-use Rattle.readers.proofs.Grammar.{Took as TookOf, Reads as ReadsOf}
+use Rattle.readers.proofs.Offers.{Took as TookOf, Reads as ReadsOf}
 use Rattle.cap_words.specs.Reading.{Input}
 
 abbrev pub IsBytes : List ℕ → Type 0

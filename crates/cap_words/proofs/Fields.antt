@@ -17,8 +17,8 @@ use Rattle.cap_words.specs.WordBytes.{number_bytes, signed_bytes}
 use Rattle.byteorder.specs.Endian.{little_number, little_bytes}
 use Rattle.byteorder.specs.Numbers.{little_from-lt, length-bytes_low_first}
 use Rattle.cap_words.proofs.Numbers.{read_again, spelled_again}
-use Rattle.readers.proofs.Grammar.{after, before, IsCut, cut_goes_on, All, goes_on_ok, ok_value, some_ok}
-use Rattle.readers.proofs.Grammar.{reads_placed}
+use Rattle.readers.proofs.Offers.{after, before, IsCut, cut_goes_on, All, goes_on_ok, ok_value, some_ok}
+use Rattle.readers.proofs.Offers.{reads_placed}
 use Rattle.cap_words.proofs.ByteReads.{IsBytes, Took, Reads}
 
 is_bytes_drop : (n : ℕ) (bytes : List ℕ) → IsBytes bytes → IsBytes (drop n bytes)

@@ -2,3 +2,4 @@ pub mod ByteReads
 pub mod Numbers
 pub mod Fields
 pub mod Words
+pub mod Offers

@@ -23,12 +23,13 @@ use Rattle.cap_words.specs.Faces.{perm_number}
 use Rattle.readers.specs.Readers.{◌>>=◌}
 use Rattle.cap_words.specs.Reading.{Input, next_byte, next_signed, meant}
 use Rattle.cap_words.specs.WordBytes.{number_bytes, signed_bytes, lin_number, cap_bytes, seal_bytes}
-use Rattle.cap_words.specs.WordBytes.{content_bytes, word_bytes_of, ContentFits, WordFits, IsUnsealed, Spells}
+use Rattle.cap_words.specs.WordBytes.{content_bytes, word_bytes_of, ContentFits, WordFits, IsUnsealed}
+use Rattle.cap_words.specs.WordBytes.{SpellsWord}
 use Rattle.cap_words.specs.WordReading.{perm_meant, lin_meant, next_in_space, next_cap, next_seal_cap}
 use Rattle.cap_words.specs.WordReading.{content_tagged, next_content, as_word, unsealed_tagged, next_unsealed}
 use Rattle.cap_words.specs.WordReading.{next_sealed, next_word}
-use Rattle.readers.proofs.Grammar.{after, All, reads_then, reads_last, reads_as, reads_placed, reads_known}
-use Rattle.readers.proofs.Grammar.{reads_text, reads_case, reads_if, reads_none}
+use Rattle.readers.proofs.Offers.{after, All, reads_then, reads_last, reads_as, reads_placed, reads_known}
+use Rattle.readers.proofs.Offers.{reads_text, reads_case, reads_if, reads_none}
 use Rattle.cap_words.proofs.ByteReads.{IsBytes, Reads}
 use Rattle.cap_words.proofs.Fields.{byte_reads, signed_reads, meant_reads, within_reads}
 
@@ -315,7 +316,7 @@ word_reads = reads_placed (λ at. next_byte >>= λ tag. cond (eqb tag 3) next_se
 -- what was read stands there
 pub found_in_front : (bytes : List ℕ) (w : Word) (left : Input) → IsBytes bytes
     → next_word (record { at = 0; rest = bytes }) ≡ Ok (w, left) → (left.at ≤ length bytes)
-    × Spells (take left.at bytes) w
+    × SpellsWord (take left.at bytes) w
 found_in_front bytes w left fits e =
     let t = word_reads.takes (record { at = 0; rest = bytes }) w left fits e in
     let len : length bytes ≡ length (word_bytes_of w) + length left.rest = ap length t.2.parts
@@ -326,7 +327,7 @@ found_in_front bytes w left fits e =
     (omega (arith, len, at), (t.1, front))
 
 -- what stands there is read
-pub read_in_front : (w : Word) (front rest bytes : List ℕ) → Spells front w → bytes ≡ front ++ rest
+pub read_in_front : (w : Word) (front rest bytes : List ℕ) → SpellsWord front w → bytes ≡ front ++ rest
     → next_word (record { at = 0; rest = bytes }) ≡ Ok (w, after 0 front rest)
 read_in_front w front rest bytes s e =
     ap (λ l. next_word (record { at = 0; rest = l })) (e ∙ ap (λ l. l ++ rest) s.1)

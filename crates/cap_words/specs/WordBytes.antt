@@ -69,5 +69,5 @@ IsUnsealed (Sealed seal content) = ⊥
 IsUnsealed _ = Unit {0}
 
 -- the bytes are the spelling of the word
-abbrev pub Spells : List ℕ → Word → Type 0
-Spells bytes w = WordFits w × (bytes ≡ word_bytes_of w)
+abbrev pub SpellsWord : List ℕ → Word → Type 0
+SpellsWord bytes w = WordFits w × (bytes ≡ word_bytes_of w)

@@ -15,7 +15,7 @@ use Rattle.command_words.specs.Part.{mark_in, ending_in, may_be, has_tokens}
 use Rattle.command_words.specs.Part.{part_in, parts_in, some_parts_in, one_part_in}
 use Rattle.command_words.specs.Part.{image_in, one_image_in}
 use Rattle.command_words.specs.Action.{action_in, image_or_parts, is_assembler, is_module, is_source}
-use Rattle.command_words.specs.Action.{linked_in, run_in, assemble_in, compile_in, part_alone_in, link_in}
+use Rattle.command_words.specs.Action.{linked_asked, run_in, assemble_in, compile_in, part_alone_in, link_in}
 use Rattle.command_words.specs.Action.{mean_in, generate_in, asked_of, asked_in}
 use Rattle.command_words.specs.Action.{reach_in, debug_in, audit_in, erase_in}
 use Rattle.command_words.specs.Fits.{Fits, FitsLinked, FitsName, FitsPart, FitsParts, FitsStack, FitsSteps}
@@ -154,8 +154,9 @@ parts_linked_fit words stack =
     next (size_in stack) _ FitsStack FitsLinked (size_fits stack) (λ size s.
     next (some_parts_in words) _ FitsParts FitsLinked (some_parts_fit words) (λ parts p. (p, s)))
 
-linked_fits : (words : Option (List Text)) (stack : Option Text) → IfSome (linked_in words stack) FitsLinked
-unfolding linked_in
+linked_fits : (words : Option (List Text)) (stack : Option Text) → IfSome
+    (linked_asked words stack) FitsLinked
+unfolding linked_asked
 linked_fits words stack = by (one_image_in words) (one_image_fits words)
   where
     by : (o : Option Text) → IfSome o FitsName → IfSome (image_or_parts o words stack) FitsLinked
@@ -169,7 +170,8 @@ run_fits : (t : Taken) → IfSome (run_in t) FitsRun
 unfolding run_in
 run_fits t = unless _ _ FitsRun (
     next (steps_in t.steps) _ FitsSteps FitsRun (steps_fit t.steps) (λ steps s.
-    next (linked_in t.parts t.stack) _ FitsLinked FitsRun (linked_fits t.parts t.stack) (λ what w. (w, s))))
+    next (linked_asked t.parts t.stack) _ FitsLinked FitsRun (linked_fits t.parts t.stack)
+    (λ what w. (w, s))))
 
 assemble_fits : (t : Taken) → IfSome (assemble_in t) Fits
 unfolding assemble_in
@@ -215,13 +217,13 @@ generate_fits t =
 reach_fits : (t : Taken) → IfSome (reach_in t) Fits
 unfolding reach_in
 reach_fits t = unless _ _ Fits (
-    next (linked_in t.parts t.stack) _ FitsLinked Fits (linked_fits t.parts t.stack) (λ what w. (w, tt)))
+    next (linked_asked t.parts t.stack) _ FitsLinked Fits (linked_fits t.parts t.stack) (λ what w. (w, tt)))
 
 debug_fits : (t : Taken) → IfSome (debug_in t) Fits
 unfolding debug_in
 debug_fits t = unless _ _ Fits (
     next (file_of t.feed) _ FitsName Fits (file_fits t.feed) (λ script n.
-    next (linked_in t.parts t.stack) _ FitsLinked Fits (linked_fits t.parts t.stack) (λ what w. (w, n))))
+    next (linked_asked t.parts t.stack) _ FitsLinked Fits (linked_fits t.parts t.stack) (λ what w. (w, n))))
 
 audit_fits : (t : Taken) → IfSome (audit_in t) Fits
 unfolding audit_in

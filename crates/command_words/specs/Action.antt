@@ -7,7 +7,7 @@ use Rattle.command_words.specs.Texts.{Text}
 use Rattle.command_words.specs.Line.{Taken, rows, taken_of}
 use Rattle.command_words.specs.Name.{file_of}
 use Rattle.command_words.specs.Number.{steps_in, size_in, seed_in}
-use Rattle.command_words.specs.Part.{◌>>=◌, dialect_of, has_tokens, is_trusted}
+use Rattle.command_words.specs.Part.{◌>>=◌, dialect_of, has_tokens, is_trusted_mark}
 use Rattle.command_words.specs.Part.{some_parts_in, one_part_in, one_image_in}
 use Rattle.command_words.specs.declared.part.Ending.{Ending}
 use Rattle.command_words.specs.declared.part.Ending.TheVariants.{Source, Assembler, Component}
@@ -58,14 +58,14 @@ image_or_parts None words stack = do
   Some (Parts parts size)
 
 -- one image word and no size of a stack, or part words
-unfoldable pub linked_in : Option (List Text) → Option Text → Option Linked
-linked_in words stack = image_or_parts (one_image_in words) words stack
+unfoldable pub linked_asked : Option (List Text) → Option Text → Option Linked
+linked_asked words stack = image_or_parts (one_image_in words) words stack
 
 -- what `run` and `trace` ask for
 unfoldable pub run_in : Taken → Option (Linked × ℕ)
 run_in t = if any_used (t.out ∷ t.feed ∷ t.seed ∷ []) then None else do
   steps ← steps_in t.steps
-  what ← linked_in t.parts t.stack
+  what ← linked_asked t.parts t.stack
   Some (what, steps)
 
 unfoldable pub assemble_in : Taken → Option Command
@@ -94,7 +94,7 @@ link_in t = if any_used (t.steps ∷ t.feed ∷ t.seed ∷ []) then None else do
 
 -- `t:NAME.prc` or `t:NAME.tok`
 abbrev pub is_module : PartWord → Bool
-is_module p = is_trusted p.mark && is_source p.ending
+is_module p = is_trusted_mark p.mark && is_source p.ending
 
 unfoldable pub mean_in : Taken → Option Command
 mean_in t = if any_used (t.out ∷ t.seed ∷ []) then None else do
@@ -111,13 +111,13 @@ generate_in t =
 
 unfoldable pub reach_in : Taken → Option Command
 reach_in t = if any_used (t.steps ∷ t.out ∷ t.feed ∷ t.seed ∷ []) then None else do
-  what ← linked_in t.parts t.stack
+  what ← linked_asked t.parts t.stack
   Some (Links what Reach)
 
 unfoldable pub debug_in : Taken → Option Command
 debug_in t = if any_used (t.steps ∷ t.out ∷ t.seed ∷ []) then None else do
   script ← file_of t.feed
-  what ← linked_in t.parts t.stack
+  what ← linked_asked t.parts t.stack
   Some (Debug what script)
 
 unfoldable pub audit_in : Taken → Option Command

@@ -42,13 +42,13 @@ has_tokens (Source Plain) = false
 has_tokens Assembler = false
 has_tokens Component = false
 
-abbrev pub is_trusted : Mark → Bool
-is_trusted Trusted = true
-is_trusted Untrusted = false
+abbrev pub is_trusted_mark : Mark → Bool
+is_trusted_mark Trusted = true
+is_trusted_mark Untrusted = false
 
 -- a source with tokens is trusted
 abbrev pub may_be : Mark → Ending → Bool
-may_be mark ending = is_trusted mark || not (has_tokens ending)
+may_be mark ending = is_trusted_mark mark || not (has_tokens ending)
 
 -- `t:NAME` or `u:NAME`, where NAME is a file's name with one of the endings
 unfoldable pub part_in : Text → Option PartWord

@@ -3,7 +3,7 @@ ghost use Rattle.std.specs.Prelude.{◌≡◌, IfOk, None, is_some};
 ghost use Rattle.std.specs.List.{list_all, list_any};
 ghost use Rattle.command_words.specs.Texts.{Text, texts, text_of, all_texts};
 ghost use Rattle.command_words.specs.Views.{taken_in};
-ghost use Rattle.command_words.specs.Action.{action_in, linked_in, run_in, assemble_in, compile_in};
+ghost use Rattle.command_words.specs.Action.{action_in, linked_asked, run_in, assemble_in, compile_in};
 ghost use Rattle.command_words.specs.Action.{part_alone_in, link_in, is_module, mean_in, generate_in};
 ghost use Rattle.command_words.specs.Action.{reach_in, debug_in, audit_in, erase_in};
 ghost use Rattle.command_words.specs.Action.{asked_of, asked_in};
@@ -70,13 +70,13 @@ fn any_used(options: &[Option<&str>]) -> bool
 }
 
 // One image word and no size of a stack, or part words.
-#[tactic(auto, unfolding(crate::specs::Action::linked_in))]
+#[tactic(auto, unfolding(crate::specs::Action::linked_asked))]
 fn linked_of<'a>(
     alloc: Global,
     words: Option<&[&'a str]>,
     stack: Option<&str>,
 ) -> Result<Option<Linked<'a>>, AllocError>
-    ensures { IfOk result (λ r. r ≡ linked_in (all_texts words.entry) (text_of stack.entry)) }
+    ensures { IfOk result (λ r. r ≡ linked_asked (all_texts words.entry) (text_of stack.entry)) }
 {
     if let Some(name) = one_image(words) {
         if stack.is_some() {

@@ -1,3 +1,4 @@
 pub mod First
 mod Marking
 mod Meeting
+pub mod Offers

@@ -8,11 +8,10 @@ use Rattle.std.proofs.lemmas.Slice.Eq.{bytes_eq-Decides}
 use Rattle.cap_words.specs.Stretch.{Stretch}
 use Rattle.cap_words.specs.Reading.{next_bytes, next_number}
 use Rattle.readers.specs.Answers.{Fails}
-use Rattle.readers.proofs.Grammar.{All, reads_then, reads_done, reads_as, reads_text, reads_tells}
-use Rattle.readers.proofs.Grammar.{reads_meaning}
-use Rattle.readers.proofs.Wholes as whole
-use Rattle.cap_words.proofs.ByteReads.{IsBytes, Reads}
-use Rattle.cap_words.proofs.Fields.{number_reads}
+use Rattle.readers.proofs.Offers.{All, reads_then, reads_done, reads_as, reads_text, reads_tells}
+use Rattle.readers.proofs.Offers.{reads_meaning}
+use Rattle.readers.proofs.Offers as whole
+use Rattle.cap_words.proofs.Offers.{IsBytes, Reads, number_reads}
 use Rattle.component_file.specs.declared.TheConstants.{MOST_IMPORTS, MOST_EXPORTS, MOST_SITES, MOST_ROWS}
 use Rattle.component_file.specs.declared.fault.FileFault.{FileFault}
 use Rattle.component_file.specs.declared.fault.FileFault.TheVariants.{Magic, Version, Short}
@@ -20,7 +19,7 @@ use Rattle.component_file.specs.declared.fault.FileFault.TheVariants.{Trailing, 
 use Rattle.component_file.specs.declared.component.ComponentFields.{ComponentFields}
 use Rattle.component_file.specs.Fault.{is_refusal}
 use Rattle.component_file.specs.Limits.{IsComponent}
-use Rattle.component_file.specs.Spelling.{u16_bytes, version_of, magic, spelling, Spells}
+use Rattle.component_file.specs.Spelling.{u16_bytes, version_of, magic, spelling, SpellsComponent}
 use Rattle.component_file.specs.Reading.{field, version_meant, next_name, next_address, next_stretch}
 use Rattle.component_file.specs.Reading.{next_optional, next_list, next_import, next_export, next_site}
 use Rattle.component_file.specs.Reading.{next_row, next_header, next_words, next_component, decoded}
@@ -240,11 +239,12 @@ refusal_is e is = absurd cc
 
 -- only memory keeps a component from being read
 pub only_memory : (bytes : List ℕ) (e : FileFault) (c : ComponentFields) → Fails is_refusal e (decoded bytes)
-    → Spells bytes c → e ≡ NoMemory
+    → SpellsComponent bytes c → e ≡ NoMemory
 unfolding decoded
 only_memory bytes e c f s =
     refusal_is e (whole.refused_whole component_reads Trailing is_refusal bytes e c f s)
 
-pub only_one : (bytes : List ℕ) (c d : ComponentFields) → decoded bytes ≡ Ok c → Spells bytes d → c ≡ d
+pub only_one : (bytes : List ℕ) (c d : ComponentFields) → decoded bytes ≡ Ok c → SpellsComponent bytes d → c
+    ≡ d
 unfolding decoded
 only_one = whole.one_whole component_reads Trailing

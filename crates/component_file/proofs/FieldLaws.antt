@@ -11,11 +11,11 @@ use Rattle.cap_words.specs.declared.bytes.cursor.FieldFault.TheVariants as field
 use Rattle.cap_words.specs.Stretch.{Stretch}
 use Rattle.readers.specs.Readers.{Reader, ◌>>=◌, done, unless_none}
 use Rattle.cap_words.specs.Reading.{Input, next_bytes, meant, next_byte, next_number, within}
-use Rattle.readers.proofs.Grammar.{took_nothing, some_ok, reads_telling, All, reads_then, reads_last}
-use Rattle.readers.proofs.Grammar.{reads_done, reads_as, reads_text, reads_placed, reads_known, reads_learned}
-use Rattle.readers.proofs.Grammar.{reads_case, reads_if}
-use Rattle.cap_words.proofs.ByteReads.{Took, Reads}
-use Rattle.cap_words.proofs.Fields.{bytes_take, bytes_again, bytes_cut, byte_reads, meant_reads, within_reads}
+use Rattle.readers.proofs.Offers.{took_nothing, some_ok, reads_telling, All, reads_then, reads_last}
+use Rattle.readers.proofs.Offers.{reads_done, reads_as, reads_text, reads_placed, reads_known, reads_learned}
+use Rattle.readers.proofs.Offers.{reads_case, reads_if}
+use Rattle.cap_words.proofs.Offers.{Took, Reads, bytes_take, bytes_again, bytes_cut, byte_reads, meant_reads}
+use Rattle.cap_words.proofs.Offers.{within_reads}
 use Rattle.component_file.specs.declared.TheConstants.{LAST_OFFSET}
 use Rattle.component_file.specs.declared.fault.FileFault.TheVariants.{Short}
 use Rattle.component_file.specs.declared.component.Kind.{Kind}

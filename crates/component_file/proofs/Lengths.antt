@@ -14,7 +14,7 @@ use Rattle.component_file.specs.declared.component.Import.{Import}
 use Rattle.component_file.specs.declared.component.Export.{Export}
 use Rattle.component_file.specs.declared.component.KindRow.{KindRow}
 use Rattle.component_file.specs.declared.component.ComponentFields.{ComponentFields}
-use Rattle.component_file.specs.Limits.{Chain, Each, ImportFits, ExportFits, SiteFits, KindFits, RowFits}
+use Rattle.component_file.specs.Limits.{Chain, Each, ImportFits, ExportFits, SiteFits, KindFits, KindRowFits}
 use Rattle.component_file.specs.Limits.{IsComponent}
 use Rattle.component_file.specs.Spelling.{version_of, u32_bytes, name_bytes, stretch_bytes, list_bytes}
 use Rattle.component_file.specs.Spelling.{import_bytes, export_bytes, flag_byte, optional_bytes, kind_bytes}
@@ -79,7 +79,7 @@ kind_length Stk = omega arith
 kind_length (Pc offset) = omega arith
 kind_length Top = omega arith
 
-row_length : (b : Option KindRow) (r : KindRow) → RowFits b r → length (row_bytes r) ≤ 79
+row_length : (b : Option KindRow) (r : KindRow) → KindRowFits b r → length (row_bytes r) ≤ 79
 unfolding row_bytes
 row_length b r f =
     let kinds = items_length {P = λ _. KindFits} kind_bytes 5 (λ c k p. kind_length k) None r.kinds f.2.1 in
@@ -154,13 +154,13 @@ sites_length sites few each =
           (λ b s p. omega (arith, u32_length s)) None sites each,
     )
 
-rows_length : (rows : List KindRow) → length rows ≤ MOST_ROWS → Chain RowFits None rows
+rows_length : (rows : List KindRow) → length rows ≤ MOST_ROWS → Chain KindRowFits None rows
     → length (list_bytes 4 row_bytes rows) < 2 ^ 24
 rows_length rows few each =
     omega (
       arith,
       long_list_length row_bytes rows,
-      items_length {P = RowFits} row_bytes 79 row_length None rows
+      items_length {P = KindRowFits} row_bytes 79 row_length None rows
           each,
     )
 

@@ -4,3 +4,4 @@ pub mod FieldLaws
 pub mod ListLaws
 pub mod ComponentLaws
 pub mod Lengths
+pub mod Offers

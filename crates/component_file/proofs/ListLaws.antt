@@ -8,12 +8,9 @@ use Rattle.cap_words.specs.declared.Word.{Word}
 use Rattle.cap_words.specs.WordBytes.{word_bytes_of, WordFits, IsUnsealed}
 use Rattle.readers.specs.Readers.{Reader}
 use Rattle.cap_words.specs.Reading.{Input, meant, next_number, within}
-use Rattle.readers.proofs.Grammar.{All, reads_then, reads_last, reads_done, reads_as, reads_text}
-use Rattle.readers.proofs.Grammar.{reads_placed, reads_learned, reads_holds}
-use Rattle.readers.proofs.Items.{items_read}
-use Rattle.cap_words.proofs.ByteReads.{Reads}
-use Rattle.cap_words.proofs.Fields.{within_reads}
-use Rattle.cap_words.proofs.Words.{unsealed_reads}
+use Rattle.readers.proofs.Offers.{All, reads_then, reads_last, reads_done, reads_as, reads_text, reads_placed}
+use Rattle.readers.proofs.Offers.{reads_learned, reads_holds, items_read}
+use Rattle.cap_words.proofs.Offers.{Reads, within_reads, unsealed_reads}
 use Rattle.component_file.specs.declared.TheConstants.{LAST_OFFSET, MOST_WORDS}
 use Rattle.component_file.specs.declared.fault.FileFault.{FileFault}
 use Rattle.component_file.specs.declared.fault.FileFault.TheVariants.{Short, Order}
@@ -21,7 +18,7 @@ use Rattle.component_file.specs.declared.component.Import.{Import}
 use Rattle.component_file.specs.declared.component.Export.{Export}
 use Rattle.component_file.specs.declared.component.KindRow.{KindRow}
 use Rattle.component_file.specs.Limits.{ascends, name_lt, Chain, Each, ImportFits, ExportFits, SiteFits}
-use Rattle.component_file.specs.Limits.{KindFits, RowFits, WordsFit}
+use Rattle.component_file.specs.Limits.{KindFits, KindRowFits, WordsFit}
 use Rattle.component_file.specs.Spelling.{u32_bytes, name_bytes, list_bytes, import_bytes, export_bytes}
 use Rattle.component_file.specs.Spelling.{row_bytes}
 use Rattle.component_file.specs.Reading.{field, next_name, next_offset, next_flag, next_kind, next_items}
@@ -102,7 +99,7 @@ export_reads b = reads_placed _ (λ at.
     (λ c k p. (p.0, p.1.0, p.1.1.0))
     (λ c k p. (p.0, (p.1, (p.2, tt)))))
 
-pub row_reads : (b : Option KindRow) → Reads Short All (RowFits b) row_bytes (next_row b)
+pub row_reads : (b : Option KindRow) → Reads Short All (KindRowFits b) row_bytes (next_row b)
 unfolding next_row row_bytes
 row_reads b = reads_placed _ (λ at.
     reads_as _

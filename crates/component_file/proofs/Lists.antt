@@ -5,7 +5,7 @@ use Rattle.std.proofs.Common.{Result, Ok, refl, ap, ◌∙◌, arith, length-app
 use Rattle.std.specs.Prelude.{slice_get, take, set}
 use Rattle.std.proofs.lemmas.List.{take_more_set, take_all}
 use Rattle.readers.specs.Readers.{Reader, items_from}
-use Rattle.readers.proofs.Items.{with_front, read_one, read_all}
+use Rattle.readers.proofs.Offers.{with_front, read_one, read_all}
 use Rattle.cap_words.specs.Reading.{Input}
 use Rattle.component_file.specs.declared.fault.FileFault.{FileFault}
 use Rattle.component_file.specs.Reading.{next_items}

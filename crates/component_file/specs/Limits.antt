@@ -53,8 +53,8 @@ KindFits (Pc offset) = offset ≤ LAST_OFFSET
 KindFits _ = Unit {0}
 
 -- the kinds of the registers 1 to 15
-abbrev pub RowFits : Option KindRow → KindRow → Type 0
-RowFits before r =
+abbrev pub KindRowFits : Option KindRow → KindRow → Type 0
+KindRowFits before r =
     (r.offset ≤ LAST_OFFSET) × IsTrue (ascends nat_lt (option_map (λ b. b.offset) before) r.offset)
     × ((length r.kinds ≡ 15) × Each KindFits r.kinds)
 
@@ -87,4 +87,4 @@ pub record IsComponent (c : ComponentFields) : Type 0 where
   pub sites : (length c.sites ≤ MOST_SITES) × Chain SiteFits None c.sites
   pub fail_at : IfSome c.fail_at (λ o. o ≤ LAST_OFFSET)
   pub literal_at : IfSome c.literal_at (λ o. o ≤ LAST_OFFSET)
-  pub rows : (length c.rows ≤ MOST_ROWS) × Chain RowFits None c.rows
+  pub rows : (length c.rows ≤ MOST_ROWS) × Chain KindRowFits None c.rows

@@ -77,8 +77,8 @@ spelling c = concat (
     ∷ [])
 
 -- the bytes are the spelling of the component
-abbrev pub Spells : List ℕ → ComponentFields → Type 0
-Spells bytes c = IsComponent c × (bytes ≡ spelling c)
+abbrev pub SpellsComponent : List ℕ → ComponentFields → Type 0
+SpellsComponent bytes c = IsComponent c × (bytes ≡ spelling c)
 
 -- ---- what can be written
 

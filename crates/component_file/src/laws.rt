@@ -3,13 +3,13 @@ ghost use Rattle.std.specs.Prelude.{◌≡◌, ◌<◌, ◌≤◌, ◌∷◌, �
 ghost use Rattle.component_file.specs.declared.component.ComponentFields.{ComponentFields};
 ghost use Rattle.component_file.specs.declared.fault.FileFault.TheVariants.{Short, Trailing};
 ghost use Rattle.component_file.specs.Limits.{IsComponent};
-ghost use Rattle.component_file.specs.Spelling.{Spells, spelling};
+ghost use Rattle.component_file.specs.Spelling.{SpellsComponent, spelling};
 ghost use Rattle.component_file.specs.Reading.{decoded};
 
 /// A component has one spelling, a spelling is of one component, and no spelling begins another.
 pub fn one_spelling()
     ensures { (c d : ComponentFields) (a b x y : List ℕ) →
-        Spells a c → Spells b d → a ++ x ≡ b ++ y → (c ≡ d) × (a ≡ b) × (x ≡ y) }
+        SpellsComponent a c → SpellsComponent b d → a ++ x ≡ b ++ y → (c ≡ d) × (a ≡ b) × (x ≡ y) }
 {}
 
 /// The spelling of a component is read as that component.

@@ -1,7 +1,7 @@
 //! Components from bytes.
 ghost use Rattle.std.specs.Prelude.{◌≡◌, ◌<◌, ◌^◌, ◌⊎◌, length, IfOk, Ok, Err};
 ghost use Rattle.component_file.specs.declared.fault.FileFault.TheVariants.{NoMemory};
-ghost use Rattle.component_file.specs.Spelling.{Spells};
+ghost use Rattle.component_file.specs.Spelling.{SpellsComponent};
 ghost use Rattle.component_file.specs.declared.component.ComponentFields.{ComponentFields};
 ghost use Rattle.component_file.specs.Fault.{is_refusal};
 ghost use Rattle.readers.specs.Answers.{GivesUnlessRefused, AnswersUnlessRefused};
@@ -117,9 +117,9 @@ fn whole(alloc: Global, bytes: &[u8]) -> Result<ComponentFields, FileFault>
 pub fn decode_component(alloc: Global, bytes: &[u8]) -> Result<Component, FileFault>
     requires { length bytes.now < 2 ^ 32 }
     // What is read is spelled so.
-    ensures found { IfOk result (λ c. Spells bytes.now c) }
+    ensures found { IfOk result (λ c. SpellsComponent bytes.now c) }
     // What is spelled so is read, unless memory is refused.
-    ensures only { (c : ComponentFields) → Spells bytes.now c → (result ≡ Ok c) ⊎ (result ≡ Err NoMemory) }
+    ensures only { (c : ComponentFields) → SpellsComponent bytes.now c → (result ≡ Ok c) ⊎ (result ≡ Err NoMemory) }
     // Which fault it is.
     ensures exact { AnswersUnlessRefused is_refusal result (decoded bytes.now) }
 {

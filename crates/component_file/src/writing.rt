@@ -4,7 +4,7 @@ ghost use Rattle.std.specs.List.{flat_map, AllByRecursion};
 ghost use Rattle.cap_words.specs.WordBytes.{SealInSpace, word_bytes_of};
 ghost use Rattle.component_file.specs.Spelling.{u32_bytes, name_bytes, stretch_bytes, list_bytes};
 ghost use Rattle.component_file.specs.Spelling.{import_bytes, export_bytes, optional_bytes, kind_bytes};
-ghost use Rattle.component_file.specs.Spelling.{row_bytes, version_of, Spells, NamesAreShort, NameIsShort};
+ghost use Rattle.component_file.specs.Spelling.{row_bytes, version_of, SpellsComponent, NamesAreShort, NameIsShort};
 ghost use Rattle.component_file.specs.Spelling.{Always};
 
 use crate::component::{Component, Export, Import, Kind, KindRow};
@@ -184,7 +184,7 @@ fn version_of(movable: bool) -> u16
 /// The bytes of a component, which are its one spelling: docs/FORMATS.md has the form.
 #[tactic(auto, unfolding(crate::specs::Spelling::spelling))]
 pub fn encode_component(alloc: Global, c: &Component) -> Result<Vec<u8>, AllocError>
-    ensures spelled { IfOk result (λ v. Spells v.items c.now) }
+    ensures spelled { IfOk result (λ v. SpellsComponent v.items c.now) }
     // So it can be decoded again.
     ensures short { IfOk result (λ v. length v.items < 2 ^ 32) }
 {

@@ -6,9 +6,9 @@ use Rattle.component_check.specs.declared.rule.Broken.{Broken}
 use Rattle.component_check.specs.declared.rule.Group.TheVariants.{C}
 use Rattle.component_check.specs.RuleText.{broken_at}
 use Rattle.component_check.specs.Verdict.{IsFirstBroken, NoneBroken, check_from}
-use Rattle.component_check.proofs.First.{first_broken, is_tried}
+use Rattle.component_check.proofs.Offers.{first_broken, is_tried}
 use Rattle.flow_check.specs.Verdict.{IsFirstOfFlow, flow_answer}
-use Rattle.flow_check.proofs.OneVerdict.{flow_is, flow_answer_is}
+use Rattle.flow_check.proofs.Offers.{flow_is, flow_answer_is}
 use Rattle.component_linker.specs.Parts.{PartSeen, rules_of, TriesFlow, Accepts}
 use Rattle.component_linker.specs.Accepted.{accepted}
 

@@ -23,7 +23,7 @@ use Rattle.component_check.specs.RuleText.{broken_at}
 use Rattle.component_check.specs.Places.{Test, BrokenAt}
 use Rattle.component_check.specs.Verdict.{NoneBroken, IsFirstBroken, check_from}
 use Rattle.component_check.specs.Rules.{rules_c, c1, c2, c3, c4, c5, c6, c7, c8, c9, c10, c11, c12}
-use Rattle.component_check.proofs.First.{first_broken}
+use Rattle.component_check.proofs.Offers.{first_broken}
 use Rattle.call_sequence.specs.Sequences.{call_code, return_code, entry_code}
 use Rattle.call_sequence.specs.Standing.{sequence_difference, is_entry}
 use Rattle.flow_check.specs.Kinds.{kind_of, set_kind}

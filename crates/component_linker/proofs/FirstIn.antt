@@ -5,7 +5,7 @@ use Rattle.std.specs.Prelude.{is_some, option_map, unwrap_or, map}
 use Rattle.std.proofs.lemmas.Option.{slice_get-map}
 use Rattle.component_check.specs.Places.{Test, BrokenAt, first_of, first_place}
 use Rattle.component_check.specs.Verdict.{rule, IsBefore, IsFirst, IsFirstBroken, check_from}
-use Rattle.component_check.proofs.First.{IsFirstIn as IsFirstIndex, first_below_is, first_by, first_broken}
+use Rattle.component_check.proofs.Offers.{IsFirstIn as IsFirstIndex, first_below_is, first_by, first_broken}
 use Rattle.component_linker.specs.declared.pairs.PartPlace.{PartPlace}
 use Rattle.component_linker.specs.Pairs.{PairTest, BrokenIn, rule_of, IsBeforeIn, IsFirstIn, IsFirstBrokenIn}
 use Rattle.component_linker.specs.Pairs.{by_part, first_in, InFoundBy, FirstInBy}

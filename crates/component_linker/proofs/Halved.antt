@@ -14,7 +14,7 @@ use Rattle.std.proofs.lemmas.Cmp.{alike_right}
 use Rattle.std.proofs.lemmas.List.Kept.{AllPairs-cons}
 use Rattle.component_file.specs.declared.component.Export.{Export}
 use Rattle.component_file.specs.Limits.{Chain, ExportFits, name_lt}
-use Rattle.component_linker.specs.Start.{same_name, Ascend}
+use Rattle.component_linker.specs.Start.{same_name, NamesAscend}
 
 less_is : (r : Ordering) → is_lt r ≡ true → r ≡ Less
 less_is Less e = refl
@@ -101,13 +101,13 @@ by_name : (es : List Export) (name : List ℕ)
     → find (λ e. same_name e.name name) es ≡ find (λ e. is_eq (slice_cmp nat_cmp e.name name)) es
 by_name es name = ap (λ (t : Export → Bool). find t es) (λ i e. texts_ties e.name name i)
 
-pub export_found : (es : List Export) (name : List ℕ) (i : ℕ) (d : Export) → Ascend es → i < length es
+pub export_found : (es : List Export) (name : List ℕ) (i : ℕ) (d : Export) → NamesAscend es → i < length es
     → HoldsAt (λ e. slice_cmp nat_cmp e.name name ≡ Equal) es i
     → find (λ e. same_name e.name name) es ≡ Some (get_or es i d)
 export_found es name i d h lt at = by_name es name
     ∙ found (λ (e : Export). e.name) (slice_cmp nat_cmp) nat_list_cmp_total name es i d h lt at
 
-pub export_missing : (es : List Export) (name : List ℕ) (i : ℕ) → Ascend es
+pub export_missing : (es : List Export) (name : List ℕ) (i : ℕ) → NamesAscend es
     → (IsNonDecreasingBy (λ e. ordering_index (slice_cmp nat_cmp e.name name)) es
     → IsPartitionPoint (λ e. slice_cmp nat_cmp e.name name ≡ Less)
     (λ e. slice_cmp nat_cmp e.name name ≡ Greater) es i) → find (λ e. same_name e.name name) es ≡ None
@@ -126,7 +126,7 @@ below_all b (e ∷ es) h zero d lt = h.0.1
 below_all b (e ∷ es) h (suc k) d lt =
     name_lt_trans b.name e.name (get_or es k d).name h.0.1 (below_all e es h.1 k d (omega arith))
 
-pub exports_ascend : (b : Option Export) (es : List Export) → Chain ExportFits b es → Ascend es
+pub exports_ascend : (b : Option Export) (es : List Export) → Chain ExportFits b es → NamesAscend es
 exports_ascend b [] h = λ i j d lt inside. absurd (omega (arith, inside))
 exports_ascend b (e ∷ es) h = AllPairs-cons (λ (a b : Export). IsTrue (name_lt a.name b.name))
     e es (below_all e es h.1) (exports_ascend (Some e) es h.1)

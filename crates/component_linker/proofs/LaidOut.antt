@@ -16,7 +16,7 @@ use Rattle.component_linker.specs.declared.owners.Owner.{Owner}
 use Rattle.component_linker.specs.declared.owners.Entry.{Entry}
 use Rattle.component_linker.specs.Parts.{PartSeen}
 use Rattle.component_linker.specs.Linked.{Kept, AreClosed}
-use Rattle.component_linker.specs.Owners.{AreInOrder, entry_of, owner_of, IsOwner, AreOwners, AreLaid}
+use Rattle.component_linker.specs.Owners.{AreInOrder, placed_entry, owner_of, IsOwner, AreOwners, AreLaid}
 
 both_are : (a b : Bool) → IsTrue (a && b) → IsTrue a × IsTrue b
 both_are true true h = (h, h)
@@ -58,10 +58,10 @@ module _ (parts : List PartSeen) (closed : AreClosed parts) (owners : List Owner
   unfolding owner_of
   entry_name o is n e at =
       let c : ComponentFields = is.of.component in
-      let there : option_map (entry_of c) (slice_get c.exports n) ≡ Some e =
-      sym (slice_get-map (entry_of c) c.exports n) ∙ ap (λ (q : Owner). slice_get q.entries n) (sym is.is)
+      let there : option_map (placed_entry c) (slice_get c.exports n) ≡ Some e =
+      sym (slice_get-map (placed_entry c) c.exports n) ∙ ap (λ (q : Owner). slice_get q.entries n) (sym is.is)
       ∙ at in
-      let x = map_inv (entry_of c) (slice_get c.exports n) e there in
+      let x = map_inv (placed_entry c) (slice_get c.exports n) e there in
       subst (λ (y : Entry). length y.name ≤ LONGEST_NAME)
       x.2 (export_name c.exports None n x.0 (kept_of o is).limits.exports.1 x.1)
 

@@ -31,3 +31,4 @@ pub mod ExampleParts
 pub mod PairStart
 pub mod ExampleLink
 pub mod LaidOut
+pub mod Offers

@@ -19,7 +19,7 @@ use Rattle.component_check.specs.Areas.{is_past_end, are_near, code_area, data_a
 use Rattle.seal_space.specs.Seals.{has_seal}
 use Rattle.component_check.specs.Rules.{c1, c2, c3, c4, c7, c8, c12, slot_of, slot_is_bad, words, holds_of}
 use Rattle.component_check.specs.Rules.{is_foreign, is_own, linear_at, linear_in, meet, meets_before, rules_c}
-use Rattle.component_check.proofs.First.{first_below_is, IsFirstIn}
+use Rattle.component_check.proofs.Offers.{first_below_is, IsFirstIn}
 use Rattle.flow_check.specs.Lists.{k1, site_is_bad, lists}
 use Rattle.component_linker.specs.Parts.{PartSeen, IsPart, rules_of}
 use Rattle.component_linker.specs.Linked.{Kept, IsOwn, HasRange}

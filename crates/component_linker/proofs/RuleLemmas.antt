@@ -7,9 +7,9 @@ use Rattle.std.proofs.lemmas.Option.{slice_get_past, slice_get_within, get_or_fr
 use Rattle.std.proofs.lemmas.List.Sums.{sum_by_more}
 use Rattle.std.proofs.lemmas.Bool.{or_right}
 use Rattle.component_check.specs.Places.{Test, first_place, FirstBy}
-use Rattle.component_check.proofs.First.{plain_first}
+use Rattle.component_check.proofs.Offers.{plain_first}
 use Rattle.component_linker.specs.Pairs.{passes, at_each, within_or, never}
-use Rattle.component_file.proofs.Lists.{inside}
+use Rattle.component_file.proofs.Offers.{inside}
 
 -- ---- lists
 

@@ -9,7 +9,7 @@ use Rattle.std.specs.List.{list_all}
 use Rattle.std.proofs.lemmas.Bool.{false_from_ne_true}
 use Rattle.cap_words.specs.declared.Word.{Word}
 use Rattle.component_check.specs.Places.{Test, BrokenAt, FoundBy, each_of, first_of, first_place}
-use Rattle.component_check.proofs.First.{first_below_is}
+use Rattle.component_check.proofs.Offers.{first_below_is}
 use Rattle.component_linker.proofs.RuleLemmas.{told_in}
 use Rattle.component_linker.proofs.FirstIn.{first_in_is}
 use Rattle.component_linker.specs.declared.moving.Move.{Move}
@@ -18,7 +18,7 @@ use Rattle.component_linker.specs.Parts.{PartSeen, IsPart}
 use Rattle.component_linker.specs.Placing.{moved, moved_by, moved_word}
 use Rattle.component_linker.specs.Placing.{points_in_range, base_or}
 use Rattle.component_linker.specs.Placing.{areas_end_late, seals_end_late, points_too_far}
-use Rattle.component_linker.specs.Standing.{move_to, move_of, settled, part_at, past, placed_from}
+use Rattle.component_linker.specs.Standing.{move_to, move_of, settled, placed_part, past, placed_from}
 use Rattle.component_linker.specs.Pairs.{never, first_in}
 use Rattle.component_linker.specs.Links.{l10, lacks_room, room_test}
 use Rattle.component_linker.proofs.MovedRules.{Lowest}
@@ -56,11 +56,12 @@ has_room m c h = record {
   points = false_from_ne_true _ (λ e. h 2 (omega arith, e));
 }
 
-pub settled_part : (f : Free) (p : PartSeen) → IsPart p → ((i : ℕ) → BrokenAt (room_test (part_at f p)) i → ⊥)
-    → IsPart (part_at f p)
+pub settled_part : (f : Free) (p : PartSeen) → IsPart p
+    → ((i : ℕ) → BrokenAt (room_test (placed_part f p)) i → ⊥)
+    → IsPart (placed_part f p)
 settled_part f p is h = by_case p.component.movable refl
   where
-    by_case : (b : Bool) → p.component.movable ≡ b → IsPart (part_at f p)
+    by_case : (b : Bool) → p.component.movable ≡ b → IsPart (placed_part f p)
     by_case false e =
         let same : settled f p.component ≡ p.component =
         ap (λ b. moved_by (if b then Some (move_to f p.component) else None) p.component) e in
@@ -70,7 +71,7 @@ settled_part f p is h = by_case p.component.movable refl
         let same : settled f p.component ≡ moved m p.component =
         ap (λ b. moved_by (if b then Some m else None) p.component) e in
         let there : (i : ℕ) → BrokenAt (lacks_room (moved m p.component)) i
-        → BrokenAt (room_test (part_at f p)) i = λ i b.
+        → BrokenAt (room_test (placed_part f p)) i = λ i b.
         subst (λ c. BrokenAt (if c.movable then lacks_room c else never) i) (sym same)
         (subst (λ t. BrokenAt (if t then lacks_room (moved m p.component) else never) i) (sym e) b) in
         subst (λ c. IsPart (record { component = c; trusted = p.trusted })) (sym same)
@@ -86,9 +87,9 @@ free_at f [] (suc n) = f
 free_at f (p ∷ ps) (suc n) = free_at (past f p) ps n
 
 pub placed_at : (f : Free) (parts : List PartSeen) (k : ℕ) (p : PartSeen) → slice_get parts k ≡ Some p
-    → slice_get (placed_from f parts) k ≡ Some (part_at (free_at f parts k) p)
+    → slice_get (placed_from f parts) k ≡ Some (placed_part (free_at f parts k) p)
 placed_at f [] k p e = absurd cc
-placed_at f (q ∷ ps) zero p e = let same : q ≡ p = cc in ap (λ r. Some (part_at f r)) same
+placed_at f (q ∷ ps) zero p e = let same : q ≡ p = cc in ap (λ r. Some (placed_part f r)) same
 placed_at f (q ∷ ps) (suc k) p e = placed_at (past f q) ps k p e
 
 pub free_more : (f : Free) (parts : List PartSeen) (k : ℕ) (p : PartSeen) → slice_get parts k ≡ Some p
@@ -105,11 +106,11 @@ as_many f (p ∷ ps) = ap suc (as_many (past f p) ps)
 -- ---- the search for the first that has no room
 
 pub room_at : (f : Free) (parts : List PartSeen) (i : ℕ) (p : PartSeen) {o : Option ℕ}
-    → slice_get parts i ≡ Some p → o ≡ first_place (room_test (part_at (free_at f parts i) p))
+    → slice_get parts i ≡ Some p → o ≡ first_place (room_test (placed_part (free_at f parts i) p))
     → o ≡ first_place ((l10 (placed_from f parts)).within i)
 unfolding l10
 room_at f parts i p e h =
-    told_in (λ j q. room_test q) never (placed_from f parts) i (part_at (free_at f parts i) p)
+    told_in (λ j q. room_test q) never (placed_from f parts) i (placed_part (free_at f parts i) p)
     (placed_at f parts i p e) h
 
 pub no_room : (f : Free) (parts : List PartSeen) (i place : ℕ) → i < length parts
@@ -147,13 +148,13 @@ first_three false false false = refl
 
 -- what is tested of a part that moves
 pub room_of : (f : Free) (p : PartSeen) (m : Move) → move_of f p.component ≡ Some m
-    → first_place (room_test (part_at f p)) ≡
+    → first_place (room_test (placed_part f p)) ≡
     (if areas_end_late (moved m p.component) then Some 0 else if seals_end_late
     (moved m p.component) then Some 1 else if points_too_far (moved m p.component) then Some 2 else None)
 room_of f p m e = by_case p.component.movable refl
   where
     by_case : (b : Bool) → p.component.movable ≡ b
-        → first_place (room_test (part_at f p)) ≡
+        → first_place (room_test (placed_part f p)) ≡
         (if areas_end_late (moved m p.component) then Some 0 else if seals_end_late
         (moved m p.component) then Some 1 else if points_too_far (moved m p.component) then Some 2 else None)
     by_case false g =
@@ -167,9 +168,9 @@ room_of f p m e = by_case p.component.movable refl
         (points_too_far (moved m p.component))
 
 -- where nothing is told, it is a part there
-pub told_part : (f : Free) (p : PartSeen) → IsPart p → first_place (room_test (part_at f p)) ≡ None
-    → IsPart (part_at f p)
-told_part f p is none = settled_part f p is (λ i b. nowhere (room_test (part_at f p)) none i b)
+pub told_part : (f : Free) (p : PartSeen) → IsPart p → first_place (room_test (placed_part f p)) ≡ None
+    → IsPart (placed_part f p)
+told_part f p is none = settled_part f p is (λ i b. nowhere (room_test (placed_part f p)) none i b)
   where
     by_first : (t : Test ℕ) (o : Option ℕ) → first_of t ≡ o → option_map t.place o ≡ None
         → FoundBy (λ i b. t.broken i ≡ b) t.count o → (i : ℕ) → BrokenAt t i → ⊥
@@ -208,10 +209,10 @@ points_of m c a b e f =
 pub room_told : (f : Free) (p : PartSeen) (m : Move) (c : ComponentFields) (a s u : Bool) → c ≡ p.component
     → move_of f c ≡ Some m → a ≡ areas_end_late (moved m c) → s ≡ seals_end_late (moved m c)
     → u ≡ points_too_far (moved m c)
-    → first_place (room_test (part_at f p)) ≡
+    → first_place (room_test (placed_part f p)) ≡
     (if a then Some 0 else if s then Some 1 else if u then Some 2 else None)
 room_told f p m c a s u is = subst (λ c. move_of f c ≡ Some m → a ≡ areas_end_late (moved m c)
     → s ≡ seals_end_late (moved m c) → u ≡ points_too_far (moved m c)
-    → first_place (room_test (part_at f p)) ≡
+    → first_place (room_test (placed_part f p)) ≡
     (if a then Some 0 else if s then Some 1 else if u then Some 2 else None))
     (sym is) (λ e ha hs hu. room_of f p m e ∙ rw (← ha, ← hs, ← hu) refl)

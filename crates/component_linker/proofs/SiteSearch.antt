@@ -15,7 +15,7 @@ use Rattle.std.proofs.lemmas.List.{get_or-drop, get_or_default}
 use Rattle.std.proofs.lemmas.List.Sums.{position_or_len_is}
 use Rattle.lcm_machine.proofs.Offers.{tied_same}
 use Rattle.component_linker.specs.declared.owners.Site.{Site}
-use Rattle.component_linker.specs.Owners.{Ascend, InRuns, IsRun}
+use Rattle.component_linker.specs.Owners.{SitesAscend, InRuns, IsRun}
 
 -- what is read where no site is
 abbrev pub no_site : Site
@@ -60,14 +60,14 @@ index_up a b o Greater Equal h k le =
 index_up a b o Greater Greater h k le = omega arith
 
 -- a later site has a higher address
-pub up_to : (rows : List Site) (i j : ℕ) (d : Site) → Ascend rows → i ≤ j → j < length rows
+pub up_to : (rows : List Site) (i j : ℕ) (d : Site) → SitesAscend rows → i ≤ j → j < length rows
     → (get_or rows i d).at ≤ (get_or rows j d).at
 up_to rows i j d h le lt = elim (cases_eq i j) as (λ _. (get_or rows i d).at ≤ (get_or rows j d).at) [
   | inl e ↦ rw e (omega arith)
   | inr ne ↦ (let up = h i j d (omega (arith, le, ne)) lt in omega (arith, up))
 ]
 
-searchable : (rows : List Site) (o : ℕ) → Ascend rows
+searchable : (rows : List Site) (o : ℕ) → SitesAscend rows
     → IsNonDecreasingBy (λ (y : Site). ordering_index (nat_cmp y.at o)) rows
 searchable rows o h i j d le lt =
     let at : Site → Ordering = λ y. nat_cmp y.at o in
@@ -75,7 +75,7 @@ searchable rows o h i j d le lt =
     (ranked (get_or rows i d).at o (at (get_or rows i d)) refl)
     (ranked (get_or rows j d).at o (at (get_or rows j d)) refl) (up_to rows i j d h le lt)
 
-pub at_place : (rows : List Site) (o i : ℕ) (d : Site) → Ascend rows → i < length rows
+pub at_place : (rows : List Site) (o i : ℕ) (d : Site) → SitesAscend rows → i < length rows
     → HoldsAt (λ (y : Site). nat_cmp y.at o ≡ Equal) rows i → position (λ (s : Site). s.at == o) rows ≡ Some i
 at_place rows o i d h lt e =
     let here : (get_or rows i d).at ≡ o = tied_same _ o (e d) in
@@ -84,7 +84,7 @@ at_place rows o i d h lt e =
     ne_eqb (get_or rows k d).at o (λ same. let up = h k i d below lt in omega (arith, here, same, up)))
     (eq-eqb _ o here)
 
-pub at_none : (rows : List Site) (o i : ℕ) (d : Site) → Ascend rows
+pub at_none : (rows : List Site) (o i : ℕ) (d : Site) → SitesAscend rows
     → (IsNonDecreasingBy (λ (y : Site). ordering_index (nat_cmp y.at o)) rows
     → IsPartitionPoint (λ (y : Site). nat_cmp y.at o ≡ Less) (λ (y : Site). nat_cmp y.at o ≡ Greater)
     rows i)

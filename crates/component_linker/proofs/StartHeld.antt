@@ -24,7 +24,8 @@ use Rattle.lcm_machine.specs.Maps.{Regs, State}
 use Rattle.lcm_machine.specs.Places.{reg}
 use Rattle.lcm_machine.specs.Cells.{cell}
 use Rattle.lcm_machine.specs.Row.{word_at}
-use Rattle.lcm_machine.specs.Regions.{Region, IsLinearAt, InOneRegion, memory_of, is_over, word_over, Fits}
+use Rattle.lcm_machine.specs.Regions.{Region, IsLinearAt, InOneRegion, memory_of, is_over, word_over}
+use Rattle.lcm_machine.specs.Regions.{InRegions}
 use Rattle.lcm_machine.specs.Regions.{CoveredOnce, HeldOnce}
 use Rattle.lcm_machine.proofs.Offers.{normal_apart, over_bounds}
 use Rattle.component_linker.specs.Parts.{PartSeen}
@@ -310,7 +311,7 @@ cap_in parts size n q place c linked first (own_word k i p at word here) =
     (kept.own i c word)
 
 pub fits : (parts : List PartSeen) (size : ℕ) (s : State Word) → Linked parts size → StartMaps parts size s
-    → Fits (λ w. w) (regions_of parts size) s
+    → InRegions (λ w. w) (regions_of parts size) s
 fits parts size s linked start place w there c m =
     let k = main_there parts start.main start.main_is in
     cap_in parts size k.0 start.main.part place c linked k.1

@@ -15,8 +15,8 @@ use Rattle.component_linker.specs.Regions.{addresses}
 
 -- ---- the order of sites
 
-abbrev pub Ascend : List Site → Type 0
-Ascend sites = AllPairs (λ s t. s.at < t.at) sites
+abbrev pub SitesAscend : List Site → Type 0
+SitesAscend sites = AllPairs (λ s t. s.at < t.at) sites
 
 -- of the same part, with the next seal
 abbrev pub Follows : Site → Site → Type 0
@@ -30,7 +30,7 @@ InRuns sites = (i j : ℕ) (d : Site) → i < j → j < length sites
     → Follows (slice_index_or sites i d) (slice_index_or sites (i + 1) d)
 
 pub record AreInOrder (sites : List Site) : Type 0 where
-  pub ascend : Ascend sites
+  pub ascend : SitesAscend sites
   pub runs : InRuns sites
 
 -- the sites from one place up to another are some, and all those of one part that stand from there on
@@ -56,13 +56,13 @@ pub record IsSite (parts : List PartSeen) (s : Site) : Type 0 where
 
 -- each of them, in ascending address
 pub record AreSites (parts : List PartSeen) (sites : List Site) : Type 0 where
-  pub ascend : Ascend sites
+  pub ascend : SitesAscend sites
   pub all : (s : Site) → Contains sites s ↔ IsSite parts s
 
 -- ---- owners
 
-abbrev pub entry_of : ComponentFields → Export → Entry
-entry_of c e = record { name = e.name; at = c.code_base + e.offset }
+abbrev pub placed_entry : ComponentFields → Export → Entry
+placed_entry c e = record { name = e.name; at = c.code_base + e.offset }
 
 abbrev pub call_of : ComponentFields → Import → Call
 call_of c i = record { part = i.part; name = i.name; at = c.data_base + i.slot }
@@ -79,7 +79,7 @@ owner_of index p =
       data_span = addresses c.data_base (length c.data_words);
       closure = c.closure;
       seals = c.seals;
-      entries = map (entry_of c) c.exports;
+      entries = map (placed_entry c) c.exports;
       calls = map (call_of c) c.imports;
     }
 

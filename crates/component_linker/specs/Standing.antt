@@ -46,8 +46,8 @@ move_of f c = if c.movable then Some (move_to f c) else None
 abbrev pub settled : Free → ComponentFields → ComponentFields
 settled f c = moved_by (move_of f c) c
 
-abbrev pub part_at : Free → PartSeen → PartSeen
-part_at f p = record p { component = settled f p.component }
+abbrev pub placed_part : Free → PartSeen → PartSeen
+placed_part f p = record p { component = settled f p.component }
 
 -- what is free behind a movable part; the others have no part in this
 abbrev pub past : Free → PartSeen → Free
@@ -55,7 +55,7 @@ past f p = if p.component.movable then behind (settled f p.component) else f
 
 abbrev pub placed_from : Free → List PartSeen → List PartSeen
 placed_from f [] = []
-placed_from f (p ∷ ps) = part_at f p ∷ placed_from (past f p) ps
+placed_from f (p ∷ ps) = placed_part f p ∷ placed_from (past f p) ps
 
 -- the parts as they stand, with a stack of a size
 abbrev pub placed : List PartSeen → ℕ → List PartSeen

@@ -49,8 +49,8 @@ abbrev pub export_that : (Export → Bool) → PartSeen → Option Exported
 export_that test p = option_map (exported_by p) (find test p.component.exports)
 
 -- each export's name is below those after it
-abbrev pub Ascend : List Export → Type 0
-Ascend exports = AllPairs (λ a b. IsTrue (name_lt a.name b.name)) exports
+abbrev pub NamesAscend : List Export → Type 0
+NamesAscend exports = AllPairs (λ a b. IsTrue (name_lt a.name b.name)) exports
 
 abbrev pub part_named : List PartSeen → List ℕ → Option PartSeen
 part_named parts name = find (λ p. same_name p.component.name name) parts
@@ -101,11 +101,11 @@ abbrev pub data_half : Exported → Word
 data_half x = SealedWord x.part.component.closure (MemIn (data_of x.part))
 
 -- over a whole stack, at its end
-abbrev pub stack_cap : Span → CapFields
-stack_cap s = record { perm = Rw; lin = Linear; base = s.base; end = s.end; addr = pos s.end }
+abbrev pub whole_stack_cap : Span → CapFields
+whole_stack_cap s = record { perm = Rw; lin = Linear; base = s.base; end = s.end; addr = pos s.end }
 
 abbrev pub stack_of : ℕ → ℕ → CapFields
-stack_of base size = stack_cap (addresses base size)
+stack_of base size = whole_stack_cap (addresses base size)
 
 -- ---- memory
 
@@ -153,7 +153,7 @@ start_regs parts size main = record (zero_regs (λ w. w)) {
 
 -- those three registers of a state, set
 abbrev pub with_stack : State Word → Span → State Word
-with_stack s stack = put s (R Stk) (Mem (stack_cap stack))
+with_stack s stack = put s (R Stk) (Mem (whole_stack_cap stack))
 
 abbrev pub registered : State Word → Exported → Span → State Word
 registered s main stack =

@@ -1,7 +1,7 @@
 //! Who is meant by names.
 ghost use Rattle.std.specs.Prelude.{◌≡◌, ◌<◌, option_map, find};
 ghost use Rattle.std.specs.Option.{option_copied};
-ghost use Rattle.component_linker.specs.Start.{same_name, Ascend, exported_by, part_named, imported, is_main};
+ghost use Rattle.component_linker.specs.Start.{same_name, NamesAscend, exported_by, part_named, imported, is_main};
 ghost use Rattle.component_linker.specs.Start.{main_of};
 
 use crate::placed::{Placed, PlacedParts};
@@ -43,7 +43,7 @@ pub(crate) fn part_named<'a>(parts: &PlacedParts<'a>, name: &[u8]) -> Option<Pla
 
 // The export of a name. Exports stand in the order of their names, so it is found by halving.
 fn export_named<'a>(exports: &'a [Export], name: &[u8]) -> Option<&'a Export>
-    requires { Ascend exports.now }
+    requires { NamesAscend exports.now }
     ensures { option_copied result ≡ find (λ e. same_name e.name name.now) exports.now }
 {
     match exports.binary_search_by(|export| export.name.as_slice().cmp(name)) {

@@ -2,7 +2,7 @@
 ghost use Rattle.std.specs.Prelude.{◌≡◌, ◌≤◌, ◌<◌, ◌+◌, length, map, slice_get, Some, IfOk, OnOk, IfSome};
 ghost use Rattle.component_linker.specs.Linked.{Kept, AreClosed, AreSeparate};
 ghost use Rattle.component_linker.specs.Regions.{addresses};
-ghost use Rattle.component_linker.specs.Owners.{entry_of, call_of, owner_of, AreSites, AreOwners};
+ghost use Rattle.component_linker.specs.Owners.{placed_entry, call_of, owner_of, AreSites, AreOwners};
 ghost use Rattle.component_linker.specs.Listing.{SitesUpto, OwnersUpto};
 
 use crate::MOST_PARTS;
@@ -127,7 +127,7 @@ fn copy_name(alloc: Global, name: &[u8]) -> Result<Items<u8>, AllocError>
 // The entries of a part, one for each export.
 fn entries_of(alloc: Global, part: &Placed<'_>) -> Result<Items<Entry>, AllocError>
     requires { Kept part.now }
-    ensures { let c = part.now.component in IfOk result (λ entries. entries ≡ map (entry_of c) c.exports) }
+    ensures { let c = part.now.component in IfOk result (λ entries. entries ≡ map (placed_entry c) c.exports) }
 {
     let base = part.code_base();
     let mut entries = Vec::new(alloc);

@@ -10,12 +10,12 @@ ghost use Rattle.component_linker.specs.Placing.{areas_end_late, seals_end_late,
 ghost use Rattle.component_linker.specs.Placing.{points_too_far};
 ghost use Rattle.component_linker.specs.Standing.{move_of, settled, behind, behind_stack, past_fixed};
 ghost use Rattle.component_linker.specs.Standing.{free_of};
-ghost use Rattle.component_linker.specs.Standing.{part_at, past, placed_from};
+ghost use Rattle.component_linker.specs.Standing.{placed_part, past, placed_from};
 ghost use Rattle.component_linker.specs.Answer.{Places};
 ghost use Rattle.component_linker.specs.Links.{room_test, l10, part_spans, trusted_sites};
 ghost use Rattle.component_linker.specs.Pairs.{first_in};
 ghost use Rattle.component_linker.specs.Regions.{span_of, is_stack_size, stack_span};
-ghost use Rattle.component_linker.specs.Start.{Ascend, stack_base_of};
+ghost use Rattle.component_linker.specs.Start.{NamesAscend, stack_base_of};
 
 use crate::moving::{Move, Shift, moved_word};
 use crate::pairs::PartPlace;
@@ -325,8 +325,8 @@ fn points_too_far(c: &ComponentFields, m: Move) -> bool
 // What a part lacks where so much is free.
 fn lacks_room(part: &Part, free: Free) -> Option<u32>
     requires { (free.address ≤ 2 ^ 21) × (free.seal ≤ 2 ^ 21) }
-    ensures is { result ≡ first_place (room_test (part_at free part.now)) }
-    ensures kept { result ≡ None → IsPart (part_at free part.now) }
+    ensures is { result ≡ first_place (room_test (placed_part free part.now)) }
+    ensures kept { result ≡ None → IsPart (placed_part free part.now) }
 {
     let fields = part.component().fields();
     let Some(m) = move_of(free, fields) else {
@@ -383,7 +383,7 @@ fn part_from(parts: &[Part], first: Free, index: usize) -> Placed<'_>
 // A part, where so much is free.
 fn placed_at(part: &Part, free: Free) -> Placed<'_>
     requires { IsComponent (settled free part.now.component) }
-    ensures { result ≡ part_at free part.now }
+    ensures { result ≡ placed_part free part.now }
 {
     let component = part.component();
     moved_part(component, part.trusted(), move_of(free, component.fields()))
@@ -609,7 +609,7 @@ impl<'a> Placed<'a> {
     /// What it lets others call.
     pub(crate) fn exports(&self) -> &'a [Export]
         ensures is { result.now ≡ self.now.component.exports }
-        ensures ascend { Ascend result.now }
+        ensures ascend { NamesAscend result.now }
         ensures few { length result.now ≤ MOST_EXPORTS }
     {
         self.fields.exports.as_slice()

@@ -1,6 +1,6 @@
 //! The sites of a start in their order, and how one is found by its address or its seal.
 ghost use Rattle.std.specs.Prelude.{◌≡◌, ◌==◌, ◌<◌, length, position, IfOk};
-ghost use Rattle.component_linker.specs.Owners.{Ascend, InRuns, IsRun, AreInOrder};
+ghost use Rattle.component_linker.specs.Owners.{SitesAscend, InRuns, IsRun, AreInOrder};
 
 use crate::owners::Site;
 use cap_words::Items;
@@ -34,7 +34,7 @@ impl Model for SiteList {
 
 // The place of the site at an address, by halving.
 fn place_at(sites: &[Site], at: u32) -> Option<usize>
-    requires { Ascend sites.now }
+    requires { SitesAscend sites.now }
     ensures { result ≡ position (λ s. s.at == at) sites.now }
 {
     match sites.binary_search_by_key(&at, |site| site.at) {

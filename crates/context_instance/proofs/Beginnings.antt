@@ -11,13 +11,12 @@ use Rattle.lcm_isa.specs.Numbers.{number_of}
 use Rattle.lcm_machine.specs.declared.cells.Span.{Span}
 use Rattle.lcm_machine.specs.Regions.{Region}
 use Rattle.lcm_machine.specs.Spans.{AreSpans}
-use Rattle.lcm_machine.proofs.Offers.{bases_rise}
-use Rattle.lcm_machine.proofs.RegionLemmas.{contains_cases, contains_none}
+use Rattle.lcm_machine.proofs.Offers.{bases_rise, contains_cases, contains_none}
 use Rattle.component_file.specs.declared.component.ComponentFields.{ComponentFields}
 use Rattle.component_file.specs.Limits.{IsComponent}
 use Rattle.component_check.specs.Verdict.{NoneBroken, check_from}
 use Rattle.component_check.specs.Rules.{rules_c}
-use Rattle.call_sequence.specs.SequenceRuns.{Outside}
+use Rattle.call_sequence.specs.SequenceRuns.{IsOutsideRange}
 use Rattle.call_sequence.specs.Sequences.{call_code, return_code, entry_code}
 use Rattle.flow_check.specs.Verdict.{IsKept}
 use Rattle.component_linker.specs.Parts.{PartSeen, IsPart}
@@ -31,16 +30,14 @@ use Rattle.component_linker.specs.Linked as linked
 use Rattle.component_linker.specs.LinkedStarts.{IsLinkedStart, IsStartOf}
 use Rattle.component_linker.specs.Owners.{AreSites, IsSite}
 use Rattle.component_linker.specs.declared.owners.Site.{Site}
-use Rattle.component_linker.proofs.FirstIn.{first_broken_in}
-use Rattle.component_linker.proofs.LinksKept.{are_linked}
-use Rattle.component_linker.proofs.PairStart.{filled, cells_filled, owners_of, owners_are}
-use Rattle.component_linker.proofs.ExampleParts.{no_rule}
+use Rattle.component_linker.proofs.Offers.{first_broken_in, are_linked, filled, cells_filled, owners_of}
+use Rattle.component_linker.proofs.Offers.{owners_are, no_rule}
 use Rattle.overlay_machine.specs.Link.{Link, IsTrusted, ranges_of, regions}
 use Rattle.template_runs.specs.Public.{IsFreeAt}
 use Rattle.proc_names.specs.Names.{variable_named}
 use Rattle.proc_templates.specs.Items.{put, instrs}
 use Rattle.proc_templates.specs.Templates.{before_epilogue}
-use Rattle.proc_templates.specs.Compiled.{frame_of, laid_of, lay_proc, data_of, exports_of, imports_of}
+use Rattle.proc_templates.specs.Compiled.{frame_of, laid_of, lay_proc, first_data, exports_of, imports_of}
 use Rattle.proc_templates.specs.Compiled.{component_of, compiled}
 use Rattle.source_starts.specs.Sources.{AreSources, linked_at}
 use Rattle.context_laws.specs.Meanings.{SameUntrusted, AreBeside}
@@ -87,7 +84,7 @@ pub record Links (c : ComponentFields) (n d : ℕ) : Type 0 where
 
 pub one_links : Links (compiled sums) 71 2
 unfolding regions_of number_of entry_code call_code return_code component_of frame_of laid_of lay_proc
-    before_epilogue put instrs data_of exports_of imports_of variable_named l10
+    before_epilogue put instrs first_data exports_of imports_of variable_named l10
 one_links = record {
   fits = one_limits;
   rules = no_rule (compiled sums) true one_checked;
@@ -112,7 +109,7 @@ one_links = record {
 
 pub two_links : Links (compiled keeps) 109 3
 unfolding regions_of number_of entry_code call_code return_code component_of frame_of laid_of lay_proc
-    before_epilogue put instrs data_of exports_of imports_of variable_named l10
+    before_epilogue put instrs first_data exports_of imports_of variable_named l10
 two_links = record {
   fits = two_limits;
   rules = no_rule (compiled keeps) true two_checked;
@@ -284,11 +281,12 @@ module _ (c : ComponentFields) (n d : ℕ) (is : Links c n d) where
       dl : length c.data_words ≡ d
       dl = is.data_long
 
-      in_code : (1 ≤ a) → a ≤ n → Outside a c.code_base (c.code_base + length c.code - 1) → ⊥
+      in_code : (1 ≤ a) → a ≤ n → IsOutsideRange a c.code_base (c.code_base + length c.code - 1) → ⊥
       in_code l h (inl x) = omega (arith, l, x, cb)
       in_code l h (inr x) = omega (arith, h, x, cb, cl)
 
-      in_data : (200 ≤ a) → a ≤ 200 + d - 1 → Outside a c.data_base (c.data_base + length c.data_words - 1)
+      in_data : (200 ≤ a) → a ≤ 200 + d - 1 → IsOutsideRange a c.data_base
+          (c.data_base + length c.data_words - 1)
           → ⊥
       in_data l h (inl x) = omega (arith, l, x, db)
       in_data l h (inr x) = omega (arith, h, x, db, dl)
@@ -303,15 +301,17 @@ module _ (c : ComponentFields) (n d : ℕ) (is : Links c n d) where
       ]
 
       code_out : (p : PartSeen) → IsTrusted K p → 250 ≤ a
-          → Outside a (ranges_of p).code_base (ranges_of p).code_last
+          → IsOutsideRange a (ranges_of p).code_base (ranges_of p).code_last
       code_out p t ge =
-          subst (λ (q : PartSeen). Outside a (ranges_of q).code_base (ranges_of q).code_last) (only_one p t)
+          subst (λ (q : PartSeen). IsOutsideRange a (ranges_of q).code_base (ranges_of q).code_last)
+          (only_one p t)
           (inr (omega (arith, ge, cb, cl, small)))
 
       data_out : (p : PartSeen) → IsTrusted K p → 250 ≤ a
-          → Outside a (ranges_of p).data_base (ranges_of p).data_last
+          → IsOutsideRange a (ranges_of p).data_base (ranges_of p).data_last
       data_out p t ge =
-          subst (λ (q : PartSeen). Outside a (ranges_of q).data_base (ranges_of q).data_last) (only_one p t)
+          subst (λ (q : PartSeen). IsOutsideRange a (ranges_of q).data_base (ranges_of q).data_last)
+          (only_one p t)
           (inr (omega (arith, ge, db, dl, few)))
 
 -- ---- both

@@ -19,28 +19,26 @@ use Rattle.flow_check.specs.Verdict.{IsKept}
 use Rattle.component_linker.specs.Parts.{PartSeen, IsPart}
 use Rattle.component_linker.specs.Pairs.{by_part}
 use Rattle.component_linker.specs.Links.{rules_l, rule_at, l1, l2, l3, l4, l5, l6, l7, l8, l9}
-use Rattle.component_linker.proofs.ExampleParts.{no_rule}
+use Rattle.component_linker.proofs.Offers.{no_rule}
 use Rattle.proc_names.specs.Names.{variable_named}
 use Rattle.proc_program.specs.Lower.{part_of}
-use Rattle.proc_program.proofs.Kept.{part_fits}
+use Rattle.proc_program.proofs.Offers.{part_fits}
 use Rattle.proc_templates.specs.Items.{put, instrs}
 use Rattle.proc_templates.specs.Templates.{before_epilogue}
-use Rattle.proc_templates.specs.Compiled.{frame_of, laid_of, lay_proc, code_words, data_count, data_of}
+use Rattle.proc_templates.specs.Compiled.{frame_of, laid_of, lay_proc, code_words, data_count, first_data}
 use Rattle.proc_templates.specs.Compiled.{exports_of, imports_of, component_of, compiled}
-use Rattle.proc_templates.specs.Kept.{Fits}
-use Rattle.proc_templates.proofs.Apart.{names_differ}
-use Rattle.proc_templates.proofs.Limited.{limits_kept}
-use Rattle.proc_templates.proofs.Readies.{keeps_flow}
+use Rattle.proc_templates.specs.Kept.{FitsComponent}
+use Rattle.proc_templates.proofs.Offers.{names_differ, limits_kept, keeps_flow}
 use Rattle.context_instance.specs.Doubles.{sums, keeps}
 use Rattle.context_instance.proofs.Modules.{limits, limits_too, resolved, resolved_too}
 
 -- ---- the components
 
-sums_fits : Fits (part_of sums)
+sums_fits : FitsComponent (part_of sums)
 unfolding code_words data_count variable_named
 sums_fits = record { limits = part_fits sums limits; code = omega arith; data_words = omega arith }
 
-keeps_fits : Fits (part_of keeps)
+keeps_fits : FitsComponent (part_of keeps)
 unfolding code_words data_count variable_named
 keeps_fits = record { limits = part_fits keeps limits_too; code = omega arith; data_words = omega arith }
 
@@ -59,13 +57,13 @@ two_flow = keeps_flow (part_of keeps) keeps_fits
 pub one_checked : check_from (broken_at C) 1 (rules_c (compiled sums) true) ≡ Ok tt
 unfolding c1 c2 c3 c4 c5 c6 c7 c8 c9 c10 c11 c12 number_of entry_code call_code return_code component_of
     frame_of
-    laid_of lay_proc before_epilogue put instrs data_of exports_of imports_of variable_named
+    laid_of lay_proc before_epilogue put instrs first_data exports_of imports_of variable_named
 one_checked = refl
 
 pub two_checked : check_from (broken_at C) 1 (rules_c (compiled keeps) true) ≡ Ok tt
 unfolding c1 c2 c3 c4 c5 c6 c7 c8 c9 c10 c11 c12 number_of entry_code call_code return_code component_of
     frame_of
-    laid_of lay_proc before_epilogue put instrs data_of exports_of imports_of variable_named
+    laid_of lay_proc before_epilogue put instrs first_data exports_of imports_of variable_named
 two_checked = refl
 
 -- ---- the adversary: its main loads the pair of its own `g`, to which the module is to return, and enters
@@ -144,10 +142,10 @@ each_of c fits rules kept (suc (suc k)) p at = absurd cc
 
 pub one_linked : check_from rule_at 1 (map by_part (rules_l (parts_of (compiled sums)) 8)) ≡ Ok tt
 unfolding l1 l2 l3 l4 l5 l6 l7 l8 l9 number_of entry_code call_code return_code component_of frame_of
-    laid_of lay_proc before_epilogue put instrs data_of exports_of imports_of variable_named
+    laid_of lay_proc before_epilogue put instrs first_data exports_of imports_of variable_named
 one_linked = refl
 
 pub two_linked : check_from rule_at 1 (map by_part (rules_l (parts_of (compiled keeps)) 8)) ≡ Ok tt
 unfolding l1 l2 l3 l4 l5 l6 l7 l8 l9 number_of entry_code call_code return_code component_of frame_of
-    laid_of lay_proc before_epilogue put instrs data_of exports_of imports_of variable_named
+    laid_of lay_proc before_epilogue put instrs first_data exports_of imports_of variable_named
 two_linked = refl

@@ -17,7 +17,7 @@ use Rattle.proc_semantics.specs.Values.{World, Store, target, if_there, first_of
 use Rattle.proc_semantics.specs.Rules.{Domain, Then, Level, with_place, result_of, with_number, enough}
 use Rattle.proc_semantics.specs.Rules.{body_of, begin}
 use Rattle.proc_semantics.specs.Rules.{proc_of, hopped, left_by, entered, by_item, level, finish}
-use Rattle.proc_semantics.specs.Marked.{Thing, Event, Leaves, Whence, Frame, Regs, whences, numbered}
+use Rattle.proc_semantics.specs.Marked.{Thing, Event, Leaves, Whence, Frame, Regs, whences, numbered_items}
 use Rattle.proc_semantics.specs.Marked.{marked}
 use Rattle.proc_semantics.specs.Marked as tagged
 
@@ -184,7 +184,7 @@ module _ (U : Part) (Q : Procedure) (name : List ℕ) (one : U.procs ≡ Q ∷ [
   abbrev pub Told : List Item → ℕ → Store → Type 0
   Told is k st =
       (deep enough : ℕ) × ((d f : ℕ) → deep ≤ d → enough ≤ f
-      → ((level M W d).wait None st None f (numbered k is)).events ≡ tell U.name name Q.need k is)
+      → ((level M W d).wait None st None f (numbered_items k is)).events ≡ tell U.name name Q.need k is)
 
   abbrev Answer : ℕ → Option ℕ → ℕ → FeedBack → Then M
   Answer d left k back = left_by M W (level M W d) U.name None k left back
@@ -202,7 +202,7 @@ module _ (U : Part) (Q : Procedure) (name : List ℕ) (one : U.procs ≡ Q ∷ [
     Es = tell U.name name Q.need (k + 1) is
 
     abbrev Rest : Things
-    Rest = numbered (k + 1) is
+    Rest = numbered_items (k + 1) is
 
     -- of a computation at each level and under each fuel from some on
     Late : (ℕ → Comp) → Option ℕ → List (Event Whence ℕ) → Type 0
@@ -326,7 +326,7 @@ module _ (U : Part) (Q : Procedure) (name : List ℕ) (one : U.procs ≡ Q ∷ [
   open_late : (is : List Item) (k : ℕ) (more : (st : Store) → Inv st → Told is (k + 1) st) (m : ℕ → Comp)
       (es : List (Event Whence ℕ)) → Late is k more m None es
       → (deep enough : ℕ)
-      × ((d f : ℕ) → deep ≤ d → enough ≤ f → (m d None f (numbered (k + 1) is)).events ≡ es)
+      × ((d f : ℕ) → deep ≤ d → enough ≤ f → (m d None f (numbered_items (k + 1) is)).events ≡ es)
   unfolding Late
   open_late is k more m es l = l
 
@@ -343,10 +343,11 @@ module _ (U : Part) (Q : Procedure) (name : List ℕ) (one : U.procs ≡ Q ∷ [
       (l.0 + 2, l.1, λ d f a b. deep l.0 l.1 l.2 d f a b)
     where
       deep : (l0 l1 : ℕ) → ((d f : ℕ) → l0 ≤ d → l1 ≤ f
-          → (by_item M W (level M W (suc d)) None st (first_thing k i) i None f (numbered (k + 1) is)).events
+          → (by_item M W (level M W (suc d)) None st (first_thing k i) i None f
+          (numbered_items (k + 1) is)).events
           ≡ tell_item U.name name Q.need i k (tell U.name name Q.need (k + 1) is))
           → (d f : ℕ) → l0 + 2 ≤ d → l1 ≤ f
-          → ((level M W d).wait None st None f (numbered k (i ∷ is))).events ≡ tell U.name name Q.need k
+          → ((level M W d).wait None st None f (numbered_items k (i ∷ is))).events ≡ tell U.name name Q.need k
           (i ∷ is)
       deep l0 l1 l zero f a b = absurd (omega (arith, a))
       deep l0 l1 l (suc zero) f a b = absurd (omega (arith, a))

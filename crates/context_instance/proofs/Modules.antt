@@ -2,15 +2,15 @@
 use Rattle.std.proofs.Common.{◌≡◌, ◌≢◌, [], length, refl, ap, arith}
 use Rattle.cap_words.specs.Names as names
 use Rattle.component_file.specs.declared.component.ComponentFields.{ComponentFields}
-use Rattle.proc_language.specs.Words.{is_name, is_reserved}
+use Rattle.proc_language.specs.Words.{is_source_name, is_reserved}
 use Rattle.proc_language.specs.Limits.{IsModule}
 use Rattle.proc_names.specs.Names.{variable_named, callee_named, passed_named}
 use Rattle.proc_names.specs.NameFaults.{name_faults}
-use Rattle.proc_templates.specs.Compiled.{compiled, component_of, data_of}
+use Rattle.proc_templates.specs.Compiled.{compiled, component_of, first_data}
 use Rattle.context_instance.specs.Doubles.{sums, keeps}
 
 pub limits : IsModule sums
-unfolding is_name is_reserved names.is_name
+unfolding is_source_name is_reserved names.is_name
 limits = record {
   name = refl;
   code = omega arith;
@@ -37,7 +37,7 @@ limits = record {
 }
 
 pub limits_too : IsModule keeps
-unfolding is_name is_reserved names.is_name
+unfolding is_source_name is_reserved names.is_name
 limits_too = record {
   name = refl;
   code = omega arith;
@@ -72,5 +72,5 @@ unfolding callee_named passed_named variable_named
 resolved_too = refl
 
 pub differ : compiled sums ≢ compiled keeps
-unfolding component_of data_of
+unfolding component_of first_data
 differ e = let n : 2 ≡ 3 = ap (λ (c : ComponentFields). length c.data_words) e in omega (arith, n)

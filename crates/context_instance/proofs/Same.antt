@@ -14,10 +14,10 @@ use Rattle.proc_program.specs.declared.program.Procedure.{Procedure}
 use Rattle.proc_program.specs.Lower.{part_of}
 use Rattle.proc_semantics.specs.declared.value.Value.TheVariants.{Num}
 use Rattle.proc_semantics.specs.Told.{repeated}
-use Rattle.proc_semantics.specs.Values.{World, Store, main_of}
+use Rattle.proc_semantics.specs.Values.{World, Store, main_target}
 use Rattle.proc_semantics.specs.Rules.{Then, Level, result_of, with_number, enough, body_of, finish, start}
 use Rattle.proc_semantics.specs.Rules.{level}
-use Rattle.proc_semantics.specs.Marked.{Event, Leaves, Whence, Frame, numbered, event_to}
+use Rattle.proc_semantics.specs.Marked.{Event, Leaves, Whence, Frame, numbered_items, event_to}
 use Rattle.context_laws.specs.Meanings.{Name, name_of, observed, MeanTheSame}
 use Rattle.context_instance.specs.Doubles.{sums, keeps}
 use Rattle.context_instance.proofs.Means.{M, tick, tell, tell_item, tell_left, tell_number, tell_value}
@@ -136,25 +136,26 @@ tell_named n part name need k (i ∷ is) = by_item i (tell_named n part name nee
         by_test (is_it part name p m) (enough need left) (slice_index_or ints 0 None) b _ _ e
     by_item (Ret p site base v) e = refl
 
-no_main : main_of (U ∷ []) ≡ None
-unfolding main_of
+no_main : main_target (U ∷ []) ≡ None
+unfolding main_target
 no_main = refl
 
-no_main_too : main_of (V ∷ []) ≡ None
-unfolding main_of
+no_main_too : main_target (V ∷ []) ≡ None
+unfolding main_target
 no_main_too = refl
 
 -- what is observed of a module without main, by what is told of it
 observed_is : (W : World) (size : ℕ) (feed : List Item) (f : ℕ) (es : List (Event Whence ℕ))
-    → main_of W ≡ None
-    → ((level M W (f + length (numbered 0 feed) + 1)).wait None (map (λ (u : Part). u.globals) W) None f
-    (numbered 0 feed)).events ≡ es
+    → main_target W ≡ None
+    → ((level M W (f + length (numbered_items 0 feed) + 1)).wait None (map (λ (u : Part). u.globals) W) None f
+    (numbered_items 0 feed)).events ≡ es
     → observed W size feed f ≡ map (event_to (name_of W) (λ (k : ℕ). k)) es
 observed_is W size feed f es none e =
     ap (map (event_to (name_of W) (λ (k : ℕ). k)))
     (ap (λ t.
-    (start M W (level M W (f + length (numbered 0 feed) + 1)) size t (map (λ (u : Part). u.globals) W) None f
-    (numbered 0 feed)).events) none ∙ e)
+    (start M W (level M W (f + length (numbered_items 0 feed) + 1)) size t
+    (map (λ (u : Part). u.globals) W) None f
+    (numbered_items 0 feed)).events) none ∙ e)
 
 pub mean_the_same : (size : ℕ) → MeanTheSame (map part_of (sums ∷ [])) (map part_of (keeps ∷ [])) size
 mean_the_same size feed =
@@ -163,10 +164,10 @@ mean_the_same size feed =
       a.0 + a.1 + b.0 + b.1,
       λ f le.
           observed_is (U ∷ []) size feed f (tell U.name (102 ∷ []) (first U.procs).need 0 feed) no_main
-          (a.2 (f + length (numbered 0 feed) + 1) f (omega (arith, le)) (omega (arith, le)))
+          (a.2 (f + length (numbered_items 0 feed) + 1) f (omega (arith, le)) (omega (arith, le)))
           ∙ tell_named (name_of (U ∷ [])) U.name (102 ∷ []) (first U.procs).need 0 feed
           ∙ sym
           (observed_is (V ∷ []) size feed f (tell V.name (102 ∷ []) (first V.procs).need 0 feed) no_main_too
-          (b.2 (f + length (numbered 0 feed) + 1) f (omega (arith, le)) (omega (arith, le)))
+          (b.2 (f + length (numbered_items 0 feed) + 1) f (omega (arith, le)) (omega (arith, le)))
           ∙ tell_named (name_of (V ∷ [])) V.name (102 ∷ []) (first V.procs).need 0 feed),
     )

@@ -19,7 +19,7 @@ use Rattle.proc_language.specs.declared.module.ModuleFields.{ModuleFields}
 use Rattle.proc_program.specs.Lower.{part_of}
 use Rattle.proc_semantics.specs.Values.{World}
 use Rattle.proc_semantics.specs.Marked.{Event, Whence, refined, event_to}
-use Rattle.source_laws.specs.Seen.{shown_of, outs_of}
+use Rattle.source_laws.specs.Seen.{shown_of, event_outs}
 use Rattle.source_laws.specs.Words.{word_from, back_at}
 use Rattle.source_laws.specs.Wiped.{none_yet, low_of}
 use Rattle.source_laws.specs.Secrets.{Until}
@@ -183,9 +183,9 @@ module _ (begin : StartsBegin) (agree : StartsAgree) (leaves : SourcesLeaveNothi
         pub two : Event Whence ℕ
         pub one_is : slice_get (refined W size [] F).events 0 ≡ Some one
         pub two_is : slice_get (refined W' size [] F).events 0 ≡ Some two
-        pub one_shown : outs_of (layout s) after (step_event (layout s) last after)
+        pub one_shown : event_outs (layout s) after (step_event (layout s) last after)
             ≡ shown_of (event_to (word_from (slots modules (placed parts size) s) []) (back_at []) one) ∷ []
-        pub two_shown : outs_of (layout s') B.after (step_event (layout s') Q B.after)
+        pub two_shown : event_outs (layout s') B.after (step_event (layout s') Q B.after)
             ≡ shown_of (event_to (word_from (slots modules' (placed parts' size) s') []) (back_at []) two)
             ∷ []
         pub names_same : event_to (name_of W) (λ (k : ℕ). k) one ≡ event_to (name_of W') (λ (k : ℕ). k) two

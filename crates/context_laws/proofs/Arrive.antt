@@ -28,7 +28,7 @@ use Rattle.lcm_machine.specs.Maps.{State}
 use Rattle.std.proofs.lemmas.Bool.{and_parts}
 use Rattle.overlay_machine.specs.Linked.{Linked}
 use Rattle.overlay_machine.specs.Safe.{IsSafeCap, IsOpenSeal, IsSafe, IsHalf}
-use Rattle.overlay_machine.proofs.invariant.Facts.{not_trusted}
+use Rattle.overlay_machine.proofs.Offers.{not_trusted}
 use Rattle.template_runs.specs.Public.{IsFreeAt}
 use Rattle.template_runs.specs.Border.{zero, Opened, code_word, half_word, content_of, ShowsCall, ShowsLeave}
 use Rattle.template_runs.specs.Border.{IsTidied}

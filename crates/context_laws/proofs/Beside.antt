@@ -9,14 +9,14 @@ use Rattle.std.proofs.lemmas.Bool.{and_parts, cases_eq}
 use Rattle.std.proofs.lemmas.Option.{slice_get_within}
 use Rattle.component_file.specs.declared.component.Import.{Import}
 use Rattle.component_file.specs.declared.component.Export.{Export}
-use Rattle.component_file.proofs.Lists.{inside}
+use Rattle.component_file.proofs.Offers.{inside}
 use Rattle.component_linker.specs.Parts.{PartSeen}
 use Rattle.component_linker.specs.Standing.{placed}
 use Rattle.component_linker.specs.Start.{Exported, exported_by, export_that, part_named, imported, same_name}
 use Rattle.component_linker.specs.Started.{StartSeen}
 use Rattle.component_linker.specs.LinkedStarts.{IsStartOf}
 use Rattle.component_linker.specs.declared.owners.Site.{Site}
-use Rattle.component_linker.proofs.StartWords.{listed_at}
+use Rattle.component_linker.proofs.Offers.{listed_at}
 use Rattle.trusted_border.specs.declared.layout.Layout.{Layout}
 use Rattle.trusted_border.specs.declared.layout.SiteCode.{SiteCode}
 use Rattle.trusted_border.specs.Layout.{site_code, code_in}
@@ -30,20 +30,16 @@ use Rattle.component_linker.specs.Start.{stack_base_of}
 use Rattle.overlay_machine.specs.Starting.{StartsBegin}
 use Rattle.source_starts.specs.Sources.{SourcesLeaveNothing}
 use Rattle.context_laws.proofs.Sources.{StartsAgree, linked_is}
-use Rattle.overlay_machine.proofs.invariant.FrameFacts.{contains_first, contains_rest}
-use Rattle.lcm_machine.proofs.RegionLemmas.{contains_cases, contains_none}
-use Rattle.overlay_machine.proofs.starts.ListFacts.{index_of, found_is}
-use Rattle.overlay_machine.proofs.starts.NameFacts.{starts_tell_names}
+use Rattle.overlay_machine.proofs.Offers.{contains_first, contains_rest, index_of, found_is}
+use Rattle.overlay_machine.proofs.Offers.{starts_tell_names}
+use Rattle.lcm_machine.proofs.Offers.{contains_cases, contains_none}
 use Rattle.trace_tool.specs.Layout.{layout, part_name, site_of}
 use Rattle.proc_language.specs.declared.module.ModuleFields.{ModuleFields}
 use Rattle.proc_program.specs.declared.program.Procedure.{Procedure}
 use Rattle.proc_program.specs.Lower.{part_of}
 use Rattle.source_starts.specs.Sources.{AreSources, linked_at}
-use Rattle.source_starts.proofs.Worlds.{aligned, home_of, NamesApart, names_apart, names_same, same_names}
-use Rattle.source_starts.proofs.Linking.{same_part, imported_names, Names}
-use Rattle.source_starts.proofs.Exports.{one_offset}
-use Rattle.source_starts.proofs.StartWords.{data_in}
-use Rattle.source_starts.proofs.Targets.{proc_of}
+use Rattle.source_starts.proofs.Offers.{aligned, home_of, NamesApart, names_apart, names_same, same_names}
+use Rattle.source_starts.proofs.Offers.{same_part, imported_names, Names, one_offset, data_in, proc_of}
 use Rattle.context_laws.specs.Related.{SameNames, IsExport}
 use Rattle.context_laws.specs.Sources.{SameImported, SamePlaces}
 use Rattle.context_laws.specs.Meanings.{GoByNames, IsSameSite, told_name, export_name, SameUntrusted}

@@ -25,10 +25,10 @@ use Rattle.overlay_machine.specs.Words.{look, is_plain}
 use Rattle.overlay_machine.specs.State.{OpenFrame, OState}
 use Rattle.overlay_machine.specs.Step.{case_fetched}
 use Rattle.overlay_machine.specs.Events.{step_event, event_after, note_by, note_jump, note_return, jump_seal}
-use Rattle.overlay_machine.specs.Events.{entered, owner_now}
+use Rattle.overlay_machine.specs.Events.{entered_event, owner_now}
 use Rattle.overlay_machine.specs.Link.{Link}
 use Rattle.overlay_machine.specs.Linked.{Linked}
-use Rattle.template_runs.proofs.Outside.{open_no_owner}
+use Rattle.template_runs.proofs.Offers.{open_no_owner}
 use Rattle.context_laws.specs.Related.{RunsOutside, IsOurs}
 use Rattle.context_laws.proofs.Outer.{case_out}
 
@@ -49,7 +49,7 @@ module _ (g : Link) (linked : Linked g) (o : OState) (h : RunsOutside g o) where
     pub enter_event : (x : Opened) → fetch (faces look o.maps Pc) (cell_faces look o.maps) ≡ some (Xjmp r1 r2)
         next → (is_plain (reg o.maps.regs r1) && is_plain (reg o.maps.regs r2)) ≡ true
         → opened_of (look (reg o.maps.regs r1)) ≡ Some x
-        → step_event g.layout o q ≡ option_and_then (entered g.layout q) (closure_owner g.layout x.seal)
+        → step_event g.layout o q ≡ option_and_then (entered_event g.layout q) (closure_owner g.layout x.seal)
     unfolding step_event opens
     enter_event x f p k =
         ap (λ c. event_after g.layout (note_by g.layout o c) q)
@@ -85,7 +85,8 @@ module _ (g : Link) (linked : Linked g) (o : OState) (h : RunsOutside g o) where
         ∙ ap (λ y. event_after g.layout (note_jump (option_map (λ (w : Owner). w.part) (owner_now g.layout o))
         (option_map (λ (z : Opened). z.seal) y)) q) k
     silent (Some x) f p k op =
-        enter_event x f p k ∙ ap (option_and_then (entered g.layout q)) (open_no_owner g linked x.seal op)
+        enter_event x f p k ∙ ap (option_and_then (entered_event g.layout q))
+        (open_no_owner g linked x.seal op)
 
     pub own_event : (a : Word) → fetch (faces look o.maps Pc) (cell_faces look o.maps) ≡ some (Xjmp r1 r2)
         next → (is_plain (reg o.maps.regs r1) && is_plain (reg o.maps.regs r2)) ≡ true

@@ -9,7 +9,7 @@ use Rattle.overlay_machine.specs.Linked.{Linked}
 use Rattle.overlay_machine.specs.Runs.{Reached, goes_on}
 use Rattle.trusted_border.specs.declared.layout.Layout.{Layout}
 use Rattle.template_runs.specs.Runs.{is_inside}
-use Rattle.template_runs.proofs.Valid.{goes_same, halts_not, fails_not}
+use Rattle.template_runs.proofs.Offers.{goes_same, halts_not, fails_not}
 use Rattle.context_laws.specs.Related.{SameNames, Calls, Alike, StepsAlike, both_halt, both_fail, both_stay}
 use Rattle.context_laws.specs.Related.{both_come}
 use Rattle.context_laws.specs.Related.{ComesAlike}

@@ -16,13 +16,12 @@ use Rattle.overlay_machine.specs.Words.{look}
 use Rattle.overlay_machine.specs.State.{OpenFrame, OState}
 use Rattle.overlay_machine.specs.Step.{goes, case_of, step_by, overlay_step, new_frame}
 use Rattle.overlay_machine.specs.Events.{step_event, note_by, note_return, note_jump, event_after, jumped}
-use Rattle.overlay_machine.specs.Events.{entered}
+use Rattle.overlay_machine.specs.Events.{entered_event}
 use Rattle.overlay_machine.specs.Events.{owner_now}
 use Rattle.overlay_machine.specs.Runs.{Reached, goes_on}
 use Rattle.overlay_machine.specs.Link.{Link}
 use Rattle.overlay_machine.specs.Linked.{Linked}
-use Rattle.overlay_machine.proofs.invariant.CallKept.{called}
-use Rattle.overlay_machine.proofs.invariant.FramePrivate.{stays_open}
+use Rattle.overlay_machine.proofs.Offers.{called, stays_open}
 use Rattle.source_laws.specs.Secrets.{Until, still_there, one_more}
 use Rattle.context_laws.specs.Lockstep.{Holds}
 
@@ -34,14 +33,14 @@ no_call : (x : Option Event) (t : Bool) (i b e : ℕ) → NoCall x → x ≡ Som
 no_call x t i b e n h = subst NoCall h n
 
 no_entered : (l : Layout) (q : OState) (p : Owner) (k : Option ℕ) → entry_number p (faces look q.maps Pc) ≡ k
-    → NoCall (entered l q p)
+    → NoCall (entered_event l q p)
 no_entered l q p None e = rw e tt
 no_entered l q p (Some k) e = rw e tt
 
 no_jumped : (l : Layout) (q : OState) (from : Option ℕ) (seal : ℕ) → NoCall (jumped l q from seal)
 no_jumped l q None seal = by (closure_owner l seal)
   where
-    by : (w : Option Owner) → NoCall (option_and_then (entered l q) w)
+    by : (w : Option Owner) → NoCall (option_and_then (entered_event l q) w)
     by None = tt
     by (Some p) = no_entered l q p _ refl
 no_jumped l q (Some part) seal = by (is_some (owner_now l q))

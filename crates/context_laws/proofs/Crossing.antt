@@ -36,7 +36,7 @@ use Rattle.template_runs.specs.Border.{Opened, code_word, half_word, content_of,
 use Rattle.template_runs.specs.Border.{ShowsBy, by_call}
 use Rattle.template_runs.specs.Border.{by_leave, Shows}
 use Rattle.proc_semantics.specs.Marked.{Arg, Number, OfPair, Event, Calls, Leaves, Whence, arg_to, event_to}
-use Rattle.source_laws.specs.Seen.{Back, Shown, Went, handed, left_with, shown_of, outs_of, call_shown}
+use Rattle.source_laws.specs.Seen.{Back, Shown, Went, handed, left_with, shown_of, event_outs, call_shown}
 use Rattle.source_laws.specs.Seen.{args_shown, arg_shown}
 use Rattle.source_laws.specs.Seen.{left_shown}
 use Rattle.source_laws.specs.Wiped.{low_of}
@@ -397,17 +397,18 @@ module _ (g h : Link) (names : SameNames g h) (by_names : GoByNames names) (lg :
         )
 
     pub crossed : Shows g.layout a.last a.after → Shows h.layout b.last b.after → (x y : Event Whence ℕ)
-        → outs_of g.layout a.after (step_event g.layout a.last a.after) ≡ shown_of (event_to word back x) ∷ []
-        → outs_of h.layout b.after (step_event h.layout b.last b.after) ≡ shown_of (event_to word' back' y)
+        → event_outs g.layout a.after (step_event g.layout a.last a.after) ≡ shown_of (event_to word back x)
+        ∷ []
+        → event_outs h.layout b.after (step_event h.layout b.last b.after) ≡ shown_of (event_to word' back' y)
         ∷ [] → event_to name (λ (k : ℕ). k) x ≡ event_to name' (λ (k : ℕ). k) y → Crossed x y
     crossed s t x y hx hy hn = by s.0 t.0 s.1 t.1 s.2 t.2 x y
-        (ap (outs_of g.layout a.after) (sym s.1) ∙ hx) (ap (outs_of h.layout b.after) (sym t.1) ∙ hy) hn
+        (ap (event_outs g.layout a.after) (sym s.1) ∙ hx) (ap (event_outs h.layout b.after) (sym t.1) ∙ hy) hn
       where
         by : (e k : BorderEvent) → step_event g.layout a.last a.after ≡ Some e
             → step_event h.layout b.last b.after ≡ Some k → ShowsBy g.layout a.after e
             → ShowsBy h.layout b.after k
-            → (x y : Event Whence ℕ) → outs_of g.layout a.after (Some e) ≡ shown_of (event_to word back x)
-            ∷ [] → outs_of h.layout b.after (Some k) ≡ shown_of (event_to word' back' y) ∷ []
+            → (x y : Event Whence ℕ) → event_outs g.layout a.after (Some e) ≡ shown_of (event_to word back x)
+            ∷ [] → event_outs h.layout b.after (Some k) ≡ shown_of (event_to word' back' y) ∷ []
             → event_to name (λ (k : ℕ). k) x ≡ event_to name' (λ (k : ℕ). k) y → Crossed x y
         by _ _ ev ew (by_call d f sc) (by_call e k tc) (Calls part site base low m n xs)
             (Calls part' site' base' low' m' n' ys) hx hy hn =

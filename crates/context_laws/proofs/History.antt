@@ -21,7 +21,7 @@ use Rattle.overlay_machine.specs.Names.{NamesTold}
 use Rattle.trace_tool.specs.Views.{flat_view}
 use Rattle.source_events.specs.declared.Item.{Item}
 use Rattle.proc_semantics.specs.Marked.{Thing}
-use Rattle.source_laws.specs.Seen.{Back, thing_of, entry_of, nothing_back}
+use Rattle.source_laws.specs.Seen.{Back, thing_of, back_here, nothing_back}
 use Rattle.source_laws.specs.Seen as seen
 use Rattle.source_laws.specs.Trace as lines
 use Rattle.source_laws.specs.Words.{words_at, back_at}
@@ -154,7 +154,7 @@ module _ (g h : Link) (names : SameNames g h) where
         ∙ ap (λ x. if_own h.layout (memory_in x)) (sym (face_is g h names cs w v a))
 
     same_stk : SameWord g h names cs q.maps.regs.stk r.maps.regs.stk
-        → (entry_of g.layout q).stk ≡ (entry_of h.layout r).stk
+        → (back_here g.layout q).stk ≡ (back_here h.layout r).stk
     unfolding own_stack faces
     same_stk a =
         ap (option_map (λ (c : CapFields). Plain (Mem (stack_cap g.layout.stack.base c.end c.end))))
@@ -163,8 +163,8 @@ module _ (g h : Link) (names : SameNames g h) where
         (if_own h.layout (memory_in (face_of (look r.maps.regs.stk))))) names.stack
 
     by_enter : EnterAlike g h names cs o q p r → (xs ys : List Item)
-        → lines.items_of g.layout (flat_view g.layout q) (step_event g.layout o q) ≡ xs
-        → lines.items_of h.layout (flat_view h.layout r) (step_event h.layout p r) ≡ ys → xs ≡ ys
+        → lines.event_items g.layout (flat_view g.layout q) (step_event g.layout o q) ≡ xs
+        → lines.event_items h.layout (flat_view h.layout r) (step_event h.layout p r) ≡ ys → xs ≡ ys
         → AllAlike cs (map (thing_of g.layout q) xs) (map (thing_of h.layout r) ys)
     by_enter e xs ys ex ey same =
         let ix = (names.exports e.one e.other e.twins).0 in
@@ -191,10 +191,10 @@ module _ (g h : Link) (names : SameNames g h) where
         ))
 
     by_return : ReturnAlike g h names cs o q p r → (xs ys : List Item)
-        → lines.items_of g.layout (flat_view g.layout q) (step_event g.layout o q) ≡ xs → xs ≡ ys
+        → lines.event_items g.layout (flat_view g.layout q) (step_event g.layout o q) ≡ xs → xs ≡ ys
         → AllAlike cs (map (thing_of g.layout q) xs) (map (thing_of h.layout r) ys)
     by_return e xs ys ex same =
-        let one = sym ex ∙ ap (lines.items_of g.layout (flat_view g.layout q)) e.event in
+        let one = sym ex ∙ ap (lines.event_items g.layout (flat_view g.layout q)) e.event in
         subst (λ zs. AllAlike cs (map (thing_of g.layout q) xs) (map (thing_of h.layout r) zs)) same
         (subst (λ zs. AllAlike cs (map (thing_of g.layout q) zs) (map (thing_of h.layout r) zs)) (sym one) (
           record {
@@ -206,9 +206,9 @@ module _ (g h : Link) (names : SameNames g h) where
         ))
 
     pub things_alike : ComesAlike g h names cs o q p r
-        → lines.items_of g.layout (flat_view g.layout q) (step_event g.layout o q)
-        ≡ lines.items_of h.layout (flat_view h.layout r) (step_event h.layout p r)
-        → AllAlike cs (seen.items_of g.layout q (step_event g.layout o q))
-        (seen.items_of h.layout r (step_event h.layout p r))
+        → lines.event_items g.layout (flat_view g.layout q) (step_event g.layout o q)
+        ≡ lines.event_items h.layout (flat_view h.layout r) (step_event h.layout p r)
+        → AllAlike cs (seen.event_items g.layout q (step_event g.layout o q))
+        (seen.event_items h.layout r (step_event h.layout p r))
     things_alike (inl e) same = by_enter e _ _ refl refl same
     things_alike (inr e) same = by_return e _ _ refl same

@@ -10,7 +10,7 @@ use Rattle.cap_words.specs.declared.Word.TheVariants.{Int, Mem, Seal, Sealed}
 use Rattle.component_file.specs.declared.component.Export.{Export}
 use Rattle.lcm_machine.specs.Places.{reg}
 use Rattle.lcm_machine.specs.Cells.{cell}
-use Rattle.lcm_machine.proofs.RegionLemmas.{contains_cases, contains_none}
+use Rattle.lcm_machine.proofs.Offers.{contains_cases, contains_none}
 use Rattle.component_linker.specs.Parts.{PartSeen}
 use Rattle.component_linker.specs.Start.{Exported, code_half, data_half}
 use Rattle.component_linker.specs.declared.owners.Site.{Site}
@@ -24,8 +24,7 @@ use Rattle.overlay_machine.specs.Linked.{Linked}
 use Rattle.overlay_machine.specs.Safe.{IsSafe}
 use Rattle.overlay_machine.specs.Invariant.{FramesLie, FrameFits}
 use Rattle.overlay_machine.specs.State.{Cells}
-use Rattle.overlay_machine.proofs.invariant.FrameFacts.{contains_first, contains_rest, frame_of-cons}
-use Rattle.overlay_machine.proofs.invariant.FrameFacts.{frame_none}
+use Rattle.overlay_machine.proofs.Offers.{contains_first, contains_rest, frame_of-cons, frame_none}
 use Rattle.template_runs.specs.Public.{IsFreeAt}
 use Rattle.context_laws.specs.Related.{RunsOutside, SameNames, Calls, AreCalls, IsExport, SameWord, ours}
 use Rattle.context_laws.specs.Related.{code_halves}

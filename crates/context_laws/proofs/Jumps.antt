@@ -27,7 +27,7 @@ use Rattle.component_linker.specs.Parts.{PartSeen}
 use Rattle.component_linker.specs.Start.{Exported, code_half, data_half, code_of, data_of}
 use Rattle.trusted_border.specs.declared.layout.SiteCode.{SiteCode}
 use Rattle.trusted_border.specs.Layout.{site_code}
-use Rattle.trusted_border.specs.Reaches.{jump_plan, goes_on}
+use Rattle.trusted_border.specs.Reaches.{jump_plan, plan_goes}
 use Rattle.overlay_machine.specs.State.{OpenFrame}
 use Rattle.overlay_machine.specs.Flat.{flat_code, flat_range}
 use Rattle.overlay_machine.specs.Link.{Link, IsTrusted}
@@ -52,7 +52,7 @@ gone c d =
     Goes (record no_effect { spent = Some Rdata; first = made Pc (Mem c); second = made Dat (unsealed d) })
 
 last : (l r n : Bool) (c : CapFields) (d : Content)
-    → goes_on (ask F10 (not l) (ask F7 r (ask F7 (not n) (gone c d)))) ≡ (not l && r) && not n
+    → plan_goes (ask F10 (not l) (ask F7 r (ask F7 (not n) (gone c d)))) ≡ (not l && r) && not n
 unfolding ask
 last true r n c d = refl
 last false true true c d = refl
@@ -60,7 +60,7 @@ last false true false c d = refl
 last false false n c d = refl
 
 seals : (b : Bool) (c d : Content)
-    → goes_on (ask F12 b (need F6 (memory_content c)
+    → plan_goes (ask F12 b (need F6 (memory_content c)
     (λ e. ask F10 (not (lin_is e.lin)) (ask F7 (may_run e.perm) (ask F7 (not (runs_in d)) (gone e d))))))
     ≡ b && (can c && not (runs_in d))
 unfolding need ask
@@ -69,7 +69,7 @@ seals true (SealC s) d = refl
 seals true (MemC c) d = last (lin_is c.lin) (may_run c.perm) (runs_in d) c d
 
 both_opened : (x y : Option Opened)
-    → goes_on (need F6 x (λ code. need F6 y (λ half. ask F12 (code.seal == half.seal)
+    → plan_goes (need F6 x (λ code. need F6 y (λ half. ask F12 (code.seal == half.seal)
     (need F6 (memory_content code.content) (λ c. ask F10 (not (lin_is c.lin)) (ask F7 (may_run c.perm)
     (ask F7 (not (runs_in half.content)) (gone c half.content)))))))) ≡ jumps x y
 unfolding need
@@ -77,7 +77,7 @@ both_opened None y = refl
 both_opened (Some x) None = refl
 both_opened (Some x) (Some y) = seals (x.seal == y.seal) x.content y.content
 
-pub plan_is : (w v : Word) → goes_on (jump_plan w v) ≡ jumps (opened_of w) (opened_of v)
+pub plan_is : (w v : Word) → plan_goes (jump_plan w v) ≡ jumps (opened_of w) (opened_of v)
 plan_is w v = both_opened (opened_of w) (opened_of v)
 
 -- ---- pairs that go nowhere

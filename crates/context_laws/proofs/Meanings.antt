@@ -7,7 +7,7 @@ use Rattle.std.specs.Prelude.{slice_get, option_map, is_some, if◌then◌else�
 use Rattle.std.proofs.lemmas.Option.{slice_get-map, slice_get_within}
 use Rattle.std.proofs.lemmas.List.{append-nil, length-append, length-map}
 use Rattle.cap_words.specs.declared.Word.TheVariants.{Mem}
-use Rattle.call_sequence.specs.SequenceRuns.{Outside, stack_cap}
+use Rattle.call_sequence.specs.SequenceRuns.{IsOutsideRange, stack_cap}
 use Rattle.lcm_machine.specs.Cells.{cell}
 use Rattle.component_linker.specs.Parts.{PartSeen}
 use Rattle.component_linker.specs.Standing.{placed}
@@ -23,26 +23,25 @@ use Rattle.overlay_machine.specs.Linked.{Linked}
 use Rattle.overlay_machine.specs.Names.{NamesTold}
 use Rattle.overlay_machine.specs.Runs.{Reached, goes_on}
 use Rattle.overlay_machine.specs.Starting.{overlay_at, StartsBegin}
-use Rattle.overlay_machine.proofs.starts.NameFacts.{starts_tell_names}
-use Rattle.overlay_machine.proofs.Offers.{map_get}
+use Rattle.overlay_machine.proofs.Offers.{starts_tell_names, map_get}
 use Rattle.trusted_border.specs.declared.layout.Layout.{Layout}
 use Rattle.trace_tool.specs.Layout.{layout}
 use Rattle.trace_tool.specs.Views.{flat_view}
 use Rattle.template_runs.specs.Runs.{is_inside}
 use Rattle.template_runs.specs.Public.{IsFreeAt}
 use Rattle.template_runs.specs.Border.{zero, Shows, Wiped, low_at}
-use Rattle.template_runs.proofs.Valid.{goes_same, halts_not, fails_not}
+use Rattle.template_runs.proofs.Offers.{goes_same, halts_not, fails_not}
 use Rattle.proc_language.specs.declared.module.ModuleFields.{ModuleFields}
 use Rattle.proc_program.specs.Lower.{part_of}
 use Rattle.source_events.specs.declared.Item.{Item}
 use Rattle.proc_semantics.specs.Values.{World}
 use Rattle.proc_semantics.specs.Meaning.{meaning}
 use Rattle.proc_semantics.specs.Marked.{Thing, Event, Whence, refined, event_to, plain_event}
-use Rattle.proc_semantics.proofs.Marked.{mark_laws}
+use Rattle.proc_semantics.proofs.Offers.{mark_laws}
 use Rattle.source_laws.specs.Seen.{Shown, Back, shown_of}
 use Rattle.source_laws.specs.Seen as seen
-use Rattle.source_laws.specs.Sources.{SourcesMean}
-use Rattle.source_laws.specs.Trace.{items_of}
+use Rattle.source_laws.specs.Sources.{MeansAlways}
+use Rattle.source_laws.specs.Trace.{event_items}
 use Rattle.source_laws.specs.Words.{word_from, back_at}
 use Rattle.source_laws.specs.Wiped as since_start
 use Rattle.source_laws.specs.Wiped.{TellsSince, and_then, low_of, last_outside}
@@ -91,7 +90,7 @@ zero_same g h names cs _ _ (ret_datas i j t) = (λ e. cc, λ e. cc)
 module _ (begin : StartsBegin) (agree : StartsAgree) (leaves : SourcesLeaveNothing) (words : SourcesTellWords)
     (wipes : WipedCellsAreTold)
     (means : (modules : List ModuleFields) (parts : List PartSeen) (size : ℕ) (s : StartSeen)
-    → IsStartOf parts size s → AreSources modules parts → SourcesMean (map part_of modules) size s)
+    → IsStartOf parts size s → AreSources modules parts → MeansAlways (map part_of modules) size s)
     (modules modules' : List ModuleFields) (parts parts' : List PartSeen) (size : ℕ) (s s' : StartSeen)
     (is : IsStartOf parts size s) (is' : IsStartOf parts' size s') (src : AreSources modules parts)
     (src' : AreSources modules' parts')
@@ -282,8 +281,8 @@ module _ (begin : StartsBegin) (agree : StartsAgree) (leaves : SourcesLeaveNothi
   come_items : (cs : Calls) (p p' : OState) (k : Point cs p p') (q q' : OState)
       → overlay_step (layout s) p ≡ goes q
       → overlay_step (layout s') p' ≡ goes q' → ComesAlike G H names cs p q p' q'
-      → items_of (layout s) (flat_view (layout s) q) (step_event (layout s) p q)
-      ≡ items_of (layout s') (flat_view (layout s') q') (step_event (layout s') p' q')
+      → event_items (layout s) (flat_view (layout s) q) (step_event (layout s) p q)
+      ≡ event_items (layout s') (flat_view (layout s') q') (step_event (layout s') p' q')
   come_items cs p p' k q q' e e' c =
       items_same G H names by_names lg lh ng nh cs p q p' q'
       (calls_kept G H names cs p.frames p'.frames q.frames q'.frames k.calls
@@ -304,28 +303,32 @@ module _ (begin : StartsBegin) (agree : StartsAgree) (leaves : SourcesLeaveNothi
       by (both_fail x y) = ap (item_by (layout s) p) x ∙ sym (ap (item_by (layout s') p') y)
       by (both_stay m m' x y i j ev ew al) =
           ap (item_by (layout s) p) x
-          ∙ ap (λ b. if b then items_of (layout s) (flat_view (layout s) m) (step_event (layout s) p m) else
+          ∙ ap (λ b. if b then event_items (layout s) (flat_view (layout s) m)
+          (step_event (layout s) p m) else
           []) i ∙ sym (ap (item_by (layout s') p') y
-          ∙ ap (λ b. if b then items_of (layout s') (flat_view (layout s') m') (step_event (layout s') p' m')
+          ∙ ap (λ b. if b then event_items (layout s') (flat_view (layout s') m')
+          (step_event (layout s') p' m')
           else []) j)
       by (both_come m m' x y i j c) =
           ap (item_by (layout s) p) x
-          ∙ ap (λ b. if b then items_of (layout s) (flat_view (layout s) m) (step_event (layout s) p m) else
+          ∙ ap (λ b. if b then event_items (layout s) (flat_view (layout s) m)
+          (step_event (layout s) p m) else
           []) i ∙ come_items cs p p' k m m' x y c
           ∙ sym (ap (item_by (layout s') p') y
-          ∙ ap (λ b. if b then items_of (layout s') (flat_view (layout s') m') (step_event (layout s') p' m')
+          ∙ ap (λ b. if b then event_items (layout s') (flat_view (layout s') m')
+          (step_event (layout s') p' m')
           else []) j)
 
   -- where code outside comes in nothing is shown
   silent : (cs : Calls) (p q p' q' : OState) → ComesAlike G H names cs p q p' q'
-      → (seen.outs_of (layout s) q (step_event (layout s) p q) ≡ [])
-      × (seen.outs_of (layout s') q' (step_event (layout s') p' q') ≡ [])
+      → (seen.event_outs (layout s) q (step_event (layout s) p q) ≡ [])
+      × (seen.event_outs (layout s') q' (step_event (layout s') p' q') ≡ [])
   silent cs p q p' q' (inl e) = (
-    ap (seen.outs_of (layout s) q) e.event ∙ entry_silent (layout s) e.one q,
-    ap (seen.outs_of (layout s') q') e.event_other ∙ entry_silent (layout s') e.other q',
+    ap (seen.event_outs (layout s) q) e.event ∙ entry_silent (layout s) e.one q,
+    ap (seen.event_outs (layout s') q') e.event_other ∙ entry_silent (layout s') e.other q',
   )
   silent cs p q p' q' (inr e) =
-      (ap (seen.outs_of (layout s) q) e.event, ap (seen.outs_of (layout s') q') e.event_other)
+      (ap (seen.event_outs (layout s) q) e.event, ap (seen.event_outs (layout s') q') e.event_other)
 
   -- what trusted code shows where it lets go
   shows_g : (i : ℕ) (r : Round) → Reached (layout s) O i r.before → IsRound (layout s) r
@@ -398,14 +401,14 @@ module _ (begin : StartsBegin) (agree : StartsAgree) (leaves : SourcesLeaveNothi
         )
 
         outside_pair : (w v : OWord) → cell a.after.maps.cells x ≡ Some w → cell b.after.maps.cells x ≡ Some v
-            → Outside x Low wa.end → (w ≡ zero) ↔ (v ≡ zero)
+            → IsOutsideRange x Low wa.end → (w ≡ zero) ↔ (v ≡ zero)
         outside_pair w v e f out =
             let ia = hg ga.0 a.after ga.1 in
             let ib = hh gb.0 b.after gb.1 in
             let free' : IsFreeAt H x = names.free x (in_region_of G a.after ia.0 ia.1 x w e)
             (in_region_of H b.after ib.0 ib.1 x v f) free in
-            let out' : Outside x (low_at H.layout.stack.base wb.end low') wb.end =
-            subst (λ z. Outside x z wb.end) (sym same_low) (subst (Outside x Low) ends out) in
+            let out' : IsOutsideRange x (low_at H.layout.stack.base wb.end low') wb.end =
+            subst (λ z. IsOutsideRange x z wb.end) (sym same_low) (subst (IsOutsideRange x Low) ends out) in
             kept_pair x free _ _ refl refl w v (wa.cells.kept x w free out e) (wb.cells.kept x v free' out' f)
             (cells x free)
 
@@ -475,10 +478,10 @@ module _ (begin : StartsBegin) (agree : StartsAgree) (leaves : SourcesLeaveNothi
       (q' : OState) (e' : overlay_step (layout s') p' ≡ goes q') (i' : is_inside (layout s') q' ≡ true)
       (c : ComesAlike G H names cs a.before a.entered p' q') where
     abbrev new : Things
-    new = seen.items_of (layout s) a.entered (step_event (layout s) a.before a.entered)
+    new = seen.event_items (layout s) a.entered (step_event (layout s) a.before a.entered)
 
     abbrev new' : Things
-    new' = seen.items_of (layout s') q' (step_event (layout s') p' q')
+    new' = seen.event_items (layout s') q' (step_event (layout s') p' q')
 
     abbrev xs : Things
     xs = k.xs ++ new
@@ -486,8 +489,8 @@ module _ (begin : StartsBegin) (agree : StartsAgree) (leaves : SourcesLeaveNothi
     abbrev ys : Things
     ys = k.xs' ++ new'
 
-    items : items_of (layout s) (flat_view (layout s) a.entered) (step_event (layout s) a.before a.entered)
-        ≡ items_of (layout s') (flat_view (layout s') q') (step_event (layout s') p' q')
+    items : event_items (layout s) (flat_view (layout s) a.entered) (step_event (layout s) a.before a.entered)
+        ≡ event_items (layout s') (flat_view (layout s') q') (step_event (layout s') p' q')
     items = come_items cs a.before p' k a.entered q' ia.comes e' c
 
     all_in : AllAlike G H names cs xs ys
@@ -589,9 +592,9 @@ module _ (begin : StartsBegin) (agree : StartsAgree) (leaves : SourcesLeaveNothi
         pub two : Event Whence ℕ
         pub one_is : slice_get (refined W size (feed xs) F).events (length k.es) ≡ Some one
         pub two_is : slice_get (refined W' size (feed ys) F).events (length k.es') ≡ Some two
-        pub one_shown : seen.outs_of (layout s) a.after (step_event (layout s) a.last a.after)
+        pub one_shown : seen.event_outs (layout s) a.after (step_event (layout s) a.last a.after)
             ≡ shown_of (event_to (word_from (slots modules (placed parts size) s) xs) (back_at xs) one) ∷ []
-        pub two_shown : seen.outs_of (layout s') b.after (step_event (layout s') b.last b.after)
+        pub two_shown : seen.event_outs (layout s') b.after (step_event (layout s') b.last b.after)
             ≡ shown_of (event_to (word_from (slots modules' (placed parts' size) s') ys) (back_at ys) two)
             ∷ []
         pub names_same : event_to (name_of W) (λ (k : ℕ). k) one ≡ event_to (name_of W') (λ (k : ℕ). k) two
@@ -681,13 +684,14 @@ module _ (begin : StartsBegin) (agree : StartsAgree) (leaves : SourcesLeaveNothi
             cross.0 cross.1;
       }
 
-      items_b : items_of (layout s) (flat_view (layout s) a.entered)
+      items_b : event_items (layout s) (flat_view (layout s) a.entered)
           (step_event (layout s) a.before a.entered)
-          ≡ items_of (layout s') (flat_view (layout s') b.entered) (step_event (layout s') b.before b.entered)
+          ≡ event_items (layout s') (flat_view (layout s') b.entered)
+          (step_event (layout s') b.before b.entered)
       items_b = items
-          ∙ sym (ap (λ z. items_of (layout s') (flat_view (layout s') z) (step_event (layout s') p' z)) ee)
+          ∙ sym (ap (λ z. event_items (layout s') (flat_view (layout s') z) (step_event (layout s') p' z)) ee)
           ∙ sym
-          (ap (λ z. items_of (layout s') (flat_view (layout s') b.entered)
+          (ap (λ z. event_items (layout s') (flat_view (layout s') b.entered)
           (step_event (layout s') z b.entered)) eb)
 
       joined : (n : ℕ) (as_ : List Round) (q : OState) → Result n cross.0 as_ q b.after
@@ -699,7 +703,7 @@ module _ (begin : StartsBegin) (agree : StartsAgree) (leaves : SourcesLeaveNothi
             spec.inside b ib r.2,
             round a b cb cross.1 r.3,
             ap (λ z. z ++ items_in (layout s) as_ q) items_b
-                ∙ ap (λ z. items_of (layout s') (flat_view (layout s') b.entered)
+                ∙ ap (λ z. event_items (layout s') (flat_view (layout s') b.entered)
                 (step_event (layout s') b.before b.entered) ++ z) r.4,
           )
 
@@ -748,7 +752,7 @@ module _ (begin : StartsBegin) (agree : StartsAgree) (leaves : SourcesLeaveNothi
 abbrev pub SourcesMeanAll : Type 0
 SourcesMeanAll =
     (modules : List ModuleFields) (parts : List PartSeen) (size : ℕ) (s : StartSeen) → IsStartOf parts size s
-    → AreSources modules parts → SourcesMean (map part_of modules) size s
+    → AreSources modules parts → MeansAlways (map part_of modules) size s
 
 pub same_meanings : StartsBegin → StartsAgree → SourcesLeaveNothing → SourcesTellWords → WipedCellsAreTold
     → SourcesMeanAll → SameMeaningsGoInStep

@@ -11,31 +11,29 @@ use Rattle.component_linker.specs.Standing.{placed}
 use Rattle.component_linker.specs.Start.{Exported, imported, code_half, data_half}
 use Rattle.component_linker.specs.Started.{StartSeen}
 use Rattle.component_linker.specs.LinkedStarts.{IsStartOf}
-use Rattle.component_linker.proofs.StartWords.{imported_there, listed_at}
+use Rattle.component_linker.proofs.Offers.{imported_there, listed_at}
 use Rattle.overlay_machine.specs.declared.words.OWord.{OWord}
 use Rattle.overlay_machine.specs.declared.words.OWord.TheVariants.{Plain}
 use Rattle.overlay_machine.specs.Link.{Link, IsUntrusted}
 use Rattle.overlay_machine.specs.Safe.{IsOpenSeal}
 use Rattle.overlay_machine.specs.Starting.{overlay_at, StartsBegin}
 use Rattle.overlay_machine.specs.Keeping.{HoldsFor}
-use Rattle.overlay_machine.proofs.starts.OneOverlay.{is_overlay}
+use Rattle.overlay_machine.proofs.Offers.{is_overlay}
 use Rattle.proc_language.specs.declared.module.ModuleFields.{ModuleFields}
 use Rattle.proc_program.specs.declared.program.Procedure.{Procedure}
 use Rattle.proc_program.specs.declared.program.Import as program
 use Rattle.proc_program.specs.declared.program.Part.{Part}
 use Rattle.proc_program.specs.Lower.{part_of, import_of}
 use Rattle.proc_templates.specs.Compiled.{imports_of}
-use Rattle.proc_semantics.specs.Values.{World, part_at, proc_in, import_in}
+use Rattle.proc_semantics.specs.Values.{World, home_part, proc_in, import_in}
 use Rattle.proc_semantics.specs.Rules as rules
 use Rattle.proc_semantics.specs.Marked.{PairHalf, CodeHalf, DataHalf, Marks, Thing, Whence, OwnWord}
 use Rattle.proc_semantics.specs.Marked.{ImportWord, CameWord}
 use Rattle.source_laws.specs.Seen.{Back}
 use Rattle.source_laws.specs.Words.{words_at, word_from}
 use Rattle.source_starts.specs.Sources.{trusted_parts, AreSources}
-use Rattle.source_starts.specs.Words.{slots, slot_in, imports_in, if_there, half_at, first_word}
-use Rattle.source_starts.proofs.Worlds.{Aligned, Home, aligned, part_of_home}
-use Rattle.source_starts.proofs.Slots.{import_at, own_at}
-use Rattle.source_starts.proofs.ModulePairs.{words_of}
+use Rattle.source_starts.specs.Words.{slots, slot_in, imports_in, where_there, half_at, word_at_start}
+use Rattle.source_starts.proofs.Offers.{Aligned, Home, aligned, part_of_home, import_at, own_at, words_of}
 use Rattle.context_laws.specs.Related.{SameNames, Calls, SameWord, ours, code_halves, data_halves}
 use Rattle.context_laws.specs.Sources.{SameImported}
 use Rattle.context_laws.specs.Meanings.{Name, Exports, Came, Nothing, own_name, import_name, name_of}
@@ -91,14 +89,14 @@ module _ (begin : StartsBegin) (modules : List ModuleFields) (parts : List PartS
             ∙ by w.0 w.2.first w.2.second x,
       )
     where
-      by : (e : Exported) → first_word modules P s (p.component.data_base + d) ≡ Plain (code_half e)
-          → first_word modules P s (p.component.data_base + (d + 1)) ≡ Plain (data_half e) → (x : PairHalf)
-          → first_word modules P s (p.component.data_base + half_at modules P s d x) ≡ half_word e x
+      by : (e : Exported) → word_at_start modules P s (p.component.data_base + d) ≡ Plain (code_half e)
+          → word_at_start modules P s (p.component.data_base + (d + 1)) ≡ Plain (data_half e) → (x : PairHalf)
+          → word_at_start modules P s (p.component.data_base + half_at modules P s d x) ≡ half_word e x
       by e f g CodeHalf = f
       by e f g DataHalf = g
 
   -- what a module has
-  source_at : (i : ℕ) (u : Part) → part_at W i ≡ Some u
+  source_at : (i : ℕ) (u : Part) → home_part W i ≡ Some u
       → (m : ModuleFields) × (slice_get modules i ≡ Some m) × (part_of m ≡ u)
   source_at i u e = by (slice_get modules i) refl (sym (slice_get-map part_of modules i) ∙ e)
     where
@@ -112,7 +110,7 @@ module _ (begin : StartsBegin) (modules : List ModuleFields) (parts : List PartS
     pub home : Home modules P i part
     pub same : part_of home.source ≡ u
 
-  here : (i : ℕ) (u : Part) → part_at W i ≡ Some u → Here i u
+  here : (i : ℕ) (u : Part) → home_part W i ≡ Some u → Here i u
   here i u e =
       let m = source_at i u e in
       let p = part_of_home modules P beside i m.0 m.1 in
@@ -120,9 +118,9 @@ module _ (begin : StartsBegin) (modules : List ModuleFields) (parts : List PartS
       let t : p.1.source ≡ m.0 = cc in
       record { part = p.0; home = p.1; same = ap part_of t ∙ m.2 }
 
-  own_by : (i j : ℕ) (x : PairHalf) (is' : List (Thing OWord Back)) (o : Option Part) → part_at W i ≡ o
+  own_by : (i j : ℕ) (x : PairHalf) (is' : List (Thing OWord Back)) (o : Option Part) → home_part W i ≡ o
       → (q : Option Procedure) → proc_in o j ≡ q
-      → IsNamed P is' (own_name (rules.name_in o) q x) (if_there modules P s q
+      → IsNamed P is' (own_name (rules.name_in o) q x) (where_there modules P s q
       (slot_in modules P s (slice_get (trusted_parts P) i)
       (half_at modules P s (2 * (imports_in modules P s (slice_get modules i) + j)) x)))
   own_by i j x is' None e None f = refl
@@ -143,9 +141,9 @@ module _ (begin : StartsBegin) (modules : List ModuleFields) (parts : List PartS
             ∙ w.2 x,
       )
 
-  import_by : (i k : ℕ) (x : PairHalf) (is' : List (Thing OWord Back)) (o : Option Part) → part_at W i ≡ o
+  import_by : (i k : ℕ) (x : PairHalf) (is' : List (Thing OWord Back)) (o : Option Part) → home_part W i ≡ o
       → (q : Option program.Import) → import_in o k ≡ q
-      → IsNamed P is' (import_name q x) (if_there modules P s q
+      → IsNamed P is' (import_name q x) (where_there modules P s q
       (slot_in modules P s (slice_get (trusted_parts P) i) (half_at modules P s (2 * k) x)))
   import_by i k x is' None e None f = refl
   import_by i k x is' None e (Some q) f = absurd cc
@@ -159,8 +157,9 @@ module _ (begin : StartsBegin) (modules : List ModuleFields) (parts : List PartS
 
   pub is_named : (is' : List (Thing OWord Back)) (w : Whence)
       → IsNamed P is' (name_of W w) (word_from Slots is' w)
-  is_named is' (OwnWord i j x) = own_by i j x is' (part_at W i) refl (proc_in (part_at W i) j) refl
-  is_named is' (ImportWord i k x) = import_by i k x is' (part_at W i) refl (import_in (part_at W i) k) refl
+  is_named is' (OwnWord i j x) = own_by i j x is' (home_part W i) refl (proc_in (home_part W i) j) refl
+  is_named is' (ImportWord i k x) = import_by i k x is' (home_part W i) refl
+      (import_in (home_part W i) k) refl
   is_named is' (CameWord k j) = refl
 
 -- ---- of two links

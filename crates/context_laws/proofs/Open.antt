@@ -15,8 +15,7 @@ use Rattle.overlay_machine.specs.Link.{Link}
 use Rattle.overlay_machine.specs.Linked.{Linked}
 use Rattle.overlay_machine.specs.Runs.{Reached}
 use Rattle.overlay_machine.specs.Safe.{IsMet}
-use Rattle.overlay_machine.proofs.invariant.FrameFacts.{frame_in}
-use Rattle.overlay_machine.proofs.invariant.FramePrivate.{stays_open}
+use Rattle.overlay_machine.proofs.Offers.{frame_in, stays_open}
 use Rattle.source_laws.specs.Secrets.{Until, still_there, one_more}
 use Rattle.context_laws.specs.Related.{SameNames, Calls, AreCalls, SameWord, ours, code_halves, data_halves}
 use Rattle.context_laws.specs.Related.{ret_codes}

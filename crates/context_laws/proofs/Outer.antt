@@ -12,7 +12,7 @@ use Rattle.cap_words.specs.declared.Content.TheVariants.{Mem as MemC}
 use Rattle.cap_words.specs.Face.{face_of, opened_of}
 use Rattle.cap_words.specs.Faces.{target_of, may_run}
 use Rattle.cap_words.specs.Linear.{lin_is}
-use Rattle.call_sequence.specs.SequenceRuns.{Outside}
+use Rattle.call_sequence.specs.SequenceRuns.{IsOutsideRange}
 use Rattle.lcm_isa.specs.declared.Reg.{Reg}
 use Rattle.lcm_isa.specs.declared.Reg.TheVariants.{Pc}
 use Rattle.lcm_isa.specs.declared.Instr.{Instr}
@@ -27,9 +27,7 @@ use Rattle.lcm_machine.specs.Row.{plan_in}
 use Rattle.lcm_machine.specs.Table.{ask, need}
 use Rattle.lcm_machine.specs.Refusals.{HasFailed}
 use Rattle.lcm_machine.specs.Closed.{AllAre, OpensTo}
-use Rattle.lcm_machine.proofs.RowLemmas.{fetch_normal}
-use Rattle.lcm_machine.proofs.TouchLemmas.{after_went, used_target}
-use Rattle.lcm_machine.proofs.WordsKept.{row_keeps}
+use Rattle.lcm_machine.proofs.Offers.{fetch_normal, after_went, used_target, row_keeps}
 use Rattle.flow_check.specs.Holds.{PcAt}
 use Rattle.component_linker.specs.Parts.{PartSeen}
 use Rattle.trusted_border.specs.declared.layout.SiteCode.{SiteCode}
@@ -43,20 +41,16 @@ use Rattle.overlay_machine.specs.State.{OpenFrame, OState}
 use Rattle.overlay_machine.specs.Step.{case_of, case_fetched, step_by, other_step, overlay_step}
 use Rattle.overlay_machine.specs.Step.{with_frames, return_step}
 use Rattle.component_linker.specs.Regions.{in_regions}
-use Rattle.component_linker.proofs.RegionFacts.{in_regions_is}
+use Rattle.component_linker.proofs.Offers.{in_regions_is}
 use Rattle.lcm_machine.specs.Cells.{cell}
 use Rattle.overlay_machine.specs.Link.{Link, IsTrusted, ranges_of, regions, data_region}
 use Rattle.overlay_machine.specs.Linked.{Linked}
 use Rattle.overlay_machine.specs.Safe.{IsSafeCap, IsOpenSeal, IsSafe}
-use Rattle.overlay_machine.proofs.FlatLemmas.{mem_of_face}
-use Rattle.overlay_machine.proofs.invariant.Targets.{target_bounds, target_reg}
-use Rattle.overlay_machine.proofs.invariant.Facts.{mem_safe, open_safe, same_region}
-use Rattle.overlay_machine.proofs.invariant.SafeClosed.{safe_closed}
-use Rattle.overlay_machine.proofs.invariant.View.{pc_untrusted}
-use Rattle.overlay_machine.proofs.invariant.Crossing.{xjmp_crossed, half_seal}
+use Rattle.overlay_machine.proofs.Offers.{mem_of_face, target_bounds, target_reg, mem_safe, open_safe}
+use Rattle.overlay_machine.proofs.Offers.{same_region, safe_closed, pc_untrusted, xjmp_crossed, half_seal}
 use Rattle.template_runs.specs.Runs.{is_inside}
 use Rattle.template_runs.specs.Public.{IsFreeAt}
-use Rattle.template_runs.proofs.Outside.{opened_is}
+use Rattle.template_runs.proofs.Offers.{opened_is}
 use Rattle.context_laws.specs.Related.{RunsOutside, IsOurs}
 
 pub not_code_fails : (a b : Reg) (next : Word) (s : State OWord) (x y : Opened) (c : CapFields)
@@ -103,13 +97,13 @@ module _ (g : Link) (linked : Linked g) where
     where
       by : (p : PartSeen) → IsTrusted g p → {d : CapFields} → IsSafeCap g fs d → (c : CapFields) → d ≡ c
           → d.base ≤ a → a ≤ d.end
-          → Outside a (ranges_of p).data_base (ranges_of p).data_last
+          → IsOutsideRange a (ranges_of p).data_base (ranges_of p).data_last
       by p ip {d} s c e bl bh =
           elim (cases_lt a (ranges_of p).data_base)
-          as (λ _. Outside a (ranges_of p).data_base (ranges_of p).data_last) [
+          as (λ _. IsOutsideRange a (ranges_of p).data_base (ranges_of p).data_last) [
             | inl low ↦ inl low
             | inr l1 ↦ elim (cases_lt (ranges_of p).data_last a)
-                as (λ _. Outside a (ranges_of p).data_base (ranges_of p).data_last) [
+                as (λ _. IsOutsideRange a (ranges_of p).data_base (ranges_of p).data_last) [
                   | inl high ↦ inr high
                   | inr l2 ↦ absurd (data_target fs d a p s bl bh ip l1 l2)
                 ]

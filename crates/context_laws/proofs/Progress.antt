@@ -21,7 +21,7 @@ use Rattle.overlay_machine.specs.State.{OpenFrame, OState}
 use Rattle.overlay_machine.specs.Step.{Ending, goes, halts, fails, overlay_step, weight_of, weight_by}
 use Rattle.overlay_machine.specs.Step.{case_of}
 use Rattle.overlay_machine.specs.Events.{step_event, event_after, note_by, note_call, note_return, note_jump}
-use Rattle.overlay_machine.specs.Events.{called}
+use Rattle.overlay_machine.specs.Events.{called_event}
 use Rattle.overlay_machine.specs.Events.{site_opened, jump_seal, owner_now}
 use Rattle.overlay_machine.specs.Starting.{overlay_at}
 use Rattle.trace_tool.specs.Layout.{layout}
@@ -40,9 +40,9 @@ use Rattle.source_laws.specs.Words.{Tells, none_yet, and_then}
 use Rattle.source_laws.specs.Wiped as since
 use Rattle.source_laws.specs.Wiped.{TellsSince, last_outside}
 use Rattle.source_laws.specs.Sources as sources
-use Rattle.source_laws.specs.Sources.{Shows, SourcesMean, MeansAt}
+use Rattle.source_laws.specs.Sources.{Shows, MeansAlways, MeansAt}
 use Rattle.source_laws.specs.Secrets.{Until, still_there, one_more}
-use Rattle.source_laws.proofs.Forgets.{outs_line, things_item, map-both}
+use Rattle.source_laws.proofs.Offers.{outs_line, things_item, map-both}
 
 -- ---- steps that show nothing
 
@@ -56,7 +56,7 @@ IsCalm (Some (Entered p k b)) = ⊥
 IsCalm (Some (Left p)) = ⊥
 
 module _ (l : Layout) where
-  calm_outs : (q : OState) (e : Option Event) → IsCalm e → seen.outs_of l q e ≡ []
+  calm_outs : (q : OState) (e : Option Event) → IsCalm e → seen.event_outs l q e ≡ []
   calm_outs q None c = refl
   calm_outs q (Some (Called true i b e)) c = refl
   calm_outs q (Some (Returned true i b e)) c = refl
@@ -65,7 +65,7 @@ module _ (l : Layout) where
   calm_outs q (Some (Entered p k b)) c = absurd c
   calm_outs q (Some (Left p)) c = absurd c
 
-  calm_items : (q : OState) (e : Option Event) → IsCalm e → seen.items_of l q e ≡ []
+  calm_items : (q : OState) (e : Option Event) → IsCalm e → seen.event_items l q e ≡ []
   calm_items q None c = refl
   calm_items q (Some (Called true i b e)) c = refl
   calm_items q (Some (Returned true i b e)) c = refl
@@ -74,7 +74,7 @@ module _ (l : Layout) where
   calm_items q (Some (Entered p k b)) c = absurd c
   calm_items q (Some (Left p)) c = absurd c
 
-  called_calm : (b : Bool) (fs : List OpenFrame) → b ≡ true → IsCalm (called b fs)
+  called_calm : (b : Bool) (fs : List OpenFrame) → b ≡ true → IsCalm (called_event b fs)
   called_calm false fs e = absurd cc
   called_calm true [] e = tt
   called_calm true (f ∷ fs) e = tt
@@ -122,7 +122,8 @@ module _ (l : Layout) where
       subst (λ z. TellsSince l s z is (last_outside (is_inside l p) b p) q)
       (ap (λ z. es ++ z) (calm_outs q (step_event l p q) c) ∙ append-nil es)
       (subst
-      (λ z. TellsSince l s (es ++ seen.outs_of l q (step_event l p q)) z (last_outside (is_inside l p) b p) q)
+      (λ z. TellsSince l s (es ++ seen.event_outs l q (step_event l p q)) z
+      (last_outside (is_inside l p) b p) q)
       (ap (λ z. is ++ z) (calm_items q (step_event l p q) c) ∙ append-nil is) (since.and_then t e))
 
   pub until_inside : (p q : OState) → Until l p q → is_inside l q ≡ true
@@ -146,14 +147,14 @@ module _ (l : Layout) where
         _,
         _,
         subst (λ z. Shows l s (k.0 + weight_of l p) (k.1 + weighed (is_inside l p) (weight_of l p)) z
-            (map (λ x. x.item) (is ++ seen.items_of l q (step_event l p q))) q)
+            (map (λ x. x.item) (is ++ seen.event_items l q (step_event l p q))) q)
             (ap (λ z. map (λ x. x.event) es ++ z) (sym (outs_line l q (step_event l p q)))
-            ∙ sym (map-both (λ x. x.event) es (seen.outs_of l q (step_event l p q))))
+            ∙ sym (map-both (λ x. x.event) es (seen.event_outs l q (step_event l p q))))
             (subst (λ z. Shows l s (k.0 + weight_of l p) (k.1 + weighed (is_inside l p) (weight_of l p))
-            (map (λ x. x.event) es ++ lines.outs_of l (flat_view l q) (step_event l p q)) z q)
+            (map (λ x. x.event) es ++ lines.event_outs l (flat_view l q) (step_event l p q)) z q)
             (ap (λ z. map (λ x. x.item) is ++ z)
-            (sym (things_item l q (lines.items_of l (flat_view l q) (step_event l p q))))
-            ∙ sym (map-both (λ x. x.item) is (seen.items_of l q (step_event l p q))))
+            (sym (things_item l q (lines.event_items l (flat_view l q) (step_event l p q))))
+            ∙ sym (map-both (λ x. x.item) is (seen.event_items l q (step_event l p q))))
             (sources.and_then k.2 e)),
       )
 
@@ -210,8 +211,8 @@ module _ (l : Layout) where
           if_weighs (is_ret_code (reg o.maps.regs r1)) (RETURN_WORDS + 1) 1 (omega arith) (omega arith)
       by Other = omega arith
 
-  lines_calm : (q : OState) (e : Option Event) → IsCalm e → (lines.outs_of l (flat_view l q) e ≡ [])
-      × (lines.items_of l (flat_view l q) e ≡ [])
+  lines_calm : (q : OState) (e : Option Event) → IsCalm e → (lines.event_outs l (flat_view l q) e ≡ [])
+      × (lines.event_items l (flat_view l q) e ≡ [])
   lines_calm q None c = (refl, refl)
   lines_calm q (Some (Called true i b e)) c = (refl, refl)
   lines_calm q (Some (Returned true i b e)) c = (refl, refl)
@@ -236,14 +237,14 @@ module _ (l : Layout) where
         subst (λ z. Shows l s (k.0 + weight_of l q) (k.1 + weighed (is_inside l q) (weight_of l q)) z is m)
             (ap (λ z. es ++ z) c.0 ∙ append-nil es)
             (subst (λ z. Shows l s (k.0 + weight_of l q) (k.1 + weighed (is_inside l q) (weight_of l q))
-            (es ++ lines.outs_of l (flat_view l m) (step_event l q m)) z m)
+            (es ++ lines.event_outs l (flat_view l m) (step_event l q m)) z m)
             (ap (λ z. is ++ z) c.1 ∙ append-nil is) (sources.and_then k.2 e)),
         omega (arith, up, one, far),
       )
 
 -- ---- a run of sources
 
-module _ (world : World) (size : ℕ) (s : StartSeen) (means : SourcesMean world size s) where
+module _ (world : World) (size : ℕ) (s : StartSeen) (means : MeansAlways world size s) where
   abbrev L : Layout
   L = layout s
 

@@ -18,7 +18,7 @@ use Rattle.source_events.specs.declared.Item.{Item}
 use Rattle.overlay_machine.specs.declared.words.OWord.{OWord}
 use Rattle.overlay_machine.specs.State.{OState}
 use Rattle.overlay_machine.specs.Step.{goes, overlay_step}
-use Rattle.overlay_machine.specs.Events.{step_event, entered, shown}
+use Rattle.overlay_machine.specs.Events.{step_event, entered_event, shown_word}
 use Rattle.overlay_machine.specs.Link.{Link}
 use Rattle.overlay_machine.specs.Starting.{overlay_at}
 use Rattle.overlay_machine.proofs.Offers.{map_get}
@@ -27,36 +27,38 @@ use Rattle.template_runs.specs.Runs.{is_inside}
 use Rattle.template_runs.specs.Border.{Shows, ShowsBy, by_call, by_leave}
 use Rattle.proc_semantics.specs.Values.{World}
 use Rattle.proc_semantics.specs.Marked.{Marks, Thing, Event, Whence, refined, event_to}
-use Rattle.source_laws.specs.Seen.{Shown, Back as Given, shown_of, outs_of, items_of}
+use Rattle.source_laws.specs.Seen.{Shown, Back as Given, shown_of, event_outs, event_items}
 use Rattle.source_laws.specs.Words.{WhenceTold, TellsSo, word_from, back_at}
 use Rattle.source_laws.specs.Wiped.{TellsSince, and_then, last_outside, WipedTold, WipedAlways}
 use Rattle.source_laws.specs.Secrets.{Until}
 use Rattle.context_laws.specs.Related.{entered_at}
 use Rattle.context_laws.proofs.Progress.{tells_of, until_since, until_inside}
-use Rattle.component_file.proofs.Lists.{get_pushed}
+use Rattle.component_file.proofs.Offers.{get_pushed}
 
 -- an entry shows nothing
-pub entry_silent : (l : Layout) (x : Exported) (q : OState) → outs_of l q (entered_at l x q) ≡ []
+pub entry_silent : (l : Layout) (x : Exported) (q : OState) → event_outs l q (entered_at l x q) ≡ []
 entry_silent l x q = by (closure_owner l x.part.component.closure)
   where
     by_number : (o : Owner) (back : Back) (n : Option ℕ)
-        → outs_of l q (option_map (λ k. Entered o.part k back) n) ≡ []
+        → event_outs l q (option_map (λ k. Entered o.part k back) n) ≡ []
     by_number o back None = refl
     by_number o back (Some k) = refl
 
-    by : (o : Option Owner) → outs_of l q (option_and_then (entered l q) o) ≡ []
+    by : (o : Option Owner) → event_outs l q (option_and_then (entered_event l q) o) ≡ []
     by None = refl
     by (Some o) =
-        by_number o (back_of l (shown l q Rcode) (shown l q Rdata)) (entry_number o (faces look q.maps Pc))
+        by_number o (back_of l (shown_word l q Rcode) (shown_word l q Rdata))
+        (entry_number o (faces look q.maps Pc))
 
 one_out : (l : Layout) (p q : OState) → Shows l p q
-    → (c : Shown) × (outs_of l q (step_event l p q) ≡ c ∷ []) × (items_of l q (step_event l p q) ≡ [])
+    → (c : Shown) × (event_outs l q (step_event l p q) ≡ c ∷ []) × (event_items l q (step_event l p q) ≡ [])
 one_out l p q s = by s.0 s.1 s.2
   where
     by : (e : BorderEvent) → step_event l p q ≡ Some e → ShowsBy l q e
-        → (c : Shown) × (outs_of l q (step_event l p q) ≡ c ∷ []) × (items_of l q (step_event l p q) ≡ [])
-    by _ ev (by_call d f sc) = (_, ap (outs_of l q) ev, ap (items_of l q) ev)
-    by _ ev (by_leave part d top sl) = (_, ap (outs_of l q) ev, ap (items_of l q) ev)
+        → (c : Shown) × (event_outs l q (step_event l p q) ≡ c ∷ []) ×
+        (event_items l q (step_event l p q) ≡ [])
+    by _ ev (by_call d f sc) = (_, ap (event_outs l q) ev, ap (event_items l q) ev)
+    by _ ev (by_leave part d top sl) = (_, ap (event_outs l q) ev, ap (event_items l q) ev)
 
 module _ (g : Link) (world : World) (size : ℕ) (s : StartSeen) (same : g.layout ≡ layout s)
     (marks : Marks OWord) (told : WhenceTold marks world size s) (wipes : WipedAlways g world size s) where
@@ -69,15 +71,15 @@ module _ (g : Link) (world : World) (size : ℕ) (s : StartSeen) (same : g.layou
   abbrev pub feed_of : List (Thing OWord Given) → List Item
   feed_of is = map (λ (x : Thing OWord Given). x.item) is
 
-  -- behind a run that has shown so much and got so much, where trusted code lets go with a step
+  -- behind a run that has shown_word so much and got so much, where trusted code lets go with a step
   pub record RoundTold (es : List Shown) (is : List (Thing OWord Given)) (b p q : OState) : Type 0 where
-    pub shown : Shown
-    pub outs : outs_of L q (step_event L p q) ≡ shown ∷ []
-    pub since : (c : OState) × TellsSince L O (es ++ shown ∷ []) is c q
+    pub shown_word : Shown
+    pub outs : event_outs L q (step_event L p q) ≡ shown_word ∷ []
+    pub since : (c : OState) × TellsSince L O (es ++ shown_word ∷ []) is c q
     pub enough : ℕ
     pub event : (f : ℕ) → enough ≤ f → (x : Event Whence ℕ)
         × (slice_get (refined world size (feed_of is) f).events (length es) ≡ Some x)
-        × (outs_of L q (step_event L p q) ≡ shown_of (event_to (word_from marks is) (back_at is) x) ∷ [])
+        × (event_outs L q (step_event L p q) ≡ shown_of (event_to (word_from marks is) (back_at is) x) ∷ [])
     pub wiped : WipedTold g world size (feed_of is) (length es) b q
 
   pub round_told : (es : List Shown) (is : List (Thing OWord Given)) (b o p q : OState)
@@ -90,11 +92,11 @@ module _ (g : Link) (world : World) (size : ℕ) (s : StartSeen) (same : g.layou
       let next : TellsSince L O (es ++ c.0 ∷ []) is (last_outside (is_inside L p) b p) q =
       subst (λ z. TellsSince L O (es ++ z) is (last_outside (is_inside L p) b p) q) c.1
       (subst
-      (λ z. TellsSince L O (es ++ outs_of L q (step_event L p q)) z (last_outside (is_inside L p) b p) q)
+      (λ z. TellsSince L O (es ++ event_outs L q (step_event L p q)) z (last_outside (is_inside L p) b p) q)
       (ap (λ z. is ++ z) c.2 ∙ append-nil is) (and_then there e)) in
       let w = told (es ++ c.0 ∷ []) is q (tells_of L O _ is _ q next) in
       record {
-        shown = c.0;
+        shown_word = c.0;
         outs = c.1;
         since = (_, next);
         enough = w.0;
@@ -102,12 +104,12 @@ module _ (g : Link) (world : World) (size : ℕ) (s : StartSeen) (same : g.layou
         wiped = wipes es is b p q there ip e out;
       }
     where
-      by : (f : ℕ) (c : Shown) → outs_of L q (step_event L p q) ≡ c ∷ []
+      by : (f : ℕ) (c : Shown) → event_outs L q (step_event L p q) ≡ c ∷ []
           → TellsSo (is_inside L q) (es ++ c ∷ [])
           (map shown_of (map (event_to (word_from marks is) (back_at is))
           (refined world size (feed_of is) f).events))
           → (x : Event Whence ℕ) × (slice_get (refined world size (feed_of is) f).events (length es) ≡ Some x)
-          × (outs_of L q (step_event L p q) ≡ shown_of (event_to (word_from marks is) (back_at is) x) ∷ [])
+          × (event_outs L q (step_event L p q) ≡ shown_of (event_to (word_from marks is) (back_at is) x) ∷ [])
       by f c ec h =
           let told = (refined world size (feed_of is) f).events in
           let word = event_to (word_from marks is) (back_at is) in

@@ -33,12 +33,10 @@ use Rattle.lcm_machine.specs.Row.{word_in, put, clear, move_on, spend, make, go_
 use Rattle.lcm_machine.specs.Row.{cell_faces, look_face, face_there, plan_in, outcome, row, pc_of, pc_at}
 use Rattle.lcm_machine.specs.Row.{fetch}
 use Rattle.lcm_machine.specs.Row.{Outcome, went, halted, failed}
-use Rattle.lcm_machine.proofs.RegLemmas.{cases_reg, reg-set_same, reg-set_other}
-use Rattle.lcm_machine.proofs.CellLemmas.{cell-set_same, cell-set_other}
-use Rattle.lcm_machine.proofs.Commute.{is_linear-face, fetch_by, OpensSame, plan-opens}
-use Rattle.lcm_machine.proofs.Plans.{Gives, Gives-effect, Gives-ask, Gives-need, Gives-by_cap, Gives-if}
-use Rattle.lcm_machine.proofs.Plans.{gives_fails, gives_halts, gives_goes, Shape, ShapePlace, ShapeMoved}
-use Rattle.lcm_machine.proofs.Plans.{plan-Shape}
+use Rattle.lcm_machine.proofs.Offers.{cases_reg, reg-set_same, reg-set_other, cell-set_same, cell-set_other}
+use Rattle.lcm_machine.proofs.Offers.{is_linear-face, fetch_by, OpensSame, plan-opens, Gives, Gives-effect}
+use Rattle.lcm_machine.proofs.Offers.{Gives-ask, Gives-need, Gives-by_cap, Gives-if, gives_fails, gives_halts}
+use Rattle.lcm_machine.proofs.Offers.{gives_goes, Shape, ShapePlace, ShapeMoved, plan-Shape}
 use Rattle.overlay_machine.specs.declared.words.OWord.{OWord}
 use Rattle.context_laws.specs.Related.{CellPair, Twin}
 

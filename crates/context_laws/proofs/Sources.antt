@@ -20,7 +20,7 @@ use Rattle.overlay_machine.specs.Copies.{plain_regs}
 use Rattle.overlay_machine.specs.Link.{Link}
 use Rattle.overlay_machine.specs.Linked.{Linked}
 use Rattle.overlay_machine.specs.Starting.{overlay_at, StartsBegin, AgreesFromStart}
-use Rattle.overlay_machine.proofs.starts.OneOverlay.{is_overlay}
+use Rattle.overlay_machine.proofs.Offers.{is_overlay}
 use Rattle.source_laws.specs.Secrets.{comes}
 use Rattle.source_starts.specs.Sources.{AreSources, linked_at, SourcesLeaveNothing}
 use Rattle.context_laws.specs.Related.{IsOurs, SameWord, ours}

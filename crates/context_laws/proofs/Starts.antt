@@ -9,7 +9,7 @@ use Rattle.std.proofs.lemmas.Option.{slice_get_within}
 use Rattle.cap_words.specs.declared.Word.{Word}
 use Rattle.cap_words.specs.declared.Word.TheVariants.{Int, Mem, Seal, Sealed}
 use Rattle.component_file.specs.declared.component.Import.{Import}
-use Rattle.call_sequence.specs.SequenceRuns.{Outside}
+use Rattle.call_sequence.specs.SequenceRuns.{IsOutsideRange}
 use Rattle.lcm_machine.specs.Cells.{cell}
 use Rattle.component_linker.specs.Parts.{PartSeen}
 use Rattle.component_linker.specs.Standing.{placed}
@@ -18,19 +18,15 @@ use Rattle.component_linker.specs.LinkedStarts.{IsStartOf}
 use Rattle.component_linker.specs.Regions.{in_regions, regions_of}
 use Rattle.component_linker.specs.Start.{Exported, imported, code_half, data_half, slot_word, data_word, from}
 use Rattle.component_linker.specs.Start.{part_word, first_given, start_cell}
-use Rattle.component_linker.proofs.Found.{given_by}
-use Rattle.component_linker.proofs.PartKept.{is_kept}
-use Rattle.component_linker.proofs.PartWords.{from_inv, data_within}
-use Rattle.component_linker.proofs.StartWords.{imported_there, listed_at}
-use Rattle.component_linker.proofs.OwnWords.{OwnWord, own_code, own_data}
+use Rattle.component_linker.proofs.Offers.{given_by, is_kept, from_inv, data_within, imported_there}
+use Rattle.component_linker.proofs.Offers.{listed_at, OwnWord, own_code, own_data}
 use Rattle.overlay_machine.specs.declared.words.OWord.{OWord}
 use Rattle.overlay_machine.specs.declared.words.OWord.TheVariants.{Plain}
 use Rattle.overlay_machine.specs.Link.{Link, IsTrusted, IsUntrusted}
 use Rattle.overlay_machine.specs.Linked.{Linked}
 use Rattle.overlay_machine.specs.Safe.{IsOpenSeal}
 use Rattle.overlay_machine.specs.Starting.{overlay_at, StartsBegin}
-use Rattle.overlay_machine.proofs.invariant.FrameFacts.{contains_first, contains_rest}
-use Rattle.overlay_machine.proofs.starts.OneOverlay.{is_overlay, start_word_is}
+use Rattle.overlay_machine.proofs.Offers.{contains_first, contains_rest, is_overlay, start_word_is}
 use Rattle.template_runs.specs.Public.{IsFreeAt}
 use Rattle.source_starts.specs.Sources.{linked_at}
 use Rattle.context_laws.specs.Related.{SameNames, IsOurs, SameWord, ours, code_halves, data_halves, CellPair}
@@ -45,7 +41,7 @@ part_none : (g : Link) (linked : Linked g) (parts : List PartSeen) (a : ℕ) (p 
 unfolding part_word
 part_none g linked parts a p ip free = by _ refl
   where
-    apart : (b n o : ℕ) → b ≤ a → a - b < n → Outside a b (b + n - 1) → ⊥
+    apart : (b n o : ℕ) → b ≤ a → a - b < n → IsOutsideRange a b (b + n - 1) → ⊥
     apart b n o low lt (inl x) = omega (arith, low, x)
     apart b n o low lt (inr x) = omega (arith, low, lt, x)
 

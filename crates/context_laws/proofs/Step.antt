@@ -31,10 +31,7 @@ use Rattle.lcm_machine.specs.Row.{went, halted, failed, Outcome, faces, opens, c
 use Rattle.lcm_machine.specs.Row.{none, some}
 use Rattle.lcm_machine.specs.Row.{row, step_fetched, put, perform, clear, plan_in}
 use Rattle.lcm_machine.specs.Refusals.{HasFailed, Refuses}
-use Rattle.lcm_machine.proofs.RegLemmas.{reg-set_other}
-use Rattle.lcm_machine.proofs.RowLemmas.{look_seals}
-use Rattle.lcm_machine.proofs.XjmpFails.{xjmp_fails, xjmp_runs_fails}
-use Rattle.lcm_machine.proofs.Commute.{OpensSame}
+use Rattle.lcm_machine.proofs.Offers.{reg-set_other, look_seals, xjmp_fails, xjmp_runs_fails, OpensSame}
 use Rattle.flow_check.specs.Holds.{code_at}
 use Rattle.component_linker.specs.Parts.{PartSeen}
 use Rattle.component_linker.specs.Start.{Exported, code_half, data_half, code_of, data_of}
@@ -48,14 +45,12 @@ use Rattle.overlay_machine.specs.Words.{look, is_plain}
 use Rattle.overlay_machine.specs.State.{OpenFrame, OState}
 use Rattle.overlay_machine.specs.Step.{goes, fails, with_frames, overlay_step, case_fetched}
 use Rattle.overlay_machine.specs.Events.{step_event}
-use Rattle.overlay_machine.specs.Step.{return_step, return_by, own_stack, if_own, ask, need, resumed}
+use Rattle.overlay_machine.specs.Step.{return_step, return_by, own_stack, if_own, ask, need, state_resumed}
 use Rattle.overlay_machine.specs.Link.{Link, IsTrusted, ranges_of}
 use Rattle.overlay_machine.specs.Linked.{Linked}
 use Rattle.overlay_machine.specs.Safe.{IsOpenSeal, IsSafe}
-use Rattle.overlay_machine.proofs.invariant.Facts.{seals_safe}
-use Rattle.overlay_machine.proofs.invariant.Crossing.{code_is}
-use Rattle.overlay_machine.proofs.Offers.{is_xjmp, open_seal}
-use Rattle.template_runs.proofs.Outside.{safe_outside}
+use Rattle.overlay_machine.proofs.Offers.{seals_safe, crossing_code_is as code_is, is_xjmp, open_seal}
+use Rattle.template_runs.proofs.Offers.{safe_outside}
 use Rattle.template_runs.specs.Public.{IsFreeAt}
 use Rattle.context_laws.specs.Related.{RunsOutside, SameNames, Calls, AreCalls, OneToOne, IsOurs, SameWord}
 use Rattle.context_laws.specs.Related.{ours, code_halves}
@@ -198,7 +193,7 @@ module _ (l : Layout) (i k : ℕ) (r2 : Reg) (f : OpenFrame) (fs : List OpenFram
 
   return_goes : (c : CapFields) → own_stack l o.maps ≡ Some c → (c.end + 1 == f.base) ≡ true
       → return_by l (RetCode i) (RetData k) r2 (f ∷ fs) o
-      ≡ goes (resumed s c f fs (put o.maps (R r2) (zero_word Plain)) o)
+      ≡ goes (state_resumed s c f fs (put o.maps (R r2) (zero_word Plain)) o)
   unfolding ask need
   return_goes c e n = rw (is, at, e, n) refl
 
@@ -620,8 +615,8 @@ module _ (g h : Link) (names : SameNames g h) (cs : Calls) where
                     (eqb_same i f.site j e'.site (names.one_site i j f.site e'.site sites ns))
 
                 value : (c d : CapFields) → Rel
-                    (reg (resumed met_q.0 c f fs (put q.maps (R r2) (zero_word Plain)) q).maps.regs A0)
-                    (reg (resumed met_r.0 d e' es (put r.maps (R r2) (zero_word Plain)) r).maps.regs A0)
+                    (reg (state_resumed met_q.0 c f fs (put q.maps (R r2) (zero_word Plain)) q).maps.regs A0)
+                    (reg (state_resumed met_r.0 d e' es (put r.maps (R r2) (zero_word Plain)) r).maps.regs A0)
                 value c d =
                     (put_twin look Plain Rel Free face_is q.maps r.maps (R r2) (zero_word Plain)
                     (zero_word Plain) (ours (Int (pos 0)) tt) al.seen).0 A0
@@ -634,8 +629,8 @@ module _ (g h : Link) (names : SameNames g h) (cs : Calls) where
                     (step_r ∙ return_away h.layout j m r2 e' es r met_r.0 (sym same_pair ∙ same) met_r.1 c
                     (sym same_stack ∙ own) (ap (λ x. c.end + 1 == x) (sym nb) ∙ n))
                 returned c own same true n =
-                    let q' : OState = resumed met_q.0 c f fs (put q.maps (R r2) (zero_word Plain)) q in
-                    let r' : OState = resumed met_r.0 c e' es (put r.maps (R r2) (zero_word Plain)) r in
+                    let q' : OState = state_resumed met_q.0 c f fs (put q.maps (R r2) (zero_word Plain)) q in
+                    let r' : OState = state_resumed met_r.0 c e' es (put r.maps (R r2) (zero_word Plain)) r in
                     both_come q' r'
                     (step_q ∙ return_goes g.layout i k r2 f fs q met_q.0 same met_q.1 c own n)
                     (step_r ∙ return_goes h.layout j m r2 e' es r met_r.0 (sym same_pair ∙ same) met_r.1 c

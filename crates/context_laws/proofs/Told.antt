@@ -24,13 +24,12 @@ use Rattle.trusted_border.specs.Reaches.{closure_owner, entry_number, site_of_se
 use Rattle.trusted_border.specs.Reaches.{back_if, back_under}
 use Rattle.overlay_machine.specs.Words.{look}
 use Rattle.overlay_machine.specs.State.{OState}
-use Rattle.overlay_machine.specs.Events.{step_event, entered, shown}
+use Rattle.overlay_machine.specs.Events.{step_event, entered_event, shown_word}
 use Rattle.overlay_machine.specs.Link.{Link, ranges_of}
 use Rattle.overlay_machine.specs.Linked.{Linked}
 use Rattle.overlay_machine.specs.Names.{NamesTold, PartNamed, EntryNamed}
 use Rattle.overlay_machine.specs.Safe.{IsOpenSeal, IsMet}
-use Rattle.overlay_machine.proofs.invariant.Crossing.{entry_begins, code_is}
-use Rattle.overlay_machine.proofs.starts.ListFacts.{index_of}
+use Rattle.overlay_machine.proofs.Offers.{entry_begins, crossing_code_is as code_is, index_of}
 use Rattle.trace_tool.specs.Layout.{entry_name}
 use Rattle.trace_tool.specs.Views.{View, flat_view}
 use Rattle.trace_tool.specs.Pairs.{if_normal, content_linear, pair_to, pair_if, pair_of, pair_under, pairs_of}
@@ -41,10 +40,9 @@ use Rattle.source_events.specs.declared.FeedBack.TheVariants as way
 use Rattle.source_events.specs.declared.FeedPair.TheVariants as fed
 use Rattle.source_events.specs.declared.Item.{Item}
 use Rattle.source_events.specs.declared.Item.TheVariants.{Enter}
-use Rattle.source_laws.specs.Trace.{items_of}
-use Rattle.template_runs.proofs.Outside.{open_no_owner}
-use Rattle.template_runs.proofs.Mixed.{if_bad}
-use Rattle.source_starts.proofs.Halves.{open_foreign, closure_foreign}
+use Rattle.source_laws.specs.Trace.{event_items}
+use Rattle.template_runs.proofs.Offers.{open_no_owner, if_bad}
+use Rattle.source_starts.proofs.Offers.{open_foreign, closure_foreign}
 use Rattle.context_laws.specs.Related.{SameNames, IsExport, Calls, SameWord}
 use Rattle.context_laws.specs.Related.{EnterAlike, ReturnAlike, ComesAlike, entered_at}
 use Rattle.context_laws.specs.Meanings.{GoByNames, told_name, export_name}
@@ -99,7 +97,7 @@ module _ (k : Link) (linked : Linked k) (told : NamesTold k.parts k.layout) wher
     -- the item of an entry
     pub enter_item : (o q : OState) → PcAt look (ranges_of x.part) x.export.offset q.maps.regs
         → step_event k.layout o q ≡ entered_at k.layout x q
-        → items_of k.layout (flat_view k.layout q) (step_event k.layout o q)
+        → event_items k.layout (flat_view k.layout q) (step_event k.layout o q)
         ≡ Enter x.part.component.name (told_name x)
         (left_in k.layout.stack.base ((flat_view k.layout q).reg Stk))
         (integers_in (args_of (flat_view k.layout q)))
@@ -109,11 +107,11 @@ module _ (k : Link) (linked : Linked k) (told : NamesTold k.parts k.layout) wher
     unfolding owner_of faces
     enter_item o q pc ev =
         let v = flat_view k.layout q in
-        let b = back_of k.layout (shown k.layout q Rcode) (shown k.layout q Rdata) in
+        let b = back_of k.layout (shown_word k.layout q Rcode) (shown_word k.layout q Rdata) in
         let item : List ℕ → List ℕ → Item = λ n e. Enter n e (left_in k.layout.stack.base (v.reg Stk))
         (integers_in (args_of v)) (feed_pairs k.layout (pairs_of k.layout v)) (feed_back k.layout b) in
-        ap (items_of k.layout v)
-        (ev ∙ ap (option_and_then (entered k.layout q)) part.by_closure
+        ap (event_items k.layout v)
+        (ev ∙ ap (option_and_then (entered_event k.layout q)) part.by_closure
         ∙ ap (option_map (λ n. Entered place.0 n b))
         (ap (entry_number (owner_of place.0 x.part)) (ap face_of pc) ∙ entry.number_is))
         ∙ ap (λ z. item z (entry_name k.layout place.0 entry.number) ∷ []) part.name
@@ -290,7 +288,7 @@ module _ (g h : Link) (names : SameNames g h) (by_names : GoByNames names) (lg :
     words_same d w = flat_same g h names cs q.frames r.frames al hg hh _ _ w (mg d) (mh d)
 
     by_enter : EnterAlike g h names cs o q p r
-        → items_of g.layout V (step_event g.layout o q) ≡ items_of h.layout U (step_event h.layout p r)
+        → event_items g.layout V (step_event g.layout o q) ≡ event_items h.layout U (step_event h.layout p r)
     by_enter e =
         let ix = (names.exports e.one e.other e.twins).0 in
         let iy = (names.exports e.one e.other e.twins).1 in
@@ -319,14 +317,14 @@ module _ (g h : Link) (names : SameNames g h) (by_names : GoByNames names) (lg :
         ∙ sym (enter_item h lh th e.other iy p r e.pc_other e.event_other)
 
     by_return : ReturnAlike g h names cs o q p r
-        → items_of g.layout V (step_event g.layout o q) ≡ items_of h.layout U (step_event h.layout p r)
+        → event_items g.layout V (step_event g.layout o q) ≡ event_items h.layout U (step_event h.layout p r)
     by_return e =
         let n = by_names.sites e.frame.site e.frame_other.site e.sites in
-        ap (items_of g.layout V) e.event
+        ap (event_items g.layout V) e.event
         ∙ rw (n.0, n.1, e.base, int_same _ _ (words_same A0 e.value)) refl
-        ∙ sym (ap (items_of h.layout U) e.event_other)
+        ∙ sym (ap (event_items h.layout U) e.event_other)
 
     pub items_same : ComesAlike g h names cs o q p r
-        → items_of g.layout V (step_event g.layout o q) ≡ items_of h.layout U (step_event h.layout p r)
+        → event_items g.layout V (step_event g.layout o q) ≡ event_items h.layout U (step_event h.layout p r)
     items_same (inl e) = by_enter e
     items_same (inr e) = by_return e

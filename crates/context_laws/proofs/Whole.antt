@@ -9,7 +9,7 @@ use Rattle.overlay_machine.specs.Linked.{Linked}
 use Rattle.overlay_machine.specs.Runs.{Reached, goes_on}
 use Rattle.overlay_machine.specs.Invariant.{FramesLie}
 use Rattle.template_runs.specs.Runs.{is_inside}
-use Rattle.template_runs.proofs.Valid.{goes_same, halts_not, fails_not}
+use Rattle.template_runs.proofs.Offers.{goes_same, halts_not, fails_not}
 use Rattle.source_laws.specs.Secrets.{Until, still_there, one_more}
 use Rattle.context_laws.specs.Related.{RunsOutside, SameNames, Calls, AreCalls, Alike, StepsAlike, both_halt}
 use Rattle.context_laws.specs.Related.{both_fail, both_stay, both_come, ComesAlike}

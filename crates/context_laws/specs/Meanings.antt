@@ -28,11 +28,11 @@ use Rattle.proc_program.specs.declared.program.Procedure.{Procedure}
 use Rattle.proc_program.specs.declared.program.Import.{Import as Imported}
 use Rattle.proc_program.specs.Lower.{part_of as program_of}
 use Rattle.source_events.specs.declared.Item.{Item}
-use Rattle.proc_semantics.specs.Values.{World, part_at, proc_in, import_in}
-use Rattle.proc_semantics.specs.Rules.{part_of}
+use Rattle.proc_semantics.specs.Values.{World, home_part, proc_in, import_in}
+use Rattle.proc_semantics.specs.Rules.{part_name_of}
 use Rattle.proc_semantics.specs.Marked.{PairHalf, Whence, OwnWord, ImportWord, CameWord, Event, refined}
 use Rattle.proc_semantics.specs.Marked.{report_to}
-use Rattle.source_laws.specs.Trace.{items_of}
+use Rattle.source_laws.specs.Trace.{event_items}
 use Rattle.source_starts.specs.Sources.{AreSources, linked_at}
 use Rattle.context_laws.specs.Related.{SameNames, Calls}
 use Rattle.context_laws.specs.Lockstep.{Round, Path, SameCrossing, InStep}
@@ -56,8 +56,8 @@ import_name None x = Nothing
 import_name (Some i) x = Exports i.part i.name x
 
 abbrev pub name_of : World → Whence → Name
-name_of world (OwnWord home j x) = own_name (part_of world home) (proc_in (part_at world home) j) x
-name_of world (ImportWord home k x) = import_name (import_in (part_at world home) k) x
+name_of world (OwnWord home j x) = own_name (part_name_of world home) (proc_in (home_part world home) j) x
+name_of world (ImportWord home k x) = import_name (import_in (home_part world home) k) x
 name_of world (CameWord k j) = Came k j
 
 -- Of each call its part and number, the address where its frame begins, the lowest wiped cell, the names of
@@ -102,14 +102,14 @@ pub record GoByNames {g h : Link} (names : SameNames g h) : Type 0 where
 
 -- the item of a step by which code outside comes in
 abbrev pub item_by : Layout → OState → Ending → List Item
-item_by l p (goes q) = if is_inside l q then items_of l (flat_view l q) (step_event l p q) else []
+item_by l p (goes q) = if is_inside l q then event_items l (flat_view l q) (step_event l p q) else []
 item_by l p halts = []
 item_by l p fails = []
 
 -- the items of rounds, and of the step behind them if it comes in too
 abbrev pub items_in : Layout → List Round → OState → List Item
 items_in l [] q = item_by l q (overlay_step l q)
-items_in l (r ∷ rs) q = items_of l (flat_view l r.entered) (step_event l r.before r.entered)
+items_in l (r ∷ rs) q = event_items l (flat_view l r.entered) (step_event l r.before r.entered)
     ++ items_in l rs q
 
 -- from two points on: whatever code outside does in the run of the one link, it does in that of the other,

@@ -15,7 +15,7 @@ use Rattle.trusted_border.specs.declared.layout.Layout.{Layout}
 use Rattle.trusted_border.specs.declared.events.Event.{Event}
 use Rattle.trusted_border.specs.declared.events.Event.TheVariants.{Returned}
 use Rattle.trusted_border.specs.Reaches.{closure_owner}
-use Rattle.overlay_machine.specs.Events.{step_event, entered}
+use Rattle.overlay_machine.specs.Events.{step_event, entered_event}
 use Rattle.overlay_machine.specs.declared.words.OWord.{OWord}
 use Rattle.overlay_machine.specs.declared.words.OWord.TheVariants.{Plain, RetCode, RetData}
 use Rattle.overlay_machine.specs.Words.{look}
@@ -56,7 +56,7 @@ pub record SameNames (g h : Link) : Type 0 where
 
 -- the event of an entry, under the closure seal of an export's part
 abbrev pub entered_at : Layout → Exported → OState → Option Event
-entered_at l x q = option_and_then (entered l q) (closure_owner l x.part.component.closure)
+entered_at l x q = option_and_then (entered_event l q) (closure_owner l x.part.component.closure)
 
 -- calls of the one and of the other run that stand for each other: the first that went out, the second, ..
 abbrev pub Calls : Type 0

@@ -6,11 +6,10 @@ use Rattle.std.specs.Prelude.{◌==◌, not, codes, decimal, option_map, IfSome,
 use Rattle.std.proofs.lemmas.Bool.{ne_eqb}
 use Rattle.lcm_isa.specs.declared.Reg.{Reg}
 use Rattle.lcm_isa.specs.Texts.{reg_name}
-use Rattle.lcm_isa.proofs.NameLemmas.{first_named, first_named-reg_name, named_found}
+use Rattle.lcm_isa.proofs.Offers.{first_named, first_named-reg_name, named_found}
 use Rattle.line_fields.specs.Cuts.{behind}
 use Rattle.line_fields.specs.Numbers.{number_in}
-use Rattle.line_fields.proofs.Numbers.{number_again, number_is, some_from, some_of, chosen}
-use Rattle.line_fields.proofs.Fronts.{behind_is}
+use Rattle.line_fields.proofs.Offers.{number_again, number_is, some_from, some_of, chosen, behind_is}
 use Rattle.debug_script.specs.declared.command.Command.{Command}
 use Rattle.debug_script.specs.declared.command.Command.TheVariants.{Forward, Back, StopAt, Clear, Cell}
 use Rattle.debug_script.specs.declared.command.Command.TheVariants.{Register}

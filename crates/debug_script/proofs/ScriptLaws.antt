@@ -14,8 +14,7 @@ use Rattle.lcm_isa.specs.declared.Reg.TheVariants as reg
 use Rattle.lcm_isa.specs.Texts.{reg_name}
 use Rattle.line_fields.specs.Cuts.{cut, parts}
 use Rattle.line_fields.specs.Fields.{lines}
-use Rattle.line_fields.proofs.Cuts.{parts_at, cut_is}
-use Rattle.line_fields.proofs.Fronts.{is_free, cut_front, decimal_free}
+use Rattle.line_fields.proofs.Offers.{parts_at, cut_is, is_free, cut_front, decimal_free}
 use Rattle.debug_script.specs.declared.command.Command.{Command}
 use Rattle.debug_script.specs.declared.command.Command.TheVariants.{Forward, Back, StopAt, Clear, Cell}
 use Rattle.debug_script.specs.declared.command.Command.TheVariants.{Register}

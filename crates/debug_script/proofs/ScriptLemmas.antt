@@ -8,7 +8,7 @@ use Rattle.std.proofs.lemmas.Bool.{leb-true}
 use Rattle.std.proofs.lemmas.List.Splits.{length-slice_split}
 use Rattle.line_fields.specs.Cuts.{cut, parts}
 use Rattle.line_fields.specs.Fields.{lines}
-use Rattle.line_fields.proofs.Cuts.{parts_at, parts_none}
+use Rattle.line_fields.proofs.Offers.{parts_at, parts_none}
 use Rattle.debug_script.specs.declared.command.Command.{Command}
 use Rattle.debug_script.specs.declared.fault.ScriptFault.{ScriptFault}
 use Rattle.debug_script.specs.declared.fault.ScriptFault.TheVariants.{Line}

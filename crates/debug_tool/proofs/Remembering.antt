@@ -2,10 +2,10 @@
 use Rattle.std.proofs.Common.{◌≡◌, ℕ, List, [], ◌∷◌, refl, subst}
 use Rattle.lcm_machine.specs.Run.{Run}
 use Rattle.step_back.specs.Seen.{Debugging}
-use Rattle.step_back.specs.Debug.{begun}
+use Rattle.step_back.specs.Debug.{debugging_from}
 use Rattle.step_back.specs.Calls.{Call, StopAt as SetStop, Clear as ClearStop, Go, GoBack, after_all}
 use Rattle.step_back.specs.Calls.{Remembers}
-use Rattle.step_back.proofs.Remembered.{calls_remember}
+use Rattle.step_back.proofs.Offers.{calls_remember}
 use Rattle.debug_script.specs.declared.command.Command.{Command}
 use Rattle.debug_script.specs.declared.command.Command.TheVariants.{Forward, Back, StopAt, Clear, Cell}
 use Rattle.debug_script.specs.declared.command.Command.TheVariants.{Register}
@@ -32,6 +32,6 @@ are_calls (Cell a ∷ cs) d = are_calls cs d
 are_calls (Register r ∷ cs) d = are_calls cs d
 
 pub commands_remember : (s : Run) (depth : ℕ) (cs : List Command) → s.count ≡ 0
-    → Remembers s (after_commands cs (begun s depth))
+    → Remembers s (after_commands cs (debugging_from s depth))
 commands_remember s depth cs e =
-    subst (Remembers s) (are_calls cs (begun s depth)) (calls_remember s depth (calls_in cs) e)
+    subst (Remembers s) (are_calls cs (debugging_from s depth)) (calls_remember s depth (calls_in cs) e)

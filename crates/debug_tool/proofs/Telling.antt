@@ -4,7 +4,7 @@ use Rattle.std.proofs.Common.{[], ◌∷◌, ◌++◌, Ok, refl, sym, ap, ◌∙
 use Rattle.std.proofs.lemmas.List.{take_more, take-append-drop, length-take-le}
 use Rattle.outside_io.specs.SinkSeen.{SinkSeen, Adds, FailsToWrite, IsOneWrite}
 use Rattle.outside_io.specs.Writes.{AddsPieces}
-use Rattle.outside_io.proofs.Writing.{pieces_then, one_write}
+use Rattle.outside_io.proofs.Offers.{pieces_then, one_write}
 use Rattle.step_back.specs.Seen.{Debugging}
 use Rattle.debug_script.specs.declared.command.Command.{Command}
 use Rattle.debug_tool.specs.Replies.{steps_of, reply, after_command, steps_in, replies, after_commands}

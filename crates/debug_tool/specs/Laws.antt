@@ -1,7 +1,7 @@
 -- What debuggers remember between commands.
 use Rattle.std.specs.Prelude.{◌≡◌, ℕ, List}
 use Rattle.lcm_machine.specs.Run.{Run}
-use Rattle.step_back.specs.Debug.{begun}
+use Rattle.step_back.specs.Debug.{debugging_from}
 use Rattle.step_back.specs.Calls.{Remembers}
 use Rattle.debug_script.specs.declared.command.Command.{Command}
 use Rattle.debug_tool.specs.Replies.{after_commands}
@@ -9,4 +9,5 @@ use Rattle.debug_tool.specs.Replies.{after_commands}
 -- from a state that has made no step
 abbrev pub CommandsRemember : Type 0
 CommandsRemember =
-    (s : Run) (depth : ℕ) (cs : List Command) → s.count ≡ 0 → Remembers s (after_commands cs (begun s depth))
+    (s : Run) (depth : ℕ) (cs : List Command) → s.count ≡ 0 → Remembers s
+    (after_commands cs (debugging_from s depth))

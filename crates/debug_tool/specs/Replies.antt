@@ -14,8 +14,8 @@ use Rattle.step_back.specs.declared.debugger.Stop.{Stop}
 use Rattle.step_back.specs.declared.debugger.Stop.TheVariants.{Break, Ended, Spent}
 use Rattle.step_back.specs.declared.debugger.TheConstants.{MOST_DEPTH}
 use Rattle.step_back.specs.Seen.{Debugging}
-use Rattle.step_back.specs.Debug.{begun, go, go_back, is_full}
-use Rattle.step_back.specs.Calls.{StopAt as SetStop, Clear as ClearStop, Go, GoBack, after}
+use Rattle.step_back.specs.Debug.{debugging_from, go, go_back, is_full}
+use Rattle.step_back.specs.Calls.{StopAt as SetStop, Clear as ClearStop, Go, GoBack, after_call}
 use Rattle.debug_script.specs.declared.command.Command.{Command}
 use Rattle.debug_script.specs.declared.command.Command.TheVariants.{Forward, Back, StopAt, Clear, Cell}
 use Rattle.debug_script.specs.declared.command.Command.TheVariants.{Register}
@@ -58,10 +58,10 @@ steps_of (Register r) = 0
 
 -- what a command makes of a debugger
 abbrev pub after_command : Command → Debugging → Debugging
-after_command (Forward n) d = after (Go n) d
-after_command (Back n) d = after (GoBack n) d
-after_command (StopAt a) d = after (SetStop a) d
-after_command (Clear a) d = after (ClearStop a) d
+after_command (Forward n) d = after_call (Go n) d
+after_command (Back n) d = after_call (GoBack n) d
+after_command (StopAt a) d = after_call (SetStop a) d
+after_command (Clear a) d = after_call (ClearStop a) d
 after_command (Cell a) d = d
 after_command (Register r) d = d
 
@@ -91,7 +91,7 @@ replies (c ∷ cs) d = reply c d ∷ replies cs (after_command c d)
 
 -- of a debugger that begins in this state, with the greatest depth
 abbrev pub debug_replies : Run → List Command → List (List ℕ)
-debug_replies s cs = replies cs (begun s MOST_DEPTH)
+debug_replies s cs = replies cs (debugging_from s MOST_DEPTH)
 
 -- and the text of them all
 abbrev pub debug_text : Run → List Command → List ℕ

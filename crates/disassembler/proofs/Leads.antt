@@ -7,15 +7,14 @@ use Rattle.std.specs.List.{slice_split, flat_map}
 use Rattle.std.proofs.lemmas.List.{map-append}
 use Rattle.std.proofs.lemmas.List.Splits.{slice_split_at, length-slice_split}
 use Rattle.std.proofs.lemmas.Bool.{ne_eqb}
-use Rattle.text_scan.proofs.Places.{next_here}
+use Rattle.text_scan.proofs.Offers.{next_here, Form, IsField, IsRest, IsPrinted, AreInLine, printed}
 use Rattle.text_scan.specs.declared.token.TokenKind.{TokenKind}
 use Rattle.text_scan.specs.declared.token.TokenKind.TheVariants.{Name, Number, Sign, Equal, NewLine}
 use Rattle.text_scan.specs.declared.token.Token.{Token}
 use Rattle.text_scan.specs.Bytes.{is_newline}
 use Rattle.text_scan.specs.Tokens.{line_from, line_tokens, newline_at, lines_from}
-use Rattle.text_scan.proofs.Printed.{Form, IsField, IsRest, IsPrinted, AreInLine, printed}
 use Rattle.asm_fields.specs.Fields.{Lexeme, seen}
-use Rattle.asm_fields.proofs.Again.{Alike, Whole, left, alike_seen}
+use Rattle.asm_fields.proofs.Offers.{Alike, Whole, left, alike_seen}
 use Rattle.asm_draft.specs.Draft.{Draft}
 use Rattle.asm_draft.specs.Lines.{line_in}
 use Rattle.asm_draft.specs.Whole.{is_newline as is_line_end, lines_of, onto_first, line_or_none, drafted}

@@ -5,15 +5,15 @@ use Rattle.std.specs.Prelude.{ℤ, pos, ◌==◌, nat_lt, nat_le, not, ◌&&◌,
 use Rattle.std.specs.Int.{w64}
 use Rattle.std.specs.Fmt.{signed_decimal}
 use Rattle.std.proofs.lemmas.Bool.Decides.{nat_tests}
-use Rattle.text_scan.proofs.Printed.{Form, name_form, sign_form, integer_forms, IsField, IsRest, rest_none}
-use Rattle.text_scan.proofs.Printed.{rest_more}
+use Rattle.text_scan.proofs.Offers.{Form, name_form, sign_form, integer_forms, IsField, IsRest, rest_none}
+use Rattle.text_scan.proofs.Offers.{rest_more}
 use Rattle.cap_words.specs.Text.{perm_name, lin_name}
 use Rattle.cap_words.specs.declared.Word.{Word}
 use Rattle.cap_words.specs.declared.Word.TheVariants.{Int, Mem, Seal, Sealed}
 use Rattle.cap_words.specs.WordBytes.{WordFits, IsUnsealed}
 use Rattle.lcm_isa.specs.declared.Instr.{Instr}
 use Rattle.lcm_isa.specs.Numbers.{decode_of}
-use Rattle.lcm_isa.proofs.NumberLemmas.{number_of-decode_of, decode_of-fits}
+use Rattle.lcm_isa.proofs.Offers.{number_of-decode_of, decode_of-fits}
 use Rattle.asm_labels.specs.declared.labels.Section.{Section}
 use Rattle.asm_labels.specs.declared.labels.Section.TheVariants as section
 use Rattle.asm_fields.specs.declared.directives.Item.{Item}
@@ -23,17 +23,16 @@ use Rattle.asm_fields.specs.declared.directives.WordKind.TheVariants as word_kin
 use Rattle.asm_fields.specs.declared.directives.Directive.TheVariants as directive
 use Rattle.asm_fields.specs.Directives.{directive_name}
 use Rattle.asm_fields.specs.Words.{word_line as word_reader}
-use Rattle.asm_fields.proofs.Again.{Again, Whole}
-use Rattle.asm_fields.proofs.Printed.{directive_is_field, perm_field, lin_field, place_field, i64_field}
-use Rattle.asm_fields.proofs.Printed.{cap_forms, seals_forms, int_again, cap_again, seals_again}
-use Rattle.asm_fields.proofs.Printed.{instr_forms, instr_printed}
+use Rattle.asm_fields.proofs.Offers.{Again, Whole, directive_is_field, perm_field, lin_field, place_field}
+use Rattle.asm_fields.proofs.Offers.{i64_field, cap_forms, seals_forms, int_again, cap_again, seals_again}
+use Rattle.asm_fields.proofs.Offers.{instr_forms, instr_printed}
 use Rattle.asm_draft.specs.declared.header.Header.{Header}
 use Rattle.asm_draft.specs.Order.{rank, rank_of, repeats, furthest, may_follow, section_of}
 use Rattle.asm_draft.specs.Tables.{Tables}
 use Rattle.asm_draft.specs.Draft.{Draft, has_word_room, with_word, may_end, may_end_in}
 use Rattle.asm_draft.specs.Operands.{operands_in}
 use Rattle.asm_draft.specs.Lines.{may_stand}
-use Rattle.asm_draft.proofs.Again.{instr_line_again, word_line_again, item_line_again, offset_forms}
+use Rattle.asm_draft.proofs.Offers.{instr_line_again, word_line_again, item_line_again, offset_forms}
 use Rattle.cap_words.specs.Text.{newline}
 use Rattle.disassembler.specs.Disassembled.{item_line, word_line, code_line, integer_line}
 use Rattle.disassembler.proofs.Leads.{Leads, leads_line, leads_fields}

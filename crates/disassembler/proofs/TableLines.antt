@@ -5,27 +5,27 @@ use Rattle.std.proofs.Common.{length-append, lit≤}
 use Rattle.std.specs.Prelude.{pos, nat_lt, decimal, IfSome}
 use Rattle.std.specs.List.{flat_map, AllByRecursion}
 use Rattle.std.proofs.lemmas.Bool.{lt-ltb}
-use Rattle.text_scan.proofs.Printed.{Form, name_form, integer_forms, IsRest, rest_none, rest_more}
+use Rattle.text_scan.proofs.Offers.{Form, name_form, integer_forms, IsRest, rest_none, rest_more}
 use Rattle.cap_words.specs.declared.Word.{Word}
 use Rattle.component_file.specs.declared.component.Kind.{Kind}
 use Rattle.component_file.specs.declared.component.Kind.TheVariants as kind
 use Rattle.component_file.specs.declared.component.Import.{Import}
 use Rattle.component_file.specs.declared.component.Export.{Export}
 use Rattle.component_file.specs.declared.component.KindRow.{KindRow}
-use Rattle.component_file.specs.Limits.{Chain, ImportFits, ExportFits, SiteFits, RowFits, KindFits}
+use Rattle.component_file.specs.Limits.{Chain, ImportFits, ExportFits, SiteFits, KindRowFits, KindFits}
 use Rattle.asm_fields.specs.declared.directives.Item.{Item}
 use Rattle.asm_fields.specs.declared.directives.Item.TheVariants as item
 use Rattle.asm_fields.specs.Names.{kind_name, ownership}
-use Rattle.asm_fields.proofs.Printed.{proper_field, shared_field, kind_field, offset_field}
+use Rattle.asm_fields.proofs.Offers.{proper_field, shared_field, kind_field, offset_field}
 use Rattle.asm_draft.specs.declared.header.Header.{Header}
 use Rattle.asm_draft.specs.Order.{rank, rank_of, may_follow}
 use Rattle.asm_draft.specs.Tables.{Tables, last_of as last_item, first_out_of_order, has_room}
 use Rattle.asm_draft.specs.Draft.{may_end}
 use Rattle.asm_draft.specs.Lines.{may_stand}
-use Rattle.asm_draft.proofs.Again.{offset_forms, import_forms, export_forms, kind_forms, row_forms}
-use Rattle.asm_draft.proofs.Again.{import_again, export_again, site_again, fail_again, literal_again}
-use Rattle.asm_draft.proofs.Again.{row_again}
-use Rattle.assembler.proofs.Chains.{item_in_chain}
+use Rattle.asm_draft.proofs.Offers.{offset_forms, import_forms, export_forms, kind_forms, row_forms}
+use Rattle.asm_draft.proofs.Offers.{import_again, export_again, site_again, fail_again, literal_again}
+use Rattle.asm_draft.proofs.Offers.{row_again}
+use Rattle.assembler.proofs.Offers.{item_in_chain}
 use Rattle.cap_words.specs.Text.{field_text}
 use Rattle.disassembler.specs.Disassembled.{optional_line, import_line, export_line}
 use Rattle.disassembler.specs.Disassembled.{site_line, kind_fields, row_line}
@@ -253,11 +253,11 @@ row_rest r offset many kinds =
 pub rows_lead : (last : Option Item) (h : Header) (code words : List Word) (is : List Import)
     (es : List Export) (ss : List ℕ) (f l : Option ℕ) (rs : List KindRow) → HasWords code words
     → rank item.Data ≤ rank_of last
-    → rank_of last < rank item.Row → length rs ≤ 65536 → Chain RowFits None rs
+    → rank_of last < rank item.Row → length rs ≤ 65536 → Chain KindRowFits None rs
     → Leads (length rs) (flat_map row_line rs) (so_far last h code words (tables is es ss f l []))
     (so_far (last_in item.Row last rs) h code words (tables is es ss f l rs))
 rows_lead last h code words is es ss f l rs some low lt few chain =
-    table item.Row row_line (λ rs. tables is es ss f l rs) 65536 RowFits last h code words rs few chain
+    table item.Row row_line (λ rs. tables is es ss f l rs) 65536 KindRowFits last h code words rs few chain
     (λ before r room fits.
     leads_item item.Row 171 _ (row_forms r)
     (so_far (last_in item.Row last before) h code words (tables is es ss f l before))

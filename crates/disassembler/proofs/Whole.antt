@@ -6,7 +6,7 @@ use Rattle.std.specs.Prelude.{Bool, pos, ◌==◌, nat_lt, nat_le, not, ◌&&◌
 use Rattle.std.specs.List.{flat_map}
 use Rattle.std.proofs.lemmas.Bool.{le-leb, ne_eqb}
 use Rattle.text_scan.specs.Tokens.{scanned}
-use Rattle.text_scan.proofs.Printed.{name_form, integer_forms, rest_none, rest_more}
+use Rattle.text_scan.proofs.Offers.{name_form, integer_forms, rest_none, rest_more}
 use Rattle.cap_words.specs.Stretch.{Stretch}
 use Rattle.cap_words.specs.declared.Word.{Word}
 use Rattle.cap_words.specs.WordBytes.{WordFits, IsUnsealed}
@@ -19,8 +19,7 @@ use Rattle.asm_labels.specs.References.{resolved}
 use Rattle.asm_fields.specs.declared.directives.Item.{Item}
 use Rattle.asm_fields.specs.declared.directives.Item.TheVariants as item
 use Rattle.asm_fields.specs.Fields.{seen}
-use Rattle.asm_fields.proofs.Again.{Again}
-use Rattle.asm_fields.proofs.Printed.{proper_field, place_field}
+use Rattle.asm_fields.proofs.Offers.{Again, proper_field, place_field}
 use Rattle.asm_draft.specs.declared.header.Header.{Header}
 use Rattle.asm_draft.specs.Order.{rank, rank_of, reaches_data}
 use Rattle.asm_draft.specs.Tables.{no_tables}
@@ -28,11 +27,10 @@ use Rattle.asm_draft.specs.Draft.{Draft, nothing, may_end}
 use Rattle.asm_draft.specs.Operands.{operands_in}
 use Rattle.asm_draft.specs.Lines.{may_stand}
 use Rattle.asm_draft.specs.Whole.{drafted, lines_of, ended, ended_all, draft_of_text}
-use Rattle.asm_draft.proofs.Again.{stretch_forms, name_again, stack_again, closure_again, movable_again}
-use Rattle.asm_draft.proofs.Again.{seals_again, linear_again, code_base_again, data_base_again}
+use Rattle.asm_draft.proofs.Offers.{stretch_forms, name_again, stack_again, closure_again, movable_again}
+use Rattle.asm_draft.proofs.Offers.{seals_again, linear_again, code_base_again, data_base_again}
 use Rattle.assembler.specs.Assembled.{finished, assembled}
-use Rattle.assembler.proofs.Words.{IsPartWord}
-use Rattle.assembler.proofs.Chains.{item_in_chain}
+use Rattle.assembler.proofs.Offers.{IsPartWord, item_in_chain}
 use Rattle.disassembler.specs.Disassembled.{item_line, flag_line, stretch_line, code_line, word_line}
 use Rattle.disassembler.specs.Disassembled.{disassembled}
 use Rattle.disassembler.proofs.Leads.{Goes, Leads, leads_none, leads_optional, leads_then, leads_all}

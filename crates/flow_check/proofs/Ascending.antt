@@ -9,7 +9,7 @@ use Rattle.std.proofs.lemmas.Bool.Decides.{nat_tests}
 use Rattle.std.proofs.lemmas.List.Folds.{list_any_at}
 use Rattle.component_file.specs.declared.component.KindRow.{KindRow}
 use Rattle.component_file.specs.declared.component.ComponentFields.{ComponentFields}
-use Rattle.component_file.specs.Limits.{Chain, SiteFits, RowFits, IsComponent}
+use Rattle.component_file.specs.Limits.{Chain, SiteFits, KindRowFits, IsComponent}
 use Rattle.flow_check.specs.Ascending.{IsSplitAt}
 use Rattle.flow_check.specs.Places.{is_behind}
 
@@ -129,7 +129,7 @@ sites_up c h = chain_up (λ s. s) SiteFits (λ b x p. ltb-true b x p.1) None c.s
 
 pub rows_up : (c : ComponentFields) → IsComponent c → Ascends (λ (r : KindRow). r.offset) c.rows
 rows_up c h =
-    chain_up (λ (r : KindRow). r.offset) RowFits (λ b x p. ltb-true b.offset x.offset p.1) None c.rows
+    chain_up (λ (r : KindRow). r.offset) KindRowFits (λ b x p. ltb-true b.offset x.offset p.1) None c.rows
     h.rows.1
 
 pub any_none : {A : Type 0} (p : A → Bool) (xs : List A) (d : A)

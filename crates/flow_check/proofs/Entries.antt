@@ -11,7 +11,7 @@ use Rattle.component_file.specs.declared.component.Export.{Export}
 use Rattle.component_file.specs.declared.component.ComponentFields.{ComponentFields}
 use Rattle.component_file.specs.Limits.{Chain, ExportFits, IsComponent}
 use Rattle.component_check.specs.Places.{first_place}
-use Rattle.component_check.proofs.First.{IsFirstIn, first_is}
+use Rattle.component_check.proofs.Offers.{IsFirstIn, first_is}
 use Rattle.flow_check.specs.Places.{begins_entry}
 use Rattle.flow_check.specs.Lists.{entry_is_bad, least_of, k3}
 use Rattle.flow_check.proofs.Ascending.{eq_is}

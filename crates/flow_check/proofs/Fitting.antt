@@ -11,13 +11,13 @@ use Rattle.lcm_isa.specs.declared.Reg.{Reg}
 use Rattle.lcm_isa.specs.declared.Reg.TheVariants.{Pc, Rcode, Rdata, Stk, Dat, T1, T2, C1, C2, A0, A1, A2, A3}
 use Rattle.lcm_isa.specs.declared.Reg.TheVariants.{G0, G1, G2}
 use Rattle.lcm_isa.specs.Numbers.{reg_number, reg_of}
-use Rattle.lcm_isa.proofs.NumberLemmas.{reg_back}
+use Rattle.lcm_isa.proofs.Offers.{reg_back}
 use Rattle.lcm_machine.specs.Maps.{Regs}
 use Rattle.lcm_machine.specs.Places.{reg, set_reg}
 use Rattle.lcm_machine.specs.Table.{is_pc}
 use Rattle.lcm_machine.proofs.Offers.{cases_reg, reg-set_same, reg-set_other}
 use Rattle.flow_check.specs.Kinds.{Row, kind_of, set_kind, below_any, kind_below, row_below}
-use Rattle.flow_check.specs.Holds.{Ranges, stack_cap, Up, HasKind, Fits}
+use Rattle.flow_check.specs.Holds.{Ranges, part_stack_cap, Up, HasKind, HasKinds}
 
 reg_from : (r : Reg) → is_pc r ≡ false → 1 ≤ reg_number r
 reg_from Pc e = cc
@@ -81,7 +81,7 @@ module _ {W : Type 0} (look : W → Word) (Safe : W → Type 0) (Has : ℕ → T
   Kinded k w = HasKind look Safe Has part k w
 
   abbrev FitsRow : Row → Regs W → Type 0
-  FitsRow row rs = Fits look Safe Has part row rs
+  FitsRow row rs = HasKinds look Safe Has part row rs
 
   -- registers of which one has a new word
   pub fits_new : (row : Row) (rs rs' : Regs W) (r : Reg) (k : Kind) → is_pc r ≡ false → FitsRow row rs
@@ -127,7 +127,7 @@ module _ {W : Type 0} (look : W → Word) (Safe : W → Type 0) (Has : ℕ → T
   -- ---- kinds below others
 
   module _ (safe_int : (w : W) (z : ℤ) → look w ≡ Int z → Safe w)
-      (safe_stk : (w : W) (end : ℕ) (at : ℤ) → look w ≡ Mem (stack_cap part end at) → Up Has part end
+      (safe_stk : (w : W) (end : ℕ) (at : ℤ) → look w ≡ Mem (part_stack_cap part end at) → Up Has part end
       → Safe w) where
     pub is_safe : (k : Kind) (w : W) → below_any k ≡ true → Kinded k w → Safe w
     is_safe kind.Any w b h = h

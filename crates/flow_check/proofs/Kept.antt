@@ -47,7 +47,8 @@ use Rattle.flow_check.specs.Flow.{flow, ask, source, is_area, on, into, taken, t
 use Rattle.flow_check.specs.Flow.{led_to, by_target, cca_of, handed, shows_nothing}
 use Rattle.std.specs.List.{list_all}
 use Rattle.std.proofs.Math.IntN.{+ℤ_assoc}
-use Rattle.flow_check.specs.Holds.{Ranges, data_cap, stack_cap, code_at, Up, HasKind, Fits, PcAt, SafeCells}
+use Rattle.flow_check.specs.Holds.{Ranges, data_cap, part_stack_cap, code_at, Up, HasKind, HasKinds, PcAt}
+use Rattle.flow_check.specs.Holds.{SafeCells}
 use Rattle.flow_check.specs.Holds.{SameOthers}
 use Rattle.flow_check.proofs.Fitting.{fits_new, fits_set, fits_keep, fits_pc, is_safe}
 
@@ -62,14 +63,15 @@ ask_flows rule false f t a e = cc
 module _ {W : Type 0} (look : W → Word) (plain : Word → W) (look_plain : (x : Word) → look (plain x) ≡ x)
     (Safe : W → Type 0) (Has Open : ℕ → Type 0) (part : Ranges)
     (safe_int : (w : W) (z : ℤ) → look w ≡ Int z → Safe w)
-    (safe_stk : (w : W) (end : ℕ) (at : ℤ) → look w ≡ Mem (stack_cap part end at) → Up Has part end → Safe w)
+    (safe_stk : (w : W) (end : ℕ) (at : ℤ) → look w ≡ Mem (part_stack_cap part end at) → Up Has part end
+    → Safe w)
     (open_data : (a : ℕ) → part.data_base ≤ a → a ≤ part.data_last → Open a)
     (open_stack : (a : ℕ) → Has a → Open a) where
   abbrev Kinded : Kind → W → Type 0
   Kinded k w = HasKind look Safe Has part k w
 
   abbrev FitsRow : Row → Regs W → Type 0
-  FitsRow row rs = Fits look Safe Has part row rs
+  FitsRow row rs = HasKinds look Safe Has part row rs
 
   safe_zero : Safe (zero_word plain)
   safe_zero = safe_int (zero_word plain) (pos 0) (look_plain (Int (pos 0)))
@@ -287,8 +289,8 @@ module _ {W : Type 0} (look : W → Word) (plain : Word → W) (look_plain : (x 
         open_data a (let P : CapFields → Type 0 = λ x. x.base ≤ a in subst P (sym n) low)
         (let P : CapFields → Type 0 = λ x. a ≤ x.end in subst P (sym n) high)
     open_area kind.Stk w c a g h e low high =
-        let m : Memory (stack_cap part h.0 h.1) ≡ Memory c = sym (ap face_of h.2) ∙ e in
-        let n : stack_cap part h.0 h.1 ≡ c = cc in
+        let m : Memory (part_stack_cap part h.0 h.1) ≡ Memory c = sym (ap face_of h.2) ∙ e in
+        let n : part_stack_cap part h.0 h.1 ≡ c = cc in
         open_stack a
         (h.3.1 a (let P : CapFields → Type 0 = λ x. x.base ≤ a in subst P (sym n) low)
         (let P : CapFields → Type 0 = λ x. a ≤ x.end in subst P (sym n) high))
@@ -512,8 +514,8 @@ module _ {W : Type 0} (look : W → Word) (plain : Word → W) (look_plain : (x 
         let n : data_cap part h.0 ≡ c = cc in
         (z, look_plain (Mem (record c { addr = z })) ∙ ap (λ x. Mem (record x { addr = z })) (sym n))
     moved_area kind.Stk w c z g h e =
-        let m : Memory (stack_cap part h.0 h.1) ≡ Memory c = sym (ap face_of h.2) ∙ e in
-        let n : stack_cap part h.0 h.1 ≡ c = cc in (
+        let m : Memory (part_stack_cap part h.0 h.1) ≡ Memory c = sym (ap face_of h.2) ∙ e in
+        let n : part_stack_cap part h.0 h.1 ≡ c = cc in (
           h.0,
           z,
           look_plain (Mem (record c { addr = z }))
@@ -529,7 +531,7 @@ module _ {W : Type 0} (look : W → Word) (plain : Word → W) (look_plain : (x 
         → face_of (look w) ≡ Seals q → ⊥
     area_seals kind.DataCap w q g h e = let m : Memory (data_cap part h.0) ≡ Seals q =
         sym (ap face_of h.1) ∙ e in cc
-    area_seals kind.Stk w q g h e = let m : Memory (stack_cap part h.0 h.1) ≡ Seals q =
+    area_seals kind.Stk w q g h e = let m : Memory (part_stack_cap part h.0 h.1) ≡ Seals q =
         sym (ap face_of h.2) ∙ e in cc
     area_seals kind.Any w q g h e = cc
     area_seals kind.Int w q g h e = cc
@@ -750,7 +752,7 @@ module _ {W : Type 0} (look : W → Word) (plain : Word → W) (look_plain : (x 
     area_in kind.DataCap w a g h e =
         inl (covered (data_cap part h.0) a (sym (ap (λ x. target_of (face_of x)) h.1) ∙ e))
     area_in kind.Stk w a g h e = let k =
-        covered (stack_cap part h.0 h.1) a (sym (ap (λ x. target_of (face_of x)) h.2) ∙ e) in
+        covered (part_stack_cap part h.0 h.1) a (sym (ap (λ x. target_of (face_of x)) h.2) ∙ e) in
         inr (h.3.1 a k.0 k.1)
     area_in kind.Any w a g h e = cc
     area_in kind.Int w a g h e = cc

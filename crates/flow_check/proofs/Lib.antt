@@ -10,3 +10,4 @@ pub mod LocalFacts
 pub mod Fitting
 pub mod Kept
 pub mod Steps
+pub mod Offers

@@ -4,7 +4,7 @@ use Rattle.std.specs.Prelude.{nat_lt, option_map, unwrap_or, is_some}
 use Rattle.std.proofs.lemmas.Bool.{or_parts, ltb-false}
 use Rattle.component_file.specs.declared.component.ComponentFields.{ComponentFields}
 use Rattle.component_check.specs.Places.{Test, first_of, first_place}
-use Rattle.component_check.proofs.First.{IsFirstIn, first_below_is}
+use Rattle.component_check.proofs.Offers.{IsFirstIn, first_below_is}
 use Rattle.call_sequence.specs.declared.TheConstants.{SITE_WORDS}
 use Rattle.call_sequence.specs.Standing.{site_difference}
 use Rattle.flow_check.specs.Lists.{site_of, site_is_bad, k1, k2}

@@ -10,7 +10,7 @@ use Rattle.component_check.specs.declared.rule.Broken.{Broken}
 use Rattle.component_check.specs.declared.rule.Group.TheVariants.{K}
 use Rattle.component_check.specs.RuleText.{broken_at}
 use Rattle.component_check.specs.Verdict.{IsFirstBroken, NoneBroken, check_from}
-use Rattle.component_check.proofs.First.{first_broken, is_tried}
+use Rattle.component_check.proofs.Offers.{first_broken, is_tried}
 use Rattle.call_sequence.specs.declared.TheConstants.{SITE_WORDS, ENTRY_WORDS}
 use Rattle.flow_check.specs.declared.judging.Flow.{Flow}
 use Rattle.flow_check.specs.declared.judging.Flow.TheVariants.{Breaks, Flows}

@@ -28,7 +28,7 @@ use Rattle.flow_check.specs.Verdict.{IsKept}
 use Rattle.flow_check.specs.Places.{begins_entry, begins_site}
 use Rattle.flow_check.specs.Walk.{instr_in, instr_at, RowAt}
 use Rattle.flow_check.specs.Local.{Leads}
-use Rattle.flow_check.specs.Holds.{Ranges, stack_cap, code_at, Up, Fits, PcAt, SafeCells, SameOthers}
+use Rattle.flow_check.specs.Holds.{Ranges, part_stack_cap, code_at, Up, HasKinds, PcAt, SafeCells, SameOthers}
 use Rattle.flow_check.proofs.Fitting.{row_fits}
 use Rattle.flow_check.proofs.LocalFacts.{word_flows}
 use Rattle.flow_check.proofs.Kept.{Lands, lands_on, lands_at, crosses, Kept, kept, xjmp_shows, target_in}
@@ -36,7 +36,8 @@ use Rattle.flow_check.proofs.Kept.{Lands, lands_on, lands_at, crosses, Kept, kep
 module _ {W : Type 0} (look : W → Word) (plain : Word → W) (look_plain : (x : Word) → look (plain x) ≡ x)
     (Safe : W → Type 0) (Has Open : ℕ → Type 0) (part : Ranges)
     (safe_int : (w : W) (z : ℤ) → look w ≡ Int z → Safe w)
-    (safe_stk : (w : W) (end : ℕ) (at : ℤ) → look w ≡ Mem (stack_cap part end at) → Up Has part end → Safe w)
+    (safe_stk : (w : W) (end : ℕ) (at : ℤ) → look w ≡ Mem (part_stack_cap part end at) → Up Has part end
+    → Safe w)
     (open_data : (a : ℕ) → part.data_base ≤ a → a ≤ part.data_last → Open a)
     (open_stack : (a : ℕ) → Has a → Open a)
     (c : ComponentFields) (last : part.code_base + length c.code ≡ suc part.code_last)
@@ -58,7 +59,7 @@ module _ {W : Type 0} (look : W → Word) (plain : Word → W) (look_plain : (x 
     pub inside : o < length c.code
     pub at_pc : PcAt look part o s.regs
     pub row : RowAt c o there
-    pub fits : Fits look Safe Has part there s.regs
+    pub fits : HasKinds look Safe Has part there s.regs
 
   -- where a step leads
   pub data Next (s s' : State W) : Type 0 where
@@ -71,7 +72,7 @@ module _ {W : Type 0} (look : W → Word) (plain : Word → W) (look_plain : (x 
         → Next s s'
 
   stands_of : (s' : State W) (o : ℕ) (r : Row) → Leads c o r → PcAt look part o s'.regs
-      → Fits look Safe Has part r s'.regs → StandsAt s' o
+      → HasKinds look Safe Has part r s'.regs → StandsAt s' o
   stands_of s' o r l p f = record {
     there = l.there;
     inside = l.inside;

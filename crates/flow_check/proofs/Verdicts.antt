@@ -5,7 +5,7 @@ use Rattle.component_check.specs.declared.rule.Broken.{Broken}
 use Rattle.component_check.specs.declared.rule.Group.TheVariants.{K}
 use Rattle.component_check.specs.RuleText.{broken_at}
 use Rattle.component_check.specs.Verdict.{check_from, NoneBroken, IsFirstBroken}
-use Rattle.component_check.proofs.First.{first_broken}
+use Rattle.component_check.proofs.Offers.{first_broken}
 use Rattle.flow_check.specs.Lists.{lists}
 use Rattle.flow_check.specs.Verdict.{IsFirstOfFlow, WalksTo}
 

@@ -29,8 +29,8 @@ pub record Ranges : Type 0 where
 abbrev pub data_cap : Ranges → ℤ → CapFields
 data_cap part at = record { perm = Rw; lin = Normal; base = part.data_base; end = part.data_last; addr = at }
 
-abbrev pub stack_cap : Ranges → ℕ → ℤ → CapFields
-stack_cap part end at = record { perm = Rw; lin = Linear; base = part.stack_base; end = end; addr = at }
+abbrev pub part_stack_cap : Ranges → ℕ → ℤ → CapFields
+part_stack_cap part end at = record { perm = Rw; lin = Linear; base = part.stack_base; end = end; addr = at }
 
 abbrev pub code_at : Ranges → ℕ → CapFields
 code_at part o = code_cap part.code_base part.code_last (part.code_base + o)
@@ -46,12 +46,12 @@ HasKind look Safe Has part kind.Any w = Safe w
 HasKind look Safe Has part kind.Int w = (z : ℤ) × (look w ≡ Int z)
 HasKind look Safe Has part kind.DataCap w = (at : ℤ) × (look w ≡ Mem (data_cap part at))
 HasKind look Safe Has part kind.Stk w =
-    (end : ℕ) × (at : ℤ) × (look w ≡ Mem (stack_cap part end at)) × Up Has part end
+    (end : ℕ) × (at : ℤ) × (look w ≡ Mem (part_stack_cap part end at)) × Up Has part end
 HasKind look Safe Has part (kind.Pc o) w = look w ≡ Mem (code_at part o)
 HasKind look Safe Has part kind.Top w = Unit {0}
 
 -- the registers but pc have the kinds of a row
-pub record Fits {W : Type 0} (look : W → Word) (Safe : W → Type 0) (Has : ℕ → Type 0)
+pub record HasKinds {W : Type 0} (look : W → Word) (Safe : W → Type 0) (Has : ℕ → Type 0)
     (part : Ranges) (row : Row) (rs : Regs W) : Type 0 where
   pub long : length row ≡ 15
   pub each : (r : Reg) → is_pc r ≡ false → HasKind look Safe Has part (kind_of row r) (reg rs r)

@@ -6,13 +6,12 @@ use Rattle.std.specs.Str.{bytes_eq}
 use Rattle.std.proofs.lemmas.Bool.{eqb-true, eq-eqb}
 use Rattle.std.proofs.lemmas.Slice.Eq.{bytes_eq-Decides}
 use Rattle.cap_words.specs.Reading.{next_bytes, next_number}
-use Rattle.readers.proofs.Grammar.{All, reads_then, reads_last, reads_done, reads_as, reads_text}
-use Rattle.readers.proofs.Grammar.{reads_learned, reads_tells}
-use Rattle.readers.proofs.Wholes as whole
-use Rattle.cap_words.proofs.ByteReads.{IsBytes, Reads}
-use Rattle.cap_words.proofs.Fields.{number_reads, within_reads}
+use Rattle.readers.proofs.Offers.{All, reads_then, reads_last, reads_done, reads_as, reads_text}
+use Rattle.readers.proofs.Offers.{reads_learned, reads_tells}
+use Rattle.readers.proofs.Offers as whole
+use Rattle.cap_words.proofs.Offers.{IsBytes, Reads, number_reads, within_reads}
 use Rattle.component_file.specs.Spelling.{u16_bytes, list_bytes}
-use Rattle.component_file.proofs.FieldLaws.{four_read}
+use Rattle.component_file.proofs.Offers.{four_read}
 use Rattle.component_linker.specs.declared.TheConstants.{MOST_PARTS}
 use Rattle.component_linker.specs.Parts.{IsPart}
 use Rattle.image_loader.specs.declared.TheConstants.{VERSION}

@@ -1,3 +1,4 @@
 pub mod PartLaws
 pub mod ImageLaws
 pub mod Loaded
+pub mod Offers

@@ -1,7 +1,7 @@
 -- What loading answers, from what reading gives and linking answers.
 use Rattle.std.proofs.Common.{◌≡◌, ◌⊎◌, inl, inr, List, ℕ, Result, Ok, Err, refl, sym, ap, subst, ◌∙◌}
 use Rattle.std.specs.Prelude.{IsOk}
-use Rattle.cap_words.proofs.ByteReads.{IsBytes}
+use Rattle.cap_words.proofs.Offers.{IsBytes}
 use Rattle.readers.specs.Readers.{told_by}
 use Rattle.readers.specs.Answers.{Fails}
 use Rattle.component_linker.specs.declared.fault.LinkFault.{LinkFault}
@@ -15,7 +15,7 @@ use Rattle.image_loader.specs.declared.fault.ImageFault.{ImageFault}
 use Rattle.image_loader.specs.declared.fault.ImageFault.TheVariants.{NoMemory}
 use Rattle.image_loader.specs.declared.reading.Image.{Image}
 use Rattle.image_loader.specs.Fault.{is_refusal, not_linked}
-use Rattle.image_loader.specs.Image.{IsImage, image_bytes, Spells}
+use Rattle.image_loader.specs.Image.{IsImage, image_bytes, SpellsImage}
 use Rattle.image_loader.specs.Reading.{image_of}
 use Rattle.image_loader.specs.Answer.{LinksRead, Loads}
 use Rattle.image_loader.proofs.ImageLaws.{found_whole, read_whole}
@@ -40,7 +40,7 @@ linking_told bytes i r is answers =
 -- ---- what a right answer says
 
 abbrev Found : List ℕ → StartSeen → Type 0
-Found bytes s = (i : Image) × Spells bytes i × Answers i.parts i.stack (Ok s)
+Found bytes s = (i : Image) × SpellsImage bytes i × Answers i.parts i.stack (Ok s)
 
 pub loads_found : (bytes : List ℕ) (s : StartSeen) → IsBytes bytes → Loads bytes (Ok s) → Found bytes s
 loads_found bytes s fits (inr e) = absurd cc
@@ -58,7 +58,7 @@ loads_found bytes s fits (inl h) = by_read (image_of bytes) refl h
     by_read (Err e) is h = absurd cc
 
 pub loads_only : (bytes : List ℕ) (answer : Result StartSeen ImageFault) (i : Image) → Loads bytes answer
-    → Spells bytes i → NoneIsBroken (rules_of_link (placed i.parts i.stack) i.stack)
+    → SpellsImage bytes i → NoneIsBroken (rules_of_link (placed i.parts i.stack) i.stack)
     → IsOk answer ⊎ (answer ≡ Err NoMemory)
 loads_only bytes answer i (inr e) spelled none = inr e
 loads_only bytes answer i (inl h) spelled none =

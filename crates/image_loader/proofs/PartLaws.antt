@@ -5,29 +5,24 @@ use Rattle.std.proofs.Common.{length}
 use Rattle.std.proofs.Common.{Result, Ok, Err, refl, sym, ap, subst, ◌∙◌, arith, length-take}
 use Rattle.std.specs.List.{flat_map, AllByRecursion}
 use Rattle.readers.specs.Readers.{Reader, goes_on, ◌>>=◌, given, told_by, telling}
-use Rattle.readers.proofs.Faults.{told_ok}
-use Rattle.readers.proofs.Grammar.{after, cut_goes_on, All, goes_on_ok, ok_value, given_ok, reads_then}
-use Rattle.readers.proofs.Grammar.{reads_as, reads_telling}
-use Rattle.readers.proofs.Items.{items_read}
+use Rattle.readers.proofs.Offers.{told_ok, after, cut_goes_on, All, goes_on_ok, ok_value, given_ok}
+use Rattle.readers.proofs.Offers.{reads_then, reads_as, reads_telling, items_read}
 use Rattle.cap_words.specs.declared.bytes.cursor.FieldFault.{FieldFault}
 use Rattle.cap_words.specs.declared.bytes.cursor.FieldFault.TheVariants as field_faults
 use Rattle.cap_words.specs.Reading.{Input, next_bytes, next_number}
-use Rattle.cap_words.proofs.ByteReads.{IsBytes, Took, Reads}
-use Rattle.cap_words.proofs.Fields.{bytes_take, bytes_again, bytes_cut, number_reads}
+use Rattle.cap_words.proofs.Offers.{IsBytes, Took, Reads, bytes_take, bytes_again, bytes_cut, number_reads}
 use Rattle.component_file.specs.declared.component.ComponentFields.{ComponentFields}
 use Rattle.component_file.specs.Spelling.{spelling}
 use Rattle.component_file.specs.Reading.{next_flag, decoded}
-use Rattle.component_file.proofs.FieldLaws.{flag_reads}
-use Rattle.component_file.proofs.ComponentLaws.{found_whole, read_whole}
-use Rattle.component_file.proofs.Lengths.{spelling_length}
+use Rattle.component_file.proofs.Offers.{flag_reads, found_whole, read_whole, spelling_length}
 use Rattle.component_linker.specs.Parts.{PartSeen, IsPart, Accepts}
 use Rattle.component_linker.specs.Accepted.{accepted}
-use Rattle.component_linker.proofs.Accepted.{accepts_is, accepted_is}
+use Rattle.component_linker.proofs.Offers.{accepts_is, accepted_is}
 use Rattle.image_loader.specs.declared.fault.ImageFault.{ImageFault}
 use Rattle.image_loader.specs.declared.fault.ImageFault.TheVariants.{Short}
 use Rattle.image_loader.specs.Fault.{in_image, in_part, broken_in}
 use Rattle.image_loader.specs.Image.{part_bytes}
-use Rattle.image_loader.specs.Reading.{field, kept_by, part_of, next_part, next_parts}
+use Rattle.image_loader.specs.Reading.{field, kept_by, part_in_bytes, next_part, next_parts}
 
 -- ---- fields of the image
 
@@ -42,8 +37,9 @@ accepted_ok : (q p : PartSeen) → accepted q ≡ Ok p → Accepts q (Ok p)
 accepted_ok q p e = subst (Accepts q) e (accepted_is q)
 
 part_of_ok : (index : ℕ) (trusted : Bool) (bytes : List ℕ) (p : PartSeen) → IsBytes bytes
-    → part_of index trusted bytes ≡ Ok p → IsPart p × (p.trusted ≡ trusted) × (bytes ≡ spelling p.component)
-unfolding part_of
+    → part_in_bytes index trusted bytes ≡ Ok p → IsPart p × (p.trusted ≡ trusted) ×
+    (bytes ≡ spelling p.component)
+unfolding part_in_bytes
 part_of_ok index trusted bytes p fits e = by_form (told_by (in_part index) (decoded bytes)) refl e
   where
     by_form : (r : Result ComponentFields ImageFault) → told_by (in_part index) (decoded bytes) ≡ r
@@ -57,8 +53,9 @@ part_of_ok index trusted bytes p fits e = by_form (told_by (in_part index) (deco
         subst (λ (p : PartSeen). IsPart p × (p.trusted ≡ trusted) × (bytes ≡ spelling p.component)) (sym a.0)
         (part, refl, f.1)
 
-is_part_of : (index : ℕ) (p : PartSeen) → IsPart p → part_of index p.trusted (spelling p.component) ≡ Ok p
-unfolding part_of
+is_part_of : (index : ℕ) (p : PartSeen) → IsPart p → part_in_bytes index p.trusted (spelling p.component)
+    ≡ Ok p
+unfolding part_in_bytes
 is_part_of index p part =
     ap (λ r. kept_by index p.trusted (told_by (in_part index) r)) (read_whole p.component part.limits)
     ∙ ap (told_by (broken_in index)) (sym (accepts_is p (Ok p) (refl, part.rules, part.flow)))
@@ -68,13 +65,14 @@ is_part_of index p part =
 component_reads : (index : ℕ) (trusted : Bool) (len : ℕ)
     → Reads Short (λ (p : PartSeen). (All p × (p.trusted ≡ trusted)) × (length (spelling p.component) ≡ len))
     IsPart (λ p. spelling p.component)
-    (field (next_bytes len) >>= λ bytes. given (part_of index trusted bytes))
+    (field (next_bytes len) >>= λ bytes. given (part_in_bytes index trusted bytes))
 unfolding telling
 component_reads index trusted len = record {
   takes = λ i p j bytes e.
-      let x = goes_on_ok (field (next_bytes len) i) (λ text. given (part_of index trusted text)) (p, j) e in
+      let x = goes_on_ok (field (next_bytes len) i) (λ text. given (part_in_bytes index trusted text))
+      (p, j) e in
       let t = bytes_take len i x.0.0 x.0.1 bytes (told_ok in_image (next_bytes len i) x.0 x.1) in
-      let v = given_ok (part_of index trusted x.0.0) x.0.1 j p x.2 in
+      let v = given_ok (part_in_bytes index trusted x.0.0) x.0.1 j p x.2 in
       let g = part_of_ok index trusted x.0.0 p t.1 v.0 in (
         ((tt, g.1), ap length (sym g.2) ∙ t.0),
         g.0,
@@ -82,14 +80,14 @@ component_reads index trusted len = record {
             (subst (λ k. Took i x.0.0 k) v.1 t.2),
       );
   again = λ p at rest k part.
-      let read : part_of index trusted (spelling p.component) ≡ Ok p =
-      subst (λ t. part_of index t (spelling p.component) ≡ Ok p) k.0.1 (is_part_of index p part) in
-      ap (λ r. goes_on (told_by in_image r) (λ text. given (part_of index trusted text)))
+      let read : part_in_bytes index trusted (spelling p.component) ≡ Ok p =
+      subst (λ t. part_in_bytes index t (spelling p.component) ≡ Ok p) k.0.1 (is_part_of index p part) in
+      ap (λ r. goes_on (told_by in_image r) (λ text. given (part_in_bytes index trusted text)))
       (bytes_again len (spelling p.component) at rest k.1)
       ∙ ap (λ r. given r (after at (spelling p.component) rest)) read;
   cut = λ p at n k part lt.
       let c = bytes_cut (spelling p.component) at n k.1 (omega (arith, lt, k.1)) in
-      cut_goes_on (λ text. given (part_of index trusted text))
+      cut_goes_on (λ text. given (part_in_bytes index trusted text))
       (record { inside = c.inside; within = c.within; is = ap (told_by in_image) c.is });
 }
 

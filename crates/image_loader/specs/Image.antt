@@ -32,5 +32,5 @@ unfoldable pub image_bytes : Image → List ℕ
 image_bytes i = magic ++ (u16_bytes VERSION ++ (u32_bytes i.stack ++ list_bytes 2 part_bytes i.parts))
 
 -- the bytes are the spelling of the image
-abbrev pub Spells : List ℕ → Image → Type 0
-Spells bytes i = IsImage i × (bytes ≡ image_bytes i)
+abbrev pub SpellsImage : List ℕ → Image → Type 0
+SpellsImage bytes i = IsImage i × (bytes ≡ image_bytes i)

@@ -45,15 +45,15 @@ kept_by index trusted (Ok c) = told_by (broken_in index)
 kept_by index trusted (Err e) = Err e
 
 -- the part that these bytes are: first their form, then the rules
-unfoldable pub part_of : ℕ → Bool → List ℕ → Result PartSeen ImageFault
-part_of index trusted bytes = kept_by index trusted (told_by (in_part index) (decoded bytes))
+unfoldable pub part_in_bytes : ℕ → Bool → List ℕ → Result PartSeen ImageFault
+part_in_bytes index trusted bytes = kept_by index trusted (told_by (in_part index) (decoded bytes))
 
 unfoldable pub next_part : ℕ → Reader Input ImageFault PartSeen
 next_part index = do
   trusted ← field next_flag
   len ← field (next_number 4)
   bytes ← field (next_bytes len)
-  given (part_of index trusted bytes)
+  given (part_in_bytes index trusted bytes)
 
 -- so many parts one after another, the first of them with this index
 abbrev pub next_parts : ℕ → ℕ → Reader Input ImageFault (List PartSeen)

@@ -6,14 +6,14 @@ ghost use Rattle.image_loader.specs.declared.fault.ImageFault.{ImageFault};
 ghost use Rattle.image_loader.specs.declared.fault.ImageFault.TheVariants.{Short, Trailing};
 ghost use Rattle.image_loader.specs.declared.fault.ImageFault.TheVariants.{NoMemory};
 ghost use Rattle.image_loader.specs.declared.reading.Image.{Image};
-ghost use Rattle.image_loader.specs.Image.{IsImage, image_bytes, Spells};
+ghost use Rattle.image_loader.specs.Image.{IsImage, image_bytes, SpellsImage};
 ghost use Rattle.image_loader.specs.Reading.{image_of};
 ghost use Rattle.image_loader.specs.Answer.{LinksRead, Loads};
 
 /// An image has one spelling, a spelling is of one image, and no spelling begins another.
 pub fn one_spelling()
     ensures { (i j : Image) (a b x y : List ℕ) →
-        Spells a i → Spells b j → a ++ x ≡ b ++ y → (i ≡ j) × (a ≡ b) × (x ≡ y) }
+        SpellsImage a i → SpellsImage b j → a ++ x ≡ b ++ y → (i ≡ j) × (a ≡ b) × (x ≡ y) }
 {}
 
 /// The spelling of an image is read as that image.

@@ -6,7 +6,7 @@ ghost use Rattle.component_linker.specs.Links.{rules_of_link};
 ghost use Rattle.component_linker.specs.Answer.{Answers};
 ghost use Rattle.image_loader.specs.declared.fault.ImageFault.TheVariants.{NoMemory};
 ghost use Rattle.image_loader.specs.declared.reading.Image.{Image};
-ghost use Rattle.image_loader.specs.Image.{Spells};
+ghost use Rattle.image_loader.specs.Image.{SpellsImage};
 ghost use Rattle.image_loader.specs.Answer.{Loads};
 
 use crate::fault::ImageFault;
@@ -28,9 +28,9 @@ pub fn load_image(alloc: Global, bytes: &[u8]) -> Result<Start, ImageFault>
     requires { length bytes.now < 2 ^ 32 }
     // What is loaded is an image, and what linking answers of its parts.
     ensures found { IfOk result (λ s.
-        (i : Image) × Spells bytes.now i × Answers i.parts i.stack (Ok s)) }
+        (i : Image) × SpellsImage bytes.now i × Answers i.parts i.stack (Ok s)) }
     // An image whose parts keep the rules L is loaded, unless memory is refused.
-    ensures only { (i : Image) → Spells bytes.now i →
+    ensures only { (i : Image) → SpellsImage bytes.now i →
         NoneIsBroken (rules_of_link (placed i.parts i.stack) i.stack) →
         IsOk result ⊎ (result ≡ Err NoMemory) }
     // Which fault it is.

@@ -5,7 +5,7 @@ ghost use Rattle.readers.specs.Readers.{told_by};
 ghost use Rattle.component_file.specs.Reading.{next_flag, decoded};
 ghost use Rattle.component_linker.specs.Accepted.{accepted};
 ghost use Rattle.image_loader.specs.Fault.{in_part, broken_in, is_refusal};
-ghost use Rattle.image_loader.specs.Reading.{next_header, next_count, part_of, next_part};
+ghost use Rattle.image_loader.specs.Reading.{next_header, next_count, part_in_bytes, next_part};
 ghost use Rattle.image_loader.specs.Reading.{next_parts, next_image, image_of};
 
 use crate::VERSION;
@@ -91,10 +91,10 @@ fn part_by_rules(component: Component, index: u32, trusted: bool) -> Result<Part
     }
 }
 
-#[tactic(auto, unfolding(crate::specs::Reading::part_of))]
+#[tactic(auto, unfolding(crate::specs::Reading::part_in_bytes))]
 fn part_of(alloc: Global, index: u32, trusted: bool, bytes: &[u8]) -> Result<Part, ImageFault>
     requires { length bytes.now < 2 ^ 32 }
-    ensures { AnswersUnlessRefused is_refusal result (part_of index trusted bytes.now) }
+    ensures { AnswersUnlessRefused is_refusal result (part_in_bytes index trusted bytes.now) }
 {
     let component = component(alloc, index, bytes)?;
     part_by_rules(component, index, trusted)

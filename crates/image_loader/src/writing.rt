@@ -2,7 +2,7 @@
 ghost use Rattle.std.specs.Prelude.{◌≡◌, ◌≤◌, ◌++◌, length, OnOk, IfOk};
 ghost use Rattle.std.specs.List.{flat_map, AllByRecursion};
 ghost use Rattle.component_linker.specs.Parts.{IsPart};
-ghost use Rattle.image_loader.specs.Image.{part_bytes, Spells};
+ghost use Rattle.image_loader.specs.Image.{part_bytes, SpellsImage};
 
 use crate::VERSION;
 use cap_words::{push_u16, push_u32};
@@ -39,7 +39,7 @@ fn push_parts(alloc: Global, out: &mut Vec<u8>, parts: &[Part]) -> Result<(), Al
 pub fn write_image(alloc: Global, parts: &[Part], stack: u32) -> Result<Vec<u8>, AllocError>
     requires some { 1 ≤ length parts.now }
     requires few { length parts.now ≤ MOST_PARTS }
-    ensures { IfOk result (λ v. Spells v.items (record { stack = stack; parts = parts.now })) }
+    ensures { IfOk result (λ v. SpellsImage v.items (record { stack = stack; parts = parts.now })) }
 {
     let mut out = Vec::new(alloc);
     out.extend_from_slice(b"STKI")?;

@@ -7,7 +7,7 @@ use Rattle.command_words.specs.declared.command.Command.{Command}
 use Rattle.command_words.specs.declared.command.Command.TheVariants as asked
 use Rattle.run_audit.specs.declared.fault.AuditFault.{AuditFault}
 use Rattle.run_audit.specs.Audit.{audited}
-use Rattle.run_audit.proofs.Found.{answered_trace, answered_fault}
+use Rattle.run_audit.proofs.Offers.{answered_trace, answered_fault}
 use Rattle.file_plans.specs.declared.TheConstants.{LONGEST_FILE}
 use Rattle.file_plans.specs.declared.refusal.Refusal.{Refusal}
 use Rattle.file_plans.specs.declared.refusal.Refusal.TheVariants as refusal
@@ -16,7 +16,7 @@ use Rattle.lcm_cli.specs.declared.status.Status.{Status}
 use Rattle.lcm_cli.specs.declared.status.Status.TheVariants as status
 use Rattle.lcm_cli.specs.Audits.{audit_at}
 use Rattle.lcm_cli.specs.Commands.{Task, Write, ok_text, plan_of, plan_in}
-use Rattle.lcm_cli.specs.Answers.{Answer, Outside, with_files, writes, refused, IsAnswerOf, GivesWhole}
+use Rattle.lcm_cli.specs.Answers.{Answer, Outside, with_files, writes, refused, IsAnswerOf, AnswersWhole}
 use Rattle.lcm_cli.specs.Answers.{whole, unput, unwritten, Answers, answer, nothing}
 use Rattle.lcm_cli.specs.Causes.{AuditTold}
 use Rattle.lcm_cli.proofs.Ends.{Never, never_reads, never_unless}
@@ -77,13 +77,13 @@ status_of a = a.status
 
 -- the answer to what is due is given whole
 module _ (name : List ℕ) (old : Outside) (ended : Status) (new : Outside) (a : Answer) (seen : FilesSeen)
-    (g : GivesWhole (with_files old seen) a ended new) where
+    (g : AnswersWhole (with_files old seen) a ended new) where
   -- no other status is that of this answer
   other : {T : Type 0} (b : Answer) (s : Status) → a ≡ b → b.status ≢ s → ended ≡ s → T
   other b s e differ is = absurd (differ (ap status_of (sym e) ∙ sym g.status_is ∙ is))
 
-  given : (b : Answer) → a ≡ b → GivesWhole (with_files old seen) b ended new
-  given b e = subst (λ x. GivesWhole (with_files old seen) x ended new) e g
+  given : (b : Answer) → a ≡ b → AnswersWhole (with_files old seen) b ended new
+  given b e = subst (λ x. AnswersWhole (with_files old seen) x ended new) e g
 
   told_by : (due : Result Task Refusal) → AuditDue name old.files due seen → IsAnswerOf due a
       → AuditTold name old ended new

@@ -41,14 +41,16 @@ use Rattle.source_events.specs.declared.End.{End}
 use Rattle.source_events.specs.declared.End.TheVariants as end
 use Rattle.meaning_tool.specs.Subjects.{Subject, told_of}
 use Rattle.lcm_cli.specs.Commands.{Telling, Task, Run, Trace, Reach, Debug, Put, Write, Tell, plan_in}
-use Rattle.lcm_cli.specs.Answers.{Answer, Outside, end_status, meaning_status, writes, ran, traced, tells}
+use Rattle.lcm_cli.specs.Answers.{Answer, Outside, end_status, meaning_status, writes, ran, ran_overlay}
+use Rattle.lcm_cli.specs.Answers.{tells}
 use Rattle.lcm_cli.specs.Answers.{refused, IsAnswerOf, IsPut}
 use Rattle.lcm_cli.specs.Answers.{whole, unput, unwritten, Answers, answer, nothing}
 use Rattle.lcm_cli.specs.Causes.{IsTurn, IsUnread, IsLong, IsUndecoded, IsUncompiled, IsUnassembled}
 use Rattle.lcm_cli.specs.Causes.{IsUnloaded, IsUnscripted, IsUnaudited, IsUnmade, Breaks}
 use Rattle.debug_tool.specs.Replies.{debug_text}
-use Rattle.lcm_cli.specs.Causes.{Runs}
-use Rattle.lcm_cli.specs.Causes.{Traces, Means, IsAtRest, PutsFile, Tells, out_of, Wrote, IsUnfed, Causes}
+use Rattle.lcm_cli.specs.Causes.{RanTo}
+use Rattle.lcm_cli.specs.Causes.{TracedTo, MeantTo, IsAtRest, PutsFile, Tells, out_name, Wrote, IsUnfed}
+use Rattle.lcm_cli.specs.Causes.{Causes}
 use Rattle.lcm_cli.specs.Causes.{Promised}
 use Rattle.lcm_cli.proofs.Why.{WhyIs, why_is}
 use Rattle.lcm_cli.proofs.Put.{put_of}
@@ -94,23 +96,24 @@ writes_none limit o = traced_none limit (limit + 1) o
 
 abbrev Caused : Option Command → Outside → Outside → Status → Type 0
 Caused asked old new status.Done =
-    Runs asked old.files new.files (λ step. step ≡ Halted)
-    ⊎ (Traces asked old.files new.files run_end.Halted
+    RanTo asked old.files new.files (λ step. step ≡ Halted)
+    ⊎ (TracedTo asked old.files new.files run_end.Halted
     ⊎ (PutsFile asked old.files new.files
-    ⊎ (Tells asked old.files new.files ⊎ Means asked old.files new.files IsAtRest)))
+    ⊎ (Tells asked old.files new.files ⊎ MeantTo asked old.files new.files IsAtRest)))
 Caused asked old new status.MachineFailed =
-    Runs asked old.files new.files (λ step. (cause : FailCause) × (at : ℤ) × (step ≡ Failed cause at))
-    ⊎ (Traces asked old.files new.files run_end.Failed ⊎ Means asked old.files new.files (λ e. e ≡ end.Fail))
+    RanTo asked old.files new.files (λ step. (cause : FailCause) × (at : ℤ) × (step ≡ Failed cause at))
+    ⊎ (TracedTo asked old.files new.files run_end.Failed ⊎ MeantTo asked old.files new.files
+    (λ e. e ≡ end.Fail))
 Caused asked old new status.StepsUsed =
-    Runs asked old.files new.files (λ step. step ≡ Went)
-    ⊎ (Traces asked old.files new.files run_end.Running
-    ⊎ Means asked old.files new.files (λ e. e ≡ end.OutOfFuel))
+    RanTo asked old.files new.files (λ step. step ≡ Went)
+    ⊎ (TracedTo asked old.files new.files run_end.Running
+    ⊎ MeantTo asked old.files new.files (λ e. e ≡ end.OutOfFuel))
 Caused asked old new status.Usage = asked ≡ None
 Caused asked old new status.ReadFault =
     Rose old.files.failed_reads new.files.failed_reads × IsUnread (plan_in asked) old.files new.files
 Caused asked old new status.WriteFault =
     Rose old.sink.faults new.sink.faults
-    ⊎ (Rose old.files.failed_puts new.files.failed_puts × (out_of asked ≡ Some new.files.last_failed_put))
+    ⊎ (Rose old.files.failed_puts new.files.failed_puts × (out_name asked ≡ Some new.files.last_failed_put))
 Caused asked old new status.NoMemory =
     OnlyGave old.files new.files × (new.sink ≡ old.sink) × (new.kept ≡ old.kept)
 Caused asked old new status.TooLong =
@@ -209,7 +212,7 @@ due_caused asked fits old new seen (Ok (Run i steps telling)) a c x p w =
     subst (λ (b : Answer). Caused asked old new b.status) (sym x.2)
     (run_caused asked old new i steps telling (rw n c) x.0 x.1 (last_step (plain steps x.0.state)) refl)
 due_caused asked fits old new seen (Ok (Trace i steps)) a c x p w =
-    let n : new.files ≡ seen = unput_seen seen new.files a (traced x.1 steps) x.4 refl p in
+    let n : new.files ≡ seen = unput_seen seen new.files a (ran_overlay x.1 steps) x.4 refl p in
     subst (λ (b : Answer). Caused asked old new b.status) (sym x.4)
     (trace_caused asked old new i steps (rw n c) x.0 x.1 x.2 x.3 (trace_of steps x.1).end refl)
 due_caused asked fits old new seen (Ok (Put name d)) a c x p w =

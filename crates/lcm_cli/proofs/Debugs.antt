@@ -13,8 +13,7 @@ use Rattle.component_linker.specs.declared.fault.RuleAt.{RuleAt}
 use Rattle.component_linker.specs.Parts.{PartSeen}
 use Rattle.component_linker.specs.Standing.{free_of, placed}
 use Rattle.component_linker.specs.Started.{StartSeen}
-use Rattle.component_linker.proofs.LinksKept.{are_linked}
-use Rattle.component_linker.proofs.Settling.{as_many}
+use Rattle.component_linker.proofs.Offers.{are_linked, as_many}
 use Rattle.debug_script.specs.declared.command.Command.{Command as Line}
 use Rattle.debug_script.specs.declared.fault.ScriptFault.{ScriptFault}
 use Rattle.debug_script.specs.Script.{scripted}
@@ -25,7 +24,7 @@ use Rattle.file_plans.specs.declared.refusal.Refusal.{Refusal}
 use Rattle.file_plans.specs.declared.refusal.Refusal.TheVariants as refusal
 use Rattle.file_plans.specs.declared.refusal.Stop.{Stop}
 use Rattle.file_plans.specs.Plans.{Plan, Made, ◌>>=◌, unless, whole, too_long, unread, Comes, Follows}
-use Rattle.file_plans.proofs.Follow.{comes_bind, comes_made, follows_bind, follows_end}
+use Rattle.file_plans.proofs.Offers.{comes_bind, comes_made, follows_bind, follows_end}
 use Rattle.component_linker.specs.LinkedStarts.{IsStartOf}
 use Rattle.lcm_cli.specs.declared.job.Job.TheVariants as job
 use Rattle.lcm_cli.specs.Jobs.{FollowsTask}

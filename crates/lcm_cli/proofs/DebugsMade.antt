@@ -13,7 +13,7 @@ use Rattle.file_plans.specs.Plans.{Comes}
 use Rattle.lcm_cli.specs.declared.status.Status.{Status}
 use Rattle.lcm_cli.specs.declared.status.Status.TheVariants as status
 use Rattle.lcm_cli.specs.Commands.{Task, Debug, plan_in, debug_plan}
-use Rattle.lcm_cli.specs.Answers.{Answer, Outside, with_files, writes, IsAnswerOf, GivesWhole, Answers}
+use Rattle.lcm_cli.specs.Answers.{Answer, Outside, with_files, writes, IsAnswerOf, AnswersWhole, Answers}
 use Rattle.lcm_cli.specs.Causes.{IsRunStatus, DebugGiven}
 use Rattle.lcm_cli.proofs.Debugs.{DebugCame, debug_came}
 use Rattle.lcm_cli.proofs.RunsMade.{StartLaws, started, refused_none, whole_run}
@@ -21,11 +21,12 @@ use Rattle.lcm_cli.proofs.RunsMade.{StartLaws, started, refused_none, whole_run}
 module _ (all : StartLaws) (remember : CommandsRemember) (l : Linked) (script : List ℕ) (old : Outside)
     (ended : Status) (new : Outside) where
   given_debug : (seen : FilesSeen) (t : Task) (a : Answer) (c : DebugCame l script old.files t seen)
-      → IsAnswerOf (Ok (Debug c.image c.lines)) a → GivesWhole (with_files old seen) a ended new
+      → IsAnswerOf (Ok (Debug c.image c.lines)) a → AnswersWhole (with_files old seen) a ended new
       → DebugGiven l script old ended new
   given_debug seen t a c x g =
-      let h : GivesWhole (with_files old seen) (writes status.Done (debug_text x.0.state c.lines)) ended new =
-      subst (λ b. GivesWhole (with_files old seen) b ended new) x.2 g in
+      let h : AnswersWhole (with_files old seen)
+      (writes status.Done (debug_text x.0.state c.lines)) ended new =
+      subst (λ b. AnswersWhole (with_files old seen) b ended new) x.2 g in
       let p : new.files ≡ seen = h.put in
       record {
         mid = c.mid;
@@ -42,7 +43,7 @@ module _ (all : StartLaws) (remember : CommandsRemember) (l : Linked) (script : 
 
   given_due : (seen : FilesSeen) (due : Result Task Refusal) (a : Answer)
       → Comes (debug_plan l script) old.files due seen → IsAnswerOf due a
-      → GivesWhole (with_files old seen) a ended new → IsRunStatus ended → DebugGiven l script old ended new
+      → AnswersWhole (with_files old seen) a ended new → IsRunStatus ended → DebugGiven l script old ended new
   given_due seen (Err why) a c x g r = absurd (refused_none why a ended x g.status_is r)
   given_due seen (Ok t) a c x g r =
       let m = debug_came l script old.files t seen c in

@@ -15,7 +15,7 @@ use Rattle.file_plans.specs.declared.refusal.Refusal.{Refusal}
 use Rattle.file_plans.specs.declared.refusal.Refusal.TheVariants as refusal
 use Rattle.file_plans.specs.Plans.{Plan, Reads, Ends, Made, ◌>>=◌, unless, each_at, whole, too_long, unread}
 use Rattle.file_plans.specs.Plans.{Comes}
-use Rattle.command_words.specs.Part.{is_trusted}
+use Rattle.command_words.specs.Part.{is_trusted_mark}
 use Rattle.lcm_cli.specs.Parts.{broken_in, linked, loaded, form_by, component_at, part_at}
 use Rattle.proc_sources.specs.Sources.{sourced}
 use Rattle.lcm_cli.specs.Commands.{linked_parts, linked_image}
@@ -116,13 +116,14 @@ never_component why h index w = never_form why h w.ending w.name index
 
 abbrev part_by : ℕ → PartWord → ComponentFields → Plan PartSeen
 part_by index w c = unless (broken_in index) (accepted
-    (record { component = c; trusted = is_trusted w.mark }))
+    (record { component = c; trusted = is_trusted_mark w.mark }))
 
 pub never_part : (why : Refusal) → Foreign why → (index : ℕ) (w : PartWord) → Never (part_at index w) why
 unfolding part_at
 never_part why h index w =
     never_bind (component_at index w) (part_by index w) why (never_component why h index w)
-    (λ c. never_unless (broken_in index) (accepted (record { component = c; trusted = is_trusted w.mark }))
+    (λ c. never_unless (broken_in index)
+    (accepted (record { component = c; trusted = is_trusted_mark w.mark }))
     why
     (λ b. foreign (broken_in index b) why h))
 

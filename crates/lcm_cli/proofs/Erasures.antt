@@ -32,7 +32,7 @@ use Rattle.file_plans.specs.Plans.{Plan, unless, each_at}
 use Rattle.meaning_tool.specs.Subjects.{Subject, language_of, module_at, feed_at, unfed, subject_of}
 use Rattle.meaning_tool.specs.Subjects.{subject_in}
 use Rattle.meaning_tool.specs.Subjects.{told_of}
-use Rattle.command_words.specs.Part.{is_trusted}
+use Rattle.command_words.specs.Part.{is_trusted_mark}
 use Rattle.lcm_cli.specs.Parts.{broken_in, linked, form_by, component_at, part_at}
 use Rattle.lcm_cli.specs.Debugs.{unscripted, script_at}
 use Rattle.lcm_cli.specs.Commands.{Task, Tell, Debug, linked_parts, link_task, component_task}
@@ -131,7 +131,7 @@ module _ (laws : AlikeLaws) (held there : Held) where
   part_agrees index w v b =
       agree_bind held there (λ x y. x ≡ y) (λ x y. x ≡ y) (component_at index w) (component_at index v) _ _
       (component_agrees index w v b) (λ c d e.
-      let a : PartSeen = record { component = c; trusted = is_trusted w.mark } in
+      let a : PartSeen = record { component = c; trusted = is_trusted_mark w.mark } in
       let q = marks w v b in
       rw (sym e, q) (agree_unless (broken_in index) (accepted a)))
 

@@ -11,7 +11,7 @@ use Rattle.component_linker.specs.Pairs.{PairTest, rule_of, IsFirstIn, IsFirstBr
 use Rattle.component_linker.specs.Links.{rules_of_link, rule_at}
 use Rattle.component_linker.specs.Standing.{placed}
 use Rattle.component_linker.specs.Parts.{PartSeen}
-use Rattle.component_linker.proofs.FirstIn.{first_broken_in}
+use Rattle.component_linker.proofs.Offers.{first_broken_in}
 use Rattle.lcm_cli.specs.Parts.{linked}
 
 order : (p q : ℕ) → (p ≡ q) ⊎ ((p < q) ⊎ (q < p))

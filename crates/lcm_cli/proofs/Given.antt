@@ -13,8 +13,9 @@ use Rattle.debug_tool.specs.Replies.{debug_text}
 use Rattle.lcm_cli.specs.Jobs.{IsTextOf, Does, FollowsTask}
 use Rattle.lcm_cli.specs.Answers.{Outside, unwritten, Answers, answer, nothing}
 use Rattle.lcm_cli.specs.Answers.{GivesOrNothing}
-use Rattle.file_plans.proofs.Follow.{only_again, comes_quiet}
-use Rattle.lcm_cli.specs.Answers.{with_files, writes, meaning_status, said, puts, ran, traced, IsAnswerOf}
+use Rattle.file_plans.proofs.Offers.{only_again, comes_quiet}
+use Rattle.lcm_cli.specs.Answers.{with_files, writes, meaning_status, says_ok, puts, ran, ran_overlay}
+use Rattle.lcm_cli.specs.Answers.{IsAnswerOf}
 use Rattle.lcm_cli.specs.Answers.{job_answer}
 use Rattle.lcm_cli.specs.Answers.{IsReady}
 
@@ -33,13 +34,13 @@ does_answers t (job.Run start steps) d =
 does_answers t (job.Generate start load) d =
     subst (λ u. IsAnswerOf (Ok u) (ran start load_steps (Totals load))) (sym d.1) (start, d.2, refl)
 does_answers t (job.Trace start overlay steps) d =
-    subst (λ u. IsAnswerOf (Ok u) (traced overlay steps)) (sym d.1) (start, overlay, d.2, d.3, refl)
+    subst (λ u. IsAnswerOf (Ok u) (ran_overlay overlay steps)) (sym d.1) (start, overlay, d.2, d.3, refl)
 does_answers t (job.Debug start script) d =
     subst (λ u. IsAnswerOf (Ok u) (writes Done (debug_text start.state script))) (sym d.1) (start, d.2, refl)
 does_answers t (job.Put out bytes) d =
     subst (λ u. IsAnswerOf (Ok u) (puts out bytes)) (sym d.1) (d.2, ap (puts out) d.3)
 does_answers t (job.Write text) d = text_answers t text d
-does_answers t job.Say d = subst (λ u. IsAnswerOf (Ok u) said) (sym d) refl
+does_answers t job.Say d = subst (λ u. IsAnswerOf (Ok u) says_ok) (sym d) refl
 does_answers t (job.Tell meant) d =
     subst (λ u. IsAnswerOf (Ok u) (writes (meaning_status meant.end) meant.text)) (sym d.2)
     (rw (d.3.end, d.3.text) refl)

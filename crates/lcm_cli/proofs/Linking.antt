@@ -9,16 +9,16 @@ use Rattle.component_linker.specs.declared.fault.LinkFault.TheVariants as link_f
 use Rattle.component_linker.specs.Answer.{Answers}
 use Rattle.component_linker.specs.Parts.{PartSeen}
 use Rattle.component_linker.specs.Started.{StartSeen}
-use Rattle.component_linker.proofs.DropFirst.{keeps_all}
+use Rattle.component_linker.proofs.Offers.{keeps_all}
 use Rattle.component_linker.specs.Standing.{placed}
 use Rattle.image_loader.specs.declared.fault.ImageFault.{ImageFault}
 use Rattle.image_loader.specs.declared.fault.ImageFault.TheVariants as image
 use Rattle.image_loader.specs.Fault.{not_linked}
-use Rattle.image_loader.specs.Image.{ImageSeen, IsImage, image_bytes, Spells}
+use Rattle.image_loader.specs.Image.{ImageSeen, IsImage, image_bytes, SpellsImage}
 use Rattle.readers.specs.Readers.{told_by}
 use Rattle.image_loader.specs.Reading.{image_of}
 use Rattle.image_loader.specs.Answer.{LinksRead, Loads}
-use Rattle.image_loader.proofs.ImageLaws.{read_whole}
+use Rattle.image_loader.proofs.Offers.{read_whole}
 use Rattle.file_plans.specs.declared.refusal.Refusal.TheVariants as refusal
 use Rattle.file_plans.specs.declared.refusal.Stop.{Stop}
 use Rattle.file_plans.specs.declared.refusal.Stop.TheVariants.{Refused}
@@ -26,8 +26,8 @@ use Rattle.file_plans.specs.Plans.{unless, Made, ◌>>=◌, Comes, Follows, Meet
 use Rattle.lcm_cli.specs.Parts.{linked, linked_as, loaded_by, loaded, part_at}
 use Rattle.lcm_cli.specs.Commands.{linked_parts}
 use Rattle.lcm_cli.specs.Jobs.{MeetsStart}
-use Rattle.file_plans.proofs.Follow.{comes_bind, follows_bind, follows_end, meets_follows, unless_made}
-use Rattle.file_plans.proofs.Follow.{unless_ended}
+use Rattle.file_plans.proofs.Offers.{comes_bind, follows_bind, follows_end, meets_follows, unless_made}
+use Rattle.file_plans.proofs.Offers.{unless_ended}
 use Rattle.lcm_cli.proofs.FirstOf.{linked_none, linked_first}
 
 abbrev pub image_with : ℕ → List PartSeen → ImageSeen
@@ -94,7 +94,7 @@ unfolding loaded
 loaded_again i fits keep = ap loaded_by (read_whole i fits) ∙ ap (linked_as i) keep
 
 -- bytes that spell an image whose parts link are loaded as it
-pub loaded_is : (bytes : List ℕ) (i : ImageSeen) (s : StartSeen) → Spells bytes i
+pub loaded_is : (bytes : List ℕ) (i : ImageSeen) (s : StartSeen) → SpellsImage bytes i
     → Answers i.parts i.stack (Ok s) → loaded bytes ≡ Ok i
 loaded_is bytes i s spelled l =
     ap loaded spelled.1 ∙ loaded_again i spelled.0
@@ -102,7 +102,7 @@ loaded_is bytes i s spelled l =
 
 -- the start that was loaded is that of the image
 pub loaded_starts : (bytes : List ℕ) (s : StartSeen)
-    → ((i : ImageSeen) × Spells bytes i × Answers i.parts i.stack (Ok s))
+    → ((i : ImageSeen) × SpellsImage bytes i × Answers i.parts i.stack (Ok s))
     → MeetsStart (unless refusal.Image (loaded bytes)) (Ok s)
 loaded_starts bytes s (i, spelled, l) = (
   i,

@@ -23,7 +23,7 @@ use Rattle.lcm_cli.specs.Loads.{load_module, load_other, load_parts, load_image}
 use Rattle.lcm_cli.specs.Jobs.{without, MeetsStart, FollowsTask}
 use Rattle.lcm_cli.specs.Commands.{Task, Run, Totals, for_task}
 use Rattle.lcm_cli.specs.declared.job.Job.TheVariants as job
-use Rattle.file_plans.proofs.Follow.{comes_same}
+use Rattle.file_plans.proofs.Offers.{comes_same}
 use Rattle.lcm_cli.proofs.Tasks.{task_done}
 use Rattle.lcm_cli.proofs.Ends.{Never, same_err, not_made, never_unless, never_bind}
 use Rattle.lcm_cli.proofs.Linking.{image_with}

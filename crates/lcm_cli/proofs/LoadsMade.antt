@@ -12,7 +12,7 @@ use Rattle.file_plans.specs.Plans.{Comes}
 use Rattle.lcm_cli.specs.declared.status.Status.{Status}
 use Rattle.lcm_cli.specs.Loads.{load_image}
 use Rattle.lcm_cli.specs.Commands.{Task, Totals, for_task, plan_in}
-use Rattle.lcm_cli.specs.Answers.{Answer, Outside, with_files, ran, IsAnswerOf, GivesWhole, Answers}
+use Rattle.lcm_cli.specs.Answers.{Answer, Outside, with_files, ran, IsAnswerOf, AnswersWhole, Answers}
 use Rattle.lcm_cli.specs.Causes.{IsRunStatus, LoadGiven}
 use Rattle.lcm_cli.proofs.Loads.{task_of, load_made, comes_stays}
 use Rattle.lcm_cli.proofs.Tasks.{made_of}
@@ -22,10 +22,10 @@ module _ (all : StartLaws) (seed : ℕ) (old : Outside) (ended : Status) (new : 
   given_load : (seen : FilesSeen) (i : ImageSeen) (a : Answer)
       → Comes (load_image (load_of seed)) old.files (Ok i) seen
       → IsAnswerOf (Ok (task_of seed i)) a
-      → GivesWhole (with_files old seen) a ended new → LoadGiven seed old ended new
+      → AnswersWhole (with_files old seen) a ended new → LoadGiven seed old ended new
   given_load seen i a c x g =
-      let h : GivesWhole (with_files old seen) (ran x.0 load_steps (Totals (load_of seed))) ended new =
-      subst (λ b. GivesWhole (with_files old seen) b ended new) x.2 g in
+      let h : AnswersWhole (with_files old seen) (ran x.0 load_steps (Totals (load_of seed))) ended new =
+      subst (λ b. AnswersWhole (with_files old seen) b ended new) x.2 g in
       let p : new.files ≡ seen = h.put in
       record {
         image = i;
@@ -43,7 +43,7 @@ module _ (all : StartLaws) (seed : ℕ) (old : Outside) (ended : Status) (new : 
 
   given_due : (seen : FilesSeen) (due : Result Task Refusal) (a : Answer)
       → Comes (for_task (load_image (load_of seed)) (task_of seed)) old.files due seen
-      → IsAnswerOf due a → GivesWhole (with_files old seen) a ended new → IsRunStatus ended
+      → IsAnswerOf due a → AnswersWhole (with_files old seen) a ended new → IsRunStatus ended
       → LoadGiven seed old ended new
   given_due seen (Err why) a c x g r = absurd (refused_none why a ended x g.status_is r)
   given_due seen (Ok task) a c x g r =

@@ -7,13 +7,13 @@ use Rattle.command_words.specs.declared.command.Command.{Command}
 use Rattle.command_words.specs.declared.command.Command.TheVariants.{Mean}
 use Rattle.proc_program.specs.Lower.{part_of}
 use Rattle.proc_semantics.specs.Meaning.{meaning}
-use Rattle.proc_semantics.proofs.Leaves.{meanings_leave}
+use Rattle.proc_semantics.proofs.Offers.{meanings_leave}
 use Rattle.file_plans.specs.declared.refusal.Refusal.{Refusal}
 use Rattle.file_plans.specs.Plans.{Comes}
 use Rattle.meaning_tool.specs.Subjects.{Subject, told_of, subject_in}
 use Rattle.lcm_cli.specs.declared.status.Status.{Status}
 use Rattle.lcm_cli.specs.Commands.{Task, Tell, for_task, plan_in}
-use Rattle.lcm_cli.specs.Answers.{Answer, Outside, with_files, tells, IsAnswerOf, GivesWhole, Answers}
+use Rattle.lcm_cli.specs.Answers.{Answer, Outside, with_files, tells, IsAnswerOf, AnswersWhole, Answers}
 use Rattle.lcm_cli.specs.Causes.{IsRunStatus, MeaningGiven}
 use Rattle.lcm_cli.proofs.Tasks.{made_of}
 use Rattle.lcm_cli.proofs.Modules.{SubjectCame, subject_came}
@@ -22,14 +22,14 @@ use Rattle.lcm_cli.proofs.RunsMade.{refused_none, whole_run}
 module _ (words : List PartWord) (size fuel : ℕ) (feed : List ℕ) (old : Outside) (ended : Status)
     (new : Outside) where
   given_told : (seen : FilesSeen) (s : Subject) → SubjectCame words size feed old.files s seen
-      → GivesWhole (with_files old seen) (tells (told_of s fuel)) ended new
+      → AnswersWhole (with_files old seen) (tells (told_of s fuel)) ended new
       → MeaningGiven words size fuel feed old ended new
   given_told seen s c g =
       let p : new.files ≡ seen = g.put in
       let at : told_of s fuel ≡ meaning (map part_of s.modules) size s.feed fuel =
       ap (λ n. meaning (map part_of s.modules) n s.feed fuel) c.size_is in
-      let h : GivesWhole (with_files old seen) (tells (meaning (map part_of s.modules) size s.feed fuel))
-      ended new = subst (λ t. GivesWhole (with_files old seen) (tells t) ended new) at g in
+      let h : AnswersWhole (with_files old seen) (tells (meaning (map part_of s.modules) size s.feed fuel))
+      ended new = subst (λ t. AnswersWhole (with_files old seen) (tells t) ended new) at g in
       record {
         modules = s.modules;
         mid = c.mid;
@@ -47,14 +47,14 @@ module _ (words : List PartWord) (size fuel : ℕ) (feed : List ℕ) (old : Outs
 
   given_due : (seen : FilesSeen) (due : Result Task Refusal) (a : Answer)
       → Comes (for_task (subject_in words size feed) (λ s. Tell s fuel)) old.files due seen → IsAnswerOf due a
-      → GivesWhole (with_files old seen) a ended new → IsRunStatus ended
+      → AnswersWhole (with_files old seen) a ended new → IsRunStatus ended
       → MeaningGiven words size fuel feed old ended new
   given_due seen (Err why) a c x g r = absurd (refused_none why a ended x g.status_is r)
   given_due seen (Ok task) a c x g r =
       let m = made_of (subject_in words size feed) (λ s. Tell s fuel) old.files seen task c in
       let e : a ≡ tells (told_of m.0 fuel) = subst (λ t. IsAnswerOf (Ok t) a) m.2 x in
       given_told seen m.0 (subject_came words size feed old.files seen m.0 m.1)
-      (subst (λ b. GivesWhole (with_files old seen) b ended new) e g)
+      (subst (λ b. AnswersWhole (with_files old seen) b ended new) e g)
 
 pub means : (asked : Option Command) (old : Outside) (ended : Status) (new : Outside)
     → Answers (plan_in asked) old ended new → (words : List PartWord) (size fuel : ℕ) (feed : List ℕ)

@@ -12,7 +12,7 @@ use Rattle.command_words.specs.declared.part.PartWord.{PartWord}
 use Rattle.command_words.specs.declared.command.Command.{Command}
 use Rattle.command_words.specs.declared.command.Command.TheVariants.{Mean, Erase}
 use Rattle.command_words.specs.Action.{is_module, is_source}
-use Rattle.command_words.specs.Part.{has_tokens, is_trusted}
+use Rattle.command_words.specs.Part.{has_tokens, is_trusted_mark}
 use Rattle.component_linker.specs.declared.fault.RuleAt.{RuleAt}
 use Rattle.proc_language.specs.declared.module.ModuleFields.{ModuleFields}
 use Rattle.proc_sources.specs.declared.fault.SourceFault.{SourceFault}
@@ -132,7 +132,7 @@ sources_all [] all k w g = absurd (cc)
 sources_all (v ∷ ws) all zero w g =
     let both = and_parts (is_module v) (list_all is_module ws) all in
     let same : v ≡ w = cc in
-    let source = (and_parts (is_trusted v.mark) (is_source v.ending) both.0).1 in
+    let source = (and_parts (is_trusted_mark v.mark) (is_source v.ending) both.0).1 in
     subst (λ (x : PartWord). is_source x.ending ≡ true) same source
 sources_all (v ∷ ws) all (suc k) w g =
     sources_all ws (and_parts (is_module v) (list_all is_module ws) all).1 k w g

@@ -15,7 +15,7 @@ use Rattle.file_plans.specs.declared.refusal.Refusal.TheVariants as refusal
 use Rattle.file_plans.specs.Plans.{Plan, Reads, Ends, Made}
 use Rattle.lcm_cli.specs.Commands.{Task, Run, Trace, Reach, Debug, Put, Write, Tell}
 use Rattle.lcm_cli.specs.Commands.{plan_in}
-use Rattle.lcm_cli.specs.Answers.{Answer, IsAnswerOf, writes, ran, traced, Settles, IsWritten}
+use Rattle.lcm_cli.specs.Answers.{Answer, IsAnswerOf, writes, ran, ran_overlay, Settles, IsWritten}
 use Rattle.lcm_cli.specs.declared.status.Status.TheVariants.{Done}
 use Rattle.lcm_cli.proofs.OneStart.{one_start}
 use Rattle.lcm_cli.proofs.OneOverlay.{one_overlay}
@@ -71,7 +71,7 @@ one_of one (Ok (Run i steps telling)) a b h k =
     h.2 ∙ ap (λ (m : StartSeen). ran m steps telling) e ∙ sym k.2
 one_of one (Ok (Trace i steps)) a b h k =
     let e = one_start (placed i.parts i.stack) i.stack h.0 k.0 h.2.rules h.2.starts k.2.starts in
-    h.4 ∙ ap (λ (o : OverlaySeen). traced o steps)
+    h.4 ∙ ap (λ (o : OverlaySeen). ran_overlay o steps)
     (one_overlay k.0 h.1 k.1 (subst (λ m. IsOverlayOf m h.1) e h.3) k.3) ∙ sym k.4
 one_of one (Ok (Debug i script)) a b h k =
     let e : h.0 ≡ k.0 = one_start (placed i.parts i.stack) i.stack h.0 k.0 h.1.rules h.1.starts k.1.starts in

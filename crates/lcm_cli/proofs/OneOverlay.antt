@@ -8,7 +8,7 @@ use Rattle.lcm_isa.specs.declared.Reg.TheVariants.{G0, G1, G2}
 use Rattle.lcm_machine.specs.declared.cells.Span.{Span}
 use Rattle.lcm_machine.specs.Maps.{Regs}
 use Rattle.lcm_machine.specs.Places.{reg}
-use Rattle.lcm_machine.proofs.CellLemmas.{same_cells}
+use Rattle.lcm_machine.proofs.Offers.{same_cells}
 use Rattle.component_linker.specs.Started.{StartSeen}
 use Rattle.component_linker.specs.declared.owners.Site.{Site}
 use Rattle.component_linker.specs.declared.owners.Owner.{Owner}

@@ -16,8 +16,7 @@ use Rattle.component_linker.specs.Parts.{PartSeen}
 use Rattle.component_linker.specs.Regions.{AreSpansOf, Apart, regions_of, region_span, region, span_of}
 use Rattle.component_linker.specs.Regions.{stack_span, part_regions, code_span, data_span, linear_span}
 use Rattle.component_linker.specs.Regions.{is_stack_size}
-use Rattle.component_linker.proofs.RegionFacts.{stretch_of, region_cases}
-use Rattle.component_linker.proofs.LinksKept.{regions_apart}
+use Rattle.component_linker.proofs.Offers.{stretch_of, region_cases, regions_apart}
 use Rattle.lcm_machine.specs.Regions.{Region}
 use Rattle.component_linker.specs.Pairs.{NoneIsBroken}
 use Rattle.component_linker.specs.Links.{rules_l}
@@ -31,7 +30,7 @@ use Rattle.lcm_machine.specs.declared.End.{End}
 use Rattle.lcm_machine.specs.declared.cells.Span.{Span}
 use Rattle.lcm_machine.specs.Maps.{Regs}
 use Rattle.lcm_machine.specs.Run.{Run}
-use Rattle.lcm_machine.proofs.CellLemmas.{same_cells}
+use Rattle.lcm_machine.proofs.Offers.{same_cells}
 
 run_of : Regs Word → FinMap nat_cmp Word → List Span → ℕ → Option End → Run
 run_of regs cells spans count end = record {

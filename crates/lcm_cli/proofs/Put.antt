@@ -34,11 +34,12 @@ use Rattle.lcm_cli.specs.Commands.{Task, Run, Trace, Reach, Debug, Put, Write, T
 use Rattle.lcm_cli.specs.Commands.{Content, OfModule, spelling_of, IsReadAgain}
 use Rattle.lcm_cli.specs.Commands.{linked_in, link_task, component_task, plan_of, plan_in}
 use Rattle.lcm_cli.specs.Loads.{load_image}
-use Rattle.lcm_cli.specs.Answers.{Answer, NewFile, Outside, end_status, meaning_status, ran, traced, tells}
+use Rattle.lcm_cli.specs.Answers.{Answer, NewFile, Outside, end_status, meaning_status, ran, ran_overlay}
+use Rattle.lcm_cli.specs.Answers.{tells}
 use Rattle.lcm_cli.specs.Answers.{puts}
 use Rattle.lcm_cli.specs.Answers.{refused, IsAnswerOf}
 use Rattle.lcm_cli.specs.Answers.{IsPut, whole, unput, unwritten, Answers, answer, nothing}
-use Rattle.lcm_cli.specs.Causes.{PutsFile, link_out, component_out, out_of, Stay, OthersStay, StayAt}
+use Rattle.lcm_cli.specs.Causes.{PutsFile, link_out, component_out, out_name, Stay, OthersStay, StayAt}
 use Rattle.lcm_cli.specs.Causes.{PutsWhole}
 use Rattle.lcm_cli.proofs.Debugs.{debug_came}
 use Rattle.lcm_cli.proofs.Tasks.{made_of}
@@ -59,7 +60,7 @@ component_puts (component_deed.Put out) c name d e = let n : out ≡ name = cc i
 component_puts component_deed.Show c name d e = absurd (cc)
 
 put_of_command : (c : Command) (old seen : FilesSeen) (name : List ℕ) (d : Content)
-    → Comes (plan_of c) old (Ok (Put name d)) seen → out_of (Some c) ≡ Some name
+    → Comes (plan_of c) old (Ok (Put name d)) seen → out_name (Some c) ≡ Some name
 put_of_command (Links l deed) old seen name d h =
     let m = made_of (linked_in l) (link_task deed) old seen (Put name d) h in link_puts deed m.0 name d m.2
 put_of_command (Takes word deed) old seen name d h =
@@ -83,7 +84,7 @@ no_ok : {A : Type 0} (x : A) (why : Refusal) → (let r : Result A Refusal = Ok 
 no_ok x why e = cc
 
 put_in : (asked : Option Command) (old seen : FilesSeen) (name : List ℕ) (d : Content)
-    → Comes (plan_in asked) old (Ok (Put name d)) seen → out_of asked ≡ Some name
+    → Comes (plan_in asked) old (Ok (Put name d)) seen → out_name asked ≡ Some name
 put_in None old seen name d h = absurd (no_ok (Put name d) refusal.Usage h.0)
 put_in (Some c) old seen name d h = put_of_command c old seen name d h
 
@@ -112,7 +113,7 @@ some_same f g e = cc
 abbrev pub IsFileOf : Option Command → FilesSeen → FilesSeen → NewFile → Type 0
 IsFileOf asked old seen f =
     (d : Content) × Comes (plan_in asked) old (Ok (Put f.name d)) seen × (f.bytes ≡ spelling_of d)
-    × (out_of asked ≡ Some f.name) × IsReadAgain d
+    × (out_name asked ≡ Some f.name) × IsReadAgain d
 
 pub put_of : (asked : Option Command) (due : Result Task Refusal) (a : Answer) (f : NewFile)
     (old seen : FilesSeen)
@@ -156,7 +157,7 @@ keeps_from old seen new out e k =
 put_stays : (asked : Option Command) (due : Result Task Refusal) (a : Answer) (old seen new : FilesSeen)
     (file : Option NewFile) → Comes (plan_in asked) old due seen → IsAnswerOf due a → a.file ≡ file
     → IsPut seen file new
-    → Stay old new ⊎ ((out : List ℕ) × (out_of asked ≡ Some out) × KeepsOthers old new out
+    → Stay old new ⊎ ((out : List ℕ) × (out_name asked ≡ Some out) × KeepsOthers old new out
     × PutsFile asked old new)
 put_stays asked due a old seen new None c x e p =
     inl (ap (λ (s : FilesSeen). s.contents) p ∙ comes_contents (plan_in asked) old seen due c)
@@ -170,13 +171,13 @@ put_stays asked due a old seen new (Some f) c x e p =
     )
 
 others : (asked : Option Command) (old new : FilesSeen) → Stay old new
-    ⊎ ((out : List ℕ) × (out_of asked ≡ Some out) × KeepsOthers old new out × PutsFile asked old new)
+    ⊎ ((out : List ℕ) × (out_name asked ≡ Some out) × KeepsOthers old new out × PutsFile asked old new)
     → OthersStay asked old new
 others asked old new (inl s) = inl s
 others asked old new (inr s) = inr (s.0, s.1, s.2)
 
 put_or_stay : (asked : Option Command) (old new : FilesSeen) → Stay old new
-    ⊎ ((out : List ℕ) × (out_of asked ≡ Some out) × KeepsOthers old new out × PutsFile asked old new)
+    ⊎ ((out : List ℕ) × (out_name asked ≡ Some out) × KeepsOthers old new out × PutsFile asked old new)
     → Stay old new ⊎ PutsFile asked old new
 put_or_stay asked old new (inl s) = inl s
 put_or_stay asked old new (inr s) = inr s.3
@@ -227,7 +228,7 @@ puts_none (Ok (Run i steps telling)) a x =
     (end_none (end_of (last_step (plain steps x.0.state))) (ran x.0 steps telling) refl)
 puts_none (Ok (Trace i steps)) a x =
     subst (λ (b : Answer). PutsNone b.status b) (sym x.4)
-    (end_none (trace_of steps x.1).end (traced x.1 steps) refl)
+    (end_none (trace_of steps x.1).end (ran_overlay x.1 steps) refl)
 puts_none (Ok (Put name d)) a x = subst (λ (b : Answer). PutsNone b.status b) (sym x.1) tt
 puts_none (Ok (Debug i script)) a x = subst (λ (b : Answer). PutsNone b.status b) (sym x.2) tt
 puts_none (Ok (Reach i)) a x = subst (λ (b : Answer). PutsNone b.status b) (sym x.4) tt

@@ -22,13 +22,13 @@ use Rattle.file_plans.specs.declared.refusal.Refusal.TheVariants as refusal
 use Rattle.file_plans.specs.Plans.{Plan, Reads, Ends, Made, ◌>>=◌, unless, each_at, whole, too_long, unread}
 use Rattle.file_plans.specs.Plans.{Comes}
 use Rattle.component_linker.specs.Accepted.{accepted}
-use Rattle.command_words.specs.Part.{is_trusted}
+use Rattle.command_words.specs.Part.{is_trusted_mark}
 use Rattle.lcm_cli.specs.Parts.{broken_in, linked, loaded, form_by, component_at, part_at}
 use Rattle.lcm_cli.specs.Commands.{linked_parts, linked_image, linked_in}
 use Rattle.proc_sources.specs.declared.fault.SourceFault.{SourceFault}
 use Rattle.proc_sources.specs.Sources.{sourced}
 use Rattle.proc_language.specs.declared.dialect.Dialect.{Dialect}
-use Rattle.lcm_cli.specs.Causes.{linked_words, words_in, IsTurn, IsUnread, IsLong, Holds, HoldsPart}
+use Rattle.lcm_cli.specs.Causes.{linked_words, part_words, IsTurn, IsUnread, IsLong, Holds, HoldsPart}
 use Rattle.lcm_cli.specs.Causes.{IsUndecoded, IsUnassembled, IsUnsourced, IsUncompiled, IsUnscripted}
 use Rattle.lcm_cli.specs.Causes.{IsUnaudited, PartBreaks, SomeBreaks}
 use Rattle.lcm_cli.specs.Causes.{AllBreak, LinkBreaks, LinkedCame}
@@ -192,7 +192,7 @@ module _ (asked : Option Command) where
 
   -- this is the command's part word of this index
   abbrev pub IsWord : ℕ → PartWord → Type 0
-  IsWord index w = slice_get (words_in asked) index ≡ Some w
+  IsWord index w = slice_get (part_words asked) index ≡ Some w
 
   -- of its sources the command asks components
   abbrev pub AsksComponents : Type 0
@@ -221,7 +221,8 @@ module _ (asked : Option Command) where
       → Reasoned (part_at index w)
   unfolding part_at
   part_reasoned asks index w is = reasoned_bind (component_at index w) _ (component_reasoned asks index w is)
-      (λ c. reasoned_rule (broken_in index) (accepted (record { component = c; trusted = is_trusted w.mark }))
+      (λ c. reasoned_rule (broken_in index)
+      (accepted (record { component = c; trusted = is_trusted_mark w.mark }))
       (λ f old new. tt))
 
   -- these are the command's part words from this index on
@@ -238,7 +239,7 @@ module _ (asked : Option Command) where
       let e : index + suc k ≡ (index + 1) + k = omega arith in
       subst (λ n. IsWord n v) e (are (suc k) v g)
 
-  all_words : (ws : List PartWord) → words_in asked ≡ ws → AreWords 0 ws
+  all_words : (ws : List PartWord) → part_words asked ≡ ws → AreWords 0 ws
   all_words ws e k w g =
       let z : 0 + k ≡ k = omega arith in
       subst (λ n. IsWord n w) (sym z) (ap (λ xs. slice_get xs k) e ∙ g)
@@ -255,10 +256,10 @@ module _ (asked : Option Command) where
 
   pub each_reasoned : {A : Type 0} (item : ℕ → PartWord → Plan A)
       → ((index : ℕ) (w : PartWord) → IsWord index w → Reasoned (item index w))
-      → (ws : List PartWord) → words_in asked ≡ ws → Reasoned (each_at item 0 ws)
+      → (ws : List PartWord) → part_words asked ≡ ws → Reasoned (each_at item 0 ws)
   each_reasoned item h ws e = each_behind item h 0 ws (all_words ws e)
 
-  linked_reasoned : AsksComponents → (words : List PartWord) (size : ℕ) → words_in asked ≡ words
+  linked_reasoned : AsksComponents → (words : List PartWord) (size : ℕ) → part_words asked ≡ words
       → Reasoned (linked_parts words size)
   unfolding linked_parts
   linked_reasoned asks words size e =
@@ -276,7 +277,7 @@ module _ (asked : Option Command) where
   image_reasoned name =
       reads_reasoned name 0 (λ bytes. unless refusal.Image (loaded bytes)) (image_by name)
 
-  pub in_reasoned : AsksComponents → (l : Linked) → words_in asked ≡ linked_words l → Reasoned (linked_in l)
+  pub in_reasoned : AsksComponents → (l : Linked) → part_words asked ≡ linked_words l → Reasoned (linked_in l)
   in_reasoned asks (what.Parts words size) e = linked_reasoned asks words size e
   in_reasoned asks (what.Image name) e = image_reasoned name
 
@@ -292,7 +293,7 @@ part_breaks index w old new r h = elim (comes_split (component_at index w) _ old
     (Err (refusal.Rule r)) h) as (λ _. PartBreaks old index w r new) [
       | inl s ↦ (
           let e = ended_unless (broken_in index) (accepted
-          (record { component = s.0; trusted = is_trusted w.mark })) s.1 new (refusal.Rule r) s.3 in
+          (record { component = s.0; trusted = is_trusted_mark w.mark })) s.1 new (refusal.Rule r) s.3 in
           let q = e.3 in
           (s.0, rw q s.2, e.0, e.1, same_rule r _ e.2)
           )

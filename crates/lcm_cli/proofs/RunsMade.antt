@@ -39,10 +39,10 @@ use Rattle.lcm_cli.specs.declared.status.Status.TheVariants as status
 use Rattle.lcm_cli.specs.Refusals.{refusal_text, refusal_status, image_status}
 use Rattle.file_plans.specs.Plans.{Plan, Comes}
 use Rattle.lcm_cli.specs.Commands.{Lines, Task, linked_in, link_task, for_task, plan_in}
-use Rattle.lcm_cli.specs.Answers.{Answer, NewFile, Outside, with_files, end_status, writes, ran, traced}
+use Rattle.lcm_cli.specs.Answers.{Answer, NewFile, Outside, with_files, end_status, writes, ran, ran_overlay}
 use Rattle.lcm_cli.specs.Answers.{refused}
 use Rattle.lcm_cli.specs.Answers.{IsPut, IsAnswerOf}
-use Rattle.lcm_cli.specs.Answers.{GivesWhole, whole, unput, unwritten, Answers, answer, nothing}
+use Rattle.lcm_cli.specs.Answers.{AnswersWhole, whole, unput, unwritten, Answers, answer, nothing}
 use Rattle.lcm_cli.specs.Causes.{IsRunStatus, Started, text_of_run, RunGiven, TraceGiven}
 use Rattle.lcm_cli.specs.Causes.{ReachGiven}
 use Rattle.lcm_cli.specs.Causes.{RunCut, TraceCut}
@@ -136,7 +136,7 @@ pub record WholeRun (plan : Plan Task) (old : Outside) (ended : Status) (new : O
   pub seen : FilesSeen
   pub came : Comes plan old.files due seen
   pub is : IsAnswerOf due gives
-  pub given : GivesWhole (with_files old seen) gives ended new
+  pub given : AnswersWhole (with_files old seen) gives ended new
 
 pub whole_run : (plan : Plan Task) (old : Outside) (ended : Status) (new : Outside)
     → Answers plan old ended new → IsRunStatus ended → WholeRun plan old ended new
@@ -149,12 +149,12 @@ whole_run plan old ended new (answer due a seen c x (whole g)) r =
 given_run : StartLaws → RunsPass
     → (l : Linked) (steps : ℕ) (old : Outside) (seen : FilesSeen) (ended : Status)
     (new : Outside) (a : Answer) → steps < 2 ^ 64 → DeedDue l (link_deed.Run steps) old.files seen a
-    → GivesWhole (with_files old seen) a ended new → IsRunStatus ended → RunGiven l steps old ended new
+    → AnswersWhole (with_files old seen) a ended new → IsRunStatus ended → RunGiven l steps old ended new
 given_run all pass l steps old seen ended new a small (told why c e) g r =
     absurd (refused_none why a ended e g.status_is r)
 given_run all pass l steps old seen ended new a small (made i c x) g r =
-    let h : GivesWhole (with_files old seen) (ran x.0 steps Lines) ended new =
-    subst (λ b. GivesWhole (with_files old seen) b ended new) x.2 g in
+    let h : AnswersWhole (with_files old seen) (ran x.0 steps Lines) ended new =
+    subst (λ b. AnswersWhole (with_files old seen) b ended new) x.2 g in
     let p : new.files ≡ seen = h.put in
     record {
       from = started all l old.files new.files i x.0
@@ -187,12 +187,12 @@ OverlaysAreOne =
 
 given_trace : StartLaws → OverlaysAreOne → (l : Linked) (steps : ℕ) (old : Outside) (seen : FilesSeen)
     (ended : Status) (new : Outside) (a : Answer) → DeedDue l (link_deed.Trace steps) old.files seen a
-    → GivesWhole (with_files old seen) a ended new → IsRunStatus ended → TraceGiven l steps old ended new
+    → AnswersWhole (with_files old seen) a ended new → IsRunStatus ended → TraceGiven l steps old ended new
 given_trace all one l steps old seen ended new a (told why c e) g r =
     absurd (refused_none why a ended e g.status_is r)
 given_trace all one l steps old seen ended new a (made i c x) g r =
-    let h : GivesWhole (with_files old seen) (traced x.1 steps) ended new =
-    subst (λ b. GivesWhole (with_files old seen) b ended new) x.4 g in
+    let h : AnswersWhole (with_files old seen) (ran_overlay x.1 steps) ended new =
+    subst (λ b. AnswersWhole (with_files old seen) b ended new) x.4 g in
     let p : new.files ≡ seen = h.put in
     let f = started all l old.files new.files i x.0
     (subst (λ z. Comes (linked_in l) old.files (Ok i) z) (sym p) c) x.2 in
@@ -320,12 +320,12 @@ linked_as parts size s h = record {
 given_reach : StartLaws → ReportsBoundRuns → ReportsBoundInfluence
     → (l : Linked) (old : Outside) (seen : FilesSeen)
     (ended : Status) (new : Outside) (a : Answer) → DeedDue l link_deed.Reach old.files seen a
-    → GivesWhole (with_files old seen) a ended new → IsRunStatus ended → ReachGiven l old ended new
+    → AnswersWhole (with_files old seen) a ended new → IsRunStatus ended → ReachGiven l old ended new
 given_reach all bounds influences l old seen ended new a (told why c e) g r =
     absurd (refused_none why a ended e g.status_is r)
 given_reach all bounds influences l old seen ended new a (made i c x) g r =
-    let h : GivesWhole (with_files old seen) (writes status.Done x.1) ended new =
-    subst (λ b. GivesWhole (with_files old seen) b ended new) x.4 g in
+    let h : AnswersWhole (with_files old seen) (writes status.Done x.1) ended new =
+    subst (λ b. AnswersWhole (with_files old seen) b ended new) x.4 g in
     let p : new.files ≡ seen = h.put in
     record {
       from = started all l old.files new.files i x.0
@@ -375,7 +375,7 @@ cut_trace : StartLaws → (l : Linked) (steps : ℕ) (plan : Plan Task) (old new
     → DeedDue l (link_deed.Trace steps) old.files k.seen k.gives → TraceCut l steps old new
 cut_trace all l steps plan old new k (told why c e) = inl (refused_cut l k why c e)
 cut_trace all l steps plan old new k (made i c x) =
-    let f = cut_by k (traced x.1 steps) x.4 refl (never_cut _ (writes_none steps x.1)) in
+    let f = cut_by k (ran_overlay x.1 steps) x.4 refl (never_cut _ (writes_none steps x.1)) in
     inr (
       started all l old.files new.files i x.0
           (subst (λ z. Comes (linked_in l) old.files (Ok i) z) (sym f.0) c) x.2,

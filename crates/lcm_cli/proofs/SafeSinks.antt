@@ -4,7 +4,7 @@ use Rattle.std.proofs.Common.{refl, sym, ap, subst, ◌∙◌, arith}
 use Rattle.outside_io.specs.FilesSeen.{FilesSeen}
 use Rattle.outside_io.specs.SinkSeen.{FailsToWrite}
 use Rattle.outside_io.specs.SafeSink.{SafeBytes, seen_of_safe_sink}
-use Rattle.outside_io.proofs.Filling.{failed_text_fills}
+use Rattle.outside_io.proofs.Offers.{failed_text_fills}
 use Rattle.command_words.specs.declared.command.Linked.{Linked}
 use Rattle.command_words.specs.declared.command.LinkDeed.TheVariants as link_deed
 use Rattle.command_words.specs.declared.command.Command.{Command}

@@ -10,7 +10,7 @@ use Rattle.file_plans.specs.Plans.{Plan, Reads, Ends, Made, whole as came_whole,
 use Rattle.lcm_cli.specs.Commands.{Task}
 use Rattle.lcm_cli.specs.Answers.{Outside, NewFile, IsPut, whole, unput, unwritten, Answers, answer, nothing}
 use Rattle.lcm_cli.specs.Answers.{Settles, IsComplete}
-use Rattle.file_plans.proofs.Follow.{only_same, only_again}
+use Rattle.file_plans.proofs.Offers.{only_same, only_again}
 
 told_in : (A : Type 0) (o : Option (List ℕ → Option (List ℕ))) (held : List ℕ → Option (List ℕ))
     (name bytes : List ℕ) → o ≡ Some held → MatchOption o A (λ h. h name ≡ Some bytes) → held name

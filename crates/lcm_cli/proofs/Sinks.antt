@@ -8,8 +8,7 @@ use Rattle.text_scan.specs.Bytes.{is_newline}
 use Rattle.outside_io.specs.declared.outside.Failed.{Failed}
 use Rattle.outside_io.specs.SinkSeen.{SinkSeen, Adds, FailsToWrite, IsOneWrite}
 use Rattle.outside_io.specs.Writes.{AddsPieces, FailsAtPiece}
-use Rattle.outside_io.proofs.Writing.{pieces_none, pieces_then, pieces_fail, fail_more, one_write}
-use Rattle.outside_io.proofs.Writing.{text_failed}
+use Rattle.outside_io.proofs.Offers.{pieces_none, pieces_then, pieces_fail, fail_more, one_write, text_failed}
 use Rattle.lcm_cli.specs.Pieces.{before_first, cut_lines}
 
 -- ---- the first line of a text

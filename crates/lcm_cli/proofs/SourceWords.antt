@@ -29,7 +29,7 @@ use Rattle.file_plans.specs.declared.TheConstants.{LONGEST_FILE}
 use Rattle.file_plans.specs.declared.refusal.Refusal.{Refusal}
 use Rattle.file_plans.specs.declared.refusal.Refusal.TheVariants as refusal
 use Rattle.file_plans.specs.Plans.{Plan, Made, each_at, whole, too_long, unread, Comes}
-use Rattle.command_words.specs.Part.{is_trusted}
+use Rattle.command_words.specs.Part.{is_trusted_mark}
 use Rattle.lcm_cli.specs.Parts.{broken_in, form_by, HasForm, component_at, part_at, IsPartOf}
 use Rattle.lcm_cli.specs.SourceRuns.{AllSources, SourcesCame}
 use Rattle.lcm_cli.proofs.Ends.{comes_split}
@@ -93,7 +93,7 @@ unfolding part_at
 part_came index w p old new h =
     elim (comes_split (component_at index w) _ old new (Ok p) h) as (λ _. PartCame w old p new) [
       | inl s ↦ (
-          let a : PartSeen = record { component = s.0; trusted = is_trusted w.mark } in
+          let a : PartSeen = record { component = s.0; trusted = is_trusted_mark w.mark } in
           let e = unless_came (broken_in index) (accepted a) p s.1 new s.3 in
           let q = e.1 in
           let same : a ≡ p = accepted_is a p e.0 in
@@ -151,8 +151,8 @@ module _ (laws : SourceLaws) where
       record { limits = a.limits; resolved = a.resolved; compiled = rw t a.compiled }
 
   with_part : (w : PartWord) (words : List PartWord) (p : PartSeen) (ps : List PartSeen)
-      (old mid new : FilesSeen) (b : Bool) → is_trusted w.mark ≡ b
-      → (is_trusted w.mark ≡ true → is_source w.ending ≡ true) → PartCame w old p mid
+      (old mid new : FilesSeen) (b : Bool) → is_trusted_mark w.mark ≡ b
+      → (is_trusted_mark w.mark ≡ true → is_source w.ending ≡ true) → PartCame w old p mid
       → Gathered words mid ps new
       → Gathered (w ∷ words) old (p ∷ ps) new
   with_part w words p ps old mid new true e s c g =
@@ -197,7 +197,7 @@ module _ (laws : SourceLaws) where
                   let q = b.3.1 in
                   let c : Comes (each_at part_at (index + 1) words) a.1 (Ok b.0) new = rw q b.2 in
                   subst (λ ps. Gathered (w ∷ words) old ps new) (same_parts parts (a.0 ∷ b.0) b.3.0)
-                  (with_part w words a.0 b.0 old a.1 new (is_trusted w.mark) refl s.0
+                  (with_part w words a.0 b.0 old a.1 new (is_trusted_mark w.mark) refl s.0
                   (part_came index w a.0 old a.1 a.2)
                   (gathered words (index + 1) a.1 new b.0 s.1 c))
                   )

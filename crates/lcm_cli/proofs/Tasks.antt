@@ -10,7 +10,7 @@ use Rattle.file_plans.specs.declared.refusal.Stop.TheVariants.{NoMemory}
 use Rattle.file_plans.specs.Plans.{Plan, Made, Comes, Follows}
 use Rattle.lcm_cli.specs.Commands.{Task, for_task}
 use Rattle.lcm_cli.specs.Jobs.{Does, FollowsTask}
-use Rattle.file_plans.proofs.Follow.{comes_made, comes_quiet, follows_end}
+use Rattle.file_plans.proofs.Offers.{comes_made, comes_quiet, follows_end}
 use Rattle.lcm_cli.proofs.Ends.{comes_split, same_err, not_made}
 
 -- ---- bodies

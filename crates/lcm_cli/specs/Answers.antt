@@ -75,8 +75,8 @@ ran start steps telling =
     record told { machine = Some left }
 
 -- of an overlay's run: its lines and its end line
-abbrev pub traced : OverlaySeen → ℕ → Answer
-traced overlay steps = writes (end_status (trace_of steps overlay).end) (trace_text steps overlay)
+abbrev pub ran_overlay : OverlaySeen → ℕ → Answer
+ran_overlay overlay steps = writes (end_status (trace_of steps overlay).end) (trace_text steps overlay)
 
 -- the status of a meaning, by how it ended
 abbrev pub meaning_status : End → Status
@@ -89,11 +89,11 @@ meaning_status end.OutOfFuel = StepsUsed
 abbrev pub tells : Told → Answer
 tells told = writes (meaning_status told.end) (told_text told)
 
-abbrev pub said : Answer
-said = writes Done ok_text
+abbrev pub says_ok : Answer
+says_ok = writes Done ok_text
 
 abbrev pub puts : List ℕ → List ℕ → Answer
-puts name bytes = record said { file = Some (record { name = name; bytes = bytes }) }
+puts name bytes = record says_ok { file = Some (record { name = name; bytes = bytes }) }
 
 -- the answer to what came of a plan: that of the plain run of the start that the image's parts link to or of
 -- its overlay, the text of what its parts can reach, the replies of a debugger, the file, whose bytes give
@@ -103,7 +103,7 @@ IsAnswerOf (Ok (Run i steps telling)) a =
     (start : StartSeen) × IsStartOf i.parts i.stack start × (a ≡ ran start steps telling)
 IsAnswerOf (Ok (Trace i steps)) a =
     (start : StartSeen) × (overlay : OverlaySeen) × IsStartOf i.parts i.stack start
-    × IsOverlayOf start overlay × (a ≡ traced overlay steps)
+    × IsOverlayOf start overlay × (a ≡ ran_overlay overlay steps)
 IsAnswerOf (Ok (Reach i)) a =
     (start : StartSeen) × (text : List ℕ) × IsStartOf i.parts i.stack start × IsReachText start text
     × (a ≡ writes Done text)
@@ -135,7 +135,7 @@ IsPut old None new = new ≡ old
 IsPut old (Some file) new = Puts old new file.name file.bytes
 
 -- an answer is given whole: its file put, its text written, its machine handed over
-pub record GivesWhole (old : Outside) (a : Answer) (status : Status) (new : Outside) : Type 0 where
+pub record AnswersWhole (old : Outside) (a : Answer) (status : Status) (new : Outside) : Type 0 where
   pub status_is : status ≡ a.status
   pub put : IsPut old.files a.file new.files
   pub written : Adds old.sink a.text new.sink
@@ -144,7 +144,7 @@ pub record GivesWhole (old : Outside) (a : Answer) (status : Status) (new : Outs
 -- or its file could not be put, and nothing was written; or the sink failed at its text. Then no machine is
 -- handed over
 pub data Gives (old : Outside) (a : Answer) (status : Status) (new : Outside) : Type 0 where
-  whole : GivesWhole old a status new → Gives old a status new
+  whole : AnswersWhole old a status new → Gives old a status new
   unput : (file : NewFile) → a.file ≡ Some file → FailsToPut old.files new.files file.name
       → new.sink ≡ old.sink → new.kept ≡ old.kept → status ≡ WriteFault → Gives old a status new
   unwritten : IsPut old.files a.file new.files → FailsToWrite old.sink a.text new.sink → new.kept ≡ old.kept
@@ -198,24 +198,24 @@ abbrev pub IsComplete : Plan Task → Outside → Status → Outside → Type 0
 IsComplete plan old status new =
     (held : List ℕ → Option (List ℕ)) → old.files.contents ≡ Some held → IsQuiet old new
     → (status ≡ NoMemory) ⊎ ((a : Answer) × (seen : FilesSeen) × IsWritten held plan a
-    × OnlyGave old.files seen × GivesWhole (with_files old seen) a status new)
+    × OnlyGave old.files seen × AnswersWhole (with_files old seen) a status new)
 
 -- ---- bodies
 
 -- a text was written and this status answered, or the sink failed
-abbrev pub Tells : SinkSeen → List ℕ → Status → Status → SinkSeen → Type 0
-Tells old text status result new =
+abbrev pub WritesOrFails : SinkSeen → List ℕ → Status → Status → SinkSeen → Type 0
+WritesOrFails old text status result new =
     ((result ≡ status) × Adds old text new) ⊎ ((result ≡ WriteFault) × FailsToWrite old text new)
 
 -- the answer of a job
 abbrev pub job_answer : Job → Answer
 job_answer (job.Run start steps) = ran start steps Lines
 job_answer (job.Generate start load) = ran start load_steps (Totals load)
-job_answer (job.Trace start overlay steps) = traced overlay steps
+job_answer (job.Trace start overlay steps) = ran_overlay overlay steps
 job_answer (job.Put out bytes) = puts out bytes
 job_answer (job.Write text) = writes Done text
 job_answer (job.Debug start script) = writes Done (debug_text start.state script)
-job_answer job.Say = said
+job_answer job.Say = says_ok
 job_answer (job.Tell meant) = writes (meaning_status meant.end) meant.text
 
 -- the machine of a job made no step yet, and its overlay is that of its start

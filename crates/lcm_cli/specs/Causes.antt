@@ -39,7 +39,7 @@ use Rattle.run_audit.specs.declared.fault.AuditFault.{AuditFault}
 use Rattle.run_audit.specs.Traces.{IsTrace, HasFault}
 use Rattle.debug_tool.specs.Replies.{debug_text, after_commands}
 use Rattle.step_back.specs.declared.debugger.TheConstants.{MOST_DEPTH}
-use Rattle.step_back.specs.Debug.{begun}
+use Rattle.step_back.specs.Debug.{debugging_from}
 use Rattle.step_back.specs.Calls.{Remembers}
 use Rattle.generated_load.specs.Loads.{load_of, load_steps}
 use Rattle.image_loader.specs.Image.{ImageSeen}
@@ -85,7 +85,7 @@ use Rattle.lcm_cli.specs.declared.status.Status.TheVariants.{AuditRefused}
 use Rattle.lcm_cli.specs.Refusals.{refusal_text, audit_text, image_status}
 use Rattle.file_plans.specs.Plans.{Plan, Reads, Ends, Made, each_at, Comes}
 use Rattle.component_linker.specs.Accepted.{accepted}
-use Rattle.command_words.specs.Part.{is_trusted}
+use Rattle.command_words.specs.Part.{is_trusted_mark}
 use Rattle.lcm_cli.specs.Parts.{linked, loaded, component_at, part_at}
 use Rattle.lcm_cli.specs.Commands.{Content, spelling_of, IsReadAgain, Telling, Run, Trace, Put, Write}
 use Rattle.lcm_cli.specs.Commands.{Task, Reach, Tell}
@@ -123,14 +123,14 @@ abbrev pub linked_words : Linked → List PartWord
 linked_words (what.Parts words size) = words
 linked_words (what.Image name) = []
 
-abbrev pub words_in : Option Command → List PartWord
-words_in (Some (Links l deed)) = linked_words l
-words_in (Some (Takes word deed)) = word ∷ []
-words_in (Some (Checks word)) = word ∷ []
-words_in (Some (Mean words size fuel feed)) = words
-words_in (Some (Debug l script)) = linked_words l
-words_in (Some (Erase word out)) = word ∷ []
-words_in _ = []
+abbrev pub part_words : Option Command → List PartWord
+part_words (Some (Links l deed)) = linked_words l
+part_words (Some (Takes word deed)) = word ∷ []
+part_words (Some (Checks word)) = word ∷ []
+part_words (Some (Mean words size fuel feed)) = words
+part_words (Some (Debug l script)) = linked_words l
+part_words (Some (Erase word out)) = word ∷ []
+part_words _ = []
 
 -- the file of this name, whose turn it was, came last, whole, and its bytes are such
 abbrev pub Holds : {A : Type 0} → Plan A → FilesSeen → List ℕ → ℕ → FilesSeen → (List ℕ → Type 0) → Type 0
@@ -142,7 +142,7 @@ Holds plan old name index new P =
 abbrev pub HoldsPart : {A : Type 0} → Option Command → Plan A → FilesSeen → ℕ → Ending → FilesSeen
     → (List ℕ → Type 0) → Type 0
 HoldsPart asked plan old index ending new P =
-    (word : PartWord) × (slice_get (words_in asked) index ≡ Some word) × (word.ending ≡ ending)
+    (word : PartWord) × (slice_get (part_words asked) index ≡ Some word) × (word.ending ≡ ending)
     × Holds plan old word.name index new P
 
 -- the bytes of a part's component file spell no component, with this first fault
@@ -183,15 +183,15 @@ IsUnaudited asked plan old f new =
     (name : List ℕ) × (asked ≡ Some (Audit name)) × Holds plan old name 0 new (λ text. HasFault text f)
 
 -- the name of an image word
-abbrev pub image_in : Option Command → Option (List ℕ)
-image_in (Some (Links (what.Image name) deed)) = Some name
-image_in (Some (Debug (what.Image name) script)) = Some name
-image_in _ = None
+abbrev pub image_word : Option Command → Option (List ℕ)
+image_word (Some (Links (what.Image name) deed)) = Some name
+image_word (Some (Debug (what.Image name) script)) = Some name
+image_word _ = None
 
 -- the file of the image word came whole, and its bytes are no image whose parts link, with this first fault
 abbrev pub IsUnloaded : Option Command → FilesSeen → ImageFault → FilesSeen → Type 0
 IsUnloaded asked old f new =
-    (name : List ℕ) × (image_in asked ≡ Some name) × (bytes : List ℕ)
+    (name : List ℕ) × (image_word asked ≡ Some name) × (bytes : List ℕ)
     × ComesWhole old name LONGEST_FILE bytes new × (loaded bytes ≡ Err f)
 
 -- the modules of the words came, and then the text of the feed's file, of which this line is the first that
@@ -209,7 +209,7 @@ IsUnfed _ old line new = ⊥
 abbrev pub PartBreaks : FilesSeen → ℕ → PartWord → RuleAt → FilesSeen → Type 0
 PartBreaks old index word r new =
     (c : ComponentFields) × Comes (component_at index word) old (Ok c) new
-    × (b : Broken) × (accepted (record { component = c; trusted = is_trusted word.mark }) ≡ Err b)
+    × (b : Broken) × (accepted (record { component = c; trusted = is_trusted_mark word.mark }) ≡ Err b)
     × (r ≡ record { rule = b.rule; part = index; place = b.place })
 
 -- the first words made parts, and the next one's part breaks a rule by itself
@@ -252,15 +252,15 @@ Breaks _ old r new = ⊥
 -- ---- runs
 
 -- the image came, or the load was made, and the plain run of its start came to this
-abbrev pub Runs : Option Command → FilesSeen → FilesSeen → (Step → Type 0) → Type 0
-Runs asked old new P =
+abbrev pub RanTo : Option Command → FilesSeen → FilesSeen → (Step → Type 0) → Type 0
+RanTo asked old new P =
     (i : ImageSeen) × (steps : ℕ) × (telling : Telling)
     × Comes (plan_in asked) old (Ok (Run i steps telling)) new
     × (start : StartSeen) × IsStartOf i.parts i.stack start × P (last_step (plain steps start.state))
 
 -- the image came, and the run of its start's overlay came to this
-abbrev pub Traces : Option Command → FilesSeen → FilesSeen → RunEnd → Type 0
-Traces asked old new end =
+abbrev pub TracedTo : Option Command → FilesSeen → FilesSeen → RunEnd → Type 0
+TracedTo asked old new end =
     (i : ImageSeen) × (steps : ℕ) × Comes (plan_in asked) old (Ok (Trace i steps)) new
     × (start : StartSeen) × (overlay : OverlaySeen) × IsStartOf i.parts i.stack start
     × IsOverlayOf start overlay × ((trace_of steps overlay).end ≡ end)
@@ -268,8 +268,8 @@ Traces asked old new end =
 -- ---- meanings
 
 -- the modules and the feed came, and their meaning ended so
-abbrev pub Means : Option Command → FilesSeen → FilesSeen → (End → Type 0) → Type 0
-Means asked old new P =
+abbrev pub MeantTo : Option Command → FilesSeen → FilesSeen → (End → Type 0) → Type 0
+MeantTo asked old new P =
     (s : Subject) × (fuel : ℕ) × Comes (plan_in asked) old (Ok (Tell s fuel)) new × P (told_of s fuel).end
 
 -- it halts, or waits
@@ -306,11 +306,11 @@ abbrev pub component_out : ComponentDeed → Option (List ℕ)
 component_out (component_deed.Put out) = Some out
 component_out component_deed.Show = None
 
-abbrev pub out_of : Option Command → Option (List ℕ)
-out_of (Some (Links l deed)) = link_out deed
-out_of (Some (Takes word deed)) = component_out deed
-out_of (Some (Erase word out)) = Some out
-out_of _ = None
+abbrev pub out_name : Option Command → Option (List ℕ)
+out_name (Some (Links l deed)) = link_out deed
+out_name (Some (Takes word deed)) = component_out deed
+out_name (Some (Erase word out)) = Some out
+out_name _ = None
 
 -- the refusal's line was written
 abbrev pub Wrote : Refusal → Outside → Outside → Type 0
@@ -320,22 +320,22 @@ Wrote why old new = Adds old.sink (refusal_text why) new.sink
 
 pub record Causes (asked : Option Command) (old : Outside) (status : Status) (new : Outside) : Type 0 where
   -- the run halted, the file was put, the text was to be written, or the meaning halts or waits
-  pub done : status ≡ Done → Runs asked old.files new.files (λ step. step ≡ Halted)
-      ⊎ (Traces asked old.files new.files run_end.Halted ⊎ (PutsFile asked old.files new.files
-      ⊎ (Tells asked old.files new.files ⊎ Means asked old.files new.files IsAtRest)))
-  pub machine_failed : status ≡ MachineFailed → Runs asked old.files new.files
+  pub done : status ≡ Done → RanTo asked old.files new.files (λ step. step ≡ Halted)
+      ⊎ (TracedTo asked old.files new.files run_end.Halted ⊎ (PutsFile asked old.files new.files
+      ⊎ (Tells asked old.files new.files ⊎ MeantTo asked old.files new.files IsAtRest)))
+  pub machine_failed : status ≡ MachineFailed → RanTo asked old.files new.files
       (λ step. (cause : FailCause) × (at : ℤ) × (step ≡ Failed cause at))
-      ⊎ (Traces asked old.files new.files run_end.Failed
-      ⊎ Means asked old.files new.files (λ e. e ≡ meaning_end.Fail))
-  pub steps_used : status ≡ StepsUsed → Runs asked old.files new.files (λ step. step ≡ Went)
-      ⊎ (Traces asked old.files new.files run_end.Running
-      ⊎ Means asked old.files new.files (λ e. e ≡ meaning_end.OutOfFuel))
+      ⊎ (TracedTo asked old.files new.files run_end.Failed
+      ⊎ MeantTo asked old.files new.files (λ e. e ≡ meaning_end.Fail))
+  pub steps_used : status ≡ StepsUsed → RanTo asked old.files new.files (λ step. step ≡ Went)
+      ⊎ (TracedTo asked old.files new.files run_end.Running
+      ⊎ MeantTo asked old.files new.files (λ e. e ≡ meaning_end.OutOfFuel))
   pub usage : status ≡ Usage → asked ≡ None
   pub read_fault : status ≡ ReadFault
       → Rose old.files.failed_reads new.files.failed_reads × IsUnread (plan_in asked) old.files new.files
   -- a write failed, or the put of the file of `--out`
   pub write_fault : status ≡ WriteFault → Rose old.sink.faults new.sink.faults
-      ⊎ (Rose old.files.failed_puts new.files.failed_puts × (out_of asked ≡ Some new.files.last_failed_put))
+      ⊎ (Rose old.files.failed_puts new.files.failed_puts × (out_name asked ≡ Some new.files.last_failed_put))
   pub no_memory : status ≡ NoMemory
       → OnlyGave old.files new.files × (new.sink ≡ old.sink) × (new.kept ≡ old.kept)
   pub too_long : status ≡ TooLong → (index : ℕ) × Wrote (refusal.TooLong index) old new
@@ -369,7 +369,7 @@ Stay old new = new.contents ≡ old.contents
 
 -- all but the file of `--out`, where there is one
 abbrev pub OthersStay : Option Command → FilesSeen → FilesSeen → Type 0
-OthersStay asked old new = Stay old new ⊎ ((out : List ℕ) × (out_of asked ≡ Some out)
+OthersStay asked old new = Stay old new ⊎ ((out : List ℕ) × (out_name asked ≡ Some out)
     × KeepsOthers old new out)
 
 -- a file is put where the status is Done or WriteFault, and nowhere else
@@ -473,7 +473,8 @@ pub record DebugGiven (l : Linked) (script : List ℕ) (old : Outside) (status :
   pub status_is : status ≡ Done
   pub written : Adds old.sink (debug_text from.start.state lines) new.sink
   pub kept_is : new.kept ≡ old.kept
-  pub remembers : Remembers from.start.state (after_commands lines (begun from.start.state MOST_DEPTH))
+  pub remembers : Remembers from.start.state
+      (after_commands lines (debugging_from from.start.state MOST_DEPTH))
 
 -- the run of the start's overlay gave the status and the text, and no machine. Its lines are those that a
 -- plain run of as many instructions writes.

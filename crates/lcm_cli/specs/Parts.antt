@@ -2,7 +2,7 @@
 -- all of them. And those of an image.
 use Rattle.std.specs.Prelude.{◌≡◌, ℕ, List, map, Result, Ok, Err}
 use Rattle.assembler.specs.Assembled.{assembled}
-use Rattle.command_words.specs.Part.{is_trusted}
+use Rattle.command_words.specs.Part.{is_trusted_mark}
 use Rattle.command_words.specs.declared.part.Ending.{Ending}
 use Rattle.command_words.specs.declared.part.Ending.TheVariants.{Source, Assembler, Component}
 use Rattle.command_words.specs.declared.part.PartWord.{PartWord}
@@ -75,9 +75,9 @@ component_at index word = do
 unfoldable pub part_at : ℕ → PartWord → Plan PartSeen
 part_at index word = do
   c ← component_at index word
-  unless (broken_in index) (accepted (record { component = c; trusted = is_trusted word.mark }))
+  unless (broken_in index) (accepted (record { component = c; trusted = is_trusted_mark word.mark }))
 
 -- the bytes of a word's file are this part, which keeps its own rules
 abbrev pub IsPartOf : PartWord → List ℕ → PartSeen → Type 0
 IsPartOf word bytes p =
-    HasForm word.ending bytes p.component × (p.trusted ≡ is_trusted word.mark) × (accepted p ≡ Ok p)
+    HasForm word.ending bytes p.component × (p.trusted ≡ is_trusted_mark word.mark) × (accepted p ≡ Ok p)

@@ -28,7 +28,7 @@ use Rattle.file_plans.specs.declared.TheConstants.{LONGEST_FILE}
 use Rattle.file_plans.specs.declared.refusal.Refusal.{Refusal}
 use Rattle.file_plans.specs.Plans.{Comes}
 use Rattle.lcm_cli.specs.declared.status.Status.{Status}
-use Rattle.command_words.specs.Part.{is_trusted}
+use Rattle.command_words.specs.Part.{is_trusted_mark}
 use Rattle.lcm_cli.specs.Parts.{IsPartOf}
 use Rattle.lcm_cli.specs.Commands.{linked_in}
 use Rattle.lcm_cli.specs.Refusals.{refusal_text}
@@ -41,7 +41,7 @@ use Rattle.lcm_cli.specs.Causes.{IsRunStatus, Started, RunGiven, text_of_run, Me
 
 -- every trusted word is a source
 abbrev pub AllSources : List PartWord → Type 0
-AllSources words = Each (λ (w : PartWord). is_trusted w.mark ≡ true → is_source w.ending ≡ true) words
+AllSources words = Each (λ (w : PartWord). is_trusted_mark w.mark ≡ true → is_source w.ending ≡ true) words
 
 -- of a trusted word, the text spells the first of the modules, in this language; the others are left to the
 -- words behind it
@@ -57,7 +57,7 @@ SourcesCame [] old parts modules new = (parts ≡ []) × (modules ≡ []) × (ne
 SourcesCame (w ∷ words) old [] modules new = ⊥
 SourcesCame (w ∷ words) old (p ∷ parts) modules new =
     (text : List ℕ) × (mid : FilesSeen) × ComesWhole old w.name LONGEST_FILE text mid × IsPartOf w text p
-    × SpelledBy (is_trusted w.mark) (language_of w.ending) text modules
+    × SpelledBy (is_trusted_mark w.mark) (language_of w.ending) text modules
     (λ others. SourcesCame words mid parts others new)
 
 -- the text of the run is a feed of these modules: they keep the rules of a meaning, the feed's reader takes

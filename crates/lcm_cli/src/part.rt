@@ -7,7 +7,7 @@ ghost use Rattle.file_plans.specs.declared.refusal.Refusal.TheVariants as refusa
 ghost use Rattle.file_plans.specs.Plans.{Follows, Meets, unless, each_at};
 ghost use Rattle.proc_sources.specs.Sources.{sourced};
 ghost use Rattle.component_linker.specs.Accepted.{accepted};
-ghost use Rattle.command_words.specs.Part.{is_trusted};
+ghost use Rattle.command_words.specs.Part.{is_trusted_mark};
 ghost use Rattle.lcm_cli.specs.Parts.{broken_in, form_by, component_at, part_at};
 
 use assembler::{AsmFault, assemble};
@@ -89,7 +89,7 @@ pub(crate) fn component<F: Files>(
 }
 
 fn is_trusted(mark: Mark) -> bool
-    ensures { result ≡ is_trusted mark }
+    ensures { result ≡ is_trusted_mark mark }
 {
     mark == Mark::Trusted
 }

@@ -1,7 +1,7 @@
 //! What links: its start, or its image, of parts or of an image's file.
 ghost use Rattle.std.specs.Prelude.{◌≡◌, ◌<◌, ◌≤◌, ◌^◌, Ok, IfOk, length};
 ghost use Rattle.command_words.specs.declared.TheConstants.{MOST_PARTS};
-ghost use Rattle.image_loader.specs.Image.{ImageSeen, Spells};
+ghost use Rattle.image_loader.specs.Image.{ImageSeen, SpellsImage};
 ghost use Rattle.file_plans.specs.declared.refusal.Refusal.TheVariants.{Rule, Image};
 ghost use Rattle.file_plans.specs.Plans.{Meets, unless};
 ghost use Rattle.component_linker.specs.LinkedStarts.{IsStartOf};
@@ -49,7 +49,7 @@ fn parts_start<F: Files>(
 fn load(alloc: Global, bytes: &[u8]) -> Result<Start, Stop>
     requires { length bytes.now < 2 ^ 32 }
     ensures start { MeetsStart (unless Image (loaded bytes.now)) result }
-    ensures spelled { IfOk result (λ _. (i : ImageSeen) × (loaded bytes.now ≡ Ok i) × Spells bytes.now i) }
+    ensures spelled { IfOk result (λ _. (i : ImageSeen) × (loaded bytes.now ≡ Ok i) × SpellsImage bytes.now i) }
 {
     match load_image(alloc, bytes) {
         Ok(start) => Ok(start),
@@ -86,7 +86,7 @@ fn linked_bytes(alloc: Global, parts: &Items<Part>, size: u32) -> Result<Items<u
     requires some { 1 ≤ length parts.now }
     requires few { length parts.now ≤ MOST_PARTS }
     ensures rules { Meets (unless Rule (linked parts.now size)) (without result) }
-    ensures bytes { IfOk result (λ bytes. Spells bytes (record { stack = size; parts = parts.now })) }
+    ensures bytes { IfOk result (λ bytes. SpellsImage bytes (record { stack = size; parts = parts.now })) }
 {
     start_of(alloc, parts, size)?;
     let bytes = write_image(alloc, parts.as_slice(), size)?;

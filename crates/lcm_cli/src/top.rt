@@ -13,7 +13,7 @@ ghost use Rattle.lcm_cli.specs.Commands.{plan_in, Totals};
 ghost use Rattle.trace_tool.specs.Runs.{end_of};
 ghost use Rattle.lcm_cli.specs.Jobs.{FollowsTask};
 ghost use Rattle.overlay_machine.specs.Seen.{IsOverlayOf};
-ghost use Rattle.lcm_cli.specs.Answers.{ran, Answers, Gives, Tells, outside, end_status};
+ghost use Rattle.lcm_cli.specs.Answers.{ran, Answers, Gives, WritesOrFails, outside, end_status};
 ghost use Rattle.lcm_cli.specs.Answers.{meaning_status, refused};
 ghost use Rattle.lcm_cli.specs.Answers.{GivesOrNothing, job_answer, IsReady};
 ghost use Rattle.lcm_cli.specs.Causes.{Promised, IsRunStatus, RunGiven, TraceGiven, RunCut, TraceCut};
@@ -54,7 +54,7 @@ use trace_tool::{RunEnd, run_counted, run_overlay, run_plain};
 // Writes a text, and answers the status, or WriteFault where the sink fails.
 fn tell<S: Sink>(out: &mut S, text: &str, status: Status) -> Status
     requires { 0 < length text.now }
-    ensures { Tells (S.seen out.old) text.now status result (S.seen out.new) }
+    ensures { WritesOrFails (S.seen out.old) text.now status result (S.seen out.new) }
 {
     match out.write(text.as_bytes()) {
         Ok(()) => status,
@@ -156,7 +156,7 @@ fn give_file<F: Files, S: Sink>(
 
 // Writes a text line by line, and answers the status, or WriteFault where the sink fails.
 fn give_text<S: Sink>(text: &Items<u8>, status: Status, out: &mut S) -> Status
-    ensures { Tells (S.seen out.old) text.now status result (S.seen out.new) }
+    ensures { WritesOrFails (S.seen out.old) text.now status result (S.seen out.new) }
 {
     match write_lines(out, text.as_slice()) {
         Ok(()) => status,
@@ -176,7 +176,7 @@ fn meaning_status(end: End) -> Status
 
 // Writes the text of a meaning.
 fn give_meaning<S: Sink>(meant: &Meaning, out: &mut S) -> Status
-    ensures { Tells (S.seen out.old) meant.now.text (meaning_status meant.now.end) result (S.seen out.new) }
+    ensures { WritesOrFails (S.seen out.old) meant.now.text (meaning_status meant.now.end) result (S.seen out.new) }
 {
     give_text(&meant.text, meaning_status(meant.end), out)
 }

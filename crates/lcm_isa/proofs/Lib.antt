@@ -2,3 +2,4 @@ pub mod NumberLemmas
 pub mod NameLemmas
 pub mod TextLemmas
 pub mod OwnLemmas
+pub mod Offers

@@ -28,7 +28,7 @@ use Rattle.lcm_isa.specs.declared.Instr.TheVariants.{Fail, Halt, Jmp, Jnz, Getty
 use Rattle.lcm_isa.specs.declared.Instr.TheVariants.{Getlin, Move, Store, Load, Cca, Restrict, Lt, Plus}
 use Rattle.lcm_isa.specs.declared.Instr.TheVariants.{Minus, Seta2b, Xjmp, Cseal, Split, Splice}
 use Rattle.lcm_isa.specs.Numbers.{number_of, IsInstr}
-use Rattle.lcm_isa.proofs.NumberLemmas.{decode_of-number_of}
+use Rattle.lcm_isa.proofs.Offers.{decode_of-number_of}
 use Rattle.lcm_machine.specs.declared.FailCause.{FailCause}
 use Rattle.lcm_machine.specs.declared.FailCause.TheVariants.{F4}
 use Rattle.lcm_machine.specs.declared.Place.{Place}

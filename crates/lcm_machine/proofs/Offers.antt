@@ -12,44 +12,29 @@ pub use Rattle.lcm_machine.proofs.Stretches.{there-none, there-step, tied_same, 
 pub use Rattle.lcm_machine.proofs.Stretches.{words-first, words-none, words_from-drop}
 -- addresses in spans, and that their bases rise
 pub use Rattle.lcm_machine.proofs.SpanLemmas.{bases_rise, in_span_is, none_after}
--- what a fetch says of pc's word, and the step at an instruction
-pub use Rattle.lcm_machine.proofs.RowLemmas.{fetch_normal, fetch_some, step_at}
 -- a property of the effect of a plan, by the shape of the plan
 pub use Rattle.lcm_machine.proofs.Plans.{Gives, Gives-ask, Gives-by_cap, Gives-effect, Gives-if, Gives-need}
-pub use Rattle.lcm_machine.proofs.Plans.{gives_fails, gives_goes, gives_halts, memory_is}
--- what an instruction does where its conditions hold, for words of any kind; runs one behind the other
-pub use Rattle.lcm_machine.proofs.Goes.{Stands-set, Stands-set_below, cca_goes, cca_seal_goes, cseal_goes}
-pub use Rattle.lcm_machine.proofs.Goes.{fail_fails, fetch_at, geta_goes, getb_goes, gete_goes, getlin_goes}
-pub use Rattle.lcm_machine.proofs.Goes.{getp_goes, gettype_goes, go, jnz_goes, jnz_jumps, leaves, left}
-pub use Rattle.lcm_machine.proofs.Goes.{load_goes, minus_goes, move_goes, number_in, ran, run_of-add}
-pub use Rattle.lcm_machine.proofs.Goes.{run_then, set_goes, seta2b_goes, shows, splice_goes, split_goes}
-pub use Rattle.lcm_machine.proofs.Goes.{stays, stop, store_goes, xjmp_goes}
--- one step of code that stands in memory is its row, and one step of a run is a step
-pub use Rattle.lcm_machine.proofs.StepRows.{run_one, step_row}
+pub use Rattle.lcm_machine.proofs.Plans.{Shape, ShapeMoved, ShapePlace, gives_fails, gives_goes, gives_halts}
+pub use Rattle.lcm_machine.proofs.Plans.{memory_is, plan-Shape}
+-- what a fetch says of pc's word, and the step at an instruction
+pub use Rattle.lcm_machine.proofs.RowLemmas.{fetch_normal, fetch_some, look_memory, look_seals, step_at}
+-- what a step leaves of memory, and the address that its instruction uses
+pub use Rattle.lcm_machine.proofs.TouchLemmas.{after_each, after_went, fetched_row, plain_same, row_cells}
+pub use Rattle.lcm_machine.proofs.TouchLemmas.{row_others, there_same, touched_by, used_target}
 -- the effect of an `xjmp` that goes
 pub use Rattle.lcm_machine.proofs.JumpLemmas.{jump-cells, plan-jump}
--- where an `xjmp` fails
-pub use Rattle.lcm_machine.proofs.XjmpFails.{opened-memory, xjmp_fails, xjmp_runs_fails}
--- where `store`, `split` and `splice` fail, and that a run that failed stays failed
-pub use Rattle.lcm_machine.proofs.Refusals.{failed_more, splice_fails, split_fails, stops, store_fails}
-pub use Rattle.lcm_machine.proofs.Refusals.{then_failed}
--- a step counts at most one, and an ended machine stays as it is
-pub use Rattle.lcm_machine.proofs.RunLemmas.{count_next, is_none, plain_count, plain_ended, plain_ends}
-pub use Rattle.lcm_machine.proofs.RunLemmas.{plain_more}
--- what a step leaves of memory, and the address that its instruction uses
-pub use Rattle.lcm_machine.proofs.TouchLemmas.{after_each, after_went, fetched_row, row_cells, row_others}
-pub use Rattle.lcm_machine.proofs.TouchLemmas.{plain_same, there_same, touched_by, used_target}
--- what a capability that allows an access covers, and that a lower permission lets no more run
-pub use Rattle.lcm_machine.proofs.StepActs.{below_runs, covered, in_seals}
+-- a closed property of words is kept by every row
+pub use Rattle.lcm_machine.proofs.WordsKept.{row_keeps, step_keeps}
+-- words that have a spelling, along steps and runs
+pub use Rattle.lcm_machine.proofs.WordsFit.{OpenedFits, next_state_fits, opened_fits, plain_fits, small_fits}
+pub use Rattle.lcm_machine.proofs.WordsFit.{tested_fits, zero_fits}
 -- a run that goes without a cell doesn't touch it where it is there
 pub use Rattle.lcm_machine.proofs.Quiet.{lacking, lacks, quiet, untouched_then}
 -- a step that touches none of some cells goes the same way whatever is in them
 pub use Rattle.lcm_machine.proofs.Blind.{fetch_blind, step_blind}
--- a closed property of words is kept by every row
-pub use Rattle.lcm_machine.proofs.WordsKept.{row_keeps}
--- words that have a spelling, along steps and runs
-pub use Rattle.lcm_machine.proofs.WordsFit.{OpenedFits, next_state_fits, opened_fits, plain_fits, small_fits}
-pub use Rattle.lcm_machine.proofs.WordsFit.{tested_fits, zero_fits}
+-- what a capability that allows an access covers, and that a lower permission lets no more run
+pub use Rattle.lcm_machine.proofs.StepActs.{below_runs, covered, does_as_it_may, in_seals}
+pub use Rattle.lcm_machine.proofs.StepActs.{writes_where_it_may}
 -- regions that lie apart, and what of them a capability has
 pub use Rattle.lcm_machine.proofs.RegionLemmas.{bounds_over, contains_cases, contains_none, normal_apart}
 pub use Rattle.lcm_machine.proofs.RegionLemmas.{over_bounds}
@@ -58,6 +43,24 @@ pub use Rattle.lcm_machine.proofs.HeldOnce.{run_stays, split_bounds}
 -- 'covered at most once', told by a count of places
 pub use Rattle.lcm_machine.proofs.CountLemmas.{count_some, counted, counts_once, covered_counts, has_place}
 pub use Rattle.lcm_machine.proofs.CountLemmas.{once_counts}
+-- a step counts at most one, and an ended machine stays as it is
+pub use Rattle.lcm_machine.proofs.RunLemmas.{count_next, is_none, plain_count, plain_ended, plain_ends}
+pub use Rattle.lcm_machine.proofs.RunLemmas.{plain_more}
+-- what an instruction does where its conditions hold, for words of any kind; runs one behind the other
+pub use Rattle.lcm_machine.proofs.Goes.{Stands-set, Stands-set_below, cca_goes, cca_seal_goes, cseal_goes}
+pub use Rattle.lcm_machine.proofs.Goes.{fail_fails, fetch_at, geta_goes, getb_goes, gete_goes, getlin_goes}
+pub use Rattle.lcm_machine.proofs.Goes.{getp_goes, gettype_goes, go, halt_halts, jmp_goes, jnz_goes}
+pub use Rattle.lcm_machine.proofs.Goes.{jnz_jumps, leaves, left, load_goes, load_linear_goes, lt_goes}
+pub use Rattle.lcm_machine.proofs.Goes.{minus_goes, move_goes, number_in, plus_goes, ran, run_of-add}
+pub use Rattle.lcm_machine.proofs.Goes.{run_then, set_goes, seta2b_goes, shows, splice_goes, split_goes}
+pub use Rattle.lcm_machine.proofs.Goes.{stays, stop, store_goes, xjmp_goes}
+-- one step of code that stands in memory is its row, and one step of a run is a step
+pub use Rattle.lcm_machine.proofs.StepRows.{run_one, step_row}
+-- where `store`, `split` and `splice` fail, and that a run that failed stays failed
+pub use Rattle.lcm_machine.proofs.Refusals.{failed_more, splice_fails, split_fails, stops, store_fails}
+pub use Rattle.lcm_machine.proofs.Refusals.{then_failed}
+-- where an `xjmp` fails
+pub use Rattle.lcm_machine.proofs.XjmpFails.{opened-memory, xjmp_fails, xjmp_runs_fails}
 -- the row, the fetch and the step of a mapped state
-pub use Rattle.lcm_machine.proofs.Commute.{fetch_commutes, fetch_mapped, is_linear-face, row_mapped}
-pub use Rattle.lcm_machine.proofs.Commute.{step_mapped}
+pub use Rattle.lcm_machine.proofs.Commute.{OpensSame, fetch_by, fetch_commutes, fetch_mapped, is_linear-face}
+pub use Rattle.lcm_machine.proofs.Commute.{plan-opens, row_mapped, step_mapped}

@@ -5,7 +5,7 @@ use Rattle.lcm_isa.specs.declared.Reg.{Reg}
 use Rattle.lcm_isa.specs.declared.Reg.TheVariants.{Pc, Rcode, Rdata, Stk, Dat, T1, T2, C1, C2, A0, A1, A2, A3}
 use Rattle.lcm_isa.specs.declared.Reg.TheVariants.{G0, G1, G2}
 use Rattle.lcm_isa.specs.Numbers.{reg_number, reg_of}
-use Rattle.lcm_isa.proofs.NumberLemmas.{reg_back}
+use Rattle.lcm_isa.proofs.Offers.{reg_back}
 use Rattle.lcm_machine.specs.Maps.{Regs}
 use Rattle.lcm_machine.specs.Places.{reg, set_reg}
 

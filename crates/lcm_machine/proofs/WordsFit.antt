@@ -24,7 +24,7 @@ use Rattle.cap_words.specs.Faces.{target_of}
 use Rattle.cap_words.specs.Linear.{lin_is}
 use Rattle.cap_words.specs.WordBytes.{ContentFits, WordFits}
 use Rattle.lcm_isa.specs.Numbers.{IsInstr, decode_of}
-use Rattle.lcm_isa.proofs.NumberLemmas.{decode_of-fits}
+use Rattle.lcm_isa.proofs.Offers.{decode_of-fits}
 use Rattle.lcm_isa.specs.declared.Reg.{Reg}
 use Rattle.lcm_isa.specs.declared.Reg.TheVariants.{Pc}
 use Rattle.lcm_isa.specs.declared.Operand.TheVariants.{R as InReg, Imm}

@@ -49,23 +49,23 @@ put_back m a (w ∷ ws) = put_back (set_cell m a w) (a + 1) ws
 -- ---- how memory is kept
 
 -- the slots from an address on that hold a word, each with its address
-abbrev pub numbered : {W : Type 0} → ℕ → List (Option W) → List (ℕ × W)
-numbered at [] = []
-numbered at (None ∷ m) = numbered (at + 1) m
-numbered at (Some w ∷ m) = (at, w) ∷ numbered (at + 1) m
+abbrev pub numbered_slots : {W : Type 0} → ℕ → List (Option W) → List (ℕ × W)
+numbered_slots at [] = []
+numbered_slots at (None ∷ m) = numbered_slots (at + 1) m
+numbered_slots at (Some w ∷ m) = (at, w) ∷ numbered_slots (at + 1) m
 
 -- those of each span, from its base on
 abbrev pub numbered_in : {W : Type 0} → List Span → List (List (Option W)) → List (ℕ × W)
 numbered_in [] parts = []
 numbered_in (s ∷ ss) [] = []
-numbered_in (s ∷ ss) (m ∷ ms) = numbered s.base m ++ numbered_in ss ms
+numbered_in (s ∷ ss) (m ∷ ms) = numbered_slots s.base m ++ numbered_in ss ms
 
 -- memory of a list of slots for each span; a slot without a word is no cell
 unfoldable pub cells_of : {W : Type 0} → List Span → List (List (Option W)) → map.FinMap nat_cmp W
 cells_of spans parts = map.from_entries (numbered_in spans parts)
 
 -- a list of slots for each span, with one slot for each of its addresses
-abbrev pub AreParts : {W : Type 0} → List Span → List (List (Option W)) → Type 0
-AreParts [] [] = Unit {0}
-AreParts (s ∷ ss) (m ∷ ms) = (s.base + length m ≡ s.end + 1) × AreParts ss ms
-AreParts _ _ = ⊥
+abbrev pub AreSlotsOf : {W : Type 0} → List Span → List (List (Option W)) → Type 0
+AreSlotsOf [] [] = Unit {0}
+AreSlotsOf (s ∷ ss) (m ∷ ms) = (s.base + length m ≡ s.end + 1) × AreSlotsOf ss ms
+AreSlotsOf _ _ = ⊥

@@ -55,8 +55,8 @@ word_over look None a = false
 word_over look (Some w) a = is_over (memory_of (look w)) a
 
 -- each memory capability of a register or a cell lies in one region
-abbrev pub Fits : {W : Type 0} → (W → Word) → List Region → State W → Type 0
-Fits {W} look rs s =
+abbrev pub InRegions : {W : Type 0} → (W → Word) → List Region → State W → Type 0
+InRegions {W} look rs s =
     (p : Place) (w : W) → word_at s p ≡ Some w
     → (c : CapFields) → memory_of (look w) ≡ Some c → InOneRegion rs c
 
@@ -69,7 +69,7 @@ CoveredOnce look rs s =
 
 -- both: the regions are respected, and no linear memory is held twice
 abbrev pub HeldOnce : {W : Type 0} → (W → Word) → List Region → State W → Type 0
-HeldOnce look rs s = Fits look rs s × CoveredOnce look rs s
+HeldOnce look rs s = InRegions look rs s × CoveredOnce look rs s
 
 -- whatever the regions, if one state has both, then the other has too
 unfoldable pub StaysHeldOnce : {W : Type 0} → (W → Word) → State W → State W → Type 0

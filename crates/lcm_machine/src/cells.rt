@@ -1,7 +1,7 @@
 //! Memory: a cell at some of the addresses 0 to 1,048,575, kept by spans.
 ghost use Rattle.std.specs.Prelude.{◌≡◌, ◌≤◌, ◌<◌, ◌+◌, ◌^◌, IfOk, IfSome, IfNone, IsTrue, IsSome, is_some};
 ghost use Rattle.std.specs.Prelude.{Some, None, option_copied, map, false, ℕ};
-ghost use Rattle.lcm_machine.specs.Cells.{cell, set_cell, drop_cell, set_slot, cells_of, AreParts};
+ghost use Rattle.lcm_machine.specs.Cells.{cell, set_cell, drop_cell, set_slot, cells_of, AreSlotsOf};
 ghost use Rattle.lcm_machine.specs.Spans.{in_spans, AreSpans, IsNear, StandsAt, slot, zero_part};
 
 use crate::parts::Part;
@@ -58,7 +58,7 @@ impl<W> Model for Cells<W> {
     ghost use Rattle.std.specs.Ordering.{nat_cmp};
     ghost use Rattle.std.specs.FinMap as map;
     ghost use Rattle.std.specs.Coded.{codes, coded_ℕ};
-    ghost use Rattle.lcm_machine.specs.Cells.{cells_of, AreParts};
+    ghost use Rattle.lcm_machine.specs.Cells.{cells_of, AreSlotsOf};
     ghost use Rattle.lcm_machine.specs.Spans.{AreSpans, IsNear};
     ghost use Rattle.lcm_machine.specs.Maps.{Memory};
 
@@ -68,7 +68,7 @@ impl<W> Model for Cells<W> {
 
     ghost view = { λ c. record { words = cells_of c.spans.items c.parts.items; spans = c.spans.items } };
 
-    ghost invariant = { λ c. AreSpans 0 c.spans.items × AreParts c.spans.items c.parts.items
+    ghost invariant = { λ c. AreSpans 0 c.spans.items × AreSlotsOf c.spans.items c.parts.items
         × IsNear c.spans.items c.fetched × IsNear c.spans.items c.used };
 }
 

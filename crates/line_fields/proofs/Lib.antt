@@ -4,3 +4,4 @@ pub mod Numbers
 pub mod Fronts
 pub mod WordTexts
 pub mod JumpTexts
+pub mod Offers

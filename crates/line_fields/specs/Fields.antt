@@ -15,13 +15,14 @@ lines text = parts 10 text
 abbrev pub Reader : Type 0 → Type 0
 Reader A = List (List ℕ) → Option (A × List (List ℕ))
 
-abbrev pub goes_on : {A B : Type 0} → Option (A × List (List ℕ)) → (A → Reader B) → Option (B × List (List ℕ))
-goes_on None f = None
-goes_on (Some x) f = f x.0 x.1
+abbrev pub reads_on : {A B : Type 0} → Option (A × List (List ℕ)) → (A → Reader B) → Option
+    (B × List (List ℕ))
+reads_on None f = None
+reads_on (Some x) f = f x.0 x.1
 
 infixl 10 ◌>>=◌
 abbrev pub ◌>>=◌ : {A B : Type 0} → Reader A → (A → Reader B) → Reader B
-(r >>= f) ts = goes_on (r ts) f
+(r >>= f) ts = reads_on (r ts) f
 
 abbrev pub done : {A : Type 0} → A → Reader A
 done x ts = Some (x, ts)

@@ -15,7 +15,7 @@ use Rattle.proc_names.specs.Calls.{proc_calls}
 use Rattle.proc_templates.specs.Compiled.{size_of_proc, import_slots, imports_of, exports_from}
 use Rattle.proc_templates.specs.Compiled.{exports_of, component_of, compiled}
 use Rattle.proc_templates.specs.Kept.{NoneNamed, NamesDiffer}
-use Rattle.proc_templates.proofs.Entries.{any_into}
+use Rattle.proc_templates.proofs.Offers.{any_into}
 use Rattle.module_rules.specs.Rules.{proc_named}
 
 -- ---- exports

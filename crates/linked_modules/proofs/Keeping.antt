@@ -13,7 +13,7 @@ use Rattle.std.proofs.lemmas.Map.Keys.{any_passes_from_place}
 use Rattle.component_check.specs.Places.{Test, BrokenAt}
 use Rattle.component_file.specs.declared.component.Import.{Import}
 use Rattle.component_file.specs.declared.component.Export.{Export}
-use Rattle.component_file.proofs.Lists.{inside}
+use Rattle.component_file.proofs.Offers.{inside}
 use Rattle.component_linker.specs.Parts.{PartSeen}
 use Rattle.component_linker.specs.Standing.{placed}
 use Rattle.component_linker.specs.Regions.{is_stack_size}
@@ -23,10 +23,8 @@ use Rattle.component_linker.specs.Pairs.{PairTest, BrokenIn, NoneIsBroken, IsFir
 use Rattle.component_linker.specs.Pairs.{passes, at_each, within_or, each_part}
 use Rattle.component_linker.specs.Links.{l3, l5, l6, rules_l, is_private as is_private_in}
 use Rattle.component_linker.specs.Links.{has_main as part_has_main}
-use Rattle.component_linker.proofs.FirstIn.{first_broken_in}
-use Rattle.component_linker.proofs.RuleLemmas.{slice_get-take, taken, any_settled}
-use Rattle.component_linker.proofs.LinksKept.{in_part, stack_fits as parts_fit, stack_bases, imports_found}
-use Rattle.component_linker.proofs.PartWords.{taken_get}
+use Rattle.component_linker.proofs.Offers.{first_broken_in, slice_get-take, taken, any_settled, in_part}
+use Rattle.component_linker.proofs.Offers.{stack_fits as parts_fit, stack_bases, imports_found, taken_get}
 use Rattle.proc_language.specs.declared.module.Import.{Import as ModuleImport}
 use Rattle.proc_language.specs.declared.module.Proc.{Proc}
 use Rattle.proc_language.specs.declared.module.ModuleFields.{ModuleFields}

@@ -4,7 +4,7 @@ use Rattle.std.specs.Prelude.{slice_get}
 use Rattle.component_file.specs.declared.component.ComponentFields.{ComponentFields}
 use Rattle.component_linker.specs.Parts.{PartSeen}
 use Rattle.component_linker.specs.Placing.{moved_by}
-use Rattle.component_linker.specs.Standing.{move_of, part_at, past, placed_from, placed, free_of}
+use Rattle.component_linker.specs.Standing.{move_of, placed_part, past, placed_from, placed, free_of}
 
 -- what a component says of names and the stack
 pub record SaysSame (c d : ComponentFields) : Type 0 where
@@ -25,7 +25,7 @@ from_there : (f : _) (ps : List PartSeen) (k : ℕ) (p : PartSeen) → slice_get
 from_there f [] k p h = absurd cc
 from_there f (q ∷ ps) zero p h =
     let same : q ≡ p = cc in
-    (part_at f p, ap (λ r. Some (part_at f r)) same, moved_same p.component (move_of f p.component))
+    (placed_part f p, ap (λ r. Some (placed_part f r)) same, moved_same p.component (move_of f p.component))
 from_there f (q ∷ ps) (suc k) p h = from_there (past f q) ps k p h
 
 pub still_there : (parts : List PartSeen) (size k : ℕ) (p : PartSeen) → slice_get parts k ≡ Some p

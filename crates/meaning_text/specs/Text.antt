@@ -37,4 +37,5 @@ end_text OutOfFuel = codes "fuel"
 -- a line for each event, and the end line
 unfoldable pub told_text : Told → List ℕ
 told_text told =
-    events_text told.events ++ end_text told.end ++ codes " ticks" ++ field_text (decimal told.ticks) ++ newline
+    events_text told.events ++ end_text told.end ++ codes " ticks" ++ field_text (decimal told.ticks)
+    ++ newline

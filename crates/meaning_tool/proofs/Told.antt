@@ -10,7 +10,7 @@ use Rattle.file_plans.specs.declared.refusal.Refusal.TheVariants.{Rule}
 use Rattle.file_plans.specs.declared.refusal.Stop.{Stop}
 use Rattle.file_plans.specs.declared.refusal.Stop.TheVariants.{NoMemory}
 use Rattle.file_plans.specs.Plans.{Plan, Made, ◌>>=◌, unless, each_at, Comes, Follows, Meets, FollowsAs}
-use Rattle.file_plans.proofs.Follow.{comes_bind, comes_same, follows_end, follows_bind, meets_follows}
+use Rattle.file_plans.proofs.Offers.{comes_bind, comes_same, follows_end, follows_bind, meets_follows}
 use Rattle.meaning_tool.specs.Subjects.{Subject, IsMeant, module_at, feed_at, subject_of, subject_in}
 use Rattle.meaning_tool.specs.declared.telling.Meaning.{Meaning}
 

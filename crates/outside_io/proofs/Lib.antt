@@ -5,3 +5,4 @@ pub mod Lying
 pub mod Named
 pub mod Reading
 pub mod Writing
+pub mod Offers

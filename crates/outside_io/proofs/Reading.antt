@@ -7,7 +7,7 @@ use Rattle.std.proofs.lemmas.List.{length-take-le, take_all}
 use Rattle.std.proofs.Math.Seq.{take-add}
 use Rattle.outside_io.specs.Counts.{raised, Rose}
 use Rattle.outside_io.proofs.Writing.{raised-raised}
-use Rattle.outside_io.specs.FilesSeen.{FilesSeen, IsPart, GivesPart, FailsToRead}
+use Rattle.outside_io.specs.FilesSeen.{FilesSeen, IsPieceAt, GivesPart, FailsToRead}
 use Rattle.outside_io.specs.Whole.{Came, Took, OnlyGave, GivesWhole, IsTooLong, Faults, RunsOut}
 
 -- these bytes came so far, one or more of each read, and nothing else changed
@@ -173,8 +173,8 @@ module _ (old now new : FilesSeen) (name : List ℕ) (limit : ℕ) (bytes buffer
   -- the file that the piece came of
   told_file : GivesPart now new name (length bytes) n buffer → (bytes_of : List ℕ → Option (List ℕ))
       → old.contents ≡ Some bytes_of
-      → (file : List ℕ) × (bytes_of name ≡ Some file) × IsPart file (length bytes) n buffer
-  told_file gives bytes_of is = file_of (λ file. IsPart file (length bytes) n buffer) now.contents name
+      → (file : List ℕ) × (bytes_of name ≡ Some file) × IsPieceAt file (length bytes) n buffer
+  told_file gives bytes_of is = file_of (λ file. IsPieceAt file (length bytes) n buffer) now.contents name
       bytes_of gives.told (still ∙ is)
 
   pub grown : 1 ≤ n → GivesPart now new name (length bytes) n buffer → length bytes + n ≤ limit
@@ -188,8 +188,8 @@ module _ (old now new : FilesSeen) (name : List ℕ) (limit : ℕ) (bytes buffer
     counted = more_calls (one_more gives);
     front = λ bytes_of is file there.
         let t = told_file gives bytes_of is in
-        let part : IsPart file (length bytes) n buffer =
-        subst (λ (f : List ℕ). IsPart f (length bytes) n buffer)
+        let part : IsPieceAt file (length bytes) n buffer =
+        subst (λ (f : List ℕ). IsPieceAt f (length bytes) n buffer)
         (same_file t.0 file (bytes_of name) t.1 there) t.2 in
         next_part bytes buffer file n gives.fits (sofar.front bytes_of is file there) part.same;
   }

@@ -21,7 +21,7 @@ IsFileName name = (0 < length name) × (length name ≤ LONGEST_NAME)
 
 -- the first n bytes of the buffer are the file's from a place on, and there are none only at the file's end
 -- or past it
-pub record IsPart (file : List ℕ) (at n : ℕ) (buffer : List ℕ) : Type 0 where
+pub record IsPieceAt (file : List ℕ) (at n : ℕ) (buffer : List ℕ) : Type 0 where
   pub within : n ≤ length file - at
   pub same : take n buffer ≡ take n (drop at file)
   pub ended : n ≡ 0 → length file ≤ at
@@ -30,7 +30,7 @@ pub record IsPart (file : List ℕ) (at n : ℕ) (buffer : List ℕ) : Type 0 wh
 pub record GivesPart (old new : FilesSeen) (name : List ℕ) (at n : ℕ) (buffer : List ℕ) : Type 0 where
   pub fits : n ≤ length buffer
   pub told : MatchOption old.contents ⊤ (λ bytes_of.
-      IsSomeAnd (bytes_of name) (λ file. IsPart file at n buffer))
+      IsSomeAnd (bytes_of name) (λ file. IsPieceAt file at n buffer))
   pub stays : new ≡ record old { reads = raised old.reads 1; given = raised old.given n }
 
 -- a read failed, and left all but the reads and the failed reads as it was

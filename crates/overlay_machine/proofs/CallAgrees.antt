@@ -15,7 +15,7 @@ use Rattle.lcm_machine.specs.Row.{faces, row, plan_in}
 use Rattle.lcm_machine.specs.Runs.{run_of, code_cap}
 use Rattle.lcm_machine.proofs.Offers.{row_mapped, is_linear-face}
 use Rattle.call_sequence.specs.SequenceRuns.{stack_cap, at_xjmp}
-use Rattle.call_sequence.proofs.CallLaws.{call_jumps}
+use Rattle.call_sequence.proofs.Offers.{call_jumps}
 use Rattle.trusted_border.specs.declared.layout.Layout.{Layout}
 use Rattle.trusted_border.specs.declared.layout.SiteCode.{SiteCode}
 use Rattle.overlay_machine.specs.declared.words.OWord.{OWord}
@@ -24,7 +24,7 @@ use Rattle.overlay_machine.specs.Words.{look, is_plain}
 use Rattle.overlay_machine.specs.State.{OState}
 use Rattle.overlay_machine.specs.Step.{new_frame, at_call, call_step, need, ask, with_frames, own_stack}
 use Rattle.overlay_machine.specs.Flat.{flat, beside, IsFlat}
-use Rattle.overlay_machine.specs.Agree.{Agrees, Looks, HasSite, AtSite}
+use Rattle.overlay_machine.specs.Agree.{EndsAgree, Looks, HasSite, AtSite}
 use Rattle.overlay_machine.proofs.FlatLemmas.{flat-mem, flat-opened, flat-plain, cell-flat, HasCall-flat}
 use Rattle.overlay_machine.proofs.FlatLemmas.{row_agrees}
 use Rattle.overlay_machine.proofs.FrameWords.{all_there-from, some_of}
@@ -101,7 +101,7 @@ module _ (l : Layout) (i : ℕ) (o : OState) (t : State Word) (at_site : AtSite 
           (at_site.owned (b + 1) (omega arith) high)))
 
       pub call_agrees : is_plain o.maps.regs.c1 ≡ true → is_plain o.maps.regs.c2 ≡ true
-          → Agrees l (call_step l i o) (run_of (λ w. w) (λ w. w) 16 t)
+          → EndsAgree l (call_step l i o) (run_of (λ w. w) (λ w. w) 16 t)
       call_agrees p1 p2 =
           let fs = new_frame i (b + 1) at_site.end o ∷ o.frames in
           let s' = at_call i site (stack_cap l.stack.base at_site.end (b + 1)) o in

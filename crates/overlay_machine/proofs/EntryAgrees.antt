@@ -21,7 +21,7 @@ use Rattle.lcm_machine.specs.Row.{faces}
 use Rattle.lcm_machine.specs.Runs.{run_of, code_cap}
 use Rattle.lcm_machine.specs.Mapped.{SameFaces}
 use Rattle.call_sequence.specs.SequenceRuns.{is_stack_at}
-use Rattle.call_sequence.proofs.EntryLaws.{entry_runs, entry_fails}
+use Rattle.call_sequence.proofs.Offers.{entry_runs, entry_fails}
 use Rattle.trusted_border.specs.declared.layout.Layout.{Layout}
 use Rattle.overlay_machine.specs.declared.words.OWord.{OWord}
 use Rattle.overlay_machine.specs.declared.words.OWord.TheVariants.{Plain}
@@ -29,7 +29,7 @@ use Rattle.overlay_machine.specs.Words.{look}
 use Rattle.overlay_machine.specs.State.{OState}
 use Rattle.overlay_machine.specs.Step.{goes, need, if_own, own_stack, entry_step}
 use Rattle.overlay_machine.specs.Flat.{flat, IsFlat}
-use Rattle.overlay_machine.specs.Agree.{Agrees, Looks, AtEntry}
+use Rattle.overlay_machine.specs.Agree.{EndsAgree, Looks, AtEntry}
 use Rattle.overlay_machine.proofs.FlatLemmas.{flat-mem, flat-plain, mem_of_face, HasEntry-flat, both_fail}
 use Rattle.overlay_machine.proofs.FlatLemmas.{both_go}
 use Rattle.overlay_machine.proofs.OwnStack.{face_of_own, own_parts}
@@ -122,7 +122,7 @@ module _ (l : Layout) (a : ℕ) (o : OState) (t : State Word) (at_entry : AtEntr
     unfolding entry_step need faces
     overlay_goes e = rw (at_entry.pc, e) refl
 
-    goes_on : own_stack l o.maps ≡ Some c → Agrees l (entry_step l a o) (run_of id id 20 t)
+    goes_on : own_stack l o.maps ≡ Some c → EndsAgree l (entry_step l a o) (run_of id id 20 t)
     unfolding own_stack faces
     goes_on e =
         let f = face_of_own l (face_of (look o.maps.regs.stk)) c e in
@@ -137,7 +137,7 @@ module _ (l : Layout) (a : ℕ) (o : OState) (t : State Word) (at_entry : AtEntr
         pc_is (m.regs Stk ∙ flat-mem l o.frames _ c w) p.0 p.1 p.2 (omega (arith, order.0, base_is)) order.1)
         (record { regs = regs; cells = m.cells; spans = m.spans }) (places, k.1)
 
-  refuses : own_stack l o.maps ≡ None → Agrees l (entry_step l a o) (run_of id id 20 t)
+  refuses : own_stack l o.maps ≡ None → EndsAgree l (entry_step l a o) (run_of id id 20 t)
   unfolding own_stack faces entry_step need
   refuses e =
       let face_is : face_of t.regs.stk ≡ face_of (look o.maps.regs.stk) =
@@ -150,9 +150,10 @@ module _ (l : Layout) (a : ℕ) (o : OState) (t : State Word) (at_entry : AtEntr
       (ap (is_stack_at l.stack.base) face_is ∙ not_own l (face_of (look o.maps.regs.stk)) e)
       at_entry.small_stack) tt)
 
-  by_stack : (x : Option CapFields) → own_stack l o.maps ≡ x → Agrees l (entry_step l a o) (run_of id id 20 t)
+  by_stack : (x : Option CapFields) → own_stack l o.maps ≡ x → EndsAgree l (entry_step l a o)
+      (run_of id id 20 t)
   by_stack None e = refuses e
   by_stack (Some c) e = goes_on c e
 
-  pub entry_agrees : Agrees l (entry_step l a o) (run_of id id 20 t)
+  pub entry_agrees : EndsAgree l (entry_step l a o) (run_of id id 20 t)
   entry_agrees = by_stack (own_stack l o.maps) refl

@@ -24,14 +24,14 @@ use Rattle.overlay_machine.specs.State.{Cells}
 use Rattle.lcm_machine.specs.Cells.{all_there, without, put_back}
 use Rattle.overlay_machine.specs.Step.{rest_words}
 use Rattle.overlay_machine.specs.Moves.{newest_items, IsNewest, opened}
-use Rattle.overlay_machine.specs.Machine.{Fits, AreWhole, AreOut, Fall, here, called, returned, jumping}
+use Rattle.overlay_machine.specs.Machine.{FitsRegion, AreWhole, AreOut, Fall, here, called, returned, jumping}
 use Rattle.lcm_machine.specs.Plan.{IsJump}
 use Rattle.overlay_machine.proofs.RoomLemmas.{here-without, here-put_back, here-same, here-most}
 use Rattle.lcm_machine.proofs.Offers.{jump-cells}
 use Rattle.overlay_machine.proofs.OutLemmas.{out-same, out-called, out-returned}
 
 -- a call has room
-pub fits-room : (l : Layout) (m : Machine) (at e : ℕ) → Fits l m → l.stack.base < at → at ≤ e
+pub fits-room : (l : Layout) (m : Machine) (at e : ℕ) → FitsRegion l m → l.stack.base < at → at ≤ e
     → e ≤ l.stack.end
     → IsTrue (all_there m.maps.cells at (e + 1 - at)) → sizes m.frames.frames + (e + 1 - at) ≤ m.frames.cells
 fits-room l m at e f a b c t =
@@ -42,10 +42,10 @@ fits-room l m at e f a b c t =
     omega (arith, h, k, r)
 
 pub fits-called : (l : Layout) (m : Machine) (i : ℕ) (s : SiteCode) (c : CapFields) (at : ℕ) (e : Effect)
-    → Fits l m → l.stack.base < at → at ≤ c.end
+    → FitsRegion l m → l.stack.base < at → at ≤ c.end
     → c.end ≤ l.stack.end → c.end ≤ 1048575
     → ((q : ℕ) → at ≤ q → q ≤ c.end → IsTrue (in_spans q m.maps.spans))
-    → IsTrue (all_there m.maps.cells at (c.end + 1 - at)) → IsJump C2 e → Fits l (called m i s c at e)
+    → IsTrue (all_there m.maps.cells at (c.end + 1 - at)) → IsJump C2 e → FitsRegion l (called m i s c at e)
 fits-called l m i s c at e f a b d last spanned t j =
     let q = jump-cells look Plain (jumping m i s c at) C2 e j in
     let h = here-without m.maps.cells at c.end (l.stack.base + 1) (l.stack.end - l.stack.base)
@@ -130,8 +130,8 @@ older-fall n (f ∷ []) h = tt
 older-fall n (f ∷ g ∷ fs) h = let a = h.0 in let b = h.1.0 in (omega (arith, a, b), h.1.1)
 
 pub fits-returned : (l : Layout) (m : Machine) (r2 : Reg) (s : SiteCode) (c : CapFields) (h : Frame)
-    → Fits l m → IsNewest m.frames.frames h
-    → newest_head m.frames.frames ≡ Some h → Fits l (returned m r2 s c h)
+    → FitsRegion l m → IsNewest m.frames.frames h
+    → newest_head m.frames.frames ≡ Some h → FitsRegion l (returned m r2 s c h)
 fits-returned l m r2 s c h f n e = record {
   cells = f.cells;
   kept = kept-back l m.maps.spans m.maps.cells m.frames.frames h.base (l.stack.end - l.stack.base)
@@ -143,8 +143,8 @@ fits-returned l m r2 s c h f n e = record {
 }
 
 -- an ordinary step, and one that sets registers alone
-pub fits-same : (l : Layout) (m : Machine) (t : State OWord) → Fits l m → SameCells m.maps t
-    → Fits l (record m { maps = t })
+pub fits-same : (l : Layout) (m : Machine) (t : State OWord) → FitsRegion l m → SameCells m.maps t
+    → FitsRegion l (record m { maps = t })
 unfolding SameCells
 fits-same l m t f k =
     let h = here-same t.cells m.maps.cells (l.stack.base + 1) (l.stack.end - l.stack.base) k.1 in
@@ -159,10 +159,10 @@ fits-same l m t f k =
 
 pub fits_fresh : (l : Layout) (maps : State OWord) (region : RegionSeen Frame OWord) (calls : ℕ)
     → region.frames ≡ [] → l.stack.end - l.stack.base ≤ region.cells
-    → Fits l (record { maps = maps; frames = region; calls = calls })
+    → FitsRegion l (record { maps = maps; frames = region; calls = calls })
 fits_fresh l maps region calls e r =
     let h = here-most maps.cells (l.stack.base + 1) (l.stack.end - l.stack.base) in
     let made : List (FrameSeen Frame OWord) → RegionSeen Frame OWord =
     λ fs. record { frames = fs; cells = region.cells } in
-    subst (λ fs. Fits l (record { maps = maps; frames = made fs; calls = calls })) (sym e)
+    subst (λ fs. FitsRegion l (record { maps = maps; frames = made fs; calls = calls })) (sym e)
     (record { cells = r; kept = omega (arith, h); whole = tt; out = tt; calls = tt })

@@ -28,7 +28,7 @@ use Rattle.overlay_machine.specs.Words.{look, is_plain}
 use Rattle.overlay_machine.specs.State.{OpenFrame, OState, framed}
 use Rattle.overlay_machine.specs.Step.{Ending, goes, fails, with_frames}
 use Rattle.overlay_machine.specs.Flat.{flat, beside, IsFlat}
-use Rattle.overlay_machine.specs.Agree.{FramesLook, Looks, Agrees}
+use Rattle.overlay_machine.specs.Agree.{FramesLook, Looks, EndsAgree}
 
 -- a word that looks like a memory or seal capability is one, and flattens to it
 pub flat-mem : (l : Layout) (fs : List OpenFrame) (w : OWord) (c : CapFields) → look w ≡ Mem c
@@ -151,7 +151,7 @@ module _ (l : Layout) (o : OState) (t : State Word) (m : IsFlat l o t) (k : Look
 -- a row, and the row of the flattened state
 pub row_agrees : (l : Layout) (fs : List OpenFrame) (n : ℕ) → FramesLook l fs
     → (x : Outcome OWord) (y : Outcome Word) → EndsMapped look (λ w. w) (flat l fs) (beside l fs) x y
-    → Agrees l (with_frames fs n x) y
+    → EndsAgree l (with_frames fs n x) y
 row_agrees l fs n k (went s) (went t) h = (h.0, (h.1, k))
 row_agrees l fs n k halted halted h = tt
 row_agrees l fs n k (failed c at) (failed d to) h = tt
@@ -162,11 +162,11 @@ row_agrees l fs n k halted (failed d to) h = absurd h
 row_agrees l fs n k (failed c at) (went t) h = absurd h
 row_agrees l fs n k (failed c at) halted h = absurd h
 
-pub both_fail : (l : Layout) (e : Ending) (r : Outcome Word) → e ≡ fails → HasFailed r → Agrees l e r
+pub both_fail : (l : Layout) (e : Ending) (r : Outcome Word) → e ≡ fails → HasFailed r → EndsAgree l e r
 both_fail l e (went s) h f = absurd f
 both_fail l e halted h f = absurd f
 both_fail l e (failed c at) h f = rw h tt
 
 pub both_go : (l : Layout) (x : Ending) (r : Outcome Word) (o : OState) (t : State Word) → x ≡ goes o
-    → r ≡ went t → IsFlat l o t → Looks l o → Agrees l x r
+    → r ≡ went t → IsFlat l o t → Looks l o → EndsAgree l x r
 both_go l x r o t e q m k = rw (e, q) (m, k)

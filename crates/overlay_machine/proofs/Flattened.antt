@@ -10,7 +10,7 @@ use Rattle.std.specs.FinMap as finite
 use Rattle.std.proofs.lemmas.Option.{slice_get-map}
 use Rattle.cap_words.specs.declared.Word.{Word}
 use Rattle.lcm_machine.specs.Maps.{State}
-use Rattle.lcm_machine.specs.Cells.{cell, numbered}
+use Rattle.lcm_machine.specs.Cells.{cell, numbered_slots}
 use Rattle.lcm_machine.specs.Mapped.{mapped_or}
 use Rattle.lcm_machine.proofs.Offers.{held_in, find_below, find_slot, same_cells, same_regs}
 use Rattle.trusted_border.specs.declared.layout.Layout.{Layout}
@@ -38,7 +38,7 @@ found_behind {V} (e ∷ es) ds q = by_key (eq_by_cmp nat_cmp q e.0) (found_behin
 
 module _ (f : OWord → Word) where
   frame_entries : OpenFrame → List (ℕ × Word)
-  frame_entries x = numbered x.base (map (λ w. Some (f w)) x.words)
+  frame_entries x = numbered_slots x.base (map (λ w. Some (f w)) x.words)
 
   entries_of : List OpenFrame → List (ℕ × Word)
   entries_of [] = []
@@ -54,7 +54,7 @@ module _ (f : OWord → Word) where
   found_in_frame x a = by_side (nat_lt a x.base) refl
     where
       by_side : (b : Bool) → nat_lt a x.base ≡ b
-          → finite.find nat_cmp a (numbered x.base (map (λ w. Some (f w)) x.words))
+          → finite.find nat_cmp a (numbered_slots x.base (map (λ w. Some (f w)) x.words))
           ≡ option_map f (if b then None else slice_get x.words (a - x.base))
       by_side true e = find_below x.base (map (λ w. Some (f w)) x.words) a (ltb-true a x.base e)
       by_side false e =

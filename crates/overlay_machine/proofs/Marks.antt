@@ -13,7 +13,7 @@ use Rattle.trusted_border.specs.declared.events.Event.TheVariants.{Called, Retur
 use Rattle.overlay_machine.specs.declared.cases.Case.TheVariants.{Back}
 use Rattle.overlay_machine.specs.State.{OState}
 use Rattle.overlay_machine.specs.Step.{goes, case_of, overlay_step, weight_of}
-use Rattle.overlay_machine.specs.Events.{shown, step_event}
+use Rattle.overlay_machine.specs.Events.{shown_word, step_event}
 use Rattle.overlay_machine.specs.Runs.{plain_run}
 use Rattle.lcm_machine.specs.Mapped.{mapped_or}
 use Rattle.lcm_machine.specs.Cells.{cell}
@@ -41,7 +41,7 @@ marks_by l o (Some (Called inward i b e)) =
     opens (record { site = i; base = b; end = e; words = words_at (flat_cell l o) b (e + 1 - b) }) ∷ []
 marks_by l o (Some (Returned inward i b e)) =
     closes (record
-    { site = i; base = b; end = e; words = shown l o Dat ∷ words_at (flat_cell l o) (b + 1) (e - b) })
+    { site = i; base = b; end = e; words = shown_word l o Dat ∷ words_at (flat_cell l o) (b + 1) (e - b) })
     ∷ []
 marks_by l o (Some (Entered part k back)) = []
 marks_by l o (Some (Left part)) = []

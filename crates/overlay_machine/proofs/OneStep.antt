@@ -17,7 +17,7 @@ use Rattle.overlay_machine.specs.Words.{look, is_plain}
 use Rattle.overlay_machine.specs.State.{OState}
 use Rattle.overlay_machine.specs.Step.{case_of, step_by, weight_by, overlay_step, weight_of}
 use Rattle.overlay_machine.specs.Flat.{IsFlat}
-use Rattle.overlay_machine.specs.Agree.{Agrees, Looks, ReadyFor}
+use Rattle.overlay_machine.specs.Agree.{EndsAgree, Looks, ReadyFor}
 use Rattle.overlay_machine.proofs.WholeCall.{whole_call}
 use Rattle.overlay_machine.proofs.EntryAgrees.{entry_agrees}
 use Rattle.overlay_machine.proofs.ReturnAgrees.{return_agrees}
@@ -27,7 +27,7 @@ use Rattle.overlay_machine.proofs.OtherAgrees.{fetched_case, other_agrees}
 abbrev pub OneStep : Type 0
 OneStep =
     (l : Layout) (o : OState) (t : State Word) → ReadyFor l o (case_of l o.maps) → IsFlat l o t → Looks l o
-    → Agrees l (overlay_step l o) (run_of (λ w. w) (λ w. w) (weight_of l o) t)
+    → EndsAgree l (overlay_step l o) (run_of (λ w. w) (λ w. w) (weight_of l o) t)
 
 not_plain : (b : Bool) (r1 r2 : Reg) → (if b then Other else Back r1 r2) ≡ Back r1 r2 → b ≡ false
 not_plain true r1 r2 e = cc
@@ -39,7 +39,7 @@ back_plain : (l : Layout) (s : State OWord) (r1 r2 : Reg) (next : Word) → case
 back_plain l s r1 r2 next e f = not_plain _ r1 r2 (rw f at (fetched_case l s (Back r1 r2) tt e))
 
 by_case : (l : Layout) (o : OState) (t : State Word) (c : Case) → case_of l o.maps ≡ c → ReadyFor l o c
-    → IsFlat l o t → Looks l o → Agrees l (step_by l c o) (run_of (λ w. w) (λ w. w) (weight_by o.maps c) t)
+    → IsFlat l o t → Looks l o → EndsAgree l (step_by l c o) (run_of (λ w. w) (λ w. w) (weight_by o.maps c) t)
 by_case l o t (Call i) e ready m k = whole_call l i o t ready m k
 by_case l o t (Entry a) e ready m k = entry_agrees l a o t ready m k
 by_case l o t (Back r1 r2) e ready m k =

@@ -15,7 +15,7 @@ use Rattle.lcm_machine.specs.Runs.{run_of}
 use Rattle.lcm_machine.specs.Mapped.{IsFree, SameContents}
 use Rattle.lcm_machine.proofs.Offers.{step_mapped, run_one}
 use Rattle.trusted_border.specs.declared.layout.Layout.{Layout}
-use Rattle.trusted_border.specs.Layout.{trusted_at, site_at, is_entry}
+use Rattle.trusted_border.specs.Layout.{trusted_at, site_at, has_entry_at}
 use Rattle.overlay_machine.specs.declared.words.OWord.{OWord}
 use Rattle.overlay_machine.specs.declared.words.OWord.TheVariants.{Plain}
 use Rattle.overlay_machine.specs.declared.cases.Case.{Case}
@@ -24,7 +24,7 @@ use Rattle.overlay_machine.specs.Words.{look, is_plain}
 use Rattle.overlay_machine.specs.State.{OState}
 use Rattle.overlay_machine.specs.Step.{case_at, case_trusted, case_fetched, case_of, other_step}
 use Rattle.overlay_machine.specs.Flat.{flat, beside, IsFlat}
-use Rattle.overlay_machine.specs.Agree.{Agrees, Looks, FramesFree}
+use Rattle.overlay_machine.specs.Agree.{EndsAgree, Looks, FramesFree}
 use Rattle.overlay_machine.proofs.FlatLemmas.{flat-plain, flat-opened, row_agrees, beside-none}
 
 -- a case that is read off the instruction at pc
@@ -40,7 +40,7 @@ case_at-fetched l a (Some i) c (Call j) f e = absurd f
 case_at-fetched l a (Some i) c (Entry b) f e = absurd f
 case_at-fetched l a (Some i) c (Back r1 r2) f e = cc
 case_at-fetched l a (Some i) c Other f e = cc
-case_at-fetched l a None c d f e = elim (cases_Bool (is_entry l a)) as (λ _. c ≡ d) [
+case_at-fetched l a None c d f e = elim (cases_Bool (has_entry_at l a)) as (λ _. c ≡ d) [
   | inl t ↦ absurd (no_entry d f (rw t at e))
   | inr t ↦ rw t at e
 ]
@@ -82,7 +82,7 @@ module _ (l : Layout) (o : OState) (t : State Word) (m : IsFlat l o t) (k : Look
         (flat-opened l o.frames (reg o.maps.regs r1) p.0, flat-opened l o.frames (reg o.maps.regs r2) p.1)
     contents _ next e = tt
 
-    pub other_agrees : case_of l o.maps ≡ Other → Agrees l (other_step o) (run_of (λ w. w) (λ w. w) 1 t)
+    pub other_agrees : case_of l o.maps ≡ Other → EndsAgree l (other_step o) (run_of (λ w. w) (λ w. w) 1 t)
     unfolding other_step
     other_agrees e =
         let c = fetched_case l o.maps Other tt e in

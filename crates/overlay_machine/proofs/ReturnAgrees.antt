@@ -32,7 +32,7 @@ use Rattle.lcm_machine.proofs.Offers.{xjmp_goes, left, run_then, fetch_mapped, c
 use Rattle.lcm_machine.proofs.Offers.{reg-set_other, run_one, failed_more, then_failed, xjmp_fails}
 use Rattle.lcm_machine.proofs.Offers.{xjmp_runs_fails}
 use Rattle.call_sequence.specs.SequenceRuns.{stack_cap, HasReturn}
-use Rattle.call_sequence.proofs.ReturnLaws.{return_runs, return_apart, return_off_base}
+use Rattle.call_sequence.proofs.Offers.{return_runs, return_apart, return_off_base}
 use Rattle.trusted_border.specs.declared.layout.Layout.{Layout}
 use Rattle.trusted_border.specs.declared.layout.SiteCode.{SiteCode}
 use Rattle.trusted_border.specs.Layout.{site_code}
@@ -41,10 +41,10 @@ use Rattle.overlay_machine.specs.declared.words.OWord.TheVariants.{Plain, RetCod
 use Rattle.overlay_machine.specs.declared.cases.Case.TheVariants.{Back}
 use Rattle.overlay_machine.specs.Words.{look, is_plain, is_ret_code}
 use Rattle.overlay_machine.specs.State.{OpenFrame, OState, word_of, framed, frame_of}
-use Rattle.overlay_machine.specs.Step.{goes, fails, weight_by, ask, need, own_stack, resumed, return_by}
+use Rattle.overlay_machine.specs.Step.{goes, fails, weight_by, ask, need, own_stack, state_resumed, return_by}
 use Rattle.overlay_machine.specs.Step.{return_step}
 use Rattle.overlay_machine.specs.Flat.{flat, flat_code, flat_data, flat_range, beside, IsFlat}
-use Rattle.overlay_machine.specs.Agree.{Agrees, Looks, HasSite, IsOther, AtReturn}
+use Rattle.overlay_machine.specs.Agree.{EndsAgree, Looks, HasSite, IsOther, AtReturn}
 use Rattle.overlay_machine.proofs.FlatLemmas.{flat-mem, mem_of_face, HasReturn-flat, both_fail, both_go}
 use Rattle.overlay_machine.proofs.FlatLemmas.{beside-none}
 use Rattle.overlay_machine.proofs.FrameWords.{frame_of-newest, word_of-within}
@@ -75,11 +75,12 @@ return_fails l i k r2 (f ∷ fs) o h =
   where
     joint : (c : CapFields) (s : SiteCode) → site_code l i ≡ Some s → own_stack l o.maps ≡ Some c → k ≡ f.call
         → i ≡ f.site
-        → ask (c.end + 1 == f.base) (goes (resumed s c f fs (put o.maps (R r2) (zero_word Plain)) o)) ≡ fails
+        → ask (c.end + 1 == f.base) (goes (state_resumed s c f fs (put o.maps (R r2) (zero_word Plain)) o))
+        ≡ fails
     joint c s es ec ek ei =
         elim (cases_Bool (c.end + 1 == f.base))
         as (λ _. ask (c.end + 1 == f.base)
-        (goes (resumed s c f fs (put o.maps (R r2) (zero_word Plain)) o)) ≡ fails) [
+        (goes (state_resumed s c f fs (put o.maps (R r2) (zero_word Plain)) o)) ≡ fails) [
           | inr lacks ↦ rw lacks refl
           | inl holds ↦ absurd (h f fs s c refl ek ei es ec (eqb-true (c.end + 1) f.base holds))
         ]
@@ -87,14 +88,14 @@ return_fails l i k r2 (f ∷ fs) o h =
     by_stack : (s : SiteCode) (x : Option CapFields) → site_code l i ≡ Some s → own_stack l o.maps ≡ x
         → k ≡ f.call → i ≡ f.site
         → need x (λ c. ask (c.end + 1 == f.base)
-        (goes (resumed s c f fs (put o.maps (R r2) (zero_word Plain)) o))) ≡ fails
+        (goes (state_resumed s c f fs (put o.maps (R r2) (zero_word Plain)) o))) ≡ fails
     by_stack s None es ec ek ei = refl
     by_stack s (Some c) es ec ek ei = joint c s es ec ek ei
 
     by_site : (x : Option SiteCode) → site_code l i ≡ x → k ≡ f.call → i ≡ f.site
         → need x (λ s. need (own_stack l o.maps)
         (λ c. ask (c.end + 1 == f.base)
-        (goes (resumed s c f fs (put o.maps (R r2) (zero_word Plain)) o)))) ≡ fails
+        (goes (state_resumed s c f fs (put o.maps (R r2) (zero_word Plain)) o)))) ≡ fails
     by_site None es ek ei = refl
     by_site (Some s) es ek ei = by_stack s (own_stack l o.maps) es refl ek ei
 
@@ -193,7 +194,7 @@ module _ (l : Layout) (r1 r2 : Reg) (o : OState) (t : State Word) (at_return : A
       -- under another seal
       other_seal : (u : SiteCode) → site_code l g.site ≡ Some u → s.seal ≢ u.seal
           → opened_of (fl x2) ≡ Some (record { seal = u.seal; content = MemC half })
-          → Agrees l (return_by l (RetCode i) (RetData n) r2 o.frames o) (run_of id id 11 t)
+          → EndsAgree l (return_by l (RetCode i) (RetData n) r2 o.frames o) (run_of id id 11 t)
       other_seal u eu ne ey =
           both_fail l _ _ (return_fails l i n r2 o.frames o (λ f fs s' c ef en ei es' ec ej.
           let q : f ≡ g = its_frame f fs ef en in
@@ -202,7 +203,7 @@ module _ (l : Layout) (r1 r2 : Reg) (o : OState) (t : State Word) (at_return : A
           (more (refuses _ _ ex ey (inl ne)))
 
       no_site : site_code l g.site ≡ None → opened_of (fl x2) ≡ None
-          → Agrees l (return_by l (RetCode i) (RetData n) r2 o.frames o) (run_of id id 11 t)
+          → EndsAgree l (return_by l (RetCode i) (RetData n) r2 o.frames o) (run_of id id 11 t)
       no_site eu ey =
           both_fail l _ _ (return_fails l i n r2 o.frames o (λ f fs s' c ef en ei es' ec ej.
           let q : f ≡ g = its_frame f fs ef en in
@@ -267,7 +268,7 @@ module _ (l : Layout) (r1 r2 : Reg) (o : OState) (t : State Word) (at_return : A
 
         -- stk can't be joined: the overlay fails too
         not_joint : (x : Word) → s1.regs.stk ≡ x → CannotJoin (face_of x) (Memory half)
-            → Agrees l (return_by l (RetCode i) (RetData n) r2 o.frames o) (run_of id id 11 t)
+            → EndsAgree l (return_by l (RetCode i) (RetData n) r2 o.frames o) (run_of id id 11 t)
         not_joint x e h =
             both_fail l _ _ (return_fails l i n r2 o.frames o (λ f fs s' c ef en ei es' ec ej.
             let q : f ≡ g = its_frame f fs ef en in
@@ -279,7 +280,7 @@ module _ (l : Layout) (r1 r2 : Reg) (o : OState) (t : State Word) (at_return : A
         -- they join, but not from the stack's base
         off : (c : CapFields) → s1.regs.stk ≡ Mem c → (same_kind c half && (c.end + 1 == g.base)) ≡ true
             → c.base ≢ l.stack.base → c.base ≤ LAST_PLACE
-            → Agrees l (return_by l (RetCode i) (RetData n) r2 o.frames o) (run_of id id 11 t)
+            → EndsAgree l (return_by l (RetCode i) (RetData n) r2 o.frames o) (run_of id id 11 t)
         off c e h ne small =
             let p = and_parts _ _ h in
             let q = and_parts _ _ p.0 in
@@ -297,7 +298,8 @@ module _ (l : Layout) (r1 r2 : Reg) (o : OState) (t : State Word) (at_return : A
             → own_stack l o.maps ≡ Some c
             → return_by l (RetCode i) (RetData n) r2 (g ∷ fs)
             (record o { frames = g ∷ fs })
-            ≡ goes (resumed s c g fs (put o.maps (R r2) (zero_word Plain)) (record o { frames = g ∷ fs }))
+            ≡ goes (state_resumed s c g fs (put o.maps (R r2) (zero_word Plain))
+            (record o { frames = g ∷ fs }))
         unfolding ask need
         overlay_goes c fs en joint own =
             rw (eq-eqb n g.call en, eq-eqb i g.site site_is, es, own, eq-eqb (c.end + 1) g.base joint) refl
@@ -314,7 +316,7 @@ module _ (l : Layout) (r1 r2 : Reg) (o : OState) (t : State Word) (at_return : A
         finish : (c : CapFields) → s1.regs.stk ≡ Mem c → same_kind c half ≡ true → c.end + 1 ≡ g.base
             → c.base ≡ l.stack.base → (fs : List OpenFrame) → o.frames ≡ g ∷ fs → n ≡ g.call
             → own_stack l o.maps ≡ Some c
-            → Agrees l (return_by l (RetCode i) (RetData n) r2 o.frames o) (run_of id id 11 t)
+            → EndsAgree l (return_by l (RetCode i) (RetData n) r2 o.frames o) (run_of id id 11 t)
         finish c e kind joint low fs ef en own =
             let sound = at_return.frames g fs ef in
             let c_is : c ≡ record (stack_cap l.stack.base c.end 0) { addr = c.addr } =
@@ -346,11 +348,11 @@ module _ (l : Layout) (r1 r2 : Reg) (o : OState) (t : State Word) (at_return : A
             en (at_return.in_frames n a w e2 (ap (λ x. framed x a) ef ∙ q)) in
             let apart : (a : ℕ) (w : OWord) → framed fs a ≡ Some w → word_of g a ≡ None =
             λ a w q. at_return.apart g fs a w ef q in
-            subst (λ x. Agrees l (return_by l (RetCode i) (RetData n) r2 x (record o { frames = x }))
+            subst (λ x. EndsAgree l (return_by l (RetCode i) (RetData n) r2 x (record o { frames = x }))
             (run_of id id 11 t)) (sym ef)
             (both_go l _ _ _ _
             (overlay_goes c fs en joint own
-            ∙ ap (λ x. goes (resumed s x g fs (put o.maps (R r2) (zero_word Plain)) o1)) c_is)
+            ∙ ap (λ x. goes (state_resumed s x g fs (put o.maps (R r2) (zero_word Plain)) o1)) c_is)
             (run_then id id 1 10 t s1 _ jumps ran ∙ ap (λ a. went (record t {
               regs = record (set_reg t.regs r2 (Int (pos 0))) {
                 pc = Mem (code_cap s.base s.end a);
@@ -368,7 +370,7 @@ module _ (l : Layout) (r1 r2 : Reg) (o : OState) (t : State Word) (at_return : A
         -- they join from the stack's base: the call is the newest, and the overlay resumes it
         resumes : (c : CapFields) → s1.regs.stk ≡ Mem c → (same_kind c half && (c.end + 1 == g.base)) ≡ true
             → c.base ≡ l.stack.base
-            → Agrees l (return_by l (RetCode i) (RetData n) r2 o.frames o) (run_of id id 11 t)
+            → EndsAgree l (return_by l (RetCode i) (RetData n) r2 o.frames o) (run_of id id 11 t)
         resumes c e h low =
             let p = and_parts _ _ h in
             let q = and_parts _ _ p.0 in
@@ -380,18 +382,19 @@ module _ (l : Layout) (r1 r2 : Reg) (o : OState) (t : State Word) (at_return : A
 
         -- whatever stk is
         by_stack : (x : Word) → s1.regs.stk ≡ x
-            → Agrees l (return_by l (RetCode i) (RetData n) r2 o.frames o) (run_of id id 11 t)
+            → EndsAgree l (return_by l (RetCode i) (RetData n) r2 o.frames o) (run_of id id 11 t)
         by_stack (Int z) e = not_joint (Int z) e tt
         by_stack (Seal z) e = not_joint (Seal z) e tt
         by_stack (Sealed q (MemIn z)) e = not_joint (Sealed q (MemIn z)) e tt
         by_stack (Sealed q (SealIn z)) e = not_joint (Sealed q (SealIn z)) e tt
         by_stack (Mem c) e =
             elim (cases_Bool (same_kind c half && (c.end + 1 == g.base)))
-            as (λ _. Agrees l (return_by l (RetCode i) (RetData n) r2 o.frames o) (run_of id id 11 t)) [
+            as (λ _. EndsAgree l (return_by l (RetCode i) (RetData n) r2 o.frames o) (run_of id id 11 t)) [
               | inr lacks ↦ not_joint (Mem c) e lacks
               | inl holds ↦
                   elim (cases_eq c.base l.stack.base)
-                  as (λ _. Agrees l (return_by l (RetCode i) (RetData n) r2 o.frames o) (run_of id id 11 t)) [
+                  as (λ _. EndsAgree l (return_by l (RetCode i) (RetData n) r2 o.frames o)
+                  (run_of id id 11 t)) [
                     | inl same ↦ resumes c e holds same
                     | inr ne ↦
                         (let q : FaceInOrder (Memory c) =
@@ -400,11 +403,11 @@ module _ (l : Layout) (r1 r2 : Reg) (o : OState) (t : State Word) (at_return : A
                   ]
             ]
 
-        its : Agrees l (return_by l (RetCode i) (RetData n) r2 o.frames o) (run_of id id 11 t)
+        its : EndsAgree l (return_by l (RetCode i) (RetData n) r2 o.frames o) (run_of id id 11 t)
         its = by_stack s1.regs.stk refl
 
   abbrev Both : Type 0
-  Both = Agrees l (return_by l x1 x2 r2 o.frames o) (run_of id id (if is_ret_code x1 then 11 else 1) t)
+  Both = EndsAgree l (return_by l x1 x2 r2 o.frames o) (run_of id id (if is_ret_code x1 then 11 else 1) t)
 
   pub code_none : (i : ℕ) → x1 ≡ RetCode i → site_code l i ≡ None → opened_of (fl x1) ≡ None
   unfolding flat
@@ -425,13 +428,14 @@ module _ (l : Layout) (r1 r2 : Reg) (o : OState) (t : State Word) (at_return : A
   unfolding flat
   data_is n g z e q w = ap fl e ∙ ap (flat_data l) q ∙ ap (flat_range g) w
 
-  as_code : (i : ℕ) → x1 ≡ RetCode i → Agrees l (return_by l (RetCode i) x2 r2 o.frames o) (run_of id id 11 t)
+  as_code : (i : ℕ) → x1 ≡ RetCode i → EndsAgree l (return_by l (RetCode i) x2 r2 o.frames o)
+      (run_of id id 11 t)
       → Both
   as_code i e h = rw e h
 
   -- the first word is a RetCode
   code_first : (i : ℕ) (x : Option SiteCode) → x1 ≡ RetCode i → site_code l i ≡ x → (y : OWord) → x2 ≡ y
-      → Agrees l (return_by l (RetCode i) x2 r2 o.frames o) (run_of id id 11 t)
+      → EndsAgree l (return_by l (RetCode i) x2 r2 o.frames o) (run_of id id 11 t)
   code_first i None e es (Plain w) e2 =
       rw e2 (both_fail l _ _ refl (more (refuses None _ (code_none i e es) refl tt)))
   code_first i None e es (RetCode j) e2 =
@@ -448,12 +452,12 @@ module _ (l : Layout) (r1 r2 : Reg) (o : OState) (t : State Word) (at_return : A
   code_first i (Some s) e es (RetData n) e2 = rw e2 (by_frame (frame_of o.frames n) refl)
     where
       by_seal : (g : OpenFrame) (z : Option SiteCode) → frame_of o.frames n ≡ Some g → site_code l g.site ≡ z
-          → Agrees l (return_by l (RetCode i) (RetData n) r2 o.frames o) (run_of id id 11 t)
+          → EndsAgree l (return_by l (RetCode i) (RetData n) r2 o.frames o) (run_of id id 11 t)
       by_seal g None eg eu =
           no_site i e s es (code_some i s e es) n e2 g eg eu (ap opened_of (data_is n g None e2 eg eu))
       by_seal g (Some u) eg eu =
           elim (cases_eq s.seal u.seal)
-          as (λ _. Agrees l (return_by l (RetCode i) (RetData n) r2 o.frames o) (run_of id id 11 t)) [
+          as (λ _. EndsAgree l (return_by l (RetCode i) (RetData n) r2 o.frames o) (run_of id id 11 t)) [
             | inr ne ↦
                 other_seal i e s es (code_some i s e es)
                 n e2 g eg u eu ne (ap opened_of (data_is n g (Some u) e2 eg eu))
@@ -464,7 +468,7 @@ module _ (l : Layout) (r1 r2 : Reg) (o : OState) (t : State Word) (at_return : A
           ]
 
       by_frame : (z : Option OpenFrame) → frame_of o.frames n ≡ z
-          → Agrees l (return_by l (RetCode i) (RetData n) r2 o.frames o) (run_of id id 11 t)
+          → EndsAgree l (return_by l (RetCode i) (RetData n) r2 o.frames o) (run_of id id 11 t)
       by_frame None eg = both_fail l _ _ (return_fails l i n r2 o.frames o (λ f fs s' c ef en ei es' ec ej.
           let w : Some f ≡ None = sym (frame_of-newest f fs) ∙ ap (frame_of (f ∷ fs)) (sym en)
           ∙ ap (λ x. frame_of x n) (sym ef) ∙ eg in cc))
@@ -483,6 +487,6 @@ module _ (l : Layout) (r1 r2 : Reg) (o : OState) (t : State Word) (at_return : A
   first (RetCode i) y e1 e2 h = as_code i e1 (code_first i (site_code l i) e1 refl y e2)
 
   pub return_agrees : (is_plain x1 && is_plain x2) ≡ false
-      → Agrees l (return_step l r1 r2 o) (run_of id id (weight_by o.maps (Back r1 r2)) t)
+      → EndsAgree l (return_step l r1 r2 o) (run_of id id (weight_by o.maps (Back r1 r2)) t)
   unfolding return_step
   return_agrees h = first x1 x2 refl refl h

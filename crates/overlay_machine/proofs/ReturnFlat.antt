@@ -29,13 +29,13 @@ use Rattle.overlay_machine.specs.declared.words.OWord.{OWord}
 use Rattle.overlay_machine.specs.declared.words.OWord.TheVariants.{Plain}
 use Rattle.overlay_machine.specs.Words.{look}
 use Rattle.overlay_machine.specs.State.{OpenFrame, OState, word_of, framed}
-use Rattle.overlay_machine.specs.Step.{resumed}
+use Rattle.overlay_machine.specs.Step.{state_resumed}
 use Rattle.overlay_machine.specs.Flat.{flat, beside, IsFlat}
 use Rattle.overlay_machine.specs.Agree.{Looks, IsOther, FrameSound}
 use Rattle.overlay_machine.proofs.OutLemmas.{put_back-other}
 use Rattle.overlay_machine.proofs.FrameWords.{word_of-below, word_of-within, flat-other, mapped-same}
 use Rattle.overlay_machine.proofs.FrameWords.{put_back-in}
-use Rattle.component_file.proofs.Lists.{inside}
+use Rattle.component_file.proofs.Offers.{inside}
 
 module _ (l : Layout) (s : State OWord) (f : OpenFrame) (fs : List OpenFrame) (n : ℕ) (t : State Word)
     (r2 : Reg) (sc : SiteCode) (c : CapFields)
@@ -49,7 +49,7 @@ module _ (l : Layout) (s : State OWord) (f : OpenFrame) (fs : List OpenFrame) (n
   o = record { maps = s; frames = f ∷ fs; calls = n }
 
   abbrev o' : OState
-  o' = resumed sc
+  o' = state_resumed sc
       (record c { perm = (stack_cap 0 0 0).perm; lin = (stack_cap 0 0 0).lin; base = l.stack.base })
       f fs (put s (R r2) (zero_word Plain)) o
 

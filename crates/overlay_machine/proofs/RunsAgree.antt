@@ -26,7 +26,7 @@ use Rattle.overlay_machine.specs.Step.{Ending, goes, halts, fails, ask, need, wi
 use Rattle.overlay_machine.specs.Step.{entry_step, return_by, return_step, case_of, step_by, weight_by}
 use Rattle.overlay_machine.specs.Step.{overlay_step, weight_of}
 use Rattle.overlay_machine.specs.Flat.{IsFlat}
-use Rattle.overlay_machine.specs.Agree.{EndAlike, Agrees, Looks, ReadyFor}
+use Rattle.overlay_machine.specs.Agree.{EndAlike, EndsAgree, Looks, ReadyFor}
 use Rattle.overlay_machine.specs.Runs.{Reached, begins, goes_on, plain_run, HaltsBehind, FailsBehind}
 use Rattle.overlay_machine.specs.Runs.{RunsAgree}
 use Rattle.overlay_machine.proofs.OneStep.{one_step}
@@ -244,7 +244,7 @@ module _ (l : Layout) (o : OState) where
 -- what makes steps ready and is kept is carried on
 module _ (l : Layout) (Good : OState → State Word → Type 0) (carries : Carries l Good) where
   carried : (o : OState) (t : State Word) → Good o t → (e : Ending) (r : Outcome Word) → overlay_step l o ≡ e
-      → plain_run (weight_of l o) t ≡ r → Agrees l e r → EndAlike Good e r
+      → plain_run (weight_of l o) t ≡ r → EndsAgree l e r → EndAlike Good e r
   carried o t g (goes q) (went u) ee er h = carries.kept o q t u g ee er h.0 h.1
   carried o t g halts halted ee er h = tt
   carried o t g fails (failed c at) ee er h = tt

@@ -25,8 +25,7 @@ use Rattle.lcm_machine.specs.Refusals.{HasFailed, CannotJoin, Refuses}
 use Rattle.lcm_machine.proofs.Offers.{xjmp_goes, left, failed_more, then_failed, xjmp_fails, xjmp_runs_fails}
 use Rattle.lcm_machine.proofs.Offers.{opened-memory}
 use Rattle.call_sequence.specs.SequenceRuns.{stack_cap, HasCall}
-use Rattle.call_sequence.proofs.CallLaws.{call_at_base, call_outside}
-use Rattle.call_sequence.proofs.ReturnLaws.{return_apart, HasReturn-set}
+use Rattle.call_sequence.proofs.Offers.{call_at_base, call_outside, return_apart, HasReturn-set}
 use Rattle.trusted_border.specs.declared.layout.Layout.{Layout}
 use Rattle.trusted_border.specs.declared.layout.SiteCode.{SiteCode}
 use Rattle.trusted_border.specs.Layout.{site_code}
@@ -37,7 +36,7 @@ use Rattle.overlay_machine.specs.Words.{is_plain, is_ret_code}
 use Rattle.overlay_machine.specs.State.{OState, frame_of}
 use Rattle.overlay_machine.specs.Step.{fails, call_step, need, ask, weight_by}
 use Rattle.overlay_machine.specs.Flat.{flat, IsFlat}
-use Rattle.overlay_machine.specs.Agree.{Agrees, Looks, AtSite}
+use Rattle.overlay_machine.specs.Agree.{EndsAgree, Looks, AtSite}
 use Rattle.overlay_machine.proofs.FlatLemmas.{flat-mem, cell-flat, HasCall-flat, HasReturn-flat, both_fail}
 use Rattle.overlay_machine.proofs.FrameWords.{all_there-from, some_of}
 use Rattle.overlay_machine.proofs.PairsOpened.{OneSite, code_site, data_site, data_refuses, foreign_refuses}
@@ -227,7 +226,7 @@ module _ (l : Layout) (i : ℕ) (o : OState) (t : State Word) (at_site : AtSite 
 
       -- the words of a pair, one of which isn't plain
       abbrev CallOf : Type 0
-      CallOf = Agrees l (call_step l i o) (run_of id id (weight_by o.maps (Call i)) t)
+      CallOf = EndsAgree l (call_step l i o) (run_of id id (weight_by o.maps (Call i)) t)
 
       second : (w : Word) (x : OWord) → x1 ≡ Plain w → x2 ≡ x → CallOf
       second w (Plain v) e1 e2 =
@@ -249,10 +248,10 @@ module _ (l : Layout) (i : ℕ) (o : OState) (t : State Word) (at_site : AtSite 
       above = first x1 refl
 
   at_address : (a : ℕ) → at_site.to ≡ pos a
-      → Agrees l (call_step l i o) (run_of id id (weight_by o.maps (Call i)) t)
+      → EndsAgree l (call_step l i o) (run_of id id (weight_by o.maps (Call i)) t)
   at_address a e =
       elim (cases_lt at_site.end a)
-      as (λ _. Agrees l (call_step l i o) (run_of id id (weight_by o.maps (Call i)) t)) [
+      as (λ _. EndsAgree l (call_step l i o) (run_of id id (weight_by o.maps (Call i)) t)) [
         | inl past ↦
             (let out : covers (stack (pos a)) (pos a) ≡ false =
             and_right (nat_le l.stack.base a) (nat_le a at_site.end) (lt-leb a at_site.end past) in
@@ -260,7 +259,7 @@ module _ (l : Layout) (i : ℕ) (o : OState) (t : State Word) (at_site : AtSite 
             (within t 1 15 (is_ret_code o.maps.regs.c1) refl (outside (pos a) e out)))
         | inr le ↦
             elim (cases_lt l.stack.base a)
-            as (λ _. Agrees l (call_step l i o) (run_of id id (weight_by o.maps (Call i)) t)) [
+            as (λ _. EndsAgree l (call_step l i o) (run_of id id (weight_by o.maps (Call i)) t)) [
               | inl lt ↦
                   (let one : a ≡ a - 1 + 1 =
                   omega arith in above (a - 1) (e ∙ ap pos one) (omega arith) (omega arith))
@@ -283,12 +282,12 @@ module _ (l : Layout) (i : ℕ) (o : OState) (t : State Word) (at_site : AtSite 
       ]
 
   by_address : (z : ℤ) → at_site.to ≡ z
-      → Agrees l (call_step l i o) (run_of id id (weight_by o.maps (Call i)) t)
+      → EndsAgree l (call_step l i o) (run_of id id (weight_by o.maps (Call i)) t)
   by_address (pos a) e = at_address a e
   by_address (negsuc a) e =
       both_fail l _ _ (off (negsuc a) e refl)
       (within t 1 15 (is_ret_code o.maps.regs.c1) refl (outside (negsuc a) e refl))
 
   -- a call is one overlay step, and as many plain ones as it weighs
-  pub whole_call : Agrees l (call_step l i o) (run_of id id (weight_by o.maps (Call i)) t)
+  pub whole_call : EndsAgree l (call_step l i o) (run_of id id (weight_by o.maps (Call i)) t)
   whole_call = by_address at_site.to refl

@@ -23,7 +23,7 @@ use Rattle.lcm_machine.specs.Regions.{memory_of}
 use Rattle.lcm_machine.specs.Row.{Outcome, went, halted, failed, faces, cell_faces, fetch, some, word_at}
 use Rattle.lcm_machine.specs.Runs.{code_cap}
 use Rattle.lcm_machine.specs.Table.{target}
-use Rattle.call_sequence.specs.SequenceRuns.{stack_cap, Outside, HasCall, HasReturn, HasEntry}
+use Rattle.call_sequence.specs.SequenceRuns.{stack_cap, IsOutsideRange, HasCall, HasReturn, HasEntry}
 use Rattle.call_sequence.specs.declared.TheConstants.{CALL_WORDS}
 use Rattle.trusted_border.specs.declared.layout.Layout.{Layout}
 use Rattle.trusted_border.specs.declared.layout.SiteCode.{SiteCode}
@@ -55,8 +55,8 @@ EndAlike Good fails (failed cause at) = Unit {0}
 EndAlike Good _ _ = ⊥
 
 -- the same, where the plain state is the overlay flattened, and each pair is met
-abbrev pub Agrees : Layout → Ending → Outcome Word → Type 0
-Agrees l e r = EndAlike (λ o t. IsFlat l o t × Looks l o) e r
+abbrev pub EndsAgree : Layout → Ending → Outcome Word → Type 0
+EndsAgree l e r = EndAlike (λ o t. IsFlat l o t × Looks l o) e r
 
 -- ---- code that stands
 
@@ -64,7 +64,7 @@ Agrees l e r = EndAlike (λ o t. IsFlat l o t × Looks l o) e r
 pub record HasSite (l : Layout) (m : Cells) (s : SiteCode) : Type 0 where
   pub call : HasCall look m s.base s.end s.at s.seal
   pub back : HasReturn look m s.base s.end (s.at + CALL_WORDS) l.stack.base
-  pub apart : (a : ℕ) → l.stack.base ≤ a → a ≤ l.stack.end → Outside a s.base s.end
+  pub apart : (a : ℕ) → l.stack.base ≤ a → a ≤ l.stack.end → IsOutsideRange a s.base s.end
 
 abbrev pub SitesStand : Layout → Cells → Type 0
 SitesStand l m = (i : ℕ) (s : SiteCode) → site_code l i ≡ Some s → HasSite l m s

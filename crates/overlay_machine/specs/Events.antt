@@ -70,26 +70,26 @@ note_by l o Other =
 -- ---- the event after it
 
 -- a call has made the newest frame; whether it went to trusted code
-abbrev pub called : Bool → List OpenFrame → Option Event
-called trusted [] = None
-called trusted (f ∷ fs) = Some (Called trusted f.site f.base f.end)
+abbrev pub called_event : Bool → List OpenFrame → Option Event
+called_event trusted [] = None
+called_event trusted (f ∷ fs) = Some (Called trusted f.site f.base f.end)
 
-abbrev pub shown : Layout → OState → Reg → Word
-shown l o r = flat l o.frames (reg o.maps.regs r)
+abbrev pub shown_word : Layout → OState → Reg → Word
+shown_word l o r = flat l o.frames (reg o.maps.regs r)
 
-abbrev pub entered : Layout → OState → Owner → Option Event
-entered l o p =
-    option_map (λ k. Entered p.part k (back_of l (shown l o Rcode) (shown l o Rdata)))
+abbrev pub entered_event : Layout → OState → Owner → Option Event
+entered_event l o p =
+    option_map (λ k. Entered p.part k (back_of l (shown_word l o Rcode) (shown_word l o Rdata)))
     (entry_number p (faces look o.maps Pc))
 
 -- untrusted code went to a trusted part under its closure seal, or trusted code to untrusted code
 abbrev pub jumped : Layout → OState → Option ℕ → ℕ → Option Event
-jumped l o None seal = option_and_then (entered l o) (closure_owner l seal)
+jumped l o None seal = option_and_then (entered_event l o) (closure_owner l seal)
 jumped l o (Some part) seal = if is_some (owner_now l o) then None else Some (Left part)
 
 abbrev pub event_after : Layout → Note → OState → Option Event
 event_after l Nothing o = None
-event_after l Calls o = called (is_some (owner_now l o)) o.frames
+event_after l Calls o = called_event (is_some (owner_now l o)) o.frames
 event_after l (Returns trusted f) o = Some (Returned trusted f.site f.base f.end)
 event_after l (Jumps from seal) o = jumped l o from seal
 

@@ -14,7 +14,7 @@ use Rattle.lcm_machine.specs.Runs.{run_of}
 use Rattle.component_linker.specs.Parts.{PartSeen}
 use Rattle.flow_check.specs.Kinds.{Row}
 use Rattle.flow_check.specs.Walk.{RowAt}
-use Rattle.flow_check.specs.Holds.{data_cap, Fits, PcAt}
+use Rattle.flow_check.specs.Holds.{data_cap, HasKinds, PcAt}
 use Rattle.trusted_border.specs.declared.layout.Layout.{Layout}
 use Rattle.trusted_border.specs.declared.layout.SiteCode.{SiteCode}
 use Rattle.trusted_border.specs.Layout.{site_code}
@@ -38,7 +38,7 @@ pub record StandsAt (g : Link) (fs : List OpenFrame) (p : PartSeen) (o : ℕ) (r
   pub inside : o < length p.component.code
   pub at_pc : PcAt look (ranges_of p) o rs
   pub row : RowAt p.component o there
-  pub fits : Fits look (IsSafe g fs) (IsStackCell g fs) (ranges_of p) there rs
+  pub fits : HasKinds look (IsSafe g fs) (IsStackCell g fs) (ranges_of p) there rs
 
 -- pc is a trusted part's, at its `fail` or at an offset with a row that the registers fit; or untrusted code
 -- runs, and each register is safe

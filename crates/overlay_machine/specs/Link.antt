@@ -5,7 +5,7 @@ use Rattle.std.specs.List.{Contains}
 use Rattle.cap_words.specs.declared.Word.{Word}
 use Rattle.lcm_machine.specs.Regions.{Region}
 use Rattle.lcm_machine.specs.Cells.{cell}
-use Rattle.call_sequence.specs.SequenceRuns.{Outside}
+use Rattle.call_sequence.specs.SequenceRuns.{IsOutsideRange}
 use Rattle.component_linker.specs.Parts.{PartSeen}
 use Rattle.component_linker.specs.Regions.{code_span, data_span, linear_span, region, regions_of, in_regions}
 use Rattle.flow_check.specs.Holds.{Ranges}
@@ -64,7 +64,8 @@ pub data IsUsable (g : Link) : Region → Bool → Type 0 where
 
 -- an address outside the code of each trusted part
 abbrev pub IsOpenAt : Link → ℕ → Type 0
-IsOpenAt g a = (p : PartSeen) → IsTrusted g p → Outside a (ranges_of p).code_base (ranges_of p).code_last
+IsOpenAt g a = (p : PartSeen) → IsTrusted g p → IsOutsideRange a (ranges_of p).code_base
+    (ranges_of p).code_last
 
 -- an address of the stack that is in no frame
 abbrev pub IsStackCell : Link → List OpenFrame → ℕ → Type 0

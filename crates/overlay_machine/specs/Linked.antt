@@ -17,7 +17,7 @@ use Rattle.component_linker.specs.Parts.{PartSeen, IsPart}
 use Rattle.component_linker.specs.Regions.{stack_span}
 use Rattle.component_linker.specs.TrustedCode.{all_seals}
 use Rattle.trusted_border.specs.declared.layout.SiteCode.{SiteCode}
-use Rattle.trusted_border.specs.Layout.{runs_part, site_at, site_code, is_entry}
+use Rattle.trusted_border.specs.Layout.{runs_part, site_at, site_code, has_entry_at}
 use Rattle.overlay_machine.specs.Link.{Link, IsTrusted, IsUsable, regions, ranges_of, code_region}
 use Rattle.overlay_machine.specs.Link.{data_region}
 use Rattle.overlay_machine.specs.Safe.{IsOpenSeal}
@@ -102,7 +102,7 @@ pub record Linked (g : Link) : Type 0 where
   pub no_site : (p : PartSeen) (o : ℕ) → IsTrusted g p → o < length p.component.code
       → site_at g.layout (p.component.code_base + o) ≡ None → begins_site p.component o ≡ false
   pub entry_found : (p : PartSeen) (o : ℕ) → IsTrusted g p → o < length p.component.code
-      → is_entry g.layout (p.component.code_base + o) ≡ begins_entry p.component o
+      → has_entry_at g.layout (p.component.code_base + o) ≡ begins_entry p.component o
   pub entries : (p : PartSeen) (o : ℕ) → IsTrusted g p → begins_entry p.component o ≡ true → EntryOf p o
   -- at `fail_at` stands the instruction `fail`
   pub fails : (p : PartSeen) (f : ℕ) → IsTrusted g p → p.component.fail_at ≡ Some f

@@ -88,7 +88,7 @@ Fall n (f ∷ fs) = (f.head.call < n) × Fall f.head.call fs
 
 -- The room: the addresses of the stack above its lowest one that are in memory or in frames are no more than
 -- those addresses, and so no more than the region has cells.
-pub record Fits (l : Layout) (m : Machine) : Type 0 where
+pub record FitsRegion (l : Layout) (m : Machine) : Type 0 where
   pub cells : l.stack.end - l.stack.base ≤ m.frames.cells
   pub kept : here m.maps.cells (l.stack.base + 1) (l.stack.end - l.stack.base) + sizes m.frames.frames
       ≤ l.stack.end - l.stack.base

@@ -18,7 +18,7 @@ use Rattle.overlay_machine.specs.declared.overlay.OEnd.TheVariants.{Halted as At
 use Rattle.overlay_machine.specs.State.{OState}
 use Rattle.overlay_machine.specs.Step.{Ending, goes, halts, fails, overlay_step, weight_of}
 use Rattle.overlay_machine.specs.Events.{step_event}
-use Rattle.overlay_machine.specs.Machine.{Fits}
+use Rattle.overlay_machine.specs.Machine.{FitsRegion}
 
 -- `weight` is the sum of the weights of the steps that went; `end` says how the overlay ended, once it has
 pub record OverlaySeen : Type 0 where
@@ -83,6 +83,6 @@ pub record IsOverlayOf (s : StartSeen) (o : OverlaySeen) : Type 0 where
 -- ---- what the type keeps
 
 -- the room, and that calls are no more than the weight
-pub record Holds (l : Layout) (m : Machine) (weight : ℕ) : Type 0 where
-  pub fits : Fits l m
+pub record TypeKeeps (l : Layout) (m : Machine) (weight : ℕ) : Type 0 where
+  pub fits : FitsRegion l m
   pub calls : m.calls ≤ weight

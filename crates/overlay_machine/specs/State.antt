@@ -36,8 +36,8 @@ framed [] a = None
 framed (f ∷ fs) a = option_or (word_of f a) (framed fs a)
 
 -- the word at an address: that of its cell, or else of a frame
-abbrev pub word_at : OState → ℕ → Option OWord
-word_at o a = option_or (cell o.maps.cells a) (framed o.frames a)
+abbrev pub memory_word : OState → ℕ → Option OWord
+memory_word o a = option_or (cell o.maps.cells a) (framed o.frames a)
 
 -- the frame of a call, while it is open
 unfoldable pub frame_of : List OpenFrame → ℕ → Option OpenFrame

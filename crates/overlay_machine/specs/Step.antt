@@ -18,7 +18,7 @@ use Rattle.lcm_machine.specs.Row.{halted, failed}
 use Rattle.call_sequence.specs.declared.TheConstants.{CALL_WORDS, RETURN_WORDS, ENTRY_WORDS}
 use Rattle.trusted_border.specs.declared.layout.Layout.{Layout}
 use Rattle.trusted_border.specs.declared.layout.SiteCode.{SiteCode}
-use Rattle.trusted_border.specs.Layout.{trusted_at, site_at, is_entry, site_code}
+use Rattle.trusted_border.specs.Layout.{trusted_at, site_at, has_entry_at, site_code}
 use Rattle.overlay_machine.specs.declared.words.OWord.{OWord}
 use Rattle.overlay_machine.specs.declared.words.OWord.TheVariants.{Plain, RetCode, RetData}
 use Rattle.overlay_machine.specs.declared.cases.Case.{Case}
@@ -38,7 +38,7 @@ case_fetched s _ = Other
 -- at the first word of a site, or of an entry
 abbrev pub case_at : Layout → ℕ → Option ℕ → Case → Case
 case_at l a (Some i) c = Call i
-case_at l a None c = if is_entry l a then Entry a else c
+case_at l a None c = if has_entry_at l a then Entry a else c
 
 -- where pc is trusted
 abbrev pub case_trusted : Layout → Option ℕ → Case → Case
@@ -149,8 +149,8 @@ rest_words (w ∷ ws) = ws
 
 -- The newest frame's cells come back, the first one as 0; data is the frame's first word, stk is the stack up
 -- to the frame's end, and pc stands behind the site.
-abbrev pub resumed : SiteCode → CapFields → OpenFrame → List OpenFrame → State OWord → OState → OState
-resumed s c f fs m o = record o {
+abbrev pub state_resumed : SiteCode → CapFields → OpenFrame → List OpenFrame → State OWord → OState → OState
+state_resumed s c f fs m o = record o {
   maps = record m {
     regs = record m.regs {
       pc = Plain (Mem (code_cap s.base s.end (s.at + (CALL_WORDS + RETURN_WORDS))));
@@ -172,7 +172,7 @@ return_by l (RetCode i) (RetData k) r2 (f ∷ fs) o =
     need (site_code l i) (λ s.
     need (own_stack l o.maps) (λ c.
     ask (c.end + 1 == f.base) (
-    goes (resumed s c f fs (put o.maps (R r2) (zero_word Plain)) o)))))
+    goes (state_resumed s c f fs (put o.maps (R r2) (zero_word Plain)) o)))))
 return_by l _ _ r2 _ o = fails
 
 unfoldable pub return_step : Layout → Reg → Reg → OState → Ending

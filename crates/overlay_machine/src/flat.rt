@@ -3,7 +3,7 @@ ghost use Rattle.std.specs.Prelude.{◌≡◌, option_map, Some};
 ghost use Rattle.cap_words.specs.Ranges.{IsRange};
 ghost use Rattle.call_sequence.specs.SequenceRuns.{stack_cap};
 ghost use Rattle.overlay_machine.specs.State.{frame_of};
-ghost use Rattle.overlay_machine.specs.Machine.{Fits, frames_of};
+ghost use Rattle.overlay_machine.specs.Machine.{FitsRegion, frames_of};
 ghost use Rattle.overlay_machine.specs.Flat.{flat, flat_code, flat_data};
 ghost use Rattle.overlay_machine.specs.Events.{head_of};
 
@@ -51,7 +51,7 @@ fn frame_of(frames: &Region<Frame, OWord>, call: u64) -> Option<Frame>
 impl Machine {
     // The plain word of a RetData.
     fn flat_data(&self, layout: &Layout, call: u64) -> Word
-        requires { Fits layout.now self.now }
+        requires { FitsRegion layout.now self.now }
         ensures { result ≡ flat_data layout.now (frame_of (frames_of self.now.frames.frames) call) }
     {
         let Some(frame) = frame_of(&self.frames, call) else {
@@ -66,7 +66,7 @@ impl Machine {
     /// The plain word that an overlay word stands for.
     #[tactic(auto, unfolding(crate::specs::Flat::flat))]
     pub(crate) fn flat(&self, layout: &Layout, word: &OWord) -> Word
-        requires { Fits layout.now self.now }
+        requires { FitsRegion layout.now self.now }
         ensures { result ≡ flat layout.now (frames_of self.now.frames.frames) word.now }
     {
         match word {

@@ -12,7 +12,7 @@ ghost use Rattle.lcm_machine.specs.Touched.{SameCells};
 ghost use Rattle.frame_region.specs.Frames.{sizes, IsNewestFull, newest_head};
 ghost use Rattle.overlay_machine.specs.Step.{call_step, entry_step, return_step, other_step, step_by};
 ghost use Rattle.overlay_machine.specs.Moves.{IsNewest};
-ghost use Rattle.overlay_machine.specs.Machine.{overlay_of, Fits, Ends, called, returned};
+ghost use Rattle.overlay_machine.specs.Machine.{overlay_of, FitsRegion, Ends, called, returned};
 ghost use Rattle.lcm_machine.specs.Plan.{IsJump};
 ghost use Rattle.overlay_machine.specs.Machine.{at_jump, at_return, at_entry};
 
@@ -168,10 +168,10 @@ impl Machine {
     // A call at a site.
     #[tactic(auto, unfolding(crate::specs::Step::call_step, crate::specs::Step::need, crate::specs::Step::ask))]
     fn call(&mut self, layout: &Layout, site: u32) -> Outcome
-        requires fits { Fits layout.now self.old }
+        requires fits { FitsRegion layout.now self.old }
         requires count { self.old.calls + 1 < 2 ^ 64 }
         ensures ends { Ends (call_step layout.now site (overlay_of self.old)) result self.old self.new }
-        ensures fits { Fits layout.now self.new }
+        ensures fits { FitsRegion layout.now self.new }
         ensures calls { self.new.calls ≤ self.old.calls + 1 }
     {
         let Some(code) = layout.site_code(site) else {
@@ -201,9 +201,9 @@ impl Machine {
     // An entry at an address.
     #[tactic(auto, unfolding(crate::specs::Step::entry_step, crate::specs::Step::need))]
     fn entry(&mut self, layout: &Layout, at: u32) -> Outcome
-        requires fits { Fits layout.now self.old }
+        requires fits { FitsRegion layout.now self.old }
         ensures ends { Ends (entry_step layout.now at (overlay_of self.old)) result self.old self.new }
-        ensures fits { Fits layout.now self.new }
+        ensures fits { FitsRegion layout.now self.new }
         ensures calls { self.new.calls ≡ self.old.calls }
     {
         let Some(p) = self.maps.face(Reg::Pc).memory() else {
@@ -236,9 +236,9 @@ impl Machine {
     // An `xjmp` of a call's pair, or of half of one.
     #[tactic(auto, unfolding(crate::specs::Step::return_step, crate::specs::Step::need, crate::specs::Step::ask))]
     fn back(&mut self, layout: &Layout, r1: Reg, r2: Reg) -> Outcome
-        requires fits { Fits layout.now self.old }
+        requires fits { FitsRegion layout.now self.old }
         ensures ends { Ends (return_step layout.now r1 r2 (overlay_of self.old)) result self.old self.new }
-        ensures fits { Fits layout.now self.new }
+        ensures fits { FitsRegion layout.now self.new }
         ensures calls { self.new.calls ≡ self.old.calls }
     {
         let Some(site) = self.maps.reg(r1).ret_code() else {
@@ -283,10 +283,10 @@ impl Machine {
 
     /// One step of this case.
     pub(crate) fn step(&mut self, layout: &Layout, case: Case) -> Outcome
-        requires fits { Fits layout.now self.old }
+        requires fits { FitsRegion layout.now self.old }
         requires count { self.old.calls + 1 < 2 ^ 64 }
         ensures ends { Ends (step_by layout.now case (overlay_of self.old)) result self.old self.new }
-        ensures fits { Fits layout.now self.new }
+        ensures fits { FitsRegion layout.now self.new }
         ensures calls { self.new.calls ≤ self.old.calls + 1 }
     {
         match case {

@@ -6,11 +6,11 @@ ghost use Rattle.lcm_isa.specs.declared.Reg.TheVariants.{Pc, C1};
 ghost use Rattle.lcm_machine.specs.Row.{faces, opens, cell_faces, fetch};
 ghost use Rattle.trusted_border.specs.Layout.{number_of};
 ghost use Rattle.trusted_border.specs.Reaches.{entry_number, closure_owner, site_of_seal, content_base};
-ghost use Rattle.trusted_border.specs.Reaches.{hop_by, back_under, jump_plan, goes_on, back_of};
+ghost use Rattle.trusted_border.specs.Reaches.{hop_by, back_under, jump_plan, plan_goes, back_of};
 ghost use Rattle.overlay_machine.specs.Words.{look};
-ghost use Rattle.overlay_machine.specs.Machine.{Fits, overlay_of, frames_of};
+ghost use Rattle.overlay_machine.specs.Machine.{FitsRegion, overlay_of, frames_of};
 ghost use Rattle.overlay_machine.specs.Events.{owner_now};
-ghost use Rattle.overlay_machine.specs.Events.{note_call, site_opened, jump_seal, note_by, called, entered};
+ghost use Rattle.overlay_machine.specs.Events.{note_call, site_opened, jump_seal, note_by, called_event, entered_event};
 ghost use Rattle.overlay_machine.specs.Events.{jumped, event_after};
 
 use crate::cases::Case;
@@ -69,7 +69,7 @@ fn back_under(layout: &Layout, code: Opened, half: Opened) -> Back
 // Whether the table lets an `xjmp rcode rdata` of two words go. It is asked in a state of registers.
 #[tactic(auto, unfolding(lcm_machine::specs::Row::plan_in, lcm_machine::specs::Row::opens, lcm_machine::specs::Table::need, lcm_machine::specs::Table::ask))]
 fn jump_goes(regs: &mut State<Word>, code: Word, half: Word) -> bool
-    ensures { result ≡ goes_on (jump_plan code half) }
+    ensures { result ≡ plan_goes (jump_plan code half) }
 {
     let _ = regs.swap(Place::R(Reg::Rcode), code);
     let _ = regs.swap(Place::R(Reg::Rdata), half);
@@ -162,7 +162,7 @@ impl Machine {
 
     // The newest frame was made by a call.
     fn called(&self, trusted: bool) -> Option<Event>
-        ensures { result ≡ called trusted (frames_of self.now.frames.frames) }
+        ensures { result ≡ called_event trusted (frames_of self.now.frames.frames) }
     {
         let frame = self.newest()?;
         Some(Event::Called {
@@ -175,8 +175,8 @@ impl Machine {
 
     // Code went to an entry of this part.
     fn entered(&self, regs: &mut State<Word>, layout: &Layout, owner: &Owner) -> Option<Event>
-        requires { Fits layout.now self.now }
-        ensures { result ≡ entered layout.now (overlay_of self.now) owner.now }
+        requires { FitsRegion layout.now self.now }
+        ensures { result ≡ entered_event layout.now (overlay_of self.now) owner.now }
     {
         let entry = entry_number(owner, self.maps.face(Reg::Pc))?;
         let code = self.flat(layout, self.maps.reg(Reg::Rcode));
@@ -196,7 +196,7 @@ impl Machine {
         from: Option<u32>,
         seal: u32,
     ) -> Option<Event>
-        requires { Fits layout.now self.now }
+        requires { FitsRegion layout.now self.now }
         ensures { result ≡ jumped layout.now (overlay_of self.now) from seal }
     {
         let Some(part) = from else {
@@ -212,7 +212,7 @@ impl Machine {
 
     /// The event after a step of which this was noted. The registers are those to ask the table in.
     pub(crate) fn event(&self, regs: &mut State<Word>, layout: &Layout, note: Note) -> Option<Event>
-        requires { Fits layout.now self.now }
+        requires { FitsRegion layout.now self.now }
         ensures { result ≡ event_after layout.now note (overlay_of self.now) }
     {
         match note {

@@ -6,7 +6,7 @@ ghost use Rattle.lcm_isa.specs.declared.Reg.{Reg as AnyReg};
 ghost use Rattle.lcm_machine.specs.Places.{reg};
 ghost use Rattle.lcm_machine.specs.Cells.{cell};
 ghost use Rattle.std.specs.Option.{option_copied};
-ghost use Rattle.overlay_machine.specs.State.{newest_size, newest_word, word_at};
+ghost use Rattle.overlay_machine.specs.State.{newest_size, newest_word, memory_word};
 ghost use Rattle.overlay_machine.specs.Step.{weight_of};
 ghost use Rattle.overlay_machine.specs.Flat.{flat};
 ghost use Rattle.overlay_machine.specs.Seen.{start_word, next_overlay, answer_of, end_answer, IsOverlayOf};
@@ -87,7 +87,7 @@ impl Model for Overlay {
     ghost use Rattle.std.specs.FinMap as map;
     ghost use Rattle.trusted_border.specs.contracts.layout.Layout as layout_contracts;
     ghost use Rattle.overlay_machine.specs.contracts.words.OWord as word_contracts;
-    ghost use Rattle.overlay_machine.specs.Seen.{OverlaySeen, Holds};
+    ghost use Rattle.overlay_machine.specs.Seen.{OverlaySeen, TypeKeeps};
     ghost use Rattle.overlay_machine.specs.Machine.{overlay_of};
 
     ghost Value = { OverlaySeen };
@@ -106,7 +106,7 @@ impl Model for Overlay {
       end = o.end;
     } };
 
-    ghost invariant = { λ o. Holds o.layout o.machine o.weight };
+    ghost invariant = { λ o. TypeKeeps o.layout o.machine o.weight };
 }
 
 // The machine of a start before its first step: with no frames, and room for as many words of them as
@@ -259,7 +259,7 @@ impl Overlay {
 
     /// The word at an address: that of its cell, or else the one that an open call's frame has there.
     pub fn word_at(&self, at: u32) -> Option<&OWord>
-        ensures { option_copied result ≡ word_at self.now.state at }
+        ensures { option_copied result ≡ memory_word self.now.state at }
     {
         if self.machine.maps.has_cell(at) {
             Some(self.machine.maps.cell(at))

@@ -4,3 +4,4 @@ pub mod Heads
 pub mod Loose
 pub mod Blames
 pub mod Gives
+pub mod Offers

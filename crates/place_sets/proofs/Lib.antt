@@ -6,3 +6,4 @@ pub mod FreeLemmas
 pub mod OneList
 pub mod OneReport
 pub mod TakesLemmas
+pub mod Offers

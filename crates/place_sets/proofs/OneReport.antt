@@ -7,7 +7,7 @@ use Rattle.std.proofs.Math.Bool.{and-false}
 use Rattle.place_sets.specs.declared.spans.Rights.{Rights}
 use Rattle.place_sets.specs.declared.spans.ReachSpan.{ReachSpan}
 use Rattle.place_sets.specs.declared.set.Stretch.{Stretch}
-use Rattle.place_sets.specs.Spans.{rights_of, allows, covers, any_right, AreTidy}
+use Rattle.place_sets.specs.Spans.{rights_of, allows, span_has, any_right, AreTidy}
 use Rattle.place_sets.specs.Takes.{is_left}
 use Rattle.place_sets.specs.Stretches.{AreApart}
 use Rattle.place_sets.proofs.OneList.{said, Next, InOrder, one_list, before_next}
@@ -59,7 +59,7 @@ allows_said : (right : Rights → Bool) (rs : List ReachSpan) (a : ℕ) → Span
     → allows right rs a ≡ right_in right (span_said rs a)
 unfolding right_in
 allows_said right [] a o = refl
-allows_said right (r ∷ rs) a o = head_says right (rights_of r) (covers r a) (allows right rs a)
+allows_said right (r ∷ rs) a o = head_says right (rights_of r) (span_has r a) (allows right rs a)
     (span_said rs a) (allows_said right rs a o.2)
     (λ e. before_next (λ r. r.base) (λ r. r.end) rights_of r rs a o
     (leb-true a r.end (and_parts (nat_le r.base a) (nat_le a r.end) e).1))
@@ -72,7 +72,7 @@ AnyIn (Some f) = any_right f ≡ true
 said_any : (rs : List ReachSpan) (a : ℕ) → AreTidy rs → AnyIn (span_said rs a)
 unfolding AnyIn
 said_any [] a t = tt
-said_any (r ∷ rs) a t = by_test (covers r a) (said_any rs a (tidy_rest r rs t))
+said_any (r ∷ rs) a t = by_test (span_has r a) (said_any rs a (tidy_rest r rs t))
     ((t.each zero r (omega arith)).right)
   where
     by_test : (b : Bool) → AnyIn (span_said rs a) → any_right (rights_of r) ≡ true

@@ -12,7 +12,7 @@ use Rattle.cap_words.specs.declared.TheConstants.{LAST_PLACE}
 use Rattle.place_sets.specs.declared.spans.Rights.{Rights}
 use Rattle.place_sets.specs.declared.spans.ReachSpan.{ReachSpan}
 use Rattle.place_sets.specs.Has.{has}
-use Rattle.place_sets.specs.Spans.{rights_of, allows, covers, any_right, IsSpan, Before}
+use Rattle.place_sets.specs.Spans.{rights_of, allows, span_has, any_right, IsSpan, Before}
 use Rattle.place_sets.specs.Listed.{rights_in, Ended, Listed}
 use Rattle.place_sets.proofs.Ends.{up_to, behind}
 
@@ -54,7 +54,8 @@ module _ (right : Rights → Bool) (h : ℕ → Bool) (at end : ℕ) (f : Rights
   pushed_is : (spans : List ReachSpan) → ((a : ℕ) → at ≤ a → a ≤ end → right f ≡ h a)
       → ((a : ℕ) → allows right spans a ≡ (nat_lt a at && h a)) → (a : ℕ)
       → allows right (spans ++ mine ∷ []) a ≡ (nat_lt a (end + 1) && h a)
-  pushed_is spans same is a = rw (list_any-append (λ r. right (rights_of r) && covers r a) spans (mine ∷ []))
+  pushed_is spans same is a = rw (list_any-append (λ r. right (rights_of r) && span_has r a) spans
+      (mine ∷ []))
       (rw (is a) (alone a same))
 
   skipped_is : (spans : List ReachSpan) → right f ≡ false → ((a : ℕ) → at ≤ a → a ≤ end → right f ≡ h a)

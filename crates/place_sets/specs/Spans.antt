@@ -8,12 +8,12 @@ use Rattle.place_sets.specs.declared.spans.ReachSpan.{ReachSpan}
 abbrev pub rights_of : ReachSpan → Rights
 rights_of s = record { read = s.read; write = s.write; run = s.run }
 
-abbrev pub covers : ReachSpan → ℕ → Bool
-covers s a = nat_le s.base a && nat_le a s.end
+abbrev pub span_has : ReachSpan → ℕ → Bool
+span_has s a = nat_le s.base a && nat_le a s.end
 
 -- whether a span has the right and is over the place
 abbrev pub allows : (Rights → Bool) → List ReachSpan → ℕ → Bool
-allows right spans a = list_any (λ s. right (rights_of s) && covers s a) spans
+allows right spans a = list_any (λ s. right (rights_of s) && span_has s a) spans
 
 abbrev pub any_right : Rights → Bool
 any_right r = r.read || (r.write || r.run)

@@ -23,7 +23,7 @@ use Rattle.proc_grammar.specs.Grammar.{term, number_term, name_term, bracket_ter
 use Rattle.proc_grammar.specs.Grammar.{comparison_part, expr_with, expr, inner_expr, index, args, some_args}
 use Rattle.proc_grammar.specs.Grammar.{arg, next_arg, arg_value, arg_proc, behind_arg}
 use Rattle.proc_print.specs.Printed.{Piece, word as a_word, numeral as a_numeral, sign as a_sign, named}
-use Rattle.proc_print.specs.Printed.{within, bracketed, is_op, expr_pieces, args_pieces, more_pieces}
+use Rattle.proc_print.specs.Printed.{between_signs, bracketed, is_op, expr_pieces, args_pieces, more_pieces}
 use Rattle.proc_print.specs.Printed.{signs_of}
 use Rattle.proc_again.specs.Written.{IsWritten, Again}
 use Rattle.proc_again.proofs.Steps.{step, done, test, token, good, left, right, at, no_items, item}
@@ -64,7 +64,7 @@ inner_again e again (suc room) h fits f = again room (omega arith) fits f
 -- ---- terms
 
 in_brackets : (e : Expr) → ExprAgain e → (room : ℕ) → nesting e + 1 ≤ room
-    → TermAgain e (within (codes "(") (expr_pieces e) (codes ")")) room
+    → TermAgain e (between_signs (codes "(") (expr_pieces e) (codes ")")) room
 unfolding bracket_term
 in_brackets e again room h fits f =
     right (left (step (a_sign_again round (codes "(") refl)
@@ -105,7 +105,7 @@ index_again e again room h =
     (λ x same. step (a_sign_again end_square (codes "]") refl) (λ _ _. done same)))
 
 element_again : (at : ℕ) (x : Name) (e : Expr) → NameFits x → ExprAgain e → (room : ℕ) → nesting e + 1 ≤ room
-    → TermAgain (element at x e) (named x ++ within (codes "[") (expr_pieces e) (codes "]")) room
+    → TermAgain (element at x e) (named x ++ between_signs (codes "[") (expr_pieces e) (codes "]")) room
 unfolding name_term
 element_again a x e fit again room h fits f =
     right (right (step (name_again x fit)
@@ -207,7 +207,8 @@ args_again (proc f rest) again fits room h few =
 
 call_again : (place : ℕ) (f : Name) (given : Args) → NameFits f → AllAgain given → ArgsFit given
     → arg_registers given ≤ 4 → (room : ℕ) → args_nesting given + 1 ≤ room
-    → TermAgain (call place f given) (named f ++ within (codes "(") (args_pieces given) (codes ")")) room
+    → TermAgain (call place f given)
+    (named f ++ between_signs (codes "(") (args_pieces given) (codes ")")) room
 unfolding name_term
 call_again place f given fit again fits few room h b ok =
     right (right (step (name_again f fit)
@@ -321,7 +322,7 @@ of_term : (e : Expr) → is_op e ≡ false → ((room : ℕ) → nesting e ≤ r
     → Both e
 of_term e plain again =
     let same : bracketed e (expr_pieces e) ≡ expr_pieces e =
-    ap (λ b. if b then within (codes "(") (expr_pieces e) (codes ")") else expr_pieces e) plain in
+    ap (λ b. if b then between_signs (codes "(") (expr_pieces e) (codes ")") else expr_pieces e) plain in
     let as_deep : operand_nesting e (nesting e) ≡ nesting e =
     ap (λ b. if b then nesting e + 1 else nesting e) plain in
     record {

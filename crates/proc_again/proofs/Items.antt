@@ -35,7 +35,7 @@ use Rattle.proc_grammar.specs.Grammar.{movable_part, field, header, proc_behind,
 use Rattle.proc_grammar.specs.Grammar.{room_in_body, behind_param, signed, is_initial, is_arity, is_length}
 use Rattle.proc_grammar.specs.Grammar.{is_address, is_return_count}
 use Rattle.proc_print.specs.Printed.{Piece, word as a_word, numeral as a_numeral, sign as a_sign, named}
-use Rattle.proc_print.specs.Printed.{within, in_curly, block_pieces, import_pieces, length_pieces}
+use Rattle.proc_print.specs.Printed.{between_signs, in_curly, block_pieces, import_pieces, length_pieces}
 use Rattle.proc_print.specs.Printed.{initial_pieces, global_pieces, arity_pieces, param_pieces, more_params}
 use Rattle.proc_print.specs.Printed.{params_pieces, local_pieces, proc_pieces, export_pieces, field_pieces}
 use Rattle.proc_print.specs.Printed.{movable_pieces, base_pieces, seal_pieces, header_pieces}
@@ -192,7 +192,7 @@ more_params_again (p ∷ ps) fits used few =
     (let registers = same.1 in omega (arith, registers, params_more p ps))))
 
 pub params_again : (ps : List Param) → Each ParamFits ps → params_registers ps ≤ MOST_REGISTERS
-    → Again (params plain_trees true) (within (codes "(") (params_pieces ps) (codes ")"))
+    → Again (params plain_trees true) (between_signs (codes "(") (params_pieces ps) (codes ")"))
     (λ qs. map unplaced_param qs ≡ map unplaced_param ps)
 unfolding params some_params
 params_again [] fits few =
@@ -234,7 +234,7 @@ pub record ProcAgain (p : Proc) : Type 0 where
   pub shallow : block_nesting (block_of p.body) ≤ room_in_body
 
 pub behind_pieces : Proc → List Piece
-behind_pieces p = named p.name ++ (within (codes "(") (params_pieces p.params) (codes ")") ++ in_curly
+behind_pieces p = named p.name ++ (between_signs (codes "(") (params_pieces p.params) (codes ")") ++ in_curly
     (flat_map local_pieces p.locals ++ block_pieces (block_of p.body)))
 
 proc_behind_again : (p : Proc) → ProcAgain p → (place : ℕ)

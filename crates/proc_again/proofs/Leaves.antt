@@ -10,7 +10,7 @@ use Rattle.cap_words.specs.Names as part
 use Rattle.cap_words.specs.declared.TheConstants.{LONGEST_NAME}
 use Rattle.proc_language.specs.declared.tree.Name.{Name}
 use Rattle.proc_language.specs.Limits.{NameFits}
-use Rattle.proc_language.specs.Words.{is_name, is_reserved}
+use Rattle.proc_language.specs.Words.{is_source_name, is_reserved}
 use Rattle.proc_grammar.specs.Lexemes.{Lexeme, word, a_name, a_number, sign, word_in, name_in, name_text}
 use Rattle.proc_grammar.specs.Lexemes.{number_in, sign_in}
 use Rattle.phrases.specs.Phrase.{one}
@@ -43,8 +43,8 @@ pub record NameParts (text : List ℕ) : Type 0 where
   pub short : nat_le (length text) LONGEST_NAME ≡ true
   pub free : is_reserved text ≡ false
 
-name_parts : (text : List ℕ) → IsTrue (is_name text) → NameParts text
-unfolding is_name part.is_name
+name_parts : (text : List ℕ) → IsTrue (is_source_name text) → NameParts text
+unfolding is_source_name part.is_name
 name_parts text h =
     let a = and_parts (part.is_name text) (not (is_reserved text)) h in
     let b = and_parts _ (list_all part.is_name_byte text) a.0 in

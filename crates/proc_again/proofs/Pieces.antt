@@ -16,7 +16,8 @@ use Rattle.proc_language.specs.Tree.{no_stmts, stmt}
 use Rattle.proc_language.specs.Limits.{Each, NameFits, ExprFits, ArgsFit, StmtFits, BlockFits, ImportFits}
 use Rattle.proc_language.specs.Limits.{LengthFits, ParamFits, ArityFits, ProcFits, IsModule}
 use Rattle.proc_language.specs.StmtView.{block_of}
-use Rattle.proc_print.specs.Printed.{Piece, word, sign, signs_of, named, within, bracketed, is_op, in_curly}
+use Rattle.proc_print.specs.Printed.{Piece, word, sign, signs_of, named, between_signs, bracketed, is_op}
+use Rattle.proc_print.specs.Printed.{in_curly}
 use Rattle.proc_print.specs.Printed.{ended, call_pieces, expr_pieces, args_pieces, more_pieces, stmt_pieces}
 use Rattle.proc_print.specs.Printed.{block_pieces, import_pieces, length_pieces, initial_pieces}
 use Rattle.proc_print.specs.Printed.{global_pieces, arity_pieces, param_pieces, more_params, params_pieces}
@@ -41,7 +42,7 @@ name_sound : (x : Name) → NameFits x → AreSound (named x)
 name_sound x fits = (word_sound x.text (name_is x.text fits), tt)
 
 in_sound : (o c : List ℕ) (ps : List Piece) → Sound (sign o) → Sound (sign c) → AreSound ps
-    → AreSound (within o ps c)
+    → AreSound (between_signs o ps c)
 in_sound o c ps a b each = (a, both ps (sign c ∷ []) each (b, tt))
 
 op_sound : (o : Op) → Sound (sign (signs_of o))
@@ -53,7 +54,7 @@ op_sound Equal = equal_sound
 operand_sound : (e : Expr) (ps : List Piece) → AreSound ps → AreSound (bracketed e ps)
 operand_sound e ps each = by (is_op e)
   where
-    by : (b : Bool) → AreSound (if b then within (codes "(") ps (codes ")") else ps)
+    by : (b : Bool) → AreSound (if b then between_signs (codes "(") ps (codes ")") else ps)
     by true = in_sound (codes "(") (codes ")") ps round_sound end_round_sound each
     by false = each
 
@@ -115,11 +116,11 @@ mutual
   expr_sound (number at n) fits = (numeral_sound n (omega arith), tt)
   expr_sound (var at x) fits = name_sound x fits
   expr_sound (element at x e) fits =
-      both (named x) (within (codes "[") (expr_pieces e) (codes "]")) (name_sound x fits.0)
+      both (named x) (between_signs (codes "[") (expr_pieces e) (codes "]")) (name_sound x fits.0)
       (in_sound (codes "[") (codes "]") (expr_pieces e) square_sound end_square_sound
       (expr_sound e fits.1))
   expr_sound (call at f args) fits =
-      both (named f) (within (codes "(") (args_pieces args) (codes ")")) (name_sound f fits.0.0)
+      both (named f) (between_signs (codes "(") (args_pieces args) (codes ")")) (name_sound f fits.0.0)
       (in_sound (codes "(") (codes ")") (args_pieces args) round_sound end_round_sound
       (args_sound args fits.1))
   expr_sound (op at o a b) fits =
@@ -161,15 +162,17 @@ mutual
       (both (named x) (sign (codes "=") ∷ expr_pieces e) (name_sound x fits.0)
       (assign_sound, expr_sound e fits.1))
   stmt_sound (set_at at x i e) fits =
-      ended_sound (named x ++ (within (codes "[") (expr_pieces i) (codes "]") ++
+      ended_sound (named x ++ (between_signs (codes "[") (expr_pieces i) (codes "]") ++
       (sign (codes "=") ∷ expr_pieces e)))
-      (both (named x) (within (codes "[") (expr_pieces i) (codes "]") ++ (sign (codes "=") ∷ expr_pieces e))
+      (both (named x) (between_signs (codes "[") (expr_pieces i) (codes "]") ++
+      (sign (codes "=") ∷ expr_pieces e))
       (name_sound x fits.0)
-      (both (within (codes "[") (expr_pieces i) (codes "]")) (sign (codes "=") ∷ expr_pieces e)
+      (both (between_signs (codes "[") (expr_pieces i) (codes "]")) (sign (codes "=") ∷ expr_pieces e)
       (in_sound (codes "[") (codes "]") (expr_pieces i) square_sound end_square_sound
       (expr_sound i fits.1)) (assign_sound, expr_sound e fits.2)))
   stmt_sound (do_call at f args) fits =
-      ended_sound (call_pieces f args) (both (named f) (within (codes "(") (args_pieces args) (codes ")"))
+      ended_sound (call_pieces f args)
+      (both (named f) (between_signs (codes "(") (args_pieces args) (codes ")"))
       (name_sound f fits.0.0)
       (in_sound (codes "(") (codes ")") (args_pieces args) round_sound end_round_sound
       (args_sound args fits.1)))
@@ -277,13 +280,13 @@ proc_sound : (p : Proc) → ProcFits p → AreSound (proc_pieces p)
 proc_sound p fits =
     both (export_pieces p.shared)
     (word (codes "proc") ∷
-    (named p.name ++ (within (codes "(") (params_pieces p.params) (codes ")") ++ in_curly
+    (named p.name ++ (between_signs (codes "(") (params_pieces p.params) (codes ")") ++ in_curly
     (flat_map local_pieces p.locals ++ block_pieces (block_of p.body)))))
     (export_sound p.shared) (
       proc_word,
-      both (named p.name) (within (codes "(") (params_pieces p.params) (codes ")") ++ in_curly
+      both (named p.name) (between_signs (codes "(") (params_pieces p.params) (codes ")") ++ in_curly
           (flat_map local_pieces p.locals ++ block_pieces (block_of p.body))) (name_sound p.name fits.name)
-          (both (within (codes "(") (params_pieces p.params) (codes ")"))
+          (both (between_signs (codes "(") (params_pieces p.params) (codes ")"))
           (in_curly (flat_map local_pieces p.locals ++ block_pieces (block_of p.body)))
           (in_sound (codes "(") (codes ")") (params_pieces p.params) round_sound end_round_sound
           (params_sound p.params fits.params))

@@ -9,11 +9,11 @@ use Rattle.text_scan.specs.declared.token.TokenKind.TheVariants.{Name as NameKin
 use Rattle.text_scan.specs.Bytes.{is_name_start, is_name_byte, is_sign}
 use Rattle.text_scan.specs.Tokens.{piece_at}
 use Rattle.text_scan.specs.Grammar.{IsName}
-use Rattle.text_scan.proofs.Printed.{Form, Shows, shows_nothing, shows_token, shows_blank, shows_name}
-use Rattle.text_scan.proofs.Printed.{shows_number, IsLineByte, IsInLine, name_field, number_field}
+use Rattle.text_scan.proofs.Offers.{Form, Shows, shows_nothing, shows_token, shows_blank, shows_name}
+use Rattle.text_scan.proofs.Offers.{shows_number, IsLineByte, IsInLine, name_field, number_field}
 use Rattle.cap_words.specs.Names as part
 use Rattle.cap_words.specs.declared.TheConstants.{LONGEST_NAME}
-use Rattle.proc_language.specs.Words.{is_name, is_reserved}
+use Rattle.proc_language.specs.Words.{is_source_name, is_reserved}
 use Rattle.proc_print.specs.Printed.{Piece, word, numeral, sign, bytes_of, ends_line}
 use Rattle.proc_again.specs.Written.{sign_kind}
 
@@ -205,8 +205,8 @@ first_byte : (text : List ℕ) → 0 < length text → list_all part.is_name_byt
 first_byte [] some h = absurd (omega (arith, some))
 first_byte (b ∷ text) some h = (and_parts (part.is_name_byte b) (list_all part.is_name_byte text) h).0
 
-pub name_is : (text : List ℕ) → IsTrue (is_name text) → IsName text
-unfolding is_name part.is_name
+pub name_is : (text : List ℕ) → IsTrue (is_source_name text) → IsName text
+unfolding is_source_name part.is_name
 name_is text h =
     let a = and_parts (part.is_name text) (not (is_reserved text)) h in
     let b = and_parts _ (list_all part.is_name_byte text) a.0 in

@@ -17,7 +17,7 @@ use Rattle.proc_grammar.specs.Grammar.{expr, set_part, set_at_part, calls_part, 
 use Rattle.proc_grammar.specs.Grammar.{if_stmt, while_stmt, return_stmt, halt_stmt, plain_stmt}
 use Rattle.proc_grammar.specs.Grammar.{stmt as a_stmt}
 use Rattle.proc_grammar.specs.Grammar.{stmts_with, stmts}
-use Rattle.proc_print.specs.Printed.{sign as a_sign, within, in_curly, expr_pieces, stmt_pieces}
+use Rattle.proc_print.specs.Printed.{sign as a_sign, between_signs, in_curly, expr_pieces, stmt_pieces}
 use Rattle.proc_print.specs.Printed.{block_pieces}
 use Rattle.proc_again.specs.Written.{Again}
 use Rattle.proc_again.proofs.Steps.{step, done, test, good, left, right, at, no_items, item}
@@ -84,7 +84,7 @@ set_at_again : (place : ℕ) (x : Name) (e f : Expr) → NameFits x → ExprFits
 unfolding name_stmt target_part set_at_part
 set_at_again place x e f fit fits fits' room h k =
     step (name_again x fit) (λ y same.
-    at (sym (append_assoc (within (codes "[") (expr_pieces e) (codes "]"))
+    at (sym (append_assoc (between_signs (codes "[") (expr_pieces e) (codes "]"))
     (a_sign (codes "=") ∷ expr_pieces f) (a_sign (codes ";") ∷ [])))
     (right (left (step (a_sign_again square (codes "[") refl)
     (λ _ _. step (index_again e (expr_again e fits) room h)

@@ -14,7 +14,7 @@ use Rattle.proc_language.specs.Limits.{Each, GlobalFits, ProcFits}
 use Rattle.proc_grammar.specs.Lexemes.{lexemes}
 use Rattle.proc_grammar.specs.PlainTrees.{plain_trees}
 use Rattle.proc_grammar.specs.Reading.{full}
-use Rattle.proc_grammar.proofs.Whole.{only}
+use Rattle.proc_grammar.proofs.Offers.{only}
 use Rattle.proc_parse.specs.Text.{parsed_scan}
 use Rattle.proc_print.specs.Printed.{printed, module_pieces}
 use Rattle.proc_again.specs.Reprint.{ReadAgain}

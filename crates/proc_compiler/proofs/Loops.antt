@@ -7,7 +7,7 @@ use Rattle.proc_templates.specs.declared.Frame.{Frame}
 use Rattle.proc_templates.specs.Templates.{step_code, block_code}
 use Rattle.proc_compiler.specs.Drafts.{Drafted, with_items}
 use Rattle.proc_compiler.proofs.Written.{items_append}
-use Rattle.proc_language.proofs.ListLemmas.{drop_item}
+use Rattle.proc_language.proofs.Offers.{drop_item}
 
 pub block_told : (f : Frame) (steps : List Step) (i : ℕ) (s : Step) (start d e : Drafted)
     → drop i steps ≡ s ∷ drop (i + 1) steps

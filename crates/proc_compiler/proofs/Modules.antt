@@ -14,18 +14,15 @@ use Rattle.proc_program.specs.StepView.{block_of}
 use Rattle.proc_program.specs.Calls.{part_calls}
 use Rattle.proc_program.specs.Limits.{scope_of, ProcedureFits, IsPart}
 use Rattle.proc_program.specs.Lower.{part_of}
-use Rattle.proc_program.proofs.Kept.{part_fits}
-use Rattle.proc_program.proofs.Counted.{calls_kept}
+use Rattle.proc_program.proofs.Offers.{part_fits, calls_kept}
 use Rattle.proc_templates.specs.declared.Frame.{Frame}
 use Rattle.proc_templates.specs.Items.{Spot, lay}
 use Rattle.proc_templates.specs.Templates.{before_epilogue, proc_code}
 use Rattle.proc_templates.specs.Compiled.{frame_of, size_of_proc, lay_proc, code_words, data_count}
 use Rattle.proc_templates.specs.Compiled.{component_of}
 use Rattle.proc_templates.specs.Bounds.{BlockBound}
-use Rattle.proc_templates.specs.Kept.{Fits, NamesDiffer, KeepsOwnRules}
-use Rattle.proc_templates.proofs.Apart.{names_differ}
-use Rattle.proc_templates.proofs.Readies.{block_bound, keeps_flow, keeps_own}
-use Rattle.proc_templates.proofs.Limited.{limits_kept}
+use Rattle.proc_templates.specs.Kept.{FitsComponent, NamesDiffer, KeepsOwnRules}
+use Rattle.proc_templates.proofs.Offers.{names_differ, block_bound, keeps_flow, keeps_own, limits_kept}
 use Rattle.proc_compiler.specs.Drafts.{Drafted, with_items, at_spot}
 use Rattle.proc_compiler.specs.Fault.{CompilesWith, CausesWith, Compiles, Causes}
 use Rattle.proc_compiler.specs.declared.fault.CompileFault.{CompileFault}
@@ -75,18 +72,18 @@ spot_kept m p f s d0 d1 hs h = ap (λ (d : Drafted). d.spot.stack_base) h ∙ hs
 
 -- ---- the component of a program
 
-pub limits_of : (c : ComponentFields) (m : Part) → c ≡ component_of m → Fits m → NamesDiffer m.procs
+pub limits_of : (c : ComponentFields) (m : Part) → c ≡ component_of m → FitsComponent m → NamesDiffer m.procs
     → part_calls m ≤ m.header.return_count → IsComponent c
 limits_of c m e f n s = subst IsComponent (sym e) (limits_kept m f n s)
 
-pub flow_of : (c : ComponentFields) (m : Part) → c ≡ component_of m → Fits m → IsKept c
+pub flow_of : (c : ComponentFields) (m : Part) → c ≡ component_of m → FitsComponent m → IsKept c
 flow_of c m e f = subst IsKept (sym e) (keeps_flow m f)
 
-pub own_of : (c : ComponentFields) (m : Part) → c ≡ component_of m → Fits m
+pub own_of : (c : ComponentFields) (m : Part) → c ≡ component_of m → FitsComponent m
     → part_calls m ≤ m.header.return_count → KeepsOwnRules c
 own_of c m e f s = subst KeepsOwnRules (sym e) (keeps_own m f s)
 
-pub fits_of : (m : Part) → IsPart m → code_words m ≤ MOST_WORDS → data_count m ≤ MOST_WORDS → Fits m
+pub fits_of : (m : Part) → IsPart m → code_words m ≤ MOST_WORDS → data_count m ≤ MOST_WORDS → FitsComponent m
 fits_of m l c d = record { limits = l; code = c; data_words = d }
 
 -- ---- the program of a module

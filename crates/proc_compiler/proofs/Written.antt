@@ -18,7 +18,7 @@ use Rattle.proc_templates.specs.Items.{Spot, Item, does, guards, is_last, Laid, 
 use Rattle.proc_program.specs.Program.{Args}
 use Rattle.proc_templates.specs.Sums.{values_words, loads_words}
 use Rattle.proc_templates.specs.Templates.{argument, args_words, check_half, push, wipe}
-use Rattle.proc_templates.proofs.Sizes.{args-split}
+use Rattle.proc_templates.proofs.Offers.{args-split}
 use Rattle.proc_compiler.specs.Drafts.{Drafted, with_items}
 
 pub lay_both : (spot : Spot) (a b : List Item) (l : Laid) → lay spot l (a ++ b) ≡ lay spot (lay spot l a) b

@@ -6,7 +6,7 @@ ghost use Rattle.proc_program.specs.Program.{Element, Binary};
 ghost use Rattle.proc_program.specs.View.{args_of};
 ghost use Rattle.proc_program.specs.Calls.{calls, args_calls};
 ghost use Rattle.proc_program.specs.Limits.{arg_registers};
-ghost use Rattle.proc_templates.specs.Templates.{exp_words, load_var, code, args_code, load_args, call_code};
+ghost use Rattle.proc_templates.specs.Templates.{exp_words, load_var, code, args_code, load_args, call_items};
 ghost use Rattle.proc_templates.specs.Templates.{argument, arguments, zeros};
 ghost use Rattle.proc_templates.specs.Sums.{values_words, loads_words, after_values, call_words};
 ghost use Rattle.proc_templates.specs.Bounds.{PlaceBound, RowBound, HandleBound, ExpBound, ArgsBound};
@@ -126,7 +126,7 @@ fn call(draft: &mut Draft, f: Frame, h: Handle, args: &[Arg], slot: u32) -> Resu
     requires placed { length draft.old.laid.code + call_words h (args_of args.now) ≤ MOST_WORDS }
     requires seals { length draft.old.laid.sites + args_calls (args_of args.now) + 1 ≤ draft.old.seals }
     ensures written { OnOk result (draft.new
-        ≡ with_items (args_code f slot 0 (args_of args.now) ++ call_code f slot h (args_of args.now))
+        ≡ with_items (args_code f slot 0 (args_of args.now) ++ call_items f slot h (args_of args.now))
         draft.old) }
     ensures grown { OnOk result (length draft.new.laid.code
         ≡ length draft.old.laid.code + call_words h (args_of args.now)) }
@@ -245,7 +245,7 @@ fn call_with(
     requires room { slot + MOST_REGISTERS ≤ LAST_PLACE }
     requires placed { length draft.old.laid.code + after_values h (args_of args.now) ≤ MOST_WORDS }
     requires seals { length draft.old.laid.sites < draft.old.seals }
-    ensures written { OnOk result (draft.new ≡ with_items (call_code f slot h (args_of args.now)) draft.old) }
+    ensures written { OnOk result (draft.new ≡ with_items (call_items f slot h (args_of args.now)) draft.old) }
     ensures grown { OnOk result (length draft.new.laid.code
         ≡ length draft.old.laid.code + after_values h (args_of args.now)) }
     ensures sited { OnOk result (length draft.new.laid.sites ≡ length draft.old.laid.sites + 1) }

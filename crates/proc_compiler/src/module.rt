@@ -11,9 +11,9 @@ ghost use Rattle.proc_program.specs.Limits.{scope_of, ProcedureFits, IsPart};
 ghost use Rattle.proc_program.specs.Lower.{part_of};
 ghost use Rattle.proc_templates.specs.Compiled.{frame_of, pair_count, size_of_proc, code_words, data_count};
 ghost use Rattle.proc_templates.specs.Compiled.{lay_proc, lay_procs, laid_of, literal_of, literal_at_of};
-ghost use Rattle.proc_templates.specs.Compiled.{data_of};
+ghost use Rattle.proc_templates.specs.Compiled.{first_data};
 ghost use Rattle.proc_templates.specs.Compiled.{imports_of, exports_of, seal_base, component_of, compiled};
-ghost use Rattle.proc_templates.specs.Kept.{Fits, NamesDiffer, KeepsOwnRules};
+ghost use Rattle.proc_templates.specs.Kept.{FitsComponent, NamesDiffer, KeepsOwnRules};
 ghost use Rattle.proc_compiler.specs.Fault.{CompilesWith, CausesWith, Compiles, Causes};
 
 use crate::counts::{
@@ -125,7 +125,7 @@ fn code_of(alloc: Global, m: &Part) -> Result<Draft, AllocError>
 #[tactic(auto, unfolding(proc_templates::specs::Compiled::data_of))]
 fn data_of(alloc: Global, m: &Part) -> Result<Vec<Word>, AllocError>
     requires { IsPart m.now }
-    ensures { IfOk result (λ words. words.items ≡ data_of m.now) }
+    ensures { IfOk result (λ words. words.items ≡ first_data m.now) }
 {
     let mut words = Vec::new(alloc);
     push_zeros(&mut words, pair_count(m))?;
@@ -213,7 +213,7 @@ fn fields_of(alloc: Global, m: &Part) -> Result<ComponentFields, AllocError>
 #[tactic(auto, using(crate::proofs::Modules::flow_of, crate::proofs::Modules::own_of))]
 fn made(fields: ComponentFields, m: &Part) -> Component
     requires is { fields ≡ component_of m.now }
-    requires fits { Fits m.now }
+    requires fits { FitsComponent m.now }
     requires named { NamesDiffer m.now.procs }
     requires seals { part_calls m.now ≤ m.now.header.return_count }
     ensures is { result ≡ component_of m.now }

@@ -4,10 +4,8 @@ use Rattle.std.specs.Str.{bytes_eq}
 use Rattle.phrases.specs.Phrase as phrases
 use Rattle.phrases.specs.Phrase.{then, ◌or◌}
 use Rattle.phrases.specs.Reading.{meant_in}
-use Rattle.phrases.proofs.Readers.{reads_as, reads_case}
-use Rattle.phrases.proofs.Heads.{Is, Heads, heads_one, heads_then}
-use Rattle.phrases.proofs.Loose.{Looser, loose_case}
-use Rattle.phrases.proofs.Gives.{Gives, gives_nothing, gives_or}
+use Rattle.phrases.proofs.Offers.{reads_as, reads_case, Is, Heads, heads_one, heads_then, Looser, loose_case}
+use Rattle.phrases.proofs.Offers.{Gives, gives_nothing, gives_or}
 use Rattle.proc_grammar.specs.Lexemes.{Lexeme, word, token_word, token_words, words_of, taken, a_name, sign}
 use Rattle.proc_grammar.specs.Lexemes.{a_number}
 use Rattle.proc_grammar.specs.Grammar.{Phrase, from_tokens}

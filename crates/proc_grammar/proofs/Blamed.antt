@@ -14,11 +14,11 @@ use Rattle.proc_language.specs.declared.module.Global.{Global}
 use Rattle.readers.specs.Readers.{◌>>=◌, done}
 use Rattle.phrases.specs.Phrase as phrases
 use Rattle.phrases.specs.Phrase.{then, only, ◌or◌}
-use Rattle.phrases.proofs.Blames as blames
-use Rattle.phrases.proofs.Blames.{IsToken, is_token, is_tested, blames_then, blames_token, blames_done}
-use Rattle.phrases.proofs.Blames.{blames_none, blames_known, blames_map, blames_holds, blames_one}
-use Rattle.phrases.proofs.Blames.{blames_as, blames_case, blames_either, blames_many}
-use Rattle.phrases.proofs.Heads.{Is, Head, Heads, heads_one, heads_then, heads_or, heads_as}
+use Rattle.phrases.proofs.Offers as blames
+use Rattle.phrases.proofs.Offers.{IsToken, is_token, is_tested, blames_then, blames_token, blames_done}
+use Rattle.phrases.proofs.Offers.{blames_none, blames_known, blames_map, blames_holds, blames_one, blames_as}
+use Rattle.phrases.proofs.Offers.{blames_case, blames_either, blames_many, Is, Head, Heads, heads_one}
+use Rattle.phrases.proofs.Offers.{heads_then, heads_or, heads_as}
 use Rattle.proc_grammar.specs.declared.fault.ParseFault.TheVariants.{Range, TooMany}
 use Rattle.proc_grammar.specs.Fault.{limit_place}
 use Rattle.proc_grammar.specs.Makes.{Makes}

@@ -20,17 +20,16 @@ use Rattle.phrases.specs.Reading.{meant_in, is_there}
 use Rattle.proc_grammar.specs.Reader.{Reader, expected, many}
 use Rattle.proc_grammar.specs.Reading as reading
 use Rattle.proc_grammar.proofs.Told.{Reads, distinct, many_apart}
-use Rattle.phrases.proofs.Readers.{Any, reads_then, reads_next, reads_done, reads_case, reads_holds}
-use Rattle.phrases.proofs.Readers.{reads_before, reads_none}
-use Rattle.phrases.proofs.Repeats.{Begins, Ends, reads_many}
+use Rattle.phrases.proofs.Offers.{Any, reads_then, reads_next, reads_done, reads_case, reads_holds}
+use Rattle.phrases.proofs.Offers.{reads_before, reads_none, Begins, Ends, reads_many, Is, Head, Heads}
+use Rattle.phrases.proofs.Offers.{head_more, heads_one, heads_then, heads_or, heads_as, heads_many}
+use Rattle.phrases.proofs.Offers.{none_there, began, begins_head, reads_up_to, reads_map, map_ahead}
+use Rattle.phrases.proofs.Offers.{many_ahead, or_ahead, head_ahead, only_ahead, Lacks}
 use Rattle.proc_grammar.proofs.Tokens.{sign_token, adding_token}
 use Rattle.proc_grammar.proofs.Tokens.{sign_kind, name_kind, adding_kind, comparing_kind}
 use Rattle.proc_grammar.proofs.Tokens.{no_sign, no_adding, no_comparing, no_number, sign_apart}
 use Rattle.proc_grammar.proofs.Tokens.{number_apart, name_apart, word_apart, sign_no_word, number_no_word}
 use Rattle.proc_grammar.proofs.Tokens.{name_no_word}
-use Rattle.phrases.proofs.Heads.{Is, Head, Heads, head_more, heads_one, heads_then, heads_or, heads_as}
-use Rattle.phrases.proofs.Heads.{heads_many, none_there, began, begins_head, reads_up_to, reads_map}
-use Rattle.phrases.proofs.Heads.{map_ahead, many_ahead, or_ahead, head_ahead, only_ahead, Lacks}
 use Rattle.proc_grammar.proofs.Items.{reads_any, name_reads, range_apart}
 use Rattle.proc_grammar.proofs.Added.{reads_added, heads_added, name_no_token, word_no_token, sign_no_token}
 use Rattle.proc_grammar.proofs.Added.{number_no_token, token_no_sign}

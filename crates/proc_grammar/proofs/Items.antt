@@ -16,12 +16,11 @@ use Rattle.phrases.specs.Reading.{case_next, meant_in}
 use Rattle.proc_grammar.specs.Reader.{Reader}
 use Rattle.proc_grammar.specs.Reading as reading
 use Rattle.proc_grammar.proofs.Told.{Reads, many_apart}
-use Rattle.phrases.proofs.Readers.{Any, reads_next, reads_done, reads_case, reads_holds}
-use Rattle.phrases.proofs.Readers.{reads_before}
+use Rattle.phrases.proofs.Offers.{Any, reads_next, reads_done, reads_case, reads_holds, reads_before, Is}
+use Rattle.phrases.proofs.Offers.{Heads, heads_one, heads_then, heads_optional, heads_as, none_there}
+use Rattle.phrases.proofs.Offers.{reads_up_to}
 use Rattle.proc_grammar.proofs.Tokens.{name_token, number_token, word_token, sign_token, sign_apart}
 use Rattle.proc_grammar.proofs.Tokens.{number_apart, sign_no_word}
-use Rattle.phrases.proofs.Heads.{Is, Heads, heads_one, heads_then, heads_optional, heads_as, none_there}
-use Rattle.phrases.proofs.Heads.{reads_up_to}
 
 pub range_apart : (n at : ℕ) → Range n ≡ Expected at → ⊥
 range_apart n at e = absurd cc

@@ -17,12 +17,12 @@ use Rattle.cap_words.specs.declared.TheConstants.{LAST_PLACE}
 use Rattle.cap_words.specs.Names as part
 use Rattle.proc_language.specs.declared.TheConstants.{MOST_SEALS, MOST_ITEMS}
 use Rattle.proc_language.specs.declared.tree.Name.{Name}
-use Rattle.proc_language.specs.Words.{is_name, is_reserved}
+use Rattle.proc_language.specs.Words.{is_source_name, is_reserved}
 use Rattle.proc_language.specs.Limits.{Each, NameFits, ImportFits, GlobalFits, LengthFits}
 use Rattle.phrases.specs.Phrase.{many}
-use Rattle.phrases.proofs.Gives as gives
-use Rattle.phrases.proofs.Gives.{gives_only, gives_one, gives_or, gives_then, gives_next, gives_test}
-use Rattle.phrases.proofs.Gives.{gives_as, gives_many}
+use Rattle.phrases.proofs.Offers as gives
+use Rattle.phrases.proofs.Offers.{gives_only, gives_one, gives_or, gives_then, gives_next, gives_test}
+use Rattle.phrases.proofs.Offers.{gives_as, gives_many}
 use Rattle.proc_grammar.specs.Lexemes.{Lexeme, a_name, name_in, name_text, taken}
 use Rattle.proc_grammar.specs.Tokens.{IsLexeme}
 use Rattle.proc_grammar.specs.Grammar as grammar
@@ -104,7 +104,7 @@ all_true : (a b c d e : Bool) → a ≡ true → b ≡ true → c ≡ true → d
 all_true a b c d e p q r s t = cc
 
 name_fits : (x : Name) → IsProper x → is_short x ≡ true → NameFits x
-unfolding is_name part.is_name
+unfolding is_source_name part.is_name
 name_fits x (h, free) short = all_true _ _ _ _ _ (le-leb 1 (length x.text) h.some) short
     (start_is (slice_index x.text 0) h.start) (bytes_are x.text h.bytes) free
 

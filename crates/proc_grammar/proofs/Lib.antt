@@ -13,3 +13,4 @@ pub mod Limits
 mod Leaves
 pub mod Within
 pub mod Fits
+pub mod Offers

@@ -27,8 +27,8 @@ use Rattle.proc_grammar.specs.Reading.{next_stmts, arity_behind, next_param, ano
 use Rattle.proc_grammar.specs.Reading.{next_params, next_local, proc_behind, next_proc, next_module}
 use Rattle.proc_grammar.proofs.Items.{range_apart}
 use Rattle.proc_grammar.proofs.Added.{loose_added}
-use Rattle.phrases.proofs.Loose as loose
-use Rattle.phrases.proofs.Loose.{loose_same, loose_then, loose_case, loose_holds, loose_many}
+use Rattle.phrases.proofs.Offers as loose
+use Rattle.phrases.proofs.Offers.{loose_same, loose_then, loose_case, loose_holds, loose_many}
 use Rattle.proc_grammar.proofs.Told.{distinct, many_apart}
 
 abbrev Looser : {A : Type 0} → Reader A → Reader A → Type 0

@@ -20,13 +20,12 @@ use Rattle.phrases.specs.Reading.{case_next, is_there}
 use Rattle.proc_grammar.specs.Reader.{many}
 use Rattle.proc_grammar.specs.Reading as reading
 use Rattle.proc_grammar.proofs.Told.{Reads, distinct, many_apart}
-use Rattle.phrases.proofs.Readers.{Any, reads_then, reads_next, reads_done, reads_case, reads_holds}
-use Rattle.phrases.proofs.Repeats.{Ends, reads_many}
+use Rattle.phrases.proofs.Offers.{Any, reads_then, reads_next, reads_done, reads_case, reads_holds, Ends}
+use Rattle.phrases.proofs.Offers.{reads_many, Is, Head, Heads, head_more, heads_one, heads_then, heads_or}
+use Rattle.phrases.proofs.Offers.{heads_as, head_as, heads_many, none_there, began, begins_head, reads_up_to}
+use Rattle.phrases.proofs.Offers.{reads_map, many_ahead, then_ahead, head_ahead, only_ahead, Lacks}
 use Rattle.proc_grammar.proofs.Tokens.{word_token, sign_token, sign_apart, name_apart}
 use Rattle.proc_grammar.proofs.Tokens.{sign_no_word, name_no_word, word_other}
-use Rattle.phrases.proofs.Heads.{Is, Head, Heads, head_more, heads_one, heads_then, heads_or, heads_as}
-use Rattle.phrases.proofs.Heads.{head_as, heads_many, none_there, began, begins_head, reads_up_to, reads_map}
-use Rattle.phrases.proofs.Heads.{many_ahead, then_ahead, head_ahead, only_ahead, Lacks}
 use Rattle.proc_grammar.proofs.Items.{reads_any, name_reads, num_reads, import_reads, global_reads}
 use Rattle.proc_grammar.proofs.Items.{header_reads}
 use Rattle.proc_grammar.proofs.Added.{reads_added, heads_added, name_no_token, token_no_sign, token_other}

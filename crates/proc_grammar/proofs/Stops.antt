@@ -4,7 +4,7 @@ use Rattle.std.proofs.Common.{Some, Result, Ok, Err, refl, sym, ap, subst, ◌�
 use Rattle.std.proofs.Common.{append-nil, append_assoc, inl, inr, ◌⊎◌}
 use Rattle.std.specs.Prelude.{◌==◌}
 use Rattle.phrases.specs.Reading.{first}
-use Rattle.phrases.proofs.Readers.{at_end}
+use Rattle.phrases.proofs.Offers.{at_end}
 use Rattle.proc_grammar.specs.declared.fault.ParseFault.{ParseFault}
 use Rattle.proc_grammar.specs.declared.fault.ParseFault.TheVariants.{Expected}
 use Rattle.proc_grammar.specs.Makes.{Makes}

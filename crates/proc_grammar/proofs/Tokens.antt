@@ -18,7 +18,7 @@ use Rattle.proc_language.specs.Words.{is_reserved, reserved}
 use Rattle.phrases.specs.Phrase as phrases
 use Rattle.proc_grammar.specs.Reader.{one}
 use Rattle.proc_grammar.proofs.Told.{Reads, distinct}
-use Rattle.phrases.proofs.Readers.{Any, reads_one}
+use Rattle.phrases.proofs.Offers.{Any, reads_one}
 
 abbrev pub named : List ℕ → Lexeme
 named text = record { kind = kinds.Name; at = 0; text = text }

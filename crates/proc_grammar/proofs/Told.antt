@@ -1,6 +1,6 @@
 -- What a source's reader tells.
 use Rattle.std.proofs.Common.{◌≡◌, ℕ, List}
-use Rattle.phrases.proofs.Readers as readers
+use Rattle.phrases.proofs.Offers as readers
 use Rattle.proc_grammar.specs.declared.fault.ParseFault.TheVariants.{Expected, TooMany}
 use Rattle.proc_grammar.specs.Lexemes.{Lexeme}
 use Rattle.proc_grammar.specs.Grammar.{Phrase}

@@ -13,7 +13,7 @@ use Rattle.proc_grammar.specs.Reader.{Input, place_in, place}
 use Rattle.proc_grammar.specs.Reading.{next_module, finished, parsed}
 use Rattle.proc_grammar.specs.Stuck.{IsExpected}
 use Rattle.phrases.specs.Reading.{first}
-use Rattle.phrases.proofs.Readers.{at_end, ok_value}
+use Rattle.phrases.proofs.Offers.{at_end, ok_value}
 use Rattle.proc_grammar.proofs.Modules.{module_reads}
 use Rattle.proc_grammar.proofs.Loosely.{l_module}
 

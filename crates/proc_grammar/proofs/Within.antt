@@ -10,8 +10,8 @@ use Rattle.proc_language.specs.declared.tree.Name.{Name}
 use Rattle.proc_language.specs.declared.tree.Op.{Op}
 use Rattle.proc_language.specs.Limits.{Each, NameFits, ImportFits, GlobalFits}
 use Rattle.phrases.specs.Phrase.{then, only, one, nothing, many}
-use Rattle.phrases.proofs.Gives.{gives_only, gives_nothing, gives_or, gives_then, gives_next}
-use Rattle.phrases.proofs.Gives.{gives_test, gives_as, gives_many}
+use Rattle.phrases.proofs.Offers.{gives_only, gives_nothing, gives_or, gives_then, gives_next, gives_test}
+use Rattle.phrases.proofs.Offers.{gives_as, gives_many}
 use Rattle.proc_grammar.specs.Makes.{Makes}
 use Rattle.proc_grammar.specs.Lexemes.{Lexeme, words_of, sign, semicolon}
 use Rattle.proc_grammar.specs.Tokens.{IsLexeme}

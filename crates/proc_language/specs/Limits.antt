@@ -12,7 +12,7 @@ use Rattle.proc_language.specs.declared.module.Global.{Global}
 use Rattle.proc_language.specs.declared.module.Param.{Param}
 use Rattle.proc_language.specs.declared.module.Proc.{Proc}
 use Rattle.proc_language.specs.declared.module.ModuleFields.{ModuleFields}
-use Rattle.proc_language.specs.Words.{is_name}
+use Rattle.proc_language.specs.Words.{is_source_name}
 use Rattle.proc_language.specs.Tree.{Expr, number, var, element, call, op, Args, no_args, value, proc}
 use Rattle.proc_language.specs.Tree.{Stmt, set, set_at, do_call, if_then, if_else, while, return, halt}
 use Rattle.proc_language.specs.Tree.{Block, no_stmts, stmt}
@@ -40,7 +40,7 @@ arg_registers (proc f args) = arg_registers args + 2
 -- ---- expressions and statements
 
 abbrev pub NameFits : Name → Type 0
-NameFits x = IsTrue (is_name x.text)
+NameFits x = IsTrue (is_source_name x.text)
 
 abbrev pub CallFits : Name → Args → Type 0
 CallFits f args = NameFits f × (arg_registers args ≤ MOST_REGISTERS)

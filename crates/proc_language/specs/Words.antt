@@ -15,5 +15,5 @@ unfoldable pub is_reserved : List ℕ → Bool
 is_reserved text = list_any (λ word. bytes_eq word text) reserved
 
 -- a name of a part, and no word of the grammar
-unfoldable pub is_name : List ℕ → Bool
-is_name text = part.is_name text && not (is_reserved text)
+unfoldable pub is_source_name : List ℕ → Bool
+is_source_name text = part.is_name text && not (is_reserved text)

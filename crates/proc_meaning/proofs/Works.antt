@@ -8,18 +8,18 @@ use Rattle.proc_meaning.specs.declared.work.Work.{Work}
 use Rattle.proc_meaning.specs.declared.work.Now.{Now}
 use Rattle.proc_semantics.specs.Told.{Comp, ticks}
 use Rattle.proc_semantics.specs.Values.{World, Store, is_zero}
-use Rattle.proc_meaning.specs.Rest.{now_of, rest_of}
+use Rattle.proc_meaning.specs.Rest.{now_of, rest_now}
 
 module _ (world : World) where
   pub pushed : (n : Now) (items new : List Work) (w : Work) (r : Run) (st : Store) → new ≡ items ++ w ∷ []
-      → rest_of world n new r st ≡ now_of world n (w ∷ reverse items) r st
-  unfolding rest_of
+      → rest_now world n new r st ≡ now_of world n (w ∷ reverse items) r st
+  unfolding rest_now
   pushed n items new w r st e = ap (λ l. now_of world n (reverse l) r st) e
       ∙ ap (λ l. now_of world n l r st) (reverse-append items (w ∷ []))
 
-  pub kept : (n : Now) (items : List Work) (r : Run) (st : Store) → rest_of world n items r st
+  pub kept : (n : Now) (items : List Work) (r : Run) (st : Store) → rest_now world n items r st
       ≡ now_of world n (reverse items) r st
-  unfolding rest_of
+  unfolding rest_now
   kept n items r st = refl
 
 pub reversed : (items new : List Work) (w : Work) → new ≡ items ++ w ∷ [] → reverse new ≡ w ∷ reverse items

@@ -11,9 +11,9 @@ use Rattle.proc_semantics.specs.declared.value.Frame.{Frame}
 use Rattle.proc_semantics.specs.declared.value.Value as values
 use Rattle.proc_semantics.specs.declared.value.Value.TheVariants.{Num}
 use Rattle.proc_semantics.specs.Told.{Comp, ends, fails, ticks, emit, take_item}
-use Rattle.proc_semantics.specs.Values.{World, Store, is_zero, set_word, word_at, pair_of}
+use Rattle.proc_semantics.specs.Values.{World, Store, is_zero, set_word, global_word, pair_of}
 use Rattle.proc_semantics.specs.Meaning.{Then, Next, Wait, operated, element, assigned, call, call_wait}
-use Rattle.proc_semantics.specs.Meaning.{expr, args, block, finish, left_by, part_of, on_item}
+use Rattle.proc_semantics.specs.Meaning.{expr, args, block, finish, left_by, part_name_of, on_item}
 use Rattle.proc_semantics.specs.Whole.{whole}
 use Rattle.proc_meaning.specs.declared.places.Run.{Run}
 use Rattle.proc_meaning.specs.declared.work.Work.{Work}
@@ -51,7 +51,7 @@ module _ (world : World) where
     -- what is done with a value
     pub with_value : List Work → Frame → List values.Value → Then
     with_value (Index a ∷ ws) f env v st =
-        element a v (λ o. with_value ws f env (word_at st f.home o) st)
+        element a v (λ o. with_value ws f env (global_word st f.home o) st)
     with_value (Right o e ∷ ws) f env v st =
         expr world (whole world) f env e.now (λ y. operated o v y (with_value ws f env)) st
     with_value (Operate o x ∷ ws) f env v st = operated o x v (with_value ws f env) st
@@ -82,7 +82,7 @@ module _ (world : World) where
     after (Ends (Caller r) ∷ ws) f env st =
         finish world f.need (with_value ws r.frame r.env.items) (pos 0) st
     after (Ends (Entered home left b) ∷ ws) f env st =
-        finish world f.need (left_by world (whole world) (part_of world home) (waiting ws) left b.now)
+        finish world f.need (left_by world (whole world) (part_name_of world home) (waiting ws) left b.now)
         (pos 0) st
     after _ f env st = fails
 
@@ -93,7 +93,8 @@ module _ (world : World) where
     back (Ends Start ∷ ws) f v st = finish world f.need (λ v st. fails) v st
     back (Ends (Caller r) ∷ ws) f v st = finish world f.need (with_value ws r.frame r.env.items) v st
     back (Ends (Entered home left b) ∷ ws) f v st =
-        finish world f.need (left_by world (whole world) (part_of world home) (waiting ws) left b.now) v st
+        finish world f.need (left_by world (whole world) (part_name_of world home) (waiting ws) left b.now) v
+        st
     back _ f v st = fails
 
     -- the newest call that waits, where the feed is asked
@@ -107,7 +108,7 @@ module _ (world : World) where
   ended Start ws v st = fails
   ended (Caller r) ws v st = with_value ws r.frame r.env.items v st
   ended (Entered home left b) ws v st =
-      left_by world (whole world) (part_of world home) (waiting ws) left b.now v st
+      left_by world (whole world) (part_name_of world home) (waiting ws) left b.now v st
 
   abbrev pub now_of : Now → List Work → Run → Store → Comp
   now_of (now.Eval e) ws r st =
@@ -118,7 +119,7 @@ module _ (world : World) where
   now_of now.Next ws r st = after ws r.frame r.env.items st
   now_of (now.Back v) ws r st = back ws r.frame v st
   now_of (now.Left home left b v) ws r st =
-      left_by world (whole world) (part_of world home) (waiting ws) left b.now v st
+      left_by world (whole world) (part_name_of world home) (waiting ws) left b.now v st
   now_of (now.Begin t left rs w) ws r st = (whole world).proc t left rs.items (ended w ws) st
   now_of now.Wait ws r st = (whole world).wait (waiting ws) st
   now_of (now.Take i) ws r st = on_item world (whole world) (waiting ws) st i.now
@@ -127,14 +128,14 @@ module _ (world : World) where
   -- ---- the list as it stands on the heap, its newest entry last
 
   -- the rest of the meaning, from what is done now, the list, the run and the globals
-  unfoldable pub rest_of : Now → List Work → Run → Store → Comp
-  rest_of n items r st = now_of n (reverse items) r st
+  unfoldable pub rest_now : Now → List Work → Run → Store → Comp
+  rest_now n items r st = now_of n (reverse items) r st
 
   -- what a turn leaves to be done
   abbrev pub ahead_of : Ahead → List Work → Run → Store → Comp
-  ahead_of (Free n) items r st = rest_of n items r st
-  ahead_of (Ticked k n) items r st = ticks k (rest_of n items r st)
-  ahead_of (Said e n) items r st = emit e (rest_of n items r st)
+  ahead_of (Free n) items r st = rest_now n items r st
+  ahead_of (Ticked k n) items r st = ticks k (rest_now n items r st)
+  ahead_of (Said e n) items r st = emit e (rest_now n items r st)
   ahead_of Asks items r st = take_item (on_item world (whole world) (waiting (reverse items)) st)
   ahead_of (Stop e) items r st = ends e
 

@@ -2,7 +2,7 @@
 ghost use Rattle.std.specs.Prelude.{◌≡◌, ◌+◌, ◌*◌, IfOk, length, reverse};
 ghost use Rattle.proc_program.specs.View.{args_of};
 ghost use Rattle.proc_semantics.specs.Values.{Store, pair_of};
-ghost use Rattle.proc_semantics.specs.Meaning.{call, part_of, given_of};
+ghost use Rattle.proc_semantics.specs.Meaning.{call, part_name_of, given_of};
 ghost use Rattle.proc_semantics.specs.Whole.{whole};
 ghost use Rattle.proc_meaning.specs.Rest.{with_value, call_with, ahead_of, IsLess};
 
@@ -17,7 +17,7 @@ use std::alloc::{AllocError, Global};
 
 /// The name of a module, as an event has it.
 pub(crate) fn part_name(alloc: Global, world: &[Part], home: usize) -> Result<Items<u8>, AllocError>
-    ensures { IfOk result (λ n. n ≡ part_of world.now home) }
+    ensures { IfOk result (λ n. n ≡ part_name_of world.now home) }
 {
     let mut name = Vec::new(alloc);
     if let Some(part) = world.get(home) {

@@ -2,7 +2,7 @@
 ghost use Rattle.std.specs.Prelude.{◌≡◌, ◌+◌, ◌*◌, ◌==◌, ◌&&◌, IfOk, length, reverse, List, ◌∷◌};
 ghost use Rattle.std.specs.Str.{bytes_eq};
 ghost use Rattle.proc_semantics.specs.Values.{Store};
-ghost use Rattle.proc_semantics.specs.Meaning.{part_of, stack_of, is_given, resumed, left_by, on_item};
+ghost use Rattle.proc_semantics.specs.Meaning.{part_name_of, home_stack, is_given, resumed, left_by, on_item};
 ghost use Rattle.proc_semantics.specs.Whole.{whole};
 ghost use Rattle.proc_meaning.specs.declared.work.Work.{Work};
 ghost use Rattle.proc_meaning.specs.Rest.{waiting, ahead_of, IsLess};
@@ -21,7 +21,7 @@ use std::alloc::{AllocError, Global};
 
 /// The name of a module, to read.
 fn part_text<'a>(world: &'a [Part], home: usize) -> &'a [u8]
-    ensures { result.now ≡ part_of world.now home }
+    ensures { result.now ≡ part_name_of world.now home }
 {
     match world.get(home) {
         Some(part) => part.name.as_slice(),
@@ -31,7 +31,7 @@ fn part_text<'a>(world: &'a [Part], home: usize) -> &'a [u8]
 
 /// Where the frame begins of a call that gave these words away.
 fn base_of(world: &[Part], home: usize, given: u32) -> u64
-    ensures { result ≡ stack_of world.now home + given }
+    ensures { result ≡ home_stack world.now home + given }
 {
     match world.get(home) {
         Some(part) => sum(part.stack, given),
@@ -59,8 +59,8 @@ struct Asked<'a> {
 
 /// Whether a call is the one that is meant.
 fn is_for(world: &[Part], home: usize, site: u32, given: u32, asked: &Asked<'_>) -> bool
-    ensures { result ≡ (bytes_eq asked.now.part.now (part_of world.now home) && (asked.now.site == site)
-        && (asked.now.base == stack_of world.now home + given) && is_given asked.now.left given) }
+    ensures { result ≡ (bytes_eq asked.now.part.now (part_name_of world.now home) && (asked.now.site == site)
+        && (asked.now.base == home_stack world.now home + given) && is_given asked.now.left given) }
 {
     let same_part = asked.part == part_text(world, home);
     let same_base = u64::from(asked.base) == base_of(world, home, given);
@@ -131,7 +131,7 @@ pub(crate) fn leave<'a>(
     run: &mut Run,
 ) -> Result<Ahead<'a>, AllocError>
     ensures same { IfOk result (λ a. (st : Store) →
-        left_by world.now (whole world.now) (part_of world.now home)
+        left_by world.now (whole world.now) (part_name_of world.now home)
         (waiting world.now (reverse work.old.items)) left way.now value st
         ≡ ahead_of world.now a work.new.items run.new st) }
     ensures less { IfOk result (λ a. IsLess a work.new.items (2 * length work.old.items + 3)) }

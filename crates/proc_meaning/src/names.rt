@@ -2,7 +2,7 @@
 ghost use Rattle.std.specs.Prelude.{◌≡◌, IfOk, position, List, [], option_map};
 ghost use Rattle.std.specs.Option.{option_copied};
 ghost use Rattle.proc_semantics.specs.Values.{is_named, is_shared, shared_in, shared_at, found, has_main};
-ghost use Rattle.proc_semantics.specs.Values.{main_of, part_at, proc_at, pair_found, pair_fed, register_fed};
+ghost use Rattle.proc_semantics.specs.Values.{main_target, home_part, proc_at, pair_found, pair_fed, register_fed};
 ghost use Rattle.proc_semantics.specs.Values.{registers_fed, first_of, rest_of, taken, linked, import_in};
 ghost use Rattle.proc_semantics.specs.Values.{pair_of};
 
@@ -44,7 +44,7 @@ fn shared_place(owner: &Part, name: &[u8]) -> Option<usize>
 }
 
 fn shared_in(world: &[Part], home: usize, name: &[u8]) -> Option<Target>
-    ensures { result ≡ shared_in home name.now (part_at world.now home) }
+    ensures { result ≡ shared_in home name.now (home_part world.now home) }
 {
     match world.get(home) {
         Some(owner) => match shared_place(owner, name) {
@@ -81,7 +81,7 @@ fn first_main(world: &[Part]) -> Option<usize>
 /// The first shared main.
 #[tactic(auto, unfolding(proc_semantics::specs::Values::main_of))]
 pub(crate) fn main_of(world: &[Part]) -> Option<Target>
-    ensures { result ≡ main_of world.now }
+    ensures { result ≡ main_target world.now }
 {
     match first_main(world) {
         Some(home) => shared_in(world, home, MAIN.as_bytes()),
@@ -211,7 +211,7 @@ pub(crate) fn taken(
 }
 
 fn import_in<'a>(world: &'a [Part], home: usize, k: u32) -> Option<&'a Import>
-    ensures { option_copied result ≡ import_in (part_at world.now home) k }
+    ensures { option_copied result ≡ import_in (home_part world.now home) k }
 {
     match world.get(home) {
         Some(owner) => owner.imports.as_slice().get(k as usize),

@@ -1,7 +1,7 @@
 //! Places of procedures, words of globals, and registers.
 ghost use Rattle.std.specs.Prelude.{◌≡◌, ℤ, pos, List, [], IfOk, map, slice_index_or, slice_set};
-ghost use Rattle.proc_semantics.specs.Values.{word_at, set_word, number_in, pair_in};
-ghost use Rattle.proc_semantics.specs.Values.{register_of, out_arg, out_at, out_args};
+ghost use Rattle.proc_semantics.specs.Values.{global_word, set_word, number_in, pair_in};
+ghost use Rattle.proc_semantics.specs.Values.{register_of, value_arg, out_at, value_args};
 
 use proc_semantics::{Frame, Pair, Register, Value};
 use source_events::OutArg;
@@ -84,7 +84,7 @@ impl Words {
 
 /// One of the words of a module's globals.
 pub(crate) fn word_at(store: &[Words], home: usize, o: usize) -> i64
-    ensures { result ≡ word_at store.now home o }
+    ensures { result ≡ global_word store.now home o }
 {
     match store.get(home) {
         Some(words) => words.get(o),
@@ -155,7 +155,7 @@ pub(crate) fn registers(alloc: Global, values: &[Value]) -> Result<Vec<Register>
 }
 
 fn out_arg(value: Value) -> OutArg
-    ensures { result ≡ out_arg value }
+    ensures { result ≡ value_arg value }
 {
     match value {
         Value::Num(v) => OutArg::Int(v),
@@ -171,7 +171,7 @@ fn out_at(values: &[Value], i: usize) -> OutArg
 
 /// The registers of a call that leaves.
 pub(crate) fn out_args(values: &[Value]) -> [OutArg; 4]
-    ensures { result ≡ out_args values.now }
+    ensures { result ≡ value_args values.now }
 {
     [
         out_at(values, 0),

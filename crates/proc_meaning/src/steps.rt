@@ -7,7 +7,7 @@ ghost use Rattle.proc_semantics.specs.Meaning.{Next, stmt, assigned};
 ghost use Rattle.proc_semantics.specs.Whole.{whole};
 ghost use Rattle.proc_meaning.specs.declared.places.Run.{Run};
 ghost use Rattle.proc_meaning.specs.Rest.{chosen, tested};
-ghost use Rattle.proc_meaning.specs.Rest.{with_value, after, back, rest_of, size_of, ahead_of, IsLess};
+ghost use Rattle.proc_meaning.specs.Rest.{with_value, after, back, rest_now, size_of, ahead_of, IsLess};
 
 use crate::ends::end_run;
 use crate::exprs::{element_at, result_of};
@@ -23,7 +23,7 @@ fn begin_step<'a>(s: &'a Step, work: &mut Vec<Work<'a>>) -> Result<Now<'a>, Allo
     ensures same { IfOk result (λ n. (world : World) (r : Run) (st : Store) →
         stmt world (whole world) r.frame s.now (back world (reverse work.old.items) r.frame)
         (after world (reverse work.old.items) r.frame) r.env.items st
-        ≡ tick (rest_of world n work.new.items r st)) }
+        ≡ tick (rest_now world n work.new.items r st)) }
     ensures less { IfOk result (λ n. size_of n work.new.items ≡ 2 * length work.old.items + 2) }
 {
     match &s.kind {

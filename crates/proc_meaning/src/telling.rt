@@ -1,6 +1,6 @@
 //! The meaning of a feed, turn by turn.
 ghost use Rattle.std.specs.Prelude.{◌≡◌, IfOk, [], map};
-ghost use Rattle.proc_semantics.specs.Values.{Store, main_of};
+ghost use Rattle.proc_semantics.specs.Values.{Store, main_target};
 ghost use Rattle.proc_semantics.specs.Meaning.{meaning, start};
 ghost use Rattle.proc_semantics.specs.Whole.{whole};
 ghost use Rattle.proc_meaning.specs.declared.places.Run.{Run};
@@ -29,7 +29,7 @@ fn first_words(alloc: Global, world: &[Part]) -> Result<Vec<Words>, AllocError>
 /// What is done first.
 fn first<'a>(alloc: Global, world: &[Part], stack: u32) -> Now<'a>
     ensures { (r : Run) (st : Store) →
-        start world.now (whole world.now) stack (main_of world.now) st ≡ now_of world.now result [] r st }
+        start world.now (whole world.now) stack (main_target world.now) st ≡ now_of world.now result [] r st }
 {
     match main_of(world) {
         Some(target) => Now::Begin(target, Some(stack), Vec::new(alloc), Whence::Start),

@@ -1,6 +1,6 @@
 //! One turn of what a meaning does.
 ghost use Rattle.std.specs.Prelude.{◌≡◌, IfOk};
-ghost use Rattle.proc_meaning.specs.Rest.{rest_of, size_of, ahead_of, IsLess};
+ghost use Rattle.proc_meaning.specs.Rest.{rest_now, size_of, ahead_of, IsLess};
 
 use crate::calls::arguments;
 use crate::ends::{begin, give_back};
@@ -23,7 +23,7 @@ pub(crate) fn turn<'a>(
     store: &mut Vec<Words>,
 ) -> Result<Ahead<'a>, AllocError>
     ensures same { IfOk result (λ a.
-        rest_of world.now now.entry work.old.items run.old store.old.items
+        rest_now world.now now.entry work.old.items run.old store.old.items
         ≡ ahead_of world.now a work.new.items run.new store.new.items) }
     ensures less { IfOk result (λ a. IsLess a work.new.items (size_of now.entry work.old.items)) }
 {

@@ -2,3 +2,4 @@ mod NeedLemmas
 pub mod FirstLemmas
 mod TwiceLemmas
 mod CallLemmas
+pub mod Offers

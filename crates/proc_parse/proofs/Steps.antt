@@ -9,7 +9,7 @@ use Rattle.proc_language.specs.declared.tree.Op.{Op}
 use Rattle.readers.specs.Readers.{◌>>=◌, goes_on, done}
 use Rattle.phrases.specs.Reading.{next_means, meant_in, behind, is_there, going, case_next}
 use Rattle.phrases.specs.Reading as readers
-use Rattle.phrases.proofs.Repeats.{many_stop, many_go, more_behind}
+use Rattle.phrases.proofs.Offers.{many_stop, many_go, more_behind}
 use Rattle.proc_grammar.specs.declared.fault.ParseFault.{ParseFault}
 use Rattle.proc_grammar.specs.declared.fault.ParseFault.TheVariants.{Scan, Expected, Range, TooMany, NoMemory}
 use Rattle.proc_grammar.specs.Fault.{Fails}

@@ -12,7 +12,7 @@ use Rattle.text_scan.specs.declared.token.Token.{Token}
 use Rattle.text_scan.specs.declared.fault.ScanFault.{ScanFault}
 use Rattle.text_scan.specs.Tokens.{scanned}
 use Rattle.text_scan.specs.Grammar.{HasTokens, IsSpelled, IsTokenText, Placed}
-use Rattle.text_scan.proofs.Places.{placed_ends}
+use Rattle.text_scan.proofs.Offers.{placed_ends}
 use Rattle.proc_grammar.specs.declared.fault.ParseFault.{ParseFault}
 use Rattle.proc_grammar.specs.declared.fault.ParseFault.TheVariants.{Scan, Expected, Range, TooMany, NoMemory}
 use Rattle.proc_grammar.specs.Fault.{AnswersAs, Fails, limit_place}
@@ -23,8 +23,7 @@ use Rattle.proc_grammar.specs.Reader.{place_in}
 use Rattle.proc_grammar.specs.Reading.{full, parsed}
 use Rattle.proc_grammar.specs.Stuck.{IsExpected, IsBeyond, StandsIn}
 use Rattle.proc_grammar.specs.Tokens.{IsLexeme}
-use Rattle.proc_grammar.proofs.Whole.{found, only, one_module, expected_is}
-use Rattle.proc_grammar.proofs.Stops.{told, fault_is}
+use Rattle.proc_grammar.proofs.Offers.{found, only, one_module, expected_is, told, fault_is}
 use Rattle.proc_parse.specs.Answers.{InText}
 use Rattle.proc_parse.specs.Texts.{proper, parsed_scan, parsed_text, Spells, Stops, Passes, IsFault}
 use Rattle.proc_parse.specs.Texts.{PassesBefore}

@@ -26,14 +26,15 @@ use Rattle.proc_names.specs.declared.scope.Callee.{Callee}
 use Rattle.proc_names.specs.declared.scope.Callee.TheVariants as called
 use Rattle.proc_names.specs.Names.{variable_named, callee_named, passed_named}
 use Rattle.proc_names.specs.Calls.{calls, stmt_calls, block_calls, proc_calls}
-use Rattle.proc_program.specs.Lower.{words, words_in, word_at, place_by, row_by, handle_by, exp_of, args_of}
+use Rattle.proc_program.specs.Lower.{words, words_in, first_word_of, place_by, row_by, handle_by, exp_of}
+use Rattle.proc_program.specs.Lower.{args_of}
 use Rattle.proc_program.specs.Lower.{step_of}
 use Rattle.proc_program.specs.Lower.{steps_of, procedure_of, procedures_of, globals_of, import_of, part_of}
 use Rattle.proc_program.specs.Limits.{VariableWithin, CalleeWithin, register_count, registers_of}
 use Rattle.proc_program.specs.Limits.{arg_registers}
 use Rattle.proc_program.specs.Limits.{Scope, scope_of, PlaceFits, RowFits, HandleFits, ExpFits, ArgsFit}
 use Rattle.proc_program.specs.Limits.{StepFits}
-use Rattle.proc_program.specs.Limits.{BlockFits, ProcedureFits, ImportFits, IsPart}
+use Rattle.proc_program.specs.Limits.{BlockFits, ProcedureFits, LoweredImportFits, IsPart}
 use Rattle.proc_program.specs.View.{args_of as args_view}
 use Rattle.proc_program.specs.StepView.{block_of as block_view}
 use Rattle.proc_program.proofs.Limits.{words_before, registers_before, variable_within, callee_within}
@@ -53,7 +54,7 @@ procs-length m n [] = refl
 procs-length m n (p ∷ ps) = ap suc (procs-length m (n + proc_calls p) ps)
 
 pub row_within : (gs : List Global) (k : ℕ)
-    → word_at gs k + option_map_or words (slice_get gs k) 0 ≤ words_in gs
+    → first_word_of gs k + option_map_or words (slice_get gs k) 0 ≤ words_in gs
 row_within [] zero = omega arith
 row_within [] (suc k) = omega arith
 row_within (g ∷ gs) zero = let e = sum_by-cons words g gs in omega (arith, e)
@@ -183,7 +184,7 @@ module _ (m : ModuleFields) (limits : IsModule m) where
 
 -- ---- modules
 
-imports_fit : (xs : List Import) → Each language.ImportFits xs → Each ImportFits (map import_of xs)
+imports_fit : (xs : List Import) → Each language.ImportFits xs → Each LoweredImportFits (map import_of xs)
 imports_fit [] w = tt
 imports_fit (x ∷ xs) w = (record { part = w.0.0; name = w.0.1 }, imports_fit xs w.1)
 

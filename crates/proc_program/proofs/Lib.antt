@@ -2,3 +2,4 @@ pub mod Limits
 pub mod Kept
 pub mod Counted
 pub mod Example
+pub mod Offers

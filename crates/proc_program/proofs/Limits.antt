@@ -14,12 +14,12 @@ use Rattle.proc_names.specs.declared.scope.Variable.TheVariants as named
 use Rattle.proc_names.specs.declared.scope.Callee.TheVariants as called
 use Rattle.proc_names.specs.Names.{or_else, is_callback, is_array, param_at, global_at, variable_named}
 use Rattle.proc_names.specs.Names.{callee_named, passed_named}
-use Rattle.proc_program.specs.Lower.{words, words_in, word_at, param_place}
+use Rattle.proc_program.specs.Lower.{words, words_in, first_word_of, param_place}
 use Rattle.proc_program.specs.Limits.{VariableWithin, CalleeWithin}
 
 -- ---- globals and parameters
 
-pub words_before : (gs : List Global) (k : ℕ) → word_at gs k ≤ words_in gs
+pub words_before : (gs : List Global) (k : ℕ) → first_word_of gs k ≤ words_in gs
 words_before gs k = sum_by-take-le words gs k
 
 pub registers_before : (params : List Param) (i : ℕ) → param_place params i ≤ params_registers params

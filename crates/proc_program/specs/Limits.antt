@@ -5,7 +5,7 @@ use Rattle.std.specs.Int.RustNames.{FitsSigned}
 use Rattle.cap_words.specs.declared.TheConstants.{LAST_PLACE}
 use Rattle.proc_language.specs.declared.TheConstants.{MOST_ITEMS, MOST_REGISTERS, MOST_LOCALS}
 use Rattle.proc_language.specs.declared.TheConstants.{LARGEST_LITERAL}
-use Rattle.proc_language.specs.Words.{is_name}
+use Rattle.proc_language.specs.Words.{is_source_name}
 use Rattle.proc_language.specs.Limits.{Each, SealsFit}
 use Rattle.proc_names.specs.declared.scope.Variable.{Variable}
 use Rattle.proc_names.specs.declared.scope.Variable.TheVariants as named
@@ -110,15 +110,15 @@ module _ (s : Scope) where
 
   -- a procedure; its frame has room for more than what is handed over
   pub record ProcedureFits (p : Procedure) : Type 0 where
-    pub name : IsTrue (is_name p.name)
+    pub name : IsTrue (is_source_name p.name)
     pub registers : registers_of p.callbacks ≤ MOST_REGISTERS
     pub locals : p.locals ≤ MOST_LOCALS
     pub frame : 2 + registers_of p.callbacks + p.locals ≤ p.need
     pub body : BlockFits (block_of p.body)
 
-pub record ImportFits (i : Import) : Type 0 where
-  pub part : IsTrue (is_name i.part)
-  pub name : IsTrue (is_name i.name)
+pub record LoweredImportFits (i : Import) : Type 0 where
+  pub part : IsTrue (is_source_name i.part)
+  pub name : IsTrue (is_source_name i.name)
 
 pub record HeaderFits (head : Header) : Type 0 where
   pub code : head.code ≤ LAST_PLACE
@@ -127,10 +127,10 @@ pub record HeaderFits (head : Header) : Type 0 where
   pub returns : SealsFit head.returns head.return_count
 
 pub record IsPart (part : Part) : Type 0 where
-  pub name : IsTrue (is_name part.name)
+  pub name : IsTrue (is_source_name part.name)
   pub stack : part.stack ≤ LAST_PLACE
   pub header : HeaderFits part.header
-  pub imports : (length part.imports ≤ MOST_ITEMS) × Each ImportFits part.imports
+  pub imports : (length part.imports ≤ MOST_ITEMS) × Each LoweredImportFits part.imports
   pub globals : Each (FitsSigned w64) part.globals
   pub some : 1 ≤ length part.procs
   pub procs : (length part.procs ≤ MOST_ITEMS) × Each (ProcedureFits (scope_of part)) part.procs

@@ -47,8 +47,8 @@ abbrev pub words_in : List Global → ℕ
 words_in gs = sum_by words gs
 
 -- the first word of the global of an index
-abbrev pub word_at : List Global → ℕ → ℕ
-word_at gs k = words_in (take k gs)
+abbrev pub first_word_of : List Global → ℕ → ℕ
+first_word_of gs k = words_in (take k gs)
 
 -- the place of the parameter of an index: a callback takes two places, all else one
 abbrev pub param_place : List Param → ℕ → ℕ
@@ -58,8 +58,8 @@ param_place params i = params_registers (take i params)
 abbrev pub place_by : ModuleFields → Proc → Variable → Place
 place_by m p (named.Param i) = place.Local (param_place p.params i)
 place_by m p (named.Local k) = place.Local (params_registers p.params + k)
-place_by m p (named.Global k) = place.Global (word_at m.globals k)
-place_by m p (named.Array k) = place.Global (word_at m.globals k)
+place_by m p (named.Global k) = place.Global (first_word_of m.globals k)
+place_by m p (named.Array k) = place.Global (first_word_of m.globals k)
 place_by m p named.Other = place.Global 0
 place_by m p named.Missing = place.Global 0
 
@@ -67,7 +67,7 @@ abbrev pub variable_of : ModuleFields → Proc → Name → Place
 variable_of m p x = place_by m p (variable_named m p x)
 
 abbrev pub row_at : List Global → ℕ → Row
-row_at gs k = record { first = word_at gs k; length = option_map_or words (slice_get gs k) 0 }
+row_at gs k = record { first = first_word_of gs k; length = option_map_or words (slice_get gs k) 0 }
 
 abbrev pub no_row : Row
 no_row = record { first = 0; length = 0 }
@@ -95,8 +95,8 @@ abbrev pub handle_of : ModuleFields → Proc → Name → Handle
 handle_of m p f = handle_by p.params (callee_named m p f)
 
 -- what is passed on
-abbrev pub passed_of : ModuleFields → Proc → Name → Handle
-passed_of m p f = handle_by p.params (passed_named m p f)
+abbrev pub passed_handle : ModuleFields → Proc → Name → Handle
+passed_handle m p f = handle_by p.params (passed_named m p f)
 
 -- ---- expressions and statements, from the number of the next call on
 
@@ -112,7 +112,7 @@ module _ (m : ModuleFields) (p : Proc) where
     pub args_of : ℕ → Args → List Arg
     args_of n no_args = []
     args_of n (value e xs) = arg.Value (exp_of n e) ∷ args_of (n + calls e) xs
-    args_of n (proc f xs) = arg.Pass (passed_of m p f) ∷ args_of n xs
+    args_of n (proc f xs) = arg.Pass (passed_handle m p f) ∷ args_of n xs
 
   abbrev pub call_of : ℕ → Name → Args → Exp
   call_of n f xs = run.Call (n + args_calls xs) (handle_of m p f) (args_view (args_of n xs))

@@ -9,9 +9,9 @@ ghost use Rattle.proc_language.specs.View.{args_of as tree_args};
 ghost use Rattle.proc_names.specs.Names.{variable_named, callee_named, passed_named};
 ghost use Rattle.proc_names.specs.Calls.{calls, args_calls, stmt_calls, block_calls, proc_calls};
 ghost use Rattle.proc_program.specs.Limits.{VariableWithin, CalleeWithin};
-ghost use Rattle.proc_program.specs.Lower.{words, words_in, word_at, row_at, row_of, param_place};
+ghost use Rattle.proc_program.specs.Lower.{words, words_in, first_word_of, row_at, row_of, param_place};
 ghost use Rattle.proc_program.specs.Lower.{variable_of};
-ghost use Rattle.proc_program.specs.Lower.{handle_by, handle_of, passed_of, exp_of, args_of, call_of};
+ghost use Rattle.proc_program.specs.Lower.{handle_by, handle_of, passed_handle, exp_of, args_of, call_of};
 ghost use Rattle.proc_program.specs.Lower.{step_of};
 ghost use Rattle.proc_program.specs.Lower.{steps_of, procedure_of, procedures_of, globals_of, import_of};
 ghost use Rattle.proc_program.specs.Lower.{header_of, part_of};
@@ -50,7 +50,7 @@ fn word_at(gs: &[Global], k: usize) -> u32
     requires within { k < length gs.now }
     requires few { length gs.now ≤ MOST_ITEMS }
     requires fits { Each GlobalFits gs.now }
-    ensures { result ≡ word_at gs.now k }
+    ensures { result ≡ first_word_of gs.now k }
 {
     words_in(&gs[..k])
 }
@@ -156,7 +156,7 @@ fn handle_of(m: &ModuleFields, p: &Proc, f: &Name) -> Handle
 fn passed_of(m: &ModuleFields, p: &Proc, f: &Name) -> Handle
     requires limits { IsModule m.now }
     requires fits { ProcFits p.now }
-    ensures { result ≡ passed_of m.now p.now f.now }
+    ensures { result ≡ passed_handle m.now p.now f.now }
 {
     handle_by(m, p, passed_in(m, p, f))
 }

@@ -28,12 +28,12 @@ use Rattle.proc_semantics.specs.declared.value.Value.TheVariants.{Num, Closure, 
 use Rattle.proc_semantics.specs.declared.value.Register.{Register}
 use Rattle.proc_semantics.specs.declared.value.Frame.{Frame}
 use Rattle.proc_semantics.specs.Told.{Comp, ends, fails, tick, ticks, emit, take_item}
-use Rattle.proc_semantics.specs.Values.{World, register_of, Store, is_zero, set_word, word_at}
+use Rattle.proc_semantics.specs.Values.{World, register_of, Store, is_zero, set_word, global_word}
 use Rattle.proc_semantics.specs.Values.{variable, pair_of, taken, found, registers_fed}
 use Rattle.proc_semantics.specs.Values.{proc_at}
 use Rattle.proc_semantics.specs.Meaning.{Then, Next, Wait, Level, result_of, with_number, enough, given_of}
 use Rattle.proc_semantics.specs.Meaning.{is_given, operated, element_at, with_place, element, assigned}
-use Rattle.proc_semantics.specs.Meaning.{resumed, returned, call_by, call, part_of, expr}
+use Rattle.proc_semantics.specs.Meaning.{resumed, returned, call_by, call, part_name_of, expr}
 use Rattle.proc_semantics.specs.Meaning.{args, stmt, block, turn_at, body_of, begin, proc_of, hopped}
 use Rattle.proc_semantics.specs.Meaning.{left_by, entered, on_item, level}
 
@@ -161,7 +161,7 @@ module _ (R : ℕ → Comp → Comp → Type 0) (kept : IsKept R) (world : World
     expr_kept f env (Load x) k k' st h = ticked R kept b _ _ (h (variable f.home env st x) st)
     expr_kept f env (Element a e) k k' st h =
         ticked R kept b _ _ (expr_kept f env e _ _ st
-        (λ i st1. element_kept R kept b a i _ _ (λ o. h (word_at st1 f.home o) st1)))
+        (λ i st1. element_kept R kept b a i _ _ (λ o. h (global_word st1 f.home o) st1)))
     expr_kept f env (Call site x xs) k k' st h =
         ticked R kept b _ _ (args_kept f env xs _ _ st
         (λ vs st1. call_kept f site (pair_of world f.home env x) vs k k' st1 h))
@@ -267,7 +267,7 @@ module _ (R : ℕ → Comp → Comp → Type 0) (kept : IsKept R) (world : World
       → R b (entered world l c t left rs back st) (entered world l' c' t left rs back st)
   entered_kept c c' None left rs back st h = kept.failing b
   entered_kept c c' (Some t) left rs back st h =
-      same.procs t left rs _ _ st (left_kept (part_of world t.home) c c' left back h)
+      same.procs t left rs _ _ st (left_kept (part_name_of world t.home) c c' left back h)
 
   pub item_kept : (c c' : Option Wait) (st : Store) (i : Item) → RWait R b c c'
       → R b (on_item world l c st i) (on_item world l' c' st i)

@@ -16,7 +16,7 @@ use Rattle.source_events.specs.declared.OutArg.{OutArg}
 use Rattle.source_events.specs.declared.OutArg.TheVariants.{Int, Half}
 use Rattle.source_events.specs.declared.OutEvent.TheVariants.{CallOut, LeaveOut}
 use Rattle.source_events.specs.declared.End.TheVariants.{Halt as Halted, Fail, Waiting, OutOfFuel}
-use Rattle.proc_semantics.specs.Values.{World, found, main_of, linked}
+use Rattle.proc_semantics.specs.Values.{World, found, main_target, linked}
 use Rattle.proc_semantics.specs.Meaning.{meaning}
 
 -- where words stand doesn't matter here
@@ -69,7 +69,7 @@ the_bank : meaning bank 64 deposits 1000 ≡ record {
   end = Waiting;
   ticks = 19;
 }
-unfolding bank deposits found main_of linked
+unfolding bank deposits found main_target linked
 the_bank = refl
 
 -- export proc main() { go(0); halt 7; }
@@ -98,7 +98,7 @@ no_number : meaning older 64 answer_of_no_number 1000 ≡ record {
   end = Fail;
   ticks = 7;
 }
-unfolding older answer_of_no_number found main_of linked
+unfolding older answer_of_no_number found main_target linked
 no_number = refl
 
 -- export proc main() { halt go(); }  export proc twice(f/1, x) { return f(f(x)); }
@@ -139,7 +139,7 @@ the_callback : meaning twice 64 called_back 1000 ≡ record {
   end = Halted (pos 7);
   ticks = 23;
 }
-unfolding twice called_back found main_of linked
+unfolding twice called_back found main_target linked
 the_callback = refl
 
 -- with one tick less than that it has run out of fuel, at as many ticks
@@ -150,7 +150,7 @@ too_little : meaning twice 64 called_back 22 ≡ record {
   end = OutOfFuel;
   ticks = 22;
 }
-unfolding twice called_back found main_of linked
+unfolding twice called_back found main_target linked
 too_little = refl
 
 -- export proc main() { halt go(proc main); }
@@ -176,5 +176,5 @@ waits_at_8 : meaning itself 64 [] 1000 ≡ record {
   end = Waiting;
   ticks = 8;
 }
-unfolding itself found main_of linked
+unfolding itself found main_target linked
 waits_at_8 = refl

@@ -25,11 +25,12 @@ use Rattle.proc_semantics.specs.declared.value.Pair.TheVariants.{Bad, Outside, R
 use Rattle.proc_semantics.specs.declared.value.Value.{Value}
 use Rattle.proc_semantics.specs.declared.value.Value.TheVariants.{Num, Closure, Other}
 use Rattle.proc_semantics.specs.Told.{repeated}
-use Rattle.proc_semantics.specs.Values.{World, Store, is_zero, set_word, word_at}
+use Rattle.proc_semantics.specs.Values.{World, Store, is_zero, set_word, global_word}
 use Rattle.proc_semantics.specs.Values.{variable, pair_of, taken, found, proc_at}
 use Rattle.proc_semantics.specs.Rules.{Domain, Then, Next, Wait, Level, result_of, with_number, enough}
 use Rattle.proc_semantics.specs.Rules.{given_from, is_given, operated, element_at, with_place, element}
-use Rattle.proc_semantics.specs.Rules.{assigned, resumed, returned, call_by, call, part_of, expr, args, stmt}
+use Rattle.proc_semantics.specs.Rules.{assigned, resumed, returned, call_by, call, part_name_of, expr, args}
+use Rattle.proc_semantics.specs.Rules.{stmt}
 use Rattle.proc_semantics.specs.Rules.{block, turn_at, body_of, begin, proc_of, hopped, left_by, entered}
 use Rattle.proc_semantics.specs.Rules.{by_item, on_item, level, start}
 
@@ -204,9 +205,9 @@ module _ (M N : Domain) (kin : Kin M N) where
           (ticked b _ _ (h (variable (M.home f) env st x) st))
       expr_kept f g env (Element a e) k k' st r h =
           ticked b _ _ (expr_kept f g env e _ _ st r
-          (λ i st1. subst (λ z. kin.R b (element M a i (λ o. k (word_at st1 (M.home f) o) st1))
-          (element N a i (λ o. k' (word_at st1 z o) st1))) (kin.home f g r)
-          (element_kept b a i _ _ (λ o. h (word_at st1 (M.home f) o) st1))))
+          (λ i st1. subst (λ z. kin.R b (element M a i (λ o. k (global_word st1 (M.home f) o) st1))
+          (element N a i (λ o. k' (global_word st1 z o) st1))) (kin.home f g r)
+          (element_kept b a i _ _ (λ o. h (global_word st1 (M.home f) o) st1))))
       expr_kept f g env (Call site x xs) k k' st r h =
           ticked b _ _ (args_kept f g env xs _ _ st r
           (λ vs st1. subst (λ z. kin.R b
@@ -344,7 +345,7 @@ module _ (M N : Domain) (kin : Kin M N) where
         → kin.R b (entered M world l c t e left rs back st) (entered N world l' c' t e' left rs' back st)
     entered_kept c c' None e e' left rs rs' back st i j h = kin.failing b
     entered_kept c c' (Some t) e e' left rs rs' back st i j h =
-        same.procs t left rs rs' _ _ st j (left_kept (part_of world t.home) c c' e e' left back i h)
+        same.procs t left rs rs' _ _ st j (left_kept (part_name_of world t.home) c c' e e' left back i h)
 
     by_kept : (c : Option (Wait M)) (c' : Option (Wait N)) (st : Store) (x : M.Thing) (y : N.Thing) (i : Item)
         → kin.Thing x y → RWait b c c' → kin.R b (by_item M world l c st x i) (by_item N world l' c' st y i)

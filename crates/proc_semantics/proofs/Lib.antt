@@ -6,3 +6,4 @@ pub mod Recursive
 pub mod Fuelled
 mod Examples
 pub mod Picks
+pub mod Offers

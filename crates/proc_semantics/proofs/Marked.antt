@@ -11,14 +11,14 @@ use Rattle.proc_program.specs.Program.{Args, no_args, value, pass}
 use Rattle.proc_semantics.specs.declared.value.Value.{Value}
 use Rattle.proc_semantics.specs.declared.value.Value.TheVariants.{Num, Closure, Other}
 use Rattle.proc_semantics.specs.Told as told
-use Rattle.proc_semantics.specs.Values.{World, main_of, out_arg, out_args}
-use Rattle.proc_semantics.specs.Meaning.{plain, meaning}
+use Rattle.proc_semantics.specs.Values.{World, main_target, value_arg, value_args}
+use Rattle.proc_semantics.specs.Meaning.{plain_domain, meaning}
 use Rattle.proc_semantics.specs.Marked.{PairHalf, CodeHalf, DataHalf, Marks, Thing, Calls}
 use Rattle.proc_semantics.specs.Marked.{Leaves, Comp, Frame, Regs, Way, counted, tick, said, take_item}
-use Rattle.proc_semantics.specs.Marked.{first_mark, rest_marks, taken_marks, arg_of, arg_at, args_of}
+use Rattle.proc_semantics.specs.Marked.{first_mark, rest_marks, taken_marks, arg_of, arg_at, marked_args}
 use Rattle.proc_semantics.specs.Marked.{call_event, of_handle, of_args, marked, marked_meaning, plain_arg}
 use Rattle.proc_semantics.specs.Marked.{plain_report, thing_to, arg_to, event_to, report_to}
-use Rattle.proc_semantics.specs.Marked.{marks_to, Whence, whences, numbered, MarkLaws, lower}
+use Rattle.proc_semantics.specs.Marked.{marks_to, Whence, whences, numbered_items, MarkLaws, lower}
 use Rattle.proc_semantics.proofs.Kin.{Kin, starts_kept}
 
 -- ---- forgetting
@@ -31,25 +31,27 @@ module _ (T E : Type 0) (marks : Marks T) where
     is : (low : Option ℕ) (f : ℕ) (feed : List (Thing T E)) → f + length feed < b
         → plain_report (m low f feed) ≡ m' f (items feed)
 
-  arg_forgets : (v : Value) (m : Option T) → plain_arg (arg_of T E v m) ≡ out_arg v
+  arg_forgets : (v : Value) (m : Option T) → plain_arg (arg_of T E v m) ≡ value_arg v
   arg_forgets (Num v) m = refl
   arg_forgets (Closure p) m = refl
   arg_forgets Other m = refl
 
   at_forgets : (vs : List Value) (ms : List (Option T)) (i : ℕ)
-      → plain_arg (arg_at T E vs ms i) ≡ out_arg (slice_index_or vs i (Num (pos 0)))
+      → plain_arg (arg_at T E vs ms i) ≡ value_arg (slice_index_or vs i (Num (pos 0)))
   at_forgets vs ms i = arg_forgets (slice_index_or vs i (Num (pos 0))) (slice_index_or ms i None)
 
-  args_forget : (vs : List Value) (ms : List (Option T)) → map plain_arg (args_of T E vs ms) ≡ out_args vs
+  args_forget : (vs : List Value) (ms : List (Option T)) → map plain_arg (marked_args T E vs ms)
+      ≡ value_args vs
   args_forget vs ms =
       ap (λ z. z ∷ plain_arg (arg_at T E vs ms 1) ∷ plain_arg (arg_at T E vs ms 2)
       ∷ plain_arg (arg_at T E vs ms 3) ∷ []) (at_forgets vs ms 0)
-      ∙ ap (λ z. out_arg (slice_index_or vs 0 (Num (pos 0))) ∷ z ∷ plain_arg (arg_at T E vs ms 2)
+      ∙ ap (λ z. value_arg (slice_index_or vs 0 (Num (pos 0))) ∷ z ∷ plain_arg (arg_at T E vs ms 2)
       ∷ plain_arg (arg_at T E vs ms 3) ∷ []) (at_forgets vs ms 1)
-      ∙ ap (λ z. out_arg (slice_index_or vs 0 (Num (pos 0))) ∷ out_arg (slice_index_or vs 1 (Num (pos 0))) ∷ z
+      ∙ ap (λ z. value_arg (slice_index_or vs 0 (Num (pos 0))) ∷ value_arg (slice_index_or vs 1 (Num (pos 0)))
+      ∷ z
       ∷ plain_arg (arg_at T E vs ms 3) ∷ []) (at_forgets vs ms 2)
-      ∙ ap (λ z. out_arg (slice_index_or vs 0 (Num (pos 0))) ∷ out_arg (slice_index_or vs 1 (Num (pos 0)))
-      ∷ out_arg (slice_index_or vs 2 (Num (pos 0))) ∷ z ∷ []) (at_forgets vs ms 3)
+      ∙ ap (λ z. value_arg (slice_index_or vs 0 (Num (pos 0))) ∷ value_arg (slice_index_or vs 1 (Num (pos 0)))
+      ∷ value_arg (slice_index_or vs 2 (Num (pos 0))) ∷ z ∷ []) (at_forgets vs ms 3)
 
   tick_forgets : (b : ℕ) (m : Comp T E) (m' : told.Comp) → Forgets b m m'
       → Forgets (suc b) (tick T E m) (told.tick m')
@@ -70,7 +72,7 @@ module _ (T E : Type 0) (marks : Marks T) where
       is low f [] lt = refl
       is low f (x ∷ feed) lt = (s x x.item refl).is low f feed (omega (arith, lt))
 
-  forgetting : Kin (marked T E marks) plain
+  forgetting : Kin (marked T E marks) plain_domain
   forgetting = record {
     R = Forgets;
     Runs = λ f g. (f.home ≡ g.home) × (f.left ≡ g.left) × (f.need ≡ g.need);
@@ -85,7 +87,7 @@ module _ (T E : Type 0) (marks : Marks T) where
     calling = λ b part site base w w' vs m m' e s. record {
       is = λ low f feed lt.
           ap (λ z. told.said (CallOut part site z) (plain_report (m None f feed))) (args_forget vs w.words)
-          ∙ ap (told.said (CallOut part site (out_args vs))) (s.is None f feed lt);
+          ∙ ap (told.said (CallOut part site (value_args vs))) (s.is None f feed lt);
     };
     leaving = λ b part e e' v m m' i s.
         record { is = λ low f feed lt. ap (told.said _) (s.is None f feed lt) };
@@ -113,11 +115,13 @@ module _ (T E : Type 0) (marks : Marks T) where
   unfolding forgetting
   marked_forgets world stack feed fuel =
       let n = length-map feed (λ x. x.item) in
-      (starts_kept (marked T E marks) plain forgetting world (fuel + length feed + 1) stack
-      (fuel + length feed + 1) (fuel + length (items feed) + 1) (main_of world) (map (λ u. u.globals) world)
+      (starts_kept (marked T E marks) plain_domain forgetting world (fuel + length feed + 1) stack
+      (fuel + length feed + 1) (fuel + length (items feed) + 1) (main_target world)
+      (map (λ u. u.globals) world)
       (omega arith) (omega (arith, n))).is None fuel feed (omega arith)
 
-items_numbered : (k : ℕ) (feed : List Item) → map (λ (x : Thing Whence ℕ). x.item) (numbered k feed) ≡ feed
+items_numbered : (k : ℕ) (feed : List Item) → map (λ (x : Thing Whence ℕ). x.item) (numbered_items k feed)
+    ≡ feed
 items_numbered k [] = refl
 items_numbered k (i ∷ feed) = ap (λ z. i ∷ z) (items_numbered (k + 1) feed)
 
@@ -171,7 +175,7 @@ module _ (T E U F : Type 0) (m : T → U) (n : E → F) (marks : Marks T) where
       ∙ ap (arg_of U F (slice_index_or vs i (Num (pos 0)))) (index_too ms i)
 
   args_too : (vs : List Value) (ms : List (Option T))
-      → map (arg_to m n) (args_of T E vs ms) ≡ args_of U F vs (too ms)
+      → map (arg_to m n) (marked_args T E vs ms) ≡ marked_args U F vs (too ms)
   args_too vs ms =
       ap (λ z. z ∷ arg_to m n (arg_at T E vs ms 1) ∷ arg_to m n (arg_at T E vs ms 2)
       ∷ arg_to m n (arg_at T E vs ms 3) ∷ []) (at_too vs ms 0)
@@ -249,11 +253,12 @@ module _ (T E U F : Type 0) (m : T → U) (n : E → F) (marks : Marks T) where
       → WayToo w x → event_to m n (call_event T E part site base w vs low) ≡ call_event U F part site base x
       vs low
   call_too part site base w x vs low r =
-      ap (λ z. Calls part site base low z (option_map m w.second) (map (arg_to m n) (args_of T E vs w.words)))
+      ap (λ z. Calls part site base low z (option_map m w.second)
+      (map (arg_to m n) (marked_args T E vs w.words)))
       r.first
-      ∙ ap (λ z. Calls part site base low x.first z (map (arg_to m n) (args_of T E vs w.words))) r.second
+      ∙ ap (λ z. Calls part site base low x.first z (map (arg_to m n) (marked_args T E vs w.words))) r.second
       ∙ ap (λ z. Calls part site base low x.first x.second z)
-      (args_too vs w.words ∙ ap (args_of U F vs) r.words)
+      (args_too vs w.words ∙ ap (marked_args U F vs) r.words)
 
   renaming : Kin (marked T E marks) (marked U F (marks_to m n marks))
   renaming = record {
@@ -314,12 +319,12 @@ module _ (T E U F : Type 0) (m : T → U) (n : E → F) (marks : Marks T) where
       let len = length-map feed (thing_to m n) in
       (starts_kept (marked T E marks) (marked U F (marks_to m n marks)) renaming world
       (fuel + length feed + 1)
-      stack (fuel + length feed + 1) (fuel + length (things feed) + 1) (main_of world)
+      stack (fuel + length feed + 1) (fuel + length (things feed) + 1) (main_target world)
       (map (λ u. u.globals) world) (omega arith) (omega (arith, len))).is None fuel feed (omega arith)
 
 pub mark_laws : MarkLaws
 mark_laws = record {
   forgets = λ world stack feed fuel.
-      marked_forgets Whence ℕ whences world stack (numbered 0 feed) fuel
+      marked_forgets Whence ℕ whences world stack (numbered_items 0 feed) fuel
       ∙ ap (λ z. meaning world stack z fuel) (items_numbered 0 feed);
 }

@@ -10,7 +10,7 @@ use Rattle.source_events.specs.declared.Item.{Item}
 use Rattle.source_events.specs.declared.Item.TheVariants.{Enter}
 use Rattle.source_events.specs.declared.FeedBack.TheVariants as way
 use Rattle.source_events.specs.declared.FeedPair.TheVariants as fed
-use Rattle.proc_semantics.specs.Values.{World, found, main_of, linked}
+use Rattle.proc_semantics.specs.Values.{World, found, main_target, linked}
 use Rattle.proc_semantics.specs.Marked.{Event, Calls, Leaves, Whence, OwnWord, ImportWord, CameWord, refined}
 use Rattle.proc_semantics.specs.Apart.{ToldApart}
 use Rattle.proc_semantics.proofs.Examples.{nowhere}
@@ -61,18 +61,18 @@ called_by (Calls part site base low x y xs ∷ es) = register x
 called_by (Leaves part v low e ∷ es) = 0
 
 second_is_called : called_by (refined (picks 0) 64 entry 1000).events ≡ 2
-unfolding picks entry found main_of linked
+unfolding picks entry found main_target linked
 second_is_called = refl
 
 first_is_called : called_by (refined (picks 1) 64 entry 1000).events ≡ 0
-unfolding picks entry found main_of linked
+unfolding picks entry found main_target linked
 first_is_called = refl
 
 two_is_not : {n m : ℕ} → n ≡ 2 → m ≡ 0 → n ≢ m
 two_is_not e f same = omega (arith, e, f, same)
 
 pub told_apart : ToldApart
-unfolding picks entry found main_of linked
+unfolding picks entry found main_target linked
 told_apart = record {
   one = picks 0;
   other = picks 1;

@@ -11,7 +11,7 @@ use Rattle.proc_semantics.specs.declared.value.Register.{Register}
 use Rattle.proc_semantics.specs.declared.value.Frame.{Frame}
 use Rattle.proc_semantics.specs.Told.{Comp, tick, counted, said, take_item}
 use Rattle.proc_semantics.specs.Values.{World, register_of, Store}
-use Rattle.proc_semantics.specs.Values.{main_of}
+use Rattle.proc_semantics.specs.Values.{main_target}
 use Rattle.proc_semantics.specs.Values.{proc_at}
 use Rattle.proc_semantics.specs.Meaning.{Then, Next, Wait, Level, proc_of, turn_at, on_item, level, start}
 use Rattle.proc_semantics.specs.Meaning.{meaning}
@@ -96,20 +96,20 @@ start_kept R kept world b stack (Some t) st l l' same =
 
 -- the start at any level that is enough for the fuel and the feed gives the meaning
 pub enough : (world : World) (stack : ℕ) (feed : List Item) (f d : ℕ) → f + length feed < d
-    → start world (level world d) stack (main_of world) (map (λ u. u.globals) world) f feed
+    → start world (level world d) stack (main_target world) (map (λ u. u.globals) world) f feed
     ≡ meaning world stack feed f
 enough world stack feed f d lt =
     let n = f + length feed + 1 in
-    (start_kept Same same_kept world n stack (main_of world) (map (λ u. u.globals) world) _ _
+    (start_kept Same same_kept world n stack (main_target world) (map (λ u. u.globals) world) _ _
     (levels_kept Same same_kept world n d n (omega (arith, lt)) (omega arith))).is f feed (omega arith)
 
 -- the meaning is the start without levels
 pub starts : (world : World) (stack : ℕ) (feed : List Item) (f : ℕ)
-    → start world (whole world) stack (main_of world) (map (λ u. u.globals) world) f feed
+    → start world (whole world) stack (main_target world) (map (λ u. u.globals) world) f feed
     ≡ meaning world stack feed f
 starts world stack feed f =
     let n = f + length feed + 1 in
-    sym ((start_kept Same same_kept world n stack (main_of world) (map (λ u. u.globals) world) _ _
+    sym ((start_kept Same same_kept world n stack (main_target world) (map (λ u. u.globals) world) _ _
     (same_whole world n n (omega arith))).is f feed (omega arith))
 
 module _ (world : World) where

@@ -20,7 +20,7 @@ use Rattle.proc_program.specs.Program.{Args, no_args, value, pass}
 use Rattle.proc_semantics.specs.declared.value.Value.{Value}
 use Rattle.proc_semantics.specs.declared.value.Value.TheVariants.{Num, Closure, Other}
 use Rattle.proc_semantics.specs.declared.value.Register.{Register}
-use Rattle.proc_semantics.specs.Values.{World, register_of, registers_fed, main_of}
+use Rattle.proc_semantics.specs.Values.{World, register_of, registers_fed, main_target}
 use Rattle.proc_semantics.specs.Rules.{Domain, level, start}
 use Rattle.proc_semantics.specs.Meaning.{meaning}
 
@@ -128,11 +128,11 @@ module _ (T E : Type 0) where
   abbrev pub arg_at : List Value → List (Option T) → ℕ → Arg T
   arg_at vs ms i = arg_of (slice_index_or vs i (Num (pos 0))) (slice_index_or ms i None)
 
-  abbrev pub args_of : List Value → List (Option T) → List (Arg T)
-  args_of vs ms = arg_at vs ms 0 ∷ arg_at vs ms 1 ∷ arg_at vs ms 2 ∷ arg_at vs ms 3 ∷ []
+  abbrev pub marked_args : List Value → List (Option T) → List (Arg T)
+  marked_args vs ms = arg_at vs ms 0 ∷ arg_at vs ms 1 ∷ arg_at vs ms 2 ∷ arg_at vs ms 3 ∷ []
 
   abbrev pub call_event : List ℕ → ℕ → ℕ → Way → List Value → Option ℕ → Event T E
-  call_event part site base w vs low = Calls part site base low w.first w.second (args_of vs w.words)
+  call_event part site base w vs low = Calls part site base low w.first w.second (marked_args vs w.words)
 
   module _ (marks : Marks T) where
     abbrev pub of_handle : Frame → Handle → PairHalf → Option T
@@ -189,7 +189,7 @@ module _ (T E : Type 0) where
     module _ (world : World) where
       abbrev pub marked_meaning : ℕ → List (Thing T E) → ℕ → Report T E
       marked_meaning stack feed fuel =
-          start marked world (level marked world (fuel + length feed + 1)) stack (main_of world)
+          start marked world (level marked world (fuel + length feed + 1)) stack (main_target world)
           (map (λ u. u.globals) world) None fuel feed
 
 -- ---- what is forgotten
@@ -240,15 +240,15 @@ abbrev pub whences : Marks Whence
 whences = record { own = OwnWord; imported = ImportWord }
 
 -- the items from a number on, each with the words that come with it
-abbrev pub numbered : ℕ → List Item → List (Thing Whence ℕ)
-numbered k [] = []
-numbered k (i ∷ is) =
+abbrev pub numbered_items : ℕ → List Item → List (Thing Whence ℕ)
+numbered_items k [] = []
+numbered_items k (i ∷ is) =
     record { item = i; words = CameWord k 0 ∷ CameWord k 1 ∷ CameWord k 2 ∷ CameWord k 3 ∷ []; entry = k }
-    ∷ numbered (k + 1) is
+    ∷ numbered_items (k + 1) is
 
 -- the refined meaning of a feed
 abbrev pub refined : World → ℕ → List Item → ℕ → Report Whence ℕ
-refined world stack feed fuel = marked_meaning Whence ℕ whences world stack (numbered 0 feed) fuel
+refined world stack feed fuel = marked_meaning Whence ℕ whences world stack (numbered_items 0 feed) fuel
 
 -- the law: what is forgotten is the meaning
 pub record MarkLaws : Type 0 where

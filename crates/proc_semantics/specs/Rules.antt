@@ -30,8 +30,8 @@ use Rattle.proc_semantics.specs.declared.value.Value.{Value}
 use Rattle.proc_semantics.specs.declared.value.Value.TheVariants.{Num, Closure, Other}
 use Rattle.proc_semantics.specs.declared.value.Register.{Register}
 use Rattle.proc_semantics.specs.Told.{repeated}
-use Rattle.proc_semantics.specs.Values.{World, Store, fits_64, is_zero, bit, word_at, set_word, variable}
-use Rattle.proc_semantics.specs.Values.{taken, part_at, proc_at, found, pair_of}
+use Rattle.proc_semantics.specs.Values.{World, Store, fits_64, is_zero, bit, global_word, set_word, variable}
+use Rattle.proc_semantics.specs.Values.{taken, home_part, proc_at, found, pair_of}
 
 -- What the rules leave open: a semantic domain.
 pub record Domain : Type 1 where
@@ -116,11 +116,11 @@ abbrev pub stack_in : Option Part → ℕ
 stack_in None = 0
 stack_in (Some u) = u.stack
 
-abbrev pub part_of : World → ℕ → List ℕ
-part_of world home = name_in (part_at world home)
+abbrev pub part_name_of : World → ℕ → List ℕ
+part_name_of world home = name_in (home_part world home)
 
-abbrev pub stack_of : World → ℕ → ℕ
-stack_of world home = stack_in (part_at world home)
+abbrev pub home_stack : World → ℕ → ℕ
+home_stack world home = stack_in (home_part world home)
 
 module _ (M : Domain) where
   -- what goes on with a value: the globals, and then the rest
@@ -193,9 +193,9 @@ module _ (M : Domain) where
 
     abbrev pub call_wait : ℕ → ℕ → ℕ → Then → Wait
     call_wait home given site k = record {
-      part = part_of world home;
+      part = part_name_of world home;
       site = site;
-      base = stack_of world home + given;
+      base = home_stack world home + given;
       given = given;
       resume = k;
     }
@@ -203,7 +203,7 @@ module _ (M : Domain) where
     -- a call that leaves the modules
     abbrev pub call_out : Level → ℕ → ℕ → ℕ → M.Way → List Value → Then → Store → M.Comp
     call_out l home given site w vs k st =
-        M.calling (part_of world home) site (stack_of world home + given) w vs
+        M.calling (part_name_of world home) site (home_stack world home + given) w vs
         (l.wait (Some (call_wait home given site k)) st)
 
     abbrev pub call_by : Level → ℕ → ℕ → ℕ → M.Way → Pair → List Value → Then → Store → M.Comp
@@ -222,7 +222,7 @@ module _ (M : Domain) where
       expr l f env (Number n) k st = M.ticking (k (pos n) st)
       expr l f env (Load x) k st = M.ticking (k (variable (M.home f) env st x) st)
       expr l f env (Element a e) k st =
-          M.ticking (expr l f env e (λ i st. element a i (λ o. k (word_at st (M.home f) o) st)) st)
+          M.ticking (expr l f env e (λ i st. element a i (λ o. k (global_word st (M.home f) o) st)) st)
       expr l f env (Call site h xs) k st =
           M.ticking (args l f env xs
           (λ vs. call l f site (M.way f h xs) (pair_of world (M.home f) env h) vs k) st)
@@ -303,7 +303,7 @@ module _ (M : Domain) where
         → Store → M.Comp
     entered l c None m left rs back st = M.failing
     entered l c (Some t) m left rs back st =
-        l.proc t left rs (left_by l (part_of world t.home) c m left back) st
+        l.proc t left rs (left_by l (part_name_of world t.home) c m left back) st
 
     abbrev pub by_item : Level → Option Wait → Store → M.Thing → Item → M.Comp
     by_item l c st x (Enter part name left ints pairs back) =

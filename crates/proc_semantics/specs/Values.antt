@@ -57,8 +57,8 @@ pair_in (Num v) = Bad
 pair_in (Closure p) = p
 pair_in Other = Bad
 
-abbrev pub word_at : Store → ℕ → ℕ → ℤ
-word_at st home o = slice_index_or (slice_index_or st home []) o (pos 0)
+abbrev pub global_word : Store → ℕ → ℕ → ℤ
+global_word st home o = slice_index_or (slice_index_or st home []) o (pos 0)
 
 abbrev pub set_word : Store → ℕ → ℕ → ℤ → Store
 set_word st home o v = slice_set st home (slice_set (slice_index_or st home []) o v)
@@ -66,7 +66,7 @@ set_word st home o v = slice_set st home (slice_set (slice_index_or st home []) 
 -- what a variable of a module holds
 abbrev pub variable : ℕ → List Value → Store → Place → ℤ
 variable home env st (Local i) = number_in (slice_index_or env i Other)
-variable home env st (Global o) = word_at st home o
+variable home env st (Global o) = global_word st home o
 
 -- ---- registers of a call inside the modules: what an expression gives is a number and no pair, what a
 -- ---- `proc` argument gives is a pair and no number; registers that aren't handed over hold 0
@@ -101,21 +101,21 @@ taken env (true ∷ callbacks) rs =
 
 -- ---- the four registers of a call that leaves
 
-abbrev pub out_arg : Value → OutArg
-out_arg (Num v) = Int v
-out_arg (Closure p) = Half
-out_arg Other = Half
+abbrev pub value_arg : Value → OutArg
+value_arg (Num v) = Int v
+value_arg (Closure p) = Half
+value_arg Other = Half
 
 abbrev pub out_at : List Value → ℕ → OutArg
-out_at vs i = out_arg (slice_index_or vs i (Num (pos 0)))
+out_at vs i = value_arg (slice_index_or vs i (Num (pos 0)))
 
-abbrev pub out_args : List Value → List OutArg
-out_args vs = out_at vs 0 ∷ out_at vs 1 ∷ out_at vs 2 ∷ out_at vs 3 ∷ []
+abbrev pub value_args : List Value → List OutArg
+value_args vs = out_at vs 0 ∷ out_at vs 1 ∷ out_at vs 2 ∷ out_at vs 3 ∷ []
 
 -- ---- the modules' procedures
 
-abbrev pub part_at : World → ℕ → Option Part
-part_at world home = slice_get world home
+abbrev pub home_part : World → ℕ → Option Part
+home_part world home = slice_get world home
 
 abbrev pub target : ℕ → ℕ → Target
 target home n = record { home = home; proc = n }
@@ -125,7 +125,7 @@ proc_in None n = None
 proc_in (Some u) n = slice_get u.procs n
 
 abbrev pub proc_at : World → Target → Option Procedure
-proc_at world t = proc_in (part_at world t.home) t.proc
+proc_at world t = proc_in (home_part world t.home) t.proc
 
 -- ---- those that can be named from elsewhere: the shared ones, by the names of their parts and their own
 
@@ -141,7 +141,7 @@ shared_in home name (Some u) = option_map (target home) (position (is_shared nam
 
 abbrev pub shared_at : World → List ℕ → Option ℕ → Option Target
 shared_at world name None = None
-shared_at world name (Some home) = shared_in home name (part_at world home)
+shared_at world name (Some home) = shared_in home name (home_part world home)
 
 unfoldable pub found : World → List ℕ → List ℕ → Option Target
 found world part name = shared_at world name (position (is_named part) world)
@@ -150,8 +150,8 @@ abbrev pub has_main : Part → Bool
 has_main u = is_some (position (is_shared (codes "main")) u.procs)
 
 -- the shared main of the first module that has one
-unfoldable pub main_of : World → Option Target
-main_of world = shared_at world (codes "main") (position has_main world)
+unfoldable pub main_target : World → Option Target
+main_target world = shared_at world (codes "main") (position has_main world)
 
 -- ---- closure pairs
 
@@ -163,7 +163,7 @@ pair_found (Some t) = Runs t
 -- an import from a part that isn't one of the modules is a pair of the outside
 abbrev pub linked_by : World → List ℕ → Option ℕ → Pair
 linked_by world name None = Outside
-linked_by world name (Some home) = pair_found (shared_in home name (part_at world home))
+linked_by world name (Some home) = pair_found (shared_in home name (home_part world home))
 
 unfoldable pub linked : World → Option Import → Pair
 linked world None = Bad
@@ -177,7 +177,7 @@ import_in (Some u) n = slice_get u.imports n
 abbrev pub pair_of : World → ℕ → List Value → Handle → Pair
 pair_of world home env (Given i) = pair_in (slice_index_or env i Other)
 pair_of world home env (Own j) = Runs (target home j)
-pair_of world home env (Imported k) = linked world (import_in (part_at world home) k)
+pair_of world home env (Imported k) = linked world (import_in (home_part world home) k)
 
 -- ---- the registers of an item
 

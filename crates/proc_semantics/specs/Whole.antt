@@ -8,7 +8,7 @@ use Rattle.proc_semantics.specs.declared.value.Value.TheVariants.{Num}
 use Rattle.proc_semantics.specs.declared.value.Register.{Register}
 use Rattle.proc_semantics.specs.declared.value.Frame.{Frame}
 use Rattle.proc_semantics.specs.Told.{Comp, take_item}
-use Rattle.proc_semantics.specs.Values.{World, Store, register_of, proc_at, main_of}
+use Rattle.proc_semantics.specs.Values.{World, Store, register_of, proc_at, main_target}
 use Rattle.proc_semantics.specs.Meaning.{Level, Wait, Then, Next, level, proc_of, on_item, turn_at}
 use Rattle.proc_semantics.specs.Meaning.{start, meaning}
 
@@ -42,4 +42,4 @@ module _ (world : World) where
         (whole_hop c left t) st
     -- and the meaning begins so
     pub means : (stack : ℕ) (feed : List Item) (fuel : ℕ) → meaning world stack feed fuel
-        ≡ start world whole stack (main_of world) (map (λ u. u.globals) world) fuel feed
+        ≡ start world whole stack (main_target world) (map (λ u. u.globals) world) fuel feed

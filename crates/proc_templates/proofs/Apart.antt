@@ -18,7 +18,7 @@ use Rattle.cap_words.specs.Names as part
 use Rattle.proc_language.specs.declared.tree.Name.{Name}
 use Rattle.proc_language.specs.declared.module.ModuleFields.{ModuleFields}
 use Rattle.proc_language.specs.declared.module.Proc.{Proc}
-use Rattle.proc_language.specs.Words.{is_name, is_reserved}
+use Rattle.proc_language.specs.Words.{is_source_name, is_reserved}
 use Rattle.proc_language.specs.Limits.{Each}
 use Rattle.proc_names.specs.declared.fault.NameFault.{NameFault}
 use Rattle.proc_names.specs.Faults.{unless}
@@ -32,8 +32,8 @@ use Rattle.proc_templates.specs.Compiled.{size_of_proc, export_into, exports_fro
 
 -- ---- names
 
-pub name_too : (text : List ℕ) → IsTrue (is_name text) → IsTrue (part.is_name text)
-unfolding is_name
+pub name_too : (text : List ℕ) → IsTrue (is_source_name text) → IsTrue (part.is_name text)
+unfolding is_source_name
 name_too text h = (and_parts (part.is_name text) (not (is_reserved text)) h).0
 
 -- ---- no name twice

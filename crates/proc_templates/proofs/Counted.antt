@@ -83,7 +83,7 @@ load_args_none f (value e args) t i = load_args_none f args t (i + 1)
 load_args_none f (pass x args) t i =
     both_none (load_pair f x _ _) _ 0 (pair_none f x _ _) (load_args_none f args t (i + 2))
 
-call_one : (f : Frame) (t : ℕ) (x : Handle) (args : Args) → sites_in (templates.call_code f t x args) ≡ 1
+call_one : (f : Frame) (t : ℕ) (x : Handle) (args : Args) → sites_in (templates.call_items f t x args) ≡ 1
 call_one f t x args =
     both_none (load_args f t 0 args) _ 1 (load_args_none f args t 0)
     (both_none (zeros (drop (arg_registers args) arguments)) _ 1

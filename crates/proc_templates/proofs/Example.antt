@@ -11,7 +11,7 @@ use Rattle.proc_program.specs.declared.program.Part.{Part}
 use Rattle.proc_program.specs.Lower.{part_of}
 use Rattle.proc_templates.specs.Items.{put, instrs}
 use Rattle.proc_templates.specs.Templates.{before_epilogue}
-use Rattle.proc_templates.specs.Compiled.{frame_of, laid_of, lay_proc, code_words, data_count, data_of}
+use Rattle.proc_templates.specs.Compiled.{frame_of, laid_of, lay_proc, code_words, data_count, first_data}
 use Rattle.proc_templates.specs.Compiled.{exports_of}
 
 named : List ℕ → Name
@@ -88,15 +88,16 @@ callbacks : Part
 callbacks = part_of callback_module
 
 bank_counts : (code_words bank ≡ 124) × (length (laid_of bank).code ≡ 124) × ((laid_of bank).sites ≡ 68 ∷ [])
-    × (length (data_of bank) ≡ 5) × (data_count bank ≡ 5)
+    × (length (first_data bank) ≡ 5) × (data_count bank ≡ 5)
 unfolding bank bank_module named code_words data_count frame_of laid_of lay_proc before_epilogue
-    put instrs data_of call_code return_code entry_code variable_named callee_named passed_named
+    put instrs first_data call_code return_code entry_code variable_named callee_named passed_named
 bank_counts = (refl, refl, refl, refl, refl)
 
 callback_counts : (code_words callbacks ≡ 254) × (length (laid_of callbacks).code ≡ 254)
-    × ((laid_of callbacks).sites ≡ 38 ∷ 152 ∷ 197 ∷ []) × (length (data_of callbacks) ≡ 6)
+    × ((laid_of callbacks).sites ≡ 38 ∷ 152 ∷ 197 ∷ []) × (length (first_data callbacks) ≡ 6)
     × (map (λ e. e.offset) (exports_of callbacks) ≡ 2 ∷ 85 ∷ [])
 unfolding callbacks callback_module named code_words data_count frame_of laid_of lay_proc
-    before_epilogue put instrs data_of exports_of call_code return_code entry_code variable_named callee_named
+    before_epilogue put instrs first_data exports_of call_code return_code entry_code variable_named
+    callee_named
     passed_named
 callback_counts = (refl, refl, refl, refl, refl)

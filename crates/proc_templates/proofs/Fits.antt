@@ -10,7 +10,7 @@ use Rattle.lcm_isa.specs.declared.Instr.{Instr}
 use Rattle.lcm_isa.specs.declared.Instr.TheVariants as instr
 use Rattle.lcm_isa.specs.declared.Instr.TheVariants.{Store}
 use Rattle.lcm_isa.specs.Numbers.{IsInstr}
-use Rattle.call_sequence.proofs.LawLemmas.{near_operand, small_operand as near}
+use Rattle.call_sequence.proofs.Offers.{near_operand, small_operand as near}
 use Rattle.proc_language.specs.declared.TheConstants.{LARGEST_LITERAL}
 use Rattle.proc_language.specs.declared.tree.Op.{Op}
 use Rattle.proc_language.specs.declared.tree.Op.TheVariants as operator
@@ -132,7 +132,7 @@ module _ (f : Frame) (words : f.words ≤ LAST_PLACE) where
       (load_args_fit args t (i + 2) w.1 (omega (arith, h, n)))
 
   call_fits : (t : ℕ) (x : Handle) (args : Args) → HandleBound f x → ArgsBound f args
-      → t + args_words args ≤ LAST_PLACE → Fit (templates.call_code f t x args)
+      → t + args_words args ≤ LAST_PLACE → Fit (templates.call_items f t x args)
   call_fits t x args b w h =
       fits_both (load_args f t 0 args) _ (load_args_fit args t 0 w (omega (arith, h)))
       (fits_both (zeros (drop (arg_registers args) arguments)) _

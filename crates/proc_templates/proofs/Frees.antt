@@ -92,7 +92,7 @@ load_args_free f (pass x args) t i =
     (pair_free f x (argument i) (argument (i + 1)) (arg_low i) (arg_low (i + 1)))
     (load_args_free f args t (i + 2))
 
-pub call_free : (f : Frame) (t : ℕ) (x : Handle) (args : Args) → AllFree (templates.call_code f t x args)
+pub call_free : (f : Frame) (t : ℕ) (x : Handle) (args : Args) → AllFree (templates.call_items f t x args)
 unfolding is_free ends_or_goes is_quiet
 call_free f t x args =
     all_both (load_args f t 0 args) _ (load_args_free f args t 0)

@@ -17,10 +17,11 @@ use Rattle.component_file.specs.declared.TheConstants.{MOST_SITES, MOST_ROWS}
 use Rattle.component_file.specs.declared.component.Import.{Import}
 use Rattle.component_file.specs.declared.component.Export.{Export}
 use Rattle.component_file.specs.declared.component.KindRow.{KindRow}
-use Rattle.component_file.specs.Limits.{ascends, name_lt, Chain, ImportFits, ExportFits, SiteFits, RowFits}
+use Rattle.component_file.specs.Limits.{ascends, name_lt, Chain, ImportFits, ExportFits, SiteFits}
+use Rattle.component_file.specs.Limits.{KindRowFits}
 use Rattle.component_file.specs.Limits.{StretchFits, IsComponent}
 use Rattle.call_sequence.specs.declared.TheConstants.{CALL_WORDS, SITE_WORDS}
-use Rattle.call_sequence.proofs.LawLemmas.{near_operand, small_operand as near}
+use Rattle.call_sequence.proofs.Offers.{near_operand, small_operand as near}
 use Rattle.call_sequence.specs.Sequences.{call_code, return_code, entry_code}
 use Rattle.proc_program.specs.declared.program.Part.{Part}
 use Rattle.proc_program.specs.declared.program.Import as program
@@ -28,7 +29,7 @@ use Rattle.proc_program.specs.declared.program.Procedure.{Procedure}
 use Rattle.proc_language.specs.Limits as language
 use Rattle.proc_program.specs.Limits.{register_count, registers_of, arg_registers}
 use Rattle.proc_program.specs.StepView.{block_of}
-use Rattle.proc_language.specs.Words.{is_name}
+use Rattle.proc_language.specs.Words.{is_source_name}
 use Rattle.proc_program.specs.Limits as program_limits
 use Rattle.proc_program.specs.Limits.{scope_of, ProcedureFits, IsPart}
 use Rattle.proc_templates.specs.Items.{is_last, Spot, Item, Laid, does, guards, goes, goes_if, finishes}
@@ -37,20 +38,20 @@ use Rattle.proc_templates.specs.Items.{word_of, with_label, put, lay}
 use Rattle.proc_templates.specs.Templates.{proc_code, before_epilogue}
 use Rattle.proc_templates.specs.Compiled.{frame_of, int_word, seals_word, size_of_proc, pair_count}
 use Rattle.proc_templates.specs.Compiled.{code_words, data_count, literal_of, literal_at_of, head_of}
-use Rattle.proc_templates.specs.Compiled.{lay_proc, lay_procs, laid_of, data_of, import_slots, own_slots}
+use Rattle.proc_templates.specs.Compiled.{lay_proc, lay_procs, laid_of, first_data, import_slots, own_slots}
 use Rattle.proc_templates.specs.Compiled.{imports_of, export_into, exports_from, exports_of, row_at_label}
 use Rattle.proc_templates.specs.Compiled.{component_of}
 use Rattle.proc_program.specs.Calls.{part_calls}
 use Rattle.proc_templates.specs.Free.{behind}
 use Rattle.proc_templates.specs.Fit.{AllFit, ItemFits, ItemsFit}
-use Rattle.proc_templates.specs.Kept.{Fits, NamesDiffer}
+use Rattle.proc_templates.specs.Kept.{FitsComponent, NamesDiffer}
 use Rattle.proc_templates.proofs.Laying.{has, or_false, put-length, behind-least, lay-length}
 use Rattle.proc_templates.proofs.Standing.{zero_fits, fit_both, after-least}
 use Rattle.proc_templates.proofs.Whole.{AllReady, ProcReady, spot_of, proc_laid, laid-length, procs-length}
 use Rattle.proc_templates.proofs.Counted.{Spaced, spaced_put}
 use Rattle.proc_templates.proofs.Listed.{labels_end}
 use Rattle.proc_templates.proofs.Readies.{ready, code-length}
-use Rattle.lcm_isa.proofs.NumberLemmas.{number_below}
+use Rattle.lcm_isa.proofs.Offers.{number_below}
 use Rattle.proc_templates.proofs.Apart.{name_too, exports_chain}
 use Rattle.proc_templates.proofs.OwnRules.{imports_length, own_length, one_at_least}
 
@@ -331,14 +332,14 @@ globals_good : (zs : List ℤ) → language.Each (FitsSigned w64) zs → AllGood
 globals_good [] f = tt
 globals_good (z ∷ zs) f = ((f.0, tt), globals_good zs f.1)
 
-data_words_good : (m : Part) → IsPart m → AllGood (data_of m)
-unfolding data_of
+data_words_good : (m : Part) → IsPart m → AllGood (first_data m)
+unfolding first_data
 data_words_good m f =
     good_both (replicate (pair_count m) (Int (pos 0))) (map int_word m.globals)
     (same_good (pair_count m) (pos 0) (record { sfits = omega arith })) (globals_good m.globals f.globals)
 
-pub data-length : (m : Part) → length (data_of m) ≡ data_count m
-unfolding data_of data_count
+pub data-length : (m : Part) → length (first_data m) ≡ data_count m
+unfolding first_data data_count
 data-length m =
     length-append (replicate (pair_count m) (Int (pos 0))) (map int_word m.globals)
     ∙ (let a = length-replicate (pair_count m) (Int (pos 0)) in let b = length-map m.globals int_word in
@@ -347,7 +348,7 @@ data-length m =
 -- ---- slots
 
 imports_chain : (xs : List program.Import) (s : ℕ) (before : Option Import) (ys : List Import)
-    → language.Each program_limits.ImportFits xs → s + 2 * length xs ≤ LAST_OFFSET
+    → language.Each program_limits.LoweredImportFits xs → s + 2 * length xs ≤ LAST_OFFSET
     → IsTrue (ascends nat_lt (option_map (λ (b : Import). b.slot) before) s)
     → ((b : Option Import) → IsTrue
     (ascends nat_lt (option_map (λ (b : Import). b.slot) b) (s + 2 * length xs)) → Chain ImportFits b ys)
@@ -362,7 +363,8 @@ imports_chain (x ∷ xs) s before ys f h a k =
           (λ b g. k b (subst (λ n. IsTrue (ascends nat_lt (option_map (λ (b : Import). b.slot) b) n)) e g)),
     )
 
-own_chain : (s0 : program_limits.Scope) (part : List ℕ) (named : IsTrue (is_name part)) (ps : List Procedure)
+own_chain : (s0 : program_limits.Scope) (part : List ℕ) (named : IsTrue (is_source_name part))
+    (ps : List Procedure)
     (s : ℕ) (before : Option Import) → language.Each (ProcedureFits s0) ps
     → s + 2 * length ps ≤ LAST_OFFSET + 1
     → IsTrue (ascends nat_lt (option_map (λ (b : Import). b.slot) before) s)
@@ -401,7 +403,7 @@ sites_chain low (x ∷ xs) top before h a s =
 
 rows_chain : (low : ℕ) (xs : List ℕ) (top : ℕ) (before : Option KindRow) → top ≤ LAST_OFFSET
     → ((x : ℕ) → low ≤ x → IsTrue (ascends nat_lt (option_map (λ (b : KindRow). b.offset) before) x))
-    → Rising low xs top → Chain RowFits before (map row_at_label xs)
+    → Rising low xs top → Chain KindRowFits before (map row_at_label xs)
 rows_chain low [] top before h a r = tt
 rows_chain low (x ∷ xs) top before h a r =
     let n = rising_count (suc x) xs top r.1 in (
@@ -446,7 +448,7 @@ rising_less low (x ∷ xs) top l h r =
 
 -- ---- the component
 
-module _ (m : Part) (f : Fits m) (named : NamesDiffer m.procs)
+module _ (m : Part) (f : FitsComponent m) (named : NamesDiffer m.procs)
     (seals : part_calls m ≤ m.header.return_count) where
   code : length (laid_of m).code ≤ MOST_WORDS
   code = let n = code-length m f in let h = f.code in omega (arith, n, h)
@@ -479,7 +481,7 @@ module _ (m : Part) (f : Fits m) (named : NamesDiffer m.procs)
   unfolding code_words
   code-some = let n = code-length m f in omega (arith, n)
 
-  data-some : 1 ≤ length (data_of m)
+  data-some : 1 ≤ length (first_data m)
   unfolding data_count
   data-some = let n = data-length m in let h = f.limits.some in omega (arith, n, h)
 
@@ -526,7 +528,7 @@ module _ (m : Part) (f : Fits m) (named : NamesDiffer m.procs)
       (subst (Rising 0 (laid_of m).labels) e good.rising)
 
   rows_fit : (length (map row_at_label (laid_of m).labels) ≤ MOST_ROWS)
-      × Chain RowFits None (map row_at_label (laid_of m).labels)
+      × Chain KindRowFits None (map row_at_label (laid_of m).labels)
   rows_fit =
       let n = rising_count 0 (laid_of m).labels (length (laid_of m).code - 1) labels_rise in
       let k = mapped-length (laid_of m).labels in
@@ -570,7 +572,7 @@ module _ (m : Part) (f : Fits m) (named : NamesDiffer m.procs)
     data_base = f.limits.header.data_base;
     data_words = (
       (data-some, (let n = data-length m in let h = f.data_words in omega (arith, n, h))),
-      each_good (data_of m) None data_good,
+      each_good (first_data m) None data_good,
     );
     imports = imports_fit;
     exports = exports_fit;
@@ -580,5 +582,5 @@ module _ (m : Part) (f : Fits m) (named : NamesDiffer m.procs)
     rows = rows_fit;
   }
     where
-      data_good : AllGood (data_of m)
+      data_good : AllGood (first_data m)
       data_good = data_words_good m f.limits

@@ -31,7 +31,7 @@ use Rattle.proc_templates.specs.Items.{Spot, Item, Laid, instrs, put, lay, word_
 use Rattle.proc_templates.specs.Templates.{proc_code}
 use Rattle.proc_program.specs.StepView.{block_of}
 use Rattle.proc_templates.specs.Compiled.{frame_of, int_word, seals_word, pair_count, literal_of, head_of}
-use Rattle.proc_templates.specs.Compiled.{lay_proc, lay_procs, laid_of, data_of, import_slots, own_slots}
+use Rattle.proc_templates.specs.Compiled.{lay_proc, lay_procs, laid_of, first_data, import_slots, own_slots}
 use Rattle.proc_templates.specs.Compiled.{imports_of, component_of}
 use Rattle.proc_program.specs.Calls.{part_calls}
 use Rattle.proc_templates.proofs.Whole.{AllReady, spot_of, proc_laid}
@@ -97,8 +97,8 @@ globals_ints : (zs : List ℤ) → AllInts (map int_word zs)
 globals_ints [] = refl
 globals_ints (z ∷ zs) = globals_ints zs
 
-data_ints : (m : Part) → AllInts (data_of m)
-unfolding data_of
+data_ints : (m : Part) → AllInts (first_data m)
+unfolding first_data
 data_ints m = ints_both (replicate (pair_count m) (Int (pos 0))) (map int_word m.globals)
     (same_ints (pair_count m) (pos 0)) (globals_ints m.globals)
 
@@ -195,8 +195,8 @@ module _ (m : Part) (ready : AllReady m m.procs) (most : length (laid_of m).code
       ∙ (let a = imports_length 0 m.imports in let b = own_length m.name (2 * length m.imports) m.procs in
       omega (arith, a, b))
 
-  data_length : pair_count m ≤ length (data_of m)
-  unfolding data_of
+  data_length : pair_count m ≤ length (first_data m)
+  unfolding first_data
   data_length = let e = length-append (replicate (pair_count m) (Int (pos 0))) (map int_word m.globals) in
       let n = length-replicate (pair_count m) (Int (pos 0)) in omega (arith, e, n)
 
@@ -227,7 +227,7 @@ module _ (m : Part) (ready : AllReady m m.procs) (most : length (laid_of m).code
           ∙ rw b (and-false (nat_lt 0 (suc j)))
 
   kept_5 : (i : ℕ) → i < length c.imports → not (slot_is_free c i) ≡ false
-  unfolding c component_of data_of
+  unfolding c component_of first_data
   kept_5 i h =
       let e = slot_is i h in
       let n = count in
@@ -244,23 +244,24 @@ module _ (m : Part) (ready : AllReady m m.procs) (most : length (laid_of m).code
   the_words : Tail (head_of m).code (laid_of m).code
   the_words = tail_whole m
 
-  words_are : words c ≡ (head_of m).code ++ (the_words.tail ++ data_of m)
+  words_are : words c ≡ (head_of m).code ++ (the_words.tail ++ first_data m)
   unfolding c component_of
-  words_are = ap (λ ws. ws ++ data_of m) the_words.is
-      ∙ append_assoc (head_of m).code the_words.tail (data_of m)
+  words_are = ap (λ ws. ws ++ first_data m) the_words.is
+      ∙ append_assoc (head_of m).code the_words.tail (first_data m)
 
-  rest_ints : AllInts (the_words.tail ++ data_of m)
-  rest_ints = ints_both the_words.tail (data_of m) the_words.ints (data_ints m)
+  rest_ints : AllInts (the_words.tail ++ first_data m)
+  rest_ints = ints_both the_words.tail (first_data m) the_words.ints (data_ints m)
 
   -- a test that neither an integer nor the literal passes fails at all words
   word_at : (test : Word → Bool) → ((z : ℤ) → test (Int z) ≡ false) → test (literal_of m) ≡ false → (i : ℕ)
       → holds_of test (slice_get (words c) i) ≡ false
   word_at test f l i = ap (λ ws. holds_of test (slice_get ws i)) words_are ∙ by i
     where
-      by : (i : ℕ) → holds_of test (slice_get ((head_of m).code ++ (the_words.tail ++ data_of m)) i) ≡ false
+      by : (i : ℕ) → holds_of test (slice_get ((head_of m).code ++ (the_words.tail ++ first_data m)) i)
+          ≡ false
       by zero = f _
       by (suc zero) = l
-      by (suc (suc i)) = int_at test f (the_words.tail ++ data_of m) rest_ints i
+      by (suc (suc i)) = int_at test f (the_words.tail ++ first_data m) rest_ints i
 
   literal_own : is_foreign c (literal_of m) ≡ false
   literal_own = by (part_calls m == 0)
@@ -308,7 +309,7 @@ module _ (m : Part) (ready : AllReady m m.procs) (most : length (laid_of m).code
 
   kept_11 : (i : ℕ) → holds_of is_no_int (slice_get c.data_words i) ≡ false
   unfolding c component_of
-  kept_11 i = int_at is_no_int (λ z. refl) (data_of m) (data_ints m) i
+  kept_11 i = int_at is_no_int (λ z. refl) (first_data m) (data_ints m) i
 
   kept_10 : (i : ℕ) → (holds_of is_no_int (slice_get c.code i) && not (is_at c.literal_at i)) ≡ false
   unfolding c component_of

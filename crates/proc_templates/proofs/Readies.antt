@@ -24,7 +24,7 @@ use Rattle.proc_templates.specs.Compiled.{frame_of, size_of_proc, code_words, da
 use Rattle.proc_templates.specs.Compiled.{component_of}
 use Rattle.proc_templates.specs.Bounds.{PlaceBound, RowBound, HandleBound, ExpBound, ArgsBound, StepBound}
 use Rattle.proc_templates.specs.Bounds.{BlockBound}
-use Rattle.proc_templates.specs.Kept.{Fits, KeepsOwnRules}
+use Rattle.proc_templates.specs.Kept.{FitsComponent, KeepsOwnRules}
 use Rattle.proc_templates.proofs.Fits.{proc_fits}
 use Rattle.proc_templates.proofs.Whole.{ProcReady, AllReady, procs-length}
 use Rattle.proc_templates.proofs.Listed.{flow_kept}
@@ -100,19 +100,20 @@ readies m most (p ∷ ps) w h =
     let e = sum_by-cons size_of_proc p ps in
     (ready_proc m most p w.0 (omega (arith, e, h)), readies m most ps w.1 (omega (arith, e, h)))
 
-pub ready : (m : Part) → Fits m → AllReady m m.procs
+pub ready : (m : Part) → FitsComponent m → AllReady m m.procs
 unfolding code_words
 ready m f = let h = f.code in readies m f.data_words m.procs f.limits.procs.1 (omega (arith, h))
 
-pub code-length : (m : Part) → Fits m → length (laid_of m).code ≡ code_words m
+pub code-length : (m : Part) → FitsComponent m → length (laid_of m).code ≡ code_words m
 unfolding laid_of code_words
 code-length m f = procs-length m m.procs (head_of m) (ready m f)
 
-code-most : (m : Part) → Fits m → length (laid_of m).code ≤ MOST_WORDS
+code-most : (m : Part) → FitsComponent m → length (laid_of m).code ≤ MOST_WORDS
 code-most m f = let e = code-length m f in let h = f.code in omega (arith, e, h)
 
-pub keeps_flow : (m : Part) → Fits m → IsKept (component_of m)
+pub keeps_flow : (m : Part) → FitsComponent m → IsKept (component_of m)
 keeps_flow m f = flow_kept m (ready m f) (code-most m f)
 
-pub keeps_own : (m : Part) → Fits m → part_calls m ≤ m.header.return_count → KeepsOwnRules (component_of m)
+pub keeps_own : (m : Part) → FitsComponent m → part_calls m ≤ m.header.return_count → KeepsOwnRules
+    (component_of m)
 keeps_own m f seals = own_kept m (ready m f) (code-most m f) seals

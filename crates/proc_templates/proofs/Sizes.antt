@@ -127,7 +127,7 @@ load_args-size f (pass x args) t i =
     both _ _ (pair_words x) (loads_words args) (pair-size f x _ _) (load_args-size f args t (i + 2))
 
 call-size : (f : Frame) (t : ℕ) (h : Handle) (xs : Args)
-    → Long (templates.call_code f t h xs) (after_values h xs)
+    → Long (templates.call_items f t h xs) (after_values h xs)
 call-size f t h xs =
     same_size _ _ _ (omega arith)
     (both _ _ _ _ (load_args-size f xs t 0)

@@ -6,12 +6,12 @@ use Rattle.std.specs.Int.{w32}
 use Rattle.std.proofs.lemmas.Option.{slice_get_within}
 use Rattle.cap_words.specs.declared.TheConstants.{LAST_PLACE}
 use Rattle.component_file.specs.declared.component.ComponentFields.{ComponentFields}
-use Rattle.component_file.proofs.Lists.{inside}
+use Rattle.component_file.proofs.Offers.{inside}
 use Rattle.lcm_isa.specs.declared.Reg.TheVariants.{T2}
 use Rattle.lcm_isa.specs.declared.Instr.{Instr}
 use Rattle.lcm_isa.specs.Numbers.{IsInstr}
-use Rattle.lcm_isa.proofs.NumberLemmas.{decode_of-number_of}
-use Rattle.call_sequence.proofs.LawLemmas.{near_operand}
+use Rattle.lcm_isa.proofs.Offers.{decode_of-number_of}
+use Rattle.call_sequence.proofs.Offers.{near_operand}
 use Rattle.flow_check.specs.Places.{declared}
 use Rattle.flow_check.specs.Walk.{instr_at, instr_in}
 use Rattle.proc_templates.specs.Items.{Spot, Item, does, guards, goes, goes_if, finishes, label, site, entry}

@@ -85,8 +85,8 @@ laid_of m = lay_procs m (head_of m) m.procs
 abbrev pub int_word : ℤ → Word
 int_word z = Int z
 
-unfoldable pub data_of : Part → List Word
-data_of m = replicate (pair_count m) (Int (pos 0)) ++ map int_word m.globals
+unfoldable pub first_data : Part → List Word
+first_data m = replicate (pair_count m) (Int (pos 0)) ++ map int_word m.globals
 
 abbrev pub import_slots : ℕ → List program.Import → List Import
 import_slots s [] = []
@@ -147,7 +147,7 @@ component_of m =
       code_base = m.header.code;
       code = l.code;
       data_base = m.header.data_base;
-      data_words = data_of m;
+      data_words = first_data m;
       imports = imports_of m;
       exports = exports_of m;
       sites = l.sites;

@@ -11,7 +11,7 @@ use Rattle.proc_program.specs.Limits.{IsPart}
 use Rattle.proc_templates.specs.Compiled.{code_words, data_count}
 
 -- a module of which neither code nor data has too many words
-pub record Fits (m : Part) : Type 0 where
+pub record FitsComponent (m : Part) : Type 0 where
   pub limits : IsPart m
   pub code : code_words m ≤ MOST_WORDS
   pub data_words : data_count m ≤ MOST_WORDS

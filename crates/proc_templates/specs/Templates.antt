@@ -147,8 +147,8 @@ abbrev pub zeros : List Reg → List Item
 zeros rs = map (λ r. does (zero_of r)) rs
 
 -- a call, once the values of its arguments stand in slots from t on
-abbrev pub call_code : Frame → ℕ → Handle → Args → List Item
-call_code f t h xs =
+abbrev pub call_items : Frame → ℕ → Handle → Args → List Item
+call_items f t h xs =
     load_args f t 0 xs ++ (zeros (drop (arg_registers xs) arguments)
     ++ (load_pair f h C1 C2 ++ (zeros (G0 ∷ G1 ∷ G2 ∷ []) ++ (site ∷ does (Plus G0 A0 (Imm (pos 0))) ∷ []))))
 
@@ -158,7 +158,7 @@ abbrev mutual
   code f t (Number n) = does (Move G0 (Imm (pos n))) ∷ []
   code f t (Load x) = load_var f x
   code f t (Element r e) = code f t e ++ (at_row f r (instr.Load G1 Dat) ++ (does (Move G0 (R G1)) ∷ []))
-  code f t (Call n h xs) = args_code f t 0 xs ++ call_code f t h xs
+  code f t (Call n h xs) = args_code f t 0 xs ++ call_items f t h xs
   code f t (Binary o a b) =
       code f t a ++ (store_slot f t G0 ++ (code f (t + 1) b
       ++ (does (Move G1 (R G0)) ∷ (load_slot f t G0 ++ op_code o))))

@@ -8,17 +8,17 @@ ghost use Rattle.proc_program.specs.declared.program.Part.{Part};
 ghost use Rattle.proc_program.specs.Calls.{part_calls};
 ghost use Rattle.proc_program.specs.Lower.{part_of};
 ghost use Rattle.proc_templates.specs.Compiled.{component_of};
-ghost use Rattle.proc_templates.specs.Kept.{Fits, NamesDiffer, KeepsOwnRules};
+ghost use Rattle.proc_templates.specs.Kept.{FitsComponent, NamesDiffer, KeepsOwnRules};
 
 /// The component of a program whose words aren't too many keeps the rules K1 to K10. If there is a
 /// return seal for each call, it keeps C4 to C12, and, if no two procedures have one name, the limits of
 /// components.
 #[tactic(auto, using(crate::proofs::Readies::keeps_flow, crate::proofs::Readies::keeps_own, crate::proofs::Limited::limits_kept))]
 pub fn components_keep_rules()
-    ensures flow { (m : Part) → Fits m → IsKept (component_of m) }
-    ensures own { (m : Part) → Fits m → part_calls m ≤ m.header.return_count
+    ensures flow { (m : Part) → FitsComponent m → IsKept (component_of m) }
+    ensures own { (m : Part) → FitsComponent m → part_calls m ≤ m.header.return_count
         → KeepsOwnRules (component_of m) }
-    ensures limits { (m : Part) → Fits m → NamesDiffer m.procs → part_calls m ≤ m.header.return_count
+    ensures limits { (m : Part) → FitsComponent m → NamesDiffer m.procs → part_calls m ≤ m.header.return_count
         → IsComponent (component_of m) }
 {}
 

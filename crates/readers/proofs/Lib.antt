@@ -2,3 +2,4 @@ pub mod Faults
 pub mod Grammar
 pub mod Wholes
 pub mod Items
+pub mod Offers

@@ -12,7 +12,7 @@ use Rattle.run_audit.specs.Told.{ToldSeen, is_wide, same_told}
 use Rattle.run_audit.specs.Lines.{is_end}
 use Rattle.run_audit.specs.Brackets.{Leads}
 use Rattle.run_audit.specs.Brackets.Leads.{at_end, passes as goes_by, opens, closes}
-use Rattle.run_audit.specs.Audit.{OpenSeen, below_newest, closed_by, stepped, goes_on}
+use Rattle.run_audit.specs.Audit.{OpenSeen, below_newest, closed_by, stepped, audit_on}
 use Rattle.run_audit.specs.Audit.{followed}
 use Rattle.run_audit.specs.Traces.{InPlace, AreInPlace, lets_pass, IsWide, HasWidth, HaveWidth, LiesBelow}
 use Rattle.run_audit.specs.Traces.{AreApart, entered_by, Spoils, misplaced, call_width, ret_width, overlaps}
@@ -173,7 +173,7 @@ pub record Clean (calls : List ToldSeen) (entered : Bool) (ls : List Line) (u : 
 
 -- what is followed by one line that goes
 first_went : (r : Result OpenSeen AuditFault) (f : OpenSeen → Result OpenSeen AuditFault) (u : OpenSeen)
-    → goes_on r f ≡ Ok u → (s : OpenSeen) × (r ≡ Ok s) × (f s ≡ Ok u)
+    → audit_on r f ≡ Ok u → (s : OpenSeen) × (r ≡ Ok s) × (f s ≡ Ok u)
 first_went (Ok s) f u h = (s, refl, h)
 first_went (Err e) f u h = absurd cc
 

@@ -11,9 +11,9 @@ use Rattle.run_audit.specs.declared.line.Line.{Line}
 use Rattle.run_audit.specs.declared.line.Line.TheVariants.{Call, Ret, Enter, Pass, Leave, End}
 use Rattle.run_audit.specs.Told.{ToldSeen, is_wide, is_below, same_told}
 use Rattle.line_fields.specs.Fields.{lines}
-use Rattle.line_fields.proofs.Cuts.{parts_some}
+use Rattle.line_fields.proofs.Offers.{parts_some}
 use Rattle.run_audit.specs.Lines.{line_in, is_end}
-use Rattle.run_audit.specs.Audit.{OpenSeen, nothing_open, at_end, goes_on, stepped, judged, audited_from}
+use Rattle.run_audit.specs.Audit.{OpenSeen, nothing_open, at_end, audit_on, stepped, judged, audited_from}
 use Rattle.run_audit.specs.Audit.{audited, followed, Answers}
 use Rattle.run_audit.specs.Traces.{IsLine, AreLines, AreInPlace, IsWide, IsClean, IsTrace}
 use Rattle.run_audit.specs.Traces.{entered_by, Spoils, misplaced, call_width, ret_width, overlaps, unopened}
@@ -97,9 +97,9 @@ module _ (text : List ℕ) where
     are = lines_then front seen t l r.are is_line;
     no_end = no_end_then seen l r.no_end more;
     followed_is = followed_append nothing_open 1 seen (l ∷ [])
-        ∙ ap (λ q. goes_on q (λ w. followed w (1 + length seen) (l ∷ []))) r.followed_is
-        ∙ ap (λ m. goes_on (stepped s m l) (λ w. Ok w)) (omega (arith, r.number, r.lines_number))
-        ∙ ap (λ q. goes_on q (λ w. Ok w)) step;
+        ∙ ap (λ q. audit_on q (λ w. followed w (1 + length seen) (l ∷ []))) r.followed_is
+        ∙ ap (λ m. audit_on (stepped s m l) (λ w. Ok w)) (omega (arith, r.number, r.lines_number))
+        ∙ ap (λ q. audit_on q (λ w. Ok w)) step;
     number = omega (arith, r.number, length-append front (t ∷ []));
     lines_number = omega (arith, r.lines_number, length-append front (t ∷ []), length-append seen (l ∷ []));
   }
@@ -126,7 +126,7 @@ module _ (text : List ℕ) where
       (n : ℕ) (f : OpenSeen → Result (Unit {0}) AuditFault) → Reached text front (t ∷ u ∷ us) seen s n
       → (l : Line) → IsLine t l → is_end l ≡ false
       → ((v : OpenSeen) → stepped s n l ≡ Ok v → Whole text (f v)) → (q : Result OpenSeen AuditFault)
-      → stepped s n l ≡ q → Whole text (goes_on q f)
+      → stepped s n l ≡ q → Whole text (audit_on q f)
   step_on front t u us seen s n f r l is_line more rec (Ok v) e = rec v e
   step_on front t u us seen s n f r l is_line more rec (Err x) e =
       wrong_at front _ seen s n x r
@@ -182,13 +182,13 @@ place_no_end (End ∷ ls) b h = absurd h.0
 
 on_both : (q : Result OpenSeen AuditFault) (f : OpenSeen → Result (Unit {0}) AuditFault) (g : OpenSeen
     → Result OpenSeen AuditFault) (k : OpenSeen → Result (Unit {0}) AuditFault)
-    → ((v : OpenSeen) → f v ≡ goes_on (g v) k) → goes_on q f ≡ goes_on (goes_on q g) k
+    → ((v : OpenSeen) → f v ≡ audit_on (g v) k) → audit_on q f ≡ audit_on (audit_on q g) k
 on_both (Ok v) f g k h = h v
 on_both (Err e) f g k h = refl
 
 along : (front rest : List (List ℕ)) (seen : List Line) (s : OpenSeen) (n : ℕ) → AreLines front seen
     → NoEnd seen → 0 < length rest
-    → audited_from s n (front ++ rest) ≡ goes_on (followed s n seen)
+    → audited_from s n (front ++ rest) ≡ audit_on (followed s n seen)
     (λ v. audited_from v (n + length front) rest)
 along [] rest [] s n are no_end some = ap (λ m. audited_from s m rest) (omega arith)
 along [] rest (l ∷ seen) s n are no_end some = absurd are
@@ -201,7 +201,7 @@ along (t ∷ front) rest (l ∷ seen) s n are no_end some =
     ∙ on_both (stepped s n l) f (λ v. followed v (n + 1) seen)
     (λ v. audited_from v (n + length (t ∷ front)) rest)
     (λ v. along front rest seen v (n + 1) are.1 no_end.1 some
-    ∙ ap (λ m. goes_on (followed v (n + 1) seen) (λ w. audited_from w m rest)) (omega arith))
+    ∙ ap (λ m. audit_on (followed v (n + 1) seen) (λ w. audited_from w m rest)) (omega arith))
 
 -- behind lines that spoil nothing
 behind : (text : List ℕ) (front rest : List (List ℕ)) (seen : List Line) (now : List ToldSeen)
@@ -211,7 +211,7 @@ unfolding audited
 behind text front rest seen now is are clean some =
     ap (audited_from nothing_open 1) is
     ∙ along front rest seen nothing_open 1 are (place_no_end seen false clean.in_place) some
-    ∙ ap (λ q. goes_on q (λ v. audited_from v (1 + length front) rest))
+    ∙ ap (λ q. audit_on q (λ v. audited_from v (1 + length front) rest))
     (follow_clean seen [] now false 1 clean.in_place clean.bracketed clean.wide clean.apart)
 
 pub trace_answered : (text : List ℕ) → IsTrace text → audited text ≡ Ok tt
@@ -294,7 +294,7 @@ goes_wrong entered n now (t ∷ u ∷ us) e (inr (inr (l, is_line, w))) =
       ap (λ o. judged (at now entered) n o (u ∷ us) (λ v. audited_from v (n + 1) (u ∷ us)))
           is_line
           ∙ judged_event (at now entered) n l (u ∷ us) (λ v. audited_from v (n + 1) (u ∷ us)) k.0
-          ∙ ap (λ q. goes_on q (λ v. audited_from v (n + 1) (u ∷ us))) k.1,
+          ∙ ap (λ q. audit_on q (λ v. audited_from v (n + 1) (u ∷ us))) k.1,
     )
 
 pub fault_answered : (text : List ℕ) (e : AuditFault) → HasFault text e → audited text ≡ Err e

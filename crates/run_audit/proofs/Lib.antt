@@ -3,3 +3,4 @@ pub mod Steps
 pub mod Grammar
 pub mod Clean
 pub mod Found
+pub mod Offers

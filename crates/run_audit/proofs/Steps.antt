@@ -4,14 +4,14 @@ use Rattle.std.proofs.Common.{Some}
 use Rattle.std.proofs.Common.{None, Result, Ok, Err, refl, sym, ap, ◌∙◌, subst, arith}
 use Rattle.std.specs.Prelude.{if◌then◌else◌}
 use Rattle.line_fields.specs.Fields.{field, lines, is_none_left}
-use Rattle.line_fields.proofs.Cuts.{parts_len}
+use Rattle.line_fields.proofs.Offers.{parts_len}
 use Rattle.run_audit.specs.declared.fault.AuditFault.{AuditFault}
 use Rattle.run_audit.specs.declared.fault.AuditFault.TheVariants.{Form, Width, Overlap, Unopened, Mismatch}
 use Rattle.run_audit.specs.declared.fault.AuditFault.TheVariants.{NoMemory}
 use Rattle.run_audit.specs.declared.line.Line.{Line}
 use Rattle.run_audit.specs.declared.line.Line.TheVariants.{Call, Ret, Enter, Pass, Leave, End}
 use Rattle.run_audit.specs.Lines.{line_in, is_end}
-use Rattle.run_audit.specs.Audit.{OpenSeen, is_ended, at_end, goes_on, stepped, judged, audited_from, Leads}
+use Rattle.run_audit.specs.Audit.{OpenSeen, is_ended, at_end, audit_on, stepped, judged, audited_from, Leads}
 use Rattle.run_audit.specs.Audit.{Answers}
 use Rattle.run_audit.specs.Audit.{followed}
 
@@ -34,7 +34,7 @@ judged_end s n Leave rest f h = absurd cc
 
 pub judged_event : (s : OpenSeen) (n : ℕ) (l : Line) (rest : List (List ℕ)) (f : OpenSeen
     → Result (Unit {0}) AuditFault) → is_end l ≡ false
-    → judged s n (Some l) rest f ≡ goes_on (stepped s n l) f
+    → judged s n (Some l) rest f ≡ audit_on (stepped s n l) f
 judged_event s n End rest f h = absurd cc
 judged_event s n (Call t) rest f h = refl
 judged_event s n (Ret t) rest f h = refl
@@ -100,7 +100,7 @@ module _ (s : OpenSeen) (n : ℕ) (left : List (List ℕ)) where
         end_line h = line_is ∙ judged_end s n l rest (λ t. audited_from t (n + 1) rest) h
 
         pub event_line : is_end l ≡ false
-            → audited_from s n left ≡ goes_on (stepped s n l) (λ t. audited_from t (n + 1) rest)
+            → audited_from s n left ≡ audit_on (stepped s n l) (λ t. audited_from t (n + 1) rest)
         event_line h = line_is ∙ judged_event s n l rest (λ t. audited_from t (n + 1) rest) h
 
 -- there are few lines
@@ -124,34 +124,34 @@ end_answers n rest r due one two =
 -- a fault of a line is that of the text
 pub line_fails : (A B : Type 0) (e : AuditFault) (new : OpenSeen) (due : Result OpenSeen AuditFault)
     (f : OpenSeen → Result (Unit {0}) AuditFault) (whole : Result (Unit {0}) AuditFault)
-    → (let r : Result A AuditFault = Err e in Leads r new due) → goes_on due f ≡ whole
+    → (let r : Result A AuditFault = Err e in Leads r new due) → audit_on due f ≡ whole
     → (let r : Result B AuditFault = Err e in Answers r whole)
-line_fails A B (Form n) new due f whole h is = sym is ∙ ap (λ r. goes_on r f) h
-line_fails A B (Width n) new due f whole h is = sym is ∙ ap (λ r. goes_on r f) h
-line_fails A B (Overlap n) new due f whole h is = sym is ∙ ap (λ r. goes_on r f) h
-line_fails A B (Unopened n) new due f whole h is = sym is ∙ ap (λ r. goes_on r f) h
-line_fails A B (Mismatch n) new due f whole h is = sym is ∙ ap (λ r. goes_on r f) h
+line_fails A B (Form n) new due f whole h is = sym is ∙ ap (λ r. audit_on r f) h
+line_fails A B (Width n) new due f whole h is = sym is ∙ ap (λ r. audit_on r f) h
+line_fails A B (Overlap n) new due f whole h is = sym is ∙ ap (λ r. audit_on r f) h
+line_fails A B (Unopened n) new due f whole h is = sym is ∙ ap (λ r. audit_on r f) h
+line_fails A B (Mismatch n) new due f whole h is = sym is ∙ ap (λ r. audit_on r f) h
 line_fails A B NoMemory new due f whole h is = tt
 
 -- ---- lines as values
 
 then_goes : (r : Result OpenSeen AuditFault) (f g : OpenSeen → Result OpenSeen AuditFault)
-    → goes_on (goes_on r f) g ≡ goes_on r (λ t. goes_on (f t) g)
+    → audit_on (audit_on r f) g ≡ audit_on r (λ t. audit_on (f t) g)
 then_goes (Ok s) f g = refl
 then_goes (Err e) f g = refl
 
 same_goes : (r : Result OpenSeen AuditFault) (f g : OpenSeen → Result OpenSeen AuditFault)
-    → ((t : OpenSeen) → f t ≡ g t) → goes_on r f ≡ goes_on r g
+    → ((t : OpenSeen) → f t ≡ g t) → audit_on r f ≡ audit_on r g
 same_goes (Ok s) f g h = h s
 same_goes (Err e) f g h = refl
 
 -- lines behind others
 pub followed_append : (s : OpenSeen) (n : ℕ) (xs ys : List Line)
-    → followed s n (xs ++ ys) ≡ goes_on (followed s n xs) (λ t. followed t (n + length xs) ys)
+    → followed s n (xs ++ ys) ≡ audit_on (followed s n xs) (λ t. followed t (n + length xs) ys)
 followed_append s n [] ys = ap (λ k. followed s k ys) (omega arith)
 followed_append s n (x ∷ xs) ys =
     same_goes (stepped s n x) (λ t. followed t (n + 1) (xs ++ ys))
-    (λ t. goes_on (followed t (n + 1) xs) (λ u. followed u (n + length (x ∷ xs)) ys))
+    (λ t. audit_on (followed t (n + 1) xs) (λ u. followed u (n + length (x ∷ xs)) ys))
     (λ t. followed_append t (n + 1) xs ys
-    ∙ ap (λ k. goes_on (followed t (n + 1) xs) (λ u. followed u k ys)) (omega arith))
+    ∙ ap (λ k. audit_on (followed t (n + 1) xs) (λ u. followed u k ys)) (omega arith))
     ∙ sym (then_goes (stepped s n x) (λ t. followed t (n + 1) xs) (λ u. followed u (n + length (x ∷ xs)) ys))

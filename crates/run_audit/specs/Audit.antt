@@ -56,17 +56,17 @@ is_ended _ = false
 abbrev pub at_end : ℕ → List (List ℕ) → Result (Unit {0}) AuditFault
 at_end n rest = if is_ended rest then Ok tt else Err (Form n)
 
-abbrev pub goes_on : {A : Type 0} → Result OpenSeen AuditFault → (OpenSeen → Result A AuditFault)
+abbrev pub audit_on : {A : Type 0} → Result OpenSeen AuditFault → (OpenSeen → Result A AuditFault)
     → Result A AuditFault
-goes_on (Ok s) f = f s
-goes_on (Err e) f = Err e
+audit_on (Ok s) f = f s
+audit_on (Err e) f = Err e
 
 -- by what a line is, what stands behind it, and what comes of that
 abbrev pub judged : OpenSeen → ℕ → Option Line → List (List ℕ)
     → (OpenSeen → Result (Unit {0}) AuditFault) → Result (Unit {0}) AuditFault
 judged s n None rest f = Err (Form n)
 judged s n (Some End) rest f = at_end (n + 1) rest
-judged s n (Some l) rest f = goes_on (stepped s n l) f
+judged s n (Some l) rest f = audit_on (stepped s n l) f
 
 -- of lines from one of a number on; each line but what stands behind the last newline has ended
 unfoldable pub audited_from : OpenSeen → ℕ → List (List ℕ) → Result (Unit {0}) AuditFault
@@ -94,4 +94,4 @@ Leads (Err e) new due = due ≡ Err e
 -- after lines, the first of which has this number, or their first fault
 abbrev pub followed : OpenSeen → ℕ → List Line → Result OpenSeen AuditFault
 followed s n [] = Ok s
-followed s n (l ∷ ls) = goes_on (stepped s n l) (λ t. followed t (n + 1) ls)
+followed s n (l ∷ ls) = audit_on (stepped s n l) (λ t. followed t (n + 1) ls)

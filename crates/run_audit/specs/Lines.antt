@@ -139,11 +139,11 @@ line_named name =
     else if bytes_eq (codes "running") name then running
     else λ ts. None
 
-unfoldable pub line_at : Reader Line
-line_at = field >>= line_named
+unfoldable pub one_line : Reader Line
+one_line = field >>= line_named
 
 unfoldable pub line_in : List ℕ → Option Line
-line_in line = whole (line_at (fields line))
+line_in line = whole (one_line (fields line))
 
 abbrev pub is_end : Line → Bool
 is_end End = true

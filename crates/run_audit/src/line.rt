@@ -4,7 +4,7 @@ ghost use Rattle.source_events.specs.Forms.{is_pair};
 ghost use Rattle.line_fields.specs.Forms.{handed_seen};
 ghost use Rattle.line_fields.specs.Fields.{GivesAs};
 ghost use Rattle.run_audit.specs.Lines.{registers, told, call, ret, entered, passed, left, steps, halted};
-ghost use Rattle.run_audit.specs.Lines.{failed, running, line_named, line_at, line_in, is_end};
+ghost use Rattle.run_audit.specs.Lines.{failed, running, line_named, one_line, line_in, is_end};
 
 use crate::fields::{address, cause, count, direction, words};
 use crate::told::Told;
@@ -185,9 +185,9 @@ fn line_named<'a>(name: &[u8], fields: &mut Parts<'a>) -> Option<Line<'a>>
     None
 }
 
-#[tactic(auto, unfolding(crate::specs::Lines::line_at))]
+#[tactic(auto, unfolding(crate::specs::Lines::one_line))]
 fn line_at<'a>(fields: &mut Parts<'a>) -> Option<Line<'a>>
-    ensures { GivesAs (λ l. l) result fields.new (line_at fields.old) }
+    ensures { GivesAs (λ l. l) result fields.new (one_line fields.old) }
 {
     let name = fields.part()?;
     line_named(name, fields)

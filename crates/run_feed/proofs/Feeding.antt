@@ -4,12 +4,12 @@ use Rattle.std.proofs.Common.{Some, None, Result, Ok, Err, refl, sym, ap, ◌∙
 use Rattle.std.proofs.Common.{arith}
 use Rattle.source_events.specs.declared.Item.{Item}
 use Rattle.line_fields.specs.Fields.{field, lines}
-use Rattle.line_fields.proofs.Cuts.{parts_len, next_line}
+use Rattle.line_fields.proofs.Offers.{parts_len, next_line}
 use Rattle.run_feed.specs.declared.fault.FeedFault.{FeedFault}
 use Rattle.run_feed.specs.declared.fault.FeedFault.TheVariants.{Line}
 use Rattle.run_feed.specs.declared.line.FeedLine.{FeedLine}
 use Rattle.run_feed.specs.Lines.{seen, is_enter}
-use Rattle.run_feed.specs.Feed.{item_of, with_item, told, fed_from, fed}
+use Rattle.run_feed.specs.Feed.{line_item, with_item, fed_line, fed_from, fed}
 
 -- behind items that are read already
 abbrev pub behind_items : List Item → Result (List Item) FeedFault → Result (List Item) FeedFault
@@ -42,7 +42,7 @@ few left text is lt = omega (arith, ap length is, parts_len 10 text)
 
 pub one_line : (base : ℕ) (entry : Bool) (n : ℕ) (line : List ℕ) (rest : List (List ℕ))
     → fed_from base entry n (line ∷ rest)
-    ≡ told base n rest (seen entry line) (λ b. fed_from base b (n + 1) rest)
+    ≡ fed_line base n rest (seen entry line) (λ b. fed_from base b (n + 1) rest)
 unfolding fed_from
 one_line base entry n line rest = refl
 
@@ -53,10 +53,10 @@ nothing_left base entry n = refl
 module _ (items : List Item) (base : ℕ) (entry : Bool) (n : ℕ) (left : List (List ℕ)) where
   at_line : (line : List ℕ) (rest : List (List ℕ)) (found : Option FeedLine) → field left ≡ Some (line, rest)
       → found ≡ seen entry line
-      → fed_from base entry n left ≡ told base n rest found (λ b. fed_from base b (n + 1) rest)
+      → fed_from base entry n left ≡ fed_line base n rest found (λ b. fed_from base b (n + 1) rest)
   at_line line rest found at is =
       ap (fed_from base entry n) (next_line left line rest at) ∙ one_line base entry n line rest
-      ∙ ap (λ f. told base n rest f (λ b. fed_from base b (n + 1) rest)) (sym is)
+      ∙ ap (λ f. fed_line base n rest f (λ b. fed_from base b (n + 1) rest)) (sym is)
 
   pub bad_line : (line : List ℕ) (rest : List (List ℕ)) → field left ≡ Some (line, rest)
       → None ≡ seen entry line → behind_items items (fed_from base entry n left) ≡ Err (Line n)
@@ -65,7 +65,7 @@ module _ (items : List Item) (base : ℕ) (entry : Bool) (n : ℕ) (left : List 
   module _ (more : List Item) (line : List ℕ) (rest : List (List ℕ)) (found : FeedLine) (b : Bool)
       (at : field left ≡ Some (line, rest)) (is : Some found ≡ seen entry line)
       (enters : b ≡ is_enter found) where
-    pub with_one : (i : Item) → Some i ≡ item_of base found rest → more ≡ items ++ i ∷ []
+    pub with_one : (i : Item) → Some i ≡ line_item base found rest → more ≡ items ++ i ∷ []
         → behind_items more (fed_from base b (n + 1) rest) ≡ behind_items items (fed_from base entry n left)
     with_one i one grown =
         ap (λ x. behind_items x (fed_from base b (n + 1) rest)) grown
@@ -74,7 +74,7 @@ module _ (items : List Item) (base : ℕ) (entry : Bool) (n : ℕ) (left : List 
         ∙ ap (λ o. behind_items items (with_item o (fed_from base (is_enter found) (n + 1) rest))) one
         ∙ sym (ap (behind_items items) (at_line line rest (Some found) at is))
 
-    pub with_none : None ≡ item_of base found rest → more ≡ items
+    pub with_none : None ≡ line_item base found rest → more ≡ items
         → behind_items more (fed_from base b (n + 1) rest) ≡ behind_items items (fed_from base entry n left)
     with_none none same =
         ap (λ x. behind_items x (fed_from base b (n + 1) rest)) same

@@ -8,7 +8,7 @@ use Rattle.run_feed.specs.declared.fault.FeedFault.{FeedFault}
 use Rattle.run_feed.specs.declared.fault.FeedFault.TheVariants.{Line}
 use Rattle.run_feed.specs.declared.line.FeedLine.{FeedLine}
 use Rattle.run_feed.specs.Lines.{seen}
-use Rattle.run_feed.specs.Feed.{item_of, with_item, told, fed_from, fed}
+use Rattle.run_feed.specs.Feed.{line_item, with_item, fed_line, fed_from, fed}
 use Rattle.run_feed.specs.Bad.{KeepsForm, begins_enter, IsBadLine, IsFirstBad}
 use Rattle.run_feed.proofs.Feeding.{one_line, nothing_left}
 use Rattle.run_feed.proofs.FormLemmas.{keeps, there, enter_told}
@@ -44,10 +44,10 @@ behind_good base entry n line rest k = by_seen (seen entry line) refl (there ent
         × (fed_from base entry n (line ∷ rest) ≡ with_item o (fed_from base (begins_enter line) (n + 1) rest))
     by_seen None is h = absurd cc
     by_seen (Some found) is h = (
-      item_of base found rest,
+      line_item base found rest,
       one_line base entry n line rest
-          ∙ ap (λ s. told base n rest s (λ b. fed_from base b (n + 1) rest)) is
-          ∙ ap (λ b. with_item (item_of base found rest) (fed_from base b (n + 1) rest))
+          ∙ ap (λ s. fed_line base n rest s (λ b. fed_from base b (n + 1) rest)) is
+          ∙ ap (λ b. with_item (line_item base found rest) (fed_from base b (n + 1) rest))
           (enter_told entry line found is),
     )
 
@@ -58,7 +58,8 @@ at_bad base entry n line rest bad = by_seen (seen entry line) refl
   where
     by_seen : (s : Option FeedLine) → seen entry line ≡ s → fed_from base entry n (line ∷ rest) ≡ Err (Line n)
     by_seen None is =
-        one_line base entry n line rest ∙ ap (λ s. told base n rest s (λ b. fed_from base b (n + 1) rest)) is
+        one_line base entry n line rest ∙ ap
+        (λ s. fed_line base n rest s (λ b. fed_from base b (n + 1) rest)) is
     by_seen (Some found) is = absurd (bad (keeps entry line (ap is_some is)))
 
 -- a line keeps its form or breaks it

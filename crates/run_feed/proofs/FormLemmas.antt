@@ -9,10 +9,9 @@ use Rattle.line_fields.specs.Options.{where_true}
 use Rattle.line_fields.specs.Cuts.{behind}
 use Rattle.line_fields.specs.Numbers.{natural_in}
 use Rattle.line_fields.specs.Forms.{back_in, handed_in}
-use Rattle.line_fields.specs.Fields.{Reader, goes_on, ◌>>=◌, done, field, unless_none, meant, tested}
+use Rattle.line_fields.specs.Fields.{Reader, reads_on, ◌>>=◌, done, field, unless_none, meant, tested}
 use Rattle.line_fields.specs.Fields.{is_none_left, whole, fields}
-use Rattle.line_fields.proofs.Fronts.{behind_front, behind_is}
-use Rattle.line_fields.proofs.Numbers.{chosen, some_of}
+use Rattle.line_fields.proofs.Offers.{behind_front, behind_is, chosen, some_of}
 use Rattle.run_feed.specs.declared.line.FeedLine.{FeedLine}
 use Rattle.run_feed.specs.declared.line.FeedLine.TheVariants.{Enter, Ret, Pass, Other}
 use Rattle.run_feed.specs.Seen.{EnterSeen, RetSeen, PassSeen}
@@ -26,7 +25,7 @@ abbrev Fields : Type 0
 Fields = List (List ℕ)
 
 more_of : {A B : Type 0} (f : A → Reader B) (o : Option A) (rest : Fields) (y : B × Fields)
-    → goes_on (unless_none o rest) f ≡ Some y → (x : A) × (o ≡ Some x) × (f x rest ≡ Some y)
+    → reads_on (unless_none o rest) f ≡ Some y → (x : A) × (o ≡ Some x) × (f x rest ≡ Some y)
 more_of f None rest y h = absurd cc
 more_of f (Some x) rest y h = (x, refl, h)
 

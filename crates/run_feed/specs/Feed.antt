@@ -26,9 +26,9 @@ pairs_of (Some (Pass p)) = p.p0 ∷ p.p1 ∷ p.p2 ∷ []
 pairs_of (Some Other) = no_pairs
 
 -- the pairs of an `enter` line, by the lines behind it
-abbrev pub pairs_behind : List (List ℕ) → List FeedPair
-pairs_behind [] = no_pairs
-pairs_behind (line ∷ rest) = pairs_of (seen true line)
+abbrev pub pairs_next : List (List ℕ) → List FeedPair
+pairs_next [] = no_pairs
+pairs_next (line ∷ rest) = pairs_of (seen true line)
 
 -- how many words of stack are handed over by a field; none by a text that is none of a word
 abbrev pub left_of : ℕ → List ℕ → Option ℕ
@@ -43,11 +43,11 @@ abbrev pub answer_item : RetSeen → Item
 answer_item r = item.Ret r.part r.site r.base (integer_in r.a0)
 
 -- the item of a line, by the lines behind it
-abbrev pub item_of : ℕ → FeedLine → List (List ℕ) → Option Item
-item_of base (Enter e) rest = Some (entered_item base e (pairs_behind rest))
-item_of base (Ret r) rest = Some (answer_item r)
-item_of base (Pass p) rest = None
-item_of base Other rest = None
+abbrev pub line_item : ℕ → FeedLine → List (List ℕ) → Option Item
+line_item base (Enter e) rest = Some (entered_item base e (pairs_next rest))
+line_item base (Ret r) rest = Some (answer_item r)
+line_item base (Pass p) rest = None
+line_item base Other rest = None
 
 -- ---- the whole
 
@@ -56,15 +56,16 @@ with_item None r = r
 with_item (Some i) (Ok items) = Ok (i ∷ items)
 with_item (Some i) (Err e) = Err e
 
-abbrev pub told : ℕ → ℕ → List (List ℕ) → Option FeedLine → (Bool → Result (List Item) FeedFault)
+abbrev pub fed_line : ℕ → ℕ → List (List ℕ) → Option FeedLine → (Bool → Result (List Item) FeedFault)
     → Result (List Item) FeedFault
-told base n rest None more = Err (Line n)
-told base n rest (Some s) more = with_item (item_of base s rest) (more (is_enter s))
+fed_line base n rest None more = Err (Line n)
+fed_line base n rest (Some s) more = with_item (line_item base s rest) (more (is_enter s))
 
 -- of lines, the first of which has this number and stands right behind an `enter` line or not
 unfoldable pub fed_from : ℕ → Bool → ℕ → List (List ℕ) → Result (List Item) FeedFault
 fed_from base entry n [] = Ok []
-fed_from base entry n (line ∷ rest) = told base n rest (seen entry line) (λ b. fed_from base b (n + 1) rest)
+fed_from base entry n (line ∷ rest) = fed_line base n rest (seen entry line)
+    (λ b. fed_from base b (n + 1) rest)
 
 -- where stacks begin at this base
 unfoldable pub fed : ℕ → List ℕ → Result (List Item) FeedFault

@@ -3,7 +3,7 @@ ghost use Rattle.std.specs.Prelude.{◌≡◌, [], ◌∷◌, IfOk};
 ghost use Rattle.source_events.specs.Forms.{no_pairs};
 ghost use Rattle.source_events.specs.Left.{left_by};
 ghost use Rattle.line_fields.specs.Forms.{back_seen, handed_seen};
-ghost use Rattle.run_feed.specs.Feed.{left_of, pairs_of, pairs_behind, entered_item, answer_item, item_of};
+ghost use Rattle.run_feed.specs.Feed.{left_of, pairs_of, pairs_next, entered_item, answer_item, line_item};
 
 use crate::line::{FeedLine, seen};
 use crate::seen::{Answered, Entered, Passed};
@@ -96,7 +96,7 @@ fn pairs_of(alloc: Global, seen: Option<FeedLine<'_>>) -> Result<[FeedPair; 3], 
 
 // The pairs of an `enter` line, by the lines behind it.
 fn pairs_behind(alloc: Global, lines: &Parts<'_>) -> Result<[FeedPair; 3], AllocError>
-    ensures { IfOk result (λ pairs. pairs ≡ pairs_behind lines.now) }
+    ensures { IfOk result (λ pairs. pairs ≡ pairs_next lines.now) }
 {
     let mut lines = lines.again();
     match lines.part() {
@@ -146,7 +146,7 @@ pub(crate) fn item_of(
     seen: &FeedLine<'_>,
     lines: &Parts<'_>,
 ) -> Result<Option<Item>, AllocError>
-    ensures { IfOk result (λ i. i ≡ item_of base seen.now lines.now) }
+    ensures { IfOk result (λ i. i ≡ line_item base seen.now lines.now) }
 {
     match seen {
         FeedLine::Enter(e) => {

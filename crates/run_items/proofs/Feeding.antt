@@ -13,10 +13,10 @@ use Rattle.trace_tool.specs.Fits.{LineFits, LinesFit}
 use Rattle.trace_tool.specs.Feed as line
 use Rattle.line_fields.specs.Cuts.{behind}
 use Rattle.line_fields.specs.Fields.{lines}
-use Rattle.line_fields.proofs.Cuts.{parts_at, parts_none}
-use Rattle.line_fields.proofs.Fronts.{is_free, cut_front}
+use Rattle.line_fields.proofs.Offers.{parts_at, parts_none, is_free, cut_front}
 use Rattle.run_feed.specs.Lines.{seen, is_enter}
-use Rattle.run_feed.specs.Feed.{pairs_of, pairs_behind, item_of as item_seen, with_item, told, fed_from, fed}
+use Rattle.run_feed.specs.Feed.{pairs_of, pairs_next, line_item as item_seen, with_item, fed_line, fed_from}
+use Rattle.run_feed.specs.Feed.{fed}
 use Rattle.run_items.proofs.Spaced.{cut_free}
 use Rattle.run_items.proofs.FieldsRead.{integer_read, left_read}
 use Rattle.run_items.proofs.LinesSeen.{line_told, body, line_text_is, line_seen}
@@ -35,7 +35,7 @@ pairs_told (leave part a0) = refl
 
 -- the lines of the text behind it have these pairs
 abbrev HasPairs : List Line → List (List ℕ) → Type 0
-HasPairs ls rest = pairs_behind rest ≡ line.pairs_behind ls
+HasPairs ls rest = pairs_next rest ≡ line.pairs_behind ls
 
 entered_is : (base : ℕ) (part export : List ℕ) (stk : Word) (a : Args) (back : FeedBack) (ls : List Line)
     (rest : List (List ℕ)) → LineFits (enter part export stk a back) → HasPairs ls rest
@@ -91,9 +91,9 @@ end_line_is t e = one_before t e.0 [] e.1.is e.1.one.free ∙ ap (λ ts. e.0 ∷
 
 pairs_are : (ls : List Line) (t : List ℕ) → LinesFit ls → IsPassedOver t
     → HasPairs ls (lines (lines_text ls ++ t))
-pairs_are [] t h e = ap pairs_behind (end_line_is t e) ∙ ap pairs_of (e.1.read true)
+pairs_are [] t h e = ap pairs_next (end_line_is t e) ∙ ap pairs_of (e.1.read true)
 pairs_are (l ∷ ls) t h e =
-    ap pairs_behind (lines_are l ls t h.0) ∙ ap pairs_of ((line_seen l h.0).read true) ∙ pairs_told l
+    ap pairs_next (lines_are l ls t h.0) ∙ ap pairs_of ((line_seen l h.0).read true) ∙ pairs_told l
 
 -- ---- the whole
 
@@ -105,7 +105,7 @@ fed_end : (base n : ℕ) (entry : Bool) (t : List ℕ) → IsPassedOver t → fe
 unfolding fed_from
 fed_end base n entry t e =
     ap (fed_from base entry n) (end_line_is t e)
-    ∙ ap (λ s. told base n ([] ∷ []) s (λ b. fed_from base b (n + 1) ([] ∷ []))) (e.1.read entry)
+    ∙ ap (λ s. fed_line base n ([] ∷ []) s (λ b. fed_from base b (n + 1) ([] ∷ []))) (e.1.read entry)
     ∙ empty_last base (n + 1)
 
 fed_all : (base n : ℕ) (entry : Bool) (ls : List Line) (t : List ℕ) → LinesFit ls → IsPassedOver t
@@ -115,7 +115,7 @@ fed_all base n entry [] t h e = fed_end base n entry t e
 fed_all base n entry (l ∷ ls) t h e =
     let rest = lines (lines_text ls ++ t) in
     ap (fed_from base entry n) (lines_are l ls t h.0)
-    ∙ ap (λ s. told base n rest s (λ b. fed_from base b (n + 1) rest)) ((line_seen l h.0).read entry)
+    ∙ ap (λ s. fed_line base n rest s (λ b. fed_from base b (n + 1) rest)) ((line_seen l h.0).read entry)
     ∙ ap (with_item (item_seen base (line_told entry l) rest))
     (fed_all base (n + 1) (is_enter (line_told entry l)) ls t h.1 e)
     ∙ told_is entry base l ls rest (line.items_of base ls) h.0 (pairs_are ls t h.1 e)

@@ -19,9 +19,8 @@ use Rattle.trace_tool.specs.Feed as line
 use Rattle.line_fields.specs.Numbers.{natural_in, integer_in}
 use Rattle.line_fields.specs.Words.{word_in}
 use Rattle.line_fields.specs.Forms.{back_in, handed_in}
-use Rattle.line_fields.proofs.Numbers.{number_again, integer_again, integer_is}
-use Rattle.line_fields.proofs.WordTexts.{fits_has_text, text_is_word}
-use Rattle.line_fields.proofs.JumpTexts.{text_is_back, text_is_handed}
+use Rattle.line_fields.proofs.Offers.{number_again, integer_again, integer_is, fits_has_text, text_is_word}
+use Rattle.line_fields.proofs.Offers.{text_is_back, text_is_handed}
 use Rattle.run_feed.specs.Feed.{left_of}
 use Rattle.run_items.proofs.High.{IsHigh, high_join, decimal_high, name_high}
 

@@ -20,8 +20,7 @@ use Rattle.cap_words.specs.Names.{is_name, is_name_byte}
 use Rattle.cap_words.specs.Text.{perm_name, lin_name, range_text, cap_text, seal_text, sealable_text}
 use Rattle.cap_words.specs.Text.{sealed_text, word_text_of}
 use Rattle.source_events.specs.Forms.{IsName}
-use Rattle.line_fields.proofs.Fronts.{is_free}
-use Rattle.line_fields.proofs.JumpTexts.{bytes_free}
+use Rattle.line_fields.proofs.Offers.{is_free, bytes_free}
 
 pub record IsHigh (text : List ℕ) : Type 0 where
   pub all : list_all (λ b. nat_le 40 b) text ≡ true

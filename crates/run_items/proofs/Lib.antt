@@ -5,3 +5,4 @@ pub mod LinesSeen
 pub mod EndLinesSeen
 pub mod Feeding
 mod TraceEnds
+pub mod Offers

@@ -10,8 +10,7 @@ use Rattle.cap_words.specs.Text.{word_text_of}
 use Rattle.trace_tool.specs.Texts.{words_text}
 use Rattle.line_fields.specs.Cuts.{is_mark, cut}
 use Rattle.line_fields.specs.Fields.{fields}
-use Rattle.line_fields.proofs.Cuts.{parts_at, parts_none}
-use Rattle.line_fields.proofs.Fronts.{is_free, cut_front}
+use Rattle.line_fields.proofs.Offers.{parts_at, parts_none, is_free, cut_front}
 use Rattle.run_items.proofs.High.{IsHigh, high_free, word_high, IsOneLine, line_join, high_line}
 
 abbrev pub spaced : List (List ℕ) → List ℕ

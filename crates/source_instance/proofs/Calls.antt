@@ -36,7 +36,7 @@ use Rattle.source_instance.proofs.Machine.{maps, state, own_code, own_data, its_
 use Rattle.source_instance.proofs.Machine.{g_data, Makes, own_stands, its_fetch, after, loads, stores, adds}
 use Rattle.source_instance.proofs.Machine.{clears}
 use Rattle.source_instance.proofs.Enters.{o8}
-use Rattle.trace_tool.proofs.InstanceRun.{regs_with, zero_}
+use Rattle.trace_tool.proofs.Offers.{regs_with, zero_}
 
 -- ---- memory: the words of the return are pushed
 

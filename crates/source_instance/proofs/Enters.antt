@@ -24,7 +24,7 @@ use Rattle.source_instance.proofs.Start.{start}
 use Rattle.source_instance.proofs.Machine.{M, has, maps, state, own_code, own_data}
 use Rattle.source_instance.proofs.Machine.{its_code, its_data, stack, f_code, f_data, g_code, g_data, Makes}
 use Rattle.source_instance.proofs.Machine.{its_stands, by_row, after, loads, adds}
-use Rattle.trace_tool.proofs.InstanceRun.{regs_with, zero_}
+use Rattle.trace_tool.proofs.Offers.{regs_with, zero_}
 
 -- ---- the states: memory is as at the start
 

@@ -16,7 +16,7 @@ use Rattle.overlay_machine.specs.Events.{step_event}
 use Rattle.trace_tool.specs.Layout.{is_trusted}
 use Rattle.proc_semantics.specs.Marked.{Thing}
 use Rattle.template_runs.specs.Runs.{is_inside}
-use Rattle.source_laws.specs.Seen.{Back, Shown, outs_of, items_of, call_shown, thing_of}
+use Rattle.source_laws.specs.Seen.{Back, Shown, event_outs, event_items, call_shown, thing_of}
 use Rattle.source_laws.specs.Wiped.{TellsSince, none_yet, and_then, last_outside}
 use Rattle.source_instance.proofs.Machine.{L, Makes, own_code, its_code}
 use Rattle.source_instance.proofs.Enters as enters
@@ -50,15 +50,16 @@ Since = TellsSince L enters.o0
 -- one more step, whatever it tells
 more : {es : List Shown} {is : List (Thing OWord Back)} {b p q : OState} {n : ℕ} {v : Option Event}
     → Since es is b p
-    → Makes p q n v → (going : List Shown) (coming : List (Thing OWord Back)) → outs_of L q v ≡ going
-    → items_of L q v ≡ coming → (i : Bool) → is_inside L p ≡ i
+    → Makes p q n v → (going : List Shown) (coming : List (Thing OWord Back)) → event_outs L q v ≡ going
+    → event_items L q v ≡ coming → (i : Bool) → is_inside L p ≡ i
     → Since (es ++ going) (is ++ coming) (last_outside i b p) q
 more {es} {is} {b} {p} {q} t m going coming eo ei i e =
     subst (λ x. Since (es ++ going) (is ++ coming) (last_outside x b p) q) e
     (subst (λ x. Since (es ++ going) (is ++ x) (last_outside (is_inside L p) b p) q)
-    (ap (items_of L q) m.event ∙ ei)
-    (subst (λ x. Since (es ++ x) (is ++ items_of L q (step_event L p q)) (last_outside (is_inside L p) b p) q)
-    (ap (outs_of L q) m.event ∙ eo) (and_then t m.goes_on)))
+    (ap (event_items L q) m.event ∙ ei)
+    (subst (λ x. Since (es ++ x) (is ++ event_items L q (step_event L p q))
+    (last_outside (is_inside L p) b p) q)
+    (ap (event_outs L q) m.event ∙ eo) (and_then t m.goes_on)))
 
 silent : {es : List Shown} {is : List (Thing OWord Back)} {b p q : OState} {n : ℕ} → Since es is b p
     → Makes p q n None → (i : Bool) → is_inside L p ≡ i → Since es is (last_outside i b p) q
@@ -85,11 +86,11 @@ answer = thing_of L calls.o27 ret_item
 abbrev pub call_told : Shown
 call_told = call_shown L calls.o26 0 116
 
-entered_by : items_of L enters.o8 (Some enters.entry_event) ≡ entry ∷ []
+entered_by : event_items L enters.o8 (Some enters.entry_event) ≡ entry ∷ []
 entered_by =
     ap (map (thing_of L enters.o8)) enter_told.items
 
-answered_by : items_of L calls.o27 (Some calls.return_event) ≡ answer ∷ []
+answered_by : event_items L calls.o27 (Some calls.return_event) ≡ answer ∷ []
 answered_by =
     ap (map (thing_of L calls.o27)) ret_told.items
 

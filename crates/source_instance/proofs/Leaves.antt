@@ -9,8 +9,7 @@ use Rattle.lcm_isa.specs.declared.Instr.TheVariants.{Load, Store, Cca, Move, Plu
 use Rattle.lcm_machine.specs.declared.Place.TheVariants.{R, Cell}
 use Rattle.lcm_machine.specs.Cells.{cell, set_cell}
 use Rattle.lcm_machine.specs.Row.{faces, opens}
-use Rattle.lcm_machine.proofs.Offers.{stays, xjmp_goes, cell-set_other}
-use Rattle.lcm_machine.proofs.Goes.{jmp_goes, plus_goes}
+use Rattle.lcm_machine.proofs.Offers.{stays, xjmp_goes, cell-set_other, jmp_goes, plus_goes}
 use Rattle.call_sequence.specs.Sequences.{call_code, return_code, entry_code}
 use Rattle.component_linker.specs.Start.{start_cell, part_word}
 use Rattle.component_linker.specs.Owners.{owner_of}
@@ -24,7 +23,7 @@ use Rattle.source_instance.proofs.Machine.{IsSame, has_in, set_above, own_code, 
 use Rattle.source_instance.proofs.Machine.{stack, g_code, g_data, Makes, own_stands, by_row, after, loads}
 use Rattle.source_instance.proofs.Machine.{stores, adds, clears, copies}
 use Rattle.source_instance.proofs.Calls.{o27, given_back, given_back_same, data117, code118}
-use Rattle.trace_tool.proofs.InstanceRun.{zero_}
+use Rattle.trace_tool.proofs.Offers.{zero_}
 
 -- ---- memory: the words that were pushed are wiped
 

@@ -10,13 +10,12 @@ use Rattle.source_events.specs.declared.FeedBack.TheVariants as way
 use Rattle.source_events.specs.declared.FeedPair.{FeedPair}
 use Rattle.source_events.specs.declared.FeedPair.TheVariants.{Nothing}
 use Rattle.proc_semantics.specs.declared.value.Target.{Target}
-use Rattle.proc_semantics.specs.Values.{Store, found, main_of, linked}
+use Rattle.proc_semantics.specs.Values.{Store, found, main_target, linked}
 use Rattle.proc_semantics.specs.Marked.{Thing}
-use Rattle.source_laws.specs.Seen.{Back, words_of, entry_of}
+use Rattle.source_laws.specs.Seen.{Back, words_of, back_here}
 use Rattle.source_laws.specs.Wiped.{low_of}
-use Rattle.source_laws.proofs.Refined as refined
-use Rattle.source_laws.proofs.Refined.{World, Comp, Report, Registers, Then, recursive, starts, whole}
-use Rattle.source_laws.proofs.Refined.{meaning}
+use Rattle.source_laws.proofs.Offers as refined
+use Rattle.source_laws.proofs.Offers.{World, Comp, Report, Registers, Then, recursive, starts, whole, meaning}
 use Rattle.source_starts.specs.Words.{slots}
 use Rattle.source_instance.proofs.Module.{source}
 use Rattle.source_instance.proofs.Parts.{parts}
@@ -52,14 +51,14 @@ abbrev registers : Registers
 registers = refined.registers_fed W (words_of o8) ints pairs
 
 abbrev leaves : Then
-leaves = refined.left_by W (whole W) (refined.part_of W 0) None (entry_of L o8) (Some 8) way.Out
+leaves = refined.left_by W (whole W) (refined.part_of W 0) None (back_here L o8) (Some 8) way.Out
 
 -- with its first item the procedure begins
 begins : (is : List (Thing OWord Back)) (n k : ℕ)
     → low_at n (meaning W 8 (entry ∷ is) (much k))
     ≡ low_at n (refined.proc_of W (whole W) 0 (refined.proc_at W f) (Some 8) registers leaves globals
     None (much k) is)
-unfolding found main_of linked callee_named passed_named variable_named
+unfolding found main_target linked callee_named passed_named variable_named
 begins is n k =
     ap (low_at n) (sym (starts W 8 (entry ∷ is) (much k)))
     ∙ ap (λ (m : Comp). low_at n (m None (much k) (entry ∷ is))) ((recursive W).waits None globals)
@@ -67,7 +66,7 @@ begins is n k =
     ((recursive W).procs f (Some 8) registers leaves globals)
 
 pub first : (k : ℕ) → low_at 0 (meaning W 8 (entry ∷ []) (much k)) ≡ Some (Some 6)
-unfolding found main_of linked callee_named passed_named variable_named
+unfolding found main_target linked callee_named passed_named variable_named
 first k = begins [] 0 k ∙ refl
 
 -- the call that waits for its second item, with the fuel that is left then
@@ -88,11 +87,11 @@ waits : (k : ℕ)
     (refined.proc_of W (whole W) 0 (refined.proc_at W f) (Some 8) registers leaves globals None (much k)
     (answer ∷ []))
     ≡ low_at 0 ((whole W).wait (Some waiting) globals None (left k) (answer ∷ []))
-unfolding found main_of linked callee_named passed_named variable_named
+unfolding found main_target linked callee_named passed_named variable_named
 waits k = refl
 
 pub second : (k : ℕ) → low_at 1 (meaning W 8 (entry ∷ answer ∷ []) (much k)) ≡ Some (Some 5)
-unfolding found main_of linked callee_named passed_named variable_named
+unfolding found main_target linked callee_named passed_named variable_named
 second k =
     begins (answer ∷ []) 1 k ∙ waits k
     ∙ ap (λ (m : Comp). low_at 0 (m None (left k) (answer ∷ []))) ((recursive W).waits (Some waiting) globals)

@@ -17,7 +17,7 @@ use Rattle.lcm_isa.specs.declared.Reg.{Reg}
 use Rattle.lcm_isa.specs.declared.Operand.TheVariants.{R, Imm}
 use Rattle.lcm_isa.specs.declared.Instr.TheVariants.{Load, Store, Cca, Move}
 use Rattle.lcm_isa.specs.Numbers.{IsInstr}
-use Rattle.lcm_isa.proofs.NumberLemmas.{decode_of-number_of}
+use Rattle.lcm_isa.proofs.Offers.{decode_of-number_of}
 use Rattle.lcm_machine.specs.declared.Place.{Place}
 use Rattle.lcm_machine.specs.declared.Place.TheVariants.{R, Cell}
 use Rattle.lcm_machine.specs.Table.{is_pc, fits_64}
@@ -44,7 +44,7 @@ use Rattle.overlay_machine.specs.Seen.{IsOverlayOf}
 use Rattle.overlay_machine.specs.Starting.{overlay_at}
 use Rattle.overlay_machine.proofs.Offers.{is_overlay, start_word_is}
 use Rattle.trace_tool.specs.Layout.{layout}
-use Rattle.trace_tool.proofs.InstanceRun.{zero_}
+use Rattle.trace_tool.proofs.Offers.{zero_}
 use Rattle.proc_templates.specs.Items.{zero_of}
 use Rattle.source_instance.proofs.Module.{as_word}
 use Rattle.source_instance.proofs.Parts.{parts}

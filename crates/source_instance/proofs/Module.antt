@@ -17,20 +17,18 @@ use Rattle.flow_check.specs.Verdict.{IsKept}
 use Rattle.proc_language.specs.declared.tree.Name.{Name}
 use Rattle.proc_language.specs.declared.module.ModuleFields.{ModuleFields}
 use Rattle.proc_language.specs.Tree.{call, no_args, return}
-use Rattle.proc_language.specs.Words.{is_name, is_reserved}
+use Rattle.proc_language.specs.Words.{is_source_name, is_reserved}
 use Rattle.proc_language.specs.Limits.{IsModule}
 use Rattle.proc_names.specs.Names.{variable_named, callee_named, passed_named}
 use Rattle.proc_names.specs.NameFaults.{name_faults}
 use Rattle.proc_program.specs.Lower.{part_of}
-use Rattle.proc_program.proofs.Kept.{part_fits}
+use Rattle.proc_program.proofs.Offers.{part_fits}
 use Rattle.proc_templates.specs.Items.{put, instrs, zero_of}
 use Rattle.proc_templates.specs.Templates.{before_epilogue}
-use Rattle.proc_templates.specs.Compiled.{frame_of, laid_of, lay_proc, code_words, data_count, data_of}
+use Rattle.proc_templates.specs.Compiled.{frame_of, laid_of, lay_proc, code_words, data_count, first_data}
 use Rattle.proc_templates.specs.Compiled.{exports_of, imports_of, component_of, row_at_label, compiled}
-use Rattle.proc_templates.specs.Kept.{Fits}
-use Rattle.proc_templates.proofs.Apart.{names_differ}
-use Rattle.proc_templates.proofs.Limited.{limits_kept}
-use Rattle.proc_templates.proofs.Readies.{keeps_flow}
+use Rattle.proc_templates.specs.Kept.{FitsComponent}
+use Rattle.proc_templates.proofs.Offers.{names_differ, limits_kept, keeps_flow}
 
 abbrev named : ℕ → Name
 named letter = record { text = letter ∷ []; at = 0 }
@@ -60,7 +58,7 @@ source = record {
 }
 
 pub limits : IsModule source
-unfolding is_name is_reserved names.is_name
+unfolding is_source_name is_reserved names.is_name
 limits = record {
   name = refl;
   code = omega arith;
@@ -136,13 +134,13 @@ trusted = record {
 }
 
 pub is_compiled : compiled source ≡ trusted
-unfolding component_of frame_of laid_of lay_proc before_epilogue put instrs data_of exports_of imports_of
+unfolding component_of frame_of laid_of lay_proc before_epilogue put instrs first_data exports_of imports_of
     callee_named passed_named variable_named entry_code call_code return_code
 is_compiled = refl
 
 -- ---- it keeps the rules
 
-fits : Fits (part_of source)
+fits : FitsComponent (part_of source)
 unfolding code_words data_count callee_named passed_named variable_named
 fits = record {
   limits = part_fits source limits;

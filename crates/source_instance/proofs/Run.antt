@@ -33,7 +33,7 @@ use Rattle.trace_tool.specs.Told as told
 use Rattle.trace_tool.specs.Feed.{outs_of as outs_in, items_of as items_in}
 use Rattle.trace_tool.specs.Runs.{written}
 use Rattle.trace_tool.specs.Headline.{HeadlineHolds}
-use Rattle.trace_tool.proofs.InstanceRun.{zeros}
+use Rattle.trace_tool.proofs.Offers.{zeros}
 use Rattle.proc_language.specs.declared.module.ModuleFields.{ModuleFields}
 use Rattle.proc_program.specs.Lower.{part_of}
 use Rattle.source_events.specs.declared.FeedBack.TheVariants as way
@@ -48,9 +48,9 @@ use Rattle.source_events.specs.declared.OutEvent.TheVariants.{CallOut, LeaveOut}
 use Rattle.source_events.specs.declared.End.TheVariants.{Waiting}
 use Rattle.proc_semantics.specs.Values.{World}
 use Rattle.template_runs.specs.Runs.{is_inside}
-use Rattle.source_laws.specs.Sources.{Shows, SourcesMean, MeaningEnds}
+use Rattle.source_laws.specs.Sources.{Shows, MeansAlways, MeaningEnds}
 use Rattle.source_laws.specs.Sources as shown
-use Rattle.source_laws.specs.Trace.{outs_of, items_of, weighed}
+use Rattle.source_laws.specs.Trace.{event_outs, event_items, weighed}
 use Rattle.source_starts.specs.Sources.{AreSources}
 use Rattle.source_starts.specs.RunMeans.{runs_trusted}
 use Rattle.source_instance.specs.There.{SourceThere}
@@ -78,8 +78,8 @@ begins = record { reached = reached.begins; lines = told.none_yet; weight = 0; s
 pub record Tells (q : OState) (v : Option Event) (ls : List Line) (es : List OutEvent)
     (is : List Item) : Type 0 where
   pub lines : lines_for L (flat_view L q) v ≡ ls
-  pub outs : outs_of L (flat_view L q) v ≡ es
-  pub items : items_of L (flat_view L q) v ≡ is
+  pub outs : event_outs L (flat_view L q) v ≡ es
+  pub items : event_items L (flat_view L q) v ≡ is
 
 -- one more step, whatever it tells
 tells : {j n : ℕ} {ls more : List Line} {es going : List OutEvent} {is coming : List Item} {p q : OState}
@@ -96,10 +96,10 @@ tells {j} {n} {ls} {more} {es} {going} {is} {coming} {p} {q} {v} r m t = record 
   shows =
       subst (λ (k : ℕ). Shows L enters.o0 (j + k) next_weight (es ++ going) (is ++ coming) q) m.weight
       (subst (λ (xs : List OutEvent). Shows L enters.o0 (j + weight_of L p) next_weight (es ++ xs)
-      (is ++ coming) q) (ap (outs_of L (flat_view L q)) m.event ∙ t.outs)
+      (is ++ coming) q) (ap (event_outs L (flat_view L q)) m.event ∙ t.outs)
       (subst (λ (xs : List Item). Shows L enters.o0 (j + weight_of L p) next_weight
-      (es ++ outs_of L (flat_view L q) (step_event L p q)) (is ++ xs) q)
-      (ap (items_of L (flat_view L q)) m.event ∙ t.items) (shown.and_then r.shows m.goes_on)));
+      (es ++ event_outs L (flat_view L q) (step_event L p q)) (is ++ xs) q)
+      (ap (event_items L (flat_view L q)) m.event ∙ t.items) (shown.and_then r.shows m.goes_on)));
 }
   where
     next_weight : ℕ
@@ -279,14 +279,14 @@ abbrev world : World
 world = map part_of (source ∷ [])
 
 -- where it stands outside, the meaning waits
-it_means : SourcesMean world 8 start
+it_means : MeansAlways world 8 start
     → MeaningEnds world 8 (enter_item ∷ ret_item ∷ []) (call_out ∷ leave_out ∷ []) Waiting
 it_means mean = (mean 93 left.weight _ _ leaves.o49 left.shows).waits stands_outside
 
 abbrev StartsMean : Type 0
 StartsMean =
     (modules : List ModuleFields) (ps : List PartSeen) (size : ℕ) (s : StartSeen) → IsStartOf ps size s
-    → AreSources modules ps → SourcesMean (map part_of modules) size s
+    → AreSources modules ps → MeansAlways (map part_of modules) size s
 
 pub source_there : HeadlineHolds → StartLinesAgree → StartsMean → SourceThere
 source_there headline agree mean = record {

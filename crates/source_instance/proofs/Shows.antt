@@ -19,9 +19,7 @@ use Rattle.source_laws.specs.Seen.{Back, Shown}
 use Rattle.source_laws.specs.Secrets.{EachLetsGo}
 use Rattle.source_laws.specs.Words.{word_from, back_at}
 use Rattle.source_laws.specs.Wiped.{TellsSince, WipedTold, low_of}
-use Rattle.source_laws.proofs.Refined.{meaning}
-use Rattle.source_laws.proofs.Forgets.{whence_same}
-use Rattle.source_laws.proofs.Wiped.{tells_of, low_same}
+use Rattle.source_laws.proofs.Offers.{meaning, whence_same, tells_of, low_same}
 use Rattle.source_starts.specs.Sources.{SourcesLeaveNothing, linked_at}
 use Rattle.source_starts.specs.PlainWiped.{PlainRunsWipe}
 use Rattle.source_instance.specs.Shows.{LetsGoThere, SourceShows}

@@ -14,8 +14,8 @@ use Rattle.component_linker.specs.Regions.{regions_of, region_span}
 use Rattle.component_linker.specs.Start.{Exported, main_of, start_cell, start_regs, IsStart}
 use Rattle.component_linker.specs.Started.{StartSeen, Starts}
 use Rattle.component_linker.specs.Linked.{Linked}
-use Rattle.component_linker.proofs.LinksKept.{are_linked}
-use Rattle.component_linker.proofs.PairStart.{filled, cells_filled, site_of, sites_are, owners_of, owners_are}
+use Rattle.component_linker.proofs.Offers.{are_linked, filled, cells_filled, site_of, sites_are, owners_of}
+use Rattle.component_linker.proofs.Offers.{owners_are}
 use Rattle.component_linker.specs.LinkedStarts.{IsStartOf}
 use Rattle.source_instance.proofs.Module.{trusted}
 use Rattle.source_instance.proofs.Parts.{adversary, second, parts, each, keeps, has_room}

@@ -33,30 +33,24 @@ use Rattle.source_events.specs.declared.End.TheVariants.{Fail as Fails, OutOfFue
 use Rattle.proc_semantics.specs.declared.value.Value.{Value}
 use Rattle.source_laws.specs.Seen.{standing, trace, Trace, events_of}
 use Rattle.template_runs.specs.Runs.{is_inside}
-use Rattle.source_laws.specs.Sources.{SourcesMean}
+use Rattle.source_laws.specs.Sources.{MeansAlways}
 use Rattle.source_laws.proofs.Sum.{agreeing_runs}
 use Rattle.source_laws.proofs.Follows.{Fits, Agrees, Prefix}
 use Rattle.source_laws.proofs.Agreeing.{waits}
 use Rattle.template_runs.specs.Border.{Shows, GivesBack}
-use Rattle.template_runs.proofs.Clean.{Live, none, untold, ended, clean_first}
-use Rattle.template_runs.proofs.Quiet.{Quiet, quiet_none}
+use Rattle.template_runs.proofs.Offers.{Live, none, untold, ended, clean_first, Quiet, quiet_none, Valid, At}
+use Rattle.template_runs.proofs.Offers.{inside_here, Out, outside_here, DataIs, weight_small, Tells}
+use Rattle.template_runs.proofs.Offers.{fails_bad, goes_out, tells, goes_in, Named}
 use Rattle.source_laws.specs.Secrets.{LeavesNothing}
 use Rattle.source_laws.proofs.Upto.{none_inside, UpTo, Since, go_fail, stack_top, nothing_yet}
 use Rattle.source_laws.proofs.Wipes.{Wipes, Tell, crossings}
 use Rattle.source_laws.specs.Wiped.{WipedAlways}
 use Rattle.source_laws.proofs.Wiped.{leaves_nothing, wiped_always}
-use Rattle.template_runs.proofs.Valid.{Valid}
-use Rattle.template_runs.proofs.Steps.{At, inside_here}
-use Rattle.template_runs.proofs.Outside.{Out, outside_here}
 use Rattle.source_laws.proofs.CallsIn.{EntryPublic, AtEnd, ProcLaw, left_now}
-use Rattle.template_runs.proofs.Rows.{DataIs}
-use Rattle.template_runs.proofs.Ends.{weight_small}
-use Rattle.template_runs.proofs.Back.{Tells, fails_bad, goes_out, tells, goes_in}
 use Rattle.source_laws.proofs.Idle.{IdleLaw, IdleLeaveLaw, idle_law, idle_leave_law}
 use Rattle.source_laws.proofs.Procs.{Proc, proc_law}
 use Rattle.source_laws.proofs.Waiting.{Meets, WaitLaw, LeaveLaw, wait_law}
 use Rattle.source_laws.proofs.Leaving.{Rest, leave_law}
-use Rattle.template_runs.proofs.Named.{Named}
 
 module _ (world : World) (g : Link) (linked : Linked g) (Begins : Target → PartSeen → ℕ → Type 0)
     (StoreIs : Store → (ℕ → OWord) → Type 0) (RegsAre : Registers → OState → Type 0) where
@@ -253,12 +247,12 @@ module _ (world : World) (g : Link) (linked : Linked g) (Begins : Target → Par
       → DataIs g linked mem (overlay_at s).state.maps.cells
       → StoreIs (map (λ (u : Part). u.globals) world.parts) mem
       → Starting world g linked Begins StoreIs RegsAre stack mem (overlay_at s).state
-      → SourcesMean world.parts stack s
+      → MeansAlways world.parts stack s
   source_law bodies stack s mem same globs store st =
       agreeing_runs world.parts stack s
-      (λ k. subst (λ l. good.Agrees 0 (lines.trace l k (overlay_at s).state)
+      (λ k. subst (λ l. good.MeaningAgrees 0 (lines.trace l k (overlay_at s).state)
       (λ fuel feed. plain.meaning world.parts stack feed fuel)) same
-      (subst (λ t. good.Agrees 0 t (λ fuel feed. plain.meaning world.parts stack feed fuel))
+      (subst (λ t. good.MeaningAgrees 0 t (λ fuel feed. plain.meaning world.parts stack feed fuel))
       (traces g.layout k (overlay_at s).state)
       (forgets world stack (trace g.layout k (overlay_at s).state)
       (from_start bodies stack mem (overlay_at s).state globs store st k))))

@@ -6,9 +6,12 @@ use Rattle.source_laws.proofs.Refined.{of_handle, of_args, World, pair_of, Comp,
 use Rattle.proc_semantics.specs.Marked.{PairHalf, CodeHalf, DataHalf}
 use Rattle.source_laws.proofs.Variables.{AtPlace, EnvIn, PairAt, env_same, index_is}
 use Rattle.source_laws.proofs.CallsIn.{int_public}
-use Rattle.template_runs.proofs.Quiet.{Owing}
+use Rattle.template_runs.proofs.Offers.{Owing, used, fits_small, with_at, length-with_at, SameBelow, get_with}
+use Rattle.template_runs.proofs.Offers.{get_other, At, Placed, next_pc, Here, Free, load_law, store_law}
+use Rattle.template_runs.proofs.Offers.{loaded, is_half, with_reg, set_law, dat_law, load_data_law, Stand}
+use Rattle.template_runs.proofs.Offers.{stand_front, stand_back, words-append, words_in, free_a0, free_a1}
+use Rattle.template_runs.proofs.Offers.{free_a2, free_a3}
 use Rattle.source_laws.proofs.Upto.{upto, UpTo, spend, tick_up}
-use Rattle.template_runs.proofs.Clean.{used}
 use Rattle.std.specs.Prelude.{slice_get, drop, replicate}
 use Rattle.std.proofs.lemmas.Int.{ints}
 use Rattle.std.proofs.lemmas.Option.{slice_get_within}
@@ -23,10 +26,9 @@ use Rattle.lcm_isa.specs.declared.Operand.TheVariants.{Imm}
 use Rattle.lcm_isa.specs.declared.Instr.TheVariants.{Fail}
 use Rattle.lcm_machine.specs.Places.{reg, set_reg}
 use Rattle.lcm_machine.specs.Table.{fits_64}
-use Rattle.lcm_machine.proofs.RegLemmas.{reg-set_same, reg-set_other}
-use Rattle.lcm_machine.proofs.Goes.{set_goes}
+use Rattle.lcm_machine.proofs.Offers.{reg-set_same, reg-set_other, set_goes}
 use Rattle.component_linker.specs.Parts.{PartSeen}
-use Rattle.flow_check.specs.Holds.{data_cap, stack_cap}
+use Rattle.flow_check.specs.Holds.{data_cap, part_stack_cap}
 use Rattle.overlay_machine.specs.declared.words.OWord.{OWord}
 use Rattle.overlay_machine.specs.declared.words.OWord.TheVariants.{Plain}
 use Rattle.overlay_machine.specs.Words.{look}
@@ -45,16 +47,8 @@ use Rattle.proc_program.specs.Limits.{arg_registers}
 use Rattle.proc_templates.specs.Items.{zero_of}
 use Rattle.proc_templates.specs.Templates.{code, load_slot, store_slot, load_linked, load_pair, load_args}
 use Rattle.proc_templates.specs.Templates.{args_code, argument, arguments, zeros}
-use Rattle.source_laws.specs.Fits.{HandleFits, Kind, AsPair, AsRest, PassFits}
+use Rattle.source_laws.specs.Fits.{HandleInside, Kind, AsPair, AsRest, PassFits}
 use Rattle.source_laws.proofs.CallSites.{ArgsCallsAt}
-use Rattle.template_runs.proofs.Numbers.{fits_small}
-use Rattle.template_runs.proofs.Slots.{with_at, length-with_at, SameBelow, get_with, get_other}
-use Rattle.template_runs.proofs.Steps.{At, Placed, next_pc}
-use Rattle.template_runs.proofs.Rows.{Here, Free, load_law, store_law, loaded}
-use Rattle.template_runs.proofs.Checks.{is_half}
-use Rattle.template_runs.proofs.Data.{with_reg, set_law, dat_law, load_data_law}
-use Rattle.template_runs.proofs.Standing.{Stand, stand_front, stand_back, words-append, words_in}
-use Rattle.template_runs.proofs.Elements.{free_a0, free_a1, free_a2, free_a3}
 use Rattle.source_laws.proofs.Evals.{Globals, LawOf}
 use Rattle.trace_tool.specs.Feed.{integer_in}
 use Rattle.template_runs.specs.Public.{IsPublic}
@@ -221,7 +215,7 @@ module _ (world : World) (g : Link) (linked : Linked g) (StoreIs : Store → (�
       (halves : (r : Pair) (x y : OWord) → IsCalled r x y → Half x × Half y)
       (pairs : Pairs world StoreIs p f.home s.imports IsCalled IsPair) where
     abbrev pub HandleThere : Handle → Type 0
-    HandleThere = HandleFits kinds s.words s.temps globals.count pairs.imported pairs.owned pairs.shared
+    HandleThere = HandleInside kinds s.words s.temps globals.count pairs.imported pairs.owned pairs.shared
 
     abbrev pub PassThere : Handle → Type 0
     PassThere = PassFits kinds s.words s.temps globals.count pairs.imported pairs.owned pairs.shared
@@ -245,8 +239,8 @@ module _ (world : World) (g : Link) (linked : Linked g) (StoreIs : Store → (�
           let n1 = next_pc g linked p k in
           let n2 = next_pc g linked p (k + 1) in
           let n3 = next_pc g linked p (k + 1 + 1) in
-          let k1 = Plain (Mem (stack_cap (ranges_of p) top (pos (top - j)))) in
-          let k3 = Plain (Mem (stack_cap (ranges_of p) top h.at)) in
+          let k1 = Plain (Mem (part_stack_cap (ranges_of p) top (pos (top - j)))) in
+          let k3 = Plain (Mem (part_stack_cap (ranges_of p) top h.at)) in
           let t1 = with_reg o Stk k1 n1 in
           let t2 = with_reg t1 r x n2 in
           u q h1 (subst (λ y. At g linked p y q) e3 at1)

@@ -12,7 +12,7 @@ use Rattle.lcm_isa.specs.declared.Reg.TheVariants.{Pc, Rcode, Rdata, Stk, T1}
 use Rattle.lcm_machine.specs.Maps.{Regs}
 use Rattle.lcm_machine.specs.Places.{reg, set_reg}
 use Rattle.lcm_machine.specs.Table.{fits_64}
-use Rattle.lcm_machine.proofs.RegLemmas.{reg-set_other}
+use Rattle.lcm_machine.proofs.Offers.{reg-set_other}
 use Rattle.component_linker.specs.Parts.{PartSeen}
 use Rattle.overlay_machine.specs.declared.words.OWord.{OWord}
 use Rattle.overlay_machine.specs.declared.words.OWord.TheVariants.{Plain}
@@ -29,10 +29,8 @@ use Rattle.proc_semantics.specs.Values.{first_of, rest_of}
 use Rattle.proc_templates.specs.Templates.{argument}
 use Rattle.source_laws.proofs.CallsIn.{int_public}
 use Rattle.source_laws.proofs.Handed.{places, handed, number_first, pair_first}
-use Rattle.template_runs.proofs.Rows.{Free}
-use Rattle.template_runs.proofs.Entries.{Reads}
+use Rattle.template_runs.proofs.Offers.{Free, Reads, free_a0, free_a1, free_a2, free_a3}
 use Rattle.source_laws.specs.Fits.{kinds_from, AsNumber, AsPair, AsRest}
-use Rattle.template_runs.proofs.Elements.{free_a0, free_a1, free_a2, free_a3}
 use Rattle.source_laws.proofs.Arguments.{argument_spare, arguments_differ}
 use Rattle.source_laws.proofs.Callings.{IsPair, Passed, no_more, one_more, two_more}
 use Rattle.template_runs.specs.Public.{IsPublic}

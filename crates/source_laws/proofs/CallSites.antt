@@ -18,12 +18,12 @@ use Rattle.proc_program.specs.Calls.{calls, args_calls, step_calls, block_calls}
 use Rattle.proc_templates.specs.declared.Frame.{Frame}
 use Rattle.proc_templates.specs.Items.{Item}
 use Rattle.proc_templates.specs.Free.{behind, after}
-use Rattle.proc_templates.specs.Templates.{code, args_code, call_code, load_args, zeros, arguments, argument}
+use Rattle.proc_templates.specs.Templates.{code, args_code, call_items, load_args, zeros, arguments, argument}
 use Rattle.proc_templates.specs.Templates.{check_params, push, load_pair, load_var, store_var, op_code}
 use Rattle.proc_templates.specs.Templates.{step_code, block_code}
 use Rattle.source_laws.specs.Sites.{next_count, count, SiteIs, SitesAt, Numbered, ArgsNumbered, StepNumbered}
 use Rattle.source_laws.specs.Sites.{BlockNumbered}
-use Rattle.template_runs.proofs.Standing.{words_in}
+use Rattle.template_runs.proofs.Offers.{words_in}
 use Rattle.source_laws.proofs.PieceSizes.{after-words}
 
 -- ---- how many sites stand behind pieces
@@ -66,7 +66,7 @@ loads_count f (pass h xs) t i j =
     _ (pair_count f h (argument i) (argument (i + 1)) j)
     ∙ loads_count f xs t (i + 2) j
 
-call_count : (f : Frame) (h : Handle) (xs : Args) (t j : ℕ) → count j (call_code f t h xs) ≡ suc j
+call_count : (f : Frame) (h : Handle) (xs : Args) (t j : ℕ) → count j (call_items f t h xs) ≡ suc j
 call_count f h xs t j =
     count_both j j (load_args f t 0 xs) _ (loads_count f xs t 0 j)
     ∙ count_both j j (zeros (drop (arg_registers xs) arguments))

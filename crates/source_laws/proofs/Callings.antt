@@ -2,7 +2,7 @@
 use Rattle.source_laws.proofs.Refined.{Way, Event, Entry, handed, World, Comp, ends, Registers, Then, Wait}
 use Rattle.source_laws.proofs.Refined.{with_place, call, call_by, part_of, stack_of, Frame, whole}
 use Rattle.source_laws.specs.Seen.{Shown, shown_of, arg_shown, args_shown, call_shown}
-use Rattle.proc_semantics.specs.Marked.{Arg, Number, OfPair, Calls, arg_at, args_of, call_event}
+use Rattle.proc_semantics.specs.Marked.{Arg, Number, OfPair, Calls, arg_at, marked_args, call_event}
 use Rattle.std.proofs.Common.{Option, ◌≡◌, ℕ, zero, suc, ◌+◌, ◌-◌, ◌<◌, ◌≤◌, ℤ, pos, negsuc, ◌+ℤ◌, List, []}
 use Rattle.std.proofs.Common.{◌∷◌, ◌++◌, length, replicate, Some, None, Bool, true, false, refl, sym, ap, ◌∙◌}
 use Rattle.std.proofs.Common.{subst, arith, le-ltb, length-append}
@@ -29,7 +29,7 @@ use Rattle.lcm_machine.specs.Maps.{State}
 use Rattle.lcm_machine.specs.Places.{reg}
 use Rattle.lcm_machine.specs.Table.{fits_64, runs_in}
 use Rattle.lcm_machine.specs.Row.{row, failed, faces}
-use Rattle.flow_check.specs.Holds.{code_at, data_cap, stack_cap}
+use Rattle.flow_check.specs.Holds.{code_at, data_cap, part_stack_cap}
 use Rattle.component_linker.specs.Parts.{PartSeen}
 use Rattle.trusted_border.specs.declared.layout.SiteCode.{SiteCode}
 use Rattle.trusted_border.specs.Reaches.{site_of_seal}
@@ -42,9 +42,8 @@ use Rattle.overlay_machine.specs.Step.{fails as failing_step, overlay_step, call
 use Rattle.overlay_machine.specs.Step.{weight_by, own_stack, at_call, new_frame, with_frames, ask, need}
 use Rattle.overlay_machine.specs.Link.{Link, IsTrusted, ranges_of}
 use Rattle.overlay_machine.specs.Linked.{Linked}
-use Rattle.overlay_machine.proofs.OwnStack.{own_from}
+use Rattle.overlay_machine.proofs.Offers.{own_from, frame_in}
 use Rattle.overlay_machine.specs.Safe.{IsMet}
-use Rattle.overlay_machine.proofs.invariant.FrameFacts.{frame_in}
 use Rattle.trace_tool.specs.Layout.{is_trusted, part_name, site_of}
 use Rattle.proc_semantics.specs.Values.{Store}
 use Rattle.proc_semantics.specs.declared.value.Target.{Target}
@@ -55,22 +54,15 @@ use Rattle.proc_semantics.specs.declared.value.Value.{Value}
 use Rattle.proc_semantics.specs.declared.value.Value.TheVariants.{Num, Closure, Other}
 use Rattle.proc_templates.specs.Templates.{argument}
 use Rattle.template_runs.specs.Runs.{is_inside}
-use Rattle.template_runs.proofs.Quiet.{quiet_fewer, Owing}
+use Rattle.template_runs.proofs.Offers.{quiet_fewer, Owing, used, Valid, At, Placed, inside_here, Here}
+use Rattle.template_runs.proofs.Offers.{called_valid, SiteHere, Pair as PairHere, case_call, called_to, own}
+use Rattle.template_runs.proofs.Offers.{all, above, within_stack, unsealed_public, took, take_law, Called}
 use Rattle.template_runs.specs.Border.{Shows, GivesBack, content_of}
 use Rattle.source_laws.proofs.Upto.{UpTo, go_fail, fewer, upto, none_inside}
-use Rattle.template_runs.proofs.Clean.{used}
-use Rattle.template_runs.proofs.Valid.{Valid}
-use Rattle.template_runs.proofs.Steps.{At, Placed, inside_here}
-use Rattle.template_runs.proofs.Rows.{Here}
-use Rattle.template_runs.proofs.Calls.{called_valid, SiteHere, Pair as PairHere, case_call, called_to, own}
-use Rattle.template_runs.proofs.Calls.{all, above, within_stack}
 use Rattle.source_laws.proofs.CallsIn.{int_public, ProcLaw, call_in_law}
 use Rattle.source_laws.proofs.CallsOut.{call_out_law}
-use Rattle.template_runs.proofs.Outside.{unsealed_public}
-use Rattle.template_runs.proofs.Taking.{took, take_law}
 use Rattle.template_runs.specs.Public.{ArePublic, IsPublic}
 use Rattle.source_laws.proofs.Waiting.{WaitLaw, IsFor}
-use Rattle.template_runs.proofs.Standing.{Called}
 use Rattle.source_laws.proofs.Arguments.{Half, Holding}
 use Rattle.trace_tool.specs.Feed.{integer_in}
 use Rattle.cap_words.specs.declared.Sealable.{Sealable}
@@ -274,7 +266,7 @@ module _ (g : Link) (linked : Linked g) (Begins : Target → PartSeen → ℕ �
       short_fails : top + 1 < g.layout.stack.base + w + 2 → call_step g.layout I o ≡ failing_step
       unfolding call_step ask need
       short_fails short =
-          let own1 : own_stack g.layout o.maps ≡ Some (stack_cap (ranges_of p) top h.at) =
+          let own1 : own_stack g.layout o.maps ≡ Some (part_stack_cap (ranges_of p) top h.at) =
           own_from g.layout o.maps _ h.stk refl refl (linked.stack_bases p at.trusted) in
           rw (there.here.code_is) (rw own1 (rw (below short h.at h.cursor) refl))
 
@@ -293,7 +285,7 @@ module _ (g : Link) (linked : Linked g) (Begins : Target → PartSeen → ℕ �
             (by (is_plain o.maps.regs.c1 && is_plain o.maps.regs.c2) refl))))
           where
             S : State OWord
-            S = at_call I U (stack_cap (ranges_of p) top (pos (top - w))) o
+            S = at_call I U (part_stack_cap (ranges_of p) top (pos (top - w))) o
 
             by : (t : Bool) → (is_plain o.maps.regs.c1 && is_plain o.maps.regs.c2) ≡ t
                 → (if t then with_frames (new_frame I (top - w) top o ∷ o.frames) (o.calls + 1)
@@ -499,7 +491,7 @@ module _ (g : Link) (linked : Linked g) (Begins : Target → PartSeen → ℕ �
                   ∙ ap word_shown e
                   ∙ ap (λ z. arg_shown z (reg Q.maps.regs d)) (sym (a_is d))
 
-              args_are : args_of OWord Entry vs wy.words ≡ args_shown g.layout Q
+              args_are : marked_args OWord Entry vs wy.words ≡ args_shown g.layout Q
               args_are =
                   ap (λ z. z ∷ arg_at OWord Entry vs wy.words 1 ∷ arg_at OWord Entry vs wy.words 2
                   ∷ arg_at OWord Entry vs wy.words 3 ∷ []) (word_is A0 0 refl)
@@ -519,7 +511,7 @@ module _ (g : Link) (linked : Linked g) (Begins : Target → PartSeen → ℕ �
 
               alike : (low : Option ℕ) → shown_of (told_call low) ≡ call_shown g.layout Q I (top - w)
               alike low =
-                  let args = args_of OWord Entry vs wy.words in
+                  let args = marked_args OWord Entry vs wy.words in
                   let part = part_of world f.home in
                   let at = stack_of world f.home + (f.left - f.need - 1) in
                   let J = site_of g.layout I in

@@ -1,7 +1,7 @@
 -- A call of a procedure of the modules, from its site to the word behind it.
 use Rattle.std.proofs.Common.{None, ◌≡◌, ◌≢◌, ℕ, suc, ◌+◌, ◌-◌, ◌≤◌, ℤ, pos, List, ◌∷◌, Option, Some, true}
 use Rattle.std.proofs.Common.{refl, sym, ap, ◌∙◌, subst, arith, inl, length}
-use Rattle.source_laws.specs.Seen.{Back, handed, left_with, entry_of}
+use Rattle.source_laws.specs.Seen.{Back, handed, left_with, back_here}
 use Rattle.std.specs.Prelude.{option_map}
 use Rattle.cap_words.specs.declared.Word.TheVariants.{Int, Mem, Sealed}
 use Rattle.cap_words.specs.declared.CapFields.{CapFields}
@@ -10,7 +10,7 @@ use Rattle.lcm_isa.specs.declared.Reg.TheVariants.{Pc, Dat, Stk, Rcode, Rdata, A
 use Rattle.lcm_isa.specs.declared.Instr.TheVariants.{Xjmp}
 use Rattle.lcm_machine.specs.Places.{reg}
 use Rattle.lcm_machine.specs.Table.{fits_64, unsealed}
-use Rattle.flow_check.specs.Holds.{data_cap, stack_cap, code_at}
+use Rattle.flow_check.specs.Holds.{data_cap, part_stack_cap, code_at}
 use Rattle.component_linker.specs.Parts.{PartSeen}
 use Rattle.trusted_border.specs.declared.layout.SiteCode.{SiteCode}
 use Rattle.trusted_border.specs.declared.events.Event.TheVariants.{Called, Returned as ReturnedTo}
@@ -22,29 +22,22 @@ use Rattle.overlay_machine.specs.Step.{own_stack, new_frame}
 use Rattle.overlay_machine.specs.Link.{Link, IsTrusted, ranges_of}
 use Rattle.overlay_machine.specs.Safe.{IsSafe}
 use Rattle.overlay_machine.specs.Linked.{Linked}
-use Rattle.overlay_machine.proofs.OwnStack.{own_from}
+use Rattle.overlay_machine.proofs.Offers.{own_from, length-words_from}
 use Rattle.source_laws.proofs.Refined.{World, Registers, Then, whole}
 use Rattle.proc_semantics.specs.Values.{Store}
 use Rattle.proc_semantics.specs.declared.value.Target.{Target}
 use Rattle.template_runs.specs.Runs.{is_inside, Makes}
 use Rattle.cap_words.specs.Linear.{zero_word, left_of}
 use Rattle.lcm_machine.specs.Cells.{put_back, words_from}
-use Rattle.overlay_machine.proofs.invariant.FramesKept.{length-words_from}
-use Rattle.template_runs.proofs.Clean.{Clean, untold, ended, clean_same, clean_anew, clean_call, clean_back}
-use Rattle.template_runs.proofs.Clean.{clean_wiped, used}
+use Rattle.template_runs.proofs.Offers.{Clean, untold, ended, clean_same, clean_anew, clean_call, clean_back}
+use Rattle.template_runs.proofs.Offers.{clean_wiped, used, Keeps, back_valid, resumed_to, back_makes}
+use Rattle.template_runs.proofs.Offers.{back_returned, given_there, Out, Owing, Valid, At, Placed}
+use Rattle.template_runs.proofs.Offers.{inside_here, Here, DataIs, called_valid, called_stk, called_data}
+use Rattle.template_runs.proofs.Offers.{called_own, SiteHere, Pair, called_to, call_makes, here_back, at_back}
 use Rattle.call_sequence.specs.SequenceRuns.{stack_cap as stack_part}
 use Rattle.template_runs.specs.Border.{Opened, code_word, half_word, content_of as content_in, ShowsLeave}
 use Rattle.template_runs.specs.Border.{GivesBack, Wiped, content_of}
-use Rattle.template_runs.proofs.Ends.{Keeps, back_valid, resumed_to, back_makes, back_returned}
-use Rattle.template_runs.proofs.Shows.{given_there}
-use Rattle.template_runs.proofs.Outside.{Out}
-use Rattle.template_runs.proofs.Quiet.{Owing}
 use Rattle.source_laws.proofs.Upto.{UpTo, go_silent, spend, fewer, Carries, stack_top, end_of}
-use Rattle.template_runs.proofs.Valid.{Valid}
-use Rattle.template_runs.proofs.Steps.{At, Placed, inside_here}
-use Rattle.template_runs.proofs.Rows.{Here, DataIs}
-use Rattle.template_runs.proofs.Calls.{called_valid, called_stk, called_data, called_own, SiteHere, Pair}
-use Rattle.template_runs.proofs.Calls.{called_to, call_makes, here_back, at_back}
 use Rattle.template_runs.specs.Public.{IsShown, IsPublic}
 use Rattle.cap_words.specs.declared.Sealable.{Sealable}
 use Rattle.cap_words.specs.declared.Sealable.TheVariants.{Mem as MemIn, Seal as SealIn}
@@ -76,7 +69,7 @@ module _ (world : World) (g : Link) (linked : Linked g)
         → reg q.maps.regs d ≡ Plain (Int (pos 0))
     pub top : ℕ
     pub within : top ≤ g.layout.stack.end
-    pub stk : look q.maps.regs.stk ≡ Mem (stack_cap (ranges_of part) top (pos top))
+    pub stk : look q.maps.regs.stk ≡ Mem (part_stack_cap (ranges_of part) top (pos top))
     pub own : (cap : CapFields) → own_stack g.layout o.maps ≡ Some cap → cap.end ≡ top
     pub left : option_map
         (λ (c : CapFields). c.end + 1 - c.base) (own_stack g.layout o.maps) ≡ Some
@@ -128,7 +121,7 @@ module _ (world : World) (g : Link) (linked : Linked g)
   pub left_same : (p : PartSeen) (en o q q' : OState) (v : ℤ) (mem : ℕ → OWord) (a : AtEnd p o q v mem)
       → SameEntry en o → Keeps q.maps q'.maps
       → (d : Opened) → ShowsLeave g.layout d a.top q' → q.maps.regs.rdata ≡ half_word d → q'.frames ≡ q.frames
-      → left_with q' ≡ entry_of g.layout en
+      → left_with q' ≡ back_here g.layout en
   left_same p en o q q' v mem a s k d sh eh ef =
       let b = given_back p en o q q' v mem a s k sh.stk in
       let x = had_stack p o q v mem a in
@@ -138,7 +131,7 @@ module _ (world : World) (g : Link) (linked : Linked g)
       ∙ a.half ∙ s.half in
       let stk = ap Some (b.stk c.0 c.1) ∙ ap (option_map
       (λ (c : CapFields). Plain (Mem (stack_part g.layout.stack.base c.end c.end)))) (sym c.1) in
-      same (left_with q') (entry_of g.layout en) b.rcode whole b.rdata stk (ef ∙ a.frames ∙ s.frames)
+      same (left_with q') (back_here g.layout en) b.rcode whole b.rdata stk (ef ∙ a.frames ∙ s.frames)
     where
       same : (x y : Back) → x.code ≡ y.code → x.whole ≡ y.whole → x.half ≡ y.half → x.stk ≡ y.stk
           → x.open_calls ≡ y.open_calls → x ≡ y
@@ -258,7 +251,7 @@ module _ (world : World) (g : Link) (linked : Linked g)
     q_at : At g linked r e Q
     q_at = record { trusted = to_r; pc = ap Mem code_is }
 
-    q_own : own_stack g.layout Q.maps ≡ Some (stack_cap (ranges_of p) (top - w - 1) (pos (top - w - 1)))
+    q_own : own_stack g.layout Q.maps ≡ Some (part_stack_cap (ranges_of p) (top - w - 1) (pos (top - w - 1)))
     q_own = called_own g linked p w top words mem fs o h k i u at s room c d seal pair
 
     q_left : left_now Q ≡ Some (top - w - g.layout.stack.base)
@@ -320,11 +313,11 @@ module _ (world : World) (g : Link) (linked : Linked g)
             → StoreIs st' mem'
             → UpTo g ow.owes (ended a.top) n (b + 100) q (kk v st')
         after v st' mem' q a store' =
-            let cap = stack_cap (ranges_of a.part) a.top (pos a.top) in
+            let cap = part_stack_cap (ranges_of a.part) a.top (pos a.top) in
             let own : own_stack g.layout q.maps ≡ Some cap =
             own_from g.layout q.maps cap a.stk refl refl (linked.stack_bases a.part a.at.trusted) in
             let end : top - w - 1 ≡ a.top =
-            a.own (stack_cap (ranges_of p) (top - w - 1) (pos (top - w - 1))) q_own in
+            a.own (part_stack_cap (ranges_of p) (top - w - 1) (pos (top - w - 1))) q_own in
             let joins : a.top + 1 ≡ top - w = omega (arith, end, room) in
             let frames : q.frames ≡ F ∷ fs = a.frames ∙ ap (λ x. F ∷ x) h.frames in
             let back = back_makes g linked a.part a.offset q a.valid a.at a.jump F fs u cap a.code a.half

@@ -2,16 +2,14 @@
 use Rattle.trusted_border.specs.declared.layout.SiteCode.{SiteCode}
 use Rattle.trusted_border.specs.declared.events.Event.TheVariants.{Called, Left}
 use Rattle.template_runs.specs.Border.{zero, by_call, Wiped}
-use Rattle.template_runs.proofs.Clean.{Clean, untold, clean_call, clean_answered, clean_wiped, first_back}
-use Rattle.template_runs.proofs.Clean.{used}
-use Rattle.template_runs.proofs.Shows.{shows_call, given_there}
+use Rattle.template_runs.proofs.Offers.{Clean, untold, clean_call, clean_answered, clean_wiped, first_back}
+use Rattle.template_runs.proofs.Offers.{used, shows_call, given_there, Owing, int_back, out_of, took}
+use Rattle.template_runs.proofs.Offers.{take_law, take_fails, flat_int, called_valid, called_stk, called_data}
+use Rattle.template_runs.proofs.Offers.{SiteHere, Pair, called_to, call_makes, here_back, at_back, At, Placed}
+use Rattle.template_runs.proofs.Offers.{inside_here, Here}
 use Rattle.std.proofs.Common.{inl, ◌≡◌, ℕ, suc, ◌+◌, ◌-◌, ◌≤◌, ℤ, pos, List, [], ◌∷◌, Option, Some, None}
 use Rattle.std.proofs.Common.{true, false, refl, sym, ap, ◌∙◌, subst, arith}
-use Rattle.template_runs.proofs.Quiet.{Owing}
 use Rattle.source_laws.proofs.Upto.{upto, failing, UpTo, go_out, spend, wipes_up, is_lower}
-use Rattle.template_runs.proofs.Taking.{int_back, out_of, took, take_law, take_fails, flat_int}
-use Rattle.template_runs.proofs.Calls.{called_valid, called_stk, called_data, SiteHere, Pair, called_to}
-use Rattle.template_runs.proofs.Calls.{call_makes, here_back, at_back}
 use Rattle.std.proofs.lemmas.Bool.{eq-eqb}
 use Rattle.cap_words.specs.declared.Word.TheVariants.{Int}
 use Rattle.cap_words.specs.declared.CapFields.{CapFields}
@@ -33,13 +31,11 @@ use Rattle.trace_tool.specs.Layout.{part_name, site_of}
 use Rattle.source_laws.proofs.Refined.{World, emit, Event, wipes, Registers, Wait, resumed, whole}
 use Rattle.proc_semantics.specs.Values.{Store}
 use Rattle.proc_semantics.specs.declared.value.Target.{Target}
-use Rattle.source_laws.specs.Seen.{Shown, Back, shown_of, outs_of}
+use Rattle.source_laws.specs.Seen.{Shown, Back, shown_of, event_outs}
 use Rattle.source_laws.specs.Wiped.{low_of}
 use Rattle.proc_semantics.specs.Marked.{lower}
 use Rattle.lcm_machine.specs.Cells.{cell, put_back}
 use Rattle.template_runs.specs.Runs.{is_inside, Makes}
-use Rattle.template_runs.proofs.Steps.{At, Placed, inside_here}
-use Rattle.template_runs.proofs.Rows.{Here}
 use Rattle.source_laws.proofs.Waiting.{IsFor, Resumes, WaitLaw}
 use Rattle.trace_tool.specs.Feed.{integer_in}
 use Rattle.template_runs.specs.Public.{IsPublic}
@@ -71,7 +67,7 @@ module _ (g : Link) (linked : Linked g) where
         → ((r : Reg) → IsPublic g (reg Q.maps.regs r)) → StoreIs st mem
         → IsFor world g linked Begins StoreIs RegsAre wt F
         → ((low : Option ℕ) → shown_of (out low) ≡ xs) → ((low : Option ℕ) → low_of (out low) ≡ low)
-        → outs_of g.layout Q (Some (Called false i (top - w) top)) ≡ xs ∷ []
+        → event_outs g.layout Q (Some (Called false i (top - w) top)) ≡ xs ∷ []
         → ((m : ℕ) → m ≤ n → (v : ℤ) (st' : Store) (mem' : ℕ → OWord) (q : OState)
         → Here g linked p w top words mem' fs q → At g linked p (k + 26 + 1) q
         → q.maps.regs.g0 ≡ Plain (Int v) → fits_64 v ≡ true → StoreIs st' mem'

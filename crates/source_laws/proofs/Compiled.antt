@@ -7,9 +7,10 @@ use Rattle.std.proofs.Common.{Option, ◌≡◌, ℕ, zero, suc, ◌+◌, ◌-�
 use Rattle.std.proofs.Common.{length, replicate, Some, None, true, refl, sym, ap, ◌∙◌, subst, arith}
 use Rattle.std.proofs.Common.{length-append}
 use Rattle.trusted_border.specs.declared.layout.SiteCode.{SiteCode}
-use Rattle.template_runs.proofs.Quiet.{Owing}
+use Rattle.template_runs.proofs.Offers.{Owing, used, At, Placed, Code, Here, SiteHere, prologue, Reads}
+use Rattle.template_runs.proofs.Offers.{epilogue, set_law, Called, Stand, stand_front, stand_back, stand_at}
+use Rattle.template_runs.proofs.Offers.{words_in, free_a0}
 use Rattle.source_laws.proofs.Upto.{upto, UpTo, spend}
-use Rattle.template_runs.proofs.Clean.{used}
 use Rattle.std.specs.Prelude.{slice_get}
 use Rattle.std.proofs.lemmas.List.{length-replicate}
 use Rattle.std.proofs.lemmas.Option.{slice_get_within}
@@ -19,7 +20,7 @@ use Rattle.lcm_isa.specs.declared.Reg.TheVariants.{Rcode, Rdata, T1, A0}
 use Rattle.lcm_isa.specs.declared.Instr.TheVariants.{Fail}
 use Rattle.lcm_machine.specs.Places.{reg}
 use Rattle.lcm_machine.specs.Table.{fits_64}
-use Rattle.lcm_machine.proofs.Goes.{set_goes}
+use Rattle.lcm_machine.proofs.Offers.{set_goes}
 use Rattle.flow_check.specs.Places.{begins_site}
 use Rattle.component_linker.specs.Parts.{PartSeen}
 use Rattle.overlay_machine.specs.declared.words.OWord.{OWord}
@@ -53,14 +54,6 @@ use Rattle.source_laws.proofs.PieceSizes.{block_size}
 use Rattle.source_laws.proofs.Placings.{called_of}
 use Rattle.source_laws.proofs.Procedures.{checks_size, checks_few, push_size, pushed_are, prologue_of}
 use Rattle.source_laws.proofs.Procedures.{epilogue_of}
-use Rattle.template_runs.proofs.Steps.{At, Placed, Code}
-use Rattle.template_runs.proofs.Rows.{Here}
-use Rattle.template_runs.proofs.Calls.{SiteHere}
-use Rattle.template_runs.proofs.Entries.{prologue, Reads}
-use Rattle.template_runs.proofs.Epilogue.{epilogue}
-use Rattle.template_runs.proofs.Data.{set_law}
-use Rattle.template_runs.proofs.Standing.{Called, Stand, stand_front, stand_back, stand_at, words_in}
-use Rattle.template_runs.proofs.Elements.{free_a0}
 use Rattle.source_laws.proofs.Evals.{Globals}
 use Rattle.source_laws.proofs.Arguments.{Pairs}
 use Rattle.source_laws.proofs.Callings.{IsPair, IsCalled, passed_public}

@@ -1,10 +1,12 @@
 -- Statements, given their expressions.
 use Rattle.source_laws.proofs.Variables.{AtPlace, EnvIn, env_same, env_set}
 use Rattle.source_laws.proofs.CallsIn.{int_public}
-use Rattle.template_runs.proofs.Data.{not_free, with_reg, with_data, set_law, dat_law, store_data_law}
-use Rattle.template_runs.proofs.Data.{mem_with}
-use Rattle.template_runs.proofs.Clean.{clean_same, used}
-use Rattle.template_runs.proofs.Quiet.{Owing}
+use Rattle.template_runs.proofs.Offers.{not_free, with_reg, with_data, set_law, dat_law, store_data_law}
+use Rattle.template_runs.proofs.Offers.{mem_with, clean_same, used, Owing, fits_small, with_at}
+use Rattle.template_runs.proofs.Offers.{length-with_at, SameBelow, get_with, get_other, At, Placed, next_pc}
+use Rattle.template_runs.proofs.Offers.{halt, inside_here, Here, load_law, store_law, Stand, stand_front}
+use Rattle.template_runs.proofs.Offers.{stand_back, words-append, words_in, free_g0, free_a0, from_element}
+use Rattle.template_runs.proofs.Offers.{jump_law, back_law, branch_goes, branch_stays}
 use Rattle.source_laws.proofs.Upto.{none_inside, go_on, upto, halting, UpTo, spend, fewer, tick_up}
 use Rattle.std.proofs.Common.{◌≡◌, ℕ, zero, suc, ◌+◌, ◌<◌, ◌≤◌, ℤ, pos, negsuc, ◌+ℤ◌, ◌-ℤ◌, List, [], ◌∷◌}
 use Rattle.std.proofs.Common.{◌++◌, length, Some, Bool, true, false, refl, sym, ap, ◌∙◌, subst, arith, ne_eqb}
@@ -19,7 +21,7 @@ use Rattle.lcm_isa.specs.declared.Instr.TheVariants.{Fail, Halt, Store as StoreT
 use Rattle.lcm_machine.specs.declared.Place.TheVariants.{R}
 use Rattle.lcm_machine.specs.Places.{reg}
 use Rattle.lcm_machine.specs.Table.{fits_64, is_zero}
-use Rattle.lcm_machine.proofs.Goes.{stays, move_goes, halt_halts}
+use Rattle.lcm_machine.proofs.Offers.{stays, move_goes, halt_halts}
 use Rattle.flow_check.specs.Holds.{data_cap}
 use Rattle.component_linker.specs.Parts.{PartSeen}
 use Rattle.overlay_machine.specs.declared.words.OWord.{OWord}
@@ -49,16 +51,9 @@ use Rattle.proc_templates.specs.Templates.{exp_words, block_words, code, at_row,
 use Rattle.proc_templates.specs.Templates.{store_var, answer, step_code, block_code}
 use Rattle.source_laws.proofs.CallSites.{StepCallsAt, BlockCallsAt}
 use Rattle.source_laws.proofs.PieceSizes.{exp_size, block_size}
-use Rattle.template_runs.proofs.Numbers.{fits_small}
-use Rattle.template_runs.proofs.Slots.{with_at, length-with_at, SameBelow, get_with, get_other}
-use Rattle.template_runs.proofs.Steps.{At, Placed, next_pc, halt, inside_here}
-use Rattle.template_runs.proofs.Rows.{Here, load_law, store_law}
-use Rattle.template_runs.proofs.Standing.{Stand, stand_front, stand_back, words-append, words_in}
 use Rattle.source_laws.specs.Fits.{Kind, AsNumber, AsPair, AsRest}
-use Rattle.template_runs.proofs.Elements.{free_g0, free_a0, from_element}
 use Rattle.source_laws.proofs.ValueRows.{index_law, reach_law}
 use Rattle.source_laws.proofs.Evals.{Globals, LawOf}
-use Rattle.template_runs.proofs.Jumps.{jump_law, back_law, branch_goes, branch_stays}
 use Rattle.template_runs.specs.Public.{IsPublic}
 
 zero_same : (v : ℤ) → is_zero v ≡ values.is_zero v

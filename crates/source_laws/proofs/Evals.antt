@@ -1,9 +1,12 @@
 -- Expressions other than calls: their values come into g0.
 use Rattle.source_laws.proofs.Variables.{AtPlace, EnvIn, NumberAt, env_same, index_is}
 use Rattle.source_laws.proofs.CallsIn.{int_public}
-use Rattle.template_runs.proofs.Quiet.{Owing}
+use Rattle.template_runs.proofs.Offers.{Owing, used, fits_small, with_at, length-with_at, SameBelow, get_with}
+use Rattle.template_runs.proofs.Offers.{get_other, At, Placed, next_pc, Here, load_law, store_law, loaded}
+use Rattle.template_runs.proofs.Offers.{with_reg, set_law, dat_law, load_data_law, mem_with, Stand}
+use Rattle.template_runs.proofs.Offers.{stand_front, stand_back, words-append, words_in, free_g0, free_g1}
+use Rattle.template_runs.proofs.Offers.{from_element}
 use Rattle.source_laws.proofs.Upto.{upto, UpTo, tick_up}
-use Rattle.template_runs.proofs.Clean.{used}
 use Rattle.std.proofs.Common.{◌≡◌, ℕ, ◌+◌, ◌-◌, ◌<◌, ◌≤◌, ℤ, pos, ◌+ℤ◌, ◌-ℤ◌, List, [], ◌∷◌, ◌++◌, length}
 use Rattle.std.proofs.Common.{Some, true, refl, sym, ap, ◌∙◌, subst, arith}
 use Rattle.std.specs.Prelude.{slice_get}
@@ -16,7 +19,7 @@ use Rattle.lcm_isa.specs.declared.Instr.TheVariants.{Fail, Move, Load}
 use Rattle.lcm_machine.specs.declared.Place.TheVariants.{R}
 use Rattle.lcm_machine.specs.Places.{reg}
 use Rattle.lcm_machine.specs.Table.{fits_64}
-use Rattle.lcm_machine.proofs.Goes.{stays, set_goes, move_goes}
+use Rattle.lcm_machine.proofs.Offers.{stays, set_goes, move_goes}
 use Rattle.flow_check.specs.Holds.{data_cap}
 use Rattle.component_linker.specs.Parts.{PartSeen}
 use Rattle.overlay_machine.specs.declared.words.OWord.{OWord}
@@ -27,7 +30,7 @@ use Rattle.overlay_machine.specs.Link.{Link, IsTrusted, ranges_of, data_region}
 use Rattle.overlay_machine.specs.Linked.{Linked}
 use Rattle.proc_program.specs.Program as run
 use Rattle.source_laws.proofs.Refined.{World, Comp, tick, Then, expr, operated, element, Frame, whole}
-use Rattle.proc_semantics.specs.Values.{Store, variable, number_in, word_at, set_word}
+use Rattle.proc_semantics.specs.Values.{Store, variable, number_in, global_word, set_word}
 use Rattle.proc_semantics.specs.declared.value.Pair.{Pair}
 use Rattle.proc_program.specs.declared.program.Place.TheVariants.{Local, Global}
 use Rattle.proc_program.specs.declared.program.Row.{Row}
@@ -39,14 +42,7 @@ use Rattle.proc_templates.specs.declared.Frame.{Frame as Shape}
 use Rattle.proc_templates.specs.Items.{Item, does}
 use Rattle.proc_templates.specs.Templates.{code, at_row, op_code, load_slot, store_slot}
 use Rattle.source_laws.proofs.CallSites.{CallsAt}
-use Rattle.template_runs.proofs.Numbers.{fits_small}
-use Rattle.template_runs.proofs.Slots.{with_at, length-with_at, SameBelow, get_with, get_other}
-use Rattle.template_runs.proofs.Steps.{At, Placed, next_pc}
-use Rattle.template_runs.proofs.Rows.{Here, load_law, store_law, loaded}
-use Rattle.template_runs.proofs.Data.{with_reg, set_law, dat_law, load_data_law, mem_with}
-use Rattle.template_runs.proofs.Standing.{Stand, stand_front, stand_back, words-append, words_in}
 use Rattle.source_laws.specs.Fits.{Kind, AsNumber, AsPair, AsRest}
-use Rattle.template_runs.proofs.Elements.{free_g0, free_g1, from_element}
 use Rattle.source_laws.proofs.ValueRows.{index_law, operator_law, reach_law}
 use Rattle.template_runs.specs.Public.{IsPublic}
 
@@ -55,9 +51,9 @@ pub record Globals (StoreIs : Store → (ℕ → OWord) → Type 0) (p : PartSee
   pub count : ℕ
   pub room : pairs + count ≤ length p.component.data_words
   pub reads : (st : Store) (mem : ℕ → OWord) (o : ℕ) → StoreIs st mem → o < count
-      → mem (p.component.data_base + (pairs + o)) ≡ Plain (Int (word_at st home o))
+      → mem (p.component.data_base + (pairs + o)) ≡ Plain (Int (global_word st home o))
   pub fits : (st : Store) (mem : ℕ → OWord) (o : ℕ) → StoreIs st mem → o < count
-      → fits_64 (word_at st home o) ≡ true
+      → fits_64 (global_word st home o) ≡ true
   pub sets : (st : Store) (mem : ℕ → OWord) (o : ℕ) (v : ℤ) → StoreIs st mem → o < count → fits_64 v ≡ true
       → StoreIs (set_word st home o v) (mem_with mem (p.component.data_base + (pairs + o)) (Plain (Int v)))
 
@@ -135,7 +131,7 @@ module _ (world : World) (g : Link) (linked : Linked g) (StoreIs : Store → (�
         → LawOf n env (run.Load (Global d)) (code s t (run.Load (Global d))) t
     global_law d t lt k c words st mem kk o st1 cs len at h e store u =
         let room = globals.room in
-        let v = word_at st f.home d in
+        let v = global_word st f.home d in
         let m : Comp = kk v st in
         let a = p.component.data_base + (s.pairs + d) in
         let small = linked.small (data_region p) (linked.data_there p ip) in
@@ -147,10 +143,10 @@ module _ (world : World) (g : Link) (linked : Linked g) (StoreIs : Store → (�
         fits_small p.component.data_base (omega (arith, ha, small)) in
         let back : pos (p.component.data_base + (s.pairs + d)) +ℤ (pos 0 -ℤ pos (s.pairs + d)) ≡ pos
         p.component.data_base = omega (arith, ints) in
-        let is : mem (p.component.data_base + (s.pairs + d)) ≡ Plain (Int (word_at st f.home d)) =
+        let is : mem (p.component.data_base + (s.pairs + d)) ≡ Plain (Int (global_word st f.home d)) =
         globals.reads st mem d store lt in
         let s1 = with_reg o Dat (Plain (Mem (data_cap (ranges_of p) (pos a)))) (next_pc g linked p k) in
-        let s2 = with_reg s1 G0 (Plain (Int (word_at st f.home d))) (next_pc g linked p (k + 1)) in
+        let s2 = with_reg s1 G0 (Plain (Int (global_word st f.home d))) (next_pc g linked p (k + 1)) in
         let e3 : k + 1 + 1 + 1 ≡ k + 3 = omega arith in
         let le1 : 1 + (2 + c) ≤ c + 200 = omega arith in
         let le2 : 1 + (1 + c) ≤ 2 + c = omega arith in
@@ -163,14 +159,14 @@ module _ (world : World) (g : Link) (linked : Linked g) (StoreIs : Store → (�
         fit_a (λ h1 at1.
         load_data_law g linked p ip s.words top fs (k + 1) (upto g ow.owes (used s.words top) n m) (2 + c)
         (1 + c) words mem s1
-        (s.pairs + d) G0 (Plain (Int (word_at st f.home d))) (free_g0 g linked) st1.1.0 at1 h1 in_data is
+        (s.pairs + d) G0 (Plain (Int (global_word st f.home d))) (free_g0 g linked) st1.1.0 at1 h1 in_data is
         refl refl (λ h2 at2.
         dat_law g linked p ip s.words top fs (k + 1 + 1) (upto g ow.owes (used s.words top) n m) (1 + c)
         c words mem s2
         (pos (p.component.data_base + (s.pairs + d))) (pos 0 -ℤ pos (s.pairs + d))
         (pos p.component.data_base) (Imm (pos 0 -ℤ pos (s.pairs + d))) st1.1.1.0 at2 h2 refl back fit_b
         (λ h3 at3.
-        u (word_at st f.home d) st mem words
+        u (global_word st f.home d) st mem words
         _ (subst (λ j. At g linked p j
         (with_reg s2 Dat (Plain (Mem (data_cap (ranges_of p) (pos p.component.data_base))))
         (next_pc g linked p (k + 1 + 1)))) e3 at3) h3
@@ -180,9 +176,10 @@ module _ (world : World) (g : Link) (linked : Linked g) (StoreIs : Store → (�
         → LawOf n env b (code s t b) t → LawOf n env (Element a b) (code s t (Element a b)) t
     element_law a b t room lb k c words st mem kk o st1 cs len at h e store u =
         tick_up g n c o
-        (expr world (whole world) f env b (λ i st. element world a i (λ d. kk (word_at st f.home d) st)) st)
+        (expr world (whole world) f env b
+        (λ i st. element world a i (λ d. kk (global_word st f.home d) st)) st)
         (lb k (c + 200) words st mem
-        (λ i st. element world a i (λ d. kk (word_at st f.home d) st)) o
+        (λ i st. element world a i (λ d. kk (global_word st f.home d) st)) o
         (stand_front g linked p end k (code s t b) _ st1) cs len at h e store after)
       where
         tail : Stand g linked p end (k + words_in (code s t b))
@@ -193,32 +190,32 @@ module _ (world : World) (g : Link) (linked : Linked g) (StoreIs : Store → (�
             → At g linked p (k + words_in (code s t b)) q → In words2 mem2 q → SameBelow t words words2
             → q.maps.regs.g0 ≡ Plain (Int x) → fits_64 x ≡ true → StoreIs st2 mem2
             → UpTo g ow.owes (used s.words top) n (c + 200) q
-            (element world a x (λ d. kk (word_at st2 f.home d) st2))
+            (element world a x (λ d. kk (global_word st2 f.home d) st2))
         after x st2 mem2 words2 q at1 h1 same ex fx store2 =
             let k1 = k + words_in (code s t b) in
             let roomd = globals.room in
             index_law world g linked p ip s.words top fs ow n failing a (k + words_in (code s t b))
             (c + 200) (7 + c) x
             words2 mem2 q (pos p.component.data_base)
-            (λ d. kk (word_at st2 f.home d) st2) tail.0 at1
+            (λ d. kk (global_word st2 f.home d) st2) tail.0 at1
             h1 ex (λ i q2 is lt h2 at2 g2 a2.
             let in_data : s.pairs + (a.first + i) < length p.component.data_words =
             omega (arith, roomd, room, lt) in
             let in_count : a.first + i < globals.count = omega (arith, room, lt) in
-            let v = word_at st2 f.home (a.first + i) in
-            let m : Comp = kk (word_at st2 f.home (a.first + i)) st2 in
+            let v = global_word st2 f.home (a.first + i) in
+            let m : Comp = kk (global_word st2 f.home (a.first + i)) st2 in
             reach_law world g linked p ip s.words top fs ow n s.pairs a.first words2 mem2 m (k1 + 8)
             (7 + c) (5 + c) i
             q2 tail.1.0 tail.1.1.0 at2 h2 g2 in_data (λ q3 h3 at3 g3 a3.
             load_data_law g linked p ip s.words top fs (k1 + 8 + 1 + 1)
             (upto g ow.owes (used s.words top) n m) (5 + c) (4 + c)
-            words2 mem2 q3 (s.pairs + (a.first + i)) G1 (Plain (Int (word_at st2 f.home (a.first + i))))
+            words2 mem2 q3 (s.pairs + (a.first + i)) G1 (Plain (Int (global_word st2 f.home (a.first + i))))
             (free_g1 g linked) tail.1.1.1.0 at3 h3 in_data
             (globals.reads st2 mem2 (a.first + i) store2 in_count) refl refl (λ h4 at4.
             from_element g linked p ip s.words top fs (s.pairs + a.first) words2 mem2
             (upto g ow.owes (used s.words top) n m)
             (k1 + 8 + 1 + 1 + 1) (4 + c) (1 + c) (s.pairs + (a.first + i))
-            (with_reg q3 G1 (Plain (Int (word_at st2 f.home (a.first + i))))
+            (with_reg q3 G1 (Plain (Int (global_word st2 f.home (a.first + i))))
             (next_pc g linked p (k1 + 8 + 1 + 1))) tail.1.1.1.1.0 tail.1.1.1.1.1.0 tail.1.1.1.1.1.1.0 at4
             h4 g3 in_data (λ q5 h5 at5 g5.
             set_law g linked p ip s.words top fs (k1 + 8 + 1 + 1 + 1 + 1 + 1 + 1)

@@ -20,8 +20,7 @@ use Rattle.proc_semantics.specs.declared.value.Target.{Target}
 use Rattle.source_laws.proofs.Refined.{World, registers_fed}
 use Rattle.proc_semantics.specs.Values.{pair_fed}
 use Rattle.template_runs.specs.Public.{IsShown}
-use Rattle.template_runs.proofs.Checks.{is_half}
-use Rattle.template_runs.proofs.Valid.{Valid}
+use Rattle.template_runs.proofs.Offers.{is_half, Valid}
 use Rattle.source_laws.proofs.Callings.{flat_reg}
 use Rattle.source_laws.proofs.Parameters.{PairIs, fed_none, fed, all_fed, RegsAre}
 

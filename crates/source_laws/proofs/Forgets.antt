@@ -31,10 +31,10 @@ use Rattle.proc_semantics.specs.Values as values
 use Rattle.proc_semantics.specs.Meaning as plain
 use Rattle.proc_semantics.specs.Fuel.{Prefix}
 use Rattle.proc_semantics.specs.Marked as marked
-use Rattle.proc_semantics.specs.Marked.{Marks, Thing, Whence, whences, numbered, plain_arg}
+use Rattle.proc_semantics.specs.Marked.{Marks, Thing, Whence, whences, numbered_items, plain_arg}
 use Rattle.proc_semantics.specs.Marked.{plain_event, plain_report, marked_meaning, thing_to, refined}
 use Rattle.proc_semantics.specs.Marked.{report_to}
-use Rattle.proc_semantics.proofs.Marked.{marked_forgets, marked_renames}
+use Rattle.proc_semantics.proofs.Offers.{marked_forgets, marked_renames}
 use Rattle.template_runs.specs.Runs.{is_inside}
 use Rattle.source_laws.specs.Trace as lines
 use Rattle.source_laws.specs.Trace.{Final, Running, Outside, HaltedWith, Failed, weighed}
@@ -86,7 +86,7 @@ module _ (l : Layout) where
       ∷ out_arg (integer_in v.a2) ∷ z ∷ []) (arg_line (integer_in v.a3) r.a3)
 
   pub outs_line : (q : OState) (e : Option Event)
-      → map event_of (seen.outs_of l q e) ≡ lines.outs_of l (flat_view l q) e
+      → map event_of (seen.event_outs l q e) ≡ lines.event_outs l (flat_view l q) e
   outs_line q None = refl
   outs_line q (Some (Called true i base last)) = refl
   outs_line q (Some (Called false i base last)) =
@@ -137,14 +137,15 @@ module _ (l : Layout) where
       by : ((q : OState) → plain_trace (seen.trace l k q) ≡ lines.trace l k q) → (e : Ending)
           → plain_trace (seen.show l o e (seen.trace l k)) ≡ lines.show l o e (lines.trace l k)
       by below (goes q) =
-          let es = seen.outs_of l q (step_event l o q) in
-          let is = seen.items_of l q (step_event l o q) in
+          let es = seen.event_outs l q (step_event l o q) in
+          let is = seen.event_items l q (step_event l o q) in
           let n = weighed (is_inside l o) (weight_of l o) in
           shown_line es is n (seen.trace l k q)
           ∙ ap (λ z. lines.shown (map event_of es) (map item_of is) n z) (below q)
           ∙ ap (λ z. lines.shown z (map item_of is) n (lines.trace l k q)) (outs_line q (step_event l o q))
-          ∙ ap (λ z. lines.shown (lines.outs_of l (flat_view l q) (step_event l o q)) z n (lines.trace l k q))
-          (things_item q (lines.items_of l (flat_view l q) (step_event l o q)))
+          ∙ ap (λ z. lines.shown (lines.event_outs l (flat_view l q) (step_event l o q)) z n
+          (lines.trace l k q))
+          (things_item q (lines.event_items l (flat_view l q) (step_event l o q)))
       by below halts = ended_line (is_inside l o) (weight_of l o) (HaltedWith ((flat_view l o).reg A0))
       by below fails = ended_line (is_inside l o) (weight_of l o) Failed
 
@@ -162,7 +163,7 @@ prefix_line out r h =
     (map event_of h.0, events_line r.events ∙ ap (map event_of) h.1 ∙ map-both event_of out h.0)
 
 fits_line : (x : Final) (out : List Shown) (r : Report) → Fits x out r
-    → good.Fits x (map event_of out) (plain_report r)
+    → good.TellsFinal x (map event_of out) (plain_report r)
 fits_line Running out r h = prefix_line out r h
 fits_line Outside out r h = (h.0, events_line r.events ∙ ap (map event_of) h.1)
 fits_line (HaltedWith w) out r h = (h.0, h.1, h.2, events_line r.events ∙ ap (map event_of) h.3)
@@ -187,10 +188,10 @@ pub record Starts (world : World) (stack : ℕ) (t : Trace) : Type 0 where
       × (t.out ≡ events_of (marked_meaning OWord Entry world.marks world.parts stack t.items f) ++ rest))
 
 pub forgets : (world : World) (stack : ℕ) (t : Trace) → Starts world stack t
-    → good.Agrees 0 (plain_trace t) (λ fuel feed. plain.meaning world.parts stack feed fuel)
+    → good.MeaningAgrees 0 (plain_trace t) (λ fuel feed. plain.meaning world.parts stack feed fuel)
 forgets world stack t a = record {
   enough = a.enough;
-  fits = λ f le. subst (good.Fits t.final (map event_of t.out)) (same f)
+  fits = λ f le. subst (good.TellsFinal t.final (map event_of t.out)) (same f)
       (fits_line t.final t.out (marked_meaning OWord Entry world.marks world.parts stack t.items f)
       (a.fits f le));
   slow = λ f lt. subst (λ z. (z.end ≡ OutOfFuel) × Prefix z.events (map event_of t.out)) (same f) (
@@ -223,8 +224,8 @@ shown_shown es fs is ks n m t =
 
 module _ (l : Layout) where
   pub trace_step : (k : ℕ) (p q : OState) → overlay_step l p ≡ goes q
-      → seen.trace l (suc k) p ≡ seen.shown (seen.outs_of l q (step_event l p q))
-      (seen.items_of l q (step_event l p q)) (weighed (is_inside l p) (weight_of l p)) (seen.trace l k q)
+      → seen.trace l (suc k) p ≡ seen.shown (seen.event_outs l q (step_event l p q))
+      (seen.event_items l q (step_event l p q)) (weighed (is_inside l p) (weight_of l p)) (seen.trace l k q)
   unfolding seen.trace
   trace_step k p q e = ap (λ x. seen.show l p x (seen.trace l k)) e
 
@@ -251,8 +252,8 @@ module _ (l : Layout) where
         λ k. (
             let a : r.0 + 1 + k ≡ r.0 + suc k = omega arith in
             ap (λ x. seen.trace l x o) a ∙ r.2 (suc k) ∙ ap (seen.shown es is r.1) (trace_step k p q e)
-            ∙ shown_shown es (seen.outs_of l q (step_event l p q)) is
-            (seen.items_of l q (step_event l p q)) r.1 (weighed (is_inside l p) (weight_of l p))
+            ∙ shown_shown es (seen.event_outs l q (step_event l p q)) is
+            (seen.event_items l q (step_event l p q)) r.1 (weighed (is_inside l p) (weight_of l p))
             (seen.trace l k q)
             ),
       )
@@ -308,8 +309,8 @@ four_both : (xs ys : List (Thing OWord Entry)) → Four xs → Four ys → Four 
 four_both [] ys h g = g
 four_both (x ∷ xs) ys h g = (h.0, four_both xs ys h.1 g)
 
-four_items : (l : Layout) (q : OState) (e : Option Event) → Four (seen.items_of l q e)
-four_items l q e = by (lines.items_of l (flat_view l q) e)
+four_items : (l : Layout) (q : OState) (e : Option Event) → Four (seen.event_items l q e)
+four_items l q e = by (lines.event_items l (flat_view l q) e)
   where
     one : (i : Item) → IsFour (thing_of l q i).words
     one (Enter part name left ints pairs back) =
@@ -324,7 +325,7 @@ four_told : (l : Layout) (o : OState) (es : List Shown) (is : List (Thing OWord 
     → Tells l o es is p → Four is
 four_told l o _ _ _ none_yet = tt
 four_told l o _ _ q (and_then {es = es} {is = is} {p = p} s e) =
-    four_both is (seen.items_of l q (step_event l p q)) (four_told l o es is p s)
+    four_both is (seen.event_items l q (step_event l p q)) (four_told l o es is p s)
     (four_items l q (step_event l p q))
 
 words_behind : (pre : List (Thing OWord Entry)) (x : Thing OWord Entry) (suf : List (Thing OWord Entry))
@@ -353,7 +354,7 @@ module _ (marks : Marks OWord) where
       ∙ sym e.4
 
   things_back : (pre suf : List (Thing OWord Entry)) (k : ℕ) → length pre ≡ k → Four suf
-      → map (back (pre ++ suf)) (numbered k (map item_of suf)) ≡ suf
+      → map (back (pre ++ suf)) (numbered_items k (map item_of suf)) ≡ suf
   things_back pre [] k e h = refl
   things_back pre (x ∷ suf) k e h =
       let at : words_at (pre ++ x ∷ suf) k ≡ x.words =
@@ -367,10 +368,11 @@ module _ (marks : Marks OWord) where
       let en : back_at (pre ++ x ∷ suf) k ≡ x.entry =
       ap (back_at (pre ++ x ∷ suf)) (sym e) ∙ back_behind pre x suf in
       ap (λ z. record { item = x.item; words = z; entry = back_at (pre ++ x ∷ suf) k }
-      ∷ map (back (pre ++ x ∷ suf)) (numbered (k + 1) (map item_of suf))) ws
+      ∷ map (back (pre ++ x ∷ suf)) (numbered_items (k + 1) (map item_of suf))) ws
       ∙ ap (λ z. record { item = x.item; words = x.words; entry = z }
-      ∷ map (back (pre ++ x ∷ suf)) (numbered (k + 1) (map item_of suf))) en
-      ∙ ap (λ z. x ∷ map (back z) (numbered (k + 1) (map item_of suf))) (sym (append_assoc pre (x ∷ []) suf))
+      ∷ map (back (pre ++ x ∷ suf)) (numbered_items (k + 1) (map item_of suf))) en
+      ∙ ap (λ z. x ∷ map (back z) (numbered_items (k + 1) (map item_of suf)))
+      (sym (append_assoc pre (x ∷ []) suf))
       ∙ ap (λ z. x ∷ z) (things_back (pre ++ x ∷ []) suf (k + 1) len h.1)
     where
       long : (pre : List (Thing OWord Entry)) (k : ℕ) → length pre ≡ k → length (pre ++ x ∷ []) ≡ k + 1
@@ -385,7 +387,7 @@ module _ (marks : Marks OWord) where
       ≡ marked_meaning OWord Entry marks world stack is f
   whence_same world stack l o es is p tells f =
       marked_renames Whence ℕ OWord Entry (word_from marks is) (back_at is) whences world stack
-      (numbered 0 (map item_of is)) f
+      (numbered_items 0 (map item_of is)) f
       ∙ ap (λ z. marked_meaning OWord Entry marks world stack z f)
       (things_back [] is 0 refl (four_told l o es is p tells))
 

@@ -10,7 +10,7 @@ use Rattle.lcm_isa.specs.declared.Reg.TheVariants.{Pc, Dat, Stk, Rcode, Rdata, A
 use Rattle.lcm_machine.specs.declared.Place.TheVariants.{R}
 use Rattle.lcm_machine.specs.Places.{reg}
 use Rattle.lcm_machine.specs.Cells.{cell}
-use Rattle.flow_check.specs.Holds.{stack_cap as stack_at, data_cap, PcAt}
+use Rattle.flow_check.specs.Holds.{part_stack_cap as stack_at, data_cap, PcAt}
 use Rattle.component_linker.specs.Parts.{PartSeen}
 use Rattle.component_linker.specs.declared.owners.Owner.{Owner}
 use Rattle.trusted_border.specs.declared.events.Event.TheVariants.{Left}
@@ -27,40 +27,31 @@ use Rattle.overlay_machine.specs.Events.{owner_now, step_event}
 use Rattle.overlay_machine.specs.Link.{Link, IsTrusted, ranges_of}
 use Rattle.overlay_machine.specs.Safe.{IsMet, IsSafe}
 use Rattle.overlay_machine.specs.Linked.{Linked}
-use Rattle.overlay_machine.proofs.OwnStack.{own_from}
-use Rattle.overlay_machine.proofs.invariant.FrameFacts.{frame_none}
+use Rattle.overlay_machine.proofs.Offers.{own_from, frame_none, Returned}
 use Rattle.trace_tool.specs.Layout.{part_name}
 use Rattle.trace_tool.specs.Views.{flat_view}
-use Rattle.source_laws.specs.Seen.{words_of, left_shown, left_with, entry_of}
+use Rattle.source_laws.specs.Seen.{words_of, left_shown, left_with, back_here}
 use Rattle.source_laws.proofs.Refined.{single, World, registers_fed, Comp, ends, Registers, Then, hopped}
 use Rattle.source_laws.proofs.Refined.{left_by, part_of, on_item, entered, whole, recursive}
 use Rattle.proc_semantics.specs.Values.{Store}
 use Rattle.proc_semantics.specs.declared.value.Target.{Target}
 use Rattle.proc_semantics.specs.Marked.{Leaves}
 use Rattle.source_events.specs.declared.End.TheVariants.{Fail as Fails}
-use Rattle.overlay_machine.proofs.invariant.ReturnKept.{Returned}
 use Rattle.flow_check.specs.Places.{begins_entry}
 use Rattle.template_runs.specs.Border.{GivesBack, Shows, by_leave}
-use Rattle.template_runs.proofs.Clean.{none, untold, ended}
-use Rattle.template_runs.proofs.Shows.{shows_leave, pair_left, half_is}
-use Rattle.template_runs.proofs.Outside.{outside_here, Out, SameData}
-use Rattle.template_runs.proofs.Back.{TrustedOut, Tells, fails_bad, goes_out, tells, goes_in}
-use Rattle.template_runs.proofs.Quiet.{Owing, Among, depth}
+use Rattle.template_runs.proofs.Offers.{none, untold, ended, shows_leave, pair_left, half_is, outside_here}
+use Rattle.template_runs.proofs.Offers.{Out, SameData, TrustedOut, Tells, fails_bad, goes_out, tells, goes_in}
+use Rattle.template_runs.proofs.Offers.{Owing, Among, depth, Valid, At, inside_here, DataIs, weight_small}
+use Rattle.template_runs.proofs.Offers.{mixed, Named}
 use Rattle.source_laws.proofs.Upto.{UpTo, go_on, go_out, go_fail, spend, in_frame, stack_top, end_of}
-use Rattle.template_runs.proofs.Valid.{Valid}
-use Rattle.template_runs.proofs.Steps.{At, inside_here}
-use Rattle.template_runs.proofs.Rows.{DataIs}
 use Rattle.source_laws.proofs.Waits.{enter_item, ret_item, outside_law}
 use Rattle.source_laws.proofs.CallsIn.{SameEntry, given_back, left_same as gives_same, hopped_entry}
 use Rattle.source_laws.proofs.CallsIn.{shown_public, kept_public, AtEnd, ProcLaw, left_now, hops}
 use Rattle.source_laws.proofs.CallsIn.{leaves_wiped}
-use Rattle.template_runs.proofs.Ends.{weight_small}
-use Rattle.template_runs.proofs.Mixed.{mixed}
 use Rattle.source_laws.proofs.Waiting.{Meets, left_same}
 use Rattle.source_events.specs.Left.{left_in}
 use Rattle.trace_tool.specs.Feed.{integer_in, integers_in, feed_pairs}
 use Rattle.trace_tool.specs.Pairs.{pairs_of}
-use Rattle.template_runs.proofs.Named.{Named}
 use Rattle.trace_tool.specs.Lines.{args_of, feed_back}
 use Rattle.template_runs.specs.Public.{IsShown, IsSharedAt}
 use Rattle.source_events.specs.declared.OutArg.TheVariants as arg
@@ -80,7 +71,7 @@ module _ (world : World) (g : Link) (linked : Linked g) (Begins : Target → Par
       → (a : AtEnd world g linked Begins StoreIs RegsAre p o q v mem) → StoreIs st mem
       → ((w : Owner) → owner_now g.layout q ≡ Some w → part_name g.layout w.part ≡ part_of world t.home)
       → UpTo g (en ∷ []) (ended a.top) n (c + 100) q
-      (left_by world (whole world) (part_of world t.home) None (entry_of g.layout en)
+      (left_by world (whole world) (part_of world t.home) None (back_here g.layout en)
       (left_now world g linked Begins StoreIs RegsAre o)
       (feed_back g.layout (back_of g.layout ((flat_view g.layout o).reg Rcode)
       ((flat_view g.layout o).reg Rdata))) v st)
@@ -124,7 +115,7 @@ module _ (world : World) (g : Link) (linked : Linked g) (Begins : Target → Par
             let rs = registers_fed world (words_of q) (integers_in (args_of vw))
             (feed_pairs g.layout (pairs_of g.layout vw)) in
             let bk = feed_back g.layout (back_of g.layout (vw.reg Rcode) (vw.reg Rdata)) in
-            let kk : Then = left_by world (whole world) (part_of world x.0.home) None (entry_of g.layout q)
+            let kk : Then = left_by world (whole world) (part_of world x.0.home) None (back_here g.layout q)
             (left_now world g linked Begins StoreIs RegsAre q) bk in
             let at : At g linked p k q = record { trusted = ip; pc = pc } in
             let kept : DataIs g linked mem q.maps.cells =
@@ -143,12 +134,12 @@ module _ (world : World) (g : Link) (linked : Linked g) (Begins : Target → Par
             }) (same ∙ fr) a store'
             (meets.told x.0 p k q r val mem' x.2 a)) in
             subst (λ y. UpTo g (q ∷ []) (untold 0 (stack_top g q)) n c q
-            (entered world (whole world) None y (entry_of g.layout q)
+            (entered world (whole world) None y (back_here g.layout q)
             (left_in g.layout.stack.base (vw.reg Stk)) rs bk st))
             (sym x.1)
             (subst (λ l. UpTo g (q ∷ []) (untold 0 (stack_top g q)) n c q
             ((whole world).proc x.0 l rs (left_by world (whole world) (part_of world x.0.home) None
-            (entry_of g.layout q) l bk)
+            (back_here g.layout q) l bk)
             st)) (sym (left_same world g linked Begins StoreIs RegsAre q)) done)
 
     pub idle_leave_law : (n : ℕ) → ProcLaw world g linked Begins StoreIs RegsAre n → IdleLeaveLaw n
@@ -159,7 +150,7 @@ module _ (world : World) (g : Link) (linked : Linked g) (Begins : Target → Par
         (by_words q.maps.regs.rcode q.maps.regs.rdata refl refl)
       where
         told : Back → Comp
-        told b = left_by world (whole world) (part_of world t.home) None (entry_of g.layout en)
+        told b = left_by world (whole world) (part_of world t.home) None (back_here g.layout en)
             (left_now world g linked Begins StoreIs RegsAre o) (feed_back g.layout b) v st
 
         B : Back
@@ -293,7 +284,7 @@ module _ (world : World) (g : Link) (linked : Linked g) (Begins : Target → Par
             let lv = leaving c st2 mem2 t' r en q' q2 v2 entry' fr' a2 store2
             (meets.told t' r e q' q2 v2 mem2 bs a2) in
             subst (UpTo g (en ∷ []) (ended a2.top) n (c + 100) q2)
-            (ap (λ z. left_by world (whole world) (part_of world t'.home) None (entry_of g.layout en)
+            (ap (λ z. left_by world (whole world) (part_of world t'.home) None (back_here g.layout en)
             (left_now world g linked Begins StoreIs RegsAre q') (feed_back g.layout z) v2 st2) again
             ∙ ap (λ z. hopped world (whole world) None (left_now world g linked Begins StoreIs RegsAre q') z
             v2 st2) fd
@@ -329,11 +320,11 @@ module _ (world : World) (g : Link) (linked : Linked g) (Begins : Target → Par
             subst (λ z. UpTo g (en ∷ []) (ended a.top) (suc n) (c + 100) q (told z)) (sym (eb ∙ b))
             (spend g (suc n) (1 + c) (c + 100) q (told OutBack) less
             (go_out g n 1 c (Some (Left l.owner.part))
-            (λ low. Leaves (part_of world t.home) v low (entry_of g.layout en))
+            (λ low. Leaves (part_of world t.home) v low (back_here g.layout en))
             (record {
               event = LeaveOut (part_of world t.home) (arg.Int v);
               went = None;
-              back = Some (entry_of g.layout en);
+              back = Some (back_here g.layout en);
             }) q q'
             ((whole world).wait None st) l.makes (λ low. refl) (λ low. refl) shows refl
             (outside_here g linked q' l.out) (shown_left x y ex ey q' l)

@@ -6,7 +6,7 @@ use Rattle.source_events.specs.declared.OutEvent.TheVariants.{CallOut, LeaveOut}
 use Rattle.source_events.specs.declared.End.{End}
 use Rattle.source_events.specs.Outs.{LeaveIntegers}
 use Rattle.proc_semantics.specs.Values.{World}
-use Rattle.proc_semantics.proofs.Leaves.{meanings_leave}
+use Rattle.proc_semantics.proofs.Offers.{meanings_leave}
 use Rattle.source_laws.specs.Sources.{MeaningEnds, MeaningBegins}
 
 of_front : (xs ys : List OutEvent) → LeaveIntegers (xs ++ ys) → LeaveIntegers xs

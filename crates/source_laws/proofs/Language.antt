@@ -33,21 +33,17 @@ use Rattle.proc_program.specs.Limits.{arg_registers}
 use Rattle.proc_templates.specs.Items.{Item, does, site as a_site}
 use Rattle.proc_templates.specs.Templates.{code, args_code, load_args, load_pair, zeros, arguments, argument}
 use Rattle.proc_templates.specs.Templates.{step_code, block_code}
-use Rattle.source_laws.specs.Fits.{HandleFits, ExpFits, ArgsFit, StepFits, BlockFits, Kind, AsNumber, AsPair}
+use Rattle.source_laws.specs.Fits.{HandleInside, ExpFits, ArgsFit, StepFits, BlockFits, Kind, AsNumber}
+use Rattle.source_laws.specs.Fits.{AsPair}
 use Rattle.source_laws.specs.Fits.{AsRest}
 use Rattle.source_laws.specs.Sites.{SiteIs}
 use Rattle.source_laws.proofs.CallSites.{StepCallsAt, BlockCallsAt}
-use Rattle.template_runs.proofs.Quiet.{Owing}
+use Rattle.template_runs.proofs.Offers.{Owing, used, At, Placed, Here, SameBelow, SiteHere, Called, Stand}
+use Rattle.template_runs.proofs.Offers.{stand_front, stand_back, words-append, words_in, free_c1, free_c2}
+use Rattle.template_runs.proofs.Offers.{free_g0, free_g1, free_g2}
 use Rattle.source_laws.proofs.Upto.{UpTo, spend, tick_up}
-use Rattle.template_runs.proofs.Clean.{used}
-use Rattle.template_runs.proofs.Steps.{At, Placed}
-use Rattle.template_runs.proofs.Rows.{Here}
-use Rattle.template_runs.proofs.Slots.{SameBelow}
-use Rattle.template_runs.proofs.Calls.{SiteHere}
 use Rattle.source_laws.proofs.CallsIn.{ProcLaw}
 use Rattle.source_laws.proofs.Waiting.{WaitLaw}
-use Rattle.template_runs.proofs.Standing.{Called, Stand, stand_front, stand_back, words-append, words_in}
-use Rattle.template_runs.proofs.Elements.{free_c1, free_c2, free_g0, free_g1, free_g2}
 use Rattle.source_laws.proofs.Evals.{Globals, LawOf, number_law, local_law, global_law, element_law}
 use Rattle.source_laws.proofs.Evals.{binary_law}
 use Rattle.source_laws.proofs.Doings.{Evals, Does, set_local_law, set_global_law, set_at_law, do_law}
@@ -127,7 +123,7 @@ module _ (world : World) (g : Link) (linked : Linked g) (Begins : Target → Par
   -- ---- which programs fit their frame
 
   abbrev Fits : Handle → Type 0
-  Fits = HandleFits kinds s.words s.temps globals.count pairs.imported pairs.owned pairs.shared
+  Fits = HandleInside kinds s.words s.temps globals.count pairs.imported pairs.owned pairs.shared
 
   abbrev pub ExpThere : ℕ → Exp → Type 0
   ExpThere = ExpFits kinds s.words s.temps globals.count pairs.imported pairs.owned pairs.shared

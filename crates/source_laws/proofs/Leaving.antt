@@ -13,7 +13,7 @@ use Rattle.lcm_isa.specs.declared.Instr.TheVariants.{Xjmp}
 use Rattle.lcm_machine.specs.declared.Place.TheVariants.{R}
 use Rattle.lcm_machine.specs.Cells.{cell, put_back}
 use Rattle.lcm_machine.specs.Table.{ask, need}
-use Rattle.flow_check.specs.Holds.{stack_cap as stack_at}
+use Rattle.flow_check.specs.Holds.{part_stack_cap as stack_at}
 use Rattle.component_linker.specs.Parts.{PartSeen}
 use Rattle.trusted_border.specs.declared.layout.SiteCode.{SiteCode}
 use Rattle.trusted_border.specs.declared.events.Event.TheVariants.{Left, Returned as ReturnedTo}
@@ -35,9 +35,8 @@ use Rattle.std.specs.List.{Contains}
 use Rattle.overlay_machine.specs.Safe.{IsMet, IsSafe}
 use Rattle.overlay_machine.specs.Invariant.{FrameLies, FramesLie}
 use Rattle.overlay_machine.specs.Linked.{Linked}
-use Rattle.overlay_machine.proofs.OwnStack.{own_from}
-use Rattle.overlay_machine.proofs.invariant.FrameFacts.{contains_first, frame_in, frame_of-cons, lies_of}
-use Rattle.overlay_machine.proofs.invariant.FrameFacts.{below_all}
+use Rattle.overlay_machine.proofs.Offers.{own_from, contains_first, frame_in, frame_of-cons, lies_of}
+use Rattle.overlay_machine.proofs.Offers.{below_all}
 use Rattle.trace_tool.specs.Layout.{part_name, site_of}
 use Rattle.trace_tool.specs.Views.{flat_view}
 use Rattle.source_laws.proofs.Refined.{single, wipes, World, Comp, ends, Registers, Then, resumed, returned}
@@ -45,35 +44,28 @@ use Rattle.source_laws.proofs.Refined.{hopped, left_by, part_of, whole, recursiv
 use Rattle.proc_semantics.specs.Values.{Store}
 use Rattle.proc_semantics.specs.declared.value.Target.{Target}
 use Rattle.proc_semantics.specs.Marked.{Leaves}
-use Rattle.source_laws.specs.Seen.{left_shown, left_with, entry_of}
+use Rattle.source_laws.specs.Seen.{left_shown, left_with, back_here}
 use Rattle.source_events.specs.declared.End.TheVariants.{Fail as Fails}
 use Rattle.trace_tool.specs.Lines.{feed_back}
 use Rattle.template_runs.specs.Runs.{is_inside}
 use Rattle.call_sequence.specs.declared.TheConstants.{CALL_WORDS, RETURN_WORDS}
 use Rattle.lcm_machine.specs.Runs.{code_cap}
-use Rattle.template_runs.proofs.Quiet.{Owing, Among, depth}
+use Rattle.template_runs.proofs.Offers.{Owing, Among, depth, untold, ended, clean_pending, shows_leave}
+use Rattle.template_runs.proofs.Offers.{pair_left, half_is, outside_here, TrustedOut, Tells, fails_bad}
+use Rattle.template_runs.proofs.Offers.{goes_out, tells, goes_in, Valid, At, Placed, inside_here, DataIs}
+use Rattle.template_runs.proofs.Offers.{back_valid, weight_small, case_is, resumed_to, back_makes}
+use Rattle.template_runs.proofs.Offers.{back_returned, mixed, Named}
 use Rattle.source_laws.proofs.Upto.{in_frame, Carries, stack_top, end_of, UpTo, go_on, go_out, go_silent}
 use Rattle.source_laws.proofs.Upto.{go_fail, spend}
 use Rattle.overlay_machine.specs.Events.{step_event}
 use Rattle.template_runs.specs.Border.{GivesBack, Shows, by_leave, zero}
-use Rattle.template_runs.proofs.Clean.{untold, ended, clean_pending}
-use Rattle.template_runs.proofs.Shows.{shows_leave, pair_left, half_is}
-use Rattle.template_runs.proofs.Outside.{outside_here}
-use Rattle.template_runs.proofs.Back.{TrustedOut, Tells, fails_bad, goes_out, tells, goes_in}
-use Rattle.template_runs.proofs.Valid.{Valid}
-use Rattle.template_runs.proofs.Steps.{At, Placed, inside_here}
-use Rattle.template_runs.proofs.Rows.{DataIs}
 use Rattle.source_laws.proofs.CallsIn.{given_back, left_same as gives_same, hopped_entry, shown_public}
 use Rattle.source_laws.proofs.CallsIn.{kept_public, ProcLaw, left_now, hops, leaves_wiped}
-use Rattle.template_runs.proofs.Ends.{back_valid, weight_small, case_is, resumed_to, back_makes}
-use Rattle.template_runs.proofs.Ends.{back_returned}
-use Rattle.template_runs.proofs.Mixed.{mixed}
 use Rattle.source_laws.proofs.Waiting.{Meets, WaitLaw, LeaveLaw}
 use Rattle.source_events.specs.declared.OutArg.TheVariants as arg
 use Rattle.source_events.specs.declared.OutEvent.TheVariants.{LeaveOut}
 use Rattle.source_events.specs.Outs.{out_arg}
 use Rattle.trace_tool.specs.Feed.{integer_in}
-use Rattle.template_runs.proofs.Named.{Named}
 
 module _ (g : Link) (linked : Linked g) (p : PartSeen) (k : ℕ) (q : OState) (v : Valid g linked q)
     (at : At g linked p k q) (h : Placed g linked p k (Xjmp Rcode Rdata)) (i j : ℕ)
@@ -137,7 +129,7 @@ module _ (world : World) (g : Link) (linked : Linked g) (Begins : Target → Par
         (by_words q.maps.regs.rcode q.maps.regs.rdata refl refl)
       where
         told : Back → Comp
-        told b = left_by world (whole world) (part_of world t.home) (Some w) (entry_of g.layout en)
+        told b = left_by world (whole world) (part_of world t.home) (Some w) (back_here g.layout en)
             (left_now world g linked Begins StoreIs RegsAre o) (feed_back g.layout b) v st
 
         B : Back
@@ -322,7 +314,7 @@ module _ (world : World) (g : Link) (linked : Linked g) (Begins : Target → Par
             let lv = leaving c w f fs ow st2 mem2 t' r en q' q2 v2 entry' fr' for a2 store2
             (meets.told t' r e q' q2 v2 mem2 bs a2) (λ m le. back m (omega (arith, le))) in
             subst (UpTo g (en ∷ ow.owes) (ended a2.top) n (c + 100) q2)
-            (ap (λ z. left_by world (whole world) (part_of world t'.home) (Some w) (entry_of g.layout en)
+            (ap (λ z. left_by world (whole world) (part_of world t'.home) (Some w) (back_here g.layout en)
             (left_now world g linked Begins StoreIs RegsAre q') (feed_back g.layout z) v2 st2) again
             ∙ ap (λ z. hopped world (whole world) (Some w) (left_now world g linked Begins StoreIs RegsAre q')
             z
@@ -360,11 +352,11 @@ module _ (world : World) (g : Link) (linked : Linked g) (Begins : Target → Par
             subst (λ z. UpTo g (en ∷ ow.owes) (ended a.top) (suc n) (c + 100) q (told z)) (sym (eb ∙ b))
             (spend g (suc n) (1 + c) (c + 100) q (told Out) less
             (go_out g n 1 c (Some (Left l.owner.part))
-            (λ low. Leaves (part_of world t.home) v low (entry_of g.layout en))
+            (λ low. Leaves (part_of world t.home) v low (back_here g.layout en))
             (record {
               event = LeaveOut (part_of world t.home) (arg.Int v);
               went = None;
-              back = Some (entry_of g.layout en);
+              back = Some (back_here g.layout en);
             }) q q'
             ((whole world).wait (Some w) st) l.makes (λ low. refl) (λ low. refl) shows refl
             (outside_here g linked q' l.out) (shown_left x y ex ey q' l)

@@ -34,3 +34,4 @@ pub mod Secrets
 pub mod Alike
 pub mod Wipes
 pub mod Wiped
+pub mod Offers

@@ -2,7 +2,10 @@
 use Rattle.source_laws.proofs.Refined.{World, Way, Registers, handed as handed_registers}
 use Rattle.source_laws.proofs.Refined.{single as single_registers, first_mark, rest_marks, taken_marks, Comp}
 use Rattle.source_laws.proofs.Refined.{ends}
-use Rattle.template_runs.proofs.Clean.{Live}
+use Rattle.template_runs.proofs.Offers.{Live, At, Placed, Code, next_pc, stop, Here, Free, is_half}
+use Rattle.template_runs.proofs.Offers.{fail_pc_law, at_fail, half_goes, half_fails, half_tested, Away}
+use Rattle.template_runs.proofs.Offers.{with_reg, set_law, Stand, guarded, words_in, free_t2, free_a0}
+use Rattle.template_runs.proofs.Offers.{free_a1, free_a2, free_a3, none_fits}
 use Rattle.source_laws.proofs.Upto.{upto, failing as failing_runs, UpTo, spend}
 use Rattle.std.proofs.Common.{◌≡◌, ◌≢◌, ◌⊎◌, inl, inr, ℕ, zero, suc, ◌+◌, ◌-◌, ◌<◌, ◌≤◌, ℤ, pos, ◌+ℤ◌, List}
 use Rattle.std.proofs.Common.{[], ◌∷◌, ◌++◌, length, map, replicate, Option, Some, None, Bool, true, false}
@@ -24,8 +27,7 @@ use Rattle.lcm_machine.specs.Maps.{Regs}
 use Rattle.lcm_machine.specs.Places.{reg}
 use Rattle.lcm_machine.specs.Table.{fits_64, ask, need}
 use Rattle.lcm_machine.specs.Row.{row, failed, plan_in, pc_at}
-use Rattle.lcm_machine.proofs.RegLemmas.{cases_reg}
-use Rattle.lcm_machine.proofs.Goes.{shows, plus_goes, set_goes}
+use Rattle.lcm_machine.proofs.Offers.{cases_reg, shows, plus_goes, set_goes}
 use Rattle.component_linker.specs.Parts.{PartSeen}
 use Rattle.overlay_machine.specs.declared.words.OWord.{OWord}
 use Rattle.overlay_machine.specs.declared.words.OWord.TheVariants.{Plain, RetCode, RetData}
@@ -43,13 +45,6 @@ use Rattle.proc_semantics.specs.Values.{register_of, first_of, rest_of}
 use Rattle.proc_templates.specs.Items.{Item}
 use Rattle.proc_templates.specs.Templates.{argument, check_half, check_params}
 use Rattle.source_laws.proofs.Handed.{places, handed, then_hold, number_first, pair_first}
-use Rattle.template_runs.proofs.Steps.{At, Placed, Code, next_pc, stop}
-use Rattle.template_runs.proofs.Rows.{Here, Free}
-use Rattle.template_runs.proofs.Checks.{is_half, fail_pc_law, at_fail, half_goes, half_fails, half_tested}
-use Rattle.template_runs.proofs.Data.{Away, with_reg, set_law}
-use Rattle.template_runs.proofs.Standing.{Stand, guarded, words_in}
-use Rattle.template_runs.proofs.Elements.{free_t2, free_a0, free_a1, free_a2, free_a3}
-use Rattle.template_runs.proofs.Entries.{none_fits}
 use Rattle.source_laws.proofs.Arguments.{Holding, with_other, with_same, argument_spare}
 use Rattle.source_laws.proofs.Callings.{IsPair, Passed, no_more, one_more, two_more, filled}
 use Rattle.trace_tool.specs.Feed.{integer_in}

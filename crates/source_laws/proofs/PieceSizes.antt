@@ -6,8 +6,8 @@ use Rattle.proc_templates.specs.Items.{Item, does, guards, goes, goes_if, finish
 use Rattle.proc_templates.specs.Items.{leaves}
 use Rattle.proc_templates.specs.Free.{behind, after}
 use Rattle.proc_templates.specs.Templates.{code, block_code, exp_words, block_words}
-use Rattle.proc_templates.proofs.Sizes.{Long, code-size, block-size}
-use Rattle.template_runs.proofs.Standing.{words_of, words_in}
+use Rattle.proc_templates.proofs.Offers.{Long, code-size, block-size}
+use Rattle.template_runs.proofs.Offers.{words_of, words_in}
 
 pub behind-words : (o : ℕ) (x : Item) → behind o x ≡ o + words_of x
 behind-words o (does i) = omega arith

@@ -6,7 +6,7 @@ use Rattle.cap_words.specs.declared.Word.{Word}
 use Rattle.cap_words.specs.declared.Word.TheVariants.{Int, Mem, Seal, Sealed}
 use Rattle.lcm_isa.specs.declared.Instr.{Instr}
 use Rattle.lcm_isa.specs.Numbers.{number_of, IsInstr}
-use Rattle.lcm_isa.proofs.NumberLemmas.{number_of-decode_of, decode_of-fits}
+use Rattle.lcm_isa.proofs.Offers.{number_of-decode_of, decode_of-fits}
 use Rattle.flow_check.specs.Places.{begins_site}
 use Rattle.flow_check.specs.Walk.{instr_at, instr_in}
 use Rattle.component_linker.specs.Parts.{PartSeen}
@@ -14,7 +14,7 @@ use Rattle.trusted_border.specs.declared.layout.SiteCode.{SiteCode}
 use Rattle.trusted_border.specs.Layout.{site_at}
 use Rattle.overlay_machine.specs.Link.{Link, IsTrusted}
 use Rattle.overlay_machine.specs.Linked.{Linked}
-use Rattle.overlay_machine.proofs.invariant.View.{site_of}
+use Rattle.overlay_machine.proofs.Offers.{site_of}
 use Rattle.trace_tool.specs.Layout.{site_of as numbered_site}
 use Rattle.proc_templates.specs.Items.{Spot, Item, does, guards, goes, goes_if, finishes, label, site, entry}
 use Rattle.proc_templates.specs.Items.{leaves, zero_of, wiped, leading, FAIL_AT}
@@ -23,11 +23,8 @@ use Rattle.call_sequence.specs.Sequences.{distance}
 use Rattle.lcm_isa.specs.declared.Reg.TheVariants.{Pc, Rcode, Rdata, T2}
 use Rattle.lcm_isa.specs.declared.Operand.TheVariants.{R, Imm}
 use Rattle.lcm_isa.specs.declared.Instr.TheVariants.{Move, Cca, Jmp, Jnz, Xjmp}
-use Rattle.proc_templates.proofs.Onwards.{Stands}
-use Rattle.proc_templates.proofs.Carried.{Run, Starts, Here, Carries}
-use Rattle.template_runs.proofs.Calls.{SiteHere}
-use Rattle.template_runs.proofs.Steps.{Placed, Code}
-use Rattle.template_runs.proofs.Standing.{Called, One, Stand}
+use Rattle.proc_templates.proofs.Offers.{Stands, Run, Starts, Here, Carries}
+use Rattle.template_runs.proofs.Offers.{SiteHere, Placed, Code, Called, One, Stand}
 use Rattle.source_laws.proofs.PieceSizes.{behind-words}
 
 -- the word of an instruction

@@ -16,10 +16,7 @@ use Rattle.proc_templates.specs.Items.{does, leaves, zero_of, wiped}
 use Rattle.proc_templates.specs.Templates.{arguments, check_params, checks_words, push, pushed, wipe}
 use Rattle.proc_templates.specs.Templates.{take_back}
 use Rattle.source_laws.proofs.Handed.{places}
-use Rattle.template_runs.proofs.Steps.{Code}
-use Rattle.template_runs.proofs.Standing.{Stand, words_in}
-use Rattle.template_runs.proofs.Entries.{prologue}
-use Rattle.template_runs.proofs.Epilogue.{pops, epilogue}
+use Rattle.template_runs.proofs.Offers.{Code, Stand, words_in, prologue, pops, epilogue}
 use Rattle.source_laws.proofs.Bodies.{argument_regs}
 
 -- ---- sizes

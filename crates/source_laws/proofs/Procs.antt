@@ -18,7 +18,7 @@ use Rattle.lcm_isa.specs.declared.Reg.TheVariants.{Pc, Rcode, Rdata, Stk, Dat, T
 use Rattle.lcm_isa.specs.declared.Reg.TheVariants.{G0, G1, G2}
 use Rattle.lcm_machine.specs.Places.{reg}
 use Rattle.lcm_machine.specs.Table.{fits_64}
-use Rattle.flow_check.specs.Holds.{stack_cap}
+use Rattle.flow_check.specs.Holds.{part_stack_cap}
 use Rattle.flow_check.specs.Places.{begins_entry}
 use Rattle.component_linker.specs.Parts.{PartSeen}
 use Rattle.overlay_machine.specs.declared.words.OWord.{OWord}
@@ -29,8 +29,7 @@ use Rattle.overlay_machine.specs.Step.{own_stack}
 use Rattle.overlay_machine.specs.Link.{Link, IsTrusted, ranges_of}
 use Rattle.overlay_machine.specs.Linked.{Linked}
 use Rattle.overlay_machine.specs.Safe.{IsSafe}
-use Rattle.overlay_machine.proofs.OwnStack.{own_is}
-use Rattle.overlay_machine.proofs.invariant.Facts.{safe_stk, mem_safe}
+use Rattle.overlay_machine.proofs.Offers.{own_is, safe_stk, mem_safe}
 use Rattle.proc_program.specs.StepView.{block_of}
 use Rattle.proc_semantics.specs.Values.{Store, taken}
 use Rattle.proc_semantics.specs.declared.value.Target.{Target}
@@ -39,16 +38,12 @@ use Rattle.source_events.specs.declared.End.TheVariants.{Fail as Fails}
 use Rattle.proc_semantics.specs.declared.value.Value.{Value}
 use Rattle.proc_semantics.specs.declared.value.Value.TheVariants.{Num}
 use Rattle.lcm_machine.specs.Cells.{cell}
-use Rattle.template_runs.proofs.Clean.{untold, ended, clean_begins, clean_ends, used}
-use Rattle.template_runs.proofs.Quiet.{Owing}
-use Rattle.template_runs.proofs.Steps.{At, Code, inside_here}
+use Rattle.template_runs.proofs.Offers.{untold, ended, clean_begins, clean_ends, used, Owing, At, Code}
+use Rattle.template_runs.proofs.Offers.{inside_here, Here, entry_safe, prologue_fails, zero_public}
+use Rattle.template_runs.proofs.Offers.{mem_public, entered, entry_law, entry_fails, prologue, Reads}
+use Rattle.template_runs.proofs.Offers.{prologue_law, epilogue, epilogue_law, Left}
 use Rattle.proc_semantics.specs.Marked.{lower}
 use Rattle.source_laws.specs.Seen.{Back}
-use Rattle.template_runs.proofs.Rows.{Here}
-use Rattle.template_runs.proofs.Entering.{entry_safe, prologue_fails}
-use Rattle.template_runs.proofs.Valid.{zero_public, mem_public}
-use Rattle.template_runs.proofs.Entries.{entered, entry_law, entry_fails, prologue, Reads, prologue_law}
-use Rattle.template_runs.proofs.Epilogue.{epilogue, epilogue_law, Left}
 use Rattle.source_laws.proofs.CallsIn.{EntryPublic, int_public, AtEnd, ProcLaw, left_now}
 use Rattle.template_runs.specs.Public.{IsShown}
 
@@ -206,7 +201,7 @@ module _ (world : World) (g : Link) (linked : Linked g) (Begins : Target → Par
                 clean = l.clean;
                 top = cap.end;
                 within = h.high;
-                stk = h.stk ∙ ap (λ y. Mem (stack_cap (ranges_of p) cap.end y)) z;
+                stk = h.stk ∙ ap (λ y. Mem (part_stack_cap (ranges_of p) cap.end y)) z;
                 own = λ y e. (let s : Some y ≡ Some cap = sym e ∙ own in
                     ap (λ (o : Option CapFields). end_of cap o) s);
                 left = ap (option_map (λ (c : CapFields). c.end + 1 - c.base)) own
@@ -225,7 +220,7 @@ module _ (world : World) (g : Link) (linked : Linked g) (Begins : Target → Par
                   → q.maps.regs.rdata ≡ o.maps.regs.rdata → q.maps.regs.a0 ≡ Plain (Int val)
                   → ((d : Reg) → d ≢ Pc → d ≢ Dat → d ≢ Stk → d ≢ Rcode → d ≢ Rdata → d ≢ A0
                   → reg q.maps.regs d ≡ Plain (Int (pos 0)))
-                  → look q.maps.regs.stk ≡ Mem (stack_cap (ranges_of p) cap.end l.here.at)
+                  → look q.maps.regs.stk ≡ Mem (part_stack_cap (ranges_of p) cap.end l.here.at)
                   → cap.end ≤ g.layout.stack.end → IsShown g o.frames (reg q.maps.regs d)
               safe_reg Pc np nd ec ed ev cl es hi = absurd (np refl)
               safe_reg Dat np nd ec ed ev cl es hi = absurd (nd refl)
@@ -248,7 +243,7 @@ module _ (world : World) (g : Link) (linked : Linked g) (Begins : Target → Par
                         l.here.free a (omega (arith, lo, sb)) hi2,
                       ),
                     ),
-                    mem_public g q.maps.regs.stk (Mem (stack_cap (ranges_of p) cap.end l.here.at)) es
+                    mem_public g q.maps.regs.stk (Mem (part_stack_cap (ranges_of p) cap.end l.here.at)) es
                         (λ r kk ir e. cc),
                   )
               safe_reg T1 np nd ec ed ev cl es hi =

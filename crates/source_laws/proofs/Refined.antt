@@ -23,8 +23,8 @@ use Rattle.proc_semantics.specs.Rules as rules
 use Rattle.proc_semantics.specs.Rules.{Domain}
 use Rattle.proc_semantics.specs.Marked as marked
 use Rattle.proc_semantics.specs.Marked.{Marks, PairHalf}
-use Rattle.proc_semantics.proofs.Kin.{Kin, proc_kept, item_kept, turn_kept, levels_kept, then_less, next_less}
-use Rattle.proc_semantics.proofs.Kin.{wait_less, RLevel, RWait}
+use Rattle.proc_semantics.proofs.Offers.{Kin, proc_kept, item_kept, turn_kept, levels_kept, then_less}
+use Rattle.proc_semantics.proofs.Offers.{next_less, wait_less, RLevel, RWait}
 
 -- modules, and the words of the pairs that they have
 pub record World : Type 0 where
@@ -117,13 +117,13 @@ module _ (w : World) where
   found = values.found w.parts
 
   abbrev pub main_of : Option Target
-  main_of = values.main_of w.parts
+  main_of = values.main_target w.parts
 
   abbrev pub part_of : ℕ → List ℕ
-  part_of = rules.part_of w.parts
+  part_of = rules.part_name_of w.parts
 
   abbrev pub stack_of : ℕ → ℕ
-  stack_of = rules.stack_of w.parts
+  stack_of = rules.home_stack w.parts
 
   -- the registers of an entry, with the words in them
   abbrev pub registers_fed : List OWord → List (Option ℤ) → List FeedPair → Registers

@@ -10,8 +10,8 @@ use Rattle.trace_tool.specs.Layout.{layout}
 use Rattle.template_runs.specs.Runs.{is_inside}
 use Rattle.template_runs.specs.Border.{Shows, GivesBack}
 use Rattle.overlay_machine.specs.Events.{step_event}
-use Rattle.template_runs.proofs.Quiet.{Quiet, Stays, Lets, now, behind, Comes, now_in, later_in, depth, Ends}
-use Rattle.template_runs.proofs.Quiet.{ends_now, ends_later}
+use Rattle.template_runs.proofs.Offers.{Quiet, Stays, Lets, now, behind, Comes, now_in, later_in, depth, Ends}
+use Rattle.template_runs.proofs.Offers.{ends_now, ends_later}
 use Rattle.source_laws.specs.Secrets.{HasCome, begins, comes, Until, still_there, one_more, LetsGo, ComesFrom}
 use Rattle.source_laws.specs.Secrets.{Goes, at_entry, and_then}
 use Rattle.source_laws.specs.Secrets as secrets

@@ -20,10 +20,8 @@ use Rattle.proc_semantics.specs.declared.value.Target.{Target}
 use Rattle.source_laws.proofs.Refined.{World, found, part_of}
 use Rattle.proc_semantics.specs.Values.{Store}
 use Rattle.template_runs.specs.Public.{IsSharedAt}
-use Rattle.template_runs.proofs.Steps.{At}
-use Rattle.template_runs.proofs.Rows.{DataIs}
-use Rattle.template_runs.proofs.Named.{Named}
-use Rattle.source_laws.specs.Sources.{SourcesMean}
+use Rattle.template_runs.proofs.Offers.{At, DataIs, Named}
+use Rattle.source_laws.specs.Sources.{MeansAlways}
 use Rattle.source_laws.proofs.Parameters.{single}
 use Rattle.source_laws.proofs.Feeds.{FedWords, registers_are}
 use Rattle.source_laws.proofs.Waiting.{Meets}
@@ -86,7 +84,7 @@ module _ (world : World) (g : Link) (linked : Linked g) (Begins : Target → Par
     pub sources_mean : (stack : ℕ) (start : StartSeen) (mem : ℕ → OWord) → g.layout ≡ layout start
         → DataIs g linked mem (overlay_at start).state.maps.cells
         → StoreIs (map (λ (u : Part). u.globals) world.parts) mem
-        → StartsIn stack mem (overlay_at start).state → SourcesMean world.parts stack start
+        → StartsIn stack mem (overlay_at start).state → MeansAlways world.parts stack start
     sources_mean =
         source_law world g linked Begins StoreIs (Regs world g linked Begins StoreIs)
         (EnvIs world g linked Begins StoreIs) s.named meets rest bodies

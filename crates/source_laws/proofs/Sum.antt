@@ -17,10 +17,11 @@ use Rattle.source_events.specs.declared.End.TheVariants.{Halt as Halted, Waiting
 use Rattle.source_events.specs.Outs.{LeaveIntegers}
 use Rattle.proc_semantics.specs.Told.{Comp}
 use Rattle.proc_semantics.specs.Meaning.{meaning}
-use Rattle.source_laws.specs.Trace.{Running, Outside, HaltedWith, Failed, rests, shown, outs_of, items_of}
+use Rattle.source_laws.specs.Trace.{Running, Outside, HaltedWith, Failed, rests, shown, event_outs}
+use Rattle.source_laws.specs.Trace.{event_items}
 use Rattle.source_laws.specs.Trace.{standing, ended, weighed, show, trace, Trace, Final}
 use Rattle.template_runs.specs.Runs.{is_inside}
-use Rattle.source_laws.specs.Good.{Agrees}
+use Rattle.source_laws.specs.Good.{MeaningAgrees}
 use Rattle.source_laws.specs.Sources.{Shows, none_yet, and_then, MeaningEnds, MeaningBegins, MeaningTakes}
 use Rattle.source_laws.specs.Sources.{MeansAt, AgreeingRunsMean}
 use Rattle.source_laws.proofs.Integers.{where_ends, where_begins}
@@ -42,8 +43,8 @@ shown_shown es fs is ks n m t =
 
 module _ (l : Layout) where
   trace_step : (k : ℕ) (p q : OState) → overlay_step l p ≡ goes q
-      → trace l (suc k) p ≡ shown (outs_of l (flat_view l q) (step_event l p q))
-      (items_of l (flat_view l q) (step_event l p q)) (weighed (is_inside l p) (weight_of l p))
+      → trace l (suc k) p ≡ shown (event_outs l (flat_view l q) (step_event l p q))
+      (event_items l (flat_view l q) (step_event l p q)) (weighed (is_inside l p) (weight_of l p))
       (trace l k q)
   unfolding trace
   trace_step k p q e = ap (λ x. show l p x (trace l k)) e
@@ -68,8 +69,8 @@ module _ (l : Layout) where
         λ k. (
             let a : r.0 + 1 + k ≡ r.0 + suc k = omega arith in
             ap (λ x. trace l x o) a ∙ r.1 (suc k) ∙ ap (shown es is n) (trace_step k p q e)
-            ∙ shown_shown es (outs_of l (flat_view l q) (step_event l p q)) is
-            (items_of l (flat_view l q) (step_event l p q)) n (weighed (is_inside l p) (weight_of l p))
+            ∙ shown_shown es (event_outs l (flat_view l q) (step_event l p q)) is
+            (event_items l (flat_view l q) (step_event l p q)) n (weighed (is_inside l p) (weight_of l p))
             (trace l k q)
             ),
       )
@@ -90,14 +91,14 @@ module _ (l : Layout) where
   trace_fails p i e = ap (λ x. show l p x (trace l zero)) e ∙ ap (λ b. ended l b (weight_of l p) Failed) i
 
 module _ (world : World) (stack : ℕ) (l : Layout) (o : OState)
-    (all : (k : ℕ) → Agrees 0 (trace l k o) (λ fuel feed. meaning world stack feed fuel)) where
+    (all : (k : ℕ) → MeaningAgrees 0 (trace l k o) (λ fuel feed. meaning world stack feed fuel)) where
   M : Comp
   M fuel feed = meaning world stack feed fuel
 
   module _ (j n : ℕ) (es : List OutEvent) (is : List Item) (p : OState) (s : Shows l o j n es is p) where
     -- what is said of the run that ends after these steps, with what comes next
     agrees_at : (k m : ℕ) (f : Final) → trace l k p ≡ rests m f
-        → Agrees 0 (record { out = es; items = is; weight = n + m; final = f })
+        → MeaningAgrees 0 (record { out = es; items = is; weight = n + m; final = f })
         (λ fuel feed. meaning world stack feed fuel)
     agrees_at k m f e =
         let r = shows_trace l o j n es is p s in
@@ -105,10 +106,10 @@ module _ (world : World) (stack : ℕ) (l : Layout) (o : OState)
         r.1 k ∙ ap (shown es is n) e
         ∙ ap (λ x. record { out = x; items = is ++ []; weight = n + m; final = f }) (append-nil es)
         ∙ ap (λ x. record { out = es; items = x; weight = n + m; final = f }) (append-nil is) in
-        subst (λ t. Agrees 0 t (λ fuel feed. meaning world stack feed fuel)) shown_is (all (r.0 + k))
+        subst (λ t. MeaningAgrees 0 t (λ fuel feed. meaning world stack feed fuel)) shown_is (all (r.0 + k))
 
     long : (m : ℕ) (f : Final)
-        → Agrees 0 (record { out = es; items = is; weight = m; final = f })
+        → MeaningAgrees 0 (record { out = es; items = is; weight = m; final = f })
         (λ fuel feed. meaning world stack feed fuel) → MeaningTakes world stack is es m
     long m f a x lt = a.slow x (omega (arith, lt))
 
@@ -153,7 +154,7 @@ module _ (world : World) (stack : ℕ) (l : Layout) (o : OState)
       integers = integers_there (is_inside l p) refl;
     }
       where
-        halted : (a : Agrees 0
+        halted : (a : MeaningAgrees 0
             (record {
               out = es;
               items = is;

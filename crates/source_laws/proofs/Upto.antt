@@ -1,4 +1,4 @@
--- Runs of at most so many steps against a meaning: what is wanted of them, as the laws of the machine take
+-- RunsOn of at most so many steps against a meaning: what is wanted of them, as the laws of the machine take
 -- it.
 use Rattle.std.proofs.Common.{◌≡◌, ℕ, zero, suc, ◌+◌, ◌*◌, ◌≤◌, ℤ, [], ◌∷◌, Option, None, true, refl, sym, ap}
 use Rattle.std.proofs.Common.{◌∙◌, subst, arith, ◌-◌, List, Some, ◌⊎◌, inl, inr, ◌<◌, false, ◌++◌}
@@ -13,17 +13,17 @@ use Rattle.overlay_machine.specs.Step.{halts, fails, overlay_step, own_stack, we
 use Rattle.cap_words.specs.declared.CapFields.{CapFields}
 use Rattle.trace_tool.specs.Views.{flat_view}
 use Rattle.source_laws.proofs.Refined as telling
-use Rattle.source_laws.specs.Seen.{Shown, shown_of, Back, rests, shown, outs_of, items_of, standing, ended}
+use Rattle.source_laws.specs.Seen.{Shown, shown_of, Back, rests, shown, event_outs, event_items, standing}
+use Rattle.source_laws.specs.Seen.{ended}
 use Rattle.source_laws.specs.Seen.{show, trace}
 use Rattle.source_events.specs.declared.End.TheVariants.{Fail, Halt}
 use Rattle.source_laws.proofs.Refined.{Comp, ends, tick, ticks, emit}
 use Rattle.overlay_machine.specs.Link.{Link}
 use Rattle.template_runs.specs.Public.{IsFreeAt}
 use Rattle.template_runs.specs.Border.{Shows, GivesBack, Wiped}
-use Rattle.template_runs.proofs.Valid.{halts_not, fails_not}
-use Rattle.template_runs.proofs.Clean.{Live, none, untold, NotIn, IsLower, Clean, clean_same, clean_set}
-use Rattle.template_runs.proofs.Quiet.{Among, depth, Quiet, quiet_none, quiet_fewer, quiet_step, quiet_out}
-use Rattle.template_runs.proofs.Quiet.{quiet_ended}
+use Rattle.template_runs.proofs.Offers.{halts_not, fails_not, Live, none, untold, NotIn, IsLower, Clean}
+use Rattle.template_runs.proofs.Offers.{clean_same, clean_set, Among, depth, Quiet, quiet_none, quiet_fewer}
+use Rattle.template_runs.proofs.Offers.{quiet_step, quiet_out, quiet_ended}
 use Rattle.std.specs.Prelude.{Bool, nat_lt, if◌then◌else◌}
 use Rattle.std.proofs.lemmas.Bool.{ltb-true, ltb-false}
 use Rattle.overlay_machine.specs.declared.words.OWord.{OWord}
@@ -31,7 +31,7 @@ use Rattle.proc_semantics.specs.Marked.{lower}
 use Rattle.source_laws.specs.Wiped.{low_of, last_outside}
 use Rattle.source_laws.proofs.Wipes.{Wipes, crossed, cross, crossings, cross_none, cross_more, wipes_none}
 use Rattle.source_laws.proofs.Wipes.{wipes_tick, wipes_ticks, wipes_said}
-use Rattle.template_runs.specs.Runs.{is_inside, Makes, Runs, Failing, Halting, Sets, no_cell, one_cell}
+use Rattle.template_runs.specs.Runs.{is_inside, Makes, RunsOn, Failing, Halting, Sets, no_cell, one_cell}
 use Rattle.source_laws.specs.Trace.{Running, HaltedWith, Failed, weighed}
 use Rattle.source_laws.proofs.Follows.{Agrees}
 use Rattle.source_laws.proofs.Agreeing.{weaker, ticked, ticked_many, unseen, seen, stopped}
@@ -119,16 +119,16 @@ module _ (g : Link) where
       by (suc k) le = absurd (omega (arith, le))
 
   trace_goes : (k n : ℕ) (e : Option Event) (o q : OState) → Makes l n e o q
-      → trace l (suc k) o ≡ shown (outs_of l q e) (items_of l q e) n (trace l k q)
+      → trace l (suc k) o ≡ shown (event_outs l q e) (event_items l q e) n (trace l k q)
   unfolding trace
   trace_goes k n e o q m =
       ap (λ x. show l o x (trace l k)) m.goes_on
-      ∙ ap (λ x. shown (outs_of l q x) (items_of l q x)
+      ∙ ap (λ x. shown (event_outs l q x) (event_items l q x)
       (weighed (is_inside l o) (weight_of l o)) (trace l k q)) m.event
-      ∙ ap (λ b. shown (outs_of l q e) (items_of l q e)
+      ∙ ap (λ b. shown (event_outs l q e) (event_items l q e)
       (weighed b (weight_of l o))
       (trace l k q)) m.inside
-      ∙ ap (λ w. shown (outs_of l q e) (items_of l q e) w (trace l k q)) m.weight
+      ∙ ap (λ w. shown (event_outs l q e) (event_items l q e) w (trace l k q)) m.weight
 
   trace_fails : (k : ℕ) (o : OState) → is_inside l o ≡ true → overlay_step l o ≡ fails
       → trace l (suc k) o ≡ rests (weight_of l o) Failed
@@ -198,27 +198,27 @@ module _ (g : Link) where
   }
 
   crosses_silent : (k : ℕ) (b : OState) (e : Option Event) (o q : OState) → overlay_step l o ≡ goes q
-      → step_event l o q ≡ e → is_inside l o ≡ true → outs_of l q e ≡ [] → crossings l (suc k) b o
+      → step_event l o q ≡ e → is_inside l o ≡ true → event_outs l q e ≡ [] → crossings l (suc k) b o
       ≡ crossings l k b q
   crosses_silent k b e o q st ev io eo =
       cross_more l k b o (goes q) st
       ∙ ap (λ x. crossed b q x ++ crossings l k (last_outside (is_inside l o) b o) q)
-      (ap (outs_of l q) ev ∙ eo)
+      (ap (event_outs l q) ev ∙ eo)
       ∙ ap (λ x. crossings l k (last_outside x b o) q) io
 
   crosses_out : (k : ℕ) (b : OState) (e : Option Event) (x : Shown) (o q : OState) → overlay_step l o ≡ goes q
-      → step_event l o q ≡ e → is_inside l o ≡ true → outs_of l q e ≡ x ∷ []
+      → step_event l o q ≡ e → is_inside l o ≡ true → event_outs l q e ≡ x ∷ []
       → crossings l (suc k) b o ≡ record { before = b; behind = q } ∷ crossings l k b q
   crosses_out k b e x o q st ev io eo =
       cross_more l k b o (goes q) st
       ∙ ap (λ y. crossed b q y ++ crossings l k (last_outside (is_inside l o) b o) q)
-      (ap (outs_of l q) ev ∙ eo)
+      (ap (event_outs l q) ev ∙ eo)
       ∙ ap (λ y. record { before = b; behind = q } ∷ crossings l k (last_outside y b o) q) io
 
   -- a step that shows nothing, after which one fewer is left
   pub go_silent : {ws vs : List OState} {lv lw : Live} (n w c : ℕ) (e : Option Event) (o q : OState)
       (m : Comp) → Makes l w e o q
-      → outs_of l q e ≡ [] → items_of l q e ≡ [] → is_inside l q ≡ true
+      → event_outs l q e ≡ [] → event_items l q e ≡ [] → is_inside l q ≡ true
       → Carries g lv o lw q → ((a : OState) → Among ws a → Among vs a ⊎ (depth q < depth a))
       → UpTo g vs lw n c q m → UpTo g ws lv (suc n) (w + c) o m
   go_silent {ws = ws} {vs = vs} {lv = lv} {lw = lw} n w c e o q m k eo ei iq carries owed u = record {
@@ -229,7 +229,7 @@ module _ (g : Link) where
     where
       shows : (j : ℕ) → trace l (suc j) o ≡ shown [] [] w (trace l j q)
       shows j =
-          trace_goes j w e o q k ∙ ap (λ x. shown x (items_of l q e) w (trace l j q)) eo
+          trace_goes j w e o q k ∙ ap (λ x. shown x (event_items l q e) w (trace l j q)) eo
           ∙ ap (λ x. shown [] x w (trace l j q)) ei
 
       wiped : (b : OState) (low : Option ℕ) → Since g b low lv o → (j : ℕ) → j ≤ suc n
@@ -258,7 +258,7 @@ module _ (g : Link) where
   pub go_out : {ws vs : List OState} {lv : Live} (n w c : ℕ) (e : Option Event)
       (out : Option ℕ → telling.Event) (x : Shown) (o q : OState) (m : Comp) → Makes l w e o q
       → ((low : Option ℕ) → shown_of (out low) ≡ x) → ((low : Option ℕ) → low_of (out low) ≡ low)
-      → outs_of l q e ≡ x ∷ [] → items_of l q e ≡ []
+      → event_outs l q e ≡ x ∷ [] → event_items l q e ≡ []
       → is_inside l q ≡ false → Shows l o q
       → ((b : OState) (low : Option ℕ) → Clean g b low lv o → Wiped g low b q)
       → ((a : OState) → Among ws a → (part : ℕ) → step_event l o q ≡ Some (Left part) → depth q ≡ depth a
@@ -274,7 +274,7 @@ module _ (g : Link) where
     where
       shows : (j : ℕ) → trace l (suc j) o ≡ shown (xs ∷ []) [] w (trace l j q)
       shows j =
-          trace_goes j w e o q k ∙ ap (λ x. shown x (items_of l q e) w (trace l j q)) eo
+          trace_goes j w e o q k ∙ ap (λ x. shown x (event_items l q e) w (trace l j q)) eo
           ∙ ap (λ x. shown (xs ∷ []) x w (trace l j q)) ei
 
       wiped : (b : OState) (low : Option ℕ) → Since g b low lv o → (j : ℕ) → j ≤ suc n
@@ -359,7 +359,7 @@ module _ (g : Link) where
           let m = may (subst (IsFreeAt g) e free) in
           let m1 = m.1 in absurd (omega (arith, high, e, m1))
 
-  abbrev pub upto : List OState → Live → ℕ → Comp → Runs l
+  abbrev pub upto : List OState → Live → ℕ → Comp → RunsOn l
   upto ws lv n m = record {
     Good = λ c o. UpTo g ws lv n c o m;
     May = MaySet lv;

@@ -21,16 +21,12 @@ use Rattle.source_laws.proofs.Refined.{Comp, World, Then, element, with_place, o
 use Rattle.source_laws.proofs.Refined.{result_of}
 use Rattle.proc_semantics.specs.Values.{Store}
 use Rattle.proc_semantics.specs.Values as values
-use Rattle.template_runs.proofs.Steps.{At, Placed, Code}
-use Rattle.template_runs.proofs.Data.{Away}
-use Rattle.template_runs.proofs.Standing.{Stand, guarded, words_in}
-use Rattle.template_runs.proofs.Elements.{index_tests, index_goes, below_fails, past_fails, to_element}
+use Rattle.template_runs.proofs.Offers.{At, Placed, Code, Away, Stand, guarded, words_in, index_tests}
+use Rattle.template_runs.proofs.Offers.{index_goes, below_fails, past_fails, to_element, value_by}
+use Rattle.template_runs.proofs.Offers.{operator_goes, operator_fails, Owing, used}
 use Rattle.lcm_isa.specs.declared.Reg.TheVariants.{Dat, G0}
 use Rattle.lcm_isa.specs.declared.Operand.TheVariants.{R as InReg, Imm}
-use Rattle.template_runs.proofs.Operators.{value_by, operator_goes, operator_fails}
-use Rattle.template_runs.proofs.Quiet.{Owing}
 use Rattle.source_laws.proofs.Upto.{UpTo, upto, failing}
-use Rattle.template_runs.proofs.Clean.{used}
 
 bit_same : (b : Bool) → bit b ≡ values.bit b
 bit_same true = refl

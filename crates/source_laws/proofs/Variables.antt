@@ -12,7 +12,7 @@ use Rattle.proc_semantics.specs.declared.value.Pair.{Pair}
 use Rattle.proc_semantics.specs.declared.value.Value.{Value}
 use Rattle.proc_semantics.specs.declared.value.Value.TheVariants.{Num, Closure}
 use Rattle.source_laws.specs.Fits.{Kind, AsNumber, AsPair, AsRest}
-use Rattle.template_runs.proofs.Slots.{with_at, SameBelow, get_with}
+use Rattle.template_runs.proofs.Offers.{with_at, SameBelow, get_with}
 
 pub get-set_same : (env : List Value) (i : ℕ) (v u : Value) → slice_get env i ≡ Some u
     → slice_get (slice_set env i v) i ≡ Some v

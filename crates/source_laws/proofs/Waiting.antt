@@ -29,27 +29,22 @@ use Rattle.overlay_machine.specs.Flat.{flat, flat_code, flat_range, flat_data}
 use Rattle.overlay_machine.specs.Events.{owner_now}
 use Rattle.overlay_machine.specs.Link.{Link, IsTrusted, ranges_of}
 use Rattle.overlay_machine.specs.Linked.{Linked}
-use Rattle.overlay_machine.proofs.invariant.ReturnKept.{Returned}
+use Rattle.overlay_machine.proofs.Offers.{Returned}
 use Rattle.trace_tool.specs.Layout.{part_name, entry_name, site_of}
 use Rattle.trace_tool.specs.Views.{flat_view}
-use Rattle.source_laws.specs.Seen.{words_of, entry_of}
+use Rattle.source_laws.specs.Seen.{words_of, back_here}
 use Rattle.source_laws.proofs.Refined.{single, World, found, registers_fed, Registers, Then, Wait, on_item}
 use Rattle.source_laws.proofs.Refined.{entered, resumed, left_by, part_of, whole, recursive}
 use Rattle.proc_semantics.specs.Values.{Store}
 use Rattle.proc_semantics.specs.declared.value.Target.{Target}
-use Rattle.template_runs.proofs.Clean.{none, untold, ended}
-use Rattle.template_runs.proofs.Quiet.{Owing, Among, depth}
+use Rattle.template_runs.proofs.Offers.{none, untold, ended, Owing, Among, depth, Valid, At, DataIs, Out}
+use Rattle.template_runs.proofs.Offers.{SameData, Named}
 use Rattle.source_laws.proofs.Upto.{UpTo, in_frame, stack_top}
-use Rattle.template_runs.proofs.Valid.{Valid}
-use Rattle.template_runs.proofs.Steps.{At}
-use Rattle.template_runs.proofs.Rows.{DataIs}
-use Rattle.template_runs.proofs.Outside.{Out, SameData}
 use Rattle.source_laws.proofs.Waits.{enter_item, ret_item, outside_law}
 use Rattle.source_laws.proofs.CallsIn.{SameEntry, shown_public, AtEnd, ProcLaw, left_now}
 use Rattle.source_events.specs.Left.{left_in}
 use Rattle.trace_tool.specs.Feed.{integer_in, integers_in, feed_pairs}
 use Rattle.trace_tool.specs.Pairs.{pairs_of}
-use Rattle.template_runs.proofs.Named.{Named}
 use Rattle.trace_tool.specs.Lines.{args_of, feed_back}
 use Rattle.template_runs.specs.Public.{IsShown, IsSharedAt}
 
@@ -146,7 +141,7 @@ module _ (world : World) (g : Link) (linked : Linked g) (Begins : Target → Par
       → ((w : Owner) → owner_now g.layout q ≡ Some w → part_name g.layout w.part ≡ part_of world t.home)
       → ((m : ℕ) → m ≤ n → Resumes m c w f fs ow)
       → UpTo g (en ∷ ow.owes) (ended a.top) n (c + 100) q
-      (left_by world (whole world) (part_of world t.home) (Some w) (entry_of g.layout en)
+      (left_by world (whole world) (part_of world t.home) (Some w) (back_here g.layout en)
       (left_now world g linked Begins StoreIs RegsAre o)
       (feed_back g.layout (back_of g.layout ((flat_view g.layout o).reg Rcode)
       ((flat_view g.layout o).reg Rdata))) v st)
@@ -210,7 +205,7 @@ module _ (world : World) (g : Link) (linked : Linked g) (Begins : Target → Par
             (feed_pairs g.layout (pairs_of g.layout vw)) in
             let bk = feed_back g.layout (back_of g.layout (vw.reg Rcode) (vw.reg Rdata)) in
             let kk : Then = left_by world (whole world) (part_of world x.0.home) (Some w)
-            (entry_of g.layout q)
+            (back_here g.layout q)
             (left_now world g linked Begins StoreIs RegsAre q) bk in
             let at : At g linked p k q = record { trusted = ip; pc = pc } in
             let kept : DataIs g linked mem q.maps.cells =
@@ -230,11 +225,11 @@ module _ (world : World) (g : Link) (linked : Linked g) (Begins : Target → Par
             }) (same ∙ fr) for a store'
             (meets.told x.0 p k q r val mem' x.2 a) (λ m lt. back m (omega (arith, lt)))) in
             subst (λ y. UpTo g (q ∷ ow.owes) (untold 0 (stack_top g q)) n c q
-            (entered world (whole world) (Some w) y (entry_of g.layout q)
+            (entered world (whole world) (Some w) y (back_here g.layout q)
             (left_in g.layout.stack.base (vw.reg Stk)) rs bk st))
             (sym x.1)
             (subst (λ l. UpTo g (q ∷ ow.owes) (untold 0 (stack_top g q)) n c q
             ((whole world).proc x.0 l rs
-            (left_by world (whole world) (part_of world x.0.home) (Some w) (entry_of g.layout q) l bk) st))
+            (left_by world (whole world) (part_of world x.0.home) (Some w) (back_here g.layout q) l bk) st))
             (sym (left_same q))
             done)

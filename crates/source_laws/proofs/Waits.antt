@@ -19,38 +19,35 @@ use Rattle.overlay_machine.specs.State.{OState}
 use Rattle.overlay_machine.specs.declared.words.OWord.{OWord}
 use Rattle.overlay_machine.specs.Step.{Ending, goes, halts, fails, overlay_step, weight_of, rest_words}
 use Rattle.overlay_machine.specs.Invariant.{FramesLie, FrameLies}
-use Rattle.overlay_machine.specs.Events.{step_event, entered, shown as shown_word}
+use Rattle.overlay_machine.specs.Events.{step_event, entered_event, shown_word}
 use Rattle.overlay_machine.specs.Link.{Link, IsTrusted, ranges_of}
 use Rattle.overlay_machine.specs.Linked.{Linked}
-use Rattle.overlay_machine.proofs.invariant.ReturnKept.{Returned}
+use Rattle.overlay_machine.proofs.Offers.{Returned, put_back-other}
 use Rattle.trace_tool.specs.Layout.{part_name, entry_name, site_of}
 use Rattle.trace_tool.specs.Views.{flat_view}
 use Rattle.source_events.specs.declared.Item.{Item}
 use Rattle.source_events.specs.declared.Item.TheVariants.{Enter, Ret}
 use Rattle.source_laws.proofs.Refined.{Comp, Thing, take_item}
-use Rattle.source_laws.specs.Seen.{thing_of, rests, shown, outs_of, items_of, standing, ended, show}
+use Rattle.source_laws.specs.Seen.{thing_of, rests, shown, event_outs, event_items, standing, ended, show}
 use Rattle.source_laws.specs.Seen.{trace}
 use Rattle.source_laws.specs.Trace.{Outside, HaltedWith, Failed, weighed}
 use Rattle.source_laws.proofs.Follows.{Agrees}
 use Rattle.source_laws.proofs.Agreeing.{taken, unseen, waits, weaker}
 use Rattle.template_runs.specs.Border.{Shows, GivesBack, zero as no_word}
-use Rattle.template_runs.proofs.Clean.{Live, none, untold, Clean, clean_first, clean_pending}
+use Rattle.template_runs.proofs.Offers.{Live, none, untold, Clean, clean_first, clean_pending, Quiet, Stays}
+use Rattle.template_runs.proofs.Offers.{quiet_outside, quiet_ended, halts_not, fails_not, Valid, Out}
+use Rattle.template_runs.proofs.Offers.{SameData, Leaves, stays, enters, returns, outside_here, leaves, Named}
 use Rattle.lcm_machine.specs.Cells.{cell, put_back}
-use Rattle.overlay_machine.proofs.OutLemmas.{put_back-other}
 use Rattle.std.proofs.lemmas.Bool.{cases_lt}
 use Rattle.template_runs.specs.Runs.{is_inside}
 use Rattle.source_laws.specs.Wiped.{last_outside}
 use Rattle.source_laws.proofs.Wipes.{Wipes, crossed, crossings, cross_more, wipes_taken}
-use Rattle.template_runs.proofs.Quiet.{Quiet, Stays, quiet_outside, quiet_ended}
-use Rattle.template_runs.proofs.Valid.{halts_not, fails_not, Valid}
 use Rattle.source_laws.proofs.Upto.{UpTo, Since, in_frame, stack_top, nothing_yet, nothing_more}
-use Rattle.template_runs.proofs.Outside.{Out, SameData, Leaves, stays, enters, returns, outside_here, leaves}
 use Rattle.source_events.specs.Left.{left_in}
 use Rattle.trace_tool.specs.Feed.{integer_in, integers_in, feed_pairs}
 use Rattle.trace_tool.specs.Lines.{args_of, feed_back}
 use Rattle.trace_tool.specs.Pairs.{pairs_of}
 use Rattle.template_runs.specs.Public.{IsShown, IsSharedAt}
-use Rattle.template_runs.proofs.Named.{Named}
 use Rattle.cap_words.specs.Face.{face_of}
 
 module _ (g : Link) (linked : Linked g) where
@@ -109,27 +106,27 @@ module _ (g : Link) (linked : Linked g) where
       where
         silent : (k : ℕ) (q : OState) (e : Option Event) → overlay_step g.layout o ≡ goes q
             → step_event g.layout o q ≡ e
-            → trace g.layout (suc k) o ≡ shown (outs_of g.layout q e)
-            (items_of g.layout q e) 0 (trace g.layout k q)
+            → trace g.layout (suc k) o ≡ shown (event_outs g.layout q e)
+            (event_items g.layout q e) 0 (trace g.layout k q)
         silent k q e i ev =
             outside_more k (goes q) i
-            ∙ ap (λ b. shown (outs_of g.layout q (step_event g.layout o q))
-            (items_of g.layout q (step_event g.layout o q))
+            ∙ ap (λ b. shown (event_outs g.layout q (step_event g.layout o q))
+            (event_items g.layout q (step_event g.layout o q))
             (weighed b (weight_of g.layout o)) (trace g.layout k q)) (outside_here g linked o h)
-            ∙ ap (λ x. shown (outs_of g.layout q x)
-            (items_of g.layout q x) 0 (trace g.layout k q)) ev
+            ∙ ap (λ x. shown (event_outs g.layout q x)
+            (event_items g.layout q x) 0 (trace g.layout k q)) ev
 
         -- a step that shows nothing, with the items that come in by it
         goes_by : (b : OState) (k : ℕ) (q : OState) (e : Option Event) (is : List Thing)
-            → overlay_step g.layout o ≡ goes q → step_event g.layout o q ≡ e → outs_of g.layout q e ≡ []
-            → items_of g.layout q e ≡ is
+            → overlay_step g.layout o ≡ goes q → step_event g.layout o q ≡ e → event_outs g.layout q e ≡ []
+            → event_items g.layout q e ≡ is
             → Wipes g (crossings g.layout k o q) (is ++ (trace g.layout k q).items) (m None)
             → Wipes g (crossings g.layout (suc k) b o) (trace g.layout (suc k) o).items (m None)
         goes_by b k q e is i ev eo ei w =
             let cs : crossings g.layout (suc k) b o ≡ crossings g.layout k o q =
             cross_more g.layout k b o (goes q) i
             ∙ ap (λ x. crossed b q x ++ crossings g.layout k (last_outside (is_inside g.layout o) b o) q)
-            (ap (outs_of g.layout q) ev ∙ eo)
+            (ap (event_outs g.layout q) ev ∙ eo)
             ∙ ap (λ x. crossings g.layout k (last_outside x b o) q) (outside_here g linked o h) in
             let its : (trace g.layout (suc k) o).items ≡ is ++ (trace g.layout k q).items =
             ap (λ t. t.items) (silent k q e i ev) ∙ ap (λ x. x ++ (trace g.layout k q).items) ei in
@@ -138,12 +135,12 @@ module _ (g : Link) (linked : Linked g) where
 
         entered_is : (p : PartSeen) (x : ℕ) (ip : IsTrusted g p) (b : begins_entry p.component x ≡ true)
             (q : OState) → PcAt look (ranges_of p) x q.maps.regs
-            → step_event g.layout o q ≡ option_and_then (entered g.layout q)
+            → step_event g.layout o q ≡ option_and_then (entered_event g.layout q)
             (closure_owner g.layout p.component.closure)
             → step_event g.layout o q ≡ Some (Entered (named.owner p ip).part (named.entry p ip x b)
             (back_of g.layout (shown_word g.layout q Rcode) (shown_word g.layout q Rdata)))
         entered_is p x ip b q pc ev =
-            ev ∙ ap (option_and_then (entered g.layout q)) (named.owner_is p ip)
+            ev ∙ ap (option_and_then (entered_event g.layout q)) (named.owner_is p ip)
             ∙ ap (option_map (λ j. Entered (named.owner p ip).part j
             (back_of g.layout (shown_word g.layout q Rcode) (shown_word g.layout q Rdata))))
             (ap (entry_number (named.owner p ip)) (ap face_of pc) ∙ named.entry_is p ip x b)

@@ -19,12 +19,12 @@ use Rattle.trace_tool.specs.Layout.{layout}
 use Rattle.template_runs.specs.Runs.{is_inside}
 use Rattle.template_runs.specs.Border.{Shows, ShowsBy, by_call, by_leave, GivesBack, IsTidied, Wiped, zero}
 use Rattle.template_runs.specs.Border.{low_at}
-use Rattle.template_runs.proofs.Quiet.{Quiet}
+use Rattle.template_runs.proofs.Offers.{Quiet}
 use Rattle.proc_semantics.specs.Marked as marked
 use Rattle.proc_semantics.specs.Marked.{Whence, Calls, Leaves, refined, event_to}
 use Rattle.source_laws.specs.Secrets.{HasCome, begins, comes, Until, still_there, one_more, LetsGo}
 use Rattle.source_laws.specs.Secrets.{LeavesNothing, ComesFrom, RanLast, at_start, outside}
-use Rattle.source_laws.specs.Seen.{Back, Shown, outs_of, items_of, trace, standing}
+use Rattle.source_laws.specs.Seen.{Back, Shown, event_outs, event_items, trace, standing}
 use Rattle.source_laws.specs.Words.{Tells, word_from, back_at}
 use Rattle.source_laws.specs.Words as words
 use Rattle.source_laws.specs.Wiped.{low_of, last_outside, TellsSince, none_yet, and_then, WipedAlways}
@@ -62,17 +62,17 @@ module _ (l : Layout) where
   -- what is shown by a step at which trusted code lets go, and that nothing comes in by it
   record OneShown (p q : OState) : Type 0 where
     pub line : Shown
-    pub outs : outs_of l q (step_event l p q) ≡ line ∷ []
-    pub items : items_of l q (step_event l p q) ≡ []
+    pub outs : event_outs l q (step_event l p q) ≡ line ∷ []
+    pub items : event_items l q (step_event l p q) ≡ []
 
   one_shown : (p q : OState) → Shows l p q → OneShown p q
   one_shown p q h = by h.0 h.1 h.2
     where
       by : (e : Crossed) → step_event l p q ≡ Some e → ShowsBy l q e → OneShown p q
       by _ ev (by_call d f s) =
-          record { line = _; outs = ap (outs_of l q) ev; items = ap (items_of l q) ev }
+          record { line = _; outs = ap (event_outs l q) ev; items = ap (event_items l q) ev }
       by _ ev (by_leave part d top s) =
-          record { line = _; outs = ap (outs_of l q) ev; items = ap (items_of l q) ev }
+          record { line = _; outs = ap (event_outs l q) ev; items = ap (event_items l q) ev }
 
   -- ---- each stretch of trusted code is told
 
@@ -86,10 +86,10 @@ module _ (l : Layout) where
   told_until z b o q t (one_more {p} u e i) =
       let r = told_until z b o p t u in
       record {
-        out = r.out ++ outs_of l q (step_event l p q);
-        items = r.items ++ items_of l q (step_event l p q);
-        told = subst (λ x. TellsSince l z (r.out ++ outs_of l q (step_event l p q))
-            (r.items ++ items_of l q (step_event l p q)) (last_outside x b p) q) (within o p u)
+        out = r.out ++ event_outs l q (step_event l p q);
+        items = r.items ++ event_items l q (step_event l p q);
+        told = subst (λ x. TellsSince l z (r.out ++ event_outs l q (step_event l p q))
+            (r.items ++ event_items l q (step_event l p q)) (last_outside x b p) q) (within o p u)
             (and_then r.told e);
       }
     where
@@ -103,8 +103,8 @@ module _ (l : Layout) where
       let t = told_reached z j p r in (
         last_outside (is_inside l p) t.0 p,
         record {
-          out = t.1.out ++ outs_of l q (step_event l p q);
-          items = t.1.items ++ items_of l q (step_event l p q);
+          out = t.1.out ++ event_outs l q (step_event l p q);
+          items = t.1.items ++ event_items l q (step_event l p q);
           told = and_then t.1.told e;
         },
       )
@@ -194,10 +194,10 @@ module _ (g : Link) (s : StartSeen) (same : g.layout ≡ layout s)
   told_in b o r =
       let t = told_reached L Z r.at b r.matched in
       record {
-        out = t.1.out ++ outs_of L o (step_event L b o);
-        items = t.1.items ++ items_of L o (step_event L b o);
-        told = subst (λ x. TellsSince L Z (t.1.out ++ outs_of L o (step_event L b o))
-            (t.1.items ++ items_of L o (step_event L b o)) (last_outside x t.0 b) o) r.outside
+        out = t.1.out ++ event_outs L o (step_event L b o);
+        items = t.1.items ++ event_items L o (step_event L b o);
+        told = subst (λ x. TellsSince L Z (t.1.out ++ event_outs L o (step_event L b o))
+            (t.1.items ++ event_items L o (step_event L b o)) (last_outside x t.0 b) o) r.outside
             (and_then t.1.told r.steps);
       }
 

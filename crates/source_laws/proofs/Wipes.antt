@@ -10,7 +10,7 @@ use Rattle.overlay_machine.specs.Events.{step_event}
 use Rattle.overlay_machine.specs.Link.{Link}
 use Rattle.template_runs.specs.Runs.{is_inside}
 use Rattle.template_runs.specs.Border.{Wiped}
-use Rattle.source_laws.specs.Seen.{Shown, outs_of, items_of, trace}
+use Rattle.source_laws.specs.Seen.{Shown, event_outs, event_items, trace}
 use Rattle.source_laws.specs.Wiped.{low_of, last_outside, TellsSince, none_yet, and_then}
 use Rattle.source_laws.proofs.Refined.{Comp, Thing, Event, Report, tick, ticks, emit, take_item}
 use Rattle.source_laws.proofs.Forgets.{trace_step}
@@ -28,7 +28,7 @@ crossed b q (x ∷ xs) = record { before = b; behind = q } ∷ crossed b q xs
 module _ (l : Layout) where
   abbrev pub cross : OState → OState → Ending → (OState → OState → List Crossing) → List Crossing
   cross b o (goes q) rest =
-      crossed b q (outs_of l q (step_event l o q)) ++ rest (last_outside (is_inside l o) b o) q
+      crossed b q (event_outs l q (step_event l o q)) ++ rest (last_outside (is_inside l o) b o) q
   cross b o halts rest = []
   cross b o fails rest = []
 
@@ -126,7 +126,7 @@ after l o _ _ _ _ none_yet = record {
 }
 after l o _ _ _ q (and_then {es = es} {is = is} {b = b} {p = p} s e) =
     let r = after l o es is b p s in
-    let outs = outs_of l q (step_event l p q) in
+    let outs = event_outs l q (step_event l p q) in
     record {
       steps = r.steps + 1;
       passed = r.passed ++ crossed b q outs;
@@ -145,7 +145,7 @@ after l o _ _ _ q (and_then {es = es} {is = is} {b = b} {p = p} s e) =
           let a : r.steps + 1 + k ≡ r.steps + suc k = omega arith in
           ap (λ x. (trace l x o).items) a ∙ r.items_are (suc k)
           ∙ ap (λ t. is ++ t.items) (trace_step l k p q e)
-          ∙ sym (append_assoc is (items_of l q (step_event l p q)) (trace l k q).items)
+          ∙ sym (append_assoc is (event_items l q (step_event l p q)) (trace l k q).items)
           );
     }
 

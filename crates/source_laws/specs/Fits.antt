@@ -26,17 +26,17 @@ kinds_from (true ∷ bs) n = AsPair ∷ AsRest ∷ kinds_from bs n
 -- with these kinds of places, so many words in the frame, of which temporaries begin at `temps`, so many
 -- words of globals, imports, and own procedures, of which some are shared
 module _ (kinds : List Kind) (words temps count imported owned : ℕ) (shared : ℕ → Bool) where
-  abbrev pub PlaceFits : Place → Type 0
-  PlaceFits (Local i) = slice_get kinds i ≡ Some AsNumber
-  PlaceFits (Global d) = d < count
+  abbrev pub PlaceInside : Place → Type 0
+  PlaceInside (Local i) = slice_get kinds i ≡ Some AsNumber
+  PlaceInside (Global d) = d < count
 
-  abbrev pub RowFits : Row → Type 0
-  RowFits r = r.first + r.length ≤ count
+  abbrev pub RowInside : Row → Type 0
+  RowInside r = r.first + r.length ≤ count
 
-  abbrev pub HandleFits : Handle → Type 0
-  HandleFits (Given i) = slice_get kinds i ≡ Some AsPair
-  HandleFits (Own j) = j < owned
-  HandleFits (Imported k) = k < imported
+  abbrev pub HandleInside : Handle → Type 0
+  HandleInside (Given i) = slice_get kinds i ≡ Some AsPair
+  HandleInside (Own j) = j < owned
+  HandleInside (Imported k) = k < imported
 
   -- a procedure that isn't shared can be called, and not passed on
   abbrev pub PassFits : Handle → Type 0
@@ -48,9 +48,9 @@ module _ (kinds : List Kind) (words temps count imported owned : ℕ) (shared : 
     -- an expression whose first free slot is t
     pub ExpFits : ℕ → Exp → Type 0
     ExpFits t (Number v) = fits_64 (pos v) ≡ true
-    ExpFits t (Load x) = PlaceFits x
-    ExpFits t (Element r e) = RowFits r × ExpFits t e
-    ExpFits t (Call n h xs) = HandleFits h × (arg_registers xs ≤ 4) × ArgsFit t 0 xs
+    ExpFits t (Load x) = PlaceInside x
+    ExpFits t (Element r e) = RowInside r × ExpFits t e
+    ExpFits t (Call n h xs) = HandleInside h × (arg_registers xs ≤ 4) × ArgsFit t 0 xs
     ExpFits t (Binary o a b) = (t < words) × ExpFits t a × ExpFits (t + 1) b
 
     pub ArgsFit : ℕ → ℕ → Args → Type 0
@@ -60,8 +60,8 @@ module _ (kinds : List Kind) (words temps count imported owned : ℕ) (shared : 
 
   abbrev mutual
     pub StepFits : Step → Type 0
-    StepFits (Set x e) = PlaceFits x × ExpFits temps e
-    StepFits (SetAt r i e) = RowFits r × (temps < words) × ExpFits temps i × ExpFits (temps + 1) e
+    StepFits (Set x e) = PlaceInside x × ExpFits temps e
+    StepFits (SetAt r i e) = RowInside r × (temps < words) × ExpFits temps i × ExpFits (temps + 1) e
     StepFits (Do e) = ExpFits temps e
     StepFits (If c a b) = ExpFits temps c × BlockFits a × BlockFits b
     StepFits (While c b) = ExpFits temps c × BlockFits b

@@ -9,16 +9,16 @@ use Rattle.proc_semantics.specs.Fuel.{Prefix}
 use Rattle.source_laws.specs.Trace.{Final, Running, Outside, HaltedWith, Failed, Trace}
 
 -- where the run stands outside, halts, fails, or goes on inside
-abbrev pub Fits : Final → List OutEvent → Told → Type 0
-Fits Outside out t = (t.end ≡ Waiting) × (t.events ≡ out)
-Fits (HaltedWith w) out t = (v : ℤ) × (w ≡ Int v) × (t.end ≡ Halted v) × (t.events ≡ out)
-Fits Failed out t = (t.end ≡ Fails) × (t.events ≡ out)
-Fits Running out t = Prefix out t.events
+abbrev pub TellsFinal : Final → List OutEvent → Told → Type 0
+TellsFinal Outside out t = (t.end ≡ Waiting) × (t.events ≡ out)
+TellsFinal (HaltedWith w) out t = (v : ℤ) × (w ≡ Int v) × (t.end ≡ Halted v) × (t.events ≡ out)
+TellsFinal Failed out t = (t.end ≡ Fails) × (t.events ≡ out)
+TellsFinal Running out t = Prefix out t.events
 
 -- a meaning fits the run for every large enough fuel, and is out of fuel for every fuel that is too small for
 -- the instructions, less the credit: a tick pays for 200
-pub record Agrees (credit : ℕ) (t : Trace) (m : Comp) : Type 0 where
+pub record MeaningAgrees (credit : ℕ) (t : Trace) (m : Comp) : Type 0 where
   pub enough : ℕ
-  pub fits : (f : ℕ) → enough ≤ f → Fits t.final t.out (m f t.items)
+  pub fits : (f : ℕ) → enough ≤ f → TellsFinal t.final t.out (m f t.items)
   pub slow : (f : ℕ) → f * 200 + credit < t.weight → ((m f t.items).end ≡ OutOfFuel)
       × Prefix (m f t.items).events t.out

@@ -110,8 +110,8 @@ left_with q = record {
 module _ (l : Layout) where
   -- what is given back by a procedure that is entered here: the pair, of which a linear half is spent, and
   -- the whole stack, if one is handed over; and the calls that are open then are those that are open now
-  abbrev pub entry_of : OState → Back
-  entry_of q = record {
+  abbrev pub back_here : OState → Back
+  back_here q = record {
     code = q.maps.regs.rcode;
     whole = q.maps.regs.rdata;
     half = left_of look Plain q.maps.regs.rdata;
@@ -139,25 +139,25 @@ module _ (l : Layout) where
     back = None;
   }
 
-  abbrev pub outs_of : OState → Option Event → List Shown
-  outs_of q None = []
-  outs_of q (Some (Called true i base last)) = []
-  outs_of q (Some (Called false i base last)) = call_shown q i base ∷ []
-  outs_of q (Some (Returned inward i base last)) = []
-  outs_of q (Some (Entered part k back)) = []
-  outs_of q (Some (Left part)) =
+  abbrev pub event_outs : OState → Option Event → List Shown
+  event_outs q None = []
+  event_outs q (Some (Called true i base last)) = []
+  event_outs q (Some (Called false i base last)) = call_shown q i base ∷ []
+  event_outs q (Some (Returned inward i base last)) = []
+  event_outs q (Some (Entered part k back)) = []
+  event_outs q (Some (Left part)) =
       left_shown (LeaveOut (part_name l part) (out_arg (integer_in ((flat_view l q).reg A0))))
       (left_with q)
 
   -- an item, with the words where it is an entry
   abbrev pub thing_of : OState → Item → Thing OWord Back
   thing_of q (Enter part name left ints pairs back) =
-      record { item = Enter part name left ints pairs back; words = words_of q; entry = entry_of q }
+      record { item = Enter part name left ints pairs back; words = words_of q; entry = back_here q }
   thing_of q (Ret part site base v) =
       record { item = Ret part site base v; words = no_words; entry = nothing_back }
 
-  abbrev pub items_of : OState → Option Event → List (Thing OWord Back)
-  items_of q e = map (thing_of q) (lines.items_of l (flat_view l q) e)
+  abbrev pub event_items : OState → Option Event → List (Thing OWord Back)
+  event_items q e = map (thing_of q) (lines.event_items l (flat_view l q) e)
 
 -- ---- runs
 
@@ -185,7 +185,7 @@ module _ (l : Layout) where
 
   abbrev pub show : OState → Ending → (OState → Trace) → Trace
   show o (goes q) rest =
-      shown (outs_of l q (step_event l o q)) (items_of l q (step_event l o q))
+      shown (event_outs l q (step_event l o q)) (event_items l q (step_event l o q))
       (weighed (is_inside l o) (weight_of l o)) (rest q)
   show o halts rest = ended (is_inside l o) (weight_of l o) (HaltedWith ((flat_view l o).reg A0))
   show o fails rest = ended (is_inside l o) (weight_of l o) Failed

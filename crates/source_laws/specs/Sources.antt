@@ -20,8 +20,8 @@ use Rattle.source_events.specs.Outs.{LeaveIntegers}
 use Rattle.proc_semantics.specs.Meaning.{meaning}
 use Rattle.proc_semantics.specs.Fuel.{Prefix}
 use Rattle.template_runs.specs.Runs.{is_inside}
-use Rattle.source_laws.specs.Trace.{outs_of, items_of, weighed, trace}
-use Rattle.source_laws.specs.Good.{Agrees}
+use Rattle.source_laws.specs.Trace.{event_outs, event_items, weighed, trace}
+use Rattle.source_laws.specs.Good.{MeaningAgrees}
 
 -- from one overlay a run of this weight comes to another, which is a matched point: of it the weight of the
 -- steps that began in trusted code, what went out of the modules, and the items of the feed
@@ -30,8 +30,8 @@ pub data Shows (l : Layout) (o : OState) : ℕ → ℕ → List OutEvent → Lis
   and_then : {j n : ℕ} {es : List OutEvent} {is : List Item} {p q : OState} → Shows l o j n es is p
       → overlay_step l p ≡ goes q
       → Shows l o (j + weight_of l p) (n + weighed (is_inside l p) (weight_of l p))
-      (es ++ outs_of l (flat_view l q) (step_event l p q))
-      (is ++ items_of l (flat_view l q) (step_event l p q)) q
+      (es ++ event_outs l (flat_view l q) (step_event l p q))
+      (is ++ event_items l (flat_view l q) (step_event l p q)) q
 
 -- ---- what is told of the items that came in
 
@@ -74,17 +74,18 @@ pub record MeansAt (world : World) (stack : ℕ) (l : Layout) (n : ℕ) (es : Li
   pub integers : LeaveIntegers es
 
 -- at each matched point of the run from a start
-abbrev pub SourcesMean : World → ℕ → StartSeen → Type 0
-SourcesMean world stack s =
+abbrev pub MeansAlways : World → ℕ → StartSeen → Type 0
+MeansAlways world stack s =
     (j n : ℕ) (es : List OutEvent) (is : List Item) (p : OState)
     → Shows (layout s) (overlay_at s).state j n es is p → MeansAt world stack (layout s) n es is p
 
 -- the meaning agrees with the run of each number of steps
 abbrev pub AgreesAlways : World → ℕ → StartSeen → Type 0
 AgreesAlways world stack s =
-    (k : ℕ) → Agrees 0 (trace (layout s) k (overlay_at s).state) (λ fuel feed. meaning world stack feed fuel)
+    (k : ℕ) → MeaningAgrees 0 (trace (layout s) k (overlay_at s).state)
+    (λ fuel feed. meaning world stack feed fuel)
 
 -- then the theorem holds of the start
 abbrev pub AgreeingRunsMean : Type 0
 AgreeingRunsMean = (world : World) (stack : ℕ) (s : StartSeen) → AgreesAlways world stack s
-    → SourcesMean world stack s
+    → MeansAlways world stack s

@@ -27,26 +27,26 @@ pub use Rattle.trace_tool.specs.Cuts.{weighed}
 module _ (l : Layout) where
   -- ---- of an event, whose state behind it shows these words
 
-  abbrev pub outs_of : View → Option Event → List OutEvent
-  outs_of v None = []
-  outs_of v (Some (Called true i base last)) = []
-  outs_of v (Some (Called false i base last)) =
+  abbrev pub event_outs : View → Option Event → List OutEvent
+  event_outs v None = []
+  event_outs v (Some (Called true i base last)) = []
+  event_outs v (Some (Called false i base last)) =
       CallOut (part_name l (site_of l i).part) (site_of l i).index (out_args (args_of v)) ∷ []
-  outs_of v (Some (Returned inward i base last)) = []
-  outs_of v (Some (Entered part k back)) = []
-  outs_of v (Some (Left part)) = LeaveOut (part_name l part) (out_arg (integer_in (v.reg A0))) ∷ []
+  event_outs v (Some (Returned inward i base last)) = []
+  event_outs v (Some (Entered part k back)) = []
+  event_outs v (Some (Left part)) = LeaveOut (part_name l part) (out_arg (integer_in (v.reg A0))) ∷ []
 
-  abbrev pub items_of : View → Option Event → List Item
-  items_of v None = []
-  items_of v (Some (Called inward i base last)) = []
-  items_of v (Some (Returned true i base last)) = []
-  items_of v (Some (Returned false i base last)) =
+  abbrev pub event_items : View → Option Event → List Item
+  event_items v None = []
+  event_items v (Some (Called inward i base last)) = []
+  event_items v (Some (Returned true i base last)) = []
+  event_items v (Some (Returned false i base last)) =
       Ret (part_name l (site_of l i).part) (site_of l i).index base (integer_in (v.reg A0)) ∷ []
-  items_of v (Some (Entered part k back)) =
+  event_items v (Some (Entered part k back)) =
       Enter (part_name l part) (entry_name l part k) (left_in l.stack.base (v.reg Stk))
       (integers_in (args_of v))
       (feed_pairs l (pairs_of l v)) (feed_back l back) ∷ []
-  items_of v (Some (Left part)) = []
+  event_items v (Some (Left part)) = []
 
 -- ---- runs
 
@@ -81,7 +81,8 @@ module _ (l : Layout) where
 
   abbrev pub show : OState → Ending → (OState → Trace) → Trace
   show o (goes q) rest =
-      shown (outs_of l (flat_view l q) (step_event l o q)) (items_of l (flat_view l q) (step_event l o q))
+      shown (event_outs l (flat_view l q) (step_event l o q))
+      (event_items l (flat_view l q) (step_event l o q))
       (weighed (is_inside l o) (weight_of l o)) (rest q)
   show o halts rest = ended (is_inside l o) (weight_of l o) (HaltedWith ((flat_view l o).reg A0))
   show o fails rest = ended (is_inside l o) (weight_of l o) Failed

@@ -16,7 +16,7 @@ use Rattle.template_runs.specs.Runs.{is_inside}
 use Rattle.template_runs.specs.Border.{Wiped}
 use Rattle.proc_semantics.specs.Values.{World}
 use Rattle.proc_semantics.specs.Marked.{Thing, Event, Calls, Leaves, Whence, refined}
-use Rattle.source_laws.specs.Seen.{Back, Shown, outs_of, items_of}
+use Rattle.source_laws.specs.Seen.{Back, Shown, event_outs, event_items}
 
 -- the lowest wiped cell that an event tells of
 abbrev pub low_of : {T E : Type 0} → Event T E → Option ℕ
@@ -36,7 +36,7 @@ pub data TellsSince (l : Layout) (o : OState) : List Shown → List (Thing OWord
   none_yet : TellsSince l o [] [] o o
   and_then : {es : List Shown} {is : List (Thing OWord Back)} {b p q : OState} → TellsSince l o es is b p
       → overlay_step l p ≡ goes q
-      → TellsSince l o (es ++ outs_of l q (step_event l p q)) (is ++ items_of l q (step_event l p q))
+      → TellsSince l o (es ++ event_outs l q (step_event l p q)) (is ++ event_items l q (step_event l p q))
       (last_outside (is_inside l p) b p) q
 
 -- Under every large enough fuel the event of this number tells of the lowest wiped cell, and from there on

@@ -1,5 +1,5 @@
 -- Whom sources call, with which words, from where: what a run shows is what the refined meaning tells.
-use Rattle.source_laws.specs.Seen.{Back, nothing_back, Shown, events_of, outs_of, items_of}
+use Rattle.source_laws.specs.Seen.{Back, nothing_back, Shown, events_of, event_outs, event_items}
 use Rattle.std.specs.Prelude.{◌≡◌, ℕ, zero, suc, ◌≤◌, pos, List, [], ◌∷◌, ◌++◌, map, slice_index_or}
 use Rattle.std.specs.Prelude.{Bool, false}
 use Rattle.cap_words.specs.declared.Word.TheVariants.{Int}
@@ -22,7 +22,7 @@ pub data Tells (l : Layout) (o : OState) : List Shown → List (Thing OWord Back
   none_yet : Tells l o [] [] o
   and_then : {es : List Shown} {is : List (Thing OWord Back)} {p q : OState} → Tells l o es is p
       → overlay_step l p ≡ goes q
-      → Tells l o (es ++ outs_of l q (step_event l p q)) (is ++ items_of l q (step_event l p q)) q
+      → Tells l o (es ++ event_outs l q (step_event l p q)) (is ++ event_items l q (step_event l p q)) q
 
 -- the words that came with an item
 abbrev pub words_at : List (Thing OWord Back) → ℕ → List OWord

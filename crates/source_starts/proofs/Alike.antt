@@ -15,7 +15,8 @@ use Rattle.component_linker.specs.Placing.{moved_by, moved_word}
 use Rattle.proc_program.specs.declared.program.Part.{Part}
 use Rattle.proc_templates.specs.Items.{FAIL_AT, Spot, Item, does, guards, goes, goes_if, finishes, label}
 use Rattle.proc_templates.specs.Items.{site, entry, leaves, zero_of, wiped, leading}
-use Rattle.proc_templates.specs.Compiled.{component_of, data_of, imports_of, exports_of, int_word, pair_count}
+use Rattle.proc_templates.specs.Compiled.{component_of, first_data, imports_of, exports_of, int_word}
+use Rattle.proc_templates.specs.Compiled.{pair_count}
 use Rattle.lcm_isa.specs.declared.Instr.{Instr}
 use Rattle.component_file.specs.declared.component.KindRow.{KindRow}
 use Rattle.call_sequence.specs.Sequences.{distance}
@@ -23,8 +24,7 @@ use Rattle.lcm_isa.specs.declared.Reg.TheVariants.{Pc, Rcode, Rdata, T2}
 use Rattle.lcm_isa.specs.declared.Operand.TheVariants.{R, Imm}
 use Rattle.lcm_isa.specs.declared.Instr.TheVariants.{Move, Cca, Jmp, Jnz, Xjmp}
 use Rattle.proc_templates.specs.Free.{behind}
-use Rattle.proc_templates.proofs.Onwards.{Stands, AtMostLabel}
-use Rattle.proc_templates.proofs.Carried.{Run, Starts, Here, Carries}
+use Rattle.proc_templates.proofs.Offers.{Stands, AtMostLabel, Run, Starts, Here, Carries}
 use Rattle.source_laws.specs.Sites.{next_count, SiteAt, SitesAt}
 
 -- the component of a program, but for the numbers at which it stands
@@ -33,7 +33,7 @@ pub record IsPlaced (m : Part) (c : ComponentFields) : Type 0 where
   pub stack : c.stack_base ≡ m.stack
   pub code_length : length c.code ≡ length (component_of m).code
   pub instrs : (o : ℕ) → instr_at c o ≡ instr_at (component_of m) o
-  pub data_is : c.data_words ≡ data_of m
+  pub data_is : c.data_words ≡ first_data m
   pub imports : c.imports ≡ imports_of m
   pub exports : c.exports ≡ exports_of m
   pub sites : c.sites ≡ (component_of m).sites
@@ -57,8 +57,8 @@ zeros_same : (m : _) (n : ℕ) (ws : List Word)
 zeros_same m zero ws = refl
 zeros_same m (suc n) ws = ap (λ ws. Int (pos 0) ∷ ws) (zeros_same m n ws)
 
-data_same : (v : _) (m : Part) → map (moved_word v) (data_of m) ≡ data_of m
-unfolding data_of
+data_same : (v : _) (m : Part) → map (moved_word v) (first_data m) ≡ first_data m
+unfolding first_data
 data_same v m =
     zeros_same v (pair_count m) (map int_word m.globals)
     ∙ ap (λ ws. replicate (pair_count m) (Int (pos 0)) ++ ws) (ints_same v m.globals)

@@ -14,19 +14,16 @@ use Rattle.proc_templates.specs.Templates.{proc_code, before_epilogue, check_par
 use Rattle.proc_templates.specs.Templates.{block_code}
 use Rattle.proc_templates.specs.Compiled.{frame_of, size_of_proc, head_of, lay_proc, lay_procs, laid_of}
 use Rattle.proc_templates.specs.Compiled.{component_of}
-use Rattle.proc_templates.specs.Kept.{Fits}
-use Rattle.proc_templates.proofs.Laying.{has_it, put-length, Rest, Sound, rest_lay, get-left}
-use Rattle.proc_templates.proofs.Standing.{carries}
-use Rattle.proc_templates.proofs.Carried.{Carries}
-use Rattle.proc_templates.proofs.Whole.{ProcReady, AllReady, spot_of, proc_laid, laid-length, sound_proc}
-use Rattle.proc_templates.proofs.Whole.{procs-length, rest_procs, head_sound}
-use Rattle.proc_templates.proofs.Entries.{rest_whole}
-use Rattle.proc_templates.proofs.Readies.{ready, code-length}
+use Rattle.proc_templates.specs.Kept.{FitsComponent}
+use Rattle.proc_templates.proofs.Offers.{has_it, put-length, Rest, Sound, rest_lay, get-left, carries}
+use Rattle.proc_templates.proofs.Offers.{Carries, ProcReady, AllReady, spot_of, proc_laid, laid-length}
+use Rattle.proc_templates.proofs.Offers.{sound_proc, procs-length, rest_procs, head_sound, rest_whole, ready}
+use Rattle.proc_templates.proofs.Offers.{code-length}
 use Rattle.proc_templates.specs.declared.Frame.{Frame}
 use Rattle.proc_program.specs.Program.{Block}
 use Rattle.proc_program.specs.Limits.{registers_of}
 use Rattle.cap_words.specs.declared.TheConstants.{LAST_PLACE}
-use Rattle.source_laws.proofs.CallSites.{count_both, checks_count, push_count, block_count}
+use Rattle.source_laws.proofs.Offers.{count_both, checks_count, push_count, block_count}
 use Rattle.source_laws.specs.Sites.{next_count, count, SiteAt, SitesAt}
 
 -- what is written so far only grows
@@ -203,7 +200,7 @@ module _ (m : Part) (c : ComponentFields) (fails : c.fail_at ≡ Some FAIL_AT) w
       (procs_stand ps (lay_proc m l q) ready.1 most (sound_proc m l q s) r g i p e))
 
 -- the procedures of a module stand in its component, from offset 2 on
-pub all_stand : (m : Part) → Fits m → (i : ℕ) (p : Procedure) → slice_get m.procs i ≡ Some p
+pub all_stand : (m : Part) → FitsComponent m → (i : ℕ) (p : Procedure) → slice_get m.procs i ≡ Some p
     → ProcStands m (component_of m) (offset_from 2 m.procs i) (calls_from 0 m.procs i) p
 unfolding laid_of component_of
 all_stand m fits i p e =

@@ -33,10 +33,8 @@ use Rattle.overlay_machine.specs.Linked.{Linked}
 use Rattle.overlay_machine.specs.Names.{NamesTold}
 use Rattle.overlay_machine.specs.Safe.{IsSafeCap}
 use Rattle.overlay_machine.specs.Starting.{overlay_at}
-use Rattle.overlay_machine.proofs.starts.ListFacts.{index_of}
-use Rattle.overlay_machine.proofs.starts.NameFacts.{starts_tell_names}
-use Rattle.overlay_machine.proofs.invariant.Crossing.{Leads_to, to_safe, to_entry, leads_to, whole_data}
-use Rattle.overlay_machine.proofs.invariant.Facts.{not_trusted}
+use Rattle.overlay_machine.proofs.Offers.{index_of, starts_tell_names, Leads_to, to_safe, to_entry, leads_to}
+use Rattle.overlay_machine.proofs.Offers.{whole_data, not_trusted}
 use Rattle.trace_tool.specs.declared.pairs.Pair.{Pair}
 use Rattle.trace_tool.specs.declared.pairs.Pair.TheVariants as pair
 use Rattle.trace_tool.specs.Layout.{is_trusted}
@@ -49,12 +47,10 @@ use Rattle.proc_program.specs.Lower.{part_of}
 use Rattle.proc_semantics.specs.declared.value.Target.{Target}
 use Rattle.proc_semantics.specs.Values.{World, pair_fed, pair_found}
 use Rattle.template_runs.specs.Public.{IsShown, IsSharedAt}
-use Rattle.template_runs.proofs.Outside.{open_no_owner, opened_is}
-use Rattle.template_runs.proofs.Checks.{is_half}
+use Rattle.template_runs.proofs.Offers.{open_no_owner, opened_is, is_half}
 use Rattle.template_runs.specs.Border.{content_of}
 use Rattle.trace_tool.specs.Lines.{feed_pair}
-use Rattle.source_laws.proofs.Parameters.{PairIs}
-use Rattle.source_laws.proofs.Callings.{Sealing, FailsBy}
+use Rattle.source_laws.proofs.Offers.{PairIs, Sealing, FailsBy}
 use Rattle.source_starts.specs.Sources.{trusted_parts}
 use Rattle.source_starts.proofs.Worlds.{Aligned, home_of}
 use Rattle.source_starts.proofs.StartWords.{the_link, apart}

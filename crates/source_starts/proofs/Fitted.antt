@@ -30,7 +30,7 @@ use Rattle.proc_names.specs.NameFaults.{plain_faults, array_faults, call_faults,
 use Rattle.proc_names.specs.NameFaults.{expr_faults, args_faults, stmt_faults, block_faults}
 use Rattle.proc_names.specs.Need.{depth, args_depth, stmt_depth, block_depth, need}
 use Rattle.proc_names.specs.Calls.{calls, stmt_calls, block_calls}
-use Rattle.proc_program.specs.Lower.{words, words_in, word_at, param_place, place_by, row_by, handle_by}
+use Rattle.proc_program.specs.Lower.{words, words_in, first_word_of, param_place, place_by, row_by, handle_by}
 use Rattle.proc_program.specs.Lower.{exp_of, args_of, step_of, steps_of}
 use Rattle.proc_program.specs.Limits.{register_count, registers_of, arg_registers}
 use Rattle.proc_program.specs.declared.program.Place.{Place}
@@ -40,11 +40,11 @@ use Rattle.proc_program.specs.Program as run
 use Rattle.proc_program.specs.Program.{Exp, Step}
 use Rattle.proc_program.specs.View.{args_of as args_view}
 use Rattle.proc_program.specs.StepView.{block_of as block_view}
-use Rattle.proc_program.proofs.Kept.{row_within, count_same}
-use Rattle.source_laws.specs.Fits.{Kind, AsNumber, AsPair, kinds_from, PlaceFits, RowFits, HandleFits}
+use Rattle.proc_program.proofs.Offers.{row_within, count_same}
+use Rattle.source_laws.specs.Fits.{Kind, AsNumber, AsPair, kinds_from, PlaceInside, RowInside, HandleInside}
 use Rattle.source_laws.specs.Fits.{PassFits, ExpFits, ArgsFit, StepFits, BlockFits}
 use Rattle.overlay_machine.proofs.Offers.{found_at}
-use Rattle.proc_templates.proofs.Apart.{left_none, right_none}
+use Rattle.proc_templates.proofs.Offers.{left_none, right_none}
 
 -- ---- lists
 
@@ -116,7 +116,8 @@ some_words g fits = by g.length fits.1
     by (Some n) h = h.0
 
 -- the first word of a global is there
-word_within : (gs : List Global) (k : ℕ) → Each GlobalFits gs → k < length gs → word_at gs k < words_in gs
+word_within : (gs : List Global) (k : ℕ) → Each GlobalFits gs → k < length gs
+    → first_word_of gs k < words_in gs
 word_within [] k fits h = absurd (omega (arith, h))
 word_within (g ∷ gs) zero fits h =
     let e = sum_by-cons words g gs in let s = some_words g fits.0 in omega (arith, e, s)
@@ -157,13 +158,13 @@ module _ (m : ModuleFields) (limits : IsModule m) (p : Proc) (fits : ProcFits p)
   Count = words_in m.globals
 
   abbrev pub Placed : Place → Type 0
-  Placed = PlaceFits Kinds (need p) Temps Count (length m.imports) (length m.procs) (shares m.procs)
+  Placed = PlaceInside Kinds (need p) Temps Count (length m.imports) (length m.procs) (shares m.procs)
 
   abbrev pub Rowed : Row → Type 0
-  Rowed = RowFits Kinds (need p) Temps Count (length m.imports) (length m.procs) (shares m.procs)
+  Rowed = RowInside Kinds (need p) Temps Count (length m.imports) (length m.procs) (shares m.procs)
 
   abbrev pub Handled : Handle → Type 0
-  Handled = HandleFits Kinds (need p) Temps Count (length m.imports) (length m.procs) (shares m.procs)
+  Handled = HandleInside Kinds (need p) Temps Count (length m.imports) (length m.procs) (shares m.procs)
 
   abbrev pub Passed : Handle → Type 0
   Passed = PassFits Kinds (need p) Temps Count (length m.imports) (length m.procs) (shares m.procs)

@@ -22,12 +22,10 @@ use Rattle.overlay_machine.specs.declared.words.OWord.TheVariants.{Plain}
 use Rattle.overlay_machine.specs.Link.{Link, IsTrusted, IsUntrusted, ranges_of}
 use Rattle.overlay_machine.specs.Linked.{Linked}
 use Rattle.overlay_machine.specs.Safe.{IsOpenSeal}
-use Rattle.overlay_machine.proofs.invariant.Bracketed.{found_at, numbered_is}
-use Rattle.overlay_machine.proofs.invariant.Crossing.{code_is}
+use Rattle.overlay_machine.proofs.Offers.{found_at, numbered_is, crossing_code_is as code_is}
 use Rattle.trace_tool.specs.Layout.{is_trusted}
 use Rattle.proc_semantics.specs.declared.value.Target.{Target}
-use Rattle.source_laws.proofs.Arguments.{Half}
-use Rattle.source_laws.proofs.Callings.{Sealing}
+use Rattle.source_laws.proofs.Offers.{Half, Sealing}
 
 -- a sealed capability that isn't linear
 pub half_of : (n : ℕ) (c : CapFields) → lin_is c.lin ≡ false → Half (Plain (Sealed n (MemIn c)))

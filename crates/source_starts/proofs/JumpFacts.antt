@@ -24,14 +24,13 @@ use Rattle.lcm_machine.specs.Maps.{State}
 use Rattle.lcm_machine.specs.Table.{ask, need, memory_content, unsealed, runs_in, no_effect, made}
 use Rattle.lcm_machine.specs.Row.{pc_at, plan_in, opens, outcome, row, failed}
 use Rattle.lcm_machine.proofs.Offers.{Gives, gives_goes, Gives-effect, Gives-ask, Gives-need, is_linear-face}
-use Rattle.trusted_border.specs.Reaches.{jump_plan, goes_on}
+use Rattle.trusted_border.specs.Reaches.{jump_plan, plan_goes}
 use Rattle.overlay_machine.specs.declared.words.OWord.{OWord}
 use Rattle.overlay_machine.specs.declared.words.OWord.TheVariants.{Plain, RetCode, RetData}
 use Rattle.overlay_machine.specs.Words.{look}
 use Rattle.trace_tool.specs.Pairs.{if_normal, content_linear}
-use Rattle.template_runs.proofs.Checks.{is_half}
-use Rattle.template_runs.proofs.Back.{need_halts}
-use Rattle.source_laws.proofs.Arguments.{Half}
+use Rattle.template_runs.proofs.Offers.{is_half, need_halts}
+use Rattle.source_laws.proofs.Offers.{Half}
 
 -- ---- halves
 
@@ -105,7 +104,7 @@ abbrev Opens : Word → Word → Type 0
 Opens w v = (code : Opened) × (half : Opened) × (opened_of w ≡ Some code) × (opened_of v ≡ Some half)
     × JumpFacts code half
 
-facts_of : (w v : Word) (q : Plan) → Gives (λ e. Opens w v) q → goes_on q ≡ true → Opens w v
+facts_of : (w v : Word) (q : Plan) → Gives (λ e. Opens w v) q → plan_goes q ≡ true → Opens w v
 facts_of w v (Fails f) g e = cc
 facts_of w v Halts g e = cc
 facts_of w v (Goes x) g e = Gives-effect g
@@ -131,7 +130,7 @@ all_facts w v =
       },
     ))))))))
 
-pub jump_facts : (w v : Word) → goes_on (jump_plan w v) ≡ true → Opens w v
+pub jump_facts : (w v : Word) → plan_goes (jump_plan w v) ≡ true → Opens w v
 jump_facts w v e = facts_of w v (jump_plan w v) (all_facts w v) e
 
 -- ---- where it fails
@@ -187,13 +186,13 @@ never_halts r a b e =
     (ask_halts F7 (may_run c.perm) _ (ask_halts F7 (not (runs_in half.content)) _ (λ h. cc))))))) e
 
 -- a call of two words fails, if it is told so
-pub call_fails : (w v : Word) → goes_on (jump_plan w v) ≡ false → (s : State OWord) → s.regs.c1 ≡ Plain w
+pub call_fails : (w v : Word) → plan_goes (jump_plan w v) ≡ false → (s : State OWord) → s.regs.c1 ≡ Plain w
     → s.regs.c2 ≡ Plain v → (cause : FailCause) × (z : ℤ)
     × (row look Plain (Xjmp C1 C2) (Int (pos 0)) s ≡ failed cause z)
 unfolding row plan_in opens
 call_fails w v stuck s e1 e2 = by (jump_plan w v) refl stuck
   where
-    by : (q : Plan) → jump_plan w v ≡ q → goes_on q ≡ false
+    by : (q : Plan) → jump_plan w v ≡ q → plan_goes q ≡ false
         → (cause : FailCause) × (z : ℤ)
         × (outcome look Plain s
         (jump_by C2 (opened_of (look s.regs.c1)) (opened_of (look s.regs.c2))) ≡ failed cause z)

@@ -23,3 +23,4 @@ pub mod RunMeaning
 pub mod PlainSecrets
 pub mod PlainWords
 pub mod PlainWiped
+pub mod Offers

@@ -9,7 +9,7 @@ use Rattle.overlay_machine.specs.State.{OState}
 use Rattle.overlay_machine.specs.Step.{weight_of}
 use Rattle.overlay_machine.specs.Events.{step_event}
 use Rattle.trace_tool.specs.declared.pairs.Pairs.{Pairs}
-use Rattle.trace_tool.specs.Pairs.{pairs_of, no_pairs}
+use Rattle.trace_tool.specs.Pairs.{pairs_of, none_paired}
 use Rattle.trace_tool.specs.Views.{View, flat_view}
 use Rattle.trace_tool.specs.Lines.{Line, pass_line, lines_for}
 use Rattle.trace_tool.specs.StepLines.{no_step, and_step, StepsTellSo}
@@ -21,7 +21,7 @@ use Rattle.trace_tool.specs.Feed.{OutsJoin, ItemsJoin, EntriesAreItems}
 use Rattle.source_events.specs.declared.Item.{Item}
 use Rattle.source_events.specs.declared.OutEvent.{OutEvent}
 use Rattle.template_runs.specs.Runs.{is_inside}
-use Rattle.source_laws.specs.Trace.{outs_of, items_of, weighed}
+use Rattle.source_laws.specs.Trace.{event_outs, event_items, weighed}
 use Rattle.source_laws.specs.Sources as runs
 use Rattle.source_laws.specs.Sources.{Shows}
 
@@ -31,16 +31,16 @@ module _ (l : Layout) (v : View) where
   pass_silent true p = refl
   pass_silent false p = refl
 
-  pub outs_same : (e : Option Event) → line.outs_of (lines_for l v e) ≡ outs_of l v e
+  pub outs_same : (e : Option Event) → line.outs_of (lines_for l v e) ≡ event_outs l v e
   outs_same None = refl
   outs_same (Some (Called true i base last)) = refl
   outs_same (Some (Called false i base last)) = refl
   outs_same (Some (Returned inward i base last)) = refl
-  outs_same (Some (Entered part k back)) = pass_silent (no_pairs (pairs_of l v)) (pairs_of l v)
+  outs_same (Some (Entered part k back)) = pass_silent (none_paired (pairs_of l v)) (pairs_of l v)
   outs_same (Some (Left part)) = refl
 
   module _ (entries : EntriesAreItems) where
-    pub items_same : (e : Option Event) → line.items_of l.stack.base (lines_for l v e) ≡ items_of l v e
+    pub items_same : (e : Option Event) → line.items_of l.stack.base (lines_for l v e) ≡ event_items l v e
     items_same None = refl
     items_same (Some (Called inward i base last)) = refl
     items_same (Some (Returned true i base last)) = refl
@@ -58,11 +58,11 @@ module _ (l : Layout) (o : OState) (join : OutsJoin) (items_join : ItemsJoin) (e
   lines_show _ _ q (and_then {j = j} {ls = ls} {p = p} t e) =
       let h = lines_show j ls p t in
       let outs : line.outs_of (ls ++ step_lines l p q)
-      ≡ line.outs_of ls ++ outs_of l (flat_view l q) (step_event l p q) =
+      ≡ line.outs_of ls ++ event_outs l (flat_view l q) (step_event l p q) =
       join ls (step_lines l p q)
       ∙ ap (λ xs. line.outs_of ls ++ xs) (outs_same l (flat_view l q) (step_event l p q)) in
       let items : line.items_of l.stack.base (ls ++ step_lines l p q)
-      ≡ line.items_of l.stack.base ls ++ items_of l (flat_view l q) (step_event l p q) =
+      ≡ line.items_of l.stack.base ls ++ event_items l (flat_view l q) (step_event l p q) =
       items_join l.stack.base ls (step_lines l p q)
       (and_step no_step (tell l (flat_view l q) (step_event l p q)))
       ∙ ap (λ xs. line.items_of l.stack.base ls ++ xs)
@@ -71,7 +71,7 @@ module _ (l : Layout) (o : OState) (join : OutsJoin) (items_join : ItemsJoin) (e
         subst (λ xs. Shows l o (j + weight_of l p) (h.0 + weighed (is_inside l p) (weight_of l p)) xs
             (line.items_of l.stack.base (ls ++ step_lines l p q)) q) (sym outs)
             (subst (λ ys. Shows l o (j + weight_of l p) (h.0 + weighed (is_inside l p) (weight_of l p))
-            (line.outs_of ls ++ outs_of l (flat_view l q) (step_event l p q)) ys q) (sym items)
+            (line.outs_of ls ++ event_outs l (flat_view l q) (step_event l p q)) ys q) (sym items)
             (runs.and_then h.1 e)),
       )
 

@@ -10,9 +10,8 @@ use Rattle.component_linker.specs.Parts.{PartSeen}
 use Rattle.component_linker.specs.Pairs.{NoneIsBroken, at_each, passes, never}
 use Rattle.component_linker.specs.Links.{rules_l, l5, is_private}
 use Rattle.component_linker.specs.Start.{Exported, exported_by, export_that, part_named, imported, same_name}
-use Rattle.component_linker.proofs.LinksKept.{in_part}
-use Rattle.component_linker.proofs.StartWords.{IsExport, imported_there}
-use Rattle.overlay_machine.proofs.starts.ListFacts.{found_is}
+use Rattle.component_linker.proofs.Offers.{in_part, IsExport, imported_there}
+use Rattle.overlay_machine.proofs.Offers.{found_is}
 use Rattle.source_starts.proofs.Worlds.{NamesApart, names_same, same_names}
 
 -- two parts of one name are one

@@ -25,12 +25,10 @@ use Rattle.component_linker.specs.Regions.{addresses, span_of, stack_span, is_st
 use Rattle.component_linker.specs.Pairs.{NoneIsBroken, at_each, passes, once}
 use Rattle.component_linker.specs.Links.{rules_l, l6, has_main}
 use Rattle.component_linker.specs.Start.{Exported, is_main, same_name, main_of, export_that, code_of}
-use Rattle.component_linker.specs.Start.{start_regs, stack_base_of, stack_of, stack_cap}
+use Rattle.component_linker.specs.Start.{start_regs, stack_base_of, stack_of, whole_stack_cap}
 use Rattle.component_linker.specs.Started.{StartSeen}
-use Rattle.component_linker.proofs.LinksKept.{in_part, stack_fits}
-use Rattle.component_linker.proofs.RuleLemmas.{slice_get-take}
-use Rattle.component_linker.proofs.Found.{given}
-use Rattle.component_linker.proofs.StartWords.{IsExport, main_is_there}
+use Rattle.component_linker.proofs.Offers.{in_part, stack_fits, slice_get-take, given, IsExport}
+use Rattle.component_linker.proofs.Offers.{main_is_there}
 use Rattle.component_linker.specs.LinkedStarts.{IsLinkedStart}
 use Rattle.overlay_machine.specs.declared.words.OWord.TheVariants.{Plain}
 use Rattle.overlay_machine.specs.Words.{look}
@@ -41,13 +39,9 @@ use Rattle.overlay_machine.specs.Linked.{Linked}
 use Rattle.overlay_machine.specs.Safe.{IsSafe}
 use Rattle.overlay_machine.specs.Invariant.{Invariant, PcPart, at_fail, at_row, outside}
 use Rattle.overlay_machine.specs.Starting.{overlay_at}
-use Rattle.overlay_machine.proofs.OwnStack.{own_from}
-use Rattle.overlay_machine.proofs.starts.ListFacts.{listed_at, index_of, any_is, any_of, found_is}
-use Rattle.overlay_machine.proofs.starts.ListFacts.{position_is}
-use Rattle.overlay_machine.proofs.starts.OneOverlay.{is_overlay}
-use Rattle.overlay_machine.proofs.starts.StartSafe.{stack_safe}
-use Rattle.overlay_machine.proofs.invariant.Facts.{stack_order}
-use Rattle.overlay_machine.proofs.invariant.Crossing.{code_is}
+use Rattle.overlay_machine.proofs.Offers.{own_from, listed_at, index_of, any_is, any_of, found_is}
+use Rattle.overlay_machine.proofs.Offers.{position_is, is_overlay, stack_safe, stack_order}
+use Rattle.overlay_machine.proofs.Offers.{crossing_code_is as code_is}
 use Rattle.proc_language.specs.declared.module.ModuleFields.{ModuleFields}
 use Rattle.proc_language.specs.Limits.{Each, IsModule}
 use Rattle.proc_names.specs.NameFaults.{name_faults}
@@ -56,11 +50,9 @@ use Rattle.proc_program.specs.declared.program.Procedure.{Procedure}
 use Rattle.proc_program.specs.Lower.{part_of}
 use Rattle.proc_semantics.specs.declared.value.Target.{Target}
 use Rattle.proc_semantics.specs.Values as meaning
-use Rattle.proc_semantics.specs.Values.{World, target, part_at, shared_at, shared_in, is_shared}
+use Rattle.proc_semantics.specs.Values.{World, target, home_part, shared_at, shared_in, is_shared}
 use Rattle.template_runs.specs.Public.{IsPublic}
-use Rattle.template_runs.proofs.Valid.{Valid}
-use Rattle.template_runs.proofs.Steps.{At}
-use Rattle.template_runs.proofs.Outside.{Out}
+use Rattle.template_runs.proofs.Offers.{Valid, At, Out}
 use Rattle.source_starts.specs.Sources.{trusted_parts}
 use Rattle.source_starts.proofs.Worlds.{Aligned, Home, home_of, part_of_home, one_home, same_names}
 use Rattle.source_starts.proofs.Worlds.{names_same, position_at, position_none}
@@ -180,10 +172,10 @@ module _ (modules : List ModuleFields) (parts : List PartSeen) (size : ℕ) (s :
   unfolding start_regs
   a3_zero = reg_is A3
 
-  the_stack : stack_of (stack_base_of parts) size ≡ stack_cap s.stack
-  the_stack = ap stack_cap (stack_is parts size s.stack is.starts.stack)
+  the_stack : stack_of (stack_base_of parts) size ≡ whole_stack_cap s.stack
+  the_stack = ap whole_stack_cap (stack_is parts size s.stack is.starts.stack)
 
-  stk_is : O.maps.regs.stk ≡ Plain (Mem (stack_cap s.stack))
+  stk_is : O.maps.regs.stk ≡ Plain (Mem (whole_stack_cap s.stack))
   unfolding start_regs
   stk_is = reg_is Stk ∙ ap (λ c. Plain (Mem c)) the_stack
 
@@ -270,13 +262,13 @@ module _ (modules : List ModuleFields) (parts : List PartSeen) (size : ℕ) (s :
     pub to : Target
     pub part : PartSeen
     pub entry : ℕ
-    pub main : meaning.main_of W ≡ Some to
+    pub main : meaning.main_target W ≡ Some to
     pub begins : BeginsAt modules parts to part entry
     pub at : At G linked part entry O
     pub dat : look O.maps.regs.dat ≡ Mem (data_cap (ranges_of part) (pos part.component.data_base))
 
   in_main : Entry.part.trusted ≡ true → InMain
-  unfolding meaning.main_of start_regs
+  unfolding meaning.main_target start_regs
   in_main t =
       let p = Entry.part in
       let n = home_of modules parts aligned there.index p there.at t in
@@ -304,7 +296,7 @@ module _ (modules : List ModuleFields) (parts : List PartSeen) (size : ℕ) (s :
       }
     where
       has : (i : ℕ) (p : PartSeen) (h : Home modules parts i p) (j : ℕ) (q : Procedure) (name : List ℕ)
-          → shared_in i name (part_at W i) ≡ Some (target i j)
+          → shared_in i name (home_part W i) ≡ Some (target i j)
           → is_some (position (is_shared name) (part_of h.source).procs) ≡ true
       has i p h j q name f =
           by (position (is_shared name) (part_of h.source).procs)
@@ -324,8 +316,8 @@ module _ (modules : List ModuleFields) (parts : List PartSeen) (size : ℕ) (s :
           omega (arith, a, lt)))
 
   -- or of an untrusted part
-  out_main : Entry.part.trusted ≡ false → meaning.main_of W ≡ None
-  unfolding meaning.main_of
+  out_main : Entry.part.trusted ≡ false → meaning.main_target W ≡ None
+  unfolding meaning.main_target
   out_main u = ap (shared_at W Main) (position_none meaning.has_main W (λ k v at. none_at k v at (λ p h e. (
       let a = main_part k p h e in
       let bad : true ≡ false = sym h.trusted ∙ ap (λ (x : PartSeen). x.trusted) a ∙ u in cc))))
@@ -374,7 +366,7 @@ module _ (modules : List ModuleFields) (parts : List PartSeen) (size : ℕ) (s :
   -- the start begins in main or outside
   pub data Beginning : Type 0 where
     inside : InMain → Beginning
-    beyond : meaning.main_of W ≡ None → Out G linked O → Beginning
+    beyond : meaning.main_target W ≡ None → Out G linked O → Beginning
 
   pub begins : Beginning
   begins = by Entry.part.trusted refl

@@ -11,14 +11,14 @@ use Rattle.cap_words.specs.declared.Word.{Word}
 use Rattle.cap_words.specs.declared.Word.TheVariants.{Int, Sealed}
 use Rattle.cap_words.specs.declared.Sealable.TheVariants.{Mem as MemIn}
 use Rattle.component_file.specs.declared.component.Import.{Import}
-use Rattle.component_file.proofs.Lists.{inside as there_is}
+use Rattle.component_file.proofs.Offers.{inside as there_is}
 use Rattle.lcm_machine.specs.Cells.{cell}
 use Rattle.lcm_machine.specs.Table.{fits_64}
 use Rattle.flow_check.specs.Holds.{code_at, data_cap}
 use Rattle.component_linker.specs.Parts.{PartSeen}
 use Rattle.component_linker.specs.Start.{Exported, code_half, data_half, code_of, data_of, imported}
 use Rattle.component_linker.specs.Started.{StartSeen}
-use Rattle.component_linker.proofs.StartWords.{IsExport}
+use Rattle.component_linker.proofs.Offers.{IsExport}
 use Rattle.component_linker.specs.LinkedStarts.{IsLinkedStart}
 use Rattle.overlay_machine.specs.declared.words.OWord.{OWord}
 use Rattle.overlay_machine.specs.declared.words.OWord.TheVariants.{Plain}
@@ -26,24 +26,24 @@ use Rattle.overlay_machine.specs.Link.{Link, IsTrusted, IsUntrusted, ranges_of}
 use Rattle.overlay_machine.specs.Linked.{Linked}
 use Rattle.overlay_machine.specs.Invariant.{Invariant}
 use Rattle.overlay_machine.specs.Starting.{overlay_at}
-use Rattle.overlay_machine.proofs.starts.ListFacts.{listed_at}
+use Rattle.overlay_machine.proofs.Offers.{listed_at}
 use Rattle.proc_language.specs.declared.module.ModuleFields.{ModuleFields}
 use Rattle.proc_language.specs.Limits.{Each, IsModule}
-use Rattle.proc_language.proofs.ListLemmas.{each_at}
+use Rattle.proc_language.proofs.Offers.{each_at}
 use Rattle.proc_names.specs.NameFaults.{name_faults}
 use Rattle.proc_program.specs.declared.program.Import as program
 use Rattle.proc_program.specs.declared.program.Part.{Part}
 use Rattle.proc_program.specs.declared.program.Procedure.{Procedure}
 use Rattle.proc_program.specs.Lower.{part_of}
 use Rattle.proc_program.specs.Limits.{IsPart}
-use Rattle.proc_program.proofs.Kept.{part_fits}
+use Rattle.proc_program.proofs.Offers.{part_fits}
 use Rattle.proc_templates.specs.Compiled.{pair_count, imports_of}
 use Rattle.proc_semantics.specs.declared.value.Target.{Target}
 use Rattle.proc_semantics.specs.declared.value.Pair.{Pair}
 use Rattle.proc_semantics.specs.declared.value.Pair.TheVariants.{Outside, Runs}
-use Rattle.proc_semantics.specs.Values.{World, Store, target, part_at, pair_found, linked_by}
+use Rattle.proc_semantics.specs.Values.{World, Store, target, home_part, pair_found, linked_by}
 use Rattle.proc_semantics.specs.Values.{linked as linked_to, import_in, is_named}
-use Rattle.source_laws.proofs.Callings.{Sealing, MeantBy, IsPair}
+use Rattle.source_laws.proofs.Offers.{Sealing, MeantBy, IsPair}
 use Rattle.source_starts.specs.Sources.{trusted_parts}
 use Rattle.source_starts.proofs.Carrying.{offset_from}
 use Rattle.source_starts.proofs.Worlds.{Aligned, Home, home_of, found_home, found_none}
@@ -55,7 +55,7 @@ use Rattle.source_starts.proofs.Targets.{one_proc, imports_apart, BeginsAt, part
 use Rattle.source_starts.proofs.Targets.{shared_found, proc_of}
 use Rattle.source_starts.proofs.Halves.{half_of, trusted_pair, trusted_code, open_pair, open_leaves}
 use Rattle.source_starts.proofs.Stores.{StoreIs, data_size, index_is}
-use Rattle.run_items.proofs.FieldsRead.{signed_fits}
+use Rattle.run_items.proofs.Offers.{signed_fits}
 
 module _ (modules : List ModuleFields) (parts : List PartSeen) (size : ℕ) (s : StartSeen)
     (is : IsLinkedStart parts size s) (aligned : Aligned modules (trusted_parts parts))
@@ -147,7 +147,7 @@ module _ (modules : List ModuleFields) (parts : List PartSeen) (size : ℕ) (s :
     pub half : OWord
     pub words : PairWords p (2 * k) code half
     pub pair : Pair
-    pub pair_is : linked_to W (import_in (part_at W i) k) ≡ pair
+    pub pair_is : linked_to W (import_in (home_part W i) k) ≡ pair
     pub means : IsPair G linked Begin pair code half
 
   module _ (i : ℕ) (p : PartSeen) (h : Home modules parts i p) (k : ℕ) (im : program.Import)
@@ -184,11 +184,11 @@ module _ (modules : List ModuleFields) (parts : List PartSeen) (size : ℕ) (s :
               k y.index im y.proc at y.at (sym export_name ∙ y.name)))
         ]
 
-    import_here : import_in (part_at W i) k ≡ Some im
+    import_here : import_in (home_part W i) k ≡ Some im
     import_here = ap (λ o. import_in o k)
         (part_here modules parts aligned (apart parts size s is) resolved i p h) ∙ at
 
-    linked_is : linked_to W (import_in (part_at W i) k)
+    linked_is : linked_to W (import_in (home_part W i) k)
         ≡ linked_by W im.name (position (is_named im.part) W)
     unfolding linked_to
     linked_is = ap (λ o. linked_to W o) import_here

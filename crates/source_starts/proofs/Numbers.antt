@@ -9,7 +9,7 @@ use Rattle.proc_names.specs.Calls as text
 use Rattle.proc_program.specs.Lower.{exp_of, args_of, step_of, steps_of}
 use Rattle.proc_program.specs.View.{args_of as args_view}
 use Rattle.proc_program.specs.StepView.{block_of as block_view}
-use Rattle.proc_program.proofs.Counted.{exp_calls, among, stmt_kept, block_kept}
+use Rattle.proc_program.proofs.Offers.{exp_calls, among, stmt_kept, block_kept}
 use Rattle.source_laws.specs.Sites.{Numbered, ArgsNumbered, StepNumbered, BlockNumbered}
 
 module _ (m : ModuleFields) (p : Proc) where

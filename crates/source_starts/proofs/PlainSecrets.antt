@@ -23,8 +23,7 @@ use Rattle.overlay_machine.specs.Linked.{Linked}
 use Rattle.overlay_machine.specs.Invariant.{Invariant}
 use Rattle.overlay_machine.specs.Safe.{IsMet}
 use Rattle.overlay_machine.specs.Starting.{overlay_at, AgreesFromStart, StartsBegin}
-use Rattle.overlay_machine.proofs.invariant.FrameFacts.{frame_known}
-use Rattle.overlay_machine.proofs.invariant.FramePrivate.{stays_open}
+use Rattle.overlay_machine.proofs.Offers.{frame_known, stays_open, is_overlay}
 use Rattle.trace_tool.specs.Layout.{layout}
 use Rattle.trace_tool.specs.Headline.{Headline, Matched, HeadlineHolds}
 use Rattle.template_runs.specs.Public.{IsFreeAt}
@@ -33,7 +32,6 @@ use Rattle.source_laws.specs.Secrets.{HasCome, begins, comes, Until, still_there
 use Rattle.source_laws.specs.Secrets.{LeavesNothing, ComesFrom, RanLast, at_start, outside}
 use Rattle.source_starts.specs.PlainSecrets.{PlainShowsNoMore, PlainRunsLeaveNothing}
 use Rattle.source_starts.specs.Sources.{SourcesLeaveNothing, linked_at}
-use Rattle.overlay_machine.proofs.starts.OneOverlay.{is_overlay}
 
 module _ (g : Link) (linked : Linked g) (s : StartSeen) (same : g.layout ≡ layout s)
     (holds : (j : ℕ) (p : OState) → Matched s j p → (u : State Word) × Invariant g p u)

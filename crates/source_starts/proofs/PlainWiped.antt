@@ -8,7 +8,7 @@ use Rattle.lcm_machine.specs.Maps.{State}
 use Rattle.lcm_machine.specs.Cells.{cell}
 use Rattle.lcm_machine.specs.Mapped.{mapped_or}
 use Rattle.lcm_machine.specs.Run.{plain}
-use Rattle.call_sequence.specs.SequenceRuns.{Outside}
+use Rattle.call_sequence.specs.SequenceRuns.{IsOutsideRange}
 use Rattle.component_linker.specs.Parts.{PartSeen}
 use Rattle.component_linker.specs.Standing.{placed}
 use Rattle.component_linker.specs.Started.{StartSeen}
@@ -22,7 +22,7 @@ use Rattle.overlay_machine.specs.Link.{Link}
 use Rattle.overlay_machine.specs.Linked.{Linked}
 use Rattle.overlay_machine.specs.Invariant.{Invariant}
 use Rattle.overlay_machine.specs.Starting.{overlay_at, AgreesFromStart, StartsBegin}
-use Rattle.overlay_machine.proofs.starts.OneOverlay.{is_overlay}
+use Rattle.overlay_machine.proofs.Offers.{is_overlay}
 use Rattle.trace_tool.specs.Layout.{layout}
 use Rattle.trace_tool.specs.Headline.{Headline, Matched, HeadlineHolds}
 use Rattle.proc_semantics.specs.Marked.{Thing}
@@ -111,7 +111,7 @@ module _ (g : Link) (linked : Linked g) (s : StartSeen) (same : g.layout ≡ lay
           ∙ ap (λ z. Some (flat (layout s) q.frames z)) (w.cells.wiped a v lo hi e)
 
       kept : (a : ℕ) (v : Word) → IsFreeAt g a → framed q.frames a ≡ None
-          → Outside a (low_at g.layout.stack.base w.end low) w.end
+          → IsOutsideRange a (low_at g.layout.stack.base w.end low) w.end
           → cell (plain y.at s.state).maps.cells a ≡ Some v → (c : Option OWord) → cell q.maps.cells a ≡ c
           → cell (plain x.at s.state).maps.cells a ≡ Some v
       kept a v free out far there None e =

@@ -18,7 +18,7 @@ use Rattle.trace_tool.specs.Headline.{Headline, Matched, HeadlineHolds}
 use Rattle.template_runs.specs.Runs.{is_inside}
 use Rattle.proc_semantics.specs.Values.{World}
 use Rattle.proc_semantics.specs.Marked.{Marks, Thing, Event, Calls, Leaves, Whence, refined, arg_to, event_to}
-use Rattle.source_laws.specs.Seen.{Back, Shown, args_shown, call_shown, shown_of, outs_of, items_of}
+use Rattle.source_laws.specs.Seen.{Back, Shown, args_shown, call_shown, shown_of, event_outs, event_items}
 use Rattle.source_laws.specs.Words.{Tells, none_yet, and_then, word_from, back_at, WhenceTold, TellsSo}
 use Rattle.source_starts.specs.PlainWords.{CallTold, PlainCallTold, PlainRunsTellWords}
 use Rattle.source_starts.specs.Words.{SourcesTellWords}
@@ -82,10 +82,11 @@ module _ (s : StartSeen) (head : Headline s) where
       → PlainCallTold marks world stack s es is q base
   plain_told marks world stack told es is p q tells steps i base last ev =
       let l = layout s in
-      let more : Tells l (overlay_at s).state (es ++ outs_of l q (step_event l p q))
-      (is ++ items_of l q (step_event l p q)) q = and_then tells steps in
+      let more : Tells l (overlay_at s).state (es ++ event_outs l q (step_event l p q))
+      (is ++ event_items l q (step_event l p q)) q = and_then tells steps in
       let more2 : Tells l (overlay_at s).state (es ++ call_shown l q i base ∷ []) (is ++ []) q =
-      subst (λ z. Tells l (overlay_at s).state (es ++ outs_of l q z) (is ++ items_of l q z) q) ev more in
+      subst (λ z. Tells l (overlay_at s).state (es ++ event_outs l q z) (is ++ event_items l q z) q) ev more
+      in
       let more3 : Tells l (overlay_at s).state (es ++ call_shown l q i base ∷ []) is q =
       subst (λ z. Tells l (overlay_at s).state (es ++ call_shown l q i base ∷ []) z q)
       (append-nil is) more2 in

@@ -134,7 +134,8 @@ module _ (stops : StopsAreCuts) (s : StartSeen) (agree : Agrees s) (steps j : �
     where
       by : (y : Ending) → overlay_step (layout s) p ≡ y
           → OverlayHalts s p × (reg (plain steps s.state).maps.regs A0 ≡ (flat_view (layout s) p).reg A0)
-      by (goes q) e = absurd (said stops s agree steps j p at stop end.Halted (has_ended end.Halted a) (goes q) e)
+      by (goes q) e = absurd (said stops s agree steps j p at stop end.Halted (has_ended end.Halted a)
+          (goes q) e)
       by halts e =
           let t = said stops s agree steps j p at stop end.Halted (has_ended end.Halted a) halts e in
           (e, ap (λ (r : Run). reg r.maps.regs A0) t.1 ∙ (agree.alike j p at e).1)
@@ -149,10 +150,12 @@ module _ (stops : StopsAreCuts) (s : StartSeen) (agree : Agrees s) (steps j : �
     where
       by : (y : Ending) → overlay_step (layout s) p ≡ y → OverlayFails s p
       by (goes q) e =
-          absurd (said stops s agree steps j p at stop (end.Failed cause pc) (has_ended (end.Failed cause pc) a)
+          absurd (said stops s agree steps j p at stop (end.Failed cause pc)
+          (has_ended (end.Failed cause pc) a)
           (goes q) e)
       by halts e =
-          let t = said stops s agree steps j p at stop (end.Failed cause pc) (has_ended (end.Failed cause pc) a)
+          let t = said stops s agree steps j p at stop (end.Failed cause pc)
+          (has_ended (end.Failed cause pc) a)
           halts e in
           let z : end.Failed cause pc ≡ end.Halted = t.0 in
           absurd cc

@@ -5,19 +5,18 @@ use Rattle.component_linker.specs.Standing.{placed}
 use Rattle.component_linker.specs.Started.{StartSeen}
 use Rattle.component_linker.specs.LinkedStarts.{IsStartOf}
 use Rattle.overlay_machine.specs.Starting.{overlay_at, StartsBegin}
-use Rattle.overlay_machine.proofs.starts.ListFacts.{listed_at}
-use Rattle.overlay_machine.proofs.starts.OneOverlay.{is_overlay}
+use Rattle.overlay_machine.proofs.Offers.{listed_at, is_overlay}
 use Rattle.trace_tool.specs.Layout.{layout}
 use Rattle.trace_tool.specs.StepLines.{StepsTellSo}
 use Rattle.trace_tool.specs.Feed.{outs_of, items_of, OutsJoin, ItemsJoin, EntriesAreItems}
 use Rattle.trace_tool.specs.Runs.{written}
 use Rattle.trace_tool.specs.Cuts.{cut, cut_overlay, trusted_weight, CutsAreGreatest, StopsAreCuts}
 use Rattle.trace_tool.specs.Headline.{HeadlineHolds}
-use Rattle.trace_tool.proofs.StepTold.{reached_by}
+use Rattle.trace_tool.proofs.Offers.{reached_by}
 use Rattle.proc_language.specs.declared.module.ModuleFields.{ModuleFields}
 use Rattle.proc_program.specs.Lower.{part_of}
 use Rattle.proc_semantics.specs.Values.{World}
-use Rattle.source_laws.specs.Sources.{SourcesMean, Shows}
+use Rattle.source_laws.specs.Sources.{MeansAlways, Shows}
 use Rattle.source_starts.specs.RunMeans.{RunMeans, StacksBegin, CutsShow, runs_trusted}
 use Rattle.source_starts.proofs.Worlds.{aligned, part_of_home}
 use Rattle.source_starts.proofs.LinesShow.{lines_show, shows_lead}
@@ -41,7 +40,7 @@ module _ (headline : HeadlineHolds) (outs : OutsJoin) (joined : ItemsJoin) (entr
 
 module _ (headline : HeadlineHolds) (stops : StopsAreCuts) (show : CutsShow) where
   pub run_means : (world : World) (parts : List PartSeen) (size : ℕ) (s : StartSeen) → IsStartOf parts size s
-      → SourcesMean world size s → (steps : ℕ) → RunMeans world size s steps
+      → MeansAlways world size s → (steps : ℕ) → RunMeans world size s steps
   run_means world parts size s is mean steps =
       let head = headline (placed parts size) size s is in
       let agree = head.agrees in

@@ -7,13 +7,13 @@ use Rattle.std.proofs.lemmas.List.{length-replicate}
 use Rattle.std.proofs.lemmas.Option.{slice_get_within, slice_get-map}
 use Rattle.cap_words.specs.declared.Word.TheVariants.{Int}
 use Rattle.component_file.specs.declared.component.Import.{Import}
-use Rattle.component_file.proofs.Lists.{inside}
+use Rattle.component_file.proofs.Offers.{inside}
 use Rattle.proc_program.specs.declared.program.Import as program
 use Rattle.proc_program.specs.declared.program.Part.{Part}
 use Rattle.proc_program.specs.declared.program.Procedure.{Procedure}
-use Rattle.proc_templates.specs.Compiled.{pair_count, import_slots, own_slots, imports_of, data_of, int_word}
-use Rattle.proc_templates.proofs.Laying.{get-left, get-right}
-use Rattle.proc_templates.proofs.OwnRules.{imports_length, own_length}
+use Rattle.proc_templates.specs.Compiled.{pair_count, import_slots, own_slots, imports_of, first_data}
+use Rattle.proc_templates.specs.Compiled.{int_word}
+use Rattle.proc_templates.proofs.Offers.{get-left, get-right, imports_length, own_length}
 
 import_slot : (s : ℕ) (is : List program.Import) (k : ℕ) (i : program.Import) → slice_get is k ≡ Some i
     → slice_get (import_slots s is) k ≡ Some (record { part = i.part; name = i.name; slot = s + 2 * k })
@@ -93,8 +93,8 @@ module _ (m : Part) where
       ]
 
   pub global_at : (o : ℕ) (z : ℤ) → slice_get m.globals o ≡ Some z
-      → slice_get (data_of m) (pair_count m + o) ≡ Some (Int z)
-  unfolding data_of
+      → slice_get (first_data m) (pair_count m + o) ≡ Some (Int z)
+  unfolding first_data
   global_at o z e =
       let l = length-replicate (pair_count m) (Int (pos 0)) in
       ap (λ n. slice_get (replicate (pair_count m) (Int (pos 0)) ++ map int_word m.globals) (n + o)) (sym l)

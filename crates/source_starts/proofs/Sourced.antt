@@ -21,13 +21,11 @@ use Rattle.proc_templates.specs.Items.{Laid}
 use Rattle.proc_templates.specs.Templates.{proc_code}
 use Rattle.proc_templates.specs.Compiled.{frame_of, first_temporary, size_of_proc, code_words, head_of}
 use Rattle.proc_templates.specs.Compiled.{lay_proc, lay_procs, laid_of, component_of}
-use Rattle.proc_templates.proofs.Laying.{lay-length}
-use Rattle.proc_templates.proofs.Procs.{FrameFits, proc-size}
-use Rattle.proc_templates.proofs.Whole.{spot_of, proc_laid}
-use Rattle.proc_templates.proofs.Apart.{left_none, right_none}
+use Rattle.proc_templates.proofs.Offers.{lay-length, FrameFits, proc-size, spot_of, proc_laid, left_none}
+use Rattle.proc_templates.proofs.Offers.{right_none}
 use Rattle.source_laws.specs.Fits.{kinds_from, BlockFits}
 use Rattle.source_laws.specs.Sites.{BlockNumbered}
-use Rattle.proc_program.proofs.Counted.{block_kept}
+use Rattle.proc_program.proofs.Offers.{block_kept}
 use Rattle.source_starts.proofs.Numbers.{block_numbered}
 use Rattle.source_starts.proofs.Fitted.{is_call, shares, registers_same, block_fits}
 use Rattle.source_starts.proofs.Carrying.{calls_from}

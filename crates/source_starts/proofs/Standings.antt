@@ -1,8 +1,8 @@
 -- Each procedure of the modules stands in its part, and its part has what its module's laws ask.
-use Rattle.source_laws.proofs.Refined as tagged
-use Rattle.source_laws.proofs.Arguments.{Slotted, DataPair}
+use Rattle.source_laws.proofs.Offers as tagged
+use Rattle.source_laws.proofs.Offers.{Slotted, DataPair, Globals, IsCalled, IsPair, stand_of, PartIn, Stands}
 use Rattle.proc_semantics.specs.Marked.{CodeHalf, DataHalf}
-use Rattle.source_starts.specs.Words.{slots, slot_in, imports_in, if_there}
+use Rattle.source_starts.specs.Words.{slots, slot_in, imports_in, where_there}
 use Rattle.std.proofs.Common.{◌≡◌, ℕ, ◌+◌, ◌*◌, ◌<◌, pos, true, List, [], length, map, Some}
 use Rattle.std.proofs.Common.{refl, sym, ap, ◌∙◌, subst, arith, eqb-true}
 use Rattle.std.specs.Prelude.{slice_get, ◌==◌}
@@ -15,7 +15,7 @@ use Rattle.flow_check.specs.Places.{begins_site}
 use Rattle.component_linker.specs.declared.owners.Site.{Site}
 use Rattle.component_linker.specs.Parts.{PartSeen}
 use Rattle.component_linker.specs.Started.{StartSeen}
-use Rattle.component_linker.proofs.PartKept.{sites_in}
+use Rattle.component_linker.proofs.Offers.{sites_in}
 use Rattle.component_linker.specs.LinkedStarts.{IsLinkedStart}
 use Rattle.trusted_border.specs.declared.layout.SiteCode.{SiteCode}
 use Rattle.trusted_border.specs.Names.{site_of, part_name}
@@ -25,11 +25,10 @@ use Rattle.overlay_machine.specs.Linked.{Linked}
 use Rattle.overlay_machine.specs.Invariant.{Invariant}
 use Rattle.overlay_machine.specs.Names.{NamesTold, declared_site}
 use Rattle.overlay_machine.specs.Starting.{overlay_at}
-use Rattle.overlay_machine.proofs.starts.ListFacts.{listed_at, index_of, any_of}
-use Rattle.overlay_machine.proofs.starts.NameFacts.{starts_tell_names}
+use Rattle.overlay_machine.proofs.Offers.{listed_at, index_of, any_of, starts_tell_names}
 use Rattle.proc_language.specs.declared.module.ModuleFields.{ModuleFields}
 use Rattle.proc_language.specs.Limits.{Each, IsModule}
-use Rattle.proc_language.proofs.ListLemmas.{each_at}
+use Rattle.proc_language.proofs.Offers.{each_at}
 use Rattle.proc_names.specs.NameFaults.{name_faults}
 use Rattle.proc_program.specs.declared.program.Part.{Part}
 use Rattle.proc_program.specs.declared.program.Procedure.{Procedure}
@@ -37,27 +36,19 @@ use Rattle.proc_program.specs.declared.program.Handle.TheVariants.{Own, Imported
 use Rattle.proc_program.specs.Lower.{part_of, import_of, words_in}
 use Rattle.proc_program.specs.Limits.{scope_of, ProcedureFits, IsPart}
 use Rattle.proc_program.specs.StepView.{block_of}
-use Rattle.proc_program.proofs.Kept.{globals-length, procs-length}
+use Rattle.proc_program.proofs.Offers.{globals-length, procs-length}
 use Rattle.proc_templates.specs.Items.{FAIL_AT, Spot}
 use Rattle.proc_templates.specs.Templates.{proc_code, before_epilogue}
 use Rattle.proc_templates.specs.Compiled.{pair_count, frame_of, head_of, laid_of, component_of, data_count}
-use Rattle.proc_templates.specs.Kept.{Fits}
-use Rattle.proc_templates.proofs.Laying.{Rest}
-use Rattle.proc_templates.proofs.Whole.{rest_procs}
-use Rattle.proc_templates.proofs.Entries.{rest_whole}
-use Rattle.proc_templates.proofs.Readies.{ready}
+use Rattle.proc_templates.specs.Kept.{FitsComponent}
+use Rattle.proc_templates.proofs.Offers.{Rest, rest_procs, rest_whole, ready}
 use Rattle.proc_semantics.specs.declared.value.Target.{Target}
 use Rattle.proc_semantics.specs.declared.value.Pair.{Pair}
 use Rattle.proc_semantics.specs.declared.value.Pair.TheVariants.{Runs}
 use Rattle.proc_semantics.specs.declared.value.Value.{Value}
-use Rattle.proc_semantics.specs.Values.{World, Store, target, part_at, proc_in, import_in, pair_of}
+use Rattle.proc_semantics.specs.Values.{World, Store, target, home_part, proc_in, import_in, pair_of}
 use Rattle.template_runs.specs.Public.{IsPublic}
-use Rattle.template_runs.proofs.Steps.{Placed}
-use Rattle.template_runs.proofs.Calls.{SiteHere}
-use Rattle.source_laws.proofs.Evals.{Globals}
-use Rattle.source_laws.proofs.Callings.{IsCalled, IsPair}
-use Rattle.source_laws.proofs.Placings.{stand_of}
-use Rattle.source_laws.proofs.Compiled.{PartIn, Stands}
+use Rattle.template_runs.proofs.Offers.{Placed, SiteHere}
 use Rattle.source_starts.specs.Sources.{trusted_parts}
 use Rattle.source_starts.proofs.Alike.{entries_same, sites_same, carries_same, sited_same}
 use Rattle.source_starts.proofs.Carrying.{all_stand, offset_from, calls_from}
@@ -73,7 +64,7 @@ use Rattle.source_starts.proofs.ModulePairs.{OwnCode, OwnData, own_pair, import_
 use Rattle.source_starts.proofs.ModulePairs.{home_trusted}
 use Rattle.proc_semantics.specs.Meaning as meaning
 use Rattle.source_starts.proofs.ModulePairs as words
-use Rattle.component_file.proofs.Lists.{inside as there_is}
+use Rattle.component_file.proofs.Offers.{inside as there_is}
 
 module _ (modules : List ModuleFields) (parts : List PartSeen) (size : ℕ) (s : StartSeen)
     (is : IsLinkedStart parts size s) (aligned : Aligned modules (trusted_parts parts))
@@ -118,7 +109,7 @@ module _ (modules : List ModuleFields) (parts : List PartSeen) (size : ℕ) (s :
     trusted : IsTrusted G p
     trusted = home_trusted modules parts size s is aligned limits resolved linked holds i p h
 
-    sized : Fits U
+    sized : FitsComponent U
     unfolding data_count
     sized =
         let k = is.accepted h.number p h.number_is in
@@ -143,17 +134,17 @@ module _ (modules : List ModuleFields) (parts : List PartSeen) (size : ℕ) (s :
           entry = entries_same U p.component h.placed 0 ∙ begun.entries 0 (omega arith);
         }
 
-    here : part_at W i ≡ Some U
+    here : home_part W i ≡ Some U
     here = part_here modules parts aligned (apart parts size s is) resolved i p h
 
-    stack_is : meaning.stack_of W i ≡ G.layout.stack.base
+    stack_is : meaning.home_stack W i ≡ G.layout.stack.base
     stack_is = ap meaning.stack_in here ∙ sym h.placed.stack ∙ linked.stack_bases p trusted
 
-    pub name_is : meaning.part_of W i ≡ p.component.name
+    pub name_is : meaning.part_name_of W i ≡ p.component.name
     name_is = ap meaning.name_in here ∙ sym h.placed.name
 
     site_part : (k n : ℕ) (u : SiteCode) → SiteHere G linked p k n u
-        → part_name G.layout (site_of G.layout n).part ≡ meaning.part_of W i
+        → part_name G.layout (site_of G.layout n).part ≡ meaning.part_name_of W i
     site_part k n u x =
         let t = told.numbers n x.index u p x.code_is trusted.0 trusted.1 x.site in
         (told.named (site_of G.layout n).part p t.part_is trusted.1).name ∙ sym name_is
@@ -227,8 +218,8 @@ module _ (modules : List ModuleFields) (parts : List PartSeen) (size : ℕ) (s :
         let c = imported in
         let x = there_is U.imports k (omega (arith, c, lt)) in
         let m = import_pair modules parts size s is aligned limits resolved linked holds i p h k x.0 x.1 in
-        let there : (d : ℕ) → if_there modules parts s (import_in (part_at W i) k) (Slot d) ≡ Slot d =
-        λ d. ap (λ o. if_there modules parts s o (Slot d)) (ap (λ o. import_in o k) here ∙ x.1) in
+        let there : (d : ℕ) → where_there modules parts s (import_in (home_part W i) k) (Slot d) ≡ Slot d =
+        λ d. ap (λ o. where_there modules parts s o (Slot d)) (ap (λ o. import_in o k) here ∙ x.1) in
         record {
           first = m.code;
           second = m.half;
@@ -309,8 +300,8 @@ module _ (modules : List ModuleFields) (parts : List PartSeen) (size : ℕ) (s :
         let n : imports_in modules parts s (slice_get modules i) ≡ length U.imports =
         ap (imports_in modules parts s) h.source_is ∙ sym imported in
         let m = imports_in modules parts s (slice_get modules i) in
-        let there : (d : ℕ) → if_there modules parts s (proc_in (part_at W i) j) (Slot d) ≡ Slot d =
-        λ d. ap (λ o. if_there modules parts s o (Slot d)) (ap (λ o. proc_in o j) here ∙ at) in (
+        let there : (d : ℕ) → where_there modules parts s (proc_in (home_part W i) j) (Slot d) ≡ Slot d =
+        λ d. ap (λ o. where_there modules parts s o (Slot d)) (ap (λ o. proc_in o j) here ∙ at) in (
           ap Some (there (2 * (m + j))) ∙ ap (λ n. Some (Slot (2 * (n + j)))) n
               ∙ ap Some (slot_is (2 * (length U.imports + j)) ∙ w.first),
           ap Some (there (2 * (m + j) + 1)) ∙ ap (λ n. Some (Slot (2 * (n + j) + 1))) n

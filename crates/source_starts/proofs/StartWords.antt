@@ -15,13 +15,8 @@ use Rattle.component_linker.specs.Start.{Exported, imported, code_half, data_hal
 use Rattle.component_linker.specs.Start.{slot_word, part_word, start_cell, first_given, from, data_word}
 use Rattle.component_linker.specs.Started.{StartSeen}
 use Rattle.component_linker.specs.DataWords.{DataInCells}
-use Rattle.component_linker.proofs.RegionFacts.{in_regions_is}
-use Rattle.component_linker.proofs.DataStands.{data_stands}
-use Rattle.component_linker.proofs.Found.{given, given_by}
-use Rattle.component_linker.proofs.OwnWords.{OwnWord, own_code, own_data}
-use Rattle.component_linker.proofs.PartWords.{from_inv, slot_inv}
-use Rattle.component_linker.proofs.PartKept.{slots_in}
-use Rattle.component_linker.proofs.StartWords.{IsExport, imported_there}
+use Rattle.component_linker.proofs.Offers.{in_regions_is, data_stands, given, given_by, OwnWord, own_code}
+use Rattle.component_linker.proofs.Offers.{own_data, from_inv, slot_inv, slots_in, IsExport, imported_there}
 use Rattle.component_linker.specs.LinkedStarts.{IsLinkedStart}
 use Rattle.overlay_machine.specs.declared.words.OWord.{OWord}
 use Rattle.overlay_machine.specs.declared.words.OWord.TheVariants.{Plain}
@@ -31,8 +26,7 @@ use Rattle.overlay_machine.specs.Safe.{IsOpenSeal}
 use Rattle.overlay_machine.specs.Keeping.{link_of}
 use Rattle.overlay_machine.specs.Starting.{overlay_at}
 use Rattle.overlay_machine.specs.Invariant.{Invariant}
-use Rattle.overlay_machine.proofs.starts.ListFacts.{listed_at}
-use Rattle.overlay_machine.proofs.starts.OneOverlay.{start_word_is, is_overlay}
+use Rattle.overlay_machine.proofs.Offers.{listed_at, start_word_is, is_overlay}
 use Rattle.template_runs.specs.Public.{IsSharedAt, IsPublicWord, IsPublic, IsFreeAt, KeepsPrivate}
 use Rattle.source_starts.proofs.Worlds.{NamesApart, names_apart}
 use Rattle.source_starts.proofs.Linking.{may_import, same_part}

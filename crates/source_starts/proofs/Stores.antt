@@ -10,14 +10,13 @@ use Rattle.overlay_machine.specs.declared.words.OWord.{OWord}
 use Rattle.overlay_machine.specs.declared.words.OWord.TheVariants.{Plain}
 use Rattle.overlay_machine.specs.Link.{Link, IsTrusted, data_region}
 use Rattle.overlay_machine.specs.Linked.{Linked}
-use Rattle.overlay_machine.proofs.starts.ListFacts.{listed_at}
-use Rattle.overlay_machine.proofs.invariant.Facts.{same_region}
+use Rattle.overlay_machine.proofs.Offers.{listed_at, same_region}
 use Rattle.proc_language.specs.declared.module.ModuleFields.{ModuleFields}
 use Rattle.proc_program.specs.Lower.{part_of}
 use Rattle.proc_templates.specs.Compiled.{pair_count, data_count}
-use Rattle.proc_templates.proofs.Limited.{data-length}
-use Rattle.proc_semantics.specs.Values.{Store, word_at, set_word}
-use Rattle.template_runs.proofs.Data.{mem_with, mem_same, mem_other}
+use Rattle.proc_templates.proofs.Offers.{data-length}
+use Rattle.proc_semantics.specs.Values.{Store, global_word, set_word}
+use Rattle.template_runs.proofs.Offers.{mem_with, mem_same, mem_other}
 use Rattle.source_starts.proofs.Worlds.{NamesApart, Home, one_home, one_place}
 
 -- ---- lists
@@ -63,10 +62,10 @@ pub record StoreIs (modules : List ModuleFields) (parts : List PartSeen) (first 
     (mem : ℕ → OWord) : Type 0 where
   pub numbers : (i : ℕ) (p : PartSeen) (h : Home modules parts i p) (o : ℕ)
       → o < length (part_of h.source).globals
-      → mem (p.component.data_base + (pair_count (part_of h.source) + o)) ≡ Plain (Int (word_at st i o))
+      → mem (p.component.data_base + (pair_count (part_of h.source) + o)) ≡ Plain (Int (global_word st i o))
   pub fits : (i : ℕ) (p : PartSeen) (h : Home modules parts i p) (o : ℕ)
       → o < length (part_of h.source).globals
-      → fits_64 (word_at st i o) ≡ true
+      → fits_64 (global_word st i o) ≡ true
   pub rows : (i : ℕ) (p : PartSeen) (h : Home modules parts i p)
       → length (slice_index_or st i []) ≡ length (part_of h.source).globals
   pub pairs : (i : ℕ) (p : PartSeen) (h : Home modules parts i p) (d : ℕ) → d < pair_count (part_of h.source)
@@ -130,12 +129,13 @@ module _ (modules : List ModuleFields) (g : Link) (linked : Linked g) (apart : N
 
       -- what stands at another place of the same module, and in another module
       other_word : (j : ℕ) (q : PartSeen) (k : Homed j q) (x : ℕ) → x < length (part_of k.source).globals
-          → (j ≡ i → x ≢ o) → word_at (set_word st i o v) j x ≡ word_at st j x
+          → (j ≡ i → x ≢ o) → global_word (set_word st i o v) j x ≡ global_word st j x
       other_word j q k x lx ne =
-          elim (cases_eq j i) as (λ _. word_at (set_word st i o v) j x ≡ word_at st j x) [
+          elim (cases_eq j i) as (λ _. global_word (set_word st i o v) j x ≡ global_word st j x) [
             | inl e ↦ (
-                ap (λ n. word_at (set_word st i o v) n x) e ∙ ap (λ xs. slice_index_or xs x (pos 0)) row
-                ∙ set_other (slice_index_or st i []) o x v (pos 0) (ne e) ∙ ap (λ n. word_at st n x) (sym e))
+                ap (λ n. global_word (set_word st i o v) n x) e ∙ ap (λ xs. slice_index_or xs x (pos 0)) row
+                ∙ set_other (slice_index_or st i []) o x v (pos 0) (ne e) ∙ ap (λ n. global_word st n x)
+                (sym e))
             | inr n ↦ ap (λ xs. slice_index_or xs x (pos 0)) (row_other j n)
           ]
 
@@ -149,14 +149,14 @@ module _ (modules : List ModuleFields) (g : Link) (linked : Linked g) (apart : N
         | inr n ↦ (let w = size in data_apart j i q p k h x (Pairs + o) n lx (omega (arith, w, lt)) e)
       ]
 
-      set_here : word_at (set_word st i o v) i o ≡ v
+      set_here : global_word (set_word st i o v) i o ≡ v
       set_here = let r = rowed in
           ap (λ xs. slice_index_or xs o (pos 0)) row
           ∙ set_same (slice_index_or st i []) o v (pos 0) (omega (arith, r, lt))
 
       abbrev Here : ℕ → PartSeen → ℕ → ℕ → Type 0
       Here j q n x = mem_with mem At (Plain (Int v)) (q.component.data_base + (n + x))
-          ≡ Plain (Int (word_at (set_word st i o v) j x))
+          ≡ Plain (Int (global_word (set_word st i o v) j x))
 
       numbers : (j : ℕ) (q : PartSeen) (k : Homed j q) (x : ℕ) → x < length (part_of k.source).globals
           → Here j q (pair_count (part_of k.source)) x
@@ -170,8 +170,8 @@ module _ (modules : List ModuleFields) (g : Link) (linked : Linked g) (apart : N
               let a : q.component.data_base + (pair_count (part_of k.source) + x) ≡ At =
               omega (arith, b, c, y) in
               ap (mem_with mem At (Plain (Int v))) a ∙ mem_same mem At (Plain (Int v))
-              ∙ ap (λ w. Plain (Int w)) (sym (ap (λ n. word_at (set_word st i o v) n x) z
-              ∙ ap (word_at (set_word st i o v) i) y ∙ set_here)))
+              ∙ ap (λ w. Plain (Int w)) (sym (ap (λ n. global_word (set_word st i o v) n x) z
+              ∙ ap (global_word (set_word st i o v) i) y ∙ set_here)))
           | inr y ↦ away j q k x lx (λ w. y) (λ w e. y (
               let c : pair_count (part_of k.source) ≡ Pairs =
               ap (λ (m : ModuleFields). pair_count (part_of m)) (source_same j q k z) in omega (arith, c, e)))
@@ -194,11 +194,11 @@ module _ (modules : List ModuleFields) (g : Link) (linked : Linked g) (apart : N
               ∙ s.numbers j q k x lx ∙ ap (λ w. Plain (Int w)) (sym (other_word j q k x lx ne))
 
       fits : (j : ℕ) (q : PartSeen) (k : Homed j q) (x : ℕ) → x < length (part_of k.source).globals
-          → fits_64 (word_at (set_word st i o v) j x) ≡ true
-      fits j q k x lx = elim (cases_eq j i) as (λ _. fits_64 (word_at (set_word st i o v) j x) ≡ true) [
-        | inl z ↦ elim (cases_eq x o) as (λ _. fits_64 (word_at (set_word st i o v) j x) ≡ true) [
-          | inl y ↦ ap fits_64 (ap (λ n. word_at (set_word st i o v) n x) z
-              ∙ ap (word_at (set_word st i o v) i) y ∙ set_here) ∙ fit
+          → fits_64 (global_word (set_word st i o v) j x) ≡ true
+      fits j q k x lx = elim (cases_eq j i) as (λ _. fits_64 (global_word (set_word st i o v) j x) ≡ true) [
+        | inl z ↦ elim (cases_eq x o) as (λ _. fits_64 (global_word (set_word st i o v) j x) ≡ true) [
+          | inl y ↦ ap fits_64 (ap (λ n. global_word (set_word st i o v) n x) z
+              ∙ ap (global_word (set_word st i o v) i) y ∙ set_here) ∙ fit
           | inr y ↦ ap fits_64 (other_word j q k x lx (λ w. y)) ∙ s.fits j q k x lx
         ]
         | inr n ↦ ap fits_64 (other_word j q k x lx (λ w. absurd (n w))) ∙ s.fits j q k x lx

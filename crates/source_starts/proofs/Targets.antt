@@ -10,12 +10,12 @@ use Rattle.std.proofs.lemmas.Bool.{cases_lt, and_right}
 use Rattle.std.proofs.lemmas.Option.{slice_get_within, slice_get-map}
 use Rattle.component_file.specs.declared.component.Export.{Export}
 use Rattle.component_linker.specs.Parts.{PartSeen}
-use Rattle.overlay_machine.proofs.starts.ListFacts.{index_of, found_is}
+use Rattle.overlay_machine.proofs.Offers.{index_of, found_is}
 use Rattle.proc_language.specs.declared.tree.Name.{Name}
 use Rattle.proc_language.specs.declared.module.Proc.{Proc}
 use Rattle.proc_language.specs.declared.module.ModuleFields.{ModuleFields}
 use Rattle.proc_language.specs.Limits.{Each}
-use Rattle.proc_language.proofs.ListLemmas.{each_at}
+use Rattle.proc_language.proofs.Offers.{each_at}
 use Rattle.proc_names.specs.Names.{same}
 use Rattle.proc_names.specs.NameFaults.{name_faults, again, twice, item_names, procs_faults}
 use Rattle.proc_names.specs.Faults.{unless}
@@ -25,9 +25,9 @@ use Rattle.proc_program.specs.Lower.{part_of, procedures_of, import_of}
 use Rattle.proc_names.specs.Calls.{proc_calls}
 use Rattle.proc_templates.specs.Kept.{NoneNamed, NamesDiffer}
 use Rattle.proc_templates.specs.Compiled.{exports_of}
-use Rattle.proc_templates.proofs.Apart.{names_differ, left_none, right_none, once}
+use Rattle.proc_templates.proofs.Offers.{names_differ, left_none, right_none, once}
 use Rattle.proc_semantics.specs.declared.value.Target.{Target}
-use Rattle.proc_semantics.specs.Values.{World, part_at, target, shared_in, shared_at, is_shared, found}
+use Rattle.proc_semantics.specs.Values.{World, home_part, target, shared_in, shared_at, is_shared, found}
 use Rattle.template_runs.specs.Public.{IsSharedAt}
 use Rattle.source_starts.specs.Sources.{trusted_parts}
 use Rattle.source_starts.proofs.Carrying.{offset_from}
@@ -150,7 +150,7 @@ module _ (modules : List ModuleFields) (parts : List PartSeen) (is : Aligned mod
   world = map part_of modules
 
   pub part_here : (i : ℕ) (p : PartSeen) (h : Home modules parts i p)
-      → part_at world i ≡ Some (part_of h.source)
+      → home_part world i ≡ Some (part_of h.source)
   part_here i p h = slice_get-map part_of modules i ∙ ap (option_map part_of) h.source_is
 
   pub differ : (i : ℕ) (p : PartSeen) (h : Home modules parts i p) → NamesDiffer (part_of h.source).procs
@@ -161,7 +161,7 @@ module _ (modules : List ModuleFields) (parts : List PartSeen) (is : Aligned mod
   pub shared_found : (i : ℕ) (p : PartSeen) (h : Home modules parts i p) (j : ℕ) (q : Procedure)
       (name : List ℕ)
       → slice_get (part_of h.source).procs j ≡ Some q → q.shared ≡ true → name ≡ q.name
-      → shared_in i name (part_at world i) ≡ Some (target i j)
+      → shared_in i name (home_part world i) ≡ Some (target i j)
   shared_found i p h j q name at sh e =
       ap (shared_in i name) (part_here i p h)
       ∙ ap (option_map (target i)) (position_at (is_shared name) (part_of h.source).procs j q at

@@ -1,7 +1,8 @@
 -- The theorem of sources at a linked start of compiled modules.
-use Rattle.source_laws.proofs.Refined as tagged
+use Rattle.source_laws.proofs.Offers as tagged
 use Rattle.source_laws.specs.Words.{WhenceTold}
-use Rattle.source_laws.proofs.Forgets.{whence_told}
+use Rattle.source_laws.proofs.Offers.{whence_told, RegsFrom, nothing_more, RegsAre, in_main, outside_main}
+use Rattle.source_laws.proofs.Offers.{StandIn, StartsIn, sources_mean, leave_nothing, words_meant, wiped_told}
 use Rattle.source_starts.specs.Words.{slots, SourcesTellWords}
 use Rattle.std.proofs.Common.{◌≡◌, ℕ, ◌+◌, pos, true, List, [], ◌∷◌, map, Some, refl, sym, ap, ◌∙◌, subst}
 use Rattle.std.specs.Prelude.{slice_get}
@@ -29,9 +30,7 @@ use Rattle.overlay_machine.specs.Linked.{Linked}
 use Rattle.overlay_machine.specs.Names.{NamesTold, EntryNamed}
 use Rattle.overlay_machine.specs.Invariant.{Invariant}
 use Rattle.overlay_machine.specs.Starting.{overlay_at, StartsBegin}
-use Rattle.overlay_machine.proofs.starts.ListFacts.{index_of}
-use Rattle.overlay_machine.proofs.starts.NameFacts.{starts_tell_names}
-use Rattle.overlay_machine.proofs.starts.OneOverlay.{is_overlay}
+use Rattle.overlay_machine.proofs.Offers.{index_of, starts_tell_names, is_overlay}
 use Rattle.trace_tool.specs.Layout.{part_name, entry_name}
 use Rattle.trace_tool.specs.Pairs.{PairsAreOwn}
 use Rattle.proc_language.specs.declared.module.ModuleFields.{ModuleFields}
@@ -42,18 +41,12 @@ use Rattle.proc_semantics.specs.declared.value.Target.{Target}
 use Rattle.proc_semantics.specs.Values.{World, Store, found}
 use Rattle.proc_semantics.specs.Meaning as meaning
 use Rattle.template_runs.specs.Public.{IsSharedAt, IsPublic}
-use Rattle.template_runs.proofs.Valid.{zero_public}
-use Rattle.template_runs.proofs.Steps.{At}
-use Rattle.template_runs.proofs.Named.{Named, named}
-use Rattle.source_laws.specs.Sources.{SourcesMean}
-use Rattle.source_laws.proofs.Parameters.{RegsFrom, nothing_more, RegsAre}
-use Rattle.source_laws.proofs.All.{in_main, outside_main}
+use Rattle.template_runs.proofs.Offers.{zero_public, At, Named, named}
+use Rattle.source_laws.specs.Sources.{MeansAlways}
 use Rattle.source_laws.specs.Secrets.{LeavesNothing}
 use Rattle.source_starts.specs.Sources.{SourcesLeaveNothing, trusted_parts, AreSources}
 use Rattle.source_laws.specs.Wiped.{WipedAlways}
 use Rattle.source_starts.specs.Wiped.{WipedCellsAreTold}
-use Rattle.source_laws.proofs.StandIn.{StandIn, StartsIn, sources_mean, leave_nothing, words_meant}
-use Rattle.source_laws.proofs.StandIn.{wiped_told}
 use Rattle.source_starts.proofs.Worlds.{Aligned, home_of, aligned}
 use Rattle.source_starts.proofs.StartWords.{the_link, apart, first_words, data_there}
 use Rattle.source_starts.proofs.Targets.{BeginsAt, entry_found}
@@ -148,7 +141,7 @@ module _ (modules : List ModuleFields) (parts : List PartSeen) (size : ℕ) (s :
 
   part_told : (t : Target) (p : PartSeen) (e k : ℕ) (q : OState) → Begin t p e → At G linked p k q
       → (w : Owner)
-      → owner_now G.layout q ≡ Some w → part_name G.layout w.part ≡ meaning.part_of W t.home
+      → owner_now G.layout q ≡ Some w → part_name G.layout w.part ≡ meaning.part_name_of W t.home
   unfolding owner_of
   part_told t p e k q b at w ow =
       let n = index_of parts p at.trusted.0 in
@@ -203,7 +196,7 @@ module _ (modules : List ModuleFields) (parts : List PartSeen) (size : ℕ) (s :
           (rdata_zero modules parts size s is beside limits resolved linked holds)
       by (beyond none out) = outside_main none out refl
 
-  pub placed_mean : SourcesMean W size s
+  pub placed_mean : MeansAlways W size s
   placed_mean =
       sources_mean WW G linked Begin Kept stand_in size s (first_words parts size s is) refl
       (λ p d ip lt. data_there parts size s is linked holds p d ip lt)
@@ -255,7 +248,7 @@ start_leaves begin own modules parts size s is sources =
 -- of every link of sources
 pub start_means : StartsBegin → PairsAreOwn → (modules : List ModuleFields) (parts : List PartSeen) (size : ℕ)
     (s : StartSeen) → IsStartOf parts size s → AreSources modules parts
-    → SourcesMean (map part_of modules) size s
+    → MeansAlways (map part_of modules) size s
 start_means begin own modules parts size s is sources =
     let held = begin s (overlay_at s) (is_overlay (placed parts size) size s is) (placed parts size) size
     is in

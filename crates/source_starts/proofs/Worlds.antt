@@ -13,9 +13,8 @@ use Rattle.component_linker.specs.Parts.{PartSeen}
 use Rattle.component_linker.specs.Pairs.{NoneIsBroken, at_each, passes, never}
 use Rattle.component_linker.specs.Links.{rules_l, l3}
 use Rattle.component_linker.specs.Start.{same_name}
-use Rattle.component_linker.specs.Standing.{placed, placed_from, part_at, past, settled, move_of}
-use Rattle.component_linker.proofs.LinksKept.{in_part}
-use Rattle.component_linker.proofs.RuleLemmas.{slice_get-take, taken}
+use Rattle.component_linker.specs.Standing.{placed, placed_from, placed_part, past, settled, move_of}
+use Rattle.component_linker.proofs.Offers.{in_part, slice_get-take, taken}
 use Rattle.proc_language.specs.declared.module.ModuleFields.{ModuleFields}
 use Rattle.proc_program.specs.declared.program.Part.{Part}
 use Rattle.proc_program.specs.Lower.{part_of}
@@ -179,7 +178,7 @@ settled_ones (p ∷ ps) modules f e = by p.trusted modules e (λ ms g. settled_o
         compiled modules
         → ((ms : List ModuleFields) → map (λ (x : PartSeen). x.component) (trusted_parts ps) ≡ map compiled ms
         → Aligned ms (trusted_parts (placed_from (past f p) ps)))
-        → Aligned modules (cond b (part_at f p ∷ trusted_parts (placed_from (past f p) ps))
+        → Aligned modules (cond b (placed_part f p ∷ trusted_parts (placed_from (past f p) ps))
         (trusted_parts (placed_from (past f p) ps)))
     by true [] e more = cc
     by true (m ∷ ms) e more =

@@ -6,7 +6,7 @@ use Rattle.lcm_isa.specs.declared.Reg.TheVariants.{Stk}
 use Rattle.lcm_machine.specs.Places.{reg}
 use Rattle.lcm_machine.specs.Cells.{cell}
 use Rattle.lcm_machine.specs.Run.{plain}
-use Rattle.call_sequence.specs.SequenceRuns.{Outside, stack_cap}
+use Rattle.call_sequence.specs.SequenceRuns.{IsOutsideRange, stack_cap}
 use Rattle.component_linker.specs.Parts.{PartSeen}
 use Rattle.component_linker.specs.Started.{StartSeen}
 use Rattle.component_linker.specs.LinkedStarts.{IsStartOf}
@@ -42,7 +42,7 @@ pub record PlainWiped (g : Link) (s : StartSeen) (low : Option ℕ) (b q : OStat
   pub wiped : (a : ℕ) → low_at g.layout.stack.base end low ≤ a → a ≤ end
       → cell (plain to s.state).maps.cells a ≡ Some (Int (pos 0))
   pub kept : (a : ℕ) (w : Word) → IsFreeAt g a → framed q.frames a ≡ None
-      → Outside a (low_at g.layout.stack.base end low) end
+      → IsOutsideRange a (low_at g.layout.stack.base end low) end
       → cell (plain to s.state).maps.cells a ≡ Some w → cell (plain from s.state).maps.cells a ≡ Some w
 
 -- the lowest wiped cell is the one that the refined meaning tells of

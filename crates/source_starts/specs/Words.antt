@@ -11,7 +11,7 @@ use Rattle.overlay_machine.specs.declared.words.OWord.TheVariants.{Plain}
 use Rattle.overlay_machine.specs.Starting.{overlay_at}
 use Rattle.proc_language.specs.declared.module.ModuleFields.{ModuleFields}
 use Rattle.proc_program.specs.Lower.{part_of}
-use Rattle.proc_semantics.specs.Values.{part_at, proc_in, import_in}
+use Rattle.proc_semantics.specs.Values.{home_part, proc_in, import_in}
 use Rattle.proc_semantics.specs.Marked.{Marks, PairHalf, CodeHalf, DataHalf}
 use Rattle.source_laws.specs.Words.{WhenceTold}
 use Rattle.source_starts.specs.Sources.{trusted_parts, AreSources}
@@ -20,12 +20,12 @@ use Rattle.source_starts.specs.Sources.{trusted_parts, AreSources}
 -- pair of an import stands in the two words of its number, that of an own procedure behind those of imports.
 -- Where a module has no import or procedure of a number, integer 0 is read.
 module _ (modules : List ModuleFields) (parts : List PartSeen) (s : StartSeen) where
-  abbrev pub first_word : ℕ → OWord
-  first_word a = unwrap_or (cell (overlay_at s).state.maps.cells a) (Plain (Int (pos 0)))
+  abbrev pub word_at_start : ℕ → OWord
+  word_at_start a = unwrap_or (cell (overlay_at s).state.maps.cells a) (Plain (Int (pos 0)))
 
   abbrev pub slot_in : Option PartSeen → ℕ → OWord
   slot_in None d = Plain (Int (pos 0))
-  slot_in (Some p) d = first_word (p.component.data_base + d)
+  slot_in (Some p) d = word_at_start (p.component.data_base + d)
 
   abbrev pub half_at : ℕ → PairHalf → ℕ
   half_at d CodeHalf = d
@@ -35,16 +35,16 @@ module _ (modules : List ModuleFields) (parts : List PartSeen) (s : StartSeen) w
   imports_in None = 0
   imports_in (Some m) = length m.imports
 
-  abbrev pub if_there : {A : Type 0} → Option A → OWord → OWord
-  if_there None w = Plain (Int (pos 0))
-  if_there (Some x) w = w
+  abbrev pub where_there : {A : Type 0} → Option A → OWord → OWord
+  where_there None w = Plain (Int (pos 0))
+  where_there (Some x) w = w
 
   abbrev pub slots : Marks OWord
   slots = record {
-    own = λ i j x. if_there (proc_in (part_at (map part_of modules) i) j)
+    own = λ i j x. where_there (proc_in (home_part (map part_of modules) i) j)
         (slot_in (slice_get (trusted_parts parts) i)
         (half_at (2 * (imports_in (slice_get modules i) + j)) x));
-    imported = λ i k x. if_there (import_in (part_at (map part_of modules) i) k)
+    imported = λ i k x. where_there (import_in (home_part (map part_of modules) i) k)
         (slot_in (slice_get (trusted_parts parts) i) (half_at (2 * k) x));
   }
 

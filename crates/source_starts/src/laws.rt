@@ -5,7 +5,7 @@ ghost use Rattle.component_linker.specs.Started.{StartSeen};
 ghost use Rattle.proc_language.specs.declared.module.ModuleFields.{ModuleFields};
 ghost use Rattle.proc_program.specs.Lower.{part_of};
 ghost use Rattle.component_linker.specs.LinkedStarts.{IsStartOf};
-ghost use Rattle.source_laws.specs.Sources.{SourcesMean};
+ghost use Rattle.source_laws.specs.Sources.{MeansAlways};
 ghost use Rattle.source_starts.specs.Sources.{AreSources, SourcesLeaveNothing};
 ghost use Rattle.source_starts.specs.PlainWords.{PlainRunsTellWords};
 ghost use Rattle.source_starts.specs.Words.{SourcesTellWords};
@@ -32,7 +32,7 @@ use trace_tool::laws::{
 pub fn sources_mean()
     ensures { (modules : List ModuleFields) (parts : List PartSeen) (size : ℕ) (s : StartSeen)
         → IsStartOf parts size s → AreSources modules parts
-        → SourcesMean (map part_of modules) size s }
+        → MeansAlways (map part_of modules) size s }
 {
     starts_begin();
     pairs_are_the_overlays();

@@ -17,7 +17,7 @@ use Rattle.step_back.specs.Debug.{forward, forward_by, back, back_by, any, can_g
 use Rattle.step_back.specs.Debug.{spent, is_stop}
 use Rattle.step_back.specs.declared.debugger.Stop.{Stop}
 use Rattle.step_back.specs.declared.debugger.Stop.TheVariants.{Break, Ended, Spent}
-use Rattle.lcm_machine.proofs.RunLemmas.{count_next}
+use Rattle.lcm_machine.proofs.Offers.{count_next}
 use Rattle.step_back.proofs.NoteLemmas.{states_taken, undo_taken}
 
 -- a debugger in a state with notes

@@ -6,12 +6,12 @@ use Rattle.cap_words.specs.declared.Word.{Word}
 use Rattle.lcm_machine.specs.declared.End.{End}
 use Rattle.lcm_machine.specs.Row.{Outcome, went, halted, failed, step_of}
 use Rattle.lcm_machine.specs.Run.{Run, moved, next_by, next_state, plain}
-use Rattle.lcm_machine.proofs.RunLemmas.{count_next}
-use Rattle.lcm_machine.proofs.Offers.{plain_count}
+use Rattle.lcm_machine.proofs.Offers.{count_next, plain_count}
 use Rattle.step_back.specs.declared.debugger.Stop.TheVariants.{Break}
 use Rattle.step_back.specs.Seen.{Debugging}
-use Rattle.step_back.specs.Debug.{begun, forward, forward_by, back, back_by, go, go_by, go_back, is_stop}
-use Rattle.step_back.specs.Calls.{Call, Forward, Back, StopAt, Clear, Go, GoBack, after, after_all}
+use Rattle.step_back.specs.Debug.{debugging_from, forward, forward_by, back, back_by, go, go_by, go_back}
+use Rattle.step_back.specs.Debug.{is_stop}
+use Rattle.step_back.specs.Calls.{Call, Forward, Back, StopAt, Clear, Go, GoBack, after_call, after_all}
 use Rattle.step_back.specs.Calls.{Remembers}
 
 -- ---- counts
@@ -39,7 +39,7 @@ taken_few (suc n) [] = omega arith
 taken_few (suc n) (s ∷ ss) = let h = taken_few n ss in omega (arith, h)
 
 module _ (s : Run) (zero_steps : s.count ≡ 0) where
-  begins : (depth : ℕ) → Remembers s (begun s depth)
+  begins : (depth : ℕ) → Remembers s (debugging_from s depth)
   begins depth = record {
     now = ap (λ n. plain n s) (sym zero_steps);
     before = λ k t h. cc;
@@ -135,7 +135,7 @@ module _ (s : Run) (zero_steps : s.count ≡ 0) where
   go_back_keeps zero d r = r
   go_back_keeps (suc n) d r = go_back_keeps n (back d) (back_keeps d r)
 
-  after_keeps : (c : Call) (d : Debugging) → Remembers s d → Remembers s (after c d)
+  after_keeps : (c : Call) (d : Debugging) → Remembers s d → Remembers s (after_call c d)
   after_keeps Forward d r = forward_keeps d r
   after_keeps Back d r = back_keeps d r
   after_keeps (StopAt at) d r = record { now = r.now; before = r.before; few = r.few }
@@ -145,11 +145,11 @@ module _ (s : Run) (zero_steps : s.count ≡ 0) where
 
   all_keep : (cs : List Call) (d : Debugging) → Remembers s d → Remembers s (after_all cs d)
   all_keep [] d r = r
-  all_keep (c ∷ cs) d r = all_keep cs (after c d) (after_keeps c d r)
+  all_keep (c ∷ cs) d r = all_keep cs (after_call c d) (after_keeps c d r)
 
 pub calls_remember : (s : Run) (depth : ℕ) (calls : List Call) → s.count ≡ 0
-    → Remembers s (after_all calls (begun s depth))
-calls_remember s depth calls e = all_keep s e calls (begun s depth) (begins s e depth)
+    → Remembers s (after_all calls (debugging_from s depth))
+calls_remember s depth calls e = all_keep s e calls (debugging_from s depth) (begins s e depth)
 
 -- ---- there and back
 

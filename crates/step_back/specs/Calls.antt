@@ -1,4 +1,4 @@
--- Lists of calls, and what is so after any of them.
+-- Lists of calls, and what is so after_call any of them.
 use Rattle.std.specs.Prelude.{◌≡◌, ℕ, suc, ◌-◌, ◌<◌, ◌≤◌, List, [], ◌∷◌, slice_get, Some, reverse}
 use Rattle.std.specs.Prelude.{length, drop}
 use Rattle.std.specs.FinSet as set
@@ -15,17 +15,17 @@ pub data Call : Type 0 where
   Go : (n : ℕ) → Call
   GoBack : (n : ℕ) → Call
 
-abbrev pub after : Call → Debugging → Debugging
-after Forward d = forward d
-after Back d = back d
-after (StopAt at) d = record d { stops = with_stop d.stops at }
-after (Clear at) d = record d { stops = set.remove d.stops at }
-after (Go n) d = (go n d).1
-after (GoBack n) d = go_back n d
+abbrev pub after_call : Call → Debugging → Debugging
+after_call Forward d = forward d
+after_call Back d = back d
+after_call (StopAt at) d = record d { stops = with_stop d.stops at }
+after_call (Clear at) d = record d { stops = set.remove d.stops at }
+after_call (Go n) d = (go n d).1
+after_call (GoBack n) d = go_back n d
 
 abbrev pub after_all : List Call → Debugging → Debugging
 after_all [] d = d
-after_all (c ∷ cs) d = after_all cs (after c d)
+after_all (c ∷ cs) d = after_all cs (after_call c d)
 
 -- the state is that of the run from s with its count, and those before it are those of one step less, of two
 -- less, and so on, as many as there may be at most

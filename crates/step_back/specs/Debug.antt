@@ -14,8 +14,8 @@ use Rattle.step_back.specs.declared.stops.TheConstants.{MOST_STOPS}
 use Rattle.step_back.specs.Seen.{Debugging}
 
 -- at a state, with nothing before it and no breakpoint
-abbrev pub begun : Run → ℕ → Debugging
-begun s depth = record { now = s; before = []; stops = set.empty; depth = depth }
+abbrev pub debugging_from : Run → ℕ → Debugging
+debugging_from s depth = record { now = s; before = []; stops = set.empty; depth = depth }
 
 -- the next state comes, and of those before it the oldest goes where there are too many
 abbrev pub forward_by : Option End → Debugging → Debugging

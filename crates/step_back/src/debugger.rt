@@ -3,7 +3,7 @@ ghost use Rattle.std.specs.Prelude.{◌≡◌, ◌≤◌, ◌<◌, ◌+◌, ◌^
 ghost use Rattle.lcm_machine.specs.Run.{answer};
 ghost use Rattle.lcm_machine.specs.declared.Step.{Step as AnyStep};
 ghost use Rattle.std.specs.FinSet as set;
-ghost use Rattle.step_back.specs.Debug.{begun, forward, back, can_go_back, go, go_back};
+ghost use Rattle.step_back.specs.Debug.{debugging_from, forward, back, can_go_back, go, go_back};
 ghost use Rattle.step_back.specs.Debug.{is_stop, is_full, with_stop, spent};
 
 use crate::stops::Stops;
@@ -93,7 +93,7 @@ impl Debugger {
         requires most { depth ≤ MOST_DEPTH }
         requires fresh { start.state.count ≡ 0 }
         requires going { start.state.end ≡ None }
-        ensures { IfOk result (λ d. d ≡ begun start.state depth) }
+        ensures { IfOk result (λ d. d ≡ debugging_from start.state depth) }
     {
         let notes = HeapCircularBuffer::with_capacity(alloc, depth as usize)?;
         Ok(Debugger {

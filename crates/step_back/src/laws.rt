@@ -2,7 +2,7 @@
 ghost use Rattle.std.specs.Prelude.{◌≡◌, ◌≤◌, ◌+◌, ◌-◌, ℕ, List, [], ◌∷◌, ◌++◌, None, take, length};
 ghost use Rattle.lcm_machine.specs.Run.{Run, next_state};
 ghost use Rattle.step_back.specs.Seen.{Debugging};
-ghost use Rattle.step_back.specs.Debug.{begun, forward, back};
+ghost use Rattle.step_back.specs.Debug.{debugging_from, forward, back};
 ghost use Rattle.step_back.specs.Calls.{Call, after_all, Remembers, states, latest};
 
 /// After any calls a debugger is in the state that a run from its start comes to after as many steps
@@ -10,7 +10,7 @@ ghost use Rattle.step_back.specs.Calls.{Call, after_all, Remembers, states, late
 /// less, and so on. There are at most as many as its depth.
 pub fn calls_remember()
     ensures { (s : Run) (depth : ℕ) (calls : List Call) → s.count ≡ 0
-        → Remembers s (after_all calls (begun s depth)) }
+        → Remembers s (after_all calls (debugging_from s depth)) }
 {}
 
 /// A step forward and one back lead to the same state, where the machine hadn't ended.

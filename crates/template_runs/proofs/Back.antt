@@ -25,7 +25,7 @@ use Rattle.component_linker.specs.declared.owners.Owner.{Owner}
 use Rattle.component_linker.specs.declared.owners.Site.{Site}
 use Rattle.trusted_border.specs.declared.events.Event.TheVariants.{Left}
 use Rattle.trusted_border.specs.declared.events.Back.TheVariants.{Out, Bad, Hop}
-use Rattle.trusted_border.specs.Reaches.{jump_plan, goes_on, back_if, back_under, back_of, hop_in, hop_by}
+use Rattle.trusted_border.specs.Reaches.{jump_plan, plan_goes, back_if, back_under, back_of, hop_in, hop_by}
 use Rattle.trusted_border.specs.Reaches.{hop_to, closure_owner, entry_number, site_of_seal}
 use Rattle.overlay_machine.specs.declared.words.OWord.TheVariants.{Plain}
 use Rattle.overlay_machine.specs.Words.{look, is_plain}
@@ -36,9 +36,7 @@ use Rattle.overlay_machine.specs.Link.{Link, IsTrusted, ranges_of}
 use Rattle.overlay_machine.specs.Safe.{IsSafe}
 use Rattle.overlay_machine.specs.Linked.{Linked}
 use Rattle.overlay_machine.specs.Agree.{IsForeign}
-use Rattle.overlay_machine.proofs.invariant.Bracketed.{found_at, numbered_is}
-use Rattle.overlay_machine.proofs.invariant.Ready.{foreign}
-use Rattle.overlay_machine.proofs.invariant.Crossing.{Crossed}
+use Rattle.overlay_machine.proofs.Offers.{found_at, numbered_is, foreign, Crossed}
 use Rattle.flow_check.specs.Holds.{code_at, data_cap, PcAt}
 use Rattle.flow_check.specs.Places.{begins_entry}
 use Rattle.template_runs.specs.Public.{IsShown, IsSharedAt}
@@ -112,7 +110,7 @@ module _ (g : Link) (linked : Linked g) (named : Named g) (p : PartSeen) (k : �
     goes_in : (q : OState) (r : PartSeen) (ir : IsTrusted g r) (e : ℕ) (b : begins_entry r.component e ≡ true)
         → back_of g.layout x y ≡ Hop (named.owner r ir).part (named.entry r ir e b) → TrustedIn r e q → Tells
 
-  bad_back : (a b : Option Opened) → opened_of x ≡ a → opened_of y ≡ b → goes_on (jump_plan x y) ≡ false
+  bad_back : (a b : Option Opened) → opened_of x ≡ a → opened_of y ≡ b → plan_goes (jump_plan x y) ≡ false
       → back_of g.layout x y ≡ Bad
   bad_back a b ea eb e = ap (λ t. back_if t g.layout (opened_of x) (opened_of y)) e
       ∙ ap (λ t. back_if false g.layout t (opened_of y)) ea ∙ ap (λ t. back_if false g.layout a t) eb ∙ by a b
@@ -138,7 +136,7 @@ module _ (g : Link) (linked : Linked g) (named : Named g) (p : PartSeen) (k : �
           absurd (f code j u.0 e u.1 (sym (eqb-true (q.0).seal code.seal q.2) ∙ sym u.2))
 
   good_back : (code half : Opened) → opened_of x ≡ Some code → opened_of y ≡ Some half
-      → goes_on (jump_plan x y) ≡ true
+      → plan_goes (jump_plan x y) ≡ true
       → back_of g.layout x y ≡ hop_in (closure_owner g.layout code.seal) code.content
   good_back code half ea eb e =
       ap (λ t. back_if t g.layout (opened_of x) (opened_of y)) e
@@ -165,7 +163,7 @@ module _ (g : Link) (linked : Linked g) (named : Named g) (p : PartSeen) (k : �
   by_jumps e q j (leaves code oc op out fs cells a0 w ow mk cr kp) =
       let ox : opened_of x ≡ Some code = sym (ap (λ w. opened_of (look w)) ex) ∙ oc in
       let hf = half_there e j in
-      goes_out q (good_back code hf.0 ox hf.1 (ap goes_on j)
+      goes_out q (good_back code hf.0 ox hf.1 (ap plan_goes j)
       ∙ ap (λ t. hop_in t code.content) (open_no_owner g linked code.seal op))
       (record {
         out = out;
@@ -185,7 +183,7 @@ module _ (g : Link) (linked : Linked g) (named : Named g) (p : PartSeen) (k : �
       content_is code.content (code_at (ranges_of r) n) content in
       let entry : entry_number (named.owner r ir) (Memory (code_at (ranges_of r) n)) ≡ Some
       (named.entry r ir n en) = named.entry_is r ir n en in
-      goes_in q r ir n en (good_back code hf.0 ox hf.1 (ap goes_on j)
+      goes_in q r ir n en (good_back code hf.0 ox hf.1 (ap plan_goes j)
       ∙ ap (λ t. hop_in (closure_owner g.layout t) code.content) seal
       ∙ ap (λ t. hop_in t code.content) (named.owner_is r ir)
       ∙ ap (hop_by (named.owner r ir)) c ∙ ap (hop_to (named.owner r ir)) entry)
@@ -211,7 +209,7 @@ module _ (g : Link) (linked : Linked g) (named : Named g) (p : PartSeen) (k : �
   tells = by (jump_plan x y) refl
     where
       by : (q : Plan) → jump_plan x y ≡ q → Tells
-      by (Fails c) e = fails_bad (bad_back (opened_of x) (opened_of y) refl refl (ap goes_on e))
+      by (Fails c) e = fails_bad (bad_back (opened_of x) (opened_of y) refl refl (ap plan_goes e))
           (steps_plain g linked p k o v at h p1 p2 ∙ ap (with_frames o.frames o.calls) (row_is (Fails c) e))
       by Halts e = absurd (halts_not e)
       by (Goes e) j = by_jumps e

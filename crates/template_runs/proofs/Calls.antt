@@ -21,9 +21,8 @@ use Rattle.lcm_machine.specs.declared.Place.TheVariants.{R}
 use Rattle.lcm_machine.specs.Cells.{cell, all_there, words_from, put_back}
 use Rattle.lcm_machine.specs.Row.{put, row, went, opens}
 use Rattle.lcm_machine.specs.Runs.{code_cap}
-use Rattle.lcm_machine.proofs.Goes.{stays, xjmp_goes}
-use Rattle.lcm_machine.proofs.Stretches.{cell-without_out}
-use Rattle.flow_check.specs.Holds.{stack_cap}
+use Rattle.lcm_machine.proofs.Offers.{stays, xjmp_goes, cell-without_out}
+use Rattle.flow_check.specs.Holds.{part_stack_cap}
 use Rattle.component_linker.specs.Parts.{PartSeen}
 use Rattle.trusted_border.specs.declared.layout.SiteCode.{SiteCode}
 use Rattle.trusted_border.specs.declared.events.Event.TheVariants.{Called}
@@ -35,15 +34,13 @@ use Rattle.overlay_machine.specs.declared.cases.Case.TheVariants.{Call}
 use Rattle.overlay_machine.specs.Words.{look, is_plain}
 use Rattle.overlay_machine.specs.State.{OpenFrame, OState, Cells, framed, word_of}
 use Rattle.overlay_machine.specs.Step.{goes, case_of, step_by, call_step, ask, need, own_stack, new_frame}
-use Rattle.overlay_machine.specs.Step.{at_call, with_frames, overlay_step, weight_of, weight_by, resumed}
+use Rattle.overlay_machine.specs.Step.{at_call, with_frames, overlay_step, weight_of, weight_by}
+use Rattle.overlay_machine.specs.Step.{state_resumed}
 use Rattle.overlay_machine.specs.Events.{step_event, note_by, note_call, site_opened, event_after}
 use Rattle.overlay_machine.specs.Link.{Link, IsTrusted, ranges_of}
 use Rattle.overlay_machine.specs.Linked.{Linked, SiteOf}
-use Rattle.overlay_machine.proofs.FrameWords.{words_from-at, all_there-from, put_back-in}
-use Rattle.overlay_machine.proofs.OutLemmas.{put_back-other}
-use Rattle.overlay_machine.proofs.OwnStack.{own_from, own_is}
-use Rattle.overlay_machine.proofs.invariant.Facts.{stack_cells, safe_stk}
-use Rattle.overlay_machine.proofs.invariant.ReturnKept.{Returned}
+use Rattle.overlay_machine.proofs.Offers.{words_from-at, all_there-from, put_back-in, put_back-other}
+use Rattle.overlay_machine.proofs.Offers.{own_from, own_is, stack_cells, safe_stk, Returned}
 use Rattle.overlay_machine.proofs.Offers.{length-words_from}
 use Rattle.template_runs.specs.Public.{IsShown}
 use Rattle.template_runs.specs.Runs.{is_inside, Makes}
@@ -94,8 +91,9 @@ module _ (g : Link) (linked : Linked g) where
       cur : h.at ≡ pos (top - w)
       cur = let c = h.cursor in omega (arith, ints, c, room)
 
-      pub own : own_stack g.layout o.maps ≡ Some (stack_cap (ranges_of p) top (pos (top - w)))
-      own = own_from g.layout o.maps _ (h.stk ∙ ap (λ z. Mem (stack_cap (ranges_of p) top z)) cur) refl refl
+      pub own : own_stack g.layout o.maps ≡ Some (part_stack_cap (ranges_of p) top (pos (top - w)))
+      own = own_from g.layout o.maps _
+          (h.stk ∙ ap (λ z. Mem (part_stack_cap (ranges_of p) top z)) cur) refl refl
           (linked.stack_bases p at.trusted)
 
       pub all : all_there o.maps.cells (top - w) (top + 1 - (top - w)) ≡ true
@@ -107,7 +105,7 @@ module _ (g : Link) (linked : Linked g) where
           ))
 
       pub above : (int_lt (pos g.layout.stack.base) (pos (top - w)) && covers
-          (stack_cap (ranges_of p) top (pos (top - w))) (pos (top - w))) ≡ true
+          (part_stack_cap (ranges_of p) top (pos (top - w))) (pos (top - w))) ≡ true
       above =
           let sb = linked.stack_bases p at.trusted in
           let a : g.layout.stack.base < top - w = omega (arith, room) in
@@ -126,16 +124,16 @@ module _ (g : Link) (linked : Linked g) where
         -- the state after the call
         abbrev pub called_to : OState
         called_to = record {
-          maps = put (put (at_call i u (stack_cap (ranges_of p) top (pos (top - w))) o) (R Pc)
+          maps = put (put (at_call i u (part_stack_cap (ranges_of p) top (pos (top - w))) o) (R Pc)
               (Plain (Mem c))) (R Dat) (Plain (unsealed (content_of d)));
           frames = new_frame i (top - w) top o ∷ o.frames;
           calls = o.calls + 1;
         }
 
         does : row look Plain (Xjmp C1 C2) (Int (pos 0))
-            (at_call i u (stack_cap (ranges_of p) top (pos (top - w))) o) ≡ went called_to.maps
+            (at_call i u (part_stack_cap (ranges_of p) top (pos (top - w))) o) ≡ went called_to.maps
         does = xjmp_goes look Plain C1 C2 (Int (pos 0))
-            (at_call i u (stack_cap (ranges_of p) top (pos (top - w))) o) _ seal c (content_of d)
+            (at_call i u (part_stack_cap (ranges_of p) top (pos (top - w))) o) _ seal c (content_of d)
             (ap (λ x. opened_of (look x)) pair.code)
             (ap (λ x. opened_of (look x)) pair.half ∙ opened_sealed seal d) pair.normal
             pair.runs pair.half_rests
@@ -223,9 +221,10 @@ module _ (g : Link) (linked : Linked g) where
             )
 
         pub called_own : own_stack g.layout called_to.maps ≡ Some
-            (stack_cap (ranges_of p) (top - w - 1) (pos (top - w - 1)))
+            (part_stack_cap (ranges_of p) (top - w - 1) (pos (top - w - 1)))
         called_own =
-            own_from g.layout called_to.maps (stack_cap (ranges_of p) (top - w - 1) (pos (top - w - 1))) refl
+            own_from g.layout called_to.maps
+            (part_stack_cap (ranges_of p) (top - w - 1) (pos (top - w - 1))) refl
             refl refl
             (linked.stack_bases p at.trusted)
 
@@ -242,9 +241,10 @@ module _ (g : Link) (linked : Linked g) where
           (zero_word Plain ∷ words_from Plain o.maps.cells (top - w + 1) (top - (top - w)))
 
       -- the state after the return
-      pub back_is : q ≡ resumed r.site r.cap Frame fs (put t.maps (R r2) (zero_word Plain)) t
-      back_is = r.result ∙ ap (λ f. resumed r.site r.cap f r.older (put t.maps (R r2) (zero_word Plain)) t) is
-          ∙ ap (λ f. resumed r.site r.cap Frame f (put t.maps (R r2) (zero_word Plain)) t) older
+      pub back_is : q ≡ state_resumed r.site r.cap Frame fs (put t.maps (R r2) (zero_word Plain)) t
+      back_is = r.result ∙ ap (λ f. state_resumed r.site r.cap f r.older
+          (put t.maps (R r2) (zero_word Plain)) t) is
+          ∙ ap (λ f. state_resumed r.site r.cap Frame f (put t.maps (R r2) (zero_word Plain)) t) older
 
       site_same : r.site ≡ u
       site_same = let e : Some r.site ≡ Some u = sym r.site_is ∙ ap (λ f. site_code g.layout f.site) is
@@ -307,11 +307,11 @@ module _ (g : Link) (linked : Linked g) where
               ]
 
       abbrev Back : OState
-      Back = resumed r.site r.cap Frame fs (put t.maps (R r2) (zero_word Plain)) t
+      Back = state_resumed r.site r.cap Frame fs (put t.maps (R r2) (zero_word Plain)) t
 
-      cap_is : r.cap ≡ record (stack_cap (ranges_of p) r.cap.end (pos 0)) { addr = r.cap.addr }
+      cap_is : r.cap ≡ record (part_stack_cap (ranges_of p) r.cap.end (pos 0)) { addr = r.cap.addr }
       cap_is = (own_is g.layout t.maps r.cap r.own).1
-          ∙ ap (λ b. record (stack_cap (ranges_of p) r.cap.end (pos 0)) { base = b; addr = r.cap.addr })
+          ∙ ap (λ b. record (part_stack_cap (ranges_of p) r.cap.end (pos 0)) { base = b; addr = r.cap.addr })
           (sym (linked.stack_bases p at.trusted))
 
       -- inside the procedure again, behind the site

@@ -20,9 +20,8 @@ use Rattle.lcm_machine.specs.Places.{reg}
 use Rattle.lcm_machine.specs.Table.{fits_64, is_zero, bit}
 use Rattle.lcm_machine.specs.Row.{put}
 use Rattle.lcm_machine.specs.Runs.{code_cap}
-use Rattle.lcm_machine.proofs.Commute.{is_linear-face}
-use Rattle.lcm_machine.proofs.Goes.{stays, fail_fails, gettype_goes, getlin_goes, minus_goes, jnz_goes}
-use Rattle.lcm_machine.proofs.Goes.{jnz_jumps, move_goes, cca_goes}
+use Rattle.lcm_machine.proofs.Offers.{is_linear-face, stays, fail_fails, gettype_goes, getlin_goes}
+use Rattle.lcm_machine.proofs.Offers.{minus_goes, jnz_goes, jnz_jumps, move_goes, cca_goes}
 use Rattle.flow_check.specs.Holds.{code_at}
 use Rattle.component_linker.specs.Parts.{PartSeen}
 use Rattle.overlay_machine.specs.declared.words.OWord.{OWord}
@@ -31,11 +30,11 @@ use Rattle.overlay_machine.specs.Words.{look}
 use Rattle.overlay_machine.specs.State.{OState}
 use Rattle.overlay_machine.specs.Link.{Link, IsTrusted, ranges_of}
 use Rattle.overlay_machine.specs.Linked.{Linked}
-use Rattle.overlay_machine.proofs.invariant.Facts.{in_code, code_small}
+use Rattle.overlay_machine.proofs.Offers.{in_code, code_small}
 use Rattle.template_runs.proofs.Numbers.{fits_small}
 use Rattle.std.proofs.lemmas.Option.{slice_get_within}
 use Rattle.proc_templates.specs.Templates.{check_half}
-use Rattle.template_runs.specs.Runs.{Runs, Failing}
+use Rattle.template_runs.specs.Runs.{RunsOn, Failing}
 use Rattle.template_runs.proofs.Valid.{Valid}
 use Rattle.template_runs.proofs.Steps.{At, Placed, Code, next_pc, go, go_to, stop}
 
@@ -90,7 +89,7 @@ module _ (g : Link) (linked : Linked g) (p : PartSeen) (f : ℕ) (failing : Plac
   module _ (h : Reg) (keeps : Keeps h) (k : ℕ) (o : OState) (v : Valid g linked o) (at : At g linked p k o)
       (code : Code g linked p k (check_half h)) (t2 : o.maps.regs.t2 ≡ Plain (Mem (code_at (ranges_of p) f)))
     where
-      pub half_goes : (want : Runs g.layout) → (c b s : ℕ) (x : Sealable)
+      pub half_goes : (want : RunsOn g.layout) → (c b s : ℕ) (x : Sealable)
           → look (reg o.maps.regs h) ≡ Sealed s x → is_linear (Sealed s x) ≡ false
           → (Valid g linked (half_tested o k) → At g linked p (k + 1 + 1 + 1 + 1 + 1) (half_tested o k)
           → want.Good b (half_tested o k)) → 5 + b ≤ c → want.Good c o
@@ -256,7 +255,7 @@ module _ (g : Link) (linked : Linked g) (p : PartSeen) (f : ℕ) (failing : Plac
         };
   }
 
-  pub fail_pc_law : (want : Runs g.layout) → (k c b : ℕ) (o : OState) → IsTrusted g p → Valid g linked o
+  pub fail_pc_law : (want : RunsOn g.layout) → (k c b : ℕ) (o : OState) → IsTrusted g p → Valid g linked o
       → At g linked p k o → Code g linked p k (Move T2 (InReg Pc) ∷ Cca T2 (Imm (pos f -ℤ pos k)) ∷ [])
       → (Valid g linked (at_fail o k) → At g linked p (k + 1 + 1) (at_fail o k) → want.Good b (at_fail o k))
       → 2 + b ≤ c → want.Good c o

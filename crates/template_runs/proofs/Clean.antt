@@ -4,15 +4,13 @@ use Rattle.std.proofs.Common.{◌≡◌, ◌≢◌, ◌⊎◌, inl, inr, ℕ, �
 use Rattle.std.proofs.Common.{None, sym, ap, ◌∙◌, arith}
 use Rattle.std.proofs.lemmas.Bool.{cases_eq, cases_lt}
 use Rattle.lcm_machine.specs.Cells.{cell, set_cell, without, put_back}
-use Rattle.lcm_machine.proofs.CellLemmas.{cell-set_other}
-use Rattle.lcm_machine.proofs.Stretches.{cell-without_in, cell-without_out}
-use Rattle.call_sequence.specs.SequenceRuns.{Outside}
+use Rattle.lcm_machine.proofs.Offers.{cell-set_other, cell-without_in, cell-without_out}
+use Rattle.call_sequence.specs.SequenceRuns.{IsOutsideRange}
 use Rattle.overlay_machine.specs.declared.words.OWord.{OWord}
 use Rattle.overlay_machine.specs.State.{OState, Cells}
 use Rattle.overlay_machine.specs.Link.{Link}
 use Rattle.overlay_machine.specs.Linked.{Linked}
-use Rattle.overlay_machine.proofs.FrameWords.{put_back-in}
-use Rattle.overlay_machine.proofs.OutLemmas.{put_back-other}
+use Rattle.overlay_machine.proofs.Offers.{put_back-in, put_back-other}
 use Rattle.template_runs.specs.Public.{IsFreeAt}
 use Rattle.template_runs.specs.Border.{IsWipedFrom, zero, low_at}
 use Rattle.template_runs.proofs.Rows.{stack_free}
@@ -71,7 +69,7 @@ module _ (g : Link) where
   pub record Clean (b : OState) (low : Option ℕ) (l : Live) (o : OState) : Type 0 where
     pub wiped : (a : ℕ) (w : OWord) → IsFreeAt g a → NotIn l a → low_at SB l.top low ≤ a → a ≤ l.top
         → cell o.maps.cells a ≡ Some w → w ≡ zero
-    pub kept : (a : ℕ) (w : OWord) → IsFreeAt g a → NotIn l a → Outside a (low_at SB l.top low) l.top
+    pub kept : (a : ℕ) (w : OWord) → IsFreeAt g a → NotIn l a → IsOutsideRange a (low_at SB l.top low) l.top
         → cell o.maps.cells a ≡ Some w → cell b.maps.cells a ≡ Some w
     pub covers : (a : ℕ) → SB ≤ a → l.top < a + l.told → a ≤ l.top → low_at SB l.top low ≤ a
 
@@ -113,7 +111,7 @@ module _ (g : Link) where
     clean_begins None words top j m o is e h = record {
       wiped = λ a w free out lo hi there. absurd (past a out lo hi);
       kept = λ a w free out far there. h.kept a w free (not_in (untold 0 top) a (omega arith))
-          (elim (cases_lt top a) as (λ _. Outside a (top + 1) top) [
+          (elim (cases_lt top a) as (λ _. IsOutsideRange a (top + 1) top) [
             | inl lt ↦ inr lt
             | inr le ↦ inl (omega (arith, le))
           ]) there;
@@ -134,7 +132,7 @@ module _ (g : Link) where
         past a (inl out) lo hi = omega (arith, out, lo, hi, e)
         past a (inr out) lo hi = omega (arith, out, hi)
 
-        wider : (a : ℕ) → Outside a (SB + m) top → Outside a (SB + n) top
+        wider : (a : ℕ) → IsOutsideRange a (SB + m) top → IsOutsideRange a (SB + n) top
         wider a (inl lt) = (let l = is.1 in inl (omega (arith, lt, l)))
         wider a (inr gt) = inr gt
 
@@ -162,12 +160,12 @@ module _ (g : Link) where
             cc
         at_first a w (inr out) lo hi there = absurd (omega (arith, out, hi))
 
-        beside : (a : ℕ) → Outside a (SB + m) top → NotIn (untold (words + 1) top) a
+        beside : (a : ℕ) → IsOutsideRange a (SB + m) top → NotIn (untold (words + 1) top) a
         beside a (inl lt) = inl (omega (arith, lt, e, is))
         beside a (inr gt) = inr gt
 
-        wider : (a : ℕ) → Outside a (top + 1) top
-        wider a = elim (cases_lt top a) as (λ _. Outside a (top + 1) top) [
+        wider : (a : ℕ) → IsOutsideRange a (top + 1) top
+        wider a = elim (cases_lt top a) as (λ _. IsOutsideRange a (top + 1) top) [
           | inl lt ↦ inr lt
           | inr le ↦ inl (omega (arith, le))
         ]
@@ -177,11 +175,11 @@ module _ (g : Link) where
       covers = λ a lo from hi. (let l = is.0 in omega (arith, from, e, l));
     }
       where
-        beside : (a : ℕ) → Outside a (SB + m) top → NotIn (untold (words + 1) top) a
+        beside : (a : ℕ) → IsOutsideRange a (SB + m) top → NotIn (untold (words + 1) top) a
         beside a (inl lt) = (let l = is.0 in inl (omega (arith, lt, e, l)))
         beside a (inr gt) = inr gt
 
-        wider : (a : ℕ) → Outside a (SB + m) top → Outside a (SB + n) top
+        wider : (a : ℕ) → IsOutsideRange a (SB + m) top → IsOutsideRange a (SB + n) top
         wider a (inl lt) = (let l = is.1 in inl (omega (arith, lt, l)))
         wider a (inr gt) = inr gt
 
@@ -216,7 +214,7 @@ module _ (g : Link) where
       covers = λ a lo from hi. h.covers a lo (omega (arith, from, some)) hi;
     }
       where
-        beside : (a : ℕ) → Outside a (low_at SB top low) top → NotIn (used words top) a
+        beside : (a : ℕ) → IsOutsideRange a (low_at SB top low) top → NotIn (used words top) a
         beside a (inr gt) = inr gt
         beside a (inl lt) = elim (cases_lt top (a + words)) as (λ _. NotIn (used words top) a) [
           | inr le ↦ inl le
@@ -263,7 +261,7 @@ module _ (g : Link) where
         by None h = record {
           wiped = λ a w free out lo hi there. absurd (omega (arith, lo, hi));
           kept = λ a w free out far there. h.kept a w free (beside a (apart a w there))
-              (elim (cases_lt top a) as (λ _. Outside a (top + 1) top) [
+              (elim (cases_lt top a) as (λ _. IsOutsideRange a (top + 1) top) [
                 | inl lt ↦ inr lt
                 | inr le ↦ inl (omega (arith, le))
               ]) (before a w there);
@@ -277,8 +275,8 @@ module _ (g : Link) where
           covers = λ a lo from hi. absurd (omega (arith, from, hi));
         }
           where
-            wider : (a : ℕ) → Outside a (SB + n) (top - words - 1) → (a < top - words) ⊎ (top < a)
-                → Outside a (SB + n) top
+            wider : (a : ℕ) → IsOutsideRange a (SB + n) (top - words - 1) → (a < top - words) ⊎ (top < a)
+                → IsOutsideRange a (SB + n) top
             wider a (inl lt) i = inl lt
             wider a (inr gt) (inl lt) = absurd (omega (arith, gt, lt))
             wider a (inr gt) (inr over) = inr over
@@ -312,7 +310,7 @@ module _ (g : Link) where
         wiped = λ a w free out lo hi there. absurd (omega (arith, lo, hi));
         kept = λ a w free out far there.
             h.kept a w free (not_in (record { words = 0; top = below; told = told }) a (omega arith))
-            (elim (cases_lt below a) as (λ _. Outside a (below + 1) below) [
+            (elim (cases_lt below a) as (λ _. IsOutsideRange a (below + 1) below) [
               | inl lt ↦ inr lt
               | inr le ↦ inl (omega (arith, le))
             ]) (before_back a w (out_of a out) there);
@@ -332,7 +330,7 @@ module _ (g : Link) where
           under a (inl lt) hi = omega (arith, lt, joins)
           under a (inr gt) hi = absurd (omega (arith, gt, hi))
 
-          wider : (a : ℕ) → Outside a (SB + n) top → Outside a (SB + n) below
+          wider : (a : ℕ) → IsOutsideRange a (SB + n) top → IsOutsideRange a (SB + n) below
           wider a (inl lt) = inl lt
           wider a (inr gt) = inr (omega (arith, gt, joins))
 
@@ -350,11 +348,11 @@ module _ (g : Link) where
             covers = λ a lo from hi. omega (arith, from, joins, c);
           }
         where
-          away : (a : ℕ) → Outside a (SB + n) top → SB + n ≤ below → (a < top - words) ⊎ (top < a)
+          away : (a : ℕ) → IsOutsideRange a (SB + n) top → SB + n ≤ below → (a < top - words) ⊎ (top < a)
           away a (inl lt) c = inl (omega (arith, lt, c, joins))
           away a (inr gt) c = inr gt
 
-          wider : (a : ℕ) → Outside a (SB + n) top → Outside a (SB + n) below
+          wider : (a : ℕ) → IsOutsideRange a (SB + n) top → IsOutsideRange a (SB + n) below
           wider a (inl lt) = inl lt
           wider a (inr gt) = inr (omega (arith, gt, joins))
 

@@ -18,8 +18,7 @@ use Rattle.lcm_machine.specs.Places.{reg}
 use Rattle.lcm_machine.specs.Cells.{cell, set_cell}
 use Rattle.lcm_machine.specs.Table.{fits_64, operand}
 use Rattle.lcm_machine.specs.Row.{put, row, went, faces, jump_of}
-use Rattle.lcm_machine.proofs.Goes.{stays, cca_goes, load_goes, store_goes}
-use Rattle.lcm_machine.proofs.CellLemmas.{cell-set_other, cell-set_same}
+use Rattle.lcm_machine.proofs.Offers.{stays, cca_goes, load_goes, store_goes, cell-set_other, cell-set_same}
 use Rattle.flow_check.specs.Holds.{data_cap}
 use Rattle.component_linker.specs.Parts.{PartSeen}
 use Rattle.overlay_machine.specs.declared.words.OWord.{OWord}
@@ -30,7 +29,7 @@ use Rattle.overlay_machine.specs.Link.{Link, IsTrusted, ranges_of}
 use Rattle.overlay_machine.specs.Linked.{Linked}
 use Rattle.template_runs.proofs.Slots.{Holds, holds_other}
 use Rattle.template_runs.specs.Public.{IsFreeAt}
-use Rattle.template_runs.specs.Runs.{Runs}
+use Rattle.template_runs.specs.Runs.{RunsOn}
 use Rattle.template_runs.proofs.Steps.{At, Placed, next_pc, go, go_set}
 use Rattle.template_runs.proofs.Rows.{HereAt, Here, Free, DataIs, data_not_stack, moved}
 
@@ -75,7 +74,7 @@ module _ (g : Link) (linked : Linked g) (p : PartSeen) (ip : IsTrusted g p) (w t
 
     module _ (k : ℕ) where
       -- a word that sets one register
-      pub set_law : (want : Runs g.layout) (c b : ℕ) (words : List OWord) (mem : ℕ → OWord) (o : OState)
+      pub set_law : (want : RunsOn g.layout) (c b : ℕ) (words : List OWord) (mem : ℕ → OWord) (o : OState)
           → (z : ℤ) (i : Instr) (r : Reg) (x : OWord) → Free g linked r → jump_of i ≡ None
           → Placed g linked p k i → At g linked p k o → Away z words mem o
           → row look Plain i (next_pc g linked p k) o.maps ≡ went
@@ -95,7 +94,7 @@ module _ (g : Link) (linked : Linked g) (p : PartSeen) (ip : IsTrusted g p) (w t
       skipped o = record o { maps = put o.maps (R Pc) (Plain (next_pc g linked p k)) }
 
       -- a word that sets nothing
-      pub skip_law : (want : Runs g.layout) (c b : ℕ) (words : List OWord) (mem : ℕ → OWord) (o : OState)
+      pub skip_law : (want : RunsOn g.layout) (c b : ℕ) (words : List OWord) (mem : ℕ → OWord) (o : OState)
           → (z : ℤ) (i : Instr) → jump_of i ≡ None → Placed g linked p k i → At g linked p k o
           → Away z words mem o
           → row look Plain i (next_pc g linked p k) o.maps ≡ went
@@ -109,7 +108,7 @@ module _ (g : Link) (linked : Linked g) (p : PartSeen) (ip : IsTrusted g p) (w t
           at1))
 
       -- data moves
-      pub dat_law : (want : Runs g.layout) (c b : ℕ) (words : List OWord) (mem : ℕ → OWord) (o : OState)
+      pub dat_law : (want : RunsOn g.layout) (c b : ℕ) (words : List OWord) (mem : ℕ → OWord) (o : OState)
           → (z d to : ℤ) (i : Operand) → Placed g linked p k (Cca Dat i) → At g linked p k o
           → Away z words mem o → operand (faces look o.maps) i ≡ Some d → z +ℤ d ≡ to → fits_64 to ≡ true
           → (Away to words mem
@@ -127,7 +126,8 @@ module _ (g : Link) (linked : Linked g) (p : PartSeen) (ip : IsTrusted g p) (w t
           at1))
 
       -- a word of data that isn't linear is loaded
-      pub load_data_law : (want : Runs g.layout) (c b : ℕ) (words : List OWord) (mem : ℕ → OWord) (o : OState)
+      pub load_data_law : (want : RunsOn g.layout) (c b : ℕ) (words : List OWord) (mem : ℕ → OWord)
+          (o : OState)
           → (d : ℕ) (r : Reg) (x : OWord) → Free g linked r → Placed g linked p k (Load r Dat)
           → At g linked p k o → Away (pos (p.component.data_base + d)) words mem o
           → d < length p.component.data_words
@@ -149,7 +149,7 @@ module _ (g : Link) (linked : Linked g) (p : PartSeen) (ip : IsTrusted g p) (w t
       with_data o a x = record o { maps = put (put o.maps (Cell a) x) (R Pc) (Plain (next_pc g linked p k)) }
 
       -- a register's word is stored there
-      pub store_data_law : (want : Runs g.layout) (c b : ℕ) (words : List OWord) (mem : ℕ → OWord)
+      pub store_data_law : (want : RunsOn g.layout) (c b : ℕ) (words : List OWord) (mem : ℕ → OWord)
           (o : OState)
           → (d : ℕ) (r : Reg) (x : OWord) → Placed g linked p k (Store Dat r) → At g linked p k o
           → Away (pos (p.component.data_base + d)) words mem o → d < length p.component.data_words

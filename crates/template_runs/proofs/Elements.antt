@@ -12,8 +12,8 @@ use Rattle.lcm_isa.specs.declared.Instr.TheVariants.{Fail, Move, Cca, Lt, Plus, 
 use Rattle.lcm_machine.specs.declared.Place.TheVariants.{R}
 use Rattle.lcm_machine.specs.Table.{fits_64, is_zero, bit}
 use Rattle.lcm_machine.specs.Row.{put}
-use Rattle.lcm_machine.proofs.Goes.{stays, set_goes, lt_goes, plus_goes, minus_goes, number_in, jnz_goes}
-use Rattle.lcm_machine.proofs.Goes.{jnz_jumps}
+use Rattle.lcm_machine.proofs.Offers.{stays, set_goes, lt_goes, plus_goes, minus_goes, number_in, jnz_goes}
+use Rattle.lcm_machine.proofs.Offers.{jnz_jumps}
 use Rattle.flow_check.specs.Holds.{code_at}
 use Rattle.component_linker.specs.Parts.{PartSeen}
 use Rattle.overlay_machine.specs.declared.words.OWord.{OWord}
@@ -24,7 +24,7 @@ use Rattle.overlay_machine.specs.Link.{Link, IsTrusted, ranges_of, data_region}
 use Rattle.overlay_machine.specs.Linked.{Linked}
 use Rattle.template_runs.proofs.Numbers.{fits_small, fits_less}
 use Rattle.proc_templates.specs.Items.{zero_of}
-use Rattle.template_runs.specs.Runs.{Runs, Failing}
+use Rattle.template_runs.specs.Runs.{RunsOn, Failing}
 use Rattle.template_runs.proofs.Valid.{Valid}
 use Rattle.template_runs.proofs.Steps.{At, Placed, Code, next_pc, go_to}
 use Rattle.template_runs.proofs.Rows.{moved}
@@ -76,7 +76,7 @@ module _ (g : Link) (linked : Linked g) where
       after_first o k x = after_lt (at_test o k) (k + 1 + 1) (bit (int_lt x (pos 0)))
 
       -- the words up to the first jump of the test
-      first_test : (want : Runs g.layout) (k c b : ℕ) (x : ℤ) (words : List OWord) (mem : ℕ → OWord)
+      first_test : (want : RunsOn g.layout) (k c b : ℕ) (x : ℤ) (words : List OWord) (mem : ℕ → OWord)
           (o : OState)
           (z : ℤ) → Code g linked p k (guarded g linked p 0 k (index_tests length)) → At g linked p k o
           → Away' z words mem o → o.maps.regs.g0 ≡ Plain (Int x)
@@ -98,7 +98,7 @@ module _ (g : Link) (linked : Linked g) where
       not_below : (i : ℕ) → int_lt (pos i) (pos 0) ≡ false
       not_below i = le-ltb i 0 (omega arith)
 
-      second_test : (want : Runs g.layout) (k c b i : ℕ) (words : List OWord) (mem : ℕ → OWord) (o : OState)
+      second_test : (want : RunsOn g.layout) (k c b i : ℕ) (words : List OWord) (mem : ℕ → OWord) (o : OState)
           (z : ℤ)
           → Code g linked p k (guarded g linked p 0 k (index_tests length)) → At g linked p k o
           → Away' z words mem o → o.maps.regs.g0 ≡ Plain (Int (pos i))
@@ -127,7 +127,7 @@ module _ (g : Link) (linked : Linked g) where
           (λ h3 at3. u _ refl refl e refl h3 at3) le5) le4) (omega (arith, le))
 
       -- an index within the array
-      pub index_goes : (want : Runs g.layout) (k c b i : ℕ) (words : List OWord) (mem : ℕ → OWord)
+      pub index_goes : (want : RunsOn g.layout) (k c b i : ℕ) (words : List OWord) (mem : ℕ → OWord)
           (o : OState)
           (z : ℤ) → Code g linked p k (guarded g linked p 0 k (index_tests length)) → At g linked p k o
           → Away' z words mem o → o.maps.regs.g0 ≡ Plain (Int (pos i)) → i < length
@@ -192,7 +192,7 @@ module _ (g : Link) (linked : Linked g) where
     -- ---- the data register at the element, whose index is in g0, of an array from an offset on
 
     module _ (first : ℕ) (words : List OWord) (mem : ℕ → OWord) where
-      pub to_element : (want : Runs g.layout) (k c b i : ℕ) (o : OState)
+      pub to_element : (want : RunsOn g.layout) (k c b i : ℕ) (o : OState)
           → Placed g linked p k (Plus G0 G0 (Imm (pos (first))))
           → Placed g linked p (k + 1) (Cca Dat (InReg G0)) → At g linked p k o
           → Away' (pos p.component.data_base) words mem o → o.maps.regs.g0 ≡ Plain (Int (pos i))
@@ -225,7 +225,8 @@ module _ (g : Link) (linked : Linked g) where
           (λ h2 at2. u _ h2 at2 refl refl) le2) le1
 
       -- and back, where g0 is its offset
-      pub from_element : (want : Runs g.layout) (k c b d : ℕ) (o : OState) → Placed g linked p k (zero_of G2)
+      pub from_element : (want : RunsOn g.layout) (k c b d : ℕ) (o : OState) → Placed g linked p k
+          (zero_of G2)
           → Placed g linked p (k + 1) (Minus G2 G2 (InReg G0))
           → Placed g linked p (k + 1 + 1) (Cca Dat (InReg G2)) → At g linked p k o
           → Away' (pos (p.component.data_base + d)) words mem o → o.maps.regs.g0 ≡ Plain (Int (pos d))

@@ -20,11 +20,10 @@ use Rattle.lcm_machine.specs.Maps.{State}
 use Rattle.lcm_machine.specs.Places.{reg}
 use Rattle.lcm_machine.specs.Table.{unsealed, memory_content, no_effect, made}
 use Rattle.lcm_machine.specs.Plan.{Plan, Fails, Halts, Goes}
-use Rattle.lcm_machine.proofs.Plans.{Gives, gives_goes, Gives-effect, Gives-need, Gives-ask}
+use Rattle.lcm_machine.proofs.Offers.{Gives, gives_goes, Gives-effect, Gives-need, Gives-ask, cases_reg}
+use Rattle.lcm_machine.proofs.Offers.{step_at}
 use Rattle.lcm_machine.specs.Row.{went, put, clear, perform, outcome, plan_in, faces, opens, cell_faces}
 use Rattle.lcm_machine.specs.Row.{fetch, some, row}
-use Rattle.lcm_machine.proofs.RegLemmas.{cases_reg}
-use Rattle.lcm_machine.proofs.RowLemmas.{step_at}
 use Rattle.flow_check.specs.Holds.{data_cap, code_at, PcAt}
 use Rattle.flow_check.specs.Places.{begins_entry}
 use Rattle.component_linker.specs.Parts.{PartSeen}
@@ -39,17 +38,16 @@ use Rattle.overlay_machine.specs.declared.cases.Case.TheVariants.{Back, Other}
 use Rattle.overlay_machine.specs.Words.{look, is_plain, is_ret_code}
 use Rattle.overlay_machine.specs.State.{OpenFrame, OState}
 use Rattle.overlay_machine.specs.Step.{goes, ask, need, case_of, case_fetched, step_by, other_step}
-use Rattle.overlay_machine.specs.Step.{return_step, return_by, resumed, own_stack, with_frames, overlay_step}
+use Rattle.overlay_machine.specs.Step.{return_step, return_by, state_resumed, own_stack, with_frames}
+use Rattle.overlay_machine.specs.Step.{overlay_step}
 use Rattle.overlay_machine.specs.Step.{weight_of, weight_by}
 use Rattle.overlay_machine.specs.Events.{step_event, note_by, note_return, note_jump, event_after, owner_now}
 use Rattle.overlay_machine.specs.Events.{jump_seal, jumped}
 use Rattle.overlay_machine.specs.Link.{Link, IsTrusted, ranges_of}
 use Rattle.overlay_machine.specs.Safe.{IsOpenSeal}
 use Rattle.overlay_machine.specs.Linked.{Linked}
-use Rattle.overlay_machine.proofs.invariant.Crossing.{Crossed, xjmp_crossed, Leads_to, to_safe, to_entry}
-use Rattle.overlay_machine.proofs.invariant.Crossing.{leads_to}
-use Rattle.overlay_machine.proofs.invariant.OtherKept.{plain_is}
-use Rattle.overlay_machine.proofs.invariant.ReturnKept.{Returned, returned}
+use Rattle.overlay_machine.proofs.Offers.{Crossed, xjmp_crossed, Leads_to, to_safe, to_entry, leads_to}
+use Rattle.overlay_machine.proofs.Offers.{plain_is, Returned, returned}
 use Rattle.std.proofs.lemmas.Option.{slice_get_within}
 use Rattle.template_runs.specs.Public.{IsShown, IsSharedAt}
 use Rattle.template_runs.specs.Runs.{Makes}
@@ -170,7 +168,7 @@ module _ (g : Link) (linked : Linked g) (p : PartSeen) (k : ℕ) (o : OState) (v
         Rdata) code
 
     abbrev pub resumed_to : OState
-    resumed_to = resumed u cap f fs (put o.maps (R Rdata) (zero_word Plain)) o
+    resumed_to = state_resumed u cap f fs (put o.maps (R Rdata) (zero_word Plain)) o
 
     back_goes : return_step g.layout Rcode Rdata o ≡ goes resumed_to
     unfolding return_step ask need

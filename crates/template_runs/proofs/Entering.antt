@@ -11,7 +11,7 @@ use Rattle.lcm_isa.specs.declared.Reg.TheVariants.{G0, G1, G2}
 use Rattle.lcm_machine.specs.Places.{reg, set_reg}
 use Rattle.flow_check.specs.Kinds.{Row, kind_of, entry_row}
 use Rattle.flow_check.specs.Walk.{RowAt}
-use Rattle.flow_check.specs.Holds.{stack_cap, Fits, HasKind}
+use Rattle.flow_check.specs.Holds.{part_stack_cap, HasKinds, HasKind}
 use Rattle.flow_check.specs.Places.{begins_entry}
 use Rattle.component_linker.specs.Parts.{PartSeen}
 use Rattle.overlay_machine.specs.declared.words.OWord.{OWord}
@@ -24,9 +24,7 @@ use Rattle.overlay_machine.specs.Step.{case_of}
 use Rattle.overlay_machine.specs.Link.{Link, IsTrusted, IsStackCell, ranges_of}
 use Rattle.overlay_machine.specs.Linked.{Linked}
 use Rattle.overlay_machine.specs.Safe.{IsSafe}
-use Rattle.overlay_machine.proofs.invariant.View.{View, at_entry, in_part, out, view}
-use Rattle.overlay_machine.proofs.invariant.EntryKept.{never_entry}
-use Rattle.overlay_machine.proofs.Offers.{pc_false}
+use Rattle.overlay_machine.proofs.Offers.{View, at_entry, in_part, out, view, never_entry, pc_false}
 use Rattle.template_runs.specs.Public.{IsPublic}
 use Rattle.template_runs.specs.Runs.{Failing}
 use Rattle.template_runs.proofs.Valid.{Valid}
@@ -59,7 +57,7 @@ module _ (g : Link) (linked : Linked g) (p : PartSeen) (e : ℕ) (o : OState) (v
     (at : At g linked p e o) (entry : begins_entry p.component e ≡ true) where
   by_row : (q : PartSeen) (k : ℕ) → begins_entry q.component k ≡ true → (there : Row)
       → RowAt q.component k there
-      → Fits look (IsSafe g o.frames) (IsStackCell g o.frames) (ranges_of q) there o.maps.regs
+      → HasKinds look (IsSafe g o.frames) (IsStackCell g o.frames) (ranges_of q) there o.maps.regs
       → (d : Reg) → d ≢ Pc → d ≢ Dat → IsSafe g o.frames (reg o.maps.regs d)
   by_row q k en there (inl r) f d np nd =
       subst (λ x. HasKind look (IsSafe g o.frames) (IsStackCell g o.frames) (ranges_of q) x
@@ -115,10 +113,11 @@ module _ (g : Link) (linked : Linked g) (p : PartSeen) (ip : IsTrusted g p) (top
             let reads2 : Reads g linked p ip top mem fs q.maps.regs rs ws =
             subst (λ y. Reads g linked p ip top mem fs
             (set_reg (set_reg (set_reg (set_reg o.maps.regs r (left_of look Plain y)) Pc
-            (Plain (next_pc g linked p k))) Stk (Plain (Mem (stack_cap (ranges_of p) top (h.at -ℤ pos 1)))))
+            (Plain (next_pc g linked p k))) Stk
+            (Plain (Mem (part_stack_cap (ranges_of p) top (h.at -ℤ pos 1)))))
             Pc (Plain (next_pc g linked p (k + 1)))) rs ws) (sym reads.1)
             (reads.3 (Plain (next_pc g linked p k))
-            (Plain (Mem (stack_cap (ranges_of p) top (h.at -ℤ pos 1))))
+            (Plain (Mem (part_stack_cap (ranges_of p) top (h.at -ℤ pos 1))))
             (Plain (next_pc g linked p (k + 1)))) in
             prologue_fails rs ws (words ++ w ∷ []) (k + 1 + 1) want (2 * length rs + 1) q code.1.1 reads2 at1
             h2

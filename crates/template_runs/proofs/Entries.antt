@@ -21,9 +21,9 @@ use Rattle.lcm_machine.specs.Places.{reg, set_reg}
 use Rattle.lcm_machine.specs.Table.{fits_64, ask, need, is_pc}
 use Rattle.lcm_machine.specs.Row.{row, failed, faces, plan_in, pc_at}
 use Rattle.lcm_machine.specs.Runs.{code_cap}
-use Rattle.lcm_machine.proofs.Goes.{shows}
+use Rattle.lcm_machine.proofs.Offers.{shows}
 use Rattle.call_sequence.specs.declared.TheConstants.{ENTRY_WORDS}
-use Rattle.flow_check.specs.Holds.{data_cap, stack_cap}
+use Rattle.flow_check.specs.Holds.{data_cap, part_stack_cap}
 use Rattle.flow_check.specs.Places.{begins_entry}
 use Rattle.component_linker.specs.Parts.{PartSeen}
 use Rattle.trusted_border.specs.Layout.{site_at}
@@ -38,13 +38,11 @@ use Rattle.overlay_machine.specs.Events.{step_event, note_by, event_after}
 use Rattle.overlay_machine.specs.Link.{Link, IsTrusted, ranges_of}
 use Rattle.overlay_machine.specs.Linked.{Linked}
 use Rattle.overlay_machine.specs.Safe.{IsSafe}
-use Rattle.overlay_machine.proofs.OwnStack.{own_is}
-use Rattle.overlay_machine.proofs.invariant.Facts.{mem_safe, in_stack}
-use Rattle.overlay_machine.proofs.invariant.View.{site_of}
+use Rattle.overlay_machine.proofs.Offers.{own_is, mem_safe, in_stack, site_of}
 use Rattle.trace_tool.specs.Feed.{integer_in}
 use Rattle.template_runs.proofs.Numbers.{zero_more}
 use Rattle.template_runs.specs.Public.{IsPublic}
-use Rattle.template_runs.specs.Runs.{Makes, Runs, Failing, no_cell}
+use Rattle.template_runs.specs.Runs.{Makes, RunsOn, Failing, no_cell}
 use Rattle.template_runs.proofs.Valid.{Valid, valid_same}
 use Rattle.template_runs.proofs.Steps.{At, Code, next_pc, inside_here, trusted_here}
 use Rattle.template_runs.proofs.Rows.{Here, Free, DataIs}
@@ -124,7 +122,7 @@ module _ (g : Link) (linked : Linked g) (p : PartSeen) (k : ℕ) where
         event = event_none;
       }
 
-      pub entry_law : (want : Runs g.layout) (mem : ℕ → OWord) (c b : ℕ) → IsSafe g o.frames o.maps.regs.stk
+      pub entry_law : (want : RunsOn g.layout) (mem : ℕ → OWord) (c b : ℕ) → IsSafe g o.frames o.maps.regs.stk
           → look o.maps.regs.dat ≡ Mem (data_cap (ranges_of p) (pos p.component.data_base))
           → DataIs g linked mem o.maps.cells
           → (Here g linked p 0 cap.end [] mem o.frames entered → At g linked p (k + 20) entered
@@ -139,9 +137,9 @@ module _ (g : Link) (linked : Linked g) (p : PartSeen) (k : ℕ) where
           let low : g.layout.stack.base + 0 ≤ cap.end + 1 = omega (arith, ord, base) in
           let none : 0 ≤ 0 = omega arith in
           let stk : Mem (record cap { addr = pos cap.end }) ≡ Mem
-          (stack_cap (ranges_of p) cap.end (pos cap.end)) =
+          (part_stack_cap (ranges_of p) cap.end (pos cap.end)) =
           ap (λ x. Mem (record x { addr = pos cap.end })) is.1
-          ∙ ap (λ b. Mem (record (stack_cap (ranges_of p) cap.end (pos cap.end)) { base = b }))
+          ∙ ap (λ b. Mem (record (part_stack_cap (ranges_of p) cap.end (pos cap.end)) { base = b }))
           (sym (linked.stack_bases p at.trusted)) in
           let e20 : p.component.code_base + k + ENTRY_WORDS ≡ p.component.code_base + (k + 20) =
           omega arith in
@@ -202,7 +200,7 @@ module _ (g : Link) (linked : Linked g) (p : PartSeen) (ip : IsTrusted g p) (top
 
   -- at the end each register that wasn't linear is as before: what is said of the state behind is said of
   -- these words
-  pub prologue_law : (rs : List Reg) (ws words : List OWord) (k : ℕ) (want : Runs g.layout) (c b : ℕ)
+  pub prologue_law : (rs : List Reg) (ws words : List OWord) (k : ℕ) (want : RunsOn g.layout) (c b : ℕ)
       (o : OState) → Code g linked p k (prologue rs) → Reads o.maps.regs rs ws → At g linked p k o
       → (h : Here g linked p (length words) top words mem fs o)
       → g.layout.stack.base + (length words + length ws) ≤ top + 1
@@ -235,9 +233,9 @@ module _ (g : Link) (linked : Linked g) (p : PartSeen) (ip : IsTrusted g p) (top
       let reads2 : Reads q.maps.regs rs ws =
       subst (λ y. Reads (set_reg
       (set_reg (set_reg (set_reg o.maps.regs r (left_of look Plain y)) Pc (Plain (next_pc g linked p k)))
-      Stk (Plain (Mem (stack_cap (ranges_of p) top (h.at -ℤ pos 1))))) Pc
+      Stk (Plain (Mem (part_stack_cap (ranges_of p) top (h.at -ℤ pos 1))))) Pc
       (Plain (next_pc g linked p (k + 1)))) rs ws) (sym reads.1)
-      (reads.3 (Plain (next_pc g linked p k)) (Plain (Mem (stack_cap (ranges_of p) top (h.at -ℤ pos 1))))
+      (reads.3 (Plain (next_pc g linked p k)) (Plain (Mem (part_stack_cap (ranges_of p) top (h.at -ℤ pos 1))))
       (Plain (next_pc g linked p (k + 1)))) in
       prologue_law rs ws (words ++ w ∷ []) (k + 1 + 1) want (2 * length rs + b) b q code.1.1 reads2 at1 h2
       room2 (λ j lt. mays j (omega (arith, one, lt)))

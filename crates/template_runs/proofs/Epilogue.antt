@@ -12,7 +12,7 @@ use Rattle.lcm_machine.specs.declared.Place.TheVariants.{R}
 use Rattle.lcm_machine.specs.Maps.{Regs}
 use Rattle.lcm_machine.specs.Places.{reg}
 use Rattle.lcm_machine.specs.Row.{put}
-use Rattle.lcm_machine.proofs.Goes.{set_goes}
+use Rattle.lcm_machine.proofs.Offers.{set_goes, cell-set_same, cell-set_other}
 use Rattle.component_linker.specs.Parts.{PartSeen}
 use Rattle.overlay_machine.specs.declared.words.OWord.{OWord}
 use Rattle.overlay_machine.specs.declared.words.OWord.TheVariants.{Plain}
@@ -20,13 +20,12 @@ use Rattle.overlay_machine.specs.Words.{look}
 use Rattle.overlay_machine.specs.State.{OpenFrame, OState}
 use Rattle.overlay_machine.specs.Link.{Link, IsTrusted}
 use Rattle.overlay_machine.specs.Linked.{Linked}
-use Rattle.template_runs.specs.Runs.{Runs}
+use Rattle.template_runs.specs.Runs.{RunsOn}
 use Rattle.template_runs.proofs.Steps.{At, Placed, Code, next_pc, go}
 use Rattle.template_runs.proofs.Rows.{moved, Here, Free, free_t1, free_t2, free_c1, free_c2, free_a1, free_a2}
 use Rattle.template_runs.proofs.Rows.{free_a3, free_g0, free_g1, free_g2, free_rcode, free_rdata}
 use Rattle.template_runs.proofs.Frames.{popped, pop_law, pop_to_law, IsWipedAt}
 use Rattle.lcm_machine.specs.Cells.{cell, set_cell}
-use Rattle.lcm_machine.proofs.CellLemmas.{cell-set_same, cell-set_other}
 use Rattle.std.proofs.lemmas.Bool.{cases_lt}
 
 last_of : (x : OWord) (ws : List OWord) → (front : List OWord) × (y : OWord) × (x ∷ ws ≡ front ++ y ∷ [])
@@ -66,7 +65,8 @@ module _ (g : Link) (linked : Linked g) (p : PartSeen) (ip : IsTrusted g p) (top
 
   -- all but the first two
   pub pops_law : (j : ℕ) (rc rd : OWord) (rest : List OWord) → length rest ≡ j
-      → (k : ℕ) (want : Runs g.layout) (c b : ℕ) (o : OState) → Code g linked p k (pops j) → At g linked p k o
+      → (k : ℕ) (want : RunsOn g.layout) (c b : ℕ) (o : OState) → Code g linked p k (pops j)
+      → At g linked p k o
       → Here g linked p (2 + length rest) top (rc ∷ rd ∷ rest) mem fs o → o.maps.regs.t1 ≡ Plain (Int (pos 0))
       → ((i : ℕ) → i < 2 + length rest → want.May (top - i))
       → ((q : OState) → Here g linked p 2 top (rc ∷ rd ∷ []) mem fs q → At g linked p (k + 2 * j) q
@@ -118,7 +118,7 @@ module _ (g : Link) (linked : Linked g) (p : PartSeen) (ip : IsTrusted g p) (top
   }
 
   pub zero_law : (r : Reg) → Free g linked r
-      → (w : ℕ) (words : List OWord) (k : ℕ) (want : Runs g.layout) (b : ℕ) (o : OState)
+      → (w : ℕ) (words : List OWord) (k : ℕ) (want : RunsOn g.layout) (b : ℕ) (o : OState)
       → Placed g linked p k (Move r (Imm (pos 0))) → At g linked p k o → Here g linked p w top words mem fs o
       → (Here g linked p w top words mem fs (zeroed o r k) → At g linked p (k + 1) (zeroed o r k)
       → want.Good b (zeroed o r k)) → want.Good (1 + b) o
@@ -198,7 +198,8 @@ module _ (g : Link) (linked : Linked g) (p : PartSeen) (ip : IsTrusted g p) (top
   clean rs t x G1 n1 n2 n3 n4 n5 n6 = refl
   clean rs t x G2 n1 n2 n3 n4 n5 n6 = refl
 
-  pub epilogue_law : (rc rd : OWord) (rest : List OWord) (k : ℕ) (want : Runs g.layout) (c b : ℕ) (o : OState)
+  pub epilogue_law : (rc rd : OWord) (rest : List OWord) (k : ℕ) (want : RunsOn g.layout) (c b : ℕ)
+      (o : OState)
       → Code g linked p k (epilogue (length rest)) → At g linked p k o
       → Here g linked p (2 + length rest) top (rc ∷ rd ∷ rest) mem fs o
       → ((i : ℕ) → i < 2 + length rest → want.May (top - i))
@@ -253,7 +254,7 @@ module _ (g : Link) (linked : Linked g) (p : PartSeen) (ip : IsTrusted g p) (top
           z2.others (top - 1) (let ne : top - 1 ≢ top - 0 = omega (arith, low) in ne) ∙ z1.wiped
       two_wiped o q1 q2 low z1 z2 (suc (suc j)) lt = absurd (omega (arith, lt))
 
-      rest_law : (rc rd : OWord) (k : ℕ) (want : Runs g.layout) (b : ℕ) (o : OState)
+      rest_law : (rc rd : OWord) (k : ℕ) (want : RunsOn g.layout) (b : ℕ) (o : OState)
           → Code g linked p k (Cca Stk (Imm (pos 1)) ∷ Load Rdata Stk ∷ Store Stk T1 ∷ Cca Stk
           (Imm (pos 1)) ∷ Load Rcode Stk ∷ Store Stk T1
           ∷ Move T2 (Imm (pos 0)) ∷ Move C1 (Imm (pos 0)) ∷ Move C2 (Imm (pos 0)) ∷ Move A1

@@ -22,11 +22,9 @@ use Rattle.lcm_machine.specs.Cells.{cell, set_cell}
 use Rattle.lcm_machine.specs.Table.{fits_64}
 use Rattle.lcm_machine.specs.Row.{put, row, Outcome, went, halted, failed}
 use Rattle.lcm_machine.specs.Refusals.{HasFailed}
-use Rattle.lcm_machine.proofs.CellLemmas.{cell-set_same, cell-set_other}
-use Rattle.lcm_machine.proofs.Commute.{is_linear-face}
-use Rattle.lcm_machine.proofs.Goes.{stays, left, cca_goes, load_goes, load_linear_goes, store_goes}
-use Rattle.lcm_machine.proofs.Refusals.{store_fails}
-use Rattle.flow_check.specs.Holds.{data_cap, stack_cap}
+use Rattle.lcm_machine.proofs.Offers.{cell-set_same, cell-set_other, is_linear-face, stays, left, cca_goes}
+use Rattle.lcm_machine.proofs.Offers.{load_goes, load_linear_goes, store_goes, store_fails}
+use Rattle.flow_check.specs.Holds.{data_cap, part_stack_cap}
 use Rattle.component_linker.specs.Parts.{PartSeen}
 use Rattle.overlay_machine.specs.declared.words.OWord.{OWord}
 use Rattle.overlay_machine.specs.declared.words.OWord.TheVariants.{Plain}
@@ -34,10 +32,10 @@ use Rattle.overlay_machine.specs.Words.{look}
 use Rattle.overlay_machine.specs.State.{OpenFrame, OState, Cells, framed}
 use Rattle.overlay_machine.specs.Link.{Link, IsTrusted, ranges_of}
 use Rattle.overlay_machine.specs.Linked.{Linked}
-use Rattle.overlay_machine.proofs.invariant.Facts.{stack_small, stack_cells}
+use Rattle.overlay_machine.proofs.Offers.{stack_small, stack_cells}
 use Rattle.template_runs.proofs.Numbers.{fits_small, fits_less}
 use Rattle.template_runs.specs.Public.{IsPublic}
-use Rattle.template_runs.specs.Runs.{Runs, Failing}
+use Rattle.template_runs.specs.Runs.{RunsOn, Failing}
 use Rattle.template_runs.proofs.Valid.{Valid, zero_public}
 use Rattle.template_runs.proofs.Steps.{At, Placed, Code, next_pc, go, go_set, stop}
 use Rattle.template_runs.proofs.Slots.{Holds, holds_get, holds_other, holds_push, holds_front}
@@ -72,7 +70,7 @@ slice_last (w ∷ ws) x = slice_last ws x
 module _ (g : Link) (linked : Linked g) (p : PartSeen) (ip : IsTrusted g p) (top : ℕ) (mem : ℕ → OWord)
     (fs : List OpenFrame) (k : ℕ) where
   abbrev stack_at : ℤ → OWord
-  stack_at z = Plain (Mem (stack_cap (ranges_of p) top z))
+  stack_at z = Plain (Mem (part_stack_cap (ranges_of p) top z))
 
   -- ---- push
 
@@ -87,7 +85,7 @@ module _ (g : Link) (linked : Linked g) (p : PartSeen) (ip : IsTrusted g p) (top
         (Plain (next_pc g linked p (k + 1)));
   }
 
-  pub push_law : (want : Runs g.layout) (c b : ℕ) → (r : Reg) → Free g linked r
+  pub push_law : (want : RunsOn g.layout) (c b : ℕ) → (r : Reg) → Free g linked r
       → (words : List OWord) (o : OState) → Code g linked p k (push r) → At g linked p k o
       → (h : Here g linked p (length words) top words mem fs o) → g.layout.stack.base + length words ≤ top
       → IsPublic g (reg o.maps.regs r) → want.May (top - length words)
@@ -120,9 +118,10 @@ module _ (g : Link) (linked : Linked g) (p : PartSeen) (ip : IsTrusted g p) (top
       let s1 = put (put s0 (Cell a) x) (R Pc) (Plain (next_pc g linked p k)) in
       let s2 = put (put s1 (R Stk) (stack_at (h.at -ℤ pos 1))) (R Pc) (Plain (next_pc g linked p (k + 1))) in
       let does : row look Plain (Store Stk r) (next_pc g linked p k) o.maps ≡ went s1 =
-      store_goes look Plain Stk r _ o.maps s0 (stack_cap (ranges_of p) top h.at) a some.0 h.stk refl za la
+      store_goes look Plain Stk r _ o.maps s0
+      (part_stack_cap (ranges_of p) top h.at) a some.0 h.stk refl za la
       ha some.1 (left look Plain o.maps r) in
-      let stk1 : look s1.regs.stk ≡ Mem (stack_cap (ranges_of p) top h.at) =
+      let stk1 : look s1.regs.stk ≡ Mem (part_stack_cap (ranges_of p) top h.at) =
       ap look (free.keeps_stk o.maps.regs (left_of look Plain x)) ∙ h.stk in
       let z0 : top - (0 + length words) ≡ top - length words = omega arith in
       let others : Holds (set_cell o.maps.cells a x) top 0 words = holds_other o.maps.cells top 0 words a x
@@ -143,7 +142,7 @@ module _ (g : Link) (linked : Linked g) (p : PartSeen) (ip : IsTrusted g p) (top
       (go_set g linked p k (Store Stk r) o h.valid at code.0 refl want _ s1 a x does refl refl (λ _. public)
       may (λ v1 at1.
       go g linked p (k + 1) (Cca Stk (Imm (negsuc 0))) (record o { maps = s1 }) v1 at1 code.1.0 refl want b s2
-      (cca_goes look Plain Stk (Imm (negsuc 0)) _ s1 (stack_cap (ranges_of p) top h.at) (negsuc 0)
+      (cca_goes look Plain Stk (Imm (negsuc 0)) _ s1 (part_stack_cap (ranges_of p) top h.at) (negsuc 0)
       (h.at -ℤ pos 1) refl stk1 refl e_down fit) refl refl (λ v2 at2.
       u (record {
         valid = v2;
@@ -171,8 +170,8 @@ module _ (g : Link) (linked : Linked g) (p : PartSeen) (ip : IsTrusted g p) (top
       let sb = linked.stack_bases p ip in
       let z : h.at +ℤ pos 1 ≡ pos (ranges_of p).stack_base = omega (arith, ints, l, short, cu, sb) in
       let f = failed_is _ (store_fails look Plain Stk r (next_pc g linked p k) o.maps
-      (stack_cap (ranges_of p) top h.at) h.stk
-      (below_stack (ranges_of p).stack_base top h.at (stack_cap (ranges_of p) top h.at) refl refl z)) in
+      (part_stack_cap (ranges_of p) top h.at) h.stk
+      (below_stack (ranges_of p).stack_base top h.at (part_stack_cap (ranges_of p) top h.at) refl refl z)) in
       stop g linked p k (Store Stk r) o h.valid at code refl want c f.0 f.1 f.2 le
 
   -- ---- pop
@@ -187,7 +186,7 @@ module _ (g : Link) (linked : Linked g) (p : PartSeen) (ip : IsTrusted g p) (top
         (Plain (Int (pos 0)))) (R Pc) (Plain (next_pc g linked p (k + 1)));
   }
 
-  pub pop_law : (want : Runs g.layout) (c b : ℕ) → (words : List OWord) (x : OWord) (o : OState)
+  pub pop_law : (want : RunsOn g.layout) (c b : ℕ) → (words : List OWord) (x : OWord) (o : OState)
       → Code g linked p k pop → At g linked p k o
       → (h : Here g linked p (length words + 1) top (words ++ x ∷ []) mem fs o)
       → o.maps.regs.t1 ≡ Plain (Int (pos 0)) → want.May (top - length words)
@@ -215,7 +214,7 @@ module _ (g : Link) (linked : Linked g) (p : PartSeen) (ip : IsTrusted g p) (top
       let s1 = put (put o.maps (R Stk) (stack_at (pos a))) (R Pc) (Plain (next_pc g linked p k)) in
       let s2 = put (put s1 (Cell a) (Plain (Int (pos 0)))) (R Pc) (Plain (next_pc g linked p (k + 1))) in
       let does : row look Plain (Store Stk T1) (next_pc g linked p (k + 1)) s1 ≡ went s2 =
-      store_goes look Plain Stk T1 _ s1 s1 (stack_cap (ranges_of p) top (pos a)) a x refl refl refl la ha
+      store_goes look Plain Stk T1 _ s1 s1 (part_stack_cap (ranges_of p) top (pos a)) a x refl refl refl la ha
       there (stays look Plain s1 (R T1) (ap (λ y. is_linear (look y)) t1))
       ∙ ap (λ y. went (put (put s1 (Cell a) y) (R Pc) (Plain (next_pc g linked p (k + 1))))) t1 in
       let slots : Holds (set_cell o.maps.cells a (Plain (Int (pos 0)))) top 0 words =
@@ -228,7 +227,7 @@ module _ (g : Link) (linked : Linked g) (p : PartSeen) (ip : IsTrusted g p) (top
       let fits' : length words ≤ length words = omega arith in
       want.spend _ c o less
       (go g linked p k (Cca Stk (Imm (pos 1))) o h.valid at code.0 refl want _ s1
-      (cca_goes look Plain Stk (Imm (pos 1)) _ o.maps (stack_cap (ranges_of p) top h.at) (pos 1) (pos a)
+      (cca_goes look Plain Stk (Imm (pos 1)) _ o.maps (part_stack_cap (ranges_of p) top h.at) (pos 1) (pos a)
       refl h.stk refl e_up fit) refl refl (λ v1 at1.
       go_set g linked p (k + 1) (Store Stk T1) (record o { maps = s1 }) v1 at1 code.1.0 refl want b s2 a
       (Plain (Int (pos 0))) does refl refl (λ _. zero_public g) may (λ v2 at2.
@@ -257,7 +256,7 @@ module _ (g : Link) (linked : Linked g) (p : PartSeen) (ip : IsTrusted g p) (top
       (set_reg (set_reg rs Stk (stack_at (pos a))) Pc (Plain (next_pc g linked p k))) r x) Pc
       (Plain (next_pc g linked p (k + 1)))) Pc (Plain (next_pc g linked p (k + 1 + 1)))
 
-  pub pop_to_law : (want : Runs g.layout) (c b : ℕ) → (r : Reg) → Free g linked r
+  pub pop_to_law : (want : RunsOn g.layout) (c b : ℕ) → (r : Reg) → Free g linked r
       → ((rs : Regs OWord) (y : OWord) → (set_reg rs r y).t1 ≡ rs.t1)
       → (words : List OWord) (x : OWord) (o : OState) → Code g linked p k (pop_to r) → At g linked p k o
       → (h : Here g linked p (length words + 1) top (words ++ x ∷ []) mem fs o)
@@ -271,7 +270,7 @@ module _ (g : Link) (linked : Linked g) (p : PartSeen) (ip : IsTrusted g p) (top
       let less : 1 + (1 + (1 + b)) ≤ c = omega (arith, le) in
       want.spend _ c o less
       (go g linked p k (Cca Stk (Imm (pos 1))) o h.valid at code.0 refl want _ s1
-      (cca_goes look Plain Stk (Imm (pos 1)) _ o.maps (stack_cap (ranges_of p) top h.at) (pos 1) (pos a)
+      (cca_goes look Plain Stk (Imm (pos 1)) _ o.maps (part_stack_cap (ranges_of p) top h.at) (pos 1) (pos a)
       refl h.stk refl e_up fit) refl refl (λ v1 at1.
       by_kind (is_linear (look x)) refl v1 at1))
     where
@@ -334,14 +333,14 @@ module _ (g : Link) (linked : Linked g) (p : PartSeen) (ip : IsTrusted g p) (top
           → want.Good (1 + b) (record o { maps = s2 })
       last s2 w rs there2 hs ds others v2 at2 =
           let t2 : s2.regs.t1 ≡ Plain (Int (pos 0)) = ap (λ y. y.t1) rs ∙ keeps s1.regs x ∙ t1 in
-          let stk2 : look s2.regs.stk ≡ Mem (stack_cap (ranges_of p) top (pos (top - length words))) =
+          let stk2 : look s2.regs.stk ≡ Mem (part_stack_cap (ranges_of p) top (pos (top - length words))) =
           ap (λ y. look y.stk) rs ∙ ap look (free.keeps_stk s1.regs x) in
           let dat2 : look s2.regs.dat ≡ Mem (data_cap (ranges_of p) (pos p.component.data_base)) =
           ap (λ y. look y.dat) rs ∙ ap look (free.keeps_dat s1.regs x) ∙ h.dat in
           let s3 = put (put s2 (Cell (top - length words)) (Plain (Int (pos 0)))) (R Pc)
           (Plain (next_pc g linked p (k + 1 + 1))) in
           let does : row look Plain (Store Stk T1) (next_pc g linked p (k + 1 + 1)) s2 ≡ went s3 =
-          store_goes look Plain Stk T1 _ s2 s2 (stack_cap (ranges_of p) top (pos (top - length words)))
+          store_goes look Plain Stk T1 _ s2 s2 (part_stack_cap (ranges_of p) top (pos (top - length words)))
           (top - length words) w stk2 refl refl la ha there2
           (stays look Plain s2 (R T1) (ap (λ y. is_linear (look y)) t2))
           ∙ ap (λ y. went (put (put s2 (Cell (top - length words)) y) (R Pc)
@@ -377,7 +376,7 @@ module _ (g : Link) (linked : Linked g) (p : PartSeen) (ip : IsTrusted g p) (top
       by_kind false e v1 at1 =
           let s2 = put (put s1 (R r) x) (R Pc) (Plain (next_pc g linked p (k + 1))) in
           go g linked p (k + 1) (Load r Stk) (record o { maps = s1 }) v1 at1 code.1.0 refl want (1 + b) s2
-          (load_goes look Plain r Stk _ s1 (stack_cap (ranges_of p) top (pos (top - length words)))
+          (load_goes look Plain r Stk _ s1 (part_stack_cap (ranges_of p) top (pos (top - length words)))
           (top - length words) x (look x) free.no_pc refl refl refl la ha there refl e
           (sym (is_linear-face (look x)) ∙ e)) refl refl
           (λ v2 at2. last s2 x refl there front h.globs (λ b ne. refl) v2 at2)
@@ -386,7 +385,8 @@ module _ (g : Link) (linked : Linked g) (p : PartSeen) (ip : IsTrusted g p) (top
           (Plain (next_pc g linked p (k + 1))) in
           go_set g linked p (k + 1) (Load r Stk) (record o { maps = s1 }) v1 at1 code.1.0 refl want (1 + b) s2
           (top - length words) (zero_word Plain)
-          (load_linear_goes look Plain r Stk _ s1 (stack_cap (ranges_of p) top (pos (top - length words)))
+          (load_linear_goes look Plain r Stk _ s1
+          (part_stack_cap (ranges_of p) top (pos (top - length words)))
           (top - length words) x (look x) free.no_pc refl refl refl refl la ha there refl e
           (sym (is_linear-face (look x)) ∙ e)) refl refl (λ _. zero_public g) may
           (λ v2 at2. last s2 (zero_word Plain) refl

@@ -11,7 +11,7 @@ use Rattle.lcm_isa.specs.declared.Instr.TheVariants.{Move, Cca, Jmp, Jnz}
 use Rattle.lcm_machine.specs.declared.Place.TheVariants.{R}
 use Rattle.lcm_machine.specs.Table.{fits_64, is_zero}
 use Rattle.lcm_machine.specs.Row.{put}
-use Rattle.lcm_machine.proofs.Goes.{stays, move_goes, cca_goes, jmp_goes, jnz_goes, jnz_jumps}
+use Rattle.lcm_machine.proofs.Offers.{stays, move_goes, cca_goes, jmp_goes, jnz_goes, jnz_jumps}
 use Rattle.flow_check.specs.Holds.{code_at}
 use Rattle.component_linker.specs.Parts.{PartSeen}
 use Rattle.overlay_machine.specs.declared.words.OWord.{OWord}
@@ -20,9 +20,9 @@ use Rattle.overlay_machine.specs.Words.{look}
 use Rattle.overlay_machine.specs.State.{OpenFrame, OState}
 use Rattle.overlay_machine.specs.Link.{Link, IsTrusted, ranges_of}
 use Rattle.overlay_machine.specs.Linked.{Linked}
-use Rattle.overlay_machine.proofs.invariant.Facts.{in_code, code_small}
+use Rattle.overlay_machine.proofs.Offers.{in_code, code_small}
 use Rattle.template_runs.proofs.Numbers.{fits_small}
-use Rattle.template_runs.specs.Runs.{Makes, Runs, is_inside}
+use Rattle.template_runs.specs.Runs.{Makes, RunsOn, is_inside}
 use Rattle.template_runs.proofs.Valid.{Valid, valid_same}
 use Rattle.template_runs.proofs.Steps.{At, Code, next_pc, go_to, makes, inside_here}
 use Rattle.template_runs.proofs.Rows.{moved}
@@ -48,7 +48,7 @@ module _ (g : Link) (linked : Linked g) (p : PartSeen) (ip : IsTrusted g p) (w t
       (next_pc g linked p (k + 1))
 
   module _ (k to : ℕ) (far : ℤ) (there : pos k +ℤ far ≡ pos to) (inside : to < length p.component.code) where
-    aim_law : (i : Instr) (want : Runs g.layout) (c b : ℕ) (o : OState)
+    aim_law : (i : Instr) (want : RunsOn g.layout) (c b : ℕ) (o : OState)
         → Code g linked p k (leading far i) → At g linked p k o → Away' o
         → (Away' (aimed o k to) → At g linked p (k + 1 + 1) (aimed o k to) → want.Good b (aimed o k to))
         → 2 + b ≤ c → want.Good c o
@@ -77,7 +77,7 @@ module _ (g : Link) (linked : Linked g) (p : PartSeen) (ip : IsTrusted g p) (w t
     gone_away : (o : OState) → Away' o → Valid g linked (gone o) → Away' (gone o)
     gone_away o h v = moved g linked h v h.stk h.dat refl refl
 
-    pub jump_law : (want : Runs g.layout) (c b : ℕ) (o : OState)
+    pub jump_law : (want : RunsOn g.layout) (c b : ℕ) (o : OState)
         → Code g linked p k (leading far (Jmp T2)) → At g linked p k o → Away' o
         → ((q : OState) → Away' q → At g linked p to q → Kept o q → want.Good b q) → 3 + b ≤ c → want.Good c o
     jump_law want c b o code at h u le =
@@ -91,7 +91,7 @@ module _ (g : Link) (linked : Linked g) (p : PartSeen) (ip : IsTrusted g p) (w t
         u (gone s) (gone_away s h1 v2) at2 (record { g0 = refl; a0 = refl }))) le1
 
     -- where what is wanted behind the jump is another property: a loop goes back with a step less
-    pub back_law : (later want : Runs g.layout)
+    pub back_law : (later want : RunsOn g.layout)
         → ((n c : ℕ) (o q : OState) → Makes g.layout n None o q → is_inside g.layout q ≡ true
         → q.maps.cells ≡ o.maps.cells → later.Good c q → want.Good (n + c) o)
         → (c b : ℕ) (o : OState) → Code g linked p k (leading far (Jmp T2)) → At g linked p k o
@@ -110,7 +110,7 @@ module _ (g : Link) (linked : Linked g) (p : PartSeen) (ip : IsTrusted g p) (w t
         (record { g0 = refl; a0 = refl }))) le1
 
     -- where g0 isn't 0
-    pub branch_goes : (want : Runs g.layout) (c b : ℕ) (x : ℤ) (o : OState)
+    pub branch_goes : (want : RunsOn g.layout) (c b : ℕ) (x : ℤ) (o : OState)
         → Code g linked p k (leading far (Jnz T2 G0)) → At g linked p k o → Away' o
         → o.maps.regs.g0 ≡ Plain (Int x) → is_zero x ≡ false
         → ((q : OState) → Away' q → At g linked p to q → Kept o q → want.Good b q) → 3 + b ≤ c → want.Good c o
@@ -124,7 +124,7 @@ module _ (g : Link) (linked : Linked g) (p : PartSeen) (ip : IsTrusted g p) (w t
         (stays look Plain s.maps (R T2) refl)) refl refl (λ v2 at2.
         u (gone s) (gone_away s h1 v2) at2 (record { g0 = refl; a0 = refl }))) le1
 
-    pub branch_stays : (want : Runs g.layout) (c b : ℕ) (x : ℤ) (o : OState)
+    pub branch_stays : (want : RunsOn g.layout) (c b : ℕ) (x : ℤ) (o : OState)
         → Code g linked p k (leading far (Jnz T2 G0)) → At g linked p k o → Away' o
         → o.maps.regs.g0 ≡ Plain (Int x) → is_zero x ≡ true
         → ((q : OState) → Away' q → At g linked p (k + 3) q → Kept o q → want.Good b q) → 3 + b ≤ c

@@ -24,3 +24,4 @@ pub mod Shared
 pub mod Clean
 pub mod Quiet
 pub mod Shows
+pub mod Offers

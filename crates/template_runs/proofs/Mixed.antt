@@ -19,7 +19,7 @@ use Rattle.trusted_border.specs.declared.layout.Layout.{Layout}
 use Rattle.trusted_border.specs.declared.layout.SiteCode.{SiteCode}
 use Rattle.trusted_border.specs.declared.events.Back.TheVariants.{Bad}
 use Rattle.trusted_border.specs.Layout.{site_code}
-use Rattle.trusted_border.specs.Reaches.{back_of, back_if, jump_plan, goes_on}
+use Rattle.trusted_border.specs.Reaches.{back_of, back_if, jump_plan, plan_goes}
 use Rattle.overlay_machine.specs.declared.words.OWord.{OWord}
 use Rattle.overlay_machine.specs.declared.words.OWord.TheVariants.{Plain, RetCode, RetData}
 use Rattle.overlay_machine.specs.declared.cases.Case.TheVariants.{Other, Back as BackCase}
@@ -31,9 +31,8 @@ use Rattle.overlay_machine.specs.Link.{Link}
 use Rattle.overlay_machine.specs.Linked.{Linked}
 use Rattle.overlay_machine.specs.Safe.{IsSafe, IsMet}
 use Rattle.overlay_machine.specs.Agree.{IsForeign}
-use Rattle.overlay_machine.proofs.PairsOpened.{OneSite, code_site, data_site, foreign_refuses, data_refuses}
-use Rattle.overlay_machine.proofs.PairsOpened.{opened-data}
-use Rattle.overlay_machine.proofs.invariant.Ready.{foreign}
+use Rattle.overlay_machine.proofs.Offers.{OneSite, code_site, data_site, foreign_refuses, data_refuses}
+use Rattle.overlay_machine.proofs.Offers.{opened-data, foreign}
 use Rattle.template_runs.proofs.Valid.{Valid}
 use Rattle.template_runs.proofs.Steps.{At, Placed}
 use Rattle.template_runs.proofs.Ends.{case_is}
@@ -43,18 +42,18 @@ if_bad l None b = refl
 if_bad l (Some a) None = refl
 if_bad l (Some a) (Some b) = refl
 
-bad_of : (l : Layout) (w v : Word) → goes_on (jump_plan w v) ≡ false → back_of l w v ≡ Bad
+bad_of : (l : Layout) (w v : Word) → plan_goes (jump_plan w v) ≡ false → back_of l w v ≡ Bad
 bad_of l w v e = ap (λ b. back_if b l (opened_of w) (opened_of v)) e ∙ if_bad l (opened_of w) (opened_of v)
 
 -- two words that are refused have a plan that fails
 refused : (w v : Word) (a b : Option Opened) → opened_of w ≡ a → opened_of v ≡ b → Refuses a b
-    → goes_on (jump_plan w v) ≡ false
+    → plan_goes (jump_plan w v) ≡ false
 unfolding ask need
 refused w v None b ea eb r = rw ea refl
 refused w v (Some x) None ea eb r = rw (ea, eb) refl
 refused w v (Some x) (Some y) ea eb (inl ne) = rw (ea, eb) (rw (ne_eqb x.seal y.seal ne) refl)
 refused w v (Some x) (Some y) ea eb (inr h) =
-    elim (cases_Bool (x.seal == y.seal)) as (λ _. goes_on (jump_plan w v) ≡ false) [
+    elim (cases_Bool (x.seal == y.seal)) as (λ _. plan_goes (jump_plan w v) ≡ false) [
       | inl t ↦ rw (ea, eb) (rw t (rw (h.1) (rw (h.2) refl)))
       | inr t ↦ rw (ea, eb) (rw t refl)
     ]
@@ -84,10 +83,11 @@ module _ (g : Link) (linked : Linked g) (p : PartSeen) (k : ℕ) (q : OState) (v
 
   -- two RetCodes: the second is code
   codes_bad : (i j : ℕ) (u s : SiteCode) → site_code g.layout i ≡ Some u → site_code g.layout j ≡ Some s
-      → goes_on (jump_plan (flat g.layout q.frames (RetCode i)) (flat g.layout q.frames (RetCode j))) ≡ false
+      → plan_goes (jump_plan (flat g.layout q.frames (RetCode i)) (flat g.layout q.frames (RetCode j)))
+      ≡ false
   unfolding flat ask need
   codes_bad i j u s iu js =
-      elim (cases_Bool (u.seal == s.seal)) as (λ _. goes_on
+      elim (cases_Bool (u.seal == s.seal)) as (λ _. plan_goes
       (jump_plan (flat g.layout q.frames (RetCode i)) (flat g.layout q.frames (RetCode j))) ≡ false) [
         | inl t ↦ rw (iu, js) (rw t refl)
         | inr t ↦ rw (iu, js) (rw t refl)

@@ -10,7 +10,7 @@ use Rattle.component_linker.specs.declared.owners.Owner.{Owner}
 use Rattle.trusted_border.specs.Reaches.{closure_owner, entry_number}
 use Rattle.overlay_machine.specs.Link.{Link, IsTrusted, ranges_of}
 use Rattle.overlay_machine.specs.Names.{NamesTold}
-use Rattle.overlay_machine.proofs.starts.ListFacts.{index_of}
+use Rattle.overlay_machine.proofs.Offers.{index_of}
 
 -- of each trusted part its owner, and of each of its entries a number
 pub record Named (g : Link) : Type 0 where

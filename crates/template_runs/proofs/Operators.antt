@@ -11,7 +11,7 @@ use Rattle.lcm_isa.specs.declared.Instr.TheVariants.{Move, Lt, Plus, Minus}
 use Rattle.lcm_machine.specs.declared.FailCause.TheVariants.{F9}
 use Rattle.lcm_machine.specs.Table.{fits_64, bit, ask, need}
 use Rattle.lcm_machine.specs.Row.{row, failed, plan_in, pc_at}
-use Rattle.lcm_machine.proofs.Goes.{shows, set_goes, lt_goes, plus_goes, minus_goes, number_in}
+use Rattle.lcm_machine.proofs.Offers.{shows, set_goes, lt_goes, plus_goes, minus_goes, number_in}
 use Rattle.component_linker.specs.Parts.{PartSeen}
 use Rattle.overlay_machine.specs.declared.words.OWord.{OWord}
 use Rattle.overlay_machine.specs.declared.words.OWord.TheVariants.{Plain}
@@ -22,7 +22,7 @@ use Rattle.overlay_machine.specs.Linked.{Linked}
 use Rattle.proc_language.specs.declared.tree.Op.{Op}
 use Rattle.proc_language.specs.declared.tree.Op.TheVariants as operator
 use Rattle.proc_templates.specs.Templates.{op_code}
-use Rattle.template_runs.specs.Runs.{Runs, Failing}
+use Rattle.template_runs.specs.Runs.{RunsOn, Failing}
 use Rattle.template_runs.proofs.Steps.{At, next_pc, stop}
 use Rattle.template_runs.proofs.Data.{Away, with_reg, set_law}
 use Rattle.template_runs.proofs.Standing.{Stand, words_in}
@@ -90,7 +90,7 @@ module _ (g : Link) (linked : Linked g) (p : PartSeen) (ip : IsTrusted g p) (w t
       (h : Away' z words mem o) (ex : o.maps.regs.g0 ≡ Plain (Int x)) (ey : o.maps.regs.g1 ≡ Plain (Int y))
     where
       -- what goes on behind, with the value in g0
-      abbrev pub Cont : (want : Runs g.layout) → Op → ℤ → Type 0
+      abbrev pub Cont : (want : RunsOn g.layout) → Op → ℤ → Type 0
       Cont want u v =
           (q : OState) → At g linked p (k + words_in (op_code u)) q → Away' z words mem q
           → q.maps.regs.g0 ≡ Plain (Int v) → fits_64 v ≡ true → want.Good c q
@@ -117,7 +117,7 @@ module _ (g : Link) (linked : Linked g) (p : PartSeen) (ip : IsTrusted g p) (w t
           )
           refl
 
-      plus_law : (want : Runs g.layout) → Stand g linked p end k (op_code operator.Plus)
+      plus_law : (want : RunsOn g.layout) → Stand g linked p end k (op_code operator.Plus)
           → fits_64 (x +ℤ y) ≡ true
           → Cont want operator.Plus (x +ℤ y) → want.Good (5 + c) o
       plus_law want code e u =
@@ -126,7 +126,7 @@ module _ (g : Link) (linked : Linked g) (p : PartSeen) (ip : IsTrusted g p) (w t
           (plus_goes look Plain G0 G0 (InReg G1) _ o.maps x y (x +ℤ y) refl (ap look ex)
           (number_in look Plain o.maps G1 y (ap look ey)) refl e) (λ h1 at1. u _ at1 h1 refl e) (omega arith)
 
-      minus_law : (want : Runs g.layout) → Stand g linked p end k (op_code operator.Minus)
+      minus_law : (want : RunsOn g.layout) → Stand g linked p end k (op_code operator.Minus)
           → fits_64 (x -ℤ y) ≡ true
           → Cont want operator.Minus (x -ℤ y) → want.Good (5 + c) o
       minus_law want code e u =
@@ -135,7 +135,7 @@ module _ (g : Link) (linked : Linked g) (p : PartSeen) (ip : IsTrusted g p) (w t
           (minus_goes look Plain G0 G0 (InReg G1) _ o.maps x y (x -ℤ y) refl (ap look ex)
           (number_in look Plain o.maps G1 y (ap look ey)) refl e) (λ h1 at1. u _ at1 h1 refl e) (omega arith)
 
-      less_law : (want : Runs g.layout) → Stand g linked p end k (op_code operator.Less)
+      less_law : (want : RunsOn g.layout) → Stand g linked p end k (op_code operator.Less)
           → Cont want operator.Less (bit (int_lt x y)) → want.Good (5 + c) o
       less_law want code u =
           set_law g linked p ip w top fs k want (5 + c) c words mem o z (Lt G0 G0 (InReg G1)) G0
@@ -144,7 +144,7 @@ module _ (g : Link) (linked : Linked g) (p : PartSeen) (ip : IsTrusted g p) (w t
           (number_in look Plain o.maps G1 y (ap look ey))) (λ h1 at1. u _ at1 h1 refl (bit_fits (int_lt x y)))
           (omega arith)
 
-      equal_law : (want : Runs g.layout) → Stand g linked p end k (op_code operator.Equal)
+      equal_law : (want : RunsOn g.layout) → Stand g linked p end k (op_code operator.Equal)
           → Cont want operator.Equal (bit (int_eq x y)) → want.Good (5 + c) o
       equal_law want code u =
           let v1 = bit (int_lt x y) in
@@ -190,7 +190,7 @@ module _ (g : Link) (linked : Linked g) (p : PartSeen) (ip : IsTrusted g p) (w t
           at5) h5 refl (bit_fits (int_eq x y))) less5) less4) less3) less2) less1
 
       -- where there is a value, it comes within five words, and else it fails
-      pub operator_goes : (want : Runs g.layout) (u : Op) (v : ℤ) → Stand g linked p end k (op_code u)
+      pub operator_goes : (want : RunsOn g.layout) (u : Op) (v : ℤ) → Stand g linked p end k (op_code u)
           → value_by u x y ≡ Some v → Cont want u v → want.Good (5 + c) o
       operator_goes want operator.Plus v code e u =
           let s = checked_is (x +ℤ y) v e in

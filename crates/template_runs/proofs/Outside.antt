@@ -6,7 +6,7 @@ use Rattle.std.specs.Prelude.{find, is_some, option_map, option_and_then, ◌&&�
 use Rattle.std.proofs.lemmas.Bool.{and_parts, cases_lt}
 use Rattle.cap_words.specs.declared.Content.{Content}
 use Rattle.cap_words.specs.Faces.{address}
-use Rattle.call_sequence.specs.SequenceRuns.{Outside}
+use Rattle.call_sequence.specs.SequenceRuns.{IsOutsideRange}
 use Rattle.lcm_machine.specs.Closed.{Closed, AllAre, OpensTo}
 use Rattle.cap_words.specs.declared.Word.{Word}
 use Rattle.cap_words.specs.declared.Word.TheVariants.{Int, Mem, Seal, Sealed}
@@ -25,17 +25,13 @@ use Rattle.lcm_machine.specs.Places.{reg}
 use Rattle.lcm_machine.specs.Cells.{cell}
 use Rattle.lcm_machine.specs.Table.{target, unsealed, memory_content}
 use Rattle.lcm_machine.specs.Row.{went, faces, opens, cell_faces, fetch, some, row, step_of}
-use Rattle.lcm_machine.proofs.RegLemmas.{cases_reg}
-use Rattle.lcm_machine.proofs.RowLemmas.{fetch_normal}
-use Rattle.lcm_machine.proofs.TouchLemmas.{after_went, row_others, fetched_row, used_target}
-use Rattle.lcm_machine.proofs.WordsKept.{row_keeps}
-use Rattle.lcm_machine.proofs.Offers.{is_none}
+use Rattle.lcm_machine.proofs.Offers.{cases_reg, fetch_normal, after_went, row_others, fetched_row}
+use Rattle.lcm_machine.proofs.Offers.{used_target, row_keeps, is_none}
 use Rattle.flow_check.specs.Holds.{data_cap, code_at, PcAt}
 use Rattle.flow_check.specs.Places.{begins_entry}
 use Rattle.component_linker.specs.Parts.{PartSeen}
 use Rattle.component_linker.specs.declared.owners.Owner.{Owner}
-use Rattle.component_linker.proofs.Found.{found}
-use Rattle.component_linker.proofs.StartWords.{listed_at}
+use Rattle.component_linker.proofs.Offers.{found, listed_at}
 use Rattle.trusted_border.specs.declared.events.Event.TheVariants.{Returned as ReturnedTo}
 use Rattle.trusted_border.specs.Layout.{trusted_owner, runs_part}
 use Rattle.trusted_border.specs.Reaches.{closure_owner}
@@ -47,21 +43,14 @@ use Rattle.overlay_machine.specs.Words.{look}
 use Rattle.overlay_machine.specs.State.{OpenFrame, OState, Cells}
 use Rattle.overlay_machine.specs.Step.{goes, case_of, case_fetched, step_by, other_step, overlay_step}
 use Rattle.overlay_machine.specs.Events.{step_event, note_by, note_return, note_jump, event_after, owner_now}
-use Rattle.overlay_machine.specs.Events.{jump_seal, entered}
+use Rattle.overlay_machine.specs.Events.{jump_seal, entered_event}
 use Rattle.overlay_machine.specs.Link.{Link, IsTrusted, ranges_of, data_region}
 use Rattle.overlay_machine.specs.Safe.{IsSafe, IsSafeCap, IsOpenSeal}
 use Rattle.overlay_machine.specs.Linked.{Linked}
-use Rattle.overlay_machine.proofs.FlatLemmas.{mem_of_face}
-use Rattle.overlay_machine.proofs.OtherAgrees.{plain_both}
-use Rattle.overlay_machine.proofs.invariant.Targets.{target_bounds, target_reg}
-use Rattle.overlay_machine.proofs.invariant.Facts.{mem_safe, not_trusted, open_safe, same_region}
-use Rattle.overlay_machine.proofs.invariant.SafeClosed.{safe_closed}
-use Rattle.overlay_machine.proofs.invariant.View.{pc_untrusted}
-use Rattle.overlay_machine.proofs.invariant.Crossing.{Crossed, xjmp_crossed, Leads_to, to_safe, to_entry}
-use Rattle.overlay_machine.proofs.invariant.Crossing.{leads_to}
-use Rattle.overlay_machine.proofs.invariant.OtherKept.{plain_is, went_other}
-use Rattle.overlay_machine.proofs.invariant.EntryKept.{never_call, never_entry}
-use Rattle.overlay_machine.proofs.invariant.ReturnKept.{Returned, returned}
+use Rattle.overlay_machine.proofs.Offers.{mem_of_face, plain_both, target_bounds, target_reg, mem_safe}
+use Rattle.overlay_machine.proofs.Offers.{not_trusted, open_safe, same_region, safe_closed, pc_untrusted}
+use Rattle.overlay_machine.proofs.Offers.{Crossed, xjmp_crossed, Leads_to, to_safe, to_entry, leads_to}
+use Rattle.overlay_machine.proofs.Offers.{plain_is, went_other, never_call, never_entry, Returned, returned}
 use Rattle.overlay_machine.proofs.Offers.{is_xjmp}
 use Rattle.template_runs.specs.Runs.{is_inside}
 use Rattle.template_runs.specs.Sharing as sharing
@@ -124,7 +113,7 @@ module _ (g : Link) (linked : Linked g) where
         → ((d : Reg) → d ≢ Pc → d ≢ Dat → IsShown g q.frames (reg q.maps.regs d))
         → IsSharedAt p.component k
         → q.frames ≡ o.frames → q.maps.cells ≡ o.maps.cells
-        → step_event g.layout o q ≡ option_and_then (entered g.layout q)
+        → step_event g.layout o q ≡ option_and_then (entered_event g.layout q)
         (closure_owner g.layout p.component.closure) → Leaves o q
     returns : (r1 r2 : Reg) → Valid g linked q → (r : Returned g.layout r1 r2 o q)
         → step_event g.layout o q ≡ Some (ReturnedTo false r.frame.site r.frame.base r.frame.end) → Leaves o q
@@ -237,13 +226,13 @@ module _ (g : Link) (linked : Linked g) where
           (linked.data_there p ip) (omega (arith, l, bl)) (omega (arith, u, bh)) low high)
 
       data_out : (n : Instr) (a : ℕ) (p : PartSeen) → IsTrusted g p → target n (faces look o.maps) ≡ Some a
-          → Outside a (ranges_of p).data_base (ranges_of p).data_last
+          → IsOutsideRange a (ranges_of p).data_base (ranges_of p).data_last
       data_out n a p ip e =
           elim (cases_lt a (ranges_of p).data_base)
-          as (λ _. Outside a (ranges_of p).data_base (ranges_of p).data_last) [
+          as (λ _. IsOutsideRange a (ranges_of p).data_base (ranges_of p).data_last) [
             | inl low ↦ inl low
             | inr l1 ↦ elim (cases_lt (ranges_of p).data_last a)
-                as (λ _. Outside a (ranges_of p).data_base (ranges_of p).data_last) [
+                as (λ _. IsOutsideRange a (ranges_of p).data_base (ranges_of p).data_last) [
                   | inl high ↦ inr high
                   | inr l2 ↦ absurd (target_data n a p ip l1 l2 e)
                 ]
@@ -337,7 +326,7 @@ module _ (g : Link) (linked : Linked g) where
             let s2 = subst (λ w. IsShown g o.frames w) b.1 (h.safe r2) in
             let o1 : opened_of a.0 ≡ Some x.code = sym (ap (λ w. opened_of (look w)) a.1) ∙ x.opens_code in
             let o2 : opened_of b.0 ≡ Some x.half = sym (ap (λ w. opened_of (look w)) b.1) ∙ x.opens_half in
-            let event : step_event g.layout o q ≡ option_and_then (entered g.layout q)
+            let event : step_event g.layout o q ≡ option_and_then (entered_event g.layout q)
             (closure_owner g.layout x.code.seal) =
             other_event (Xjmp r1 r2) next (Some x.code.seal) c f
             (ap (option_map (λ k. k.seal)) x.opens_code) in
@@ -356,7 +345,7 @@ module _ (g : Link) (linked : Linked g) where
 
             by_lead : (x : Crossed r1 r2 o.maps s') (w : Word) → IsShown g o.frames (Plain w)
                 → opened_of w ≡ Some x.code
-                → step_event g.layout o q ≡ option_and_then (entered g.layout q)
+                → step_event g.layout o q ≡ option_and_then (entered_event g.layout q)
                 (closure_owner g.layout x.code.seal)
                 → ((d : Reg) → d ≢ Pc → d ≢ Dat → IsShown g o.frames (reg s'.regs d))
                 → Leads_to g linked o.frames x.code.seal x.cap (unsealed x.half.content) → Leaves o q
@@ -375,7 +364,7 @@ module _ (g : Link) (linked : Linked g) where
                 }) same_frames
                 (λ p d ip lt. ap (λ y. cell y.maps.cells (p.component.data_base + d)) is
                 ∙ ap (λ y. cell y (p.component.data_base + d)) x.cells)
-                (event ∙ ap (option_and_then (entered g.layout q)) (open_no_owner x.code.seal under))
+                (event ∙ ap (option_and_then (entered_event g.layout q)) (open_no_owner x.code.seal under))
             by_lead x w s1 o1 event others (to_entry p k ip en under ec hd) =
                 enters p k (valid_at x) ip en
                 (ap (λ y. look (reg y.maps.regs Pc)) is ∙ ap look x.pc ∙ ap Mem ec)
@@ -384,7 +373,8 @@ module _ (g : Link) (linked : Linked g) where
                 (s1.1 p k ip (half_at w x.code x.cap p k o1 x.memory under ec))
                 same_frames
                 (ap (λ y. y.maps.cells) is ∙ x.cells)
-                (event ∙ ap (λ n. option_and_then (entered g.layout q) (closure_owner g.layout n)) under)
+                (event ∙ ap (λ n. option_and_then (entered_event g.layout q) (closure_owner g.layout n))
+                under)
 
       other : case_of g.layout o.maps ≡ Other → step_by g.layout Other o ≡ goes q → Leaves o q
       unfolding other_step

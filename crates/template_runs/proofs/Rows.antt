@@ -4,7 +4,7 @@ use Rattle.std.proofs.Common.{[], ◌∷◌, length, Some, None, true, false, re
 use Rattle.std.specs.Prelude.{slice_get}
 use Rattle.std.proofs.lemmas.Int.{ints}
 use Rattle.std.proofs.lemmas.Bool.{cases_lt}
-use Rattle.call_sequence.specs.SequenceRuns.{Outside}
+use Rattle.call_sequence.specs.SequenceRuns.{IsOutsideRange}
 use Rattle.cap_words.specs.declared.Word.TheVariants.{Mem}
 use Rattle.cap_words.specs.Linear.{is_linear}
 use Rattle.cap_words.specs.Face.{face_of}
@@ -21,10 +21,9 @@ use Rattle.lcm_machine.specs.Places.{reg, set_reg}
 use Rattle.lcm_machine.specs.Cells.{cell, set_cell}
 use Rattle.lcm_machine.specs.Table.{fits_64, is_pc}
 use Rattle.lcm_machine.specs.Row.{put, row, went}
-use Rattle.lcm_machine.proofs.Goes.{stays, cca_goes, load_goes, store_goes}
+use Rattle.lcm_machine.proofs.Offers.{stays, cca_goes, load_goes, store_goes, cell-set_other}
 use Rattle.template_runs.proofs.Numbers.{fits_small, fits_less}
-use Rattle.lcm_machine.proofs.CellLemmas.{cell-set_other}
-use Rattle.flow_check.specs.Holds.{data_cap, stack_cap}
+use Rattle.flow_check.specs.Holds.{data_cap, part_stack_cap}
 use Rattle.component_linker.specs.Parts.{PartSeen}
 use Rattle.overlay_machine.specs.declared.words.OWord.{OWord}
 use Rattle.overlay_machine.specs.declared.words.OWord.TheVariants.{Plain}
@@ -32,13 +31,13 @@ use Rattle.overlay_machine.specs.Words.{look}
 use Rattle.overlay_machine.specs.State.{OpenFrame, OState, Cells, framed}
 use Rattle.overlay_machine.specs.Link.{Link, IsTrusted, ranges_of, stack_region, data_region}
 use Rattle.overlay_machine.specs.Linked.{Linked}
-use Rattle.overlay_machine.proofs.invariant.Facts.{stack_small, same_region, stack_there, open_stack_at}
+use Rattle.overlay_machine.proofs.Offers.{stack_small, same_region, stack_there, open_stack_at}
 use Rattle.template_runs.specs.Public.{IsPublic, IsFreeAt}
-use Rattle.template_runs.specs.Runs.{Runs}
+use Rattle.template_runs.specs.Runs.{RunsOn}
 use Rattle.template_runs.proofs.Valid.{Valid}
 use Rattle.template_runs.proofs.Steps.{At, Code, next_pc, go, go_set}
 use Rattle.template_runs.proofs.Slots.{Holds, with_at, length-with_at, holds_get, holds_set}
-use Rattle.component_file.proofs.Lists.{inside as there_before}
+use Rattle.component_file.proofs.Offers.{inside as there_before}
 
 module _ (g : Link) (linked : Linked g) where
   -- the words of trusted data
@@ -53,7 +52,7 @@ module _ (g : Link) (linked : Linked g) where
       (fs : List OpenFrame) (o : OState) : Type 0 where
     pub valid : Valid g linked o
     pub at : ℤ
-    pub stk : look o.maps.regs.stk ≡ Mem (stack_cap (ranges_of p) top at)
+    pub stk : look o.maps.regs.stk ≡ Mem (part_stack_cap (ranges_of p) top at)
     pub cursor : at +ℤ pos w ≡ pos top
     pub dat : look o.maps.regs.dat ≡ Mem (data_cap (ranges_of p) z)
     pub slots : Holds o.maps.cells top 0 words
@@ -71,7 +70,7 @@ module _ (g : Link) (linked : Linked g) where
   -- and so at another state with the same cells and frames, and stk at the same address
   pub moved : {z y : ℤ} {p : PartSeen} {w top : ℕ} {words : List OWord} {mem : ℕ → OWord}
       {fs : List OpenFrame} {o q : OState} (h : HereAt z p w top words mem fs o) → Valid g linked q
-      → look q.maps.regs.stk ≡ Mem (stack_cap (ranges_of p) top h.at)
+      → look q.maps.regs.stk ≡ Mem (part_stack_cap (ranges_of p) top h.at)
       → look q.maps.regs.dat ≡ Mem (data_cap (ranges_of p) y) → q.maps.cells ≡ o.maps.cells
       → q.frames ≡ o.frames → HereAt y p w top words mem fs q
   moved {top = top} {words = words} {mem = mem} h v stk dat cells frames = record {
@@ -121,11 +120,14 @@ module _ (g : Link) (linked : Linked g) where
           (stack_there g linked) l1 l2 lo hi in
           let k : false ≡ true = ap (λ r. r.linear) e in cc
 
-      data_out : (q : PartSeen) → IsTrusted g q → Outside a (ranges_of q).data_base (ranges_of q).data_last
-      data_out q iq = elim (cases_lt a (ranges_of q).data_base) as (λ _. Outside a (ranges_of q).data_base
+      data_out : (q : PartSeen) → IsTrusted g q → IsOutsideRange a (ranges_of q).data_base
+          (ranges_of q).data_last
+      data_out q iq = elim (cases_lt a (ranges_of q).data_base) as
+          (λ _. IsOutsideRange a (ranges_of q).data_base
           (ranges_of q).data_last) [
             | inl low ↦ inl low
-            | inr l1 ↦ elim (cases_lt (ranges_of q).data_last a) as (λ _. Outside a (ranges_of q).data_base
+            | inr l1 ↦ elim (cases_lt (ranges_of q).data_last a) as
+                (λ _. IsOutsideRange a (ranges_of q).data_base
                 (ranges_of q).data_last) [
                   | inl high ↦ inr high
                   | inr l2 ↦ absurd (inside q iq l1 l2)
@@ -193,7 +195,7 @@ module _ (g : Link) (linked : Linked g) where
     where
       -- the state after three steps that set stk and, in between, something else
       abbrev with_stk : State OWord → ℤ → ℕ → State OWord
-      with_stk s z i = put (put s (R Stk) (Plain (Mem (stack_cap (ranges_of p) top z)))) (R Pc)
+      with_stk s z i = put (put s (R Stk) (Plain (Mem (part_stack_cap (ranges_of p) top z)))) (R Pc)
           (Plain (next_pc g linked p i))
 
       abbrev pub loaded : OState → ℤ → Reg → ℕ → OWord → OState
@@ -205,7 +207,7 @@ module _ (g : Link) (linked : Linked g) where
       }
 
       -- a slot is loaded
-      pub load_law : (want : Runs g.layout) (c b : ℕ) → (r : Reg) → Free r
+      pub load_law : (want : RunsOn g.layout) (c b : ℕ) → (r : Reg) → Free r
           → (words : List OWord) (j : ℕ) (x : OWord) (o : OState) → Code g linked p k (load_slot w j r)
           → slice_get words j ≡ Some x → j < w → is_linear (look x) ≡ false
           → face_linear (face_of (look x)) ≡ false
@@ -235,21 +237,21 @@ module _ (g : Link) (linked : Linked g) where
           let s1 = with_stk o.maps (pos a) k in
           let s2 = put (put s1 (R r) x) (R Pc) (Plain (next_pc g linked p (k + 1))) in
           let s3 = with_stk s2 h.at (k + 1 + 1) in
-          let stk2 : look s2.regs.stk ≡ Mem (stack_cap (ranges_of p) top (pos (top - j))) =
+          let stk2 : look s2.regs.stk ≡ Mem (part_stack_cap (ranges_of p) top (pos (top - j))) =
           ap look (free.keeps_stk s1.regs x) in
           let dat2 : look s2.regs.dat ≡ Mem (data_cap (ranges_of p) (pos p.component.data_base)) =
           ap look (free.keeps_dat s1.regs x) ∙ h.dat in
           let less : 1 + (1 + (1 + b)) ≤ c = omega (arith, le) in
           want.spend _ c o less
           (go g linked p k (Cca Stk (Imm (up w j))) o h.valid at code.0 refl want _ s1
-          (cca_goes look Plain Stk (Imm (up w j)) _ o.maps (stack_cap (ranges_of p) top h.at) (up w j)
+          (cca_goes look Plain Stk (Imm (up w j)) _ o.maps (part_stack_cap (ranges_of p) top h.at) (up w j)
           (pos (top - j)) refl h.stk refl e_up fit_a) refl refl (λ v1 at1.
           go g linked p (k + 1) (Load r Stk) (record o { maps = s1 }) v1 at1 code.1.0 refl want _ s2
-          (load_goes look Plain r Stk _ s1 (stack_cap (ranges_of p) top (pos (top - j))) (top - j) x
+          (load_goes look Plain r Stk _ s1 (part_stack_cap (ranges_of p) top (pos (top - j))) (top - j) x
           (look x) free.no_pc refl refl refl la ha there refl nl fl) refl refl (λ v2 at2.
           go g linked p (k + 1 + 1) (Cca Stk (Imm (down w j))) (record o { maps = s2 }) v2 at2 code.1.1.0 refl
           want b s3 (cca_goes look Plain Stk (Imm (down w j)) _ s2
-          (stack_cap (ranges_of p) top (pos (top - j))) (down w j) h.at refl stk2 refl e_down fit_z) refl
+          (part_stack_cap (ranges_of p) top (pos (top - j))) (down w j) h.at refl stk2 refl e_down fit_z) refl
           refl (λ v3 at3.
           u (moved h v3 refl dat2 refl refl)
           at3))))
@@ -262,7 +264,8 @@ module _ (g : Link) (linked : Linked g) where
             (Plain (next_pc g linked p (k + 1)))) z (k + 1 + 1);
       }
 
-      pub store_law : (want : Runs g.layout) (c b : ℕ) → (r : Reg) → (words : List OWord) (j : ℕ) (o : OState)
+      pub store_law : (want : RunsOn g.layout) (c b : ℕ) → (r : Reg) → (words : List OWord) (j : ℕ)
+          (o : OState)
           → Code g linked p k (store_slot w j r) → j < length words
           → reg (with_stk o.maps (pos (top - j)) k).regs r ≡ reg o.maps.regs r
           → is_linear (look (reg o.maps.regs r)) ≡ false → IsPublic g (reg o.maps.regs r) → want.May (top - j)
@@ -305,18 +308,19 @@ module _ (g : Link) (linked : Linked g) where
           (let e = length-with_at words j x in omega (arith, e, ft)) in
           let less : 1 + (1 + (1 + b)) ≤ c = omega (arith, le) in
           let does : row look Plain (Store Stk r) (next_pc g linked p (k + 1)) s1 ≡ went s2 =
-          store_goes look Plain Stk r _ s1 s1 (stack_cap (ranges_of p) top (pos (top - j))) (top - j) some.0
+          store_goes look Plain Stk r _ s1 s1 (part_stack_cap (ranges_of p) top (pos (top - j)))
+          (top - j) some.0
           refl refl refl la ha there (stays look Plain s1 (R r) (ap (λ y. is_linear (look y)) same ∙ nl))
           ∙ ap (λ y. went (put (put s1 (Cell a) y) (R Pc) (Plain (next_pc g linked p (k + 1))))) same in
           want.spend _ c o less
           (go g linked p k (Cca Stk (Imm (up w j))) o h.valid at code.0 refl want _ s1
-          (cca_goes look Plain Stk (Imm (up w j)) _ o.maps (stack_cap (ranges_of p) top h.at) (up w j)
+          (cca_goes look Plain Stk (Imm (up w j)) _ o.maps (part_stack_cap (ranges_of p) top h.at) (up w j)
           (pos (top - j)) refl h.stk refl e_up fit_a) refl refl (λ v1 at1.
           go_set g linked p (k + 1) (Store Stk r) (record o { maps = s1 }) v1 at1 code.1.0 refl want _ s2
           (top - j) x does refl refl (λ _. public) may (λ v2 at2.
           go g linked p (k + 1 + 1) (Cca Stk (Imm (down w j))) (record o { maps = s2 }) v2 at2 code.1.1.0 refl
           want b s3 (cca_goes look Plain Stk (Imm (down w j)) _ s2
-          (stack_cap (ranges_of p) top (pos (top - j))) (down w j) h.at refl refl refl e_down fit_z) refl
+          (part_stack_cap (ranges_of p) top (pos (top - j))) (down w j) h.at refl refl refl e_down fit_z) refl
           refl (λ v3 at3.
           u (record {
             valid = v3;

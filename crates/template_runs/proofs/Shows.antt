@@ -17,7 +17,7 @@ use Rattle.lcm_isa.specs.declared.Reg.TheVariants.{Pc, Rcode, Rdata, Stk, Dat, T
 use Rattle.lcm_isa.specs.declared.Reg.TheVariants.{G0, G1, G2}
 use Rattle.lcm_machine.specs.Places.{reg}
 use Rattle.lcm_machine.specs.Table.{unsealed}
-use Rattle.flow_check.specs.Holds.{stack_cap as stack_at}
+use Rattle.flow_check.specs.Holds.{part_stack_cap as stack_at}
 use Rattle.call_sequence.specs.SequenceRuns.{stack_cap}
 use Rattle.component_linker.specs.Parts.{PartSeen}
 use Rattle.trusted_border.specs.declared.layout.SiteCode.{SiteCode}
@@ -28,7 +28,7 @@ use Rattle.overlay_machine.specs.State.{OpenFrame, OState}
 use Rattle.overlay_machine.specs.Step.{new_frame}
 use Rattle.overlay_machine.specs.Link.{Link, IsTrusted, ranges_of}
 use Rattle.overlay_machine.specs.Linked.{Linked}
-use Rattle.overlay_machine.proofs.invariant.Crossing.{Crossed}
+use Rattle.overlay_machine.proofs.Offers.{Crossed, mem_safe, stack_cells, mem_plain}
 use Rattle.template_runs.specs.Border.{Opened, code_word, half_word, content_of, zero, ShowsCall, ShowsLeave}
 use Rattle.template_runs.proofs.Outside.{opened_is}
 use Rattle.template_runs.proofs.Ends.{Keeps}
@@ -38,8 +38,6 @@ use Rattle.template_runs.proofs.Rows.{Here}
 use Rattle.template_runs.proofs.Valid.{Valid}
 use Rattle.lcm_machine.specs.Cells.{cell}
 use Rattle.overlay_machine.specs.Safe.{IsSafe}
-use Rattle.overlay_machine.proofs.invariant.Facts.{mem_safe, stack_cells}
-use Rattle.overlay_machine.proofs.Offers.{mem_plain}
 
 abbrev seal_in : Content → Sealable
 seal_in (MemC c) = MemIn c

@@ -14,8 +14,7 @@ use Rattle.lcm_machine.specs.Cells.{set_cell}
 use Rattle.lcm_machine.specs.Row.{Outcome, went, halted, failed, look_face, faces, cell_faces, fetch, some}
 use Rattle.lcm_machine.specs.Row.{row, jump_of}
 use Rattle.lcm_machine.specs.Runs.{code_cap}
-use Rattle.lcm_machine.proofs.Goes.{fetch_at}
-use Rattle.lcm_machine.proofs.RowLemmas.{step_at}
+use Rattle.lcm_machine.proofs.Offers.{fetch_at, step_at}
 use Rattle.flow_check.specs.Holds.{PcAt}
 use Rattle.flow_check.specs.Places.{begins_entry, begins_site}
 use Rattle.component_linker.specs.Parts.{PartSeen}
@@ -31,11 +30,10 @@ use Rattle.overlay_machine.specs.Events.{step_event, note_by, event_after}
 use Rattle.overlay_machine.specs.Link.{Link, IsTrusted, ranges_of}
 use Rattle.overlay_machine.specs.Linked.{Linked}
 use Rattle.std.proofs.lemmas.Option.{slice_get_within}
-use Rattle.overlay_machine.proofs.invariant.Facts.{in_code}
-use Rattle.overlay_machine.proofs.invariant.View.{site_of}
+use Rattle.overlay_machine.proofs.Offers.{in_code, site_of}
 use Rattle.trace_tool.specs.Views.{flat_view}
 use Rattle.template_runs.specs.Public.{IsPublic, IsFreeAt}
-use Rattle.template_runs.specs.Runs.{is_inside, Makes, Runs, Failing, Halting, Sets, no_cell, one_cell}
+use Rattle.template_runs.specs.Runs.{is_inside, Makes, RunsOn, Failing, Halting, Sets, no_cell, one_cell}
 use Rattle.template_runs.proofs.Valid.{Valid, valid_same, valid_set}
 
 module _ (g : Link) (linked : Linked g) where
@@ -150,7 +148,7 @@ module _ (g : Link) (linked : Linked g) where
       }
 
       -- one step by the table, to an offset of the part
-      go_by : (want : Runs g.layout) (c to : ℕ) (s : State OWord)
+      go_by : (want : RunsOn g.layout) (c to : ℕ) (s : State OWord)
           → row look Plain i (next_pc p k) o.maps ≡ went s → PcAt look (ranges_of p) to s.regs
           → Valid g linked (record o { maps = s }) → Sets want.May o (record o { maps = s })
           → (Valid g linked (record o { maps = s }) → At p to (record o { maps = s })
@@ -161,7 +159,7 @@ module _ (g : Link) (linked : Linked g) where
           want.go_on 1 c o (record o { maps = s }) (makes s e)
           (inside_here p to (record o { maps = s }) at2) sets (u v2 at2)
 
-      pub go_to : (want : Runs g.layout) (c to : ℕ) (s : State OWord)
+      pub go_to : (want : RunsOn g.layout) (c to : ℕ) (s : State OWord)
           → row look Plain i (next_pc p k) o.maps ≡ went s → PcAt look (ranges_of p) to s.regs
           → s.cells ≡ o.maps.cells
           → (Valid g linked (record o { maps = s }) → At p to (record o { maps = s })
@@ -178,7 +176,7 @@ module _ (g : Link) (linked : Linked g) where
           ap look pc ∙ ap (λ x. Mem (code_cap r.code_base r.code_last x)) b
 
       -- and to the next one
-      pub go : (want : Runs g.layout) (c : ℕ) (s : State OWord)
+      pub go : (want : RunsOn g.layout) (c : ℕ) (s : State OWord)
           → row look Plain i (next_pc p k) o.maps ≡ went s → s.regs.pc ≡ Plain (next_pc p k)
           → s.cells ≡ o.maps.cells
           → (Valid g linked (record o { maps = s }) → At p (k + 1) (record o { maps = s })
@@ -187,7 +185,7 @@ module _ (g : Link) (linked : Linked g) where
       go want c s e pc same u = go_to want c (k + 1) s e (at_next s pc) same u
 
       -- where it sets a cell
-      pub go_set : (want : Runs g.layout) (c : ℕ) (s : State OWord) (a : ℕ) (x : OWord)
+      pub go_set : (want : RunsOn g.layout) (c : ℕ) (s : State OWord) (a : ℕ) (x : OWord)
           → row look Plain i (next_pc p k) o.maps ≡ went s → s.regs.pc ≡ Plain (next_pc p k)
           → s.cells ≡ set_cell o.maps.cells a x → (IsFreeAt g a → IsPublic g x) → want.May a
           → (Valid g linked (record o { maps = s }) → At p (k + 1) (record o { maps = s })

@@ -12,7 +12,7 @@ use Rattle.lcm_machine.specs.declared.Place.TheVariants.{R}
 use Rattle.lcm_machine.specs.Places.{reg}
 use Rattle.lcm_machine.specs.Table.{fits_64}
 use Rattle.lcm_machine.specs.Row.{put}
-use Rattle.lcm_machine.proofs.Goes.{plus_goes}
+use Rattle.lcm_machine.proofs.Offers.{plus_goes}
 use Rattle.component_linker.specs.Parts.{PartSeen}
 use Rattle.trusted_border.specs.declared.layout.SiteCode.{SiteCode}
 use Rattle.overlay_machine.specs.declared.words.OWord.{OWord}
@@ -23,14 +23,14 @@ use Rattle.overlay_machine.specs.Flat.{flat, flat_range}
 use Rattle.overlay_machine.specs.Link.{Link}
 use Rattle.overlay_machine.specs.Linked.{Linked}
 use Rattle.overlay_machine.specs.Safe.{IsMet}
-use Rattle.overlay_machine.proofs.invariant.FrameFacts.{frame_in}
+use Rattle.overlay_machine.proofs.Offers.{frame_in}
 use Rattle.overlay_machine.specs.Invariant.{PcPart, at_fail, at_row, outside}
 use Rattle.trace_tool.specs.Views.{flat_view}
 use Rattle.trace_tool.specs.Feed.{integer_in}
 use Rattle.template_runs.proofs.Numbers.{zero_more}
 use Rattle.template_runs.proofs.Entries.{plus_fails}
 use Rattle.template_runs.specs.Public.{IsPublic}
-use Rattle.template_runs.specs.Runs.{is_inside, Runs, Failing}
+use Rattle.template_runs.specs.Runs.{is_inside, RunsOn, Failing}
 use Rattle.template_runs.proofs.Valid.{Valid}
 use Rattle.template_runs.proofs.Steps.{At, Placed, next_pc, go, stop, inside_here}
 use Rattle.template_runs.proofs.Outside.{Out}
@@ -67,7 +67,7 @@ module _ (g : Link) (linked : Linked g) where
     abbrev pub took : ℤ → OState
     took z = record q { maps = put (put q.maps (R G0) (Plain (Int z))) (R Pc) (Plain (next_pc g linked p k)) }
 
-    pub take_law : (want : Runs g.layout) (z : ℤ) (c b : ℕ) → look q.maps.regs.a0 ≡ Int z → fits_64 z ≡ true
+    pub take_law : (want : RunsOn g.layout) (z : ℤ) (c b : ℕ) → look q.maps.regs.a0 ≡ Int z → fits_64 z ≡ true
         → (Valid g linked (took z) → At g linked p (k + 1) (took z) → want.Good b (took z)) → 1 + b ≤ c
         → want.Good c q
     take_law want z c b e fit u le =

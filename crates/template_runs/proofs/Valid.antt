@@ -8,8 +8,7 @@ use Rattle.cap_words.specs.Linear.{zero_word}
 use Rattle.lcm_machine.specs.Maps.{State}
 use Rattle.lcm_machine.specs.Cells.{cell, set_cell, words_from, without, put_back}
 use Rattle.lcm_machine.specs.Row.{Outcome, went, halted, failed}
-use Rattle.lcm_machine.proofs.CellLemmas.{cell-set_other, cell-set_same}
-use Rattle.lcm_machine.proofs.Stretches.{cell-without_in, cell-without_out}
+use Rattle.lcm_machine.proofs.Offers.{cell-set_other, cell-set_same, cell-without_in, cell-without_out}
 use Rattle.overlay_machine.specs.declared.words.OWord.{OWord}
 use Rattle.overlay_machine.specs.declared.words.OWord.TheVariants.{Plain}
 use Rattle.overlay_machine.specs.Words.{look}
@@ -18,9 +17,7 @@ use Rattle.overlay_machine.specs.Step.{Ending, goes, halts, fails, overlay_step,
 use Rattle.overlay_machine.specs.Link.{Link}
 use Rattle.overlay_machine.specs.Linked.{Linked}
 use Rattle.overlay_machine.specs.Invariant.{Invariant, KeepsAgreeing}
-use Rattle.overlay_machine.proofs.FrameWords.{put_back-in}
-use Rattle.overlay_machine.proofs.OutLemmas.{put_back-other}
-use Rattle.overlay_machine.proofs.invariant.Kept.{kept}
+use Rattle.overlay_machine.proofs.Offers.{put_back-in, put_back-other, kept}
 use Rattle.template_runs.specs.Public.{IsPublic, IsFreeAt, ArePublic, FramesPublic, KeepsPrivate}
 
 -- ---- which states come

@@ -10,7 +10,7 @@ use Rattle.cap_words.specs.declared.Sealable.TheVariants.{Mem as MemIn, Seal as 
 use Rattle.cap_words.specs.Linear.{left_of}
 use Rattle.lcm_machine.specs.Cells.{cell}
 use Rattle.lcm_machine.specs.Table.{unsealed}
-use Rattle.call_sequence.specs.SequenceRuns.{Outside, stack_cap}
+use Rattle.call_sequence.specs.SequenceRuns.{IsOutsideRange, stack_cap}
 use Rattle.trusted_border.specs.declared.layout.Layout.{Layout}
 use Rattle.trusted_border.specs.declared.events.Event.{Event}
 use Rattle.trusted_border.specs.declared.events.Event.TheVariants.{Called, Left}
@@ -102,7 +102,7 @@ IsTidied g o q =
 -- they were.
 pub record IsWipedFrom (g : Link) (low end : ℕ) (o q : OState) : Type 0 where
   pub wiped : (a : ℕ) (w : OWord) → low ≤ a → a ≤ end → cell q.maps.cells a ≡ Some w → w ≡ zero
-  pub kept : (a : ℕ) (w : OWord) → IsFreeAt g a → Outside a low end → cell q.maps.cells a ≡ Some w
+  pub kept : (a : ℕ) (w : OWord) → IsFreeAt g a → IsOutsideRange a low end → cell q.maps.cells a ≡ Some w
       → cell o.maps.cells a ≡ Some w
 
 -- where the wiped cells begin, up to an end: so many words above the stack's first one, or behind the end

@@ -6,7 +6,7 @@ use Rattle.cap_words.specs.declared.Word.TheVariants.{Sealed}
 use Rattle.cap_words.specs.declared.Sealable.TheVariants.{Mem as MemIn}
 use Rattle.component_file.specs.declared.component.Export.{Export}
 use Rattle.component_file.specs.declared.component.ComponentFields.{ComponentFields}
-use Rattle.call_sequence.specs.SequenceRuns.{Outside}
+use Rattle.call_sequence.specs.SequenceRuns.{IsOutsideRange}
 use Rattle.flow_check.specs.Holds.{code_at}
 use Rattle.component_linker.specs.Parts.{PartSeen}
 use Rattle.lcm_machine.specs.Cells.{cell}
@@ -42,7 +42,7 @@ IsShown g fs w = IsSafe g fs w × IsPublic g w
 abbrev pub IsFreeAt : Link → ℕ → Type 0
 IsFreeAt g a =
     IsOpenAt g a × ((p : PartSeen) → IsTrusted g p
-    → Outside a (ranges_of p).data_base (ranges_of p).data_last)
+    → IsOutsideRange a (ranges_of p).data_base (ranges_of p).data_last)
 
 abbrev pub ArePublic : Link → List OWord → Type 0
 ArePublic g [] = Unit {0}

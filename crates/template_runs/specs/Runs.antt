@@ -27,7 +27,7 @@ pub data Sets (May : ℕ → Type 0) (o q : OState) : Type 0 where
 -- What is wanted of runs: a property of states under a credit. It holds with more credit, and before a step
 -- without an event if it holds behind it with the step's weight less, where the step sets no cell but those
 -- that it may.
-pub record Runs (l : Layout) : Type 1 where
+pub record RunsOn (l : Layout) : Type 1 where
   pub Good : ℕ → OState → Type 0
   pub spend : (b c : ℕ) (o : OState) → b ≤ c → Good b o → Good c o
   pub May : ℕ → Type 0
@@ -36,12 +36,12 @@ pub record Runs (l : Layout) : Type 1 where
 
 -- and it holds where a step fails that the credit pays
 pub record Failing (l : Layout) : Type 1 where
-  pub runs : Runs l
+  pub runs : RunsOn l
   pub stop : (c : ℕ) (o : OState) → is_inside l o ≡ true → overlay_step l o ≡ fails → weight_of l o ≤ c
       → runs.Good c o
 
 -- or where one halts with this value
 pub record Halting (l : Layout) (v : ℤ) : Type 1 where
-  pub runs : Runs l
+  pub runs : RunsOn l
   pub halt : (c : ℕ) (o : OState) → is_inside l o ≡ true → overlay_step l o ≡ halts → weight_of l o ≤ c
       → (flat_view l o).reg A0 ≡ Int v → runs.Good c o

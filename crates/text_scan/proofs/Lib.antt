@@ -6,3 +6,4 @@ mod Texts
 pub mod Places
 mod Faults
 pub mod Printed
+pub mod Offers

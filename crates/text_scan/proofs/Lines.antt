@@ -16,7 +16,7 @@ use Rattle.text_scan.specs.Tokens.{with_front}
 use Rattle.text_scan.specs.Fault.{is_refusal}
 use Rattle.readers.specs.Answers.{Fails}
 use Rattle.readers.specs.Results.{◌>>=◌}
-use Rattle.readers.proofs.Faults.{still_fails, fails_with}
+use Rattle.readers.proofs.Offers.{still_fails, fails_with}
 
 -- behind the piece that was read
 pub behind : (at k : ℕ) (text : List ℕ) → line_from at k text ≡ line_from (at + k) 0 (drop k text)

@@ -13,7 +13,7 @@ use Rattle.token_check.specs.declared.fault.TokenFault.{TokenFault}
 use Rattle.token_check.specs.declared.fault.TokenFault.TheVariants as fault
 use Rattle.token_language.specs.Tokens.{tokens_of}
 use Rattle.token_check.specs.Tokens.{Full, is_full, is_clear, equal_sets, token_at}
-use Rattle.token_check.specs.Walk.{Walked, goes_on, After, filled, emptied, let_go, joined, comes_back}
+use Rattle.token_check.specs.Walk.{Walked, walk_on, After, filled, emptied, let_go, joined, comes_back}
 use Rattle.token_check.specs.Walk.{to_after}
 use Rattle.token_check.specs.Walk.{expr_walk, args_walk, stmt_walk, block_walk, at_first, at_last, proc_walk}
 use Rattle.token_check.specs.Walk.{procs_walk, module_walk}
@@ -34,14 +34,14 @@ not_ok : {A : Type 0} (e : TokenFault) (x : A) → Goes (Err e) x → ⊥
 not_ok e x h = cc
 
 -- what went through, went through in its parts
-parts : {A B : Type 0} (w : Walked A) (f : A → Walked B) (y : B) → Goes (goes_on w f) y → (x : A) × Goes w x ×
+parts : {A B : Type 0} (w : Walked A) (f : A → Walked B) (y : B) → Goes (walk_on w f) y → (x : A) × Goes w x ×
     Goes (f x) y
 parts (Ok x) f y h = (x, refl, h)
 parts (Err e) f y h = absurd (not_ok e y h)
 
 made : {A B : Type 0} (w : Walked A) (f : A → Walked B) (x : A) (y : B) → Goes w x → Goes (f x) y →
-    Goes (goes_on w f) y
-made w f x y h k = ap (λ v. goes_on v f) h ∙ k
+    Goes (walk_on w f) y
+made w f x y h k = ap (λ v. walk_on v f) h ∙ k
 
 -- ---- the rules
 

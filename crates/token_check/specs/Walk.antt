@@ -18,9 +18,9 @@ use Rattle.token_check.specs.Tokens.{Full, is_full, is_clear, equal_sets, none_f
 abbrev pub Walked : Type 0 → Type 0
 Walked A = Result A TokenFault
 
-abbrev pub goes_on : {A B : Type 0} → Walked A → (A → Walked B) → Walked B
-goes_on (Ok x) f = f x
-goes_on (Err e) f = Err e
+abbrev pub walk_on : {A B : Type 0} → Walked A → (A → Walked B) → Walked B
+walk_on (Ok x) f = f x
+walk_on (Err e) f = Err e
 
 -- the set behind a statement; None where nothing goes on
 abbrev pub After : Type 0
@@ -68,42 +68,42 @@ module _ (tokens : List Name) where
     expr_walk (var at x) full = Ok full
     expr_walk (element at x e) full = expr_walk e full
     expr_walk (call at f args) full = args_walk args full
-    expr_walk (op at o a b) full = goes_on (expr_walk a full) (λ full. expr_walk b full)
+    expr_walk (op at o a b) full = walk_on (expr_walk a full) (λ full. expr_walk b full)
 
     pub args_walk : Args → Full → Walked Full
     args_walk no_args full = Ok full
-    args_walk (value e args) full = goes_on (expr_walk e full) (λ full. args_walk args full)
+    args_walk (value e args) full = walk_on (expr_walk e full) (λ full. args_walk args full)
     args_walk (proc f args) full = args_walk args full
     args_walk (token x args) full =
-        goes_on (emptied (token_at tokens x) x.at full) (λ full. args_walk args full)
+        walk_on (emptied (token_at tokens x) x.at full) (λ full. args_walk args full)
 
   abbrev pub to_after : Walked Full → Walked After
-  to_after w = goes_on w (λ full. Ok (Some full))
+  to_after w = walk_on w (λ full. Ok (Some full))
 
   abbrev mutual
     pub stmt_walk : Stmt → Full → Walked After
     stmt_walk (set at end x e) full = to_after (expr_walk e full)
-    stmt_walk (set_at at end x i e) full = goes_on (expr_walk i full) (λ full. to_after (expr_walk e full))
+    stmt_walk (set_at at end x i e) full = walk_on (expr_walk i full) (λ full. to_after (expr_walk e full))
     stmt_walk (do_call at end f args) full = to_after (args_walk args full)
     stmt_walk (if_then at end c a) full =
-        goes_on (expr_walk c full) (λ full.
-        goes_on (block_walk a (Some full)) (λ s. joined end s (Some full)))
+        walk_on (expr_walk c full) (λ full.
+        walk_on (block_walk a (Some full)) (λ s. joined end s (Some full)))
     stmt_walk (if_else at end c a b) full =
-        goes_on (expr_walk c full) (λ full.
-        goes_on (block_walk a (Some full)) (λ s.
-        goes_on (block_walk b (Some full)) (λ t. joined end s t)))
+        walk_on (expr_walk c full) (λ full.
+        walk_on (block_walk a (Some full)) (λ s.
+        walk_on (block_walk b (Some full)) (λ t. joined end s t)))
     stmt_walk (while at end c a) full =
-        goes_on (expr_walk c full) (λ tested.
-        goes_on (block_walk a (Some tested)) (λ s. comes_back end full tested s))
-    stmt_walk (return at end e) full = goes_on (expr_walk e full) (λ full. let_go end full)
-    stmt_walk (halt at end e) full = goes_on (expr_walk e full) (λ full. let_go end full)
+        walk_on (expr_walk c full) (λ tested.
+        walk_on (block_walk a (Some tested)) (λ s. comes_back end full tested s))
+    stmt_walk (return at end e) full = walk_on (expr_walk e full) (λ full. let_go end full)
+    stmt_walk (halt at end e) full = walk_on (expr_walk e full) (λ full. let_go end full)
     stmt_walk (make at end x) full = to_after (filled (token_at tokens x) x.at full)
     stmt_walk (spend at end x) full = to_after (emptied (token_at tokens x) x.at full)
 
     pub block_walk : Block → After → Walked After
     block_walk no_stmts after = Ok after
     block_walk (stmt s b) None = Err (fault.Dead (first_place s))
-    block_walk (stmt s b) (Some full) = goes_on (stmt_walk s full) (λ after. block_walk b after)
+    block_walk (stmt s b) (Some full) = walk_on (stmt_walk s full) (λ after. block_walk b after)
 
 -- a procedure begins with its token parameters full
 abbrev pub at_first : TokenProc → Full
@@ -115,11 +115,11 @@ at_last end None = Ok None
 at_last end (Some full) = let_go end full
 
 abbrev pub proc_walk : TokenProc → Walked After
-proc_walk p = goes_on (block_walk (tokens_of p) (block_of p.body) (Some (at_first p))) (at_last p.end)
+proc_walk p = walk_on (block_walk (tokens_of p) (block_of p.body) (Some (at_first p))) (at_last p.end)
 
 abbrev pub procs_walk : List TokenProc → Walked (Unit {0})
 procs_walk [] = Ok tt
-procs_walk (p ∷ ps) = goes_on (proc_walk p) (λ after. procs_walk ps)
+procs_walk (p ∷ ps) = walk_on (proc_walk p) (λ after. procs_walk ps)
 
 abbrev pub module_walk : TokenModuleFields → Walked (Unit {0})
 module_walk m = procs_walk m.procs

@@ -27,7 +27,7 @@ use Rattle.token_language.specs.StmtView.{block_of}
 use Rattle.token_language.specs.Tokens.{param_name, local_name}
 use Rattle.token_language.specs.Erased.{erased_expr, erased_args, erased_before, erased_block}
 use Rattle.token_language.specs.Erased.{erased_params, erased_locals, erased_proc, erased}
-use Rattle.token_language.proofs.Blocks.{block_of-stmts_in}
+use Rattle.token_language.proofs.Offers.{block_of-stmts_in}
 use Rattle.token_names.specs.TokenFaults.{is_token, token_faults, fit, fit_proc, or_token, called_faults}
 use Rattle.token_names.specs.TokenFaults.{variable_faults, element_faults, call_faults, handed_faults}
 use Rattle.token_names.specs.TokenFaults.{expr_faults, args_faults, stmt_faults, block_faults, own_names}

@@ -1,3 +1,4 @@
 mod FoundLemmas
 mod TokenLemmas
 pub mod ErasedLemmas
+pub mod Offers

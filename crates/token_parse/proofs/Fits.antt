@@ -23,12 +23,11 @@ use Rattle.token_language.specs.Erased.{erased_expr, erased_args, erased_before,
 use Rattle.token_language.specs.Erased.{erased_locals, erased_proc}
 use Rattle.token_language.specs.Tokens as own
 use Rattle.token_language.specs.Limits.{TokensFit, IsTokenModule}
-use Rattle.token_language.proofs.Blocks.{block_of-stmts_in}
+use Rattle.token_language.proofs.Offers.{block_of-stmts_in}
 use Rattle.proc_grammar.specs.Lexemes.{Lexeme}
 use Rattle.proc_grammar.specs.Tokens.{IsLexeme}
 use Rattle.proc_grammar.specs.Grammar.{IsText, Taken}
-use Rattle.proc_grammar.proofs.Limits.{Limits, Keeps, KeepsTokens}
-use Rattle.proc_grammar.proofs.Within.{spelled_within}
+use Rattle.proc_grammar.proofs.Offers.{Limits, Keeps, KeepsTokens, spelled_within}
 use Rattle.token_parse.specs.TokenTrees.{token_trees, token_makes, param_tokens}
 
 -- arguments behind so many registers

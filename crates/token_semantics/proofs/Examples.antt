@@ -6,10 +6,10 @@ use Rattle.std.specs.Prelude.{codes}
 use Rattle.source_events.specs.declared.End.TheVariants.{Halt as Halted, Fail, OutOfFuel}
 use Rattle.cap_words.specs.Names as names
 use Rattle.proc_language.specs.declared.tree.Name.{Name}
-use Rattle.proc_language.specs.Words.{is_name, is_reserved}
+use Rattle.proc_language.specs.Words.{is_source_name, is_reserved}
 use Rattle.proc_names.specs.Names.{variable_named, callee_named, passed_named}
 use Rattle.proc_program.specs.Lower.{part_of}
-use Rattle.proc_semantics.specs.Values.{found, main_of, linked}
+use Rattle.proc_semantics.specs.Values.{found, main_target, linked}
 use Rattle.proc_semantics.specs.Meaning.{meaning}
 use Rattle.proc_language.specs.declared.TheConstants.{MOST_TOKENS}
 use Rattle.token_language.specs.declared.module.TokenParam.TheVariants as param
@@ -88,7 +88,7 @@ handed_over : token_meaning (k (make 0 0 t ∷ halt 0 0 used ∷ []) ∷ []) 64 
   told = record { events = []; end = Halted (pos 5); ticks = 17 };
   ledger = record { next = 1; spent = 0 ∷ []; ended = use_had ∷ [] };
 }
-unfolding k main use_one used t named found main_of linked variable_named callee_named
+unfolding k main use_one used t named found main_target linked variable_named callee_named
 handed_over = refl
 
 -- make t; return use(token t, 5); main ended too, and fails behind that since nothing called it
@@ -105,7 +105,7 @@ abbrev returned : TokensTold
 returned = record { stuck = false; told = record { events = []; end = Fail; ticks = 21 }; ledger = both }
 
 handed_on : token_meaning (k spent ∷ []) 64 [] 1000 ≡ returned
-unfolding k main use_one spent used t named found main_of linked variable_named callee_named
+unfolding k main use_one spent used t named found main_target linked variable_named callee_named
 handed_on = refl
 
 -- with less fuel none ends, and the right that was made isn't spent
@@ -114,7 +114,7 @@ stopped : token_meaning (k spent ∷ []) 64 [] 7 ≡ record {
   told = record { events = []; end = OutOfFuel; ticks = 7 };
   ledger = record { next = 1; spent = []; ended = [] };
 }
-unfolding k main use_one spent used t named found main_of linked variable_named callee_named
+unfolding k main use_one spent used t named found main_target linked variable_named callee_named
 stopped = refl
 
 -- the module of that is accepted, so that the law speaks of it
@@ -123,7 +123,7 @@ unfolding k main use_one spent used t named variable_named callee_named passed_n
 names_lead = refl
 
 limits : IsTokenModule (k spent)
-unfolding k main use_one spent used t named is_name is_reserved names.is_name
+unfolding k main use_one spent used t named is_source_name is_reserved names.is_name
 limits = record {
   plain = record {
     name = refl;
@@ -214,7 +214,7 @@ kept : token_meaning (k (make 0 0 t ∷ return 0 0 (number 0 0) ∷ []) ∷ []) 
     ended = record { holds = Some 0 ∷ []; got = 0 ∷ []; spent = []; gave = [] } ∷ [];
   };
 }
-unfolding k main use_one t named found main_of linked variable_named callee_named
+unfolding k main use_one t named found main_target linked variable_named callee_named
 kept = refl
 
 -- spend t; of an empty token is stuck
@@ -223,5 +223,5 @@ empty : token_meaning (k (spend 0 0 t ∷ []) ∷ []) 64 [] 1000 ≡ record {
   told = record { events = []; end = Fail; ticks = 3 };
   ledger = record { next = 0; spent = []; ended = [] };
 }
-unfolding k main use_one t named found main_of linked variable_named callee_named
+unfolding k main use_one t named found main_target linked variable_named callee_named
 empty = refl

@@ -5,7 +5,7 @@ use Rattle.proc_language.specs.declared.tree.Name.{Name}
 use Rattle.proc_language.specs.Limits.{Each}
 use Rattle.proc_program.specs.declared.program.Handle.{Handle}
 use Rattle.proc_program.specs.declared.program.Handle.TheVariants.{Given, Own, Imported}
-use Rattle.proc_program.specs.Lower.{handle_of, passed_of}
+use Rattle.proc_program.specs.Lower.{handle_of, passed_handle}
 use Rattle.token_language.specs.declared.module.TokenProc.{TokenProc}
 use Rattle.token_language.specs.declared.module.TokenModuleFields.{TokenModuleFields}
 use Rattle.token_language.specs.Tree.{Expr, number, var, element, call, op, Args, no_args, value, proc, token}
@@ -34,7 +34,7 @@ module _ (m : TokenModuleFields) (p : TokenProc) where
   CallFits f xs = tokens_given xs ≡ taken_by m (handle_of (erased m) (erased_proc p) f)
 
   abbrev pub PassFits : Name → Type 0
-  PassFits f = taken_by m (passed_of (erased m) (erased_proc p) f) ≡ 0
+  PassFits f = taken_by m (passed_handle (erased m) (erased_proc p) f) ≡ 0
 
   abbrev mutual
     pub ExprFits : Expr → Type 0

@@ -27,7 +27,7 @@ use Rattle.token_language.specs.StmtView.{block_of}
 use Rattle.token_language.specs.Tokens.{tokens_of, param_tokens, local_tokens}
 use Rattle.token_language.specs.Limits.{TokensFit}
 use Rattle.token_language.specs.Erased.{erased_block, erased_proc, erased}
-use Rattle.token_language.proofs.Blocks.{block_of-stmts_in}
+use Rattle.token_language.proofs.Offers.{block_of-stmts_in}
 use Rattle.token_check.specs.Tokens.{params_full}
 use Rattle.token_check.specs.Walk.{After, at_first}
 use Rattle.token_check.specs.Typing.{IsClear}
@@ -236,11 +236,11 @@ module _ (modules : List TokenModuleFields) (accepted : All IsAccepted modules) 
       where
         by : (o : Option Target) → found w part name ≡ o
             → Same r (or_fail o (λ t. l.proc t left [] (registers_fed w ints pairs)
-            (left_by modules l (plain.part_of w t.home) c left b) st))
+            (left_by modules l (plain.part_name_of w t.home) c left b) st))
             (plain.entered w l' c' o left (registers_fed w ints pairs) b st)
         by None e = ended_same r Fail
         by (Some t) e =
-            let part_of = plain.part_of w t.home in
+            let part_of = plain.part_name_of w t.home in
             numbers_more r _ _ (lev.run r t left [] (registers_fed w ints pairs)
             (found_takes modules accepted part name t e) (fed_take modules accepted ints pairs)
             (left_by modules l part_of c left b) (plain.left_by w l' part_of c' left b)

@@ -25,10 +25,11 @@ use Rattle.proc_semantics.specs.declared.value.Pair.TheVariants.{Bad, Outside, R
 use Rattle.proc_semantics.specs.declared.value.Value.{Value}
 use Rattle.proc_semantics.specs.declared.value.Value.TheVariants.{Num, Closure, Other}
 use Rattle.proc_semantics.specs.declared.value.Register.{Register}
-use Rattle.proc_semantics.specs.Values.{pair_in, register_of, first_of, rest_of, if_there, taken, part_at}
+use Rattle.proc_semantics.specs.Values.{pair_in, register_of, first_of, rest_of, if_there, taken, home_part}
 use Rattle.proc_semantics.specs.Values.{target}
 use Rattle.proc_semantics.specs.Values.{proc_in, proc_at, is_named, is_shared, shared_in, shared_at, found}
-use Rattle.proc_semantics.specs.Values.{has_main, main_of, pair_found, linked_by, linked, import_in, pair_of}
+use Rattle.proc_semantics.specs.Values.{has_main, main_target, pair_found, linked_by, linked, import_in}
+use Rattle.proc_semantics.specs.Values.{pair_of}
 use Rattle.proc_semantics.specs.Values.{pair_fed, registers_fed}
 use Rattle.token_language.specs.declared.module.TokenProc.{TokenProc}
 use Rattle.token_language.specs.declared.module.TokenModuleFields.{TokenModuleFields}
@@ -101,7 +102,7 @@ module _ (modules : List TokenModuleFields) where
   abbrev part_in : Option TokenModuleFields → Option Part
   part_in o = option_map part_of (option_map erased o)
 
-  part_get : (home : ℕ) → part_at (world modules) home ≡ part_in (slice_get modules home)
+  part_get : (home : ℕ) → home_part (world modules) home ≡ part_in (slice_get modules home)
   part_get home =
       slice_get-map part_of (map erased modules) home ∙ ap (option_map part_of)
       (slice_get-map erased modules home)
@@ -209,7 +210,7 @@ module _ (modules : List TokenModuleFields) where
         first_true false b h = h
 
     shared_in_takes : (home : ℕ) (name : List ℕ) (t : Target)
-        → shared_in home name (part_at (world modules) home) ≡ Some t → Takes t 0
+        → shared_in home name (home_part (world modules) home) ≡ Some t → Takes t 0
     shared_in_takes home name t e =
         by (slice_get modules home) refl (sym (ap (shared_in home name) (part_get home)) ∙ e)
       where
@@ -237,8 +238,8 @@ module _ (modules : List TokenModuleFields) where
     unfolding found
     found_takes part name t e = shared_at_takes name (position (is_named part) (world modules)) t e
 
-    pub main_takes : (t : Target) → main_of (world modules) ≡ Some t → Takes t 0
-    unfolding main_of
+    pub main_takes : (t : Target) → main_target (world modules) ≡ Some t → Takes t 0
+    unfolding main_target
     main_takes t e = shared_at_takes (codes "main") (position has_main (world modules)) t e
 
     -- ---- closure pairs
@@ -255,7 +256,7 @@ module _ (modules : List TokenModuleFields) where
         by : (o : Option ℕ) → PairTakes (linked_by (world modules) i.name o) 0
         by None = refl
         by (Some home) =
-            found_pair (shared_in home i.name (part_at (world modules) home)) (shared_in_takes home i.name)
+            found_pair (shared_in home i.name (home_part (world modules) home)) (shared_in_takes home i.name)
 
     pub pair_takes : (home : ℕ) (m : TokenModuleFields) → slice_get modules home ≡ Some m → (env : List Value)
         → ValuesTakeNone env → (h : Handle) → PairTakes (pair_of (world modules) home env h) (taken_by m h)
@@ -263,7 +264,7 @@ module _ (modules : List TokenModuleFields) where
     pair_takes home m e env none (Own j) = λ n f p g.
         let same : n ≡ m = same_some n m (slice_get modules home) f e in
         sym (ap (λ o. option_map_or tokens_taken o 0) (ap (λ n. slice_get n.procs j) (sym same) ∙ g))
-    pair_takes home m e env none (Imported k) = linked_takes (import_in (part_at (world modules) home) k)
+    pair_takes home m e env none (Imported k) = linked_takes (import_in (home_part (world modules) home) k)
 
     -- ---- the registers of an item
 

@@ -7,7 +7,7 @@ use Rattle.source_events.specs.declared.End.TheVariants.{Fail}
 use Rattle.source_events.specs.declared.Told.{Told}
 use Rattle.proc_language.specs.Limits.{Each}
 use Rattle.proc_semantics.specs.declared.value.Target.{Target}
-use Rattle.proc_semantics.specs.Values.{Store, main_of}
+use Rattle.proc_semantics.specs.Values.{Store, main_target}
 use Rattle.proc_semantics.specs.Told as tells
 use Rattle.proc_semantics.specs.Meaning as plain
 use Rattle.token_language.specs.declared.module.TokenModuleFields.{TokenModuleFields}
@@ -71,7 +71,7 @@ below_none : (n : ℕ) → below n 0 ≡ 0
 below_none n = grind (arith, nat_tests)
 
 start_same : (modules : List TokenModuleFields) → All IsAccepted modules → (d stack : ℕ) (o : Option Target)
-    → main_of (world modules) ≡ o → (st : Store)
+    → main_target (world modules) ≡ o → (st : Store)
     → Same no_one (start modules (level modules d) stack o st)
     (plain.start (world modules) (plain.level (world modules) d) stack o st)
 start_same modules accepted d stack None e st = (level_same modules accepted d).waits no_one None None tt st
@@ -82,7 +82,8 @@ start_same modules accepted d stack (Some t) e st =
 
 pub tokens_are_spent : TokensAreSpent
 tokens_are_spent modules accepted stack feed fuel =
-    spent_of _ _ (start_same modules accepted (fuel + length feed + 1) stack (main_of (world modules)) refl
+    spent_of _ _ (start_same modules accepted (fuel + length feed + 1) stack
+    (main_target (world modules)) refl
     (map (λ u. u.globals) (world modules)) no_numbers (record {
       sum = λ n. let e = below_none n in omega (arith, e);
       paid = λ n. refl;

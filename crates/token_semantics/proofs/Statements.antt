@@ -10,14 +10,14 @@ use Rattle.proc_language.specs.declared.module.ModuleFields.{ModuleFields}
 use Rattle.proc_language.specs.Tree as tree
 use Rattle.proc_names.specs.Calls.{calls, args_calls, block_calls}
 use Rattle.proc_program.specs.View.{args_of as args_view}
-use Rattle.proc_program.specs.Lower.{variable_of, row_of, handle_of, passed_of, exp_of, args_of}
+use Rattle.proc_program.specs.Lower.{variable_of, row_of, handle_of, passed_handle, exp_of, args_of}
 use Rattle.proc_semantics.specs.declared.value.Pair.{Pair}
 use Rattle.proc_semantics.specs.declared.value.Pair.TheVariants.{Bad, Outside, Runs}
 use Rattle.proc_semantics.specs.declared.value.Value.{Value}
 use Rattle.proc_semantics.specs.declared.value.Value.TheVariants.{Num, Closure, Other}
 use Rattle.proc_semantics.specs.declared.value.Frame.{Frame}
 use Rattle.proc_semantics.specs.Told as tells
-use Rattle.proc_semantics.specs.Values.{Store, is_zero, variable, word_at, set_word, pair_of, register_of}
+use Rattle.proc_semantics.specs.Values.{Store, is_zero, variable, global_word, set_word, pair_of, register_of}
 use Rattle.proc_semantics.specs.Meaning as plain
 use Rattle.proc_semantics.specs.Meaning.{result_of, with_number, element_at, enough, given_of, is_given}
 use Rattle.token_language.specs.declared.module.TokenProc.{TokenProc}
@@ -129,10 +129,10 @@ module _ (modules : List TokenModuleFields) (accepted : All IsAccepted modules) 
         expr_same (element at x e) s t typed fits r n env none k k' h hands are st =
             let a = row_of em ep x in
             ticked (plus r hands) _ _ (expr_same e s t typed fits r n env none
-            (λ hands i st. or_fail (element_at a i) (λ o. k hands (word_at st f.home o) st))
-            (λ i st. plain.element a i (λ o. k' (word_at st f.home o) st))
+            (λ hands i st. or_fail (element_at a i) (λ o. k hands (global_word st f.home o) st))
+            (λ i st. plain.element a i (λ o. k' (global_word st f.home o) st))
             (λ hands are i st. place_same (plus r hands) (element_at a i) _ _
-            (λ o. h hands are (word_at st f.home o) st)) hands are st)
+            (λ o. h hands are (global_word st f.home o) st)) hands are st)
         expr_same (call at x xs) s t typed fits r n env none k k' h hands are st =
             let site = n + args_calls (erased_args xs) in
             ticked (plus r hands) _ _ (args_same xs s t typed fits.1 r n env none
@@ -168,9 +168,9 @@ module _ (modules : List TokenModuleFields) (accepted : All IsAccepted modules) 
             (λ hands ns vs. k hands ns (Num v ∷ vs)) (λ vs. k' (Num v ∷ vs))
             (λ hands are ns e vs low. h hands are ns e (Num v ∷ vs) (tt, low)) hands are) hands are st
         args_same (proc x xs) s t typed fits r n env none k k' h hands are st =
-            let q = pair_of w f.home env (passed_of em ep x) in
+            let q = pair_of w f.home env (passed_handle em ep x) in
             let low : PairTakes modules q 0 = subst (PairTakes modules q) fits.0
-            (pair_takes modules accepted f.home m placed env none (passed_of em ep x)) in
+            (pair_takes modules accepted f.home m placed env none (passed_handle em ep x)) in
             ticked (plus r hands) _ _ (args_same xs s t typed fits.1 r n env none
             (λ hands ns vs. k hands ns (Closure q ∷ Other ∷ vs)) (λ vs. k' (Closure q ∷ Other ∷ vs))
             (λ hands are ns e vs lows. h hands are ns e (Closure q ∷ Other ∷ vs)

@@ -18,7 +18,7 @@ use Rattle.proc_names.specs.Calls.{calls, args_calls, block_calls, proc_calls}
 use Rattle.proc_program.specs.declared.program.Place.{Place}
 use Rattle.proc_program.specs.declared.program.Place.TheVariants.{Local, Global}
 use Rattle.proc_program.specs.declared.program.Procedure.{Procedure}
-use Rattle.proc_program.specs.Lower.{variable_of, row_of, handle_of, passed_of, procedure_of, part_of}
+use Rattle.proc_program.specs.Lower.{variable_of, row_of, handle_of, passed_handle, procedure_of, part_of}
 use Rattle.proc_semantics.specs.declared.value.Target.{Target}
 use Rattle.proc_semantics.specs.declared.value.Pair.{Pair}
 use Rattle.proc_semantics.specs.declared.value.Pair.TheVariants.{Bad, Outside, Runs}
@@ -26,9 +26,9 @@ use Rattle.proc_semantics.specs.declared.value.Value.{Value}
 use Rattle.proc_semantics.specs.declared.value.Value.TheVariants.{Num, Closure, Other}
 use Rattle.proc_semantics.specs.declared.value.Register.{Register}
 use Rattle.proc_semantics.specs.declared.value.Frame.{Frame}
-use Rattle.proc_semantics.specs.Values.{World, Store, is_zero, word_at, set_word, variable, register_of}
+use Rattle.proc_semantics.specs.Values.{World, Store, is_zero, global_word, set_word, variable, register_of}
 use Rattle.proc_semantics.specs.Values.{taken}
-use Rattle.proc_semantics.specs.Values.{out_args, found, main_of, pair_of, registers_fed}
+use Rattle.proc_semantics.specs.Values.{value_args, found, main_target, pair_of, registers_fed}
 use Rattle.proc_semantics.specs.Meaning as plain
 use Rattle.proc_semantics.specs.Meaning.{result_of, element_at, enough, given_of, is_given}
 use Rattle.token_language.specs.declared.module.TokenProc.{TokenProc}
@@ -141,9 +141,9 @@ module _ (modules : List TokenModuleFields) where
 
   abbrev pub call_wait : ℕ → ℕ → ℕ → Then → Wait
   call_wait home given site k = record {
-    part = plain.part_of world home;
+    part = plain.part_name_of world home;
     site = site;
-    base = plain.stack_of world home + given;
+    base = plain.home_stack world home + given;
     given = given;
     resume = k;
   }
@@ -151,7 +151,7 @@ module _ (modules : List TokenModuleFields) where
   abbrev pub call_by : Level → ℕ → ℕ → ℕ → Pair → List ℕ → List Value → Then → Store → Comp
   call_by l home given site Bad ns vs k st = fails
   call_by l home given site Outside ns vs k st =
-      emit (CallOut (plain.part_of world home) site (out_args vs))
+      emit (CallOut (plain.part_name_of world home) site (value_args vs))
       (l.wait (Some (call_wait home given site k)) st)
   call_by l home given site (Runs t) ns vs k st = l.proc t (Some given) ns (map register_of vs) k st
 
@@ -163,7 +163,7 @@ module _ (modules : List TokenModuleFields) where
       (k hands) st)
 
   abbrev pub passed : Scope → List Value → Name → Pair
-  passed s env f = pair_of world s.frame.home env (passed_of s.fields s.own f)
+  passed s env f = pair_of world s.frame.home env (passed_handle s.fields s.own f)
 
   -- ---- expressions and arguments, from left to right and from the number of the next call on
 
@@ -174,7 +174,7 @@ module _ (modules : List TokenModuleFields) where
         tick (k hands (variable s.frame.home env st (variable_of s.fields s.own x)) st)
     expr l s env n (element at x e) k hands st =
         tick (expr l s env n e (λ hands i st. or_fail (element_at (row_of s.fields s.own x) i)
-        (λ o. k hands (word_at st s.frame.home o) st)) hands st)
+        (λ o. k hands (global_word st s.frame.home o) st)) hands st)
     expr l s env n (call at f xs) k hands st =
         tick (args l s env n xs (called l s env (n + args_calls (erased_args xs)) f k) hands st)
     expr l s env n (op at o a b) k hands st =
@@ -270,7 +270,7 @@ module _ (modules : List TokenModuleFields) where
   abbrev pub on_item : Level → Option Wait → Store → Item → Comp
   on_item l c st (Enter part name left ints pairs back) =
       or_fail (found world part name) (λ t. l.proc t left [] (registers_fed world ints pairs)
-      (left_by l (plain.part_of world t.home) c left back) st)
+      (left_by l (plain.part_name_of world t.home) c left back) st)
   on_item l c st (Ret part site base v) = resumed c part site base None v st
 
   -- ---- the levels; a meaning never comes to the lowest, since fuel or feed end before
@@ -299,5 +299,5 @@ module _ (modules : List TokenModuleFields) where
   -- what is told of a feed under a fuel, and what becomes of the numbers
   abbrev pub token_meaning : ℕ → List Item → ℕ → TokensTold
   token_meaning stack feed fuel =
-      start (level (fuel + length feed + 1)) stack (main_of world) (map (λ u. u.globals) world) no_numbers
+      start (level (fuel + length feed + 1)) stack (main_target world) (map (λ u. u.globals) world) no_numbers
       fuel feed

@@ -20,7 +20,7 @@ use Rattle.overlay_machine.specs.Starting.{overlay_at}
 use Rattle.trace_tool.specs.Layout.{layout}
 use Rattle.trace_tool.specs.Views.{flat_view}
 use Rattle.trace_tool.specs.Cuts.{cut_overlay}
-use Rattle.trace_tool.specs.Headline.{Matched, OverlayHalts, OverlayFails, PlainEnds, Within, Agrees}
+use Rattle.trace_tool.specs.Headline.{Matched, OverlayHalts, OverlayFails, PlainEnds, WithinStep, Agrees}
 use Rattle.trace_tool.proofs.CutPoints.{stops_are_cuts, of_cut}
 
 -- the machine after n instructions that went, and the next one
@@ -158,7 +158,7 @@ module _ (s : StartSeen) (is : s.state ≡ fresh s.state.maps) (alone : HaltsAlo
         λ n cause at e.
         (let k = runs.plain_fails n
         (there_fails s.state.maps n cause at (sym (end_is n) ∙ e.goes) (sym (end_is (n + 1)) ∙ e.ends)) in
-        of_cut s n k.0 k.1 k.2 (k.3, inl k.4) (λ j p. Within s n j p × OverlayFails s p)
+        of_cut s n k.0 k.1 k.2 (k.3, inl k.4) (λ j p. WithinStep s n j p × OverlayFails s p)
         ((k.2, k.3, k.4), k.5));
     overlay_fails =
         λ j p m h. (let k = runs.overlay_fails j p m h in let e = fails_there s.state.maps k.0 k.3 in
@@ -166,7 +166,7 @@ module _ (s : StartSeen) (is : s.state ≡ fresh s.state.maps) (alone : HaltsAlo
     goes = λ n e.
         (let u = has_gone s.state.maps n (sym (end_is n) ∙ e) in let k =
         runs.plain_goes n u.0 u.1 in
-        of_cut s n k.0 k.1 k.2 (k.3, inl k.4) (λ j p. Within s n j p) (k.2, k.3, k.4));
+        of_cut s n k.0 k.1 k.2 (k.3, inl k.4) (λ j p. WithinStep s n j p) (k.2, k.3, k.4));
   }
 
 -- the machine of a start has made no step, and hasn't ended

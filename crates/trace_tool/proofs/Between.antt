@@ -7,8 +7,8 @@ use Rattle.std.proofs.lemmas.Bool.{cases_lt, leb-true, ltb-true, leb-false}
 use Rattle.std.proofs.lemmas.List.{get_or_default}
 use Rattle.std.proofs.lemmas.List.Sorted.{IsPartitionedBy-leb}
 use Rattle.component_linker.specs.declared.owners.Site.{Site}
-use Rattle.component_linker.specs.Owners.{Ascend}
-use Rattle.component_linker.proofs.SiteSearch.{up_to}
+use Rattle.component_linker.specs.Owners.{SitesAscend}
+use Rattle.component_linker.proofs.Offers.{up_to}
 use Rattle.trace_tool.specs.declared.gap.Gap.{Gap}
 use Rattle.trace_tool.specs.Layout.{no_site}
 use Rattle.trace_tool.specs.Gaps.{last_word, behind, ahead, IsGap, IsAround}
@@ -34,7 +34,7 @@ pub ahead_is : (sites : List Site) (place : ℕ) (d : Site) → place < length s
 ahead_is sites place d lt =
     rw (lt-ltb place (length sites) lt) (ap last_word (get_or_default sites place no_site d lt))
 
-below : (sites : List Site) (place k : ℕ) (d : Site) → Ascend sites → place ≤ length sites → k < place
+below : (sites : List Site) (place k : ℕ) (d : Site) → SitesAscend sites → place ≤ length sites → k < place
     → last_word (get_or sites k d) < behind sites place
 below sites place k d h within lt =
     let up : (get_or sites k d).at ≤ (get_or sites (place - 1) d).at =
@@ -42,14 +42,14 @@ below sites place k d h within lt =
     let is = behind_is sites place d (omega (arith, lt)) within in
     omega (arith, up, is)
 
-above : (sites : List Site) (place k : ℕ) (d : Site) → Ascend sites → place ≤ k → k < length sites
+above : (sites : List Site) (place k : ℕ) (d : Site) → SitesAscend sites → place ≤ k → k < length sites
     → ahead sites place ≤ last_word (get_or sites k d)
 above sites place k d h le lt =
     let up : (get_or sites place d).at ≤ (get_or sites k d).at = up_to sites place k d h le lt in
     let is = ahead_is sites place d (omega (arith, le, lt)) in
     omega (arith, up, is)
 
-pub gap_between : (sites : List Site) (place : ℕ) (g : Gap) → Ascend sites → place ≤ length sites
+pub gap_between : (sites : List Site) (place : ℕ) (g : Gap) → SitesAscend sites → place ≤ length sites
     → g.from ≡ behind sites place → g.to ≡ ahead sites place → IsGap sites g
 gap_between sites place g h within f t = λ k d lt. outside g.from g.to (last_word (get_or sites k d))
     (λ lo hi. elim (cases_lt k place) as (λ _. ⊥) [
@@ -59,7 +59,7 @@ gap_between sites place g h within f t = λ k d lt. outside g.from g.to (last_wo
 
 -- ---- around an address
 
-pub ends_parted : (sites : List Site) (a : ℕ) → Ascend sites
+pub ends_parted : (sites : List Site) (a : ℕ) → SitesAscend sites
     → IsPartitionedBy (λ (s : Site). leb (last_word s) a) sites
 ends_parted sites a h =
     IsPartitionedBy-leb last_word sites a

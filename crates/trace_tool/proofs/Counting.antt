@@ -14,7 +14,7 @@ use Rattle.trace_tool.specs.Views.{View, view_of}
 use Rattle.trace_tool.specs.Events.{noted, event_after}
 use Rattle.trace_tool.specs.Lines.{Line, call, ret, enter, pass, leave, pass_lines, lines_for}
 use Rattle.trace_tool.specs.declared.pairs.Pairs.{Pairs}
-use Rattle.trace_tool.specs.Pairs.{pairs_of, no_pairs}
+use Rattle.trace_tool.specs.Pairs.{pairs_of, none_paired}
 use Rattle.trace_tool.specs.Runs.{begun, watching, watched, watched_next, line_next, lines_of}
 use Rattle.trace_tool.specs.Counts.{calls_in, calls_of_run, calls_of, Counts}
 use Rattle.trace_tool.proofs.Going.{HasEnded, no_line, no_more_lines, stays_ended, event_lines}
@@ -30,7 +30,7 @@ calls_join (enter p x s a b ∷ xs) ys = calls_join xs ys
 calls_join (pass p q r ∷ xs) ys = calls_join xs ys
 calls_join (leave p a ∷ xs) ys = calls_join xs ys
 
-passes_none : (l : Layout) (p : Pairs) (none : Bool) → no_pairs p ≡ none → calls_in (pass_lines l p) ≡ 0
+passes_none : (l : Layout) (p : Pairs) (none : Bool) → none_paired p ≡ none → calls_in (pass_lines l p) ≡ 0
 passes_none l p true e = rw e refl
 passes_none l p false e = rw e refl
 
@@ -39,7 +39,7 @@ event_calls : (l : Layout) (v : View) (event : Option Event) → calls_in (lines
 event_calls l v None = refl
 event_calls l v (Some (Called inward i base last)) = refl
 event_calls l v (Some (Returned inward i base last)) = refl
-event_calls l v (Some (Entered part k back)) = passes_none l (pairs_of l v) (no_pairs (pairs_of l v)) refl
+event_calls l v (Some (Entered part k back)) = passes_none l (pairs_of l v) (none_paired (pairs_of l v)) refl
 event_calls l v (Some (Left part)) = refl
 
 -- ---- one instruction

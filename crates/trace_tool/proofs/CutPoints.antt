@@ -14,10 +14,12 @@ use Rattle.overlay_machine.proofs.Offers.{weight_some}
 use Rattle.trace_tool.specs.Layout.{layout}
 use Rattle.trace_tool.specs.Told.{StopsAt, EndsOverlay}
 use Rattle.trace_tool.specs.Traces.{weight_with, Traced, stopped, traced_by, traced}
-use Rattle.trace_tool.specs.Cuts.{cut, cut_overlay, is_inside, weighed, trusted_by, trusted_in, Leads, no_step}
+use Rattle.trace_tool.specs.Cuts.{cut, cut_overlay, is_inside, weighed, trusted_by, trusted_in, Leads}
+use Rattle.trace_tool.specs.Cuts.{no_step}
 use Rattle.trace_tool.specs.Cuts.{and_step, CutsAreGreatest, StopsAreCuts}
 use Rattle.trace_tool.specs.Headline.{Matched}
-use Rattle.trace_tool.proofs.TraceTold.{StepIs, it_went, it_halted, it_failed, step_is, traced_with, with_next}
+use Rattle.trace_tool.proofs.TraceTold.{StepIs, it_went, it_halted, it_failed, step_is, traced_with}
+use Rattle.trace_tool.proofs.TraceTold.{with_next}
 
 module _ (s : StartSeen) (limit : ℕ) where
   -- the overlay of the start, moved on
@@ -61,7 +63,8 @@ module _ (s : StartSeen) (limit : ℕ) where
       (record { at = refl; state = refl; trusted = refl })
   stays (suc n) j p (within, inr ends) =
       let o = on p j in
-      here_if o (nat_lt limit (weight_with o)) (traced limit n) (trusted_in limit n (next_overlay o)) ends refl
+      here_if o (nat_lt limit (weight_with o)) (traced limit n)
+      (trusted_in limit n (next_overlay o)) ends refl
 
   -- ---- a run passes each point within the limit to which steps lead
 

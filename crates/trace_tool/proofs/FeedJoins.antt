@@ -15,7 +15,7 @@ use Rattle.trace_tool.specs.declared.pairs.Pair.{Pair}
 use Rattle.trace_tool.specs.declared.pairs.Pair.TheVariants.{Nothing, Bad, Out, Hop}
 use Rattle.trace_tool.specs.declared.pairs.Pairs.{Pairs}
 use Rattle.trace_tool.specs.Layout.{part_name, entry_name}
-use Rattle.trace_tool.specs.Pairs.{is_nothing, no_pairs as none_are, pairs_of}
+use Rattle.trace_tool.specs.Pairs.{is_nothing, none_paired as none_are, pairs_of}
 use Rattle.trace_tool.specs.Lines.{Args, Line, call, ret, enter, pass, leave, args_of, feed_back, feed_pair}
 use Rattle.trace_tool.specs.StepLines.{IsNoPass, AreOfStep, none_told, one_told, pass_told}
 use Rattle.trace_tool.specs.StepLines.{AreOfSteps, no_step, and_step}

@@ -12,8 +12,8 @@ use Rattle.std.proofs.lemmas.Cmp.{nat_cmp_total}
 use Rattle.lcm_machine.proofs.Offers.{tied_same}
 use Rattle.cap_words.specs.declared.CapFields.{CapFields}
 use Rattle.component_linker.specs.declared.owners.Owner.{Owner}
-use Rattle.component_linker.proofs.Halved as halved
-use Rattle.component_linker.proofs.SiteSearch.{less_is, greater_is}
+use Rattle.component_linker.proofs.Offers as halved
+use Rattle.component_linker.proofs.Offers.{less_is, greater_is}
 use Rattle.trusted_border.specs.Layout.{runs_part}
 
 abbrev Rise : List Owner → Type 0
@@ -98,7 +98,8 @@ owner_found : (c : CapFields) (os : List Owner) (i : ℕ) (d : Owner) → Rise o
     → find (runs_part c) os ≡ (if runs_part c (get_or os i d) then Some (get_or os i d) else None)
 owner_found c os i d h lt at =
     runs_by_base c os h ∙ ap (if_runs c)
-    (halved.found (λ (o : Owner). o.code.base) nat_cmp nat_cmp_total c.base os i d (rise_cmp os h) lt at)
+    (halved.halved_found (λ (o : Owner). o.code.base) nat_cmp nat_cmp_total c.base os i d
+    (rise_cmp os h) lt at)
 
 pub owner_runs : (c : CapFields) (os : List Owner) (i : ℕ) (x : Owner) → Rise os → i < length os
     → HoldsAt (λ (o : Owner). nat_cmp o.code.base c.base ≡ Equal) os i → x ≡ get_or os i x

@@ -24,8 +24,7 @@ use Rattle.trace_tool.specs.EndLines.{end_line}
 use Rattle.trace_tool.specs.Runs.{Watched, begun, watching, if_went, watched, watched_next, line_next}
 use Rattle.trace_tool.specs.Runs.{lines_of, run_text, run_pieces, end_of, RunsTo, RunFaults, Runs, EndsBy}
 use Rattle.outside_io.specs.Writes.{AddsPieces, FailsAtPiece}
-use Rattle.outside_io.proofs.Writing.{pieces_then, pieces_fail, fail_more, fails_upto}
-use Rattle.outside_io.proofs.Writing.{text_failed}
+use Rattle.outside_io.proofs.Offers.{pieces_then, pieces_fail, fail_more, fails_upto, text_failed}
 use Rattle.trace_tool.proofs.LineLemmas.{lines_pieces-append, joined_with}
 
 pub watched_run : (l : Layout) (r : Run) (n : ℕ) → (watched l (begun r) n).run ≡ plain n r

@@ -13,7 +13,7 @@ use Rattle.cap_words.specs.declared.CapFields.{CapFields}
 use Rattle.lcm_isa.specs.declared.Reg.TheVariants.{Pc, Rcode, Rdata, Dat, C1, C2}
 use Rattle.lcm_isa.specs.declared.Operand.TheVariants.{Imm}
 use Rattle.lcm_isa.specs.declared.Instr.TheVariants.{Load, Cca, Xjmp}
-use Rattle.lcm_isa.proofs.NumberLemmas.{decode_of-number_of}
+use Rattle.lcm_isa.proofs.Offers.{decode_of-number_of}
 use Rattle.lcm_machine.specs.declared.Place.TheVariants.{R}
 use Rattle.lcm_machine.specs.Maps.{Regs, State}
 use Rattle.lcm_machine.specs.Cells.{cell, all_there, words_from, without, put_back}
@@ -46,8 +46,7 @@ use Rattle.trace_tool.specs.Lines.{Line, Args, call, ret, lines_for}
 use Rattle.trace_tool.specs.Alike.{StartLinesAgree}
 use Rattle.trace_tool.specs.Headline.{CallThere}
 use Rattle.trace_tool.specs.Told.{step_lines, Told, none_yet, and_then}
-use Rattle.component_linker.proofs.ExampleParts.{as_word, pair}
-use Rattle.component_linker.proofs.ExampleLink.{start, spans, cells_are}
+use Rattle.component_linker.proofs.Offers.{as_word, pair, start, spans, cells_are}
 
 -- ---- the cells of the overlay
 

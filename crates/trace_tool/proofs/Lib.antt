@@ -26,3 +26,4 @@ pub mod StepTold
 mod CutPoints
 mod FeedJoins
 pub mod InstanceRun
+pub mod Offers

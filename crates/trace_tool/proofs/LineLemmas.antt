@@ -11,11 +11,11 @@ use Rattle.outside_io.specs.SinkSeen.{SinkSeen}
 use Rattle.cap_words.specs.declared.Word.{Word}
 use Rattle.cap_words.specs.Text.{word_text_of}
 use Rattle.trace_tool.specs.Views.{View}
-use Rattle.trace_tool.specs.Lines.{Line, call, ret, enter, pass, leave, list_of, words_from}
+use Rattle.trace_tool.specs.Lines.{Line, call, ret, enter, pass, leave, list_of, words_seen}
 use Rattle.trace_tool.specs.Texts.{field, words_text, words_of, head_text, line_text, lines_text}
 use Rattle.trace_tool.specs.Texts.{words_pieces, head_and_words, line_pieces, lines_pieces}
-use Rattle.outside_io.proofs.Writing.{pieces_then, pieces_fail, fail_more, fails_upto, writes_behind}
-use Rattle.outside_io.proofs.Writing.{failed_writes}
+use Rattle.outside_io.proofs.Offers.{pieces_then, pieces_fail, fail_more, fails_upto, writes_behind}
+use Rattle.outside_io.proofs.Offers.{failed_writes}
 
 -- ---- cells
 
@@ -25,13 +25,13 @@ words_pieces-append (x ∷ xs) ys = ap (λ ps. field (word_text_of x) ∷ ps) (w
 
 -- the pieces of the words of n cells
 abbrev pub cells_pieces : View → ℕ → ℕ → List (List ℕ)
-cells_pieces v a n = words_pieces (words_from v a n)
+cells_pieces v a n = words_pieces (words_seen v a n)
 
 abbrev pub cell_pieces : View → ℕ → ℕ → List (List ℕ)
 cell_pieces v a n = words_pieces (list_of (v.cell (a + n)))
 
 cells_grow : (v : View) (a n : ℕ) → cells_pieces v a (suc n) ≡ cells_pieces v a n ++ cell_pieces v a n
-cells_grow v a n = words_pieces-append (words_from v a n) (list_of (v.cell (a + n)))
+cells_grow v a n = words_pieces-append (words_seen v a n) (list_of (v.cell (a + n)))
 
 pub cell_more : (v : View) (a n : ℕ) (s t u : SinkSeen) → AddsPieces s (cells_pieces v a n) t
     → AddsPieces t (cell_pieces v a n) u → AddsPieces s (cells_pieces v a (n + 1)) u

@@ -23,9 +23,9 @@ use Rattle.trace_tool.proofs.ReturnLines.{ret_returns}
 use Rattle.trace_tool.specs.Layout.{part_name, site_of}
 use Rattle.trace_tool.specs.Views.{View, flat_view}
 use Rattle.trace_tool.specs.declared.pairs.Pairs.{Pairs}
-use Rattle.trace_tool.specs.Pairs.{no_pairs, pairs_of}
+use Rattle.trace_tool.specs.Pairs.{none_paired, pairs_of}
 use Rattle.source_events.specs.declared.FeedPair.{FeedPair}
-use Rattle.trace_tool.specs.Lines.{Args, Line, call, pass, list_of, words_from, feed_pair, pass_lines}
+use Rattle.trace_tool.specs.Lines.{Args, Line, call, pass, list_of, words_seen, feed_pair, pass_lines}
 use Rattle.trace_tool.specs.Lines.{line_of, lines_for}
 use Rattle.trace_tool.specs.Told.{step_lines, Told, none_yet as nothing_yet, and_then as tells}
 use Rattle.trace_tool.specs.OpenCalls.{LineTold}
@@ -37,7 +37,7 @@ listed : {A : Type 0} (o : Option A) → list_of o ≡ if_there o
 listed None = refl
 listed (Some x) = refl
 
-same_words : (v : View) (a n : ℕ) → words_from v a n ≡ words_at v.cell a n
+same_words : (v : View) (a n : ℕ) → words_seen v a n ≡ words_at v.cell a n
 same_words v a zero = refl
 same_words v a (suc n) = ap (λ ws. ws ++ list_of (v.cell (a + n))) (same_words v a n)
     ∙ ap (λ ws. words_at v.cell a n ++ ws) (listed (v.cell (a + n)))
@@ -48,7 +48,7 @@ of_marks l ms = map (mark_map (line_told l)) ms
 
 -- a pass line is no mark
 pass_mute : (l : Layout) (p : Pairs) → marks_in (pass_lines l p) ≡ []
-pass_mute l p = by (no_pairs p) (feed_pair l p.p0) (feed_pair l p.p1) (feed_pair l p.p2)
+pass_mute l p = by (none_paired p) (feed_pair l p.p0) (feed_pair l p.p1) (feed_pair l p.p2)
   where
     by : (b : Bool) (x y z : FeedPair) → marks_in (if b then [] else pass x y z ∷ []) ≡ []
     by true x y z = refl

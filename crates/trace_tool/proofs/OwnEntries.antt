@@ -31,14 +31,14 @@ use Rattle.trusted_border.specs.declared.layout.Layout.{Layout}
 use Rattle.trusted_border.specs.declared.events.Back.{Back}
 use Rattle.trusted_border.specs.declared.events.Event.{Event}
 use Rattle.trusted_border.specs.declared.events.Event.TheVariants.{Entered, Left}
-use Rattle.trusted_border.specs.Layout.{number_of, is_entry}
+use Rattle.trusted_border.specs.Layout.{number_of, has_entry_at}
 use Rattle.trusted_border.specs.Reaches.{entry_number, closure_owner, back_of}
 use Rattle.overlay_machine.specs.declared.notes.Note.{Note}
 use Rattle.overlay_machine.specs.declared.notes.Note.TheVariants.{Nothing, Calls, Returns, Jumps}
 use Rattle.overlay_machine.specs.Words.{look}
 use Rattle.overlay_machine.specs.State.{OpenFrame, OState}
-use Rattle.overlay_machine.specs.Events.{owner_now, shown, called}
-use Rattle.overlay_machine.specs.Events.{entered, jumped, event_after, note_by, step_event}
+use Rattle.overlay_machine.specs.Events.{owner_now, shown_word, called_event}
+use Rattle.overlay_machine.specs.Events.{entered_event, jumped, event_after, note_by, step_event}
 use Rattle.overlay_machine.specs.Step.{case_of}
 use Rattle.overlay_machine.specs.Link.{Link, IsTrusted, IsStackCell, ranges_of}
 use Rattle.overlay_machine.specs.Linked.{Linked}
@@ -63,7 +63,7 @@ pub record Told (l : Layout) (q : OState) : Type 0 where
 abbrev IsEntered : Option Event → Type 0
 IsEntered e = (part k : ℕ) × (back : Back) × (e ≡ Some (Entered part k back))
 
-called_no : (b : Bool) (fs : List OpenFrame) → IsEntered (called b fs) → ⊥
+called_no : (b : Bool) (fs : List OpenFrame) → IsEntered (called_event b fs) → ⊥
 called_no b [] h = let bad = h.3 in cc
 called_no b (f ∷ fs) h = let bad = h.3 in cc
 
@@ -72,11 +72,12 @@ left_no true part h = let bad = h.3 in cc
 left_no false part h = let bad = h.3 in cc
 
 entered_told : (l : Layout) (q : OState) (p : Owner) → Contains l.owners p → p.trusted ≡ true
-    → IsEntered (entered l q p) → Told l q
+    → IsEntered (entered_event l q p) → Told l q
 entered_told l q p m t h = by (entry_number p (faces look q.maps Pc)) refl h
   where
     by : (n : Option ℕ) → entry_number p (faces look q.maps Pc) ≡ n
-        → IsEntered (option_map (λ k. Entered p.part k (back_of l (shown l q Rcode) (shown l q Rdata))) n)
+        → IsEntered (option_map (λ k. Entered p.part k
+        (back_of l (shown_word l q Rcode) (shown_word l q Rdata))) n)
         → Told l q
     by None e x = absurd (let bad = x.3 in cc)
     by (Some k) e x = record { owner = p; listed = m; trusted = t; number = k; number_is = e }
@@ -86,7 +87,7 @@ jumped_told : (l : Layout) (q : OState) (from : Option ℕ) (seal : ℕ) → IsE
 jumped_told l q (Some part) seal h = absurd (left_no (is_some (owner_now l q)) part h)
 jumped_told l q None seal h = by (closure_owner l seal) refl h
   where
-    by : (o : Option Owner) → closure_owner l seal ≡ o → IsEntered (option_and_then (entered l q) o)
+    by : (o : Option Owner) → closure_owner l seal ≡ o → IsEntered (option_and_then (entered_event l q) o)
         → Told l q
     by None e x = absurd (let bad = x.3 in cc)
     by (Some p) e x =
@@ -107,7 +108,7 @@ step_told l o q h = noted_told l q (note_by l o (case_of l o.maps)) h
 
 -- so many entries are at the address
 entry_there : (l : Layout) (o : Owner) → Contains l.owners o → o.trusted ≡ true → (k a : ℕ)
-    → number_of (λ (e : Entry). e.at == a) o.entries ≡ Some k → is_entry l a ≡ true
+    → number_of (λ (e : Entry). e.at == a) o.entries ≡ Some k → has_entry_at l a ≡ true
 entry_there l o m t k a n =
     let here : Entry → Bool = λ e. e.at == a in
     let p = position_is here o.entries k (position_of here o.entries k n) in
@@ -118,13 +119,13 @@ entry_there l o m t k a n =
 
 -- at which pc stands, where its face is this capability
 stood : (l : Layout) (q : OState) (told : Told l q) (c : CapFields) (n : ℕ) → look q.maps.regs.pc ≡ Mem c
-    → c.addr ≡ pos n → is_entry l n ≡ true
+    → c.addr ≡ pos n → has_entry_at l n ≡ true
 unfolding faces
 stood l q told c n pc at =
     by (covers c c.addr) (sym (ap (λ w. entry_number told.owner (face_of w)) pc) ∙ told.number_is)
   where
     by : (b : Bool) → option_and_then (λ a. number_of (λ (e : Entry). e.at == a) told.owner.entries)
-        (if b then Some (address c.addr) else None) ≡ Some told.number → is_entry l n ≡ true
+        (if b then Some (address c.addr) else None) ≡ Some told.number → has_entry_at l n ≡ true
     by true e =
         entry_there l told.owner told.listed told.trusted told.number n
         (ap (λ z. number_of (λ (x : Entry). x.at == address z) told.owner.entries) (sym at) ∙ e)

@@ -15,7 +15,7 @@ use Rattle.call_sequence.specs.declared.TheConstants.{CALL_WORDS}
 use Rattle.trusted_border.specs.declared.layout.Layout.{Layout}
 use Rattle.trusted_border.specs.declared.layout.SiteCode.{SiteCode}
 use Rattle.trusted_border.specs.Layout.{site_code}
-use Rattle.trusted_border.specs.Reaches.{jump_plan, goes_on}
+use Rattle.trusted_border.specs.Reaches.{jump_plan, plan_goes}
 use Rattle.overlay_machine.specs.declared.words.OWord.{OWord}
 use Rattle.overlay_machine.specs.declared.words.OWord.TheVariants.{Plain, RetCode, RetData}
 use Rattle.overlay_machine.specs.Words.{look}
@@ -32,15 +32,15 @@ use Rattle.trace_tool.specs.Pairs.{if_normal, pair_if, pair_of, own_goes, own_pa
 -- ---- words under two seals, and two code halves
 
 other_seals : (w v : Word) (code half : Opened) → opened_of w ≡ Some code → opened_of v ≡ Some half
-    → code.seal ≢ half.seal → goes_on (jump_plan w v) ≡ false
+    → code.seal ≢ half.seal → plan_goes (jump_plan w v) ≡ false
 unfolding need ask
 other_seals w v code half e f ne = rw (e, f, ne_eqb code.seal half.seal ne) refl
 
-two_codes : (s u : SiteCode) → goes_on (jump_plan (flat_code (Some s)) (flat_code (Some u))) ≡ false
+two_codes : (s u : SiteCode) → plan_goes (jump_plan (flat_code (Some s)) (flat_code (Some u))) ≡ false
 unfolding need ask
 two_codes s u = by (s.seal == u.seal)
   where
-    by : (b : Bool) → goes_on (if b then Fails F7 else Fails F12) ≡ false
+    by : (b : Bool) → plan_goes (if b then Fails F7 else Fails F12) ≡ false
     by true = refl
     by false = refl
 
@@ -86,12 +86,12 @@ module _ (g : Link) (linked : Linked g) (q : OState) where
   code_first i s v is other = by (opened_of v) refl
     where
       by : (o : Option Opened) → opened_of v ≡ o
-          → pair_if (goes_on (jump_plan (flat_code (Some s)) v)) g.layout (if_normal (code_opened s))
+          → pair_if (plan_goes (jump_plan (flat_code (Some s)) v)) g.layout (if_normal (code_opened s))
           (if_normal o)
           ≡ pair_if false g.layout (if_normal (opened_of (look (RetCode i)))) (if_normal o)
       by None e = refl
       by (Some half) e =
-          let no : goes_on (jump_plan (flat_code (Some s)) v) ≡ false =
+          let no : plan_goes (jump_plan (flat_code (Some s)) v) ≡ false =
           other_seals (flat_code (Some s)) v (half_of s) half refl e (λ same. other half i s e is (sym same))
           in
           ap (λ b. pair_if b g.layout (if_normal (code_opened s)) (if_normal (Some half))) no
@@ -102,12 +102,12 @@ module _ (g : Link) (linked : Linked g) (q : OState) where
   code_second i s w is other = by (opened_of w) refl
     where
       by : (o : Option Opened) → opened_of w ≡ o
-          → pair_if (goes_on (jump_plan w (flat_code (Some s)))) g.layout (if_normal o)
+          → pair_if (plan_goes (jump_plan w (flat_code (Some s)))) g.layout (if_normal o)
           (if_normal (code_opened s))
           ≡ pair_if false g.layout (if_normal o) (if_normal (opened_of (look (RetCode i))))
       by None e = refl
       by (Some code) e =
-          let no : goes_on (jump_plan w (flat_code (Some s))) ≡ false =
+          let no : plan_goes (jump_plan w (flat_code (Some s))) ≡ false =
           other_seals w (flat_code (Some s)) code (half_of s) e refl (λ same. other code i s e is same) in
           ap (λ b. pair_if b g.layout (if_normal (Some code)) (if_normal (code_opened s))) no
           ∙ right_any g.layout (half_of s) code_look (if_normal (Some code))
@@ -134,14 +134,14 @@ module _ (g : Link) (linked : Linked g) (q : OState) where
   data_first : (k : ℕ) (v : OWord) → pair_of g.layout (shown (RetData k)) (shown v) ≡ own_pair g.layout q
       (RetData k) v
   data_first k v =
-      left_none g.layout (goes_on (jump_plan (shown (RetData k)) (shown v))) _
+      left_none g.layout (plan_goes (jump_plan (shown (RetData k)) (shown v))) _
       (if_normal (opened_of (shown v)))
       (data_none k)
 
   data_second : (k : ℕ) (w : OWord) → pair_of g.layout (shown w) (shown (RetData k)) ≡ own_pair g.layout q w
       (RetData k)
   data_second k w =
-      right_none g.layout (goes_on (jump_plan (shown w) (shown (RetData k))))
+      right_none g.layout (plan_goes (jump_plan (shown w) (shown (RetData k))))
       (if_normal (opened_of (shown w))) _
       (data_none k)
       ∙ sym (right_none g.layout (own_goes g.layout q w (RetData k)) (if_normal (opened_of (look w))) None

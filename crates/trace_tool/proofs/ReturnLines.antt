@@ -18,7 +18,8 @@ use Rattle.overlay_machine.specs.Words.{look}
 use Rattle.overlay_machine.specs.State.{OpenFrame, OState}
 use Rattle.overlay_machine.specs.Step.{case_of}
 use Rattle.overlay_machine.specs.Events.{note_call, site_opened, owner_now, note_jump, jump_seal, note_by}
-use Rattle.overlay_machine.specs.Events.{called, shown, entered, jumped, event_after, step_event}
+use Rattle.overlay_machine.specs.Events.{called_event, shown_word, entered_event, jumped, event_after}
+use Rattle.overlay_machine.specs.Events.{step_event}
 use Rattle.trace_tool.specs.Views.{flat_view}
 use Rattle.trace_tool.specs.Lines.{lines_for}
 use Rattle.trace_tool.specs.Told.{step_lines}
@@ -30,15 +31,16 @@ is_return _ = false
 
 -- ---- which event
 
-no_call : (b : Bool) (fs : List OpenFrame) → is_return (called b fs) ≡ false
+no_call : (b : Bool) (fs : List OpenFrame) → is_return (called_event b fs) ≡ false
 no_call b [] = refl
 no_call b (f ∷ fs) = refl
 
-no_entry : (l : Layout) (q : OState) (p : Owner) → is_return (entered l q p) ≡ false
+no_entry : (l : Layout) (q : OState) (p : Owner) → is_return (entered_event l q p) ≡ false
 no_entry l q p = by (entry_number p (faces look q.maps Pc))
   where
     by : (n : Option ℕ)
-        → is_return (option_map (λ k. Entered p.part k (back_of l (shown l q Rcode) (shown l q Rdata))) n)
+        → is_return (option_map (λ k. Entered p.part k
+        (back_of l (shown_word l q Rcode) (shown_word l q Rdata))) n)
         ≡ false
     by None = refl
     by (Some k) = refl
@@ -46,7 +48,7 @@ no_entry l q p = by (entry_number p (faces look q.maps Pc))
 no_jump : (l : Layout) (q : OState) (from : Option ℕ) (seal : ℕ) → is_return (jumped l q from seal) ≡ false
 no_jump l q None seal = by (closure_owner l seal)
   where
-    by : (p : Option Owner) → is_return (option_and_then (entered l q) p) ≡ false
+    by : (p : Option Owner) → is_return (option_and_then (entered_event l q) p) ≡ false
     by None = refl
     by (Some p) = no_entry l q p
 no_jump l q (Some part) seal = by (is_some (owner_now l q))

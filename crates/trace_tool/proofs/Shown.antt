@@ -8,7 +8,7 @@ use Rattle.lcm_machine.specs.Cells.{cell}
 use Rattle.lcm_machine.specs.Mapped.{mapped_or}
 use Rattle.trusted_border.specs.declared.layout.Layout.{Layout}
 use Rattle.overlay_machine.specs.declared.words.OWord.{OWord}
-use Rattle.overlay_machine.specs.State.{OState, framed, word_at}
+use Rattle.overlay_machine.specs.State.{OState, framed, memory_word}
 use Rattle.overlay_machine.specs.Flat.{flat, beside}
 use Rattle.trace_tool.specs.Views.{flat_view}
 
@@ -19,14 +19,14 @@ mapped f None (Some w) = refl
 mapped f None None = refl
 
 flat_at : (l : Layout) (o : OState) (a : ℕ)
-    → (flat_view l o).cell a ≡ option_map (flat l o.frames) (word_at o a)
+    → (flat_view l o).cell a ≡ option_map (flat l o.frames) (memory_word o a)
 unfolding beside
 flat_at l o a = mapped (flat l o.frames) (cell o.maps.cells a) (framed o.frames a)
 
-pub text_there : (l : Layout) (o : OState) (a : ℕ) (w : OWord) → Some w ≡ word_at o a
+pub text_there : (l : Layout) (o : OState) (a : ℕ) (w : OWord) → Some w ≡ memory_word o a
     → option_map word_text_of ((flat_view l o).cell a) ≡ Some (word_text_of (flat l o.frames w))
 text_there l o a w e =
     ap (option_map word_text_of) (flat_at l o a ∙ ap (option_map (flat l o.frames)) (sym e))
 
-pub none_there : (l : Layout) (o : OState) (a : ℕ) → None ≡ word_at o a → (flat_view l o).cell a ≡ None
+pub none_there : (l : Layout) (o : OState) (a : ℕ) → None ≡ memory_word o a → (flat_view l o).cell a ≡ None
 none_there l o a e = flat_at l o a ∙ ap (option_map (flat l o.frames)) (sym e)

@@ -11,7 +11,7 @@ use Rattle.overlay_machine.specs.Runs.{Reached, begins, goes_on}
 use Rattle.source_events.specs.declared.FeedBack.{FeedBack}
 use Rattle.source_events.specs.declared.FeedPair.{FeedPair}
 use Rattle.trace_tool.specs.Views.{view_of, flat_view}
-use Rattle.trace_tool.specs.Pairs.{pairs_of, no_pairs}
+use Rattle.trace_tool.specs.Pairs.{pairs_of, none_paired}
 use Rattle.trace_tool.specs.Lines.{Args, Line, enter, pass, feed_pair}
 use Rattle.trace_tool.specs.Runs.{Watched, watched, event_next, line_next}
 use Rattle.trace_tool.specs.Told.{Told, none_yet, and_then}
@@ -29,7 +29,7 @@ steps_tell_so l v (Some (Called inward i base last)) = one_told tt
 steps_tell_so l v (Some (Returned inward i base last)) = one_told tt
 steps_tell_so l v (Some (Entered part k back)) =
     let p = pairs_of l v in
-    with_pass _ _ _ _ _ (no_pairs p) (feed_pair l p.p0) (feed_pair l p.p1) (feed_pair l p.p2)
+    with_pass _ _ _ _ _ (none_paired p) (feed_pair l p.p0) (feed_pair l p.p1) (feed_pair l p.p2)
 steps_tell_so l v (Some (Left part)) = one_told tt
 
 next_tells : (l : Layout) (w : Watched) → AreOfStep (line_next l w)

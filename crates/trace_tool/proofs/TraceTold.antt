@@ -89,7 +89,8 @@ stays_told l limit n o p same e ends = (
 -- `traced_by`, with the next overlay beside
 abbrev pub traced_with : OStep → OverlaySeen → OverlaySeen → (OverlaySeen → Traced) → Traced
 traced_with (Went event) o next more = behind (lines_after next event) (more next)
-traced_with Halted o next more = ended RunHalted o.weight next (halted_text (overlay_view next) (weight_with o))
+traced_with Halted o next more = ended RunHalted o.weight next
+    (halted_text (overlay_view next) (weight_with o))
 traced_with Failed o next more = ended RunFailed o.weight next (failed_text (overlay_view next) o.weight)
 
 pub with_next : (a : OStep) (o : OverlaySeen) (more : OverlaySeen → Traced)

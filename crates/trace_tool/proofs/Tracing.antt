@@ -8,7 +8,7 @@ use Rattle.trusted_border.specs.declared.events.Event.{Event}
 use Rattle.overlay_machine.proofs.Offers.{weight_some}
 use Rattle.outside_io.specs.SinkSeen.{SinkSeen, Adds, FailsToWrite}
 use Rattle.outside_io.specs.Writes.{AddsPieces, FailsAtPiece}
-use Rattle.outside_io.proofs.Writing.{pieces_none, pieces_then, pieces_fail, fail_more, text_failed}
+use Rattle.outside_io.proofs.Offers.{pieces_none, pieces_then, pieces_fail, fail_more, text_failed}
 use Rattle.component_linker.specs.Started.{StartSeen}
 use Rattle.overlay_machine.specs.declared.overlay.OEnd.{OEnd}
 use Rattle.overlay_machine.specs.declared.overlay.OStep.TheVariants.{Went, Halted, Failed}
@@ -26,7 +26,7 @@ use Rattle.trace_tool.specs.EndLines.{halted_text, failed_text, running_text}
 use Rattle.trace_tool.specs.Runs.{EndsBy}
 use Rattle.trace_tool.specs.Traces.{weight_with, lines_after, Traced, ended, behind, stopped, traced_by}
 use Rattle.trace_tool.specs.Traces.{traced, trace_of, trace_text, pieces_of, trace_pieces, event_in}
-use Rattle.trace_tool.specs.Traces.{step_lines, steps_lines, steps_on, TracesTo, TraceFaults, Traces}
+use Rattle.trace_tool.specs.Traces.{next_lines, steps_lines, steps_on, TracesTo, TraceFaults, Traces}
 use Rattle.trace_tool.proofs.LineLemmas.{lines_pieces-append, joined_with}
 
 -- ---- a step
@@ -168,10 +168,10 @@ module _ (limit : ℕ) (o : OverlaySeen) (sink : SinkSeen) where
   -- the lines of the next step, of which it is known what it answers
   own_lines : (now : OverlaySeen) (seen : SinkSeen) (event : Option Event) (next : OverlaySeen)
       → (g : Going now seen) → answer_of now ≡ Went event → next ≡ next_overlay now
-      → lines_after next event ≡ step_lines (steps_on g.steps o)
+      → lines_after next event ≡ next_lines (steps_on g.steps o)
   own_lines now seen event next g a e =
       ap (λ (x : OverlaySeen). lines_after x event) e
-      ∙ ap (λ x. lines_after (next_overlay now) (event_in x)) (sym a) ∙ ap step_lines g.same
+      ∙ ap (λ x. lines_after (next_overlay now) (event_in x)) (sym a) ∙ ap next_lines g.same
 
   pub going_more : (now : OverlaySeen) (seen : SinkSeen) (event : Option Event) (next : OverlaySeen)
       (seen2 : SinkSeen)
@@ -186,7 +186,7 @@ module _ (limit : ℕ) (o : OverlaySeen) (sink : SinkSeen) where
       let is : traced limit g.left now ≡ behind (lines_after next event) (traced limit s.0 next) =
       s.2 ∙ ap (λ x. traced_by x now (traced limit s.0)) a
       ∙ ap (λ x. behind (lines_after x event) (traced limit s.0 x)) (sym e) in
-      let mine : lines_after next event ≡ step_lines (steps_on g.steps o) =
+      let mine : lines_after next event ≡ next_lines (steps_on g.steps o) =
       own_lines now seen event next g a e in
       record {
         steps = suc g.steps;

@@ -4,7 +4,7 @@ use Rattle.std.proofs.Common.{refl, sym, ap, ◌∙◌, arith, subst}
 use Rattle.std.specs.Prelude.{find, option_and_then}
 use Rattle.outside_io.specs.SinkSeen.{SinkSeen}
 use Rattle.outside_io.specs.Writes.{AddsPieces}
-use Rattle.outside_io.proofs.Writing.{pieces_none}
+use Rattle.outside_io.proofs.Offers.{pieces_none}
 use Rattle.std.specs.List.{list_any}
 use Rattle.cap_words.specs.declared.Face.{Face}
 use Rattle.cap_words.specs.declared.Face.TheVariants.{Number, Memory, Seals, Sealed}

@@ -1,5 +1,5 @@
--- The cut point of a run: the greatest matched point that is at most so many instructions, where the overlay's
--- run up to as many stops.
+-- The cut point of a run: the greatest matched point that is at most so many instructions, where the
+-- overlay's run up to as many stops.
 use Rattle.std.specs.Prelude.{◌≡◌, ℕ, zero, suc, ◌+◌, nat_lt, Bool, true, false, if◌then◌else◌}
 use Rattle.lcm_isa.specs.declared.Reg.TheVariants.{Pc}
 use Rattle.lcm_machine.specs.Row.{faces}

@@ -50,8 +50,8 @@ pub record PlainEnds (s : StartSeen) (n : ℕ) (e : End) : Type 0 where
   pub ends : (plain (n + 1) s.state).end ≡ Some e
 
 -- the instruction behind n others lies within the weight of the step at a matched point
-abbrev pub Within : StartSeen → ℕ → ℕ → OState → Type 0
-Within s n j p = Matched s j p × (j ≤ n) × (n < j + weight_of (layout s) p)
+abbrev pub WithinStep : StartSeen → ℕ → ℕ → OState → Type 0
+WithinStep s n j p = Matched s j p × (j ≤ n) × (n < j + weight_of (layout s) p)
 
 -- ---- the plain machine halts, fails or goes on as the overlay does
 
@@ -68,17 +68,17 @@ pub record Agrees (s : StartSeen) : Type 0 where
   -- where it fails, the overlay fails at the cut point, and the instruction lies within the weight of that
   -- step; where the overlay fails, so does the plain machine, within that weight
   pub plain_fails : (n : ℕ) (cause : FailCause) (at : ℤ) → PlainEnds s n (Failed cause at)
-      → Within s n (cut s n).at (cut_overlay s n) × OverlayFails s (cut_overlay s n)
+      → WithinStep s n (cut s n).at (cut_overlay s n) × OverlayFails s (cut_overlay s n)
   pub overlay_fails : (j : ℕ) (p : OState) → Matched s j p → OverlayFails s p
-      → (n : ℕ) × (cause : FailCause) × (at : ℤ) × Within s n j p × PlainEnds s n (Failed cause at)
+      → (n : ℕ) × (cause : FailCause) × (at : ℤ) × WithinStep s n j p × PlainEnds s n (Failed cause at)
   -- where it has gone on, it stands less than the next weight behind the cut point
   pub goes : (n : ℕ) → (plain n s.state).end ≡ None
-      → Within s n (cut s n).at (cut_overlay s n)
+      → WithinStep s n (cut s n).at (cut_overlay s n)
 
 -- ---- what is written
 
--- the event lines that `run` writes are those of the overlay's steps up to the cut point, the greatest matched
--- point that is at most so many instructions
+-- the event lines that `run` writes are those of the overlay's steps up to the cut point, the greatest
+-- matched point that is at most so many instructions
 abbrev pub LinesOfSteps : StartSeen → ℕ → Type 0
 LinesOfSteps s n =
     Told (layout s) (overlay_at s).state (cut s n).at (written s n) (cut_overlay s n)

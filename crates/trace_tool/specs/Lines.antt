@@ -17,7 +17,7 @@ use Rattle.trace_tool.specs.declared.pairs.Pair.{Pair as PairOf}
 use Rattle.trace_tool.specs.declared.pairs.Pair.TheVariants.{Nothing, Bad as BadPair, Out as OutPair}
 use Rattle.trace_tool.specs.declared.pairs.Pair.TheVariants.{Hop as HopPair}
 use Rattle.trace_tool.specs.declared.pairs.Pairs.{Pairs}
-use Rattle.trace_tool.specs.Pairs.{pairs_of, no_pairs}
+use Rattle.trace_tool.specs.Pairs.{pairs_of, none_paired}
 use Rattle.trace_tool.specs.Views.{View}
 
 -- the words of a0 to a3
@@ -44,9 +44,9 @@ list_of None = []
 list_of (Some x) = x ∷ []
 
 -- the words that there are at n addresses from one on
-abbrev pub words_from : View → ℕ → ℕ → List Word
-words_from v a zero = []
-words_from v a (suc n) = words_from v a n ++ list_of (v.cell (a + n))
+abbrev pub words_seen : View → ℕ → ℕ → List Word
+words_seen v a zero = []
+words_seen v a (suc n) = words_seen v a n ++ list_of (v.cell (a + n))
 
 -- where returns and pairs lead, by the names of the start
 abbrev pub feed_back : Layout → Back → FeedBack
@@ -65,10 +65,10 @@ feed_pair l (HopPair part k) = fed.Hop (part_name l part) (entry_name l part k)
 abbrev pub line_of : Layout → View → Event → Line
 line_of l v (Called inward i base last) =
     call inward (part_name l (site_of l i).part) (site_of l i).index base last (args_of v)
-    (words_from v base (last + 1 - base))
+    (words_seen v base (last + 1 - base))
 line_of l v (Returned inward i base last) =
     ret inward (part_name l (site_of l i).part) (site_of l i).index base last (v.reg A0)
-    (v.reg Dat ∷ words_from v (base + 1) (last - base))
+    (v.reg Dat ∷ words_seen v (base + 1) (last - base))
 line_of l v (Entered part k back) =
     enter (part_name l part) (entry_name l part k) (v.reg Stk) (args_of v) (feed_back l back)
 line_of l v (Left part) = leave (part_name l part) (v.reg A0)
@@ -78,7 +78,7 @@ pass_line l p = pass (feed_pair l p.p0) (feed_pair l p.p1) (feed_pair l p.p2)
 
 -- the line of the pairs of an entry, where one is more than nothing
 abbrev pub pass_lines : Layout → Pairs → List Line
-pass_lines l p = if no_pairs p then [] else pass_line l p ∷ []
+pass_lines l p = if none_paired p then [] else pass_line l p ∷ []
 
 -- what stands behind the line of an event
 abbrev pub lines_behind : Layout → View → Event → List Line

@@ -13,7 +13,7 @@ use Rattle.trusted_border.specs.declared.layout.Layout.{Layout}
 use Rattle.trusted_border.specs.declared.events.Back.{Back}
 use Rattle.trusted_border.specs.declared.events.Back.TheVariants.{Hop as HopBack}
 use Rattle.trusted_border.specs.declared.events.Event.TheVariants.{Entered}
-use Rattle.trusted_border.specs.Reaches.{closure_owner, hop_in, jump_plan, goes_on}
+use Rattle.trusted_border.specs.Reaches.{closure_owner, hop_in, jump_plan, plan_goes}
 use Rattle.overlay_machine.specs.declared.words.OWord.{OWord}
 use Rattle.overlay_machine.specs.declared.words.OWord.TheVariants.{Plain}
 use Rattle.overlay_machine.specs.Words.{look}
@@ -54,7 +54,7 @@ pair_if b l _ _ = Nothing
 
 -- what an `xjmp` of two words would do, where both are sealed words that aren't linear
 abbrev pub pair_of : Layout → Word → Word → Pair
-pair_of l w v = pair_if (goes_on (jump_plan w v)) l (if_normal (opened_of w)) (if_normal (opened_of v))
+pair_of l w v = pair_if (plan_goes (jump_plan w v)) l (if_normal (opened_of w)) (if_normal (opened_of v))
 
 -- of each argument register and the next one
 abbrev pub pairs_of : Layout → View → Pairs
@@ -68,8 +68,8 @@ abbrev pub is_nothing : Pair → Bool
 is_nothing Nothing = true
 is_nothing _ = false
 
-abbrev pub no_pairs : Pairs → Bool
-no_pairs p = is_nothing p.p0 && (is_nothing p.p1 && is_nothing p.p2)
+abbrev pub none_paired : Pairs → Bool
+none_paired p = is_nothing p.p0 && (is_nothing p.p1 && is_nothing p.p2)
 
 -- ---- as the overlay itself has them
 
@@ -80,7 +80,7 @@ has_gone fails = false
 
 -- whether its own `xjmp` of two words would go: by the table where both are plain, and else as a return
 abbrev pub own_goes : Layout → OState → OWord → OWord → Bool
-own_goes l o (Plain w) (Plain v) = goes_on (jump_plan w v)
+own_goes l o (Plain w) (Plain v) = plan_goes (jump_plan w v)
 own_goes l o w v = has_gone (return_by l w v Rdata o.frames o)
 
 -- a RetCode counts as a sealed word with normal content, and a RetData as one with linear content

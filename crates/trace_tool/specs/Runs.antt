@@ -90,18 +90,19 @@ pub record RunsTo (old : StartSeen) (steps : ℕ) (sink : SinkSeen) (new : Start
   pub pieces : AddsPieces sink (run_pieces (layout old) old.state steps) after
 
 -- some pieces were written, and then, behind them, one of others failed
-abbrev pub FailsBehind : SinkSeen → List (List ℕ) → List (List ℕ) → SinkSeen → Type 0
-FailsBehind old pieces more new = (mid : SinkSeen) × AddsPieces old pieces mid × FailsAtPiece mid more new
+abbrev pub FailsAfterPieces : SinkSeen → List (List ℕ) → List (List ℕ) → SinkSeen → Type 0
+FailsAfterPieces old pieces more new = (mid : SinkSeen) × AddsPieces old pieces mid
+    × FailsAtPiece mid more new
 
 -- after n instructions: those before the last one have their lines, and the write of its own failed; or all
 -- lines stand, there are no more instructions to make, and the write of the end line failed
 abbrev pub FaultAt : Layout → Run → ℕ → SinkSeen → ℕ → SinkSeen → Type 0
 FaultAt l r steps sink n after =
     ((k : ℕ) × (n ≡ suc k)
-    × FailsBehind sink (lines_pieces (lines_of l (begun r) k))
+    × FailsAfterPieces sink (lines_pieces (lines_of l (begun r) k))
     (lines_pieces (line_next l (watched l (begun r) k))) after)
     ⊎ ((plain n r ≡ plain steps r)
-    × FailsBehind sink (lines_pieces (lines_of l (begun r) steps)) (end_line (plain steps r) ∷ []) after)
+    × FailsAfterPieces sink (lines_pieces (lines_of l (begun r) steps)) (end_line (plain steps r) ∷ []) after)
 
 -- a write failed: the run stopped there, after some of the instructions, and a front of the text stands
 pub record RunFaults (old : StartSeen) (steps : ℕ) (sink : SinkSeen) (new : StartSeen) (after : SinkSeen)

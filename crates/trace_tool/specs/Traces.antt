@@ -11,7 +11,7 @@ use Rattle.overlay_machine.specs.Seen.{OverlaySeen, next_overlay, answer_of}
 use Rattle.trace_tool.specs.declared.run.RunEnd.{RunEnd}
 use Rattle.trace_tool.specs.declared.run.RunEnd.TheVariants.{Halted as RunHalted, Failed as RunFailed}
 use Rattle.trace_tool.specs.declared.run.RunEnd.TheVariants.{Running, WriteFault}
-use Rattle.trace_tool.specs.Runs.{FailsBehind}
+use Rattle.trace_tool.specs.Runs.{FailsAfterPieces}
 use Rattle.trace_tool.specs.Views.{overlay_view}
 use Rattle.trace_tool.specs.Lines.{Line, lines_for}
 use Rattle.trace_tool.specs.Texts.{lines_text, lines_pieces}
@@ -27,7 +27,8 @@ weight_with o = o.weight + weight_of o.layout o.state
 abbrev pub lines_after : OverlaySeen → Option Event → List Line
 lines_after o event = lines_for o.layout (overlay_view o) event
 
--- how a run goes on: its lines, and then how it ends, at which weight of steps that went, with the overlay and
+-- how a run goes on: its lines, and then how it ends, at which weight of steps that went, with the overlay
+-- and
 -- the last line
 pub record Traced : Type 0 where
   pub lines : List Line
@@ -87,12 +88,12 @@ event_in (Went event) = event
 event_in Halted = None
 event_in Failed = None
 
-abbrev pub step_lines : OverlaySeen → List Line
-step_lines o = lines_after (next_overlay o) (event_in (answer_of o))
+abbrev pub next_lines : OverlaySeen → List Line
+next_lines o = lines_after (next_overlay o) (event_in (answer_of o))
 
 abbrev pub steps_lines : ℕ → OverlaySeen → List Line
 steps_lines zero o = []
-steps_lines (suc n) o = steps_lines n o ++ step_lines (steps_on n o)
+steps_lines (suc n) o = steps_lines n o ++ next_lines (steps_on n o)
 
 -- ---- what `run_overlay` does
 
@@ -109,9 +110,9 @@ pub record TracesTo (limit : ℕ) (old : OverlaySeen) (sink : SinkSeen) (new : O
 abbrev pub TraceFaultAt : ℕ → OverlaySeen → SinkSeen → ℕ → SinkSeen → Type 0
 TraceFaultAt limit o sink n after =
     ((k : ℕ) × (n ≡ suc k)
-    × FailsBehind sink (lines_pieces (steps_lines k o)) (lines_pieces (step_lines (steps_on k o))) after)
+    × FailsAfterPieces sink (lines_pieces (steps_lines k o)) (lines_pieces (next_lines (steps_on k o))) after)
     ⊎ ((steps_on n o ≡ (trace_of limit o).overlay)
-    × FailsBehind sink (lines_pieces (trace_of limit o).lines) ((trace_of limit o).last ∷ []) after)
+    × FailsAfterPieces sink (lines_pieces (trace_of limit o).lines) ((trace_of limit o).last ∷ []) after)
 
 -- a write failed: the run stopped there, after some steps within the limit, and a front of the text stands
 pub record TraceFaults (limit : ℕ) (old : OverlaySeen) (sink : SinkSeen) (new : OverlaySeen)

@@ -1,6 +1,6 @@
 //! Addresses at which no site ends, so that a run needn't look for a site at each of its steps.
 ghost use Rattle.std.specs.Prelude.{◌≡◌, ◌<◌, ◌≤◌, ◌^◌, length};
-ghost use Rattle.component_linker.specs.Owners.{Ascend};
+ghost use Rattle.component_linker.specs.Owners.{SitesAscend};
 ghost use Rattle.lcm_machine.specs.Row.{pc_at};
 ghost use Rattle.trace_tool.specs.Gaps.{last_word, behind, ahead, has, IsGap, IsAround, gap_address};
 
@@ -60,7 +60,7 @@ fn ahead(sites: &[Site], place: usize) -> u64
 
 // The addresses between the last site that ends up to this address, and the next one.
 fn gap_in(sites: &[Site], at: u64) -> Gap
-    requires ascend { Ascend sites.now }
+    requires ascend { SitesAscend sites.now }
     requires small { at < 2 ^ 63 }
     ensures free { IsGap sites.now result }
     ensures around { IsAround at result }

@@ -2,7 +2,7 @@
 ghost use Rattle.std.specs.Prelude.{◌≡◌};
 ghost use Rattle.cap_words.specs.Face.{ContentInOrder};
 ghost use Rattle.trace_tool.specs.Layout.{layout};
-ghost use Rattle.trace_tool.specs.Pairs.{content_linear, pair_under, pair_of, pairs_of, is_nothing, no_pairs};
+ghost use Rattle.trace_tool.specs.Pairs.{content_linear, pair_under, pair_of, pairs_of, is_nothing, none_paired};
 
 use crate::halves::{goes, hop_in};
 use crate::view::Shown;
@@ -96,7 +96,7 @@ impl Pair {
 impl Pairs {
     /// Whether there is none.
     pub(crate) fn are_nothing(self) -> bool
-        ensures { result ≡ no_pairs self }
+        ensures { result ≡ none_paired self }
     {
         self.p0.is_nothing() && self.p1.is_nothing() && self.p2.is_nothing()
     }

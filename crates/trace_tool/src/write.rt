@@ -7,7 +7,7 @@ ghost use Rattle.outside_io.specs.Writes.{Writes};
 ghost use Rattle.cap_words.specs.Text.{word_text_of};
 ghost use Rattle.trace_tool.specs.Layout.{layout, part_name, site_of};
 ghost use Rattle.trace_tool.specs.Pairs.{pairs_of};
-ghost use Rattle.trace_tool.specs.Lines.{list_of, args_of, words_from, feed_back, feed_pair, line_of};
+ghost use Rattle.trace_tool.specs.Lines.{list_of, args_of, words_seen, feed_back, feed_pair, line_of};
 ghost use Rattle.trace_tool.specs.Lines.{pass_line, pass_lines, lines_behind, lines_for};
 ghost use Rattle.source_events.specs.Forms.{back_text, pair_text};
 ghost use Rattle.trace_tool.specs.Texts.{field, args_text, place_text, head_text};
@@ -191,7 +191,7 @@ fn write_cells<V: Shown, S: Sink>(
     out: &mut S,
 ) -> Result<(), Failed>
     requires { from + count ≤ 2 ^ 32 }
-    ensures { let words = words_from (V.view view.now) from count in
+    ensures { let words = words_seen (V.view view.now) from count in
         Writes (S.seen out.old) (words_pieces words) result (S.seen out.new) }
 {
     for i in 0..count {
@@ -203,7 +203,7 @@ fn write_cells<V: Shown, S: Sink>(
 // Writes the words of cells, and the newline.
 fn write_rest<V: Shown, S: Sink>(view: &V, from: u64, count: u64, out: &mut S) -> Result<(), Failed>
     requires { from + count ≤ 2 ^ 32 }
-    ensures { let words = words_from (V.view view.now) from count in
+    ensures { let words = words_seen (V.view view.now) from count in
         Writes (S.seen out.old) (words_pieces words ++ codes "\n" ∷ []) result (S.seen out.new) }
 {
     write_cells(view, from, count, out)?;

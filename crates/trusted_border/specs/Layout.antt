@@ -41,8 +41,8 @@ abbrev pub site_at : Layout → ℕ → Option ℕ
 site_at l a = number_of (λ s. s.at == a) l.sites
 
 -- whether an entry of a trusted part is at an address
-abbrev pub is_entry : Layout → ℕ → Bool
-is_entry l a = list_any (λ o. o.trusted && list_any (λ e. e.at == a) o.entries) l.owners
+abbrev pub has_entry_at : Layout → ℕ → Bool
+has_entry_at l a = list_any (λ o. o.trusted && list_any (λ e. e.at == a) o.entries) l.owners
 
 -- the addresses of a span are some, and within the address space
 abbrev pub is_code : Span → Bool

@@ -68,13 +68,13 @@ abbrev pub jump_plan : Word → Word → Plan
 jump_plan w v =
     plan (Xjmp Rcode Rdata) (λ r. face_of (of_two w v r)) (λ r. opened_of (of_two w v r)) None (Int (pos 0))
 
-abbrev pub goes_on : Plan → Bool
-goes_on (Goes e) = true
-goes_on _ = false
+abbrev pub plan_goes : Plan → Bool
+plan_goes (Goes e) = true
+plan_goes _ = false
 
 abbrev pub back_if : Bool → Layout → Option Opened → Option Opened → Back
 back_if b l (Some code) (Some half) = if b then back_under l (site_of_seal l code.seal) code half else Bad
 back_if b l _ _ = Bad
 
 abbrev pub back_of : Layout → Word → Word → Back
-back_of l w v = back_if (goes_on (jump_plan w v)) l (opened_of w) (opened_of v)
+back_of l w v = back_if (plan_goes (jump_plan w v)) l (opened_of w) (opened_of v)

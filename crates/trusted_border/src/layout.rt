@@ -5,7 +5,7 @@ ghost use Rattle.std.specs.Option.{option_copied};
 ghost use Rattle.cap_words.specs.Face.{FaceInOrder};
 ghost use Rattle.cap_words.specs.Ranges.{IsRange};
 ghost use Rattle.trusted_border.specs.Layout.{runs_part, trusted_owner, trusted_at, numbered, site_at};
-ghost use Rattle.trusted_border.specs.Layout.{is_entry, is_code, with_code, code_in, site_code};
+ghost use Rattle.trusted_border.specs.Layout.{has_entry_at, is_code, with_code, code_in, site_code};
 
 use crate::reach::{numbered, runs_part};
 use cap_words::{CapFields, Face, Items, LAST_PLACE};
@@ -128,7 +128,7 @@ impl Layout {
 
     /// Whether an entry of a trusted part is at an address.
     pub fn is_entry(&self, at: u32) -> bool
-        ensures { result ≡ is_entry self.now at }
+        ensures { result ≡ has_entry_at self.now at }
     {
         has_any_entry(self.owners.as_slice(), at)
     }

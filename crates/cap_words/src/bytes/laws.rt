@@ -1,11 +1,11 @@
 //! What holds of the spelling of words. These functions do nothing; their contracts are the laws.
 ghost use Rattle.std.specs.Prelude.{◌≡◌, ◌++◌, List, ℕ};
 ghost use Rattle.cap_words.specs.declared.Word.{Word};
-ghost use Rattle.cap_words.specs.WordBytes.{Spells};
+ghost use Rattle.cap_words.specs.WordBytes.{SpellsWord};
 
 /// A word has one spelling, a spelling is of one word, and no spelling begins another, so that
 /// words can stand one after another with nothing between.
 pub fn one_spelling()
     ensures { (v w : Word) (a b x y : List ℕ) →
-        Spells a v → Spells b w → a ++ x ≡ b ++ y → (v ≡ w) × (a ≡ b) × (x ≡ y) }
+        SpellsWord a v → SpellsWord b w → a ++ x ≡ b ++ y → (v ≡ w) × (a ≡ b) × (x ≡ y) }
 {}

@@ -2,7 +2,7 @@
 ghost use Rattle.std.specs.Prelude.{◌≡◌, ◌≤◌, ◌<◌, ◌^◌, ◌++◌, List, ℕ, length, take, IfSome, Some};
 ghost use Rattle.cap_words.specs.Reading.{next_byte, meant};
 ghost use Rattle.readers.specs.Answers.{Gives};
-ghost use Rattle.cap_words.specs.WordBytes.{Spells};
+ghost use Rattle.cap_words.specs.WordBytes.{SpellsWord};
 ghost use Rattle.cap_words.specs.WordReading.{perm_meant, lin_meant, next_cap, next_seal_cap};
 ghost use Rattle.cap_words.specs.WordReading.{content_tagged, next_content, unsealed_tagged};
 ghost use Rattle.cap_words.specs.WordReading.{next_unsealed, next_sealed, next_word};
@@ -125,10 +125,10 @@ impl<'a> Cursor<'a> {
 pub fn read_word(bytes: &[u8]) -> Option<(Word, usize)>
     requires { length bytes.now < 2 ^ 32 }
     // What is read is spelled so.
-    ensures found { IfSome result (λ r. (r.1 ≤ length bytes.now) × Spells (take r.1 bytes.now) r.0) }
+    ensures found { IfSome result (λ r. (r.1 ≤ length bytes.now) × SpellsWord (take r.1 bytes.now) r.0) }
     // What is spelled so is read, whatever follows it.
     ensures only { (w : Word) (front rest : List ℕ) →
-        Spells front w → bytes.now ≡ front ++ rest → result ≡ Some (w, length front) }
+        SpellsWord front w → bytes.now ≡ front ++ rest → result ≡ Some (w, length front) }
 {
     let mut cursor = Cursor::of(bytes);
     match cursor.word() {

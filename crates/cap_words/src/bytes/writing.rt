@@ -3,7 +3,7 @@ ghost use Rattle.std.specs.Prelude.{◌≡◌, ◌≤◌, ◌+◌, ◌++◌, OnO
 ghost use Rattle.arrayvec.specs.ArrayVec.{array_vec_len};
 ghost use Rattle.cap_words.specs.WordBytes.{number_bytes, signed_bytes, lin_number, cap_bytes, seal_bytes};
 ghost use Rattle.cap_words.specs.WordBytes.{content_bytes, ContentFits, word_bytes_of, WordFits};
-ghost use Rattle.cap_words.specs.WordBytes.{SealInSpace, Spells};
+ghost use Rattle.cap_words.specs.WordBytes.{SealInSpace, SpellsWord};
 
 use crate::{CapFields, Lin, SealFields, Sealable, Word};
 use arrayvec::ArrayVec;
@@ -160,7 +160,7 @@ pub fn push_word(out: &mut Vec<u8>, word: &Word) -> Result<(), AllocError>
 /// sealed word must be one of the 1,048,576 seals.
 pub fn word_bytes(alloc: Global, word: &Word) -> Result<Vec<u8>, AllocError>
     requires { SealInSpace word.now }
-    ensures { IfOk result (λ v. Spells v.items word.now) }
+    ensures { IfOk result (λ v. SpellsWord v.items word.now) }
 {
     let mut out = Vec::new(alloc);
     push_word(&mut out, word)?;

@@ -42,10 +42,11 @@ use Rattle.overlay_machine.specs.declared.notes.Note.TheVariants.{Calls}
 use Rattle.overlay_machine.specs.Words.{look, is_plain}
 use Rattle.overlay_machine.specs.State.{OpenFrame, OState, Cells, framed, word_of}
 use Rattle.overlay_machine.specs.Step.{goes, case_of, step_by, overlay_step, weight_of, other_step, new_frame}
-use Rattle.overlay_machine.specs.Step.{resumed, first_word, rest_words}
+use Rattle.overlay_machine.specs.Step.{state_resumed, first_word, rest_words}
 use Rattle.overlay_machine.specs.Flat.{flat, beside}
 use Rattle.overlay_machine.specs.Events.{site_opened, owner_now, note_call, note_return, note_jump, note_by}
-use Rattle.overlay_machine.specs.Events.{jump_seal, shown, entered as event_entered, jumped, event_after}
+use Rattle.overlay_machine.specs.Events.{jump_seal, shown_word, entered_event as event_entered, jumped}
+use Rattle.overlay_machine.specs.Events.{event_after}
 use Rattle.overlay_machine.specs.Events.{step_event}
 use Rattle.overlay_machine.specs.Agree.{ReadyFor, AtSite, AtEntry, AtReturn, FrameSound, IsKnown, AllKnown}
 use Rattle.overlay_machine.specs.Agree.{IsForeign}
@@ -181,10 +182,10 @@ call_shows l m n f fs s ks =
 -- the words of a return are those of the frame that goes
 return_shows : (l : Layout) (m : Cells) (o : OState) (s : SiteCode) (c : CapFields) (f : OpenFrame)
     (fs : List OpenFrame) (st : State OWord) → FrameSound l m f
-    → flat l fs (first_word f.words) ∷ words_at (flat_cell l (resumed s c f fs st o)) (f.base + 1)
+    → flat l fs (first_word f.words) ∷ words_at (flat_cell l (state_resumed s c f fs st o)) (f.base + 1)
     (f.end - f.base) ≡ map (flat l fs) f.words
 return_shows l m o s c f fs st so =
-    let q : OState = resumed s c f fs st o in
+    let q : OState = state_resumed s c f fs st o in
     let rest : rest_words f.words ≡ so.rest = ap rest_words so.words in
     let as_long = so.as_long in
     let ml = length-map so.rest (flat l fs) in
@@ -270,7 +271,7 @@ module _ (g : Link) (linked : Linked g) where
       by_owner None = refl
       by_owner (Some p) =
           by_entry (entry_number p (faces look q.maps Pc))
-          p.part (λ k. Entered p.part k (back_of L (shown L q Rcode) (shown L q Rdata))) (λ k. refl)
+          p.part (λ k. Entered p.part k (back_of L (shown_word L q Rcode) (shown_word L q Rdata))) (λ k. refl)
 
   other_silent : (o q : OState) → marks_by L q (event_after L (note_by L o Other) q) ≡ []
   other_silent o q = by_seal (jump_seal o.maps (fetch (faces look o.maps Pc) (cell_faces look o.maps)))
@@ -306,7 +307,8 @@ module _ (g : Link) (linked : Linked g) where
         → Moves L o.frames q.frames (marks (Back r1 r2))
     back_moves r1 r2 rd x =
         let f : OpenFrame = x.frame in
-        let new : OState = resumed x.site x.cap x.frame x.older (put o.maps (R r2) (zero_word Plain)) o in
+        let new : OState = state_resumed x.site x.cap x.frame x.older
+        (put o.maps (R r2) (zero_word Plain)) o in
         let words =
         return_shows L o.maps.cells o x.site x.cap x.frame x.older (put o.maps (R r2) (zero_word Plain))
         (rd.frames x.frame x.older x.frames_are) in

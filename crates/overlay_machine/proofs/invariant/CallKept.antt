@@ -29,7 +29,7 @@ use Rattle.lcm_machine.specs.Row.{word_at, row, went}
 use Rattle.lcm_machine.proofs.Offers.{contains_cases, cell-without_in, cell-without_out}
 use Rattle.flow_check.specs.Kinds.{kind_of, below_any}
 use Rattle.flow_check.specs.Holds.{data_cap, HasKind}
-use Rattle.flow_check.proofs.Fitting.{is_safe}
+use Rattle.flow_check.proofs.Offers.{is_safe}
 use Rattle.component_linker.specs.Parts.{PartSeen}
 use Rattle.component_linker.specs.Regions.{in_regions}
 use Rattle.trusted_border.specs.declared.layout.Layout.{Layout}

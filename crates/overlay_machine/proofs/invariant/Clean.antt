@@ -10,8 +10,8 @@ use Rattle.lcm_machine.specs.Places.{reg}
 use Rattle.lcm_machine.specs.Table.{is_pc}
 use Rattle.flow_check.specs.Kinds.{kind_of, clean_row}
 use Rattle.flow_check.specs.Local.{Leads}
-use Rattle.flow_check.specs.Holds.{data_cap, stack_cap, Up, PcAt, Fits, HasKind}
-use Rattle.flow_check.proofs.Fitting.{row_fits}
+use Rattle.flow_check.specs.Holds.{data_cap, part_stack_cap, Up, PcAt, HasKinds, HasKind}
+use Rattle.flow_check.proofs.Offers.{row_fits}
 use Rattle.component_linker.specs.Parts.{PartSeen}
 use Rattle.overlay_machine.specs.declared.words.OWord.{OWord}
 use Rattle.overlay_machine.specs.declared.words.OWord.TheVariants.{Plain}
@@ -25,11 +25,11 @@ use Rattle.overlay_machine.proofs.invariant.Facts.{safe_int, safe_stk}
 
 module _ (g : Link) (linked : Linked g) (fs : List OpenFrame) (p : PartSeen) (ip : IsTrusted g p) where
   pub clean_fits : (rs : Regs OWord) (end : ℕ) (at to : ℤ)
-      → look rs.stk ≡ Mem (stack_cap (ranges_of p) end at) → Up (IsStackCell g fs) (ranges_of p) end
+      → look rs.stk ≡ Mem (part_stack_cap (ranges_of p) end at) → Up (IsStackCell g fs) (ranges_of p) end
       → look rs.dat ≡ Mem (data_cap (ranges_of p) to)
       → rs.t1 ≡ zero_word Plain → rs.t2 ≡ zero_word Plain
       → ((d : Reg) → is_pc d ≡ false → d ≢ Dat → IsSafe g fs (reg rs d))
-      → Fits look (IsSafe g fs) (IsStackCell g fs) (ranges_of p) clean_row rs
+      → HasKinds look (IsSafe g fs) (IsStackCell g fs) (ranges_of p) clean_row rs
   unfolding kind_of
   clean_fits rs end at to es up ed e1 e2 others = record { long = refl; each = each }
     where
@@ -53,7 +53,7 @@ module _ (g : Link) (linked : Linked g) (fs : List OpenFrame) (p : PartSeen) (ip
       each G2 q = others G2 refl (λ x. cc)
 
   pub stands_clean : (rs : Regs OWord) (o : ℕ) → Leads p.component o clean_row → PcAt look (ranges_of p) o rs
-      → Fits look (IsSafe g fs) (IsStackCell g fs) (ranges_of p) clean_row rs → StandsAt g fs p o rs
+      → HasKinds look (IsSafe g fs) (IsStackCell g fs) (ranges_of p) clean_row rs → StandsAt g fs p o rs
   stands_clean rs o l h f = record {
     there = l.there;
     inside = l.inside;

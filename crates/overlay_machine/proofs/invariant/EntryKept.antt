@@ -17,9 +17,9 @@ use Rattle.lcm_machine.specs.Places.{reg}
 use Rattle.lcm_machine.specs.Table.{is_pc}
 use Rattle.lcm_machine.specs.Row.{faces, Fetched}
 use Rattle.flow_check.specs.Kinds.{kind_of, entry_row}
-use Rattle.flow_check.specs.Holds.{stack_cap, code_at, Up, HasKind}
+use Rattle.flow_check.specs.Holds.{part_stack_cap, code_at, Up, HasKind}
 use Rattle.flow_check.specs.Places.{begins_entry}
-use Rattle.flow_check.proofs.LocalFacts.{entry_flows}
+use Rattle.flow_check.proofs.Offers.{entry_flows}
 use Rattle.component_linker.specs.Parts.{PartSeen}
 use Rattle.overlay_machine.specs.declared.words.OWord.{OWord}
 use Rattle.overlay_machine.specs.declared.words.OWord.TheVariants.{Plain}
@@ -139,7 +139,7 @@ module _ (g : Link) (linked : Linked g) (o : OState) (t : State Word) (inv : Inv
       let safe : (d : Reg) → is_pc d ≡ false → d ≢ Dat
       → IsSafe g fs (reg (after a (code_at (ranges_of p) off) c) d) = each c cap' any in
       let sb = linked.stack_bases p ip in
-      let stk : Mem (record c { addr = pos c.end }) ≡ Mem (stack_cap (ranges_of p) c.end (pos c.end)) =
+      let stk : Mem (record c { addr = pos c.end }) ≡ Mem (part_stack_cap (ranges_of p) c.end (pos c.end)) =
       ap (λ x. Mem (record x { addr = pos c.end })) own.1
       ∙ ap (λ b. Mem (record { perm = Rw; lin = Linear; base = b; end = c.end; addr = pos c.end }))
       (sym sb) in

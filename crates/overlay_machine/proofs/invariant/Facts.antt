@@ -13,12 +13,12 @@ use Rattle.lcm_machine.specs.Regions.{Region}
 use Rattle.lcm_machine.specs.Cells.{cell}
 use Rattle.lcm_machine.specs.Row.{look_face}
 use Rattle.lcm_machine.specs.Runs.{Stands}
-use Rattle.call_sequence.specs.SequenceRuns.{Outside}
+use Rattle.call_sequence.specs.SequenceRuns.{IsOutsideRange}
 use Rattle.call_sequence.specs.Standing.{CodeStands}
-use Rattle.flow_check.specs.Holds.{stack_cap, Up}
+use Rattle.flow_check.specs.Holds.{part_stack_cap, Up}
 use Rattle.component_linker.specs.Parts.{PartSeen}
 use Rattle.component_linker.specs.Regions.{in_regions}
-use Rattle.component_linker.proofs.RegionFacts.{in_regions_is}
+use Rattle.component_linker.proofs.Offers.{in_regions_is}
 use Rattle.overlay_machine.specs.declared.words.OWord.{OWord}
 use Rattle.overlay_machine.specs.declared.words.OWord.TheVariants.{Plain, RetCode, RetData}
 use Rattle.overlay_machine.specs.Words.{look}
@@ -87,7 +87,7 @@ module _ (g : Link) (linked : Linked g) where
       → ((p : PartSeen) → IsTrusted g p → r ≢ code_region p) → (a : ℕ) → r.base ≤ a → a ≤ r.end → IsOpenAt g a
   open_region r m not a low high p ip =
       elim (linked.apart r (code_region p) m (linked.code p ip))
-      as (λ _. Outside a (ranges_of p).code_base (ranges_of p).code_last) [
+      as (λ _. IsOutsideRange a (ranges_of p).code_base (ranges_of p).code_last) [
         | inl e ↦ absurd (not p ip e)
         | inr (inl x) ↦ inl (omega (arith, high, x))
         | inr (inr x) ↦ inr (omega (arith, low, x))
@@ -159,13 +159,13 @@ module _ (g : Link) (linked : Linked g) where
   stack_order = linked.filled (stack_region g.layout) stack_there
 
   pub stack_apart : (p : PartSeen) → IsTrusted g p → (a : ℕ) → g.layout.stack.base ≤ a
-      → a ≤ g.layout.stack.end → Outside a (ranges_of p).code_base (ranges_of p).code_last
+      → a ≤ g.layout.stack.end → IsOutsideRange a (ranges_of p).code_base (ranges_of p).code_last
   stack_apart p ip a low high = open_stack_at a low high p ip
 
   -- ---- safe words
 
   pub stk_cap_safe : (fs : List OpenFrame) (p : PartSeen) (end : ℕ) (at : ℤ) → IsTrusted g p
-      → Up (IsStackCell g fs) (ranges_of p) end → IsSafeCap g fs (stack_cap (ranges_of p) end at)
+      → Up (IsStackCell g fs) (ranges_of p) end → IsSafeCap g fs (part_stack_cap (ranges_of p) end at)
   stk_cap_safe fs p end at ip up =
       let e = linked.stack_bases p ip in
       let top = up.1 end up.0 (omega arith) in
@@ -183,10 +183,10 @@ module _ (g : Link) (linked : Linked g) where
       }
 
   pub safe_stk : (fs : List OpenFrame) (p : PartSeen) → IsTrusted g p → (w : OWord) (end : ℕ) (at : ℤ)
-      → look w ≡ Mem (stack_cap (ranges_of p) end at) → Up (IsStackCell g fs) (ranges_of p) end
+      → look w ≡ Mem (part_stack_cap (ranges_of p) end at) → Up (IsStackCell g fs) (ranges_of p) end
       → IsSafe g fs w
   safe_stk fs p ip w end at e up =
-      safe_mem g fs w (stack_cap (ranges_of p) end at) e (stk_cap_safe fs p end at ip up)
+      safe_mem g fs w (part_stack_cap (ranges_of p) end at) e (stk_cap_safe fs p end at ip up)
 
   -- a safe word is no trusted pc
   pub not_trusted : (fs : List OpenFrame) (p : PartSeen) (c : CapFields) → IsTrusted g p → IsSafeCap g fs c

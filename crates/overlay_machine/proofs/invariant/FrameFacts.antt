@@ -13,7 +13,7 @@ use Rattle.overlay_machine.specs.declared.words.OWord.{OWord}
 use Rattle.overlay_machine.specs.State.{OpenFrame, Cells, framed, frame_of, word_of}
 use Rattle.overlay_machine.specs.Invariant.{FrameLies, FramesLie}
 use Rattle.overlay_machine.proofs.FrameWords.{word_of-below, word_of-within}
-use Rattle.component_file.proofs.Lists.{inside}
+use Rattle.component_file.proofs.Offers.{inside}
 
 pub contains_first : {A : Type 0} (x : A) (xs : List A) → Contains (x ∷ xs) x
 contains_first x xs = (0, omega arith, refl)

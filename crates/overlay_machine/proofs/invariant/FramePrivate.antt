@@ -13,7 +13,7 @@ use Rattle.lcm_machine.specs.Row.{Outcome, went, halted, failed, step_of}
 use Rattle.lcm_machine.specs.Runs.{run_of, code_cap}
 use Rattle.lcm_machine.specs.Touched.{Untouched}
 use Rattle.lcm_machine.proofs.Offers.{untouched_then}
-use Rattle.call_sequence.specs.SequenceRuns.{stack_cap, Outside}
+use Rattle.call_sequence.specs.SequenceRuns.{stack_cap, IsOutsideRange}
 use Rattle.flow_check.specs.Holds.{code_at}
 use Rattle.trusted_border.specs.declared.layout.Layout.{Layout}
 use Rattle.overlay_machine.specs.declared.words.OWord.{OWord}
@@ -136,8 +136,8 @@ module _ (g : Link) (linked : Linked g) where
           let c : code_cap r.base r.end at ≡ code_at (ranges_of p) off = cc in
           let b1 = ap (λ y. y.base) c in
           let b2 = ap (λ y. y.end) c in
-          let away : Outside a r.base r.end =
-          elim (stack_apart g linked p ip a here.0 here.1) as (λ _. Outside a r.base r.end)
+          let away : IsOutsideRange a r.base r.end =
+          elim (stack_apart g linked p ip a here.0 here.1) as (λ _. IsOutsideRange a r.base r.end)
           [ inl x ↦ inl (omega (arith, x, b1)) | inr x ↦ inr (omega (arith, x, b2)) ] in
           entry_quiet l o t m k a here.0 here.1 w fa here.2 at r n.0 n.1 away
       entry_by at (in_part p off ip ne ns st ec) r e = absurd (never_entry o.maps _ at ec)

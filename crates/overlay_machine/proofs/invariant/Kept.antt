@@ -14,7 +14,7 @@ use Rattle.overlay_machine.specs.declared.cases.Case.{Case}
 use Rattle.overlay_machine.specs.declared.cases.Case.TheVariants.{Call, Entry, Back, Other}
 use Rattle.overlay_machine.specs.State.{OState}
 use Rattle.overlay_machine.specs.Step.{Ending, goes, halts, fails, case_of, step_by, overlay_step, weight_of}
-use Rattle.overlay_machine.specs.Agree.{Agrees, ReadyFor}
+use Rattle.overlay_machine.specs.Agree.{EndsAgree, ReadyFor}
 use Rattle.overlay_machine.specs.Link.{Link, regions}
 use Rattle.overlay_machine.specs.Linked.{Linked}
 use Rattle.overlay_machine.specs.Safe.{IsSafe}
@@ -70,7 +70,7 @@ module _ (g : Link) (linked : Linked g) (o : OState) (t : State Word) (inv : Inv
   once_after u e = run_stays (λ w. w) (λ w. w) (λ x. refl) (weight_of g.layout o) t u e
 
   by_ends : (e : Ending) (r : Outcome Word) → overlay_step g.layout o ≡ e
-      → run_of (λ w. w) (λ w. w) (weight_of g.layout o) t ≡ r → Agrees g.layout e r → KeepsAgreeing g e r
+      → run_of (λ w. w) (λ w. w) (weight_of g.layout o) t ≡ r → EndsAgree g.layout e r → KeepsAgreeing g e r
   unfolding StaysHeldOnce
   by_ends (goes q) (went u) ee er a =
       whole g q u (stands_after q ee) a.0 a.1 (once_after u er (regions g) linked.apart inv.once)

@@ -32,8 +32,7 @@ use Rattle.flow_check.specs.Flow.{is_stk}
 use Rattle.flow_check.specs.Holds.{data_cap, code_at, PcAt, HasKind, Up}
 use Rattle.flow_check.specs.Places.{begins_entry}
 use Rattle.flow_check.specs.Walk.{is_data, passes, site_ready, RowAt}
-use Rattle.flow_check.proofs.Fitting.{is_safe}
-use Rattle.flow_check.proofs.LocalFacts.{site_flows}
+use Rattle.flow_check.proofs.Offers.{is_safe, site_flows}
 use Rattle.component_linker.specs.Parts.{PartSeen}
 use Rattle.component_linker.specs.TrustedCode.{all_seals}
 use Rattle.trusted_border.specs.declared.layout.SiteCode.{SiteCode}

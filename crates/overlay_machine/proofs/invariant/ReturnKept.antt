@@ -24,11 +24,11 @@ use Rattle.lcm_machine.specs.Table.{is_pc}
 use Rattle.lcm_machine.specs.Row.{put}
 use Rattle.lcm_machine.specs.Runs.{code_cap}
 use Rattle.lcm_machine.proofs.Offers.{cases_reg, reg-set_same, reg-set_other}
-use Rattle.flow_check.specs.Holds.{data_cap, stack_cap, Up}
-use Rattle.flow_check.proofs.LocalFacts.{site_flows}
+use Rattle.flow_check.specs.Holds.{data_cap, part_stack_cap, Up}
+use Rattle.flow_check.proofs.Offers.{site_flows}
 use Rattle.component_linker.specs.Parts.{PartSeen}
 use Rattle.component_linker.specs.Regions.{in_regions}
-use Rattle.component_linker.proofs.RegionFacts.{in_regions_is}
+use Rattle.component_linker.proofs.Offers.{in_regions_is}
 use Rattle.trusted_border.specs.declared.layout.Layout.{Layout}
 use Rattle.trusted_border.specs.declared.layout.SiteCode.{SiteCode}
 use Rattle.trusted_border.specs.Layout.{site_code}
@@ -36,7 +36,7 @@ use Rattle.overlay_machine.specs.declared.words.OWord.{OWord}
 use Rattle.overlay_machine.specs.declared.words.OWord.TheVariants.{Plain, RetCode, RetData}
 use Rattle.overlay_machine.specs.Words.{look}
 use Rattle.overlay_machine.specs.State.{OpenFrame, OState, Cells, framed, word_of}
-use Rattle.overlay_machine.specs.Step.{Ending, goes, ask, own_stack, return_by, return_step, resumed}
+use Rattle.overlay_machine.specs.Step.{Ending, goes, ask, own_stack, return_by, return_step, state_resumed}
 use Rattle.overlay_machine.specs.Step.{first_word, rest_words}
 use Rattle.overlay_machine.specs.Agree.{IsOther, AtReturn}
 use Rattle.overlay_machine.specs.Link.{Link, IsTrusted, ranges_of, regions, stack_region, has_cell}
@@ -69,7 +69,7 @@ pub record Returned (l : Layout) (r1 r2 : Reg) (o q : OState) : Type 0 where
   pub site_is : site_code l frame.site ≡ Some site
   pub own : own_stack l o.maps ≡ Some cap
   pub joins : cap.end + 1 ≡ frame.base
-  pub result : q ≡ resumed site cap frame older (put o.maps (R r2) (zero_word Plain)) o
+  pub result : q ≡ state_resumed site cap frame older (put o.maps (R r2) (zero_word Plain)) o
 
 pub ask_goes : (b : Bool) (e : Ending) (q : OState) → ask b e ≡ goes q → (b ≡ true) × (e ≡ goes q)
 unfolding ask
@@ -97,7 +97,7 @@ return_goes l r1 r2 o q (RetCode i) (RetData k) (f ∷ fs) e1 e2 ef h =
       site_is = sym (ap (site_code l) ei) ∙ b.1;
       own = c.1;
       joins = eqb-true (c.0.end + 1) f.base d.0;
-      result = (let g : goes (resumed b.0 c.0 f fs (put o.maps (R r2) (zero_word Plain)) o) ≡ goes q =
+      result = (let g : goes (state_resumed b.0 c.0 f fs (put o.maps (R r2) (zero_word Plain)) o) ≡ goes q =
           d.1 in cc);
     }
 return_goes l r1 r2 o q (RetCode i) (RetData k) [] e1 e2 ef h = cc
@@ -214,7 +214,7 @@ module _ (g : Link) (linked : Linked g) (o : OState) (t : State Word) (inv : Inv
   }
 
   stk_is : Mem (record x.cap { end = F.end; addr = pos F.base })
-      ≡ Mem (stack_cap (ranges_of fit.part) F.end (pos F.base))
+      ≡ Mem (part_stack_cap (ranges_of fit.part) F.end (pos F.base))
   stk_is = ap (λ y. Mem (record y { end = F.end; addr = pos F.base })) own.1
       ∙ ap (λ b. Mem (record { perm = Rw; lin = Linear; base = b; end = F.end; addr = pos F.base }))
       (sym (linked.stack_bases fit.part fit.trusted))

@@ -10,9 +10,9 @@ use Rattle.lcm_machine.specs.Row.{look_face}
 use Rattle.lcm_machine.specs.Runs.{Stands}
 use Rattle.lcm_machine.proofs.Offers.{lacking, lacks}
 use Rattle.call_sequence.specs.Sequences.{call_code, return_code, entry_code}
-use Rattle.call_sequence.specs.SequenceRuns.{Outside, HasCall, HasReturn, HasEntry, FailsAt}
+use Rattle.call_sequence.specs.SequenceRuns.{IsOutsideRange, HasCall, HasReturn, HasEntry, FailsAt}
 
-module _ (a : ℕ) (t : State Word) (base last : ℕ) (out : Outside a base last) where
+module _ (a : ℕ) (t : State Word) (base last : ℕ) (out : IsOutsideRange a base last) where
   differs : (q : ℕ) → base ≤ q → q ≤ last → q ≢ a
   differs q low high =
       elim out as (λ _. q ≢ a) [ inl x ↦ omega (arith, x, low) | inr x ↦ omega (arith, x, high) ]

@@ -28,10 +28,8 @@ use Rattle.lcm_machine.specs.Runs.{run_of, code_cap}
 use Rattle.lcm_machine.specs.Touched.{Touches, Untouched}
 use Rattle.lcm_machine.proofs.Offers.{fetch_commutes, quiet, lacking, lacks, untouched_then, touched_by}
 use Rattle.lcm_machine.proofs.Offers.{after_each}
-use Rattle.call_sequence.specs.SequenceRuns.{stack_cap, Outside, at_xjmp}
-use Rattle.call_sequence.proofs.CallLaws.{call_jumps}
-use Rattle.call_sequence.proofs.EntryLaws.{entry_runs}
-use Rattle.call_sequence.proofs.ReturnLaws.{return_runs}
+use Rattle.call_sequence.specs.SequenceRuns.{stack_cap, IsOutsideRange, at_xjmp}
+use Rattle.call_sequence.proofs.Offers.{call_jumps, entry_runs, return_runs}
 use Rattle.trusted_border.specs.declared.layout.Layout.{Layout}
 use Rattle.trusted_border.specs.declared.layout.SiteCode.{SiteCode}
 use Rattle.overlay_machine.specs.declared.words.OWord.{OWord}
@@ -121,7 +119,7 @@ module _ (l : Layout) (o : OState) (t : State Word) (m : IsFlat l o t) (k : Look
     its_site : HasSite l o.maps.cells site
     its_site = at_site.sites i site at_site.is_site
 
-    out : Outside a site.base site.end
+    out : IsOutsideRange a site.base site.end
     out = its_site.apart a low_a high_a
 
     top_differs : b + 1 ≢ a
@@ -163,7 +161,7 @@ module _ (l : Layout) (o : OState) (t : State Word) (m : IsFlat l o t) (k : Look
   -- ---- the twenty words of an entry
 
   pub entry_quiet : (at : ℕ) (at_entry : AtEntry l at o) (c : CapFields) → own_stack l o.maps ≡ Some c
-      → Outside a at_entry.base at_entry.end → Untouched id id a 20 t
+      → IsOutsideRange a at_entry.base at_entry.end → Untouched id id a 20 t
   unfolding own_stack faces
   entry_quiet at at_entry c e out =
       let f = face_of_own l (face_of (look o.maps.regs.stk)) c e in

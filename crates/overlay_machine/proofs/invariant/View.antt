@@ -17,7 +17,7 @@ use Rattle.lcm_isa.specs.declared.Instr.{Instr}
 use Rattle.lcm_isa.specs.declared.Instr.TheVariants.{Fail, Store, Move}
 use Rattle.lcm_isa.specs.declared.Operand.TheVariants.{R as InReg}
 use Rattle.lcm_isa.specs.Numbers.{number_of, decode_of, IsInstr}
-use Rattle.lcm_isa.proofs.NumberLemmas.{decode_of-number_of}
+use Rattle.lcm_isa.proofs.Offers.{decode_of-number_of}
 use Rattle.lcm_machine.specs.Maps.{State}
 use Rattle.lcm_machine.specs.Places.{reg}
 use Rattle.lcm_machine.specs.Row.{faces, cell_faces, fetch, Fetched, some}
@@ -29,7 +29,7 @@ use Rattle.flow_check.specs.Places.{begins_entry, begins_site}
 use Rattle.component_linker.specs.declared.owners.Owner.{Owner}
 use Rattle.component_linker.specs.Parts.{PartSeen}
 use Rattle.trusted_border.specs.declared.layout.SiteCode.{SiteCode}
-use Rattle.trusted_border.specs.Layout.{runs_part, trusted_at, site_at, site_code, is_entry}
+use Rattle.trusted_border.specs.Layout.{runs_part, trusted_at, site_at, site_code, has_entry_at}
 use Rattle.overlay_machine.specs.declared.words.OWord.{OWord}
 use Rattle.overlay_machine.specs.declared.cases.Case.{Case}
 use Rattle.overlay_machine.specs.declared.cases.Case.TheVariants.{Call, Entry, Other}
@@ -189,7 +189,7 @@ module _ (g : Link) (linked : Linked g) where
       -- at a trusted pc
       view_at : (p : PartSeen) (o : ℕ) → IsTrusted g p → StandsAt g fs p o s.regs → (n : Option ℕ)
           → site_at g.layout (p.component.code_base + o) ≡ n → (b : Bool)
-          → is_entry g.layout (p.component.code_base + o) ≡ b
+          → has_entry_at g.layout (p.component.code_base + o) ≡ b
           → View g fs s (case_at g.layout (p.component.code_base + o) n (case_fetched s Got))
       view_at p o ip at (Some j) e b eb =
           let k = site_of p o j ip at.inside e in
@@ -203,7 +203,7 @@ module _ (g : Link) (linked : Linked g) where
       fail_view : (p : PartSeen) (o : ℕ) → IsTrusted g p → p.component.fail_at ≡ Some o
           → PcAt look (ranges_of p) o s.regs → (n : Option ℕ)
           → site_at g.layout (p.component.code_base + o) ≡ n
-          → (b : Bool) → is_entry g.layout (p.component.code_base + o) ≡ b
+          → (b : Bool) → has_entry_at g.layout (p.component.code_base + o) ≡ b
           → View g fs s (case_at g.layout (p.component.code_base + o) n (case_fetched s Got))
       fail_view p o ip f h (Some j) e b eb = let k =
           site_of p o j ip (linked.fails p o ip f).0 e in absurd (fail_no_site p o k.2 k.0 ip f k.3 k.4)

@@ -23,12 +23,12 @@ use Rattle.component_linker.specs.declared.owners.Site.{Site}
 use Rattle.component_linker.specs.declared.owners.Owner.{Owner}
 use Rattle.component_linker.specs.declared.owners.Entry.{Entry}
 use Rattle.component_linker.specs.Parts.{PartSeen}
-use Rattle.component_linker.specs.Owners.{IsSite, AreSites, AreOwners, owner_of, entry_of}
+use Rattle.component_linker.specs.Owners.{IsSite, AreSites, AreOwners, owner_of, placed_entry}
 use Rattle.component_linker.specs.Linked.{Linked}
-use Rattle.component_linker.proofs.RegionFacts.{apart_parts, code_in, whole}
+use Rattle.component_linker.proofs.Offers.{apart_parts, code_in, whole}
 use Rattle.trusted_border.specs.declared.layout.Layout.{Layout}
 use Rattle.trusted_border.specs.declared.layout.SiteCode.{SiteCode}
-use Rattle.trusted_border.specs.Layout.{runs_part, trusted_owner, numbered, site_at, is_entry, with_code}
+use Rattle.trusted_border.specs.Layout.{runs_part, trusted_owner, numbered, site_at, has_entry_at, with_code}
 use Rattle.trusted_border.specs.Layout.{code_in as code_among, site_code}
 use Rattle.overlay_machine.specs.Linked.{any_pc}
 use Rattle.overlay_machine.specs.Names.{declared_site}
@@ -108,30 +108,31 @@ runs_is c o e =
 -- ---- entries
 
 -- an entry is that of an export
-unlisted : (c : ComponentFields) (es : List Export) (x : Entry) → Contains (map (entry_of c) es) x
-    → (e : Export) × Contains es e × (entry_of c e ≡ x)
+unlisted : (c : ComponentFields) (es : List Export) (x : Entry) → Contains (map (placed_entry c) es) x
+    → (e : Export) × Contains es e × (placed_entry c e ≡ x)
 unlisted c [] x m = absurd (omega (arith, m.1))
 unlisted c (e ∷ es) x (zero, lt, q) = (e, (0, omega arith, refl), q)
 unlisted c (e ∷ es) x (suc k, lt, q) = let y =
     unlisted c es x (k, omega (arith, lt), q) in (y.0, later_is e y.0 es y.1, y.2)
 
 unmapped : (c : ComponentFields) (es : List Export) (a : ℕ)
-    → list_any (λ (e : Entry). e.at == a) (map (entry_of c) es) ≡ true
+    → list_any (λ (e : Entry). e.at == a) (map (placed_entry c) es) ≡ true
     → (e : Export) × Contains es e × (c.code_base + e.offset ≡ a)
 unmapped c es a t =
-    let x = any_of (λ (e : Entry). e.at == a) (map (entry_of c) es) t in
+    let x = any_of (λ (e : Entry). e.at == a) (map (placed_entry c) es) t in
     let y = unlisted c es x.0 x.1 in
     (y.0, y.1, ap (λ (z : Entry). z.at) y.2 ∙ eqb-true (x.0).at a x.2)
 
 -- and each export has one
 relisted : (c : ComponentFields) (es : List Export) (e : Export) → Contains es e
-    → Contains (map (entry_of c) es) (entry_of c e)
+    → Contains (map (placed_entry c) es) (placed_entry c e)
 relisted c [] e m = absurd (omega (arith, m.1))
 relisted c (x ∷ xs) e (zero, lt, q) =
-    subst (Contains (entry_of c x ∷ map (entry_of c) xs)) (ap (entry_of c) q)
-    (first_is (entry_of c x) (map (entry_of c) xs))
+    subst (Contains (placed_entry c x ∷ map (placed_entry c) xs)) (ap (placed_entry c) q)
+    (first_is (placed_entry c x) (map (placed_entry c) xs))
 relisted c (x ∷ xs) e (suc k, lt, q) =
-    later_is (entry_of c x) (entry_of c e) (map (entry_of c) xs) (relisted c xs e (k, omega (arith, lt), q))
+    later_is (placed_entry c x) (placed_entry c e) (map (placed_entry c) xs)
+    (relisted c xs e (k, omega (arith, lt), q))
 
 -- ---- owners
 
@@ -216,10 +217,10 @@ module _ (parts : List PartSeen) (size : ℕ) (l : Layout) (linked : Linked part
       (each : (k : ℕ) (p : PartSeen) → slice_get parts k ≡ Some p → p.trusted ≡ true → (e : Export)
       → Contains p.component.exports e → e.offset < length p.component.code)
       → (k o : ℕ) (p : PartSeen) → slice_get parts k ≡ Some p → p.trusted ≡ true → o < length p.component.code
-      → is_entry l (p.component.code_base + o) ≡ begins_entry p.component o
+      → has_entry_at l (p.component.code_base + o) ≡ begins_entry p.component o
   unfolding begins_entry owner_of
   entry_found each k o p at trusted lt =
-      both (is_entry l (p.component.code_base + o)) (list_any (λ e. e.offset == o) p.component.exports)
+      both (has_entry_at l (p.component.code_base + o)) (list_any (λ e. e.offset == o) p.component.exports)
       to_export to_entry
     where
       both : (a b : Bool) → (a ≡ true → b ≡ true) → (b ≡ true → a ≡ true) → a ≡ b
@@ -228,20 +229,20 @@ module _ (parts : List PartSeen) (size : ℕ) (l : Layout) (linked : Linked part
       both false false f g = refl
 
       to_entry : list_any (λ (e : Export). e.offset == o) p.component.exports ≡ true
-          → is_entry l (p.component.code_base + o) ≡ true
+          → has_entry_at l (p.component.code_base + o) ≡ true
       to_entry t =
           let e = any_of (λ (x : Export). x.offset == o) p.component.exports t in
           let off : (e.0).offset ≡ o = eqb-true (e.0).offset o e.2 in
           let there =
           any_is (λ (x : Entry). x.at == p.component.code_base + o)
-          (map (entry_of p.component) p.component.exports) (entry_of p.component e.0)
+          (map (placed_entry p.component) p.component.exports) (placed_entry p.component e.0)
           (relisted p.component p.component.exports e.0 e.1)
           (eq-eqb (p.component.code_base + (e.0).offset) (p.component.code_base + o)
           (ap (λ n. p.component.code_base + n) off)) in
           any_is (λ w. w.trusted && list_any (λ x. x.at == p.component.code_base + o) w.entries)
           l.owners (owner_of k p) (owner_listed k p at) (rw (trusted, there) refl)
 
-      to_export : is_entry l (p.component.code_base + o) ≡ true
+      to_export : has_entry_at l (p.component.code_base + o) ≡ true
           → list_any (λ (e : Export). e.offset == o) p.component.exports ≡ true
       to_export t =
           let w = any_of (λ w. w.trusted && list_any (λ x. x.at == p.component.code_base + o) w.entries)
@@ -251,7 +252,7 @@ module _ (parts : List PartSeen) (size : ℕ) (l : Layout) (linked : Linked part
           let is = (owners.all w.0).0 w.1 in
           let trusted' : is.of.trusted ≡ true = sym (ap (λ (x : Owner). x.trusted) is.is) ∙ both.0 in
           let there : list_any (λ (x : Entry). x.at == p.component.code_base + o)
-          (map (entry_of is.of.component) is.of.component.exports) ≡ true =
+          (map (placed_entry is.of.component) is.of.component.exports) ≡ true =
           sym (ap (λ (x : Owner). list_any (λ (y : Entry). y.at == p.component.code_base + o) x.entries)
           is.is) ∙ both.1 in
           let e = unmapped is.of.component is.of.component.exports (p.component.code_base + o) there in

@@ -18,10 +18,8 @@ use Rattle.component_linker.specs.Owners.{owner_of, AreSites, AreOwners}
 use Rattle.component_linker.specs.Started.{StartSeen}
 use Rattle.component_linker.specs.Answer.{LinksTo}
 use Rattle.component_linker.specs.Linked as making
-use Rattle.component_linker.proofs.LinksKept.{are_linked}
-use Rattle.component_linker.proofs.CodeStands.{SitesStand, EntriesStand}
-use Rattle.component_linker.proofs.PartKept.{seals_end}
-use Rattle.component_linker.proofs.RegionFacts.{part_region_of, stack_region_of, all_within}
+use Rattle.component_linker.proofs.Offers.{are_linked, SitesStand, EntriesStand, seals_end, part_region_of}
+use Rattle.component_linker.proofs.Offers.{stack_region_of, all_within}
 use Rattle.trusted_border.specs.declared.layout.Layout.{Layout}
 use Rattle.trusted_border.specs.declared.layout.SiteCode.{SiteCode}
 use Rattle.trusted_border.specs.Layout.{site_at, site_code}

@@ -5,11 +5,9 @@ use Rattle.component_linker.specs.Regions.{regions_of}
 use Rattle.component_linker.specs.Started.{StartSeen}
 use Rattle.component_linker.specs.Answer.{LinksTo}
 use Rattle.component_linker.specs.Linked.{Linked}
-use Rattle.component_linker.proofs.LinksKept.{are_linked, stack_bases, stack_begins}
-use Rattle.component_linker.proofs.RegionFacts.{apart_all}
-use Rattle.component_linker.proofs.SealsKept.{parts_apart, sites_apart}
-use Rattle.component_linker.proofs.StartIs.{started_once}
-use Rattle.component_linker.proofs.CodeStands.{SitesStand, EntriesStand, code_stands, trusted_stand}
+use Rattle.component_linker.proofs.Offers.{are_linked, stack_bases, stack_begins, apart_all, parts_apart}
+use Rattle.component_linker.proofs.Offers.{sites_apart, started_once, SitesStand, EntriesStand, code_stands}
+use Rattle.component_linker.proofs.Offers.{trusted_stand}
 use Rattle.component_linker.specs.LinkedStarts.{IsLinkedStart}
 
 pub links_of : SitesStand → EntriesStand → (parts : List PartSeen) (size : ℕ) (s : StartSeen)

@@ -15,11 +15,10 @@ use Rattle.component_linker.specs.declared.owners.Site.{Site}
 use Rattle.component_linker.specs.declared.owners.Owner.{Owner}
 use Rattle.component_linker.specs.declared.owners.Entry.{Entry}
 use Rattle.component_linker.specs.Parts.{PartSeen}
-use Rattle.component_linker.specs.Owners.{AreSites, AreOwners, owner_of, entry_of}
+use Rattle.component_linker.specs.Owners.{AreSites, AreOwners, owner_of, placed_entry}
 use Rattle.component_linker.specs.SealsApart.{is_seal_of, PartsApart, SitesApart}
 use Rattle.component_linker.specs.Linked.{Linked}
-use Rattle.component_linker.proofs.LinksKept.{are_linked}
-use Rattle.component_linker.proofs.SealsKept.{parts_apart, sites_apart}
+use Rattle.component_linker.proofs.Offers.{are_linked, parts_apart, sites_apart}
 use Rattle.component_linker.specs.LinkedStarts.{AreParts}
 use Rattle.trusted_border.specs.declared.layout.Layout.{Layout}
 use Rattle.trusted_border.specs.declared.layout.SiteCode.{SiteCode}
@@ -52,11 +51,11 @@ same_offset base x o = elim (cases_eq x o) as (λ _. (base + x == base + o) ≡ 
 
 -- the first entry at an address is that of the first export there
 entry_place : (c : ComponentFields) (o : ℕ) (es : List Export)
-    → position_or_len (λ (e : Entry). e.at == c.code_base + o) (map (entry_of c) es)
+    → position_or_len (λ (e : Entry). e.at == c.code_base + o) (map (placed_entry c) es)
     ≡ position_or_len (λ (e : Export). e.offset == o) es
 entry_place c o [] = refl
 entry_place c o (e ∷ es) =
-    let there = position_or_len (λ (x : Entry). x.at == c.code_base + o) (map (entry_of c) es) in
+    let there = position_or_len (λ (x : Entry). x.at == c.code_base + o) (map (placed_entry c) es) in
     ap (λ b. cond (not b) (1 + there) 0) (same_offset c.code_base e.offset o)
     ∙ ap (λ n. cond (not (e.offset == o)) (1 + n) 0) (entry_place c o es)
 
@@ -119,11 +118,11 @@ module _ (parts : List PartSeen) (size : ℕ) (l : Layout) (each : AreParts part
       let numbered = owner_numbered parts size l made owners n p at in
       record {
         number = place;
-        number_is = rw (low, high, entry_place c o es, length-map es (entry_of c), there, small) refl;
+        number_is = rw (low, high, entry_place c o es, length-map es (placed_entry c), there, small) refl;
         export = found.0;
         first = found.1;
         name = ap (λ w. entry_text (names.entry_of place w)) numbered
-            ∙ ap entry_text (slice_get-map (entry_of c) es place ∙ ap (option_map (entry_of c)) here);
+            ∙ ap entry_text (slice_get-map (placed_entry c) es place ∙ ap (option_map (placed_entry c)) here);
       }
 
   -- ---- sites

@@ -10,8 +10,7 @@ use Rattle.lcm_machine.specs.Spans.{in_spans}
 use Rattle.lcm_machine.proofs.Offers.{same_cells, same_regs}
 use Rattle.component_linker.specs.Parts.{PartSeen}
 use Rattle.component_linker.specs.Started.{StartSeen}
-use Rattle.component_linker.proofs.LinksKept.{are_linked}
-use Rattle.component_linker.proofs.StartCells.{spans_are_regions, cell_in_region}
+use Rattle.component_linker.proofs.Offers.{are_linked, spans_are_regions, cell_in_region}
 use Rattle.component_linker.specs.LinkedStarts.{IsLinkedStart}
 use Rattle.overlay_machine.specs.declared.words.OWord.TheVariants.{Plain}
 use Rattle.overlay_machine.specs.Copies.{plain_regs}

@@ -7,9 +7,8 @@ use Rattle.lcm_machine.specs.Regions.{Region}
 use Rattle.component_linker.specs.Parts.{PartSeen, IsPart}
 use Rattle.component_linker.specs.Regions.{Apart, part_regions, region, stack_span}
 use Rattle.component_linker.specs.Linked.{Linked}
-use Rattle.component_linker.proofs.PartKept.{code_no_data}
-use Rattle.component_linker.proofs.RegionFacts.{code_in, data_in, apart_parts, apart_stack, part_region_of}
-use Rattle.component_linker.proofs.RegionFacts.{stack_region_of, all_within}
+use Rattle.component_linker.proofs.Offers.{code_no_data, code_in, data_in, apart_parts, apart_stack}
+use Rattle.component_linker.proofs.Offers.{part_region_of, stack_region_of, all_within}
 use Rattle.overlay_machine.specs.Link.{code_region, data_region}
 use Rattle.overlay_machine.proofs.starts.ListFacts.{one_at}
 

@@ -24,15 +24,13 @@ use Rattle.flow_check.specs.Kinds.{kind_of, entry_row}
 use Rattle.flow_check.specs.Holds.{HasKind, code_at}
 use Rattle.component_linker.specs.Parts.{PartSeen, IsPart}
 use Rattle.component_linker.specs.Regions.{regions_of, region, in_regions, stack_span}
-use Rattle.component_linker.specs.Start.{code_of, stack_cap, stack_of, stack_base_of, start_cell, start_regs}
+use Rattle.component_linker.specs.Start.{code_of, whole_stack_cap, stack_of, stack_base_of, start_cell}
+use Rattle.component_linker.specs.Start.{start_regs}
 use Rattle.component_linker.specs.Started.{StartSeen}
 use Rattle.component_linker.specs.Answer.{LinksTo}
 use Rattle.component_linker.specs.Linked as making
-use Rattle.component_linker.proofs.LinksKept.{are_linked}
-use Rattle.component_linker.proofs.CodeStands.{SitesStand, EntriesStand}
-use Rattle.component_linker.proofs.RegionFacts.{stack_region_of, stack_is}
-use Rattle.component_linker.proofs.StartWords.{IsExport, main_is_there}
-use Rattle.component_linker.proofs.StartCells.{cell_in_region, region_has_cell}
+use Rattle.component_linker.proofs.Offers.{are_linked, SitesStand, EntriesStand, stack_region_of, stack_is}
+use Rattle.component_linker.proofs.Offers.{IsExport, main_is_there, cell_in_region, region_has_cell}
 use Rattle.overlay_machine.specs.declared.words.OWord.{OWord}
 use Rattle.overlay_machine.specs.declared.words.OWord.TheVariants.{Plain}
 use Rattle.overlay_machine.specs.Words.{look}
@@ -134,9 +132,9 @@ module _ (site_words : SitesStand) (entry_words : EntriesStand) (parts : List Pa
   stack_listed = subst (λ x. Contains (region true x) (stack_region o.layout)) (sym start_linked.stack)
       (first_is (stack_region o.layout) [])
 
-  stack_cap_is : stack_of (stack_base_of parts) size ≡ stack_cap o.layout.stack
+  stack_cap_is : stack_of (stack_base_of parts) size ≡ whole_stack_cap o.layout.stack
   stack_cap_is = let is = stack_is parts size (stack_region o.layout) made.size_fits stack_listed in
-      ap (λ (r : Region). stack_cap (record { base = r.base; end = r.end })) is
+      ap (λ (r : Region). whole_stack_cap (record { base = r.base; end = r.end })) is
 
   stack_order : o.layout.stack.base ≤ o.layout.stack.end
   stack_order =

@@ -9,13 +9,12 @@ use Rattle.cap_words.specs.declared.Word.TheVariants.{Int, Mem, Seal, Sealed}
 use Rattle.cap_words.specs.declared.CapFields.{CapFields}
 use Rattle.cap_words.specs.Faces.{may_run}
 use Rattle.component_linker.specs.Parts.{PartSeen, IsPart}
-use Rattle.component_linker.specs.Start.{Exported, code_of, data_of, code_half, data_half, stack_cap}
+use Rattle.component_linker.specs.Start.{Exported, code_of, data_of, code_half, data_half, whole_stack_cap}
 use Rattle.component_linker.specs.Start.{start_cell}
-use Rattle.component_linker.proofs.RegionFacts.{whole, in_stretch}
-use Rattle.component_linker.proofs.OwnWords.{OwnCap, over_code, over_data, over_linear, OwnWord}
-use Rattle.component_linker.proofs.OwnWords.{own_code as own_code_word, own_data as own_data_word}
-use Rattle.component_linker.proofs.OwnWords.{data_number}
-use Rattle.component_linker.proofs.StartWords.{IsExport, CellIs, of_code, of_data, of_slot, of_none, cell_is}
+use Rattle.component_linker.proofs.Offers.{whole, in_stretch, OwnCap, over_code, over_data, over_linear}
+use Rattle.component_linker.proofs.Offers.{OwnWord, own_code as own_code_word, own_data as own_data_word}
+use Rattle.component_linker.proofs.Offers.{data_number, IsExport, CellIs, of_code, of_data, of_slot, of_none}
+use Rattle.component_linker.proofs.Offers.{cell_is}
 use Rattle.overlay_machine.specs.declared.words.OWord.TheVariants.{Plain}
 use Rattle.overlay_machine.specs.Link.{Link, IsUntrusted, IsUsable, own_code, own_data, own_linear, the_stack}
 use Rattle.overlay_machine.specs.Link.{IsOpenAt, code_region, data_region, stack_region}
@@ -146,7 +145,7 @@ module _ (g : Link) (parts : (p : PartSeen) → Contains g.parts p → IsPart p)
   -- ---- the stack's
 
   pub stack_safe : g.layout.stack.base ≤ g.layout.stack.end
-      → IsSafe g [] (Plain (Mem (stack_cap g.layout.stack)))
+      → IsSafe g [] (Plain (Mem (whole_stack_cap g.layout.stack)))
   stack_safe order = record {
     area = stack_region g.layout;
     runs = false;

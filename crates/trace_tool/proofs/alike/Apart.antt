@@ -13,8 +13,7 @@ use Rattle.lcm_machine.specs.Maps.{State}
 use Rattle.lcm_machine.specs.Row.{faces, cell_faces, fetch, some}
 use Rattle.flow_check.specs.Holds.{code_at}
 use Rattle.flow_check.specs.Places.{begins_entry, begins_site}
-use Rattle.flow_check.proofs.Walks.{Inside, no_row_inside}
-use Rattle.flow_check.proofs.Placed.{placed_lists}
+use Rattle.flow_check.proofs.Offers.{Inside, no_row_inside, placed_lists}
 use Rattle.component_linker.specs.Parts.{PartSeen}
 use Rattle.trusted_border.specs.declared.layout.SiteCode.{SiteCode}
 use Rattle.overlay_machine.specs.declared.words.OWord.{OWord}

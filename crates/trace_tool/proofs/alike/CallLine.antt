@@ -21,7 +21,7 @@ use Rattle.lcm_machine.specs.Refusals.{HasFailed}
 use Rattle.lcm_machine.proofs.Offers.{failed_more, step_row}
 use Rattle.call_sequence.specs.Sequences.{call_code}
 use Rattle.call_sequence.specs.SequenceRuns.{stack_cap, HasCall}
-use Rattle.call_sequence.proofs.CallLaws.{call_runs}
+use Rattle.call_sequence.proofs.Offers.{call_runs}
 use Rattle.trusted_border.specs.declared.layout.Layout.{Layout}
 use Rattle.trusted_border.specs.declared.layout.SiteCode.{SiteCode}
 use Rattle.trusted_border.specs.declared.events.Event.TheVariants.{Called as CalledEvent}
@@ -36,7 +36,7 @@ use Rattle.overlay_machine.specs.Step.{goes, call_step, new_frame}
 use Rattle.overlay_machine.specs.Flat.{flat, IsFlat}
 use Rattle.overlay_machine.specs.Agree.{AtSite, Looks}
 use Rattle.overlay_machine.specs.Events.{site_opened, note_call, note_by}
-use Rattle.overlay_machine.specs.Events.{event_after as told_after, called as called_told}
+use Rattle.overlay_machine.specs.Events.{event_after as told_after, called_event as called_told}
 use Rattle.overlay_machine.specs.Link.{Link}
 use Rattle.overlay_machine.specs.Linked.{Linked}
 use Rattle.overlay_machine.proofs.Offers.{flat-mem, cell-flat, HasCall-flat, some_of, opened-code, its_site}

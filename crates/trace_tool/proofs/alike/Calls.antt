@@ -1,7 +1,7 @@
 -- The first fifteen words of a call are calm whatever they do.
 use Rattle.std.proofs.Common.{◌≡◌, inl, inr, ℕ, ◌+◌, ◌≤◌, ℤ, pos, negsuc, List, [], ◌∷◌, ◌++◌, Some, refl}
 use Rattle.std.proofs.Common.{sym, ap, ◌∙◌, arith, rules}
-use Rattle.call_sequence.proofs.LawLemmas.{small_operand, near_operand}
+use Rattle.call_sequence.proofs.Offers.{small_operand, near_operand}
 use Rattle.cap_words.specs.declared.Word.{Word}
 use Rattle.cap_words.specs.declared.Word.TheVariants.{Mem}
 use Rattle.cap_words.specs.declared.CapFields.{CapFields}
@@ -16,7 +16,7 @@ use Rattle.lcm_machine.specs.Table.{target}
 use Rattle.lcm_machine.specs.Row.{faces}
 use Rattle.lcm_machine.specs.Runs.{Stands, code_cap}
 use Rattle.call_sequence.specs.Sequences.{call_code, distance}
-use Rattle.call_sequence.specs.SequenceRuns.{Outside, HasCall}
+use Rattle.call_sequence.specs.SequenceRuns.{IsOutsideRange, HasCall}
 use Rattle.trusted_border.specs.declared.layout.Layout.{Layout}
 use Rattle.trace_tool.proofs.alike.Calm.{id, Calm}
 use Rattle.trace_tool.proofs.alike.Laying.{NoEnd, AreStraight, calm_store}
@@ -123,7 +123,7 @@ module _ (l : Layout) (s : State Word) (base last at seal : ℕ) (h : HasCall id
 
     -- where the store goes to no word of the part
     pub call_calm : (c : CapFields) → s.regs.pc ≡ Mem (code_cap base last at) → s.regs.stk ≡ Mem c
-        → ((q : ℕ) → c.base ≤ q → q ≤ c.end → Outside q base last) → NoEnd l at (at + 15) → Calm l 15 s
+        → ((q : ℕ) → c.base ≤ q → q ≤ c.end → IsOutsideRange q base last) → NoEnd l at (at + 15) → Calm l 15 s
     unfolding call_code faces
     call_calm c pc stk apart free =
         let ai = h.at_is in

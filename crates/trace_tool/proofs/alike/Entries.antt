@@ -1,6 +1,6 @@
 -- The twenty words of an entry are calm whatever they do.
 use Rattle.std.proofs.Common.{inl, ◌≡◌, ◌≢◌, ℕ, ◌+◌, ◌≤◌, pos, List, [], ◌∷◌, refl, arith, rules}
-use Rattle.call_sequence.proofs.LawLemmas.{fits_small, small_operand, near_operand, leads}
+use Rattle.call_sequence.proofs.Offers.{fits_small, small_operand, near_operand, leads}
 use Rattle.cap_words.specs.declared.TheConstants.{LAST_PLACE}
 use Rattle.cap_words.specs.declared.Word.{Word}
 use Rattle.cap_words.specs.declared.Word.TheVariants.{Mem}

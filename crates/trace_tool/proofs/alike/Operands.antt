@@ -9,12 +9,12 @@ use Rattle.lcm_machine.specs.Cells.{set_cell}
 use Rattle.lcm_machine.specs.Row.{step_of, went}
 use Rattle.lcm_machine.specs.Runs.{Stands, run_of}
 use Rattle.lcm_machine.proofs.Offers.{Stands-set, Stands-set_below, run_then, run_one}
-use Rattle.call_sequence.specs.SequenceRuns.{Outside}
+use Rattle.call_sequence.specs.SequenceRuns.{IsOutsideRange}
 use Rattle.trace_tool.proofs.alike.Calm.{id}
 
 -- code within a range stands as before where a cell outside is set
 pub stands_outside : (m : FinMap nat_cmp Word) (a : ℕ) (w : Word) (base last at : ℕ) (is : List Instr)
-    → Outside a base last → base ≤ at → at + length is ≤ last + 1 → Stands id m at is
+    → IsOutsideRange a base last → base ≤ at → at + length is ≤ last + 1 → Stands id m at is
     → Stands id (set_cell m a w) at is
 stands_outside m a w base last at is (inl below) low high h =
     Stands-set_below id m a w at is (omega (arith, below, low)) h

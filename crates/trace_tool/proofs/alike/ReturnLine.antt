@@ -25,7 +25,7 @@ use Rattle.lcm_machine.specs.Mapped.{mapped_or}
 use Rattle.lcm_machine.proofs.Offers.{run_one}
 use Rattle.call_sequence.specs.Sequences.{return_code}
 use Rattle.call_sequence.specs.SequenceRuns.{stack_cap, HasReturn}
-use Rattle.call_sequence.proofs.ReturnLaws.{return_runs}
+use Rattle.call_sequence.proofs.Offers.{return_runs}
 use Rattle.component_linker.specs.declared.owners.Owner.{Owner}
 use Rattle.trusted_border.specs.declared.layout.Layout.{Layout}
 use Rattle.trusted_border.specs.declared.events.Event.TheVariants.{Returned as ReturnedEvent}

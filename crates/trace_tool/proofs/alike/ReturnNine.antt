@@ -1,7 +1,7 @@
 -- Nine of the ten words of a return.
 use Rattle.std.proofs.Common.{◌≡◌, ℕ, ◌+◌, ◌≤◌, ℤ, pos, false, Some, refl, sym, ap, ◌∙◌, arith}
 use Rattle.std.proofs.Common.{rules}
-use Rattle.call_sequence.proofs.ReturnLaws.{tested, return_tests}
+use Rattle.call_sequence.proofs.Offers.{tested, return_tests}
 use Rattle.cap_words.specs.declared.TheConstants.{LAST_PLACE}
 use Rattle.cap_words.specs.declared.Word.{Word}
 use Rattle.cap_words.specs.declared.Word.TheVariants.{Mem}
@@ -13,14 +13,14 @@ use Rattle.lcm_machine.specs.Runs.{run_of, code_cap}
 use Rattle.lcm_machine.proofs.Offers.{is_linear-face, set_goes, go, ran, run_then, stays, store_goes}
 use Rattle.lcm_machine.proofs.Offers.{load_goes}
 use Rattle.call_sequence.specs.Sequences.{return_code}
-use Rattle.call_sequence.specs.SequenceRuns.{stack_cap, Outside, HasReturn}
+use Rattle.call_sequence.specs.SequenceRuns.{stack_cap, IsOutsideRange, HasReturn}
 use Rattle.trace_tool.proofs.alike.Calm.{id}
 
 pub return_nine : (s : State Word) (base last at sb low b end : ℕ) (to : ℤ) (w : Word)
     → (h : HasReturn id s.cells base last at sb)
     → s.regs.pc ≡ Mem (code_cap base last at) → s.regs.stk ≡ Mem (record (stack_cap sb low 0) { addr = to })
     → s.regs.dat ≡ Mem (stack_cap b end b)
-    → low + 1 ≡ b → sb ≤ b → b ≤ end → end ≤ LAST_PLACE → Outside b base last → cell s.cells b ≡ Some w
+    → low + 1 ≡ b → sb ≤ b → b ≤ end → end ≤ LAST_PLACE → IsOutsideRange b base last → cell s.cells b ≡ Some w
     → is_linear w ≡ false
     → run_of id id 9 s ≡ went (record s {
       regs = record s.regs {

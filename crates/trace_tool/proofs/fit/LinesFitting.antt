@@ -32,7 +32,7 @@ use Rattle.component_linker.specs.declared.owners.Entry.{Entry}
 use Rattle.component_linker.specs.Parts.{PartSeen}
 use Rattle.component_linker.specs.Linked.{AreClosed}
 use Rattle.component_linker.specs.Owners.{AreOwners, AreSites}
-use Rattle.component_linker.proofs.LinksKept.{are_linked}
+use Rattle.component_linker.proofs.Offers.{are_linked, starts_fit}
 use Rattle.trusted_border.specs.declared.layout.Layout.{Layout}
 use Rattle.trusted_border.specs.declared.events.Back.{Back}
 use Rattle.trusted_border.specs.declared.events.Back.TheVariants.{Out, Bad, Hop, Pair}
@@ -40,7 +40,7 @@ use Rattle.trusted_border.specs.declared.events.Event.{Event}
 use Rattle.trusted_border.specs.declared.events.Event.TheVariants.{Called, Returned, Entered, Left}
 use Rattle.trusted_border.specs.Layout.{runs_part, trusted_owner, trusted_at, number_of, site_at}
 use Rattle.trusted_border.specs.Reaches.{entry_number, closure_owner, site_of_seal, content_base, hop_to}
-use Rattle.trusted_border.specs.Reaches.{hop_in, back_under, back_if, back_of, goes_on, jump_plan}
+use Rattle.trusted_border.specs.Reaches.{hop_in, back_under, back_if, back_of, plan_goes, jump_plan}
 use Rattle.overlay_machine.proofs.Offers.{found_is}
 use Rattle.trace_tool.specs.declared.note.Note.{Note}
 use Rattle.trace_tool.specs.declared.note.Note.TheVariants.{Nothing, Last, Leap}
@@ -52,15 +52,14 @@ use Rattle.trace_tool.specs.Layout.{layout, site_before, site_word, part_name, e
 use Rattle.trace_tool.specs.Views.{View, view_of}
 use Rattle.trace_tool.specs.Events.{note_last, noted_by, noted, reaches_trusted, called_with, called}
 use Rattle.trace_tool.specs.Events.{returned_at, returned, entered, leapt_by, event_after}
-use Rattle.trace_tool.specs.Pairs.{is_nothing, if_normal, pair_to, pair_if, pair_of, pairs_of, no_pairs}
-use Rattle.trace_tool.specs.Lines.{Line, pass, args_of, list_of, words_from, feed_back, feed_pair, line_of}
+use Rattle.trace_tool.specs.Pairs.{is_nothing, if_normal, pair_to, pair_if, pair_of, pairs_of, none_paired}
+use Rattle.trace_tool.specs.Lines.{Line, pass, args_of, list_of, words_seen, feed_back, feed_pair, line_of}
 use Rattle.trace_tool.specs.Lines.{lines_behind, lines_for, pass_lines}
 use Rattle.trace_tool.specs.Runs.{Watched, begun, if_went, watched, event_next, line_next, lines_of}
 use Rattle.lcm_machine.specs.Fitting.{MapsFit}
 use Rattle.source_events.specs.Forms.{IsName, IsSmall, BackFits, PairFits, is_pair}
 use Rattle.trace_tool.specs.Fits.{AllOf, ArgsOf, PlaceFits, LineFits, LinesFit, StartLinesFit}
 use Rattle.lcm_machine.proofs.Offers.{OpenedFits, opened_fits, next_state_fits}
-use Rattle.component_linker.proofs.StartFits.{starts_fit}
 use Rattle.trace_tool.proofs.fit.NamesFit.{number_at, part_named, entry_named, site_fits}
 
 -- ---- views, and lists of words and of lines
@@ -80,9 +79,9 @@ listed_fits : (o : Option Word) → ((w : Word) → o ≡ Some w → WordFits w)
 listed_fits None h = tt
 listed_fits (Some w) h = (h w refl, tt)
 
-words_fit : (v : View) → ViewFits v → (a n : ℕ) → AllOf WordFits (words_from v a n)
+words_fit : (v : View) → ViewFits v → (a n : ℕ) → AllOf WordFits (words_seen v a n)
 words_fit v h a zero = tt
-words_fit v h a (suc n) = all_append (words_from v a n) (list_of (v.cell (a + n))) (words_fit v h a n)
+words_fit v h a (suc n) = all_append (words_seen v a n) (list_of (v.cell (a + n))) (words_fit v h a n)
     (listed_fits (v.cell (a + n)) (λ w e. h.1 (a + n) w e))
 
 args_fit : (v : View) → ViewFits v → ArgsOf WordFits (args_of v)
@@ -226,7 +225,7 @@ module _ (parts : List PartSeen) (closed : AreClosed parts) (l : Layout) (are_si
       by (Some k) e = opened_fits w k e h
 
   back_fits : (w v : Word) → WordFits v → BackFits (feed_back l (back_of l w v))
-  back_fits w v h = back_fits_if (goes_on (jump_plan w v)) (opened_of w) (opened_of v) (when_opened v h)
+  back_fits w v h = back_fits_if (plan_goes (jump_plan w v)) (opened_of w) (opened_of v) (when_opened v h)
 
   pair_to_fits : (b : Back) → BackFits (feed_back l b) → PairFits (feed_pair l (pair_to b))
   pair_to_fits Out h = tt
@@ -254,7 +253,7 @@ module _ (parts : List PartSeen) (closed : AreClosed parts) (l : Layout) (are_si
   not_all true false c e = refl
   not_all false b c e = refl
 
-  some_told : (p : Pairs) → no_pairs p ≡ false
+  some_told : (p : Pairs) → none_paired p ≡ false
       → (is_pair (feed_pair l p.p0) || (is_pair (feed_pair l p.p1) || is_pair (feed_pair l p.p2))) ≡ true
   some_told p e =
       let a = told_is p.p0 in
@@ -264,15 +263,15 @@ module _ (parts : List PartSeen) (closed : AreClosed parts) (l : Layout) (are_si
 
   pass_fits : (p : Pairs) → PairFits (feed_pair l p.p0) → PairFits (feed_pair l p.p1)
       → PairFits (feed_pair l p.p2) → LinesFit (pass_lines l p)
-  pass_fits p h j k = by (no_pairs p) refl
+  pass_fits p h j k = by (none_paired p) refl
     where
-      by : (b : Bool) → no_pairs p ≡ b
+      by : (b : Bool) → none_paired p ≡ b
           → LinesFit (if b then [] else pass (feed_pair l p.p0) (feed_pair l p.p1) (feed_pair l p.p2) ∷ [])
       by true e = tt
       by false e = ((h, j, k, some_told p e), tt)
 
   pair_fits : (w v : Word) → PairFits (feed_pair l (pair_of l w v))
-  pair_fits w v = pair_fits_if (goes_on (jump_plan w v)) (if_normal (opened_of w)) (if_normal (opened_of v))
+  pair_fits w v = pair_fits_if (plan_goes (jump_plan w v)) (if_normal (opened_of w)) (if_normal (opened_of v))
 
   -- ---- events
 

@@ -12,8 +12,8 @@ use Rattle.component_linker.specs.declared.owners.Owner.{Owner}
 use Rattle.component_linker.specs.declared.owners.Entry.{Entry}
 use Rattle.component_linker.specs.Parts.{PartSeen}
 use Rattle.component_linker.specs.Linked.{AreClosed}
-use Rattle.component_linker.specs.Owners.{entry_of, owner_of, IsOwner, AreOwners, IsSite, AreSites}
-use Rattle.component_linker.proofs.Found.{map_inv}
+use Rattle.component_linker.specs.Owners.{placed_entry, owner_of, IsOwner, AreOwners, IsSite, AreSites}
+use Rattle.component_linker.proofs.Offers.{map_inv}
 use Rattle.trusted_border.specs.declared.layout.Layout.{Layout}
 use Rattle.trusted_border.specs.Layout.{numbered, number_of}
 use Rattle.overlay_machine.proofs.Offers.{listed_at, only_found, position_is}
@@ -79,10 +79,10 @@ module _ (parts : List PartSeen) (closed : AreClosed parts) (l : Layout) (are_si
   unfolding owner_of
   entry_has_name o is n e at =
       let c : ComponentFields = is.of.component in
-      let there : option_map (entry_of c) (slice_get c.exports n) ≡ Some e =
-      sym (slice_get-map (entry_of c) c.exports n) ∙ ap (λ (q : Owner). slice_get q.entries n) (sym is.is)
+      let there : option_map (placed_entry c) (slice_get c.exports n) ≡ Some e =
+      sym (slice_get-map (placed_entry c) c.exports n) ∙ ap (λ (q : Owner). slice_get q.entries n) (sym is.is)
       ∙ at in
-      let x = map_inv (entry_of c) (slice_get c.exports n) e there in
+      let x = map_inv (placed_entry c) (slice_get c.exports n) e there in
       let all = (closed.kept o.part is.of is.of_is).limits.exports.1 in
       subst (λ (y : Entry). IsName y.name) x.2 (export_named c.exports None n x.0 all x.1)
 

@@ -18,10 +18,8 @@ use Rattle.lcm_machine.specs.Row.{went, put, row, step_of}
 use Rattle.lcm_machine.specs.Table.{fits_64}
 use Rattle.lcm_machine.specs.Runs.{Stands, code_cap}
 use Rattle.lcm_machine.specs.Touched.{Untouched}
-use Rattle.lcm_machine.proofs.Goes.{move_goes, cca_goes, stays, fail_fails}
-use Rattle.lcm_machine.proofs.StepRows.{step_row}
-use Rattle.lcm_machine.proofs.TouchLemmas.{after_each}
-use Rattle.call_sequence.specs.SequenceRuns.{Outside}
+use Rattle.lcm_machine.proofs.Offers.{move_goes, cca_goes, stays, fail_fails, step_row, after_each}
+use Rattle.call_sequence.specs.SequenceRuns.{IsOutsideRange}
 use Rattle.trace_tool.proofs.alike.Calm.{id}
 use Rattle.trace_tool.proofs.alike.Straight.{is_straight, Num, straight_goes}
 use Rattle.trace_tool.proofs.alike.Laying.{stands_kept}
@@ -40,7 +38,8 @@ pub data Guards : List Instr → Type 0 where
   keeps : {is : List Instr} (i : Instr) (r : Reg) → (is_straight i ≡ true) × (is_idle i ≡ true) × IsInstr i
       → dest i ≡ Some r → T2 ≢ r → Guards is → Guards (i ∷ is)
 
-module _ (a base last fail : ℕ) (out : Outside a base last) (fail_low : base ≤ fail) (fail_high : fail ≤ last)
+module _ (a base last fail : ℕ) (out : IsOutsideRange a base last) (fail_low : base ≤ fail)
+    (fail_high : fail ≤ last)
   where
     -- a `fail` touches itself and ends the machine
     pub at_fail : (n : ℕ) (s : State Word) → s.regs.pc ≡ Mem (code_cap base last fail)

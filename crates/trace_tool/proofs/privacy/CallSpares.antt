@@ -16,16 +16,14 @@ use Rattle.lcm_machine.specs.Places.{reg}
 use Rattle.lcm_machine.specs.Row.{went, put, row, faces, step_of}
 use Rattle.lcm_machine.specs.Runs.{Stands, code_cap}
 use Rattle.lcm_machine.specs.Touched.{Untouched}
-use Rattle.lcm_machine.proofs.Goes.{move_goes, cca_goes, stays}
-use Rattle.lcm_machine.proofs.StepRows.{step_row}
-use Rattle.lcm_machine.proofs.TouchLemmas.{after_each, row_others}
+use Rattle.lcm_machine.proofs.Offers.{move_goes, cca_goes, stays, step_row, after_each, row_others}
 use Rattle.call_sequence.specs.Sequences.{call_code, distance}
-use Rattle.call_sequence.specs.SequenceRuns.{Outside, HasCall}
+use Rattle.call_sequence.specs.SequenceRuns.{IsOutsideRange, HasCall}
 use Rattle.trace_tool.proofs.alike.Calm.{id}
 use Rattle.trace_tool.proofs.alike.Calls.{stored_in}
 use Rattle.trace_tool.proofs.alike.Straight.{straight_goes}
 use Rattle.trace_tool.proofs.alike.Laying.{target_code, stands_kept, stands_same}
-use Rattle.call_sequence.proofs.LawLemmas.{fits_small, small_operand, near_operand, leads}
+use Rattle.call_sequence.proofs.Offers.{fits_small, small_operand, near_operand, leads}
 use Rattle.trace_tool.proofs.privacy.TouchAt.{fetch_only, idle_only, front, idle_code}
 
 abbrev rest_of : ℤ → List Instr
@@ -36,9 +34,10 @@ rest_of site =
     ∷ Move T2 (Imm (pos 0)) ∷ []
 
 module _ (a : ℕ) (s : State Word) (base last at seal : ℕ) (h : HasCall id s.cells base last at seal)
-    (out : Outside a base last) where
+    (out : IsOutsideRange a base last) where
   pub call_spares : (c : CapFields) → s.regs.pc ≡ Mem (code_cap base last at) → s.regs.stk ≡ Mem c
-      → ((q : ℕ) → c.base ≤ q → q ≤ c.end → Outside q base last) → ((q : ℕ) → c.base ≤ q → q ≤ c.end → q ≢ a)
+      → ((q : ℕ) → c.base ≤ q → q ≤ c.end → IsOutsideRange q base last)
+      → ((q : ℕ) → c.base ≤ q → q ≤ c.end → q ≢ a)
       → Untouched id id a 16 s
   unfolding call_code faces
   call_spares c pc stk apart aside =
@@ -72,7 +71,7 @@ module _ (a : ℕ) (s : State Word) (base last at seal : ℕ) (h : HasCall id s.
             from_move s1 n fn leads_to g.0 c1),
       )
     where
-      away : (q : ℕ) → Outside q base last → base ≤ q → q ≤ last → ⊥
+      away : (q : ℕ) → IsOutsideRange q base last → base ≤ q → q ≤ last → ⊥
       away q o low high =
           elim o as (λ _. ⊥) [ inl y ↦ omega (arith, y, low) | inr y ↦ omega (arith, y, high) ]
 

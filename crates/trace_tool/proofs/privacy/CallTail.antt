@@ -15,7 +15,7 @@ use Rattle.lcm_machine.specs.Row.{went, row}
 use Rattle.lcm_machine.specs.Runs.{run_of, code_cap}
 use Rattle.lcm_machine.specs.Touched.{Touches}
 use Rattle.call_sequence.specs.Sequences.{return_code}
-use Rattle.call_sequence.proofs.ReturnLaws.{HasReturn-set}
+use Rattle.call_sequence.proofs.Offers.{HasReturn-set}
 use Rattle.trusted_border.specs.declared.layout.Layout.{Layout}
 use Rattle.trusted_border.specs.declared.layout.SiteCode.{SiteCode}
 use Rattle.trusted_border.specs.Layout.{site_code}
@@ -23,8 +23,7 @@ use Rattle.overlay_machine.specs.declared.words.OWord.TheVariants.{RetCode}
 use Rattle.overlay_machine.specs.State.{OState}
 use Rattle.overlay_machine.specs.Flat.{flat, IsFlat}
 use Rattle.overlay_machine.specs.Agree.{Looks, AtSite}
-use Rattle.overlay_machine.proofs.Offers.{HasReturn-flat, opened-code, lowest, outside, t15}
-use Rattle.overlay_machine.proofs.CallAgrees.{plain_row}
+use Rattle.overlay_machine.proofs.Offers.{HasReturn-flat, opened-code, lowest, outside, t15, plain_row}
 use Rattle.trace_tool.proofs.alike.Calm.{id}
 use Rattle.trace_tool.proofs.alike.Lands.{xjmp_lands, xjmp_opens}
 use Rattle.trace_tool.proofs.privacy.TouchAt.{idle_only, not_failed}

@@ -13,9 +13,9 @@ use Rattle.lcm_machine.specs.Maps.{State}
 use Rattle.lcm_machine.specs.Runs.{code_cap}
 use Rattle.lcm_machine.specs.Touched.{Untouched}
 use Rattle.call_sequence.specs.Sequences.{entry_code, distance}
-use Rattle.call_sequence.specs.SequenceRuns.{Outside, HasEntry}
+use Rattle.call_sequence.specs.SequenceRuns.{IsOutsideRange, HasEntry}
 use Rattle.trace_tool.proofs.alike.Calm.{id}
-use Rattle.call_sequence.proofs.LawLemmas.{fits_small, small_operand, near_operand, leads}
+use Rattle.call_sequence.proofs.Offers.{fits_small, small_operand, near_operand, leads}
 use Rattle.trace_tool.proofs.privacy.TouchAt.{idle_code}
 use Rattle.trace_tool.proofs.privacy.ArmedSpares.{Guards, done, tests, keeps, armed}
 
@@ -41,7 +41,7 @@ checked sb h =
     refl t2_t1 (keeps _ T1 (refl, refl, small_operand sb h) refl t2_t1 (tests T1 done)))))))))))
 
 module _ (a : ℕ) (s : State Word) (base last at sb : ℕ) (h : HasEntry id s.cells base last at sb)
-    (out : Outside a base last) where
+    (out : IsOutsideRange a base last) where
   pub entry_spares : s.regs.pc ≡ Mem (code_cap base last at) → sb ≤ LAST_PLACE → Untouched id id a 20 s
   unfolding entry_code
   entry_spares pc small =

@@ -4,7 +4,7 @@ use Rattle.std.specs.List.{Contains}
 use Rattle.trusted_border.specs.declared.layout.Layout.{Layout}
 use Rattle.overlay_machine.specs.State.{OpenFrame, Cells}
 use Rattle.overlay_machine.specs.Invariant.{FramesLie}
-use Rattle.overlay_machine.proofs.invariant.FrameFacts.{contains_first, contains_rest, below_all}
+use Rattle.overlay_machine.proofs.Offers.{contains_first, contains_rest, below_all}
 use Rattle.trace_tool.specs.Layout.{part_name, site_of}
 use Rattle.trace_tool.specs.OpenCalls.{LineTold}
 use Rattle.trace_tool.specs.Brackets.{lines_told}

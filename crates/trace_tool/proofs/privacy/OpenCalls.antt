@@ -24,15 +24,13 @@ use Rattle.overlay_machine.specs.Link.{Link}
 use Rattle.overlay_machine.specs.Invariant.{FramesLie, Invariant}
 use Rattle.overlay_machine.specs.Keeping.{link_of, HoldsFor}
 use Rattle.overlay_machine.specs.Starting.{overlay_at}
-use Rattle.overlay_machine.proofs.Offers.{matched, listed_at}
-use Rattle.overlay_machine.proofs.invariant.FrameFacts.{lies_of, has_word}
-use Rattle.overlay_machine.proofs.invariant.Popped.{framed_at}
+use Rattle.overlay_machine.proofs.Offers.{matched, listed_at, lies_of, has_word, framed_at}
 use Rattle.trace_tool.specs.Layout.{layout, part_name, site_of, site_or}
 use Rattle.trace_tool.specs.Runs.{begun, lines_of, written}
 use Rattle.trace_tool.specs.Brackets.{marks_in, lines_told, LinesAreBracketed}
 use Rattle.trace_tool.specs.Alike.{LinesAgree}
 use Rattle.trace_tool.specs.Cuts.{cut, cut_overlay}
-use Rattle.trace_tool.specs.Headline.{Matched, Within, AreBracketed}
+use Rattle.trace_tool.specs.Headline.{Matched, WithinStep, AreBracketed}
 use Rattle.trace_tool.proofs.Agreeing.{HaltsAlone, agrees, has_gone, state_is}
 use Rattle.trace_tool.proofs.LeftAlone.{told_of}
 use Rattle.trace_tool.proofs.alike.Calm.{id}
@@ -140,7 +138,7 @@ module _ (parts : List PartSeen) (size : ℕ) (s : StartSeen)
   left_alone n a c used =
       let j = (cut s n).at in
       let p = cut_overlay s n in
-      let k : Within s n j p = (agrees s is alone runs).goes n used.goes in
+      let k : WithinStep s n j p = (agrees s is alone runs).goes n used.goes in
       let le : j ≤ n = k.1 in
       let lt : n < j + weight_of l p = k.2 in
       let told =

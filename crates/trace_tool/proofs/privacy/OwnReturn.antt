@@ -21,9 +21,9 @@ use Rattle.lcm_machine.specs.Runs.{and_then, run_of, code_cap}
 use Rattle.lcm_machine.specs.Touched.{Touches, Untouched, cell_used, used_by}
 use Rattle.lcm_machine.proofs.Offers.{fetch_at, lacking, lacks, quiet, run_of-add, step_row}
 use Rattle.call_sequence.specs.Sequences.{return_code}
-use Rattle.call_sequence.specs.SequenceRuns.{stack_cap, Outside, HasReturn}
-use Rattle.call_sequence.proofs.ReturnLaws.{HasReturn-set, return_runs, return_tests}
-use Rattle.overlay_machine.proofs.invariant.SequencesLacking.{return_lacking}
+use Rattle.call_sequence.specs.SequenceRuns.{stack_cap, IsOutsideRange, HasReturn}
+use Rattle.call_sequence.proofs.Offers.{HasReturn-set, return_runs, return_tests}
+use Rattle.overlay_machine.proofs.Offers.{return_lacking}
 use Rattle.trace_tool.proofs.alike.Calm.{id}
 use Rattle.trace_tool.proofs.alike.Straight.{Num, straight_goes}
 use Rattle.trace_tool.proofs.alike.ReturnNine.{return_nine}
@@ -39,12 +39,12 @@ IsFirstUsed base last at b a i v =
     (a ≡ b) × ((i ≡ 6) ⊎ (i ≡ 8)) × (v.regs.pc ≡ Mem (code_cap base last (at + i)))
 
 module _ (a : ℕ) (s : State Word) (base last at sb : ℕ) (h : HasReturn id s.cells base last at sb)
-    (out : Outside a base last)
+    (out : IsOutsideRange a base last)
     (low b end : ℕ) (to : ℤ) (w : Word) (hpc : s.regs.pc ≡ Mem (code_cap base last at))
     (hstk : s.regs.stk ≡ Mem (record (stack_cap sb low 0) { addr = to }))
     (hdat : s.regs.dat ≡ Mem (stack_cap b end b))
     (joint : low + 1 ≡ b) (sl : sb ≤ b) (le : b ≤ end) (small : end ≤ LAST_PLACE)
-    (b_out : Outside b base last) (there : cell s.cells b ≡ Some w) (lin : is_linear w ≡ false) where
+    (b_out : IsOutsideRange b base last) (there : cell s.cells b ≡ Some w) (lin : is_linear w ≡ false) where
   -- the six words before the load
   abbrev pub six : State Word
   six = record s {

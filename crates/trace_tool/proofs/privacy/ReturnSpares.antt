@@ -15,21 +15,19 @@ use Rattle.lcm_machine.specs.Maps.{State}
 use Rattle.lcm_machine.specs.Row.{went}
 use Rattle.lcm_machine.specs.Runs.{run_of, code_cap}
 use Rattle.lcm_machine.specs.Touched.{Untouched}
-use Rattle.lcm_machine.proofs.Quiet.{quiet, lacking, lacks, untouched_then}
+use Rattle.lcm_machine.proofs.Offers.{quiet, lacking, lacks, untouched_then, after_each, run_one}
 use Rattle.call_sequence.specs.Sequences.{return_code}
-use Rattle.call_sequence.specs.SequenceRuns.{stack_cap, Outside, HasReturn}
-use Rattle.call_sequence.proofs.ReturnLaws.{return_tests, return_turns}
-use Rattle.overlay_machine.proofs.invariant.SequencesLacking.{return_lacking}
+use Rattle.call_sequence.specs.SequenceRuns.{stack_cap, IsOutsideRange, HasReturn}
+use Rattle.call_sequence.proofs.Offers.{return_tests, return_turns}
+use Rattle.overlay_machine.proofs.Offers.{return_lacking}
 use Rattle.trace_tool.proofs.alike.Calm.{id}
 use Rattle.lcm_machine.specs.Row.{step_of}
 use Rattle.lcm_machine.specs.Refusals.{HasFailed}
-use Rattle.lcm_machine.proofs.TouchLemmas.{after_each}
-use Rattle.lcm_machine.proofs.StepRows.{run_one}
 use Rattle.trace_tool.proofs.privacy.TouchAt.{idle_only}
 use Rattle.trace_tool.proofs.privacy.ArmedSpares.{at_fail}
 
 module _ (a : ℕ) (s : State Word) (base last at sb : ℕ) (h : HasReturn id s.cells base last at sb)
-    (out : Outside a base last) where
+    (out : IsOutsideRange a base last) where
   -- joined from the stack's base: none of the first six touches it, not even the first cell of the range
   pub on_spares : (low b end : ℕ) (to : ℤ) → s.regs.pc ≡ Mem (code_cap base last at)
       → s.regs.stk ≡ Mem (record (stack_cap sb low 0) { addr = to }) → s.regs.dat ≡ Mem (stack_cap b end b)

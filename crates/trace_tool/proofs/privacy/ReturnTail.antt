@@ -25,8 +25,8 @@ use Rattle.lcm_machine.specs.Runs.{run_of, code_cap}
 use Rattle.lcm_machine.specs.Refusals.{HasFailed, CannotJoin}
 use Rattle.lcm_machine.specs.Touched.{Touches}
 use Rattle.lcm_machine.proofs.Offers.{fetch_mapped, run_one}
-use Rattle.call_sequence.specs.SequenceRuns.{stack_cap, Outside}
-use Rattle.call_sequence.proofs.ReturnLaws.{return_apart}
+use Rattle.call_sequence.specs.SequenceRuns.{stack_cap, IsOutsideRange}
+use Rattle.call_sequence.proofs.Offers.{return_apart}
 use Rattle.trusted_border.specs.declared.layout.Layout.{Layout}
 use Rattle.trusted_border.specs.declared.layout.SiteCode.{SiteCode}
 use Rattle.trusted_border.specs.Layout.{site_code}
@@ -38,11 +38,9 @@ use Rattle.overlay_machine.specs.State.{OpenFrame, OState, frame_of}
 use Rattle.overlay_machine.specs.Step.{weight_by}
 use Rattle.overlay_machine.specs.Flat.{flat, beside, IsFlat}
 use Rattle.overlay_machine.specs.Agree.{Looks, HasSite, AtReturn}
-use Rattle.overlay_machine.proofs.FlatLemmas.{beside-none, flat-mem}
-use Rattle.overlay_machine.proofs.OwnStack.{stack_of, same_lin_true}
-use Rattle.overlay_machine.proofs.ReturnAgrees.{s1, jumps, code_is, code_some, code_none, data_is, data_none}
-use Rattle.overlay_machine.proofs.ReturnAgrees.{refuses, plain_second, code_second, stk_plain}
-use Rattle.overlay_machine.proofs.invariant.StepQuiet.{newest_first}
+use Rattle.overlay_machine.proofs.Offers.{beside-none, flat-mem, stack_of, same_lin_true, s1, jumps, code_is}
+use Rattle.overlay_machine.proofs.Offers.{code_some, code_none, data_is, data_none, refuses, plain_second}
+use Rattle.overlay_machine.proofs.Offers.{code_second, stk_plain, newest_first}
 use Rattle.trace_tool.proofs.alike.Calm.{id}
 use Rattle.trace_tool.proofs.privacy.TouchAt.{not_failed, first_step, untouched_at}
 use Rattle.trace_tool.proofs.privacy.ReturnSpares.{apart_spares, off_spares}
@@ -180,7 +178,7 @@ module _ (l : Layout) (r1 r2 : Reg) (o : OState) (t : State Word) (rd : AtReturn
     back = code_is l r1 r2 o t rd m k i e1 S p.site_is code_opened p.call p.data_is F p.frame_is p.its_site
         (ap opened_of data_flat) data_flat p.same
 
-    out : Outside a S.base S.end
+    out : IsOutsideRange a S.base S.end
     out = its.apart a low_a high_a
 
     got : fetch (faces id t Pc) (cell_faces id t) ≡ some (Xjmp r1 r2) rd.next

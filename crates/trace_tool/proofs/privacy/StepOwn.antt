@@ -12,7 +12,7 @@ use Rattle.lcm_machine.specs.Cells.{cell}
 use Rattle.lcm_machine.specs.Row.{went}
 use Rattle.lcm_machine.specs.Runs.{run_of, code_cap}
 use Rattle.lcm_machine.specs.Touched.{Touches, Untouched}
-use Rattle.call_sequence.specs.SequenceRuns.{Outside}
+use Rattle.call_sequence.specs.SequenceRuns.{IsOutsideRange}
 use Rattle.flow_check.specs.Holds.{code_at}
 use Rattle.trusted_border.specs.declared.layout.Layout.{Layout}
 use Rattle.overlay_machine.specs.declared.cases.Case.{Case}
@@ -28,9 +28,7 @@ use Rattle.overlay_machine.specs.Link.{Link, ranges_of}
 use Rattle.overlay_machine.specs.Linked.{Linked}
 use Rattle.overlay_machine.specs.Invariant.{Invariant}
 use Rattle.overlay_machine.proofs.Offers.{View, at_entry, in_part, out, view, looks, ready, never_entry}
-use Rattle.overlay_machine.proofs.invariant.Facts.{stack_apart}
-use Rattle.overlay_machine.proofs.invariant.FramePrivate.{where_is}
-use Rattle.overlay_machine.proofs.invariant.StepQuiet.{other_quiet, back_first}
+use Rattle.overlay_machine.proofs.Offers.{stack_apart, where_is, other_quiet, back_first}
 use Rattle.trace_tool.proofs.alike.Calm.{id}
 use Rattle.trace_tool.proofs.privacy.TouchAt.{untouched_at}
 use Rattle.trace_tool.proofs.privacy.StepSpares.{call_step, entry_step}
@@ -86,8 +84,8 @@ module _ (g : Link) (linked : Linked g) (o : OState) (t : State Word) (inv : Inv
         let c : code_cap r.base r.end at ≡ code_at (ranges_of p) off = cc in
         let b1 = ap (λ y. y.base) c in
         let b2 = ap (λ y. y.end) c in
-        let away : Outside a r.base r.end =
-        elim (stack_apart g linked p ip a here.0 here.1) as (λ _. Outside a r.base r.end)
+        let away : IsOutsideRange a r.base r.end =
+        elim (stack_apart g linked p ip a here.0 here.1) as (λ _. IsOutsideRange a r.base r.end)
         [ inl y ↦ inl (omega (arith, y, b1)) | inr y ↦ inr (omega (arith, y, b2)) ] in
         spared 20 (entry_step l o t m k a here.0 here.1 here.2 at r away) lt
     entry_own at (in_part p off ip ne ns at_row ec) r lt = absurd (never_entry o.maps _ at ec)

@@ -6,14 +6,14 @@ use Rattle.lcm_isa.specs.declared.Reg.TheVariants.{Pc, Stk}
 use Rattle.lcm_machine.specs.Maps.{State}
 use Rattle.lcm_machine.specs.Cells.{cell}
 use Rattle.lcm_machine.specs.Touched.{Untouched}
-use Rattle.call_sequence.specs.SequenceRuns.{stack_cap, Outside}
+use Rattle.call_sequence.specs.SequenceRuns.{stack_cap, IsOutsideRange}
 use Rattle.trusted_border.specs.declared.layout.Layout.{Layout}
 use Rattle.trusted_border.specs.declared.layout.SiteCode.{SiteCode}
 use Rattle.overlay_machine.specs.declared.words.OWord.{OWord}
 use Rattle.overlay_machine.specs.State.{OState}
 use Rattle.overlay_machine.specs.Flat.{IsFlat}
 use Rattle.overlay_machine.specs.Agree.{Looks, HasSite, AtSite, AtEntry}
-use Rattle.overlay_machine.proofs.FlatLemmas.{flat-mem, HasCall-flat, HasEntry-flat}
+use Rattle.overlay_machine.proofs.Offers.{flat-mem, HasCall-flat, HasEntry-flat}
 use Rattle.trace_tool.proofs.alike.Calm.{id}
 use Rattle.trace_tool.proofs.privacy.CallSpares.{call_spares}
 use Rattle.trace_tool.proofs.privacy.EntrySpares.{entry_spares}
@@ -33,7 +33,7 @@ module _ (l : Layout) (o : OState) (t : State Word) (m : IsFlat l o t) (k : Look
       (λ q lo hi same. let bad : is_some {T = OWord} None ≡ true =
       sym (ap is_some (ap (cell o.maps.cells) same ∙ gone)) ∙ r.owned q lo hi in cc)
 
-  pub entry_step : (at : ℕ) (r : AtEntry l at o) → Outside a r.base r.end → Untouched id id a 20 t
+  pub entry_step : (at : ℕ) (r : AtEntry l at o) → IsOutsideRange a r.base r.end → Untouched id id a 20 t
   entry_step at r out =
       entry_spares a t r.base r.end at l.stack.base
       (HasEntry-flat l o t m k r.base r.end at l.stack.base r.entry) out

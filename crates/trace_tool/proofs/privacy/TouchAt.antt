@@ -17,7 +17,7 @@ use Rattle.lcm_machine.specs.Runs.{and_then, run_of, Stands, code_cap}
 use Rattle.lcm_machine.specs.Refusals.{HasFailed}
 use Rattle.lcm_machine.specs.Touched.{Touches, Untouched}
 use Rattle.lcm_machine.proofs.Offers.{failed_more, fetch_at, step_row, touched_by, after_went, after_each}
-use Rattle.call_sequence.specs.SequenceRuns.{Outside}
+use Rattle.call_sequence.specs.SequenceRuns.{IsOutsideRange}
 use Rattle.trace_tool.proofs.alike.Calm.{id}
 use Rattle.trace_tool.proofs.alike.Straight.{is_straight, is_store, Num, straight_goes}
 use Rattle.trace_tool.proofs.alike.Laying.{shown_at, target_code, stands_kept}
@@ -76,7 +76,7 @@ abbrev pub AreIdle : List Instr → Type 0
 AreIdle [] = Unit {0}
 AreIdle (i ∷ is) = (is_straight i ≡ true) × (is_idle i ≡ true) × IsInstr i × AreIdle is
 
-module _ (a base last : ℕ) (out : Outside a base last) where
+module _ (a base last : ℕ) (out : IsOutsideRange a base last) where
   pub fetch_only : (s : State Word) (at : ℕ) (i : Instr) → s.regs.pc ≡ Mem (code_cap base last at) → base ≤ at
       → at ≤ last → Num s at (pos (number_of i)) → IsInstr i → (target i (faces id s) ≡ Some a → ⊥)
       → Touches id s a → ⊥

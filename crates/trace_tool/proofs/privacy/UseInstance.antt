@@ -9,8 +9,7 @@ use Rattle.lcm_machine.specs.Run.{Run, fresh}
 use Rattle.lcm_machine.specs.Row.{went}
 use Rattle.lcm_machine.specs.Touched.{Touches}
 use Rattle.lcm_machine.proofs.Offers.{run_then}
-use Rattle.component_linker.proofs.ExampleParts.{pair}
-use Rattle.component_linker.proofs.ExampleLink.{start}
+use Rattle.component_linker.proofs.Offers.{pair, start}
 use Rattle.overlay_machine.specs.Agree.{AtReturn, ReadyFor}
 use Rattle.overlay_machine.specs.Link.{Link}
 use Rattle.overlay_machine.specs.Runs.{plain_run, RunsAgree}

@@ -14,8 +14,7 @@ use Rattle.trusted_border.specs.declared.layout.Layout.{Layout}
 use Rattle.overlay_machine.specs.State.{OState, frame_of}
 use Rattle.overlay_machine.specs.Flat.{IsFlat}
 use Rattle.overlay_machine.specs.Agree.{Looks, AtReturn}
-use Rattle.overlay_machine.proofs.Offers.{Returned, own_is, frame_of-newest, stk_kept}
-use Rattle.overlay_machine.proofs.invariant.StepQuiet.{newest_first}
+use Rattle.overlay_machine.proofs.Offers.{Returned, own_is, frame_of-newest, stk_kept, newest_first}
 use Rattle.trace_tool.proofs.alike.Calm.{id}
 use Rattle.trace_tool.proofs.privacy.OwnReturn.{six, runs_six, touches_first}
 use Rattle.trace_tool.proofs.privacy.ReturnTail.{IsPair, U, jumped, back, code_opened, data_flat}

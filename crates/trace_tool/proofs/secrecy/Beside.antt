@@ -26,7 +26,7 @@ use Rattle.trace_tool.specs.declared.note.Note.TheVariants.{Nothing, Last, Leap}
 use Rattle.trace_tool.specs.Layout.{part_name, site_of, trusted_part, site_word}
 use Rattle.trace_tool.specs.Views.{View, view_of}
 use Rattle.trace_tool.specs.Events.{note_last, noted_by, noted, inward_after, returned, leapt_by, event_after}
-use Rattle.trace_tool.specs.Lines.{call, ret, args_of, list_of, words_from, line_of, lines_behind}
+use Rattle.trace_tool.specs.Lines.{call, ret, args_of, list_of, words_seen, line_of, lines_behind}
 use Rattle.trace_tool.specs.Lines.{lines_for}
 use Rattle.trace_tool.specs.EndLines.{line_at, end_line, running_text, halted_text, failed_by_text}
 use Rattle.trace_tool.specs.Runs.{Watched, if_went, watched_next, event_next, line_next}
@@ -177,25 +177,25 @@ module _ (l : Layout) (apart : ℕ → Type 0) where
   RangeIsOff _ = Unit {0}
 
   words_same : (u v : View) (a n : ℕ) → ((q : ℕ) → a ≤ q → q < a + n → v.cell q ≡ u.cell q)
-      → words_from v a n ≡ words_from u a n
+      → words_seen v a n ≡ words_seen u a n
   words_same u v a zero h = refl
   words_same u v a (suc n) h =
       ap (λ ws. ws ++ list_of (v.cell (a + n)))
       (words_same u v a n (λ q low high. h q low (omega (arith, high))))
-      ∙ ap (λ o. words_from u a n ++ list_of o) (h (a + n) (omega arith) (omega arith))
+      ∙ ap (λ o. words_seen u a n ++ list_of o) (h (a + n) (omega arith) (omega arith))
 
   line_same : (s t : State Word) → SameBut apart s t → (e : Event) → RangeIsOff e
       → line_of l (view_of t) e ≡ line_of l (view_of s) e
   line_same s t h (Called inward i base last) off =
       ap (λ m. call inward (part_name l (site_of l i).part) (site_of l i).index base last
-      (args_of (record { reg = reg m; cell = cell s.cells })) (words_from (view_of t) base (last + 1 - base)))
+      (args_of (record { reg = reg m; cell = cell s.cells })) (words_seen (view_of t) base (last + 1 - base)))
       h.regs ∙ ap (λ ws. call inward (part_name l (site_of l i).part) (site_of l i).index base last
       (args_of (view_of s)) ws)
       (words_same (view_of s) (view_of t) base (last + 1 - base)
       (λ q low high. h.cells q (off q low (omega (arith, low, high)))))
   line_same s t h (Returned inward i base last) off =
       ap (λ m. ret inward (part_name l (site_of l i).part) (site_of l i).index base last (reg m A0)
-      (reg m Dat ∷ words_from (view_of t) (base + 1) (last - base))) h.regs
+      (reg m Dat ∷ words_seen (view_of t) (base + 1) (last - base))) h.regs
       ∙ ap (λ ws. ret inward (part_name l (site_of l i).part) (site_of l i).index base last (reg s.regs A0)
       (reg s.regs Dat ∷ ws))
       (words_same (view_of s) (view_of t) (base + 1) (last - base)

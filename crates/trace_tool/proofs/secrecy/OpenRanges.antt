@@ -16,9 +16,7 @@ use Rattle.overlay_machine.specs.Link.{Link}
 use Rattle.overlay_machine.specs.Invariant.{FramesLie}
 use Rattle.overlay_machine.specs.Keeping.{link_of, HoldsFor}
 use Rattle.overlay_machine.specs.Starting.{overlay_at}
-use Rattle.overlay_machine.proofs.Offers.{matched}
-use Rattle.overlay_machine.proofs.invariant.FrameFacts.{lies_of, has_word, below_all}
-use Rattle.overlay_machine.proofs.invariant.Popped.{framed_at}
+use Rattle.overlay_machine.proofs.Offers.{matched, lies_of, has_word, below_all, framed_at}
 use Rattle.trace_tool.specs.Layout.{layout}
 use Rattle.trace_tool.specs.Lines.{Line, call, ret, enter, pass, leave}
 use Rattle.trace_tool.specs.Runs.{written}

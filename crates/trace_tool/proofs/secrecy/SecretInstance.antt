@@ -13,8 +13,7 @@ use Rattle.lcm_machine.specs.Run.{Run, plain, fresh}
 use Rattle.lcm_machine.specs.Row.{Outcome, went, halted, failed, step_of, jump_at, jump_in}
 use Rattle.lcm_machine.specs.Runs.{and_then, run_of}
 use Rattle.lcm_machine.proofs.Offers.{run_of-add, run_then, cell-set_same, cell-set_other, cell-without_in}
-use Rattle.component_linker.proofs.ExampleParts.{pair}
-use Rattle.component_linker.proofs.ExampleLink.{start}
+use Rattle.component_linker.proofs.Offers.{pair, start}
 use Rattle.trusted_border.specs.declared.layout.Layout.{Layout}
 use Rattle.overlay_machine.specs.Flat.{flat, beside}
 use Rattle.overlay_machine.specs.State.{word_of}

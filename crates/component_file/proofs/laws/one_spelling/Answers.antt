@@ -1,4 +1,4 @@
-use Rattle.readers.proofs.Grammar.{one_text}
+use Rattle.readers.proofs.Offers.{one_text}
 use Rattle.component_file.proofs.ComponentLaws.{component_reads}
 use Rattle.component_file.proofs.laws.one_spelling.Goals as goal
 

@@ -2,7 +2,7 @@ use Rattle.std.proofs.Common.{◌≡◌, ◌∙◌, ◌-◌, ap, subst, arith, S
 use Rattle.std.specs.Option.{option_copied}
 use Rattle.std.proofs.lemmas.Result.{err_from_is_err_and}
 use Rattle.readers.specs.Answers.{Fails}
-use Rattle.readers.proofs.Items.{begins, read_one, read_none, read_all}
+use Rattle.readers.proofs.Offers.{begins, read_one, read_none, read_all}
 use Rattle.component_file.specs.Fault.{is_refusal}
 use Rattle.component_file.proofs.Lists.{newest, newest_push}
 use Rattle.component_file.proofs.listed.items.Goals as goal

@@ -1,5 +1,5 @@
 use Rattle.std.proofs.Common.{◌≡◌, ◌-◌, None}
-use Rattle.readers.proofs.Items.{with_front}
+use Rattle.readers.proofs.Offers.{with_front}
 use Rattle.component_file.specs.Reading.{next_items}
 use Rattle.component_file.proofs.Lists.{newest}
 use Rattle.component_file.proofs.listed.items.Given as goal

@@ -1,7 +1,6 @@
 use Rattle.std.proofs.Common.{◌∙◌, arith, length-set, Some}
 use Rattle.std.proofs.lemmas.Result.{err_from_is_err_and}
-use Rattle.readers.proofs.Faults.{fails_with, telling_read, telling_fails}
-use Rattle.readers.proofs.Items.{read_none}
+use Rattle.readers.proofs.Offers.{fails_with, telling_read, telling_fails, read_none}
 use Rattle.component_file.specs.Fault.{in_file, is_refusal}
 use Rattle.component_file.specs.Reading.{field, next_kind}
 use Rattle.component_file.proofs.Lists.{read_place, read_places}

@@ -1,5 +1,5 @@
 use Rattle.std.proofs.Common.{◌≡◌, ◌-◌, take, length, None}
-use Rattle.readers.proofs.Items.{with_front}
+use Rattle.readers.proofs.Offers.{with_front}
 use Rattle.component_file.specs.Reading.{next_items, field, next_kind}
 use Rattle.component_file.proofs.listed.kinds.Given as goal
 

@@ -7,7 +7,7 @@ use Rattle.component_check.specs.Places.{first_place}
 use Rattle.component_linker.specs.declared.placed.Free.{Free}
 use Rattle.component_linker.specs.Parts.{PartSeen, IsPart}
 use Rattle.component_linker.specs.Links.{l10, room_test}
-use Rattle.component_linker.specs.Standing.{part_at, past, placed_from}
+use Rattle.component_linker.specs.Standing.{placed_part, past, placed_from}
 use Rattle.component_linker.proofs.Settling.{free_at, placed_at, free_more, room_at, no_room, all_have_room}
 use Rattle.component_linker.proofs.Settling.{as_many}
 use Rattle.component_linker.proofs.placed.l10.Goals as goal
@@ -54,9 +54,9 @@ returns-in-Some-clause-is c =
     let parts = c.args.parts.now in
     let p = c.index-parts-index.result in
     let n = c.loop-index.index in
-    let here : Some c.in-Some.place ≡ first_place (room_test (part_at (free_at c.args.first parts n) p)) =
+    let here : Some c.in-Some.place ≡ first_place (room_test (placed_part (free_at c.args.first parts n) p)) =
     sym c.in-Some.is ∙ c.lacks_room.ensures.is
-    ∙ ap (λ f. first_place (room_test (part_at f p))) c.loop-index.invariant.is in
+    ∙ ap (λ f. first_place (room_test (placed_part f p))) c.loop-index.invariant.is in
     no_room c.args.first parts n c.in-Some.place c.loop-index-test.true
     (room_at c.args.first parts n p
     (slice_get_read parts (length parts) n p refl c.loop-index-test.true c.index-parts-index.is) here)
@@ -68,9 +68,9 @@ loop-index-preserved c =
     let p = c.index-parts-index.result in
     let n = c.loop-index.index in
     let at = slice_get_read parts (length parts) n p refl c.loop-index-test.true c.index-parts-index.is in
-    let here : None ≡ first_place (room_test (part_at (free_at c.args.first parts n) p)) =
+    let here : None ≡ first_place (room_test (placed_part (free_at c.args.first parts n) p)) =
     sym c.in_default.is ∙ c.lacks_room.ensures.is
-    ∙ ap (λ f. first_place (room_test (part_at f p))) c.loop-index.invariant.is in
+    ∙ ap (λ f. first_place (room_test (placed_part f p))) c.loop-index.invariant.is in
     record {
       is =
           c.past-free.ensures.is ∙ ap (λ f. past f p) c.loop-index.invariant.is
@@ -81,9 +81,9 @@ loop-index-preserved c =
           (sym (room_at c.args.first parts n p at here));
       kept =
           kept_more c.args.first parts n
-          (part_at (free_at c.args.first parts n) p) c.loop-index.invariant.kept
+          (placed_part (free_at c.args.first parts n) p) c.loop-index.invariant.kept
           (placed_at c.args.first parts n p at)
-          (subst (λ f. IsPart (part_at f p)) c.loop-index.invariant.is
+          (subst (λ f. IsPart (placed_part f p)) c.loop-index.invariant.is
           (c.lacks_room.ensures.kept c.in_default.is));
     }
 

@@ -4,7 +4,7 @@ use Rattle.std.proofs.lemmas.Option.{slice_get_read}
 use Rattle.component_file.specs.Limits.{IsComponent}
 use Rattle.component_linker.specs.declared.placed.Free.{Free}
 use Rattle.component_linker.specs.Parts.{PartSeen, IsPart}
-use Rattle.component_linker.specs.Standing.{settled, part_at, past, placed_from}
+use Rattle.component_linker.specs.Standing.{settled, placed_part, past, placed_from}
 use Rattle.component_linker.proofs.Settling.{free_at, placed_at, free_more}
 use Rattle.component_linker.proofs.placed.part_from.Goals as goal
 
@@ -14,7 +14,7 @@ fits : (first free : Free) (parts : List PartSeen) (k : ℕ) (p : PartSeen)
 fits first free parts k p are e is =
     subst
     (λ f. IsComponent (settled f p.component)) (sym is)
-    (are k (part_at (free_at first parts k) p) (placed_at first parts k p e)).limits
+    (are k (placed_part (free_at first parts k) p) (placed_at first parts k p e)).limits
 
 pub loop-k-init : goal.loop-k-init
 loop-k-init c = record { is = refl; small = c.requires.small }
@@ -62,5 +62,5 @@ returns c =
     (let a = c.loop-k-test.false in let b = c.loop-k.auto.k-end in omega (arith, a, b)) in
     placed_at c.args.first parts c.args.index p
     (slice_get_read parts (length parts) c.args.index p refl c.requires.within c.index-parts-index.is)
-    ∙ ap (λ f. Some (part_at f p)) (sym (c.loop-k.invariant.is ∙ ap (free_at c.args.first parts) end))
+    ∙ ap (λ f. Some (placed_part f p)) (sym (c.loop-k.invariant.is ∙ ap (free_at c.args.first parts) end))
     ∙ ap Some (sym c.placed_at.ensures)

@@ -1,7 +1,7 @@
 use Rattle.std.proofs.Common.{rules, length, ◌≤◌, ℕ, List, [], None, ap, ◌∙◌, refl, arith, Bool}
 use Rattle.std.specs.Prelude.{take, slice_index_or}
 use Rattle.component_check.specs.Places.{Test, plainly, first_place}
-use Rattle.component_check.proofs.First.{plain_first}
+use Rattle.component_check.proofs.Offers.{plain_first}
 use Rattle.component_linker.specs.Regions.{stack_span}
 use Rattle.component_linker.specs.Pairs.{once}
 use Rattle.component_linker.specs.Parts.{PartSeen}

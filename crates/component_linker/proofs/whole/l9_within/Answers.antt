@@ -6,7 +6,7 @@ use Rattle.component_linker.specs.Parts.{PartSeen}
 use Rattle.component_linker.specs.Links.{l9, are_few, sites_upto}
 use Rattle.component_linker.proofs.RuleLemmas.{told_in}
 use Rattle.component_linker.proofs.whole.l9_within.Goals as goal
-use Rattle.component_file.proofs.Lists.{inside}
+use Rattle.component_file.proofs.Offers.{inside}
 
 abbrev broken : List PartSeen → ℕ → Bool
 broken parts i = if are_few parts then nat_lt 4096 (sites_upto parts i) else i == 16

@@ -1,7 +1,7 @@
 use Rattle.std.proofs.Common.{subst}
 use Rattle.std.specs.List.{concat}
 use Rattle.outside_io.specs.SinkSeen.{FailsToWrite}
-use Rattle.outside_io.proofs.Writing.{text_failed}
+use Rattle.outside_io.proofs.Offers.{text_failed}
 use Rattle.debug_tool.specs.Replies.{replies}
 use Rattle.debug_tool.proofs.run.debug.Goals as goal
 

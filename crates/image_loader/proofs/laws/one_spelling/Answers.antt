@@ -1,4 +1,4 @@
-use Rattle.readers.proofs.Grammar.{one_text}
+use Rattle.readers.proofs.Offers.{one_text}
 use Rattle.image_loader.proofs.ImageLaws.{image_reads}
 use Rattle.image_loader.proofs.laws.one_spelling.Goals as goal
 

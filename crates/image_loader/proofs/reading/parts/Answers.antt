@@ -1,7 +1,7 @@
 use Rattle.std.proofs.Common.{◌≡◌, ◌+◌, subst, arith, rules, Ok}
 use Rattle.std.proofs.lemmas.Result.{err_from_is_err_and}
 use Rattle.readers.specs.Answers.{Fails}
-use Rattle.readers.proofs.Items.{read_one, read_none, read_all}
+use Rattle.readers.proofs.Offers.{read_one, read_none, read_all}
 use Rattle.image_loader.specs.Fault.{is_refusal}
 use Rattle.image_loader.specs.Reading.{next_part}
 use Rattle.image_loader.proofs.reading.parts.Goals as goal

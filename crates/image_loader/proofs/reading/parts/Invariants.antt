@@ -1,5 +1,5 @@
 use Rattle.std.proofs.Common.{◌≡◌, ◌-◌}
-use Rattle.readers.proofs.Items.{with_front}
+use Rattle.readers.proofs.Offers.{with_front}
 use Rattle.image_loader.specs.Reading.{next_parts}
 use Rattle.image_loader.proofs.reading.parts.Given as goal
 

@@ -1,6 +1,6 @@
 use Rattle.std.proofs.lemmas.Result.{err_from_is_err_and}
 use Rattle.lcm_cli.specs.Commands.{linked_in, debug_plan}
-use Rattle.file_plans.proofs.Follow.{follows_end}
+use Rattle.file_plans.proofs.Offers.{follows_end}
 use Rattle.lcm_cli.proofs.Debugs.{behind, few_owners, debug_follows, debug_stops}
 use Rattle.lcm_cli.proofs.debugging.debug_job.Goals as goal
 

@@ -1,7 +1,7 @@
 use Rattle.debug_script.specs.Script.{scripted}
 use Rattle.file_plans.specs.Plans.{file, unless}
 use Rattle.lcm_cli.specs.Debugs.{unscripted, script_at}
-use Rattle.file_plans.proofs.Follow.{follows_meets}
+use Rattle.file_plans.proofs.Offers.{follows_meets}
 use Rattle.lcm_cli.proofs.debugging.read_script.Goals as goal
 
 pub returns : goal.returns

@@ -1,6 +1,6 @@
 use Rattle.file_plans.specs.declared.refusal.Refusal.TheVariants.{Audit}
 use Rattle.file_plans.specs.Plans.{file, unless}
-use Rattle.file_plans.proofs.Follow.{follows_meets}
+use Rattle.file_plans.proofs.Offers.{follows_meets}
 use Rattle.run_audit.specs.Audit.{audited}
 use Rattle.lcm_cli.specs.Audits.{audit_at}
 use Rattle.lcm_cli.proofs.job.audit_file.Goals as goal

@@ -1,5 +1,5 @@
 use Rattle.std.proofs.Common.{refl, ◌∙◌}
-use Rattle.component_file.proofs.ComponentLaws.{read_whole}
+use Rattle.component_file.proofs.Offers.{read_whole}
 use Rattle.lcm_cli.specs.Commands.{OfComponent}
 use Rattle.lcm_cli.proofs.job.deed_job.Goals as goal
 

@@ -2,7 +2,7 @@ use Rattle.std.proofs.lemmas.Result.{err_from_is_err_and}
 use Rattle.command_words.specs.declared.command.LinkDeed.TheVariants.{Reach}
 use Rattle.lcm_cli.specs.declared.job.Job.TheVariants as job
 use Rattle.lcm_cli.specs.Commands.{linked_in, link_task}
-use Rattle.file_plans.proofs.Follow.{comes_quiet}
+use Rattle.file_plans.proofs.Offers.{comes_quiet}
 use Rattle.lcm_cli.proofs.RunsMade.{linked_as}
 use Rattle.lcm_cli.proofs.Tasks.{task_done, task_stops}
 use Rattle.lcm_cli.proofs.job.reach.Goals as goal

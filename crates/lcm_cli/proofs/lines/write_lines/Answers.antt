@@ -1,7 +1,7 @@
 use Rattle.std.proofs.Common.{◌≡◌, ◌<◌, ℕ, length, rules}
 use Rattle.std.specs.Prelude.{Result, Ok, Err, OnErr}
 use Rattle.outside_io.specs.Writes.{FailsAtPiece}
-use Rattle.outside_io.proofs.Writing.{failed_writes}
+use Rattle.outside_io.proofs.Offers.{failed_writes}
 use Rattle.lcm_cli.specs.Pieces.{cut_lines}
 use Rattle.lcm_cli.proofs.Sinks.{cut_front, behind_none, behind_line, behind_fails, behind_all, lines_add}
 use Rattle.lcm_cli.proofs.Sinks.{lines_fail}

@@ -1,6 +1,6 @@
 use Rattle.component_linker.specs.Accepted.{accepted}
 use Rattle.lcm_cli.specs.Parts.{broken_in}
-use Rattle.file_plans.proofs.Follow.{unless_made, unless_ended}
+use Rattle.file_plans.proofs.Offers.{unless_made, unless_ended}
 use Rattle.lcm_cli.proofs.part.accept_at.Goals as goal
 
 pub returns-in-Ok : goal.returns-in-Ok

@@ -1,6 +1,6 @@
 use Rattle.file_plans.specs.Plans.{file}
 use Rattle.lcm_cli.specs.Parts.{form_by, component_at}
-use Rattle.file_plans.proofs.Follow.{follows_meets}
+use Rattle.file_plans.proofs.Offers.{follows_meets}
 use Rattle.lcm_cli.proofs.part.component.Goals as goal
 
 pub returns : goal.returns

@@ -1,9 +1,9 @@
 use Rattle.std.proofs.Common.{subst}
 use Rattle.component_linker.specs.Accepted.{accepted}
 use Rattle.file_plans.specs.Plans.{unless, Meets}
-use Rattle.command_words.specs.Part.{is_trusted}
+use Rattle.command_words.specs.Part.{is_trusted_mark}
 use Rattle.lcm_cli.specs.Parts.{broken_in, component_at, part_at}
-use Rattle.file_plans.proofs.Follow.{follows_meets}
+use Rattle.file_plans.proofs.Offers.{follows_meets}
 use Rattle.lcm_cli.proofs.part.part.Goals as goal
 
 pub returns : goal.returns
@@ -11,7 +11,7 @@ unfolding part_at
 returns g c =
     follows_meets (component_at c.args.index c.args.word.now)
     (λ x. unless (broken_in c.args.index)
-    (accepted (record { component = x; trusted = is_trusted c.args.word.now.mark }))) _ _
+    (accepted (record { component = x; trusted = is_trusted_mark c.args.word.now.mark }))) _ _
     c.in_ok-component.component c.accept_at.result c.in_ok-component.ensures
     (subst (λ b. Meets (unless (broken_in c.args.index)
     (accepted (record { component = c.in_ok-component.component; trusted = b }))) c.accept_at.result)

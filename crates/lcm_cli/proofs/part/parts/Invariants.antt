@@ -1,7 +1,7 @@
 -- The parts of the words so far.
 use Rattle.std.proofs.Common.{◌≡◌, length}
 use Rattle.lcm_cli.specs.Parts.{part_at}
-use Rattle.file_plans.proofs.Each.{SoFar}
+use Rattle.file_plans.proofs.Offers.{SoFar}
 use Rattle.lcm_cli.proofs.part.parts.Given as goal
 
 abbrev pub invariant-loop-word : goal.invariant-loop-word

@@ -1,7 +1,7 @@
 use Rattle.std.proofs.Common.{◌≡◌, List, ℕ, sym, subst}
 use Rattle.std.specs.Prelude.{Result, Ok, Err}
 use Rattle.outside_io.specs.FilesSeen.{FilesSeen}
-use Rattle.image_loader.specs.Image.{ImageSeen, Spells}
+use Rattle.image_loader.specs.Image.{ImageSeen, SpellsImage}
 use Rattle.file_plans.specs.declared.refusal.Refusal.TheVariants.{Image}
 use Rattle.file_plans.specs.declared.refusal.Stop.{Stop}
 use Rattle.std.proofs.lemmas.Result.{err_from_is_err_and}
@@ -9,7 +9,7 @@ use Rattle.file_plans.specs.Plans.{file, unless, Comes, Meets}
 use Rattle.lcm_cli.specs.Parts.{loaded}
 use Rattle.lcm_cli.specs.Commands.{linked_image}
 use Rattle.lcm_cli.specs.Jobs.{FollowsImage}
-use Rattle.file_plans.proofs.Follow.{follows_meets, unless_made}
+use Rattle.file_plans.proofs.Offers.{follows_meets, unless_made}
 use Rattle.lcm_cli.proofs.start.file_bytes.Goals as goal
 
 -- the file came, and its bytes are not loaded
@@ -24,7 +24,7 @@ bytes_stop name bytes old new stop c m =
 -- the file came, and its bytes spell this image, which is loaded
 bytes_follow : (name bytes : List ℕ) (old new : FilesSeen) (i : ImageSeen)
     → Comes (file name 0) old (Ok bytes) new
-    → loaded bytes ≡ Ok i → Spells bytes i → FollowsImage (linked_image name) old (Ok bytes) new
+    → loaded bytes ≡ Ok i → SpellsImage bytes i → FollowsImage (linked_image name) old (Ok bytes) new
 unfolding linked_image
 bytes_follow name bytes old new i c e s = (
   i,
@@ -45,5 +45,5 @@ returns-in_err-load g c =
 pub returns : goal.returns
 returns g c =
     let s = subst (λ b. (i : ImageSeen) × (loaded b ≡ Ok i)
-    × Spells b i) c.as_slice.ensures c.in_ok-load.ensures.spelled in
+    × SpellsImage b i) c.as_slice.ensures c.in_ok-load.ensures.spelled in
     bytes_follow c.args.name.now c.in_ok-bytes.bytes _ _ s.0 c.in_ok-bytes.ensures.came s.1 s.2

@@ -4,21 +4,22 @@ use Rattle.std.proofs.lemmas.Result.{err_from_is_err_and}
 use Rattle.outside_io.specs.FilesSeen.{FilesSeen}
 use Rattle.command_words.specs.declared.part.PartWord.{PartWord}
 use Rattle.component_linker.specs.Parts.{PartSeen}
-use Rattle.image_loader.specs.Image.{Spells}
+use Rattle.image_loader.specs.Image.{SpellsImage}
 use Rattle.file_plans.specs.declared.refusal.Stop.{Stop}
 use Rattle.file_plans.specs.declared.refusal.Refusal.TheVariants.{Rule}
 use Rattle.file_plans.specs.Plans.{unless, each_at, Comes, Meets}
 use Rattle.lcm_cli.specs.Parts.{linked, part_at}
 use Rattle.lcm_cli.specs.Commands.{linked_parts}
 use Rattle.lcm_cli.specs.Jobs.{without, FollowsImage}
-use Rattle.file_plans.proofs.Follow.{unless_gave}
+use Rattle.file_plans.proofs.Offers.{unless_gave}
 use Rattle.lcm_cli.proofs.Linking.{image_with, linked_comes, linked_unread, linked_stops, loaded_again}
 use Rattle.lcm_cli.proofs.start.parts_bytes.Goals as goal
 
 -- the parts came, and linking them gave the bytes of their image
 bytes_follow : (words : List PartWord) (size : ℕ) (parts : List PartSeen) (old new : FilesSeen)
     (r : Result (List ℕ) Stop) → Comes (each_at part_at 0 words) old (Ok parts) new
-    → Meets (unless Rule (linked parts size)) (without r) → IfOk r (λ b. Spells b (image_with size parts))
+    → Meets (unless Rule (linked parts size)) (without r) → IfOk r
+    (λ b. SpellsImage b (image_with size parts))
     → FollowsImage (linked_parts words size) old r new
 bytes_follow words size parts old new (Ok b) c m s = (
   image_with size parts,

@@ -3,9 +3,9 @@ use Rattle.std.specs.Prelude.{Ok, Err}
 use Rattle.file_plans.specs.declared.refusal.Refusal.TheVariants.{Rule}
 use Rattle.component_linker.specs.LinkedStarts.{IsStartOf}
 use Rattle.lcm_cli.specs.Parts.{linked}
-use Rattle.component_linker.proofs.DropFirst.{keeps_all}
+use Rattle.component_linker.proofs.Offers.{keeps_all}
 use Rattle.component_linker.specs.Standing.{placed}
-use Rattle.file_plans.proofs.Follow.{unless_made, unless_ended}
+use Rattle.file_plans.proofs.Offers.{unless_made, unless_ended}
 use Rattle.lcm_cli.proofs.FirstOf.{linked_none, linked_broken}
 use Rattle.lcm_cli.proofs.start.start_of.Goals as goal
 

@@ -1,6 +1,6 @@
 use Rattle.file_plans.specs.declared.refusal.Refusal.TheVariants.{Source}
 use Rattle.file_plans.specs.Plans.{file, unless}
-use Rattle.file_plans.proofs.Follow.{follows_meets}
+use Rattle.file_plans.proofs.Offers.{follows_meets}
 use Rattle.proc_sources.specs.Sources.{module_in}
 use Rattle.meaning_tool.specs.Subjects.{language_of, module_at}
 use Rattle.meaning_tool.proofs.modules.module.Goals as goal

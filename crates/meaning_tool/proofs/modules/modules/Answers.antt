@@ -2,7 +2,7 @@ use Rattle.std.proofs.Common.{refl, ap, ◌+◌, ◌∙◌, arith}
 use Rattle.std.proofs.lemmas.Result.{err_from_is_err_and}
 use Rattle.std.proofs.lemmas.List.{length-append}
 use Rattle.meaning_tool.specs.Subjects.{module_at}
-use Rattle.file_plans.proofs.Each.{so_first, so_more, so_end, so_none, so_all}
+use Rattle.file_plans.proofs.Offers.{so_first, so_more, so_end, so_none, so_all}
 use Rattle.meaning_tool.proofs.modules.modules.Goals as goal
 
 pub loop-word-init : goal.loop-word-init

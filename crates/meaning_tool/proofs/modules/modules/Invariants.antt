@@ -1,7 +1,7 @@
 -- The modules of the words so far.
 use Rattle.std.proofs.Common.{◌≡◌, length}
 use Rattle.meaning_tool.specs.Subjects.{module_at}
-use Rattle.file_plans.proofs.Each.{SoFar}
+use Rattle.file_plans.proofs.Offers.{SoFar}
 use Rattle.meaning_tool.proofs.modules.modules.Given as goal
 
 abbrev pub invariant-loop-word : goal.invariant-loop-word

@@ -1,8 +1,7 @@
 use Rattle.std.proofs.Common.{◌≤◌, length, arith}
 use Rattle.proc_grammar.specs.Reading.{full}
 use Rattle.proc_print.specs.Printed.{printed}
-use Rattle.proc_parse.proofs.Steps.{full_is}
-use Rattle.proc_parse.proofs.Texts.{lexemes_few}
+use Rattle.proc_parse.proofs.Offers.{full_is, lexemes_few}
 use Rattle.proc_again.proofs.Whole.{read_again}
 use Rattle.proc_again.proofs.laws.what_is_printed_is_parsed.Goals as goal
 

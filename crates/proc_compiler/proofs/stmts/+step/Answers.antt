@@ -14,7 +14,7 @@ use Rattle.proc_compiler.proofs.Written.{items_nil, then}
 use Rattle.proc_compiler.proofs.Branches.{led, branch_written, repeat_written}
 use Rattle.proc_compiler.proofs.Loops.{block_told}
 use Rattle.proc_compiler.proofs.stmts.+step.Goals as goal
-use Rattle.proc_language.proofs.ListLemmas.{drop_item}
+use Rattle.proc_language.proofs.Offers.{drop_item}
 
 pub block-loop-s-preserved : goal.block-loop-s-preserved
 block-loop-s-preserved t c =

@@ -4,7 +4,7 @@ use Rattle.proc_semantics.specs.declared.value.Pair.TheVariants.{Outside, Runs}
 use Rattle.proc_meaning.specs.declared.work.Now.TheVariants as now
 use Rattle.proc_meaning.specs.declared.work.Work.TheVariants.{Waits}
 use Rattle.proc_semantics.specs.Told.{emit}
-use Rattle.proc_semantics.specs.Values.{out_args, register_of}
+use Rattle.proc_semantics.specs.Values.{value_args, register_of}
 use Rattle.proc_semantics.specs.Meaning.{call, call_by, call_wait, with_place}
 use Rattle.proc_semantics.specs.Whole.{whole}
 use Rattle.proc_meaning.specs.Rest.{with_value}
@@ -22,7 +22,7 @@ returns-in-Outside-clause-same c st =
     (sym c.given_of.ensures ∙ c.in-Some.is)
     ∙ ap₂ (λ n a. emit (CallOut n site a)
     ((whole world).wait (Some (call_wait world f.home given site k)) st))
-    (sym c.in_ok-name-in-Outside.ensures) (sym (c.out_args.ensures ∙ ap out_args c.deref.ensures.value))
+    (sym c.in_ok-name-in-Outside.ensures) (sym (c.out_args.ensures ∙ ap value_args c.deref.ensures.value))
     ∙ ap (emit (CallOut c.in_ok-name-in-Outside.name site c.out_args.result))
     (sym (pushed world now.Wait items c.push.new.self.items (Waits r site given) c.leave.new.self st
     (c.in_ok-push-in-Outside.ensures.items

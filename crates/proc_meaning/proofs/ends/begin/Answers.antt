@@ -13,7 +13,7 @@ use Rattle.proc_semantics.specs.Whole.{whole}
 use Rattle.proc_meaning.specs.Rest.{after, back, ended}
 use Rattle.proc_meaning.proofs.Works.{pushed, kept, reversed, as_many_as}
 use Rattle.proc_meaning.proofs.Endings.{after_ends, back_ends}
-use Rattle.proc_semantics.proofs.Recursive.{recursive}
+use Rattle.proc_semantics.proofs.Offers.{recursive}
 use Rattle.proc_meaning.proofs.ends.begin.Goals as goal
 
 pub returns-in_default-clause-same : goal.returns-in_default-clause-same

@@ -1,7 +1,7 @@
 use Rattle.std.proofs.Common.{rules, ◌≡◌, ◌+◌, sym, ap, ◌∙◌, reverse, w64, to_z, of_z}
 use Rattle.proc_meaning.specs.declared.work.Now.TheVariants as now
 use Rattle.proc_semantics.specs.Told.{ticks}
-use Rattle.proc_semantics.specs.Meaning.{finish, left_by, part_of}
+use Rattle.proc_semantics.specs.Meaning.{finish, left_by, part_name_of}
 use Rattle.proc_semantics.specs.Whole.{whole}
 use Rattle.proc_meaning.specs.Rest.{with_value, ended, waiting}
 use Rattle.proc_meaning.proofs.Works.{kept, as_many}
@@ -30,6 +30,6 @@ returns-in-Entered-clause-same c world items st =
     let z : to_z w64 (of_z w64 v) ≡ v = search rules in
     ap (λ w. finish world r.frame.need (ended world w (reverse items)) v st) c.in-Entered.is
     ∙ as_many r.frame.need n _ c.from-ticks.ensures
-    ∙ ap (λ x. ticks (n + 1) (left_by world (whole world) (part_of world c.in-Entered.home)
+    ∙ ap (λ x. ticks (n + 1) (left_by world (whole world) (part_name_of world c.in-Entered.home)
     (waiting world (reverse items)) c.in-Entered.left c.in-Entered.back.now x st)) (sym z)
     ∙ ap (ticks (n + 1)) (sym (kept world (now.Left _ _ _ _) items r st))

@@ -10,7 +10,7 @@ use Rattle.proc_semantics.specs.Meaning.{expr, stmt, block}
 use Rattle.proc_semantics.specs.Whole.{whole}
 use Rattle.proc_meaning.specs.Rest.{after, back}
 use Rattle.proc_meaning.proofs.Works.{pushed}
-use Rattle.proc_semantics.proofs.Recursive.{recursive}
+use Rattle.proc_semantics.proofs.Offers.{recursive}
 use Rattle.proc_meaning.proofs.steps.begin_step.Goals as goal
 
 pub returns-in_ok-push-in-Set-clause-same : goal.returns-in_ok-push-in-Set-clause-same

@@ -6,7 +6,7 @@ use Rattle.proc_program.specs.StepView.{block_of}
 use Rattle.proc_semantics.specs.declared.value.Value.TheVariants.{Num}
 use Rattle.proc_meaning.specs.declared.work.Now.TheVariants as now
 use Rattle.proc_meaning.specs.declared.work.Work.TheVariants.{Operate, SetElement}
-use Rattle.proc_semantics.specs.Values.{set_word, word_at}
+use Rattle.proc_semantics.specs.Values.{set_word, global_word}
 use Rattle.proc_semantics.specs.Meaning.{assigned, element_at, result_of, with_place}
 use Rattle.proc_semantics.specs.Meaning.{with_number}
 use Rattle.proc_meaning.specs.Rest.{with_value, call_with, chosen, tested, after, back}
@@ -21,10 +21,10 @@ returns-in-Some-clause-same c world =
     let zr : to_z w64 (of_z w64 c.word_at.result) ≡ c.word_at.result = search rules in
     let row = c.in-Index.row in
     ap (λ w. with_value world (w ∷ ws) f env v st) c.in-Index.is
-    ∙ ap (λ o. with_place o (λ o. with_value world ws f env (word_at st f.home o) st))
+    ∙ ap (λ o. with_place o (λ o. with_value world ws f env (global_word st f.home o) st))
     (ap (element_at row) (sym z) ∙ sym c.element_at.ensures ∙ c.in-Some.is)
     ∙ ap (λ x. with_value world ws f env x st)
-    (sym (zr ∙ c.word_at.ensures ∙ ap (λ s. word_at s f.home c.in-Some.o) c.deref.ensures.value))
+    (sym (zr ∙ c.word_at.ensures ∙ ap (λ s. global_word s f.home c.in-Some.o) c.deref.ensures.value))
     ∙ sym (kept world (now.Value _) items r st)
 
 pub returns-in-Right-clause-same : goal.returns-in-Right-clause-same

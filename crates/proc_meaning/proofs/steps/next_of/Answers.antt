@@ -8,7 +8,7 @@ use Rattle.proc_semantics.specs.Meaning.{stmt, block}
 use Rattle.proc_semantics.specs.Whole.{whole}
 use Rattle.proc_meaning.specs.Rest.{after, back}
 use Rattle.proc_meaning.proofs.Works.{pushed, kept, reversed}
-use Rattle.proc_semantics.proofs.Recursive.{recursive}
+use Rattle.proc_semantics.proofs.Offers.{recursive}
 use Rattle.proc_meaning.proofs.steps.next_of.Goals as goal
 
 pub returns-in-None-clause-same : goal.returns-in-None-clause-same

@@ -2,13 +2,13 @@ use Rattle.std.proofs.Common.{◌-◌, ◌≤◌, sym, ap, ◌∙◌, reverse, a
 use Rattle.proc_meaning.specs.declared.places.Run.{Run}
 use Rattle.proc_meaning.specs.declared.work.Now.TheVariants as now
 use Rattle.proc_semantics.specs.Told.{Comp}
-use Rattle.proc_semantics.specs.Values.{main_of}
+use Rattle.proc_semantics.specs.Values.{main_target}
 use Rattle.proc_semantics.specs.Meaning.{start, on_item}
 use Rattle.proc_semantics.specs.Whole.{whole}
 use Rattle.proc_meaning.specs.Rest.{now_of, ahead_of, waiting}
 use Rattle.proc_meaning.proofs.Works.{kept}
 use Rattle.proc_meaning.proofs.Ticking.{more_none, went_ticks, ran_out, took}
-use Rattle.proc_semantics.proofs.Recursive.{starts}
+use Rattle.proc_semantics.proofs.Offers.{starts}
 use Rattle.proc_meaning.proofs.telling.meaning_of_parts.Goals as goal
 
 pub loop-events-init : goal.loop-events-init
@@ -23,7 +23,7 @@ loop-events-init c =
           (kept world n c.new-work.result.items r st
           ∙ ap (λ l. now_of world n (reverse l) r st) c.new-work.ensures.items
           ∙ sym (c.first-now.ensures r st)
-          ∙ ap (start world (whole world) c.args.stack (main_of world)) c.in_ok-store.ensures)
+          ∙ ap (start world (whole world) c.args.stack (main_target world)) c.in_ok-store.ensures)
           ∙ starts world c.args.stack feed fuel,
     )
 

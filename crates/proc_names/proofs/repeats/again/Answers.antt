@@ -6,7 +6,7 @@ use Rattle.proc_names.specs.Faults.{unless}
 use Rattle.proc_language.specs.declared.tree.Name.{Name}
 use Rattle.proc_names.specs.declared.fault.NameFault.{NameFault}
 use Rattle.proc_names.specs.declared.fault.NameFault.TheVariants.{Twice}
-use Rattle.proc_language.proofs.ListLemmas.{drop_item}
+use Rattle.proc_language.proofs.Offers.{drop_item}
 use Rattle.proc_names.proofs.FirstLemmas.{first_step}
 use Rattle.proc_names.proofs.repeats.again.Goals as goal
 

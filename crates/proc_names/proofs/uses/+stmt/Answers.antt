@@ -3,7 +3,7 @@ use Rattle.proc_language.specs.Tree.{block_size}
 use Rattle.proc_language.specs.StmtView.{block_of}
 use Rattle.proc_names.specs.Faults.{first, earlier}
 use Rattle.proc_names.specs.NameFaults.{stmt_faults, block_faults}
-use Rattle.proc_language.proofs.ListLemmas.{drop_item}
+use Rattle.proc_language.proofs.Offers.{drop_item}
 use Rattle.proc_names.proofs.FirstLemmas.{first_step}
 use Rattle.proc_names.proofs.uses.+stmt.Goals as goal
 

@@ -1,7 +1,7 @@
 use Rattle.std.proofs.Common.{◌+◌, sym, ◌∙◌, ap, drop}
 use Rattle.proc_names.specs.Faults.{first, earlier}
 use Rattle.proc_names.specs.NameFaults.{proc_faults, procs_faults}
-use Rattle.proc_language.proofs.ListLemmas.{drop_item}
+use Rattle.proc_language.proofs.Offers.{drop_item}
 use Rattle.proc_names.proofs.FirstLemmas.{first_step}
 use Rattle.proc_names.proofs.uses.procs_fault.Goals as goal
 

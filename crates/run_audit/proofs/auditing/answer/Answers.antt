@@ -1,6 +1,6 @@
 use Rattle.std.proofs.Common.{◌+◌, arith, rules, sym, ap, ◌∙◌}
 use Rattle.std.proofs.lemmas.Result.{err_from_is_err_and}
-use Rattle.run_audit.specs.Audit.{goes_on, nothing_open, audited_from, audited}
+use Rattle.run_audit.specs.Audit.{audit_on, nothing_open, audited_from, audited}
 use Rattle.run_audit.proofs.Steps.{nothing_left, last_line, bad_line, end_line, event_line, fewer, few}
 use Rattle.run_audit.proofs.Steps.{line_fails, end_answers}
 use Rattle.run_audit.proofs.auditing.answer.Goals as goal
@@ -63,7 +63,7 @@ loop-line-preserved c =
             c.loop-line.invariant.number,
           );
       so_far =
-          ap (λ r. goes_on r (λ t. audited_from t (c.loop-line.number + 1) c.part.new.self))
+          ap (λ r. audit_on r (λ t. audited_from t (c.loop-line.number + 1) c.part.new.self))
           (sym c.in_ok-step.ensures)
           ∙ is;
     }

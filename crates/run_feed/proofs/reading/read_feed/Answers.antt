@@ -3,7 +3,7 @@ use Rattle.source_events.specs.declared.Item.{Item}
 use Rattle.run_feed.proofs.Feeding.{begins, few, bad_line, with_one, with_none, ends}
 use Rattle.run_feed.proofs.reading.read_feed.Goals.{in-Some-2+in_ok-push, in_default-2}
 use Rattle.run_feed.proofs.reading.read_feed.Goals as goal
-use Rattle.line_fields.proofs.Cuts.{next_line}
+use Rattle.line_fields.proofs.Offers.{next_line}
 
 pub loop-line-init : goal.loop-line-init
 loop-line-init c = record {

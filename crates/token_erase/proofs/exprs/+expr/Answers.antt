@@ -1,10 +1,10 @@
 use Rattle.std.proofs.Common.{◌+◌, ◌≤◌, sym, ◌∙◌, ap, subst, arith, length, ◌∷◌, drop}
 use Rattle.std.proofs.lemmas.List.{drop_all}
-use Rattle.proc_language.proofs.ListLemmas.{drop_item}
+use Rattle.proc_language.proofs.Offers.{drop_item}
 use Rattle.token_language.specs.Tree.{size_of_args}
 use Rattle.token_language.specs.View.{args_of as token_args_of}
 use Rattle.token_language.specs.Erased.{erased_args}
-use Rattle.token_language.proofs.Sizes.{rest_le}
+use Rattle.token_language.proofs.Offers.{rest_le}
 use Rattle.token_erase.specs.Fronts.{args_before, at_most_one}
 use Rattle.token_erase.proofs.FrontLemmas.{args_end, args-append}
 use Rattle.token_erase.proofs.exprs.+expr.Goals as goal

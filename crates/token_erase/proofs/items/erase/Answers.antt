@@ -1,7 +1,7 @@
 use Rattle.std.proofs.Common.{◌∙◌, ap}
 use Rattle.proc_names.specs.NameFaults.{name_faults}
 use Rattle.token_language.specs.Erased.{erased}
-use Rattle.token_names.proofs.ErasedLemmas.{erased_resolved}
+use Rattle.token_names.proofs.Offers.{erased_resolved}
 use Rattle.token_erase.proofs.items.erase.Goals as goal
 
 pub returns-clause-resolved : goal.returns-clause-resolved

@@ -1,6 +1,6 @@
 use Rattle.std.proofs.Common.{◌+◌, ◌≤◌, sym, ◌∙◌, ap, subst, arith, length, ◌∷◌, drop}
 use Rattle.std.proofs.lemmas.List.{drop_all}
-use Rattle.proc_language.proofs.ListLemmas.{drop_item}
+use Rattle.proc_language.proofs.Offers.{drop_item}
 use Rattle.token_language.specs.Tree.{block_size}
 use Rattle.token_language.specs.StmtView.{block_of as token_block_of}
 use Rattle.token_language.specs.Erased.{erased_block}

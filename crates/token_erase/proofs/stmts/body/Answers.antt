@@ -1,6 +1,6 @@
 use Rattle.std.proofs.Common.{sym, ◌∙◌, ap}
 use Rattle.token_language.specs.Erased.{stmts_in}
-use Rattle.token_language.proofs.Blocks.{stmts_in-block_of}
+use Rattle.token_language.proofs.Offers.{stmts_in-block_of}
 use Rattle.token_erase.proofs.stmts.body.Goals as goal
 
 pub returns : goal.returns

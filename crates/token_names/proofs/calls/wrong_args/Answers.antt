@@ -1,7 +1,7 @@
 use Rattle.std.proofs.Common.{◌+◌, sym, ◌∙◌, ap, List, drop}
-use Rattle.proc_language.proofs.ListLemmas.{drop_item}
+use Rattle.proc_language.proofs.Offers.{drop_item}
 use Rattle.proc_names.specs.Faults.{first, earlier}
-use Rattle.proc_names.proofs.FirstLemmas.{earlier_assoc}
+use Rattle.proc_names.proofs.Offers.{earlier_assoc}
 use Rattle.proc_names.specs.declared.fault.NameFault.{NameFault}
 use Rattle.token_language.specs.declared.tree.TokenArg.{TokenArg}
 use Rattle.token_language.specs.View.{args_of}

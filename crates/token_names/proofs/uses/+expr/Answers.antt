@@ -1,10 +1,10 @@
 use Rattle.std.proofs.Common.{◌+◌, ◌≤◌, sym, ◌∙◌, ap, subst, arith, ◌∷◌, drop}
-use Rattle.proc_language.proofs.ListLemmas.{drop_item}
+use Rattle.proc_language.proofs.Offers.{drop_item}
 use Rattle.proc_names.specs.Faults.{first, earlier}
-use Rattle.proc_names.proofs.FirstLemmas.{earlier_assoc}
+use Rattle.proc_names.proofs.Offers.{earlier_assoc}
 use Rattle.token_language.specs.Tree.{size_of_args}
 use Rattle.token_language.specs.View.{args_of}
-use Rattle.token_language.proofs.Sizes.{rest_le}
+use Rattle.token_language.proofs.Offers.{rest_le}
 use Rattle.token_names.specs.TokenFaults.{args_faults}
 use Rattle.token_names.proofs.uses.+expr.Goals as goal
 

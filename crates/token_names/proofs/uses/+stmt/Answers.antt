@@ -3,8 +3,8 @@ use Rattle.token_language.specs.Tree.{block_size}
 use Rattle.token_language.specs.StmtView.{block_of}
 use Rattle.proc_names.specs.Faults.{first, earlier}
 use Rattle.token_names.specs.TokenFaults.{stmt_faults, block_faults}
-use Rattle.proc_language.proofs.ListLemmas.{drop_item}
-use Rattle.proc_names.proofs.FirstLemmas.{first_step}
+use Rattle.proc_language.proofs.Offers.{drop_item}
+use Rattle.proc_names.proofs.Offers.{first_step}
 use Rattle.token_names.proofs.uses.+stmt.Goals as goal
 
 pub block_fault-loop-s-preserved : goal.block_fault-loop-s-preserved

@@ -1,8 +1,8 @@
 use Rattle.std.proofs.Common.{◌+◌, sym, ◌∙◌, ap, drop}
 use Rattle.proc_names.specs.Faults.{first, earlier}
 use Rattle.token_names.specs.TokenFaults.{proc_faults, procs_faults}
-use Rattle.proc_language.proofs.ListLemmas.{drop_item}
-use Rattle.proc_names.proofs.FirstLemmas.{first_step}
+use Rattle.proc_language.proofs.Offers.{drop_item}
+use Rattle.proc_names.proofs.Offers.{first_step}
 use Rattle.token_names.proofs.uses.procs_fault.Goals as goal
 
 pub loop-p-preserved : goal.loop-p-preserved

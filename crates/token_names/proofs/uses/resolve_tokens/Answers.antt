@@ -1,7 +1,7 @@
 use Rattle.std.proofs.Common.{refl, sym, ◌∙◌, ap}
 use Rattle.proc_names.specs.Faults.{first}
 use Rattle.token_names.specs.TokenFaults.{token_name_faults}
-use Rattle.proc_names.proofs.FirstLemmas.{first_none, is_first}
+use Rattle.proc_names.proofs.Offers.{first_none, is_first}
 use Rattle.token_names.proofs.uses.resolve_tokens.Goals as goal
 
 pub returns-in-None-clause-fine : goal.returns-in-None-clause-fine

@@ -1,5 +1,5 @@
 use Rattle.lcm_machine.proofs.Offers.{plain_fits}
-use Rattle.component_linker.proofs.StartFits.{starts_fit}
+use Rattle.component_linker.proofs.Offers.{starts_fit}
 use Rattle.trace_tool.proofs.fit.LinesFitting.{lines_fit}
 use Rattle.trace_tool.proofs.laws.lines_fit.Goals as goal
 

@@ -1,6 +1,5 @@
 use Rattle.std.proofs.Common.{refl}
-use Rattle.component_linker.proofs.ExampleParts.{pair}
-use Rattle.component_linker.proofs.ExampleLink.{start}
+use Rattle.component_linker.proofs.Offers.{pair, start}
 use Rattle.overlay_machine.specs.Keeping.{link_of}
 use Rattle.overlay_machine.specs.Starting.{overlay_at}
 use Rattle.overlay_machine.proofs.Offers.{is_linked}

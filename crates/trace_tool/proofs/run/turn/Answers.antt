@@ -1,6 +1,6 @@
 use Rattle.std.proofs.Common.{rules, sym, subst}
 use Rattle.outside_io.specs.Writes.{AddsPieces}
-use Rattle.outside_io.proofs.Writing.{pieces_none}
+use Rattle.outside_io.proofs.Offers.{pieces_none}
 use Rattle.trace_tool.specs.Texts.{lines_pieces}
 use Rattle.trace_tool.proofs.Gaps.{none_in_gap}
 use Rattle.trace_tool.proofs.run.turn.Goals as goal

@@ -1,4 +1,4 @@
-use Rattle.outside_io.proofs.Writing.{one_write}
+use Rattle.outside_io.proofs.Offers.{one_write}
 use Rattle.trace_tool.proofs.write.write.Goals as goal
 
 pub returns : goal.returns

@@ -1,4 +1,4 @@
-use Rattle.outside_io.proofs.Writing.{pieces_none, failed_writes}
+use Rattle.outside_io.proofs.Offers.{pieces_none, failed_writes}
 use Rattle.trace_tool.proofs.LineLemmas.{cell_more, cell_fails}
 use Rattle.trace_tool.proofs.write.write_cells.Goals as goal
 

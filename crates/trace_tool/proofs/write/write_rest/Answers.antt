@@ -1,4 +1,4 @@
-use Rattle.outside_io.proofs.Writing.{fail_more, failed_writes, writes_behind}
+use Rattle.outside_io.proofs.Offers.{fail_more, failed_writes, writes_behind}
 use Rattle.trace_tool.proofs.write.write_rest.Goals as goal
 
 pub returns-in_err-write_cells : goal.returns-in_err-write_cells

@@ -1,4 +1,4 @@
-use Rattle.readers.proofs.Grammar.{one_text}
+use Rattle.readers.proofs.Offers.{one_text}
 use Rattle.cap_words.proofs.Words.{word_reads}
 use Rattle.cap_words.proofs.bytes.laws.one_spelling.Goals as goal
 

@@ -1,7 +1,7 @@
 use Rattle.std.proofs.Common.{◌≡◌, ◌∙◌, refl, ap, sym, length, arith}
 use Rattle.cap_words.specs.Reading.{Input}
 use Rattle.cap_words.specs.WordReading.{next_word}
-use Rattle.readers.proofs.Grammar.{after, ok_value}
+use Rattle.readers.proofs.Offers.{after, ok_value}
 use Rattle.cap_words.proofs.Words.{found_in_front, read_in_front}
 use Rattle.cap_words.proofs.bytes.reading.read_word.Goals as goal
 

@@ -1,10 +1,10 @@
 -- The limits of a component have its exports ascend.
 use Rattle.std.proofs.Common.{sym, subst, None}
-use Rattle.component_linker.specs.Start.{Ascend}
+use Rattle.component_linker.specs.Start.{NamesAscend}
 use Rattle.component_linker.proofs.Halved.{exports_ascend}
 use Rattle.component_linker.proofs.placed.Placed.exports.Goals as goal
 
 pub returns-clause-ascend : goal.returns-clause-ascend
 returns-clause-ascend c =
-    subst Ascend (sym c.as_slice.ensures)
+    subst NamesAscend (sym c.as_slice.ensures)
     (exports_ascend None c.self.inside.fields.now.exports c.self.invariant.exports.1)

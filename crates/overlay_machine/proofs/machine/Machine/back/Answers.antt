@@ -1,5 +1,5 @@
 use Rattle.std.proofs.Common.{sym, subst}
-use Rattle.overlay_machine.specs.Machine.{Fits}
+use Rattle.overlay_machine.specs.Machine.{FitsRegion}
 use Rattle.overlay_machine.proofs.FitsLemmas.{fits-returned, newest-whole}
 use Rattle.overlay_machine.proofs.OutLemmas.{newest-out}
 use Rattle.overlay_machine.proofs.machine.Machine.back.Goals as goal
@@ -8,7 +8,7 @@ pub returns-clause-fits : goal.returns-clause-fits
 returns-clause-fits c =
     let n = newest-whole c.args.layout.now c.args.self.now.maps.spans c.args.self.now.frames.frames
     c.in-Some-newest.frame c.requires.fits.whole c.in-Some-newest.ensures in
-    subst (Fits c.args.layout.now) (sym c.resume.ensures)
+    subst (FitsRegion c.args.layout.now) (sym c.resume.ensures)
     (fits-returned c.args.layout.now c.args.self.now c.args.r2 c.in-Some-site_code.code c.in-Some-own_stack.c
     c.in-Some-newest.frame c.requires.fits n.newest c.in-Some-newest.ensures)
 

@@ -2,7 +2,7 @@ use Rattle.std.proofs.Common.{arith, ◌≤◌, ◌<◌, ◌+◌, ◌-◌, sym, 
 use Rattle.lcm_machine.specs.Row.{planned}
 use Rattle.lcm_machine.specs.Spans.{in_spans}
 use Rattle.lcm_machine.specs.Cells.{all_there}
-use Rattle.overlay_machine.specs.Machine.{Fits}
+use Rattle.overlay_machine.specs.Machine.{FitsRegion}
 use Rattle.overlay_machine.proofs.CallLemmas.{own-base, base-is, call-goes, call-fails}
 use Rattle.overlay_machine.proofs.FitsLemmas.{fits-room, fits-called}
 use Rattle.lcm_isa.specs.declared.Reg.TheVariants.{C1, C2}
@@ -81,7 +81,7 @@ returns-in-Ok-clause-fits c =
     → IsTrue (in_spans q c.args.self.now.maps.spans)
     = c.all_there.ensures.spanned (c.all_there.ensures.is ∙ t) in
     let v = b.below in
-    subst (Fits c.args.layout.now) (sym c.make_call.ensures)
+    subst (FitsRegion c.args.layout.now) (sym c.make_call.ensures)
     (fits-called c.args.layout.now c.args.self.now c.args.site c.in-Some.code c.in-Some-own_stack.c
     c.in-Some-frame_base.at c.in-Ok.effect c.requires.fits b.above b.below h w
     (λ q lo hi. s q lo (omega (arith, lo, hi, v)))

@@ -1,0 +1,60 @@
+-- What the crates above cite: lemmas over the definitions of `specs/`, by what they are of.
+
+-- the first part, and the first place in it, at which a rule is broken
+pub use Rattle.component_linker.proofs.FirstIn.{first_broken_in, first_in_is}
+-- what searches through parts and through the items of a part tell of rules
+pub use Rattle.component_linker.proofs.RuleLemmas.{any_settled, each_before, each_item, slice_get-take, taken}
+pub use Rattle.component_linker.proofs.RuleLemmas.{told_behind, told_in, told_nowhere}
+-- what is found first in a list
+pub use Rattle.component_linker.proofs.Found.{found, given, given_by, map_inv}
+-- what a search by halving finds in items whose keys ascend, and that a part's exports ascend
+pub use Rattle.component_linker.proofs.Halved.{found as halved_found, missing}
+-- regions that lie apart
+pub use Rattle.component_linker.proofs.RegionFacts.{all_within, apart_all, apart_parts, apart_stack, code_in}
+pub use Rattle.component_linker.proofs.RegionFacts.{data_in, in_regions_is, in_stretch, linear_in}
+pub use Rattle.component_linker.proofs.RegionFacts.{part_region_of, region_cases, size_bounds, stack_in}
+pub use Rattle.component_linker.proofs.RegionFacts.{stack_is, stack_region_of, stretch_of, whole}
+-- the words that parts have at addresses
+pub use Rattle.component_linker.proofs.PartWords.{data_within, from_inv, slot_inv, taken_get}
+-- what each cell of a start holds
+pub use Rattle.component_linker.proofs.StartWords.{CellIs, IsExport, cell_is, imported_there, listed_at}
+pub use Rattle.component_linker.proofs.StartWords.{main_is_there, of_code, of_data, of_none, of_slot}
+-- what the rules C and the format say of the words of a part's own code and data
+pub use Rattle.component_linker.proofs.OwnWords.{OwnCap, OwnWord, data_number, over_code, over_data}
+pub use Rattle.component_linker.proofs.OwnWords.{over_linear, own_code, own_data}
+-- which addresses have a cell at a start
+pub use Rattle.component_linker.proofs.StartCells.{cell_in_region, region_has_cell, spans_are_regions}
+-- the machine of a start, once its registers are set
+pub use Rattle.component_linker.proofs.StartIs.{started_once}
+-- sites and owners as they are listed, one after another, and put in order
+pub use Rattle.component_linker.proofs.ListedOwners.{part_of}
+-- what is found among sites in their order
+pub use Rattle.component_linker.proofs.SiteSearch.{greater_is, less_is, up_to}
+-- what the rules C say of a part, as the start rests on it
+pub use Rattle.component_linker.proofs.PartKept.{code_no_data, few_sites, is_kept, seals_end, sites_in}
+pub use Rattle.component_linker.proofs.PartKept.{slots_in}
+-- what the rules L say of parts, as the start rests on it
+pub use Rattle.component_linker.proofs.LinksKept.{are_linked, imports_found, in_part, regions_apart}
+pub use Rattle.component_linker.proofs.LinksKept.{stack_bases, stack_begins, stack_fits}
+-- what the rules C and L say of seals
+pub use Rattle.component_linker.proofs.SealsKept.{parts_apart, sites_apart}
+-- the code of a start
+pub use Rattle.component_linker.proofs.CodeStands.{EntriesStand, SitesStand, any_of, code_stands, fail_of}
+pub use Rattle.component_linker.proofs.CodeStands.{literal_of, trusted_stand}
+-- where the data of parts stands at a start
+pub use Rattle.component_linker.proofs.DataStands.{data_stands}
+-- the words of a start fit
+pub use Rattle.component_linker.proofs.StartFits.{starts_fit}
+-- parts that are placed are parts, where there is room for them
+pub use Rattle.component_linker.proofs.Settling.{as_many}
+-- the rules that are tried at a link, L10 apart from the others
+pub use Rattle.component_linker.proofs.DropFirst.{keeps_all}
+-- there is one answer that is right of a part
+pub use Rattle.component_linker.proofs.Accepted.{accepted_is, accepts_is}
+-- an instance
+pub use Rattle.component_linker.proofs.ExampleParts.{as_word, caller, each, keeps, no_rule, other, pair}
+-- the memory of a start, and the sites and owners of one of two parts
+pub use Rattle.component_linker.proofs.PairStart.{cells_filled, owners_are, owners_of, site_of, sites_are}
+unfoldable pub use Rattle.component_linker.proofs.PairStart.{filled}
+-- the start of the instance
+pub use Rattle.component_linker.proofs.ExampleLink.{cells_are, has_room, spans, start, starts}

@@ -1,0 +1,17 @@
+-- What the crates above cite: lemmas over the definitions of `specs/`, by what they are of.
+
+-- there is one answer that is right of the flow of a component's code
+pub use Rattle.flow_check.proofs.OneVerdict.{flow_answer_is, flow_is}
+-- what the walk says of each word, where no rule is broken
+pub use Rattle.flow_check.proofs.Walks.{Inside, ListsKept, no_row_inside}
+-- what the rules of the lists say of the code's offsets
+pub use Rattle.flow_check.proofs.Placed.{entry_within, placed_lists}
+-- what holds at each offset of code whose flow is kept
+pub use Rattle.flow_check.proofs.LocalFacts.{entry_flows, site_flows}
+-- rows after a kind was set, and words whose kind is below another
+pub use Rattle.flow_check.proofs.Fitting.{is_safe, row_fits}
+-- an instruction that goes leaves registers that fit the row after it
+pub use Rattle.flow_check.proofs.Kept.{crosses}
+-- a step of trusted code outside its sequences
+pub use Rattle.flow_check.proofs.Steps.{Kept_rest, Next, StandsAt, goes_to_area, out, shows_at_xjmp}
+pub use Rattle.flow_check.proofs.Steps.{step_kept, to_fail, to_row}

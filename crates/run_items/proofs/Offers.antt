@@ -1,0 +1,15 @@
+-- What the crates above cite: lemmas over the definitions of `specs/`, by what they are of.
+
+-- no byte of a name, a number or a word is below 40, so none is a blank or a newline
+pub use Rattle.run_items.proofs.High.{IsHigh, decimal_high, name_high, name_is, word_high}
+-- fields, each behind a blank, and the lines of a text
+pub use Rattle.run_items.proofs.Spaced.{AllHigh, fields_are, no_rest, spaced, words_high, words_spaced}
+-- what fields of lines are read as
+pub use Rattle.run_items.proofs.FieldsRead.{back_high, back_read, natural_again, pair_high, pair_read}
+pub use Rattle.run_items.proofs.FieldsRead.{signed_fits}
+-- the lines of runs, as a feed's reader sees them
+pub use Rattle.run_items.proofs.LinesSeen.{body, line_text_is}
+-- an end line is one line, and a feed's reader passes it over
+pub use Rattle.run_items.proofs.EndLinesSeen.{IsPassedOver, cause_high, end_body, end_is, pc_high}
+-- a text of lines that fit, and then a line that is passed over, is a feed
+pub use Rattle.run_items.proofs.Feeding.{end_line_is, lines_are}

@@ -1,0 +1,19 @@
+-- What the crates above cite: lemmas over the definitions of `specs/`, by what they are of.
+
+-- which module is which trusted part, and how the modules' names lead to it
+pub use Rattle.source_starts.proofs.Worlds.{Aligned, Home, NamesApart, aligned, home_of, names_apart}
+pub use Rattle.source_starts.proofs.Worlds.{names_same, part_of_home, same_names}
+-- the exports of a compiled module are its procedures, each at its offset
+pub use Rattle.source_starts.proofs.Exports.{one_offset}
+-- what imports name among linked parts, whose names differ
+pub use Rattle.source_starts.proofs.Linking.{Names, imported_names, same_part}
+-- the imports of a compiled module
+pub use Rattle.source_starts.proofs.Slots.{import_at, own_at}
+-- what the overlay of a linked start of sources has in its cells
+pub use Rattle.source_starts.proofs.StartWords.{data_in}
+-- where the names of shared procedures lead, and the names of imports
+pub use Rattle.source_starts.proofs.Targets.{proc_of}
+-- pairs of sealed words of linked parts
+pub use Rattle.source_starts.proofs.Halves.{closure_foreign, open_foreign}
+-- what the data of compiled modules hold at a linked start
+pub use Rattle.source_starts.proofs.ModulePairs.{words_of}
