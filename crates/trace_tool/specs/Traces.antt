@@ -28,8 +28,7 @@ abbrev pub lines_after : OverlaySeen → Option Event → List Line
 lines_after o event = lines_for o.layout (overlay_view o) event
 
 -- how a run goes on: its lines, and then how it ends, at which weight of steps that went, with the overlay
--- and
--- the last line
+-- and the last line
 pub record Traced : Type 0 where
   pub lines : List Line
   pub end : RunEnd
