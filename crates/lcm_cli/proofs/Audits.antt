@@ -1,5 +1,6 @@
 -- A text that is audited: why its plan ends, and what comes of it.
-use Rattle.std.proofs.Common.{◌≡◌, ◌≢◌, ℕ, List, Option, Some, refl, sym, ap, subst, ◌∙◌, inl}
+use Rattle.std.proofs.Common.{◌≡◌, ◌≢◌, ℕ, List, [], ◌∷◌, Option, Some, refl, sym, ap, subst}
+use Rattle.std.proofs.Common.{◌∙◌, inl}
 use Rattle.std.specs.Prelude.{Result, Ok, Err}
 use Rattle.outside_io.specs.FilesSeen.{FilesSeen}
 use Rattle.outside_io.specs.Whole.{GivesWhole as ComesWhole}
@@ -11,13 +12,14 @@ use Rattle.run_audit.proofs.Offers.{answered_trace, answered_fault}
 use Rattle.file_plans.specs.declared.TheConstants.{LONGEST_FILE}
 use Rattle.file_plans.specs.declared.refusal.Refusal.{Refusal}
 use Rattle.file_plans.specs.declared.refusal.Refusal.TheVariants as refusal
-use Rattle.file_plans.specs.Plans.{Made, ◌>>=◌, unless, whole as read, too_long, unread, Comes}
+use Rattle.file_plans.specs.Plans.{Plan, Made, ◌>>=◌, unless, whole as read, too_long, unread, Comes}
 use Rattle.lcm_cli.specs.declared.status.Status.{Status}
 use Rattle.lcm_cli.specs.declared.status.Status.TheVariants as status
 use Rattle.lcm_cli.specs.Audits.{audit_at}
 use Rattle.lcm_cli.specs.Commands.{Task, Write, ok_text, plan_of, plan_in}
 use Rattle.lcm_cli.specs.Answers.{Answer, Outside, with_files, writes, refused, IsAnswerOf, AnswersWhole}
-use Rattle.lcm_cli.specs.Answers.{whole, unput, unwritten, Answers, answer, nothing}
+use Rattle.lcm_cli.specs.Answers.{whole, unput, unwritten, Answers, answer, nothing, read_in}
+use Rattle.lcm_cli.specs.Bytes.{bytes_of}
 use Rattle.lcm_cli.specs.Causes.{AuditTold}
 use Rattle.lcm_cli.proofs.Ends.{Never, never_reads, never_unless}
 use Rattle.lcm_cli.proofs.Reasons.{Reasoned, ByBytes, reason_by, reads_reasoned}
@@ -46,25 +48,31 @@ never_audit why long fault differ name =
 
 -- ---- what comes of it
 
--- what is due, by the file
-data AuditDue (name : List ℕ) (old : FilesSeen) (due : Result Task Refusal) (new : FilesSeen) : Type 0 where
-  passes : (text : List ℕ) → ComesWhole old name LONGEST_FILE text new → audited text ≡ Ok tt
-      → due ≡ Ok (Write ok_text) → AuditDue name old due new
-  fails : (text : List ℕ) (f : AuditFault) → ComesWhole old name LONGEST_FILE text new → audited text ≡ Err f
-      → due ≡ Err (refusal.Audit f) → AuditDue name old due new
-  long : due ≡ Err (refusal.TooLong 0) → AuditDue name old due new
-  none : due ≡ Err refusal.ReadFault → AuditDue name old due new
+-- what is due, by the file, whose text is all that was read
+data AuditDue (name : List ℕ) (taken : List (List ℕ)) (old : FilesSeen) (due : Result Task Refusal)
+    (new : FilesSeen) : Type 0 where
+  passes : (text : List ℕ) → taken ≡ text ∷ [] → ComesWhole old name LONGEST_FILE text new
+      → audited text ≡ Ok tt → due ≡ Ok (Write ok_text) → AuditDue name taken old due new
+  fails : (text : List ℕ) (f : AuditFault) → taken ≡ text ∷ [] → ComesWhole old name LONGEST_FILE text new
+      → audited text ≡ Err f → due ≡ Err (refusal.Audit f) → AuditDue name taken old due new
+  long : due ≡ Err (refusal.TooLong 0) → AuditDue name taken old due new
+  none : due ≡ Err refusal.ReadFault → AuditDue name taken old due new
 
 module _ (name : List ℕ) (old : FilesSeen) (due : Result Task Refusal) (new : FilesSeen) where
+  abbrev Behind : Result (Unit {0}) AuditFault → Plan Task
+  Behind r = unless refusal.Audit r >>= (λ u. Made (Write ok_text))
+
   due_by : (text : List ℕ) (mid : FilesSeen) → ComesWhole old name LONGEST_FILE text mid
       → (r : Result (Unit {0}) AuditFault) → audited text ≡ r
-      → Comes (unless refusal.Audit r >>= (λ u. Made (Write ok_text))) mid due new → AuditDue name old due new
+      → (h : Comes (Behind r) mid due new)
+      → AuditDue name (text ∷ bytes_of (Behind r) mid due new h) old due new
   due_by text mid w (Ok u) e h =
-      passes text (subst (λ z. ComesWhole old name LONGEST_FILE text z) (sym h.1) w) e h.0
+      passes text refl (subst (λ z. ComesWhole old name LONGEST_FILE text z) (sym h.1) w) e h.0
   due_by text mid w (Err f) e h =
-      fails text f (subst (λ z. ComesWhole old name LONGEST_FILE text z) (sym h.1) w) e h.0
+      fails text f refl (subst (λ z. ComesWhole old name LONGEST_FILE text z) (sym h.1) w) e h.0
 
-  audit_due : Comes (plan_of (asked.Audit name)) old due new → AuditDue name old due new
+  audit_due : (c : Comes (plan_of (asked.Audit name)) old due new)
+      → AuditDue name (bytes_of (plan_of (asked.Audit name)) old due new c) old due new
   unfolding audit_at
   audit_due (read text mid w h) = due_by text mid w (audited text) refl h
   audit_due (too_long k e) = long e
@@ -76,8 +84,8 @@ abbrev status_of : Answer → Status
 status_of a = a.status
 
 -- the answer to what is due is given whole
-module _ (name : List ℕ) (old : Outside) (ended : Status) (new : Outside) (a : Answer) (seen : FilesSeen)
-    (g : AnswersWhole (with_files old seen) a ended new) where
+module _ (name : List ℕ) (taken : List (List ℕ)) (old : Outside) (ended : Status) (new : Outside)
+    (a : Answer) (seen : FilesSeen) (g : AnswersWhole (with_files old seen) a ended new) where
   -- no other status is that of this answer
   other : {T : Type 0} (b : Answer) (s : Status) → a ≡ b → b.status ≢ s → ended ≡ s → T
   other b s e differ is = absurd (differ (ap status_of (sym e) ∙ sym g.status_is ∙ is))
@@ -85,13 +93,14 @@ module _ (name : List ℕ) (old : Outside) (ended : Status) (new : Outside) (a :
   given : (b : Answer) → a ≡ b → AnswersWhole (with_files old seen) b ended new
   given b e = subst (λ x. AnswersWhole (with_files old seen) x ended new) e g
 
-  told_by : (due : Result Task Refusal) → AuditDue name old.files due seen → IsAnswerOf due a
-      → AuditTold name old ended new
-  told_by _ (passes text w e d) x =
+  told_by : (due : Result Task Refusal) → AuditDue name taken old.files due seen → IsAnswerOf due a
+      → AuditTold name taken old ended new
+  told_by _ (passes text q w e d) x =
       let y : a ≡ writes status.Done ok_text = subst (λ q. IsAnswerOf q a) d x in
       let h = given (writes status.Done ok_text) y in (
         λ is. record {
           text = text;
+          read_is = q;
           came = subst (λ z. ComesWhole old.files name LONGEST_FILE text z) (sym h.put) w;
           is_trace = answered_trace text e;
           written = h.written;
@@ -99,12 +108,13 @@ module _ (name : List ℕ) (old : Outside) (ended : Status) (new : Outside) (a :
         },
         other (writes status.Done ok_text) status.AuditRefused y (λ k. cc),
       )
-  told_by _ (fails text f w e d) x =
+  told_by _ (fails text f q w e d) x =
       let y : a ≡ refused (refusal.Audit f) = subst (λ q. IsAnswerOf q a) d x in
       let h = given (refused (refusal.Audit f)) y in (
         other (refused (refusal.Audit f)) status.Done y (λ k. cc),
         λ is. record {
           text = text;
+          read_is = q;
           came = subst (λ z. ComesWhole old.files name LONGEST_FILE text z) (sym h.put) w;
           fault = f;
           is_fault = answered_fault text f e;
@@ -124,23 +134,28 @@ module _ (name : List ℕ) (old : Outside) (ended : Status) (new : Outside) (a :
       )
 
 -- neither status is this one
-neither : (name : List ℕ) (old : Outside) (ended s : Status) (new : Outside) → ended ≡ s → s ≢ status.Done
-    → s ≢ status.AuditRefused → AuditTold name old ended new
-neither name old ended s new e d f = (λ is. absurd (d (sym e ∙ is)), λ is. absurd (f (sym e ∙ is)))
+neither : (name : List ℕ) (taken : List (List ℕ)) (old : Outside) (ended s : Status) (new : Outside)
+    → ended ≡ s → s ≢ status.Done
+    → s ≢ status.AuditRefused → AuditTold name taken old ended new
+neither name taken old ended s new e d f = (λ is. absurd (d (sym e ∙ is)), λ is. absurd (f (sym e ∙ is)))
 
 audit_told_by : (name : List ℕ) (old : Outside) (ended : Status) (new : Outside)
-    → Answers (plan_of (asked.Audit name)) old ended new → AuditTold name old ended new
+    (a : Answers (plan_of (asked.Audit name)) old ended new) → AuditTold name (read_in a) old ended new
 audit_told_by name old ended new (nothing n) =
-    neither name old ended status.NoMemory new n.status_is (λ k. cc) (λ k. cc)
+    neither name [] old ended status.NoMemory new n.status_is (λ k. cc) (λ k. cc)
 audit_told_by name old ended new (answer due a seen c x (whole g)) =
-    told_by name old ended new a seen g due (audit_due name old.files due seen c) x
+    told_by name (bytes_of (plan_of (asked.Audit name)) old.files due seen c) old ended new a seen g due
+    (audit_due name old.files due seen c) x
 audit_told_by name old ended new (answer due a seen c x (unput f i w u k s)) =
-    neither name old ended status.WriteFault new s (λ k. cc) (λ k. cc)
+    neither name (bytes_of (plan_of (asked.Audit name)) old.files due seen c) old ended status.WriteFault new
+    s (λ k. cc) (λ k. cc)
 audit_told_by name old ended new (answer due a seen c x (unwritten p w k s)) =
-    neither name old ended status.WriteFault new s (λ k. cc) (λ k. cc)
+    neither name (bytes_of (plan_of (asked.Audit name)) old.files due seen c) old ended status.WriteFault new
+    s (λ k. cc) (λ k. cc)
 
 pub audits : (words : Option Command) (old : Outside) (ended : Status) (new : Outside)
-    → Answers (plan_in words) old ended new → (name : List ℕ) → words ≡ Some (asked.Audit name)
-    → AuditTold name old ended new
+    (a : Answers (plan_in words) old ended new) (name : List ℕ) → words ≡ Some (asked.Audit name)
+    → AuditTold name (read_in a) old ended new
 audits words old ended new a name e =
-    audit_told_by name old ended new (subst (λ q. Answers (plan_in q) old ended new) e a)
+    subst (λ q. (b : Answers (plan_in q) old ended new) → AuditTold name (read_in b) old ended new) (sym e)
+    (audit_told_by name old ended new) a

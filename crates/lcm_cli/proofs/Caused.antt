@@ -1,6 +1,6 @@
 -- The cause of every status.
-use Rattle.std.proofs.Common.{◌≡◌, ◌≢◌, ℕ, zero, suc, ◌⊎◌, ◌+◌, List, Option, Some, None, refl, sym, ap}
-use Rattle.std.proofs.Common.{subst, ◌∙◌}
+use Rattle.std.proofs.Common.{◌≡◌, ◌≢◌, ℕ, zero, suc, ◌⊎◌, ◌+◌, List, [], Option, Some, None, refl, sym}
+use Rattle.std.proofs.Common.{ap, subst, ◌∙◌}
 use Rattle.std.proofs.Common.{inl, inr, true, false}
 use Rattle.std.specs.Prelude.{Result, Ok, Err, Bool, ℤ, nat_lt, if◌then◌else◌}
 use Rattle.outside_io.specs.Counts.{Rose}
@@ -44,14 +44,16 @@ use Rattle.lcm_cli.specs.Commands.{Telling, Task, Run, Trace, Reach, Debug, Put,
 use Rattle.lcm_cli.specs.Answers.{Answer, Outside, end_status, meaning_status, writes, ran, ran_overlay}
 use Rattle.lcm_cli.specs.Answers.{tells}
 use Rattle.lcm_cli.specs.Answers.{refused, IsAnswerOf, IsPut}
-use Rattle.lcm_cli.specs.Answers.{whole, unput, unwritten, Answers, answer, nothing}
+use Rattle.lcm_cli.specs.Answers.{whole, unput, unwritten, Answers, answer, nothing, read_in}
 use Rattle.lcm_cli.specs.Causes.{IsTurn, IsUnread, IsLong, IsUndecoded, IsUncompiled, IsUnassembled}
 use Rattle.lcm_cli.specs.Causes.{IsUnloaded, IsUnscripted, IsUnaudited, IsUnmade, Breaks}
 use Rattle.debug_tool.specs.Replies.{debug_text}
-use Rattle.lcm_cli.specs.Causes.{RanTo}
+use Rattle.lcm_cli.specs.Causes.{CameOf, RanTo}
+use Rattle.lcm_cli.specs.Bytes.{bytes_of}
 use Rattle.lcm_cli.specs.Causes.{TracedTo, MeantTo, IsAtRest, PutsFile, Tells, out_name, Wrote, IsUnfed}
 use Rattle.lcm_cli.specs.Causes.{Causes}
 use Rattle.lcm_cli.specs.Causes.{Promised}
+use Rattle.lcm_cli.proofs.Making.{came_of}
 use Rattle.lcm_cli.proofs.Why.{WhyIs, why_is}
 use Rattle.lcm_cli.proofs.Put.{put_of}
 use Rattle.lcm_cli.proofs.Settled.{complete, puts_rose}
@@ -94,109 +96,112 @@ writes_none limit o = traced_none limit (limit + 1) o
 
 -- ---- the cause of what is due
 
-abbrev Caused : Option Command → Outside → Outside → Status → Type 0
-Caused asked old new status.Done =
-    RanTo asked old.files new.files (λ step. step ≡ Halted)
-    ⊎ (TracedTo asked old.files new.files run_end.Halted
-    ⊎ (PutsFile asked old.files new.files
-    ⊎ (Tells asked old.files new.files ⊎ MeantTo asked old.files new.files IsAtRest)))
-Caused asked old new status.MachineFailed =
-    RanTo asked old.files new.files (λ step. (cause : FailCause) × (at : ℤ) × (step ≡ Failed cause at))
-    ⊎ (TracedTo asked old.files new.files run_end.Failed ⊎ MeantTo asked old.files new.files
-    (λ e. e ≡ end.Fail))
-Caused asked old new status.StepsUsed =
-    RanTo asked old.files new.files (λ step. step ≡ Went)
-    ⊎ (TracedTo asked old.files new.files run_end.Running
-    ⊎ MeantTo asked old.files new.files (λ e. e ≡ end.OutOfFuel))
-Caused asked old new status.Usage = asked ≡ None
-Caused asked old new status.ReadFault =
+abbrev Caused : Option Command → List (List ℕ) → Outside → Outside → Status → Type 0
+Caused asked read old new status.Done =
+    RanTo asked read old.files new.files (λ step. step ≡ Halted)
+    ⊎ (TracedTo asked read old.files new.files run_end.Halted
+    ⊎ (PutsFile asked read old.files new.files
+    ⊎ (Tells asked read old.files new.files ⊎ MeantTo asked read old.files new.files IsAtRest)))
+Caused asked read old new status.MachineFailed =
+    RanTo asked read old.files new.files (λ step. (cause : FailCause) × (at : ℤ) × (step ≡ Failed cause at))
+    ⊎ (TracedTo asked read old.files new.files run_end.Failed
+    ⊎ MeantTo asked read old.files new.files (λ e. e ≡ end.Fail))
+Caused asked read old new status.StepsUsed =
+    RanTo asked read old.files new.files (λ step. step ≡ Went)
+    ⊎ (TracedTo asked read old.files new.files run_end.Running
+    ⊎ MeantTo asked read old.files new.files (λ e. e ≡ end.OutOfFuel))
+Caused asked read old new status.Usage = asked ≡ None
+Caused asked read old new status.ReadFault =
     Rose old.files.failed_reads new.files.failed_reads × IsUnread (plan_in asked) old.files new.files
-Caused asked old new status.WriteFault =
+Caused asked read old new status.WriteFault =
     Rose old.sink.faults new.sink.faults
     ⊎ (Rose old.files.failed_puts new.files.failed_puts × (out_name asked ≡ Some new.files.last_failed_put))
-Caused asked old new status.NoMemory =
+Caused asked read old new status.NoMemory =
     OnlyGave old.files new.files × (new.sink ≡ old.sink) × (new.kept ≡ old.kept)
-Caused asked old new status.TooLong =
-    (index : ℕ) × Wrote (refusal.TooLong index) old new × IsLong (plan_in asked) old.files index new.files
-Caused asked old new status.AsmRefused =
-    (index : ℕ) × (f : AsmFault) × Wrote (refusal.Assembly index f) old new
+Caused asked read old new status.TooLong =
+    (index : ℕ) × Wrote asked read (refusal.TooLong index) old new
+    × IsLong (plan_in asked) old.files index new.files
+Caused asked read old new status.AsmRefused =
+    (index : ℕ) × (f : AsmFault) × Wrote asked read (refusal.Assembly index f) old new
     × IsUnassembled asked (plan_in asked) old.files index f new.files
-Caused asked old new status.SourceRefused =
-    (index : ℕ) × (f : SourceFault) × Wrote (refusal.Source index f) old new
+Caused asked read old new status.SourceRefused =
+    (index : ℕ) × (f : SourceFault) × Wrote asked read (refusal.Source index f) old new
     × (IsUncompiled asked (plan_in asked) old.files index f new.files
     ⊎ IsUnmade asked (refusal.Source index f))
-Caused asked old new status.AuditRefused =
-    (f : AuditFault) × Wrote (refusal.Audit f) old new
+Caused asked read old new status.AuditRefused =
+    (f : AuditFault) × Wrote asked read (refusal.Audit f) old new
     × IsUnaudited asked (plan_in asked) old.files f new.files
-Caused asked old new status.FileRefused =
-    ((index : ℕ) × (f : FileFault) × Wrote (refusal.File index f) old new
+Caused asked read old new status.FileRefused =
+    ((index : ℕ) × (f : FileFault) × Wrote asked read (refusal.File index f) old new
     × IsUndecoded asked (plan_in asked) old.files index f new.files)
-    ⊎ (((f : ImageFault) × (image_status f ≡ status.FileRefused) × Wrote (refusal.Image f) old new
+    ⊎ (((f : ImageFault) × (image_status f ≡ status.FileRefused) × Wrote asked read (refusal.Image f) old new
     × IsUnloaded asked old.files f new.files)
-    ⊎ (((line : ℕ) × Wrote (refusal.Feed line) old new × IsUnfed asked old.files line new.files)
-    ⊎ ((line : ℕ) × Wrote (refusal.Script line) old new
+    ⊎ (((line : ℕ) × Wrote asked read (refusal.Feed line) old new × IsUnfed asked old.files line new.files)
+    ⊎ ((line : ℕ) × Wrote asked read (refusal.Script line) old new
     × IsUnscripted asked (plan_in asked) old.files line new.files)))
-Caused asked old new status.RuleBroken =
-    (r : RuleAt) × Wrote (refusal.Rule r) old new
-    × (Breaks asked old.files r new.files ⊎ IsUnloaded asked old.files (image.Rule r) new.files)
+Caused asked read old new status.RuleBroken =
+    (r : RuleAt) × ((Wrote asked read (refusal.Rule r) old new × Breaks asked old.files r new.files)
+    ⊎ (Wrote asked read (refusal.Image (image.Rule r)) old new
+    × IsUnloaded asked old.files (image.Rule r) new.files))
 
-run_caused : (asked : Option Command) (old new : Outside) (i : ImageSeen) (steps : ℕ) (telling : Telling)
-    → Comes (plan_in asked) old.files (Ok (Run i steps telling)) new.files → (start : StartSeen)
+run_caused : (asked : Option Command) (read : List (List ℕ)) (old new : Outside) (i : ImageSeen) (steps : ℕ)
+    (telling : Telling)
+    → CameOf asked read old.files (Ok (Run i steps telling)) new.files → (start : StartSeen)
     → IsStartOf i.parts i.stack start → (step : Step) → last_step (plain steps start.state) ≡ step
-    → Caused asked old new (end_status (end_of step))
-run_caused asked old new i steps telling c start s Went e = inl (i, steps, telling, c, start, s, e)
-run_caused asked old new i steps telling c start s Halted e = inl (i, steps, telling, c, start, s, e)
-run_caused asked old new i steps telling c start s (Failed cause at) e =
+    → Caused asked read old new (end_status (end_of step))
+run_caused asked read old new i steps telling c start s Went e = inl (i, steps, telling, c, start, s, e)
+run_caused asked read old new i steps telling c start s Halted e = inl (i, steps, telling, c, start, s, e)
+run_caused asked read old new i steps telling c start s (Failed cause at) e =
     inl (i, steps, telling, c, start, s, (cause, at, e))
 
-trace_caused : (asked : Option Command) (old new : Outside) (i : ImageSeen) (steps : ℕ)
-    → Comes (plan_in asked) old.files (Ok (Trace i steps)) new.files
+trace_caused : (asked : Option Command) (read : List (List ℕ)) (old new : Outside) (i : ImageSeen) (steps : ℕ)
+    → CameOf asked read old.files (Ok (Trace i steps)) new.files
     → (start : StartSeen) (overlay : OverlaySeen)
     → IsStartOf i.parts i.stack start → IsOverlayOf start overlay
-    → (end : RunEnd) → (trace_of steps overlay).end ≡ end → Caused asked old new (end_status end)
-trace_caused asked old new i steps c start overlay s o run_end.Halted e =
+    → (end : RunEnd) → (trace_of steps overlay).end ≡ end → Caused asked read old new (end_status end)
+trace_caused asked read old new i steps c start overlay s o run_end.Halted e =
     inr (inl (i, steps, c, start, overlay, s, o, e))
-trace_caused asked old new i steps c start overlay s o run_end.Failed e =
+trace_caused asked read old new i steps c start overlay s o run_end.Failed e =
     inr (inl (i, steps, c, start, overlay, s, o, e))
-trace_caused asked old new i steps c start overlay s o run_end.Running e =
+trace_caused asked read old new i steps c start overlay s o run_end.Running e =
     inr (inl (i, steps, c, start, overlay, s, o, e))
-trace_caused asked old new i steps c start overlay s o run_end.WriteFault e =
+trace_caused asked read old new i steps c start overlay s o run_end.WriteFault e =
     absurd (writes_none steps overlay e)
 
-mean_caused : (asked : Option Command) (old new : Outside) (s : Subject) (fuel : ℕ)
-    → Comes (plan_in asked) old.files (Ok (Tell s fuel)) new.files → (e : End) → (told_of s fuel).end ≡ e
-    → Caused asked old new (meaning_status e)
-mean_caused asked old new s fuel c (end.Halt v) h = inr (inr (inr (inr (s, fuel, c, inl (v, h)))))
-mean_caused asked old new s fuel c end.Fail h = inr (inr (s, fuel, c, h))
-mean_caused asked old new s fuel c end.Waiting h = inr (inr (inr (inr (s, fuel, c, inr h))))
-mean_caused asked old new s fuel c end.OutOfFuel h = inr (inr (s, fuel, c, h))
+mean_caused : (asked : Option Command) (read : List (List ℕ)) (old new : Outside) (s : Subject) (fuel : ℕ)
+    → CameOf asked read old.files (Ok (Tell s fuel)) new.files → (e : End) → (told_of s fuel).end ≡ e
+    → Caused asked read old new (meaning_status e)
+mean_caused asked read old new s fuel c (end.Halt v) h = inr (inr (inr (inr (s, fuel, c, inl (v, h)))))
+mean_caused asked read old new s fuel c end.Fail h = inr (inr (s, fuel, c, h))
+mean_caused asked read old new s fuel c end.Waiting h = inr (inr (inr (inr (s, fuel, c, inr h))))
+mean_caused asked read old new s fuel c end.OutOfFuel h = inr (inr (s, fuel, c, h))
 
-image_caused : (asked : Option Command) (old new : Outside) (f : ImageFault)
-    → IsUnloaded asked old.files f new.files → Wrote (refusal.Image f) old new
-    → Caused asked old new (image_status f)
-image_caused asked old new (image.Rule r) h w = (r, w, inr h)
-image_caused asked old new image.Magic h w = inr (inl (image.Magic, refl, w, h))
-image_caused asked old new image.Version h w = inr (inl (image.Version, refl, w, h))
-image_caused asked old new (image.Short at) h w = inr (inl (image.Short at, refl, w, h))
-image_caused asked old new (image.BadField at) h w = inr (inl (image.BadField at, refl, w, h))
-image_caused asked old new (image.Trailing at) h w = inr (inl (image.Trailing at, refl, w, h))
-image_caused asked old new (image.File part f) h w = inr (inl (image.File part f, refl, w, h))
-image_caused asked old new image.NoMemory h w = inr (inl (image.NoMemory, refl, w, h))
+image_caused : (asked : Option Command) (read : List (List ℕ)) (old new : Outside) (f : ImageFault)
+    → IsUnloaded asked old.files f new.files → Wrote asked read (refusal.Image f) old new
+    → Caused asked read old new (image_status f)
+image_caused asked read old new (image.Rule r) h w = (r, inr (w, h))
+image_caused asked read old new image.Magic h w = inr (inl (image.Magic, refl, w, h))
+image_caused asked read old new image.Version h w = inr (inl (image.Version, refl, w, h))
+image_caused asked read old new (image.Short at) h w = inr (inl (image.Short at, refl, w, h))
+image_caused asked read old new (image.BadField at) h w = inr (inl (image.BadField at, refl, w, h))
+image_caused asked read old new (image.Trailing at) h w = inr (inl (image.Trailing at, refl, w, h))
+image_caused asked read old new (image.File part f) h w = inr (inl (image.File part f, refl, w, h))
+image_caused asked read old new image.NoMemory h w = inr (inl (image.NoMemory, refl, w, h))
 
-err_caused : (asked : Option Command) (old new : Outside) (why : Refusal)
-    → WhyIs asked (plan_in asked) old.files why new.files → Wrote why old new
-    → Caused asked old new (refusal_status why)
-err_caused asked old new refusal.Usage h w = h
-err_caused asked old new refusal.ReadFault h w = (unread_rose (plan_in asked) old.files new.files h, h)
-err_caused asked old new (refusal.TooLong index) h w = (index, w, h)
-err_caused asked old new (refusal.Assembly index f) h w = (index, f, w, h)
-err_caused asked old new (refusal.Source index f) h w = (index, f, w, h)
-err_caused asked old new (refusal.File index f) h w = inl (index, f, w, h)
-err_caused asked old new (refusal.Rule r) h w = (r, w, inl h)
-err_caused asked old new (refusal.Image f) h w = image_caused asked old new f h w
-err_caused asked old new (refusal.Feed line) h w = inr (inr (inl (line, w, h)))
-err_caused asked old new (refusal.Script line) h w = inr (inr (inr (line, w, h)))
-err_caused asked old new (refusal.Audit f) h w = (f, w, h)
+err_caused : (asked : Option Command) (read : List (List ℕ)) (old new : Outside) (why : Refusal)
+    → WhyIs asked (plan_in asked) old.files why new.files → Wrote asked read why old new
+    → Caused asked read old new (refusal_status why)
+err_caused asked read old new refusal.Usage h w = h
+err_caused asked read old new refusal.ReadFault h w = (unread_rose (plan_in asked) old.files new.files h, h)
+err_caused asked read old new (refusal.TooLong index) h w = (index, w, h)
+err_caused asked read old new (refusal.Assembly index f) h w = (index, f, w, h)
+err_caused asked read old new (refusal.Source index f) h w = (index, f, w, h)
+err_caused asked read old new (refusal.File index f) h w = inl (index, f, w, h)
+err_caused asked read old new (refusal.Rule r) h w = (r, inl (w, h))
+err_caused asked read old new (refusal.Image f) h w = image_caused asked read old new f h w
+err_caused asked read old new (refusal.Feed line) h w = inr (inr (inl (line, w, h)))
+err_caused asked read old new (refusal.Script line) h w = inr (inr (inr (line, w, h)))
+err_caused asked read old new (refusal.Audit f) h w = (f, w, h)
 
 -- what is told at the end, where no file was put
 unput_seen : (seen new : FilesSeen) (a b : Answer) → a ≡ b → b.file ≡ None → IsPut seen a.file new → new
@@ -204,81 +209,83 @@ unput_seen : (seen new : FilesSeen) (a b : Answer) → a ≡ b → b.file ≡ No
 unput_seen seen new a b e n p = subst (λ f. IsPut seen f new) (ap (λ (x : Answer). x.file) e ∙ n) p
 
 due_caused : (asked : Option Command) → ((c : Command) → asked ≡ Some c → Fits c)
-    → (old new : Outside) (seen : FilesSeen) (due : Result Task Refusal)
-    (a : Answer) → Comes (plan_in asked) old.files due seen → IsAnswerOf due a → IsPut seen a.file new.files
-    → Adds old.sink a.text new.sink → Caused asked old new a.status
-due_caused asked fits old new seen (Ok (Run i steps telling)) a c x p w =
+    → (read : List (List ℕ)) (old new : Outside) (seen : FilesSeen) (due : Result Task Refusal)
+    (a : Answer) → CameOf asked read old.files due seen → IsAnswerOf due a → IsPut seen a.file new.files
+    → Adds old.sink a.text new.sink → Caused asked read old new a.status
+due_caused asked fits read old new seen (Ok (Run i steps telling)) a c x p w =
     let n : new.files ≡ seen = unput_seen seen new.files a (ran x.0 steps telling) x.2 refl p in
-    subst (λ (b : Answer). Caused asked old new b.status) (sym x.2)
-    (run_caused asked old new i steps telling (rw n c) x.0 x.1 (last_step (plain steps x.0.state)) refl)
-due_caused asked fits old new seen (Ok (Trace i steps)) a c x p w =
+    subst (λ (b : Answer). Caused asked read old new b.status) (sym x.2)
+    (run_caused asked read old new i steps telling (rw n c) x.0 x.1 (last_step (plain steps x.0.state)) refl)
+due_caused asked fits read old new seen (Ok (Trace i steps)) a c x p w =
     let n : new.files ≡ seen = unput_seen seen new.files a (ran_overlay x.1 steps) x.4 refl p in
-    subst (λ (b : Answer). Caused asked old new b.status) (sym x.4)
-    (trace_caused asked old new i steps (rw n c) x.0 x.1 x.2 x.3 (trace_of steps x.1).end refl)
-due_caused asked fits old new seen (Ok (Put name d)) a c x p w =
-    subst (λ (b : Answer). Caused asked old new b.status) (sym x.1)
+    subst (λ (b : Answer). Caused asked read old new b.status) (sym x.4)
+    (trace_caused asked read old new i steps (rw n c) x.0 x.1 x.2 x.3 (trace_of steps x.1).end refl)
+due_caused asked fits read old new seen (Ok (Put name d)) a c x p w =
+    subst (λ (b : Answer). Caused asked read old new b.status) (sym x.1)
     (inr (inr (inl (name, d, seen, c, x.0, subst (λ (b : Answer). IsPut seen b.file new.files) x.1 p))))
-due_caused asked fits old new seen (Ok (Write text)) a c x p w =
+due_caused asked fits read old new seen (Ok (Write text)) a c x p w =
     let n : new.files ≡ seen = unput_seen seen new.files a (writes status.Done text) x refl p in
-    subst (λ (b : Answer). Caused asked old new b.status) (sym x)
+    subst (λ (b : Answer). Caused asked read old new b.status) (sym x)
     (inr (inr (inr (inl (Write text, tt, rw n c)))))
-due_caused asked fits old new seen (Ok (Reach i)) a c x p w =
+due_caused asked fits read old new seen (Ok (Reach i)) a c x p w =
     let n : new.files ≡ seen = unput_seen seen new.files a (writes status.Done x.1) x.4 refl p in
-    subst (λ (b : Answer). Caused asked old new b.status) (sym x.4)
+    subst (λ (b : Answer). Caused asked read old new b.status) (sym x.4)
     (inr (inr (inr (inl (Reach i, tt, rw n c)))))
-due_caused asked fits old new seen (Ok (Debug i script)) a c x p w =
+due_caused asked fits read old new seen (Ok (Debug i script)) a c x p w =
     let n : new.files ≡ seen =
     unput_seen seen new.files a (writes status.Done (debug_text x.0.state script)) x.2 refl p in
-    subst (λ (b : Answer). Caused asked old new b.status) (sym x.2)
+    subst (λ (b : Answer). Caused asked read old new b.status) (sym x.2)
     (inr (inr (inr (inl (Debug i script, tt, rw n c)))))
-due_caused asked fits old new seen (Ok (Tell s fuel)) a c x p w =
+due_caused asked fits read old new seen (Ok (Tell s fuel)) a c x p w =
     let n : new.files ≡ seen = unput_seen seen new.files a (tells (told_of s fuel)) x refl p in
-    subst (λ (b : Answer). Caused asked old new b.status) (sym x)
-    (mean_caused asked old new s fuel (rw n c) (told_of s fuel).end refl)
-due_caused asked fits old new seen (Err why) a c x p w =
+    subst (λ (b : Answer). Caused asked read old new b.status) (sym x)
+    (mean_caused asked read old new s fuel (rw n c) (told_of s fuel).end refl)
+due_caused asked fits read old new seen (Err why) a c x p w =
     let n : new.files ≡ seen = unput_seen seen new.files a (refused why) x refl p in
-    subst (λ (b : Answer). Caused asked old new b.status) (sym x)
-    (err_caused asked old new why (why_is asked fits old.files new.files why (rw n c))
-    (subst (λ (b : Answer). Adds old.sink b.text new.sink) x w))
+    subst (λ (b : Answer). Caused asked read old new b.status) (sym x)
+    (err_caused asked read old new why (why_is asked fits old.files new.files why (rw n c.0))
+    (c.1, subst (λ (b : Answer). Adds old.sink b.text new.sink) x w))
 
 -- ---- each cause
 
 caused : (asked : Option Command) → ((c : Command) → asked ≡ Some c → Fits c)
     → (old : Outside) (ended : Status) (new : Outside)
-    → Answers (plan_in asked) old ended new → Caused asked old new ended
-caused asked fits old ended new (nothing n) = subst (Caused asked old new) (sym n.status_is) (
+    (a : Answers (plan_in asked) old ended new) → Caused asked (read_in a) old new ended
+caused asked fits old ended new (nothing n) = subst (Caused asked [] old new) (sym n.status_is) (
   n.quiet,
   n.unwritten,
   n.kept_is,
 )
 caused asked fits old ended new (answer due a seen c x (whole g)) =
-    subst (Caused asked old new) (sym g.status_is)
-    (due_caused asked fits old new seen due a c x g.put g.written)
+    let read = bytes_of (plan_in asked) old.files due seen c in
+    subst (Caused asked read old new) (sym g.status_is)
+    (due_caused asked fits read old new seen due a (came_of asked old.files due seen c) x g.put g.written)
 caused asked fits old ended new (answer due a seen c x (unput f i w u k s)) =
-    subst (Caused asked old new) (sym s) (inr (
+    let read = bytes_of (plan_in asked) old.files due seen c in
+    subst (Caused asked read old new) (sym s) (inr (
       puts_rose (plan_in asked) old.files seen due new.files.failed_puts c w.rose,
-      (put_of asked due a f old.files seen c x i).3
+      (put_of asked read due a f old.files seen (came_of asked old.files due seen c) x i).3
           ∙ ap (λ n. Some n) (sym (ap (λ (s : FilesSeen). s.last_failed_put) w.stays)),
     ))
 caused asked fits old ended new (answer due a seen c x (unwritten p f k s)) =
-    subst (Caused asked old new) (sym s) (inl f.rose)
+    subst (Caused asked (bytes_of (plan_in asked) old.files due seen c) old new) (sym s) (inl f.rose)
 
-causes : (asked : Option Command) (old : Outside) (ended : Status) (new : Outside)
-    → Caused asked old new ended → Causes asked old ended new
-causes asked old ended new c = record {
-  done = λ e. subst (Caused asked old new) e c;
-  machine_failed = λ e. subst (Caused asked old new) e c;
-  steps_used = λ e. subst (Caused asked old new) e c;
-  usage = λ e. subst (Caused asked old new) e c;
-  read_fault = λ e. subst (Caused asked old new) e c;
-  write_fault = λ e. subst (Caused asked old new) e c;
-  no_memory = λ e. subst (Caused asked old new) e c;
-  too_long = λ e. subst (Caused asked old new) e c;
-  asm_refused = λ e. subst (Caused asked old new) e c;
-  file_refused = λ e. subst (Caused asked old new) e c;
-  rule_broken = λ e. subst (Caused asked old new) e c;
-  source_refused = λ e. subst (Caused asked old new) e c;
-  audit_refused = λ e. subst (Caused asked old new) e c;
+causes : (asked : Option Command) (read : List (List ℕ)) (old : Outside) (ended : Status) (new : Outside)
+    → Caused asked read old new ended → Causes asked read old ended new
+causes asked read old ended new c = record {
+  done = λ e. subst (Caused asked read old new) e c;
+  machine_failed = λ e. subst (Caused asked read old new) e c;
+  steps_used = λ e. subst (Caused asked read old new) e c;
+  usage = λ e. subst (Caused asked read old new) e c;
+  read_fault = λ e. subst (Caused asked read old new) e c;
+  write_fault = λ e. subst (Caused asked read old new) e c;
+  no_memory = λ e. subst (Caused asked read old new) e c;
+  too_long = λ e. subst (Caused asked read old new) e c;
+  asm_refused = λ e. subst (Caused asked read old new) e c;
+  file_refused = λ e. subst (Caused asked read old new) e c;
+  rule_broken = λ e. subst (Caused asked read old new) e c;
+  source_refused = λ e. subst (Caused asked read old new) e c;
+  audit_refused = λ e. subst (Caused asked read old new) e c;
 }
 
 pub promised : (asked : Option Command) → ((c : Command) → asked ≡ Some c → Fits c)
@@ -286,7 +293,7 @@ pub promised : (asked : Option Command) → ((c : Command) → asked ≡ Some c 
     → Answers (plan_in asked) old ended new → Promised asked old ended new
 promised asked fits old ended new a = record {
   answers = a;
-  causes = causes asked old ended new (caused asked fits old ended new a);
+  causes = causes asked (read_in a) old ended new (caused asked fits old ended new a);
   complete = complete (plan_in asked) old ended new a;
 }
 

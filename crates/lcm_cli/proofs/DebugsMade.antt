@@ -13,17 +13,20 @@ use Rattle.file_plans.specs.Plans.{Comes}
 use Rattle.lcm_cli.specs.declared.status.Status.{Status}
 use Rattle.lcm_cli.specs.declared.status.Status.TheVariants as status
 use Rattle.lcm_cli.specs.Commands.{Task, Debug, plan_in, debug_plan}
+use Rattle.lcm_cli.specs.Bytes.{Makes}
 use Rattle.lcm_cli.specs.Answers.{Answer, Outside, with_files, writes, IsAnswerOf, AnswersWhole, Answers}
+use Rattle.lcm_cli.specs.Answers.{read_in}
 use Rattle.lcm_cli.specs.Causes.{IsRunStatus, DebugGiven}
 use Rattle.lcm_cli.proofs.Debugs.{DebugCame, debug_came}
 use Rattle.lcm_cli.proofs.RunsMade.{StartLaws, started, refused_none, whole_run}
 
-module _ (all : StartLaws) (remember : CommandsRemember) (l : Linked) (script : List ℕ) (old : Outside)
-    (ended : Status) (new : Outside) where
+module _ (all : StartLaws) (remember : CommandsRemember) (l : Linked) (script : List ℕ)
+    (read : List (List ℕ)) (old : Outside) (ended : Status) (new : Outside) where
   given_debug : (seen : FilesSeen) (t : Task) (a : Answer) (c : DebugCame l script old.files t seen)
+      → Makes (debug_plan l script) read (Ok (Debug c.image c.lines))
       → IsAnswerOf (Ok (Debug c.image c.lines)) a → AnswersWhole (with_files old seen) a ended new
-      → DebugGiven l script old ended new
-  given_debug seen t a c x g =
+      → DebugGiven l script read old ended new
+  given_debug seen t a c k x g =
       let h : AnswersWhole (with_files old seen)
       (writes status.Done (debug_text x.0.state c.lines)) ended new =
       subst (λ b. AnswersWhole (with_files old seen) b ended new) x.2 g in
@@ -35,6 +38,7 @@ module _ (all : StartLaws) (remember : CommandsRemember) (l : Linked) (script : 
         script_came = rw p c.script_came;
         lines = c.lines;
         is_script = c.is_script;
+        made = k;
         status_is = h.status_is;
         written = h.written;
         kept_is = h.kept_is;
@@ -42,17 +46,20 @@ module _ (all : StartLaws) (remember : CommandsRemember) (l : Linked) (script : 
       }
 
   given_due : (seen : FilesSeen) (due : Result Task Refusal) (a : Answer)
-      → Comes (debug_plan l script) old.files due seen → IsAnswerOf due a
-      → AnswersWhole (with_files old seen) a ended new → IsRunStatus ended → DebugGiven l script old ended new
-  given_due seen (Err why) a c x g r = absurd (refused_none why a ended x g.status_is r)
-  given_due seen (Ok t) a c x g r =
+      → Comes (debug_plan l script) old.files due seen → Makes (debug_plan l script) read due
+      → IsAnswerOf due a → AnswersWhole (with_files old seen) a ended new → IsRunStatus ended
+      → DebugGiven l script read old ended new
+  given_due seen (Err why) a c k x g r = absurd (refused_none why a ended x g.status_is r)
+  given_due seen (Ok t) a c k x g r =
       let m = debug_came l script old.files t seen c in
-      given_debug seen t a m (subst (λ u. IsAnswerOf (Ok u) a) m.task x) g
+      given_debug seen t a m (subst (λ u. Makes (debug_plan l script) read (Ok u)) m.task k)
+      (subst (λ u. IsAnswerOf (Ok u) a) m.task x) g
 
 pub debugs : StartLaws → CommandsRemember → (words : Option Command) (old : Outside) (ended : Status)
-    (new : Outside) → Answers (plan_in words) old ended new → (l : Linked) (script : List ℕ)
-    → words ≡ Some (asked.Debug l script) → IsRunStatus ended → DebugGiven l script old ended new
+    (new : Outside) (a : Answers (plan_in words) old ended new) (l : Linked) (script : List ℕ)
+    → words ≡ Some (asked.Debug l script) → IsRunStatus ended → DebugGiven l script (read_in a) old ended new
 debugs all remember words old ended new a l script e r =
     let w = whole_run (plan_in words) old ended new a r in
-    given_due all remember l script old ended new w.seen w.due w.gives
-    (subst (λ q. Comes (plan_in q) old.files w.due w.seen) e w.came) w.is w.given r
+    given_due all remember l script (read_in a) old ended new w.seen w.due w.gives
+    (subst (λ q. Comes (plan_in q) old.files w.due w.seen) e w.came)
+    (subst (λ q. Makes (plan_in q) (read_in a) w.due) e w.makes) w.is w.given r

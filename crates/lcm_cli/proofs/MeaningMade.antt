@@ -9,22 +9,28 @@ use Rattle.proc_program.specs.Lower.{part_of}
 use Rattle.proc_semantics.specs.Meaning.{meaning}
 use Rattle.proc_semantics.proofs.Offers.{meanings_leave}
 use Rattle.file_plans.specs.declared.refusal.Refusal.{Refusal}
-use Rattle.file_plans.specs.Plans.{Comes}
+use Rattle.file_plans.specs.Plans.{Plan, Comes}
 use Rattle.meaning_tool.specs.Subjects.{Subject, told_of, subject_in}
 use Rattle.lcm_cli.specs.declared.status.Status.{Status}
-use Rattle.lcm_cli.specs.Commands.{Task, Tell, for_task, plan_in}
+use Rattle.lcm_cli.specs.Commands.{Task, Tell, plan_of, plan_in}
+use Rattle.lcm_cli.specs.Bytes.{Makes}
 use Rattle.lcm_cli.specs.Answers.{Answer, Outside, with_files, tells, IsAnswerOf, AnswersWhole, Answers}
+use Rattle.lcm_cli.specs.Answers.{read_in}
 use Rattle.lcm_cli.specs.Causes.{IsRunStatus, MeaningGiven}
 use Rattle.lcm_cli.proofs.Tasks.{made_of}
 use Rattle.lcm_cli.proofs.Modules.{SubjectCame, subject_came}
 use Rattle.lcm_cli.proofs.RunsMade.{refused_none, whole_run}
 
-module _ (words : List PartWord) (size fuel : ℕ) (feed : List ℕ) (old : Outside) (ended : Status)
-    (new : Outside) where
+module _ (words : List PartWord) (size fuel : ℕ) (feed : List ℕ) (read : List (List ℕ)) (old : Outside)
+    (ended : Status) (new : Outside) where
+  abbrev reads : Plan Task
+  reads = plan_of (Mean words size fuel feed)
+
   given_told : (seen : FilesSeen) (s : Subject) → SubjectCame words size feed old.files s seen
+      → Makes reads read (Ok (Tell s fuel))
       → AnswersWhole (with_files old seen) (tells (told_of s fuel)) ended new
-      → MeaningGiven words size fuel feed old ended new
-  given_told seen s c g =
+      → MeaningGiven words size fuel feed read old ended new
+  given_told seen s c k g =
       let p : new.files ≡ seen = g.put in
       let at : told_of s fuel ≡ meaning (map part_of s.modules) size s.feed fuel =
       ap (λ n. meaning (map part_of s.modules) n s.feed fuel) c.size_is in
@@ -39,6 +45,8 @@ module _ (words : List PartWord) (size fuel : ℕ) (feed : List ℕ) (old : Outs
         feed_came = rw p c.feed_came;
         items = s.feed;
         is_feed = c.is_feed;
+        made = subst (λ n. Makes reads read
+            (Ok (Tell (record { modules = s.modules; size = n; feed = s.feed }) fuel))) c.size_is k;
         status_is = h.status_is;
         written = h.written;
         integers = meanings_leave (map part_of s.modules) size s.feed fuel;
@@ -46,21 +54,23 @@ module _ (words : List PartWord) (size fuel : ℕ) (feed : List ℕ) (old : Outs
       }
 
   given_due : (seen : FilesSeen) (due : Result Task Refusal) (a : Answer)
-      → Comes (for_task (subject_in words size feed) (λ s. Tell s fuel)) old.files due seen → IsAnswerOf due a
+      → Comes reads old.files due seen → Makes reads read due → IsAnswerOf due a
       → AnswersWhole (with_files old seen) a ended new → IsRunStatus ended
-      → MeaningGiven words size fuel feed old ended new
-  given_due seen (Err why) a c x g r = absurd (refused_none why a ended x g.status_is r)
-  given_due seen (Ok task) a c x g r =
+      → MeaningGiven words size fuel feed read old ended new
+  given_due seen (Err why) a c k x g r = absurd (refused_none why a ended x g.status_is r)
+  given_due seen (Ok task) a c k x g r =
       let m = made_of (subject_in words size feed) (λ s. Tell s fuel) old.files seen task c in
       let e : a ≡ tells (told_of m.0 fuel) = subst (λ t. IsAnswerOf (Ok t) a) m.2 x in
       given_told seen m.0 (subject_came words size feed old.files seen m.0 m.1)
+      (subst (λ t. Makes reads read (Ok t)) m.2 k)
       (subst (λ b. AnswersWhole (with_files old seen) b ended new) e g)
 
 pub means : (asked : Option Command) (old : Outside) (ended : Status) (new : Outside)
-    → Answers (plan_in asked) old ended new → (words : List PartWord) (size fuel : ℕ) (feed : List ℕ)
+    (a : Answers (plan_in asked) old ended new) (words : List PartWord) (size fuel : ℕ) (feed : List ℕ)
     → asked ≡ Some (Mean words size fuel feed) → IsRunStatus ended
-    → MeaningGiven words size fuel feed old ended new
+    → MeaningGiven words size fuel feed (read_in a) old ended new
 means asked old ended new a words size fuel feed e r =
     let w = whole_run (plan_in asked) old ended new a r in
-    given_due words size fuel feed old ended new w.seen w.due w.gives
-    (subst (λ q. Comes (plan_in q) old.files w.due w.seen) e w.came) w.is w.given r
+    given_due words size fuel feed (read_in a) old ended new w.seen w.due w.gives
+    (subst (λ q. Comes (plan_in q) old.files w.due w.seen) e w.came)
+    (subst (λ q. Makes (plan_in q) (read_in a) w.due) e w.makes) w.is w.given r

@@ -38,10 +38,12 @@ use Rattle.lcm_cli.specs.Answers.{Answer, NewFile, Outside, end_status, meaning_
 use Rattle.lcm_cli.specs.Answers.{tells}
 use Rattle.lcm_cli.specs.Answers.{puts}
 use Rattle.lcm_cli.specs.Answers.{refused, IsAnswerOf}
-use Rattle.lcm_cli.specs.Answers.{IsPut, whole, unput, unwritten, Answers, answer, nothing}
+use Rattle.lcm_cli.specs.Answers.{IsPut, whole, unput, unwritten, Answers, answer, nothing, read_in}
 use Rattle.lcm_cli.specs.Causes.{PutsFile, link_out, component_out, out_name, Stay, OthersStay, StayAt}
-use Rattle.lcm_cli.specs.Causes.{PutsWhole}
+use Rattle.lcm_cli.specs.Causes.{CameOf, PutsWhole}
+use Rattle.lcm_cli.specs.Bytes.{bytes_of}
 use Rattle.lcm_cli.proofs.Debugs.{debug_came}
+use Rattle.lcm_cli.proofs.Making.{came_of}
 use Rattle.lcm_cli.proofs.Tasks.{made_of}
 use Rattle.lcm_cli.proofs.Settled.{puts_rose}
 
@@ -110,31 +112,32 @@ some_same : (f g : NewFile) → Some f ≡ Some g → f ≡ g
 some_same f g e = cc
 
 -- the file of an answer is that of `--out`
-abbrev pub IsFileOf : Option Command → FilesSeen → FilesSeen → NewFile → Type 0
-IsFileOf asked old seen f =
-    (d : Content) × Comes (plan_in asked) old (Ok (Put f.name d)) seen × (f.bytes ≡ spelling_of d)
+abbrev pub IsFileOf : Option Command → List (List ℕ) → FilesSeen → FilesSeen → NewFile → Type 0
+IsFileOf asked read old seen f =
+    (d : Content) × CameOf asked read old (Ok (Put f.name d)) seen × (f.bytes ≡ spelling_of d)
     × (out_name asked ≡ Some f.name) × IsReadAgain d
 
-pub put_of : (asked : Option Command) (due : Result Task Refusal) (a : Answer) (f : NewFile)
-    (old seen : FilesSeen)
-    → Comes (plan_in asked) old due seen → IsAnswerOf due a → a.file ≡ Some f → IsFileOf asked old seen f
-put_of asked due a f old seen c x e = elim (file_cases due a x) as (λ _. IsFileOf asked old seen f) [
-  | inl n ↦ absurd (let q : (let o : Option NewFile = None in o) ≡ Some f = sym n ∙ e in cc)
-  | inr p ↦ (
-      let k : f ≡ record { name = p.0; bytes = spelling_of p.1 } =
-      some_same f (record { name = p.0; bytes = spelling_of p.1 }) (sym e
-      ∙ ap (λ (b : Answer). b.file) p.4) in
-      let n : f.name ≡ p.0 = ap (λ (g : NewFile). g.name) k in
-      let came : Comes (plan_in asked) old (Ok (Put p.0 p.1)) seen =
-      subst (λ r. Comes (plan_in asked) old r seen) p.2 c in (
-        p.1,
-        subst (λ m. Comes (plan_in asked) old (Ok (Put m p.1)) seen) (sym n) came,
-        ap (λ (g : NewFile). g.bytes) k,
-        put_in asked old seen p.0 p.1 came ∙ ap (λ m. Some m) (sym n),
-        p.3,
-      )
-      )
-]
+pub put_of : (asked : Option Command) (read : List (List ℕ)) (due : Result Task Refusal) (a : Answer)
+    (f : NewFile) (old seen : FilesSeen)
+    → CameOf asked read old due seen → IsAnswerOf due a → a.file ≡ Some f → IsFileOf asked read old seen f
+put_of asked read due a f old seen c x e = elim (file_cases due a x)
+    as (λ _. IsFileOf asked read old seen f) [
+      | inl n ↦ absurd (let q : (let o : Option NewFile = None in o) ≡ Some f = sym n ∙ e in cc)
+      | inr p ↦ (
+          let k : f ≡ record { name = p.0; bytes = spelling_of p.1 } =
+          some_same f (record { name = p.0; bytes = spelling_of p.1 }) (sym e
+          ∙ ap (λ (b : Answer). b.file) p.4) in
+          let n : f.name ≡ p.0 = ap (λ (g : NewFile). g.name) k in
+          let came : CameOf asked read old (Ok (Put p.0 p.1)) seen =
+          subst (λ r. CameOf asked read old r seen) p.2 c in (
+            p.1,
+            subst (λ m. CameOf asked read old (Ok (Put m p.1)) seen) (sym n) came,
+            ap (λ (g : NewFile). g.bytes) k,
+            put_in asked old seen p.0 p.1 came.0 ∙ ap (λ m. Some m) (sym n),
+            p.3,
+          )
+          )
+    ]
 
 -- ---- files stay
 
@@ -154,33 +157,34 @@ keeps_from old seen new out e k =
     (λ held. IsSomeAnd new.contents (λ now. (q : List ℕ) → q ≢ out → now q ≡ held q)) in subst P e k
 
 -- what became of the files of an answer
-put_stays : (asked : Option Command) (due : Result Task Refusal) (a : Answer) (old seen new : FilesSeen)
-    (file : Option NewFile) → Comes (plan_in asked) old due seen → IsAnswerOf due a → a.file ≡ file
+put_stays : (asked : Option Command) (read : List (List ℕ)) (due : Result Task Refusal) (a : Answer)
+    (old seen new : FilesSeen)
+    (file : Option NewFile) → CameOf asked read old due seen → IsAnswerOf due a → a.file ≡ file
     → IsPut seen file new
     → Stay old new ⊎ ((out : List ℕ) × (out_name asked ≡ Some out) × KeepsOthers old new out
-    × PutsFile asked old new)
-put_stays asked due a old seen new None c x e p =
-    inl (ap (λ (s : FilesSeen). s.contents) p ∙ comes_contents (plan_in asked) old seen due c)
-put_stays asked due a old seen new (Some f) c x e p =
-    let m = put_of asked due a f old seen c x e in
+    × PutsFile asked read old new)
+put_stays asked read due a old seen new None c x e p =
+    inl (ap (λ (s : FilesSeen). s.contents) p ∙ comes_contents (plan_in asked) old seen due c.0)
+put_stays asked read due a old seen new (Some f) c x e p =
+    let m = put_of asked read due a f old seen c x e in
     inr (
       f.name,
       m.3,
-      keeps_from old seen new f.name (comes_contents (plan_in asked) old seen due c) p.others,
+      keeps_from old seen new f.name (comes_contents (plan_in asked) old seen due c.0) p.others,
       (f.name, m.0, seen, m.1, m.4, subst (λ b. Puts seen new f.name b) m.2 p),
     )
 
-others : (asked : Option Command) (old new : FilesSeen) → Stay old new
-    ⊎ ((out : List ℕ) × (out_name asked ≡ Some out) × KeepsOthers old new out × PutsFile asked old new)
+others : (asked : Option Command) (read : List (List ℕ)) (old new : FilesSeen) → Stay old new
+    ⊎ ((out : List ℕ) × (out_name asked ≡ Some out) × KeepsOthers old new out × PutsFile asked read old new)
     → OthersStay asked old new
-others asked old new (inl s) = inl s
-others asked old new (inr s) = inr (s.0, s.1, s.2)
+others asked read old new (inl s) = inl s
+others asked read old new (inr s) = inr (s.0, s.1, s.2)
 
-put_or_stay : (asked : Option Command) (old new : FilesSeen) → Stay old new
-    ⊎ ((out : List ℕ) × (out_name asked ≡ Some out) × KeepsOthers old new out × PutsFile asked old new)
-    → Stay old new ⊎ PutsFile asked old new
-put_or_stay asked old new (inl s) = inl s
-put_or_stay asked old new (inr s) = inr s.3
+put_or_stay : (asked : Option Command) (read : List (List ℕ)) (old new : FilesSeen) → Stay old new
+    ⊎ ((out : List ℕ) × (out_name asked ≡ Some out) × KeepsOthers old new out × PutsFile asked read old new)
+    → Stay old new ⊎ PutsFile asked read old new
+put_or_stay asked read old new (inl s) = inl s
+put_or_stay asked read old new (inr s) = inr s.3
 
 -- a status other than Done puts no file
 abbrev PutsNone : Status → Answer → Type 0
@@ -260,32 +264,40 @@ pub files_stay : (asked : Option Command) (old : Outside) (ended : Status) (new 
 files_stay asked old ended new (nothing n) = subst (λ s. StayAt asked old.files s new.files) (sym n.status_is)
     (ap (λ (s : FilesSeen). s.contents) n.quiet)
 files_stay asked old ended new (answer due a seen c x (whole g)) =
+    let read = bytes_of (plan_in asked) old.files due seen c in
+    let k = came_of asked old.files due seen c in
     subst (λ s. StayAt asked old.files s new.files) (sym g.status_is)
     (stay_by asked a old.files new.files a.status (puts_none due a x)
-    (others asked old.files new.files (put_stays asked due a old.files seen new.files a.file c x refl
-    g.put))
+    (others asked read old.files new.files (put_stays asked read due a old.files seen new.files a.file k x
+    refl g.put))
     (λ e. ap (λ (s : FilesSeen). s.contents) (let p : IsPut seen None new.files =
     subst (λ f. IsPut seen f new.files) e g.put in p)
     ∙ comes_contents (plan_in asked) old.files seen due c))
 files_stay asked old ended new (answer due a seen c x (unput f i w u k s)) =
+    let read = bytes_of (plan_in asked) old.files due seen c in
     subst (λ s. StayAt asked old.files s new.files) (sym s)
     (inr (
       f.name,
-      (put_of asked due a f old.files seen c x i).3,
+      (put_of asked read due a f old.files seen (came_of asked old.files due seen c) x i).3,
       keeps_from old.files seen new.files f.name
           (comes_contents (plan_in asked) old.files seen due c) w.others,
     ))
 files_stay asked old ended new (answer due a seen c x (unwritten p w k s)) =
+    let read = bytes_of (plan_in asked) old.files due seen c in
     subst (λ s. StayAt asked old.files s new.files) (sym s)
-    (others asked old.files new.files (put_stays asked due a old.files seen new.files a.file c x refl p))
+    (others asked read old.files new.files (put_stays asked read due a old.files seen new.files a.file
+    (came_of asked old.files due seen c) x refl p))
 
 pub put_whole : (asked : Option Command) (old : Outside) (ended : Status) (new : Outside)
-    → Answers (plan_in asked) old ended new → PutsWhole asked old.files new.files
+    (a : Answers (plan_in asked) old ended new) → PutsWhole asked (read_in a) old.files new.files
 put_whole asked old ended new (nothing n) q = inl (ap (λ (s : FilesSeen). s.contents) n.quiet)
 put_whole asked old ended new (answer due a seen c x (whole g)) q =
-    put_or_stay asked old.files new.files (put_stays asked due a old.files seen new.files a.file c x refl
-    g.put)
+    let read = bytes_of (plan_in asked) old.files due seen c in
+    put_or_stay asked read old.files new.files (put_stays asked read due a old.files seen new.files a.file
+    (came_of asked old.files due seen c) x refl g.put)
 put_whole asked old ended new (answer due a seen c x (unput f i w u k s)) q =
     absurd (q (puts_rose (plan_in asked) old.files seen due new.files.failed_puts c w.rose))
 put_whole asked old ended new (answer due a seen c x (unwritten p w k s)) q =
-    put_or_stay asked old.files new.files (put_stays asked due a old.files seen new.files a.file c x refl p)
+    let read = bytes_of (plan_in asked) old.files due seen c in
+    put_or_stay asked read old.files new.files (put_stays asked read due a old.files seen new.files a.file
+    (came_of asked old.files due seen c) x refl p)

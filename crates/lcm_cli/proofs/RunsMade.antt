@@ -38,14 +38,16 @@ use Rattle.lcm_cli.specs.declared.status.Status.{Status}
 use Rattle.lcm_cli.specs.declared.status.Status.TheVariants as status
 use Rattle.lcm_cli.specs.Refusals.{refusal_text, refusal_status, image_status}
 use Rattle.file_plans.specs.Plans.{Plan, Comes}
-use Rattle.lcm_cli.specs.Commands.{Lines, Task, linked_in, link_task, for_task, plan_in}
+use Rattle.lcm_cli.specs.Commands.{Lines, Task, linked_in, link_task, plan_of, plan_in}
+use Rattle.lcm_cli.specs.Bytes.{Makes}
 use Rattle.lcm_cli.specs.Answers.{Answer, NewFile, Outside, with_files, end_status, writes, ran, ran_overlay}
 use Rattle.lcm_cli.specs.Answers.{refused}
 use Rattle.lcm_cli.specs.Answers.{IsPut, IsAnswerOf}
-use Rattle.lcm_cli.specs.Answers.{AnswersWhole, whole, unput, unwritten, Answers, answer, nothing}
+use Rattle.lcm_cli.specs.Answers.{AnswersWhole, whole, unput, unwritten, Answers, answer, nothing, read_in}
 use Rattle.lcm_cli.specs.Causes.{IsRunStatus, Started, text_of_run, RunGiven, TraceGiven}
 use Rattle.lcm_cli.specs.Causes.{ReachGiven}
 use Rattle.lcm_cli.specs.Causes.{RunCut, TraceCut}
+use Rattle.lcm_cli.proofs.Making.{makes_of}
 use Rattle.lcm_cli.proofs.Tasks.{err_of, made_of}
 use Rattle.lcm_cli.proofs.Reasons.{in_made}
 use Rattle.lcm_cli.proofs.Caused.{writes_none}
@@ -107,58 +109,75 @@ started all l old seen i start c s =
     }
 
 -- what was due to a deed: a refusal, or what is done with the image that came
-pub data DeedDue (l : Linked) (deed : LinkDeed) (old seen : FilesSeen) (a : Answer) : Type 0 where
-  told : (why : Refusal) → Comes (linked_in l) old (Err why) seen → a ≡ refused why
-      → DeedDue l deed old seen a
-  made : (i : ImageSeen) → Comes (linked_in l) old (Ok i) seen → IsAnswerOf (Ok (link_task deed i)) a
-      → DeedDue l deed old seen a
+pub data DeedDue (l : Linked) (deed : LinkDeed) (read : List (List ℕ)) (old seen : FilesSeen) (a : Answer)
+    : Type 0 where
+  told : (why : Refusal) → Comes (linked_in l) old (Err why) seen
+      → Makes (plan_of (Links l deed)) read (Err why) → a ≡ refused why → DeedDue l deed read old seen a
+  made : (i : ImageSeen) → Comes (linked_in l) old (Ok i) seen
+      → Makes (plan_of (Links l deed)) read (Ok (link_task deed i)) → IsAnswerOf (Ok (link_task deed i)) a
+      → DeedDue l deed read old seen a
 
-due_of : (l : Linked) (deed : LinkDeed) (old seen : FilesSeen) (due : Result Task Refusal) (a : Answer)
-    → Comes (for_task (linked_in l) (link_task deed)) old due seen → IsAnswerOf due a
-    → DeedDue l deed old seen a
-due_of l deed old seen (Err why) a c x = told why (err_of (linked_in l) (link_task deed) old seen why c) x
-due_of l deed old seen (Ok task) a c x =
+due_of : (l : Linked) (deed : LinkDeed) (read : List (List ℕ)) (old seen : FilesSeen)
+    (due : Result Task Refusal) (a : Answer) → Comes (plan_of (Links l deed)) old due seen
+    → Makes (plan_of (Links l deed)) read due → IsAnswerOf due a → DeedDue l deed read old seen a
+due_of l deed read old seen (Err why) a c t x =
+    told why (err_of (linked_in l) (link_task deed) old seen why c) t x
+due_of l deed read old seen (Ok task) a c t x =
     let m = made_of (linked_in l) (link_task deed) old seen task c in
-    made m.0 m.1 (subst (λ t. IsAnswerOf (Ok t) a) m.2 x)
+    made m.0 m.1 (subst (λ k. Makes (plan_of (Links l deed)) read (Ok k)) m.2 t)
+    (subst (λ k. IsAnswerOf (Ok k) a) m.2 x)
 
 pub asked_due : (asked : Option Command) (l : Linked) (deed : LinkDeed) → asked ≡ Some (Links l deed)
-    → (old seen : FilesSeen) (due : Result Task Refusal) (a : Answer) → Comes (plan_in asked) old due seen
-    → IsAnswerOf due a → DeedDue l deed old seen a
-asked_due asked l deed e old seen due a c x =
-    due_of l deed old seen due a (subst (λ q. Comes (plan_in q) old due seen) e c) x
+    → (read : List (List ℕ)) (old seen : FilesSeen) (due : Result Task Refusal) (a : Answer)
+    → Comes (plan_in asked) old due seen → Makes (plan_in asked) read due → IsAnswerOf due a
+    → DeedDue l deed read old seen a
+asked_due asked l deed e read old seen due a c t x =
+    due_of l deed read old seen due a (subst (λ q. Comes (plan_in q) old due seen) e c)
+    (subst (λ q. Makes (plan_in q) read due) e t) x
 
 -- ---- what was written whole
 
 -- an answer with the status of a run is given whole
-pub record WholeRun (plan : Plan Task) (old : Outside) (ended : Status) (new : Outside) : Type 0 where
+pub record WholeRun (plan : Plan Task) (read : List (List ℕ)) (old : Outside) (ended : Status) (new : Outside)
+    : Type 0 where
   pub due : Result Task Refusal
   pub gives : Answer
   pub seen : FilesSeen
   pub came : Comes plan old.files due seen
+  pub makes : Makes plan read due
   pub is : IsAnswerOf due gives
   pub given : AnswersWhole (with_files old seen) gives ended new
 
 pub whole_run : (plan : Plan Task) (old : Outside) (ended : Status) (new : Outside)
-    → Answers plan old ended new → IsRunStatus ended → WholeRun plan old ended new
+    (a : Answers plan old ended new) → IsRunStatus ended → WholeRun plan (read_in a) old ended new
 whole_run plan old ended new (nothing n) r = absurd (subst IsRunStatus n.status_is r)
 whole_run plan old ended new (answer due a seen c x (unput f i w u k s)) r = absurd (subst IsRunStatus s r)
 whole_run plan old ended new (answer due a seen c x (unwritten p f k s)) r = absurd (subst IsRunStatus s r)
 whole_run plan old ended new (answer due a seen c x (whole g)) r =
-    record { due = due; gives = a; seen = seen; came = c; is = x; given = g }
+    record {
+      due = due;
+      gives = a;
+      seen = seen;
+      came = c;
+      makes = makes_of plan old.files due seen c;
+      is = x;
+      given = g;
+    }
 
 given_run : StartLaws → RunsPass
-    → (l : Linked) (steps : ℕ) (old : Outside) (seen : FilesSeen) (ended : Status)
-    (new : Outside) (a : Answer) → steps < 2 ^ 64 → DeedDue l (link_deed.Run steps) old.files seen a
-    → AnswersWhole (with_files old seen) a ended new → IsRunStatus ended → RunGiven l steps old ended new
-given_run all pass l steps old seen ended new a small (told why c e) g r =
+    → (l : Linked) (steps : ℕ) (read : List (List ℕ)) (old : Outside) (seen : FilesSeen) (ended : Status)
+    (new : Outside) (a : Answer) → steps < 2 ^ 64 → DeedDue l (link_deed.Run steps) read old.files seen a
+    → AnswersWhole (with_files old seen) a ended new → IsRunStatus ended → RunGiven l steps read old ended new
+given_run all pass l steps read old seen ended new a small (told why c t e) g r =
     absurd (refused_none why a ended e g.status_is r)
-given_run all pass l steps old seen ended new a small (made i c x) g r =
+given_run all pass l steps read old seen ended new a small (made i c t x) g r =
     let h : AnswersWhole (with_files old seen) (ran x.0 steps Lines) ended new =
     subst (λ b. AnswersWhole (with_files old seen) b ended new) x.2 g in
     let p : new.files ≡ seen = h.put in
     record {
       from = started all l old.files new.files i x.0
           (subst (λ z. Comes (linked_in l) old.files (Ok i) z) (sym p) c) x.1;
+      made = t;
       status_is = h.status_is;
       written = h.written;
       audited = pass (placed i.parts i.stack) i.stack x.0 x.1 steps small;
@@ -171,13 +190,15 @@ few_steps l steps h = let k = h.1.1 in omega (arith, k)
 
 pub runs : StartLaws → RunsPass → (asked : Option Command) → ((c : Command) → asked ≡ Some c → Fits c)
     → (old : Outside) (ended : Status) (new : Outside)
-    → Answers (plan_in asked) old ended new → (l : Linked) (steps : ℕ)
-    → asked ≡ Some (Links l (link_deed.Run steps)) → IsRunStatus ended → RunGiven l steps old ended new
+    (a : Answers (plan_in asked) old ended new) (l : Linked) (steps : ℕ)
+    → asked ≡ Some (Links l (link_deed.Run steps)) → IsRunStatus ended
+    → RunGiven l steps (read_in a) old ended new
 runs all pass asked fits old ended new a l steps e r =
     let w = whole_run (plan_in asked) old ended new a r in
-    given_run all pass l steps old w.seen ended new w.gives
+    given_run all pass l steps (read_in a) old w.seen ended new w.gives
     (few_steps l steps (fits (Links l (link_deed.Run steps)) e))
-    (asked_due asked l (link_deed.Run steps) e old.files w.seen w.due w.gives w.came w.is) w.given r
+    (asked_due asked l (link_deed.Run steps) e (read_in a) old.files w.seen w.due w.gives w.came w.makes w.is)
+    w.given r
 
 -- a linked start has one overlay
 abbrev pub OverlaysAreOne : Type 0
@@ -185,12 +206,14 @@ OverlaysAreOne =
     (parts : List PartSeen) (size : ℕ) (s : StartSeen) → IsLinkedStart parts size s
     → (o : OverlaySeen) → IsOverlayOf s o ↔ (o ≡ overlay_at s)
 
-given_trace : StartLaws → OverlaysAreOne → (l : Linked) (steps : ℕ) (old : Outside) (seen : FilesSeen)
-    (ended : Status) (new : Outside) (a : Answer) → DeedDue l (link_deed.Trace steps) old.files seen a
-    → AnswersWhole (with_files old seen) a ended new → IsRunStatus ended → TraceGiven l steps old ended new
-given_trace all one l steps old seen ended new a (told why c e) g r =
+given_trace : StartLaws → OverlaysAreOne → (l : Linked) (steps : ℕ) (read : List (List ℕ)) (old : Outside)
+    (seen : FilesSeen) (ended : Status) (new : Outside) (a : Answer)
+    → DeedDue l (link_deed.Trace steps) read old.files seen a
+    → AnswersWhole (with_files old seen) a ended new → IsRunStatus ended
+    → TraceGiven l steps read old ended new
+given_trace all one l steps read old seen ended new a (told why c t e) g r =
     absurd (refused_none why a ended e g.status_is r)
-given_trace all one l steps old seen ended new a (made i c x) g r =
+given_trace all one l steps read old seen ended new a (made i c t x) g r =
     let h : AnswersWhole (with_files old seen) (ran_overlay x.1 steps) ended new =
     subst (λ b. AnswersWhole (with_files old seen) b ended new) x.4 g in
     let p : new.files ≡ seen = h.put in
@@ -198,6 +221,7 @@ given_trace all one l steps old seen ended new a (made i c x) g r =
     (subst (λ z. Comes (linked_in l) old.files (Ok i) z) (sym p) c) x.2 in
     record {
       from = f;
+      made = t;
       overlay = x.1;
       overlay_is = x.3;
       lines_are = (ap (λ o. (trace_of steps o).lines)
@@ -209,12 +233,14 @@ given_trace all one l steps old seen ended new a (made i c x) g r =
     }
 
 pub traces : StartLaws → OverlaysAreOne → (asked : Option Command) (old : Outside) (ended : Status)
-    (new : Outside) → Answers (plan_in asked) old ended new → (l : Linked) (steps : ℕ)
-    → asked ≡ Some (Links l (link_deed.Trace steps)) → IsRunStatus ended → TraceGiven l steps old ended new
+    (new : Outside) (a : Answers (plan_in asked) old ended new) (l : Linked) (steps : ℕ)
+    → asked ≡ Some (Links l (link_deed.Trace steps)) → IsRunStatus ended
+    → TraceGiven l steps (read_in a) old ended new
 traces all one asked old ended new a l steps e r =
     let w = whole_run (plan_in asked) old ended new a r in
-    given_trace all one l steps old w.seen ended new w.gives
-    (asked_due asked l (link_deed.Trace steps) e old.files w.seen w.due w.gives w.came w.is) w.given r
+    given_trace all one l steps (read_in a) old w.seen ended new w.gives
+    (asked_due asked l (link_deed.Trace steps) e (read_in a) old.files w.seen w.due w.gives w.came w.makes
+    w.is) w.given r
 
 -- ---- what was cut
 
@@ -255,17 +281,18 @@ run_never (Failed cause at) e = cc
 
 -- the answer that was due where a write failed: of one without a file, and with another status, the text
 -- failed
-pub record Cut (plan : Plan Task) (old new : Outside) : Type 0 where
+pub record Cut (plan : Plan Task) (read : List (List ℕ)) (old new : Outside) : Type 0 where
   pub due : Result Task Refusal
   pub gives : Answer
   pub seen : FilesSeen
   pub came : Comes plan old.files due seen
+  pub makes : Makes plan read due
   pub is : IsAnswerOf due gives
   pub fails : gives.file ≡ None → gives.status ≢ status.WriteFault
       → (new.files ≡ seen) × FailsToWrite old.sink gives.text new.sink
 
-pub cut_of : (plan : Plan Task) (old : Outside) (ended : Status) (new : Outside) → Answers plan old ended new
-    → ended ≡ status.WriteFault → Cut plan old new
+pub cut_of : (plan : Plan Task) (old : Outside) (ended : Status) (new : Outside)
+    (a : Answers plan old ended new) → ended ≡ status.WriteFault → Cut plan (read_in a) old new
 cut_of plan old ended new (nothing n) e = absurd (let q : status.NoMemory
     ≡ status.WriteFault = sym n.status_is ∙ e in cc)
 cut_of plan old ended new (answer due a seen c x (whole g)) e = record {
@@ -273,6 +300,7 @@ cut_of plan old ended new (answer due a seen c x (whole g)) e = record {
   gives = a;
   seen = seen;
   came = c;
+  makes = makes_of plan old.files due seen c;
   is = x;
   fails = λ n w. absurd (w (sym g.status_is ∙ e));
 }
@@ -281,6 +309,7 @@ cut_of plan old ended new (answer due a seen c x (unput f i w u k s)) e = record
   gives = a;
   seen = seen;
   came = c;
+  makes = makes_of plan old.files due seen c;
   is = x;
   fails = λ n w. absurd (let q : (let o : Option NewFile = None in o) ≡ Some f = sym n ∙ i in cc);
 }
@@ -289,6 +318,7 @@ cut_of plan old ended new (answer due a seen c x (unwritten p f k s)) e = record
   gives = a;
   seen = seen;
   came = c;
+  makes = makes_of plan old.files due seen c;
   is = x;
   fails = λ n w. (subst (λ o. IsPut seen o new.files) n p, f);
 }
@@ -299,9 +329,9 @@ cut_text : (old new : Outside) (a b : Answer) → a ≡ b → FailsToWrite old.s
 cut_text old new a b e f = subst (λ (x : Answer). FailsToWrite old.sink x.text new.sink) e f
 
 -- what a cut says of an answer that is another by name
-cut_by : {plan : Plan Task} {old new : Outside} (k : Cut plan old new) (b : Answer) → k.gives ≡ b → b.file
-    ≡ None
-    → b.status ≢ status.WriteFault → (new.files ≡ k.seen) × FailsToWrite old.sink b.text new.sink
+cut_by : {plan : Plan Task} {read : List (List ℕ)} {old new : Outside} (k : Cut plan read old new)
+    (b : Answer) → k.gives ≡ b → b.file ≡ None → b.status ≢ status.WriteFault
+    → (new.files ≡ k.seen) × FailsToWrite old.sink b.text new.sink
 cut_by {old = old} {new = new} k b e n w =
     let f = k.fails (ap (λ (a : Answer). a.file) e ∙ n)
     (λ q. w (sym (ap (λ (a : Answer). a.status) e) ∙ q)) in
@@ -318,18 +348,19 @@ linked_as parts size s h = record {
 }
 
 given_reach : StartLaws → ReportsBoundRuns → ReportsBoundInfluence
-    → (l : Linked) (old : Outside) (seen : FilesSeen)
-    (ended : Status) (new : Outside) (a : Answer) → DeedDue l link_deed.Reach old.files seen a
-    → AnswersWhole (with_files old seen) a ended new → IsRunStatus ended → ReachGiven l old ended new
-given_reach all bounds influences l old seen ended new a (told why c e) g r =
+    → (l : Linked) (read : List (List ℕ)) (old : Outside) (seen : FilesSeen)
+    (ended : Status) (new : Outside) (a : Answer) → DeedDue l link_deed.Reach read old.files seen a
+    → AnswersWhole (with_files old seen) a ended new → IsRunStatus ended → ReachGiven l read old ended new
+given_reach all bounds influences l read old seen ended new a (told why c t e) g r =
     absurd (refused_none why a ended e g.status_is r)
-given_reach all bounds influences l old seen ended new a (made i c x) g r =
+given_reach all bounds influences l read old seen ended new a (made i c t x) g r =
     let h : AnswersWhole (with_files old seen) (writes status.Done x.1) ended new =
     subst (λ b. AnswersWhole (with_files old seen) b ended new) x.4 g in
     let p : new.files ≡ seen = h.put in
     record {
       from = started all l old.files new.files i x.0
           (subst (λ z. Comes (linked_in l) old.files (Ok i) z) (sym p) c) x.2;
+      made = t;
       text = x.1;
       text_is = x.3;
       bound = λ part r. bounds x.0 part r (linked_as i.parts i.stack x.0 x.2);
@@ -340,62 +371,72 @@ given_reach all bounds influences l old seen ended new a (made i c x) g r =
     }
 
 pub reaches : StartLaws → ReportsBoundRuns → ReportsBoundInfluence → (asked : Option Command) (old : Outside)
-    (ended : Status) (new : Outside) → Answers (plan_in asked) old ended new → (l : Linked)
-    → asked ≡ Some (Links l link_deed.Reach) → IsRunStatus ended → ReachGiven l old ended new
+    (ended : Status) (new : Outside) (a : Answers (plan_in asked) old ended new) (l : Linked)
+    → asked ≡ Some (Links l link_deed.Reach) → IsRunStatus ended → ReachGiven l (read_in a) old ended new
 reaches all bounds influences asked old ended new a l e r =
     let w = whole_run (plan_in asked) old ended new a r in
-    given_reach all bounds influences l old w.seen ended new w.gives
-    (asked_due asked l link_deed.Reach e old.files w.seen w.due w.gives w.came w.is) w.given r
+    given_reach all bounds influences l (read_in a) old w.seen ended new w.gives
+    (asked_due asked l link_deed.Reach e (read_in a) old.files w.seen w.due w.gives w.came w.makes w.is)
+    w.given r
 
-refused_cut : {plan : Plan Task} {old new : Outside} (l : Linked) (k : Cut plan old new) (why : Refusal)
-    → Comes (linked_in l) old.files (Err why) k.seen → k.gives ≡ refused why
+refused_cut : {plan : Plan Task} {read : List (List ℕ)} {old new : Outside} (l : Linked) (deed : LinkDeed)
+    (k : Cut plan read old new) (why : Refusal)
+    → Comes (linked_in l) old.files (Err why) k.seen → Makes (plan_of (Links l deed)) read (Err why)
+    → k.gives ≡ refused why
     → (w : Refusal) × Comes (linked_in l) old.files (Err w) new.files
-    × FailsToWrite old.sink (refusal_text w) new.sink
-refused_cut {old = old} {new = new} l k why c e =
+    × Makes (plan_of (Links l deed)) read (Err w) × FailsToWrite old.sink (refusal_text w) new.sink
+refused_cut {old = old} {new = new} l deed k why c t e =
     let f = cut_by k (refused why) e refl (λ q. no_cut why (sym q)) in
-    (why, subst (λ z. Comes (linked_in l) old.files (Err why) z) (sym f.0) c, f.1)
+    (why, subst (λ z. Comes (linked_in l) old.files (Err why) z) (sym f.0) c, t, f.1)
 
-cut_run : StartLaws → (l : Linked) (steps : ℕ) (plan : Plan Task) (old new : Outside)
-    (k : Cut plan old new)
-    → DeedDue l (link_deed.Run steps) old.files k.seen k.gives → RunCut l steps old new
-cut_run all l steps plan old new k (told why c e) = inl (refused_cut l k why c e)
-cut_run all l steps plan old new k (made i c x) =
+cut_run : StartLaws → (l : Linked) (steps : ℕ) (plan : Plan Task) (read : List (List ℕ)) (old new : Outside)
+    (k : Cut plan read old new)
+    → DeedDue l (link_deed.Run steps) read old.files k.seen k.gives → RunCut l steps read old new
+cut_run all l steps plan read old new k (told why c t e) =
+    inl (refused_cut l (link_deed.Run steps) k why c t e)
+cut_run all l steps plan read old new k (made i c t x) =
     let f = cut_by k (ran x.0 steps Lines) x.2 refl
     (never_cut _ (run_never (last_step (plain steps x.0.state)))) in
     inr (
       started all l old.files new.files i x.0
           (subst (λ z. Comes (linked_in l) old.files (Ok i) z) (sym f.0) c) x.1,
+      t,
       text_of_run x.0 steps,
       refl,
       f.1,
     )
 
-cut_trace : StartLaws → (l : Linked) (steps : ℕ) (plan : Plan Task) (old new : Outside)
-    (k : Cut plan old new)
-    → DeedDue l (link_deed.Trace steps) old.files k.seen k.gives → TraceCut l steps old new
-cut_trace all l steps plan old new k (told why c e) = inl (refused_cut l k why c e)
-cut_trace all l steps plan old new k (made i c x) =
+cut_trace : StartLaws → (l : Linked) (steps : ℕ) (plan : Plan Task) (read : List (List ℕ)) (old new : Outside)
+    (k : Cut plan read old new)
+    → DeedDue l (link_deed.Trace steps) read old.files k.seen k.gives → TraceCut l steps read old new
+cut_trace all l steps plan read old new k (told why c t e) =
+    inl (refused_cut l (link_deed.Trace steps) k why c t e)
+cut_trace all l steps plan read old new k (made i c t x) =
     let f = cut_by k (ran_overlay x.1 steps) x.4 refl (never_cut _ (writes_none steps x.1)) in
     inr (
       started all l old.files new.files i x.0
           (subst (λ z. Comes (linked_in l) old.files (Ok i) z) (sym f.0) c) x.2,
+      t,
       trace_text steps x.1,
       (x.1, x.3, refl),
       f.1,
     )
 
 pub run_cut : StartLaws → (asked : Option Command) (old : Outside) (ended : Status) (new : Outside)
-    → Answers (plan_in asked) old ended new → (l : Linked) (steps : ℕ)
-    → asked ≡ Some (Links l (link_deed.Run steps)) → ended ≡ status.WriteFault → RunCut l steps old new
+    (a : Answers (plan_in asked) old ended new) (l : Linked) (steps : ℕ)
+    → asked ≡ Some (Links l (link_deed.Run steps)) → ended ≡ status.WriteFault
+    → RunCut l steps (read_in a) old new
 run_cut all asked old ended new a l steps e r =
     let k = cut_of (plan_in asked) old ended new a r in
-    cut_run all l steps (plan_in asked) old new k
-    (asked_due asked l (link_deed.Run steps) e old.files k.seen k.due k.gives k.came k.is)
+    cut_run all l steps (plan_in asked) (read_in a) old new k
+    (asked_due asked l (link_deed.Run steps) e (read_in a) old.files k.seen k.due k.gives k.came k.makes k.is)
 
 pub trace_cut : StartLaws → (asked : Option Command) (old : Outside) (ended : Status) (new : Outside)
-    → Answers (plan_in asked) old ended new → (l : Linked) (steps : ℕ)
-    → asked ≡ Some (Links l (link_deed.Trace steps)) → ended ≡ status.WriteFault → TraceCut l steps old new
+    (a : Answers (plan_in asked) old ended new) (l : Linked) (steps : ℕ)
+    → asked ≡ Some (Links l (link_deed.Trace steps)) → ended ≡ status.WriteFault
+    → TraceCut l steps (read_in a) old new
 trace_cut all asked old ended new a l steps e r =
     let k = cut_of (plan_in asked) old ended new a r in
-    cut_trace all l steps (plan_in asked) old new k
-    (asked_due asked l (link_deed.Trace steps) e old.files k.seen k.due k.gives k.came k.is)
+    cut_trace all l steps (plan_in asked) (read_in a) old new k
+    (asked_due asked l (link_deed.Trace steps) e (read_in a) old.files k.seen k.due k.gives k.came k.makes
+    k.is)

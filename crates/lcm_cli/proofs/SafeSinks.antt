@@ -13,7 +13,7 @@ use Rattle.lcm_machine.specs.Run.{answer as last_step, plain}
 use Rattle.lcm_cli.specs.declared.status.Status.TheVariants as status
 use Rattle.file_plans.specs.Plans.{Comes}
 use Rattle.lcm_cli.specs.Commands.{plan_in}
-use Rattle.lcm_cli.specs.Answers.{Answer, outside}
+use Rattle.lcm_cli.specs.Answers.{Answer, outside, read_in}
 use Rattle.lcm_cli.specs.SafeRuns.{SafeSinksHoldRuns}
 use Rattle.lcm_cli.proofs.RunsMade.{cut_of, DeedDue, told, made, asked_due, no_cut, never_cut, run_never}
 
@@ -27,12 +27,13 @@ filled room first last text e f =
 
 -- the answer to a run has no file, and another status
 plainly : (l : Linked) (steps : ℕ) (old seen : FilesSeen) (a : Answer)
-    → DeedDue l (link_deed.Run steps) old seen a → (a.file ≡ None) × (a.status ≢ status.WriteFault)
-plainly l steps old seen a (told why c e) = (
+    (read : List (List ℕ)) → DeedDue l (link_deed.Run steps) read old seen a
+    → (a.file ≡ None) × (a.status ≢ status.WriteFault)
+plainly l steps old seen a read (told why c t e) = (
   ap (λ (b : Answer). b.file) e,
   λ q. no_cut why (sym q ∙ ap (λ (b : Answer). b.status) e),
 )
-plainly l steps old seen a (made i c x) = (
+plainly l steps old seen a read (made i c t x) = (
   ap (λ (b : Answer). b.file) x.2,
   λ q. never_cut _ (run_never (last_step (plain steps x.0.state)))
       (sym (ap (λ (b : Answer). b.status) x.2) ∙ q),
@@ -44,8 +45,8 @@ safe_sinks_hold room first last e l steps files seen kept left answers =
     let asked : Option Command = Some (Links l deed) in
     let k = cut_of (plan_in asked) (outside files (seen_of_safe_sink first) kept) status.WriteFault
     (outside seen (seen_of_safe_sink last) left) answers refl in
-    let p = plainly l steps files k.seen k.gives
-    (asked_due asked l deed refl files k.seen k.due k.gives k.came k.is) in
+    let p = plainly l steps files k.seen k.gives (read_in answers)
+    (asked_due asked l deed refl (read_in answers) files k.seen k.due k.gives k.came k.makes k.is) in
     let f = k.fails p.0 p.1 in
     record {
       due = k.due;

@@ -22,14 +22,14 @@ use Rattle.lcm_cli.specs.SourceRuns.{SourcesRun, TellsOfRun, MeanTellsRuns}
 same_items : (xs ys : List Item) → (let r : Result (List Item) FeedFault = Ok xs in r) ≡ Ok ys → xs ≡ ys
 same_items xs ys e = cc
 
-tells_of : (words : List PartWord) (stack steps : ℕ) (old : Outside) (status : Status) (new : Outside)
-    (run : SourcesRun words stack steps old status new) (fuel : ℕ) (before : Outside) (ended : Status)
-    (after : Outside) (told : Told)
+tells_of : (words : List PartWord) (stack steps : ℕ) (read : List (List ℕ)) (old : Outside) (status : Status)
+    (new : Outside) (run : SourcesRun words stack steps read old status new) (fuel : ℕ) (before : Outside)
+    (ended : Status) (after : Outside) (told : Told)
     → told ≡ meaning (map part_of run.meant.modules) stack (came_in run.given.from.start steps) fuel
     → ended ≡ meaning_status told.end
     → Adds before.sink (told_text told) after.sink
-    → TellsOfRun words stack steps old status new run fuel before ended after
-tells_of words stack steps old status new run fuel before ended after told is status_is adds =
+    → TellsOfRun words stack steps read old status new run fuel before ended after
+tells_of words stack steps read old status new run fuel before ended after told is status_is adds =
     record {
       told = told;
       told_is = is;
@@ -45,7 +45,8 @@ tells_of words stack steps old status new run fuel before ended after told is st
     }
 
 pub mean_tells : MeanTellsRuns
-mean_tells words stack steps old status new run m ms is sources fuel feed before ended after mean same text =
+mean_tells words stack steps took old status new run m ms is sources fuel feed mean_read before ended after
+    mean same text =
     let start = run.given.from.start in
     let base : stack_base_of mean.modules ≡ (layout start).stack.base =
     ap stack_base_of same ∙ run.meant.feed.base m ms is in
@@ -58,5 +59,5 @@ mean_tells words stack steps old status new run m ms is sources fuel feed before
     ≡ meaning (map part_of run.meant.modules) stack (came_in start steps) fuel =
     ap (λ ms. meaning (map part_of ms) stack mean.items fuel) same
     ∙ ap (λ xs. meaning (map part_of run.meant.modules) stack xs fuel) items in
-    tells_of words stack steps old status new run fuel before ended after
+    tells_of words stack steps took old status new run fuel before ended after
     (meaning (map part_of mean.modules) stack mean.items fuel) told mean.status_is mean.written

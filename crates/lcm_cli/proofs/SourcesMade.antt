@@ -29,7 +29,7 @@ use Rattle.trace_tool.specs.Layout.{layout}
 use Rattle.lcm_cli.specs.declared.status.Status.{Status}
 use Rattle.lcm_cli.specs.declared.status.Status.TheVariants.{WriteFault}
 use Rattle.lcm_cli.specs.Commands.{plan_in}
-use Rattle.lcm_cli.specs.Answers.{Outside, Answers}
+use Rattle.lcm_cli.specs.Answers.{Outside, Answers, read_in}
 use Rattle.lcm_cli.specs.Causes.{IsRunStatus, Started, RunGiven}
 use Rattle.lcm_cli.specs.SourceRuns.{AllSources, IsFeed, SourcesMean, SourcesRun, SourcesCut}
 use Rattle.lcm_cli.specs.SourceRuns.{SourcesTold}
@@ -79,12 +79,12 @@ sources_mean laws words stack steps old new sources from =
 
 sources_run : RunLaws → (asked : Option Command) → ((c : Command) → asked ≡ Some c → Fits c)
     → (old : Outside) (ended : Status) (new : Outside)
-    → Answers (plan_in asked) old ended new → (words : List PartWord) (stack steps : ℕ)
+    (a : Answers (plan_in asked) old ended new) (words : List PartWord) (stack steps : ℕ)
     → asked ≡ Some (Links (what.Parts words stack) (link_deed.Run steps)) → AllSources words
     → IsRunStatus ended
-    → SourcesRun words stack steps old ended new
+    → SourcesRun words stack steps (read_in a) old ended new
 sources_run laws asked fits old ended new a words stack steps e sources r =
-    let given : RunGiven (what.Parts words stack) steps old ended new =
+    let given : RunGiven (what.Parts words stack) steps (read_in a) old ended new =
     runs laws.starts laws.pass asked fits old ended new a (what.Parts words stack) steps e r in
     record {
       given = given;
@@ -92,25 +92,26 @@ sources_run laws asked fits old ended new a words stack steps e sources r =
     }
 
 sources_cut : RunLaws → (asked : Option Command) (old : Outside) (ended : Status) (new : Outside)
-    → Answers (plan_in asked) old ended new → (words : List PartWord) (stack steps : ℕ)
+    (a : Answers (plan_in asked) old ended new) (words : List PartWord) (stack steps : ℕ)
     → asked ≡ Some (Links (what.Parts words stack) (link_deed.Run steps)) → AllSources words
-    → ended ≡ WriteFault → SourcesCut words stack steps old new
+    → ended ≡ WriteFault → SourcesCut words stack steps (read_in a) old new
 sources_cut laws asked old ended new a words stack steps e sources w =
     elim (run_cut laws.starts asked old ended new a (what.Parts words stack) steps e w)
-    as (λ _. SourcesCut words stack steps old new) [
+    as (λ _. SourcesCut words stack steps (read_in a) old new) [
       | inl r ↦ inl r
       | inr c ↦ inr (
         c.0,
+        c.1,
         sources_mean laws words stack steps old.files new.files sources c.0,
-        subst (λ t. FailsToWrite old.sink t new.sink) c.2 c.3,
+        subst (λ t. FailsToWrite old.sink t new.sink) c.3 c.4,
       )
     ]
 
 pub sources_told : RunLaws → (asked : Option Command) → ((c : Command) → asked ≡ Some c → Fits c)
     → (old : Outside) (ended : Status) (new : Outside)
-    → Answers (plan_in asked) old ended new → (words : List PartWord) (stack steps : ℕ)
+    (a : Answers (plan_in asked) old ended new) (words : List PartWord) (stack steps : ℕ)
     → asked ≡ Some (Links (what.Parts words stack) (link_deed.Run steps)) → AllSources words
-    → SourcesTold words stack steps old ended new
+    → SourcesTold words stack steps (read_in a) old ended new
 sources_told laws asked fits old ended new a words stack steps e sources = (
   sources_run laws asked fits old ended new a words stack steps e sources,
   sources_cut laws asked old ended new a words stack steps e sources,

@@ -1,5 +1,5 @@
 -- What a call of the program answers.
-use Rattle.std.specs.Prelude.{◌≡◌, ◌⊎◌, ℕ, ◌<◌, ◌≤◌, List, length, Option, Some, None, Result, Ok, Err}
+use Rattle.std.specs.Prelude.{◌≡◌, ◌⊎◌, ℕ, ◌<◌, ◌≤◌, List, [], length, Option, Some, None, Result, Ok, Err}
 use Rattle.outside_io.specs.Counts.{Rose}
 use Rattle.outside_io.specs.FilesSeen.{FilesSeen, Puts, FailsToPut}
 use Rattle.outside_io.specs.SinkSeen.{SinkSeen, Adds, FailsToWrite}
@@ -25,14 +25,16 @@ use Rattle.file_plans.specs.declared.TheConstants.{LONGEST_FILE}
 use Rattle.lcm_cli.specs.declared.status.Status.{Status}
 use Rattle.lcm_cli.specs.declared.status.Status.TheVariants.{Done, MachineFailed, StepsUsed}
 use Rattle.lcm_cli.specs.declared.status.Status.TheVariants.{WriteFault, NoMemory}
+use Rattle.command_words.specs.declared.command.Command.{Command}
 use Rattle.file_plans.specs.declared.refusal.Refusal.{Refusal}
 use Rattle.file_plans.specs.declared.refusal.Refusal.TheVariants.{TooLong}
 use Rattle.lcm_cli.specs.declared.job.Job.{Job}
 use Rattle.lcm_cli.specs.declared.job.Job.TheVariants as job
 use Rattle.lcm_cli.specs.Refusals.{refusal_text, refusal_status}
 use Rattle.file_plans.specs.Plans.{Plan, Reads, Ends, Made, Comes}
+use Rattle.lcm_cli.specs.Bytes.{bytes_of}
 use Rattle.lcm_cli.specs.Commands.{Telling, Lines, Totals, Task, Run, Trace, Reach, Debug, Put, Write}
-use Rattle.lcm_cli.specs.Commands.{Tell, spelling_of}
+use Rattle.lcm_cli.specs.Commands.{Tell, spelling_of, plan_in}
 use Rattle.lcm_cli.specs.Commands.{IsReadAgain, ok_text}
 use Rattle.lcm_cli.specs.Loads.{totals_text}
 
@@ -171,6 +173,17 @@ pub data Answers (plan : Plan Task) (old : Outside) (status : Status) (new : Out
   answer : (due : Result Task Refusal) (a : Answer) (seen : FilesSeen) → Comes plan old.files due seen
       → IsAnswerOf due a → Gives (with_files old seen) a status new → Answers plan old status new
   nothing : GivesNothing old status new → Answers plan old status new
+
+-- the bytes of which the answer was given, file by file
+abbrev pub read_in : {plan : Plan Task} {old : Outside} {status : Status} {new : Outside}
+    → Answers plan old status new → List (List ℕ)
+read_in {plan} {old} (answer due a seen c x g) = bytes_of plan old.files due seen c
+read_in (nothing n) = []
+
+-- whatever answer explains the call, it is so of the bytes of which that one was given
+abbrev pub OfBytes : (List (List ℕ) → Outside → Status → Outside → Type 0) → Option Command → Outside → Status
+    → Outside → Type 0
+OfBytes P asked old status new = (a : Answers (plan_in asked) old status new) → P (read_in a) old status new
 
 -- ---- where the files tell what they hold
 

@@ -1,6 +1,6 @@
 -- The causes: what holds of a call wherever it ends with a status.
 use Rattle.std.specs.Prelude.{◌≡◌, ◌⊎◌, ℕ, ◌+◌, ℤ, List, [], ◌∷◌, map, slice_get, Option, Some, None}
-use Rattle.std.specs.Prelude.{Ok, Err}
+use Rattle.std.specs.Prelude.{Result, Ok, Err}
 use Rattle.outside_io.specs.Counts.{Rose}
 use Rattle.outside_io.specs.FilesSeen.{FilesSeen, Puts, KeepsOthers}
 use Rattle.outside_io.specs.SinkSeen.{Adds, FailsToWrite}
@@ -92,8 +92,9 @@ use Rattle.lcm_cli.specs.Commands.{Task, Reach, Tell}
 use Rattle.lcm_cli.specs.Commands as task
 use Rattle.lcm_cli.specs.Loads.{load_image, totals_text}
 use Rattle.lcm_cli.specs.Debugs.{script_line}
-use Rattle.lcm_cli.specs.Commands.{ok_text, linked_in, plan_in}
-use Rattle.lcm_cli.specs.Answers.{Outside, Answers, IsComplete, end_status, meaning_status}
+use Rattle.lcm_cli.specs.Commands.{ok_text, linked_in, link_task, plan_of, plan_in}
+use Rattle.lcm_cli.specs.Bytes.{Makes}
+use Rattle.lcm_cli.specs.Answers.{Outside, Answers, read_in, IsComplete, end_status, meaning_status}
 
 -- ---- files
 
@@ -251,26 +252,30 @@ Breaks _ old r new = ⊥
 
 -- ---- runs
 
+-- what came of the command's plan, of these bytes
+abbrev pub CameOf : Option Command → List (List ℕ) → FilesSeen → Result Task Refusal → FilesSeen → Type 0
+CameOf asked read old due new = Comes (plan_in asked) old due new × Makes (plan_in asked) read due
+
 -- the image came, or the load was made, and the plain run of its start came to this
-abbrev pub RanTo : Option Command → FilesSeen → FilesSeen → (Step → Type 0) → Type 0
-RanTo asked old new P =
+abbrev pub RanTo : Option Command → List (List ℕ) → FilesSeen → FilesSeen → (Step → Type 0) → Type 0
+RanTo asked read old new P =
     (i : ImageSeen) × (steps : ℕ) × (telling : Telling)
-    × Comes (plan_in asked) old (Ok (Run i steps telling)) new
+    × CameOf asked read old (Ok (Run i steps telling)) new
     × (start : StartSeen) × IsStartOf i.parts i.stack start × P (last_step (plain steps start.state))
 
 -- the image came, and the run of its start's overlay came to this
-abbrev pub TracedTo : Option Command → FilesSeen → FilesSeen → RunEnd → Type 0
-TracedTo asked old new end =
-    (i : ImageSeen) × (steps : ℕ) × Comes (plan_in asked) old (Ok (Trace i steps)) new
+abbrev pub TracedTo : Option Command → List (List ℕ) → FilesSeen → FilesSeen → RunEnd → Type 0
+TracedTo asked read old new end =
+    (i : ImageSeen) × (steps : ℕ) × CameOf asked read old (Ok (Trace i steps)) new
     × (start : StartSeen) × (overlay : OverlaySeen) × IsStartOf i.parts i.stack start
     × IsOverlayOf start overlay × ((trace_of steps overlay).end ≡ end)
 
 -- ---- meanings
 
 -- the modules and the feed came, and their meaning ended so
-abbrev pub MeantTo : Option Command → FilesSeen → FilesSeen → (End → Type 0) → Type 0
-MeantTo asked old new P =
-    (s : Subject) × (fuel : ℕ) × Comes (plan_in asked) old (Ok (Tell s fuel)) new × P (told_of s fuel).end
+abbrev pub MeantTo : Option Command → List (List ℕ) → FilesSeen → FilesSeen → (End → Type 0) → Type 0
+MeantTo asked read old new P =
+    (s : Subject) × (fuel : ℕ) × CameOf asked read old (Ok (Tell s fuel)) new × P (told_of s fuel).end
 
 -- it halts, or waits
 abbrev pub IsAtRest : End → Type 0
@@ -280,10 +285,10 @@ IsAtRest e = ((v : ℤ) × (e ≡ meaning_end.Halt v)) ⊎ (e ≡ meaning_end.Wa
 
 -- the component, the image or the module that the words ask for came, and its file was put under the name of
 -- `--out`, whose bytes give just this component or image again, or a module alike
-abbrev pub PutsFile : Option Command → FilesSeen → FilesSeen → Type 0
-PutsFile asked old new =
+abbrev pub PutsFile : Option Command → List (List ℕ) → FilesSeen → FilesSeen → Type 0
+PutsFile asked read old new =
     (name : List ℕ) × (content : Content) × (seen : FilesSeen)
-    × Comes (plan_in asked) old (Ok (Put name content)) seen × IsReadAgain content
+    × CameOf asked read old (Ok (Put name content)) seen × IsReadAgain content
     × Puts seen new name (spelling_of content)
 
 -- a task that asks for a text to be written: its own, of what parts can reach, or of a debugger's replies
@@ -294,8 +299,8 @@ AsksForText (task.Debug i script) = Unit {0}
 AsksForText _ = ⊥
 
 -- what is read came, and a text was to be written, and nothing else to be done
-abbrev pub Tells : Option Command → FilesSeen → FilesSeen → Type 0
-Tells asked old new = (t : Task) × AsksForText t × Comes (plan_in asked) old (Ok t) new
+abbrev pub Tells : Option Command → List (List ℕ) → FilesSeen → FilesSeen → Type 0
+Tells asked read old new = (t : Task) × AsksForText t × CameOf asked read old (Ok t) new
 
 -- the name of `--out`
 abbrev pub link_out : LinkDeed → Option (List ℕ)
@@ -312,24 +317,26 @@ out_name (Some (Takes word deed)) = component_out deed
 out_name (Some (Erase word out)) = Some out
 out_name _ = None
 
--- the refusal's line was written
-abbrev pub Wrote : Refusal → Outside → Outside → Type 0
-Wrote why old new = Adds old.sink (refusal_text why) new.sink
+-- the plan ends so of these bytes, and the refusal's line was written
+abbrev pub Wrote : Option Command → List (List ℕ) → Refusal → Outside → Outside → Type 0
+Wrote asked read why old new =
+    Makes (plan_in asked) read (Err why) × Adds old.sink (refusal_text why) new.sink
 
 -- ---- the causes, a law for each status
 
-pub record Causes (asked : Option Command) (old : Outside) (status : Status) (new : Outside) : Type 0 where
+pub record Causes (asked : Option Command) (read : List (List ℕ)) (old : Outside) (status : Status)
+    (new : Outside) : Type 0 where
   -- the run halted, the file was put, the text was to be written, or the meaning halts or waits
-  pub done : status ≡ Done → RanTo asked old.files new.files (λ step. step ≡ Halted)
-      ⊎ (TracedTo asked old.files new.files run_end.Halted ⊎ (PutsFile asked old.files new.files
-      ⊎ (Tells asked old.files new.files ⊎ MeantTo asked old.files new.files IsAtRest)))
-  pub machine_failed : status ≡ MachineFailed → RanTo asked old.files new.files
+  pub done : status ≡ Done → RanTo asked read old.files new.files (λ step. step ≡ Halted)
+      ⊎ (TracedTo asked read old.files new.files run_end.Halted ⊎ (PutsFile asked read old.files new.files
+      ⊎ (Tells asked read old.files new.files ⊎ MeantTo asked read old.files new.files IsAtRest)))
+  pub machine_failed : status ≡ MachineFailed → RanTo asked read old.files new.files
       (λ step. (cause : FailCause) × (at : ℤ) × (step ≡ Failed cause at))
-      ⊎ (TracedTo asked old.files new.files run_end.Failed
-      ⊎ MeantTo asked old.files new.files (λ e. e ≡ meaning_end.Fail))
-  pub steps_used : status ≡ StepsUsed → RanTo asked old.files new.files (λ step. step ≡ Went)
-      ⊎ (TracedTo asked old.files new.files run_end.Running
-      ⊎ MeantTo asked old.files new.files (λ e. e ≡ meaning_end.OutOfFuel))
+      ⊎ (TracedTo asked read old.files new.files run_end.Failed
+      ⊎ MeantTo asked read old.files new.files (λ e. e ≡ meaning_end.Fail))
+  pub steps_used : status ≡ StepsUsed → RanTo asked read old.files new.files (λ step. step ≡ Went)
+      ⊎ (TracedTo asked read old.files new.files run_end.Running
+      ⊎ MeantTo asked read old.files new.files (λ e. e ≡ meaning_end.OutOfFuel))
   pub usage : status ≡ Usage → asked ≡ None
   pub read_fault : status ≡ ReadFault
       → Rose old.files.failed_reads new.files.failed_reads × IsUnread (plan_in asked) old.files new.files
@@ -338,28 +345,31 @@ pub record Causes (asked : Option Command) (old : Outside) (status : Status) (ne
       ⊎ (Rose old.files.failed_puts new.files.failed_puts × (out_name asked ≡ Some new.files.last_failed_put))
   pub no_memory : status ≡ NoMemory
       → OnlyGave old.files new.files × (new.sink ≡ old.sink) × (new.kept ≡ old.kept)
-  pub too_long : status ≡ TooLong → (index : ℕ) × Wrote (refusal.TooLong index) old new
+  pub too_long : status ≡ TooLong → (index : ℕ) × Wrote asked read (refusal.TooLong index) old new
       × IsLong (plan_in asked) old.files index new.files
   pub asm_refused : status ≡ AsmRefused → (index : ℕ) × (f : AsmFault)
-      × Wrote (refusal.Assembly index f) old new
+      × Wrote asked read (refusal.Assembly index f) old new
       × IsUnassembled asked (plan_in asked) old.files index f new.files
   -- the bytes of a part's file are no component, those of an image's file no image, or the text of a feed's
   -- file no feed
   pub file_refused : status ≡ FileRefused → ((index : ℕ) × (f : FileFault)
-      × Wrote (refusal.File index f) old new × IsUndecoded asked (plan_in asked) old.files index f new.files)
-      ⊎ (((f : ImageFault) × (image_status f ≡ FileRefused) × Wrote (refusal.Image f) old new
+      × Wrote asked read (refusal.File index f) old new
+      × IsUndecoded asked (plan_in asked) old.files index f new.files)
+      ⊎ (((f : ImageFault) × (image_status f ≡ FileRefused) × Wrote asked read (refusal.Image f) old new
       × IsUnloaded asked old.files f new.files)
-      ⊎ (((line : ℕ) × Wrote (refusal.Feed line) old new × IsUnfed asked old.files line new.files)
-      ⊎ ((line : ℕ) × Wrote (refusal.Script line) old new
+      ⊎ (((line : ℕ) × Wrote asked read (refusal.Feed line) old new × IsUnfed asked old.files line new.files)
+      ⊎ ((line : ℕ) × Wrote asked read (refusal.Script line) old new
       × IsUnscripted asked (plan_in asked) old.files line new.files)))
   -- parts of words break a rule, or those of an image do
-  pub rule_broken : status ≡ RuleBroken → (r : RuleAt) × Wrote (refusal.Rule r) old new
-      × (Breaks asked old.files r new.files ⊎ IsUnloaded asked old.files (image.Rule r) new.files)
+  pub rule_broken : status ≡ RuleBroken → (r : RuleAt)
+      × ((Wrote asked read (refusal.Rule r) old new × Breaks asked old.files r new.files)
+      ⊎ (Wrote asked read (refusal.Image (image.Rule r)) old new
+      × IsUnloaded asked old.files (image.Rule r) new.files))
   pub source_refused : status ≡ SourceRefused → (index : ℕ) × (f : SourceFault)
-      × Wrote (refusal.Source index f) old new
+      × Wrote asked read (refusal.Source index f) old new
       × (IsUncompiled asked (plan_in asked) old.files index f new.files
       ⊎ IsUnmade asked (refusal.Source index f))
-  pub audit_refused : status ≡ AuditRefused → (f : AuditFault) × Wrote (refusal.Audit f) old new
+  pub audit_refused : status ≡ AuditRefused → (f : AuditFault) × Wrote asked read (refusal.Audit f) old new
       × IsUnaudited asked (plan_in asked) old.files f new.files
 
 -- ---- files that stay
@@ -380,9 +390,9 @@ StayAt asked old status new = Stay old new
 
 -- where no put failed, all files stay, or that of `--out` has the bytes of the component, the image or
 -- the module
-abbrev pub PutsWhole : Option Command → FilesSeen → FilesSeen → Type 0
-PutsWhole asked old new =
-    ¬ (Rose old.failed_puts new.failed_puts) → Stay old new ⊎ PutsFile asked old new
+abbrev pub PutsWhole : Option Command → List (List ℕ) → FilesSeen → FilesSeen → Type 0
+PutsWhole asked read old new =
+    ¬ (Rose old.failed_puts new.failed_puts) → Stay old new ⊎ PutsFile asked read old new
 
 -- ---- what is promised
 
@@ -418,14 +428,23 @@ pub record Started (l : Linked) (old new : FilesSeen) : Type 0 where
   pub secret : FramesAreSecret start
   pub headline : Headline start
 
+-- the parts of the start are what the plan makes of these bytes
+abbrev pub IsMadeOf : {l : Linked} {old new : FilesSeen} → List (List ℕ) → LinkDeed → Started l old new
+    → Type 0
+IsMadeOf {l} read deed from =
+    Makes (plan_of (Links l deed)) read
+    (Ok (link_task deed (record { stack = from.size; parts = from.parts })))
+
 -- the text of the plain run from a start: its lines and its end line
 abbrev pub text_of_run : StartSeen → ℕ → List ℕ
 text_of_run start steps = run_text (layout start) start.state steps
 
 -- the plain run of the start gave the status, the text and the machine. By itself its text is seen to be a
 -- trace, in which calls and returns are bracketed
-pub record RunGiven (l : Linked) (steps : ℕ) (old : Outside) (status : Status) (new : Outside) : Type 0 where
+pub record RunGiven (l : Linked) (steps : ℕ) (read : List (List ℕ)) (old : Outside) (status : Status)
+    (new : Outside) : Type 0 where
   pub from : Started l old.files new.files
+  pub made : IsMadeOf read (link_deed.Run steps) from
   pub status_is : status ≡ end_status (end_of (last_step (plain steps from.start.state)))
   pub written : Adds old.sink (text_of_run from.start steps) new.sink
   pub audited : IsTrace (text_of_run from.start steps)
@@ -449,8 +468,10 @@ pub record LoadGiven (seed : ℕ) (old : Outside) (status : Status) (new : Outsi
 
 -- what links came and keeps the rules, and the text of what the parts of its start can reach was written.
 -- From each of its entries a part runs within its report, and what isn't in the report doesn't influence it.
-pub record ReachGiven (l : Linked) (old : Outside) (status : Status) (new : Outside) : Type 0 where
+pub record ReachGiven (l : Linked) (read : List (List ℕ)) (old : Outside) (status : Status) (new : Outside)
+    : Type 0 where
   pub from : Started l old.files new.files
+  pub made : IsMadeOf read link_deed.Reach from
   pub text : List ℕ
   pub text_is : IsReachText from.start text
   pub bound : (part : ℕ) (r : Reached) → Reports from.start part r → BoundsRuns from.start part r
@@ -462,14 +483,16 @@ pub record ReachGiven (l : Linked) (old : Outside) (status : Status) (new : Outs
 -- what links came and keeps the rules, and then the script's file; the replies of a debugger to its commands,
 -- from the start on, were written. Whatever they are, the debugger was in a state of the plain run, and
 -- remembers the states before it.
-pub record DebugGiven (l : Linked) (script : List ℕ) (old : Outside) (status : Status) (new : Outside)
-    : Type 0 where
+pub record DebugGiven (l : Linked) (script : List ℕ) (read : List (List ℕ)) (old : Outside) (status : Status)
+    (new : Outside) : Type 0 where
   pub mid : FilesSeen
   pub from : Started l old.files mid
   pub text : List ℕ
   pub script_came : ComesWhole mid script LONGEST_FILE text new.files
   pub lines : List Line
   pub is_script : scripted text ≡ Ok lines
+  pub made : Makes (plan_of (Debug l script)) read
+      (Ok (task.Debug (record { stack = from.size; parts = from.parts }) lines))
   pub status_is : status ≡ Done
   pub written : Adds old.sink (debug_text from.start.state lines) new.sink
   pub kept_is : new.kept ≡ old.kept
@@ -478,9 +501,10 @@ pub record DebugGiven (l : Linked) (script : List ℕ) (old : Outside) (status :
 
 -- the run of the start's overlay gave the status and the text, and no machine. Its lines are those that a
 -- plain run of as many instructions writes.
-pub record TraceGiven (l : Linked) (steps : ℕ) (old : Outside) (status : Status)
+pub record TraceGiven (l : Linked) (steps : ℕ) (read : List (List ℕ)) (old : Outside) (status : Status)
     (new : Outside) : Type 0 where
   pub from : Started l old.files new.files
+  pub made : IsMadeOf read (link_deed.Trace steps) from
   pub overlay : OverlaySeen
   pub overlay_is : IsOverlayOf from.start overlay
   pub lines_are : (trace_of steps overlay).lines ≡ written from.start steps
@@ -490,8 +514,8 @@ pub record TraceGiven (l : Linked) (steps : ℕ) (old : Outside) (status : Statu
 
 -- the modules of the words came and keep the rules of a meaning, the feed's file has a feed, and what their
 -- meaning tells gave the status and the text, and no machine
-pub record MeaningGiven (words : List PartWord) (size fuel : ℕ) (feed : List ℕ) (old : Outside)
-    (status : Status) (new : Outside) : Type 0 where
+pub record MeaningGiven (words : List PartWord) (size fuel : ℕ) (feed : List ℕ) (read : List (List ℕ))
+    (old : Outside) (status : Status) (new : Outside) : Type 0 where
   pub modules : List ModuleFields
   pub mid : FilesSeen
   pub came : Comes (each_at module_at 0 words) old.files (Ok modules) mid
@@ -500,23 +524,27 @@ pub record MeaningGiven (words : List PartWord) (size fuel : ℕ) (feed : List �
   pub feed_came : ComesWhole mid feed LONGEST_FILE text new.files
   pub items : List Item
   pub is_feed : fed (stack_base_of modules) text ≡ Ok items
+  pub made : Makes (plan_of (Mean words size fuel feed)) read
+      (Ok (Tell (record { modules = modules; size = size; feed = items }) fuel))
   pub status_is : status ≡ meaning_status (meaning (map part_of modules) size items fuel).end
   pub written : Adds old.sink (told_text (meaning (map part_of modules) size items fuel)) new.sink
   -- each procedure that leaves by it gives an integer
   pub integers : LeaveIntegers (meaning (map part_of modules) size items fuel).events
   pub kept_is : new.kept ≡ old.kept
 
--- the file of `--feed` came, its text is a trace of a run, and `ok` was written
-pub record AuditPasses (name : List ℕ) (old new : Outside) : Type 0 where
+-- the file of `--feed` came, the one that was read, its text is a trace of a run, and `ok` was written
+pub record AuditPasses (name : List ℕ) (read : List (List ℕ)) (old new : Outside) : Type 0 where
   pub text : List ℕ
+  pub read_is : read ≡ text ∷ []
   pub came : ComesWhole old.files name LONGEST_FILE text new.files
   pub is_trace : IsTrace text
   pub written : Adds old.sink ok_text new.sink
   pub kept_is : new.kept ≡ old.kept
 
 -- it came, and the first line that spoils its text was told
-pub record AuditFails (name : List ℕ) (old new : Outside) : Type 0 where
+pub record AuditFails (name : List ℕ) (read : List (List ℕ)) (old new : Outside) : Type 0 where
   pub text : List ℕ
+  pub read_is : read ≡ text ∷ []
   pub came : ComesWhole old.files name LONGEST_FILE text new.files
   pub fault : AuditFault
   pub is_fault : HasFault text fault
@@ -524,29 +552,30 @@ pub record AuditFails (name : List ℕ) (old new : Outside) : Type 0 where
   pub kept_is : new.kept ≡ old.kept
 
 -- what is promised of an audit, by its status
-abbrev pub AuditTold : List ℕ → Outside → Status → Outside → Type 0
-AuditTold name old status new =
-    (status ≡ Done → AuditPasses name old new) × (status ≡ AuditRefused → AuditFails name old new)
+abbrev pub AuditTold : List ℕ → List (List ℕ) → Outside → Status → Outside → Type 0
+AuditTold name read old status new =
+    (status ≡ Done → AuditPasses name read old new) × (status ≡ AuditRefused → AuditFails name read old new)
 
 -- the sink failed at the line of the refusal that was due, or at the text of such a start's run
-abbrev pub IsCut : (l : Linked) → (StartSeen → List ℕ → Type 0) → Outside → Outside → Type 0
-IsCut l IsText old new =
+abbrev pub IsCut : (l : Linked) → LinkDeed → (StartSeen → List ℕ → Type 0) → List (List ℕ) → Outside → Outside
+    → Type 0
+IsCut l deed IsText read old new =
     ((why : Refusal) × Comes (linked_in l) old.files (Err why) new.files
-    × FailsToWrite old.sink (refusal_text why) new.sink)
-    ⊎ ((from : Started l old.files new.files) × (text : List ℕ) × IsText from.start text
-    × FailsToWrite old.sink text new.sink)
+    × Makes (plan_of (Links l deed)) read (Err why) × FailsToWrite old.sink (refusal_text why) new.sink)
+    ⊎ ((from : Started l old.files new.files) × IsMadeOf read deed from × (text : List ℕ)
+    × IsText from.start text × FailsToWrite old.sink text new.sink)
 
-abbrev pub RunCut : Linked → ℕ → Outside → Outside → Type 0
-RunCut l steps = IsCut l (λ start text. text ≡ text_of_run start steps)
+abbrev pub RunCut : Linked → ℕ → List (List ℕ) → Outside → Outside → Type 0
+RunCut l steps = IsCut l (link_deed.Run steps) (λ start text. text ≡ text_of_run start steps)
 
 -- of a trace, the text is that of the overlay's run
-abbrev pub TraceCut : Linked → ℕ → Outside → Outside → Type 0
-TraceCut l steps = IsCut l (λ start text.
+abbrev pub TraceCut : Linked → ℕ → List (List ℕ) → Outside → Outside → Type 0
+TraceCut l steps = IsCut l (link_deed.Trace steps) (λ start text.
     (overlay : OverlaySeen) × IsOverlayOf start overlay × (text ≡ trace_text steps overlay))
 
 -- what the top call promises: the answer that was due, the cause of its status, and that no other answer is
 -- given where nothing outside fails
 pub record Promised (asked : Option Command) (old : Outside) (status : Status) (new : Outside) : Type 0 where
   pub answers : Answers (plan_in asked) old status new
-  pub causes : Causes asked old status new
+  pub causes : Causes asked (read_in answers) old status new
   pub complete : IsComplete (plan_in asked) old status new

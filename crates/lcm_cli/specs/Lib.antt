@@ -6,6 +6,7 @@ pub mod Debugs
 pub mod Audits
 pub mod Commands
 pub mod Jobs
+pub mod Bytes
 pub mod Answers
 pub mod Causes
 pub mod SourceRuns

@@ -4,6 +4,8 @@ use Rattle.outside_io.specs.FilesSeen.{FilesSeen}
 use Rattle.outside_io.specs.SinkSeen.{Adds, FailsToWrite}
 use Rattle.outside_io.specs.Whole.{GivesWhole as ComesWhole}
 use Rattle.command_words.specs.declared.command.Linked.TheVariants as what
+use Rattle.command_words.specs.declared.command.LinkDeed.TheVariants as link_deed
+use Rattle.command_words.specs.declared.command.Command.TheVariants.{Links}
 use Rattle.command_words.specs.declared.part.PartWord.{PartWord}
 use Rattle.command_words.specs.Action.{is_source}
 use Rattle.proc_language.specs.declared.module.ModuleFields.{ModuleFields}
@@ -30,14 +32,15 @@ use Rattle.file_plans.specs.Plans.{Comes}
 use Rattle.lcm_cli.specs.declared.status.Status.{Status}
 use Rattle.command_words.specs.Part.{is_trusted_mark}
 use Rattle.lcm_cli.specs.Parts.{IsPartOf}
-use Rattle.lcm_cli.specs.Commands.{linked_in}
+use Rattle.lcm_cli.specs.Commands.{linked_in, plan_of}
+use Rattle.lcm_cli.specs.Bytes.{Makes}
 use Rattle.lcm_cli.specs.Refusals.{refusal_text}
 use Rattle.proc_semantics.specs.Meaning.{meaning}
 use Rattle.proc_semantics.specs.Fuel.{Prefix}
 use Rattle.meaning_text.specs.Text.{told_text}
 use Rattle.lcm_cli.specs.Answers.{Outside, meaning_status}
 use Rattle.lcm_cli.specs.declared.status.Status.TheVariants.{WriteFault}
-use Rattle.lcm_cli.specs.Causes.{IsRunStatus, Started, RunGiven, text_of_run, MeaningGiven}
+use Rattle.lcm_cli.specs.Causes.{IsRunStatus, Started, IsMadeOf, RunGiven, text_of_run, MeaningGiven}
 
 -- every trusted word is a source
 abbrev pub AllSources : List PartWord → Type 0
@@ -82,33 +85,34 @@ pub record SourcesMean (words : List PartWord) (stack steps : ℕ) (old new : Fi
 
 -- a run whose trusted parts are sources: the plain run gave the status, the text and the machine, and its
 -- lines are told by what the sources mean
-pub record SourcesRun (words : List PartWord) (stack steps : ℕ) (old : Outside) (status : Status)
-    (new : Outside) : Type 0 where
-  pub given : RunGiven (what.Parts words stack) steps old status new
+pub record SourcesRun (words : List PartWord) (stack steps : ℕ) (read : List (List ℕ)) (old : Outside)
+    (status : Status) (new : Outside) : Type 0 where
+  pub given : RunGiven (what.Parts words stack) steps read old status new
   pub meant : SourcesMean words stack steps old.files new.files given.from
 
 -- the sink failed at the line of the refusal that was due, or at the text of such a run, whose lines, also
 -- those that weren't written, are told by what the sources mean
-abbrev pub SourcesCut : List PartWord → ℕ → ℕ → Outside → Outside → Type 0
-SourcesCut words stack steps old new =
+abbrev pub SourcesCut : List PartWord → ℕ → ℕ → List (List ℕ) → Outside → Outside → Type 0
+SourcesCut words stack steps read old new =
     ((why : Refusal) × Comes (linked_in (what.Parts words stack)) old.files (Err why) new.files
+    × Makes (plan_of (Links (what.Parts words stack) (link_deed.Run steps))) read (Err why)
     × FailsToWrite old.sink (refusal_text why) new.sink)
     ⊎ ((from : Started (what.Parts words stack) old.files new.files)
-    × SourcesMean words stack steps old.files new.files from
+    × IsMadeOf read (link_deed.Run steps) from × SourcesMean words stack steps old.files new.files from
     × FailsToWrite old.sink (text_of_run from.start steps) new.sink)
 
 -- what is promised of a run of sources, by its status
-abbrev pub SourcesTold : List PartWord → ℕ → ℕ → Outside → Status → Outside → Type 0
-SourcesTold words stack steps old status new =
-    (IsRunStatus status → SourcesRun words stack steps old status new)
-    × (status ≡ WriteFault → SourcesCut words stack steps old new)
+abbrev pub SourcesTold : List PartWord → ℕ → ℕ → List (List ℕ) → Outside → Status → Outside → Type 0
+SourcesTold words stack steps read old status new =
+    (IsRunStatus status → SourcesRun words stack steps read old status new)
+    × (status ≡ WriteFault → SourcesCut words stack steps read old new)
 
 -- what `mean` wrote and answered is of the very meaning that the run's lines are told by. With fuel enough it
 -- tells just the events that went out by those lines, wherever they are all of the meaning's; and it begins
 -- with them where they are a front of those
-pub record TellsOfRun (words : List PartWord) (stack steps : ℕ) (first : Outside) (answered : Status)
-    (last : Outside) (run : SourcesRun words stack steps first answered last) (fuel : ℕ) (old : Outside)
-    (status : Status) (new : Outside) : Type 0 where
+pub record TellsOfRun (words : List PartWord) (stack steps : ℕ) (read : List (List ℕ)) (first : Outside)
+    (answered : Status) (last : Outside) (run : SourcesRun words stack steps read first answered last)
+    (fuel : ℕ) (old : Outside) (status : Status) (new : Outside) : Type 0 where
   pub told : Told
   pub told_is : told ≡ meaning (map part_of run.meant.modules) stack (came_in run.given.from.start steps) fuel
   pub status_is : status ≡ meaning_status told.end
@@ -125,11 +129,12 @@ pub record TellsOfRun (words : List PartWord) (stack steps : ℕ) (first : Outsi
 -- wherever `mean` is asked of the sources of a run, over the text of that run
 abbrev pub MeanTellsRuns : Type 0
 MeanTellsRuns =
-    (words : List PartWord) (stack steps : ℕ) (old : Outside) (status : Status) (new : Outside)
-    (run : SourcesRun words stack steps old status new) (m : ModuleFields) (others : List ModuleFields)
+    (words : List PartWord) (stack steps : ℕ) (read : List (List ℕ)) (old : Outside) (status : Status)
+    (new : Outside) (run : SourcesRun words stack steps read old status new) (m : ModuleFields)
+    (others : List ModuleFields)
     → run.meant.modules ≡ m ∷ others
-    → (sources : List PartWord) (fuel : ℕ) (feed : List ℕ)
+    → (sources : List PartWord) (fuel : ℕ) (feed : List ℕ) (mean_read : List (List ℕ))
     (before : Outside) (ended : Status) (after : Outside)
-    (mean : MeaningGiven sources stack fuel feed before ended after)
+    (mean : MeaningGiven sources stack fuel feed mean_read before ended after)
     → mean.modules ≡ run.meant.modules → mean.text ≡ text_of_run run.given.from.start steps
-    → TellsOfRun words stack steps old status new run fuel before ended after
+    → TellsOfRun words stack steps read old status new run fuel before ended after

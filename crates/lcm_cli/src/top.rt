@@ -13,7 +13,7 @@ ghost use Rattle.lcm_cli.specs.Commands.{plan_in, Totals};
 ghost use Rattle.trace_tool.specs.Runs.{end_of};
 ghost use Rattle.lcm_cli.specs.Jobs.{FollowsTask};
 ghost use Rattle.overlay_machine.specs.Seen.{IsOverlayOf};
-ghost use Rattle.lcm_cli.specs.Answers.{ran, Answers, Gives, WritesOrFails, outside, end_status};
+ghost use Rattle.lcm_cli.specs.Answers.{ran, Answers, OfBytes, Gives, WritesOrFails, outside, end_status};
 ghost use Rattle.lcm_cli.specs.Answers.{meaning_status, refused};
 ghost use Rattle.lcm_cli.specs.Answers.{GivesOrNothing, job_answer, IsReady};
 ghost use Rattle.lcm_cli.specs.Causes.{Promised, IsRunStatus, RunGiven, TraceGiven, RunCut, TraceCut};
@@ -296,13 +296,16 @@ pub fn stk_main<F: Files, S: Sink>(
         (outside (F.seen files.old) (S.seen out.old) kept.old)
         result (outside (F.seen files.new) (S.seen out.new) kept.new) }
 
+    // Each clause below that speaks of what was read (`OfBytes`) holds of the bytes of whatever answer
+    // explains the call, as `promised` has one. So all of them speak of the same bytes.
+
     // What a run writes, answers and hands over, and what holds of its start. Its calls are kept: each ret
     // line closes the newest open call, whose range only its own return uses till then. Their frames are
     // secret: whatever is in them, the machine runs the same till then. And it has the headline: the plain
     // machine agrees with the overlay, returns are bracketed, frames are private. The text passes an audit.
     ensures ran { (l : Linked) (steps : ℕ)
         → asked_in (texts words.now.items) ≡ Some (Links l (link_deed.Run steps))
-        → IsRunStatus result → RunGiven l steps
+        → IsRunStatus result → OfBytes (RunGiven l steps) (asked_in (texts words.now.items))
         (outside (F.seen files.old) (S.seen out.old) kept.old)
         result (outside (F.seen files.new) (S.seen out.new) kept.new) }
 
@@ -312,14 +315,14 @@ pub fn stk_main<F: Files, S: Sink>(
     ensures sourced { (words_of : List PartWord) (stack steps : ℕ)
         → asked_in (texts words.now.items)
         ≡ Some (Links (what.Parts words_of stack) (link_deed.Run steps))
-        → AllSources words_of → SourcesTold words_of stack steps
+        → AllSources words_of → OfBytes (SourcesTold words_of stack steps) (asked_in (texts words.now.items))
         (outside (F.seen files.old) (S.seen out.old) kept.old)
         result (outside (F.seen files.new) (S.seen out.new) kept.new) }
 
     // What a run of the overlay writes and answers: its lines are those of a plain run.
     ensures traced { (l : Linked) (steps : ℕ)
         → asked_in (texts words.now.items) ≡ Some (Links l (link_deed.Trace steps))
-        → IsRunStatus result → TraceGiven l steps
+        → IsRunStatus result → OfBytes (TraceGiven l steps) (asked_in (texts words.now.items))
         (outside (F.seen files.old) (S.seen out.old) kept.old)
         result (outside (F.seen files.new) (S.seen out.new) kept.new) }
 
@@ -327,39 +330,42 @@ pub fn stk_main<F: Files, S: Sink>(
     // nothing else influences them.
     ensures reached { (l : Linked)
         → asked_in (texts words.now.items) ≡ Some (Links l link_deed.Reach)
-        → IsRunStatus result → ReachGiven l
+        → IsRunStatus result → OfBytes (ReachGiven l) (asked_in (texts words.now.items))
         (outside (F.seen files.old) (S.seen out.old) kept.old)
         result (outside (F.seen files.new) (S.seen out.new) kept.new) }
 
     // What `debug` writes: the replies to a script's commands. A state that they tell of is one of the run.
     ensures debugged { (l : Linked) (script : List ℕ)
         → asked_in (texts words.now.items) ≡ Some (asked.Debug l script)
-        → IsRunStatus result → DebugGiven l script
+        → IsRunStatus result → OfBytes (DebugGiven l script) (asked_in (texts words.now.items))
         (outside (F.seen files.old) (S.seen out.old) kept.old)
         result (outside (F.seen files.new) (S.seen out.new) kept.new) }
 
     // What `audit` answers: whether the text is a trace of a run, or else the first line that spoils it.
     ensures audited { (name : List ℕ) → asked_in (texts words.now.items) ≡ Some (asked.Audit name)
-        → AuditTold name
+        → OfBytes (AuditTold name) (asked_in (texts words.now.items))
         (outside (F.seen files.old) (S.seen out.old) kept.old)
         result (outside (F.seen files.new) (S.seen out.new) kept.new) }
 
     // Where the sink failed at a run's text, or at a trace's, the same holds of the start.
     ensures run_cut { (l : Linked) (steps : ℕ)
         → asked_in (texts words.now.items) ≡ Some (Links l (link_deed.Run steps))
-        → result ≡ Status.WriteFault → RunCut l steps
+        → result ≡ Status.WriteFault → OfBytes (λ read old status new. RunCut l steps read old new)
+        (asked_in (texts words.now.items))
         (outside (F.seen files.old) (S.seen out.old) kept.old)
-        (outside (F.seen files.new) (S.seen out.new) kept.new) }
+        result (outside (F.seen files.new) (S.seen out.new) kept.new) }
     ensures trace_cut { (l : Linked) (steps : ℕ)
         → asked_in (texts words.now.items) ≡ Some (Links l (link_deed.Trace steps))
-        → result ≡ Status.WriteFault → TraceCut l steps
+        → result ≡ Status.WriteFault → OfBytes (λ read old status new. TraceCut l steps read old new)
+        (asked_in (texts words.now.items))
         (outside (F.seen files.old) (S.seen out.old) kept.old)
-        (outside (F.seen files.new) (S.seen out.new) kept.new) }
+        result (outside (F.seen files.new) (S.seen out.new) kept.new) }
 
     // What `mean` writes and answers: the meaning of the modules that the words name, under the feed.
     ensures meant { (words_of : List PartWord) (size fuel : ℕ) (feed : List ℕ)
         → asked_in (texts words.now.items) ≡ Some (Mean words_of size fuel feed)
-        → IsRunStatus result → MeaningGiven words_of size fuel feed
+        → IsRunStatus result → OfBytes (MeaningGiven words_of size fuel feed)
+        (asked_in (texts words.now.items))
         (outside (F.seen files.old) (S.seen out.old) kept.old)
         result (outside (F.seen files.new) (S.seen out.new) kept.new) }
 
@@ -379,7 +385,10 @@ pub fn stk_main<F: Files, S: Sink>(
 
     // Where no put failed, the file of `--out` is as before or has the bytes of the component, the image or
     // the module.
-    ensures put_whole { PutsWhole (asked_in (texts words.now.items)) (F.seen files.old) (F.seen files.new) }
+    ensures put_whole { let asked = asked_in (texts words.now.items) in
+        OfBytes (λ read old status new. PutsWhole asked read old.files new.files) asked
+        (outside (F.seen files.old) (S.seen out.old) kept.old)
+        result (outside (F.seen files.new) (S.seen out.new) kept.new) }
 {
     the_headline();
     open_calls_are_kept();

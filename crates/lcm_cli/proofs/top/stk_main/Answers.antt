@@ -17,51 +17,56 @@ returns-clause-promised g c = promised
     (rw c.as_slice.ensures.value at c.answer.ensures)
 
 pub returns-clause-ran : goal.returns-clause-ran
-returns-clause-ran g c = runs
+returns-clause-ran g c = λ l steps e r a.
+    runs
     (all_of c.open_calls_are_kept.ensures.kept c.frames_are_secret.ensures.secret
     c.the_headline.ensures.holds)
     c.runs_pass.ensures
     (asked_in (texts c.args.words.now.items)) (c.commands_fit.ensures (texts c.args.words.now.items)) _ _ _
-    (rw c.as_slice.ensures.value at c.answer.ensures)
+    a l steps e r
 
 pub returns-clause-traced : goal.returns-clause-traced
-returns-clause-traced g c = traces
+returns-clause-traced g c = λ l steps e r a.
+    traces
     (all_of c.open_calls_are_kept.ensures.kept c.frames_are_secret.ensures.secret
     c.the_headline.ensures.holds)
     c.a_start_has_one_overlay.ensures
-    (asked_in (texts c.args.words.now.items)) _ _ _ (rw c.as_slice.ensures.value at c.answer.ensures)
+    (asked_in (texts c.args.words.now.items)) _ _ _ a l steps e r
 
 pub returns-clause-reached : goal.returns-clause-reached
-returns-clause-reached g c = reaches
+returns-clause-reached g c = λ l e r a.
+    reaches
     (all_of c.open_calls_are_kept.ensures.kept c.frames_are_secret.ensures.secret
     c.the_headline.ensures.holds)
     c.reports_bound_runs.ensures.bound
     c.reports_bound_influence.ensures.influence
-    (asked_in (texts c.args.words.now.items)) _ _ _ (rw c.as_slice.ensures.value at c.answer.ensures)
+    (asked_in (texts c.args.words.now.items)) _ _ _ a l e r
 
 pub returns-clause-debugged : goal.returns-clause-debugged
-returns-clause-debugged g c = debugs
+returns-clause-debugged g c = λ l script e r a.
+    debugs
     (all_of c.open_calls_are_kept.ensures.kept c.frames_are_secret.ensures.secret
     c.the_headline.ensures.holds)
     c.commands_remember.ensures
-    (asked_in (texts c.args.words.now.items)) _ _ _ (rw c.as_slice.ensures.value at c.answer.ensures)
+    (asked_in (texts c.args.words.now.items)) _ _ _ a l script e r
 
 pub returns-clause-audited : goal.returns-clause-audited
-returns-clause-audited g c = audits (asked_in (texts c.args.words.now.items)) _ _ _
-    (rw c.as_slice.ensures.value at c.answer.ensures)
+returns-clause-audited g c = λ name e a.
+    audits (asked_in (texts c.args.words.now.items)) _ _ _ a name e
 
 pub returns-clause-run_cut : goal.returns-clause-run_cut
-returns-clause-run_cut g c = run_cut
+returns-clause-run_cut g c = λ l steps e r a.
+    run_cut
     (all_of c.open_calls_are_kept.ensures.kept c.frames_are_secret.ensures.secret
     c.the_headline.ensures.holds)
-    (asked_in (texts c.args.words.now.items)) _ _ _ (rw c.as_slice.ensures.value at c.answer.ensures)
+    (asked_in (texts c.args.words.now.items)) _ _ _ a l steps e r
 
 pub returns-clause-trace_cut : goal.returns-clause-trace_cut
-returns-clause-trace_cut g c =
+returns-clause-trace_cut g c = λ l steps e r a.
     trace_cut
     (all_of c.open_calls_are_kept.ensures.kept c.frames_are_secret.ensures.secret
     c.the_headline.ensures.holds)
-    (asked_in (texts c.args.words.now.items)) _ _ _ (rw c.as_slice.ensures.value at c.answer.ensures)
+    (asked_in (texts c.args.words.now.items)) _ _ _ a l steps e r
 
 pub returns-clause-usage : goal.returns-clause-usage
 returns-clause-usage g c = usage (asked_in (texts c.args.words.now.items)) _ _ _
@@ -73,11 +78,10 @@ returns-clause-files_stay g c = files_stay (asked_in (texts c.args.words.now.ite
 
 pub returns-clause-put_whole : goal.returns-clause-put_whole
 returns-clause-put_whole g c = put_whole (asked_in (texts c.args.words.now.items)) _ _ _
-    (rw c.as_slice.ensures.value at c.answer.ensures)
 
 pub returns-clause-meant : goal.returns-clause-meant
-returns-clause-meant g c = means (asked_in (texts c.args.words.now.items)) _ _ _
-    (rw c.as_slice.ensures.value at c.answer.ensures)
+returns-clause-meant g c = λ words size fuel feed e r a.
+    means (asked_in (texts c.args.words.now.items)) _ _ _ a words size fuel feed e r
 
 pub returns-clause-generated : goal.returns-clause-generated
 returns-clause-generated g c = loads
@@ -86,7 +90,8 @@ returns-clause-generated g c = loads
     (asked_in (texts c.args.words.now.items)) _ _ _ (rw c.as_slice.ensures.value at c.answer.ensures)
 
 pub returns-clause-sourced : goal.returns-clause-sourced
-returns-clause-sourced g c = sources_told
+returns-clause-sourced g c = λ words stack steps e sources a.
+    sources_told
     (record {
       starts =
           all_of c.open_calls_are_kept.ensures.kept c.frames_are_secret.ensures.secret
@@ -104,4 +109,4 @@ returns-clause-sourced g c = sources_told
       keep = c.linked_modules_keep_rules.ensures;
     })
     (asked_in (texts c.args.words.now.items)) (c.commands_fit.ensures (texts c.args.words.now.items)) _ _ _
-    (rw c.as_slice.ensures.value at c.answer.ensures)
+    a words stack steps e sources

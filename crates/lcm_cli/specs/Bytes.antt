@@ -1,0 +1,26 @@
+-- The bytes of a call's files.
+use Rattle.std.specs.Prelude.{◌≡◌, ◌⊎◌, ℕ, List, [], ◌∷◌, Result, Ok, Err}
+use Rattle.outside_io.specs.FilesSeen.{FilesSeen}
+use Rattle.file_plans.specs.declared.refusal.Refusal.{Refusal}
+use Rattle.file_plans.specs.declared.refusal.Refusal.TheVariants.{TooLong, ReadFault}
+use Rattle.file_plans.specs.Plans.{Plan, Reads, Ends, Made, whole, too_long, unread, Comes}
+
+-- those of the files that came whole, in their order
+abbrev pub bytes_of : {A : Type 0} (plan : Plan A) (old : FilesSeen) (due : Result A Refusal)
+    (new : FilesSeen) → Comes plan old due new → List (List ℕ)
+bytes_of (Made x) old due new h = []
+bytes_of (Ends why) old due new h = []
+bytes_of (Reads name index next) old due new (whole bytes mid w h) =
+    bytes ∷ bytes_of (next bytes) mid due new h
+bytes_of (Reads name index next) old due new (too_long t e) = []
+bytes_of (Reads name index next) old due new (unread t e) = []
+
+-- what a plan makes of these bytes, file by file, or why it ends; behind them it ends by a file that doesn't
+-- come
+abbrev pub Makes : {A : Type 0} → Plan A → List (List ℕ) → Result A Refusal → Type 0
+Makes (Made x) [] due = due ≡ Ok x
+Makes (Made x) (bytes ∷ came) due = ⊥
+Makes (Ends why) [] due = due ≡ Err why
+Makes (Ends why) (bytes ∷ came) due = ⊥
+Makes (Reads name index next) [] due = (due ≡ Err (TooLong index)) ⊎ (due ≡ Err ReadFault)
+Makes (Reads name index next) (bytes ∷ came) due = Makes (next bytes) came due
