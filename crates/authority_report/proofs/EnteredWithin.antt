@@ -1,4 +1,4 @@
--- A part that is entered_at runs within its report, and doesn't depend on what it can't read.
+-- A part that is entered runs within its report, and doesn't depend on what it can't read.
 use Rattle.std.proofs.Common.{◌≡◌, ℕ, List, Some, refl, sym, subst, ◌∙◌, pos}
 use Rattle.cap_words.specs.declared.Word.{Word}
 use Rattle.lcm_isa.specs.declared.Reg.{Reg}
@@ -67,7 +67,7 @@ its_report s part r o its (q, also, is) =
     let same : q ≡ o = cc in
     subst (λ (x : Owner). IsReport s.state.maps x r) same is
 
--- where a part is entered_at, no word gives more than its report tells
+-- where a part is entered, no word gives more than its report tells
 pub holds_entered : (s : StartSeen) (part : ℕ) (r : Reach) → IsLinked s → Reports s part r → (o : Owner)
     (e : Entry) → owner_of_part s.owners part ≡ Some o → IsBounded (told_authority o r) (entered_at s o e)
 holds_entered s part r linked reports o e its =

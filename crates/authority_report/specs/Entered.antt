@@ -53,7 +53,7 @@ abbrev pub ReportsBoundRuns : Type 0
 ReportsBoundRuns =
     (s : StartSeen) (part : ℕ) (r : Reach) → IsLinked s → Reports s part r → BoundsRuns s part r
 
--- the code and data with which a part is entered_at are the halves of the export, unsealed
+-- the code and data with which a part is entered are the halves of the export, unsealed
 abbrev pub HalvesUnsealed : Type 0
 HalvesUnsealed =
     (k : ℕ) (x : Exported)

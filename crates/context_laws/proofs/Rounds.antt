@@ -71,7 +71,7 @@ module _ (g : Link) (world : World) (size : ℕ) (s : StartSeen) (same : g.layou
   abbrev pub feed_of : List (Thing OWord Given) → List Item
   feed_of is = map (λ (x : Thing OWord Given). x.item) is
 
-  -- behind a run that has shown_word so much and got so much, where trusted code lets go with a step
+  -- behind a run that has shown so much and got so much, where trusted code lets go with a step
   pub record RoundTold (es : List Shown) (is : List (Thing OWord Given)) (b p q : OState) : Type 0 where
     pub shown_word : Shown
     pub outs : event_outs L q (step_event L p q) ≡ shown_word ∷ []

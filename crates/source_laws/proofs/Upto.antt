@@ -1,4 +1,4 @@
--- RunsOn of at most so many steps against a meaning: what is wanted of them, as the laws of the machine take
+-- Runs of at most so many steps against a meaning: what is wanted of them, as the laws of the machine take
 -- it.
 use Rattle.std.proofs.Common.{◌≡◌, ℕ, zero, suc, ◌+◌, ◌*◌, ◌≤◌, ℤ, [], ◌∷◌, Option, None, true, refl, sym, ap}
 use Rattle.std.proofs.Common.{◌∙◌, subst, arith, ◌-◌, List, Some, ◌⊎◌, inl, inr, ◌<◌, false, ◌++◌}

@@ -1,4 +1,4 @@
--- Lists of calls, and what is so after_call any of them.
+-- Lists of calls, and what is so after any of them.
 use Rattle.std.specs.Prelude.{◌≡◌, ℕ, suc, ◌-◌, ◌<◌, ◌≤◌, List, [], ◌∷◌, slice_get, Some, reverse}
 use Rattle.std.specs.Prelude.{length, drop}
 use Rattle.std.specs.FinSet as set
