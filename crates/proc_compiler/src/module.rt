@@ -122,7 +122,7 @@ fn code_of(alloc: Global, m: &Part) -> Result<Draft, AllocError>
     Ok(draft)
 }
 
-#[tactic(auto, unfolding(proc_templates::specs::Compiled::data_of))]
+#[tactic(auto, unfolding(proc_templates::specs::Compiled::first_data))]
 fn data_of(alloc: Global, m: &Part) -> Result<Vec<Word>, AllocError>
     requires { IsPart m.now }
     ensures { IfOk result (λ words. words.items ≡ first_data m.now) }

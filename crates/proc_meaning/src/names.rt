@@ -79,7 +79,7 @@ fn first_main(world: &[Part]) -> Option<usize>
 }
 
 /// The first shared main.
-#[tactic(auto, unfolding(proc_semantics::specs::Values::main_of))]
+#[tactic(auto, unfolding(proc_semantics::specs::Values::main_target))]
 pub(crate) fn main_of(world: &[Part]) -> Option<Target>
     ensures { result ≡ main_target world.now }
 {
