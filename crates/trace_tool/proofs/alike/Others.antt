@@ -81,7 +81,7 @@ module _ (l : Layout) (q : OState) (k : Looks l q) where
     where
       by_owner : (p : Option Owner)
           → option_and_then (Rattle.trace_tool.specs.Events.entered l (flat_view l q))
-          p ≡ option_and_then (Rattle.overlay_machine.specs.Events.entered l q) p
+          p ≡ option_and_then (Rattle.overlay_machine.specs.Events.entered_event l q) p
       by_owner None = refl
       by_owner (Some p) =
           ap (λ f. option_map
