@@ -73,7 +73,7 @@ module _ (g : Link) (world : World) (size : ℕ) (s : StartSeen) (same : g.layou
 
   -- behind a run that has shown so much and got so much, where trusted code lets go with a step
   pub record RoundTold (es : List Shown) (is : List (Thing OWord Given)) (b p q : OState) : Type 0 where
-    pub shown_word : Shown
+    pub shown : Shown
     pub outs : event_outs L q (step_event L p q) ≡ shown_word ∷ []
     pub since : (c : OState) × TellsSince L O (es ++ shown_word ∷ []) is c q
     pub enough : ℕ
@@ -96,7 +96,7 @@ module _ (g : Link) (world : World) (size : ℕ) (s : StartSeen) (same : g.layou
       (ap (λ z. is ++ z) c.2 ∙ append-nil is) (and_then there e)) in
       let w = told (es ++ c.0 ∷ []) is q (tells_of L O _ is _ q next) in
       record {
-        shown_word = c.0;
+        shown = c.0;
         outs = c.1;
         since = (_, next);
         enough = w.0;
