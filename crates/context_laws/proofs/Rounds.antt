@@ -74,8 +74,8 @@ module _ (g : Link) (world : World) (size : ℕ) (s : StartSeen) (same : g.layou
   -- behind a run that has shown so much and got so much, where trusted code lets go with a step
   pub record RoundTold (es : List Shown) (is : List (Thing OWord Given)) (b p q : OState) : Type 0 where
     pub shown : Shown
-    pub outs : event_outs L q (step_event L p q) ≡ shown_word ∷ []
-    pub since : (c : OState) × TellsSince L O (es ++ shown_word ∷ []) is c q
+    pub outs : event_outs L q (step_event L p q) ≡ shown ∷ []
+    pub since : (c : OState) × TellsSince L O (es ++ shown ∷ []) is c q
     pub enough : ℕ
     pub event : (f : ℕ) → enough ≤ f → (x : Event Whence ℕ)
         × (slice_get (refined world size (feed_of is) f).events (length es) ≡ Some x)
